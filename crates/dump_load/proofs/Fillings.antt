@@ -1,0 +1,215 @@
+-- What is filled in, change by change, is the set that was stated.
+use Rattle.std.proofs.Common.{◌≡◌, ℕ, Bool, true, false, cond, ◌&&◌, ◌||◌, List, [], ◌∷◌, ◌++◌, Option, Some, None, is_some, refl, sym, ap, subst, ◌∙◌, append-nil, append_assoc}
+use Rattle.std.specs.Option.{is_none, option_or, option_map}
+use Rattle.std.specs.Ordering.{is_lt, ordering_reverse}
+use Rattle.std.specs.declared.cmp.Ordering.TheVariants.{Less}
+use Rattle.std.specs.List.{list_any, AllByRecursion}
+use Rattle.std.proofs.lemmas.List.Elements.{filter-append}
+use Rattle.std.proofs.lemmas.List.Folds.{list_any-append}
+use Rattle.std.proofs.lemmas.Cmp.{tied_itself}
+use Rattle.std.specs.FinMap.{get}
+use Rattle.node_base.specs.Path.{Path, path_cmp, paths_total, same_path, is_front}
+use Rattle.node_base.proofs.PathLemmas.{path_of_same}
+use Rattle.node_base.specs.Tree.{PathMap}
+use Rattle.node_base.specs.declared.node.Node.{Node}
+use Rattle.node_base.specs.declared.node.NodeKind.{NodeKind}
+use Rattle.node_base.specs.declared.node.NodeKind.TheVariants.{File, Dir}
+use Rattle.dump_load.specs.declared.change.Change.{Change}
+use Rattle.dump_load.specs.Changes.{is_delete, is_plain, is_described, change_at, Precedes, IsWhole, IsInOrder, IsNormal}
+use Rattle.dump_load.specs.Effect.{effect, stepped}
+use Rattle.dump_load.specs.Faults.{fault_of}
+use Rattle.dump_load.specs.Records.{Combined, is_kindless, earlier, sound_after, sound, blank_text, blanked, with_blanks, with_kind, filled_in, filled_after, Filling, IsSetOf}
+use Rattle.dump_load.proofs.Faultless.{deletes_settle}
+use Rattle.dump_load.proofs.OneMore.{Follows, effect-end, change_at-end}
+use Rattle.dump_load.proofs.Combining.{order_follows, follows_same, follows_end}
+
+-- ---- what stays the same
+
+pub blanks_path : (c : Change) → (with_blanks c).path ≡ c.path
+blanks_path c = elim (is_plain c) as (λ b. (λ (x : Change). x.path) (cond b (blanked c) c) ≡ c.path) [ true ↦ refl | false ↦ refl ]
+
+pub blanks_action : (c : Change) → (with_blanks c).action ≡ c.action
+blanks_action c = elim (is_plain c) as (λ b. (λ (x : Change). x.action) (cond b (blanked c) c) ≡ c.action) [ true ↦ refl | false ↦ refl ]
+
+described : (k j : Option NodeKind) (t : Option (List ℕ)) → is_none k ≡ false → is_described (option_or k j) true (is_some (blank_text k t)) ≡ true
+described None j t e = cc
+described (Some File) j t e = refl
+described (Some Dir) j t e = refl
+
+-- a change that says what it adds is whole once it is filled in
+pub whole_filled : (trees : List PathMap) (before : Path → Option Node) (c : Change) → is_kindless c ≡ false → IsWhole (with_kind trees before (with_blanks c))
+whole_filled trees before c e =
+    elim (is_plain c) as (λ b. is_plain c ≡ b → (b && is_none c.kind) ≡ false → IsWhole (with_kind trees before (cond b (blanked c) c))) [
+      | true ↦ λ p e _. described c.kind _ c.text e
+      | false ↦ λ p _ q. cc
+    ] refl e
+
+module _ (trees : List PathMap) where
+  precedes_filled : (before : List Change) (d c : Change) → Precedes d c → Precedes (filled_in trees before d) c
+  precedes_filled before d c h =
+      record { rises = ap (λ p. path_cmp p c.path) (blanks_path d) ∙ h.rises; stands = λ del. ap (λ p. is_front p c.path) (blanks_path d) ∙ h.stands (ap is_delete (sym (blanks_action d)) ∙ del) }
+
+  filled_follows : (done cs : List Change) (c : Change) → Follows done c → Follows cs c → Follows (filled_after trees done cs) c
+  filled_follows done [] c h f = h
+  filled_follows done (d ∷ cs) c h f = filled_follows (done ++ filled_in trees done d ∷ []) cs c (follows_end done (filled_in trees done d) c h (precedes_filled done d c f.0)) f.1
+
+  sound_follows : (done s : List Change) (c : Change) → Follows done c → Follows s c → Follows (sound_after trees done s) c
+  sound_follows done [] c h f = h
+  sound_follows done (d ∷ s) c h f =
+      elim (is_none (fault_of trees (effect trees done) d)) as (λ b. Follows (sound_after trees (cond b (done ++ d ∷ []) done) s) c) [
+        | true ↦ sound_follows (done ++ d ∷ []) s c (follows_end done d c h f.0) f.1
+        | false ↦ sound_follows done s c h f.1
+      ]
+
+  filled-end : (done ys : List Change) (c : Change) → filled_after trees done (ys ++ c ∷ []) ≡ filled_after trees done ys ++ filled_in trees (filled_after trees done ys) c ∷ []
+  filled-end done [] c = refl
+  filled-end done (d ∷ ys) c = filled-end (done ++ filled_in trees done d ∷ []) ys c
+
+  sound-end : (done s : List Change) (f : Change) → sound_after trees done (s ++ f ∷ []) ≡ cond (is_none (fault_of trees (effect trees (sound_after trees done s)) f)) (sound_after trees done s ++ f ∷ []) (sound_after trees done s)
+  sound-end done [] f = refl
+  sound-end done (d ∷ s) f = sound-end (cond (is_none (fault_of trees (effect trees done) d)) (done ++ d ∷ []) done) s f
+
+  pub filling_none : (tree : PathMap) → ((q : Path) → get tree q ≡ effect trees [] q) → Filling trees [] [] tree
+  filling_none tree h = record { items = refl; left = h; kinds = refl }
+
+  module _ (ys rest out : List Change) (tree : PathMap) (c f : Change) (w : Filling trees ys out tree) (order : IsInOrder (ys ++ c ∷ rest)) (says : is_kindless c ≡ false) (is : f ≡ with_kind trees (get tree) (with_blanks c)) where
+    same_function : ◌≡◌ {A = Path → Option Node} (get tree) (effect trees (sound trees out))
+    same_function = λ i q. w.left q i
+
+    f_is : f ≡ filled_in trees out c
+    f_is = is ∙ (λ i. with_kind trees (same_function i) (with_blanks c))
+
+    f_path : c.path ≡ f.path
+    f_path = sym (ap (λ (x : Change). x.path) is ∙ blanks_path c)
+
+    follows : Follows (sound trees out) f
+    follows = follows_same (sound trees out) c f f_path (sound_follows [] out c tt (subst (λ s. Follows s c) (sym w.items) (filled_follows [] ys c tt (order_follows ys rest c order))))
+
+    items : out ++ f ∷ [] ≡ filled_after trees [] (ys ++ c ∷ [])
+    items = (λ i. w.items i ++ (f_is ∙ ap (λ s. filled_in trees s c) w.items) i ∷ []) ∙ sym (filled-end [] ys c)
+
+    kinds : list_any is_kindless (ys ++ c ∷ []) ≡ false
+    kinds = list_any-append is_kindless ys (c ∷ []) ∙ (λ i. w.kinds i || (says i || false))
+
+    sound_is : (b : Bool) → is_none (fault_of trees (get tree) f) ≡ b → sound trees (out ++ f ∷ []) ≡ cond b (sound trees out ++ f ∷ []) (sound trees out)
+    sound_is b e = sound-end [] out f ∙ ap (λ b. cond b (sound trees out ++ f ∷ []) (sound trees out)) ((λ i. is_none (fault_of trees (sym same_function i) f)) ∙ e)
+
+    pub filled_more : (new : PathMap) → ((q : Path) → get new q ≡ cond (is_none (fault_of trees (get tree) f)) (stepped trees (get tree) f q) (get tree q)) → Filling trees (ys ++ c ∷ []) (out ++ f ∷ []) new
+    filled_more new h = record { items = items; left = left (is_none (fault_of trees (get tree) f)) refl; kinds = kinds }
+      where
+        left : (b : Bool) → is_none (fault_of trees (get tree) f) ≡ b → (q : Path) → get new q ≡ effect trees (sound trees (out ++ f ∷ [])) q
+        left true e q =
+            h q ∙ ap (λ b. cond b (stepped trees (get tree) f q) (get tree q)) e
+            ∙ (λ j. stepped trees (same_function j) f q)
+            ∙ sym (effect-end trees (sound trees out) f follows (deletes_settle f.action) q)
+            ∙ ap (λ s. effect trees s q) (sym (sound_is true e))
+        left false e q = h q ∙ ap (λ b. cond b (stepped trees (get tree) f q) (get tree q)) e ∙ w.left q ∙ ap (λ s. effect trees s q) (sym (sound_is false e))
+
+-- ---- the whole set
+
+normal_end : (s : List Change) (c : Change) → IsNormal s → Follows s c → IsWhole c → IsNormal (s ++ c ∷ [])
+normal_end [] c h f w = (w, tt, tt)
+normal_end (d ∷ s) c h f w = (h.0, all_end s h.1, normal_end s c h.2 f.1 w)
+  where
+    all_end : (s : List Change) → AllByRecursion (Precedes d) s → AllByRecursion (Precedes d) (s ++ c ∷ [])
+    all_end [] h = (f.0, tt)
+    all_end (e ∷ s) h = (h.0, all_end s h.1)
+
+first_not : (a b : Bool) → (a || b) ≡ false → a ≡ false
+first_not true b e = e
+first_not false b e = refl
+
+rest_not : (a b : Bool) → (a || b) ≡ false → b ≡ false
+rest_not true b e = cc
+rest_not false b e = e
+
+module _ (trees : List PathMap) where
+  -- what follows the changes done
+  fills : List Change → List Change → List Change
+  fills done [] = []
+  fills done (c ∷ cs) = filled_in trees done c ∷ fills (done ++ filled_in trees done c ∷ []) cs
+
+  filled_is : (done cs : List Change) → filled_after trees done cs ≡ done ++ fills done cs
+  unfolding fills
+  filled_is done [] = sym (append-nil done)
+  filled_is done (c ∷ cs) = filled_is (done ++ filled_in trees done c ∷ []) cs ∙ append_assoc done (filled_in trees done c ∷ []) (fills (done ++ filled_in trees done c ∷ []) cs)
+
+  -- each follows what is done
+  abbrev AllFollow : List Change → List Change → Type 0
+  AllFollow done cs = AllByRecursion (Follows done) cs
+
+  follow_more : (done cs : List Change) (c : Change) → AllFollow done cs → AllByRecursion (Precedes c) cs → AllFollow (done ++ filled_in trees done c ∷ []) cs
+  follow_more done [] c h p = tt
+  follow_more done (d ∷ cs) c h p = (follows_end done (filled_in trees done c) d h.0 (precedes_filled trees done c d p.0), follow_more done cs c h.1 p.1)
+
+  follows_itself : (done : List Change) (c : Change) → Follows done c → Follows done (filled_in trees done c)
+  follows_itself done c h = follows_same done c (filled_in trees done c) (sym (blanks_path c)) h
+
+  normal_after : (done cs : List Change) → IsNormal done → AllFollow done cs → IsInOrder cs → list_any is_kindless cs ≡ false → IsNormal (filled_after trees done cs)
+  normal_after done [] n h o k = n
+  normal_after done (c ∷ cs) n h o k =
+      normal_after (done ++ filled_in trees done c ∷ []) cs
+      (normal_end done (filled_in trees done c) n (follows_itself done c h.0) (whole_filled trees (effect trees (sound trees done)) c (first_not (is_kindless c) (list_any is_kindless cs) k)))
+      (follow_more done cs c h.1 o.0) o.1 (rest_not (is_kindless c) (list_any is_kindless cs) k)
+
+  none_yet : (cs : List Change) → AllFollow [] cs
+  none_yet [] = tt
+  none_yet (c ∷ cs) = (tt, none_yet cs)
+
+  pub normal_filled : (cs : List Change) → IsInOrder cs → list_any is_kindless cs ≡ false → IsNormal (filled_after trees [] cs)
+  normal_filled cs o k = normal_after [] cs tt (none_yet cs) o k
+
+  -- the changes before a path, of those done and then those that follow
+  before_all : (done : List Change) (c : Change) → Follows done c → earlier done c.path ≡ done
+  before_all [] c h = refl
+  before_all (d ∷ done) c h = (λ i. cond (is_lt (h.0.rises i)) (d ∷ earlier done c.path) (earlier done c.path)) ∙ ap (λ s. d ∷ s) (before_all done c h.1)
+
+  not_before : (p q : Path) → path_cmp p q ≡ Less → is_lt (path_cmp q p) ≡ false
+  not_before p q e = ap is_lt (paths_total.antisymm q p) ∙ ap (λ r. is_lt (ordering_reverse r)) e
+
+  after_none : (done cs : List Change) (c : Change) → AllByRecursion (Precedes c) cs → earlier (fills done cs) c.path ≡ []
+  unfolding fills
+  after_none done [] c h = refl
+  after_none done (d ∷ cs) c h =
+      (λ i. cond ((ap (λ p. is_lt (path_cmp p c.path)) (blanks_path d) ∙ not_before c.path d.path h.0.rises) i) (filled_in trees done d ∷ earlier (fills (done ++ filled_in trees done d ∷ []) cs) c.path) (earlier (fills (done ++ filled_in trees done d ∷ []) cs) c.path))
+      ∙ after_none (done ++ filled_in trees done d ∷ []) cs c h.1
+
+  earlier_is : (done cs : List Change) (c : Change) → Follows done c → AllByRecursion (Precedes c) cs → earlier (filled_after trees done (c ∷ cs)) c.path ≡ done
+  earlier_is done cs c h p =
+      let f = filled_in trees done c in
+      ap (λ s. earlier s c.path) (filled_is (done ++ f ∷ []) cs)
+      ∙ filter-append (λ d. is_lt (path_cmp d.path c.path)) (done ++ f ∷ []) (fills (done ++ f ∷ []) cs)
+      ∙ ap (λ s. earlier (done ++ f ∷ []) c.path ++ s) (after_none (done ++ f ∷ []) cs c p)
+      ∙ append-nil (earlier (done ++ f ∷ []) c.path)
+      ∙ filter-append (λ d. is_lt (path_cmp d.path c.path)) done (f ∷ [])
+      ∙ (λ i. before_all done c h i ++ cond (itself i) (f ∷ []) [])
+      ∙ append-nil done
+    where
+      itself : is_lt (path_cmp (filled_in trees done c).path c.path) ≡ false
+      itself = ap (λ p. is_lt (path_cmp p c.path)) (blanks_path c) ∙ ap is_lt (tied_itself paths_total c.path)
+
+  change_at-front : (s t : List Change) (p : Path) (c : Change) → change_at s p ≡ Some c → change_at (s ++ t) p ≡ Some c
+  change_at-front [] t p c e = cc
+  change_at-front (d ∷ s) t p c e =
+      elim (same_path d.path p) as (λ b. cond b (Some d) (change_at s p) ≡ Some c → cond b (Some d) (change_at (s ++ t) p) ≡ Some c) [ true ↦ λ e. e | false ↦ λ e. change_at-front s t p c e ] e
+
+  changes_after : (done cs : List Change) (p : Path) → AllFollow done cs → IsInOrder cs → change_at done p ≡ None → change_at (filled_after trees done cs) p ≡ option_map (filled_in trees (earlier (filled_after trees done cs) p)) (change_at cs p)
+  changes_after done [] p h o none = none
+  changes_after done (c ∷ cs) p h o none =
+      let f = filled_in trees done c in
+      let ends = change_at-end f done (follows_itself done c h.0) p ∙ ap (λ q. cond (same_path q p) (Some f) (change_at done p)) (blanks_path c) in
+      elim (same_path c.path p) as (λ b. same_path c.path p ≡ b → change_at (filled_after trees done (c ∷ cs)) p ≡ option_map (filled_in trees (earlier (filled_after trees done (c ∷ cs)) p)) (cond b (Some c) (change_at cs p))) [
+        | true ↦ λ e.
+            ap (λ s. change_at s p) (filled_is (done ++ filled_in trees done c ∷ []) cs)
+            ∙ change_at-front (done ++ filled_in trees done c ∷ []) (fills (done ++ filled_in trees done c ∷ []) cs) p (filled_in trees done c) (ends ∙ ap (λ b. cond b (Some (filled_in trees done c)) (change_at done p)) e)
+            ∙ ap (λ s. Some (filled_in trees s c)) (sym (ap (earlier (filled_after trees done (c ∷ cs))) (sym (path_of_same c.path p e)) ∙ earlier_is done cs c h.0 o.0))
+        | false ↦ λ e. changes_after (done ++ filled_in trees done c ∷ []) cs p (follow_more done cs c h.1 o.0) o.1 (ends ∙ ap (λ b. cond b (Some (filled_in trees done c)) (change_at done p)) e ∙ none)
+      ] refl
+
+  pub set_of : (cs out s : List Change) → Combined cs out → list_any is_kindless out ≡ false → s ≡ filled_after trees [] out → IsSetOf trees cs s
+  set_of cs out s w k is =
+      subst (IsSetOf trees cs) (sym is)
+      (record {
+        normal = normal_filled out w.order k;
+        changes = λ p. changes_after [] out p (none_yet out) w.order refl ∙ ap (option_map (filled_in trees (earlier (filled_after trees [] out) p))) (w.changes p);
+      })

@@ -1,0 +1,53 @@
+-- What is sorted, brought together and filled in, said of the records as they came.
+use Rattle.std.proofs.Common.{◌≡◌, ℕ, ◌<◌, ◌≤◌, true, false, List, [], Some, None, sym, ap, subst, ◌∙◌, arith}
+use Rattle.std.specs.Prelude.{nat_lt}
+use Rattle.std.proofs.lemmas.Bool.Decides.{nat_tests}
+use Rattle.std.specs.List.{list_any}
+use Rattle.std.specs.List.Sorted.{IsPermutation}
+use Rattle.node_base.specs.Path.{Path}
+use Rattle.node_base.specs.Tree.{PathMap}
+use Rattle.dump_load.specs.declared.change.Change.{Change}
+use Rattle.dump_load.specs.declared.fault.ChangeFault.{ChangeFault}
+use Rattle.dump_load.specs.declared.fault.ChangeFault.TheVariants as refusal
+use Rattle.dump_load.specs.Faults.{fault_if, IsRefusal}
+use Rattle.dump_load.specs.Records.{stated_at, Combined, paths_named, is_out_of_order, is_kindless, filled_after, set_fault, IsSetOf}
+use Rattle.dump_load.proofs.Combining.{fits}
+use Rattle.dump_load.proofs.Fillings.{set_of}
+use Rattle.dump_load.proofs.Moved.{set_moved, order_moved, kind_moved, kinds_lack, paths_moved}
+use Rattle.dump_load.proofs.Counting.{too_many, fits_all, refused_order, refused_kind}
+
+few_test : (n m : ℕ) → n ≡ m → n ≤ 4096 → nat_lt 4096 m ≡ false
+few_test n m e h = grind (arith, nat_tests)
+
+many_test : (n m : ℕ) → n ≡ m → 4096 < n → nat_lt 4096 m ≡ true
+many_test n m e h = grind (arith, nat_tests)
+
+module _ (cs xs ys : List Change) (is : xs ≡ cs) (moved : IsPermutation xs ys) (same : (p : Path) → stated_at ys p ≡ stated_at xs p) where
+  all_moved : IsPermutation cs ys
+  all_moved = subst (λ zs. IsPermutation zs ys) is moved
+
+  all_same : (p : Path) → stated_at ys p ≡ stated_at cs p
+  all_same p = same p ∙ ap (λ zs. stated_at zs p) is
+
+  pub gathered_set : (trees : List PathMap) (out s : List Change) → Combined ys out → list_any is_kindless out ≡ false → s ≡ filled_after trees [] out → IsSetOf trees cs s
+  gathered_set trees out s w k e = set_moved cs ys all_moved all_same trees s (set_of trees ys out s w k e)
+
+  module _ (shown : List Change) (n : ℕ) (shows : shown ≡ ys) (counts : n ≡ paths_named shown) where
+    counted : n ≡ paths_named cs
+    counted = counts ∙ ap paths_named shows ∙ paths_moved cs ys all_moved
+
+    pub gathered_many : 4096 < n → set_fault cs ≡ Some refusal.TooLong
+    gathered_many h = too_many cs (many_test n (paths_named cs) counted h)
+
+    pub gathered_fits : n ≤ 4096 → (out : List Change) → Combined ys out → list_any is_kindless out ≡ false → set_fault cs ≡ None
+    gathered_fits h out w k =
+        fits_all cs (few_test n (paths_named cs) counted h) (sym (order_moved cs ys all_moved all_same) ∙ fits ys out w) (sym (kind_moved cs ys all_moved all_same) ∙ kinds_lack ys out w ∙ k)
+
+    pub gathered_order : n ≤ 4096 → (e : ChangeFault) → IsRefusal e (fault_if (is_out_of_order ys) refusal.OutOfOrder) → IsRefusal e (set_fault cs)
+    gathered_order h e r =
+        refused_order cs e (few_test n (paths_named cs) counted h) (subst (λ b. IsRefusal e (fault_if b refusal.OutOfOrder)) (order_moved cs ys all_moved all_same) r)
+
+    pub gathered_kind : n ≤ 4096 → (e : ChangeFault) (out : List Change) → Combined ys out → IsRefusal e (fault_if (list_any is_kindless out) refusal.BadHeader) → IsRefusal e (set_fault cs)
+    gathered_kind h e out w r =
+        refused_kind cs e (few_test n (paths_named cs) counted h) (sym (order_moved cs ys all_moved all_same) ∙ fits ys out w)
+        (subst (λ b. IsRefusal e (fault_if b refusal.BadHeader)) (sym (sym (kind_moved cs ys all_moved all_same) ∙ kinds_lack ys out w)) r)

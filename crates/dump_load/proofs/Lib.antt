@@ -1,0 +1,11 @@
+pub mod Again
+pub mod Combining
+pub mod Counting
+pub mod Faultless
+pub mod Fillings
+pub mod Gathered
+pub mod Moved
+pub mod OneMore
+pub mod PathOrder
+pub mod Sorting
+pub mod Walk

@@ -1,0 +1,39 @@
+use Rattle.std.proofs.lemmas.Result.{err_from_is_err_and}
+use Rattle.std.proofs.Common.{map, sym, subst}
+use Rattle.dump_load.specs.Records.{change_of, IsSetOf}
+use Rattle.dump_load.proofs.Fillings.{set_of}
+use Rattle.dump_load.proofs.Gathered.{gathered_set, gathered_many, gathered_fits, gathered_order, gathered_kind}
+use Rattle.dump_load.proofs.set.ChangeSet.from_records.Goals as goal
+
+pub new-requires : goal.new-requires
+new-requires c =
+    (set_of c.args.trees.now c.in_ok-stated.stated.items c.in_ok-combined.combined.items c.in_ok-filled.filled.items c.in_ok-combined.ensures.combined c.in_ok-filled.ensures.kinds c.in_ok-filled.ensures.filled).normal
+
+pub returns-clause-set : goal.returns-clause-set
+returns-clause-set c =
+    subst (IsSetOf c.args.trees.now (map change_of c.args.records.items)) (sym c.new.ensures)
+    (gathered_set (map change_of c.args.records.items) c.in_ok-changes_of.field-0.items c.in_ok-stated.stated.items c.in_ok-changes_of.ensures c.in_ok-stated.ensures.moved c.in_ok-stated.ensures.stated
+    c.args.trees.now c.in_ok-combined.combined.items c.in_ok-filled.filled.items c.in_ok-combined.ensures.combined c.in_ok-filled.ensures.kinds c.in_ok-filled.ensures.filled)
+
+pub returns-clause-fits : goal.returns-clause-fits
+returns-clause-fits c =
+    gathered_fits (map change_of c.args.records.items) c.in_ok-changes_of.field-0.items c.in_ok-stated.stated.items c.in_ok-changes_of.ensures c.in_ok-stated.ensures.moved c.in_ok-stated.ensures.stated
+    c.deref.result.now c.count_paths.result c.deref.ensures.value c.count_paths.ensures c.if-count_paths-gt-CHANGES.false
+    c.in_ok-combined.combined.items c.in_ok-combined.ensures.combined c.in_ok-filled.ensures.kinds
+
+pub returns-then-count_paths-gt-CHANGES-clause-refused : goal.returns-then-count_paths-gt-CHANGES-clause-refused
+returns-then-count_paths-gt-CHANGES-clause-refused c =
+    gathered_many (map change_of c.args.records.items) c.in_ok-changes_of.field-0.items c.in_ok-stated.stated.items c.in_ok-changes_of.ensures c.in_ok-stated.ensures.moved c.in_ok-stated.ensures.stated
+    c.deref.result.now c.count_paths.result c.deref.ensures.value c.count_paths.ensures c.if-count_paths-gt-CHANGES.true
+
+pub returns-in_err-combined-clause-refused : goal.returns-in_err-combined-clause-refused
+returns-in_err-combined-clause-refused c =
+    let p = err_from_is_err_and c.from_residual-in_err-combined.result c.from_residual-in_err-combined.ensures.1 in rw (p.1, p.2)
+    (gathered_order (map change_of c.args.records.items) c.in_ok-changes_of.field-0.items c.in_ok-stated.stated.items c.in_ok-changes_of.ensures c.in_ok-stated.ensures.moved c.in_ok-stated.ensures.stated
+    c.deref.result.now c.count_paths.result c.deref.ensures.value c.count_paths.ensures c.if-count_paths-gt-CHANGES.false c.in_err-combined.field-0.0 c.in_err-combined.ensures.refused)
+
+pub returns-in_err-filled-clause-refused : goal.returns-in_err-filled-clause-refused
+returns-in_err-filled-clause-refused c =
+    let p = err_from_is_err_and c.from_residual-in_err-filled.result c.from_residual-in_err-filled.ensures.1 in rw (p.1, p.2)
+    (gathered_kind (map change_of c.args.records.items) c.in_ok-changes_of.field-0.items c.in_ok-stated.stated.items c.in_ok-changes_of.ensures c.in_ok-stated.ensures.moved c.in_ok-stated.ensures.stated
+    c.deref.result.now c.count_paths.result c.deref.ensures.value c.count_paths.ensures c.if-count_paths-gt-CHANGES.false c.in_err-filled.field-0.0 c.in_ok-combined.combined.items c.in_ok-combined.ensures.combined c.in_err-filled.ensures.refused)

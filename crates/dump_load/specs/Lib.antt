@@ -1,0 +1,5 @@
+pub mod Changes
+pub mod Coded
+pub mod Effect
+pub mod Faults
+pub mod Records

@@ -1,0 +1,107 @@
+//! What is wrong with a set of changes.
+ghost use Rattle.std.specs.Prelude.{◌≡◌};
+ghost use Rattle.dump_load.specs.Faults.{refused, number_of};
+
+use node_base::TreeFault;
+use std::alloc::{AllocError, AllocFailed};
+use thiserror::Error;
+
+/// Why records make no set of changes, or a set no tree.
+#[derive(Clone, Copy, Debug, PartialEq, Eq, Drop, Error)]
+pub enum ChangeFault {
+    /// An add or a replace that copies nothing doesn't say whether it adds a file or a directory (2).
+    #[error("bad header")]
+    BadHeader,
+    /// More than 4,096 paths are changed, or a path of a copy is past the limits (8).
+    #[error("limit exceeded")]
+    TooLong,
+    /// The root is added, deleted or replaced (10).
+    #[error("bad path")]
+    BadPath,
+    /// Nothing is where a change, a delete or a replace wants something, or above a path (11).
+    #[error("no such path")]
+    NoSuchPath,
+    /// Something is where an add wants nothing (12).
+    #[error("path already exists")]
+    PathThere,
+    /// A file is above a path (13).
+    #[error("not a directory")]
+    NotDir,
+    /// The source isn't in an earlier revision (14).
+    #[error("no such copy source")]
+    NoSource,
+    /// A path's changes don't combine, or one is under a path that is deleted (15).
+    #[error("changes of one path do not combine")]
+    OutOfOrder,
+    /// A revision isn't the one that comes next (16).
+    #[error("revision out of sequence")]
+    WrongNumber,
+    /// The kind that is given isn't the node's or the source's, or a directory is given a text (17).
+    #[error("node kind mismatch")]
+    KindMismatch,
+    /// A growth was refused (70).
+    #[error("out of memory")]
+    OutOfMemory,
+}
+
+impl ChangeFault {
+    /// Its number in the table of refusals.
+    pub fn number(self) -> u8
+        ensures { result ≡ number_of self }
+    {
+        match self {
+            ChangeFault::BadHeader => 2,
+            ChangeFault::TooLong => 8,
+            ChangeFault::BadPath => 10,
+            ChangeFault::NoSuchPath => 11,
+            ChangeFault::PathThere => 12,
+            ChangeFault::NotDir => 13,
+            ChangeFault::NoSource => 14,
+            ChangeFault::OutOfOrder => 15,
+            ChangeFault::WrongNumber => 16,
+            ChangeFault::KindMismatch => 17,
+            ChangeFault::OutOfMemory => 70,
+        }
+    }
+}
+
+impl From<AllocError> for ChangeFault {
+    ghost use Rattle.std.specs.Prelude.{◌≡◌};
+    ghost use Rattle.dump_load.specs.declared.fault.ChangeFault.TheVariants.{OutOfMemory};
+
+    ghost from_gives = { λ _ e. e ≡ OutOfMemory };
+
+    fn from(_: AllocError) -> ChangeFault {
+        ChangeFault::OutOfMemory
+    }
+}
+
+impl<T: Drop> From<AllocFailed<T>> for ChangeFault {
+    ghost use Rattle.std.specs.Prelude.{◌≡◌};
+    ghost use Rattle.dump_load.specs.declared.fault.ChangeFault.TheVariants.{OutOfMemory};
+
+    ghost from_gives = { λ _ e. e ≡ OutOfMemory };
+
+    fn from(_: AllocFailed<T>) -> ChangeFault {
+        ChangeFault::OutOfMemory
+    }
+}
+
+impl From<TreeFault> for ChangeFault {
+    ghost use Rattle.std.specs.Prelude.{◌≡◌};
+    ghost use Rattle.dump_load.specs.Faults.{refused};
+
+    ghost from_gives = { λ f e. e ≡ refused f };
+
+    fn from(fault: TreeFault) -> ChangeFault {
+        match fault {
+            TreeFault::TooLong => ChangeFault::TooLong,
+            TreeFault::BadPath => ChangeFault::BadPath,
+            TreeFault::NoSuchPath => ChangeFault::NoSuchPath,
+            TreeFault::PathThere => ChangeFault::PathThere,
+            TreeFault::NotDir => ChangeFault::NotDir,
+            TreeFault::NoSource => ChangeFault::NoSource,
+            TreeFault::KindMismatch => ChangeFault::KindMismatch,
+        }
+    }
+}

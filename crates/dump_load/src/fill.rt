@@ -1,0 +1,137 @@
+//! What records leave out, filled in.
+ghost use Rattle.std.specs.Prelude.{◌≡◌, ◌≤◌, ◌++◌, ◌∷◌, List, [], length, false, is_none, if◌then◌else◌, IfOk, IfErr, OnOk};
+ghost use Rattle.std.specs.List.{list_any};
+ghost use Rattle.std.specs.FinMap as map;
+ghost use Rattle.dump_load.specs.declared.change.Change.{Change as ChangeOf};
+ghost use Rattle.dump_load.specs.declared.fault.ChangeFault.TheVariants.{BadHeader};
+ghost use Rattle.dump_load.specs.Changes.{IsInOrder, IsWhole};
+ghost use Rattle.dump_load.specs.Effect.{stepped};
+ghost use Rattle.node_base.specs.Path.{Path};
+ghost use Rattle.dump_load.specs.Faults.{IsRefusal, fault_if, fault_of};
+ghost use Rattle.dump_load.specs.Records.{is_kindless, with_blanks, with_kind, filled_after, Filling};
+
+use crate::judge::{fault_of, judged};
+use crate::steps::{begin, step};
+use crate::{Change, ChangeFault};
+use node_base::{NodeKind, Props, Text};
+use path_tree::Tree;
+use std::alloc::{AllocError, Global};
+
+// Whether it copies nothing and doesn't say what it adds.
+fn is_kindless(change: &Change) -> bool
+    ensures { result ≡ is_kindless change.now }
+{
+    change.is_plain() && change.kind.is_none()
+}
+
+// Empty properties, and an empty text of a file, where an add or a replace that copies nothing has none.
+fn with_blanks(alloc: Global, change: Change) -> Result<Change, AllocError>
+    ensures { IfOk result (λ c. c ≡ with_blanks change) }
+{
+    if !change.is_plain() {
+        return Ok(change);
+    }
+    let Change {
+        path,
+        action,
+        kind,
+        source,
+        props,
+        text,
+    } = change;
+    let props = match props {
+        Some(props) => props,
+        None => Props::empty(),
+    };
+    let text = match (kind, text) {
+        (Some(NodeKind::File), None) => Some(Text::new(alloc, Vec::new(alloc))?),
+        (_, text) => text,
+    };
+    Ok(Change {
+        path,
+        action,
+        kind,
+        source,
+        props: Some(props),
+        text,
+    })
+}
+
+// The kind that counts, where none is given.
+fn with_kind(trees: &[Tree], tree: &Tree, change: Change) -> Change
+    ensures { result ≡ with_kind trees.now (map.get tree.now) change }
+{
+    let judged = judged(trees, tree, &change);
+    let Change {
+        path,
+        action,
+        kind,
+        source,
+        props,
+        text,
+    } = change;
+    Change {
+        path,
+        action,
+        kind: kind.or(judged),
+        source,
+        props,
+        text,
+    }
+}
+
+// Makes a change of the tree, unless it has a fault there.
+fn advance(
+    alloc: Global,
+    trees: &[Tree],
+    tree: &mut Tree,
+    change: &Change,
+) -> Result<(), AllocError>
+    requires few { length trees.now ≤ 65535 }
+    requires whole { IsWhole change.now }
+    ensures { OnOk result ((q : Path) → map.get tree.new q ≡ (if is_none (fault_of trees.now (map.get tree.old) change.now) then stepped trees.now (map.get tree.old) change.now q else map.get tree.old q)) }
+{
+    match fault_of(trees, tree, change) {
+        Some(_) => Ok(()),
+        None => step(alloc, trees, tree, change),
+    }
+}
+
+// One more change filled in, and made of the tree where it has no fault there.
+fn fill_one(
+    alloc: Global,
+    trees: &[Tree],
+    tree: &mut Tree,
+    filled: &mut Vec<Change>,
+    change: Change,
+) -> Result<(), ChangeFault>
+    requires { length trees.now ≤ 65535 }
+    ensures filled { OnOk result ((ys rest : List ChangeOf) → Filling trees.now ys filled.old.items tree.old → IsInOrder (ys ++ change ∷ rest) → Filling trees.now (ys ++ change ∷ []) filled.new.items tree.new) }
+    ensures refused { IfErr result (λ e. (ys rest : List ChangeOf) → IsRefusal e (fault_if (list_any is_kindless (ys ++ change ∷ rest)) BadHeader)) }
+{
+    if is_kindless(&change) {
+        return Err(ChangeFault::BadHeader);
+    }
+    let blanked = with_blanks(alloc, change)?;
+    let whole = with_kind(trees, tree, blanked);
+    advance(alloc, trees, tree, &whole)?;
+    filled.push(whole)?;
+    Ok(())
+}
+
+/// Changes in path order with what is missing filled in: the kind that counts, and what an add or a replace that copies nothing
+/// begins with. Where such a one doesn't say what it adds they are refused (2).
+pub fn fill(alloc: Global, trees: &[Tree], changes: Vec<Change>) -> Result<Vec<Change>, ChangeFault>
+    requires few { length trees.now ≤ 65535 }
+    requires order { IsInOrder changes.items }
+    ensures filled { IfOk result (λ v. v.items ≡ filled_after trees.now [] changes.items) }
+    ensures kinds { OnOk result (list_any is_kindless changes.items ≡ false) }
+    ensures refused { IfErr result (λ e. IsRefusal e (fault_if (list_any is_kindless changes.items) BadHeader)) }
+{
+    let mut tree = begin(alloc, trees)?;
+    let mut filled = Vec::with_capacity(alloc, changes.len())?;
+    for change in changes {
+        fill_one(alloc, trees, &mut tree, &mut filled, change)?;
+    }
+    Ok(filled)
+}

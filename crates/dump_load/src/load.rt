@@ -1,0 +1,59 @@
+//! What a set of changes makes of trees.
+ghost use Rattle.std.specs.Prelude.{◌≡◌, ◌≤◌, length, [], None, Some, OnOk, OnErr, IfOk, IfErr};
+ghost use Rattle.std.specs.Option.{option_map};
+ghost use Rattle.std.specs.FinMap as map;
+ghost use Rattle.node_base.specs.Path.{Path};
+ghost use Rattle.dump_load.specs.Changes.{IsNormal};
+ghost use Rattle.dump_load.specs.Effect.{effect};
+ghost use Rattle.dump_load.specs.Faults.{fault, refused, IsRefusal};
+ghost use Rattle.dump_load.specs.Records.{IsNormalSetOf, IsLoadRefusal};
+
+use crate::judge::fault_of;
+use crate::steps::{begin, step};
+use crate::{ChangeFault, ChangeSet};
+use dump_text::NodeRecord;
+use node_base::RevNo;
+use path_tree::Tree;
+use std::alloc::Global;
+
+/// The tree that a set of changes makes of the trees before it, or the set's first fault in path order. The result is a share
+/// of the newest tree, changed along the set's paths.
+pub fn apply(alloc: Global, trees: &[Tree], set: &ChangeSet) -> Result<Tree, ChangeFault>
+    requires { length trees.now ≤ 65535 }
+    ensures effect { IfOk result (λ t. (q : Path) → map.get t q ≡ effect trees.now set.now q) }
+    ensures no_fault { OnOk result (fault trees.now set.now ≡ None) }
+    ensures fault { IfErr result (λ e. IsRefusal e (option_map refused (fault trees.now set.now))) }
+{
+    let mut tree = begin(alloc, trees)?;
+    let changes = set.changes();
+    for change in changes {
+        if let Some(fault) = fault_of(trees, &tree, change) {
+            return Err(ChangeFault::from(fault));
+        }
+        step(alloc, trees, &mut tree, change)?;
+    }
+    Ok(tree)
+}
+
+/// The set of changes of a revision and the tree that it makes, from the revision's number and records, over the trees before it.
+/// Refused are a number that isn't the next one (16), then what makes no set, then the set's first fault.
+pub fn load_revision(
+    alloc: Global,
+    trees: &[Tree],
+    number: RevNo,
+    records: Vec<NodeRecord>,
+) -> Result<(ChangeSet, Tree), ChangeFault>
+    requires { length trees.now ≤ 65535 }
+    ensures number { OnOk result (number ≡ length trees.now) }
+    ensures set { IfOk result (λ r. IsNormalSetOf trees.now records.items r.0) }
+    ensures tree { IfOk result (λ r. (q : Path) → map.get r.1 q ≡ effect trees.now r.0 q) }
+    ensures no_fault { IfOk result (λ r. fault trees.now r.0 ≡ None) }
+    ensures refused { IfErr result (λ e. IsLoadRefusal trees.now number records.items e) }
+{
+    if number.index() != trees.len() {
+        return Err(ChangeFault::WrongNumber);
+    }
+    let set = ChangeSet::from_records(alloc, trees, records)?;
+    let tree = apply(alloc, trees, &set)?;
+    Ok((set, tree))
+}

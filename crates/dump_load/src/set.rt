@@ -1,0 +1,64 @@
+//! A normal set of changes.
+ghost use Rattle.std.specs.Prelude.{◌≡◌, List, IfOk, map};
+ghost use Rattle.dump_load.specs.Changes.{IsNormal};
+ghost use Rattle.node_base.specs.Tree.{PathMap};
+ghost use Rattle.dump_text.specs.declared.record.NodeRecord.{NodeRecord as RecordOf};
+ghost use Rattle.dump_load.specs.Records.{record_of, IsNormalSetOf};
+
+use crate::Change;
+use dump_text::NodeRecord;
+use std::alloc::{AllocError, Global};
+use std::marker::Model;
+
+/// Changes in path order, each path once, and nothing under a path that is deleted. Contracts see the list of changes.
+#[derive(Debug, Drop)]
+pub struct ChangeSet {
+    changes: Vec<Change>,
+}
+
+impl Model for ChangeSet {
+    ghost use Rattle.std.specs.Prelude.{List};
+    ghost use Rattle.dump_load.specs.declared.change.Change.{Change};
+    ghost use Rattle.dump_load.specs.Coded.{coded_set};
+
+    ghost Value = { List Change };
+
+    ghost coded = { coded_set };
+
+    ghost use Rattle.dump_load.specs.Changes.{IsNormal};
+
+    ghost view = { λ a. a.changes.items };
+
+    ghost invariant = { λ a. IsNormal a.changes.items };
+}
+
+impl ChangeSet {
+    /// The set of these changes.
+    pub fn new(changes: Vec<Change>) -> ChangeSet
+        requires { IsNormal changes.items }
+        ensures { result ≡ changes.items }
+    {
+        ChangeSet { changes }
+    }
+
+    /// Its changes, in path order.
+    pub fn changes(&self) -> &[Change]
+        ensures value { result.now ≡ self.now }
+        ensures normal { IsNormal self.now }
+    {
+        self.changes.as_slice()
+    }
+
+    /// The records that state its changes, in path order. Where the set came from records over some trees, these give the same
+    /// set again over them.
+    pub fn to_records(&self, alloc: Global) -> Result<Vec<NodeRecord>, AllocError>
+        ensures records { IfOk result (λ r. r.items ≡ map record_of self.now) }
+        ensures again { IfOk result (λ r. (trees : List PathMap) (rs : List RecordOf) → IsNormalSetOf trees rs self.now → IsNormalSetOf trees r.items self.now) }
+    {
+        let mut records = Vec::with_capacity(alloc, self.changes.len())?;
+        for change in &self.changes {
+            records.push(change.to_record(alloc)?)?;
+        }
+        Ok(records)
+    }
+}

@@ -1,0 +1,9 @@
+mod Numbers
+mod Lines
+mod Identities
+mod StreamRuns
+mod Grows
+mod Writes
+mod Records
+mod CanonRead
+mod Kept

@@ -1,0 +1,7 @@
+use Rattle.std.proofs.Common.{sym, ◌∙◌, ap}
+use Rattle.dump_text.specs.Streams.{records_of}
+use Rattle.dump_text.proofs.Records.{dump_read}
+use Rattle.dump_text.proofs.law.one_reading.Goals as goal
+
+pub returns : goal.returns
+returns c = λ bytes rs others a b. ap records_of (sym (dump_read bytes rs a) ∙ dump_read bytes others b)

@@ -1,0 +1,10 @@
+use Rattle.std.proofs.Common.{◌∙◌, ap, sym}
+use Rattle.std.specs.Prelude.{codes}
+use Rattle.dump_text.specs.Canon.{header_line, kind_line}
+use Rattle.dump_text.proofs.Writes.{wrote_as}
+use Rattle.dump_text.proofs.writer.write_kind.Goals as goal
+
+pub returns-in_ok-write : goal.returns-in_ok-write
+returns-in_ok-write g c =
+    let w = g.W.Write.contents in
+    wrote_as (w c.args.out.now) (w c.write.new.self) (header_line (codes "Node-kind: ") c.kind_word-word.result.now) (kind_line c.args.kind) (ap (header_line (codes "Node-kind: ")) c.kind_word-word.ensures ∙ ap kind_line (sym c.in-Some.is)) c.in_ok-write.ensures.bytes

@@ -1,0 +1,108 @@
+-- What the headers of a record come to at its empty line.
+use Rattle.std.specs.Prelude.{ℕ, ◌+◌, ◌==◌, ◌&&◌, ◌||◌, not, nat_le, Bool, true, false, List, Option, Some, None, is_some, is_none, unwrap_or, if◌then◌else◌}
+use Rattle.std.specs.FinMap as map
+use Rattle.node_base.specs.Path.{Path}
+use Rattle.node_base.specs.Props.{PropMap}
+use Rattle.node_base.specs.declared.node.Action.{Action}
+use Rattle.node_base.specs.declared.node.Action.TheVariants.{Add, Delete, Replace}
+use Rattle.node_base.specs.declared.node.Source.{Source}
+use Rattle.dump_text.specs.declared.head.Head.{Head}
+use Rattle.dump_text.specs.declared.form.Stage.{Stage}
+use Rattle.dump_text.specs.declared.form.Stage.TheVariants.{First, Outside, Inside}
+use Rattle.dump_text.specs.declared.record.PropPart.{PropPart}
+use Rattle.dump_text.specs.declared.record.PropPart.TheVariants.{Whole}
+use Rattle.dump_text.specs.declared.record.DumpRecord.{DumpRecord}
+use Rattle.dump_text.specs.declared.record.DumpRecord.TheVariants.{Identity, Revision, Node}
+
+abbrev pub is_deletion : Option Action → Bool
+is_deletion (Some Delete) = true
+is_deletion o = false
+
+-- only what makes a node may have a source
+abbrev pub is_making : Option Action → Bool
+is_making (Some Add) = true
+is_making (Some Replace) = true
+is_making o = false
+
+abbrev pub has_no_node : Head → Bool
+has_no_node h = is_none h.path && is_none h.kind && is_none h.action && is_none h.source_revision && is_none h.source_path && is_none h.text_len && is_none h.sum
+
+-- an identity has no other header that is read
+abbrev pub is_identity_head : Head → Bool
+is_identity_head h = has_no_node h && is_none h.number && is_none h.prop_len && is_none h.content_len
+
+-- both headers of a source or none, and only where a node is made
+abbrev pub has_source_form : Head → Bool
+has_source_form h = if is_some h.source_path then is_some h.source_revision && is_making h.action else is_none h.source_revision
+
+-- a node has a path and an action, and at a deletion no content
+abbrev pub is_node_head : Head → Bool
+is_node_head h = is_some h.path && is_some h.action && has_source_form h && not (is_deletion h.action && (is_some h.prop_len || is_some h.text_len))
+
+abbrev pub is_first : Stage → Bool
+is_first First = true
+is_first stage = false
+
+abbrev pub is_inside : Stage → Bool
+is_inside Inside = true
+is_inside stage = false
+
+-- the properties aren't announced as a delta, which format 2 doesn't have
+abbrev pub is_delta : Head → Bool
+is_delta h = unwrap_or h.prop_delta false
+
+-- the headers are those of a record that may stand here
+abbrev pub fits_form : Stage → Head → Bool
+fits_form stage h =
+    if is_delta h then false
+    else if is_some h.identity then is_first stage && is_identity_head h
+    else if is_some h.number then has_no_node h
+    else is_inside stage && is_node_head h
+
+abbrev pub length_of : Option ℕ → ℕ
+length_of o = unwrap_or o 0
+
+-- `Content-length`, where it stands, is the sum of the two others
+abbrev pub lengths_agree : Head → Bool
+lengths_agree h = elim h.content_len [ None ↦ true | Some n ↦ n == length_of h.prop_len + length_of h.text_len ]
+
+-- 32 MiB of properties, 1 MiB of text
+abbrev pub lengths_fit : Head → Bool
+lengths_fit h = nat_le (length_of h.prop_len) 33554432 && nat_le (length_of h.text_len) 1048576
+
+abbrev pub source_of : Option Path → Option ℕ → Option Source
+source_of None n = None
+source_of (Some path) None = None
+source_of (Some path) (Some n) = Some (record { path = path; revision = n })
+
+abbrev pub part_of : Option PropMap → Option PropPart
+part_of None = None
+part_of (Some props) = Some (Whole props)
+
+-- a revision without a block has no properties
+abbrev pub props_or_none : Option PropMap → PropMap
+props_or_none None = map.empty
+props_or_none (Some props) = props
+
+abbrev pub node_of : Head → Option PropMap → Option (List ℕ) → Option Path → Option Action → Option DumpRecord
+node_of h props text None action = None
+node_of h props text (Some path) None = None
+node_of h props text (Some path) (Some action) = Some (Node (record { path = path; kind = h.kind; action = action; source = source_of h.source_path h.source_revision; props = part_of props; text = text }))
+
+abbrev pub numbered_of : Head → Option PropMap → Option (List ℕ) → Option ℕ → Option DumpRecord
+numbered_of h props text None = node_of h props text h.path h.action
+numbered_of h props text (Some n) = Some (Revision n (props_or_none props))
+
+abbrev pub named_of : Head → Option PropMap → Option (List ℕ) → Option (List ℕ) → Option DumpRecord
+named_of h props text None = numbered_of h props text h.number
+named_of h props text (Some id) = Some (Identity id)
+
+-- the record of a head and its content, where it is one
+abbrev pub record_of : Head → Option PropMap → Option (List ℕ) → Option DumpRecord
+record_of h props text = named_of h props text h.identity
+
+-- which records may stand behind a record
+abbrev pub stage_after : Stage → DumpRecord → Stage
+stage_after stage (Identity id) = Outside
+stage_after stage (Revision n props) = Inside
+stage_after stage (Node r) = stage

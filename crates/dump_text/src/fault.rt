@@ -1,0 +1,87 @@
+//! Why a dump isn't taken.
+
+ghost use Rattle.std.specs.Prelude.{◌≡◌};
+ghost use Rattle.dump_text.specs.Faults.{number_of_fault};
+ghost use Rattle.dump_text.specs.declared.fault.DumpFault.TheVariants.{OutOfMemory};
+
+use std::alloc::{AllocError, AllocFailed};
+use thiserror::Error;
+
+/// Why bytes are no dump of format 2, each with the number by which the program names it.
+#[derive(Clone, Copy, Debug, PartialEq, Eq, Error)]
+pub enum DumpFault {
+    /// The first line isn't the version line (1).
+    #[error("unsupported dump format version")]
+    BadVersion,
+    /// A header line or a block of headers that no record has (2).
+    #[error("bad header")]
+    BadHeader,
+    /// A value that is no number, or a revision above 65,535 (3).
+    #[error("bad number")]
+    BadNumber,
+    /// `Content-length` isn't the sum of the two other lengths (4).
+    #[error("lengths do not agree")]
+    BadLength,
+    /// A property block that isn't one, or doesn't end where its length says (5).
+    #[error("bad property block")]
+    BadProps,
+    /// A text that doesn't have its MD5 (6).
+    #[error("checksum mismatch")]
+    BadSum,
+    /// The input ends inside a record, or before the version block is whole (7).
+    #[error("unexpected end of input")]
+    Truncated,
+    /// A line, a length, a count or a path past its limit (8).
+    #[error("limit exceeded")]
+    TooLong,
+    /// A text is given as a delta (9).
+    #[error("text deltas are not supported")]
+    TextDelta,
+    /// A path outside the rule for names (10).
+    #[error("bad path")]
+    BadPath,
+    /// The reader has refused bytes before (32).
+    #[error("failed before")]
+    Failed,
+    /// A growth was refused (70).
+    #[error("out of memory")]
+    OutOfMemory,
+}
+
+impl DumpFault {
+    /// The number of the refusal.
+    pub fn number(&self) -> u32
+        ensures { result ≡ number_of_fault self.now }
+    {
+        match self {
+            DumpFault::BadVersion => 1,
+            DumpFault::BadHeader => 2,
+            DumpFault::BadNumber => 3,
+            DumpFault::BadLength => 4,
+            DumpFault::BadProps => 5,
+            DumpFault::BadSum => 6,
+            DumpFault::Truncated => 7,
+            DumpFault::TooLong => 8,
+            DumpFault::TextDelta => 9,
+            DumpFault::BadPath => 10,
+            DumpFault::Failed => 32,
+            DumpFault::OutOfMemory => 70,
+        }
+    }
+}
+
+impl From<AllocError> for DumpFault {
+    ghost from_gives = { λ _ e. e ≡ OutOfMemory };
+
+    fn from(_: AllocError) -> DumpFault {
+        DumpFault::OutOfMemory
+    }
+}
+
+impl<T: Drop> From<AllocFailed<T>> for DumpFault {
+    ghost from_gives = { λ _ e. e ≡ OutOfMemory };
+
+    fn from(_: AllocFailed<T>) -> DumpFault {
+        DumpFault::OutOfMemory
+    }
+}

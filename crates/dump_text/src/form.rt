@@ -1,0 +1,203 @@
+//! What an empty line judges: whether headers go together, and their lengths.
+
+ghost use Rattle.std.specs.Prelude.{◌≡◌, Option, Some, None};
+ghost use Rattle.dump_text.specs.Forms.{fits_form, has_no_node, is_identity_head, has_source_form, is_node_head, lengths_agree, lengths_fit, is_deletion, is_making, is_first, is_inside, source_of, part_of, record_of, stage_after};
+
+use crate::head::Head;
+use crate::record::{DumpRecord, NodeRecord, PropPart};
+use node_base::{Action, NodePath, Props, RevNo, Source, Text};
+
+/// Which records may stand here.
+#[derive(Clone, Copy)]
+pub enum Stage {
+    /// No record has come: an identity may.
+    First,
+    /// An identity has come, and no revision.
+    Outside,
+    /// A revision has come: its nodes may.
+    Inside,
+}
+
+fn is_deletion(action: Option<Action>) -> bool
+    ensures { result ≡ is_deletion action }
+{
+    match action {
+        Some(Action::Delete) => true,
+        _ => false,
+    }
+}
+
+fn is_making(action: Option<Action>) -> bool
+    ensures { result ≡ is_making action }
+{
+    match action {
+        Some(Action::Add) | Some(Action::Replace) => true,
+        _ => false,
+    }
+}
+
+/// Whether there is nothing of a node.
+fn has_no_node(head: &Head) -> bool
+    ensures { result ≡ has_no_node head.now }
+{
+    head.path.is_none()
+        && head.kind.is_none()
+        && head.action.is_none()
+        && head.source_revision.is_none()
+        && head.source_path.is_none()
+        && head.text_len.is_none()
+        && head.sum.is_none()
+}
+
+fn is_identity_head(head: &Head) -> bool
+    ensures { result ≡ is_identity_head head.now }
+{
+    has_no_node(head)
+        && head.number.is_none()
+        && head.prop_len.is_none()
+        && head.content_len.is_none()
+}
+
+fn has_source_form(head: &Head) -> bool
+    ensures { result ≡ has_source_form head.now }
+{
+    if head.source_path.is_some() {
+        head.source_revision.is_some() && is_making(head.action)
+    } else {
+        head.source_revision.is_none()
+    }
+}
+
+fn is_node_head(head: &Head) -> bool
+    ensures { result ≡ is_node_head head.now }
+{
+    head.path.is_some()
+        && head.action.is_some()
+        && has_source_form(head)
+        && !(is_deletion(head.action) && (head.prop_len.is_some() || head.text_len.is_some()))
+}
+
+fn is_first(stage: Stage) -> bool
+    ensures { result ≡ is_first stage }
+{
+    match stage {
+        Stage::First => true,
+        _ => false,
+    }
+}
+
+fn is_inside(stage: Stage) -> bool
+    ensures { result ≡ is_inside stage }
+{
+    match stage {
+        Stage::Inside => true,
+        _ => false,
+    }
+}
+
+/// Whether the headers are those of a record that may stand here.
+pub fn has_form(stage: Stage, head: &Head) -> bool
+    ensures { result ≡ fits_form stage head.now }
+{
+    if head.prop_delta.unwrap_or(false) {
+        return false;
+    }
+    if head.identity.is_some() {
+        is_first(stage) && is_identity_head(head)
+    } else if head.number.is_some() {
+        has_no_node(head)
+    } else {
+        is_inside(stage) && is_node_head(head)
+    }
+}
+
+/// Whether `Content-length`, where it stands, is the sum of the two other lengths.
+pub fn has_sum_of_lengths(head: &Head) -> bool
+    ensures { result ≡ lengths_agree head.now }
+{
+    let Some(n) = head.content_len else {
+        return true;
+    };
+    let props = head.prop_len.unwrap_or(0);
+    let text = head.text_len.unwrap_or(0);
+    n >= props && n - props == text
+}
+
+/// Whether the lengths are within the limits.
+pub fn has_small_lengths(head: &Head) -> bool
+    ensures { result ≡ lengths_fit head.now }
+{
+    head.prop_len.unwrap_or(0) <= 33554432 && head.text_len.unwrap_or(0) <= 1048576
+}
+
+fn source_from(path: Option<NodePath>, revision: Option<RevNo>) -> Option<Source>
+    ensures { result ≡ source_of path revision }
+{
+    let Some(path) = path else {
+        return None;
+    };
+    let Some(revision) = revision else {
+        return None;
+    };
+    Some(Source { path, revision })
+}
+
+fn part_from(props: Option<Props>) -> Option<PropPart>
+    ensures { result ≡ part_of props }
+{
+    match props {
+        Some(props) => Some(PropPart::Whole(props)),
+        None => None,
+    }
+}
+
+/// The record of a head and its content, where it is one.
+pub fn record_from(head: Head, props: Option<Props>, text: Option<Text>) -> Option<DumpRecord>
+    ensures { result ≡ record_of head props text }
+{
+    let Head {
+        identity,
+        number,
+        path,
+        kind,
+        action,
+        source_revision,
+        source_path,
+        ..
+    } = head;
+    if let Some(identity) = identity {
+        return Some(DumpRecord::Identity(identity));
+    }
+    if let Some(number) = number {
+        let props = match props {
+            Some(props) => props,
+            None => Props::empty(),
+        };
+        return Some(DumpRecord::Revision(number, props));
+    }
+    let Some(path) = path else {
+        return None;
+    };
+    let Some(action) = action else {
+        return None;
+    };
+    Some(DumpRecord::Node(NodeRecord {
+        path,
+        kind,
+        action,
+        source: source_from(source_path, source_revision),
+        props: part_from(props),
+        text,
+    }))
+}
+
+/// Which records may stand behind a record.
+pub fn stage_behind(stage: Stage, given: &DumpRecord) -> Stage
+    ensures { result ≡ stage_after stage given.now }
+{
+    match given {
+        DumpRecord::Identity(_) => Stage::Outside,
+        DumpRecord::Revision(_, _) => Stage::Inside,
+        DumpRecord::Node(_) => stage,
+    }
+}

@@ -1,0 +1,28 @@
+//! Laws of dump text, as contracts of functions that do nothing.
+
+ghost use Rattle.dump_text.specs.Laws.{PiecesJoin, RefusalsStay, DumpsAreRead, OneReading, EntriesAreReadAgain};
+
+/// It doesn't matter how a dump is cut into pieces.
+pub fn pieces_join()
+    ensures { PiecesJoin }
+{}
+
+/// A refusal stays, whatever follows.
+pub fn refusals_stay()
+    ensures { RefusalsStay }
+{}
+
+/// A dump of the grammar is read as its records.
+pub fn dumps_are_read()
+    ensures { DumpsAreRead }
+{}
+
+/// A list of bytes is a dump of at most one list of records.
+pub fn one_reading()
+    ensures { OneReading }
+{}
+
+/// What is written of a revision's number and properties is read again, whatever follows.
+pub fn entries_are_read_again()
+    ensures { EntriesAreReadAgain }
+{}

@@ -1,0 +1,20 @@
+//! Dump text of Subversion, format 2: bytes to records and back, in any pieces.
+#![tactic(auto)]
+
+pub use fault::DumpFault;
+pub use reader::DumpReader;
+pub use record::{DumpRecord, NodeRecord, PropPart, RevRecord};
+pub use writer::{write_head, write_props_entry, write_revision};
+
+mod fault;
+mod form;
+mod head;
+mod header;
+mod held;
+pub mod law;
+mod reader;
+mod record;
+mod state;
+#[cfg(test)]
+mod tests;
+mod writer;

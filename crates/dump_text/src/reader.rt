@@ -1,0 +1,98 @@
+//! Dumps that come in pieces.
+
+ghost use Rattle.std.specs.Prelude.{◌≡◌, ◌≤◌, ◌+◌, length, Ok, Err, OnErr, true, false, if◌then◌else◌};
+ghost use Rattle.dump_text.specs.Streams.{version_of, kept, StreamIs, Reads, fresh, spent, reading, has_failed, is_between, IsFront};
+ghost use Rattle.dump_text.specs.declared.fault.DumpFault.TheVariants.{Failed, Truncated};
+
+use crate::fault::DumpFault;
+use crate::record::DumpRecord;
+use crate::state::ReadState;
+use std::alloc::Global;
+use std::marker::Model;
+
+/// A dump that comes in pieces, as the notes on the dump file format (dump-load-format, version 2) describe it. Contracts see
+/// what has come of it: the records that are whole are handed out, and the rest is kept until the next piece.
+#[derive(Drop)]
+pub struct DumpReader {
+    alloc: Global,
+    state: ReadState,
+}
+
+impl Model for DumpReader {
+    ghost use Rattle.dump_text.specs.declared.state.ReadState.{ReadState};
+    ghost use Rattle.std.specs.Coded.{codes};
+    ghost use Rattle.node_base.specs.Props.{coded_props};
+
+    ghost Value = { ReadState };
+
+    ghost coded = { Prim.hlevel (codes, coded_props) };
+
+    ghost view = { λ a. a.state };
+}
+
+impl DumpReader {
+    /// Before the first byte.
+    pub fn new(alloc: Global) -> DumpReader
+        ensures { result ≡ fresh }
+    {
+        DumpReader {
+            alloc,
+            state: ReadState::new(alloc),
+        }
+    }
+
+    /// Takes the next piece of a dump, and adds each record that is whole now, in order. The pieces may be of any sizes.
+    ///
+    /// A refusal comes in the call that brings the byte that shows it, with the records before that byte in `out`; so
+    /// does OutOfMemory, with some of them. After either the reader keeps nothing, and each later call answers Failed.
+    pub fn feed(&mut self, piece: &[u8], out: &mut Vec<DumpRecord>) -> Result<(), DumpFault>
+        ensures reads { has_failed self.old ≡ false → StreamIs result self.new out.new.items (reading (Reads out.old.items self.old) piece.now) }
+        ensures failed { has_failed self.old ≡ true → result ≡ Err Failed }
+        ensures later { OnErr result (self.new ≡ spent) }
+        ensures front { has_failed self.old ≡ false → OnErr result (IsFront out.new.items (reading (Reads out.old.items self.old) piece.now)) }
+        ensures kept { has_failed self.old ≡ true → out.new.items ≡ out.old.items }
+        ensures held { kept self.new ≤ kept self.old + length piece.now }
+    {
+        if self.state.has_failed() {
+            self.state = ReadState::spent(self.alloc);
+            return Err(DumpFault::Failed);
+        }
+        match self.state.take_piece(self.alloc, piece, out) {
+            Ok(()) => Ok(()),
+            Err(fault) => {
+                self.state = ReadState::spent(self.alloc);
+                Err(fault)
+            }
+        }
+    }
+
+    /// The end of the input: fine between two records and behind the version block, else Truncated; Failed after a refusal.
+    pub fn finish(self) -> Result<(), DumpFault>
+        ensures failed { has_failed self ≡ true → result ≡ Err Failed }
+        ensures ended { has_failed self ≡ false → result ≡ (if is_between self then Ok tt else Err Truncated) }
+    {
+        if self.state.has_failed() {
+            return Err(DumpFault::Failed);
+        }
+        if self.state.is_between() {
+            Ok(())
+        } else {
+            Err(DumpFault::Truncated)
+        }
+    }
+
+    /// How many bytes are kept of a line, a text, or a count, a name or a value of a property block that isn't whole yet:
+    /// never more than were fed, whatever lengths were announced.
+    pub fn held(&self) -> u128
+        ensures { result ≡ kept self.now }
+    {
+        self.state.held()
+    }
+
+    /// The format's number that the first line gave, 0 before it has come.
+    pub fn version(&self) -> u8
+        ensures { result ≡ version_of self.now }
+    {
+        self.state.version
+    }
+}

@@ -1,0 +1,422 @@
+//! What has come of a stream, between two bytes.
+
+ghost use Rattle.std.specs.Prelude.{◌≡◌, ◌≤◌, ◌<◌, ◌+◌, ◌++◌, ◌∷◌, [], length, take, drop, slice_index, Option, Some, None, Ok, Err, IfOk, IfSome, OnErr, true, false, if◌then◌else◌};
+ghost use Rattle.md5.specs.Md5.{md5};
+ghost use Rattle.dump_text.specs.Streams.{StreamIs, Reads, Refuses, begin, fresh, spent, has_failed, give, text_is, after_block, content, judged, line_is, reading, sum_holds, is_line_place, is_failed, is_between, kept, of_prop_fault, GoesOn, NoLf, IsFront};
+ghost use Rattle.dump_text.specs.declared.state.Place.TheVariants as at;
+
+use crate::fault::DumpFault;
+use crate::form::{
+    Stage, has_form, has_small_lengths, has_sum_of_lengths, record_from, stage_behind,
+};
+use crate::head::Head;
+use crate::held::HeldBytes;
+use crate::record::DumpRecord;
+use md5::{Digest, Md5};
+use node_base::{BlockReader, PropFault, Props, Text};
+use std::alloc::Global;
+use std::mem;
+
+/// What is awaited.
+#[derive(Clone, Copy)]
+pub enum Place {
+    /// The version line.
+    Version,
+    /// The empty line behind it.
+    Blank,
+    /// A record's first header line, or an empty line.
+    Between,
+    /// A further header line, or the empty line behind the headers.
+    Header,
+    /// A property block.
+    Block,
+    /// A text of so many bytes.
+    Text(u64),
+    /// Nothing: bytes were refused.
+    Failed,
+}
+
+/// What has come of a stream, between two bytes.
+#[derive(Drop)]
+pub struct ReadState {
+    /// The format's number that the first line gave, 0 before.
+    pub version: u8,
+    pub place: Place,
+    pub stage: Stage,
+    pub head: Head,
+    pub block: BlockReader,
+    /// The properties, where a text is awaited behind them.
+    pub props: Option<Props>,
+    /// The bytes of an unfinished line or text.
+    pub held: HeldBytes,
+}
+
+fn md5_of(text: &[u8]) -> [u8; 16]
+    ensures { result ≡ md5 text.now }
+{
+    let mut hasher = Md5::new();
+    hasher.update(text);
+    hasher.finalize()
+}
+
+/// How many bytes stand before the first LF.
+fn line_end(piece: &[u8]) -> usize
+    ensures free { NoLf (take result piece.now) }
+    ensures within { result ≤ length piece.now }
+    ensures end { result < length piece.now → slice_index piece.now result ≡ 10 }
+{
+    for (k, b) in piece.iter().enumerate() {
+        if *b == 10 {
+            return k;
+        }
+    }
+    piece.len()
+}
+
+/// The refusal of a block, as a dump's.
+fn block_fault(fault: PropFault) -> DumpFault
+    ensures { result ≡ of_prop_fault fault }
+{
+    match fault {
+        PropFault::BadProps => DumpFault::BadProps,
+        PropFault::TooLong => DumpFault::TooLong,
+        PropFault::OutOfMemory => DumpFault::OutOfMemory,
+    }
+}
+
+impl ReadState {
+    /// Before the first byte.
+    pub fn new(alloc: Global) -> ReadState
+        ensures { result ≡ fresh }
+    {
+        ReadState {
+            version: 0,
+            place: Place::Version,
+            stage: Stage::First,
+            head: Head::new(),
+            block: BlockReader::new(alloc, 0),
+            props: None,
+            held: HeldBytes::new(alloc),
+        }
+    }
+
+    /// After a refusal: nothing is kept.
+    pub fn spent(alloc: Global) -> ReadState
+        ensures { result ≡ spent }
+    {
+        ReadState {
+            version: 0,
+            place: Place::Failed,
+            stage: Stage::First,
+            head: Head::new(),
+            block: BlockReader::new(alloc, 0),
+            props: None,
+            held: HeldBytes::new(alloc),
+        }
+    }
+
+    /// Whether bytes were refused.
+    pub fn has_failed(&self) -> bool
+        ensures { result ≡ has_failed self.now }
+    {
+        matches!(self.place, Place::Failed)
+    }
+
+    /// A record is whole.
+    fn give(
+        &mut self,
+        alloc: Global,
+        out: &mut Vec<DumpRecord>,
+        props: Option<Props>,
+        text: Option<Text>,
+    ) -> Result<(), DumpFault>
+        ensures on { StreamIs result self.new out.new.items (give out.old.items self.old props text) }
+        ensures out { OnErr result (out.new.items ≡ out.old.items) }
+    {
+        let head = mem::replace(&mut self.head, Head::new());
+        self.place = Place::Between;
+        self.block = BlockReader::new(alloc, 0);
+        self.props = None;
+        self.held = HeldBytes::new(alloc);
+        let Some(record) = record_from(head, props, text) else {
+            return Err(DumpFault::BadHeader);
+        };
+        self.stage = stage_behind(self.stage, &record);
+        out.push(record)?;
+        Ok(())
+    }
+
+    /// A text is whole. Where a sum was announced, it is compared, and kept with the text.
+    fn take_text(
+        &mut self,
+        alloc: Global,
+        out: &mut Vec<DumpRecord>,
+        props: Option<Props>,
+        bytes: Vec<u8>,
+    ) -> Result<(), DumpFault>
+        ensures on { StreamIs result self.new out.new.items (text_is out.old.items self.old props bytes.items) }
+        ensures out { OnErr result (out.new.items ≡ out.old.items) }
+    {
+        let text = match self.head.sum {
+            None => Text::new(alloc, bytes)?,
+            Some(announced) => {
+                let sum = md5_of(bytes.as_slice());
+                if sum.as_slice() != announced.as_slice() {
+                    return Err(DumpFault::BadSum);
+                }
+                Text::with_sum(alloc, bytes, sum)?
+            }
+        };
+        self.give(alloc, out, props, Some(text))
+    }
+
+    /// The block, if any, is whole.
+    fn after_block(
+        &mut self,
+        alloc: Global,
+        out: &mut Vec<DumpRecord>,
+        props: Option<Props>,
+    ) -> Result<(), DumpFault>
+        ensures on { StreamIs result self.new out.new.items (after_block out.old.items self.old props) }
+        ensures out { OnErr result (out.new.items ≡ out.old.items) }
+    {
+        match self.head.text_len {
+            None => self.give(alloc, out, props, None),
+            Some(0) => self.take_text(alloc, out, props, Vec::new(alloc)),
+            Some(n) => {
+                self.place = Place::Text(n);
+                self.props = props;
+                self.held = HeldBytes::new(alloc);
+                Ok(())
+            }
+        }
+    }
+
+    /// The empty line behind a head.
+    fn judge(&mut self, alloc: Global, out: &mut Vec<DumpRecord>) -> Result<(), DumpFault>
+        ensures on { StreamIs result self.new out.new.items (judged out.old.items self.old) }
+        ensures out { OnErr result (out.new.items ≡ out.old.items) }
+    {
+        if !has_form(self.stage, &self.head) {
+            return Err(DumpFault::BadHeader);
+        }
+        if !has_sum_of_lengths(&self.head) {
+            return Err(DumpFault::BadLength);
+        }
+        if !has_small_lengths(&self.head) {
+            return Err(DumpFault::TooLong);
+        }
+        match self.head.prop_len {
+            None => self.after_block(alloc, out, None),
+            Some(0) => Err(DumpFault::BadProps),
+            Some(n) => {
+                self.place = Place::Block;
+                self.block = BlockReader::new(alloc, n);
+                self.held = HeldBytes::new(alloc);
+                Ok(())
+            }
+        }
+    }
+
+    /// A whole line, without its LF.
+    fn take_line(
+        &mut self,
+        alloc: Global,
+        line: &[u8],
+        out: &mut Vec<DumpRecord>,
+    ) -> Result<(), DumpFault>
+        requires { is_line_place self.old.place ≡ true }
+        ensures on { StreamIs result self.new out.new.items (line_is self.old.place out.old.items self.old line.now) }
+        ensures out { OnErr result (out.new.items ≡ out.old.items) }
+    {
+        match self.place {
+            Place::Version => {
+                if line != b"SVN-fs-dump-format-version: 2".as_slice() {
+                    return Err(DumpFault::BadVersion);
+                }
+                self.version = 2;
+                self.place = Place::Blank;
+                Ok(())
+            }
+            Place::Blank => {
+                if !line.is_empty() {
+                    return Err(DumpFault::BadHeader);
+                }
+                self.place = Place::Between;
+                Ok(())
+            }
+            Place::Header if line.is_empty() => self.judge(alloc, out),
+            _ => {
+                if line.is_empty() {
+                    return Ok(());
+                }
+                self.head.take_line(alloc, line)?;
+                self.place = Place::Header;
+                Ok(())
+            }
+        }
+    }
+
+    /// Whether the input may end here.
+    pub fn is_between(&self) -> bool
+        ensures { result ≡ is_between self.now }
+    {
+        match self.place {
+            Place::Between => self.held.len() == 0,
+            _ => false,
+        }
+    }
+
+    /// In a block.
+    fn in_block(
+        &mut self,
+        alloc: Global,
+        piece: &[u8],
+        out: &mut Vec<DumpRecord>,
+    ) -> Result<usize, DumpFault>
+        requires some { 0 < length piece.now }
+        requires place { self.old.place ≡ at.Block }
+        ensures on { GoesOn result self.new out.new.items piece.now (reading (Reads out.old.items self.old) piece.now) }
+        ensures moves { IfOk result (λ k. (0 < k) × (k ≤ length piece.now)) }
+        ensures out { OnErr result (out.new.items ≡ out.old.items) }
+    {
+        let k = match self.block.feed(piece) {
+            Ok(None) => return Ok(piece.len()),
+            Ok(Some(k)) => k,
+            Err(fault) => return Err(block_fault(fault)),
+        };
+        let props = self.block.take();
+        self.block = BlockReader::new(alloc, 0);
+        match self.after_block(alloc, out, Some(props)) {
+            Ok(()) => Ok(k),
+            Err(fault) => Err(fault),
+        }
+    }
+
+    /// In a text of so many bytes.
+    fn in_text(
+        &mut self,
+        alloc: Global,
+        n: u64,
+        piece: &[u8],
+        out: &mut Vec<DumpRecord>,
+    ) -> Result<usize, DumpFault>
+        requires some { 0 < length piece.now }
+        requires place { self.old.place ≡ at.Text n }
+        ensures on { GoesOn result self.new out.new.items piece.now (reading (Reads out.old.items self.old) piece.now) }
+        ensures moves { IfOk result (λ k. (0 < k) × (k ≤ length piece.now)) }
+        ensures out { OnErr result (out.new.items ≡ out.old.items) }
+    {
+        let keep = (n as usize)
+            .saturating_sub(self.held.len())
+            .saturating_sub(1);
+        if piece.len() <= keep {
+            self.held.extend(piece)?;
+            return Ok(piece.len());
+        }
+        self.held.extend(&piece[..keep])?;
+        self.held.push(piece[keep])?;
+        let text = self.held.take(alloc);
+        let props = mem::replace(&mut self.props, None);
+        match self.take_text(alloc, out, props, text) {
+            Ok(()) => Ok(keep + 1),
+            Err(fault) => Err(fault),
+        }
+    }
+
+    /// In lines.
+    fn in_lines(
+        &mut self,
+        alloc: Global,
+        piece: &[u8],
+        out: &mut Vec<DumpRecord>,
+    ) -> Result<usize, DumpFault>
+        requires some { 0 < length piece.now }
+        requires place { is_line_place self.old.place ≡ true }
+        ensures on { GoesOn result self.new out.new.items piece.now (reading (Reads out.old.items self.old) piece.now) }
+        ensures moves { IfOk result (λ k. (0 < k) × (k ≤ length piece.now)) }
+        ensures out { OnErr result (out.new.items ≡ out.old.items) }
+    {
+        let room = 4096usize.saturating_sub(self.held.len());
+        let k = line_end(piece);
+        if k > room {
+            return Err(DumpFault::TooLong);
+        }
+        if k == piece.len() {
+            self.held.extend(piece)?;
+            return Ok(k);
+        }
+        match self.end_line(alloc, &piece[..k], out) {
+            Ok(()) => Ok(k + 1),
+            Err(fault) => Err(fault),
+        }
+    }
+
+    /// The last bytes of a line, behind those that are held.
+    fn end_line(
+        &mut self,
+        alloc: Global,
+        last: &[u8],
+        out: &mut Vec<DumpRecord>,
+    ) -> Result<(), DumpFault>
+        requires { is_line_place self.old.place ≡ true }
+        ensures on { StreamIs result self.new out.new.items (line_is self.old.place out.old.items (record self.old { held = [] }) (self.old.held ++ last.now)) }
+        ensures out { OnErr result (out.new.items ≡ out.old.items) }
+    {
+        if self.held.len() == 0 {
+            return self.take_line(alloc, last, out);
+        }
+        self.held.extend(last)?;
+        let line = self.held.take(alloc);
+        self.take_line(alloc, line.as_slice(), out)
+    }
+
+    /// Takes a byte or more.
+    fn advance(
+        &mut self,
+        alloc: Global,
+        piece: &[u8],
+        out: &mut Vec<DumpRecord>,
+    ) -> Result<usize, DumpFault>
+        requires { 0 < length piece.now }
+        ensures on { GoesOn result self.new out.new.items piece.now (reading (Reads out.old.items self.old) piece.now) }
+        ensures moves { IfOk result (λ k. (0 < k) × (k ≤ length piece.now)) }
+        ensures out { OnErr result (out.new.items ≡ out.old.items) }
+    {
+        match self.place {
+            Place::Block => self.in_block(alloc, piece, out),
+            Place::Text(n) => self.in_text(alloc, n, piece, out),
+            Place::Failed => Err(DumpFault::Failed),
+            Place::Version | Place::Blank | Place::Between | Place::Header => {
+                self.in_lines(alloc, piece, out)
+            }
+        }
+    }
+
+    /// How many bytes of an unfinished element are kept.
+    pub fn held(&self) -> u128
+        ensures { result ≡ kept self.now }
+    {
+        self.held.len() as u128 + self.block.held() as u128
+    }
+
+    /// Takes a whole piece.
+    pub fn take_piece(
+        &mut self,
+        alloc: Global,
+        piece: &[u8],
+        out: &mut Vec<DumpRecord>,
+    ) -> Result<(), DumpFault>
+        ensures on { StreamIs result self.new out.new.items (reading (Reads out.old.items self.old) piece.now) }
+        ensures front { OnErr result (IsFront out.new.items (reading (Reads out.old.items self.old) piece.now)) }
+    {
+        let mut at = 0;
+        while at < piece.len() {
+            match self.advance(alloc, &piece[at..], out) {
+                Ok(taken) => at += taken,
+                Err(fault) => return Err(fault),
+            }
+        }
+        Ok(())
+    }
+}

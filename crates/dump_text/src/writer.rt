@@ -1,0 +1,245 @@
+//! The canonical spelling.
+
+ghost use Rattle.std.specs.Prelude.{◌≡◌, ◌+◌, length, OnOk, codes};
+ghost use Rattle.std.specs.List.{flat_map};
+ghost use Rattle.std.specs.Io.KnownBytes.{Appends};
+ghost use Rattle.hex.specs.Hex.{encode_lower};
+ghost use Rattle.md5.specs.Md5.{md5};
+ghost use Rattle.dump_text.specs.Canon.{header_line, canon_identity, canon_head, canon_entry, canon_node, canon_revision, kind_word, action_word, told_kind, kind_line, source_lines, block_of, block_line, text_of, text_lines, content_line, content_of, now_of};
+
+use crate::record::{NodeRecord, PropPart, RevRecord};
+use node_base::{Action, NodeKind, Props, RevNo, Source, Text};
+use std::io;
+use std::io::Write;
+use uuid::Uuid;
+
+/// Writes the version block, and the identity's block where one is given.
+pub fn write_head<W: Write>(out: &mut W, uuid: Option<&Uuid>) -> io::Result<()>
+    ensures { OnOk result (Appends (W.contents out.old) (W.contents out.new) (canon_head (now_of uuid.entry))) }
+{
+    out.write_all(b"SVN-fs-dump-format-version: 2\n\n")?;
+    write_identity(out, uuid)?;
+    Ok(())
+}
+
+fn write_identity<W: Write>(out: &mut W, uuid: Option<&Uuid>) -> io::Result<()>
+    ensures { OnOk result (Appends (W.contents out.old) (W.contents out.new) (canon_identity (now_of uuid.entry))) }
+{
+    if let Some(uuid) = uuid {
+        write_uuid(out, uuid)?;
+    }
+    Ok(())
+}
+
+fn write_uuid<W: Write>(out: &mut W, uuid: &Uuid) -> io::Result<()>
+    ensures { OnOk result (Appends (W.contents out.old) (W.contents out.new) (canon_identity (Some uuid.now))) }
+{
+    let mut buffer = Uuid::encode_buffer();
+    let text = uuid.hyphenated().encode_lower(&mut buffer);
+    out.write_all(b"UUID: ")?;
+    out.write_all(text.as_bytes())?;
+    out.write_all(b"\n\n")?;
+    Ok(())
+}
+
+/// Writes a revision record: the number, the property block, and no nodes.
+pub fn write_props_entry<W: Write>(out: &mut W, number: RevNo, props: &Props) -> io::Result<()>
+    ensures { OnOk result (Appends (W.contents out.old) (W.contents out.new) (canon_entry number props.now)) }
+{
+    let len = props.block_len();
+    write!(out, "Revision-number: {number}\n")?;
+    write!(out, "Prop-content-length: {len}\n")?;
+    write!(out, "Content-length: {len}\n")?;
+    out.write_all(b"\n")?;
+    props.write_block(out)?;
+    out.write_all(b"\n")?;
+    Ok(())
+}
+
+/// Writes a revision with its nodes, in the order in which they stand.
+pub fn write_revision<W: Write>(out: &mut W, revision: &RevRecord) -> io::Result<()>
+    ensures { OnOk result (Appends (W.contents out.old) (W.contents out.new) (canon_revision revision.now)) }
+{
+    write_props_entry(out, revision.number, &revision.props)?;
+    write_nodes(out, revision.nodes.as_slice())?;
+    Ok(())
+}
+
+fn write_nodes<W: Write>(out: &mut W, nodes: &[NodeRecord]) -> io::Result<()>
+    ensures { OnOk result (Appends (W.contents out.old) (W.contents out.new) (flat_map canon_node nodes.now)) }
+{
+    for node in nodes {
+        write_node(out, node)?;
+    }
+    Ok(())
+}
+
+fn write_node<W: Write>(out: &mut W, node: &NodeRecord) -> io::Result<()>
+    ensures { OnOk result (Appends (W.contents out.old) (W.contents out.new) (canon_node node.now)) }
+{
+    let path = &node.path;
+    let action = action_word(node.action);
+    write!(out, "Node-path: {path}\n")?;
+    write_kind(out, told_kind(node.action, node.kind))?;
+    write!(out, "Node-action: {action}\n")?;
+    write_source(out, &node.source)?;
+    write_block_line(out, &node.props)?;
+    write_text_lines(out, &node.text)?;
+    write_content_line(out, &node.props, &node.text)?;
+    write_content(out, &node.props, &node.text)?;
+    Ok(())
+}
+
+fn kind_word(kind: NodeKind) -> &'static str
+    ensures { result.now ≡ kind_word kind }
+{
+    match kind {
+        NodeKind::File => "file",
+        NodeKind::Dir => "dir",
+    }
+}
+
+fn action_word(action: Action) -> &'static str
+    ensures { result.now ≡ action_word action }
+{
+    match action {
+        Action::Modify => "change",
+        Action::Add => "add",
+        Action::Delete => "delete",
+        Action::Replace => "replace",
+    }
+}
+
+/// The kind that is written: none at a deletion.
+fn told_kind(action: Action, kind: Option<NodeKind>) -> Option<NodeKind>
+    ensures { result ≡ told_kind action kind }
+{
+    match action {
+        Action::Delete => None,
+        _ => kind,
+    }
+}
+
+fn write_kind<W: Write>(out: &mut W, kind: Option<NodeKind>) -> io::Result<()>
+    ensures { OnOk result (Appends (W.contents out.old) (W.contents out.new) (kind_line kind)) }
+{
+    if let Some(kind) = kind {
+        let word = kind_word(kind);
+        write!(out, "Node-kind: {word}\n")?;
+    }
+    Ok(())
+}
+
+fn write_source<W: Write>(out: &mut W, source: &Option<Source>) -> io::Result<()>
+    ensures { OnOk result (Appends (W.contents out.old) (W.contents out.new) (source_lines source.now)) }
+{
+    if let Some(source) = source {
+        let number = source.revision;
+        let path = &source.path;
+        write!(out, "Node-copyfrom-rev: {number}\n")?;
+        write!(out, "Node-copyfrom-path: {path}\n")?;
+    }
+    Ok(())
+}
+
+fn write_block_line<W: Write>(out: &mut W, props: &Option<PropPart>) -> io::Result<()>
+    ensures { OnOk result (Appends (W.contents out.old) (W.contents out.new) (block_line props.now)) }
+{
+    if let Some(PropPart::Whole(props)) = props {
+        let len = props.block_len();
+        write!(out, "Prop-content-length: {len}\n")?;
+    }
+    Ok(())
+}
+
+fn write_text_lines<W: Write>(out: &mut W, text: &Option<Text>) -> io::Result<()>
+    ensures { OnOk result (Appends (W.contents out.old) (W.contents out.new) (text_lines text.now)) }
+{
+    if let Some(text) = text {
+        let len = text.len();
+        write!(out, "Text-content-length: {len}\n")?;
+        write_sum(out, text)?;
+    }
+    Ok(())
+}
+
+fn write_sum<W: Write>(out: &mut W, text: &Text) -> io::Result<()>
+    ensures { OnOk result (Appends (W.contents out.old) (W.contents out.new) (header_line (codes "Text-content-md5: ") (encode_lower (md5 text.now)))) }
+{
+    let digits = hex_of(text.sum());
+    out.write_all(b"Text-content-md5: ")?;
+    out.write_all(digits.as_slice())?;
+    out.write_all(b"\n")?;
+    Ok(())
+}
+
+/// A sum in 32 hexadecimal digits, in lower case.
+fn hex_of(sum: [u8; 16]) -> [u8; 32]
+    ensures { result ≡ encode_lower sum }
+{
+    let mut digits = [0; 32];
+    let written = hex::encode_to_slice(sum.as_slice(), &mut digits);
+    written.unwrap();
+    digits
+}
+
+/// How many bytes the block and the text have together.
+fn content_len(props: &Option<PropPart>, text: &Option<Text>) -> u128
+    ensures { result ≡ length (block_of props.now) + length (text_of text.now) }
+{
+    let block = match props {
+        Some(PropPart::Whole(props)) => u128::from(props.block_len()),
+        None => 0,
+    };
+    match text {
+        Some(text) => block + text.len() as u128,
+        None => block,
+    }
+}
+
+fn write_content_line<W: Write>(
+    out: &mut W,
+    props: &Option<PropPart>,
+    text: &Option<Text>,
+) -> io::Result<()>
+    ensures { OnOk result (Appends (W.contents out.old) (W.contents out.new) (content_line props.now text.now)) }
+{
+    if props.is_some() || text.is_some() {
+        let len = content_len(props, text);
+        write!(out, "Content-length: {len}\n")?;
+    }
+    Ok(())
+}
+
+fn write_block<W: Write>(out: &mut W, props: &Option<PropPart>) -> io::Result<()>
+    ensures { OnOk result (Appends (W.contents out.old) (W.contents out.new) (block_of props.now)) }
+{
+    if let Some(PropPart::Whole(props)) = props {
+        props.write_block(out)?;
+    }
+    Ok(())
+}
+
+fn write_text<W: Write>(out: &mut W, text: &Option<Text>) -> io::Result<()>
+    ensures { OnOk result (Appends (W.contents out.old) (W.contents out.new) (text_of text.now)) }
+{
+    if let Some(text) = text {
+        out.write_all(text.as_slice())?;
+    }
+    Ok(())
+}
+
+/// Writes an empty line, what the lengths announce, and two LF.
+fn write_content<W: Write>(
+    out: &mut W,
+    props: &Option<PropPart>,
+    text: &Option<Text>,
+) -> io::Result<()>
+    ensures { OnOk result (Appends (W.contents out.old) (W.contents out.new) (content_of props.now text.now)) }
+{
+    out.write_all(b"\n")?;
+    write_block(out, props)?;
+    write_text(out, text)?;
+    out.write_all(b"\n\n")?;
+    Ok(())
+}

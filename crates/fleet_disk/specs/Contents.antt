@@ -1,0 +1,7 @@
+-- The image that is held in memory.
+use Rattle.fleet_disk.specs.declared.contents.Contents.{Contents}
+use Rattle.fleet_disk.specs.Image.{Image}
+
+-- the bytes of both files
+abbrev pub image_of : Contents → Image
+image_of contents = record { journal = contents.journal.items; gate = contents.gate.items }

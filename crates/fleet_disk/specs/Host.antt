@@ -1,0 +1,7 @@
+-- What is known of a disk of the host.
+use Rattle.std.specs.Prelude.{ℕ}
+use Rattle.fleet_disk.specs.declared.host.HostDisk.{HostDisk}
+
+-- how often a call of the host has failed
+abbrev pub failures_of : {F : Type 0} → HostDisk F → ℕ
+failures_of disk = disk.failures

@@ -1,0 +1,24 @@
+-- The facts of a disk in memory.
+use Rattle.std.specs.Prelude.{ℕ, List, length}
+use Rattle.fleet_disk.specs.declared.memory.MemDisk.{MemDisk}
+use Rattle.fleet_disk.specs.declared.call.DiskCall.{DiskCall}
+use Rattle.fleet_disk.specs.declared.call.Pick.{Pick}
+use Rattle.fleet_disk.specs.Contents.{image_of}
+use Rattle.fleet_disk.specs.Image.{Image}
+use Rattle.fleet_disk.specs.Memory.{Leaves, LeftSince, picked}
+
+-- the calls that it remembers, the first of them first
+abbrev pub calls_of : MemDisk → List DiskCall
+calls_of disk = disk.calls.items
+
+-- what its reads give
+abbrev pub now_of : MemDisk → Image
+now_of disk = image_of disk.files
+
+-- a stop may leave this image of it
+abbrev pub MayLeave : MemDisk → Image → Type 0
+MayLeave disk image = Leaves (image_of disk.first) (image_of disk.first) disk.calls.items image
+
+-- the image that a pick leaves of it
+abbrev pub picked_of : Pick → MemDisk → Image
+picked_of pick disk = picked pick (image_of disk.first) (image_of disk.first) disk.calls.items

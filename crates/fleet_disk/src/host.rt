@@ -1,0 +1,207 @@
+//! A disk in a folder of the host.
+ghost use Rattle.std.specs.Prelude.{◌≡◌, ◌≤◌, ℕ, [], length, IfOk};
+ghost use Rattle.fleet_disk.specs.Host.{failures_of};
+ghost use Rattle.fleet_disk.specs.Image.{Image, no_bytes};
+ghost use Rattle.fleet_disk.specs.Rules.{Rose};
+
+use crate::disk::{Disk, DiskFault, DiskFile};
+use std::alloc::Global;
+use std::fs::{OpenFile, OpenOptions};
+use std::io;
+use std::io::{ErrorKind, Read, Seek, SeekFrom, Write};
+use std::rt::Files;
+
+/// The files `journal` and `gate` of a folder.
+///
+/// A file that isn't there counts as empty until it is made. That such a disk keeps the rules is a premise that no
+/// contract shows, so what is said of an honest disk is said of it under that premise alone; that a refusal comes
+/// only where the count of failures rose holds of it as it is.
+#[derive(Drop)]
+pub struct HostDisk<F: Read + Write + Seek + OpenFile> {
+    journal: Option<F>,
+    gate: Option<F>,
+    failures: u64,
+}
+
+impl<F: Read + Write + Seek + OpenFile + Drop> HostDisk<F> {
+    /// Opens the files of a folder, and makes none. No failure is counted yet. The host or memory may refuse.
+    pub fn open<R: Files<File = F>>(rt: &R, alloc: Global, folder: &str) -> io::Result<HostDisk<F>>
+        ensures { IfOk result (λ disk. failures_of disk ≡ 0) }
+    {
+        Ok(HostDisk {
+            journal: existing(rt, format!(in alloc; "{folder}/journal")?.as_str())?,
+            gate: existing(rt, format!(in alloc; "{folder}/gate")?.as_str())?,
+            failures: 0,
+        })
+    }
+
+    /// Opens the files of a folder, and makes those that are missing. No failure is counted yet. The host or memory
+    /// may refuse.
+    pub fn create<R: Files<File = F>>(
+        rt: &R,
+        alloc: Global,
+        folder: &str,
+    ) -> io::Result<HostDisk<F>>
+        ensures { IfOk result (λ disk. failures_of disk ≡ 0) }
+    {
+        let journal = made(rt, format!(in alloc; "{folder}/journal")?.as_str())?;
+        let gate = made(rt, format!(in alloc; "{folder}/gate")?.as_str())?;
+        // The names of new files last once the folder is synced.
+        OpenOptions::new().read(true).open(rt, folder)?.sync_all()?;
+        Ok(HostDisk {
+            journal: Some(journal),
+            gate: Some(gate),
+            failures: 0,
+        })
+    }
+
+    // Counts a failure of the host.
+    fn fail(&mut self) -> DiskFault
+        ensures rose { Rose self.old.failures self.new.failures }
+        ensures later { self.old.failures ≤ self.new.failures }
+    {
+        self.failures = self.failures.saturating_add(1);
+        DiskFault::DeviceFailed
+    }
+}
+
+impl<F: Read + Write + Seek + OpenFile + Drop> Disk for HostDisk<F> {
+    // Nothing shows it of a real disk.
+    ghost honest = { λ disk. ⊥ };
+
+    ghost reads = { λ disk. no_bytes };
+
+    ghost may_leave = { λ disk image. ⊥ };
+
+    ghost clock = { λ disk. 0 };
+
+    ghost left_since = { λ disk t image. ⊥ };
+
+    ghost failures = { λ disk. disk.failures };
+
+    ghost counts_now = { λ disk t c honest. absurd honest };
+
+    ghost only_now = { λ disk c honest. absurd honest };
+
+    ghost reads_left = { λ disk honest. absurd honest };
+
+    fn read(&mut self, file: DiskFile, at: u64, buf: &mut [u8]) -> Result<usize, DiskFault> {
+        let read = match file {
+            DiskFile::Journal => read_from(&mut self.journal, at, buf),
+            DiskFile::Gate => read_from(&mut self.gate, at, buf),
+        };
+        match read {
+            Ok(count) => Ok(count),
+            Err(_) => Err(self.fail()),
+        }
+    }
+
+    fn len(&mut self, file: DiskFile) -> Result<u64, DiskFault> {
+        let len = match file {
+            DiskFile::Journal => length_of(&mut self.journal),
+            DiskFile::Gate => length_of(&mut self.gate),
+        };
+        match len {
+            Ok(len) => Ok(len),
+            Err(_) => Err(self.fail()),
+        }
+    }
+
+    fn write_at(&mut self, file: DiskFile, at: u64, bytes: &[u8]) -> Result<(), DiskFault> {
+        let written = match file {
+            DiskFile::Journal => write_to(&mut self.journal, at, bytes),
+            DiskFile::Gate => write_to(&mut self.gate, at, bytes),
+        };
+        match written {
+            Ok(()) => Ok(()),
+            Err(_) => Err(self.fail()),
+        }
+    }
+
+    fn cut(&mut self, file: DiskFile, len: u64) -> Result<(), DiskFault> {
+        let cut = match file {
+            DiskFile::Journal => cut_to(&self.journal, len),
+            DiskFile::Gate => cut_to(&self.gate, len),
+        };
+        match cut {
+            Ok(()) => Ok(()),
+            Err(_) => Err(self.fail()),
+        }
+    }
+
+    fn sync(&mut self) -> Result<(), DiskFault> {
+        match sync_both(&self.journal, &self.gate) {
+            Ok(()) => Ok(()),
+            Err(_) => Err(self.fail()),
+        }
+    }
+}
+
+// Some bytes from an offset on; of a file that isn't there none.
+fn read_from<F: Read + Seek>(file: &mut Option<F>, at: u64, buf: &mut [u8]) -> io::Result<usize>
+    ensures { IfOk result (λ n. n ≤ length buf.old) }
+{
+    match file {
+        Some(file) => {
+            file.seek(SeekFrom::Start(at))?;
+            file.read(buf)
+        }
+        None => Ok(0),
+    }
+}
+
+fn length_of<F: Seek>(file: &mut Option<F>) -> io::Result<u64> {
+    match file {
+        Some(file) => file.seek(SeekFrom::End(0)),
+        None => Ok(0),
+    }
+}
+
+fn write_to<F: Write + Seek>(file: &mut Option<F>, at: u64, bytes: &[u8]) -> io::Result<()> {
+    match file {
+        Some(file) => {
+            file.seek(SeekFrom::Start(at))?;
+            file.write_all(bytes)
+        }
+        None => Err(io::Error::from(ErrorKind::NotFound)),
+    }
+}
+
+// A file that isn't there has nothing to cut.
+fn cut_to<F: OpenFile>(file: &Option<F>, len: u64) -> io::Result<()> {
+    match file {
+        Some(file) => file.set_len(len),
+        None => Ok(()),
+    }
+}
+
+fn sync_both<F: OpenFile>(journal: &Option<F>, gate: &Option<F>) -> io::Result<()> {
+    if let Some(file) = journal {
+        file.sync_data()?;
+    }
+    if let Some(file) = gate {
+        file.sync_data()?;
+    }
+    Ok(())
+}
+
+fn existing<R: Files>(rt: &R, path: &str) -> io::Result<Option<R::File>> {
+    match OpenOptions::new().read(true).write(true).open(rt, path) {
+        Ok(file) => Ok(Some(file)),
+        Err(error) => {
+            if error.kind() == ErrorKind::NotFound {
+                Ok(None)
+            } else {
+                Err(error)
+            }
+        }
+    }
+}
+
+fn made<R: Files>(rt: &R, path: &str) -> io::Result<R::File> {
+    OpenOptions::new()
+        .read(true)
+        .write(true)
+        .create(true)
+        .open(rt, path)
+}

@@ -1,0 +1,33 @@
+//! The disk that a log is kept on: two files, and what a stop of the machine may leave of them.
+//!
+//! A `Disk` has a file `journal` and a file `gate`, which are read, written, cut and synced. Between two syncs each
+//! written range may hold any bytes after a stop, a length lies between the least and the greatest since the last
+//! sync, and other bytes stay; after a sync that answers Ok a stop leaves what a read gives. `MemDisk` is such a disk
+//! in memory, which can be stopped; `FuseDisk` makes the calls of another fail; `HostDisk` is a folder of the host.
+//!
+//! Each call of a disk says what it does to what a read gives, to the images that a stop may leave now, and to those
+//! that a stop at some moment since a given clock might have left; a call is refused only where the device's count
+//! of failures rose.
+//!
+//! ```text
+//! let mut disk = MemDisk::new(alloc);
+//! disk.write_at(DiskFile::Journal, 0, b"hello")?;
+//! let stopped = disk.crash(Pick::Fill(0))?; // five bytes, each of them 0
+//! ```
+#![tactic(auto)]
+
+mod call;
+mod contents;
+mod disk;
+mod fuse;
+mod host;
+mod memory;
+
+pub use call::{DiskCall, Pick};
+pub use disk::{Disk, DiskFault, DiskFile};
+pub use fuse::{Fuse, FuseDisk};
+pub use host::HostDisk;
+pub use memory::MemDisk;
+
+#[cfg(test)]
+mod tests;

@@ -1,0 +1,133 @@
+-- Ends of entries, their slots and their parts of a journal.
+use Rattle.std.proofs.Common.{◌≡◌, ◌<◌, ◌≤◌, ◌+◌, ◌-◌, ◌*◌, ℕ, zero, suc, Some, slice_get, subst, List, [], ◌∷◌, ◌++◌, length, get_or, take, drop, refl, sym, ◌∙◌, ap, arith, append_assoc, length-append, length-drop, take-append-drop}
+use Rattle.std.proofs.lemmas.List.{take-append-le, drop-append-le, take_all, drop_at, append-nil, drop_more, drop-drop}
+use Rattle.gate_log.specs.Slots.{eight_bytes, slots}
+use Rattle.gate_log.specs.Standing.{last_end, IsRising, parts}
+
+pub length-eight_bytes : (n : ℕ) → length (eight_bytes n) ≡ 8
+unfolding eight_bytes
+length-eight_bytes n = refl
+
+pub length-slots : (ends : List ℕ) → length (slots ends) ≡ 9 * length ends
+length-slots [] = refl
+length-slots (end ∷ ends) = omega (arith, length-append (eight_bytes end) (slots ends), length-eight_bytes end, length-slots ends)
+
+pub slots_push : (ends : List ℕ) (end : ℕ) → slots (ends ++ end ∷ []) ≡ slots ends ++ (1 ∷ eight_bytes end)
+slots_push [] end = ap (λ (l : List ℕ). 1 ∷ l) (append-nil (eight_bytes end))
+slots_push (e ∷ ends) end = ap (λ (l : List ℕ). 1 ∷ (eight_bytes e ++ l)) (slots_push ends end) ∙ ap (λ (l : List ℕ). 1 ∷ l) (sym (append_assoc (eight_bytes e) (slots ends) (1 ∷ eight_bytes end)))
+
+pub last_end_push : (from : ℕ) (ends : List ℕ) (end : ℕ) → last_end from (ends ++ end ∷ []) ≡ end
+last_end_push from [] end = refl
+last_end_push from (e ∷ ends) end = last_end_push e ends end
+
+pub rising_push : (from : ℕ) (ends : List ℕ) (end : ℕ) → IsRising from ends → last_end from ends < end → IsRising from (ends ++ end ∷ [])
+rising_push from [] end up more = (more, tt)
+rising_push from (e ∷ ends) end (here, up) more = (here, rising_push e ends end up more)
+
+-- an end is no more than the last
+pub grows : (from : ℕ) (ends : List ℕ) → IsRising from ends → from ≤ last_end from ends
+grows from [] up = omega arith
+grows from (e ∷ ends) (here, up) = omega (arith, here, grows e ends up)
+
+-- there are no more entries than bytes
+pub few : (from : ℕ) (ends : List ℕ) → IsRising from ends → from + length ends ≤ last_end from ends
+few from [] up = omega arith
+few from (e ∷ ends) (here, up) = omega (arith, here, few e ends up)
+
+part_front : (from end : ℕ) (journal more : List ℕ) → from < end → end ≤ length journal → take (end - from) (drop from (journal ++ more)) ≡ take (end - from) (drop from journal)
+part_front from end journal more here inside =
+    ap (λ (l : List ℕ). take (end - from) l) (drop-append-le from journal more (omega (arith, here, inside)))
+    ∙ take-append-le (end - from) (drop from journal) more (omega (arith, length-drop from journal, inside, here))
+
+-- what stands behind the last end changes no part
+pub parts_front : (from : ℕ) (ends journal more : List ℕ) → IsRising from ends → last_end from ends ≤ length journal → parts from ends (journal ++ more) ≡ parts from ends journal
+parts_front from [] journal more up within = refl
+parts_front from (e ∷ ends) journal more (here, up) within =
+    ap (λ (l : List ℕ). l ∷ parts e ends (journal ++ more)) (part_front from e journal more here (omega (arith, within, grows e ends up)))
+    ∙ ap (λ (l : List (List ℕ)). take (e - from) (drop from journal) ∷ l) (parts_front e ends journal more up within)
+
+-- one more entry behind the last
+pub parts_push : (from : ℕ) (ends journal entry : List ℕ) (end : ℕ) → IsRising from ends → last_end from ends ≡ length journal → end ≡ length journal + length entry
+    → parts from (ends ++ end ∷ []) (journal ++ entry) ≡ parts from ends journal ++ entry ∷ []
+parts_push from [] journal entry end up all is =
+    ap (λ (l : List ℕ). l ∷ []) (ap (λ (l : List ℕ). take (end - from) l) (drop_at journal entry from (sym all)) ∙ take_all (end - from) entry (omega (arith, all, is)))
+parts_push from (e ∷ ends) journal entry end (here, up) all is =
+    ap (λ (l : List ℕ). l ∷ parts e (ends ++ end ∷ []) (journal ++ entry)) (part_front from e journal entry here (omega (arith, all, grows e ends up)))
+    ∙ ap (λ (l : List (List ℕ)). take (e - from) (drop from journal) ∷ l) (parts_push e ends journal entry end up all is)
+
+last_cons : (from e : ℕ) (ends : List ℕ) → get_or (e ∷ ends) (length ends) 0 ≡ last_end from (e ∷ ends)
+last_cons from e [] = refl
+last_cons from e (f ∷ ends) = last_cons e f ends
+
+-- the last end, by its number
+pub last_at : (from : ℕ) (ends : List ℕ) → 1 ≤ length ends → get_or ends (length ends - 1) 0 ≡ last_end from ends
+last_at from [] some = absurd (omega arith)
+last_at from (e ∷ ends) some = let at : length (e ∷ ends) - 1 ≡ length ends = omega arith in ap (λ (k : ℕ). get_or (e ∷ ends) k 0) at ∙ last_cons from e ends
+
+pub length_parts : (from : ℕ) (ends journal : List ℕ) → length (parts from ends journal) ≡ length ends
+length_parts from [] journal = refl
+length_parts from (e ∷ ends) journal = omega (arith, length_parts e ends journal)
+
+-- where an entry begins
+abbrev start_of : ℕ → List ℕ → ℕ → ℕ
+start_of from ends zero = from
+start_of from [] (suc i) = from
+start_of from (e ∷ ends) (suc i) = start_of e ends i
+
+start_behind : (from : ℕ) (ends : List ℕ) (i : ℕ) → i < length ends → start_of from ends (suc i) ≡ get_or ends i 0
+start_behind from [] i inside = absurd (omega arith)
+start_behind from (e ∷ ends) zero inside = refl
+start_behind from (e ∷ ends) (suc i) inside = start_behind e ends i (omega arith)
+
+part_at : (from : ℕ) (ends : List ℕ) (i : ℕ) (journal : List ℕ) → i < length ends → slice_get (parts from ends journal) i ≡ Some (take (get_or ends i 0 - start_of from ends i) (drop (start_of from ends i) journal))
+part_at from [] i journal inside = absurd (omega arith)
+part_at from (e ∷ ends) zero journal inside = refl
+part_at from (e ∷ ends) (suc i) journal inside = part_at e ends i journal (omega arith)
+
+in_order : (from : ℕ) (ends : List ℕ) (i : ℕ) → IsRising from ends → i < length ends → start_of from ends i < get_or ends i 0
+in_order from [] i up inside = absurd (omega arith)
+in_order from (e ∷ ends) zero (here, up) inside = here
+in_order from (e ∷ ends) (suc i) (here, up) inside = in_order e ends i up (omega arith)
+
+-- no end passes the last
+pub below_last : (from : ℕ) (ends : List ℕ) (i : ℕ) → IsRising from ends → i < length ends → get_or ends i 0 ≤ last_end from ends
+below_last from [] i up inside = absurd (omega arith)
+below_last from (e ∷ ends) zero (here, up) inside = grows e ends up
+below_last from (e ∷ ends) (suc i) (here, up) inside = below_last e ends i up (omega arith)
+
+-- the part of an entry, between two ends
+pub record IsPart (ends : List ℕ) (i start end : ℕ) : Type 0 where
+  pub part : (journal : List ℕ) → slice_get (parts 0 ends journal) i ≡ Some (take (end - start) (drop start journal))
+  pub order : start < end
+
+pub first_part : (ends : List ℕ) → IsRising 0 ends → 0 < length ends → IsPart ends 0 0 (get_or ends 0 0)
+first_part ends up inside = record { part = λ journal. part_at 0 ends 0 journal inside; order = in_order 0 ends 0 up inside }
+
+pub later_part : (ends : List ℕ) (i : ℕ) → IsRising 0 ends → suc i < length ends → IsPart ends (suc i) (get_or ends i 0) (get_or ends (suc i) 0)
+later_part ends i up inside =
+    let start = start_behind 0 ends i (omega (arith, inside)) in
+    record {
+      part = λ journal. subst (λ (k : ℕ). slice_get (parts 0 ends journal) (suc i) ≡ Some (take (get_or ends (suc i) 0 - k) (drop k journal))) start (part_at 0 ends (suc i) journal inside);
+      order = subst (λ (k : ℕ). k < get_or ends (suc i) 0) start (in_order 0 ends (suc i) up inside);
+    }
+
+pub part_behind : (ends : List ℕ) (i : ℕ) → IsRising 0 ends → 0 < i → i < length ends → IsPart ends i (get_or ends (i - 1) 0) (get_or ends i 0)
+part_behind ends zero up some inside = absurd (omega arith)
+part_behind ends (suc i) up some inside = let back : i ≡ suc i - 1 = omega arith in subst (λ (k : ℕ). IsPart ends (suc i) (get_or ends k 0) (get_or ends (suc i) 0)) back (later_part ends i up inside)
+
+-- an open gate and a length, and what is behind them
+pub slot_split : (gates : List ℕ) (at end : ℕ) → at + 10 ≤ length gates → get_or gates at 0 ≡ 1 → take 8 (drop (at + 1) gates) ≡ eight_bytes end → drop at gates ≡ (1 ∷ eight_bytes end) ++ drop (at + 9) gates
+slot_split gates at end long is_open length_is =
+    let nine : at + 1 + 8 ≡ at + 9 = omega arith in
+    drop_more gates at 0 (omega (arith, long))
+    ∙ ap (λ (x : ℕ). x ∷ drop (at + 1) gates) is_open
+    ∙ ap (λ (l : List ℕ). 1 ∷ l) (sym (take-append-drop 8 (drop (at + 1) gates)) ∙ ap (λ (l : List ℕ). l ++ drop 8 (drop (at + 1) gates)) length_is
+    ∙ ap (λ (l : List ℕ). eight_bytes end ++ l) (drop-drop 8 (at + 1) gates ∙ ap (λ (k : ℕ). drop k gates) nine))
+
+-- one slot more
+pub slots_more : (ends gates : List ℕ) (at end : ℕ) → at + 10 ≤ length gates → get_or gates at 0 ≡ 1 → take 8 (drop (at + 1) gates) ≡ eight_bytes end → gates ≡ slots ends ++ drop at gates → gates ≡ slots (ends ++ end ∷ []) ++ drop (at + 9) gates
+slots_more ends gates at end long is_open length_is so_far =
+    so_far
+    ∙ ap (λ (l : List ℕ). slots ends ++ l) (slot_split gates at end long is_open length_is)
+    ∙ sym (append_assoc (slots ends) (1 ∷ eight_bytes end) (drop (at + 9) gates))
+    ∙ ap (λ (l : List ℕ). l ++ drop (at + 9) gates) (sym (slots_push ends end))

@@ -1,0 +1,24 @@
+-- The numbers of refusals.
+use Rattle.std.specs.Prelude.{ℕ}
+use Rattle.gate_log.specs.declared.fault.LogFault.{LogFault}
+use Rattle.gate_log.specs.declared.fault.LogFault.TheVariants.{DeviceFailed, Failed, Damaged, NoRepository, ThereAlready, LogFull, OutOfMemory}
+
+-- the number of a refusal
+abbrev pub number_of : LogFault → ℕ
+number_of DeviceFailed = 31
+number_of Failed = 32
+number_of (Damaged entry) = 33
+number_of NoRepository = 34
+number_of ThereAlready = 35
+number_of LogFull = 36
+number_of OutOfMemory = 70
+
+-- what the search for standing entries answers: 31, 33, 34 or 70
+abbrev pub IsFindFault : LogFault → Type 0
+IsFindFault DeviceFailed = Unit {0}
+IsFindFault (Damaged entry) = Unit {0}
+IsFindFault NoRepository = Unit {0}
+IsFindFault OutOfMemory = Unit {0}
+IsFindFault Failed = ⊥
+IsFindFault ThereAlready = ⊥
+IsFindFault LogFull = ⊥

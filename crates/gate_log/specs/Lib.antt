@@ -1,0 +1,7 @@
+pub mod Faults
+pub mod Log
+pub mod Slots
+pub mod Standing
+pub mod StandingLaws
+pub mod Looks
+pub mod Verdicts

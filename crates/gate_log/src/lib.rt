@@ -1,0 +1,36 @@
+//! A log on a disk that a stop can't tear: each entry is there whole, or not at all.
+//!
+//! The entries stand one behind another in the file `journal`. The file `gate` has a slot for each entry, an open
+//! gate (01) and the journal's length behind the entry (eight bytes, the highest first), and a closed gate behind
+//! the last. An append writes the entry, then its slot's length with a closed gate behind it, syncs, opens the gate
+//! by a write of one byte, and syncs again. Opening syncs, reads the gates up to the first closed one, cuts what is
+//! behind, and syncs.
+//!
+//! At each moment since an append began, a stop leaves an image that stands for the old entries, or for these and
+//! the new one; once the append has answered Ok, always with the new one. An opening finds exactly the entries that
+//! stand, and may itself be stopped at any moment.
+//!
+//! ```text
+//! let mut log = GateLog::create(alloc, HostDisk::create(&rt, alloc, "folder")?)?;
+//! let receipt = log.append(b"first")?;
+//! let log = GateLog::open(alloc, log.into_disk())?;
+//! ```
+#![tactic(auto)]
+
+mod create;
+mod ends;
+mod fault;
+mod find;
+mod log;
+mod put;
+mod reads;
+mod recover;
+mod slots;
+mod verdicts;
+
+pub use fault::LogFault;
+pub use log::{GateLog, MOST_BYTES, Receipt};
+pub use verdicts::one_verdict;
+
+#[cfg(test)]
+mod tests;

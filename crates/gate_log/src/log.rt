@@ -1,0 +1,247 @@
+//! The log.
+ghost use Rattle.std.specs.Prelude.{◌≡◌, ◌≢◌, ◌⊎◌, ◌<◌, ◌≤◌, ◌+◌, ◌*◌, ◌^◌, ◌++◌, ◌∷◌, ◌↔◌, [], List, ℕ, false, length, slice_get, Some, IsTrue, IfOk, IfErr, OnOk, OnErr, IsErrOf};
+ghost use Rattle.std.proofs.Props.{props};
+ghost use Rattle.fleet_disk.specs.Image.{Image, no_bytes};
+ghost use Rattle.fleet_disk.specs.Rules.{Only, LeavesOnly, Rose, Within};
+ghost use Rattle.gate_log.specs.Faults.{IsFindFault};
+ghost use Rattle.gate_log.specs.Standing.{last_end, IsRising, IsAtRest, IsEither, IsDamagedAt, Stands, StandsAlike, HasNoEntry};
+ghost use Rattle.gate_log.specs.StandingLaws.{rising_prop};
+
+use crate::create::begin;
+use crate::ends::{bounds, end_of};
+use crate::fault::LogFault;
+use crate::put::put_entry;
+use crate::reads::read_full;
+use crate::recover::recover;
+use fleet_disk::{Disk, DiskFile};
+use std::alloc::Global;
+
+/// The most bytes that a journal has.
+pub const MOST_BYTES: u64 = 1 << 56;
+
+/// A log of entries on a disk, each of them whole or not there.
+///
+/// The entries stand one behind another in the file `journal`; the file `gate` says which of them count. After a
+/// failure of the device every call answers Failed (32), and the disk has to be opened again.
+#[derive(Drop)]
+pub struct GateLog<D: Disk> {
+    disk: D,
+    ends: Vec<u64>,
+    failed: bool,
+    ghost rising: { IsRising 0 ends.items } by { rising_prop 0 ends.items },
+    ghost at_rest: { D.honest disk → failed ≡ false → IsAtRest ends.items (D.reads disk) } by { Prim.hlevel props },
+    ghost durable: { D.honest disk → failed ≡ false → Only (D.reads disk) (D.may_leave disk) } by { Prim.hlevel props },
+}
+
+/// A sign that an entry is on the disk: only an append that answered Ok makes one.
+#[derive(Debug, Drop)]
+pub struct Receipt {
+    entry: u64,
+}
+
+impl Receipt {
+    ghost use Rattle.gate_log.specs.Log.{entry_of};
+
+    /// The number of the entry, from 0 on.
+    pub fn entry(&self) -> u64
+        ensures { result ≡ entry_of self.now }
+    {
+        self.entry
+    }
+}
+
+impl<D: Disk> GateLog<D> {
+    ghost use Rattle.gate_log.specs.Log.{disk_of, ends_of, size_of, entries_of, entry_of, HasFailed, HasRoom};
+
+    /// Begins a log without entries on a disk of two empty files. What a stop leaves before it has answered Ok isn't
+    /// promised. It answers ThereAlready (35) where a file isn't empty, and DeviceFailed (31); a refusal hands the
+    /// disk back.
+    pub fn create(alloc: Global, disk: D) -> Result<GateLog<D>, (LogFault, D)>
+        ensures empty { D.honest disk → OnOk result (D.reads disk ≡ no_bytes) }
+        ensures entries { IfOk result (λ log. (ends_of log ≡ []) × ¬ HasFailed log) }
+        ensures durable { D.honest disk → IfOk result (λ log. (image : Image) → D.may_leave (disk_of log) image → Stands image []) }
+        ensures there { D.honest disk → IfErr result (λ e. e.0 ≡ LogFault.ThereAlready → D.reads disk ≢ no_bytes) }
+        ensures device { IfErr result (λ e. e.0 ≡ LogFault.DeviceFailed → Rose (D.failures disk) (D.failures e.1)) }
+        ensures no_other { IfErr result (λ e. (e.0 ≡ LogFault.DeviceFailed) ⊎ (e.0 ≡ LogFault.ThereAlready)) }
+        ensures honest { IfOk result (λ log. D.honest disk ↔ D.honest (disk_of log)) }
+        ensures honest_err { IfErr result (λ e. D.honest disk ↔ D.honest e.1) }
+    {
+        let mut disk = disk;
+        match begin(&mut disk) {
+            Ok(()) => Ok(GateLog {
+                disk,
+                ends: Vec::new(alloc),
+                failed: false,
+            }),
+            Err(fault) => Err((fault, disk)),
+        }
+    }
+
+    /// Opens the log that a disk holds: syncs, finds the entries that stand, and cuts what is behind them. A stop in
+    /// between leaves what it could leave before, or an image that stands for the same entries. It answers
+    /// NoRepository (34) where the first gate is missing or closed, Damaged (33) with the first entry whose length or
+    /// next gate breaks the format, DeviceFailed (31) and OutOfMemory (70); a refusal hands the disk back.
+    pub fn open(alloc: Global, disk: D) -> Result<GateLog<D>, (LogFault, D)>
+        ensures found { D.honest disk → (entries : List (List ℕ)) → Stands (D.reads disk) entries → 0 < length entries → IfOk result (λ log. entries_of log ≡ entries) }
+        ensures refused { D.honest disk → (entries : List (List ℕ)) → Stands (D.reads disk) entries → 0 < length entries
+            → IfErr result (λ e. (e.0 ≡ LogFault.DeviceFailed) ⊎ (e.0 ≡ LogFault.OutOfMemory)) }
+        ensures stands { D.honest disk → IfOk result (λ log. Stands (D.reads disk) (entries_of log)) }
+        ensures some { IfOk result (λ log. (0 < length (entries_of log)) × ¬ HasFailed log) }
+        ensures durable { D.honest disk → IfOk result (λ log. (image : Image) → D.may_leave (disk_of log) image → Stands image (entries_of log)) }
+        ensures damaged { D.honest disk → (entry : ℕ) → IfErr result (λ e. e.0 ≡ LogFault.Damaged entry → IsDamagedAt entry (D.reads disk)) }
+        ensures missing { D.honest disk → IfErr result (λ e. e.0 ≡ LogFault.NoRepository → HasNoEntry (D.reads disk)) }
+        ensures device { IfErr result (λ e. e.0 ≡ LogFault.DeviceFailed → Rose (D.failures disk) (D.failures e.1)) }
+        ensures no_other { IfErr result (λ e. IsFindFault e.0) }
+        ensures any_moment { D.honest disk → IfOk result (λ log. LeavesOnly D.clock D.left_since disk (disk_of log)
+            (λ c. D.may_leave disk c ⊎ StandsAlike (D.reads disk) c)) }
+        ensures any_moment_err { D.honest disk → IfErr result (λ e. LeavesOnly D.clock D.left_since disk e.1
+            (λ c. D.may_leave disk c ⊎ StandsAlike (D.reads disk) c)) }
+        ensures honest { IfOk result (λ log. D.honest disk ↔ D.honest (disk_of log)) }
+        ensures honest_err { IfErr result (λ e. D.honest disk ↔ D.honest e.1) }
+    {
+        let mut disk = disk;
+        match recover(alloc, &mut disk) {
+            Ok(ends) => Ok(GateLog {
+                disk,
+                ends,
+                failed: false,
+            }),
+            Err(fault) => Err((fault, disk)),
+        }
+    }
+
+    /// How many entries there are.
+    #[tactic(auto, using(crate::proofs::EndLemmas::length_parts))]
+    pub fn len(&self) -> u64
+        ensures count { result ≡ length (ends_of self.now) }
+        ensures entries { result ≡ length (entries_of self.now) }
+    {
+        self.ends.len() as u64
+    }
+
+    /// There is no entry.
+    #[tactic(auto, using(crate::proofs::EndLemmas::length_parts))]
+    pub fn is_empty(&self) -> bool
+        ensures { IsTrue result ↔ (length (entries_of self.now) ≡ 0) }
+    {
+        self.ends.is_empty()
+    }
+
+    /// The device failed in a call of this log.
+    pub fn has_failed(&self) -> bool
+        ensures { IsTrue result ↔ HasFailed self.now }
+    {
+        self.failed
+    }
+
+    /// The disk, with what the calls have left there.
+    pub fn into_disk(self) -> D
+        ensures { result ≡ disk_of self }
+    {
+        let GateLog {
+            disk,
+            ends: _,
+            failed: _,
+        } = self;
+        disk
+    }
+
+    /// Makes the growths of an append of so many bytes: that append, made next, takes no memory. It answers
+    /// Failed (32) after a failure of the device, LogFull (36) where the journal would pass 2^56 bytes, and
+    /// OutOfMemory (70); the entries stay as they are.
+    pub fn reserve(&mut self, count: usize) -> Result<(), LogFault>
+        ensures room { OnOk result (HasRoom self.new) }
+        ensures fits { OnOk result (size_of self.old + count ≤ 2 ^ 56) }
+        ensures disk { disk_of self.new ≡ disk_of self.old }
+        ensures entries { ends_of self.new ≡ ends_of self.old }
+        ensures working { HasFailed self.new ↔ HasFailed self.old }
+        ensures failed { IsErrOf result LogFault.Failed ↔ HasFailed self.old }
+        ensures full { IsErrOf result LogFault.LogFull ↔ (¬ HasFailed self.old × (2 ^ 56 < size_of self.old + count)) }
+        ensures memory { IsErrOf result LogFault.OutOfMemory → ¬ HasRoom self.old }
+        ensures no_other { IfErr result (λ e. (e ≡ LogFault.Failed) ⊎ (e ≡ LogFault.LogFull) ⊎ (e ≡ LogFault.OutOfMemory)) }
+    {
+        if self.failed {
+            return Err(LogFault::Failed);
+        }
+        let more = count as u64;
+        if more > MOST_BYTES || end_of(&self.ends) > MOST_BYTES - more {
+            return Err(LogFault::LogFull);
+        }
+        self.ends.reserve(1)?;
+        Ok(())
+    }
+
+    /// Adds an entry, which may not be empty. At each moment of the call a stop leaves the old entries, or these and
+    /// the new one; once it has answered Ok, always the new one too. It answers Failed (32) after a failure of the
+    /// device, LogFull (36) where the journal would pass 2^56 bytes, OutOfMemory (70) only without `reserve`, and
+    /// DeviceFailed (31), after which either may stand; the other refusals leave the disk alone.
+    pub fn append(&mut self, bytes: &[u8]) -> Result<Receipt, LogFault>
+        requires { 0 < length bytes.now }
+
+        ensures added { D.honest (disk_of self.old) → OnOk result (entries_of self.new ≡ entries_of self.old ++ bytes.now ∷ []) }
+        ensures receipt { IfOk result (λ receipt. entry_of receipt ≡ length (entries_of self.old)) }
+        ensures durable { D.honest (disk_of self.old) → OnOk result ((image : Image) → D.may_leave (disk_of self.new) image
+            → Stands image (entries_of self.old ++ bytes.now ∷ [])) }
+        ensures any_moment { D.honest (disk_of self.old) → ¬ HasFailed self.old → LeavesOnly D.clock D.left_since (disk_of self.old) (disk_of self.new)
+            (IsEither (entries_of self.old) bytes.now) }
+        ensures either { D.honest (disk_of self.old) → IsErrOf result LogFault.DeviceFailed → (image : Image) → D.may_leave (disk_of self.new) image
+            → IsEither (entries_of self.old) bytes.now image }
+
+        ensures device { IsErrOf result LogFault.DeviceFailed → Rose (D.failures (disk_of self.old)) (D.failures (disk_of self.new)) }
+        ensures failed { IsErrOf result LogFault.Failed ↔ HasFailed self.old }
+        ensures full { IsErrOf result LogFault.LogFull ↔ (¬ HasFailed self.old × (2 ^ 56 < size_of self.old + length bytes.now)) }
+        ensures memory { IsErrOf result LogFault.OutOfMemory → ¬ HasRoom self.old }
+        ensures no_other { IfErr result (λ e. (e ≡ LogFault.DeviceFailed) ⊎ (e ≡ LogFault.Failed) ⊎ (e ≡ LogFault.LogFull) ⊎ (e ≡ LogFault.OutOfMemory)) }
+
+        ensures untouched { IfErr result (λ e. (e ≡ LogFault.DeviceFailed) ⊎ ((disk_of self.new ≡ disk_of self.old) × (ends_of self.new ≡ ends_of self.old))) }
+        ensures working { HasFailed self.new ↔ (HasFailed self.old ⊎ IsErrOf result LogFault.DeviceFailed) }
+        ensures honest { D.honest (disk_of self.old) ↔ D.honest (disk_of self.new) }
+        ensures later { D.failures (disk_of self.old) ≤ D.failures (disk_of self.new) }
+    {
+        self.reserve(bytes.len())?;
+        let entry = self.ends.len() as u64;
+        let end = end_of(&self.ends) + bytes.len() as u64;
+        self.failed = true;
+        put_entry(&mut self.disk, &self.ends, bytes)?;
+        self.ends.push_reserved(end);
+        self.failed = false;
+        Ok(Receipt { entry })
+    }
+
+    /// The bytes of an entry, of which there is one of this number. It answers Failed (32) after a failure of the
+    /// device, DeviceFailed (31) and OutOfMemory (70), and Damaged (33) only where the disk has fewer bytes than an
+    /// honest one; the entries stay as they are.
+    pub fn read_entry(&mut self, alloc: Global, entry: u64) -> Result<Vec<u8>, LogFault>
+        requires { entry < length (ends_of self.old) }
+        ensures bytes { D.honest (disk_of self.old) → IfOk result (λ bytes. slice_get (entries_of self.old) entry ≡ Some bytes.items) }
+        ensures same { D.honest (disk_of self.old) → entries_of self.new ≡ entries_of self.old }
+        ensures ends { ends_of self.new ≡ ends_of self.old }
+        ensures inside { D.honest (disk_of self.old) → Within (D.may_leave (disk_of self.new)) (D.may_leave (disk_of self.old)) }
+        ensures any_moment { D.honest (disk_of self.old) → LeavesOnly D.clock D.left_since (disk_of self.old) (disk_of self.new) (D.may_leave (disk_of self.old)) }
+        ensures device { IsErrOf result LogFault.DeviceFailed → Rose (D.failures (disk_of self.old)) (D.failures (disk_of self.new)) }
+        ensures failed { IsErrOf result LogFault.Failed ↔ HasFailed self.old }
+        ensures working { HasFailed self.new ↔ (HasFailed self.old ⊎ IsErrOf result LogFault.DeviceFailed) }
+        ensures no_other { D.honest (disk_of self.old) → IfErr result (λ e. (e ≡ LogFault.DeviceFailed) ⊎ (e ≡ LogFault.Failed) ⊎ (e ≡ LogFault.OutOfMemory)) }
+        ensures honest { D.honest (disk_of self.old) ↔ D.honest (disk_of self.new) }
+        ensures later { D.failures (disk_of self.old) ≤ D.failures (disk_of self.new) }
+    {
+        if self.failed {
+            return Err(LogFault::Failed);
+        }
+        let (start, end) = bounds(&self.ends, entry as usize);
+        let size = (end - start) as usize;
+        let mut bytes = vec![in alloc; 0u8; size]?;
+        match read_full(&mut self.disk, DiskFile::Journal, start, &mut bytes) {
+            Ok(count) => {
+                if count < size {
+                    return Err(LogFault::Damaged(entry));
+                }
+                Ok(bytes)
+            }
+            Err(_) => {
+                self.failed = true;
+                Err(LogFault::DeviceFailed)
+            }
+        }
+    }
+}

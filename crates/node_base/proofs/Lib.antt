@@ -1,0 +1,15 @@
+pub mod BlockConverse
+pub mod BlockLengths
+pub mod BlockRuns
+pub mod BlockSpelled
+pub mod BlockWritten
+pub mod CopiedProps
+pub mod Digits
+pub mod EntryLemmas
+pub mod NumberLemmas
+pub mod NumbersRead
+pub mod PathLemmas
+pub mod PropLemmas
+pub mod PropNames
+pub mod ReadBack
+pub mod TextLemmas

@@ -1,0 +1,24 @@
+use Rattle.std.proofs.Common.{◌≡◌, ◌+◌, ◌-◌, ◌∙◌, sym, ap, refl, drop, take, length, get_or, arith, add-one}
+use Rattle.std.proofs.lemmas.List.{at_drop_more, length-take, length-drop, drop_more}
+use Rattle.std.proofs.lemmas.Result.{err_from_is_err_and}
+use Rattle.node_base.specs.Blocks.{run_block, after, held_more}
+use Rattle.node_base.proofs.BlockRuns.{kept, whole_at, refused_at}
+use Rattle.node_base.proofs.block.BlockReader.feed.Goals as goal
+
+pub keep_all-requires : goal.keep_all-requires
+keep_all-requires c =
+    let e : c.loop-at.at + c.min-stretch.result - c.loop-at.at ≡ c.min-stretch.result = omega arith in
+    rw e (omega (arith, c.room.ensures.left, length-take c.min-stretch.result (drop c.loop-at.at c.args.piece.now)))
+
+pub loop-at-preserved-then-stretch-gt0 : goal.loop-at-preserved-then-stretch-gt0
+loop-at-preserved-then-stretch-gt0 c =
+    let e : c.loop-at.at + c.min-stretch.result - c.loop-at.at ≡ c.min-stretch.result = omega arith in
+    kept c.loop-at.self c.keep_all.new.self c.args.piece.now c.loop-at.at c.min-stretch.result (λ s more m. c.room.ensures.keep s more (omega arith)) (rw e at c.in_ok-keep_all.ensures) ∙ c.loop-at.invariant
+
+pub returns-then-whole-clause-run : goal.returns-then-whole-clause-run
+returns-then-whole-clause-run c = sym c.loop-at.invariant ∙ whole_at c.loop-at.self c.take_byte.new.self.props c.args.piece.now c.loop-at.at c.loop-at-test.true (rw c.if-whole.true at c.in_ok-whole.ensures)
+
+pub returns-in_err-whole-clause-run : goal.returns-in_err-whole-clause-run
+returns-in_err-whole-clause-run c =
+    let p = err_from_is_err_and c.from_residual-in_err-whole.result c.from_residual-in_err-whole.ensures.1 in
+    rw (p.1, p.2) (rw (← c.loop-at.invariant) (refused_at _ c.loop-at.self c.take_byte.new.self c.args.piece.now c.loop-at.at c.loop-at-test.true c.in_err-whole.ensures))

@@ -1,0 +1,7 @@
+use Rattle.std.proofs.Common.{not}
+use Rattle.node_base.specs.Props.{is_sync}
+use Rattle.node_base.proofs.PropLemmas.{counted}
+use Rattle.node_base.proofs.props.Props.other_len.Goals as goal
+
+pub returns : goal.returns
+returns c = counted (λ n. not (is_sync n)) c.args.self.now c.entries-name-items.result.now _ _ c.entries-name-items.ensures.entries c.loop-name-test.false c.loop-name.invariant.so_far

@@ -1,0 +1,16 @@
+-- The one spelling of property blocks that is written.
+use Rattle.std.specs.Prelude.{ℕ, List, ◌++◌, length}
+use Rattle.std.specs.List.{flat_map}
+use Rattle.std.specs.FinMap as map
+use Rattle.std.specs.Fmt.{decimal}
+use Rattle.node_base.specs.Path.{Name}
+use Rattle.node_base.specs.Props.{PropMap}
+use Rattle.node_base.specs.BlockGrammar.{property, block_end}
+
+-- counts without leading zeros
+abbrev pub canon_property : Name × List ℕ → List ℕ
+canon_property p = property (decimal (length p.0)) p.0 (decimal (length p.1)) p.1
+
+-- the properties in the byte order of their names
+abbrev pub canon_block : PropMap → List ℕ
+canon_block props = flat_map canon_property (map.entries props) ++ block_end

@@ -1,0 +1,154 @@
+-- Property blocks, byte by byte and whole.
+use Rattle.std.specs.Prelude.{◌≡◌, ℕ, ◌+◌, ◌-◌, ◌==◌, ◌&&◌, ◌||◌, not, nat_le, nat_lt, Bool, true, false, List, [], ◌∷◌, ◌++◌, length, take, drop, ◌≤◌, Option, Some, None, Result, Ok, Err, if◌then◌else◌, slice_index_or}
+use Rattle.std.specs.FinMap as map
+use Rattle.node_base.specs.Numbers.{is_digit, number_of}
+use Rattle.node_base.specs.Props.{PropMap, is_prop_name, props_fit, fits_with}
+use Rattle.node_base.specs.declared.prop_fault.PropFault.{PropFault}
+use Rattle.node_base.specs.declared.prop_fault.PropFault.TheVariants.{BadProps, TooLong, OutOfMemory}
+use Rattle.node_base.specs.declared.block_part.Part.{Part}
+use Rattle.node_base.specs.declared.block_part.Part.TheVariants.{Tag, KeyBlank, KeyCount, Name, NameEnd, ValueTag, ValueBlank, ValueCount, Value, ValueEnd, Ending}
+use Rattle.node_base.specs.declared.block.BlockReader.{BlockReader}
+
+-- what one byte more makes of a block that isn't whole yet
+pub data Step : Type 0 where
+  Next : BlockReader → Step
+  Whole : PropMap → Step
+  Refused : PropFault → Step
+
+-- the byte belongs to the part
+abbrev pub keep : BlockReader → ℕ → Step
+keep r b = Next (record r { held = r.held ++ b ∷ [] })
+
+-- the next part begins
+abbrev pub go : Part → BlockReader → Step
+go part r = Next (record r { part = part; held = [] })
+
+-- only this byte may come, and the next part follows it
+abbrev pub only : ℕ → ℕ → Part → BlockReader → Step
+only wanted b part r = if b == wanted then go part r else Refused BadProps
+
+-- a count is within its limit, and what it counts and an LF fit into the rest of the block
+abbrev pub judged_count : ℕ → ℕ → ℕ → Step → Step
+judged_count limit n left step =
+    if nat_lt limit n then Refused TooLong else if nat_lt (n + 1) left then step else Refused BadProps
+
+-- a name fits the rule and comes once, and the map stays within the limits with it
+abbrev pub name_is : BlockReader → List ℕ → Step
+name_is r name =
+    if nat_lt 255 (length name)
+    then Refused TooLong
+    else if is_prop_name name && not (map.contains_key r.props name)
+    then if fits_with r.props name then Next (record r { part = NameEnd; name = Some name; held = [] }) else Refused TooLong
+    else Refused BadProps
+
+-- a value stands at the name that was read before it
+abbrev pub value_at : BlockReader → Option (List ℕ) → List ℕ → Step
+value_at r None value = Refused BadProps
+value_at r (Some name) value =
+    if nat_lt 65536 (length value)
+    then Refused TooLong
+    else if props_fit (map.insert r.props name value)
+    then Next (record r { part = ValueEnd; props = map.insert r.props name value; name = None; held = [] })
+    else Refused TooLong
+
+abbrev pub value_is : BlockReader → List ℕ → Step
+value_is r value = value_at r r.name value
+
+-- what follows the P of PROPS-END and its LF
+abbrev pub ending : List ℕ
+ending = 82 ∷ 79 ∷ 80 ∷ 83 ∷ 45 ∷ 69 ∷ 78 ∷ 68 ∷ 10 ∷ []
+
+-- one byte at a part of a block: K, a blank, the count of the name's bytes and LF, the name, LF, V, a blank, the count of the value's bytes and LF, the value, LF; or PROPS-END and LF
+abbrev pub part_step : Part → BlockReader → ℕ → Step
+part_step Tag r b = if b == 75 then go KeyBlank r else if b == 80 then go Ending r else Refused BadProps
+part_step KeyBlank r b = only 32 b KeyCount r
+part_step KeyCount r b =
+    if is_digit b
+    then keep r b
+    else if b == 10 && not (number_of r.held == 0)
+    then judged_count 255 (number_of r.held) r.left (go (Name (number_of r.held)) r)
+    else Refused BadProps
+part_step (Name n) r b =
+    if nat_lt (length r.held + 1) n
+    then keep r b
+    else name_is r (r.held ++ b ∷ [])
+part_step NameEnd r b = only 10 b ValueTag r
+part_step ValueTag r b = only 86 b ValueBlank r
+part_step ValueBlank r b = only 32 b ValueCount r
+part_step ValueCount r b =
+    if is_digit b
+    then keep r b
+    else if b == 10 && not (length r.held == 0)
+    then judged_count 65536 (number_of r.held) r.left (if number_of r.held == 0 then value_is r [] else go (Value (number_of r.held)) r)
+    else Refused BadProps
+part_step (Value n) r b =
+    if nat_lt (length r.held + 1) n
+    then keep r b
+    else value_is r (r.held ++ b ∷ [])
+part_step ValueEnd r b = only 10 b Tag r
+part_step Ending r b =
+    if b == slice_index_or ending (length r.held) 256
+    then if length r.held == 8 then Whole r.props else keep r b
+    else Refused BadProps
+
+-- the announced end comes with the LF of PROPS-END, and nowhere else
+abbrev pub settled : ℕ → Step → Step
+settled left (Next r) = if nat_lt 1 left then Next (record r { left = left - 1 }) else Refused BadProps
+settled left (Whole props) = if left == 1 then Whole props else Refused BadProps
+settled left (Refused f) = Refused f
+
+abbrev pub block_step : BlockReader → ℕ → Step
+block_step r b = settled r.left (part_step r.part r b)
+
+-- what bytes make of a block: it goes on, or it is whole and these bytes come after it, or it is refused
+pub data Run : Type 0 where
+  More : BlockReader → Run
+  Done : PropMap → List ℕ → Run
+  Fault : PropFault → Run
+
+abbrev pub of_step : Step → Run
+of_step (Next r) = More r
+of_step (Whole props) = Done props []
+of_step (Refused f) = Fault f
+
+abbrev pub one_more : Run → ℕ → Run
+one_more (More r) b = of_step (block_step r b)
+one_more (Done props rest) b = Done props (rest ++ b ∷ [])
+one_more (Fault f) b = Fault f
+
+abbrev pub after : Run → List ℕ → Run
+after s [] = s
+after s (b ∷ bs) = after (one_more s b) bs
+
+abbrev pub run_block : BlockReader → List ℕ → Run
+run_block r = after (More r)
+
+-- a block of so many bytes begins
+abbrev pub new_block : ℕ → BlockReader
+new_block n = record { left = n; part = Tag; name = None; props = map.empty; held = [] }
+
+-- what a call did is the step
+abbrev pub StepIs : Result Bool PropFault → BlockReader → Step → Type 0
+StepIs (Ok false) new step = step ≡ Next new
+StepIs (Ok true) new step = step ≡ Whole new.props
+StepIs (Err OutOfMemory) new step = Unit {0}
+StepIs (Err f) new step = step ≡ Refused f
+
+-- so many bytes of a counted text were kept
+abbrev pub held_more : BlockReader → List ℕ → BlockReader
+held_more r s = record r { left = r.left - length s; held = r.held ++ s }
+
+-- what calls did is the run
+abbrev pub BlockIs : Result (Option ℕ) PropFault → BlockReader → List ℕ → Run → Type 0
+BlockIs (Ok None) new piece run = run ≡ More new
+BlockIs (Ok (Some k)) new piece run = run ≡ Done new.props (drop k piece)
+BlockIs (Err OutOfMemory) new piece run = Unit {0}
+BlockIs (Err f) new piece run = run ≡ Fault f
+
+-- so many bytes can be kept at once
+abbrev pub MayKeep : BlockReader → ℕ → Type 0
+MayKeep r n = (s more : List ℕ) → length s ≤ n → run_block r (s ++ more) ≡ run_block (held_more r s) more
+
+-- how many bytes of an unfinished count, name or value are kept
+abbrev pub unfinished : BlockReader → ℕ
+unfinished r = length r.held

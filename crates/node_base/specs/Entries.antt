@@ -1,0 +1,23 @@
+-- Entries in the order of their names, as property maps keep them.
+use Rattle.std.specs.Prelude.{ℕ, suc, ◌+◌, Bool, T, List, [], ◌∷◌, if◌then◌else◌}
+use Rattle.std.specs.FinMap.{is_sorted}
+use Rattle.std.specs.FinMap.Entries.{by_order}
+use Rattle.node_base.specs.Path.{Name, name_cmp}
+
+-- names and values
+abbrev pub Entries : Type 0
+Entries = List (Name × List ℕ)
+
+-- the names strictly rise
+abbrev pub IsRising : Entries → Type 0
+IsRising es = T (is_sorted name_cmp es)
+
+-- how many names at the front are smaller
+abbrev pub place : Name → Entries → ℕ
+place x [] = 0
+place x (e ∷ es) = by_order (name_cmp x e.0) 0 0 (suc (place x es))
+
+-- how many names pass
+abbrev pub passing : (Name → Bool) → Entries → ℕ
+passing p [] = 0
+passing p (e ∷ es) = (if p e.0 then 1 else 0) + passing p es

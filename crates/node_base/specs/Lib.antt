@@ -1,0 +1,13 @@
+pub mod BlockCanon
+pub mod BlockGrammar
+pub mod BlockLaws
+pub mod Blocks
+pub mod Entries
+pub mod Limits
+pub mod Names
+pub mod Numbers
+pub mod Path
+pub mod PathText
+pub mod Props
+pub mod Refusals
+pub mod Tree

@@ -1,0 +1,309 @@
+//! Reading property blocks, as the notes on the dump file format (dump-load-format) describe them.
+ghost use Rattle.std.specs.Prelude.{◌≡◌, ◌+◌, ◌<◌, ◌≤◌, ◌^◌, [], ◌∷◌, ◌++◌, length, IfOk, IfSome, MatchOption};
+ghost use Rattle.std.specs.FinMap as map;
+ghost use Rattle.node_base.specs.Numbers.{is_digit, number_of};
+ghost use Rattle.node_base.specs.Blocks.{StepIs, BlockIs, MayKeep, held_more, run_block, part_step, block_step, keep, go, only, name_is, value_is, new_block, unfinished};
+ghost use Rattle.node_base.specs.declared.block_part.Part.TheVariants.{KeyCount, ValueCount, Ending};
+
+use crate::block_part::Part;
+use crate::bytes::Bytes;
+use crate::{PropFault, PropName, PropValue, Props};
+use std::alloc::{AllocError, Global};
+use std::mem;
+
+/// A property block that comes in pieces. It keeps its allocator.
+#[derive(Debug, Drop)]
+pub struct BlockReader {
+    left: u64,
+    part: Part,
+    name: Option<PropName>,
+    props: Props,
+    held: Bytes,
+}
+
+// Whether it is a digit.
+fn is_decimal(b: u8) -> bool
+    ensures { result ≡ is_digit b }
+{
+    b >= 48 && b <= 57
+}
+
+// The number that decimal digits spell, where it is at most the limit.
+fn count_of(digits: &[u8], limit: u32) -> Option<u32>
+    requires { limit < 2 ^ 20 }
+    ensures number { MatchOption result (limit < number_of digits.now) (λ n. n ≡ number_of digits.now) }
+    ensures limit { IfSome result (λ n. n ≤ limit) }
+{
+    let mut n = 0u32;
+    for d in digits {
+        n = n * 10 + u32::from(d.saturating_sub(48));
+        if n > limit {
+            return None;
+        }
+    }
+    Some(n)
+}
+
+// What follows the first byte of PROPS-END.
+const ENDING: [u8; 9] = *b"ROPS-END\n";
+
+impl BlockReader {
+    /// The start of a block of so many bytes. Nothing is reserved for them.
+    pub fn new(alloc: Global, announced: u64) -> BlockReader
+        ensures { result ≡ new_block announced }
+    {
+        BlockReader {
+            left: announced,
+            part: Part::Tag,
+            name: None,
+            props: Props::empty(),
+            held: Bytes::new(alloc),
+        }
+    }
+
+    // The byte belongs to the part.
+    fn keep(&mut self, b: u8) -> Result<bool, PropFault>
+        ensures { StepIs result self.new (keep self.old b) }
+    {
+        self.held.push(b)?;
+        Ok(false)
+    }
+
+    // The next part begins.
+    fn go(&mut self, part: Part) -> Result<bool, PropFault>
+        ensures { StepIs result self.new (go part self.old) }
+    {
+        self.part = part;
+        self.held.clear();
+        Ok(false)
+    }
+
+    // Only one byte may come.
+    fn only(&mut self, wanted: u8, b: u8, part: Part) -> Result<bool, PropFault>
+        ensures { StepIs result self.new (only wanted b part self.old) }
+    {
+        if b == wanted {
+            self.go(part)
+        } else {
+            Err(PropFault::BadProps)
+        }
+    }
+
+    // At the count of a name's bytes.
+    fn key_count(&mut self, b: u8) -> Result<bool, PropFault>
+        ensures { StepIs result self.new (part_step KeyCount self.old b) }
+    {
+        if is_decimal(b) {
+            return self.keep(b);
+        }
+        if b != 10 {
+            return Err(PropFault::BadProps);
+        }
+        match count_of(self.held.as_slice(), 255) {
+            None => Err(PropFault::TooLong),
+            Some(0) => Err(PropFault::BadProps),
+            Some(n) => {
+                if u64::from(n) + 1 < self.left {
+                    self.go(Part::Name(n))
+                } else {
+                    Err(PropFault::BadProps)
+                }
+            }
+        }
+    }
+
+    // At the count of a value's bytes.
+    fn value_count(&mut self, b: u8) -> Result<bool, PropFault>
+        ensures { StepIs result self.new (part_step ValueCount self.old b) }
+    {
+        if is_decimal(b) {
+            return self.keep(b);
+        }
+        if b != 10 || self.held.len() == 0 {
+            return Err(PropFault::BadProps);
+        }
+        let Some(n) = count_of(self.held.as_slice(), 65536) else {
+            return Err(PropFault::TooLong);
+        };
+        if u64::from(n) + 1 >= self.left {
+            return Err(PropFault::BadProps);
+        }
+        if n == 0 {
+            self.held.clear();
+            self.take_value()
+        } else {
+            self.go(Part::Value(n))
+        }
+    }
+
+    // The held bytes are a value.
+    fn take_value(&mut self) -> Result<bool, PropFault>
+        ensures { StepIs result self.new (value_is self.old self.old.held) }
+    {
+        let alloc = self.held.alloc();
+        let Some(name) = mem::replace(&mut self.name, None) else {
+            return Err(PropFault::BadProps);
+        };
+        let value = PropValue::new(self.held.take())?;
+        self.props.set(alloc, name, value)?;
+        self.part = Part::ValueEnd;
+        Ok(false)
+    }
+
+    // The held bytes are a name.
+    fn take_name(&mut self) -> Result<bool, PropFault>
+        ensures { StepIs result self.new (name_is self.old self.old.held) }
+    {
+        let name = PropName::from_bytes(self.held.take())?;
+        if self.props.contains(name.as_bytes()) {
+            return Err(PropFault::BadProps);
+        }
+        if !self.props.fits_with(name.as_bytes()) {
+            return Err(PropFault::TooLong);
+        }
+        self.name = Some(name);
+        self.part = Part::NameEnd;
+        Ok(false)
+    }
+
+    // In PROPS-END and its LF.
+    fn ending(&mut self, b: u8) -> Result<bool, PropFault>
+        ensures { StepIs result self.new (part_step Ending self.old b) }
+    {
+        let at = self.held.len();
+        if at > 8 || b != ENDING[at] {
+            return Err(PropFault::BadProps);
+        }
+        if at == 8 { Ok(true) } else { self.keep(b) }
+    }
+
+    // One byte, apart from the count of the bytes that are left.
+    fn part_byte(&mut self, b: u8) -> Result<bool, PropFault>
+        ensures { StepIs result self.new (part_step self.old.part self.old b) }
+    {
+        match self.part {
+            Part::Tag => {
+                if b == 75 {
+                    self.go(Part::KeyBlank)
+                } else {
+                    self.only(80, b, Part::Ending)
+                }
+            }
+            Part::KeyBlank => self.only(32, b, Part::KeyCount),
+            Part::KeyCount => self.key_count(b),
+            Part::Name(n) => {
+                self.held.push(b)?;
+                if self.held.len() < n as usize {
+                    Ok(false)
+                } else {
+                    self.take_name()
+                }
+            }
+            Part::NameEnd => self.only(10, b, Part::ValueTag),
+            Part::ValueTag => self.only(86, b, Part::ValueBlank),
+            Part::ValueBlank => self.only(32, b, Part::ValueCount),
+            Part::ValueCount => self.value_count(b),
+            Part::Value(n) => {
+                self.held.push(b)?;
+                if self.held.len() < n as usize {
+                    Ok(false)
+                } else {
+                    self.take_value()
+                }
+            }
+            Part::ValueEnd => self.only(10, b, Part::Tag),
+            Part::Ending => self.ending(b),
+        }
+    }
+
+    // One byte. The answer is whether it ends the block.
+    fn take_byte(&mut self, b: u8) -> Result<bool, PropFault>
+        ensures { StepIs result self.new (block_step self.old b) }
+    {
+        let left = self.left;
+        let whole = self.part_byte(b)?;
+        if whole {
+            return if left == 1 {
+                Ok(true)
+            } else {
+                Err(PropFault::BadProps)
+            };
+        }
+        if left <= 1 {
+            return Err(PropFault::BadProps);
+        }
+        self.left = left - 1;
+        Ok(false)
+    }
+
+    // How many bytes of a text of so many may be taken at once.
+    fn room_for(&self, n: u32) -> usize
+        ensures part { 0 < result → length self.now.held + result < n }
+        ensures left { 0 < result → result < self.now.left }
+        ensures small { result < 2 ^ 32 }
+    {
+        let due = (n as usize)
+            .saturating_sub(self.held.len())
+            .saturating_sub(1);
+        due.min((self.left as usize).saturating_sub(1))
+    }
+
+    // How many bytes of a counted text may be taken at once.
+    fn room(&self) -> usize
+        ensures keep { MayKeep self.now result }
+        ensures left { 0 < result → result < self.now.left }
+        ensures small { result < 2 ^ 32 }
+    {
+        match self.part {
+            Part::Name(n) | Part::Value(n) => self.room_for(n),
+            _ => 0,
+        }
+    }
+
+    // Keeps bytes of a counted text.
+    fn keep_all(&mut self, bytes: &[u8]) -> Result<(), AllocError>
+        requires left { length bytes.now < self.old.left }
+        ensures { IfOk result (λ _. self.new ≡ held_more self.old bytes.now) }
+    {
+        self.held.extend(bytes)?;
+        self.left -= bytes.len() as u64;
+        Ok(())
+    }
+
+    /// Takes bytes up to the block's end. The answer is how many of them there were up to it, where it came.
+    /// BadProps or TooLong in the piece that brings the byte that shows it; after an error the reader isn't to be fed.
+    pub fn feed(&mut self, piece: &[u8]) -> Result<Option<usize>, PropFault>
+        ensures run { BlockIs result self.new piece.now (run_block self.old piece.now) }
+        ensures moves { IfOk result (λ o. IfSome o (λ k. (0 < k) × (k ≤ length piece.now))) }
+    {
+        let mut at = 0;
+        while at < piece.len() {
+            let stretch = self.room().min(piece.len() - at);
+            if stretch > 0 {
+                self.keep_all(&piece[at..at + stretch])?;
+                at += stretch;
+            } else {
+                let whole = self.take_byte(piece[at])?;
+                at += 1;
+                if whole {
+                    return Ok(Some(at));
+                }
+            }
+        }
+        Ok(None)
+    }
+
+    /// How many bytes of an unfinished count, name or value it keeps.
+    pub fn held(&self) -> usize
+        ensures { result ≡ unfinished self.now }
+    {
+        self.held.len()
+    }
+
+    /// The properties that were read leave the reader.
+    pub fn take(&mut self) -> Props
+        ensures { result ≡ self.old.props }
+    {
+        mem::replace(&mut self.props, Props::empty())
+    }
+}

@@ -1,0 +1,42 @@
+//! Names, paths, properties, texts and nodes of a Subversion repository, and the words that contracts use for its trees.
+#![tactic(auto)]
+
+pub use block::BlockReader;
+pub use block_part::Part;
+pub use fault::{PathFault, TreeFault};
+pub use name::NodeName;
+pub use node::{Action, Node, NodeKind, Source};
+pub use number::read_decimal;
+pub use path::{NodePath, compare_paths, path_order, rest_after};
+pub use prop_fault::PropFault;
+pub use prop_name::PropName;
+pub use prop_value::PropValue;
+pub use props::Props;
+pub use refusal::Refusal;
+pub use revision::RevNo;
+pub use text::Text;
+
+mod block;
+pub mod block_law;
+mod block_part;
+#[cfg(test)]
+mod block_tests;
+mod block_writer;
+mod bytes;
+mod fault;
+pub mod limits;
+mod name;
+mod node;
+mod number;
+mod path;
+mod pieces;
+mod prop_fault;
+mod prop_list;
+mod prop_name;
+mod prop_value;
+mod props;
+mod refusal;
+mod revision;
+#[cfg(test)]
+mod tests;
+mod text;

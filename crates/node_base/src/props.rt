@@ -1,0 +1,267 @@
+//! Properties of a node or a revision.
+ghost use Rattle.std.specs.Prelude.{◌≡◌, ◌==◌, ◌↔◌, length, true, IsTrue, IfOk, OnOk, IfErr, OnErr, if◌then◌else◌};
+ghost use Rattle.std.specs.FinMap as map;
+ghost use Rattle.std.specs.Option.{option_copied};
+ghost use Rattle.std.specs.Slice.Iter.{iter_rest};
+ghost use Rattle.node_base.specs.declared.prop_fault.PropFault.TheVariants.{TooLong, OutOfMemory};
+ghost use Rattle.node_base.specs.Props.{IsProps, props_fit, fits_with, is_sync, sync_part, without_sync, copied_beside};
+
+use crate::limits::{PROPS, SYNC_PROPS};
+use crate::prop_list::PropList;
+use crate::{PropFault, PropName, PropValue};
+use std::alloc::{AllocError, Global};
+use std::marker::Model;
+use std::slice::Iter;
+use std::sync::Arc;
+
+/// Values by name, seen by contracts as a finite map in the byte order of the names. Its owners share the entries.
+#[derive(Debug, Drop)]
+pub struct Props {
+    list: Option<Arc<PropList>>,
+}
+
+impl Model for Props {
+    ghost use Rattle.std.specs.Option.{option_map_or};
+    ghost use Rattle.node_base.specs.Props.{PropMap, coded_props};
+    ghost use Rattle.std.specs.Arc.{arc_value};
+    ghost use Rattle.std.specs.FinMap as map;
+
+    ghost Value = { PropMap };
+
+    ghost coded = { coded_props };
+
+    ghost view = { λ a. option_map_or (λ l. arc_value l) a.list map.empty };
+
+    ghost use Rattle.node_base.specs.Props.{IsProps};
+
+    ghost invariant = { λ a. IsProps (option_map_or (λ l. arc_value l) a.list map.empty) };
+}
+
+impl Props {
+    /// No properties.
+    pub fn empty() -> Props
+        ensures { result ≡ map.empty }
+    {
+        Props { list: None }
+    }
+
+    /// The same properties for another owner, with no copy of the entries.
+    pub fn share(&self) -> Result<Props, AllocError>
+        ensures { IfOk result (λ p. p ≡ self.now) }
+    {
+        match &self.list {
+            Some(list) => Ok(Props {
+                list: Some(Arc::try_clone(list)?),
+            }),
+            None => Ok(Props { list: None }),
+        }
+    }
+
+    /// The value at the name.
+    pub fn get(&self, name: &[u8]) -> Option<&[u8]>
+        ensures { option_copied result ≡ map.get self.now name.now }
+    {
+        match &self.list {
+            Some(list) => list.get(name),
+            None => None,
+        }
+    }
+
+    /// Whether a value stands at the name.
+    pub fn contains(&self, name: &[u8]) -> bool
+        ensures { result ≡ map.contains_key self.now name.now }
+    {
+        self.get(name).is_some()
+    }
+
+    /// How many properties there are.
+    pub fn len(&self) -> usize
+        ensures { result ≡ map.len self.now }
+    {
+        self.entries().len()
+    }
+
+    /// The names and values in the byte order of the names.
+    pub fn entries(&self) -> &[(PropName, PropValue)]
+        ensures entries { result.now ≡ map.entries self.now }
+        ensures rules { IsProps self.now }
+    {
+        match &self.list {
+            Some(list) => list.entries(),
+            None => &[],
+        }
+    }
+
+    /// Whether there are none.
+    pub fn is_empty(&self) -> bool
+        ensures { result ≡ (map.len self.now == 0) }
+    {
+        self.len() == 0
+    }
+
+    /// Goes over the names and values in the byte order of the names.
+    pub fn iter(&self) -> Iter<'_, (PropName, PropValue)>
+        ensures { iter_rest result ≡ map.entries self.now }
+    {
+        self.entries().iter()
+    }
+
+    /// Whether the other ones are the same.
+    pub fn equals(&self, other: &Props) -> bool
+        ensures { IsTrue result ↔ (self.now ≡ other.now) }
+    {
+        are_equal(self.entries(), other.entries())
+    }
+
+    /// The properties whose names don't begin with `svn:sync-`.
+    pub fn without_sync(&self, alloc: Global) -> Result<Props, AllocError>
+        ensures { IfOk result (λ p. p ≡ without_sync self.now) }
+    {
+        let _ = &self.list;
+        let others = Arc::new(alloc, self.others(alloc)?)?;
+        Ok(Props { list: Some(others) })
+    }
+
+    /// Copied properties but for their `svn:sync-` names, beside the `svn:sync-` names of these.
+    pub fn copied_beside(&self, alloc: Global, copied: &Props) -> Result<Props, AllocError>
+        ensures { IfOk result (λ p. p ≡ copied_beside self.now copied.now) }
+    {
+        let _ = &copied.list;
+        let mut list = copied.others(alloc)?;
+        for (name, value) in self.entries() {
+            if is_sync_name(name.as_bytes()) {
+                list.insert(name.copy(alloc)?, value.copy(alloc)?)?;
+            }
+        }
+        let list = Arc::new(alloc, list)?;
+        Ok(Props { list: Some(list) })
+    }
+
+    // The entries whose names don't begin with `svn:sync-`.
+    fn others(&self, alloc: Global) -> Result<PropList, AllocError>
+        ensures { IfOk result (λ l. l ≡ without_sync self.now) }
+    {
+        match &self.list {
+            Some(list) => list.others(alloc),
+            None => Ok(PropList::new(alloc)),
+        }
+    }
+
+    /// Whether the properties stay within the limits with a value at the name.
+    pub fn fits_with(&self, name: &[u8]) -> bool
+        ensures { result ≡ fits_with self.now name.now }
+    {
+        let _ = &self.list;
+        if self.contains(name) {
+            return true;
+        }
+        if is_sync_name(name) {
+            self.sync_len() < SYNC_PROPS
+        } else {
+            self.other_len() < PROPS
+        }
+    }
+
+    // How many names begin with `svn:sync-`.
+    fn sync_len(&self) -> usize
+        ensures { result ≡ map.len (sync_part self.now) }
+    {
+        let mut n = 0;
+        for (name, _) in self.entries() {
+            if is_sync_name(name.as_bytes()) {
+                n += 1;
+            }
+        }
+        n
+    }
+
+    // How many names don't.
+    fn other_len(&self) -> usize
+        ensures { result ≡ map.len (without_sync self.now) }
+    {
+        let mut n = 0;
+        for (name, _) in self.entries() {
+            if !is_sync_name(name.as_bytes()) {
+                n += 1;
+            }
+        }
+        n
+    }
+
+    /// No value stands at the name any more. At an error the properties stay. The entries are copied only where they have another owner.
+    pub fn remove(&mut self, alloc: Global, name: &[u8]) -> Result<(), AllocError>
+        ensures ok { OnOk result (self.new ≡ map.remove self.old name.now) }
+        ensures err { OnErr result (self.new ≡ self.old) }
+    {
+        let mut rest = match &mut self.list {
+            Some(list) => match Arc::get_mut(list) {
+                Some(list) => {
+                    list.remove(name);
+                    return Ok(());
+                }
+                None => list.copy(alloc)?,
+            },
+            None => return Ok(()),
+        };
+        rest.remove(name);
+        self.list = Some(Arc::new(alloc, rest)?);
+        Ok(())
+    }
+
+    /// The value stands at the name from now on. TooLong where the map would pass 256 names, or 16 names that begin with `svn:sync-` and are counted apart.
+    /// At an error the properties stay. The entries are copied only where they have another owner.
+    pub fn set(&mut self, alloc: Global, name: PropName, value: PropValue) -> Result<(), PropFault>
+        ensures ok { OnOk result (self.new ≡ map.insert self.old name value) }
+        ensures within { OnOk result (props_fit (map.insert self.old name value) ≡ true) }
+        ensures fault { IfErr result (λ e. e ≡ (if props_fit (map.insert self.old name value) then OutOfMemory else TooLong)) }
+        ensures err { OnErr result (self.new ≡ self.old) }
+    {
+        let _ = &self.list;
+        if !self.fits_with(name.as_bytes()) {
+            return Err(PropFault::TooLong);
+        }
+        Ok(self.put(alloc, name, value)?)
+    }
+
+    // The value stands at the name from now on, which stays within the limits.
+    fn put(&mut self, alloc: Global, name: PropName, value: PropValue) -> Result<(), AllocError>
+        requires { IsProps (map.insert self.old name value) }
+        ensures ok { OnOk result (self.new ≡ map.insert self.old name value) }
+        ensures err { OnErr result (self.new ≡ self.old) }
+    {
+        let mut shared = match &mut self.list {
+            Some(list) => match Arc::get_mut(list) {
+                Some(list) => return list.insert(name, value),
+                None => list.copy(alloc)?,
+            },
+            None => PropList::new(alloc),
+        };
+        shared.insert(name, value)?;
+        self.list = Some(Arc::new(alloc, shared)?);
+        Ok(())
+    }
+}
+
+// Whether two lists of names and values are the same.
+fn are_equal(these: &[(PropName, PropValue)], those: &[(PropName, PropValue)]) -> bool
+    ensures { IsTrue result ↔ (these.now ≡ those.now) }
+{
+    if these.len() != those.len() {
+        return false;
+    }
+    for i in 0..these.len() {
+        let this = &these[i];
+        let that = &those[i];
+        if this.0.as_bytes() != that.0.as_bytes() || this.1.as_slice() != that.1.as_slice() {
+            return false;
+        }
+    }
+    true
+}
+
+/// Whether a name begins with `svn:sync-`.
+pub fn is_sync_name(name: &[u8]) -> bool
+    ensures { result ≡ is_sync name.now }
+{
+    name.starts_with(b"svn:sync-")
+}

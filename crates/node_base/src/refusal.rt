@@ -1,0 +1,325 @@
+//! Refusals: every way in which a call says no, with its number and its text.
+ghost use Rattle.std.specs.Prelude.{◌≡◌, ◌<◌, ◌++◌, Some, IfOk, codes, string_bytes};
+ghost use Rattle.std.specs.Fmt.{DisplaysOnOk};
+ghost use Rattle.node_base.specs.Refusals.{inconsistent_text, refusal_number, refusal_text, shown_byte, shown_token, number_or_dash, fault_line};
+
+use crate::RevNo;
+use std::alloc::{AllocError, Global};
+use std::fmt;
+
+/// Why something was refused. Each has a number, which never changes, and a text of one line.
+#[derive(Debug, Drop)]
+pub enum Refusal {
+    /// The first line of a dump isn't `SVN-fs-dump-format-version: 2`.
+    BadVersion,
+    /// A header block that is no record's.
+    BadHeader,
+    /// A value that is no number, or a revision above 65,535.
+    BadNumber,
+    /// The lengths of a record do not agree.
+    BadLength,
+    /// Bytes that are no property block of the announced length, or a name that is no property's.
+    BadProps,
+    /// A text whose MD5 isn't the one that was given with it.
+    BadSum,
+    /// The input ends too early.
+    Truncated,
+    /// Past a limit.
+    TooLong,
+    /// A text that is given as a delta.
+    TextDelta,
+    /// Bytes that spell no path, or a change that the root doesn't take.
+    BadPath,
+    /// Nothing is at the path.
+    NoSuchPath,
+    /// Something is at the path already.
+    PathThere,
+    /// A front of the path is a file.
+    NotDir,
+    /// The copy's source isn't there, or isn't earlier.
+    NoSource,
+    /// Changes of one path that can't be joined to one.
+    OutOfOrder,
+    /// A revision that isn't the next.
+    WrongNumber,
+    /// The kind isn't the node's, or a directory was given a text.
+    KindMismatch,
+    /// A revision above the head.
+    NoSuchRevision,
+    /// A conditional change of a property found another value.
+    BaseMismatch,
+    /// The head is the last revision that can be.
+    Full,
+    /// A change of a mirror that isn't its synchronisation.
+    ReadOnly,
+    /// A commit against an earlier revision than the head, which is told.
+    Behind(RevNo),
+    /// The device failed.
+    DeviceFailed,
+    /// A call after a failure that the value doesn't outlive.
+    Failed,
+    /// The journal's entry of that number is damaged.
+    Damaged(u64),
+    /// The folder has no repository.
+    NoRepository,
+    /// The folder has a repository already.
+    ThereAlready,
+    /// The journal can't grow.
+    LogFull,
+    /// A byte that no item has in its place.
+    BadItem,
+    /// Lists stand too deep in one another.
+    TooDeep,
+    /// A replay with a low water mark, or without texts.
+    ReplayForm,
+    /// Bytes that are no svndiff window.
+    BadWindow,
+    /// An svndiff window that copies.
+    CopyWindow,
+    /// A token of an editor command that stands for nothing.
+    BadToken,
+    /// A command that isn't served.
+    UnknownCommand,
+    /// A command or an answer of another shape.
+    BadShape,
+    /// Reading from a peer or writing to one failed.
+    PeerFailed,
+    /// The mirror isn't initialized.
+    NotInitialised,
+    /// The mirror is initialized already.
+    AlreadyInitialised,
+    /// The mirror has revisions and can't be initialized.
+    NotEmpty,
+    /// The sync lock is held by the job of that token.
+    LockHeld(Vec<u8>),
+    /// The holder of that token is running.
+    HolderRunning(Vec<u8>),
+    /// The source isn't the repository that the mirror was initialized from.
+    WrongMaster,
+    /// The mirror's properties of its synchronisation fit no state. A number that is absent or misspelt is None.
+    Inconsistent {
+        merged: Option<u64>,
+        copying: Option<u64>,
+        head: RevNo,
+    },
+    /// The mirror hasn't got that revision whole yet.
+    NotYetCopied(RevNo),
+    /// The caller doesn't hold the sync lock.
+    NotHolder,
+    /// The master refused, with that text.
+    MasterFailed(String),
+    /// A call of a synchronisation that isn't the next.
+    OutOfTurn,
+    /// Memory ran out.
+    OutOfMemory,
+}
+
+impl Refusal {
+    /// The master's refusal, as a mirror's job tells it.
+    pub fn master_failed(alloc: Global, inner: &Refusal) -> Result<Refusal, AllocError>
+        ensures number { IfOk result (λ r. refusal_number r ≡ 60) }
+        ensures text { IfOk result (λ r. refusal_text r ≡ codes "master: " ++ refusal_text inner.now) }
+    {
+        Ok(Refusal::MasterFailed(format!(in alloc; "{inner}")?))
+    }
+
+    /// What a mirror's job tells of a master that failed without a refusal of its own.
+    pub fn master_refused(alloc: Global) -> Result<Refusal, AllocError>
+        ensures number { IfOk result (λ r. refusal_number r ≡ 60) }
+        ensures text { IfOk result (λ r. refusal_text r ≡ codes "master: refused") }
+    {
+        Ok(Refusal::MasterFailed(String::from_str(alloc, "refused")?))
+    }
+
+    /// The line that a program prints for it, with its line end.
+    pub fn line(&self, alloc: Global) -> Result<String, AllocError>
+        ensures { IfOk result (λ s. string_bytes s ≡ fault_line self.now) }
+    {
+        let number = self.number();
+        format!(in alloc; "svnfleet: {number} {self}\n")
+    }
+
+    /// Its number.
+    pub fn number(&self) -> u8
+        ensures { result ≡ refusal_number self.now }
+    {
+        match self {
+            Refusal::BadVersion => 1,
+            Refusal::BadHeader => 2,
+            Refusal::BadNumber => 3,
+            Refusal::BadLength => 4,
+            Refusal::BadProps => 5,
+            Refusal::BadSum => 6,
+            Refusal::Truncated => 7,
+            Refusal::TooLong => 8,
+            Refusal::TextDelta => 9,
+            Refusal::BadPath => 10,
+            Refusal::NoSuchPath => 11,
+            Refusal::PathThere => 12,
+            Refusal::NotDir => 13,
+            Refusal::NoSource => 14,
+            Refusal::OutOfOrder => 15,
+            Refusal::WrongNumber => 16,
+            Refusal::KindMismatch => 17,
+            Refusal::NoSuchRevision => 21,
+            Refusal::BaseMismatch => 22,
+            Refusal::Full => 23,
+            Refusal::ReadOnly => 24,
+            Refusal::Behind(_) => 25,
+            Refusal::DeviceFailed => 31,
+            Refusal::Failed => 32,
+            Refusal::Damaged(_) => 33,
+            Refusal::NoRepository => 34,
+            Refusal::ThereAlready => 35,
+            Refusal::LogFull => 36,
+            Refusal::BadItem => 41,
+            Refusal::TooDeep => 42,
+            Refusal::ReplayForm => 43,
+            Refusal::BadWindow => 44,
+            Refusal::CopyWindow => 45,
+            Refusal::BadToken => 46,
+            Refusal::UnknownCommand => 47,
+            Refusal::BadShape => 48,
+            Refusal::PeerFailed => 49,
+            Refusal::NotInitialised => 51,
+            Refusal::AlreadyInitialised => 52,
+            Refusal::NotEmpty => 53,
+            Refusal::LockHeld(_) => 54,
+            Refusal::HolderRunning(_) => 55,
+            Refusal::WrongMaster => 56,
+            Refusal::Inconsistent { .. } => 57,
+            Refusal::NotYetCopied(_) => 58,
+            Refusal::NotHolder => 59,
+            Refusal::MasterFailed(_) => 60,
+            Refusal::OutOfTurn => 61,
+            Refusal::OutOfMemory => 70,
+        }
+    }
+}
+
+impl fmt::Display for Refusal {
+    ghost output = { λ r. Some (refusal_text r) };
+
+    /// Its text, without a line end.
+    fn fmt<W: fmt::Write>(&self, f: &mut fmt::Formatter<W>) -> fmt::Result {
+        match self {
+            Refusal::Behind(head) => write!(f, "the base is not the head {head}"),
+            Refusal::Damaged(entry) => write!(f, "entry {entry} is damaged"),
+            Refusal::LockHeld(token) => write!(f, "the sync lock is held by {}", shown(token)),
+            Refusal::HolderRunning(token) => write!(f, "the holder {} is running", shown(token)),
+            Refusal::Inconsistent {
+                merged,
+                copying,
+                head,
+            } => write_inconsistent(OrDash(*merged), OrDash(*copying), *head, f),
+            Refusal::NotYetCopied(number) => write!(f, "revision {number} is not copied yet"),
+            Refusal::MasterFailed(text) => write!(f, "master: {}", text.as_str()),
+            Refusal::BadVersion => f.write_str("unsupported dump format version"),
+            Refusal::BadHeader => f.write_str("bad header"),
+            Refusal::BadNumber => f.write_str("bad number"),
+            Refusal::BadLength => f.write_str("lengths do not agree"),
+            Refusal::BadProps => f.write_str("bad property block"),
+            Refusal::BadSum => f.write_str("checksum mismatch"),
+            Refusal::Truncated => f.write_str("unexpected end of input"),
+            Refusal::TooLong => f.write_str("limit exceeded"),
+            Refusal::TextDelta => f.write_str("text deltas are not supported"),
+            Refusal::BadPath => f.write_str("bad path"),
+            Refusal::NoSuchPath => f.write_str("no such path"),
+            Refusal::PathThere => f.write_str("path already exists"),
+            Refusal::NotDir => f.write_str("not a directory"),
+            Refusal::NoSource => f.write_str("no such copy source"),
+            Refusal::OutOfOrder => f.write_str("changes of one path do not combine"),
+            Refusal::WrongNumber => f.write_str("revision out of sequence"),
+            Refusal::KindMismatch => f.write_str("node kind mismatch"),
+            Refusal::NoSuchRevision => f.write_str("no such revision"),
+            Refusal::BaseMismatch => f.write_str("the property is not as expected"),
+            Refusal::Full => f.write_str("no more revisions"),
+            Refusal::ReadOnly => f.write_str("the mirror is read-only"),
+            Refusal::DeviceFailed => f.write_str("device failed"),
+            Refusal::Failed => f.write_str("failed before"),
+            Refusal::NoRepository => f.write_str("no repository"),
+            Refusal::ThereAlready => f.write_str("repository already there"),
+            Refusal::LogFull => f.write_str("journal is full"),
+            Refusal::BadItem => f.write_str("bad item"),
+            Refusal::TooDeep => f.write_str("nesting too deep"),
+            Refusal::ReplayForm => f.write_str("replay form not supported"),
+            Refusal::BadWindow => f.write_str("bad window"),
+            Refusal::CopyWindow => f.write_str("window copies"),
+            Refusal::BadToken => f.write_str("bad token"),
+            Refusal::UnknownCommand => f.write_str("unknown command"),
+            Refusal::BadShape => f.write_str("bad command shape"),
+            Refusal::PeerFailed => f.write_str("stream failed"),
+            Refusal::NotInitialised => f.write_str("not initialized"),
+            Refusal::AlreadyInitialised => f.write_str("already initialized"),
+            Refusal::NotEmpty => f.write_str("the mirror has revisions"),
+            Refusal::WrongMaster => f.write_str("the source is another repository"),
+            Refusal::NotHolder => f.write_str("the sync lock is not held"),
+            Refusal::OutOfTurn => f.write_str("call out of turn"),
+            Refusal::OutOfMemory => f.write_str("out of memory"),
+        }
+    }
+}
+
+/// Writes that a mirror's properties of its synchronisation fit no state.
+fn write_inconsistent<W: fmt::Write>(
+    merged: OrDash,
+    copying: OrDash,
+    head: RevNo,
+    f: &mut fmt::Formatter<W>,
+) -> fmt::Result
+    ensures { DisplaysOnOk W.write_str_gives f.old result (Some (inconsistent_text merged.0 copying.0 head)) f.new }
+{
+    write!(
+        f,
+        "inconsistent: merged {merged}, copying {copying}, head {head}"
+    )
+}
+
+/// A token, to be printed.
+fn shown(token: &Vec<u8>) -> ShownToken<'_>
+    ensures { result.0.now ≡ token.now.items }
+{
+    ShownToken(token.as_slice())
+}
+
+/// A token as it is printed: `?` for each byte that isn't printable ASCII.
+#[derive(Drop)]
+struct ShownToken<'a>(&'a [u8]);
+
+impl fmt::Display for ShownToken<'_> {
+    ghost output = { λ t. Some (shown_token t.0.now) };
+
+    fn fmt<W: fmt::Write>(&self, f: &mut fmt::Formatter<W>) -> fmt::Result {
+        for byte in self.0 {
+            f.write_char(char::from(shown_byte(*byte)))?;
+        }
+        Ok(())
+    }
+}
+
+/// A byte of a token as it is printed.
+fn shown_byte(byte: u8) -> u8
+    ensures shown { result ≡ shown_byte byte }
+    ensures ascii { result < 128 }
+{
+    if (0x20..=0x7E).contains(&byte) {
+        byte
+    } else {
+        b'?'
+    }
+}
+
+/// A number as it is printed, and `-` where there is none.
+#[derive(Drop)]
+struct OrDash(Option<u64>);
+
+impl fmt::Display for OrDash {
+    ghost output = { λ n. Some (number_or_dash n.0) };
+
+    fn fmt<W: fmt::Write>(&self, f: &mut fmt::Formatter<W>) -> fmt::Result {
+        match self.0 {
+            Some(number) => write!(f, "{number}"),
+            None => f.write_str("-"),
+        }
+    }
+}

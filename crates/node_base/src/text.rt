@@ -1,0 +1,92 @@
+//! Texts of files.
+ghost use Rattle.std.specs.Prelude.{◌≡◌, length, IfOk};
+ghost use Rattle.md5.specs.Md5.{md5};
+
+use md5::{Digest, Md5};
+use std::alloc::{AllocError, Global};
+use std::marker::Model;
+use std::sync::Arc;
+
+/// A file's text, seen by contracts as its bytes. Its owners share the bytes.
+#[derive(Debug, Drop)]
+pub struct Text {
+    body: Arc<Body>,
+}
+
+#[derive(Debug, Drop)]
+struct Body {
+    bytes: Vec<u8>,
+    sum: Option<[u8; 16]>,
+}
+
+impl Model for Text {
+    ghost use Rattle.std.specs.Prelude.{List, ℕ, ◌≡◌, IfSome};
+    ghost use Rattle.std.specs.Coded.{coded_list, coded_ℕ};
+    ghost use Rattle.std.specs.Arc.{arc_value};
+    ghost use Rattle.md5.specs.Md5.{md5};
+
+    ghost Value = { List ℕ };
+
+    ghost coded = { coded_list coded_ℕ };
+
+    ghost view = { λ a. (arc_value a.body).bytes.items };
+
+    ghost invariant = { λ a. IfSome (arc_value a.body).sum (λ s. s ≡ md5 (arc_value a.body).bytes.items) };
+}
+
+impl Text {
+    /// A text of these bytes.
+    pub fn new(alloc: Global, bytes: Vec<u8>) -> Result<Text, AllocError>
+        ensures { IfOk result (λ t. t ≡ bytes.items) }
+    {
+        let body = Arc::new(alloc, Body { bytes, sum: None })?;
+        Ok(Text { body })
+    }
+
+    /// A text of these bytes, which keeps their MD5 (RFC 1321).
+    pub fn with_sum(alloc: Global, bytes: Vec<u8>, sum: [u8; 16]) -> Result<Text, AllocError>
+        requires { sum ≡ md5 bytes.items }
+        ensures { IfOk result (λ t. t ≡ bytes.items) }
+    {
+        let sum = Some(sum);
+        let body = Arc::new(alloc, Body { bytes, sum })?;
+        Ok(Text { body })
+    }
+
+    /// Its bytes.
+    pub fn as_slice(&self) -> &[u8]
+        ensures { result.now ≡ self.now }
+    {
+        self.body.bytes.as_slice()
+    }
+
+    /// How many bytes it has.
+    pub fn len(&self) -> usize
+        ensures { result ≡ length self.now }
+    {
+        self.body.bytes.len()
+    }
+
+    /// The MD5 of its bytes (RFC 1321), computed here where it wasn't before.
+    pub fn sum(&self) -> [u8; 16]
+        ensures { result ≡ md5 self.now }
+    {
+        match self.body.sum {
+            Some(sum) => sum,
+            None => {
+                let mut hasher = Md5::new();
+                hasher.update(self.body.bytes.as_slice());
+                hasher.finalize()
+            }
+        }
+    }
+
+    /// The same text for another owner, with no copy of its bytes.
+    pub fn share(&self) -> Result<Text, AllocError>
+        ensures { IfOk result (λ t. t ≡ self.now) }
+    {
+        Ok(Text {
+            body: Arc::try_clone(&self.body)?,
+        })
+    }
+}

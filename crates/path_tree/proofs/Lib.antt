@@ -1,0 +1,11 @@
+pub mod Altered
+pub mod Copies
+pub mod Edits
+pub mod Faults
+pub mod Fronts
+pub mod Lengths
+pub mod Entries
+pub mod Marks
+pub mod Place
+pub mod Pointers
+pub mod Search

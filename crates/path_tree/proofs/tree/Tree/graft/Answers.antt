@@ -1,0 +1,43 @@
+use Rattle.std.proofs.Common.{◌≡◌, ◌++◌, ◌∷◌, [], Option, true, sym, ap, subst, ◌∙◌}
+use Rattle.std.specs.Prelude.{IsSome}
+use Rattle.std.specs.Arc.{arc_value}
+use Rattle.std.specs.FinMap.{get}
+use Rattle.node_base.specs.Path.{Path}
+use Rattle.node_base.specs.Limits.{fits}
+use Rattle.node_base.specs.declared.node.Node.{Node}
+use Rattle.node_base.specs.Tree.{IsTree, IsDirAt, blocked, grafted}
+use Rattle.path_tree.specs.declared.edit.Edit.TheVariants.{Graft}
+use Rattle.path_tree.specs.Edits.{edit_at}
+use Rattle.path_tree.specs.Shape.{IsShape}
+use Rattle.path_tree.proofs.Altered.{grafted_below}
+use Rattle.path_tree.proofs.Edits.{on_ok}
+use Rattle.path_tree.proofs.Fronts.{dir_above, dir_is_there, shape_of, shape-grafted}
+use Rattle.path_tree.proofs.tree.Tree.graft.Goals as goal
+use Rattle.path_tree.proofs.tree.Tree.graft.Goals.{In_ok-child}
+
+-- the path is the name behind the path above it
+split : (c : In_ok-child) → c.args.path.now ≡ c.in-Some.above.now ++ (arc_value c.in_ok-child.child).0 ∷ []
+split c = sym c.names.ensures.names ∙ c.in-Some.ensures.cases.0 ∙ ap (λ n. c.in-Some.above.now ++ n ∷ []) (sym (ap (λ z. z.0) c.in_ok-child.ensures.ok ∙ c.in_ok-copy.ensures))
+
+dir : (c : In_ok-child) → IsDirAt (get c.args.self.now) c.in-Some.above.now
+dir c = dir_above (get c.args.self.now) c.in-Some.above.now (arc_value c.in_ok-child.child).0 (ap (blocked (get c.args.self.now)) (sym (split c)) ∙ c.requires.not_blocked)
+
+-- the edit is a graft at the path
+grafts : (c : In_ok-child) → ◌≡◌ {A = Path → Option Node} (grafted (get c.args.self.now) c.args.path.now (get c.args.branch)) (edit_at (Graft c.in_ok-child.child) (get c.args.self.now) c.in-Some.above.now)
+grafts c = λ i q.
+    ((λ j. grafted (get c.args.self.now) (split c j) (get (sym (ap (λ z. z.1) c.in_ok-child.ensures.ok) j)) q)
+    ∙ sym (grafted_below (get c.args.self.now) c.in-Some.above.now ((arc_value c.in_ok-child.child).0 ∷ []) (get (arc_value c.in_ok-child.child).1) q)) i
+
+pub alter-requires-clause-there : goal.alter-requires-clause-there
+alter-requires-clause-there c = dir_is_there (get c.args.self.now c.in-Some.above.now) (dir (goal.at.alter-requires-clause-there c).In_ok-child)
+
+pub alter-requires-clause-shape : goal.alter-requires-clause-shape
+alter-requires-clause-shape c =
+    let tree : IsTree c.args.self.now = subst IsTree c.self.view_is c.self.invariant in
+    let e = (goal.at.alter-requires-clause-shape c).In_ok-child in
+    subst IsShape (ap (λ p. grafted (get c.args.self.now) p (get c.args.branch)) (sym (split e)) ∙ grafts e)
+    (shape-grafted (get c.args.self.now) (get c.args.branch) c.in-Some.above.now (arc_value c.in_ok-child.child).0 (shape_of c.args.self.now tree) c.requires.fronts
+    (subst (λ p. (r : Path) → IsSome (get c.args.branch r) → fits (p ++ r) ≡ true) (split e) c.requires.small) (dir e))
+
+pub returns-clause-ok : goal.returns-clause-ok
+returns-clause-ok c = on_ok c.alter.result _ _ (λ h q. h q ∙ (λ i. sym (grafts (goal.at.returns-clause-ok c).In_ok-child) i q)) c.alter.ensures.ok

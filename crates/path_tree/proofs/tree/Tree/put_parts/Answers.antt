@@ -1,0 +1,30 @@
+use Rattle.std.proofs.Common.{◌≡◌, Option, sym, ap, subst, ◌∙◌}
+use Rattle.std.specs.Option.{option_copied}
+use Rattle.std.specs.FinMap.{get}
+use Rattle.node_base.specs.Path.{Path}
+use Rattle.node_base.specs.declared.node.Node.{Node}
+use Rattle.node_base.specs.Tree.{IsTree, changed_at, with_given}
+use Rattle.path_tree.specs.declared.edit.Edit.TheVariants.{Parts}
+use Rattle.path_tree.specs.Edits.{edit_at}
+use Rattle.path_tree.specs.Shape.{IsShape}
+use Rattle.path_tree.proofs.Altered.{changed_below, changed_nothing}
+use Rattle.path_tree.proofs.Edits.{on_ok}
+use Rattle.path_tree.proofs.Fronts.{shape_of, shape-changed}
+use Rattle.path_tree.proofs.tree.Tree.put_parts.Goals as goal
+use Rattle.path_tree.proofs.tree.Tree.put_parts.Goals.{In-Some}
+
+pub returns-in_default-clause-ok : goal.returns-in_default-clause-ok
+returns-in_default-clause-ok c = λ q.
+    changed_nothing (get c.args.self.now) c.args.path.now (with_given c.args.text c.args.props) (sym c.get.ensures ∙ ap option_copied c.in_default.is) q
+
+-- the edit is one of the node at the path
+changes : (c : In-Some) → ◌≡◌ {A = Path → Option Node} (changed_at (get c.args.self.now) c.args.path.now (with_given c.args.text c.args.props)) (edit_at (Parts c.args.text c.args.props) (get c.args.self.now) c.args.path.now)
+changes c = λ i q. sym (changed_below (get c.args.self.now) c.args.path.now (with_given c.args.text c.args.props) q) i
+
+pub alter-requires-clause-shape : goal.alter-requires-clause-shape
+alter-requires-clause-shape c =
+    let tree : IsTree c.args.self.now = subst IsTree c.self.view_is c.self.invariant in
+    subst IsShape (changes (goal.at.alter-requires-clause-shape c).In-Some) (shape-changed (get c.args.self.now) c.args.path.now c.args.text c.args.props c.requires (shape_of c.args.self.now tree))
+
+pub returns-clause-ok : goal.returns-clause-ok
+returns-clause-ok c = on_ok c.alter.result _ _ (λ h q. h q ∙ (λ i. sym (changes (goal.at.returns-clause-ok c).In-Some) i q)) c.alter.ensures.ok

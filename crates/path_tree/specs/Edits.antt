@@ -1,0 +1,19 @@
+-- Edits of a node and what is below it, by the map.
+use Rattle.std.specs.Prelude.{[], ◌∷◌, ◌++◌, Option, None}
+use Rattle.std.specs.Arc.{arc_value}
+use Rattle.std.specs.FinMap as map
+use Rattle.node_base.specs.Path.{Path}
+use Rattle.node_base.specs.declared.node.Node.{Node}
+use Rattle.node_base.specs.Tree.{grafted, changed_at, with_given}
+use Rattle.path_tree.specs.declared.edit.Edit.{Edit}
+use Rattle.path_tree.specs.declared.edit.Edit.TheVariants.{Parts, Graft, Prune}
+
+-- what an edit makes of a node and what is below it
+abbrev pub edit_here : Edit → (Path → Option Node) → Path → Option Node
+edit_here (Parts text props) f = changed_at f [] (with_given text props)
+edit_here (Graft c) f = grafted f ((arc_value c).0 ∷ []) (map.get (arc_value c).1)
+edit_here (Prune x) f = grafted f (x ∷ []) (λ _. None)
+
+-- the same at a path
+abbrev pub edit_at : Edit → (Path → Option Node) → Path → Path → Option Node
+edit_at e f p = grafted f p (edit_here e (λ r. f (p ++ r)))

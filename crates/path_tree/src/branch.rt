@@ -1,0 +1,281 @@
+//! A node with what is below it, each child shared by its owners.
+ghost use Rattle.std.specs.Prelude.{◌≡◌, ◌++◌, ◌<◌, ◌≤◌, [], not, length, IfOk, IfErr, OnOk, OnErr, IsSome, None, Some, MatchOption};
+ghost use Rattle.std.specs.FinMap as map;
+ghost use Rattle.std.specs.List.{list_any};
+ghost use Rattle.std.specs.Arc.{arc_value};
+ghost use Rattle.node_base.specs.Path.{Path, name_cmp};
+ghost use Rattle.node_base.specs.Limits.{fits_after};
+ghost use Rattle.node_base.specs.Tree.{marked, blocked};
+ghost use Rattle.path_tree.specs.Joined.{AreChildren, place, under};
+ghost use Rattle.path_tree.specs.Listed.{shown, shown_names};
+ghost use Rattle.path_tree.specs.Shared.{pointed};
+ghost use Rattle.path_tree.specs.Edits.{edit_here, edit_at};
+
+use crate::Entry;
+use crate::edit::Edit;
+use node_base::{Node, NodeName, RevNo, TreeFault};
+use std::alloc::{AllocError, Global};
+use std::marker::Model;
+use std::sync::Arc;
+
+#[derive(Drop)]
+pub struct Branch {
+    node: Node,
+    children: Vec<Arc<(NodeName, Branch)>>,
+}
+
+impl Model for Branch {
+    ghost use Rattle.node_base.specs.Tree.{PathMap, coded_tree};
+
+    ghost Value = { PathMap };
+
+    ghost coded = { coded_tree };
+
+    ghost use Rattle.std.specs.FinMap as map;
+    ghost use Rattle.path_tree.specs.Joined.{joined, AreChildren};
+    ghost use Rattle.path_tree.specs.Shared.{pointed};
+
+    ghost view = { λ a. joined a.node (pointed a.children.items) };
+
+    ghost invariant = { λ a. AreChildren (pointed a.children.items) };
+
+    ghost size = { map.len };
+
+    ghost use Rattle.path_tree.specs.Shared.{most_lt-pointed};
+
+    ghost size_decreases = { λ a h. most_lt-pointed a.node a.children.items h };
+}
+
+// Where the name is, or where it would go.
+fn place_of(children: &[Arc<(NodeName, Branch)>], name: &NodeName) -> Result<usize, usize>
+    requires { AreChildren (pointed children.now) }
+    ensures at { IfOk result (λ i. i ≡ place name.now (pointed children.now)) }
+    ensures gap { IfErr result (λ i. i ≡ place name.now (pointed children.now)) }
+    ensures found { IfOk result (λ i. i < length children.now) }
+    ensures present { OnOk result (IsSome (map.find name_cmp name.now (pointed children.now))) }
+    ensures absent { IfErr result (λ _. map.find name_cmp name.now (pointed children.now) ≡ None) }
+    ensures in_range { IfErr result (λ i. i ≤ length children.now) }
+{
+    children.binary_search_by(|child| child.0.compare(name))
+}
+
+// The same child for another owner, which shares what is below it.
+fn copy_of(alloc: Global, child: &(NodeName, Branch)) -> Result<(NodeName, Branch), AllocError>
+    ensures { IfOk result (λ c. c ≡ child.now) }
+{
+    Ok((child.0.copy(alloc)?, child.1.again(alloc)?))
+}
+
+impl Branch {
+    /// One node with nothing below it.
+    pub fn leaf(alloc: Global, node: Node) -> Branch
+        ensures { result ≡ map.insert map.empty [] node }
+    {
+        Branch {
+            node,
+            children: Vec::new(alloc),
+        }
+    }
+
+    /// The same branch once more: its top is copied, and the children are shared.
+    pub fn again(&self, alloc: Global) -> Result<Branch, AllocError>
+        ensures { IfOk result (λ b. b ≡ self.now) }
+    {
+        let node = self.node.share()?;
+        let mut children = Vec::with_capacity(alloc, self.children.len())?;
+        for child in &self.children {
+            children.push(Arc::try_clone(child)?)?;
+        }
+        Ok(Branch { node, children })
+    }
+
+    /// The node at its top.
+    pub fn node(&self) -> &Node
+        ensures { map.get self.now [] ≡ Some result.now }
+    {
+        &self.node
+    }
+
+    /// What stands at a path and below it.
+    pub fn find(&self, path: &[NodeName]) -> Option<&Branch>
+        ensures { MatchOption result ((q : Path) → map.get self.now (path.now ++ q) ≡ None) (λ b. (q : Path) → map.get b.now q ≡ map.get self.now (path.now ++ q)) }
+    {
+        match path {
+            [] => Some(self),
+            [first, rest @ ..] => match place_of(&self.children, first) {
+                Ok(i) => {
+                    let child = &self.children[i];
+                    child.1.find(rest)
+                }
+                Err(_) => None,
+            },
+        }
+    }
+
+    /// The fault of the first proper front of a path, from the root down, that is no directory.
+    pub fn blocked(&self, path: &[NodeName]) -> Option<TreeFault>
+        ensures { result ≡ blocked (map.get self.now) path.now }
+    {
+        match path {
+            [] => None,
+            [first, rest @ ..] => {
+                if self.node.text.is_some() {
+                    return Some(TreeFault::NotDir);
+                }
+                match place_of(&self.children, first) {
+                    Ok(i) => {
+                        let child = &self.children[i];
+                        child.1.blocked(rest)
+                    }
+                    Err(_) => {
+                        if rest.is_empty() {
+                            None
+                        } else {
+                            Some(TreeFault::NoSuchPath)
+                        }
+                    }
+                }
+            }
+        }
+    }
+
+    /// Whether some path here is too long behind so many names of such a weight.
+    pub fn exceeds(&self, names: usize, bytes: usize) -> bool
+        ensures { result ≡ list_any (λ k. not (fits_after names bytes k)) (map.keys self.now) }
+    {
+        let _ = &self.node;
+        if names > 64 || bytes > 1025 {
+            return true;
+        }
+        for child in &self.children {
+            if child.1.exceeds(names + 1, bytes + child.0.len() + 1) {
+                return true;
+            }
+        }
+        false
+    }
+
+    /// Whether some path here is too long behind a path that follows so many names of such a weight.
+    pub fn exceeds_behind(&self, path: &[NodeName], names: usize, bytes: usize) -> bool
+        ensures { result ≡ list_any (λ k. not (fits_after names bytes (path.now ++ k))) (map.keys self.now) }
+    {
+        let _ = &self.node;
+        match path {
+            [] => self.exceeds(names, bytes),
+            [first, rest @ ..] => {
+                if names > 64 || bytes > 1025 {
+                    return true;
+                }
+                self.exceeds_behind(rest, names + 1, bytes + first.len() + 1)
+            }
+        }
+    }
+
+    /// Gives the number to each front of a path that is there. A child that has other owners is copied first.
+    pub fn mark(
+        &mut self,
+        alloc: Global,
+        path: &[NodeName],
+        number: RevNo,
+    ) -> Result<(), AllocError>
+        ensures ok { OnOk result ((q : Path) → map.get self.new q ≡ marked (map.get self.old) path.now number q) }
+        ensures err { OnErr result (self.new ≡ self.old) }
+    {
+        match path {
+            [] => {}
+            [first, rest @ ..] => match place_of(&self.children, first) {
+                Ok(i) => {
+                    let slot = &mut self.children[i];
+                    match Arc::get_mut(slot) {
+                        Some(child) => child.1.mark(alloc, rest, number)?,
+                        None => {
+                            let mut child = copy_of(alloc, slot)?;
+                            child.1.mark(alloc, rest, number)?;
+                            *slot = Arc::new(alloc, child)?;
+                        }
+                    }
+                }
+                Err(_) => {}
+            },
+        }
+        self.node.changed = number;
+        Ok(())
+    }
+
+    /// Edits the node at a path. A child that has other owners is copied first.
+    pub fn alter(&mut self, alloc: Global, path: &[NodeName], edit: Edit) -> Result<(), AllocError>
+        requires { IsSome (map.get self.old path.now) }
+        ensures ok { OnOk result ((q : Path) → map.get self.new q ≡ edit_at edit (map.get self.old) path.now q) }
+        ensures err { OnErr result (self.new ≡ self.old) }
+    {
+        match path {
+            [] => self.alter_here(edit),
+            [first, rest @ ..] => match place_of(&self.children, first) {
+                Ok(i) => {
+                    let slot = &mut self.children[i];
+                    if let Some(child) = Arc::get_mut(slot) {
+                        return child.1.alter(alloc, rest, edit);
+                    }
+                    let mut child = copy_of(alloc, slot)?;
+                    child.1.alter(alloc, rest, edit)?;
+                    *slot = Arc::new(alloc, child)?;
+                    Ok(())
+                }
+                Err(_) => unreachable!(),
+            },
+        }
+    }
+
+    // Edits the node at the top.
+    fn alter_here(&mut self, edit: Edit) -> Result<(), AllocError>
+        ensures ok { OnOk result ((q : Path) → map.get self.new q ≡ edit_here edit (map.get self.old) q) }
+        ensures err { OnErr result (self.new ≡ self.old) }
+    {
+        match edit {
+            Edit::Parts(text, props) => {
+                self.node.put_parts(text, props);
+                Ok(())
+            }
+            Edit::Graft(child) => match place_of(&self.children, &child.0) {
+                Ok(i) => {
+                    self.children[i] = child;
+                    Ok(())
+                }
+                Err(i) => Ok(self.children.insert(i, child)?),
+            },
+            Edit::Prune(name) => match place_of(&self.children, &name) {
+                Ok(i) => {
+                    let _ = self.children.remove(i);
+                    Ok(())
+                }
+                Err(_) => Ok(()),
+            },
+        }
+    }
+
+    /// Adds each node with its path, in path order. The path's names stand behind those above it, which come back as they were.
+    pub fn list_into<'a>(
+        &'a self,
+        alloc: Global,
+        above: &mut Vec<&'a NodeName>,
+        out: &mut Vec<Entry<'a>>,
+    ) -> Result<(), AllocError>
+        ensures listed { OnOk result (shown out.new.items ≡ shown out.old.items ++ under (shown_names above.old.items) (map.entries self.now)) }
+        ensures above { OnOk result (shown_names above.new.items ≡ shown_names above.old.items) }
+    {
+        let mut path = Vec::with_capacity(alloc, above.len())?;
+        for name in above.iter() {
+            path.push(*name)?;
+        }
+        out.push(Entry {
+            path,
+            node: &self.node,
+        })?;
+        for child in &self.children {
+            above.push(&child.0)?;
+            child.1.list_into(alloc, above, out)?;
+            let _ = above.pop();
+        }
+        Ok(())
+    }
+}

@@ -1,0 +1,16 @@
+//! Trees of a Subversion repository, seen by contracts as finite maps from paths to nodes.
+#![tactic(auto)]
+
+pub use error::TreeError;
+pub use listing::Entry;
+pub use tree::Tree;
+
+mod branch;
+mod calls;
+mod edit;
+mod error;
+mod listing;
+pub mod plain;
+#[cfg(test)]
+mod tests;
+mod tree;

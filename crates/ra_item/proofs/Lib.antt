@@ -1,0 +1,7 @@
+mod Runs
+mod Written
+mod Classes
+mod Spelled
+mod Canon
+mod Read
+mod Weighing

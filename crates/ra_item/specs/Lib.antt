@@ -1,0 +1,12 @@
+pub mod Bytes
+pub mod Items
+pub mod ItemCode
+pub mod Weights
+pub mod Makers
+pub mod Shapes
+pub mod ItemFalls
+pub mod Reading
+pub mod Streams
+pub mod Grammar
+pub mod Places
+pub mod Laws

@@ -1,0 +1,58 @@
+//! Laws of items, over all bytes. Each is proved as the contract of a function that does nothing.
+
+ghost use Rattle.ra_item.specs.Laws.{PiecesJoin, StreamsAreRead, WholeAtWhite, WrittenIsSpelled, WrittenIsRead, OneReading, ReadIsSpelled, EndsWhole, RefusedBehindItems, KeptIsFed, RefusedIsNoFront};
+
+/// It doesn't matter how bytes are cut into pieces.
+pub fn pieces_join()
+    ensures { PiecesJoin }
+{}
+
+/// What the grammar calls a stream of items is read as these items.
+pub fn streams_are_read()
+    ensures { StreamsAreRead }
+{}
+
+/// A top-level item is whole when the white space behind it begins.
+pub fn whole_at_white()
+    ensures { WholeAtWhite }
+{}
+
+/// What is written is in the grammar.
+pub fn written_is_spelled()
+    ensures { WrittenIsSpelled }
+{}
+
+/// What is written is read again, whatever follows.
+pub fn written_is_read()
+    ensures { WrittenIsRead }
+{}
+
+/// Bytes are a stream of one list of items at most.
+pub fn one_reading()
+    ensures { OneReading }
+{}
+
+/// What is read is in the grammar.
+pub fn read_is_spelled()
+    ensures { ReadIsSpelled }
+{}
+
+/// Bytes that end between items are a stream of the grammar.
+pub fn ends_whole()
+    ensures { EndsWhole }
+{}
+
+/// The items before a refused byte are in the grammar.
+pub fn refused_behind_items()
+    ensures { RefusedBehindItems }
+{}
+
+/// No more bytes are kept than were fed.
+pub fn kept_is_fed()
+    ensures { KeptIsFed }
+{}
+
+/// Bytes that are refused begin no stream of the grammar.
+pub fn refused_is_no_front()
+    ensures { RefusedIsNoFront }
+{}
