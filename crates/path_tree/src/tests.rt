@@ -33,58 +33,121 @@ trait Calls: Sized + Drop {
     fn lines(&self, alloc: Global) -> Result<String, Fail>;
 }
 
-macro_rules! calls {
-    ($tree:ty) => {
-        impl Calls for $tree {
-            fn fresh(alloc: Global) -> Result<$tree, Fail> {
-                Ok(<$tree>::empty(alloc)?)
-            }
+impl Calls for Tree {
+    fn fresh(alloc: Global) -> Result<Tree, Fail> {
+        Ok(Tree::empty(alloc)?)
+    }
 
-            fn again(&self) -> Result<$tree, Fail> {
-                Ok(self.share()?)
-            }
+    fn again(&self) -> Result<Tree, Fail> {
+        Ok(self.share()?)
+    }
 
-            fn file(&mut self, alloc: Global, at: &str, number: u16) -> Result<u8, Fail> {
-                let text = bytes(alloc)?;
-                Ok(refusal(self.put_file(alloc, &path(alloc, at)?, text, Props::empty(), RevNo::new(number))))
-            }
+    fn file(&mut self, alloc: Global, at: &str, number: u16) -> Result<u8, Fail> {
+        let text = bytes(alloc)?;
+        Ok(refusal(self.put_file(
+            alloc,
+            &path(alloc, at)?,
+            text,
+            Props::empty(),
+            RevNo::new(number),
+        )))
+    }
 
-            fn dir(&mut self, alloc: Global, at: &str, number: u16) -> Result<u8, Fail> {
-                Ok(refusal(self.put_dir(alloc, &path(alloc, at)?, Props::empty(), RevNo::new(number))))
-            }
+    fn dir(&mut self, alloc: Global, at: &str, number: u16) -> Result<u8, Fail> {
+        Ok(refusal(self.put_dir(alloc, &path(alloc, at)?, Props::empty(), RevNo::new(number))))
+    }
 
-            fn props(&mut self, alloc: Global, at: &str, number: u16) -> Result<u8, Fail> {
-                Ok(refusal(self.set_props(alloc, &path(alloc, at)?, Props::empty(), RevNo::new(number))))
-            }
+    fn props(&mut self, alloc: Global, at: &str, number: u16) -> Result<u8, Fail> {
+        Ok(refusal(self.set_props(alloc, &path(alloc, at)?, Props::empty(), RevNo::new(number))))
+    }
 
-            fn text(&mut self, alloc: Global, at: &str, number: u16) -> Result<u8, Fail> {
-                let text = bytes(alloc)?;
-                Ok(refusal(self.set_text(alloc, &path(alloc, at)?, text, RevNo::new(number))))
-            }
+    fn text(&mut self, alloc: Global, at: &str, number: u16) -> Result<u8, Fail> {
+        let text = bytes(alloc)?;
+        Ok(refusal(self.set_text(alloc, &path(alloc, at)?, text, RevNo::new(number))))
+    }
 
-            fn gone(&mut self, alloc: Global, at: &str, number: u16) -> Result<u8, Fail> {
-                Ok(refusal(self.remove(alloc, &path(alloc, at)?, RevNo::new(number))))
-            }
+    fn gone(&mut self, alloc: Global, at: &str, number: u16) -> Result<u8, Fail> {
+        Ok(refusal(self.remove(alloc, &path(alloc, at)?, RevNo::new(number))))
+    }
 
-            fn copy(&mut self, alloc: Global, at: &str, from: &$tree, source: &str, number: u16) -> Result<u8, Fail> {
-                let source = path(alloc, source)?;
-                Ok(refusal(self.copy_in(alloc, &path(alloc, at)?, from, &source, RevNo::new(number))))
-            }
+    fn copy(
+        &mut self,
+        alloc: Global,
+        at: &str,
+        from: &Tree,
+        source: &str,
+        number: u16,
+    ) -> Result<u8, Fail> {
+        let source = path(alloc, source)?;
+        Ok(refusal(self.copy_in(alloc, &path(alloc, at)?, from, &source, RevNo::new(number))))
+    }
 
-            fn lines(&self, alloc: Global) -> Result<String, Fail> {
-                let mut lines = String::new(alloc);
-                for entry in &self.list(alloc)? {
-                    add_line(alloc, entry, &mut lines)?;
-                }
-                Ok(lines)
-            }
+    fn lines(&self, alloc: Global) -> Result<String, Fail> {
+        let mut lines = String::new(alloc);
+        for entry in &self.list(alloc)? {
+            add_line(alloc, entry, &mut lines)?;
         }
-    };
+        Ok(lines)
+    }
 }
 
-calls!(Tree);
+impl Calls for plain::Tree {
+    fn fresh(alloc: Global) -> Result<plain::Tree, Fail> {
+        Ok(plain::Tree::empty(alloc)?)
+    }
 
-calls!(plain::Tree);
+    fn again(&self) -> Result<plain::Tree, Fail> {
+        Ok(self.share()?)
+    }
+
+    fn file(&mut self, alloc: Global, at: &str, number: u16) -> Result<u8, Fail> {
+        let text = bytes(alloc)?;
+        Ok(refusal(self.put_file(
+            alloc,
+            &path(alloc, at)?,
+            text,
+            Props::empty(),
+            RevNo::new(number),
+        )))
+    }
+
+    fn dir(&mut self, alloc: Global, at: &str, number: u16) -> Result<u8, Fail> {
+        Ok(refusal(self.put_dir(alloc, &path(alloc, at)?, Props::empty(), RevNo::new(number))))
+    }
+
+    fn props(&mut self, alloc: Global, at: &str, number: u16) -> Result<u8, Fail> {
+        Ok(refusal(self.set_props(alloc, &path(alloc, at)?, Props::empty(), RevNo::new(number))))
+    }
+
+    fn text(&mut self, alloc: Global, at: &str, number: u16) -> Result<u8, Fail> {
+        let text = bytes(alloc)?;
+        Ok(refusal(self.set_text(alloc, &path(alloc, at)?, text, RevNo::new(number))))
+    }
+
+    fn gone(&mut self, alloc: Global, at: &str, number: u16) -> Result<u8, Fail> {
+        Ok(refusal(self.remove(alloc, &path(alloc, at)?, RevNo::new(number))))
+    }
+
+    fn copy(
+        &mut self,
+        alloc: Global,
+        at: &str,
+        from: &plain::Tree,
+        source: &str,
+        number: u16,
+    ) -> Result<u8, Fail> {
+        let source = path(alloc, source)?;
+        Ok(refusal(self.copy_in(alloc, &path(alloc, at)?, from, &source, RevNo::new(number))))
+    }
+
+    fn lines(&self, alloc: Global) -> Result<String, Fail> {
+        let mut lines = String::new(alloc);
+        for entry in &self.list(alloc)? {
+            add_line(alloc, entry, &mut lines)?;
+        }
+        Ok(lines)
+    }
+}
 
 fn path(alloc: Global, text: &str) -> Result<NodePath, Fail> {
     Ok(NodePath::parse(alloc, text.as_bytes())?)
