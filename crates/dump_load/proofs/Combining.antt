@@ -8,10 +8,10 @@ use Rattle.std.proofs.lemmas.List.Elements.{filter-append}
 use Rattle.node_base.specs.Path.{Path, path_cmp, paths_total, same_path, is_front}
 use Rattle.node_base.proofs.PathLemmas.{path_of_same, same_path_itself, later_is_no_front}
 use Rattle.dump_load.specs.declared.change.Change.{Change}
-use Rattle.dump_load.specs.Changes.{is_delete, is_add, change_at, Precedes, NoneFalls, IsInOrder}
+use Rattle.dump_load.specs.Changes.{is_delete, is_add, change_at, Precedes, Follows, NoneFalls, IsInOrder}
 use Rattle.dump_load.specs.Records.{stated_at, replacing, combined, stated, Combined, is_under, is_out_of_order}
 use Rattle.dump_load.proofs.PathOrder.{no_front_none, greater_differs, less_of, between}
-use Rattle.dump_load.proofs.OneMore.{Follows, change_at-end, change_at-after}
+use Rattle.dump_load.proofs.OneMore.{change_at-end, change_at-after}
 
 -- ---- what is stated, with one more
 

@@ -15,12 +15,12 @@ use Rattle.node_base.specs.declared.node.Node.{Node}
 use Rattle.node_base.specs.declared.node.NodeKind.{NodeKind}
 use Rattle.node_base.specs.declared.node.NodeKind.TheVariants.{File, Dir}
 use Rattle.dump_load.specs.declared.change.Change.{Change}
-use Rattle.dump_load.specs.Changes.{is_delete, is_plain, is_described, change_at, Precedes, IsWhole, IsInOrder, IsNormal}
+use Rattle.dump_load.specs.Changes.{is_delete, is_plain, is_described, change_at, Precedes, Follows, IsWhole, IsInOrder, IsNormal}
 use Rattle.dump_load.specs.Effect.{effect, stepped}
 use Rattle.dump_load.specs.Faults.{fault_of}
 use Rattle.dump_load.specs.Records.{Combined, is_kindless, earlier, sound_after, sound, blank_text, blanked, with_blanks, with_kind, filled_in, filled_after, Filling, IsSetOf}
 use Rattle.dump_load.proofs.Faultless.{deletes_settle}
-use Rattle.dump_load.proofs.OneMore.{Follows, effect-end, change_at-end}
+use Rattle.dump_load.proofs.OneMore.{effect-end, change_at-end}
 use Rattle.dump_load.proofs.Combining.{order_follows, follows_same, follows_end}
 
 -- ---- what stays the same
@@ -107,7 +107,7 @@ module _ (trees : List PathMap) where
 
 -- ---- the whole set
 
-normal_end : (s : List Change) (c : Change) → IsNormal s → Follows s c → IsWhole c → IsNormal (s ++ c ∷ [])
+pub normal_end : (s : List Change) (c : Change) → IsNormal s → Follows s c → IsWhole c → IsNormal (s ++ c ∷ [])
 normal_end [] c h f w = (w, tt, tt)
 normal_end (d ∷ s) c h f w = (h.0, all_end s h.1, normal_end s c h.2 f.1 w)
   where

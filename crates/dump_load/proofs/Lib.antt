@@ -2,9 +2,11 @@ pub mod Again
 pub mod Combining
 pub mod Counting
 pub mod Faultless
+pub mod EffectTrees
 pub mod Fillings
 pub mod Gathered
 pub mod Moved
+pub mod NormalSets
 pub mod OneMore
 pub mod PathOrder
 pub mod Sorting

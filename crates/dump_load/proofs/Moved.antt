@@ -88,7 +88,7 @@ at_own_path front rest c h =
     ∙ ap (λ o. option_or o (change_at (c ∷ rest) c.path)) (ap (change_at front) (sym (append-nil c.path)) ∙ change_at-after c front (order_follows front rest c h) [])
     ∙ ap (λ b. cond b (Some c) (change_at rest c.path)) (same_path_itself c.path)
 
-none_at : (P : Change → Bool) (s : List Change) (p : Path) → list_any P s ≡ false → option_map_or P (change_at s p) false ≡ false
+pub none_at : (P : Change → Bool) (s : List Change) (p : Path) → list_any P s ≡ false → option_map_or P (change_at s p) false ≡ false
 none_at P [] p h = refl
 none_at P (c ∷ s) p h =
     elim (P c) as (λ b. P c ≡ b → (b || list_any P s) ≡ false → option_map_or P (cond (same_path c.path p) (Some c) (change_at s p)) false ≡ false) [

@@ -1,13 +1,13 @@
 -- What one more change does to the effect of a set.
 use Rattle.std.proofs.Common.{◌≡◌, ℕ, Bool, true, false, cond, not, ◌&&◌, ◌||◌, List, [], ◌∷◌, ◌++◌, length, Option, Some, None, is_some, refl, sym, ap, ◌∙◌, append-nil}
 use Rattle.std.specs.Option.{option_or, option_map, option_map_or, option_and_then}
-use Rattle.std.specs.List.{AllByRecursion, list_any}
+use Rattle.std.specs.List.{list_any}
 use Rattle.node_base.specs.Path.{Name, Path, same_name, same_path, is_front, rest_after}
 use Rattle.node_base.proofs.PathLemmas.{same_path-cons, later_is_no_front, longer_is_no_front, rest_after-longer, differs_of_no_rest, same_path_back, same_path-append, rest_after-append, append_of_rest, path_of_same, name_of_same}
 use Rattle.node_base.specs.declared.node.Node.{Node}
 use Rattle.node_base.specs.Tree.{PathMap, numbered, marked, changed_at, grafted, blank, alone, source_at, base}
 use Rattle.dump_load.specs.declared.change.Change.{Change}
-use Rattle.dump_load.specs.Changes.{settles, is_delete, change_at, settling, deepest, governing, Precedes}
+use Rattle.dump_load.specs.Changes.{settles, is_delete, change_at, settling, deepest, governing, IsClear, Follows}
 use Rattle.dump_load.specs.Effect.{arrives, stepped, brought, laid, with_parts, parted, numbers, is_numbered, effect}
 
 -- ---- the longest front
@@ -36,14 +36,6 @@ deepest-put {A} f (m ∷ p) x none (n ∷ q) =
     ] refl
 
 -- ---- a change with nothing at its path or below
-
--- no change of s is at the path of c or below it
-abbrev pub IsClear : List Change → Change → Type 0
-IsClear s c = AllByRecursion (λ d. rest_after c.path d.path ≡ None) s
-
--- each change of s stands before c
-abbrev pub Follows : List Change → Change → Type 0
-Follows s c = AllByRecursion (λ d. Precedes d c) s
 
 pub clear_of_follows : (s : List Change) (c : Change) → Follows s c → IsClear s c
 clear_of_follows [] c h = tt

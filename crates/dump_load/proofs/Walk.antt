@@ -1,4 +1,4 @@
--- A walk over a set in path order, and how far it has come.
+-- A walk over a set in path order.
 use Rattle.std.proofs.Common.{◌≡◌, ℕ, suc, ◌+◌, ◌<◌, ◌≤◌, Bool, true, false, ◌||◌, List, [], ◌∷◌, ◌++◌, length, take, drop, get_or, Option, Some, None, refl, sym, ap, subst, ◌∙◌, add-one, drop-cons}
 use Rattle.std.proofs.lemmas.List.{take-append-drop, take_all, drop_all}
 use Rattle.std.proofs.Math.Seq.{take-suc}
@@ -10,13 +10,14 @@ use Rattle.node_base.specs.declared.node.Node.{Node}
 use Rattle.node_base.specs.declared.fault.TreeFault.{TreeFault}
 use Rattle.node_base.specs.Tree.{PathMap, numbered, marked, base}
 use Rattle.dump_load.specs.declared.change.Change.{Change}
-use Rattle.dump_load.specs.Changes.{change_at, governing, Precedes, IsWhole, IsNormal}
+use Rattle.dump_load.specs.Changes.{change_at, governing, Precedes, Follows, IsWhole, IsNormal}
 use Rattle.dump_load.specs.Effect.{brought, effect, stepped}
 use Rattle.node_base.specs.declared.fault.TreeFault.TheVariants.{TooLong, BadPath, NoSuchPath, PathThere, NotDir, NoSource, KindMismatch}
 use Rattle.dump_load.specs.declared.fault.ChangeFault.{ChangeFault}
 use Rattle.dump_load.specs.Faults.{fault_of, fault_after, fault, refused, IsRefusal}
 use Rattle.dump_load.proofs.Faultless.{deletes_settle}
-use Rattle.dump_load.proofs.OneMore.{Follows, effect-end, deepest-none}
+use Rattle.dump_load.specs.Walk.{Walked}
+use Rattle.dump_load.proofs.OneMore.{effect-end, deepest-none}
 
 precedes_in : (d c : Change) (s rest : List Change) → AllByRecursion (Precedes d) (s ++ c ∷ rest) → Precedes d c
 precedes_in d c [] rest h = h.0
@@ -27,14 +28,9 @@ pub normal_follows : (s rest : List Change) (c : Change) → IsNormal (s ++ c �
 normal_follows [] rest c h = tt
 normal_follows (d ∷ s) rest c h = (precedes_in d c s rest h.1, normal_follows s rest c h.2)
 
-whole_in : (s rest : List Change) (c : Change) → IsNormal (s ++ c ∷ rest) → IsWhole c
+pub whole_in : (s rest : List Change) (c : Change) → IsNormal (s ++ c ∷ rest) → IsWhole c
 whole_in [] rest c h = h.0
 whole_in (d ∷ s) rest c h = whole_in s rest c h.2
-
--- the tree has the effect of the first i changes, and none of these is faulty
-pub record Walked (trees : List PathMap) (set : List Change) (i : ℕ) (tree : PathMap) : Type 0 where
-  pub is : (q : Path) → get tree q ≡ effect trees (take i set) q
-  pub faults : fault trees set ≡ fault_after trees (take i set) (drop i set)
 
 pub walked_none : (trees : List PathMap) (set : List Change) (tree : PathMap) → ((q : Path) → get tree q ≡ effect trees [] q) → Walked trees set 0 tree
 walked_none trees set tree h = record { is = h; faults = refl }

@@ -4,7 +4,7 @@ use Rattle.std.specs.Option.{option_or}
 use Rattle.std.specs.Ordering.{is_lt}
 use Rattle.std.specs.List.{AllByRecursion, filter}
 use Rattle.std.specs.declared.cmp.Ordering.TheVariants.{Less}
-use Rattle.node_base.specs.Path.{Path, path_cmp, same_path, is_front}
+use Rattle.node_base.specs.Path.{Path, path_cmp, same_path, is_front, rest_after}
 use Rattle.node_base.specs.declared.node.Action.{Action}
 use Rattle.node_base.specs.declared.node.Action.TheVariants.{Modify, Add, Delete, Replace}
 use Rattle.node_base.specs.declared.node.NodeKind.{NodeKind}
@@ -72,6 +72,14 @@ IsWhole c = is_plain c ≡ true → is_described c.kind (is_some c.props) (is_so
 pub record Precedes (c d : Change) : Type 0 where
   pub rises : path_cmp c.path d.path ≡ Less
   pub stands : is_delete c.action ≡ true → is_front c.path d.path ≡ false
+
+-- each change of s stands before c
+abbrev pub Follows : List Change → Change → Type 0
+Follows s c = AllByRecursion (λ d. Precedes d c) s
+
+-- no change of s is at the path of c or below it
+abbrev pub IsClear : List Change → Change → Type 0
+IsClear s c = AllByRecursion (λ d. rest_after c.path d.path ≡ None) s
 
 -- in path order, where a path may stand more than once
 abbrev pub NoneFalls : List Change → Type 0

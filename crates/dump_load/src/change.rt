@@ -1,6 +1,6 @@
 //! One change of a revision.
-ghost use Rattle.std.specs.Prelude.{◌≡◌, IfOk};
-ghost use Rattle.dump_load.specs.Changes.{settles, is_delete, is_add, is_plain, brings};
+ghost use Rattle.std.specs.Prelude.{◌≡◌, ◌||◌, not, is_some, IfOk};
+ghost use Rattle.dump_load.specs.Changes.{settles, is_delete, is_add, is_plain, brings, is_described};
 ghost use Rattle.dump_load.specs.Records.{change_of, record_of};
 
 use dump_text::{NodeRecord, PropPart};
@@ -67,6 +67,19 @@ impl Change {
         ensures { result ≡ is_plain self.now }
     {
         self.brings() && self.source.is_none()
+    }
+
+    /// Whether it says all that is there, if it is an add or a replace that copies nothing: a directory has properties, a file a
+    /// text too.
+    pub fn is_whole(&self) -> bool
+        ensures { result ≡ (not (is_plain self.now) || is_described self.now.kind (is_some self.now.props) (is_some self.now.text)) }
+    {
+        let described = match self.kind {
+            None => false,
+            Some(NodeKind::Dir) => self.props.is_some(),
+            Some(NodeKind::File) => self.props.is_some() && self.text.is_some(),
+        };
+        !self.is_plain() || described
     }
 
     /// The change that a record states.

@@ -5,6 +5,7 @@ ghost use Rattle.std.specs.FinMap as map;
 ghost use Rattle.node_base.specs.Path.{Path};
 ghost use Rattle.dump_load.specs.Changes.{IsNormal};
 ghost use Rattle.dump_load.specs.Effect.{effect};
+ghost use Rattle.dump_load.specs.Trees.{effect_tree};
 ghost use Rattle.dump_load.specs.Faults.{fault, refused, IsRefusal};
 ghost use Rattle.dump_load.specs.Records.{IsNormalSetOf, IsLoadRefusal};
 
@@ -21,6 +22,7 @@ use std::alloc::Global;
 pub fn apply(alloc: Global, trees: &[Tree], set: &ChangeSet) -> Result<Tree, ChangeFault>
     requires { length trees.now ≤ 65535 }
     ensures effect { IfOk result (λ t. (q : Path) → map.get t q ≡ effect trees.now set.now q) }
+    ensures whole { IfOk result (λ t. t ≡ effect_tree trees.now set.now) }
     ensures no_fault { OnOk result (fault trees.now set.now ≡ None) }
     ensures fault { IfErr result (λ e. IsRefusal e (option_map refused (fault trees.now set.now))) }
 {
@@ -47,6 +49,7 @@ pub fn load_revision(
     ensures number { OnOk result (number ≡ length trees.now) }
     ensures set { IfOk result (λ r. IsNormalSetOf trees.now records.items r.0) }
     ensures tree { IfOk result (λ r. (q : Path) → map.get r.1 q ≡ effect trees.now r.0 q) }
+    ensures whole { IfOk result (λ r. r.1 ≡ effect_tree trees.now r.0) }
     ensures no_fault { IfOk result (λ r. fault trees.now r.0 ≡ None) }
     ensures refused { IfErr result (λ e. IsLoadRefusal trees.now number records.items e) }
 {

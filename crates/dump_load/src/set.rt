@@ -1,11 +1,12 @@
 //! A normal set of changes.
-ghost use Rattle.std.specs.Prelude.{◌≡◌, List, IfOk, map};
+ghost use Rattle.std.specs.Prelude.{◌≡◌, List, [], None, IsSome, IfOk, IfSome, map};
 ghost use Rattle.dump_load.specs.Changes.{IsNormal};
 ghost use Rattle.node_base.specs.Tree.{PathMap};
 ghost use Rattle.dump_text.specs.declared.record.NodeRecord.{NodeRecord as RecordOf};
 ghost use Rattle.dump_load.specs.Records.{record_of, IsNormalSetOf};
 
 use crate::Change;
+use crate::normal::is_normal;
 use dump_text::NodeRecord;
 use std::alloc::{AllocError, Global};
 use std::marker::Model;
@@ -39,6 +40,37 @@ impl ChangeSet {
         ensures { result ≡ changes.items }
     {
         ChangeSet { changes }
+    }
+
+    /// No change at all.
+    pub fn empty(alloc: Global) -> ChangeSet
+        ensures { result ≡ [] }
+    {
+        ChangeSet {
+            changes: Vec::new(alloc),
+        }
+    }
+
+    /// The set of these changes, where they are in path order, each path once, nothing under a path that is deleted, and each says
+    /// what is there where it copies nothing. Else there is none.
+    pub fn from_changes(changes: Vec<Change>) -> Option<ChangeSet>
+        ensures set { IfSome result (λ s. s ≡ changes.items) }
+        ensures none { result ≡ None → ¬ IsNormal changes.items }
+        ensures some { IsSome result → IsNormal changes.items }
+    {
+        if is_normal(&changes) {
+            Some(ChangeSet { changes })
+        } else {
+            None
+        }
+    }
+
+    /// The changes alone, in path order.
+    pub fn into_changes(self) -> Vec<Change>
+        ensures value { result.items ≡ self }
+        ensures normal { IsNormal self }
+    {
+        self.changes
     }
 
     /// Its changes, in path order.

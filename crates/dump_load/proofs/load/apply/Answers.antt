@@ -3,6 +3,7 @@ use Rattle.dump_load.specs.Changes.{IsNormal}
 use Rattle.dump_load.specs.Effect.{effect}
 use Rattle.dump_load.specs.Faults.{fault}
 use Rattle.dump_load.proofs.Walk.{walked_none, walked_fault, walked_more, walked_whole, walked_effect, walked_no_fault, refused_is}
+use Rattle.dump_load.proofs.EffectTrees.{effect_tree_is}
 use Rattle.dump_load.proofs.load.apply.Goals as goal
 
 pub loop-change-init : goal.loop-change-init
@@ -32,3 +33,6 @@ pub returns-clause-no_fault : goal.returns-clause-no_fault
 returns-clause-no_fault c =
     ap (fault c.args.trees.now) (sym c.changes-changes.ensures.value)
     ∙ walked_no_fault c.args.trees.now c.changes-changes.result.now c.loop-change.change-index c.loop-change.tree c.loop-change.invariant (omega arith)
+
+pub returns-clause-whole : goal.returns-clause-whole
+returns-clause-whole c = effect_tree_is c.args.trees.now c.args.set.now c.loop-change.tree (returns-clause-effect c)

@@ -1,4 +1,4 @@
-use Rattle.dump_load.proofs.Walk.{Walked}
+use Rattle.dump_load.specs.Walk.{Walked}
 use Rattle.dump_load.proofs.load.apply.Given as goal
 
 abbrev pub invariant-loop-change : goal.invariant-loop-change
