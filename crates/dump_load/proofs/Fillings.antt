@@ -160,11 +160,11 @@ module _ (trees : List PathMap) where
   normal_filled cs o k = normal_after [] cs tt (none_yet cs) o k
 
   -- the changes before a path, of those done and then those that follow
-  before_all : (done : List Change) (c : Change) → Follows done c → earlier done c.path ≡ done
+  pub before_all : (done : List Change) (c : Change) → Follows done c → earlier done c.path ≡ done
   before_all [] c h = refl
   before_all (d ∷ done) c h = (λ i. cond (is_lt (h.0.rises i)) (d ∷ earlier done c.path) (earlier done c.path)) ∙ ap (λ s. d ∷ s) (before_all done c h.1)
 
-  not_before : (p q : Path) → path_cmp p q ≡ Less → is_lt (path_cmp q p) ≡ false
+  pub not_before : (p q : Path) → path_cmp p q ≡ Less → is_lt (path_cmp q p) ≡ false
   not_before p q e = ap is_lt (paths_total.antisymm q p) ∙ ap (λ r. is_lt (ordering_reverse r)) e
 
   after_none : (done cs : List Change) (c : Change) → AllByRecursion (Precedes c) cs → earlier (fills done cs) c.path ≡ []

@@ -1,4 +1,5 @@
 pub mod Again
+pub mod Bare
 pub mod Combining
 pub mod Counting
 pub mod Faultless
@@ -8,6 +9,9 @@ pub mod Gathered
 pub mod Moved
 pub mod NormalSets
 pub mod OneMore
+pub mod OneSet
 pub mod PathOrder
+pub mod Permuted
+pub mod Reparted
 pub mod Sorting
 pub mod Walk

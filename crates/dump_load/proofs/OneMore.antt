@@ -41,7 +41,7 @@ pub clear_of_follows : (s : List Change) (c : Change) → Follows s c → IsClea
 clear_of_follows [] c h = tt
 clear_of_follows (d ∷ s) c h = (later_is_no_front c.path d.path h.0.rises, clear_of_follows s c h.1)
 
-change_at-append : (s t : List Change) (p : Path) → change_at (s ++ t) p ≡ option_or (change_at s p) (change_at t p)
+pub change_at-append : (s t : List Change) (p : Path) → change_at (s ++ t) p ≡ option_or (change_at s p) (change_at t p)
 change_at-append [] t p = refl
 change_at-append (c ∷ s) t p = elim (same_path c.path p) as (λ b. cond b (Some c) (change_at (s ++ t) p) ≡ option_or (cond b (Some c) (change_at s p)) (change_at t p)) [ true ↦ refl | false ↦ change_at-append s t p ]
 

@@ -1,5 +1,5 @@
 -- A walk over a set in path order.
-use Rattle.std.proofs.Common.{◌≡◌, ℕ, suc, ◌+◌, ◌<◌, ◌≤◌, Bool, true, false, ◌||◌, List, [], ◌∷◌, ◌++◌, length, take, drop, get_or, Option, Some, None, refl, sym, ap, subst, ◌∙◌, add-one, drop-cons}
+use Rattle.std.proofs.Common.{◌≡◌, ℕ, suc, ◌+◌, ◌<◌, ◌≤◌, Bool, true, false, ◌||◌, List, [], ◌∷◌, ◌++◌, length, take, drop, get_or, Option, Some, None, refl, sym, ap, subst, ◌∙◌, add-one, drop-cons, append-nil, append_assoc}
 use Rattle.std.proofs.lemmas.List.{take-append-drop, take_all, drop_all}
 use Rattle.std.proofs.Math.Seq.{take-suc}
 use Rattle.std.specs.Option.{option_or, option_map, option_map_or, option_and_then}
@@ -73,6 +73,26 @@ module _ (trees : List PathMap) (set : List Change) (i : ℕ) (tree : PathMap) (
 
   pub walked_no_fault : fault trees set ≡ None
   walked_no_fault = w.faults ∙ ap (fault_after trees (take i set)) (drop_all i set all)
+
+-- ---- one change more
+
+module _ (trees : List PathMap) (c : Change) where
+  fault_after-end : (done s : List Change) → fault_after trees done (s ++ c ∷ []) ≡ option_or (fault_after trees done s) (fault_of trees (effect trees (done ++ s)) c)
+  fault_after-end done [] = or_none (fault_of trees (effect trees done) c) ∙ ap (λ t. fault_of trees (effect trees t) c) (sym (append-nil done))
+    where
+      or_none : (o : Option TreeFault) → option_or o None ≡ o
+      or_none None = refl
+      or_none (Some f) = refl
+  fault_after-end done (d ∷ s) =
+      ap (option_or (fault_of trees (effect trees done) d)) (fault_after-end (done ++ d ∷ []) s ∙ ap (λ t. option_or (fault_after trees (done ++ d ∷ []) s) (fault_of trees (effect trees t) c)) (append_assoc done (d ∷ []) s))
+      ∙ or_assoc (fault_of trees (effect trees done) d) (fault_after trees (done ++ d ∷ []) s) (fault_of trees (effect trees (done ++ d ∷ s)) c)
+    where
+      or_assoc : (a b e : Option TreeFault) → option_or a (option_or b e) ≡ option_or (option_or a b) e
+      or_assoc None b e = refl
+      or_assoc (Some f) b e = refl
+
+pub fault-end : (trees : List PathMap) (s : List Change) (c : Change) → fault trees (s ++ c ∷ []) ≡ option_or (fault trees s) (fault_of trees (effect trees s) c)
+fault-end trees s c = fault_after-end trees c [] s
 
 -- ---- before the first change
 

@@ -1,10 +1,11 @@
 -- Changes, and lists of them.
-use Rattle.std.specs.Prelude.{◌≡◌, Bool, true, false, not, ◌&&◌, List, [], ◌∷◌, Option, Some, None, is_some, is_none, if◌then◌else◌}
+use Rattle.std.specs.Prelude.{◌≡◌, ℕ, Bool, true, false, not, ◌&&◌, List, [], ◌∷◌, Option, Some, None, is_some, is_none, if◌then◌else◌}
 use Rattle.std.specs.Option.{option_or}
 use Rattle.std.specs.Ordering.{is_lt}
 use Rattle.std.specs.List.{AllByRecursion, filter}
 use Rattle.std.specs.declared.cmp.Ordering.TheVariants.{Less}
 use Rattle.node_base.specs.Path.{Path, path_cmp, same_path, is_front, rest_after}
+use Rattle.node_base.specs.Props.{PropMap}
 use Rattle.node_base.specs.declared.node.Action.{Action}
 use Rattle.node_base.specs.declared.node.Action.TheVariants.{Modify, Add, Delete, Replace}
 use Rattle.node_base.specs.declared.node.NodeKind.{NodeKind}
@@ -95,3 +96,13 @@ IsInOrder (c ∷ s) = AllByRecursion (Precedes c) s × IsInOrder s
 abbrev pub IsNormal : List Change → Type 0
 IsNormal [] = Unit {0}
 IsNormal (c ∷ s) = IsWhole c × AllByRecursion (Precedes c) s × IsNormal s
+
+-- a change with this text and these properties, where they are given
+abbrev pub regiven : Option (List ℕ) → Option PropMap → Change → Change
+regiven text props c = record { path = c.path; action = c.action; kind = c.kind; source = c.source; props = option_or props c.props; text = option_or text c.text }
+
+-- a change of what is there that gives nothing
+pub record IsBare (c : Change) : Type 0 where
+  pub stays : settles c.action ≡ false
+  pub text : c.text ≡ None
+  pub props : c.props ≡ None

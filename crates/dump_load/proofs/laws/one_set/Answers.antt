@@ -1,0 +1,7 @@
+use Rattle.std.proofs.Common.{map}
+use Rattle.dump_load.specs.Records.{change_of}
+use Rattle.dump_load.proofs.OneSet.{one_set}
+use Rattle.dump_load.proofs.laws.one_set.Goals as goal
+
+pub returns : goal.returns
+returns c = λ trees rs. one_set trees (map change_of rs)
