@@ -35,7 +35,7 @@ counts_above x d q r h = at (rest_after q d) refl
     and_no false = refl
 
     at : (o : Option Path) → rest_after q d ≡ o → (is_some (rest_after q d) && not (x && same_path q d)) ≡ true
-    at None e = cc (ap (λ o. is_some (option_and_then (rest_after r) o)) e, longer)
+    at None e = cc longer
     at (Some []) e =
         let is = append_of_rest q d [] e in
         (λ i. is_some (e i) && not (x && (ap (same_path q) is ∙ same_path-append q []) i))

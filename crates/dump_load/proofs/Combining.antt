@@ -310,7 +310,7 @@ fits cs out w = none_any (λ c. is_none (stated cs c.path) || is_under cs c) cs 
         at : (d : Change) (oc od : Option Change) (same : Bool) → stated cs c.path ≡ oc → stated cs d.path ≡ od → same_path d.path c.path ≡ same
             → (is_front d.path c.path && not same && option_map_or (λ e. is_delete e.action) od false) ≡ false
         at d oc None same ec ed es = last_false (is_front d.path c.path && not same) false refl
-        at d None (Some x) same ec ed es = cc (there front rest c e, ap is_none ec)
+        at d None (Some x) same ec ed es = cc (there front rest c e)
         at d (Some y) (Some x) true ec ed es = ap (λ b. b && is_delete x.action) (last_false (is_front d.path c.path) false refl)
         at d (Some y) (Some x) false ec ed es =
             elim (is_delete x.action) as (λ b. is_delete x.action ≡ b → (is_front d.path c.path && true && b) ≡ false) [

@@ -1,30 +1,12 @@
 -- A normal set, change by change.
-use Rattle.std.proofs.Common.{◌≡◌, ℕ, suc, ◌+◌, ◌-◌, ◌<◌, Bool, true, false, not, ◌||◌, List, [], ◌∷◌, ◌++◌, length, take, drop, get_or, is_some, refl, sym, ap, subst, ◌∙◌, arith, add-one, drop-cons}
+use Rattle.std.proofs.Common.{◌≡◌, ℕ, suc, ◌+◌, ◌-◌, ◌<◌, List, [], ◌∷◌, ◌++◌, length, take, drop, get_or, sym, ap, subst, ◌∙◌, arith, add-one, drop-cons}
 use Rattle.std.proofs.lemmas.List.{take-append-drop}
 use Rattle.std.proofs.Math.Seq.{take-suc}
 use Rattle.dump_load.specs.declared.change.Change.{Change}
-use Rattle.dump_load.specs.Changes.{is_plain, is_described, Precedes, Follows, IsWhole, IsNormal}
+use Rattle.dump_load.specs.Changes.{Precedes, Follows, IsWhole, IsNormal}
 use Rattle.dump_load.proofs.Combining.{follows_later, follows_end}
 use Rattle.dump_load.proofs.Fillings.{normal_end}
 use Rattle.dump_load.proofs.Walk.{normal_follows, whole_in}
-
--- the test for a whole change
-abbrev pub is_whole : Change → Bool
-is_whole c = not (is_plain c) || is_described c.kind (is_some c.props) (is_some c.text)
-
-whole_of : (c : Change) → is_whole c ≡ true → IsWhole c
-whole_of c h plain = at (is_plain c) (is_described c.kind (is_some c.props) (is_some c.text)) plain h
-  where
-    at : (a b : Bool) → a ≡ true → (not a || b) ≡ true → b ≡ true
-    at true b p h = h
-    at false b p h = cc
-
-test_of : (c : Change) → IsWhole c → is_whole c ≡ true
-test_of c h = at (is_plain c) (is_described c.kind (is_some c.props) (is_some c.text)) h
-  where
-    at : (a b : Bool) → (a ≡ true → b ≡ true) → (not a || b) ≡ true
-    at true b h = h refl
-    at false b h = refl
 
 last_of : (s rest : List Change) (l c : Change) → Follows (s ++ l ∷ rest) c → Precedes l c
 last_of [] rest l c h = h.0
@@ -37,11 +19,11 @@ module _ (cs : List Change) (i : ℕ) (c : Change) (here : i < length cs) (is : 
   done_is : take (i + 1) cs ≡ take i cs ++ c ∷ []
   done_is = rw (add-one i) (take-suc cs i c here ∙ ap (λ y. take i cs ++ y ∷ []) (sym is))
 
-  pub not_whole : is_whole c ≡ false → IsNormal cs → ⊥
-  not_whole w n = cc (test_of c (whole_in (take i cs) (drop (i + 1) cs) c (subst IsNormal split_is n)), w)
+  pub not_whole : (IsWhole c → ⊥) → IsNormal cs → ⊥
+  not_whole apart n = apart (whole_in (take i cs) (drop (i + 1) cs) c (subst IsNormal split_is n))
 
-  pub normal_first : i ≡ 0 → is_whole c ≡ true → IsNormal (take (i + 1) cs)
-  normal_first e w = subst IsNormal (sym (done_is ∙ ap (λ j. take j cs ++ c ∷ []) e)) (whole_of c w, tt, tt)
+  pub normal_first : i ≡ 0 → IsWhole c → IsNormal (take (i + 1) cs)
+  normal_first e w = subst IsNormal (sym (done_is ∙ ap (λ j. take j cs ++ c ∷ []) e)) (w, tt, tt)
 
   module _ (l : Change) (some : i ≡ 0 → ⊥) (before : l ≡ get_or cs (i - 1) l) where
     front_is : take i cs ≡ take (i - 1) cs ++ l ∷ []
@@ -53,8 +35,8 @@ module _ (cs : List Change) (i : ℕ) (c : Change) (here : i < length cs) (is : 
     not_next apart n =
         apart (last_of (take (i - 1) cs) [] l c (subst (λ s. Follows s c) front_is (normal_follows (take i cs) (drop (i + 1) cs) c (subst IsNormal split_is n))))
 
-    pub normal_next : Precedes l c → is_whole c ≡ true → IsNormal (take i cs) → IsNormal (take (i + 1) cs)
+    pub normal_next : Precedes l c → IsWhole c → IsNormal (take i cs) → IsNormal (take (i + 1) cs)
     normal_next p w n =
         let front : IsNormal (take (i - 1) cs ++ l ∷ []) = subst IsNormal front_is n in
         let follows : Follows (take i cs) c = subst (λ s. Follows s c) (sym front_is) (follows_end (take (i - 1) cs) l c (follows_later (take (i - 1) cs) l c p.rises (normal_follows (take (i - 1) cs) [] l front)) p) in
-        subst IsNormal (sym done_is) (normal_end (take i cs) c n follows (whole_of c w))
+        subst IsNormal (sym done_is) (normal_end (take i cs) c n follows w)

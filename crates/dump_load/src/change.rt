@@ -1,6 +1,6 @@
 //! One change of a revision.
-ghost use Rattle.std.specs.Prelude.{◌≡◌, ◌||◌, not, is_some, IfOk};
-ghost use Rattle.dump_load.specs.Changes.{settles, is_delete, is_add, is_plain, brings, is_described};
+ghost use Rattle.std.specs.Prelude.{◌≡◌, true, false, IfOk};
+ghost use Rattle.dump_load.specs.Changes.{settles, is_delete, is_add, is_plain, brings, IsWhole};
 ghost use Rattle.dump_load.specs.Records.{change_of, record_of};
 
 use dump_text::{NodeRecord, PropPart};
@@ -72,7 +72,8 @@ impl Change {
     /// Whether it says all that is there, if it is an add or a replace that copies nothing: a directory has properties, a file a
     /// text too.
     pub fn is_whole(&self) -> bool
-        ensures { result ≡ (not (is_plain self.now) || is_described self.now.kind (is_some self.now.props) (is_some self.now.text)) }
+        ensures holds { result ≡ true → IsWhole self.now }
+        ensures fails { result ≡ false → ¬ IsWhole self.now }
     {
         let described = match self.kind {
             None => false,

@@ -4,8 +4,7 @@ ghost use Rattle.dump_load.specs.Changes.{IsNormal, Precedes};
 
 use crate::Change;
 use crate::change::is_delete;
-use crate::order::compare_paths;
-use node_base::rest_after;
+use node_base::{compare_paths, rest_after};
 use std::cmp::Ordering;
 
 // Whether a change stands before another: its path comes before, and isn't a deleted front.

@@ -1,34 +1,14 @@
 //! Changes in path order.
 ghost use Rattle.std.specs.Prelude.{◌≡◌, ◌+◌, ◌<◌, length, take, IfOk, if◌then◌else◌};
 ghost use Rattle.std.specs.List.Sorted.{IsPermutation};
-ghost use Rattle.node_base.specs.Path.{Path, path_cmp, same_path};
+ghost use Rattle.node_base.specs.Path.{Path, same_path};
 ghost use Rattle.dump_load.specs.Changes.{NoneFalls};
 ghost use Rattle.dump_load.specs.Records.{stated_at, paths_named};
 
 use crate::Change;
-use node_base::NodeName;
+use node_base::compare_paths;
 use std::alloc::AllocError;
 use std::cmp::Ordering;
-
-/// The order of two paths, name by name.
-pub fn compare_paths(a: &[NodeName], b: &[NodeName]) -> Ordering
-    ensures { result ≡ path_cmp a.now b.now }
-{
-    let Some((n, a)) = a.split_first() else {
-        return if b.is_empty() {
-            Ordering::Equal
-        } else {
-            Ordering::Less
-        };
-    };
-    let Some((m, b)) = b.split_first() else {
-        return Ordering::Greater;
-    };
-    match n.compare(m) {
-        Ordering::Equal => compare_paths(a, b),
-        first => first,
-    }
-}
 
 /// Changes in path order. Those of one path keep their order.
 pub fn in_path_order(changes: Vec<Change>) -> Result<Vec<Change>, AllocError>
