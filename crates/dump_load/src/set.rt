@@ -81,6 +81,17 @@ impl ChangeSet {
         self.changes.as_slice()
     }
 
+    /// The same set once more. Properties and texts are shared with it.
+    pub fn share(&self, alloc: Global) -> Result<ChangeSet, AllocError>
+        ensures { IfOk result (λ s. s ≡ self.now) }
+    {
+        let mut changes = Vec::with_capacity(alloc, self.changes.len())?;
+        for change in &self.changes {
+            changes.push(change.share(alloc)?)?;
+        }
+        Ok(ChangeSet { changes })
+    }
+
     /// The records that state its changes, in path order. Where the set came from records over some trees, these give the same
     /// set again over them.
     pub fn to_records(&self, alloc: Global) -> Result<Vec<NodeRecord>, AllocError>
