@@ -1,5 +1,5 @@
 -- What is read is a block of the grammar.
-use Rattle.std.proofs.Common.{◌≡◌, ℕ, zero, suc, ◌+◌, ◌-◌, ◌*◌, ◌≤◌, ◌<◌, ◌==◌, ◌&&◌, not, cond, Bool, true, false, T, List, [], ◌∷◌, ◌++◌, length, drop, get_or, eqb, nat_lt, Option, Some, None, refl, sym, ap, subst, ◌∙◌, append_assoc, append-nil, length-append, drop-cons, arith}
+use Rattle.std.proofs.Common.{◌≡◌, ℕ, suc, ◌+◌, ◌-◌, ◌≤◌, ◌<◌, ◌==◌, ◌&&◌, not, Bool, true, false, List, [], ◌∷◌, ◌++◌, length, drop, nat_lt, Option, Some, None, refl, sym, ap, subst, ◌∙◌, append_assoc, append-nil, length-append, drop-cons, arith}
 use Rattle.std.proofs.lemmas.Bool.{eqb-true}
 use Rattle.std.proofs.lemmas.Bool.Decides.{nat_tests}
 use Rattle.std.specs.Bool.{if◌then◌else◌}
@@ -13,8 +13,8 @@ use Rattle.node_base.specs.declared.prop_fault.PropFault.TheVariants.{BadProps, 
 use Rattle.node_base.specs.declared.block_part.Part.{Part}
 use Rattle.node_base.specs.declared.block_part.Part.TheVariants.{Tag, KeyBlank, KeyCount, Name, NameEnd, ValueTag, ValueBlank, ValueCount, Value, ValueEnd, Ending}
 use Rattle.node_base.specs.declared.block.BlockReader.{BlockReader}
-use Rattle.node_base.specs.Blocks.{Step, Next, Whole, Refused, Run, More, Done, Fault, of_step, run_block, new_block, part_step, settled, after, only, keep, go, judged_count, name_is, value_at, ending}
-use Rattle.node_base.specs.BlockGrammar.{Spells, property, block_end, IsBlock, MayFollow, MayStand, with_all}
+use Rattle.node_base.specs.Blocks.{Step, Next, Whole, Refused, More, Done, Fault, of_step, run_block, new_block, part_step, settled, after, only, keep, go, judged_count, name_is, value_at, ending}
+use Rattle.node_base.specs.BlockGrammar.{Spells, property, IsBlock, MayStand, with_all}
 use Rattle.node_base.specs.BlockLaws.{ReadBlock}
 use Rattle.node_base.proofs.BlockRuns.{after-whole, after-refused}
 use Rattle.node_base.proofs.BlockSpelled.{both, property_text}

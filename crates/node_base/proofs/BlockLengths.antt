@@ -1,5 +1,5 @@
 -- How many bytes blocks have.
-use Rattle.std.proofs.Common.{◌≡◌, ℕ, suc, ◌+◌, ◌*◌, ◌/◌, ◌%◌, ◌-◌, ◌≤◌, ◌<◌, ◌^◌, ◌&&◌, not, cond, Bool, true, false, List, [], ◌∷◌, ◌++◌, length, take, get_or, nat_le, refl, sym, ap, ◌∙◌, length-append, append_assoc, append-nil, arith}
+use Rattle.std.proofs.Common.{◌≡◌, ℕ, suc, ◌+◌, ◌/◌, ◌%◌, ◌≤◌, ◌<◌, not, cond, true, false, List, [], ◌∷◌, ◌++◌, length, take, get_or, nat_le, refl, sym, ap, ◌∙◌, length-append, append_assoc, append-nil, arith}
 use Rattle.std.proofs.lemmas.Bool.Decides.{nat_tests}
 use Rattle.std.proofs.lemmas.Fmt.{decimal_digit, decimal_step, length-decimal-le}
 use Rattle.std.proofs.lemmas.List.{take_more, take_all}
@@ -9,10 +9,10 @@ use Rattle.std.specs.FinMap as map
 use Rattle.node_base.specs.Path.{Name}
 use Rattle.node_base.specs.Entries.{Entries, passing}
 use Rattle.node_base.specs.Props.{PropMap, IsProps, is_sync}
-use Rattle.node_base.specs.BlockGrammar.{property, block_end}
+use Rattle.node_base.specs.BlockGrammar.{block_end}
 use Rattle.node_base.specs.BlockCanon.{canon_property, canon_block}
 use Rattle.node_base.proofs.PropLemmas.{len_retained}
-use Rattle.node_base.proofs.BlockSpelled.{both, property_length}
+use Rattle.node_base.proofs.BlockSpelled.{both}
 
 pub one_digit : (n : ℕ) → n < 10 → length (decimal n) ≡ 1
 one_digit n h = ap length (decimal_digit n h)

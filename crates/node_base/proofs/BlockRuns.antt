@@ -1,15 +1,13 @@
 -- Runs over a property block.
-use Rattle.std.proofs.Common.{◌≡◌, ℕ, zero, suc, ◌+◌, ◌-◌, ◌*◌, ◌≤◌, ◌<◌, Bool, true, false, List, [], ◌∷◌, ◌++◌, length, take, drop, get_or, Err, Option, nat_lt, subst, refl, sym, ap, ◌∙◌, append_assoc, append-nil, length-append, arith}
+use Rattle.std.proofs.Common.{◌≡◌, ℕ, zero, suc, ◌+◌, ◌-◌, ◌<◌, true, List, [], ◌∷◌, ◌++◌, length, take, drop, get_or, Err, Option, nat_lt, subst, refl, sym, ap, ◌∙◌, append_assoc, append-nil, length-append, arith}
 use Rattle.std.proofs.lemmas.Bool.Decides.{nat_tests}
 use Rattle.std.proofs.lemmas.List.{nil_from_length, drop_more, drop-drop, length-take, take-append-drop}
-use Rattle.std.specs.Bool.{if◌then◌else◌}
 use Rattle.node_base.specs.Props.{PropMap}
 use Rattle.node_base.specs.declared.prop_fault.PropFault.{PropFault}
 use Rattle.node_base.specs.declared.prop_fault.PropFault.TheVariants.{OutOfMemory}
-use Rattle.node_base.specs.declared.block_part.Part.{Part}
 use Rattle.node_base.specs.declared.block_part.Part.TheVariants.{Name, Value}
 use Rattle.node_base.specs.declared.block.BlockReader.{BlockReader}
-use Rattle.node_base.specs.Blocks.{Step, Next, Whole, Refused, Run, More, Done, Fault, of_step, run_block, block_step, one_more, after, held_more, MayKeep, StepIs, BlockIs}
+use Rattle.node_base.specs.Blocks.{Next, Whole, Run, Done, Fault, of_step, run_block, block_step, one_more, after, held_more, MayKeep, StepIs, BlockIs}
 
 -- a run goes on by a run
 pub after-append : (s : Run) (a b : List ℕ) → after s (a ++ b) ≡ after (after s a) b

@@ -1,14 +1,13 @@
 -- Blocks of the grammar are read.
-use Rattle.std.proofs.Common.{◌≡◌, ℕ, zero, suc, ◌+◌, ◌-◌, ◌*◌, ◌≤◌, ◌<◌, ◌==◌, ◌&&◌, not, Bool, true, false, List, [], ◌∷◌, ◌++◌, length, nat_lt, Option, Some, None, subst, refl, sym, ap, ◌∙◌, append_assoc, append-nil, length-append, arith}
+use Rattle.std.proofs.Common.{◌≡◌, ℕ, ◌+◌, ◌-◌, ◌≤◌, ◌<◌, ◌==◌, ◌&&◌, Bool, true, false, List, [], ◌∷◌, ◌++◌, length, nat_lt, Option, Some, None, refl, ap, ◌∙◌, append_assoc, append-nil, length-append, arith}
 use Rattle.std.proofs.lemmas.Bool.Decides.{nat_tests}
 use Rattle.std.specs.Bool.{if◌then◌else◌}
-use Rattle.node_base.specs.Numbers.{is_nil, is_digit, all_bytes, number_of}
+use Rattle.node_base.specs.Numbers.{is_digit, all_bytes, number_of}
 use Rattle.node_base.specs.declared.prop_fault.PropFault.TheVariants.{BadProps}
 use Rattle.node_base.specs.declared.block_part.Part.{Part}
-use Rattle.node_base.specs.declared.block_part.Part.TheVariants.{Tag, KeyBlank, KeyCount, Name, NameEnd, ValueTag, ValueBlank, ValueCount, Value, ValueEnd, Ending}
+use Rattle.node_base.specs.declared.block_part.Part.TheVariants.{Tag, KeyBlank, KeyCount, Name, NameEnd, ValueTag, ValueBlank, ValueCount, Value, ValueEnd}
 use Rattle.node_base.specs.declared.block.BlockReader.{BlockReader}
-use Rattle.node_base.specs.Blocks.{Step, Next, Whole, Refused, Run, More, Done, Fault, of_step, run_block, block_step, part_step, settled, one_more, after}
-use Rattle.node_base.specs.Blocks.{new_block}
+use Rattle.node_base.specs.Blocks.{Next, Refused, Done, of_step, run_block, part_step, settled, after}
 use Rattle.node_base.specs.BlockGrammar.{Spells, property, block_end, IsBlock, MayFollow, MayStand, with_all}
 use Rattle.std.specs.FinMap as map
 use Rattle.node_base.specs.Entries.{Entries}

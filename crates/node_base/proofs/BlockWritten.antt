@@ -1,24 +1,24 @@
 -- Blocks of the grammar are read as their maps, and what is written is in the grammar.
-use Rattle.std.proofs.Common.{◌≡◌, ℕ, zero, suc, ◌+◌, ◌-◌, ◌*◌, ◌≤◌, ◌<◌, ◌^◌, ◌&&◌, not, cond, Bool, true, false, T, List, [], ◌∷◌, ◌++◌, length, nat_le, Option, Some, None, refl, sym, ap, subst, ◌∙◌, append_assoc, append-nil, arith}
+use Rattle.std.proofs.Common.{◌≡◌, ℕ, ◌+◌, ◌≤◌, ◌<◌, ◌^◌, ◌&&◌, not, cond, Bool, true, false, T, List, [], ◌∷◌, ◌++◌, length, nat_le, Option, Some, None, refl, sym, ap, subst, ◌∙◌, append_assoc, append-nil, arith}
 use Rattle.std.proofs.lemmas.Bool.Decides.{nat_tests}
 use Rattle.std.proofs.lemmas.Fmt.{decimal_nonempty, digits_decimal, digits_value-decimal}
-use Rattle.std.proofs.lemmas.Str.Parse.{IsDigitsTest, FoldsDigits, IsNumeralModel, numerals_by_fold}
+use Rattle.std.proofs.lemmas.Str.Parse.{IsNumeralModel, numerals_by_fold}
 use Rattle.std.specs.Fmt.{decimal}
 use Rattle.std.specs.Option.{is_some, IfSome}
 use Rattle.std.specs.List.{flat_map}
 use Rattle.std.specs.FinMap as map
-use Rattle.std.specs.FinMap.{find, entries_sorted, entries-from_sorted, from_entries_push, get-from_entries, get-from_sorted, get-entries, same_map, same_entries_map}
-use Rattle.std.specs.FinMap.Entries.{put, by_order, below_all, is_sorted-put}
-use Rattle.std.specs.Ordering.{is_lt, is_eq, eq_by_cmp, ordering_reverse}
+use Rattle.std.specs.FinMap.{find, entries_sorted, entries-from_sorted, from_entries_push, get-from_entries, get-from_sorted, get-entries, same_entries_map}
+use Rattle.std.specs.FinMap.Entries.{put, below_all}
+use Rattle.std.specs.Ordering.{is_lt, is_eq, ordering_reverse}
 use Rattle.std.specs.declared.cmp.Ordering.{Ordering}
 use Rattle.std.specs.declared.cmp.Ordering.TheVariants.{Less, Equal, Greater}
 use Rattle.std.proofs.lemmas.Cmp.{tied_itself}
 use Rattle.node_base.specs.Path.{Name, name_cmp, names_total, names_exact}
-use Rattle.node_base.specs.Numbers.{is_digit, all_bytes, number_after, number_of}
+use Rattle.node_base.specs.Numbers.{is_digit, all_bytes, number_after}
 use Rattle.node_base.specs.Entries.{Entries, IsRising, passing}
 use Rattle.node_base.specs.Props.{PropMap, IsProps, is_prop_name, is_sync, props_fit}
 use Rattle.node_base.specs.Blocks.{run_block, new_block, Done}
-use Rattle.node_base.specs.BlockGrammar.{Spells, IsBlock, MayFollow, MayStand, property, block_end, with_all}
+use Rattle.node_base.specs.BlockGrammar.{Spells, IsBlock, MayStand, block_end, with_all}
 use Rattle.node_base.specs.BlockCanon.{canon_block, canon_property}
 use Rattle.node_base.proofs.EntryLemmas.{both_true, find_absent}
 use Rattle.node_base.proofs.PropLemmas.{listed, map_put, map_none, len_retained}

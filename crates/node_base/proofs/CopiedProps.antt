@@ -1,12 +1,12 @@
 -- Copied properties beside a mirror's own.
-use Rattle.std.proofs.Common.{◌≡◌, ℕ, zero, suc, ◌+◌, ◌≤◌, Bool, true, false, cond, not, ◌&&◌, T, List, [], ◌∷◌, ◌++◌, length, drop, nat_le, Option, Some, None, refl, sym, ap, subst, ◌∙◌, arith}
+use Rattle.std.proofs.Common.{◌≡◌, ℕ, ◌≤◌, Bool, true, false, cond, not, ◌&&◌, List, [], ◌∷◌, ◌++◌, length, drop, nat_le, Option, Some, None, refl, sym, ap, subst, ◌∙◌}
 use Rattle.std.specs.Option.{option_or, IfSome}
 use Rattle.std.specs.Bool.{if◌then◌else◌}
 use Rattle.std.specs.FinMap as map
 use Rattle.std.specs.FinMap.{find, entries_sorted, get-entries, get-from_entries, get-insert, same_map}
 use Rattle.node_base.specs.Path.{Name, name_cmp, names_total, names_exact, same_name}
 use Rattle.node_base.specs.Entries.{Entries, IsRising}
-use Rattle.node_base.specs.Props.{PropMap, IsProps, is_prop_name, is_sync, sync_part, without_sync, copied_beside, props_fit}
+use Rattle.node_base.specs.Props.{PropMap, IsProps, is_prop_name, is_sync, sync_part, without_sync, copied_beside}
 use Rattle.node_base.proofs.PathLemmas.{name_of_same}
 use Rattle.node_base.proofs.EntryLemmas.{both_true, find_absent}
 use Rattle.node_base.proofs.PropLemmas.{get-retained, dropped_all}

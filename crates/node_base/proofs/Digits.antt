@@ -1,6 +1,6 @@
 -- What follows from the definitions of numbers.
-use Rattle.std.proofs.Common.{◌≡◌, ℕ, ◌+◌, ◌-◌, ◌*◌, ◌≤◌, ◌<◌, List, [], ◌∷◌, ◌++◌, refl, arith}
-use Rattle.node_base.specs.Numbers.{number_after, number_of}
+use Rattle.std.proofs.Common.{◌≡◌, ℕ, ◌+◌, ◌-◌, ◌*◌, ◌≤◌, List, [], ◌∷◌, ◌++◌, refl, arith}
+use Rattle.node_base.specs.Numbers.{number_after}
 
 pub number_after-ge : (n : ℕ) (ds : List ℕ) → n ≤ number_after n ds
 number_after-ge n [] = omega arith

@@ -1,4 +1,5 @@
 pub mod BlockConverse
+pub mod BlockKept
 pub mod BlockLengths
 pub mod BlockRuns
 pub mod BlockSpelled

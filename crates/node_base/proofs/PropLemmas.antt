@@ -1,8 +1,7 @@
 -- What follows from the definitions of property maps.
-use Rattle.std.proofs.Common.{◌≡◌, ℕ, zero, suc, ◌+◌, ◌-◌, ◌<◌, ◌≤◌, Bool, true, false, cond, not, ◌&&◌, T, List, [], ◌∷◌, ◌++◌, length, drop, set, get_or, nat_le, nat_lt, Option, Some, None, IsSome, refl, sym, ap, subst, ◌∙◌, append-nil, arith}
+use Rattle.std.proofs.Common.{◌≡◌, ℕ, zero, suc, ◌+◌, ◌-◌, ◌<◌, ◌≤◌, Bool, true, false, cond, not, ◌&&◌, List, [], ◌∷◌, ◌++◌, length, drop, set, get_or, nat_le, nat_lt, Option, Some, None, IsSome, refl, sym, ap, subst, ◌∙◌, append-nil, arith}
 use Rattle.std.proofs.lemmas.Bool.Decides.{nat_tests}
-use Rattle.std.specs.declared.cmp.Ordering.{Ordering}
-use Rattle.std.specs.declared.cmp.Ordering.TheVariants.{Less, Equal, Greater}
+use Rattle.std.specs.declared.cmp.Ordering.TheVariants.{Equal}
 use Rattle.std.specs.Option.{is_some, IfSome}
 use Rattle.std.specs.List.{insert, remove}
 use Rattle.std.specs.Bool.{if◌then◌else◌}
@@ -14,7 +13,7 @@ use Rattle.std.specs.FinMap.Entries.{put, where_key, is_sorted-put, is_sorted-wh
 use Rattle.node_base.specs.Path.{Name, name_cmp, names_total, names_exact, same_name}
 use Rattle.node_base.specs.Entries.{Entries, IsRising, place, passing}
 use Rattle.node_base.specs.Props.{PropMap, IsProps, is_prop_name, is_sync, sync_part, without_sync, props_fit, fits_with}
-use Rattle.node_base.proofs.PathLemmas.{name_of_same, same_name_itself}
+use Rattle.node_base.proofs.PathLemmas.{name_of_same}
 use Rattle.node_base.proofs.EntryLemmas.{differs, find_at_place, set_at_place, insert_at_place, remove_at_place}
 
 -- a test answers alike at names that tie
@@ -216,6 +215,18 @@ pub fits_other : (m : PropMap) (k : Name) → props_fit m ≡ true → map.conta
 fits_other m k fits new other =
     let rest : nat_le (map.len (sync_part m)) 16 ≡ true = (both_of _ _ fits).1 in
     rw (len_with m is_sync k [], len_with m (λ n. not (is_sync n)) k [], new, other, rest) (and_true _ _ (sym (le_lt (map.len (without_sync m)) 256)))
+
+passing_some : (p : Name → Bool) (es : Entries) → passing p es ≤ length es
+passing_some p [] = omega arith
+passing_some p (e ∷ es) =
+    let r = passing_some p es in
+    elim (p e.0) as (λ b. cond b 1 0 + passing p es ≤ suc (length es)) [ true ↦ omega (arith, r) | false ↦ omega (arith, r) ]
+
+-- few names in all, and so few that don't begin with svn:sync-
+pub few_others : (m : PropMap) (n k : ℕ) → n ≡ map.len m → n < k → nat_lt n k ≡ nat_lt (map.len (without_sync m)) k
+few_others m n k e h =
+    let le : map.len (without_sync m) ≤ map.len m = omega (arith, len_retained m (λ x. not (is_sync x)), passing_some (λ x. not (is_sync x)) (map.entries m), len-entries m) in
+    grind (arith, nat_tests)
 
 -- whether a call may put a value
 pub may_put : (m : PropMap) (k n : Name) (v : List ℕ) (b : Bool) → b ≡ fits_with m n → n ≡ k → props_fit (map.insert m k v) ≡ b

@@ -1,13 +1,10 @@
 -- What follows from the rule of property names.
-use Rattle.std.proofs.Common.{◌≡◌, ◌≢◌, ℕ, ◌≤◌, ◌<◌, Bool, true, false, not, ◌&&◌, List, [], ◌∷◌, length, nat_lt, Result, Ok, Err, refl, sym, ap, ◌∙◌, arith}
+use Rattle.std.proofs.Common.{◌≡◌, ℕ, ◌≤◌, ◌<◌, Bool, true, false, ◌&&◌, List, [], ◌∷◌, length, nat_lt, Ok, Err, refl, arith}
 use Rattle.std.proofs.lemmas.Bool.Decides.{nat_tests}
 use Rattle.std.proofs.lemmas.Str.{IsUtf8-from_is_utf8, is_utf8-from_IsUtf8}
 use Rattle.std.specs.Str.{IsUtf8, is_utf8}
-use Rattle.std.specs.Bool.{if◌then◌else◌}
-use Rattle.node_base.specs.Path.{Name}
 use Rattle.node_base.specs.Numbers.{is_nil, all_bytes}
-use Rattle.node_base.specs.declared.prop_fault.PropFault.{PropFault}
-use Rattle.node_base.specs.declared.prop_fault.PropFault.TheVariants.{BadProps, TooLong}
+use Rattle.node_base.specs.declared.prop_fault.PropFault.TheVariants.{BadProps}
 use Rattle.node_base.specs.Props.{is_prop_byte, is_prop_name, prop_name_read}
 
 lt_true : (a b : ℕ) → a < b → nat_lt a b ≡ true

@@ -1,5 +1,5 @@
 -- What property blocks are, by their spelling, apart from any order of reading.
-use Rattle.std.specs.Prelude.{◌≡◌, ℕ, ◌<◌, ◌≤◌, Bool, true, false, List, [], ◌∷◌, ◌++◌, length}
+use Rattle.std.specs.Prelude.{◌≡◌, ℕ, ◌<◌, ◌≤◌, true, false, List, [], ◌∷◌, ◌++◌, length}
 use Rattle.std.specs.FinMap as map
 use Rattle.node_base.specs.Numbers.{is_digit, all_bytes, number_of}
 use Rattle.node_base.specs.Entries.{Entries}

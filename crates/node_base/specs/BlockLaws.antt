@@ -1,10 +1,10 @@
 -- Laws of property blocks.
-use Rattle.std.specs.Prelude.{◌≡◌, ℕ, List, [], ◌++◌, length}
+use Rattle.std.specs.Prelude.{◌≡◌, ℕ, List, ◌++◌, length}
 use Rattle.std.specs.FinMap as map
 use Rattle.node_base.specs.Entries.{Entries}
 use Rattle.node_base.specs.Props.{PropMap, IsProps}
 use Rattle.node_base.specs.Blocks.{Run, run_block, new_block, after, Done}
-use Rattle.node_base.specs.BlockGrammar.{IsBlock, MayStand, with_all}
+use Rattle.node_base.specs.BlockGrammar.{IsBlock, MayStand}
 use Rattle.node_base.specs.BlockCanon.{canon_block}
 
 -- a block of the grammar within the limits is read as its map, whatever follows

@@ -1,5 +1,5 @@
 -- Property blocks, byte by byte and whole.
-use Rattle.std.specs.Prelude.{◌≡◌, ℕ, ◌+◌, ◌-◌, ◌==◌, ◌&&◌, ◌||◌, not, nat_le, nat_lt, Bool, true, false, List, [], ◌∷◌, ◌++◌, length, take, drop, ◌≤◌, Option, Some, None, Result, Ok, Err, if◌then◌else◌, slice_index_or}
+use Rattle.std.specs.Prelude.{◌≡◌, ℕ, ◌+◌, ◌-◌, ◌==◌, ◌&&◌, not, nat_lt, Bool, true, false, List, [], ◌∷◌, ◌++◌, length, drop, ◌≤◌, Option, Some, None, Result, Ok, Err, if◌then◌else◌, slice_index_or}
 use Rattle.std.specs.FinMap as map
 use Rattle.node_base.specs.Numbers.{is_digit, number_of}
 use Rattle.node_base.specs.Props.{PropMap, is_prop_name, props_fit, fits_with}

@@ -1,10 +1,13 @@
 pub mod BlockCanon
 pub mod BlockGrammar
+pub mod BlockKept
 pub mod BlockLaws
 pub mod Blocks
 pub mod Entries
+pub mod FaultRefusals
 pub mod Limits
 pub mod Names
+pub mod NodeEdits
 pub mod Numbers
 pub mod Path
 pub mod PathText

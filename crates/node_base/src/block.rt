@@ -3,6 +3,7 @@ ghost use Rattle.std.specs.Prelude.{◌≡◌, ◌+◌, ◌<◌, ◌≤◌, ◌^
 ghost use Rattle.std.specs.FinMap as map;
 ghost use Rattle.node_base.specs.Numbers.{is_digit, number_of};
 ghost use Rattle.node_base.specs.Blocks.{StepIs, BlockIs, MayKeep, held_more, run_block, part_step, block_step, keep, go, only, name_is, value_is, new_block, unfinished};
+ghost use Rattle.node_base.specs.BlockKept.{kept_bytes, kept_after};
 ghost use Rattle.node_base.specs.declared.block_part.Part.TheVariants.{KeyCount, ValueCount, Ending};
 
 use crate::block_part::Part;
@@ -272,7 +273,18 @@ impl BlockReader {
 
     /// Takes bytes up to the block's end. The answer is how many of them there were up to it, where it came.
     /// BadProps or TooLong in the piece that brings the byte that shows it; after an error the reader isn't to be fed.
+    /// What it keeps never grows by more than the bytes that come: nothing is kept for what is announced alone.
+    #[tactic(auto, using(crate::proofs::BlockKept::feed_kept))]
     pub fn feed(&mut self, piece: &[u8]) -> Result<Option<usize>, PropFault>
+        ensures run { BlockIs result self.new piece.now (run_block self.old piece.now) }
+        ensures moves { IfOk result (λ o. IfSome o (λ k. (0 < k) × (k ≤ length piece.now))) }
+        ensures kept { IfOk result (λ o. kept_after o self.new ≤ kept_bytes self.old + length piece.now) }
+    {
+        self.feed_all(piece)
+    }
+
+    // Takes bytes up to the block's end.
+    fn feed_all(&mut self, piece: &[u8]) -> Result<Option<usize>, PropFault>
         ensures run { BlockIs result self.new piece.now (run_block self.old piece.now) }
         ensures moves { IfOk result (λ o. IfSome o (λ k. (0 < k) × (k ≤ length piece.now))) }
     {
@@ -300,9 +312,10 @@ impl BlockReader {
         self.held.len()
     }
 
-    /// The properties that were read leave the reader.
+    /// The properties that were read leave the reader, which is otherwise as it was.
     pub fn take(&mut self) -> Props
-        ensures { result ≡ self.old.props }
+        ensures read { result ≡ self.old.props }
+        ensures left { self.new ≡ record self.old { props = map.empty } }
     {
         mem::replace(&mut self.props, Props::empty())
     }

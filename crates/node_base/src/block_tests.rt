@@ -12,8 +12,8 @@ enum Answer {
     Refused(PropFault),
 }
 
-// What a reader answers to bytes that come so many at a time.
-fn fed(alloc: Global, announced: u64, bytes: &[u8], by: usize) -> Answer {
+// What a reader answers to bytes that come so many at a time. Want of memory is passed on.
+fn fed(alloc: Global, announced: u64, bytes: &[u8], by: usize) -> Result<Answer, PropFault> {
     let mut reader = BlockReader::new(alloc, announced);
     let by = by.max(1);
     for at in 0..bytes.len() {
@@ -22,15 +22,16 @@ fn fed(alloc: Global, announced: u64, bytes: &[u8], by: usize) -> Answer {
         }
         let end = at.saturating_add(by).min(bytes.len());
         match reader.feed(&bytes[at..end]) {
-            Err(fault) => return Answer::Refused(fault),
-            Ok(Some(count)) => return Answer::Whole(at.saturating_add(count), reader.take()),
+            Err(PropFault::OutOfMemory) => return Err(PropFault::OutOfMemory),
+            Err(fault) => return Ok(Answer::Refused(fault)),
+            Ok(Some(count)) => return Ok(Answer::Whole(at.saturating_add(count), reader.take())),
             Ok(None) => {}
         }
         if reader.held() > end {
-            return Answer::GoesOn;
+            return Ok(Answer::GoesOn);
         }
     }
-    Answer::GoesOn
+    Ok(Answer::GoesOn)
 }
 
 fn are_alike(these: &Answer, those: &Answer) -> bool {
@@ -43,26 +44,26 @@ fn are_alike(these: &Answer, those: &Answer) -> bool {
 }
 
 // The fault that bytes are refused with, whole and byte by byte.
-fn fault_of(alloc: Global, announced: u64, bytes: &[u8]) -> Option<PropFault> {
-    let whole = fed(alloc, announced, bytes, 1_000_000);
-    if !are_alike(&whole, &fed(alloc, announced, bytes, 1)) {
-        return None;
+fn fault_of(alloc: Global, announced: u64, bytes: &[u8]) -> Result<Option<PropFault>, PropFault> {
+    let whole = fed(alloc, announced, bytes, 1_000_000)?;
+    if !are_alike(&whole, &fed(alloc, announced, bytes, 1)?) {
+        return Ok(None);
     }
     match whole {
-        Answer::Refused(fault) => Some(fault),
-        _ => None,
+        Answer::Refused(fault) => Ok(Some(fault)),
+        _ => Ok(None),
     }
 }
 
 // How many properties bytes are read as, whole and byte by byte.
-fn count_of(alloc: Global, announced: u64, bytes: &[u8]) -> Option<usize> {
-    let whole = fed(alloc, announced, bytes, 1_000_000);
-    if !are_alike(&whole, &fed(alloc, announced, bytes, 1)) {
-        return None;
+fn count_of(alloc: Global, announced: u64, bytes: &[u8]) -> Result<Option<usize>, PropFault> {
+    let whole = fed(alloc, announced, bytes, 1_000_000)?;
+    if !are_alike(&whole, &fed(alloc, announced, bytes, 1)?) {
+        return Ok(None);
     }
     match whole {
-        Answer::Whole(_, props) => Some(props.len()),
-        _ => None,
+        Answer::Whole(_, props) => Ok(Some(props.len())),
+        _ => Ok(None),
     }
 }
 
@@ -80,14 +81,20 @@ fn block_of(alloc: Global, sync: usize, others: usize) -> Result<Vec<u8>, Fail> 
 }
 
 // The faults of cases: the announced length, the bytes, and what they show.
-fn assert_faults(rt: &impl Abort, alloc: Global, want: PropFault, cases: &[(u64, &[u8], &str)]) {
+fn assert_faults(
+    rt: &impl Abort,
+    alloc: Global,
+    want: PropFault,
+    cases: &[(u64, &[u8], &str)],
+) -> Result<(), Fail> {
     for (announced, bytes, shows) in cases {
-        assert_eq!(rt; fault_of(alloc, *announced, *bytes), Some(want), "{shows}");
+        assert_eq!(rt; fault_of(alloc, *announced, *bytes)?, Some(want), "{shows}");
     }
+    Ok(())
 }
 
 #[test]
-fn refuses_lines_at_the_byte_that_shows_it(rt: HostRuntime) {
+fn refuses_lines_at_the_byte_that_shows_it(rt: HostRuntime) -> Result<(), Fail> {
     let cases = [
         (
             9,
@@ -102,11 +109,11 @@ fn refuses_lines_at_the_byte_that_shows_it(rt: HostRuntime) {
         (6, b"K 1\np\n", "an end inside a property"),
         (40, b"K 1\np\nV 1\nx\nK 1\np", "a name that comes again"),
     ];
-    assert_faults(&rt, rt.alloc(), PropFault::BadProps, cases.as_slice());
+    assert_faults(&rt, rt.alloc(), PropFault::BadProps, cases.as_slice())
 }
 
 #[test]
-fn refuses_names_outside_the_rule(rt: HostRuntime) {
+fn refuses_names_outside_the_rule(rt: HostRuntime) -> Result<(), Fail> {
     let cases = [
         (21, b"K 0\n".as_slice(), "an empty name"),
         (23, b"K 2\na\x01", "a control byte"),
@@ -116,11 +123,11 @@ fn refuses_names_outside_the_rule(rt: HostRuntime) {
         (23, b"K 2\n\xc0\x80", "an overlong zero"),
         (24, b"K 3\n\xed\xa0\x80", "a surrogate"),
     ];
-    assert_faults(&rt, rt.alloc(), PropFault::BadProps, cases.as_slice());
+    assert_faults(&rt, rt.alloc(), PropFault::BadProps, cases.as_slice())
 }
 
 #[test]
-fn refuses_numbers_past_the_limits(rt: HostRuntime) {
+fn refuses_numbers_past_the_limits(rt: HostRuntime) -> Result<(), Fail> {
     let cases = [
         (9_999, b"K 256\n".as_slice(), "a name of 256 bytes"),
         (10, b"K 256\n", "the limit before the room"),
@@ -128,26 +135,27 @@ fn refuses_numbers_past_the_limits(rt: HostRuntime) {
         (9_999, b"K 99999999999999999999\n", "a number past 2^64"),
         (99_999, b"K 1\np\nV 65537\n", "a value of 65,537 bytes"),
     ];
-    assert_faults(&rt, rt.alloc(), PropFault::TooLong, cases.as_slice());
+    assert_faults(&rt, rt.alloc(), PropFault::TooLong, cases.as_slice())
 }
 
 #[test]
-fn reads_blocks_of_any_order(rt: HostRuntime) {
+fn reads_blocks_of_any_order(rt: HostRuntime) -> Result<(), Fail> {
     let cases = [
         (10, b"PROPS-END\n".as_slice(), 0),
         (34, b"K 1\nz\nV 1\n1\nK 1\na\nV 1\n2\nPROPS-END\nmore", 2),
         (25, b"K 002\n..\nV 00\n\nPROPS-END\n", 1),
     ];
     for (announced, bytes, count) in cases.as_slice() {
-        assert_eq!(rt; count_of(rt.alloc(), *announced, *bytes), Some(*count));
+        assert_eq!(rt; count_of(rt.alloc(), *announced, *bytes)?, Some(*count));
     }
+    Ok(())
 }
 
 #[test]
 fn reads_as_many_properties_as_may_stand(rt: HostRuntime) -> Result<(), Fail> {
     let full = block_of(rt.alloc(), 16, 256)?;
     assert_eq!(rt;
-        count_of(rt.alloc(), full.len() as u64, full.as_slice()),
+        count_of(rt.alloc(), full.len() as u64, full.as_slice())?,
         Some(272)
     );
     Ok(())
@@ -156,7 +164,7 @@ fn reads_as_many_properties_as_may_stand(rt: HostRuntime) -> Result<(), Fail> {
 fn assert_too_many(rt: &impl Abort, alloc: Global, sync: usize, others: usize) -> Result<(), Fail> {
     let block = block_of(alloc, sync, others)?;
     assert_eq!(rt;
-        fault_of(alloc, block.len() as u64, block.as_slice()),
+        fault_of(alloc, block.len() as u64, block.as_slice())?,
         Some(PropFault::TooLong)
     );
     Ok(())
@@ -171,18 +179,19 @@ fn refuses_one_property_more(rt: HostRuntime) -> Result<(), Fail> {
 const SMALL: &[u8] = b"K 1\na\nV 2\nxy\nK 02\n\xc3\xa9\nV 0\n\nPROPS-END\n";
 
 #[test]
-fn cuts_and_short_announcements(rt: HostRuntime) {
+fn cuts_and_short_announcements(rt: HostRuntime) -> Result<(), Fail> {
     let alloc = rt.alloc();
     let announced = SMALL.len() as u64;
     for end in 0..SMALL.len() {
-        let cut = fed(alloc, announced, &SMALL[..end], 1_000);
+        let cut = fed(alloc, announced, &SMALL[..end], 1_000)?;
         assert!(rt; are_alike(&cut, &Answer::GoesOn), "cut at {end}");
         assert_eq!(rt;
-            fault_of(alloc, end as u64, SMALL),
+            fault_of(alloc, end as u64, SMALL)?,
             Some(PropFault::BadProps),
             "announced {end}"
         );
     }
+    Ok(())
 }
 
 // Whether a block with another byte has the same answer however it is cut.
@@ -192,9 +201,9 @@ fn is_steady(alloc: Global, at: usize, byte: u8) -> Result<bool, Fail> {
         block[at] = byte;
     }
     let announced = SMALL.len() as u64;
-    let whole = fed(alloc, announced, block.as_slice(), 1_000);
-    let by_one = fed(alloc, announced, block.as_slice(), 1);
-    let by_three = fed(alloc, announced, block.as_slice(), 3);
+    let whole = fed(alloc, announced, block.as_slice(), 1_000)?;
+    let by_one = fed(alloc, announced, block.as_slice(), 1)?;
+    let by_three = fed(alloc, announced, block.as_slice(), 3)?;
     Ok(are_alike(&whole, &by_one) && are_alike(&whole, &by_three))
 }
 
@@ -238,7 +247,7 @@ fn writes_in_the_order_of_the_names(rt: HostRuntime) -> Result<(), Fail> {
     let want =
         b"K 1\na\nV 1\n\n\nK 10\nsvn:sync-x\nV 10\n0123456789\nK 1\nz\nV 0\n\nPROPS-END\n".as_slice();
     assert!(rt; block.as_slice() == want);
-    let back = fed(alloc, want.len() as u64, want, 7);
+    let back = fed(alloc, want.len() as u64, want, 7)?;
     assert!(rt; are_alike(&back, &Answer::Whole(want.len(), props)));
     Ok(())
 }
@@ -292,13 +301,24 @@ fn sync_names_stay_with_their_mirror(rt: HostRuntime) -> Result<(), Fail> {
     Ok(())
 }
 
+// The fault that bytes are refused as a name with. Want of memory is passed on.
+fn name_fault(alloc: Global, bytes: &[u8]) -> Result<Option<PropFault>, PropFault> {
+    match PropName::parse(alloc, bytes) {
+        Ok(_) => Ok(None),
+        Err(PropFault::OutOfMemory) => Err(PropFault::OutOfMemory),
+        Err(fault) => Ok(Some(fault)),
+    }
+}
+
 #[test]
 fn names_have_limits(rt: HostRuntime) -> Result<(), Fail> {
     let name = vec![in rt.alloc(); b'n'; 256]?;
     let short = PropName::parse(rt.alloc(), &name.as_slice()[..255])?;
     assert_eq!(rt; (short.len(), short.copy(rt.alloc())?.len()), (255, 255));
-    let long = PropName::parse(rt.alloc(), name.as_slice());
-    assert_eq!(rt; long.map(|n| n.len()), Err(PropFault::TooLong));
+    assert_eq!(rt;
+        name_fault(rt.alloc(), name.as_slice())?,
+        Some(PropFault::TooLong)
+    );
     Ok(())
 }
 
@@ -309,8 +329,7 @@ fn names_follow_the_rule(rt: HostRuntime) -> Result<(), Fail> {
         assert!(rt; name.as_bytes() == text);
     }
     for text in [b"".as_slice(), b"\n", b"a\x7f", b"\xff"] {
-        let name = PropName::parse(rt.alloc(), text);
-        assert_eq!(rt; name.map(|n| n.len()), Err(PropFault::BadProps));
+        assert_eq!(rt; name_fault(rt.alloc(), text)?, Some(PropFault::BadProps));
     }
     Ok(())
 }

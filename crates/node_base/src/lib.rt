@@ -36,6 +36,7 @@ mod prop_name;
 mod prop_value;
 mod props;
 mod refusal;
+mod refused;
 mod revision;
 #[cfg(test)]
 mod tests;

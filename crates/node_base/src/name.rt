@@ -1,6 +1,9 @@
 //! Names of files and directories.
 ghost use Rattle.std.specs.Prelude.{◌≡◌, ◌≤◌, length, IfOk, true, false, Some, Ok, MatchOption};
-ghost use Rattle.node_base.specs.Path.{name_cmp};
+ghost use Rattle.std.specs.Cmp.{eq_by_cmp_equiv, partial_equiv_from_equiv, partial_order_from_total};
+ghost use Rattle.std.specs.Cmp.Rules.{comparing};
+ghost use Rattle.std.proofs.Common.{rules, refl};
+ghost use Rattle.node_base.specs.Path.{name_cmp, names_total, same_name};
 ghost use Rattle.std.specs.Str.{is_utf8};
 ghost use Rattle.std.specs.List.{list_all};
 ghost use Rattle.node_base.specs.Names.{IsName, is_name_byte, is_dots, is_name};
@@ -86,6 +89,45 @@ impl NodeName {
         ensures { result ≡ name_cmp self.now other.now }
     {
         self.as_str().as_bytes().cmp(&other.as_str().as_bytes())
+    }
+}
+
+impl PartialEq for NodeName {
+    ghost eq = { same_name };
+
+    ghost laws = { partial_equiv_from_equiv (eq_by_cmp_equiv names_total) };
+
+    fn eq(&self, other: &NodeName) -> bool {
+        self.compare(other).is_eq()
+    }
+}
+
+impl Eq for NodeName {
+    ghost laws = { eq_by_cmp_equiv names_total };
+}
+
+impl PartialOrd for NodeName {
+    ghost partial_cmp = { λ n m. Some (name_cmp n m) };
+
+    ghost laws = { partial_order_from_total names_total };
+
+    fn partial_cmp(&self, other: &NodeName) -> Option<Ordering> {
+        Some(self.compare(other))
+    }
+}
+
+/// The order of the bytes.
+impl Ord for NodeName {
+    ghost cmp = { name_cmp };
+
+    ghost total = { names_total };
+
+    ghost matches_partial_cmp = { λ n m. refl };
+
+    ghost matches_eq = { Prim.search (comparing, rules) };
+
+    fn cmp(&self, other: &NodeName) -> Ordering {
+        self.compare(other)
     }
 }
 

@@ -1,9 +1,10 @@
 //! Nodes, their kinds, and what is done to them.
-ghost use Rattle.std.specs.Prelude.{◌≡◌, IfOk};
+ghost use Rattle.std.specs.Prelude.{◌≡◌, IfOk, IfErr, OnOk, OnErr};
+ghost use Rattle.node_base.specs.NodeEdits.{with_prop, with_piece, put_fault};
 ghost use Rattle.node_base.specs.Tree.{with_given, new_dir, kind_of};
 
-use crate::{NodePath, Props, RevNo, Text};
-use std::alloc::AllocError;
+use crate::{NodePath, PropFault, PropName, PropValue, Props, RevNo, Text};
+use std::alloc::{AllocError, Global};
 
 /// The kind of a node.
 #[derive(Clone, Copy, Debug, PartialEq, Eq)]
@@ -67,6 +68,35 @@ impl Node {
         }
         if let Some(props) = props {
             self.props = props;
+        }
+    }
+
+    /// Puts a value at a property's name, or takes the one there away. TooLong where the properties would pass their
+    /// limits. At an error the node stays.
+    pub fn put_prop(
+        &mut self,
+        alloc: Global,
+        name: PropName,
+        value: Option<PropValue>,
+    ) -> Result<(), PropFault>
+        ensures ok { OnOk result (self.new ≡ with_prop name value self.old) }
+        ensures fault { IfErr result (λ e. e ≡ put_fault name value self.old.props) }
+        ensures err { OnErr result (self.new ≡ self.old) }
+    {
+        match value {
+            Some(value) => self.props.set(alloc, name, value),
+            None => Ok(self.props.remove(alloc, name.as_bytes())?),
+        }
+    }
+
+    /// Puts bytes behind a file's text. A directory stays as it is, and so does the node at an error.
+    pub fn append_text(&mut self, alloc: Global, piece: &[u8]) -> Result<(), AllocError>
+        ensures ok { OnOk result (self.new ≡ with_piece piece.now self.old) }
+        ensures err { OnErr result (self.new ≡ self.old) }
+    {
+        match &mut self.text {
+            Some(text) => text.append(alloc, piece),
+            None => Ok(()),
         }
     }
 

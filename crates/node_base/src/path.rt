@@ -1,9 +1,11 @@
 //! Paths of nodes.
 ghost use Rattle.std.specs.Prelude.{◌≡◌, ◌≤◌, [], ◌++◌, ◌∷◌, length, IfOk, MatchOption, None, Some, Ok, Err, IfErr, true, false, nat_lt, codes};
-ghost use Rattle.std.specs.Cmp.{IsTotalOrder};
+ghost use Rattle.std.specs.Cmp.{IsTotalOrder, eq_by_cmp_equiv, partial_equiv_from_equiv, partial_order_from_total};
+ghost use Rattle.std.specs.Cmp.Rules.{comparing};
+ghost use Rattle.std.proofs.Common.{rules, refl};
 ghost use Rattle.std.specs.FinMap.{IsAntisymmetric};
 ghost use Rattle.std.specs.declared.cmp.Ordering.TheVariants.{Less};
-ghost use Rattle.node_base.specs.Path.{Name, Path, path_cmp, is_front, same_path, rest_after};
+ghost use Rattle.node_base.specs.Path.{Name, Path, path_cmp, paths_total, is_front, same_path, rest_after};
 ghost use Rattle.node_base.specs.Limits.{fits, weight};
 ghost use Rattle.node_base.specs.Names.{is_name};
 ghost use Rattle.node_base.specs.PathText.{Spells, IsSmall, path_text, slashed, Answers, path_read, child_of, pieces, is_long_name, is_past_limits};
@@ -140,6 +142,45 @@ impl NodePath {
             names.push(name.copy(alloc)?)?;
         }
         Ok(NodePath { names })
+    }
+}
+
+impl PartialEq for NodePath {
+    ghost eq = { same_path };
+
+    ghost laws = { partial_equiv_from_equiv (eq_by_cmp_equiv paths_total) };
+
+    fn eq(&self, other: &NodePath) -> bool {
+        self.compare(other).is_eq()
+    }
+}
+
+impl Eq for NodePath {
+    ghost laws = { eq_by_cmp_equiv paths_total };
+}
+
+impl PartialOrd for NodePath {
+    ghost partial_cmp = { λ p q. Some (path_cmp p q) };
+
+    ghost laws = { partial_order_from_total paths_total };
+
+    fn partial_cmp(&self, other: &NodePath) -> Option<Ordering> {
+        Some(self.compare(other))
+    }
+}
+
+/// The order of paths: name by name, names by their bytes.
+impl Ord for NodePath {
+    ghost cmp = { path_cmp };
+
+    ghost total = { paths_total };
+
+    ghost matches_partial_cmp = { λ p q. refl };
+
+    ghost matches_eq = { Prim.search (comparing, rules) };
+
+    fn cmp(&self, other: &NodePath) -> Ordering {
+        self.compare(other)
     }
 }
 

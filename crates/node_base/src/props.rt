@@ -1,5 +1,5 @@
 //! Properties of a node or a revision.
-ghost use Rattle.std.specs.Prelude.{◌≡◌, ◌==◌, ◌↔◌, length, true, IsTrue, IfOk, OnOk, IfErr, OnErr, if◌then◌else◌};
+ghost use Rattle.std.specs.Prelude.{◌≡◌, ◌==◌, ◌↔◌, length, true, nat_lt, IsTrue, IfOk, OnOk, IfErr, OnErr, if◌then◌else◌};
 ghost use Rattle.std.specs.FinMap as map;
 ghost use Rattle.std.specs.Option.{option_copied};
 ghost use Rattle.std.specs.Slice.Iter.{iter_rest};
@@ -158,8 +158,16 @@ impl Props {
         if is_sync_name(name) {
             self.sync_len() < SYNC_PROPS
         } else {
-            self.other_len() < PROPS
+            self.has_room_for_other()
         }
+    }
+
+    // Whether one name more that doesn't begin so is within its limit. Names are counted only where they aren't few
+    // anyway, so that reading a block counts them some thirty times at most, however many come.
+    fn has_room_for_other(&self) -> bool
+        ensures { result ≡ nat_lt (map.len (without_sync self.now)) 256 }
+    {
+        self.len() < PROPS || self.other_len() < PROPS
     }
 
     // How many names begin with `svn:sync-`.

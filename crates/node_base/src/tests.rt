@@ -4,13 +4,13 @@ use std::alloc::{AllocError, Global};
 use std::cmp::Ordering;
 use std::test::Fail;
 
-/// What became of bytes that were read as a path: `taken`, or the fault.
-fn fate(alloc: Global, bytes: &[u8]) -> &'static str {
+/// What became of bytes that were read as a path: `taken`, or the fault. Want of memory is passed on.
+fn fate(alloc: Global, bytes: &[u8]) -> Result<&'static str, PathFault> {
     match NodePath::parse(alloc, bytes) {
-        Ok(_) => "taken",
-        Err(PathFault::TooLong) => "too long",
-        Err(PathFault::BadPath) => "bad",
-        Err(PathFault::OutOfMemory) => "no memory",
+        Ok(_) => Ok("taken"),
+        Err(PathFault::TooLong) => Ok("too long"),
+        Err(PathFault::BadPath) => Ok("bad"),
+        Err(PathFault::OutOfMemory) => Err(PathFault::OutOfMemory),
     }
 }
 
@@ -27,54 +27,55 @@ fn row_of(alloc: Global, count: usize, between: &str) -> Result<String, AllocErr
 }
 
 /// Whether all of them have that fate.
-fn all_are(alloc: Global, table: &[&[u8]], wanted: &str) -> bool {
-    table.iter().all(|bytes| fate(alloc, bytes) == wanted)
+fn all_are(alloc: Global, table: &[&[u8]], wanted: &str) -> Result<bool, PathFault> {
+    for bytes in table {
+        if fate(alloc, *bytes)? != wanted {
+            return Ok(false);
+        }
+    }
+    Ok(true)
 }
 
 #[test]
-fn names_by_their_bytes(rt: HostRuntime) {
+fn names_by_their_bytes(rt: HostRuntime) -> Result<(), Fail> {
     let alloc = rt.alloc();
-    assert!(rt; all_are(alloc, &[b"", b"a", b" ", b"~", b"a\\b"], "taken"));
-    assert!(rt; all_are(alloc, &[b"\0", b"\x1F", b"a\n", b"\x7F"], "bad"));
-    assert!(rt; all_are(alloc, &[b"...", b".a/..b"], "taken"));
-    assert!(rt; all_are(alloc, &[b".", b"..", b"a/.", b"../a"], "bad"));
-    assert!(rt; all_are(alloc, &[b"/", b"/a", b"a/", b"a//b"], "bad"));
+    assert!(rt; all_are(alloc, &[b"", b"a", b" ", b"~", b"a\\b"], "taken")?);
+    assert!(rt; all_are(alloc, &[b"\0", b"\x1F", b"a\n", b"\x7F"], "bad")?);
+    assert!(rt; all_are(alloc, &[b"...", b".a/..b"], "taken")?);
+    assert!(rt; all_are(alloc, &[b".", b"..", b"a/.", b"../a"], "bad")?);
+    assert!(rt; all_are(alloc, &[b"/", b"/a", b"a/", b"a//b"], "bad")?);
+    Ok(())
 }
 
 #[test]
-fn names_are_utf8(rt: HostRuntime) {
+fn names_are_utf8(rt: HostRuntime) -> Result<(), Fail> {
     let alloc = rt.alloc();
-    assert!(rt;
-        all_are(
-            alloc,
-            &[b"\xC2\x80", b"\xEF\xBF\xBF", b"\xF4\x8F\xBF\xBF"],
-            "taken"
-        )
-    );
-    assert!(rt; all_are(alloc, &[b"\x80", b"\xFF", b"\xE2\x82"], "bad"));
+    let last_of_each = [b"\xC2\x80".as_slice(), b"\xEF\xBF\xBF", b"\xF4\x8F\xBF\xBF"];
+    assert!(rt; all_are(alloc, last_of_each.as_slice(), "taken")?);
+    assert!(rt; all_are(alloc, &[b"\x80", b"\xFF", b"\xE2\x82"], "bad")?);
     // overlong
-    assert!(rt; all_are(alloc, &[b"\xC0\xAF", b"\xC1\xBF", b"\xE0\x80\xAF"], "bad"));
+    assert!(rt; all_are(alloc, &[b"\xC0\xAF", b"\xC1\xBF", b"\xE0\x80\xAF"], "bad")?);
     // surrogates, and past the last character
-    assert!(rt;
-        all_are(
-            alloc,
-            &[b"\xED\xA0\x80", b"\xED\xBF\xBF", b"\xF4\x90\x80\x80"],
-            "bad"
-        )
-    );
+    let surrogates = [
+        b"\xED\xA0\x80".as_slice(),
+        b"\xED\xBF\xBF",
+        b"\xF4\x90\x80\x80",
+    ];
+    assert!(rt; all_are(alloc, surrogates.as_slice(), "bad")?);
+    Ok(())
 }
 
 #[test]
 fn paths_at_the_limits(rt: HostRuntime) -> Result<(), Fail> {
     let alloc = rt.alloc();
     let name = row_of(alloc, 255, "")?;
-    assert_eq!(rt; fate(alloc, name.as_bytes()), "taken");
+    assert_eq!(rt; fate(alloc, name.as_bytes())?, "taken");
     let name = row_of(alloc, 256, "")?;
-    assert_eq!(rt; fate(alloc, name.as_bytes()), "too long");
+    assert_eq!(rt; fate(alloc, name.as_bytes())?, "too long");
     let names = row_of(alloc, 64, "/")?;
-    assert_eq!(rt; fate(alloc, names.as_bytes()), "taken");
+    assert_eq!(rt; fate(alloc, names.as_bytes())?, "taken");
     let names = row_of(alloc, 65, "/")?;
-    assert_eq!(rt; fate(alloc, names.as_bytes()), "too long");
+    assert_eq!(rt; fate(alloc, names.as_bytes())?, "too long");
     let name = row_of(alloc, 204, "")?;
     let mut path = name.clone()?;
     for _ in 0..4 {
@@ -82,9 +83,9 @@ fn paths_at_the_limits(rt: HostRuntime) -> Result<(), Fail> {
         path.push_str(name.as_str())?;
     }
     assert_eq!(rt; path.len(), 1_024);
-    assert_eq!(rt; fate(alloc, path.as_bytes()), "taken");
+    assert_eq!(rt; fate(alloc, path.as_bytes())?, "taken");
     path.push_str("a")?;
-    assert_eq!(rt; fate(alloc, path.as_bytes()), "too long");
+    assert_eq!(rt; fate(alloc, path.as_bytes())?, "too long");
     Ok(())
 }
 
@@ -92,9 +93,9 @@ fn paths_at_the_limits(rt: HostRuntime) -> Result<(), Fail> {
 fn a_limit_comes_before_the_rule(rt: HostRuntime) -> Result<(), Fail> {
     let alloc = rt.alloc();
     let empty_names = vec![in alloc; b'/'; 64]?;
-    assert_eq!(rt; fate(alloc, empty_names.as_slice()), "too long");
+    assert_eq!(rt; fate(alloc, empty_names.as_slice())?, "too long");
     let controls = vec![in alloc; 1u8; 256]?;
-    assert_eq!(rt; fate(alloc, controls.as_slice()), "too long");
+    assert_eq!(rt; fate(alloc, controls.as_slice())?, "too long");
     Ok(())
 }
 
@@ -225,5 +226,131 @@ fn refusals_without_a_payload(rt: HostRuntime) -> Result<(), Fail> {
         Refusal::OutOfMemory.line(alloc)?.as_str(),
         "svnfleet: 70 out of memory\n"
     );
+    Ok(())
+}
+
+/// Each path behind a blank.
+fn row_of_paths(alloc: Global, paths: &[NodePath]) -> Result<String, AllocError> {
+    let mut row = String::new(alloc);
+    for path in paths {
+        row.push_str(format!(in alloc; " {path}")?.as_str())?;
+    }
+    Ok(row)
+}
+
+#[test]
+fn paths_are_sorted(rt: HostRuntime) -> Result<(), Fail> {
+    let alloc = rt.alloc();
+    let mut paths = [
+        NodePath::parse(alloc, b"a-b")?,
+        NodePath::parse(alloc, b"a/x")?,
+        NodePath::parse(alloc, b"a")?,
+    ];
+    paths.sort_unstable();
+    assert_eq!(rt;
+        row_of_paths(alloc, paths.as_slice())?.as_str(),
+        " a a/x a-b"
+    );
+    Ok(())
+}
+
+#[test]
+fn paths_are_compared(rt: HostRuntime) -> Result<(), Fail> {
+    let alloc = rt.alloc();
+    let above = NodePath::parse(alloc, b"a")?;
+    let below = NodePath::parse(alloc, b"a/x")?;
+    assert!(rt; above < below && above != below && above == above.copy(alloc)?);
+    assert_eq!(rt; below.cmp(&above), Ordering::Greater);
+    Ok(())
+}
+
+#[test]
+fn names_are_compared(rt: HostRuntime) -> Result<(), Fail> {
+    let alloc = rt.alloc();
+    let small = NodeName::parse(alloc, b"a")?;
+    let large = NodeName::parse(alloc, b"a-b")?;
+    assert!(rt; small < large && large > small && small != large);
+    assert_eq!(rt; small.cmp(&large), Ordering::Less);
+    assert_eq!(rt; large.partial_cmp(&large), Some(Ordering::Equal));
+    Ok(())
+}
+
+/// Whether each fault is the refusal of that number and text.
+fn are_told(alloc: Global, table: &[(TreeFault, u8, &str)]) -> Result<bool, AllocError> {
+    for (fault, number, text) in table {
+        let refusal = Refusal::from(*fault);
+        if fault.number() != *number || refusal.number() != *number {
+            return Ok(false);
+        }
+        if format!(in alloc; "{fault}")?.as_str() != *text {
+            return Ok(false);
+        }
+    }
+    Ok(true)
+}
+
+#[test]
+fn faults_of_places_are_refusals(rt: HostRuntime) -> Result<(), Fail> {
+    let first = [
+        (TreeFault::TooLong, 8, "limit exceeded"),
+        (TreeFault::BadPath, 10, "bad path"),
+        (TreeFault::NoSuchPath, 11, "no such path"),
+        (TreeFault::PathThere, 12, "path already exists"),
+    ];
+    assert!(rt; are_told(rt.alloc(), first.as_slice())?);
+    let others = [
+        (TreeFault::NotDir, 13, "not a directory"),
+        (TreeFault::NoSource, 14, "no such copy source"),
+        (TreeFault::KindMismatch, 17, "node kind mismatch"),
+    ];
+    assert!(rt; are_told(rt.alloc(), others.as_slice())?);
+    Ok(())
+}
+
+/// The number of a fault's refusal, and its own.
+fn of_path(fault: PathFault) -> (u8, u8) {
+    (Refusal::from(fault).number(), fault.number())
+}
+
+/// The same.
+fn of_props(fault: PropFault) -> (u8, u8) {
+    (Refusal::from(fault).number(), fault.number())
+}
+
+#[test]
+fn faults_of_texts_are_refusals(rt: HostRuntime) {
+    assert_eq!(rt; of_path(PathFault::TooLong), (8, 8));
+    assert_eq!(rt; of_path(PathFault::BadPath), (10, 10));
+    assert_eq!(rt; of_path(PathFault::OutOfMemory), (70, 70));
+    assert_eq!(rt; of_props(PropFault::BadProps), (5, 5));
+    assert_eq!(rt; of_props(PropFault::TooLong), (8, 8));
+    assert_eq!(rt; of_props(PropFault::OutOfMemory), (70, 70));
+}
+
+#[test]
+fn texts_grow_apart(rt: HostRuntime) -> Result<(), Fail> {
+    let alloc = rt.alloc();
+    let mut text = Text::new(alloc, b"one".to_vec(alloc)?)?;
+    let shared = text.share()?;
+    text.append(alloc, b" two")?;
+    text.append(alloc, b"")?;
+    assert!(rt; text.as_slice() == b"one two".as_slice() && shared.len() == 3);
+    assert!(rt; text.sum() == Text::new(alloc, b"one two".to_vec(alloc)?)?.sum());
+    Ok(())
+}
+
+#[test]
+fn nodes_are_edited(rt: HostRuntime) -> Result<(), Fail> {
+    let alloc = rt.alloc();
+    let mut node = Node::new_dir();
+    node.append_text(alloc, b"a")?;
+    assert!(rt; node.text.is_none());
+    node.text = Some(Text::new(alloc, Vec::new(alloc))?);
+    node.append_text(alloc, b"a")?;
+    let value = PropValue::new(b"v".to_vec(alloc)?)?;
+    node.put_prop(alloc, PropName::parse(alloc, b"n")?, Some(value))?;
+    assert!(rt; node.props.get(b"n") == Some(b"v".as_slice()));
+    node.put_prop(alloc, PropName::parse(alloc, b"n")?, None)?;
+    assert!(rt; node.props.is_empty() && node.text.is_some_and(|text| text.len() == 1));
     Ok(())
 }

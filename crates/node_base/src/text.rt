@@ -1,5 +1,5 @@
 //! Texts of files.
-ghost use Rattle.std.specs.Prelude.{◌≡◌, length, IfOk};
+ghost use Rattle.std.specs.Prelude.{◌≡◌, ◌++◌, length, IfOk, OnOk, OnErr};
 ghost use Rattle.md5.specs.Md5.{md5};
 
 use md5::{Digest, Md5};
@@ -79,6 +79,23 @@ impl Text {
                 hasher.finalize()
             }
         }
+    }
+
+    /// Puts bytes behind it. At an error it stays. Its bytes are copied only where they have another owner.
+    pub fn append(&mut self, alloc: Global, piece: &[u8]) -> Result<(), AllocError>
+        ensures ok { OnOk result (self.new ≡ self.old ++ piece.now) }
+        ensures err { OnErr result (self.new ≡ self.old) }
+    {
+        if let Some(body) = Arc::get_mut(&mut self.body) {
+            body.bytes.extend_from_slice(piece)?;
+            body.sum = None;
+            return Ok(());
+        }
+        let mut bytes = Vec::with_capacity(alloc, self.len() + piece.len())?;
+        bytes.extend_from_slice(self.as_slice())?;
+        bytes.extend_from_slice(piece)?;
+        self.body = Arc::new(alloc, Body { bytes, sum: None })?;
+        Ok(())
     }
 
     /// The same text for another owner, with no copy of its bytes.

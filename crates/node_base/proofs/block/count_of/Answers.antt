@@ -1,6 +1,6 @@
-use Rattle.std.proofs.Common.{◌≡◌, ◌+◌, ◌-◌, ◌*◌, ◌<◌, drop, get_or, arith}
+use Rattle.std.proofs.Common.{◌+◌, ◌-◌, ◌*◌, drop, get_or, arith}
 use Rattle.std.proofs.lemmas.List.{at_drop_more}
-use Rattle.node_base.specs.Numbers.{number_of, number_after}
+use Rattle.node_base.specs.Numbers.{number_after}
 use Rattle.node_base.proofs.Digits.{number_after-ge}
 use Rattle.node_base.proofs.block.count_of.Goals as goal
 

@@ -1,5 +1,4 @@
-use Rattle.std.proofs.Common.{◌≡◌, ◌+◌, ◌-◌, ◌/◌, ◌<◌, length, Option, Some, IsSome, refl, sym, subst, ap, ◌∙◌, arith}
-use Rattle.std.specs.declared.cmp.Ordering.TheVariants.{Less, Equal, Greater}
+use Rattle.std.proofs.Common.{refl, sym, ap, ◌∙◌, arith}
 use Rattle.node_base.specs.Path.{name_cmp}
 use Rattle.node_base.proofs.EntryLemmas.{searched_none, searched_less, searched_more, searched_here, searched_end, is_some_of}
 use Rattle.node_base.proofs.prop_list.place_of.Goals as goal

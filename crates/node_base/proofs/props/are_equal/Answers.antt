@@ -1,4 +1,4 @@
-use Rattle.std.proofs.Common.{◌≡◌, ◌<◌, ap, sym, ◌∙◌, arith}
+use Rattle.std.proofs.Common.{sym, ◌∙◌, arith}
 use Rattle.node_base.proofs.EntryLemmas.{not_different, same_so_far}
 use Rattle.node_base.proofs.props.are_equal.Goals as goal
 

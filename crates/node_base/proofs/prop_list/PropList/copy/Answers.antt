@@ -1,7 +1,6 @@
-use Rattle.std.proofs.Common.{ap, ◌∙◌, sym, subst}
+use Rattle.std.proofs.Common.{◌∙◌, sym, subst}
 use Rattle.std.proofs.lemmas.List.{take_all}
 use Rattle.node_base.specs.Entries.{IsRising}
-use Rattle.node_base.proofs.PropLemmas.{listed}
 use Rattle.node_base.proofs.prop_list.PropList.copy.Goals as goal
 
 pub invariant_of-result : goal.invariant_of-result

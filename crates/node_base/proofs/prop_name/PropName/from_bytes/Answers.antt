@@ -1,7 +1,7 @@
-use Rattle.std.proofs.Common.{◌≡◌, ◌≤◌, ◌<◌, true, length, Ok, ap, sym, subst, ◌∙◌, arith}
+use Rattle.std.proofs.Common.{◌≡◌, length, Ok, ap, sym, subst, ◌∙◌, arith}
 use Rattle.std.specs.Str.{IsUtf8}
 use Rattle.node_base.specs.Numbers.{all_bytes}
-use Rattle.node_base.specs.Props.{is_prop_byte, is_prop_name}
+use Rattle.node_base.specs.Props.{is_prop_byte}
 use Rattle.node_base.proofs.PropNames.{rule_holds, rule_fails, name_read, name_refused}
 use Rattle.node_base.proofs.prop_name.PropName.from_bytes.Goals as goal
 

@@ -1,5 +1,5 @@
 use Rattle.std.proofs.Common.{length, ap, arith}
-use Rattle.node_base.proofs.BlockLengths.{few_entries, one_more_property, whole_block}
+use Rattle.node_base.proofs.BlockLengths.{few_entries}
 use Rattle.node_base.proofs.props.Props.block_len.Goals as goal
 
 pub overflow_add-len : goal.overflow_add-len

@@ -1,4 +1,4 @@
-use Rattle.std.proofs.Common.{ap, sym, subst, ◌∙◌}
+use Rattle.std.proofs.Common.{ap, subst, ◌∙◌}
 use Rattle.node_base.specs.Props.{IsProps, without_sync}
 use Rattle.node_base.proofs.CopiedProps.{synced, all_synced, synced_is, copied_is_props}
 use Rattle.node_base.proofs.props.Props.copied_beside.Goals as goal

@@ -1,5 +1,4 @@
-use Rattle.std.proofs.Common.{◌≡◌, ◌<◌, true, nat_lt, ap, sym, subst, ◌∙◌}
-use Rattle.std.specs.FinMap as map
+use Rattle.std.proofs.Common.{◌≡◌, true, nat_lt, ap, sym, subst, ◌∙◌}
 use Rattle.node_base.specs.Props.{props_fit}
 use Rattle.node_base.proofs.PropLemmas.{fits_there, fits_sync, fits_other}
 use Rattle.node_base.proofs.props.Props.fits_with.Goals as goal
@@ -17,4 +16,4 @@ returns-then-is_sync_name c =
 pub returns-else-is_sync_name : goal.returns-else-is_sync_name
 returns-else-is_sync_name c =
     let fits = subst (λ m. props_fit m ≡ true) c.self.view_is c.self.invariant.fit in
-    ap (λ n. nat_lt n 256) c.other_len.ensures ∙ fits_other c.args.self.now c.args.name.now fits (sym c.contains.ensures ∙ c.if-contains.false) (sym c.is_sync_name.ensures ∙ c.if-is_sync_name.false)
+    c.has_room_for_other.ensures ∙ fits_other c.args.self.now c.args.name.now fits (sym c.contains.ensures ∙ c.if-contains.false) (sym c.is_sync_name.ensures ∙ c.if-is_sync_name.false)

@@ -1,4 +1,3 @@
-use Rattle.std.proofs.Common.{not}
 use Rattle.node_base.specs.Props.{is_sync}
 use Rattle.node_base.proofs.PropLemmas.{counted}
 use Rattle.node_base.proofs.props.Props.sync_len.Goals as goal

@@ -1,5 +1,5 @@
-use Rattle.std.proofs.Common.{ap, sym, subst, ◌∙◌}
-use Rattle.node_base.specs.Props.{IsProps, without_sync}
+use Rattle.std.proofs.Common.{subst}
+use Rattle.node_base.specs.Props.{IsProps}
 use Rattle.node_base.proofs.PropLemmas.{without_is_props}
 use Rattle.node_base.proofs.props.Props.without_sync.Goals as goal
 

@@ -1,9 +1,8 @@
-use Rattle.std.proofs.Common.{◌≡◌, ◌+◌, ◌-◌, ◌∙◌, sym, ap, refl, drop, take, length, get_or, arith, add-one}
-use Rattle.std.proofs.lemmas.List.{at_drop_more, length-take, length-drop, drop_more}
+use Rattle.std.proofs.Common.{◌≡◌, ◌+◌, ◌-◌, ◌∙◌, sym, drop, arith}
+use Rattle.std.proofs.lemmas.List.{length-take}
 use Rattle.std.proofs.lemmas.Result.{err_from_is_err_and}
-use Rattle.node_base.specs.Blocks.{run_block, after, held_more}
 use Rattle.node_base.proofs.BlockRuns.{kept, whole_at, refused_at}
-use Rattle.node_base.proofs.block.BlockReader.feed.Goals as goal
+use Rattle.node_base.proofs.block.BlockReader.feed_all.Goals as goal
 
 pub keep_all-requires : goal.keep_all-requires
 keep_all-requires c =

@@ -1,0 +1,28 @@
+-- How many bytes a reader of a property block keeps.
+use Rattle.std.specs.Prelude.{ℕ, ◌+◌, List, [], ◌∷◌, length, Option, Some, None}
+use Rattle.std.specs.FinMap as map
+use Rattle.node_base.specs.Entries.{Entries}
+use Rattle.node_base.specs.Props.{PropMap}
+use Rattle.node_base.specs.declared.block.BlockReader.{BlockReader}
+
+-- the bytes of names and values
+abbrev pub entry_bytes : Entries → ℕ
+entry_bytes [] = 0
+entry_bytes (e ∷ es) = length e.0 + length e.1 + entry_bytes es
+
+abbrev pub stored_bytes : PropMap → ℕ
+stored_bytes m = entry_bytes (map.entries m)
+
+-- a name that awaits its value
+abbrev pub waiting_bytes : Option (List ℕ) → ℕ
+waiting_bytes None = 0
+waiting_bytes (Some n) = length n
+
+-- all that a reader keeps: the properties so far, a name, and what is unfinished
+abbrev pub kept_bytes : BlockReader → ℕ
+kept_bytes r = stored_bytes r.props + waiting_bytes r.name + length r.held
+
+-- what is kept after a call: all, and the properties alone where the block is whole
+abbrev pub kept_after : Option ℕ → BlockReader → ℕ
+kept_after None r = kept_bytes r
+kept_after (Some k) r = stored_bytes r.props
