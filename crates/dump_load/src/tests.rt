@@ -1,17 +1,21 @@
+//! Sets of small revisions, and what they make of trees.
+
 use crate::{ChangeFault, ChangeSet, load_revision};
-use dump_text::NodeRecord;
-use node_base::{Action, NodeKind, NodePath, RevNo, Source, Text};
+use dump_text::{NodeRecord, RevRecord, write_revision};
+use node_base::{Action, NodeKind, NodePath, Props, RevNo, Source, Text};
 use path_tree::Tree;
 use std::alloc::Global;
 use std::test::Fail;
 
-type Stated<'a> = (&'a str, Action, Option<NodeKind>, Option<(&'a str, u16)>);
+/// A record without parts: path, action, kind and source.
+pub type Stated<'a> = (&'a str, Action, Option<NodeKind>, Option<(&'a str, u16)>);
 
-const FILE: Option<NodeKind> = Some(NodeKind::File);
+pub const FILE: Option<NodeKind> = Some(NodeKind::File);
 
-const DIR: Option<NodeKind> = Some(NodeKind::Dir);
+pub const DIR: Option<NodeKind> = Some(NodeKind::Dir);
 
-fn path(alloc: Global, text: &str) -> Result<NodePath, Fail> {
+/// The path of a text.
+pub fn path(alloc: Global, text: &str) -> Result<NodePath, Fail> {
     Ok(NodePath::parse(alloc, text.as_bytes())?)
 }
 
@@ -25,7 +29,8 @@ fn source(alloc: Global, from: Option<(&str, u16)>) -> Result<Option<Source>, Fa
     }
 }
 
-fn records(alloc: Global, stated: &[Stated<'_>]) -> Result<Vec<NodeRecord>, Fail> {
+/// The records that are stated.
+pub fn records(alloc: Global, stated: &[Stated<'_>]) -> Result<Vec<NodeRecord>, Fail> {
     let mut all = Vec::new(alloc);
     for (text, action, kind, from) in stated {
         all.push(NodeRecord {
@@ -40,8 +45,8 @@ fn records(alloc: Global, stated: &[Stated<'_>]) -> Result<Vec<NodeRecord>, Fail
     Ok(all)
 }
 
-// Revision 0, and revision 1 with a directory t and the files t/x and t/y.
-fn two_trees(alloc: Global) -> Result<Vec<Tree>, Fail> {
+/// Revision 0, and revision 1 with a directory t and the files t/x and t/y.
+pub fn two_trees(alloc: Global) -> Result<Vec<Tree>, Fail> {
     let mut trees = Vec::new(alloc);
     let (_, root) = load_revision(alloc, &[], RevNo::ZERO, Vec::new(alloc))?;
     trees.push(root)?;
@@ -60,8 +65,8 @@ fn two_trees(alloc: Global) -> Result<Vec<Tree>, Fail> {
     Ok(trees)
 }
 
-// The tree that revision 2 makes of these records.
-fn second(alloc: Global, stated: &[Stated<'_>]) -> Result<Result<Tree, ChangeFault>, Fail> {
+/// The tree that revision 2 makes of these records.
+pub fn second(alloc: Global, stated: &[Stated<'_>]) -> Result<Result<Tree, ChangeFault>, Fail> {
     let trees = two_trees(alloc)?;
     if trees.len() > 65_535 {
         return Ok(Err(ChangeFault::WrongNumber));
@@ -75,66 +80,13 @@ fn second(alloc: Global, stated: &[Stated<'_>]) -> Result<Result<Tree, ChangeFau
     Ok(loaded.map(|(_, tree)| tree))
 }
 
-// The kind and the changed-number of a node.
-fn at(alloc: Global, tree: &Tree, text: &str) -> Result<Option<(NodeKind, u16)>, Fail> {
+/// The kind and the changed-number of a node.
+pub fn at(alloc: Global, tree: &Tree, text: &str) -> Result<Option<(NodeKind, u16)>, Fail> {
     let path = path(alloc, text)?;
     Ok(
         tree.get(path.names())
             .map(|node| (node.kind(), node.changed.get())),
     )
-}
-
-#[test]
-fn a_copy_without_a_child(rt: HostRuntime) -> Result<(), Fail> {
-    let alloc = rt.alloc();
-    let stated = [
-        ("b", Action::Add, None, Some(("t", 1))),
-        ("b/x", Action::Delete, None, None),
-    ];
-    let tree = second(alloc, &stated)??;
-    assert!(rt; at(alloc, &tree, "b")? == Some((NodeKind::Dir, 2)));
-    assert!(rt; at(alloc, &tree, "b/y")? == Some((NodeKind::File, 1)));
-    assert!(rt; at(alloc, &tree, "b/x")?.is_none());
-    assert!(rt; at(alloc, &tree, "t")? == Some((NodeKind::Dir, 1)));
-    assert!(rt; at(alloc, &tree, "")? == Some((NodeKind::Dir, 2)));
-    Ok(())
-}
-
-#[test]
-fn a_directory_copied_into_itself(rt: HostRuntime) -> Result<(), Fail> {
-    let alloc = rt.alloc();
-    let tree = second(alloc, &[("t/in", Action::Add, DIR, Some(("t", 1)))])??;
-    assert!(rt; at(alloc, &tree, "t")? == Some((NodeKind::Dir, 2)));
-    assert!(rt; at(alloc, &tree, "t/in")? == Some((NodeKind::Dir, 2)));
-    assert!(rt; at(alloc, &tree, "t/in/x")? == Some((NodeKind::File, 1)));
-    assert!(rt; at(alloc, &tree, "t/in/in")?.is_none());
-    Ok(())
-}
-
-#[test]
-fn a_copied_child_replaced(rt: HostRuntime) -> Result<(), Fail> {
-    let alloc = rt.alloc();
-    let stated = [
-        ("b/x/deep", Action::Add, FILE, None),
-        ("b/x", Action::Replace, DIR, None),
-        ("b", Action::Add, None, Some(("t", 1))),
-    ];
-    let tree = second(alloc, &stated)??;
-    assert!(rt; at(alloc, &tree, "b/x")? == Some((NodeKind::Dir, 2)));
-    assert!(rt; at(alloc, &tree, "b/x/deep")? == Some((NodeKind::File, 2)));
-    assert!(rt; at(alloc, &tree, "b/y")? == Some((NodeKind::File, 1)));
-    Ok(())
-}
-
-#[test]
-fn numbers_of_what_is_above(rt: HostRuntime) -> Result<(), Fail> {
-    let alloc = rt.alloc();
-    let tree = second(alloc, &[("t/x", Action::Delete, None, None)])??;
-    assert!(rt; at(alloc, &tree, "t")? == Some((NodeKind::Dir, 2)));
-    assert!(rt; at(alloc, &tree, "t/y")? == Some((NodeKind::File, 1)));
-    let tree = second(alloc, &[("t/y", Action::Modify, None, None)])??;
-    assert!(rt; at(alloc, &tree, "t/y")? == Some((NodeKind::File, 2)));
-    Ok(())
 }
 
 #[test]
@@ -152,56 +104,6 @@ fn a_deletion_and_an_add_are_one_replace(rt: HostRuntime) -> Result<(), Fail> {
     assert!(rt; change.action == Action::Replace);
     assert!(rt; change.kind == DIR);
     assert_eq!(rt; set.to_records(alloc)?.len(), 1);
-    Ok(())
-}
-
-fn refused(alloc: Global, stated: &[Stated<'_>]) -> Result<u8, Fail> {
-    match second(alloc, stated)? {
-        Ok(_) => Ok(0),
-        Err(fault) => Ok(fault.number()),
-    }
-}
-
-#[test]
-fn records_that_make_no_set(rt: HostRuntime) -> Result<(), Fail> {
-    let alloc = rt.alloc();
-    let deleted = ("t", Action::Delete, None, None);
-    let added = ("t", Action::Add, DIR, None);
-    let kindless = ("q", Action::Add, None, None);
-    let under = ("t/x", Action::Modify, None, None);
-    assert_eq!(rt; refused(alloc, &[deleted, added])?, 0);
-    assert_eq!(rt; refused(alloc, &[deleted, added, under])?, 11);
-    assert_eq!(rt; refused(alloc, &[deleted, added, added])?, 15);
-    assert_eq!(rt; refused(alloc, &[added, deleted])?, 15);
-    assert_eq!(rt; refused(alloc, &[under, deleted])?, 15);
-    assert_eq!(rt; refused(alloc, &[kindless, deleted, deleted])?, 15);
-    assert_eq!(rt; refused(alloc, &[kindless, added])?, 2);
-    Ok(())
-}
-
-#[test]
-fn first_faults(rt: HostRuntime) -> Result<(), Fail> {
-    let alloc = rt.alloc();
-    let absent = ("a-b", Action::Modify, None, None);
-    let file = ("a", Action::Add, FILE, None);
-    let below = ("a/x", Action::Add, FILE, None);
-    assert_eq!(rt; refused(alloc, &[absent, file, below])?, 13);
-    assert_eq!(rt; refused(alloc, &[absent])?, 11);
-    assert_eq!(rt; refused(alloc, &[("", Action::Add, DIR, None)])?, 10);
-    assert_eq!(rt; refused(alloc, &[("n/m", Action::Add, DIR, None)])?, 11);
-    assert_eq!(rt;
-        refused(alloc, &[("t", Action::Add, DIR, Some(("no", 1)))])?,
-        12
-    );
-    assert_eq!(rt;
-        refused(alloc, &[("b", Action::Add, DIR, Some(("t", 2)))])?,
-        14
-    );
-    assert_eq!(rt;
-        refused(alloc, &[("b", Action::Add, FILE, Some(("t", 1)))])?,
-        17
-    );
-    assert_eq!(rt; refused(alloc, &[("t", Action::Modify, FILE, None)])?, 17);
     Ok(())
 }
 
@@ -230,5 +132,52 @@ fn a_number_out_of_turn(rt: HostRuntime) -> Result<(), Fail> {
         Ok(_) => assert!(rt; false),
         Err(fault) => assert_eq!(rt; fault.number(), 16),
     }
+    Ok(())
+}
+
+// The second revision of a copied directory without one of its files, as it is written.
+fn copied_directory() -> &'static [u8] {
+    b"Revision-number: 2
+Prop-content-length: 10
+Content-length: 10
+
+PROPS-END
+
+Node-path: b
+Node-kind: dir
+Node-action: add
+Node-copyfrom-rev: 1
+Node-copyfrom-path: t
+
+
+
+Node-path: b/x
+Node-action: delete
+
+
+
+"
+        .as_slice()
+}
+
+#[test]
+fn a_copied_directory_is_written(rt: HostRuntime) -> Result<(), Fail> {
+    let alloc = rt.alloc();
+    let trees = two_trees(alloc)?;
+    assert!(rt; trees.len() <= 65_535);
+    let stated = [
+        ("b/x", Action::Delete, None, None),
+        ("b", Action::Add, None, Some(("t", 1))),
+    ];
+    let set = ChangeSet::from_records(alloc, trees.as_slice(), records(alloc, &stated)?)?;
+    let mut written = Vec::new(alloc);
+    let revision = RevRecord {
+        number: RevNo::new(2),
+        props: Props::empty(),
+        nodes: set.to_records(alloc)?,
+    };
+    write_revision(&mut written, &revision)?;
+    assert_eq!(rt; written.len(), 203);
+    assert!(rt; written.as_slice() == copied_directory());
     Ok(())
 }
