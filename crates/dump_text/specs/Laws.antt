@@ -1,11 +1,12 @@
 -- Laws of dumps.
-use Rattle.std.specs.Prelude.{◌≡◌, ℕ, ◌≤◌, List, [], ◌∷◌, ◌++◌, length}
+use Rattle.std.specs.Prelude.{◌≡◌, ℕ, ◌≤◌, List, [], ◌∷◌, ◌++◌, Option, IfSome}
 use Rattle.node_base.specs.Props.{PropMap, IsProps}
-use Rattle.node_base.specs.BlockCanon.{canon_block}
 use Rattle.dump_text.specs.declared.form.Stage.{Stage}
 use Rattle.dump_text.specs.declared.form.Stage.TheVariants.{First, Inside}
 use Rattle.dump_text.specs.declared.record.DumpRecord.TheVariants.{Revision}
-use Rattle.dump_text.specs.Canon.{canon_entry}
+use Rattle.dump_text.specs.declared.record.RevRecord.{RevRecord}
+use Rattle.dump_text.specs.Canon.{canon_entry, canon_revision}
+use Rattle.dump_text.specs.Written.{IsRevision, AreRevisions, IsIdentity, read_revision, canon_dump, read_dump}
 use Rattle.dump_text.specs.declared.record.DumpRecord.{DumpRecord}
 use Rattle.dump_text.specs.declared.fault.DumpFault.{DumpFault}
 use Rattle.dump_text.specs.declared.state.Place.TheVariants as at
@@ -30,4 +31,12 @@ OneReading = (bytes : List ℕ) (rs others : List DumpRecord) → Dump bytes rs 
 
 -- what is written of a revision's number and properties is read again as that record, whatever stands before it and follows it
 abbrev pub EntriesAreReadAgain : Type 0
-EntriesAreReadAgain = (rs : List DumpRecord) (version : ℕ) (stage : Stage) (n : ℕ) (props : PropMap) (more : List ℕ) → n ≤ 65535 → IsProps props → length (canon_block props) ≤ 33554432 → reading (Reads rs (begin version at.Between stage)) (canon_entry n props ++ more) ≡ reading (Reads (rs ++ Revision n props ∷ []) (begin version at.Between Inside)) more
+EntriesAreReadAgain = (rs : List DumpRecord) (version : ℕ) (stage : Stage) (n : ℕ) (props : PropMap) (more : List ℕ) → n ≤ 65535 → IsProps props → reading (Reads rs (begin version at.Between stage)) (canon_entry n props ++ more) ≡ reading (Reads (rs ++ Revision n props ∷ []) (begin version at.Between Inside)) more
+
+-- so is what is written of a whole revision; but of a deletion the kind isn't written
+abbrev pub RevisionsAreReadAgain : Type 0
+RevisionsAreReadAgain = (rs : List DumpRecord) (version : ℕ) (stage : Stage) (r : RevRecord) (more : List ℕ) → IsRevision r → reading (Reads rs (begin version at.Between stage)) (canon_revision r ++ more) ≡ reading (Reads (rs ++ read_revision r) (begin version at.Between Inside)) more
+
+-- a head and revisions that are written are a dump of the grammar, and are read as their records
+abbrev pub WrittenIsRead : Type 0
+WrittenIsRead = (id : Option (List ℕ)) (revisions : List RevRecord) → IfSome id IsIdentity → AreRevisions revisions → Dump (canon_dump id revisions) (read_dump id revisions) × (dump (canon_dump id revisions) ≡ Reads (read_dump id revisions) (begin 2 at.Between (stage_behind First (read_dump id revisions))))
