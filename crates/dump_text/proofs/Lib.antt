@@ -12,3 +12,4 @@ mod SumLines
 mod HeadLines
 mod BlockSizes
 mod Written
+mod Converse

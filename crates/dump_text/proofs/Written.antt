@@ -50,7 +50,7 @@ blank-append [] b p q = q
 blank-append (x ∷ a) b p q = (p.0, blank-append a b p.1 q)
 
 -- empty lines in front
-blanks_before : (i : Stage) (a b : List ℕ) (rs : List DumpRecord) → AreBlank a → IsRecords i b rs → IsRecords i (a ++ b) rs
+pub blanks_before : (i : Stage) (a b : List ℕ) (rs : List DumpRecord) → AreBlank a → IsRecords i b rs → IsRecords i (a ++ b) rs
 blanks_before i a b [] p q = blank-append a b p q
 blanks_before i a b (r ∷ rs) p (blank, first, rest, bl, rec, more, e) =
     (a ++ blank, first, rest, blank-append a blank p bl, rec, more, ap (λ x. a ++ x) e ∙ sym (append_assoc a blank (first ++ rest)))

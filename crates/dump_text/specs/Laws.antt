@@ -1,5 +1,5 @@
 -- Laws of dumps.
-use Rattle.std.specs.Prelude.{◌≡◌, ℕ, ◌≤◌, List, [], ◌∷◌, ◌++◌, Option, IfSome}
+use Rattle.std.specs.Prelude.{◌≡◌, ℕ, ◌≤◌, true, List, [], ◌∷◌, ◌++◌, Option, IfSome}
 use Rattle.node_base.specs.Props.{PropMap, IsProps}
 use Rattle.dump_text.specs.declared.form.Stage.{Stage}
 use Rattle.dump_text.specs.declared.form.Stage.TheVariants.{First, Inside}
@@ -10,7 +10,8 @@ use Rattle.dump_text.specs.Written.{IsRevision, AreRevisions, IsIdentity, read_r
 use Rattle.dump_text.specs.declared.record.DumpRecord.{DumpRecord}
 use Rattle.dump_text.specs.declared.fault.DumpFault.{DumpFault}
 use Rattle.dump_text.specs.declared.state.Place.TheVariants as at
-use Rattle.dump_text.specs.Streams.{Stream, Reads, Refuses, reading, dump, begin}
+use Rattle.dump_text.specs.Streams.{Stream, Reads, Refuses, reading, dump, begin, is_between}
+use Rattle.dump_text.specs.declared.state.ReadState.{ReadState}
 use Rattle.dump_text.specs.Grammar.{Dump, stage_behind}
 
 -- it doesn't matter how the bytes are cut
@@ -24,6 +25,29 @@ RefusalsStay = (bytes more : List ℕ) (rs : List DumpRecord) (f : DumpFault) �
 -- a dump of the grammar is read as its records, and the reader then stands between two records
 abbrev pub DumpsAreRead : Type 0
 DumpsAreRead = (bytes : List ℕ) (rs : List DumpRecord) → Dump bytes rs → dump bytes ≡ Reads rs (begin 2 at.Between (stage_behind First rs))
+
+-- what is read to an end between two records is a dump of the grammar
+abbrev pub ReadsAreDumps : Type 0
+ReadsAreDumps = (bytes : List ℕ) (rs : List DumpRecord) (last : ReadState) → dump bytes ≡ Reads rs last → is_between last ≡ true → Dump bytes rs
+
+-- the byte that is refused: what stands before it was read
+pub record FirstFault (bytes : List ℕ) (rs : List DumpRecord) (f : DumpFault) : Type 0 where
+  pub front : List ℕ
+  pub byte : ℕ
+  pub more : List ℕ
+  pub whole : bytes ≡ front ++ byte ∷ more
+  pub before : List DumpRecord
+  pub state : ReadState
+  pub reads : dump front ≡ Reads before state
+  pub refuses : dump (front ++ byte ∷ []) ≡ Refuses rs f
+
+-- a refusal comes at a byte, which is the first that is refused
+abbrev pub RefusalsHaveAByte : Type 0
+RefusalsHaveAByte = (bytes : List ℕ) (rs : List DumpRecord) (f : DumpFault) → dump bytes ≡ Refuses rs f → FirstFault bytes rs f
+
+-- what is refused is no front of a dump
+abbrev pub RefusedIsNoFront : Type 0
+RefusedIsNoFront = (bytes more : List ℕ) (rs others : List DumpRecord) (f : DumpFault) → dump bytes ≡ Refuses rs f → Dump (bytes ++ more) others → ⊥
 
 -- one list of bytes is a dump of at most one list of records
 abbrev pub OneReading : Type 0

@@ -1,6 +1,6 @@
 //! Laws of dump text, as contracts of functions that do nothing.
 
-ghost use Rattle.dump_text.specs.Laws.{PiecesJoin, RefusalsStay, DumpsAreRead, OneReading, EntriesAreReadAgain, RevisionsAreReadAgain, WrittenIsRead};
+ghost use Rattle.dump_text.specs.Laws.{PiecesJoin, RefusalsStay, DumpsAreRead, ReadsAreDumps, RefusalsHaveAByte, RefusedIsNoFront, OneReading, EntriesAreReadAgain, RevisionsAreReadAgain, WrittenIsRead};
 
 /// It doesn't matter how a dump is cut into pieces.
 pub fn pieces_join()
@@ -15,6 +15,21 @@ pub fn refusals_stay()
 /// A dump of the grammar is read as its records.
 pub fn dumps_are_read()
     ensures { DumpsAreRead }
+{}
+
+/// What is read to an end between two records is a dump of the grammar.
+pub fn reads_are_dumps()
+    ensures { ReadsAreDumps }
+{}
+
+/// A refusal comes at a byte: what stands before it was read.
+pub fn refusals_have_a_byte()
+    ensures { RefusalsHaveAByte }
+{}
+
+/// What is refused is no front of a dump.
+pub fn refused_is_no_front()
+    ensures { RefusedIsNoFront }
 {}
 
 /// A list of bytes is a dump of at most one list of records.
