@@ -1,35 +1,23 @@
 -- What is written is read again.
-use Rattle.std.proofs.Common.{◌≡◌, ℕ, ◌+◌, ◌≤◌, ◌<◌, ◌^◌, ◌==◌, ◌&&◌, not, Bool, true, false, List, [], ◌∷◌, ◌++◌, length, nat_le, nat_lt, Some, None, Ok, refl, ap, ◌∙◌, append_assoc, length-append, arith}
+use Rattle.std.proofs.Common.{◌≡◌, ℕ, ◌+◌, ◌≤◌, ◌<◌, ◌^◌, ◌==◌, ◌&&◌, not, Bool, true, false, List, [], ◌∷◌, ◌++◌, length, nat_le, nat_lt, Some, Ok, refl, length-append, arith}
 use Rattle.std.specs.Prelude.{codes}
-use Rattle.std.specs.FinMap as map
 use Rattle.std.specs.Fmt.{decimal as printed}
 use Rattle.std.proofs.lemmas.Bool.Decides.{nat_tests}
 use Rattle.std.proofs.lemmas.Fmt.{length-decimal-le}
-use Rattle.node_base.specs.Props.{PropMap, IsProps}
 use Rattle.node_base.specs.Numbers.{decimal, is_digit, is_nil, all_bytes}
-use Rattle.node_base.specs.BlockCanon.{canon_block}
-use Rattle.node_base.specs.Blocks.{new_block}
-use Rattle.node_base.proofs.BlockSpelled.{both, block_long}
-use Rattle.node_base.proofs.BlockWritten.{spells_decimal, written_is_read}
+use Rattle.node_base.proofs.BlockSpelled.{both}
+use Rattle.node_base.proofs.BlockWritten.{spells_decimal}
 use Rattle.dump_text.specs.Headers.{revision_of}
 use Rattle.dump_text.specs.Heads.{line_says, no_head}
-use Rattle.dump_text.specs.Streams.{NoLf, Reads, reading, begin, of_block, judged}
-use Rattle.dump_text.specs.Canon.{canon_entry}
+use Rattle.dump_text.specs.Streams.{NoLf}
 use Rattle.dump_text.specs.Grammar.{HeadOf}
-use Rattle.dump_text.specs.declared.form.Stage.{Stage}
-use Rattle.dump_text.specs.declared.form.Stage.TheVariants.{Inside}
 use Rattle.dump_text.specs.declared.head.Head.{Head}
-use Rattle.dump_text.specs.declared.record.DumpRecord.{DumpRecord}
-use Rattle.dump_text.specs.declared.record.DumpRecord.TheVariants.{Revision}
-use Rattle.dump_text.specs.declared.state.Place.TheVariants as at
-use Rattle.dump_text.proofs.StreamRuns.{block_piece, reader}
-use Rattle.dump_text.proofs.Records.{head_read}
 
-abbrev has_no_lf : List ℕ → Bool
+abbrev pub has_no_lf : List ℕ → Bool
 has_no_lf [] = true
 has_no_lf (b ∷ bs) = not (b == 10) && has_no_lf bs
 
-not_true : (b : Bool) → not b ≡ true → b ≡ false
+pub not_true : (b : Bool) → not b ≡ true → b ≡ false
 not_true true e = cc
 not_true false e = refl
 
@@ -55,16 +43,16 @@ some_not_nil (b ∷ bs) h = refl
 lt_true : (a b : ℕ) → a < b → nat_lt a b ≡ true
 lt_true a b h = grind (arith, nat_tests)
 
-lt_false : (a b : ℕ) → b ≤ a → nat_lt a b ≡ false
+pub lt_false : (a b : ℕ) → b ≤ a → nat_lt a b ≡ false
 lt_false a b h = grind (arith, nat_tests)
 
-le_true : (a b : ℕ) → a ≤ b → nat_le a b ≡ true
+pub le_true : (a b : ℕ) → a ≤ b → nat_le a b ≡ true
 le_true a b h = grind (arith, nat_tests)
 
-eq_false : (a b : ℕ) → (a ≡ b → ⊥) → (a == b) ≡ false
+pub eq_false : (a b : ℕ) → (a ≡ b → ⊥) → (a == b) ≡ false
 eq_false a b h = grind (arith, nat_tests)
 
-eq_sum : (a : ℕ) → (a == a + 0) ≡ true
+pub eq_sum : (a : ℕ) → (a == a + 0) ≡ true
 eq_sum a = grind (arith, nat_tests)
 
 -- a number that is written is read
@@ -77,19 +65,19 @@ pub revision_read : (n : ℕ) → n ≤ 65535 → revision_of (printed n) ≡ So
 revision_read n h = rw (printed_read n (omega arith), lt_false 65535 n h) refl
 
 -- a header line with a number
-number_line : (name : List ℕ) (n : ℕ) → n < 2 ^ 64 → has_no_lf name ≡ true → NoLf (name ++ printed n)
+pub number_line : (name : List ℕ) (n : ℕ) → n < 2 ^ 64 → has_no_lf name ≡ true → NoLf (name ++ printed n)
 number_line name n h e = lone_append name (printed n) (lone_of name e) (lone_digits (printed n) (spells_decimal n h).digits_only)
 
-short_line : (name : List ℕ) (n : ℕ) → n < 2 ^ 64 → length name ≤ 100 → length (name ++ printed n) ≤ 4096
+pub short_line : (name : List ℕ) (n : ℕ) → n < 2 ^ 64 → length name ≤ 100 → length (name ++ printed n) ≤ 4096
 short_line name n h e = omega (arith, length-append name (printed n), length-decimal-le 20 n (omega arith) (omega arith) h)
 
-abbrev numbered : ℕ → Head
+abbrev pub numbered : ℕ → Head
 numbered n = record no_head { number = Some n }
 
-abbrev blocked : ℕ → ℕ → Head
+abbrev pub blocked : ℕ → ℕ → Head
 blocked n len = record (numbered n) { prop_len = Some len }
 
-abbrev whole : ℕ → ℕ → Head
+abbrev pub whole : ℕ → ℕ → Head
 whole n len = record (blocked n len) { content_len = Some len }
 
 number_says : (n : ℕ) → n ≤ 65535 → line_says no_head (codes "Revision-number: " ++ printed n) ≡ Ok (numbered n)
@@ -101,10 +89,10 @@ block_says n len h = rw (printed_read len h) refl
 content_says : (n len : ℕ) → len < 2 ^ 64 → line_says (blocked n len) (codes "Content-length: " ++ printed len) ≡ Ok (whole n len)
 content_says n len h = rw (printed_read len h) refl
 
-abbrev entry_lines : ℕ → ℕ → List (List ℕ)
+abbrev pub entry_lines : ℕ → ℕ → List (List ℕ)
 entry_lines n len = (codes "Revision-number: " ++ printed n) ∷ (codes "Prop-content-length: " ++ printed len) ∷ (codes "Content-length: " ++ printed len) ∷ []
 
-entry_head : (n len : ℕ) → n ≤ 65535 → len < 2 ^ 64 → HeadOf no_head (entry_lines n len) (whole n len)
+pub entry_head : (n len : ℕ) → n ≤ 65535 → len < 2 ^ 64 → HeadOf no_head (entry_lines n len) (whole n len)
 entry_head n len a b = (
   number_line (codes "Revision-number: ") n (omega arith) refl,
   omega (arith, length-append (codes "Revision-number: ") (printed n)),
@@ -120,21 +108,3 @@ entry_head n len a b = (
     (number_line (codes "Content-length: ") len b refl, omega (arith, length-append (codes "Content-length: ") (printed len)), short_line (codes "Content-length: ") len b (omega arith), whole n len, content_says n len b, refl),
   ),
 )
-
-entry_text : (a d b e c block more : List ℕ) → ((a ++ (d ++ 10 ∷ [])) ++ ((b ++ (e ++ 10 ∷ [])) ++ ((c ++ (e ++ 10 ∷ [])) ++ (10 ∷ [] ++ (block ++ 10 ∷ []))))) ++ more ≡ ((a ++ d) ++ 10 ∷ ((b ++ e) ++ 10 ∷ ((c ++ e) ++ 10 ∷ []))) ++ (10 ∷ (block ++ 10 ∷ more))
-entry_text a d b e c block more = simp append_assoc refl
-
--- a revision record is read again, whatever follows
-pub entry_read : (rs : List DumpRecord) (v : ℕ) (i : Stage) (n : ℕ) (props : PropMap) (more : List ℕ) → n ≤ 65535 → IsProps props → length (canon_block props) ≤ 33554432 → reading (Reads rs (begin v at.Between i)) (canon_entry n props ++ more) ≡ reading (Reads (rs ++ Revision n props ∷ []) (begin v at.Between Inside)) more
-entry_read rs v i n props more small p fits =
-    let block = canon_block props in
-    let len = length block in
-    let r = reader v at.Header i (whole n len) (new_block 0) None [] in
-    let r-2 = record r { place = at.Block; block = new_block len; held = [] } in
-    let some : 0 < len = omega (arith, block_long block (map.entries props) (written_is_read props more p).0) in
-    let judge : judged rs r ≡ Reads rs r-2 = rw (eq_sum len, le_true len 33554432 fits, eq_false len 0 (omega arith)) refl in
-    ap (reading (Reads rs (begin v at.Between i))) (entry_text (codes "Revision-number: ") (printed n) (codes "Prop-content-length: ") (printed len) (codes "Content-length: ") block more)
-    ∙ head_read rs v i (whole n len) (entry_lines n len) (10 ∷ (block ++ 10 ∷ more)) (omega arith) (entry_head n len small (omega arith))
-    ∙ ap (λ t. reading t (block ++ 10 ∷ more)) judge
-    ∙ block_piece rs r-2 (block ++ 10 ∷ more) refl
-    ∙ ap (of_block rs r-2) (written_is_read props (10 ∷ more) p).1

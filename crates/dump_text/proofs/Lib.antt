@@ -7,3 +7,9 @@ mod Writes
 mod Records
 mod CanonRead
 mod Kept
+mod PathLines
+mod SumLines
+mod HeadLines
+mod BlockSizes
+mod Written
+mod Converse

@@ -95,7 +95,7 @@ line_past place p rs v i h block ps held s b more lone e le ge =
     ∙ reading-refused rs TooLong more
 
 -- a piece is its bytes before one, that byte, and those behind it
-parts : (piece : List ℕ) (k : ℕ) → k < length piece → take k piece ++ get_or piece k 0 ∷ drop (k + 1) piece ≡ piece
+pub parts : (piece : List ℕ) (k : ℕ) → k < length piece → take k piece ++ get_or piece k 0 ∷ drop (k + 1) piece ≡ piece
 parts piece k h = rw (← drop_more piece k 0 h) (take-append-drop k piece)
 
 pub text_kept : (rs : List DumpRecord) (r : ReadState) (n : ℕ) (piece : List ℕ) → r.place ≡ at.Text n → (0 < length piece → length r.held + length piece < n) → reading (Reads rs r) piece ≡ Reads rs (record r { held = r.held ++ piece })

@@ -1,15 +1,17 @@
 -- Laws of dumps.
-use Rattle.std.specs.Prelude.{◌≡◌, ℕ, ◌≤◌, List, [], ◌∷◌, ◌++◌, length}
+use Rattle.std.specs.Prelude.{◌≡◌, ℕ, ◌≤◌, true, List, [], ◌∷◌, ◌++◌, Option, IfSome}
 use Rattle.node_base.specs.Props.{PropMap, IsProps}
-use Rattle.node_base.specs.BlockCanon.{canon_block}
 use Rattle.dump_text.specs.declared.form.Stage.{Stage}
 use Rattle.dump_text.specs.declared.form.Stage.TheVariants.{First, Inside}
 use Rattle.dump_text.specs.declared.record.DumpRecord.TheVariants.{Revision}
-use Rattle.dump_text.specs.Canon.{canon_entry}
+use Rattle.dump_text.specs.declared.record.RevRecord.{RevRecord}
+use Rattle.dump_text.specs.Canon.{canon_entry, canon_revision}
+use Rattle.dump_text.specs.Written.{IsRevision, AreRevisions, IsIdentity, read_revision, canon_dump, read_dump}
 use Rattle.dump_text.specs.declared.record.DumpRecord.{DumpRecord}
 use Rattle.dump_text.specs.declared.fault.DumpFault.{DumpFault}
 use Rattle.dump_text.specs.declared.state.Place.TheVariants as at
-use Rattle.dump_text.specs.Streams.{Stream, Reads, Refuses, reading, dump, begin}
+use Rattle.dump_text.specs.Streams.{Stream, Reads, Refuses, reading, dump, begin, is_between}
+use Rattle.dump_text.specs.declared.state.ReadState.{ReadState}
 use Rattle.dump_text.specs.Grammar.{Dump, stage_behind}
 
 -- it doesn't matter how the bytes are cut
@@ -24,10 +26,41 @@ RefusalsStay = (bytes more : List ℕ) (rs : List DumpRecord) (f : DumpFault) �
 abbrev pub DumpsAreRead : Type 0
 DumpsAreRead = (bytes : List ℕ) (rs : List DumpRecord) → Dump bytes rs → dump bytes ≡ Reads rs (begin 2 at.Between (stage_behind First rs))
 
+-- what is read to an end between two records is a dump of the grammar
+abbrev pub ReadsAreDumps : Type 0
+ReadsAreDumps = (bytes : List ℕ) (rs : List DumpRecord) (last : ReadState) → dump bytes ≡ Reads rs last → is_between last ≡ true → Dump bytes rs
+
+-- the byte that is refused: what stands before it was read
+pub record FirstFault (bytes : List ℕ) (rs : List DumpRecord) (f : DumpFault) : Type 0 where
+  pub front : List ℕ
+  pub byte : ℕ
+  pub more : List ℕ
+  pub whole : bytes ≡ front ++ byte ∷ more
+  pub before : List DumpRecord
+  pub state : ReadState
+  pub reads : dump front ≡ Reads before state
+  pub refuses : dump (front ++ byte ∷ []) ≡ Refuses rs f
+
+-- a refusal comes at a byte, which is the first that is refused
+abbrev pub RefusalsHaveAByte : Type 0
+RefusalsHaveAByte = (bytes : List ℕ) (rs : List DumpRecord) (f : DumpFault) → dump bytes ≡ Refuses rs f → FirstFault bytes rs f
+
+-- what is refused is no front of a dump
+abbrev pub RefusedIsNoFront : Type 0
+RefusedIsNoFront = (bytes more : List ℕ) (rs others : List DumpRecord) (f : DumpFault) → dump bytes ≡ Refuses rs f → Dump (bytes ++ more) others → ⊥
+
 -- one list of bytes is a dump of at most one list of records
 abbrev pub OneReading : Type 0
 OneReading = (bytes : List ℕ) (rs others : List DumpRecord) → Dump bytes rs → Dump bytes others → rs ≡ others
 
 -- what is written of a revision's number and properties is read again as that record, whatever stands before it and follows it
 abbrev pub EntriesAreReadAgain : Type 0
-EntriesAreReadAgain = (rs : List DumpRecord) (version : ℕ) (stage : Stage) (n : ℕ) (props : PropMap) (more : List ℕ) → n ≤ 65535 → IsProps props → length (canon_block props) ≤ 33554432 → reading (Reads rs (begin version at.Between stage)) (canon_entry n props ++ more) ≡ reading (Reads (rs ++ Revision n props ∷ []) (begin version at.Between Inside)) more
+EntriesAreReadAgain = (rs : List DumpRecord) (version : ℕ) (stage : Stage) (n : ℕ) (props : PropMap) (more : List ℕ) → n ≤ 65535 → IsProps props → reading (Reads rs (begin version at.Between stage)) (canon_entry n props ++ more) ≡ reading (Reads (rs ++ Revision n props ∷ []) (begin version at.Between Inside)) more
+
+-- so is what is written of a whole revision; but of a deletion the kind isn't written
+abbrev pub RevisionsAreReadAgain : Type 0
+RevisionsAreReadAgain = (rs : List DumpRecord) (version : ℕ) (stage : Stage) (r : RevRecord) (more : List ℕ) → IsRevision r → reading (Reads rs (begin version at.Between stage)) (canon_revision r ++ more) ≡ reading (Reads (rs ++ read_revision r) (begin version at.Between Inside)) more
+
+-- a head and revisions that are written are a dump of the grammar, and are read as their records
+abbrev pub WrittenIsRead : Type 0
+WrittenIsRead = (id : Option (List ℕ)) (revisions : List RevRecord) → IfSome id IsIdentity → AreRevisions revisions → Dump (canon_dump id revisions) (read_dump id revisions) × (dump (canon_dump id revisions) ≡ Reads (read_dump id revisions) (begin 2 at.Between (stage_behind First (read_dump id revisions))))

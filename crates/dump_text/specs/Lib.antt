@@ -6,3 +6,4 @@ pub mod Streams
 pub mod Grammar
 pub mod Laws
 pub mod Canon
+pub mod Written

@@ -1,6 +1,6 @@
 //! Laws of dump text, as contracts of functions that do nothing.
 
-ghost use Rattle.dump_text.specs.Laws.{PiecesJoin, RefusalsStay, DumpsAreRead, OneReading, EntriesAreReadAgain};
+ghost use Rattle.dump_text.specs.Laws.{PiecesJoin, RefusalsStay, DumpsAreRead, ReadsAreDumps, RefusalsHaveAByte, RefusedIsNoFront, OneReading, EntriesAreReadAgain, RevisionsAreReadAgain, WrittenIsRead};
 
 /// It doesn't matter how a dump is cut into pieces.
 pub fn pieces_join()
@@ -17,6 +17,21 @@ pub fn dumps_are_read()
     ensures { DumpsAreRead }
 {}
 
+/// What is read to an end between two records is a dump of the grammar.
+pub fn reads_are_dumps()
+    ensures { ReadsAreDumps }
+{}
+
+/// A refusal comes at a byte: what stands before it was read.
+pub fn refusals_have_a_byte()
+    ensures { RefusalsHaveAByte }
+{}
+
+/// What is refused is no front of a dump.
+pub fn refused_is_no_front()
+    ensures { RefusedIsNoFront }
+{}
+
 /// A list of bytes is a dump of at most one list of records.
 pub fn one_reading()
     ensures { OneReading }
@@ -25,4 +40,14 @@ pub fn one_reading()
 /// What is written of a revision's number and properties is read again, whatever follows.
 pub fn entries_are_read_again()
     ensures { EntriesAreReadAgain }
+{}
+
+/// What is written of a revision is read again, whatever follows: as the same records, but that a deletion's kind isn't written.
+pub fn revisions_are_read_again()
+    ensures { RevisionsAreReadAgain }
+{}
+
+/// A head and revisions that are written are a dump of the grammar, and are read as their records.
+pub fn written_is_read()
+    ensures { WrittenIsRead }
 {}

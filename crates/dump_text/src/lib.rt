@@ -12,6 +12,7 @@ mod head;
 mod header;
 mod held;
 pub mod law;
+mod limits;
 mod reader;
 mod record;
 mod state;

@@ -1,7 +1,9 @@
 //! Dumps that come in pieces.
 
-ghost use Rattle.std.specs.Prelude.{◌≡◌, ◌≤◌, ◌+◌, length, Ok, Err, OnErr, true, false, if◌then◌else◌};
-ghost use Rattle.dump_text.specs.Streams.{version_of, kept, StreamIs, Reads, fresh, spent, reading, has_failed, is_between, IsFront};
+ghost use Rattle.std.specs.Prelude.{◌≡◌, ℕ, List, ◌≤◌, ◌+◌, length, Ok, Err, OnOk, OnErr, true, false, if◌then◌else◌};
+ghost use Rattle.dump_text.specs.Streams.{version_of, kept, StreamIs, Reads, fresh, spent, reading, dump, has_failed, is_between, IsFront};
+ghost use Rattle.dump_text.specs.Grammar.{Dump};
+ghost use Rattle.dump_text.specs.declared.record.DumpRecord.{DumpRecord};
 ghost use Rattle.dump_text.specs.declared.fault.DumpFault.TheVariants.{Failed, Truncated};
 
 use crate::fault::DumpFault;
@@ -70,6 +72,8 @@ impl DumpReader {
     pub fn finish(self) -> Result<(), DumpFault>
         ensures failed { has_failed self ≡ true → result ≡ Err Failed }
         ensures ended { has_failed self ≡ false → result ≡ (if is_between self then Ok tt else Err Truncated) }
+        // what was read is a dump of the grammar
+        ensures dump { OnOk result ((bytes : List ℕ) (rs : List DumpRecord) → dump bytes ≡ Reads rs self → Dump bytes rs) }
     {
         if self.state.has_failed() {
             return Err(DumpFault::Failed);

@@ -1,12 +1,16 @@
 //! The canonical spelling.
 
-ghost use Rattle.std.specs.Prelude.{◌≡◌, ◌+◌, length, OnOk, codes};
+ghost use Rattle.std.specs.Prelude.{◌≡◌, ◌+◌, [], ◌∷◌, length, Some, OnOk, codes};
 ghost use Rattle.std.specs.List.{flat_map};
 ghost use Rattle.std.specs.Io.KnownBytes.{Appends};
 ghost use Rattle.hex.specs.Hex.{encode_lower};
 ghost use Rattle.md5.specs.Md5.{md5};
+ghost use Rattle.dump_text.specs.Grammar.{Dump};
+ghost use Rattle.dump_text.specs.Written.{AreRecords, AreFormed, read_identity, read_revision};
+ghost use Rattle.dump_text.specs.declared.record.DumpRecord.TheVariants.{Revision};
 ghost use Rattle.dump_text.specs.Canon.{header_line, canon_identity, canon_head, canon_entry, canon_node, canon_revision, kind_word, action_word, told_kind, kind_line, source_lines, block_of, block_line, text_of, text_lines, content_line, content_of, now_of};
 
+use crate::limits::{entry_reads_again, revision_reads_again};
 use crate::record::{NodeRecord, PropPart, RevRecord};
 use node_base::{Action, NodeKind, Props, RevNo, Source, Text};
 use std::io;
@@ -15,7 +19,9 @@ use uuid::Uuid;
 
 /// Writes the version block, and the identity's block where one is given.
 pub fn write_head<W: Write>(out: &mut W, uuid: Option<&Uuid>) -> io::Result<()>
-    ensures { OnOk result (Appends (W.contents out.old) (W.contents out.new) (canon_head (now_of uuid.entry))) }
+    ensures bytes { OnOk result (Appends (W.contents out.old) (W.contents out.new) (canon_head (now_of uuid.entry))) }
+    // read again, these bytes are a dump of that identity alone
+    ensures again { OnOk result (Dump (canon_head (now_of uuid.entry)) (read_identity (now_of uuid.entry))) }
 {
     out.write_all(b"SVN-fs-dump-format-version: 2\n\n")?;
     write_identity(out, uuid)?;
@@ -23,16 +29,18 @@ pub fn write_head<W: Write>(out: &mut W, uuid: Option<&Uuid>) -> io::Result<()>
 }
 
 fn write_identity<W: Write>(out: &mut W, uuid: Option<&Uuid>) -> io::Result<()>
-    ensures { OnOk result (Appends (W.contents out.old) (W.contents out.new) (canon_identity (now_of uuid.entry))) }
+    ensures bytes { OnOk result (Appends (W.contents out.old) (W.contents out.new) (canon_identity (now_of uuid.entry))) }
+    ensures again { OnOk result (Dump (canon_head (now_of uuid.entry)) (read_identity (now_of uuid.entry))) }
 {
-    if let Some(uuid) = uuid {
-        write_uuid(out, uuid)?;
+    match uuid {
+        Some(uuid) => write_uuid(out, uuid),
+        None => Ok(()),
     }
-    Ok(())
 }
 
 fn write_uuid<W: Write>(out: &mut W, uuid: &Uuid) -> io::Result<()>
-    ensures { OnOk result (Appends (W.contents out.old) (W.contents out.new) (canon_identity (Some uuid.now))) }
+    ensures bytes { OnOk result (Appends (W.contents out.old) (W.contents out.new) (canon_identity (Some uuid.now))) }
+    ensures again { OnOk result (Dump (canon_head (Some uuid.now)) (read_identity (Some uuid.now))) }
 {
     let mut buffer = Uuid::encode_buffer();
     let text = uuid.hyphenated().encode_lower(&mut buffer);
@@ -44,6 +52,16 @@ fn write_uuid<W: Write>(out: &mut W, uuid: &Uuid) -> io::Result<()>
 
 /// Writes a revision record: the number, the property block, and no nodes.
 pub fn write_props_entry<W: Write>(out: &mut W, number: RevNo, props: &Props) -> io::Result<()>
+    ensures bytes { OnOk result (Appends (W.contents out.old) (W.contents out.new) (canon_entry number props.now)) }
+    // read again, these bytes are that record, whatever stands before them
+    ensures again { AreRecords (canon_entry number props.now) (Revision number props.now ∷ []) }
+{
+    entry_reads_again(number, props);
+    write_entry(out, number, props)?;
+    Ok(())
+}
+
+fn write_entry<W: Write>(out: &mut W, number: RevNo, props: &Props) -> io::Result<()>
     ensures { OnOk result (Appends (W.contents out.old) (W.contents out.new) (canon_entry number props.now)) }
 {
     let len = props.block_len();
@@ -58,9 +76,12 @@ pub fn write_props_entry<W: Write>(out: &mut W, number: RevNo, props: &Props) ->
 
 /// Writes a revision with its nodes, in the order in which they stand.
 pub fn write_revision<W: Write>(out: &mut W, revision: &RevRecord) -> io::Result<()>
-    ensures { OnOk result (Appends (W.contents out.old) (W.contents out.new) (canon_revision revision.now)) }
+    ensures bytes { OnOk result (Appends (W.contents out.old) (W.contents out.new) (canon_revision revision.now)) }
+    // read again, these bytes are the same records, but that a deletion's kind isn't written
+    ensures again { AreFormed revision.now.nodes.items → AreRecords (canon_revision revision.now) (read_revision revision.now) }
 {
-    write_props_entry(out, revision.number, &revision.props)?;
+    revision_reads_again(revision);
+    write_entry(out, revision.number, &revision.props)?;
     write_nodes(out, revision.nodes.as_slice())?;
     Ok(())
 }

@@ -1,5 +1,5 @@
-use Rattle.dump_text.proofs.CanonRead.{entry_read}
+use Rattle.dump_text.proofs.Written.{entry_again}
 use Rattle.dump_text.proofs.law.entries_are_read_again.Goals as goal
 
 pub returns : goal.returns
-returns c = entry_read
+returns c = entry_again

@@ -4,7 +4,7 @@ use Rattle.std.specs.Fmt.{decimal as printed}
 use Rattle.node_base.specs.BlockCanon.{canon_block}
 use Rattle.dump_text.specs.Canon.{header_line}
 use Rattle.dump_text.proofs.Writes.{join, wrote_as}
-use Rattle.dump_text.proofs.writer.write_props_entry.Goals as goal
+use Rattle.dump_text.proofs.writer.write_entry.Goals as goal
 
 pub returns : goal.returns
 returns g c =
