@@ -59,7 +59,7 @@ pub fn recover<D: Disk>(alloc: Global, disk: &mut D) -> Result<Vec<u64>, LogFaul
     ensures honest { D.honest disk.old ↔ D.honest disk.new }
     ensures later { D.failures disk.old ≤ D.failures disk.new }
 {
-    disk.sync()?;
+    disk.sync()?; // From here on a stop leaves what a read gives.
     let ends = find_ends(alloc, disk)?;
     cut_back(disk, &ends)?;
     Ok(ends)
