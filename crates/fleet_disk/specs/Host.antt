@@ -1,7 +1,11 @@
 -- What is known of a disk of the host.
-use Rattle.std.specs.Prelude.{ℕ}
+use Rattle.std.specs.Prelude.{ℕ, IsSome}
 use Rattle.fleet_disk.specs.declared.host.HostDisk.{HostDisk}
 
 -- how often a call of the host has failed
 abbrev pub failures_of : {F : Type 0} → HostDisk F → ℕ
 failures_of disk = disk.failures
+
+-- both files are open
+abbrev pub HasFiles : {F : Type 0} → HostDisk F → Type 0
+HasFiles disk = IsSome disk.journal × IsSome disk.gate

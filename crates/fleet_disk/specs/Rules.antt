@@ -58,6 +58,12 @@ pub record LeavesOnly {D : Type 0} (clock : D → ℕ) (left_since : D → ℕ �
   -- for a run of calls that began earlier
   pub before : (t : ℕ) (c : Image) → t ≤ clock old → left_since new t c → left_since old t c ⊎ P c
 
+-- At some moment from old to new the disk was `settled`: a stop up to there leaves what it could leave at first, and one from there on an image that has P.
+pub record Settles {D : Type 0} (may_leave : D → Image → Type 0) (clock : D → ℕ) (left_since : D → ℕ → Image → Type 0) (old new : D) (P : Image → Type 0) : Type 0 where
+  pub settled : D
+  pub until : LeavesOnly clock left_since old settled (may_leave old)
+  pub since : LeavesOnly clock left_since settled new P
+
 -- the failure count rose; at its greatest it counts as risen
 abbrev pub Rose : ℕ → ℕ → Type 0
 Rose before now = (before < now) ⊎ (2 ^ 64 ≤ now + 1)

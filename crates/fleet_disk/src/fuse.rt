@@ -1,6 +1,6 @@
 //! A disk whose calls fail after a number of them.
 ghost use Rattle.std.specs.Prelude.{◌≡◌, ◌≤◌, ◌<◌, ◌+◌, ℕ, IsTrue, IsFalse};
-ghost use Rattle.fleet_disk.specs.Fused.{inner_of};
+ghost use Rattle.fleet_disk.specs.Fused.{inner_of, passing_of, fuse_of};
 ghost use Rattle.fleet_disk.specs.Rules.{Rose};
 
 use crate::disk::{Disk, DiskFault, DiskFile};
@@ -26,9 +26,11 @@ pub struct FuseDisk<D: Disk> {
 }
 
 impl<D: Disk> FuseDisk<D> {
-    /// This many calls pass.
+    /// This many calls pass; then one fails, or each, as the fuse says.
     pub fn new(inner: D, calls: u64, fuse: Fuse) -> FuseDisk<D>
-        ensures { inner_of result ≡ inner }
+        ensures inner { inner_of result ≡ inner }
+        ensures calls { passing_of result ≡ calls }
+        ensures fuse { fuse_of result ≡ fuse }
     {
         FuseDisk {
             inner,

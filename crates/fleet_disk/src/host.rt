@@ -1,6 +1,6 @@
 //! A disk in a folder of the host.
 ghost use Rattle.std.specs.Prelude.{◌≡◌, ◌≤◌, ℕ, [], length, IfOk};
-ghost use Rattle.fleet_disk.specs.Host.{failures_of};
+ghost use Rattle.fleet_disk.specs.Host.{failures_of, HasFiles};
 ghost use Rattle.fleet_disk.specs.Image.{Image, no_bytes};
 ghost use Rattle.fleet_disk.specs.Rules.{Rose};
 
@@ -26,7 +26,7 @@ pub struct HostDisk<F: Read + Write + Seek + OpenFile> {
 impl<F: Read + Write + Seek + OpenFile + Drop> HostDisk<F> {
     /// Opens the files of a folder, and makes none. No failure is counted yet. The host or memory may refuse.
     pub fn open<R: Files<File = F>>(rt: &R, alloc: Global, folder: &str) -> io::Result<HostDisk<F>>
-        ensures { IfOk result (λ disk. failures_of disk ≡ 0) }
+        ensures failures { IfOk result (λ disk. failures_of disk ≡ 0) }
     {
         Ok(HostDisk {
             journal: existing(rt, format!(in alloc; "{folder}/journal")?.as_str())?,
@@ -35,14 +35,15 @@ impl<F: Read + Write + Seek + OpenFile + Drop> HostDisk<F> {
         })
     }
 
-    /// Opens the files of a folder, and makes those that are missing. No failure is counted yet. The host or memory
-    /// may refuse.
+    /// Opens the files of a folder, and makes those that are missing; both are open then. No failure is counted yet.
+    /// The host or memory may refuse.
     pub fn create<R: Files<File = F>>(
         rt: &R,
         alloc: Global,
         folder: &str,
     ) -> io::Result<HostDisk<F>>
-        ensures { IfOk result (λ disk. failures_of disk ≡ 0) }
+        ensures failures { IfOk result (λ disk. failures_of disk ≡ 0) }
+        ensures files { IfOk result HasFiles }
     {
         let journal = made(rt, format!(in alloc; "{folder}/journal")?.as_str())?;
         let gate = made(rt, format!(in alloc; "{folder}/gate")?.as_str())?;

@@ -88,6 +88,7 @@ impl MemDisk {
         ensures picked { IfOk result (λ disk. now_of disk ≡ picked_of pick self.now) }
         ensures left { IfOk result (λ disk. MayLeave self.now (now_of disk)) }
         ensures durable { IfOk result (λ disk. Only (now_of disk) (MayLeave disk)) }
+        ensures calls { IfOk result (λ disk. calls_of disk ≡ []) }
     {
         let mut left = self.first.copy(self.alloc)?;
         let mut read = self.first.copy(self.alloc)?;

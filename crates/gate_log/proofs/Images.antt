@@ -78,7 +78,7 @@ module _ (ends : List ℕ) (rest : Image) (up : IsRising 0 ends) (at_rest : IsAt
     pub staged_gate : rest.gate ++ (eight_bytes end ++ 0 ∷ []) ≡ gate_with (gate_behind ends rest)
     staged_gate = ap (λ (l : List ℕ). l ++ (eight_bytes end ++ 0 ∷ [])) at_rest.gates ∙ append_assoc (slots ends) (gate_behind ends rest ∷ []) (eight_bytes end ++ 0 ∷ [])
 
-    opened_gate : gate_with 1 ≡ slots (ends ++ end ∷ []) ++ 0 ∷ []
+    pub opened_gate : gate_with 1 ≡ slots (ends ++ end ∷ []) ++ 0 ∷ []
     opened_gate = sym (append_assoc (slots ends) (1 ∷ eight_bytes end) (0 ∷ [])) ∙ ap (λ (l : List ℕ). l ++ 0 ∷ []) (sym (slots_push ends end))
 
     new_rising : IsRising 0 (ends ++ end ∷ [])

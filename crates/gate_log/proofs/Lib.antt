@@ -6,3 +6,4 @@ pub mod Filling
 pub mod Damage
 pub mod Cutting
 pub mod Alike
+pub mod Settling

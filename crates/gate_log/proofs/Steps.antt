@@ -7,7 +7,7 @@ use Rattle.fleet_disk.specs.Rules.{overwritten, Torn, OnFile, Follows, Only}
 use Rattle.gate_log.specs.Slots.{eight_bytes, slots}
 use Rattle.gate_log.specs.Standing.{last_end, IsRising, parts, Stands, IsAtRest, IsEither, gate_behind}
 use Rattle.gate_log.proofs.EndLemmas.{length-slots}
-use Rattle.gate_log.proofs.Images.{Extends, over_end, torn_end, torn_byte, over_byte, extended, staged_gate, gate_decides, at_rest_push, gate_with}
+use Rattle.gate_log.proofs.Images.{Extends, over_end, torn_end, torn_byte, over_byte, extended, staged_gate, opened_gate, gate_decides, at_rest_push, gate_with}
 
 module _ (ends : List ℕ) (rest : Image) (up : IsRising 0 ends) (at_rest : IsAtRest ends rest) where
   pub gate_length : length rest.gate ≡ 9 * length ends + 1
@@ -66,3 +66,9 @@ module _ (ends : List ℕ) (rest : Image) (up : IsRising 0 ends) (at_rest : IsAt
     opened at c place over same =
         at_rest_push ends rest up at_rest entry end some is fits c (same ∙ journal)
         (over ∙ ap (overwritten at (1 ∷ [])) whole ∙ over_byte (slots ends) (gate_behind ends rest) 1 (eight_bytes end ++ 0 ∷ []) at (place ∙ sym (length-slots ends)))
+
+    -- and the gate file, byte by byte
+    pub opened_gates : (at : ℕ) (c : Image) → at ≡ 9 * length ends → c.gate ≡ overwritten at (1 ∷ []) staged.gate → c.gate ≡ slots (ends ++ end ∷ []) ++ 0 ∷ []
+    opened_gates at c place over =
+        over ∙ ap (overwritten at (1 ∷ [])) whole ∙ over_byte (slots ends) (gate_behind ends rest) 1 (eight_bytes end ++ 0 ∷ []) at (place ∙ sym (length-slots ends))
+        ∙ opened_gate ends rest up at_rest entry end some is fits

@@ -1,7 +1,7 @@
 -- Which entries stand in an image.
-use Rattle.std.specs.Prelude.{◌≡◌, ◌≢◌, ◌⊎◌, ◌<◌, ◌≤◌, ◌+◌, ◌-◌, ◌*◌, ◌^◌, ℕ, List, [], ◌∷◌, ◌++◌, length, take, drop, get_or}
+use Rattle.std.specs.Prelude.{◌≡◌, ◌≢◌, ◌⊎◌, ◌<◌, ◌≤◌, ◌+◌, ◌-◌, ◌^◌, ℕ, List, [], ◌∷◌, ◌++◌, length, take, drop, get_or}
 use Rattle.fleet_disk.specs.Image.{Image}
-use Rattle.gate_log.specs.Slots.{eight_bytes, slots}
+use Rattle.gate_log.specs.Slots.{eight_bytes, slots, slot_size, gate_place}
 
 -- the journal's length behind the last entry, where the first begins at `from`
 abbrev pub last_end : ℕ → List ℕ → ℕ
@@ -34,7 +34,7 @@ Stands image entries = (ends : List ℕ) × StandsAt ends image × (entries ≡ 
 
 -- the gate behind the entries
 abbrev pub gate_behind : List ℕ → Image → ℕ
-gate_behind ends image = get_or image.gate (9 * length ends) 0
+gate_behind ends image = get_or image.gate (gate_place (length ends)) 0
 
 -- nothing but these entries is there, with a closed gate behind them
 pub record IsAtRest (ends : List ℕ) (image : Image) : Type 0 where
@@ -64,8 +64,16 @@ pub record IsDamagedAt (entry : ℕ) (image : Image) : Type 0 where
   pub fits : last_end 0 ends < 2 ^ 64
   pub rest : List ℕ
   pub gates : image.gate ≡ slots ends ++ 1 ∷ rest
-  pub breaks : (length rest < 9) ⊎ BadLength (last_end 0 ends) (length image.journal) rest
+  pub breaks : (length rest < slot_size) ⊎ BadLength (last_end 0 ends) (length image.journal) rest
 
--- the image stands for what the first stands for
+-- the image stands for whatever the first stands for
+abbrev pub StandsAs : Image → Image → Type 0
+StandsAs first image = (entries : List (List ℕ)) → Stands first entries → Stands image entries
+
+-- there is no entry, and one gate at most
+abbrev pub IsBlank : Image → Type 0
+IsBlank image = (image.journal ≡ []) × (length image.gate ≤ 1)
+
+-- both stand for the same entries
 abbrev pub StandsAlike : Image → Image → Type 0
 StandsAlike first image = (entries : List (List ℕ)) × Stands first entries × Stands image entries

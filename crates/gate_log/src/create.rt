@@ -1,10 +1,11 @@
 //! The device calls that begin a log.
 ghost use Rattle.std.specs.Prelude.{◌≡◌, ◌≢◌, ◌⊎◌, ◌<◌, ◌≤◌, ◌+◌, ◌^◌, ◌∷◌, ◌↔◌, [], length, IfErr, OnOk, IsErrOf};
 ghost use Rattle.fleet_disk.specs.Image.{Image, no_bytes};
-ghost use Rattle.fleet_disk.specs.Rules.{Only, Rose};
-ghost use Rattle.gate_log.specs.Standing.{IsAtRest};
+ghost use Rattle.fleet_disk.specs.Rules.{Only, LeavesOnly, Rose};
+ghost use Rattle.gate_log.specs.Standing.{IsAtRest, IsBlank};
 
 use crate::fault::LogFault;
+use crate::reads::length_of;
 use crate::slots::CLOSED;
 use fleet_disk::{Disk, DiskFile};
 
@@ -13,14 +14,17 @@ pub fn begin<D: Disk>(disk: &mut D) -> Result<(), LogFault>
     ensures empty { D.honest disk.old → OnOk result (D.reads disk.old ≡ no_bytes) }
     ensures at_rest { D.honest disk.old → OnOk result (IsAtRest [] (D.reads disk.new)) }
     ensures durable { D.honest disk.old → OnOk result (Only (D.reads disk.new) (D.may_leave disk.new)) }
+    ensures journal { D.honest disk.old → OnOk result ((D.reads disk.new).journal ≡ []) }
+    ensures gates { D.honest disk.old → OnOk result ((D.reads disk.new).gate ≡ 0 ∷ []) }
+    ensures any_moment { D.honest disk.old → Only no_bytes (D.may_leave disk.old) → LeavesOnly D.clock D.left_since disk.old disk.new IsBlank }
     ensures there { D.honest disk.old → IsErrOf result LogFault.ThereAlready → D.reads disk.old ≢ no_bytes }
     ensures device { IsErrOf result LogFault.DeviceFailed → Rose (D.failures disk.old) (D.failures disk.new) }
     ensures no_other { IfErr result (λ e. (e ≡ LogFault.DeviceFailed) ⊎ (e ≡ LogFault.ThereAlready)) }
     ensures honest { D.honest disk.old ↔ D.honest disk.new }
     ensures later { D.failures disk.old ≤ D.failures disk.new }
 {
-    let journal = disk.len(DiskFile::Journal)?;
-    let gate = disk.len(DiskFile::Gate)?;
+    let journal = length_of(disk, DiskFile::Journal)?;
+    let gate = length_of(disk, DiskFile::Gate)?;
     if journal > 0 || gate > 0 {
         return Err(LogFault::ThereAlready);
     }

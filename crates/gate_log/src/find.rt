@@ -1,15 +1,15 @@
 //! Which entries stand on a disk.
-ghost use Rattle.std.specs.Prelude.{◌≡◌, ◌≢◌, ◌⊎◌, ◌<◌, ◌≤◌, ◌+◌, ◌*◌, ◌^◌, ◌↔◌, ℕ, [], IsTrue, length, take, drop, get_or, IfOk, IfErr, IsErrOf};
+ghost use Rattle.std.specs.Prelude.{◌≡◌, ◌≢◌, ◌⊎◌, ◌<◌, ◌≤◌, ◌+◌, ◌^◌, ◌↔◌, ℕ, [], IsTrue, length, take, drop, get_or, IfOk, IfErr, IsErrOf};
 ghost use Rattle.fleet_disk.specs.Image.{Image};
 ghost use Rattle.fleet_disk.specs.Rules.{HasCause, Rose};
 ghost use Rattle.gate_log.specs.Faults.{IsFindFault};
 ghost use Rattle.gate_log.specs.Looks.{Looks};
-ghost use Rattle.gate_log.specs.Slots.{eight_bytes};
+ghost use Rattle.gate_log.specs.Slots.{eight_bytes, gates_size};
 ghost use Rattle.gate_log.specs.Standing.{IsRising, StandsAt, HasNoEntry, IsDamagedAt};
 
 use crate::fault::LogFault;
 use crate::reads::{length_of, read_full};
-use crate::slots::{CLOSED, OPEN};
+use crate::slots::{CLOSED, GATE_BYTES, LENGTH_BYTES, OPEN, SLOT_BYTES};
 use fleet_disk::{Disk, DiskFault, DiskFile};
 use std::alloc::Global;
 
@@ -33,7 +33,7 @@ fn read_length<D: Disk>(disk: &mut D, at: u64) -> Result<u64, DiskFault>
     ensures looks { Looks D.honest D.reads D.may_leave D.clock D.left_since D.failures disk.old disk.new }
     ensures cause { HasCause (D.failures disk.old) (D.failures disk.new) result }
 {
-    let mut length = [CLOSED; 8];
+    let mut length = [CLOSED; LENGTH_BYTES];
     read_full(disk, DiskFile::Gate, at, &mut length)?;
     Ok(u64::from_be_bytes(length))
 }
@@ -43,7 +43,7 @@ pub fn find_ends<D: Disk>(alloc: Global, disk: &mut D) -> Result<Vec<u64>, LogFa
     ensures stands { D.honest disk.old → IfOk result (λ ends. StandsAt ends.items (D.reads disk.old)) }
     ensures some { IfOk result (λ ends. 0 < length ends.items) }
     ensures rising { IfOk result (λ ends. IsRising 0 ends.items) }
-    ensures room { IfOk result (λ ends. 9 * length ends.items + 1 < 2 ^ 64) }
+    ensures room { IfOk result (λ ends. gates_size (length ends.items) < 2 ^ 64) }
     ensures damaged { D.honest disk.old → (entry : ℕ) → IsErrOf result (LogFault.Damaged entry) → IsDamagedAt entry (D.reads disk.old) }
     ensures missing { D.honest disk.old → IsErrOf result LogFault.NoRepository → HasNoEntry (D.reads disk.old) }
     ensures device { IsErrOf result LogFault.DeviceFailed → Rose (D.failures disk.old) (D.failures disk.new) }
@@ -61,16 +61,16 @@ pub fn find_ends<D: Disk>(alloc: Global, disk: &mut D) -> Result<Vec<u64>, LogFa
             break;
         }
         let entry = ends.len() as u64;
-        if gates - at < 10 {
+        if gates - at < SLOT_BYTES + GATE_BYTES {
             return Err(LogFault::Damaged(entry));
         }
-        let end = read_length(disk, at + 1)?;
+        let end = read_length(disk, at + GATE_BYTES)?;
         if end <= last || end > journal {
             return Err(LogFault::Damaged(entry));
         }
         ends.push(end)?;
         last = end;
-        at += 9;
+        at += SLOT_BYTES;
     }
     if ends.is_empty() {
         return Err(LogFault::NoRepository);

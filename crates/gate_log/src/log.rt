@@ -1,10 +1,11 @@
 //! The log.
-ghost use Rattle.std.specs.Prelude.{◌≡◌, ◌≢◌, ◌⊎◌, ◌<◌, ◌≤◌, ◌+◌, ◌*◌, ◌^◌, ◌++◌, ◌∷◌, ◌↔◌, [], List, ℕ, false, length, slice_get, Some, IsTrue, IfOk, IfErr, OnOk, OnErr, IsErrOf};
+ghost use Rattle.std.specs.Prelude.{◌≡◌, ◌≢◌, ◌⊎◌, ◌<◌, ◌≤◌, ◌+◌, ◌*◌, ◌^◌, ◌++◌, ◌∷◌, ◌↔◌, [], List, ℕ, false, length, take, slice_get, Some, IsTrue, IfOk, IfErr, OnOk, OnErr, IsErrOf};
 ghost use Rattle.std.proofs.Props.{props};
 ghost use Rattle.fleet_disk.specs.Image.{Image, no_bytes};
-ghost use Rattle.fleet_disk.specs.Rules.{Only, LeavesOnly, Rose, Within};
+ghost use Rattle.fleet_disk.specs.Rules.{Only, LeavesOnly, Settles, Rose, Within};
 ghost use Rattle.gate_log.specs.Faults.{IsFindFault};
-ghost use Rattle.gate_log.specs.Standing.{last_end, IsRising, IsAtRest, IsEither, IsDamagedAt, Stands, StandsAlike, HasNoEntry};
+ghost use Rattle.gate_log.specs.Slots.{slots, gates_size};
+ghost use Rattle.gate_log.specs.Standing.{last_end, IsRising, IsAtRest, IsEither, IsBlank, IsDamagedAt, Stands, StandsAlike, StandsAs, HasNoEntry};
 ghost use Rattle.gate_log.specs.StandingLaws.{rising_prop};
 
 use crate::create::begin;
@@ -53,18 +54,23 @@ impl Receipt {
 impl<D: Disk> GateLog<D> {
     ghost use Rattle.gate_log.specs.Log.{disk_of, ends_of, size_of, entries_of, entry_of, HasFailed, HasRoom};
 
-    /// Begins a log without entries on a disk of two empty files. What a stop leaves before it has answered Ok isn't
-    /// promised. It answers ThereAlready (35) where a file isn't empty, and DeviceFailed (31); a refusal hands the
-    /// disk back.
+    /// Begins a log without entries on a disk of two empty files. Until it has answered Ok a stop leaves no entry and
+    /// one gate at most, of any value, so that an opening answers NoRepository (34) or Damaged (33). It answers
+    /// ThereAlready (35) where a file isn't empty, and DeviceFailed (31); a refusal hands the disk back.
     pub fn create(alloc: Global, disk: D) -> Result<GateLog<D>, (LogFault, D)>
         ensures empty { D.honest disk → OnOk result (D.reads disk ≡ no_bytes) }
         ensures entries { IfOk result (λ log. (ends_of log ≡ []) × ¬ HasFailed log) }
+        ensures files { D.honest disk → IfOk result (λ log. ((D.reads (disk_of log)).journal ≡ []) × ((D.reads (disk_of log)).gate ≡ 0 ∷ [])) }
         ensures durable { D.honest disk → IfOk result (λ log. (image : Image) → D.may_leave (disk_of log) image → Stands image []) }
         ensures there { D.honest disk → IfErr result (λ e. e.0 ≡ LogFault.ThereAlready → D.reads disk ≢ no_bytes) }
         ensures device { IfErr result (λ e. e.0 ≡ LogFault.DeviceFailed → Rose (D.failures disk) (D.failures e.1)) }
         ensures no_other { IfErr result (λ e. (e.0 ≡ LogFault.DeviceFailed) ⊎ (e.0 ≡ LogFault.ThereAlready)) }
+        ensures any_moment { D.honest disk → Only no_bytes (D.may_leave disk) → IfOk result (λ log. LeavesOnly D.clock D.left_since disk (disk_of log) IsBlank) }
+        ensures any_moment_err { D.honest disk → Only no_bytes (D.may_leave disk) → IfErr result (λ e. LeavesOnly D.clock D.left_since disk e.1 IsBlank) }
         ensures honest { IfOk result (λ log. D.honest disk ↔ D.honest (disk_of log)) }
         ensures honest_err { IfErr result (λ e. D.honest disk ↔ D.honest e.1) }
+        ensures later { IfOk result (λ log. D.failures disk ≤ D.failures (disk_of log)) }
+        ensures later_err { IfErr result (λ e. D.failures disk ≤ D.failures e.1) }
     {
         let mut disk = disk;
         match begin(&mut disk) {
@@ -77,16 +83,19 @@ impl<D: Disk> GateLog<D> {
         }
     }
 
-    /// Opens the log that a disk holds: syncs, finds the entries that stand, and cuts what is behind them. A stop in
-    /// between leaves what it could leave before, or an image that stands for the same entries. It answers
-    /// NoRepository (34) where the first gate is missing or closed, Damaged (33) with the first entry whose length or
-    /// next gate breaks the format, DeviceFailed (31) and OutOfMemory (70); a refusal hands the disk back.
+    /// Opens the log that a disk holds: syncs, finds the entries that stand, and cuts what is behind them. Until the
+    /// first sync has succeeded a stop leaves what it could leave before, and from then on an image that stands for
+    /// the entries that a read gave. It answers NoRepository (34) where the first gate is missing or closed, Damaged
+    /// (33) with the first entry whose length or next gate breaks the format, DeviceFailed (31) and OutOfMemory (70);
+    /// a refusal hands the disk back, and but for 31 leaves there what a read gave.
     pub fn open(alloc: Global, disk: D) -> Result<GateLog<D>, (LogFault, D)>
         ensures found { D.honest disk → (entries : List (List ℕ)) → Stands (D.reads disk) entries → 0 < length entries → IfOk result (λ log. entries_of log ≡ entries) }
         ensures refused { D.honest disk → (entries : List (List ℕ)) → Stands (D.reads disk) entries → 0 < length entries
             → IfErr result (λ e. (e.0 ≡ LogFault.DeviceFailed) ⊎ (e.0 ≡ LogFault.OutOfMemory)) }
         ensures stands { D.honest disk → IfOk result (λ log. Stands (D.reads disk) (entries_of log)) }
         ensures some { IfOk result (λ log. (0 < length (entries_of log)) × ¬ HasFailed log) }
+        ensures files { D.honest disk → IfOk result (λ log. ((D.reads (disk_of log)).journal ≡ take (size_of log) (D.reads disk).journal)
+            × ((D.reads (disk_of log)).gate ≡ take (gates_size (length (ends_of log))) (D.reads disk).gate)) }
         ensures durable { D.honest disk → IfOk result (λ log. (image : Image) → D.may_leave (disk_of log) image → Stands image (entries_of log)) }
         ensures damaged { D.honest disk → (entry : ℕ) → IfErr result (λ e. e.0 ≡ LogFault.Damaged entry → IsDamagedAt entry (D.reads disk)) }
         ensures missing { D.honest disk → IfErr result (λ e. e.0 ≡ LogFault.NoRepository → HasNoEntry (D.reads disk)) }
@@ -96,8 +105,14 @@ impl<D: Disk> GateLog<D> {
             (λ c. D.may_leave disk c ⊎ StandsAlike (D.reads disk) c)) }
         ensures any_moment_err { D.honest disk → IfErr result (λ e. LeavesOnly D.clock D.left_since disk e.1
             (λ c. D.may_leave disk c ⊎ StandsAlike (D.reads disk) c)) }
+        ensures settles { D.honest disk → IfOk result (λ log. Settles D.may_leave D.clock D.left_since disk (disk_of log) (StandsAs (D.reads disk))) }
+        ensures settles_err { D.honest disk → IfErr result (λ e. LeavesOnly D.clock D.left_since disk e.1 (D.may_leave disk)
+            ⊎ Settles D.may_leave D.clock D.left_since disk e.1 (StandsAs (D.reads disk))) }
+        ensures kept { D.honest disk → IfErr result (λ e. (e.0 ≡ LogFault.DeviceFailed) ⊎ Only (D.reads disk) (D.may_leave e.1)) }
         ensures honest { IfOk result (λ log. D.honest disk ↔ D.honest (disk_of log)) }
         ensures honest_err { IfErr result (λ e. D.honest disk ↔ D.honest e.1) }
+        ensures later { IfOk result (λ log. D.failures disk ≤ D.failures (disk_of log)) }
+        ensures later_err { IfErr result (λ e. D.failures disk ≤ D.failures e.1) }
     {
         let mut disk = disk;
         match recover(alloc, &mut disk) {
@@ -110,11 +125,12 @@ impl<D: Disk> GateLog<D> {
         }
     }
 
-    /// How many entries there are.
+    /// How many entries there are. While no call has failed, they stand in each image that a stop may leave.
     #[tactic(auto, using(crate::proofs::EndLemmas::length_parts))]
     pub fn len(&self) -> u64
         ensures count { result ≡ length (ends_of self.now) }
         ensures entries { result ≡ length (entries_of self.now) }
+        ensures stand { D.honest (disk_of self.now) → ¬ HasFailed self.now → (image : Image) → D.may_leave (disk_of self.now) image → Stands image (entries_of self.now) }
     {
         self.ends.len() as u64
     }
@@ -179,11 +195,16 @@ impl<D: Disk> GateLog<D> {
         requires { 0 < length bytes.now }
 
         ensures added { D.honest (disk_of self.old) → OnOk result (entries_of self.new ≡ entries_of self.old ++ bytes.now ∷ []) }
+        ensures ends { OnOk result (ends_of self.new ≡ ends_of self.old ++ (size_of self.old + length bytes.now) ∷ []) }
+        ensures files { D.honest (disk_of self.old) → OnOk result (((D.reads (disk_of self.new)).journal ≡ (D.reads (disk_of self.old)).journal ++ bytes.now)
+            × ((D.reads (disk_of self.new)).gate ≡ slots (ends_of self.new) ++ 0 ∷ [])) }
         ensures receipt { IfOk result (λ receipt. entry_of receipt ≡ length (entries_of self.old)) }
         ensures durable { D.honest (disk_of self.old) → OnOk result ((image : Image) → D.may_leave (disk_of self.new) image
             → Stands image (entries_of self.old ++ bytes.now ∷ [])) }
         ensures any_moment { D.honest (disk_of self.old) → ¬ HasFailed self.old → LeavesOnly D.clock D.left_since (disk_of self.old) (disk_of self.new)
             (IsEither (entries_of self.old) bytes.now) }
+        ensures any_moment_failed { D.honest (disk_of self.old) → HasFailed self.old → LeavesOnly D.clock D.left_since (disk_of self.old) (disk_of self.new)
+            (D.may_leave (disk_of self.old)) }
         ensures either { D.honest (disk_of self.old) → IsErrOf result LogFault.DeviceFailed → (image : Image) → D.may_leave (disk_of self.new) image
             → IsEither (entries_of self.old) bytes.now image }
 
@@ -193,6 +214,7 @@ impl<D: Disk> GateLog<D> {
         ensures memory { IsErrOf result LogFault.OutOfMemory → ¬ HasRoom self.old }
         ensures no_other { IfErr result (λ e. (e ≡ LogFault.DeviceFailed) ⊎ (e ≡ LogFault.Failed) ⊎ (e ≡ LogFault.LogFull) ⊎ (e ≡ LogFault.OutOfMemory)) }
 
+        ensures kept { OnErr result (ends_of self.new ≡ ends_of self.old) }
         ensures untouched { IfErr result (λ e. (e ≡ LogFault.DeviceFailed) ⊎ ((disk_of self.new ≡ disk_of self.old) × (ends_of self.new ≡ ends_of self.old))) }
         ensures working { HasFailed self.new ↔ (HasFailed self.old ⊎ IsErrOf result LogFault.DeviceFailed) }
         ensures honest { D.honest (disk_of self.old) ↔ D.honest (disk_of self.new) }
@@ -222,6 +244,7 @@ impl<D: Disk> GateLog<D> {
         ensures failed { IsErrOf result LogFault.Failed ↔ HasFailed self.old }
         ensures working { HasFailed self.new ↔ (HasFailed self.old ⊎ IsErrOf result LogFault.DeviceFailed) }
         ensures no_other { D.honest (disk_of self.old) → IfErr result (λ e. (e ≡ LogFault.DeviceFailed) ⊎ (e ≡ LogFault.Failed) ⊎ (e ≡ LogFault.OutOfMemory)) }
+        ensures faults { IfErr result (λ e. (e ≡ LogFault.DeviceFailed) ⊎ (e ≡ LogFault.Failed) ⊎ (e ≡ LogFault.Damaged entry) ⊎ (e ≡ LogFault.OutOfMemory)) }
         ensures honest { D.honest (disk_of self.old) ↔ D.honest (disk_of self.new) }
         ensures later { D.failures (disk_of self.old) ≤ D.failures (disk_of self.new) }
     {

@@ -116,6 +116,56 @@ fn the_third_call_fails(rt: HostRuntime) -> Result<(), Fail> {
 }
 
 #[test]
+fn a_read_fails(rt: HostRuntime) -> Result<(), Fail> {
+    let alloc = rt.alloc();
+    let disk = one_entry(alloc)?;
+    let calls = opening_calls(alloc, &disk)?;
+    let mut log = opened(alloc, FuseDisk::new(disk, calls, Fuse::Once))?;
+    assert_eq!(rt; log.len(), 1);
+    assert_eq!(rt;
+        log.read_entry(alloc, 0).err(),
+        Some(LogFault::DeviceFailed)
+    );
+    assert_eq!(rt; log.append(b"second").err(), Some(LogFault::Failed));
+    let mut log = opened(alloc, log.into_disk())?;
+    has_entries(&rt, alloc, &mut log)
+}
+
+#[test]
+fn a_create_whose_call_fails_hands_the_disk_back(rt: HostRuntime) -> Result<(), Fail> {
+    let alloc = rt.alloc();
+    // The gate is written by the third call, and synced by the fourth.
+    let again = [None, None, None, Some(LogFault::ThereAlready)];
+    for (calls, wanted) in again.iter().enumerate() {
+        let fused = FuseDisk::new(MemDisk::new(alloc), calls as u64, Fuse::Once);
+        let Err((fault, disk)) = GateLog::create(alloc, fused) else {
+            assert!(rt; false, "call {calls} passed");
+            continue;
+        };
+        assert_eq!(rt; fault, LogFault::DeviceFailed);
+        assert_eq!(rt; created(alloc, disk).err(), *wanted);
+    }
+    Ok(())
+}
+
+#[test]
+fn an_opening_whose_call_fails_hands_the_disk_back(rt: HostRuntime) -> Result<(), Fail> {
+    let alloc = rt.alloc();
+    let torn = stopped(alloc, 3, Pick::New)?;
+    let calls = opening_calls(alloc, &torn)?;
+    for passing in 0..calls {
+        let fused = FuseDisk::new(torn.crash(Pick::New)?, passing, Fuse::Once);
+        let Err((fault, disk)) = GateLog::open(alloc, fused) else {
+            assert!(rt; false, "call {passing} passed");
+            continue;
+        };
+        assert_eq!(rt; fault, LogFault::DeviceFailed);
+        assert_eq!(rt; opened(alloc, disk)?.len(), 1);
+    }
+    Ok(())
+}
+
+#[test]
 fn a_create_stopped_after_each_call(rt: HostRuntime) -> Result<(), Fail> {
     let alloc = rt.alloc();
     for calls in 0u64..4 {
@@ -193,6 +243,9 @@ fn the_limit_and_the_numbers(rt: HostRuntime) -> Result<(), Fail> {
     let mut log = created(alloc, MemDisk::new(alloc))?;
     log.reserve(1 << 56)?;
     assert_eq!(rt; log.reserve((1 << 56) + 1).err(), Some(LogFault::LogFull));
+    let _receipt = log.append(b"first")?;
+    log.reserve((1 << 56) - 5)?;
+    assert_eq!(rt; log.reserve((1 << 56) - 4).err(), Some(LogFault::LogFull));
     let faults = [
         LogFault::DeviceFailed,
         LogFault::Failed,
@@ -200,8 +253,9 @@ fn the_limit_and_the_numbers(rt: HostRuntime) -> Result<(), Fail> {
         LogFault::NoRepository,
         LogFault::ThereAlready,
         LogFault::LogFull,
+        LogFault::OutOfMemory,
     ];
-    let numbers = [31u8, 32, 33, 34, 35, 36];
+    let numbers = [31u8, 32, 33, 34, 35, 36, 70];
     for (fault, number) in faults.iter().zip(numbers.iter()) {
         assert_eq!(rt; fault.number(), *number);
     }
@@ -277,3 +331,5 @@ fn a_folder_of_the_host(rt: HostRuntime) -> Result<(), Fail> {
     fs::remove_dir_all(&rt, folder)?;
     Ok(())
 }
+
+mod growths;

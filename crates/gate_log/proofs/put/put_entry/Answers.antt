@@ -6,7 +6,7 @@ use Rattle.gate_log.specs.Slots.{eight_bytes}
 use Rattle.gate_log.specs.Standing.{last_end, parts, IsEither}
 use Rattle.gate_log.proofs.EndLemmas.{length-eight_bytes}
 use Rattle.gate_log.proofs.Images.{over_end}
-use Rattle.gate_log.proofs.Steps.{gate_length, still, first_left, second_left, third_left, opened}
+use Rattle.gate_log.proofs.Steps.{gate_length, still, first_left, second_left, third_left, opened, opened_gates}
 use Rattle.gate_log.proofs.put.put_entry.Goals as goal
 
 pub returns-in_err-write_at-clause-any_moment : goal.returns-in_err-write_at-clause-any_moment
@@ -252,6 +252,35 @@ returns-clause-at_rest g c h =
     let same = ap (λ (i : Image). i.journal) (c.sync-2.ensures.reads h4) ∙ w3.1 ∙ ap (λ (i : Image). i.journal) (c.sync.ensures.reads h2) in
     let done = opened ends rest up at_rest entry end c.requires.some is fits staged journal gates c.gate_at-gate.result (D.reads c.sync-2.new.self) c.gate_at-gate.ensures gate same in
     done.0
+
+pub returns-clause-gates : goal.returns-clause-gates
+returns-clause-gates g c h =
+    let D = g.D.Disk in
+    let disk = c.args.disk.now in
+    let rest = D.reads disk in
+    let ends = c.args.ends.now in
+    let entry = c.args.entry.now in
+    let up = c.requires.rising in
+    let at_rest = c.requires.at_rest h in
+    let only = c.requires.durable h in
+    let place = c.end_of-start.ensures in
+    let behind : c.gate_at-gate.result + 1 ≡ 9 * length ends + 1 = ap (λ (k : ℕ). k + 1) c.gate_at-gate.ensures in
+    let h1 = c.write_at.ensures.honest.0 h in
+    let h2 = c.write_at-2.ensures.honest.0 h1 in
+    let staged = D.reads c.write_at-2.new.self in
+    let end = last_end 0 ends + length entry in
+    let w1 = c.in_ok-write_at.ensures.written h in
+    let w2 = c.in_ok-write_at-2.ensures.written h1 in
+    let journal = w2.1 ∙ w1.0 ∙ over_end c.end_of-start.result entry rest.journal (place ∙ sym at_rest.journal) in
+    let slot = c.closed_slot.ensures ∙ ap (λ (k : ℕ). eight_bytes (k + length entry) ++ 0 ∷ []) place in
+    let gates = w2.0 ∙ ap (overwritten (c.gate_at-gate.result + 1) c.closed_slot.result) w1.1 ∙ over_end (c.gate_at-gate.result + 1) c.closed_slot.result rest.gate (behind ∙ sym (gate_length ends rest up at_rest)) ∙ ap (λ (l : List ℕ). rest.gate ++ l) slot in
+    let is : end ≡ length rest.journal + length entry = omega (arith, at_rest.journal) in
+    let fits : end < 2 ^ 64 = omega (arith, c.requires.fits) in
+    let h3 = c.sync.ensures.honest.0 h2 in
+    let h4 = c.write_at-3.ensures.honest.0 h3 in
+    let w3 = c.in_ok-write_at-3.ensures.written h3 in
+    let gate = ap (λ (i : Image). i.gate) (c.sync-2.ensures.reads h4) ∙ w3.0 ∙ ap (λ (i : Image). overwritten c.gate_at-gate.result (1 ∷ []) i.gate) (c.sync.ensures.reads h2) in
+    opened_gates ends rest up at_rest entry end c.requires.some is fits staged journal gates c.gate_at-gate.result (D.reads c.sync-2.new.self) c.gate_at-gate.ensures gate
 
 pub returns-clause-added : goal.returns-clause-added
 returns-clause-added g c h =
