@@ -5,3 +5,4 @@ mod Spelled
 mod Canon
 mod Read
 mod Weighing
+mod GoesOn

@@ -19,7 +19,7 @@ use Rattle.ra_item.proofs.Runs.{state, lt_false}
 use Rattle.ra_item.proofs.Spelled.{all_short}
 use Rattle.ra_item.proofs.Classes.{both, digit_high, number_after-append}
 
-lt_from : (a b : ℕ) → nat_lt a b ≡ true → a < b
+pub lt_from : (a b : ℕ) → nat_lt a b ≡ true → a < b
 lt_from a b e = grind (arith, nat_tests)
 
 le_from : (a b : ℕ) → nat_lt a b ≡ false → b ≤ a
@@ -40,7 +40,7 @@ made_from false true xs x d e = cc
 made_from false false xs x d e = (cc, le_from 16 (nesting (Nested xs)) d)
 
 -- one white byte
-one_white : (b : ℕ) → is_white b ≡ true → IsWhite (b ∷ [])
+pub one_white : (b : ℕ) → is_white b ≡ true → IsWhite (b ∷ [])
 one_white b e = (omega arith, rw e refl)
 
 all_snoc : (kind : ℕ → Bool) (bs : List ℕ) (b : ℕ) → all_bytes kind bs ≡ true → kind b ≡ true → all_bytes kind (bs ++ b ∷ []) ≡ true
@@ -98,7 +98,7 @@ list_white front (x ∷ xs) bytes b (white, inner, w, s, f, e) h = (
   ap (λ i. i ++ b ∷ []) e ∙ append_assoc front (40 ∷ (white ++ inner)) (b ∷ []) ∙ ap (λ i. front ++ 40 ∷ i) (append_assoc white inner (b ∷ [])),
 )
 
-list_item : (front : List ℕ) (line : List Item) (bytes first : List ℕ) (x : Item) (b : ℕ) → InList front line bytes → Spelled first x → Fits x → is_white b ≡ true → InList front (line ++ x ∷ []) (bytes ++ (first ++ b ∷ []))
+pub list_item : (front : List ℕ) (line : List Item) (bytes first : List ℕ) (x : Item) (b : ℕ) → InList front line bytes → Spelled first x → Fits x → is_white b ≡ true → InList front (line ++ x ∷ []) (bytes ++ (first ++ b ∷ []))
 list_item front line bytes first x b (white, inner, w, s, f, e) o g h = (
   white,
   inner ++ (first ++ b ∷ []),
@@ -230,7 +230,7 @@ opened_fine count held line (around ∷ outer) bytes b (no_bytes, (front, i, n, 
     (λ _. tt)
 
 -- what the maker of lists made
-list_made : (xs : Items) (x : Item) → list_of xs ≡ Ok x → (x ≡ Nested xs) × (nesting (Nested xs) ≤ 16)
+pub list_made : (xs : Items) (x : Item) → list_of xs ≡ Ok x → (x ≡ Nested xs) × (nesting (Nested xs) ≤ 16)
 list_made xs x e = made_from (nat_lt 16 (nesting (Nested xs))) (nat_lt 33554433 (length (spell (Nested xs)))) xs x refl e
 
 closed_made : (count : ℕ) (held : List ℕ) (line around : List Item) (outer : List (List Item)) (front first bytes : List ℕ) (b : ℕ) (m : Result Item ItemFault) → list_of (row line) ≡ m → Inside outer around front → Spelled first (Nested (row line)) → AllFit (row line) → bytes ≡ front ++ first → count ≡ length bytes → count ≤ 33554432 → is_white b ≡ true → Fine bytes b (made (state at.Closed count held around outer) m)
@@ -307,12 +307,12 @@ stream_white [] bytes b (blank, rest, w, r, e) h =
 stream_white (x ∷ xs) bytes b (blank, rest, w, r, e) h =
     (blank, rest ++ b ∷ [], w, are_white x xs rest b r h, ap (λ i. i ++ b ∷ []) e ∙ append_assoc blank rest (b ∷ []))
 
-stream_item : (xs : List Item) (bytes first : List ℕ) (x : Item) (b : ℕ) → IsStream bytes xs → IsItem first x → is_white b ≡ true → IsStream (bytes ++ (first ++ b ∷ [])) (xs ++ x ∷ [])
+pub stream_item : (xs : List Item) (bytes first : List ℕ) (x : Item) (b : ℕ) → IsStream bytes xs → IsItem first x → is_white b ≡ true → IsStream (bytes ++ (first ++ b ∷ [])) (xs ++ x ∷ [])
 stream_item xs bytes first x b (blank, rest, w, r, e) s h =
     (blank, rest ++ (first ++ b ∷ []), w, are_snoc xs rest first x b r s h, ap (λ i. i ++ (first ++ b ∷ [])) e ∙ append_assoc blank rest (first ++ b ∷ []))
 
 -- what was read so far is spelled by the bytes so far
-abbrev Spelt : Stream → List ℕ → Type 0
+abbrev pub Spelt : Stream → List ℕ → Type 0
 Spelt (Reads items r) bytes = (whole rest : List ℕ) × IsStream whole items × (bytes ≡ whole ++ rest) × PartOf r rest × (r.count ≡ length rest) × (r.count ≤ 33554432)
 Spelt (Refuses items f) bytes = (whole rest : List ℕ) × IsStream whole items × (bytes ≡ whole ++ rest)
 
@@ -335,7 +335,7 @@ run_spelt : (s : Stream) (before bytes : List ℕ) → Spelt s before → Spelt 
 run_spelt s before [] h = subst (Spelt s) (sym (append-nil before)) h
 run_spelt s before (b ∷ bytes) h = subst (Spelt (reading (one_byte s b) bytes)) (append_assoc before (b ∷ []) bytes) (run_spelt (one_byte s b) (before ++ b ∷ []) bytes (one_spelt s before b h))
 
-all_spelt : (bytes : List ℕ) → Spelt (reading (Reads [] begin) bytes) bytes
+pub all_spelt : (bytes : List ℕ) → Spelt (reading (Reads [] begin) bytes) bytes
 all_spelt bytes = run_spelt (Reads [] begin) [] bytes ([], [], ([], [], refl, refl, refl), refl, (refl, (refl, refl)), refl, omega arith)
 
 pub read_is_spelled : (bytes : List ℕ) (items : List Item) (r : Reading) → reading (Reads [] begin) bytes ≡ Reads items r → (whole rest : List ℕ) × IsStream whole items × (bytes ≡ whole ++ rest) × (r.count ≡ length rest) × (length rest ≤ 33554432)

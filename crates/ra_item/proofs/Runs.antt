@@ -1,7 +1,8 @@
 -- Runs over bytes.
 use Rattle.std.proofs.Common.{◌≡◌, ℕ, ◌+◌, ◌≤◌, ◌<◌, true, false, List, [], ◌∷◌, ◌++◌, length, take, drop, get_or, Err, nat_lt, subst, refl, sym, ap, ◌∙◌, append_assoc, append-nil, length-append, arith}
 use Rattle.std.proofs.lemmas.Bool.Decides.{nat_tests}
-use Rattle.std.proofs.lemmas.List.{nil_from_length, drop_more, drop-drop, length-take, take-append-drop}
+use Rattle.std.proofs.lemmas.List.{nil_from_length, take_more, length-take, take-append-drop}
+use Rattle.std.proofs.Math.Seq.{take-add}
 use Rattle.ra_item.specs.Items.{Item}
 use Rattle.ra_item.specs.declared.fault.ItemFault.{ItemFault}
 use Rattle.ra_item.specs.declared.fault.ItemFault.TheVariants.{OutOfMemory}
@@ -9,7 +10,7 @@ use Rattle.ra_item.specs.declared.reading.Place.{Place}
 use Rattle.ra_item.specs.declared.reading.Place.TheVariants as at
 use Rattle.ra_item.specs.declared.reading.Reading.{Reading}
 use Rattle.ra_item.specs.Reading.{Step, Next, Gives, Refused, one_step, held_more}
-use Rattle.ra_item.specs.Streams.{Stream, Reads, Refuses, of_step, one_byte, reading, items_of, IsFront, MayKeep, StreamIs}
+use Rattle.ra_item.specs.Streams.{Stream, Reads, Refuses, of_step, one_byte, reading, MayKeep, StreamIs}
 
 -- pieces don't matter
 pub reading-append : (s : Stream) (a b : List ℕ) → reading s (a ++ b) ≡ reading (reading s a) b
@@ -59,37 +60,29 @@ none items r s more e =
 pub may_keep_none : (r : Reading) → MayKeep r 0
 may_keep_none r = λ items s more m. none items r s more (nil_from_length s (omega arith))
 
--- after a stretch the run goes on behind it
-pub kept : (items : List Item) (r next : Reading) (piece : List ℕ) (at k : ℕ) → MayKeep r k → next ≡ held_more r (take k (drop at piece)) → reading (Reads items next) (drop (at + k) piece) ≡ reading (Reads items r) (drop at piece)
-kept items r next piece at k may e =
-    let m = may items (take k (drop at piece)) (drop (at + k) piece) (omega (arith, length-take k (drop at piece))) in
-    let d : drop k (drop at piece) ≡ drop (at + k) piece = drop-drop k at piece in
-    rw (e, ← m, ← d, take-append-drop) refl
+-- what is read behind a front of the bytes
+pub behind : (s t : Stream) (bytes : List ℕ) (at : ℕ) → reading s (take at bytes) ≡ t → reading s bytes ≡ reading t (drop at bytes)
+behind s t bytes at e = ap (reading s) (sym (take-append-drop at bytes)) ∙ reading-append s (take at bytes) (drop at bytes) ∙ ap (λ x. reading x (drop at bytes)) e
 
--- a byte of a piece, and then the rest
-pub step_at : (s : Stream) (piece : List ℕ) (at : ℕ) → at < length piece → reading s (drop at piece) ≡ reading (one_byte s (get_or piece at 0)) (drop (at + 1) piece)
-step_at s piece at h = ap (reading s) (drop_more piece at 0 h)
+-- a stretch more of the front
+pub kept : (s : Stream) (items : List Item) (r next : Reading) (bytes : List ℕ) (at k : ℕ) → reading s (take at bytes) ≡ Reads items r → MayKeep r k → next ≡ held_more r (take k (drop at bytes)) → reading s (take (at + k) bytes) ≡ Reads items next
+kept s items r next bytes at k e may n =
+    let more = take k (drop at bytes) in
+    ap (reading s) (take-add at k bytes)
+    ∙ reading-append s (take at bytes) more
+    ∙ ap (λ x. reading x more) e
+    ∙ ap (reading (Reads items r)) (sym (append-nil more))
+    ∙ may items more [] (omega (arith, length-take k (drop at bytes)))
+    ∙ ap (Reads items) (sym n)
 
-pub refused_at : (f : ItemFault) (s : Stream) (new : Reading) (out : List Item) (piece : List ℕ) (at : ℕ) → at < length piece → StreamIs (Err f) new out (one_byte s (get_or piece at 0)) → StreamIs (Err f) new out (reading s (drop at piece))
-refused_at OutOfMemory s new out piece at h e = tt
-refused_at f s new out piece at h e = step_at s piece at h ∙ ap (λ s. reading s (drop (at + 1) piece)) e ∙ reading-refused out f (drop (at + 1) piece)
+-- a byte more of the front
+pub stepped : (s t : Stream) (bytes : List ℕ) (at : ℕ) → reading s (take at bytes) ≡ t → at < length bytes → reading s (take (at + 1) bytes) ≡ one_byte t (get_or bytes at 0)
+stepped s t bytes at e h =
+    ap (reading s) (take_more bytes at 0 h)
+    ∙ reading-append s (take at bytes) (get_or bytes at 0 ∷ [])
+    ∙ ap (λ x. one_byte x (get_or bytes at 0)) e
 
--- items stay
-here : (xs : List Item) → (more : List Item) × (xs ≡ xs ++ more)
-here xs = ([], sym (append-nil xs))
-
-step_front : (items : List Item) (s : Step) → IsFront items (of_step items s)
-step_front items (Next r) = here items
-step_front items (Gives x r) = (x ∷ [], refl)
-step_front items (Refused f) = here items
-
-one_front : (s : Stream) (b : ℕ) → IsFront (items_of s) (one_byte s b)
-one_front (Reads items r) b = step_front items (one_step r b)
-one_front (Refuses items f) b = here items
-
-pub grows : (s : Stream) (bs : List ℕ) → IsFront (items_of s) (reading s bs)
-grows s [] = here (items_of s)
-grows s (b ∷ bs) =
-    let a = one_front s b in
-    let c = grows (one_byte s b) bs in
-    (a.0 ++ c.0, c.1 ∙ ap (λ x. x ++ c.0) a.1 ∙ append_assoc (items_of s) a.0 c.0)
+pub refused_at : (f : ItemFault) (s t : Stream) (new : Reading) (out : List Item) (bytes : List ℕ) (at : ℕ) → reading s (take at bytes) ≡ t → at < length bytes → StreamIs (Err f) new out (one_byte t (get_or bytes at 0)) → StreamIs (Err f) new out (reading s bytes)
+refused_at OutOfMemory s t new out bytes at e h i = tt
+refused_at f s t new out bytes at e h i =
+    behind s (Refuses out f) bytes (at + 1) (stepped s t bytes at e h ∙ i) ∙ reading-refused out f (drop (at + 1) bytes)

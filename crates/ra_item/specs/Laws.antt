@@ -1,5 +1,5 @@
 -- Laws of items.
-use Rattle.std.specs.Prelude.{◌≡◌, ℕ, ◌≤◌, List, [], ◌∷◌, ◌++◌, length, true}
+use Rattle.std.specs.Prelude.{◌≡◌, ℕ, ◌+◌, ◌≤◌, List, [], ◌∷◌, ◌++◌, length, true}
 use Rattle.ra_item.specs.Bytes.{is_white}
 use Rattle.ra_item.specs.Items.{Item, Within, spell}
 use Rattle.ra_item.specs.Grammar.{IsStream, IsItem}
@@ -48,6 +48,10 @@ RefusedBehindItems = (bytes : List ℕ) (items : List Item) (f : ItemFault) → 
 -- no more bytes are kept than were fed
 abbrev pub KeptIsFed : Type 0
 KeptIsFed = (bytes : List ℕ) (items : List Item) (r : Reading) → stream_of bytes ≡ Reads items r → kept r ≤ length bytes
+
+-- bytes that aren't refused begin a stream of the grammar, where a top-level item has room for the longest string and the ends of 16 lists
+abbrev pub ReadGoesOn : Type 0
+ReadGoesOn = (bytes : List ℕ) (items : List Item) (r : Reading) → stream_of bytes ≡ Reads items r → item_bytes r + 1048640 ≤ 33554432 → (more : List ℕ) × (others : List Item) × IsStream (bytes ++ more) (items ++ others)
 
 -- bytes that are refused begin no stream of the grammar, however they go on
 abbrev pub RefusedIsNoFront : Type 0

@@ -49,9 +49,9 @@ abbrev pub items_of : Stream → List Item
 items_of (Reads items r) = items
 items_of (Refuses items f) = items
 
--- the first items of a stream, perhaps not all
-abbrev pub IsFront : List Item → Stream → Type 0
-IsFront out s = (more : List Item) × (items_of s ≡ out ++ more)
+-- the items are those that are whole in a front of the bytes
+abbrev pub WholeInFront : List Item → Stream → List ℕ → Type 0
+WholeInFront out s bytes = (front more : List ℕ) × (r : Reading) × (bytes ≡ front ++ more) × (reading s front ≡ Reads out r)
 
 -- so many bytes can be kept at once
 abbrev pub MayKeep : Reading → ℕ → Type 0

@@ -1,6 +1,6 @@
 //! Laws of items, over all bytes. Each is proved as the contract of a function that does nothing.
 
-ghost use Rattle.ra_item.specs.Laws.{PiecesJoin, StreamsAreRead, WholeAtWhite, WrittenIsSpelled, WrittenIsRead, OneReading, ReadIsSpelled, EndsWhole, RefusedBehindItems, KeptIsFed, RefusedIsNoFront};
+ghost use Rattle.ra_item.specs.Laws.{PiecesJoin, StreamsAreRead, WholeAtWhite, WrittenIsSpelled, WrittenIsRead, OneReading, ReadIsSpelled, EndsWhole, RefusedBehindItems, KeptIsFed, ReadGoesOn, RefusedIsNoFront};
 
 /// It doesn't matter how bytes are cut into pieces.
 pub fn pieces_join()
@@ -50,6 +50,11 @@ pub fn refused_behind_items()
 /// No more bytes are kept than were fed.
 pub fn kept_is_fed()
     ensures { KeptIsFed }
+{}
+
+/// Bytes that aren't refused begin a stream of the grammar, while an item's limit has room for its end.
+pub fn read_goes_on()
+    ensures { ReadGoesOn }
 {}
 
 /// Bytes that are refused begin no stream of the grammar.

@@ -20,6 +20,8 @@
 #![tactic(auto)]
 
 pub mod fault;
+#[cfg(test)]
+mod growth_tests;
 pub mod item;
 pub mod law;
 pub mod limits;

@@ -3,7 +3,7 @@
 ghost use Rattle.std.specs.Prelude.{◌≡◌, ◌≤◌, OnOk, OnErr, Ok, Err, if◌then◌else◌, true, false};
 ghost use Rattle.ra_item.specs.Reading.{begin, failed, is_between};
 ghost use Rattle.ra_item.specs.Places.{kept};
-ghost use Rattle.ra_item.specs.Streams.{StreamIs, reading, Reads, IsFront, is_failed, item_bytes};
+ghost use Rattle.ra_item.specs.Streams.{StreamIs, reading, Reads, WholeInFront, is_failed, item_bytes};
 ghost use Rattle.ra_item.specs.declared.fault.ItemFault.TheVariants.{Failed, Truncated};
 
 use crate::fault::ItemFault;
@@ -55,14 +55,14 @@ impl ItemReader {
     /// 18,446,744,073,709,551,615; `TooDeep` (42) at the bracket of a seventeenth list; `TooLong` (8) at the
     /// 65th byte of a word, at the colon behind a length above 1,048,576, and at the 33,554,433rd byte of a
     /// top-level item. The items before that byte are in `out`. `OutOfMemory` (70) where a growth is refused;
-    /// then the first of the items are in `out`, perhaps not all. After an `Err` the reader keeps nothing, and
-    /// each later call answers `Failed` (32) and leaves `out` as it is.
+    /// then the items that are whole in a front of the piece are in `out`, behind those that were there. After an
+    /// `Err` the reader keeps nothing, and each later call answers `Failed` (32) and leaves `out` as it is.
     pub fn feed(&mut self, piece: &[u8], out: &mut Vec<Item>) -> Result<(), ItemFault>
         ensures reads { is_failed self.old ≡ false → StreamIs result self.new out.new.items (reading (Reads out.old.items self.old) piece.now) }
         ensures failed { is_failed self.old ≡ true → (result ≡ Err Failed) × (out.new.items ≡ out.old.items) }
         ensures goes_on { OnOk result (is_failed self.new ≡ false) }
         ensures later { OnErr result (self.new ≡ failed) }
-        ensures front { is_failed self.old ≡ false → OnErr result (IsFront out.new.items (reading (Reads out.old.items self.old) piece.now)) }
+        ensures front { is_failed self.old ≡ false → OnErr result (WholeInFront out.new.items (Reads out.old.items self.old) piece.now) }
     {
         if self.reading.is_failed() {
             self.reading = Reading::failed(self.alloc);

@@ -4,7 +4,7 @@ ghost use Rattle.std.specs.Prelude.{◌≡◌, ◌+◌, ◌<◌, ◌≤◌, ◌^
 ghost use Rattle.ra_item.specs.Bytes.{is_white, is_digit};
 ghost use Rattle.ra_item.specs.Makers.{word_of, text_of};
 ghost use Rattle.ra_item.specs.Reading.{StepIs, begin, failed, give, made, close, open_list, start, in_word, in_number, byte_step, one_step, counted, Next, is_between, held_more};
-ghost use Rattle.ra_item.specs.Streams.{MayKeep, StreamIs, reading, one_byte, Reads, IsFront, is_failed};
+ghost use Rattle.ra_item.specs.Streams.{MayKeep, StreamIs, reading, one_byte, Reads, WholeInFront, is_failed};
 ghost use Rattle.ra_item.specs.Places.{kept};
 ghost use Rattle.ra_item.specs.declared.reading.Place.TheVariants as at;
 
@@ -365,7 +365,7 @@ impl Reading {
         out: &mut Vec<Item>,
     ) -> Result<(), ItemFault>
         ensures on { StreamIs result self.new out.new.items (reading (Reads out.old.items self.old) piece.now) }
-        ensures front { OnErr result (IsFront out.new.items (reading (Reads out.old.items self.old) piece.now)) }
+        ensures front { OnErr result (WholeInFront out.new.items (Reads out.old.items self.old) piece.now) }
     {
         let mut at = 0;
         while at < piece.len() {

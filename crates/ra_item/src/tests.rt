@@ -396,5 +396,6 @@ fn laws_are_called() {
     law::ends_whole();
     law::refused_behind_items();
     law::kept_is_fed();
+    law::read_goes_on();
     law::refused_is_no_front();
 }
