@@ -44,3 +44,7 @@ pruned_nothing f above x none q =
       | None ↦ λ _. refl
       | Some r ↦ λ e. ap f (append_of_rest (above ++ x ∷ []) q r e ∙ append_assoc above (x ∷ []) r) ∙ none (x ∷ r)
     ] refl
+
+-- an edit of the node at a path, as a graft there
+pub changed_as_graft : (f : Path → Option Node) (p : Path) (g : Node → Node) → ◌≡◌ {A = Path → Option Node} (changed_at f p g) (grafted f p (changed_at (λ s. f (p ++ s)) [] g))
+changed_as_graft f p g = λ i q. sym (changed_below f p g q) i

@@ -10,6 +10,7 @@ use Rattle.node_base.proofs.PathLemmas.{rest_after-append, rest_after-longer, ap
 use Rattle.node_base.specs.declared.node.Node.{Node}
 use Rattle.node_base.specs.Tree.{PathMap, IsTree, IsDirAt, HasFronts, grafted, edited, marked, changed_at, with_number, with_given, blocked, alone}
 use Rattle.node_base.specs.declared.fault.TreeFault.TheVariants.{NoSuchPath, NotDir}
+use Rattle.node_base.specs.NodeEdits.{with_prop, with_piece}
 use Rattle.path_tree.specs.Shape.{IsShape}
 
 absurd_none : (G : Type 0) → IsSome {T = Node} None → G
@@ -239,3 +240,18 @@ none_of (Some x) f = absurd (f refl)
 pub nothing_below : (f : Path → Option Node) → HasFronts f → (p : Path) → f p ≡ None → (q : Path) → f (p ++ q) ≡ None
 nothing_below f h p absent [] = ap f (append-nil p) ∙ absent
 nothing_below f h p absent (n ∷ q) = none_of (f (p ++ n ∷ q)) (λ some. dir_or_none (f p) (fronts_all f h p n q some) absent)
+
+-- another value at a property's name
+pub shape-prop : (f : Path → Option Node) (p : Path) (name : Name) (value : Option (List ℕ)) → IsShape f → IsShape (changed_at f p (with_prop name value))
+shape-prop f p name value s = shape-edited f (same_path p) (with_prop name value) (λ q x _ _ h. h) s
+
+no_text_more : (o : Option (List ℕ)) (piece : List ℕ) → IsNone o → IsNone (option_map (λ t. t ++ piece) o)
+no_text_more None piece h = h
+no_text_more (Some t) piece h = absurd_text h
+  where
+    absurd_text : IsNone (Some t) → IsNone (Some (t ++ piece))
+    absurd_text e = cc
+
+-- a piece behind a text
+pub shape-piece : (f : Path → Option Node) (p : Path) (piece : List ℕ) → IsShape f → IsShape (changed_at f p (with_piece piece))
+shape-piece f p piece s = shape-edited f (same_path p) (with_piece piece) (λ q x _ _ h. no_text_more x.text piece h) s

@@ -8,6 +8,9 @@ use Rattle.node_base.specs.declared.node.Node.{Node}
 use Rattle.node_base.specs.declared.fault.TreeFault.{TreeFault}
 use Rattle.node_base.specs.declared.fault.TreeFault.TheVariants.{TooLong, BadPath, NoSuchPath, PathThere, NotDir, NoSource, KindMismatch}
 use Rattle.node_base.specs.Tree.{PathMap, alone, blocked, changed_at, grafted, marked, with_given}
+use Rattle.node_base.specs.FaultRefusals.{tree_refusal}
+use Rattle.node_base.specs.declared.refusal.Refusal.{Refusal}
+use Rattle.node_base.specs.declared.refusal.Refusal.TheVariants as refusal
 use Rattle.path_tree.specs.Copies.{copy_too_long}
 use Rattle.path_tree.specs.declared.error.TreeError.{TreeError}
 use Rattle.path_tree.specs.declared.error.TreeError.TheVariants.{Fault, OutOfMemory}
@@ -24,6 +27,11 @@ fault_number KindMismatch = 17
 abbrev pub error_number : TreeError → ℕ
 error_number (Fault f) = fault_number f
 error_number OutOfMemory = 70
+
+-- the refusal that an error is
+abbrev pub error_refusal : TreeError → Refusal
+error_refusal (Fault f) = tree_refusal f
+error_refusal OutOfMemory = refusal.OutOfMemory
 
 -- a fault is what is answered, and without one a refusal is want of memory
 abbrev pub Answers : Option TreeFault → Result (Unit {0}) TreeError → Type 0

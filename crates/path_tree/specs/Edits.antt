@@ -5,12 +5,15 @@ use Rattle.std.specs.FinMap as map
 use Rattle.node_base.specs.Path.{Path}
 use Rattle.node_base.specs.declared.node.Node.{Node}
 use Rattle.node_base.specs.Tree.{grafted, changed_at, with_given}
+use Rattle.node_base.specs.NodeEdits.{with_prop, with_piece}
 use Rattle.path_tree.specs.declared.edit.Edit.{Edit}
-use Rattle.path_tree.specs.declared.edit.Edit.TheVariants.{Parts, Graft, Prune}
+use Rattle.path_tree.specs.declared.edit.Edit.TheVariants.{Parts, Prop, Piece, Graft, Prune}
 
 -- what an edit makes of a node and what is below it
 abbrev pub edit_here : Edit → (Path → Option Node) → Path → Option Node
 edit_here (Parts text props) f = changed_at f [] (with_given text props)
+edit_here (Prop name value) f = changed_at f [] (with_prop name value)
+edit_here (Piece piece) f = changed_at f [] (with_piece piece.items)
 edit_here (Graft c) f = grafted f ((arc_value c).0 ∷ []) (map.get (arc_value c).1)
 edit_here (Prune x) f = grafted f (x ∷ []) (λ _. None)
 

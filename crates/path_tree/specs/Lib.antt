@@ -4,5 +4,6 @@ pub mod Edits
 pub mod Joined
 pub mod JoinedLemmas
 pub mod Listed
+pub mod NodeCalls
 pub mod Shape
 pub mod Shared

@@ -5,7 +5,8 @@ ghost use Rattle.std.specs.List.{list_any};
 ghost use Rattle.std.specs.Arc.{arc_value};
 ghost use Rattle.node_base.specs.Path.{Path, name_cmp};
 ghost use Rattle.node_base.specs.Limits.{fits_after};
-ghost use Rattle.node_base.specs.Tree.{marked, blocked};
+ghost use Rattle.node_base.specs.Tree.{marked, blocked, changed_at};
+ghost use Rattle.node_base.specs.NodeEdits.{with_prop, with_piece};
 ghost use Rattle.path_tree.specs.Joined.{AreChildren, place, under};
 ghost use Rattle.path_tree.specs.Listed.{shown, shown_names};
 ghost use Rattle.path_tree.specs.Shared.{pointed};
@@ -13,7 +14,7 @@ ghost use Rattle.path_tree.specs.Edits.{edit_here, edit_at};
 
 use crate::Entry;
 use crate::edit::Edit;
-use node_base::{Node, NodeName, RevNo, TreeFault};
+use node_base::{Node, NodeName, PropName, PropValue, RevNo, TreeFault};
 use std::alloc::{AllocError, Global};
 use std::marker::Model;
 use std::sync::Arc;
@@ -209,7 +210,7 @@ impl Branch {
         ensures err { OnErr result (self.new ≡ self.old) }
     {
         match path {
-            [] => self.alter_here(edit),
+            [] => self.alter_here(alloc, edit),
             [first, rest @ ..] => match place_of(&self.children, first) {
                 Ok(i) => {
                     let slot = &mut self.children[i];
@@ -226,8 +227,33 @@ impl Branch {
         }
     }
 
+    // Puts a value at a property's name of the node at the top, or takes the one there away. A value that would take the
+    // properties past their limits is no want of memory, and callers refuse it before.
+    fn put_prop(
+        &mut self,
+        alloc: Global,
+        name: PropName,
+        value: Option<PropValue>,
+    ) -> Result<(), AllocError>
+        ensures ok { OnOk result ((q : Path) → map.get self.new q ≡ changed_at (map.get self.old) [] (with_prop name value) q) }
+        ensures err { OnErr result (self.new ≡ self.old) }
+    {
+        let Ok(()) = self.node.put_prop(alloc, name, value) else {
+            return Err(AllocError);
+        };
+        Ok(())
+    }
+
+    // Puts bytes behind the text of the node at the top.
+    fn append_text(&mut self, alloc: Global, piece: &[u8]) -> Result<(), AllocError>
+        ensures ok { OnOk result ((q : Path) → map.get self.new q ≡ changed_at (map.get self.old) [] (with_piece piece.now) q) }
+        ensures err { OnErr result (self.new ≡ self.old) }
+    {
+        self.node.append_text(alloc, piece)
+    }
+
     // Edits the node at the top.
-    fn alter_here(&mut self, edit: Edit) -> Result<(), AllocError>
+    fn alter_here(&mut self, alloc: Global, edit: Edit) -> Result<(), AllocError>
         ensures ok { OnOk result ((q : Path) → map.get self.new q ≡ edit_here edit (map.get self.old) q) }
         ensures err { OnErr result (self.new ≡ self.old) }
     {
@@ -236,6 +262,8 @@ impl Branch {
                 self.node.put_parts(text, props);
                 Ok(())
             }
+            Edit::Prop(name, value) => self.put_prop(alloc, name, value),
+            Edit::Piece(piece) => self.append_text(alloc, piece.as_slice()),
             Edit::Graft(child) => match place_of(&self.children, &child.0) {
                 Ok(i) => {
                     self.children[i] = child;

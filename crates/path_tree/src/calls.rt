@@ -170,7 +170,7 @@ impl Tree {
         }
     }
 
-    fn change_fault(&self, path: &NodePath) -> Option<TreeFault>
+    pub(crate) fn change_fault(&self, path: &NodePath) -> Option<TreeFault>
         ensures { result ≡ change_fault (map.get self.now) path.now }
     {
         if let Some(fault) = self.blocked(path.names()) {
@@ -191,7 +191,7 @@ impl Tree {
         self.change_fault(path)
     }
 
-    fn text_fault(&self, path: &NodePath) -> Option<TreeFault>
+    pub(crate) fn text_fault(&self, path: &NodePath) -> Option<TreeFault>
         ensures { result ≡ text_fault (map.get self.now) path.now }
     {
         if let Some(fault) = self.change_fault(path) {

@@ -1,20 +1,20 @@
 //! Why a call on a tree says no.
-ghost use Rattle.std.specs.Prelude.{◌≡◌};
-ghost use Rattle.path_tree.specs.Calls.{error_number};
+ghost use Rattle.std.specs.Prelude.{◌≡◌, Some};
+ghost use Rattle.node_base.specs.Refusals.{refusal_text};
+ghost use Rattle.path_tree.specs.Calls.{error_number, error_refusal};
 ghost use Rattle.path_tree.specs.declared.error.TreeError.TheVariants.{OutOfMemory};
 
-use node_base::TreeFault;
+use node_base::{Refusal, TreeFault};
 use std::alloc::AllocError;
-use thiserror::Error;
+use std::error::Error;
+use std::fmt;
 
 /// Why a call on a tree says no. The tree is then as it was.
-#[derive(Clone, Copy, Debug, Error, PartialEq, Eq)]
+#[derive(Clone, Copy, Debug, PartialEq, Eq)]
 pub enum TreeError {
     /// The first fault of the call (8, 10 to 14, 17).
-    #[error("{0:?}")]
     Fault(TreeFault),
     /// Memory ran out (70).
-    #[error("out of memory")]
     OutOfMemory,
 }
 
@@ -32,6 +32,31 @@ impl TreeError {
             TreeError::Fault(TreeFault::NoSource) => 14,
             TreeError::Fault(TreeFault::KindMismatch) => 17,
             TreeError::OutOfMemory => 70,
+        }
+    }
+}
+
+impl fmt::Display for TreeError {
+    ghost output = { λ e. Some (refusal_text (error_refusal e)) };
+
+    /// The refusal's text.
+    fn fmt<W: fmt::Write>(&self, f: &mut fmt::Formatter<W>) -> fmt::Result {
+        match self {
+            TreeError::Fault(fault) => write!(f, "{fault}"),
+            TreeError::OutOfMemory => f.write_str("out of memory"),
+        }
+    }
+}
+
+impl Error for TreeError {}
+
+impl From<TreeError> for Refusal {
+    ghost from_gives = { λ e r. r ≡ error_refusal e };
+
+    fn from(error: TreeError) -> Refusal {
+        match error {
+            TreeError::Fault(fault) => Refusal::from(fault),
+            TreeError::OutOfMemory => Refusal::OutOfMemory,
         }
     }
 }

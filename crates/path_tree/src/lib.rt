@@ -10,6 +10,9 @@ mod calls;
 mod edit;
 mod error;
 mod listing;
+mod node_calls;
+#[cfg(test)]
+mod node_tests;
 pub mod plain;
 #[cfg(test)]
 mod tests;

@@ -44,30 +44,30 @@ impl Calls for Tree {
 
     fn file(&mut self, alloc: Global, at: &str, number: u16) -> Result<u8, Fail> {
         let text = bytes(alloc)?;
-        Ok(refusal(self.put_file(
+        done(self.put_file(
             alloc,
             &path(alloc, at)?,
             text,
             Props::empty(),
             RevNo::new(number),
-        )))
+        ))
     }
 
     fn dir(&mut self, alloc: Global, at: &str, number: u16) -> Result<u8, Fail> {
-        Ok(refusal(self.put_dir(alloc, &path(alloc, at)?, Props::empty(), RevNo::new(number))))
+        done(self.put_dir(alloc, &path(alloc, at)?, Props::empty(), RevNo::new(number)))
     }
 
     fn props(&mut self, alloc: Global, at: &str, number: u16) -> Result<u8, Fail> {
-        Ok(refusal(self.set_props(alloc, &path(alloc, at)?, Props::empty(), RevNo::new(number))))
+        done(self.set_props(alloc, &path(alloc, at)?, Props::empty(), RevNo::new(number)))
     }
 
     fn text(&mut self, alloc: Global, at: &str, number: u16) -> Result<u8, Fail> {
         let text = bytes(alloc)?;
-        Ok(refusal(self.set_text(alloc, &path(alloc, at)?, text, RevNo::new(number))))
+        done(self.set_text(alloc, &path(alloc, at)?, text, RevNo::new(number)))
     }
 
     fn gone(&mut self, alloc: Global, at: &str, number: u16) -> Result<u8, Fail> {
-        Ok(refusal(self.remove(alloc, &path(alloc, at)?, RevNo::new(number))))
+        done(self.remove(alloc, &path(alloc, at)?, RevNo::new(number)))
     }
 
     fn copy(
@@ -79,7 +79,7 @@ impl Calls for Tree {
         number: u16,
     ) -> Result<u8, Fail> {
         let source = path(alloc, source)?;
-        Ok(refusal(self.copy_in(alloc, &path(alloc, at)?, from, &source, RevNo::new(number))))
+        done(self.copy_in(alloc, &path(alloc, at)?, from, &source, RevNo::new(number)))
     }
 
     fn lines(&self, alloc: Global) -> Result<String, Fail> {
@@ -102,30 +102,30 @@ impl Calls for plain::Tree {
 
     fn file(&mut self, alloc: Global, at: &str, number: u16) -> Result<u8, Fail> {
         let text = bytes(alloc)?;
-        Ok(refusal(self.put_file(
+        done(self.put_file(
             alloc,
             &path(alloc, at)?,
             text,
             Props::empty(),
             RevNo::new(number),
-        )))
+        ))
     }
 
     fn dir(&mut self, alloc: Global, at: &str, number: u16) -> Result<u8, Fail> {
-        Ok(refusal(self.put_dir(alloc, &path(alloc, at)?, Props::empty(), RevNo::new(number))))
+        done(self.put_dir(alloc, &path(alloc, at)?, Props::empty(), RevNo::new(number)))
     }
 
     fn props(&mut self, alloc: Global, at: &str, number: u16) -> Result<u8, Fail> {
-        Ok(refusal(self.set_props(alloc, &path(alloc, at)?, Props::empty(), RevNo::new(number))))
+        done(self.set_props(alloc, &path(alloc, at)?, Props::empty(), RevNo::new(number)))
     }
 
     fn text(&mut self, alloc: Global, at: &str, number: u16) -> Result<u8, Fail> {
         let text = bytes(alloc)?;
-        Ok(refusal(self.set_text(alloc, &path(alloc, at)?, text, RevNo::new(number))))
+        done(self.set_text(alloc, &path(alloc, at)?, text, RevNo::new(number)))
     }
 
     fn gone(&mut self, alloc: Global, at: &str, number: u16) -> Result<u8, Fail> {
-        Ok(refusal(self.remove(alloc, &path(alloc, at)?, RevNo::new(number))))
+        done(self.remove(alloc, &path(alloc, at)?, RevNo::new(number)))
     }
 
     fn copy(
@@ -137,7 +137,7 @@ impl Calls for plain::Tree {
         number: u16,
     ) -> Result<u8, Fail> {
         let source = path(alloc, source)?;
-        Ok(refusal(self.copy_in(alloc, &path(alloc, at)?, from, &source, RevNo::new(number))))
+        done(self.copy_in(alloc, &path(alloc, at)?, from, &source, RevNo::new(number)))
     }
 
     fn lines(&self, alloc: Global) -> Result<String, Fail> {
@@ -157,10 +157,12 @@ fn bytes(alloc: Global) -> Result<Text, Fail> {
     Ok(Text::new(alloc, b"one".to_vec(alloc)?)?)
 }
 
-fn refusal(answer: Result<(), TreeError>) -> u8 {
+// The number of a call's refusal, and 0 where it is done. Want of memory is passed on.
+fn done(answer: Result<(), TreeError>) -> Result<u8, Fail> {
     match answer {
-        Ok(()) => 0,
-        Err(error) => error.number(),
+        Ok(()) => Ok(0),
+        Err(TreeError::OutOfMemory) => Err(Fail::from(TreeError::OutOfMemory)),
+        Err(error) => Ok(error.number()),
     }
 }
 

@@ -205,7 +205,12 @@ impl Tree {
     }
 
     // Edits the node at a path. The nodes on the path that have other owners are copied.
-    fn alter(&mut self, alloc: Global, path: &[NodeName], edit: Edit) -> Result<(), AllocError>
+    pub(crate) fn alter(
+        &mut self,
+        alloc: Global,
+        path: &[NodeName],
+        edit: Edit,
+    ) -> Result<(), AllocError>
         requires there { IsSome (map.get self.old path.now) }
         requires shape { IsShape (edit_at edit (map.get self.old) path.now) }
         ensures ok { OnOk result ((q : Path) → map.get self.new q ≡ edit_at edit (map.get self.old) path.now q) }

@@ -1,0 +1,24 @@
+use Rattle.std.proofs.Common.{sym, ap, subst, ◌∙◌}
+use Rattle.std.specs.Prelude.{IsSome}
+use Rattle.std.specs.FinMap.{get}
+use Rattle.node_base.specs.NodeEdits.{with_prop}
+use Rattle.node_base.specs.Tree.{changed_at}
+use Rattle.path_tree.specs.Shape.{IsShape}
+use Rattle.path_tree.proofs.Altered.{changed_below, changed_as_graft}
+use Rattle.path_tree.proofs.Faults.{there_of}
+use Rattle.path_tree.proofs.Fronts.{shape_of, shape-prop}
+use Rattle.path_tree.proofs.tree.Tree.put_prop.Goals as goal
+
+pub alter-requires-clause-there : goal.alter-requires-clause-there
+alter-requires-clause-there c = subst (λ p. IsSome (get c.args.self.now p)) (sym c.names.ensures.names) (there_of (get c.args.self.now) c.args.path.now _ (sym c.prop_fault.ensures ∙ c.in_default.is))
+
+pub alter-requires-clause-shape : goal.alter-requires-clause-shape
+alter-requires-clause-shape c =
+    let p = c.names.result.now in
+    let g = with_prop c.args.name c.args.value in
+    subst IsShape (changed_as_graft (get c.args.self.now) p g) (shape-prop (get c.args.self.now) p c.args.name c.args.value (shape_of c.args.self.now c.is_tree.ensures))
+
+pub returns-clause-ok : goal.returns-clause-ok
+returns-clause-ok c = λ q.
+    let g = with_prop c.args.name c.args.value in
+    c.in_ok-alter.ensures.ok q ∙ changed_below (get c.args.self.now) c.names.result.now g q ∙ ap (λ p. changed_at (get c.args.self.now) p g q) c.names.ensures.names
