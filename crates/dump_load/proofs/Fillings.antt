@@ -17,9 +17,11 @@ use Rattle.node_base.specs.declared.node.NodeKind.TheVariants.{File, Dir}
 use Rattle.dump_load.specs.declared.change.Change.{Change}
 use Rattle.dump_load.specs.Changes.{is_delete, is_plain, is_described, change_at, Precedes, Follows, IsWhole, IsInOrder, IsNormal}
 use Rattle.dump_load.specs.Effect.{effect, stepped}
-use Rattle.dump_load.specs.Faults.{fault_of}
+use Rattle.dump_load.specs.Faults.{fault_of, fault}
+use Rattle.node_base.specs.declared.fault.TreeFault.{TreeFault}
 use Rattle.dump_load.specs.Records.{Combined, is_kindless, earlier, sound_after, sound, blank_text, blanked, with_blanks, with_kind, filled_in, filled_after, Filling, IsSetOf}
 use Rattle.dump_load.proofs.Faultless.{deletes_settle}
+use Rattle.dump_load.proofs.Walk.{fault-end}
 use Rattle.dump_load.proofs.OneMore.{effect-end, change_at-end}
 use Rattle.dump_load.proofs.Combining.{order_follows, follows_same, follows_end}
 
@@ -69,10 +71,10 @@ module _ (trees : List PathMap) where
   sound-end done [] f = refl
   sound-end done (d ∷ s) f = sound-end (cond (is_none (fault_of trees (effect trees done) d)) (done ++ d ∷ []) done) s f
 
-  pub filling_none : (tree : PathMap) → ((q : Path) → get tree q ≡ effect trees [] q) → Filling trees [] [] tree
-  filling_none tree h = record { items = refl; left = h; kinds = refl }
+  pub filling_none : (tree : PathMap) → ((q : Path) → get tree q ≡ effect trees [] q) → Filling trees [] [] tree None
+  filling_none tree h = record { items = refl; left = h; fault = refl; all = λ _. refl; kinds = refl }
 
-  module _ (ys rest out : List Change) (tree : PathMap) (c f : Change) (w : Filling trees ys out tree) (order : IsInOrder (ys ++ c ∷ rest)) (says : is_kindless c ≡ false) (is : f ≡ with_kind trees (get tree) (with_blanks c)) where
+  module _ (ys rest out : List Change) (tree : PathMap) (first : Option TreeFault) (c f : Change) (w : Filling trees ys out tree first) (order : IsInOrder (ys ++ c ∷ rest)) (says : is_kindless c ≡ false) (is : f ≡ with_kind trees (get tree) (with_blanks c)) where
     same_function : ◌≡◌ {A = Path → Option Node} (get tree) (effect trees (sound trees out))
     same_function = λ i q. w.left q i
 
@@ -94,8 +96,27 @@ module _ (trees : List PathMap) where
     sound_is : (b : Bool) → is_none (fault_of trees (get tree) f) ≡ b → sound trees (out ++ f ∷ []) ≡ cond b (sound trees out ++ f ∷ []) (sound trees out)
     sound_is b e = sound-end [] out f ∙ ap (λ b. cond b (sound trees out ++ f ∷ []) (sound trees out)) ((λ i. is_none (fault_of trees (sym same_function i) f)) ∙ e)
 
-    pub filled_more : (new : PathMap) → ((q : Path) → get new q ≡ cond (is_none (fault_of trees (get tree) f)) (stepped trees (get tree) f q) (get tree q)) → Filling trees (ys ++ c ∷ []) (out ++ f ∷ []) new
-    filled_more new h = record { items = items; left = left (is_none (fault_of trees (get tree) f)) refl; kinds = kinds }
+    -- up to the first fault nothing is left out
+    fault_is : option_or first (fault_of trees (get tree) f) ≡ fault trees (out ++ f ∷ [])
+    fault_is = at first w.fault w.all ∙ sym (fault-end trees out f)
+      where
+        at : (o : Option TreeFault) → o ≡ fault trees out → (o ≡ None → sound trees out ≡ out) → option_or o (fault_of trees (get tree) f) ≡ option_or (fault trees out) (fault_of trees (effect trees out) f)
+        at (Some x) is all = ap (λ o. option_or o (fault_of trees (effect trees out) f)) is
+        at None is all = (λ i. fault_of trees (same_function i) f) ∙ ap (λ s. fault_of trees (effect trees s) f) (all refl) ∙ ap (λ o. option_or o (fault_of trees (effect trees out) f)) is
+
+    all_more : option_or first (fault_of trees (get tree) f) ≡ None → sound trees (out ++ f ∷ []) ≡ out ++ f ∷ []
+    all_more none = sound_is true (ap is_none (none_second first (fault_of trees (get tree) f) none)) ∙ ap (λ s. s ++ f ∷ []) (w.all (none_first first (fault_of trees (get tree) f) none))
+      where
+        none_first : (a b : Option TreeFault) → option_or a b ≡ None → a ≡ None
+        none_first None b e = refl
+        none_first (Some x) b e = cc
+
+        none_second : (a b : Option TreeFault) → option_or a b ≡ None → b ≡ None
+        none_second None b e = e
+        none_second (Some x) b e = cc
+
+    pub filled_more : (new : PathMap) → ((q : Path) → get new q ≡ cond (is_none (fault_of trees (get tree) f)) (stepped trees (get tree) f q) (get tree q)) → Filling trees (ys ++ c ∷ []) (out ++ f ∷ []) new (option_or first (fault_of trees (get tree) f))
+    filled_more new h = record { items = items; left = left (is_none (fault_of trees (get tree) f)) refl; fault = fault_is; all = all_more; kinds = kinds }
       where
         left : (b : Bool) → is_none (fault_of trees (get tree) f) ≡ b → (q : Path) → get new q ≡ effect trees (sound trees (out ++ f ∷ [])) q
         left true e q =
@@ -104,6 +125,11 @@ module _ (trees : List PathMap) where
             ∙ sym (effect-end trees (sound trees out) f follows (deletes_settle f.action) q)
             ∙ ap (λ s. effect trees s q) (sym (sound_is true e))
         left false e q = h q ∙ ap (λ b. cond b (stepped trees (get tree) f q) (get tree q)) e ∙ w.left q ∙ ap (λ s. effect trees s q) (sym (sound_is false e))
+
+-- the tree and the fault at the end
+module _ (trees : List PathMap) (ys out : List Change) (tree : PathMap) (first : Option TreeFault) (w : Filling trees ys out tree first) where
+  pub filled_left : first ≡ None → (q : Path) → get tree q ≡ effect trees out q
+  filled_left none q = w.left q ∙ ap (λ s. effect trees s q) (w.all none)
 
 -- ---- the whole set
 

@@ -8,6 +8,7 @@ use Rattle.node_base.specs.Path.{Path, path_cmp, same_path, is_front}
 use Rattle.node_base.specs.Props.{PropMap}
 use Rattle.node_base.specs.Tree.{PathMap}
 use Rattle.node_base.specs.declared.node.Node.{Node}
+use Rattle.node_base.specs.declared.fault.TreeFault.{TreeFault}
 use Rattle.node_base.specs.declared.node.Action.TheVariants.{Replace}
 use Rattle.node_base.specs.declared.node.NodeKind.{NodeKind}
 use Rattle.node_base.specs.declared.node.NodeKind.TheVariants.{File, Dir}
@@ -130,10 +131,12 @@ abbrev pub filled_after : List PathMap → List Change → List Change → List 
 filled_after trees done [] = done
 filled_after trees done (c ∷ cs) = filled_after trees (done ++ filled_in trees done c ∷ []) cs
 
--- so far the changes ys were filled in to out, which left that tree
-pub record Filling (trees : List PathMap) (ys out : List Change) (tree : PathMap) : Type 0 where
+-- so far the changes ys were filled in to out, whose first fault this is, and those of out without a fault left that tree
+pub record Filling (trees : List PathMap) (ys out : List Change) (tree : PathMap) (first : Option TreeFault) : Type 0 where
   pub items : out ≡ filled_after trees [] ys
   pub left : (q : Path) → finite.get tree q ≡ effect trees (sound trees out) q
+  pub fault : first ≡ fault trees out
+  pub all : first ≡ None → sound trees out ≡ out
   pub kinds : list_any is_kindless ys ≡ false
 
 -- why a revision isn't taken: its number isn't the next one; else its records make no set; else the set that they make has a fault

@@ -1,19 +1,19 @@
 //! What records leave out, filled in.
-ghost use Rattle.std.specs.Prelude.{◌≡◌, ◌≤◌, ◌++◌, ◌∷◌, List, [], length, false, is_none, if◌then◌else◌, IfOk, IfErr, OnOk};
+ghost use Rattle.std.specs.Prelude.{◌≡◌, ◌≤◌, ◌++◌, ◌∷◌, List, [], length, None, false, is_none, if◌then◌else◌, IfOk, IfErr, OnOk};
 ghost use Rattle.std.specs.List.{list_any};
 ghost use Rattle.std.specs.FinMap as map;
 ghost use Rattle.dump_load.specs.declared.change.Change.{Change as ChangeOf};
 ghost use Rattle.dump_load.specs.declared.fault.ChangeFault.TheVariants.{BadHeader};
 ghost use Rattle.dump_load.specs.Changes.{IsInOrder, IsWhole};
-ghost use Rattle.dump_load.specs.Effect.{stepped};
+ghost use Rattle.dump_load.specs.Effect.{effect, stepped};
 ghost use Rattle.node_base.specs.Path.{Path};
-ghost use Rattle.dump_load.specs.Faults.{IsRefusal, fault_if, fault_of};
+ghost use Rattle.dump_load.specs.Faults.{IsRefusal, fault, fault_if, fault_of};
 ghost use Rattle.dump_load.specs.Records.{is_kindless, with_blanks, with_kind, filled_after, Filling};
 
 use crate::judge::{fault_of, judged};
 use crate::steps::{begin, step};
 use crate::{Change, ChangeFault};
-use node_base::{NodeKind, Props, Text};
+use node_base::{NodeKind, Props, Text, TreeFault};
 use path_tree::Tree;
 use std::alloc::{AllocError, Global};
 
@@ -86,52 +86,69 @@ fn advance(
     trees: &[Tree],
     tree: &mut Tree,
     change: &Change,
-) -> Result<(), AllocError>
+) -> Result<Option<TreeFault>, AllocError>
     requires few { length trees.now ≤ 65535 }
     requires whole { IsWhole change.now }
-    ensures { OnOk result ((q : Path) → map.get tree.new q ≡ (if is_none (fault_of trees.now (map.get tree.old) change.now) then stepped trees.now (map.get tree.old) change.now q else map.get tree.old q)) }
+    ensures fault { IfOk result (λ f. f ≡ fault_of trees.now (map.get tree.old) change.now) }
+    ensures left { OnOk result ((q : Path) → map.get tree.new q ≡ (if is_none (fault_of trees.now (map.get tree.old) change.now) then stepped trees.now (map.get tree.old) change.now q else map.get tree.old q)) }
 {
     match fault_of(trees, tree, change) {
-        Some(_) => Ok(()),
-        None => step(alloc, trees, tree, change),
+        Some(fault) => Ok(Some(fault)),
+        None => {
+            step(alloc, trees, tree, change)?;
+            Ok(None)
+        }
     }
+}
+
+/// Changes that are filled in, the first fault of theirs, and the tree that those without a fault leave.
+#[derive(Drop)]
+pub struct Filled {
+    pub changes: Vec<Change>,
+    pub fault: Option<TreeFault>,
+    pub tree: Tree,
 }
 
 // One more change filled in, and made of the tree where it has no fault there.
 fn fill_one(
     alloc: Global,
     trees: &[Tree],
-    tree: &mut Tree,
-    filled: &mut Vec<Change>,
+    so_far: &mut Filled,
     change: Change,
 ) -> Result<(), ChangeFault>
     requires { length trees.now ≤ 65535 }
-    ensures filled { OnOk result ((ys rest : List ChangeOf) → Filling trees.now ys filled.old.items tree.old → IsInOrder (ys ++ change ∷ rest) → Filling trees.now (ys ++ change ∷ []) filled.new.items tree.new) }
+    ensures filled { OnOk result ((ys rest : List ChangeOf) → Filling trees.now ys so_far.old.changes.items so_far.old.tree so_far.old.fault → IsInOrder (ys ++ change ∷ rest) → Filling trees.now (ys ++ change ∷ []) so_far.new.changes.items so_far.new.tree so_far.new.fault) }
     ensures refused { IfErr result (λ e. (ys rest : List ChangeOf) → IsRefusal e (fault_if (list_any is_kindless (ys ++ change ∷ rest)) BadHeader)) }
 {
     if is_kindless(&change) {
         return Err(ChangeFault::BadHeader);
     }
     let blanked = with_blanks(alloc, change)?;
-    let whole = with_kind(trees, tree, blanked);
-    advance(alloc, trees, tree, &whole)?;
-    filled.push(whole)?;
+    let whole = with_kind(trees, &so_far.tree, blanked);
+    let fault = advance(alloc, trees, &mut so_far.tree, &whole)?;
+    so_far.fault = so_far.fault.or(fault);
+    so_far.changes.push(whole)?;
     Ok(())
 }
 
 /// Changes in path order with what is missing filled in: the kind that counts, and what an add or a replace that copies nothing
-/// begins with. Where such a one doesn't say what it adds they are refused (2).
-pub fn fill(alloc: Global, trees: &[Tree], changes: Vec<Change>) -> Result<Vec<Change>, ChangeFault>
+/// begins with. Where such a one doesn't say what it adds they are refused (2). Where they have no fault, the tree is theirs.
+pub fn fill(alloc: Global, trees: &[Tree], changes: Vec<Change>) -> Result<Filled, ChangeFault>
     requires few { length trees.now ≤ 65535 }
     requires order { IsInOrder changes.items }
-    ensures filled { IfOk result (λ v. v.items ≡ filled_after trees.now [] changes.items) }
+    ensures filled { IfOk result (λ f. f.changes.items ≡ filled_after trees.now [] changes.items) }
+    ensures fault { IfOk result (λ f. f.fault ≡ fault trees.now f.changes.items) }
+    ensures tree { IfOk result (λ f. f.fault ≡ None → (q : Path) → map.get f.tree q ≡ effect trees.now f.changes.items q) }
     ensures kinds { OnOk result (list_any is_kindless changes.items ≡ false) }
     ensures refused { IfErr result (λ e. IsRefusal e (fault_if (list_any is_kindless changes.items) BadHeader)) }
 {
-    let mut tree = begin(alloc, trees)?;
-    let mut filled = Vec::with_capacity(alloc, changes.len())?;
+    let mut filled = Filled {
+        changes: Vec::with_capacity(alloc, changes.len())?,
+        fault: None,
+        tree: begin(alloc, trees)?,
+    };
     for change in changes {
-        fill_one(alloc, trees, &mut tree, &mut filled, change)?;
+        fill_one(alloc, trees, &mut filled, change)?;
     }
     Ok(filled)
 }

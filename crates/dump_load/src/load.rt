@@ -10,6 +10,7 @@ ghost use Rattle.dump_load.specs.Faults.{fault, refused, IsRefusal};
 ghost use Rattle.dump_load.specs.Records.{IsNormalSetOf, IsLoadRefusal};
 
 use crate::judge::fault_of;
+use crate::records::gather;
 use crate::steps::{begin, step};
 use crate::{ChangeFault, ChangeSet};
 use dump_text::NodeRecord;
@@ -56,7 +57,9 @@ pub fn load_revision(
     if number.index() != trees.len() {
         return Err(ChangeFault::WrongNumber);
     }
-    let set = ChangeSet::from_records(alloc, trees, records)?;
-    let tree = apply(alloc, trees, &set)?;
-    Ok((set, tree))
+    let gathered = gather(alloc, trees, records)?;
+    if let Some(fault) = gathered.fault {
+        return Err(ChangeFault::from(fault));
+    }
+    Ok((gathered.set, gathered.tree))
 }

@@ -1,19 +1,21 @@
 //! From a revision's records to its set of changes.
 ghost use Rattle.std.specs.Prelude.{◌≡◌, ◌≤◌, ◌++◌, ◌∷◌, ◌&&◌, ◌||◌, List, [], length, map, None, true, false, IfOk, IfErr, OnOk};
+ghost use Rattle.std.specs.FinMap as finite;
 ghost use Rattle.dump_load.specs.declared.change.Change.{Change as ChangeOf};
 ghost use Rattle.node_base.specs.Path.{Path, same_path, is_front};
 ghost use Rattle.dump_load.specs.Changes.{NoneFalls, is_delete, is_add};
-ghost use Rattle.dump_load.specs.Faults.{IsRefusal, fault_if};
+ghost use Rattle.dump_load.specs.Faults.{IsRefusal, fault, fault_if};
+ghost use Rattle.dump_load.specs.Effect.{effect};
 ghost use Rattle.dump_load.specs.declared.fault.ChangeFault.TheVariants.{OutOfOrder};
 ghost use Rattle.dump_load.specs.Records.{change_of, replacing, Combined, is_out_of_order, set_fault, IsNormalSetOf};
 
 use crate::change::{is_add, is_delete};
-use crate::fill::fill;
+use crate::fill::{Filled, fill};
 use crate::order::{count_paths, in_path_order, is_same_path};
 use crate::{Change, ChangeFault, ChangeSet};
 use dump_text::NodeRecord;
 use node_base::limits::CHANGES;
-use node_base::{Action, rest_after};
+use node_base::{Action, TreeFault, rest_after};
 use path_tree::Tree;
 use std::alloc::{AllocError, Global};
 
@@ -104,6 +106,45 @@ fn combine(alloc: Global, changes: Vec<Change>) -> Result<Vec<Change>, ChangeFau
     Ok(combined)
 }
 
+/// The set that records make, its first fault over the trees before it, and where it has none the tree that it makes.
+#[derive(Drop)]
+pub struct Gathered {
+    pub set: ChangeSet,
+    pub fault: Option<TreeFault>,
+    pub tree: Tree,
+}
+
+/// The set of changes that a revision's records make, and what it comes to over the trees before it.
+pub fn gather(
+    alloc: Global,
+    trees: &[Tree],
+    records: Vec<NodeRecord>,
+) -> Result<Gathered, ChangeFault>
+    requires { length trees.now ≤ 65535 }
+    ensures set { IfOk result (λ g. IsNormalSetOf trees.now records.items g.set) }
+    ensures fault { IfOk result (λ g. g.fault ≡ fault trees.now g.set) }
+    ensures tree { IfOk result (λ g. g.fault ≡ None → (q : Path) → finite.get g.tree q ≡ effect trees.now g.set q) }
+    ensures fits { OnOk result (set_fault (map change_of records.items) ≡ None) }
+    ensures refused { IfErr result (λ e. IsRefusal e (set_fault (map change_of records.items))) }
+{
+    let stated = in_path_order(changes_of(alloc, records)?)?;
+    if count_paths(&stated) > CHANGES {
+        return Err(ChangeFault::TooLong);
+    }
+    let combined = combine(alloc, stated)?;
+    let filled = fill(alloc, trees, combined)?;
+    let Filled {
+        changes,
+        fault,
+        tree,
+    } = filled;
+    Ok(Gathered {
+        set: ChangeSet::new(changes),
+        fault,
+        tree,
+    })
+}
+
 impl ChangeSet {
     /// The set of changes that a revision's records make, over the trees of the revisions before it. The records may come in any
     /// order; those of one path come together: there is one, or a deletion and then an add, which are one replace. A kind that is
@@ -122,12 +163,7 @@ impl ChangeSet {
         ensures fits { OnOk result (set_fault (map change_of records.items) ≡ None) }
         ensures refused { IfErr result (λ e. IsRefusal e (set_fault (map change_of records.items))) }
     {
-        let stated = in_path_order(changes_of(alloc, records)?)?;
-        if count_paths(&stated) > CHANGES {
-            return Err(ChangeFault::TooLong);
-        }
-        let combined = combine(alloc, stated)?;
-        let filled = fill(alloc, trees, combined)?;
-        Ok(ChangeSet::new(filled))
+        let gathered = gather(alloc, trees, records)?;
+        Ok(gathered.set)
     }
 }

@@ -3,17 +3,17 @@ use Rattle.std.proofs.Common.{map, sym, subst}
 use Rattle.dump_load.specs.Records.{change_of, IsSetOf}
 use Rattle.dump_load.proofs.Fillings.{set_of}
 use Rattle.dump_load.proofs.Gathered.{gathered_set, gathered_many, gathered_fits, gathered_order, gathered_kind}
-use Rattle.dump_load.proofs.set.ChangeSet.from_records.Goals as goal
+use Rattle.dump_load.proofs.records.gather.Goals as goal
 
 pub new-requires : goal.new-requires
 new-requires c =
-    (set_of c.args.trees.now c.in_ok-stated.stated.items c.in_ok-combined.combined.items c.in_ok-filled.filled.items c.in_ok-combined.ensures.combined c.in_ok-filled.ensures.kinds c.in_ok-filled.ensures.filled).normal
+    (set_of c.args.trees.now c.in_ok-stated.stated.items c.in_ok-combined.combined.items c.in_ok-filled.filled.changes.items c.in_ok-combined.ensures.combined c.in_ok-filled.ensures.kinds c.in_ok-filled.ensures.filled).normal
 
 pub returns-clause-set : goal.returns-clause-set
 returns-clause-set c =
     subst (IsSetOf c.args.trees.now (map change_of c.args.records.items)) (sym c.new.ensures)
     (gathered_set (map change_of c.args.records.items) c.in_ok-changes_of.field-0.items c.in_ok-stated.stated.items c.in_ok-changes_of.ensures c.in_ok-stated.ensures.moved c.in_ok-stated.ensures.stated
-    c.args.trees.now c.in_ok-combined.combined.items c.in_ok-filled.filled.items c.in_ok-combined.ensures.combined c.in_ok-filled.ensures.kinds c.in_ok-filled.ensures.filled)
+    c.args.trees.now c.in_ok-combined.combined.items c.in_ok-filled.filled.changes.items c.in_ok-combined.ensures.combined c.in_ok-filled.ensures.kinds c.in_ok-filled.ensures.filled)
 
 pub returns-clause-fits : goal.returns-clause-fits
 returns-clause-fits c =
