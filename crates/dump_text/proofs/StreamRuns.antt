@@ -1,6 +1,6 @@
 -- Runs over a stream.
 use Rattle.std.proofs.Common.{◌≡◌, ℕ, zero, suc, ◌+◌, ◌≤◌, ◌<◌, ◌==◌, true, false, List, [], ◌∷◌, ◌++◌, length, take, drop, get_or, Err, nat_lt, subst, Option, refl, sym, ap, ◌∙◌, append_assoc, append-nil, length-append, arith}
-use Rattle.std.proofs.lemmas.List.{drop_more, length-take, take-append-drop, take-take, get_or-take}
+use Rattle.std.proofs.lemmas.List.{drop_more, take_more, length-take, take-append-drop, take-take, get_or-take}
 use Rattle.std.proofs.lemmas.Bool.Decides.{nat_tests}
 use Rattle.node_base.specs.Props.{PropMap}
 use Rattle.dump_text.specs.declared.fault.DumpFault.{DumpFault}
@@ -97,6 +97,10 @@ line_past place p rs v i h block ps held s b more lone e le ge =
 -- a piece is its bytes before one, that byte, and those behind it
 pub parts : (piece : List ℕ) (k : ℕ) → k < length piece → take k piece ++ get_or piece k 0 ∷ drop (k + 1) piece ≡ piece
 parts piece k h = rw (← drop_more piece k 0 h) (take-append-drop k piece)
+
+-- bytes up to one, and that one
+pub last_taken : (held piece : List ℕ) (k : ℕ) → k < length piece → held ++ take (k + 1) piece ≡ (held ++ take k piece) ++ get_or piece k 0 ∷ []
+last_taken held piece k h = ap (λ x. held ++ x) (take_more piece k 0 h) ∙ sym (append_assoc held (take k piece) (get_or piece k 0 ∷ []))
 
 pub text_kept : (rs : List DumpRecord) (r : ReadState) (n : ℕ) (piece : List ℕ) → r.place ≡ at.Text n → (0 < length piece → length r.held + length piece < n) → reading (Reads rs r) piece ≡ Reads rs (record r { held = r.held ++ piece })
 text_kept rs r n piece e lt =

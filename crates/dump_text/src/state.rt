@@ -314,8 +314,7 @@ impl ReadState {
             self.held.extend(piece)?;
             return Ok(piece.len());
         }
-        self.held.extend(&piece[..keep])?;
-        self.held.push(piece[keep])?;
+        self.held.extend(&piece[..keep + 1])?;
         let text = self.held.take(alloc);
         let props = mem::replace(&mut self.props, None);
         match self.take_text(alloc, out, props, text) {
