@@ -7,7 +7,6 @@ use Rattle.std.proofs.lemmas.Fmt.{length-decimal-le}
 use Rattle.node_base.specs.Numbers.{decimal, is_digit, is_nil, all_bytes}
 use Rattle.node_base.proofs.BlockSpelled.{both}
 use Rattle.node_base.proofs.BlockWritten.{spells_decimal}
-use Rattle.dump_text.specs.Headers.{revision_of}
 use Rattle.dump_text.specs.Heads.{line_says, no_head}
 use Rattle.dump_text.specs.Streams.{NoLf}
 use Rattle.dump_text.specs.Grammar.{HeadOf}
@@ -61,9 +60,6 @@ printed_read n h =
     let s = spells_decimal n h in
     rw (some_not_nil (printed n) s.some, s.digits_only, s.number, lt_true n 18446744073709551616 (omega arith)) refl
 
-pub revision_read : (n : ℕ) → n ≤ 65535 → revision_of (printed n) ≡ Some n
-revision_read n h = rw (printed_read n (omega arith), lt_false 65535 n h) refl
-
 -- a header line with a number
 pub number_line : (name : List ℕ) (n : ℕ) → n < 2 ^ 64 → has_no_lf name ≡ true → NoLf (name ++ printed n)
 number_line name n h e = lone_append name (printed n) (lone_of name e) (lone_digits (printed n) (spells_decimal n h).digits_only)
@@ -81,7 +77,7 @@ abbrev pub whole : ℕ → ℕ → Head
 whole n len = record (blocked n len) { content_len = Some len }
 
 number_says : (n : ℕ) → n ≤ 65535 → line_says no_head (codes "Revision-number: " ++ printed n) ≡ Ok (numbered n)
-number_says n h = rw (printed_read n (omega arith), lt_false 65535 n h) refl
+number_says n h = rw (printed_read n (omega arith), le_true n 65535 h) refl
 
 block_says : (n len : ℕ) → len < 2 ^ 64 → line_says (numbered n) (codes "Prop-content-length: " ++ printed len) ≡ Ok (blocked n len)
 block_says n len h = rw (printed_read len h) refl

@@ -47,6 +47,7 @@ ended rs out r last e = (same_state e.0 e.1, same_records e.0)
   where
     same_state : Reads rs r ≡ Reads out last → is_between last ≡ true → is_between r ≡ true
     same_state x b = let s : r ≡ last = cc in ap is_between s ∙ b
+
     same_records : Reads rs r ≡ Reads out last → out ≡ rs
     same_records x = cc
 

@@ -15,7 +15,7 @@ use Rattle.dump_text.specs.Streams.{NoLf}
 use Rattle.dump_text.specs.Canon.{header_line, kind_line, action_word}
 use Rattle.dump_text.specs.Grammar.{lines_of, HeadOf}
 use Rattle.dump_text.specs.declared.head.Head.{Head}
-use Rattle.dump_text.proofs.CanonRead.{lone_of, lone_append, number_line, short_line, printed_read, lt_false}
+use Rattle.dump_text.proofs.CanonRead.{lone_of, lone_append, number_line, short_line, printed_read, le_true}
 use Rattle.dump_text.proofs.PathLines.{lone_path, short_path, path_back}
 use Rattle.dump_text.proofs.SumLines.{lone_hex, sum_back, sum_length}
 
@@ -90,7 +90,7 @@ action_lines p kind Replace = one _ _ (codes "Node-action: ") (codes "replace") 
 -- the lines that follow the action
 module _ (p : Path) (kind : Option NodeKind) (action : Action) where
   from_says : (n : ℕ) → n ≤ 65535 → line_says (node_head (Some p) kind (Some action) None None None None None None) (codes "Node-copyfrom-rev: " ++ printed n) ≡ Ok (node_head (Some p) kind (Some action) (Some n) None None None None None)
-  from_says n h = rw (printed_read n (omega arith), lt_false 65535 n h) refl
+  from_says n h = rw (printed_read n (omega arith), le_true n 65535 h) refl
 
   from_path_says : (n : ℕ) (q : Path) → is_path q ≡ true → line_says (node_head (Some p) kind (Some action) (Some n) None None None None None) (codes "Node-copyfrom-path: " ++ path_text q) ≡ Ok (node_head (Some p) kind (Some action) (Some n) (Some q) None None None None)
   from_path_says n q e = rw (path_back q e) refl

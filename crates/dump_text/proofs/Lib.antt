@@ -1,4 +1,3 @@
-mod Numbers
 mod Lines
 mod Identities
 mod StreamRuns

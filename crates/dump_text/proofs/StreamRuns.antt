@@ -1,6 +1,6 @@
 -- Runs over a stream.
-use Rattle.std.proofs.Common.{◌≡◌, ℕ, zero, suc, ◌+◌, ◌≤◌, ◌<◌, ◌==◌, true, false, List, [], ◌∷◌, ◌++◌, length, take, drop, get_or, Err, nat_lt, subst, Option, refl, sym, ap, ◌∙◌, append_assoc, append-nil, length-append, arith}
-use Rattle.std.proofs.lemmas.List.{drop_more, length-take, take-append-drop, take-take, get_or-take}
+use Rattle.std.proofs.Common.{◌≡◌, ℕ, zero, suc, ◌+◌, ◌≤◌, ◌<◌, ◌==◌, Bool, true, false, List, [], ◌∷◌, ◌++◌, length, take, drop, get_or, Err, nat_lt, subst, Option, refl, sym, ap, ◌∙◌, append_assoc, append-nil, length-append, arith}
+use Rattle.std.proofs.lemmas.List.{drop_more, take_more, length-take, take-append-drop, take-take, get_or-take}
 use Rattle.std.proofs.lemmas.Bool.Decides.{nat_tests}
 use Rattle.node_base.specs.Props.{PropMap}
 use Rattle.dump_text.specs.declared.fault.DumpFault.{DumpFault}
@@ -98,6 +98,10 @@ line_past place p rs v i h block ps held s b more lone e le ge =
 pub parts : (piece : List ℕ) (k : ℕ) → k < length piece → take k piece ++ get_or piece k 0 ∷ drop (k + 1) piece ≡ piece
 parts piece k h = rw (← drop_more piece k 0 h) (take-append-drop k piece)
 
+-- bytes up to one, and that one
+pub last_taken : (held piece : List ℕ) (k : ℕ) → k < length piece → held ++ take (k + 1) piece ≡ (held ++ take k piece) ++ get_or piece k 0 ∷ []
+last_taken held piece k h = ap (λ x. held ++ x) (take_more piece k 0 h) ∙ sym (append_assoc held (take k piece) (get_or piece k 0 ∷ []))
+
 pub text_kept : (rs : List DumpRecord) (r : ReadState) (n : ℕ) (piece : List ℕ) → r.place ≡ at.Text n → (0 < length piece → length r.held + length piece < n) → reading (Reads rs r) piece ≡ Reads rs (record r { held = r.held ++ piece })
 text_kept rs r n piece e lt =
     subst (λ p. reading (Reads rs (reader r.version p r.stage r.head r.block r.props r.held)) piece ≡ Reads rs (reader r.version p r.stage r.head r.block r.props (r.held ++ piece))) (sym e)
@@ -131,6 +135,16 @@ lone_at (suc k) (b ∷ s) h l = lone_at k s h.1 (omega arith)
 pub lone_push : (s : List ℕ) (b : ℕ) → NoLf s → (b == 10) ≡ false → NoLf (s ++ b ∷ [])
 lone_push [] b h e = (e, tt)
 lone_push (a ∷ s) b h e = (h.0, lone_push s b h.1 e)
+
+-- bytes before which none is an LF
+pub lone_before : (k : ℕ) (s : List ℕ) → ((j : ℕ) → j < k → (get_or s j 0 == 10) ≡ true → ⊥) → NoLf (take k s)
+lone_before zero s h = tt
+lone_before (suc k) [] h = tt
+lone_before (suc k) (b ∷ s) h = (false_of (b == 10) (h 0 (omega arith)), lone_before k s (λ j l. h (suc j) (omega arith)))
+  where
+    false_of : (t : Bool) → (t ≡ true → ⊥) → t ≡ false
+    false_of true never = absurd (never refl)
+    false_of false never = refl
 
 pub not_lf : (b : ℕ) → (b ≡ 10 → ⊥) → (b == 10) ≡ false
 not_lf b h = grind (arith, nat_tests)

@@ -21,7 +21,7 @@ use Rattle.node_base.proofs.BlockConverse.{read_is_block}
 use Rattle.dump_text.specs.Heads.{no_head, line_says, with_value}
 use Rattle.dump_text.specs.Forms.{fits_form, lengths_agree, lengths_fit, is_making, is_deletion, source_of, part_of, stage_after}
 use Rattle.dump_text.specs.Canon.{told_kind, source_lines, block_of, block_line, text_of, text_lines, content_line, content_of, canon_node, canon_entry, canon_revision, canon_identity, canon_head}
-use Rattle.dump_text.specs.Written.{map_of, IsFormed, IsKept, AreFormed, AreKept, IsRevision, AreRevisions, IsIdentity, read_node, read_revision, read_identity, canon_dump, read_dump}
+use Rattle.dump_text.specs.Written.{map_of, IsFormed, IsKept, AreFormed, AreKept, IsRevision, AreRevisions, IsIdentity, read_node, read_revision, read_identity, canon_dump, read_dump, AreRecords}
 use Rattle.dump_text.specs.Streams.{NoLf, Reads, reading, begin}
 use Rattle.dump_text.specs.declared.state.Place.TheVariants as at
 use Rattle.dump_text.specs.declared.fault.DumpFault.TheVariants.{BadHeader}
@@ -151,10 +151,6 @@ node_leads r n f =
 eq_self : (n : ℕ) → (n == n) ≡ true
 eq_self n = grind (arith, nat_tests)
 
-zero_of_false : (b : Bool) → not (b && true) ≡ true → not b ≡ true
-zero_of_false true e = cc
-zero_of_false false e = refl
-
 -- the head's form, by what the node has
 form_of : (path : Path) (kind : Option NodeKind) (action : Action) (source : Option Source) (props : Option PropPart) (text : Option (List ℕ)) → ((is_none source || is_making (Some action)) && not (is_deletion (Some action) && (is_some props || is_some text))) ≡ true → fits_form Inside (node_head (Some path) kind (Some action) (rev_of source) (from_of source) (len_of_part props) (len_of_text text) (sum_of_text text) (len_of_content props text)) ≡ true
 form_of path kind action None None None e = e
@@ -198,12 +194,10 @@ part_back : (p : Option PropPart) → part_of (map_of_part p) ≡ p
 part_back None = refl
 part_back (Some (Whole m)) = refl
 
-some_lines : (h last : Head) (text rest : List ℕ) (b : ℕ) (name : List ℕ) (x : Leads h (b ∷ text) rest last) → (last ≡ h → ⊥) → 0 < length x.lines
-some_lines h last text rest b name x differs = first x.lines x.headers
-  where
-    first : (lines : List (List ℕ)) → HeadOf h lines last → 0 < length lines
-    first [] e = absurd (differs (sym e))
-    first (l ∷ ls) e = omega arith
+-- header lines that change the head are some
+some_lines : (h last : Head) (lines : List (List ℕ)) → HeadOf h lines last → (last ≡ h → ⊥) → 0 < length lines
+some_lines h last [] e differs = absurd (differs (sym e))
+some_lines h last (l ∷ ls) e differs = omega arith
 
 no_path_is : (r : NodeRecord) → written_head r ≡ no_head → ⊥
 no_path_is r e = none_is (ap (λ (h : Head). h.path) e)
@@ -222,7 +216,7 @@ node_is r n f =
       body = block_of r.props ++ text_of r.text;
       props = map_of_part r.props;
       text = r.text;
-      some = some_lines no_head head _ (content_of r.props r.text) 78 [] l (no_path_is r);
+      some = some_lines no_head head l.lines l.headers (no_path_is r);
       spelled = refl;
       headers = l.headers;
       form = form_of r.path (told_kind r.action r.kind) r.action r.source r.props r.text f.form;
@@ -373,6 +367,10 @@ head_written id n = (canon_identity id, append_assoc (codes "SVN-fs-dump-format-
 pub dump_written : (id : Option (List ℕ)) (rs : List RevRecord) → IfSome id ReadsBack → AreRevisions rs → Dump (canon_dump id rs) (read_dump id rs)
 dump_written id rs n v =
     (canon_identity id ++ flat_map canon_revision rs, head_bytes (codes "SVN-fs-dump-format-version: 2") (canon_identity id) (flat_map canon_revision rs), records-append First (canon_identity id) (flat_map canon_revision rs) (read_identity id) (flat_map read_revision rs) (identity_written id n) (revisions_written (stage_behind First (read_identity id)) rs v))
+
+pub dump_goes_on : (bytes more : List ℕ) (rs others : List DumpRecord) → Dump bytes rs → AreRecords more others → Dump (bytes ++ more) (rs ++ others)
+dump_goes_on bytes more rs others (rest, e, records) next =
+    (rest ++ more, ap (λ x. x ++ more) e ∙ append_assoc (codes "SVN-fs-dump-format-version: 2") (10 ∷ 10 ∷ rest) more, records-append First rest more rs others records (next (stage_behind First rs)))
 
 -- ---- read again
 

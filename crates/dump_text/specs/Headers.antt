@@ -1,10 +1,9 @@
 -- Names and values of header lines.
-use Rattle.std.specs.Prelude.{◌≡◌, ℕ, ◌==◌, ◌&&◌, nat_lt, Bool, List, [], ◌∷◌, ◌++◌, Option, Some, None, option_map, option_and_then, Result, Ok, Err, if◌then◌else◌, codes, eqb}
+use Rattle.std.specs.Prelude.{◌≡◌, ℕ, ◌==◌, ◌&&◌, Bool, List, [], ◌∷◌, ◌++◌, Option, Some, None, option_map, Result, Ok, Err, if◌then◌else◌, codes, eqb}
 use Rattle.std.specs.Borrow.{Bor}
 use lib.Pointwise.{pointwise}
 use Rattle.uuid.specs.Text.{parsed_hyphenated}
 use Rattle.node_base.specs.Path.{Path}
-use Rattle.node_base.specs.Numbers.{decimal}
 use Rattle.node_base.specs.PathText.{path_read}
 use Rattle.node_base.specs.declared.fault.PathFault.{PathFault}
 use Rattle.node_base.specs.declared.fault.PathFault.TheVariants as path_fault
@@ -50,13 +49,6 @@ known_name name =
     else if same name (codes "Prop-delta") then Some header.PropDelta
     else if same name (codes "UUID") then Some header.Identity
     else None
-
--- a revision number is at most 65,535
-abbrev pub within_revisions : ℕ → Option ℕ
-within_revisions n = if nat_lt 65535 n then None else Some n
-
-abbrev pub revision_of : List ℕ → Option ℕ
-revision_of value = option_and_then within_revisions (decimal value)
 
 -- one leading slash of a path is dropped
 abbrev pub without_slash : List ℕ → List ℕ

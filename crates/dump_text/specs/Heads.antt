@@ -2,8 +2,8 @@
 use Rattle.std.specs.Prelude.{◌≡◌, ℕ, false, List, Option, Some, None, Result, Ok, Err, if◌then◌else◌, codes}
 use Rattle.hex.specs.Hex.{decode_sized}
 use Rattle.node_base.specs.Path.{Path}
-use Rattle.node_base.specs.Numbers.{decimal}
-use Rattle.dump_text.specs.Headers.{same, split_line, known_name, revision_of, dump_path, kind_of, action_of, identity_of}
+use Rattle.node_base.specs.Numbers.{decimal, rev_read}
+use Rattle.dump_text.specs.Headers.{same, split_line, known_name, dump_path, kind_of, action_of, identity_of}
 use Rattle.dump_text.specs.declared.fault.DumpFault.{DumpFault}
 use Rattle.dump_text.specs.declared.fault.DumpFault.TheVariants.{BadHeader, BadNumber, TextDelta, OutOfMemory}
 use Rattle.dump_text.specs.declared.header.HeaderName.{HeaderName}
@@ -32,7 +32,7 @@ abbrev pub set_identity : Head → List ℕ → Result Head DumpFault
 set_identity h value = once h.identity (with_value BadHeader (identity_of value) (λ id. record h { identity = Some id }))
 
 abbrev pub set_number : Head → List ℕ → Result Head DumpFault
-set_number h value = once h.number (with_value BadNumber (revision_of value) (λ n. record h { number = Some n }))
+set_number h value = once h.number (with_value BadNumber (rev_read value) (λ n. record h { number = Some n }))
 
 abbrev pub set_path : Head → List ℕ → Result Head DumpFault
 set_path h value = once h.path (with_path (dump_path value) (λ path. record h { path = Some path }))
@@ -44,7 +44,7 @@ abbrev pub set_action : Head → List ℕ → Result Head DumpFault
 set_action h value = once h.action (with_value BadHeader (action_of value) (λ action. record h { action = Some action }))
 
 abbrev pub set_source_revision : Head → List ℕ → Result Head DumpFault
-set_source_revision h value = once h.source_revision (with_value BadNumber (revision_of value) (λ n. record h { source_revision = Some n }))
+set_source_revision h value = once h.source_revision (with_value BadNumber (rev_read value) (λ n. record h { source_revision = Some n }))
 
 abbrev pub set_source_path : Head → List ℕ → Result Head DumpFault
 set_source_path h value = once h.source_path (with_path (dump_path value) (λ path. record h { source_path = Some path }))

@@ -6,7 +6,7 @@ use Rattle.dump_text.specs.declared.form.Stage.TheVariants.{First, Inside}
 use Rattle.dump_text.specs.declared.record.DumpRecord.TheVariants.{Revision}
 use Rattle.dump_text.specs.declared.record.RevRecord.{RevRecord}
 use Rattle.dump_text.specs.Canon.{canon_entry, canon_revision}
-use Rattle.dump_text.specs.Written.{IsRevision, AreRevisions, IsIdentity, read_revision, canon_dump, read_dump}
+use Rattle.dump_text.specs.Written.{AreRecords, IsRevision, AreRevisions, IsIdentity, read_revision, canon_dump, read_dump}
 use Rattle.dump_text.specs.declared.record.DumpRecord.{DumpRecord}
 use Rattle.dump_text.specs.declared.fault.DumpFault.{DumpFault}
 use Rattle.dump_text.specs.declared.state.Place.TheVariants as at
@@ -64,3 +64,7 @@ RevisionsAreReadAgain = (rs : List DumpRecord) (version : ℕ) (stage : Stage) (
 -- a head and revisions that are written are a dump of the grammar, and are read as their records
 abbrev pub WrittenIsRead : Type 0
 WrittenIsRead = (id : Option (List ℕ)) (revisions : List RevRecord) → IfSome id IsIdentity → AreRevisions revisions → Dump (canon_dump id revisions) (read_dump id revisions) × (dump (canon_dump id revisions) ≡ Reads (read_dump id revisions) (begin 2 at.Between (stage_behind First (read_dump id revisions))))
+
+-- records behind a dump are a dump
+abbrev pub DumpsGoOn : Type 0
+DumpsGoOn = (bytes more : List ℕ) (rs others : List DumpRecord) → Dump bytes rs → AreRecords more others → Dump (bytes ++ more) (rs ++ others)

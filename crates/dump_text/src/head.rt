@@ -7,11 +7,10 @@ ghost use Rattle.dump_text.specs.Heads.{line_says, HeadIs, LengthIs, no_head, se
 
 use crate::fault::DumpFault;
 use crate::header::{
-    HeaderName, action_from, decimal_from, header_named, identity_from, kind_from, path_from,
-    revision_from, split_line,
+    HeaderName, action_from, header_named, identity_from, kind_from, path_from, split_line,
 };
 use hex::FromHex;
-use node_base::{Action, NodeKind, NodePath, RevNo};
+use node_base::{Action, NodeKind, NodePath, RevNo, read_decimal};
 use std::alloc::Global;
 use uuid::Uuid;
 
@@ -40,7 +39,7 @@ fn length_from(old: Option<u64>, value: &[u8]) -> Result<u64, DumpFault>
     if old.is_some() {
         return Err(DumpFault::BadHeader);
     }
-    decimal_from(value).ok_or(DumpFault::BadNumber)
+    read_decimal(value).ok_or(DumpFault::BadNumber)
 }
 
 impl Head {
@@ -84,7 +83,7 @@ impl Head {
         if self.number.is_some() {
             return Err(DumpFault::BadHeader);
         }
-        let Some(number) = revision_from(value) else {
+        let Some(number) = RevNo::parse(value) else {
             return Err(DumpFault::BadNumber);
         };
         self.number = Some(number);
@@ -134,7 +133,7 @@ impl Head {
         if self.source_revision.is_some() {
             return Err(DumpFault::BadHeader);
         }
-        let Some(number) = revision_from(value) else {
+        let Some(number) = RevNo::parse(value) else {
             return Err(DumpFault::BadNumber);
         };
         self.source_revision = Some(number);

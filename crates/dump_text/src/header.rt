@@ -1,11 +1,10 @@
 //! Names and values of header lines.
 
 ghost use Rattle.std.specs.Prelude.{◌≡◌, ◌≤◌, ◌<◌, ◌^◌, Option, Some, None, IfOk, MatchOption, codes, nat_lt, ◌&&◌};
-ghost use Rattle.node_base.specs.Numbers.{decimal};
-ghost use Rattle.dump_text.specs.Headers.{known_name, split_line, kind_of, action_of, revision_of, identity_of, dump_path, pair_now, without_slash, PathIs};
+ghost use Rattle.dump_text.specs.Headers.{known_name, split_line, kind_of, action_of, identity_of, dump_path, pair_now, without_slash, PathIs};
 
 use crate::fault::DumpFault;
-use node_base::{Action, NodeKind, NodePath, PathFault, RevNo};
+use node_base::{Action, NodeKind, NodePath, PathFault};
 use std::alloc::Global;
 use uuid::Uuid;
 
@@ -72,38 +71,6 @@ pub fn split_line(line: &[u8]) -> Option<(&[u8], &[u8])>
         }
     }
     None
-}
-
-/// The number that a value spells, below 2 to the 64.
-pub fn decimal_from(digits: &[u8]) -> Option<u64>
-    ensures { result ≡ decimal digits.now }
-{
-    if digits.is_empty() {
-        return None;
-    }
-    let mut n = 0u64;
-    for d in digits {
-        if *d < 48 || *d > 57 {
-            return None;
-        }
-        let digit = u64::from(*d - 48);
-        if n > 1844674407370955161 || n * 10 > u64::MAX - digit {
-            return None;
-        }
-        n = n * 10 + digit;
-    }
-    Some(n)
-}
-
-/// The revision number that a value spells.
-pub fn revision_from(value: &[u8]) -> Option<RevNo>
-    ensures { result ≡ revision_of value.now }
-{
-    let n = decimal_from(value)?;
-    if n > 65535 {
-        return None;
-    }
-    Some(RevNo::new(n as u16))
 }
 
 /// The path that a value spells, past one leading slash.

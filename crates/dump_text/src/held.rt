@@ -1,6 +1,6 @@
 //! Bytes of an unfinished line or text.
 
-ghost use Rattle.std.specs.Prelude.{◌≡◌, [], ◌++◌, ◌∷◌, length, IfOk};
+ghost use Rattle.std.specs.Prelude.{◌≡◌, [], ◌++◌, length, IfOk};
 
 use std::alloc::{AllocError, Global};
 use std::marker::Model;
@@ -45,14 +45,6 @@ impl HeldBytes {
         ensures { result ≡ length self.now }
     {
         self.bytes.len()
-    }
-
-    /// Adds a byte.
-    pub fn push(&mut self, byte: u8) -> Result<(), AllocError>
-        ensures { IfOk result (λ _. self.new ≡ self.old ++ byte ∷ []) }
-    {
-        self.bytes.push(byte)?;
-        Ok(())
     }
 
     /// Adds bytes.

@@ -1,6 +1,6 @@
 //! Laws of dump text, as contracts of functions that do nothing.
 
-ghost use Rattle.dump_text.specs.Laws.{PiecesJoin, RefusalsStay, DumpsAreRead, ReadsAreDumps, RefusalsHaveAByte, RefusedIsNoFront, OneReading, EntriesAreReadAgain, RevisionsAreReadAgain, WrittenIsRead};
+ghost use Rattle.dump_text.specs.Laws.{PiecesJoin, RefusalsStay, DumpsAreRead, ReadsAreDumps, RefusalsHaveAByte, RefusedIsNoFront, OneReading, EntriesAreReadAgain, RevisionsAreReadAgain, WrittenIsRead, DumpsGoOn};
 
 /// It doesn't matter how a dump is cut into pieces.
 pub fn pieces_join()
@@ -50,4 +50,9 @@ pub fn revisions_are_read_again()
 /// A head and revisions that are written are a dump of the grammar, and are read as their records.
 pub fn written_is_read()
     ensures { WrittenIsRead }
+{}
+
+/// Records behind a dump, as the writers put them there, are a dump.
+pub fn dumps_go_on()
+    ensures { DumpsGoOn }
 {}

@@ -13,6 +13,7 @@ use crate::head::Head;
 use crate::held::HeldBytes;
 use crate::record::DumpRecord;
 use md5::{Digest, Md5};
+use memchr::memchr;
 use node_base::{BlockReader, PropFault, Props, Text};
 use std::alloc::Global;
 use std::mem;
@@ -65,12 +66,10 @@ fn line_end(piece: &[u8]) -> usize
     ensures within { result ≤ length piece.now }
     ensures end { result < length piece.now → slice_index piece.now result ≡ 10 }
 {
-    for (k, b) in piece.iter().enumerate() {
-        if *b == 10 {
-            return k;
-        }
+    match memchr(b'\n', piece) {
+        Some(k) => k,
+        None => piece.len(),
     }
-    piece.len()
 }
 
 /// The refusal of a block, as a dump's.
@@ -314,8 +313,7 @@ impl ReadState {
             self.held.extend(piece)?;
             return Ok(piece.len());
         }
-        self.held.extend(&piece[..keep])?;
-        self.held.push(piece[keep])?;
+        self.held.extend(&piece[..keep + 1])?;
         let text = self.held.take(alloc);
         let props = mem::replace(&mut self.props, None);
         match self.take_text(alloc, out, props, text) {

@@ -58,6 +58,48 @@ fn two_revisions_are_read(rt: HostRuntime) {
     assert_eq!(rt; answer(rt.alloc(), two_revisions(), 4096), (4, 0));
 }
 
+/// Whether reading, in one piece and in small ones, answers fine or want of memory.
+#[test]
+fn refused_memory_is_answered(rt: HostRuntime) {
+    let (_, whole) = answer(rt.alloc(), two_revisions(), 4096);
+    let (_, small) = answer(rt.alloc(), two_revisions(), 7);
+    assert_eq!(rt;
+        (whole == 0 || whole == 70) && (small == 0 || small == 70),
+        true
+    );
+}
+
+/// How many bytes a reader keeps of a dump's first bytes, and the format's number that it has read.
+fn kept(alloc: Global, bytes: &[u8]) -> (u128, u8) {
+    let mut reader = DumpReader::new(alloc);
+    let mut out = Vec::new(alloc);
+    match reader.feed(bytes, &mut out) {
+        Ok(()) => (reader.held(), reader.version()),
+        Err(_) => (reader.held(), 255),
+    }
+}
+
+#[test]
+fn unfinished_bytes_are_kept(rt: HostRuntime) {
+    let dump = two_revisions();
+    assert_eq!(rt; kept(rt.alloc(), &dump[..9]), (9, 0));
+    // in the name of the first property, in its value, and in the text of the first node
+    assert_eq!(rt;
+        kept(
+            rt.alloc(),
+            b"SVN-fs-dump-format-version: 2\n\nRevision-number: 1\nProp-content-length: 24\n\nK 3\nab".as_slice()
+        ),
+        (2, 2)
+    );
+    assert_eq!(rt;
+        kept(
+            rt.alloc(),
+            b"SVN-fs-dump-format-version: 2\n\nRevision-number: 1\nProp-content-length: 999999\n\nK 1\np\nV 65536\nxyz".as_slice()
+        ),
+        (3, 2)
+    );
+}
+
 #[test]
 fn each_truncation_answers_the_same_byte_by_byte(rt: HostRuntime) {
     let dump = two_revisions();

@@ -1,7 +1,9 @@
-use Rattle.std.proofs.Common.{get_or, take}
-use Rattle.std.proofs.lemmas.List.{take_more}
-use Rattle.dump_text.proofs.StreamRuns.{lone_push, not_lf}
+use Rattle.std.proofs.Common.{length, arith}
+use Rattle.dump_text.proofs.StreamRuns.{lone_before}
 use Rattle.dump_text.proofs.state.line_end.Goals as goal
 
-pub loop-k-preserved : goal.loop-k-preserved
-loop-k-preserved c = rw (take_more c.args.piece.now c.loop-k.k 0 c.loop-k-test.true) (lone_push (take c.loop-k.k c.args.piece.now) (get_or c.args.piece.now c.loop-k.k 0) c.loop-k.invariant (not_lf _ c.if-b-eq10.false))
+pub returns-in-Some-clause-free : goal.returns-in-Some-clause-free
+returns-in-Some-clause-free c = lone_before c.in-Some.k c.args.piece.now (λ j h. c.in-Some.ensures.0.before j (omega arith) h)
+
+pub returns-in-None-clause-free : goal.returns-in-None-clause-free
+returns-in-None-clause-free c = lone_before (length c.args.piece.now) c.args.piece.now (λ j h. c.in-None.ensures j (omega arith) h)
