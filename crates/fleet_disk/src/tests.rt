@@ -119,3 +119,5 @@ fn a_fuse(rt: HostRuntime) -> Result<(), Fail> {
     assert_eq!(rt; good.into_inner().bytes(DiskFile::Gate), b"".as_slice());
     Ok(())
 }
+
+mod fake;

@@ -1,0 +1,189 @@
+//! A disk over a host that remembers what was asked of it, and that may fail.
+ghost use Rattle.std.specs.Prelude.{◌≡◌, IfOk};
+
+use super::*;
+use std::alloc::Allocator;
+use std::cell::Cell;
+use std::fs::{Metadata, OpenFile, OpenOptions};
+use std::io;
+use std::io::{ErrorKind, Read, Seek, SeekFrom, Write};
+use std::rt::Files;
+
+// What was asked of the files of a host.
+#[derive(Drop)]
+struct Asked {
+    fails: Cell<bool>,
+    syncs: Cell<u32>,
+    folder_syncs: Cell<u32>,
+    cut_to: Cell<u64>,
+    sought: Cell<u64>,
+}
+
+impl Asked {
+    fn answer<T>(&self, value: T) -> io::Result<T>
+    where
+        T: Drop,
+        ensures { IfOk result (λ given. given ≡ value) }
+    {
+        if self.fails.get() {
+            return Err(unsupported());
+        }
+        Ok(value)
+    }
+}
+
+fn unsupported() -> io::Error {
+    io::Error::from(ErrorKind::Unsupported)
+}
+
+// A file that takes and gives one byte a call.
+#[derive(Drop)]
+struct FakeFile<'a> {
+    asked: &'a Asked,
+}
+
+impl<'a> Read for FakeFile<'a> {
+    fn read(&mut self, buf: &mut [u8]) -> io::Result<usize> {
+        self.asked.answer(buf.len().min(1))
+    }
+}
+
+impl<'a> Write for FakeFile<'a> {
+    fn write(&mut self, buf: &[u8]) -> io::Result<usize> {
+        self.asked.answer(buf.len().min(1))
+    }
+
+    fn flush(&mut self) -> io::Result<()> {
+        self.asked.answer(())
+    }
+}
+
+impl<'a> Seek for FakeFile<'a> {
+    fn seek(&mut self, to: SeekFrom) -> io::Result<u64> {
+        let at = match to {
+            SeekFrom::Start(at) => at,
+            _ => 7,
+        };
+        self.asked.sought.set(at);
+        self.asked.answer(at)
+    }
+}
+
+impl<'a> OpenFile for FakeFile<'a> {
+    fn metadata(&self) -> io::Result<Metadata> {
+        Err(unsupported())
+    }
+
+    fn set_len(&self, size: u64) -> io::Result<()> {
+        self.asked.cut_to.set(size);
+        self.asked.answer(())
+    }
+
+    fn sync_all(&self) -> io::Result<()> {
+        self.asked
+            .folder_syncs
+            .set(self.asked.folder_syncs.get().saturating_add(1));
+        self.asked.answer(())
+    }
+
+    fn sync_data(&self) -> io::Result<()> {
+        self.asked
+            .syncs
+            .set(self.asked.syncs.get().saturating_add(1));
+        self.asked.answer(())
+    }
+}
+
+#[derive(Drop)]
+struct FakeHost<'a> {
+    asked: &'a Asked,
+}
+
+impl<'a> Files for FakeHost<'a> {
+    type File = FakeFile<'a>;
+
+    type Dir = FakeFile<'a>;
+
+    fn open_file(&self, _how: &OpenOptions, _path: &str) -> io::Result<FakeFile<'a>> {
+        Ok(FakeFile { asked: self.asked })
+    }
+
+    fn open_dir(&self, _path: &str) -> io::Result<FakeFile<'a>> {
+        Err(unsupported())
+    }
+
+    fn metadata(&self, _path: &str) -> io::Result<Metadata> {
+        Err(unsupported())
+    }
+
+    fn symlink_metadata(&self, _path: &str) -> io::Result<Metadata> {
+        Err(unsupported())
+    }
+
+    fn copy(&self, _from: &str, _to: &str) -> io::Result<u64> {
+        Err(unsupported())
+    }
+
+    fn rename(&self, _from: &str, _to: &str) -> io::Result<()> {
+        Err(unsupported())
+    }
+
+    fn remove_file(&self, _path: &str) -> io::Result<()> {
+        Err(unsupported())
+    }
+
+    fn create_dir(&self, _path: &str) -> io::Result<()> {
+        Err(unsupported())
+    }
+
+    fn remove_dir(&self, _path: &str) -> io::Result<()> {
+        Err(unsupported())
+    }
+
+    fn remove_dir_all<B: Allocator>(&self, _alloc: B, _path: &str) -> io::Result<()> {
+        Err(unsupported())
+    }
+}
+
+fn nothing_asked() -> Asked {
+    Asked {
+        fails: Cell::new(false),
+        syncs: Cell::new(0),
+        folder_syncs: Cell::new(0),
+        cut_to: Cell::new(0),
+        sought: Cell::new(0),
+    }
+}
+
+// A sync reaches both files, and making them the folder.
+#[test]
+fn what_a_folder_is_asked(rt: HostRuntime) -> Result<(), Fail> {
+    let asked = nothing_asked();
+    let mut disk = HostDisk::create(&FakeHost { asked: &asked }, rt.alloc(), "folder")?;
+    assert_eq!(rt; asked.folder_syncs.get(), 1);
+    disk.sync()?;
+    assert_eq!(rt; asked.syncs.get(), 2);
+    disk.cut(DiskFile::Gate, 5)?;
+    assert_eq!(rt; asked.cut_to.get(), 5);
+    disk.write_at(DiskFile::Journal, 9, b"abc")?;
+    assert_eq!(rt; asked.sought.get(), 9);
+    assert_eq!(rt; disk.len(DiskFile::Journal)?, 7);
+    Ok(())
+}
+
+// A host that fails is a device that does.
+#[test]
+fn a_folder_that_fails(rt: HostRuntime) -> Result<(), Fail> {
+    let asked = nothing_asked();
+    let mut disk = HostDisk::create(&FakeHost { asked: &asked }, rt.alloc(), "folder")?;
+    asked.fails.set(true);
+    let refused = [
+        disk.sync().is_err(),
+        disk.len(DiskFile::Gate).is_err(),
+        disk.cut(DiskFile::Gate, 0).is_err(),
+        disk.write_at(DiskFile::Gate, 0, b"x").is_err(),
+        disk.read(DiskFile::Gate, 0, &mut [0u8; 1]).is_err(),
+    ];
+    assert_eq!(rt; refused, [true; 5]);
+    Ok(())
+}
