@@ -15,8 +15,9 @@
 //!
 //! After any pieces the items in `out` are exactly those that are whole in the joined bytes, and a byte that
 //! no item has in its place is refused with its number in the `feed` that brings it. What the grammar calls
-//! a stream of items is read as these items and no others, what is read is in the grammar, and what
-//! `write_item` writes is read again, whatever follows.
+//! a stream of items is read as these items and no others, what is read is in the grammar, what is refused
+//! begins no stream and what isn't refused begins one, and what `write_item` writes is read again, whatever
+//! follows.
 #![tactic(auto)]
 
 pub mod fault;

@@ -42,10 +42,9 @@ fn outcome(alloc: Global, bytes: &[u8], size: usize) -> Result<(Vec<u8>, usize, 
     let mut items = Vec::new(alloc);
     let mut number = 0;
     for piece in bytes.chunks(size.max(1)) {
-        if number == 0
-            && let Err(fault) = reader.feed(piece, &mut items)
-        {
+        if let Err(fault) = reader.feed(piece, &mut items) {
             number = fault.number();
+            break;
         }
     }
     if let Err(fault) = reader.finish()
@@ -102,10 +101,10 @@ fn fronts(rt: &impl Abort, alloc: Global, parts: &[&[u8]]) -> Result<(), Fail> {
     Ok(())
 }
 
-// Each change of one byte is answered alike, whole and byte by byte.
+// Each change of one byte to any value is answered alike, whole and byte by byte.
 fn changes(rt: &impl Abort, alloc: Global, bytes: &[u8]) -> Result<(), Fail> {
     for at in 0..bytes.len() {
-        for b in *b" \n()-:09aZ$\xff" {
+        for b in 0..=255u8 {
             let mut changed = Vec::from_slice(alloc, bytes)?;
             if let Some(place) = changed.get_mut(at) {
                 *place = b;
