@@ -14,12 +14,16 @@ use Rattle.repo_core.specs.Repository.{Revision, Repository, trees_of, tree_at, 
 use Rattle.repo_core.specs.Entries.{Entry, Revised, Mapped, with_props, with_entry, with_entry_in, revisions_after}
 use Rattle.repo_core.specs.Refusals.{by_repository, limit_fault}
 use Rattle.repo_core.specs.Dates.{IsMoment, date_text}
-use Rattle.repo_core.specs.Laws.{EntriesJoin, SetsMakeTrees, EntriesKeep, OneDate}
+use Rattle.repo_core.specs.Laws.{EntriesJoin, FreshIsOne, SetsMakeTrees, EntriesKeep, OneDate}
 use Rattle.repo_core.proofs.MadeTrees.{made-push}
+use Rattle.repo_core.proofs.Roots.{get-root_alone, root_is_made}
 
 pub entries_join : EntriesJoin
 entries_join x [] ds = refl
 entries_join x (e ∷ es) ds = entries_join (with_entry x e) es ds
+
+pub fresh_is_one : FreshIsOne
+fresh_is_one identity = record { begun = omega arith; few = omega arith; made = (root_is_made root_alone get-root_alone, tt) }
 
 made_at : (before : List PathMap) (ss : List (List Change)) (ts : List PathMap) (n : ℕ) (s : List Change) (t : PathMap) → AllMade before ss ts → slice_get ss n ≡ Some s → slice_get ts n ≡ Some t → Makes (before ++ take n ts) s t
 made_at before [] ts n s t m e f = cc

@@ -10,7 +10,7 @@ use Rattle.dump_load.proofs.Walk.{effect_none}
 use Rattle.repo_core.specs.Repository.{root_alone, Makes}
 use Rattle.dump_load.proofs.EffectTrees.{effect_tree_is}
 
-get-root_alone : (q : Path) → map.get root_alone q ≡ alone new_dir q
+pub get-root_alone : (q : Path) → map.get root_alone q ≡ alone new_dir q
 get-root_alone [] = get-insert paths_total map.empty [] new_dir []
 get-root_alone (n ∷ q) = get-insert paths_total map.empty [] new_dir (n ∷ q) ∙ get-empty path_cmp (n ∷ q)
 

@@ -3,7 +3,7 @@ use Rattle.std.specs.Prelude.{◌≡◌, ℕ, List, ◌++◌, take, slice_get, S
 use Rattle.jiff.specs.Types.{DateTime}
 use Rattle.dump_load.specs.declared.change.Change.{Change}
 use Rattle.node_base.specs.Tree.{PathMap}
-use Rattle.repo_core.specs.Repository.{Revision, Repository, trees_of, tree_at, Makes, IsRepository}
+use Rattle.repo_core.specs.Repository.{Revision, Repository, trees_of, tree_at, fresh, Makes, IsRepository}
 use Rattle.repo_core.specs.Entries.{Entry, with_entry_in, revisions_after}
 use Rattle.repo_core.specs.Refusals.{by_repository}
 use Rattle.repo_core.specs.Dates.{IsMoment, date_text}
@@ -11,6 +11,10 @@ use Rattle.repo_core.specs.Dates.{IsMoment, date_text}
 -- the entries of two lists after one another
 abbrev pub EntriesJoin : Type 0
 EntriesJoin = (x : List Revision) (es ds : List Entry) → revisions_after x (es ++ ds) ≡ revisions_after (revisions_after x es) ds
+
+-- a repository as it begins is one
+abbrev pub FreshIsOne : Type 0
+FreshIsOne = (identity : List ℕ) → IsRepository (fresh identity)
 
 -- each set has no fault over the trees of the revisions before, and makes its revision's tree
 abbrev pub SetsMakeTrees : Type 0

@@ -1,10 +1,15 @@
 //! What holds of every repository and every moment. Each function does nothing: its contract is the law.
-ghost use Rattle.repo_core.specs.Laws.{EntriesJoin, SetsMakeTrees, EntriesKeep, OneDate};
+ghost use Rattle.repo_core.specs.Laws.{EntriesJoin, FreshIsOne, SetsMakeTrees, EntriesKeep, OneDate};
 
 /// The revisions after a list of entries are those after its first entries and then the others.
 #[tactic(auto, using(crate::proofs::LawsOf::entries_join))]
 pub fn entries_join()
     ensures { EntriesJoin }
+{}
+
+/// A repository as it begins is one.
+pub fn fresh_is_one()
+    ensures { FreshIsOne }
 {}
 
 /// In a repository the set of each revision has no fault over the trees of the revisions before, and makes its tree.

@@ -30,7 +30,7 @@ impl Model for Staged {
 
 impl Staged {
     /// A revision with the tree that its changes make.
-    pub fn revision(number: RevNo, set: ChangeSet, props: Props, tree: Tree) -> Staged
+    pub(crate) fn revision(number: RevNo, set: ChangeSet, props: Props, tree: Tree) -> Staged
         ensures entry { result.entry ≡ Revised number set props }
         ensures tree { result.tree ≡ Some tree }
     {
@@ -41,7 +41,7 @@ impl Staged {
     }
 
     /// All properties of a revision.
-    pub fn map(number: RevNo, props: Props) -> Staged
+    pub(crate) fn map(number: RevNo, props: Props) -> Staged
         ensures entry { result.entry ≡ Mapped number props }
         ensures tree { result.tree ≡ None }
     {
@@ -66,7 +66,7 @@ impl Staged {
     }
 
     /// Its entry and its tree.
-    pub fn into_parts(self) -> (Entry, Option<Tree>)
+    pub(crate) fn into_parts(self) -> (Entry, Option<Tree>)
         ensures entry { result.0 ≡ self.entry }
         ensures tree { result.1 ≡ self.tree }
     {

@@ -1,5 +1,5 @@
 //! A repository's calls, with the values that the formats fix.
-use crate::{Expected, Moment, Repo, RepoFault};
+use crate::{Entry, Expected, Moment, Repo, RepoFault};
 use dump_load::{Change, ChangeSet};
 use node_base::{Action, NodeKind, NodePath, PropName, PropValue, Props, RevNo, Source, Text};
 use std::alloc::Global;
@@ -312,12 +312,23 @@ fn one_property_too_many(rt: HostRuntime) -> Result<(), Fail> {
 fn a_date_too_many_comes_last(rt: HostRuntime) -> Result<(), Fail> {
     let alloc = rt.alloc();
     let mut repo = first_repo(&rt, alloc)?;
-    let moment = Moment::from_micros(0);
     let none = ChangeSet::empty(alloc);
-    let late = repo.commit(alloc, RevNo::new(1), none, full_props(&rt, alloc), moment);
+    let late = repo.commit(
+        alloc,
+        RevNo::new(1),
+        none,
+        full_props(&rt, alloc),
+        Moment::from_micros(0),
+    );
     assert_eq!(rt; number(&late), 8);
     let again = set(&rt, alloc, &[("a", Action::Add, FILE, None)]);
-    let faulty = repo.commit(alloc, RevNo::new(1), again, full_props(&rt, alloc), moment);
+    let faulty = repo.commit(
+        alloc,
+        RevNo::new(1),
+        again,
+        full_props(&rt, alloc),
+        Moment::from_micros(0),
+    );
     assert_eq!(rt; number(&faulty), 12);
     assert_eq!(rt; repo.head().get(), 1);
     Ok(())
@@ -409,6 +420,61 @@ fn what_was_staged_and_dropped_changes_nothing(rt: HostRuntime) -> Result<(), Fa
     drop(staged);
     assert_eq!(rt; repo.head().get(), 1);
     assert!(rt; !there(&rt, alloc, &repo, 1, "b"));
+    Ok(())
+}
+
+// Whether an entry is the revision of that number with so many changes.
+fn is_revision(entry: &Entry, at: u16, changes: usize) -> bool {
+    match entry {
+        Entry::Revised {
+            number,
+            set,
+            props: _,
+        } => number.get() == at && set.changes().len() == changes,
+        Entry::Mapped {
+            number: _,
+            props: _,
+        } => false,
+    }
+}
+
+// Whether an entry is the map of that revision.
+fn is_map(entry: &Entry, at: u16) -> bool {
+    match entry {
+        Entry::Revised {
+            number: _,
+            set: _,
+            props: _,
+        } => false,
+        Entry::Mapped { number, props: _ } => number.get() == at,
+    }
+}
+
+#[test]
+fn what_is_staged_is_an_entry(rt: HostRuntime) -> Result<(), Fail> {
+    let alloc = rt.alloc();
+    let repo = first_repo(&rt, alloc)?;
+    let added = set(&rt, alloc, &[("b", Action::Add, DIR, None)]);
+    let staged = repo.stage_commit(alloc, RevNo::new(1), added, Props::empty(), None)?;
+    assert!(rt; is_revision(staged.entry(), 2, 1));
+    let name = name(&rt, alloc, LOG);
+    let changed = repo.stage_change_prop(alloc, RevNo::new(1), &name, None, &Expected::DontCare)?;
+    assert!(rt; is_map(changed.entry(), 1));
+    let put = repo.stage_put_props(RevNo::ZERO, Props::empty())?;
+    assert!(rt; is_map(put.entry(), 0) && put.tree().is_none());
+    Ok(())
+}
+
+#[test]
+fn what_was_staged_is_installed(rt: HostRuntime) -> Result<(), Fail> {
+    let alloc = rt.alloc();
+    let mut repo = first_repo(&rt, alloc)?;
+    let added = set(&rt, alloc, &[("b", Action::Add, DIR, None)]);
+    let staged = repo.stage_commit(alloc, RevNo::new(1), added, Props::empty(), None)?;
+    repo.install(staged);
+    repo.is_repository();
+    assert!(rt; there(&rt, alloc, &repo, 2, "b"));
+    assert!(rt; repo.identity() == empty_repo(alloc)?.identity());
     Ok(())
 }
 
