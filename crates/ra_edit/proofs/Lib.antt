@@ -1,0 +1,4 @@
+mod Read
+mod Runs
+mod Spelled
+mod Written
