@@ -29,3 +29,7 @@ WrittenIsText = (text : List ℕ) → length text ≤ 1048576 → IsText (spelle
 -- what is written is read again
 abbrev pub WrittenIsRead : Type 0
 WrittenIsRead = (text : List ℕ) → length text ≤ 1048576 → IsRead (spelled text) text
+
+-- what is read is in the grammar
+abbrev pub ReadIsText : Type 0
+ReadIsText = (bytes text : List ℕ) → IsRead bytes text → IsText bytes text

@@ -1,6 +1,6 @@
 //! Laws of texts in windows, over all bytes. Each is proved as the contract of a function that does nothing.
 
-ghost use Rattle.ra_edit.specs.Laws.{PiecesJoin, TextsAreRead, OneText, WrittenIsText, WrittenIsRead};
+ghost use Rattle.ra_edit.specs.Laws.{PiecesJoin, TextsAreRead, OneText, WrittenIsText, WrittenIsRead, ReadIsText};
 
 /// It doesn't matter how bytes are cut into pieces.
 pub fn pieces_join()
@@ -25,4 +25,9 @@ pub fn written_is_text()
 /// What is written is read again.
 pub fn written_is_read()
     ensures { WrittenIsRead }
+{}
+
+/// What is read, up to an end between windows, is in the grammar.
+pub fn read_is_text()
+    ensures { ReadIsText }
 {}
