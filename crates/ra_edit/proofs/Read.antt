@@ -1,5 +1,5 @@
 -- What the grammar calls a text is read.
-use Rattle.std.proofs.Common.{◌≡◌, ◌⊎◌, inl, inr, ℕ, zero, suc, ◌+◌, ◌-◌, ◌*◌, ◌≤◌, ◌<◌, ◌^◌, ◌==◌, ◌&&◌, not, Bool, true, false, List, [], ◌∷◌, ◌++◌, length, nat_lt, refl, sym, ap, ◌∙◌, append_assoc, append-nil, length-append, arith}
+use Rattle.std.proofs.Common.{◌≡◌, inl, inr, ℕ, zero, ◌+◌, ◌-◌, ◌*◌, ◌≤◌, ◌<◌, ◌^◌, ◌==◌, ◌&&◌, not, Bool, true, false, List, [], ◌∷◌, ◌++◌, length, nat_lt, refl, sym, ap, ◌∙◌, append_assoc, append-nil, length-append, arith}
 use Rattle.std.proofs.lemmas.Bool.Decides.{nat_tests}
 use Rattle.std.proofs.lemmas.List.{nil_from_length}
 use Rattle.std.specs.Bool.{if◌then◌else◌}
@@ -8,13 +8,13 @@ use Rattle.ra_edit.specs.Grammar.{IsNew, AreNew, None, More, IsWindow, AreWindow
 use Rattle.ra_edit.specs.Laws.{IsRead}
 use Rattle.ra_edit.specs.declared.reading.Field.{Field}
 use Rattle.ra_edit.specs.declared.reading.Field.TheVariants as field
-use Rattle.ra_edit.specs.declared.reading.Digit.TheVariants.{Whole, Goes, Wrong}
+use Rattle.ra_edit.specs.declared.reading.Digit.TheVariants.{Whole, Goes}
 use Rattle.ra_edit.specs.declared.reading.Place.{Place}
 use Rattle.ra_edit.specs.declared.reading.Place.TheVariants as at
 use Rattle.ra_edit.specs.declared.reading.Reading.{Reading}
-use Rattle.ra_edit.specs.Reading.{Step, Next, Gives, begin, is_between, digit, filled, head_digit, length_digit, more_data, instructed, judged, summed, within, instruction, one_less, given, one_step}
+use Rattle.ra_edit.specs.Reading.{Next, begin, is_between, digit, filled, head_digit, length_digit, more_data, instructed, judged, summed, within, instruction, one_less, given}
 use Rattle.ra_edit.specs.Streams.{Stream, Reads, Refuses, of_step, reading}
-use Rattle.ra_edit.proofs.Runs.{lt_true, lt_false, state, data_run, reading-append}
+use Rattle.ra_edit.proofs.Runs.{lt_true, lt_false, state, data_run}
 
 both : (a b : Bool) → (a && b) ≡ true → (a ≡ true) × (b ≡ true)
 both true b e = (refl, e)
@@ -120,10 +120,10 @@ new_read text r first more n (some, inr (digits, s, e)) l =
     let small : number_after 0 digits < 2 ^ 64 = omega (arith, s.number, s.small) in
     let down : r.instructions - 1 - length digits ≡ r.instructions - length first = omega (arith, k) in
     rw e (
-      ap (λ s. reading (of_step text s) (digits ++ more)) one
-      ∙ length_bytes text (one_less r) 0 0 digits more s.ends (omega (arith, s.short)) small (omega (arith, l, k))
-      ∙ ap (λ m. reading (of_step text (instructed (less (length digits) (one_less r)) m)) more) s.number
-      ∙ ap (λ i. reading (of_step text (instructed (record r { instructions = i }) n)) more) (down ∙ ap (λ f. r.instructions - length f) e)
+    ap (λ s. reading (of_step text s) (digits ++ more)) one
+    ∙ length_bytes text (one_less r) 0 0 digits more s.ends (omega (arith, s.short)) small (omega (arith, l, k))
+    ∙ ap (λ m. reading (of_step text (instructed (less (length digits) (one_less r)) m)) more) s.number
+    ∙ ap (λ i. reading (of_step text (instructed (record r { instructions = i }) n)) more) (down ∙ ap (λ f. r.instructions - length f) e)
     )
 
 new_some : (first : List ℕ) (n : ℕ) → IsNew first n → 0 < length first
@@ -188,17 +188,16 @@ behind_head text both_bytes new more both_sums sum room p (More bytes first m n 
     let ready = state at.NewData 0 total 0 total total room in
     let goes : instructed (less (length first) mid) n ≡ Next ready = rw (left, some_new, more_within m n h, same_number total, some_text) refl in
     let run = data_run text ready new more refl (omega (arith, e, one.0)) (λ _. omega (arith, e)) in
-    let end : (given (length new) ready).place ≡ at.Between = rw (lt_false (length new) total (omega (arith, e))) refl in
-    (
+    let end : (given (length new) ready).place ≡ at.Between = rw (lt_false (length new) total (omega (arith, e))) refl in (
       given (length new) ready,
       end,
       omega (arith, e),
       ap (λ s. reading (of_step text s) ((bytes ++ first) ++ (new ++ more))) judgement
-      ∙ ap (reading (Reads text begins)) (append_assoc bytes first (new ++ more))
-      ∙ news
-      ∙ last
-      ∙ ap (λ s. reading (of_step text s) (new ++ more)) goes
-      ∙ run,
+          ∙ ap (reading (Reads text begins)) (append_assoc bytes first (new ++ more))
+          ∙ news
+          ∙ last
+          ∙ ap (λ s. reading (of_step text s) (new ++ more)) goes
+          ∙ run,
     )
 
 regroup : (a b c d e f g more : List ℕ) → (a ++ (b ++ (c ++ (d ++ (e ++ (f ++ g)))))) ++ more ≡ a ++ (b ++ (c ++ (d ++ (e ++ (f ++ (g ++ more))))))
@@ -234,8 +233,7 @@ windows_read text both_bytes both_texts more r e (Then bytes all first new befor
     let s = length-append all new in
     let front = windows_read text bytes all (first ++ more) r e before (omega (arith, h, s)) in
     let last = window_read (text ++ all) first new more front.0 front.1 one (omega (arith, h, s, front.2)) in
-    let room : front.0.room - length new ≡ r.room - length (all ++ new) = omega (arith, front.2, s) in
-    (
+    let room : front.0.room - length new ≡ r.room - length (all ++ new) = omega (arith, front.2, s) in (
       last.0,
       last.1,
       last.2 ∙ room,

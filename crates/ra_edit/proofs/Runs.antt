@@ -1,12 +1,12 @@
 -- Runs over bytes.
-use Rattle.std.proofs.Common.{◌≡◌, ℕ, ◌+◌, ◌-◌, ◌≤◌, ◌<◌, true, false, List, [], ◌∷◌, ◌++◌, length, take, drop, get_or, nat_lt, refl, sym, ap, ◌∙◌, append_assoc, append-nil, arith}
+use Rattle.std.proofs.Common.{◌≡◌, ℕ, ◌+◌, ◌-◌, ◌≤◌, ◌<◌, true, false, List, [], ◌∷◌, ◌++◌, length, take, drop, get_or, nat_lt, refl, sym, ap, ◌∙◌, append_assoc, arith}
 use Rattle.std.proofs.lemmas.Bool.Decides.{nat_tests}
 use Rattle.std.proofs.lemmas.List.{drop_more, take-append-drop, length-take}
 use Rattle.ra_edit.specs.declared.fault.WindowFault.{WindowFault}
 use Rattle.ra_edit.specs.declared.reading.Place.{Place}
 use Rattle.ra_edit.specs.declared.reading.Place.TheVariants as at
 use Rattle.ra_edit.specs.declared.reading.Reading.{Reading}
-use Rattle.ra_edit.specs.Reading.{Step, Next, Gives, Refused, given, one_step}
+use Rattle.ra_edit.specs.Reading.{Next, Gives, Refused, given, one_step}
 use Rattle.ra_edit.specs.Streams.{Stream, Reads, Refuses, of_step, one_byte, reading}
 
 -- pieces don't matter

@@ -1,5 +1,5 @@
 -- What is read is in the grammar.
-use Rattle.std.proofs.Common.{◌≡◌, ◌⊎◌, inl, inr, ℕ, zero, suc, ◌+◌, ◌-◌, ◌*◌, ◌≤◌, ◌<◌, ◌^◌, ◌==◌, ◌&&◌, ◌||◌, not, Bool, true, false, List, [], ◌∷◌, ◌++◌, length, take, nat_lt, refl, sym, ap, subst, ◌∙◌, append_assoc, append-nil, length-append, arith}
+use Rattle.std.proofs.Common.{◌≡◌, inl, inr, ℕ, zero, suc, ◌+◌, ◌-◌, ◌*◌, ◌≤◌, ◌<◌, ◌==◌, ◌&&◌, ◌||◌, not, Bool, true, false, List, [], ◌∷◌, ◌++◌, length, take, nat_lt, refl, sym, ap, subst, ◌∙◌, append_assoc, append-nil, length-append, arith}
 use Rattle.std.proofs.lemmas.Bool.Decides.{nat_tests}
 use Rattle.std.specs.Bool.{if◌then◌else◌}
 use Rattle.ra_edit.specs.Groups.{is_last, group, number_after, ends_once, Spells}
@@ -12,10 +12,10 @@ use Rattle.ra_edit.specs.declared.reading.Digit.TheVariants.{Whole, Goes, Wrong}
 use Rattle.ra_edit.specs.declared.reading.Place.{Place}
 use Rattle.ra_edit.specs.declared.reading.Place.TheVariants as at
 use Rattle.ra_edit.specs.declared.reading.Reading.{Reading}
-use Rattle.ra_edit.specs.declared.fault.WindowFault.TheVariants.{BadWindow, CopyWindow, TooLong}
-use Rattle.ra_edit.specs.Reading.{Step, Next, Gives, Refused, begin, is_between, magic, in_magic, digit, filled, head_digit, length_digit, more_data, instructed, judged, summed, within, instruction, one_less, given, one_step}
+use Rattle.ra_edit.specs.declared.fault.WindowFault.TheVariants.{BadWindow}
+use Rattle.ra_edit.specs.Reading.{Step, Next, Gives, Refused, begin, is_between, in_magic, digit, filled, head_digit, length_digit, more_data, instructed, judged, summed, instruction, one_less, one_step}
 use Rattle.ra_edit.specs.Streams.{Stream, Reads, Refuses, of_step, one_byte, reading}
-use Rattle.ra_edit.proofs.Runs.{state, reading-refused}
+use Rattle.ra_edit.proofs.Runs.{state}
 
 -- bytes of a number that goes on
 abbrev none_last : List ℕ → Bool
@@ -218,8 +218,7 @@ summed_at p source target fresh sum room text bytes front numbers made true fals
     let same : target ≡ fresh = sym st ∙ sf in
     let plain : length {A = ℕ} [] + fresh ≡ fresh = omega arith in
     let wide : room + length {A = ℕ} [] ≡ room = omega arith in
-    let made_all : AreNew made fresh = subst (AreNew made) sf (are (omega (arith, sf, short))) in
-    (
+    let made_all : AreNew made fresh = subst (AreNew made) sf (are (omega (arith, sf, short))) in (
       front,
       numbers,
       made,
@@ -269,8 +268,7 @@ instruction_fine source target left fresh sum room text bytes b (front, numbers,
     if_fine text (bytes ++ b ∷ []) (nat_lt b 192) _ _
     (λ low. if_fine text (bytes ++ b ∷ []) (b == 128) _ _
     (λ long. if_fine text (bytes ++ b ∷ []) (left - 1 == 0) _ _ (λ _. tt) (λ l.
-    let size : length made + left ≡ length made + (1 + length {A = ℕ} []) + (left - 1) = omega (arith, some) in
-    (
+    let size : length made + left ≡ length made + (1 + length {A = ℕ} []) + (left - 1) = omega (arith, some) in (
       front,
       numbers,
       made,
@@ -351,8 +349,7 @@ new_fine : (source target left fresh sum room : ℕ) (text bytes : List ℕ) (b 
 new_fine source target left fresh sum room text bytes b true e (front, numbers, made, before, new, w, m, are, short, fits, some, t, j) =
     let a = length-append new (b ∷ []) in
     let same : length new + fresh ≡ length (new ++ b ∷ []) + (fresh - 1) = omega (arith, a, some) in
-    let wide : room + length new ≡ room - 1 + length (new ++ b ∷ []) = omega (arith, a, some, fits) in
-    (
+    let wide : room + length new ≡ room - 1 + length (new ++ b ∷ []) = omega (arith, a, some, fits) in (
       front,
       numbers,
       made,

@@ -1,8 +1,8 @@
 -- What holds of all bytes.
-use Rattle.std.specs.Prelude.{◌≡◌, ℕ, ◌≤◌, true, List, [], ◌++◌, length}
+use Rattle.std.specs.Prelude.{◌≡◌, ℕ, ◌≤◌, true, List, ◌++◌, length}
 use Rattle.ra_edit.specs.declared.reading.Reading.{Reading}
 use Rattle.ra_edit.specs.Grammar.{IsText}
-use Rattle.ra_edit.specs.Reading.{begin, is_between}
+use Rattle.ra_edit.specs.Reading.{is_between}
 use Rattle.ra_edit.specs.Spelling.{spelled}
 use Rattle.ra_edit.specs.Streams.{Stream, Reads, reading, stream_of}
 

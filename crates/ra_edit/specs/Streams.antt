@@ -1,5 +1,5 @@
 -- The text of a stream of bytes.
-use Rattle.std.specs.Prelude.{◌≡◌, ℕ, ◌<◌, Bool, List, [], ◌∷◌, ◌++◌, length, Result, Ok, Err, take}
+use Rattle.std.specs.Prelude.{ℕ, List, [], ◌∷◌, ◌++◌}
 use Rattle.ra_edit.specs.declared.fault.WindowFault.{WindowFault}
 use Rattle.ra_edit.specs.declared.reading.Reading.{Reading}
 use Rattle.ra_edit.specs.Reading.{Step, Next, Gives, Refused, begin, one_step}

@@ -29,6 +29,7 @@ impl Model for WindowReader {
 }
 
 /// What the beginning of a piece gave.
+#[derive(Drop)]
 pub struct Stretch<'a> {
     /// The next bytes of the text, perhaps none.
     pub bytes: &'a [u8],

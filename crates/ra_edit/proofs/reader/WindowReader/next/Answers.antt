@@ -1,4 +1,4 @@
-use Rattle.std.proofs.Common.{◌≡◌, ◌∙◌}
+use Rattle.std.proofs.Common.{◌∙◌}
 use Rattle.ra_edit.proofs.Runs.{refused_at}
 use Rattle.ra_edit.proofs.reader.WindowReader.next.Goals as goal
 

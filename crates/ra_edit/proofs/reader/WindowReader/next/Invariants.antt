@@ -1,5 +1,4 @@
-use Rattle.std.proofs.Common.{◌≡◌, ◌≤◌, ◌-◌, ℕ, List, length, drop, false}
-use Rattle.ra_edit.specs.Reading.{is_failed}
+use Rattle.std.proofs.Common.{◌≡◌, ◌≤◌, ◌-◌, ℕ, List, length, drop}
 use Rattle.ra_edit.specs.Streams.{reading, Reads}
 use Rattle.ra_edit.proofs.reader.WindowReader.next.Given as goal
 

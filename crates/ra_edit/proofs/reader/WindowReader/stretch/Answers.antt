@@ -1,4 +1,4 @@
-use Rattle.std.proofs.Common.{◌≡◌, ◌≤◌, ◌<◌, length, arith}
+use Rattle.std.proofs.Common.{◌≤◌, ◌<◌, length, arith}
 use Rattle.ra_edit.proofs.Runs.{stretch_at}
 use Rattle.ra_edit.proofs.reader.WindowReader.stretch.Goals as goal
 use Rattle.ra_edit.proofs.reader.WindowReader.stretch.Goals.{then-left-piece, else-left-piece}
