@@ -86,7 +86,7 @@ fn take_digit(count: u8, n: u64, b: u8) -> Digit
 {
     let last = b < 128;
     let group = u64::from(if last { b } else { b - 128 });
-    if n > (u64::MAX - group) / 128 {
+    if n > u64::MAX / 128 {
         return Digit::Wrong;
     }
     let n = n * 128 + group;
@@ -271,11 +271,13 @@ impl Reading {
     fn goes_on(&mut self, place: Place) -> Result<(), WindowFault>
         ensures { StepIs result self.new (within (record self.old { place = place })) }
     {
-        if self.instructions == 0 {
-            return Err(WindowFault::BadWindow);
+        match self.instructions {
+            0 => Err(WindowFault::BadWindow),
+            _ => {
+                self.place = place;
+                Ok(())
+            }
         }
-        self.place = place;
-        Ok(())
     }
 
     // The first byte of an instruction.
