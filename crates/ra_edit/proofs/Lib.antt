@@ -1,0 +1,5 @@
+mod Read
+mod Runs
+mod Spelled
+mod Standing
+mod Written

@@ -1,0 +1,15 @@
+//! Texts as Subversion's editor drives carry them: svndiff version 0, in windows of new data alone.
+//!
+//! A text is sent as four bytes and then windows. A window has five numbers in front (the place and length
+//! of its source, the length of its text, of its instructions and of its new data), then its instructions,
+//! then its new data. [`reader::WindowReader`] takes windows whose text is new data alone, cut anyhow, and
+//! [`writer`] writes the one spelling.
+#![tactic(auto)]
+
+pub mod fault;
+pub mod law;
+pub mod reader;
+mod reading;
+#[cfg(test)]
+mod tests;
+pub mod writer;
