@@ -1,0 +1,4 @@
+pub mod Edits
+pub mod Fronts
+pub mod Showing
+pub mod Walks

@@ -1,0 +1,5 @@
+pub mod Drive
+pub mod Fronts
+pub mod Parts
+pub mod Refusals
+pub mod Shown
