@@ -7,7 +7,8 @@ use Rattle.node_base.specs.Path.{Path, is_front}
 use Rattle.node_base.specs.Tree.{PathMap}
 use Rattle.dump_load.specs.declared.change.Change.{Change}
 use Rattle.dump_load.specs.Faults.{fault}
-use Rattle.dump_load.proofs.Walk.{Walked, walked_no_fault}
+use Rattle.dump_load.specs.Walk.{Walked}
+use Rattle.dump_load.proofs.Walk.{walked_no_fault}
 use Rattle.delta_editor.specs.declared.call.Call.{Call}
 use Rattle.delta_editor.specs.declared.call.Call.TheVariants as call
 use Rattle.delta_editor.specs.declared.fault.EditorFault.{EditorFault}

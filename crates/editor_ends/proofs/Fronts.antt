@@ -22,11 +22,11 @@ filter_same : (t u : Path → Bool) (xs : List Path) → AllByRecursion (λ e. t
 filter_same t u [] h = refl
 filter_same t u (x ∷ xs) h = λ i. cond (h.0 i) (x ∷ filter_same t u xs h.1 i) (filter_same t u xs h.1 i)
 
-filter_all : (t : Path → Bool) (xs : List Path) → AllByRecursion (λ e. t e ≡ true) xs → filter t xs ≡ xs
+pub filter_all : (t : Path → Bool) (xs : List Path) → AllByRecursion (λ e. t e ≡ true) xs → filter t xs ≡ xs
 filter_all t [] h = refl
 filter_all t (x ∷ xs) h = λ i. cond (h.0 i) (x ∷ filter_all t xs h.1 i) (filter_all t xs h.1 i)
 
-filter_none : (t : Path → Bool) (xs : List Path) → AllByRecursion (λ e. t e ≡ false) xs → filter t xs ≡ []
+pub filter_none : (t : Path → Bool) (xs : List Path) → AllByRecursion (λ e. t e ≡ false) xs → filter t xs ≡ []
 filter_none t [] h = refl
 filter_none t (x ∷ xs) h = λ i. cond (h.0 i) (x ∷ filter t xs) (filter_none t xs h.1 i)
 
@@ -41,7 +41,7 @@ fronts_are d (n ∷ q) w r e =
     let longer = e ∙ sym (append_assoc d (n ∷ []) (q ++ r)) in
     (ap (λ z. not (is_front (d ++ n ∷ []) z)) longer ∙ ap (λ o. not (is_some o)) (rest_after-append (d ++ n ∷ []) (q ++ r)), fronts_are (d ++ n ∷ []) q w r longer)
 
-below_none : (p q w : Path) → rest_after p w ≡ None → AllByRecursion (λ e. not (is_front e w) ≡ true) (fronts_from p q)
+pub below_none : (p q w : Path) → rest_after p w ≡ None → AllByRecursion (λ e. not (is_front e w) ≡ true) (fronts_from p q)
 below_none p [] w h = tt
 below_none p (n ∷ q) w h =
     let longer = longer_is_no_front p (n ∷ []) w h in
@@ -51,7 +51,7 @@ below_itself : (p q : Path) → AllByRecursion (λ e. not (is_front e p) ≡ tru
 below_itself p [] = tt
 below_itself p (n ∷ q) = (ap (λ o. not (is_some o)) (strict p n), below_none (p ++ n ∷ []) q p (strict p n))
 
-fronts_append : (d q s : Path) → fronts_from d (q ++ s) ≡ fronts_from d q ++ fronts_from (d ++ q) s
+pub fronts_append : (d q s : Path) → fronts_from d (q ++ s) ≡ fronts_from d q ++ fronts_from (d ++ q) s
 fronts_append d [] s = ap (λ z. fronts_from z s) (sym (append-nil d))
 fronts_append d (n ∷ q) s = ap (λ l. (d ++ n ∷ []) ∷ l) (fronts_append (d ++ n ∷ []) q s ∙ ap (λ z. fronts_from (d ++ n ∷ []) q ++ fronts_from z s) (append_assoc d (n ∷ []) q))
 
@@ -63,7 +63,7 @@ above-end [] n = refl
 above-end (x ∷ []) n = refl
 above-end (x ∷ y ∷ d) n = ap (λ z. x ∷ z) (above-end (y ∷ d) n)
 
-above-append : (p : Path) (m : Name) (r : Path) → above (p ++ m ∷ r) ≡ p ++ above (m ∷ r)
+pub above-append : (p : Path) (m : Name) (r : Path) → above (p ++ m ∷ r) ≡ p ++ above (m ∷ r)
 above-append [] m r = refl
 above-append (x ∷ []) m r = refl
 above-append (x ∷ y ∷ p) m r = ap (λ z. x ∷ z) (above-append (y ∷ p) m r)

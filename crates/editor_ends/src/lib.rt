@@ -11,6 +11,7 @@
 
 pub use show::drive;
 
+pub mod law;
 mod parts;
 mod plan;
 mod props;

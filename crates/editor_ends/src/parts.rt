@@ -27,14 +27,6 @@ pub fn base_of(trees: &[Tree]) -> Option<RevNo>
     }
 }
 
-// The number of the revision that is shown.
-pub fn target_of(trees: &[Tree]) -> RevNo
-    requires { length trees.now ≤ 65535 }
-    ensures { result ≡ length trees.now }
-{
-    RevNo::new(trees.len() as u16)
-}
-
 fn source_of(source: &Option<Source>) -> Option<&Source>
     ensures { option_copied result ≡ source.now }
 {

@@ -5,7 +5,7 @@ ghost use Rattle.std.specs.FinMap as map;
 ghost use Rattle.dump_load.specs.declared.change.Change.{Change};
 ghost use Rattle.dump_load.specs.Changes.{IsNormal};
 ghost use Rattle.dump_load.specs.Faults.{fault_of};
-ghost use Rattle.dump_load.proofs.Walk.{Walked};
+ghost use Rattle.dump_load.specs.Walk.{Walked};
 ghost use Rattle.editor_ends.specs.Drive.{of_file, old_props};
 ghost use Rattle.editor_ends.specs.Shown.{IsOwn};
 

@@ -7,18 +7,18 @@ ghost use Rattle.delta_editor.specs.declared.call.Call.TheVariants as call;
 ghost use Rattle.delta_editor.specs.declared.fault.EditorFault.TheVariants.{OutOfMemory};
 ghost use Rattle.dump_load.specs.Changes.{IsNormal};
 ghost use Rattle.dump_load.specs.Faults.{fault};
-ghost use Rattle.dump_load.proofs.Walk.{Walked};
+ghost use Rattle.dump_load.specs.Walk.{Walked};
 ghost use Rattle.editor_ends.specs.Drive.{base_number, calls_with, rests_with, walk};
 ghost use Rattle.editor_ends.specs.Drive as calls;
 ghost use Rattle.editor_ends.specs.Fronts.{above};
 ghost use Rattle.editor_ends.specs.Refusals.{IsDriveRefusal};
 ghost use Rattle.editor_ends.specs.Shown.{Shown, Stops, Halts, left, is_under, IsLater, IsNext, Entered};
 
-use crate::parts::{base_of, show_dir, show_file, target_of};
+use crate::parts::{base_of, show_dir, show_file};
 use crate::plan::{Plan, advance};
 use crate::props::give_dir;
 use delta_editor::{Editor, EditorFault};
-use dump_load::{Change, ChangeSet, begin};
+use dump_load::{Change, ChangeSet, begin, next_number};
 use node_base::{Action, NodePath, PathFault};
 use path_tree::Tree;
 use std::alloc::Global;
@@ -231,7 +231,7 @@ fn show_edit<E: Editor>(
     ensures halts { IfErr result (Halts E.shows E.over E.refuses trees.now set.now editor.old (calls.drive trees.now set.now)) }
     ensures over { E.over editor.new ≡ E.over editor.old }
 {
-    editor.target(target_of(trees))?;
+    editor.target(next_number(trees))?;
     let mut root = editor.open_root(base_of(trees))?;
     match show_all(alloc, trees, set, editor, &mut root) {
         Ok(()) => editor.close_dir(root),

@@ -1,5 +1,5 @@
 use Rattle.std.proofs.Common.{◌≡◌, ◌≤◌, ◌-◌, length}
-use Rattle.dump_load.proofs.Walk.{Walked}
+use Rattle.dump_load.specs.Walk.{Walked}
 use Rattle.editor_ends.specs.Shown.{Shown, IsLater, left}
 use Rattle.editor_ends.proofs.show.+show_below.Given as goal
 
