@@ -1,0 +1,7 @@
+pub mod CallEffects
+pub mod Edits
+pub mod Fronts
+pub mod Given
+pub mod Nested
+pub mod Showing
+pub mod Walks

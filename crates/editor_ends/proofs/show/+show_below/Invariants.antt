@@ -1,0 +1,20 @@
+use Rattle.std.proofs.Common.{◌≡◌, ◌≤◌, ◌-◌, length}
+use Rattle.dump_load.specs.Walk.{Walked}
+use Rattle.editor_ends.specs.Shown.{Shown, IsLater, left}
+use Rattle.editor_ends.proofs.show.+show_below.Given as goal
+
+abbrev pub decreases-show_below : goal.decreases-show_below
+decreases-show_below g l = 64 - length l.at.now
+
+abbrev pub decreases-loop-path : goal.decreases-loop-path
+decreases-loop-path g l = length l.set - l.next
+
+abbrev pub invariant-loop-path : goal.invariant-loop-path
+invariant-loop-path g l =
+    Walked l.trees l.set l.next l.tree
+    × (l.next ≤ length l.set)
+    × (l.fn.next ≤ l.next)
+    × (g.E.Editor.dir_path l.dir ≡ l.at)
+    × IsLater l.set l.next l.at
+    × (g.E.Editor.over l.editor ≡ g.E.Editor.over l.fn.editor)
+    × Shown g.E.Editor.shows l.fn.editor l.editor (left l.trees l.set l.fn.next l.at) (left l.trees l.set l.next l.at)

@@ -1,0 +1,6 @@
+pub mod Drive
+pub mod Fronts
+pub mod Laws
+pub mod Parts
+pub mod Refusals
+pub mod Shown

@@ -1,0 +1,13 @@
+//! Laws of the calls that a set is driven as: each function does nothing, and its contract is the law.
+ghost use Rattle.editor_ends.specs.Laws.{DriveHasTheEffect, DriveIsNested};
+
+/// Where a set has no fault, the calls that it is driven as have its effect.
+pub fn drive_has_the_effect()
+    ensures { DriveHasTheEffect }
+{}
+
+/// Where a set has no fault, the calls that it is driven as keep the nesting: each directory and file from its opening to its
+/// close, and a text's calls in their order.
+pub fn drive_is_nested()
+    ensures { DriveIsNested }
+{}

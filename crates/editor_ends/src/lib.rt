@@ -1,0 +1,19 @@
+//! The two ends of an editor: who shows a set of changes, and who makes a set of what it is shown.
+//!
+//! [`drive`] shows a revision's set of changes to an editor:
+//!
+//! ```text
+//! let calls = drive(alloc, &trees, &set, Recorder::new(alloc))?;
+//! ```
+//!
+//! Contract: where it answers Ok, the editor was shown exactly the calls that the set is driven as, whatever editor it is.
+#![tactic(auto)]
+
+pub use show::drive;
+
+pub mod law;
+mod parts;
+mod plan;
+mod props;
+mod show;
+mod text;

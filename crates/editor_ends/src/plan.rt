@@ -1,0 +1,83 @@
+//! What has to be known of a change before it is made.
+ghost use Rattle.std.specs.Prelude.{◌≡◌, ◌≤◌, ◌<◌, ◌+◌, ◌∷◌, [], length, Some, None, false, IfOk, IfErr, OnOk};
+ghost use Rattle.std.specs.List.{slice_get};
+ghost use Rattle.std.specs.FinMap as map;
+ghost use Rattle.dump_load.specs.declared.change.Change.{Change};
+ghost use Rattle.dump_load.specs.Changes.{IsNormal};
+ghost use Rattle.dump_load.specs.Faults.{fault_of};
+ghost use Rattle.dump_load.specs.Walk.{Walked};
+ghost use Rattle.editor_ends.specs.Drive.{of_file, old_props};
+ghost use Rattle.editor_ends.specs.Shown.{IsOwn};
+
+use delta_editor::EditorFault;
+use dump_load::{Change, fault_of, judged, source_node, step};
+use node_base::{NodeKind, Props};
+use path_tree::Tree;
+use std::alloc::{AllocError, Global};
+
+/// What is known of a change before it is made.
+#[derive(Drop)]
+pub struct Plan {
+    /// Whether it is one of a file.
+    pub file: bool,
+    /// The properties of what it begins with.
+    pub old: Props,
+}
+
+fn is_of_file(trees: &[Tree], tree: &Tree, change: &Change) -> bool
+    ensures { result ≡ of_file trees.now (map.get tree.now) change.now }
+{
+    match judged(trees, tree, change) {
+        Some(NodeKind::File) => true,
+        Some(NodeKind::Dir) => false,
+        None => false,
+    }
+}
+
+fn old_props(trees: &[Tree], tree: &Tree, change: &Change) -> Result<Props, AllocError>
+    ensures { IfOk result (λ p. p ≡ old_props trees.now (map.get tree.now) change.now) }
+{
+    let node = if change.brings() {
+        match &change.source {
+            None => None,
+            Some(source) => source_node(trees, source),
+        }
+    } else {
+        tree.get(change.path.names())
+    };
+    match node {
+        None => Ok(Props::empty()),
+        Some(node) => node.props.share(),
+    }
+}
+
+/// Makes the next change in the tree that those before it left, where it has no fault there.
+pub fn advance(
+    alloc: Global,
+    trees: &[Tree],
+    set: &[Change],
+    next: &mut usize,
+    tree: &mut Tree,
+) -> Result<Plan, EditorFault>
+    requires few { length trees.now ≤ 65535 }
+    requires normal { IsNormal set.now }
+    requires here { next.old < length set.now }
+    requires walked { Walked trees.now set.now next.old tree.old }
+    ensures walked { OnOk result (Walked trees.now set.now next.new tree.new) }
+    ensures next { OnOk result (next.new ≡ next.old + 1) }
+    ensures plan { IfOk result (λ p. (c : Change) → slice_get set.now next.old ≡ Some c → (p.file ≡ of_file trees.now (map.get tree.old) c) × (p.old ≡ old_props trees.now (map.get tree.old) c)) }
+    ensures faultless { OnOk result ((c : Change) → slice_get set.now next.old ≡ Some c → fault_of trees.now (map.get tree.old) c ≡ None) }
+    ensures own { IfErr result (IsOwn trees.now set.now) }
+{
+    let change = &set[*next];
+    if let Some(fault) = fault_of(trees, tree, change) {
+        return Err(EditorFault::from(fault));
+    }
+    let plan = Plan {
+        file: is_of_file(trees, tree, change),
+        old: old_props(trees, tree, change)?,
+    };
+    step(alloc, trees, tree, change)?;
+    *next += 1;
+    Ok(plan)
+}

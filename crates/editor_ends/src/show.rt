@@ -1,0 +1,275 @@
+//! A set of changes, shown to an editor.
+ghost use Rattle.std.specs.Prelude.{◌≡◌, ◌≤◌, ◌<◌, ◌++◌, ◌∷◌, [], Some, None, length, false, IfOk, IfErr, IsOk, MatchOption, OnOk};
+ghost use Rattle.node_base.specs.Path.{is_front};
+ghost use Rattle.node_base.specs.Limits.{fits};
+ghost use Rattle.delta_editor.specs.Calls.{Adds};
+ghost use Rattle.delta_editor.specs.declared.call.Call.TheVariants as call;
+ghost use Rattle.delta_editor.specs.declared.fault.EditorFault.TheVariants.{OutOfMemory};
+ghost use Rattle.dump_load.specs.Changes.{IsNormal};
+ghost use Rattle.dump_load.specs.Faults.{fault};
+ghost use Rattle.dump_load.specs.Walk.{Walked};
+ghost use Rattle.editor_ends.specs.Drive.{base_number, calls_with, rests_with, walk};
+ghost use Rattle.editor_ends.specs.Drive as calls;
+ghost use Rattle.editor_ends.specs.Fronts.{above};
+ghost use Rattle.editor_ends.specs.Refusals.{IsDriveRefusal};
+ghost use Rattle.editor_ends.specs.Shown.{Shown, Stops, Halts, left, is_under, IsLater, IsNext, Entered};
+
+use crate::parts::{base_of, show_dir, show_file};
+use crate::plan::{Plan, advance};
+use crate::props::give_dir;
+use delta_editor::{Editor, EditorFault};
+use dump_load::{Change, ChangeSet, begin, next_number};
+use node_base::{Action, NodePath, PathFault};
+use path_tree::Tree;
+use std::alloc::Global;
+
+// Shows a change below the root. A directory stays open.
+fn show_change<E: Editor>(
+    trees: &[Tree],
+    change: &Change,
+    plan: &Plan,
+    editor: &mut E,
+    up: &mut E::Dir,
+) -> Result<Option<E::Dir>, EditorFault>
+    requires few { length trees.now ≤ 65535 }
+    requires up { E.dir_path up.old ≡ above change.now.path }
+    requires below_root { is_front change.now.path [] ≡ false }
+    ensures shown { OnOk result (Adds E.shows editor.old editor.new (calls_with trees.now plan.now.file plan.now.old change.now)) }
+    ensures stops { IfErr result (Stops E.shows E.over E.refuses editor.old (calls_with trees.now plan.now.file plan.now.old change.now)) }
+    ensures rests { IfOk result (λ o. MatchOption o (rests_with plan.now.file change.now ≡ above change.now.path) (λ d. (E.dir_path d ≡ change.now.path) × (rests_with plan.now.file change.now ≡ change.now.path))) }
+    ensures up { E.dir_path up.new ≡ E.dir_path up.old }
+    ensures over { E.over editor.new ≡ E.over editor.old }
+{
+    if let Action::Delete = change.action {
+        editor.delete_entry(up, &change.path, base_of(trees))?;
+        return Ok(None);
+    }
+    if plan.file {
+        show_file(editor, up, trees, change, &plan.old)?;
+        Ok(None)
+    } else {
+        Ok(Some(show_dir(editor, up, trees, change, &plan.old)?))
+    }
+}
+
+// The directory on the way to the next change, which is opened, or that change, which is shown.
+fn enter<E: Editor>(
+    alloc: Global,
+    trees: &[Tree],
+    set: &[Change],
+    next: &mut usize,
+    tree: &mut Tree,
+    editor: &mut E,
+    up: &mut E::Dir,
+    path: &NodePath,
+) -> Result<Option<E::Dir>, EditorFault>
+    requires few { length trees.now ≤ 65535 }
+    requires normal { IsNormal set.now }
+    requires here { next.old < length set.now }
+    requires walked { Walked trees.now set.now next.old tree.old }
+    requires child { IsNext set.now next.old (E.dir_path up.old) path.now }
+    ensures walked { OnOk result (Walked trees.now set.now next.new tree.new) }
+    ensures within { OnOk result (next.new ≤ length set.now) }
+    ensures moved { IfOk result (λ o. MatchOption o (next.old < next.new) (λ _. next.old ≤ next.new)) }
+    ensures later { IfOk result (λ o. MatchOption o (E.dir_path up.old ≡ E.dir_path up.old) (λ _. IsLater set.now next.new path.now)) }
+    ensures up { E.dir_path up.new ≡ E.dir_path up.old }
+    ensures shown { IfOk result (Entered E.shows E.dir_path editor.old editor.new (left trees.now set.now next.old (E.dir_path up.old)) (left trees.now set.now next.new) (E.dir_path up.old) path.now) }
+    ensures halts { IfErr result (Halts E.shows E.over E.refuses trees.now set.now editor.old (left trees.now set.now next.old (E.dir_path up.old))) }
+    ensures over { E.over editor.new ≡ E.over editor.old }
+{
+    if set[*next].path.names().len() > path.names().len() {
+        return Ok(Some(editor.open_dir(up, path, base_of(trees))?));
+    }
+    let at = *next;
+    let plan = advance(alloc, trees, set, next, tree)?;
+    show_change(trees, &set[at], &plan, editor, up)
+}
+
+// The path right below a directory, on the way to the next change, where that is below the directory.
+fn child_of(
+    alloc: Global,
+    set: &[Change],
+    next: usize,
+    at: &NodePath,
+) -> Result<Option<NodePath>, EditorFault>
+    requires later { IsLater set.now next at.now }
+    ensures next { IfOk result (λ o. MatchOption o (is_under set.now next at.now ≡ false) (λ p. IsNext set.now next at.now p)) }
+    ensures memory { IfErr result (λ e. e ≡ OutOfMemory) }
+{
+    if next >= set.len() {
+        return Ok(None);
+    }
+    let Some(rest) = node_base::rest_after(at.names(), set[next].path.names()) else {
+        return Ok(None);
+    };
+    let Some((name, _)) = rest.split_first() else {
+        unreachable!()
+    };
+    match at.child(alloc, name) {
+        Ok(path) => Ok(Some(path)),
+        Err(PathFault::OutOfMemory) => Err(EditorFault::OutOfMemory),
+        Err(PathFault::TooLong) => unreachable!(),
+        Err(PathFault::BadPath) => unreachable!(),
+    }
+}
+
+// Shows the changes from the next one on that are below a directory, the innermost that is open.
+fn show_below<E: Editor>(
+    alloc: Global,
+    trees: &[Tree],
+    set: &[Change],
+    next: &mut usize,
+    tree: &mut Tree,
+    editor: &mut E,
+    dir: &mut E::Dir,
+    at: &NodePath,
+) -> Result<(), EditorFault>
+    requires few { length trees.now ≤ 65535 }
+    requires normal { IsNormal set.now }
+    requires within { next.old ≤ length set.now }
+    requires walked { Walked trees.now set.now next.old tree.old }
+    requires at { E.dir_path dir.old ≡ at.now }
+    requires later { IsLater set.now next.old at.now }
+    ensures walked { OnOk result (Walked trees.now set.now next.new tree.new) }
+    ensures within { OnOk result (next.new ≤ length set.now) }
+    ensures moved { OnOk result (next.old ≤ next.new) }
+    ensures baton { E.dir_path dir.new ≡ E.dir_path dir.old }
+    ensures past { OnOk result (is_under set.now next.new at.now ≡ false) }
+    ensures shown { OnOk result (Shown E.shows editor.old editor.new (left trees.now set.now next.old at.now) (left trees.now set.now next.new at.now)) }
+    ensures halts { IfErr result (Halts E.shows E.over E.refuses trees.now set.now editor.old (left trees.now set.now next.old at.now)) }
+    ensures over { E.over editor.new ≡ E.over editor.old }
+{
+    loop {
+        let path = match child_of(alloc, set, *next, at)? {
+            None => return Ok(()),
+            Some(path) => path,
+        };
+        let mut child = match enter(alloc, trees, set, next, tree, editor, dir, &path)? {
+            None => continue,
+            Some(child) => child,
+        };
+        match show_below(alloc, trees, set, next, tree, editor, &mut child, &path) {
+            Ok(()) => editor.close_dir(child)?,
+            Err(fault) => {
+                editor.discard_dir(child);
+                return Err(fault);
+            }
+        }
+    }
+}
+
+// Shows the change of the root itself, where the set has one.
+fn show_root<E: Editor>(
+    alloc: Global,
+    trees: &[Tree],
+    set: &[Change],
+    next: &mut usize,
+    tree: &mut Tree,
+    editor: &mut E,
+    root: &mut E::Dir,
+) -> Result<(), EditorFault>
+    requires few { length trees.now ≤ 65535 }
+    requires normal { IsNormal set.now }
+    requires first { next.old ≡ 0 }
+    requires walked { Walked trees.now set.now next.old tree.old }
+    requires at { E.dir_path root.old ≡ [] }
+    ensures walked { OnOk result (Walked trees.now set.now next.new tree.new) }
+    ensures within { OnOk result (next.new ≤ length set.now) }
+    ensures later { OnOk result (IsLater set.now next.new []) }
+    ensures baton { E.dir_path root.new ≡ E.dir_path root.old }
+    ensures shown { OnOk result (Shown E.shows editor.old editor.new (left trees.now set.now next.old []) (left trees.now set.now next.new [])) }
+    ensures halts { IfErr result (Halts E.shows E.over E.refuses trees.now set.now editor.old (left trees.now set.now next.old [])) }
+    ensures over { E.over editor.new ≡ E.over editor.old }
+{
+    if *next >= set.len() {
+        return Ok(());
+    }
+    let change = &set[*next];
+    if !change.path.is_root() {
+        return Ok(());
+    }
+    tree.is_tree();
+    let plan = advance(alloc, trees, set, next, tree)?;
+    give_dir(editor, root, change, &plan.old)
+}
+
+// Shows all changes in the root that is open.
+fn show_all<E: Editor>(
+    alloc: Global,
+    trees: &[Tree],
+    set: &[Change],
+    editor: &mut E,
+    root: &mut E::Dir,
+) -> Result<(), EditorFault>
+    requires few { length trees.now ≤ 65535 }
+    requires normal { IsNormal set.now }
+    requires at { E.dir_path root.old ≡ [] }
+    ensures faultless { OnOk result (fault trees.now set.now ≡ None) }
+    ensures baton { E.dir_path root.new ≡ E.dir_path root.old }
+    ensures shown { OnOk result (Adds E.shows editor.old editor.new (walk trees.now [] [] set.now)) }
+    ensures halts { IfErr result (Halts E.shows E.over E.refuses trees.now set.now editor.old (walk trees.now [] [] set.now)) }
+    ensures over { E.over editor.new ≡ E.over editor.old }
+{
+    let mut tree = begin(alloc, trees)?;
+    let mut next = 0;
+    show_root(alloc, trees, set, &mut next, &mut tree, editor, root)?;
+    let at = NodePath::root(alloc);
+    show_below(alloc, trees, set, &mut next, &mut tree, editor, root, &at)
+}
+
+// Shows the whole edit but its end.
+fn show_edit<E: Editor>(
+    alloc: Global,
+    trees: &[Tree],
+    set: &[Change],
+    editor: &mut E,
+) -> Result<(), EditorFault>
+    requires few { length trees.now ≤ 65535 }
+    requires normal { IsNormal set.now }
+    ensures faultless { OnOk result (fault trees.now set.now ≡ None) }
+    ensures shown { OnOk result (Adds E.shows editor.old editor.new (call.Target (length trees.now) ∷ call.OpenRoot (base_number trees.now) ∷ (walk trees.now [] [] set.now ++ call.CloseDir [] ∷ []))) }
+    ensures halts { IfErr result (Halts E.shows E.over E.refuses trees.now set.now editor.old (calls.drive trees.now set.now)) }
+    ensures over { E.over editor.new ≡ E.over editor.old }
+{
+    editor.target(next_number(trees))?;
+    let mut root = editor.open_root(base_of(trees))?;
+    match show_all(alloc, trees, set, editor, &mut root) {
+        Ok(()) => editor.close_dir(root),
+        Err(fault) => {
+            editor.discard_dir(root);
+            Err(fault)
+        }
+    }
+}
+
+/// Shows a set of changes as the revision after these trees to an editor that was shown nothing yet, and gives what the edit
+/// comes to.
+///
+/// The changes come in path order. Each directory is opened just above what changes in it, and closed when the next path isn't
+/// under it. A deletion is one call, a replace is a deletion and an add. Properties that a change gives are shown against those
+/// of the node that it begins with: a removal for each name that goes, then each new value, both in the order of the names. A
+/// text is sent whole, in pieces of 65,536 bytes at most, and the close of its file has its MD5.
+///
+/// Refused: with the set's first fault (8, 10 to 14, 17) once all changes before it were shown, for want of memory (70), and
+/// with what the editor refuses one of the calls with. The editor is given up then.
+pub fn drive<E: Editor>(
+    alloc: Global,
+    trees: &[Tree],
+    set: &ChangeSet,
+    editor: E,
+) -> Result<E::Done, EditorFault>
+    requires few { length trees.now ≤ 65535 }
+    requires new { E.shows editor [] }
+    ensures shown { IfOk result (λ d. E.done_shows d (calls.drive trees.now set.now)) }
+    ensures faultless { OnOk result (fault trees.now set.now ≡ None) }
+    ensures refused { IfErr result (IsDriveRefusal E.refuses (E.over editor) trees.now set.now) }
+{
+    let mut editor = editor;
+    match show_edit(alloc, trees, set.changes(), &mut editor) {
+        Ok(()) => editor.close_edit(),
+        Err(fault) => {
+            editor.abort_edit();
+            Err(fault)
+        }
+    }
+}
