@@ -1,13 +1,11 @@
 -- What is read is in the grammar.
-use Rattle.std.proofs.Common.{◌≡◌, ℕ, zero, suc, ◌+◌, ◌-◌, ◌≤◌, ◌<◌, ◌==◌, ◌&&◌, not, Bool, true, false, ◌⊎◌, inl, inr, List, [], ◌∷◌, ◌++◌, length, take, drop, get_or, eqb, nat_lt, Option, Some, None, Ok, Err, Result, refl, sym, ap, subst, ◌∙◌, append_assoc, append-nil, length-append, arith}
+use Rattle.std.proofs.Common.{◌≡◌, ℕ, zero, suc, ◌+◌, ◌-◌, ◌≤◌, ◌<◌, ◌==◌, not, true, false, ◌⊎◌, inl, inr, List, [], ◌∷◌, ◌++◌, length, take, drop, get_or, eqb, Option, Some, None, Ok, Err, refl, sym, ap, subst, ◌∙◌, append_assoc, append-nil, length-append, arith}
 use Rattle.std.proofs.lemmas.Bool.{eqb-true, cases_lt}
 use Rattle.std.proofs.lemmas.Bool.Decides.{nat_tests}
-use Rattle.std.proofs.lemmas.List.{take_all, take_at, length-take, length-drop}
+use Rattle.std.proofs.lemmas.List.{take_all, take_at, length-take}
 use Rattle.std.specs.Bool.{if◌then◌else◌}
-use Rattle.node_base.specs.Path.{Path}
 use Rattle.node_base.specs.Props.{PropMap}
-use Rattle.node_base.specs.Blocks.{Run, More, Done, Fault, run_block, new_block}
-use Rattle.node_base.specs.declared.node.Action.{Action}
+use Rattle.node_base.specs.Blocks.{More, Done, Fault, run_block, new_block}
 use Rattle.node_base.proofs.BlockSpelled.{both}
 use Rattle.node_base.proofs.BlockConverse.{read_is_block}
 use Rattle.dump_text.specs.Headers.{same}
@@ -15,14 +13,14 @@ use Rattle.dump_text.specs.Heads.{line_says, no_head}
 use Rattle.dump_text.specs.Forms.{fits_form, lengths_agree, lengths_fit, record_of, named_of, numbered_of, node_of, stage_after, props_or_none}
 use Rattle.dump_text.specs.Streams.{Stream, one_byte, Reads, Refuses, reading, fresh, begin, given, give, text_is, after_block, content, judged, said, line_is, is_line_place, is_between, is_between_at, sum_holds, version_line, of_prop_fault, of_block, NoLf, dump}
 use Rattle.dump_text.specs.Laws.{FirstFault}
-use Rattle.dump_text.specs.Grammar.{lines_of, HeadOf, IsBlockOf, HasBlock, HasText, IsContent, Says, IsRecord, IsRecords, AreBlank, Dump, bytes_of}
+use Rattle.dump_text.specs.Grammar.{lines_of, HeadOf, HasText, IsContent, Says, IsRecord, IsRecords, AreBlank, Dump, bytes_of}
 use Rattle.dump_text.specs.declared.fault.DumpFault.{DumpFault}
 use Rattle.dump_text.specs.declared.fault.DumpFault.TheVariants.{BadVersion, BadHeader, BadLength, BadProps, BadSum, TooLong}
 use Rattle.dump_text.specs.declared.form.Stage.{Stage}
 use Rattle.dump_text.specs.declared.form.Stage.TheVariants.{First}
 use Rattle.dump_text.specs.declared.head.Head.{Head}
 use Rattle.dump_text.specs.declared.record.DumpRecord.{DumpRecord}
-use Rattle.dump_text.specs.declared.record.DumpRecord.TheVariants.{Identity, Revision, Node}
+use Rattle.dump_text.specs.declared.record.DumpRecord.TheVariants.{Identity, Revision}
 use Rattle.dump_text.specs.declared.state.Place.{Place}
 use Rattle.dump_text.specs.declared.state.Place.TheVariants as at
 use Rattle.dump_text.specs.declared.state.ReadState.{ReadState}
