@@ -1,14 +1,14 @@
 -- What the calls of a set make of the newest tree.
-use Rattle.std.proofs.Common.{◌≡◌, ℕ, zero, suc, Bool, true, false, cond, not, ◌&&◌, ◌||◌, List, [], ◌∷◌, ◌++◌, length, map, filter, reverse, Option, Some, None, is_some, refl, sym, ap, subst, ◌∙◌, append_assoc, append-nil, if◌then◌else◌, take, drop}
+use Rattle.std.proofs.Common.{◌≡◌, ℕ, Bool, true, false, cond, not, ◌&&◌, ◌||◌, List, [], ◌∷◌, ◌++◌, length, map, filter, reverse, Option, Some, None, is_some, refl, sym, ap, subst, ◌∙◌, append_assoc, append-nil, if◌then◌else◌}
 use Rattle.std.specs.Option.{option_map, option_map_or, option_and_then, option_or}
 use Rattle.std.specs.List.{AllByRecursion}
 use Rattle.std.specs.FinMap as finite
 use Rattle.std.specs.declared.cmp.Ordering.TheVariants.{Less}
 use Rattle.std.specs.Option.{is_none}
 use Rattle.node_base.specs.declared.fault.TreeFault.TheVariants.{NoSuchPath}
-use Rattle.node_base.specs.Path.{Name, Path, path_cmp, same_path, same_name, is_front, rest_after, names_total, names_exact}
+use Rattle.node_base.specs.Path.{Path, path_cmp, same_path, is_front, rest_after}
 use Rattle.node_base.specs.Props.{PropMap}
-use Rattle.node_base.proofs.PathLemmas.{rest_after-append, append_of_rest, same_path-rest}
+use Rattle.node_base.proofs.PathLemmas.{rest_after-append, same_path-rest}
 use Rattle.node_base.specs.declared.node.Node.{Node}
 use Rattle.node_base.specs.Tree.{PathMap, with_number, marked, changed_at, grafted, with_given, alone, base, blank, source_at, kind_of}
 use Rattle.node_base.specs.declared.node.Action.{Action}
@@ -17,14 +17,13 @@ use Rattle.dump_load.specs.declared.change.Change.{Change}
 use Rattle.node_base.specs.declared.node.Source.{Source}
 use Rattle.node_base.specs.declared.node.NodeKind.{NodeKind}
 use Rattle.node_base.specs.declared.node.NodeKind.TheVariants.{File, Dir}
-use Rattle.dump_load.specs.Changes.{settles, is_delete, brings, is_plain, is_described, IsWhole}
-use Rattle.delta_editor.specs.declared.call.Call.{Call}
+use Rattle.dump_load.specs.Changes.{settles, is_delete, brings, is_described, IsWhole}
 use Rattle.delta_editor.specs.declared.call.Call.TheVariants as call
-use Rattle.delta_editor.specs.CallEffect.{called, all_called, call_effect, added}
+use Rattle.delta_editor.specs.CallEffect.{all_called, call_effect, added}
 use Rattle.delta_editor.proofs.CallLemmas.{Nodes, all_called-append}
 use Rattle.editor_ends.specs.Fronts.{above, fronts}
 use Rattle.editor_ends.specs.Parts.{parts}
-use Rattle.editor_ends.specs.Drive.{base_number, opening, opens, closes, calls_with, change_calls, of_file, old_props, begins_with, rests_at, walk, drive}
+use Rattle.editor_ends.specs.Drive.{base_number, opening, opens, closes, calls_with, change_calls, of_file, old_props, rests_at, walk, drive}
 use Rattle.dump_load.specs.Changes.{change_at, IsNormal}
 use Rattle.dump_load.proofs.OneMore.{effect-end}
 use Rattle.dump_load.proofs.Faultless.{Faultless, faultless, deletes_settle}
@@ -54,12 +53,12 @@ marked-front f d p n h = λ i q. at q i
   where
     at : (q : Path) → marked (marked f d n) p n q ≡ marked f p n q
     at q = elim (f q) as (λ (o : Option Node). option_map (λ x. cond (is_front q p) (with_number n x) x) (option_map (λ x. cond (is_front q d) (with_number n x) x) o) ≡ option_map (λ x. cond (is_front q p) (with_number n x) x) o) [
-        | None ↦ refl
-        | Some x ↦ ap Some (elim (is_front q d) as (λ b. is_front q d ≡ b → cond (is_front q p) (with_number n (cond b (with_number n x) x)) (cond b (with_number n x) x) ≡ cond (is_front q p) (with_number n x) x) [
-            | true ↦ λ e. ap (λ b. cond b (with_number n x) (with_number n x)) (front_through q d p e h) ∙ sym (ap (λ b. cond b (with_number n x) x) (front_through q d p e h))
-            | false ↦ λ e. refl
-          ] refl)
-      ]
+      | None ↦ refl
+      | Some x ↦ ap Some (elim (is_front q d) as (λ b. is_front q d ≡ b → cond (is_front q p) (with_number n (cond b (with_number n x) x)) (cond b (with_number n x) x) ≡ cond (is_front q p) (with_number n x) x) [
+        | true ↦ λ e. ap (λ b. cond b (with_number n x) (with_number n x)) (front_through q d p e h) ∙ sym (ap (λ b. cond b (with_number n x) x) (front_through q d p e h))
+        | false ↦ λ e. refl
+      ] refl)
+    ]
 
 -- directories above a path may be opened before what marks it
 pub marked-opens : (trees : List PathMap) (f : Nodes) (p : Path) (ps : List Path) → AllByRecursion (λ e. is_front e p ≡ true) ps → ◌≡◌ {A = Nodes} (marked (all_called trees f (map (λ d. call.OpenDir (above d) d (base_number trees)) ps)) p (length trees)) (marked f p (length trees))
@@ -93,9 +92,9 @@ grafted-twice f p n new = λ i q. at q i
 
     at : (q : Path) → grafted (marked (grafted (marked f p n) p (λ _. None)) p n) p new q ≡ grafted (marked f p n) p new q
     at q = elim (rest_after p q) as (λ (o : Option Path). option_map_or new o (option_map (λ x. cond (is_front q p) (with_number n x) x) (option_map_or (λ _. None) o (marked f p n q))) ≡ option_map_or new o (marked f p n q)) [
-        | None ↦ (λ i. marked-front f p p n itself i q)
-        | Some r ↦ refl
-      ]
+      | None ↦ (λ i. marked-front f p p n itself i q)
+      | Some r ↦ refl
+    ]
 
 -- where the marks agree, the opening calls agree
 pub called-opening : (trees : List PathMap) (f g : Nodes) (file : Bool) (c : Change) → ◌≡◌ {A = Nodes} (marked g c.path (length trees)) (marked f c.path (length trees)) → ◌≡◌ {A = Nodes} (all_called trees g (opening trees file c)) (opened trees f file c)
@@ -141,9 +140,9 @@ arrives-is trees file c d k = λ i r. at r i
 
     same : (r : Path) → brought trees c r ≡ content r
     same r = (λ i. cond {A = Option Node} (d i) None (option_map_or (source_at trees) c.source (alone (blank c.kind)) r)) ∙ elim c.source as (λ (o : Option Source). (o ≡ None → c.kind ≡ Some (kind file)) → option_map_or (source_at trees) o (alone (blank c.kind)) r ≡ option_map_or (source_at trees) o (alone (blank (Some (kind file)))) r) [
-        | None ↦ λ h. ap (λ z. alone (blank z) r) (h refl)
-        | Some s ↦ λ h. refl
-      ] k
+      | None ↦ λ h. ap (λ z. alone (blank z) r) (h refl)
+      | Some s ↦ λ h. refl
+    ] k
 
     at : (r : Path) → option_map (λ x. cond (same_path r []) (with_given c.text c.props x) x) (added trees (kind file) c.source r) ≡ arrives trees c r
     at r =

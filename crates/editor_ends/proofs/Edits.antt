@@ -1,9 +1,6 @@
 -- A whole edit, shown or refused.
-use Rattle.std.proofs.Common.{◌≡◌, ℕ, zero, suc, ◌≤◌, true, false, List, [], ◌∷◌, ◌++◌, length, drop, Option, Some, None, refl, sym, ap, subst, ◌∙◌, append_assoc, arith}
+use Rattle.std.proofs.Common.{◌≡◌, ℕ, zero, suc, ◌≤◌, false, List, [], ◌∷◌, ◌++◌, length, None, refl, sym, ap, subst, ◌∙◌, append_assoc, arith}
 use Rattle.std.specs.Prelude.{OnOk, IfErr, Result, Ok, Err}
-use Rattle.std.specs.List.{slice_get}
-use Rattle.std.specs.Option.{option_map_or}
-use Rattle.node_base.specs.Path.{Path, is_front}
 use Rattle.node_base.specs.Tree.{PathMap}
 use Rattle.dump_load.specs.declared.change.Change.{Change}
 use Rattle.dump_load.specs.Faults.{fault}
@@ -15,7 +12,7 @@ use Rattle.delta_editor.specs.declared.fault.EditorFault.{EditorFault}
 use Rattle.delta_editor.specs.Calls.{Adds, Refused}
 use Rattle.editor_ends.specs.Drive.{base_number, walk, drive}
 use Rattle.editor_ends.specs.Refusals.{IsDriveRefusal, OfMemory, OfSet, OfEditor}
-use Rattle.editor_ends.specs.Shown.{Shown, Stops, Halts, Memory, Faulty, Refusal, left, is_under}
+use Rattle.editor_ends.specs.Shown.{Shown, Halts, Memory, Faulty, Refusal, left, is_under}
 use Rattle.editor_ends.proofs.Showing.{shown_twice, shown_adds, shown_all, stops_first, stops_later}
 use Rattle.editor_ends.proofs.Walks.{left-end, halts_behind, halts_before}
 

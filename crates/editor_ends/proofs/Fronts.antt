@@ -1,5 +1,5 @@
 -- Fronts of paths, and the directories that are opened and closed.
-use Rattle.std.proofs.Common.{◌≡◌, ℕ, zero, suc, ◌+◌, ◌<◌, ◌≤◌, Bool, true, false, cond, not, ◌&&◌, ◌||◌, List, [], ◌∷◌, ◌++◌, length, take, drop, Option, Some, None, is_some, refl, sym, ap, subst, ◌∙◌, append_assoc, append-nil, map, reverse, filter}
+use Rattle.std.proofs.Common.{◌≡◌, Bool, true, false, cond, not, ◌&&◌, ◌||◌, List, [], ◌∷◌, ◌++◌, Option, Some, None, is_some, refl, sym, ap, ◌∙◌, append_assoc, append-nil, map, reverse, filter}
 use Rattle.std.proofs.lemmas.List.{reverse-append}
 use Rattle.std.proofs.lemmas.List.Elements.{filter-append}
 use Rattle.std.specs.Option.{option_and_then}
@@ -85,17 +85,17 @@ or_false false = refl
 front_end : (e d : Path) (n : Name) → is_front e (d ++ n ∷ []) ≡ (is_front e d || same_path e (d ++ n ∷ []))
 front_end [] d n = refl
 front_end (x ∷ []) [] n = elim (same_name x n) as (λ b. same_name x n ≡ b → is_some (cond {A = Option Path} b (Some []) None) ≡ same_path (x ∷ []) (n ∷ [])) [
-    | true ↦ λ e. sym (same_path-cons x [] n [] ∙ ap (λ b. b && true) e)
-    | false ↦ λ e. sym (same_path-cons x [] n [] ∙ ap (λ b. b && true) e)
-  ] refl
+  | true ↦ λ e. sym (same_path-cons x [] n [] ∙ ap (λ b. b && true) e)
+  | false ↦ λ e. sym (same_path-cons x [] n [] ∙ ap (λ b. b && true) e)
+] refl
 front_end (x ∷ y ∷ e) [] n = elim (same_name x n) as (λ b. same_name x n ≡ b → is_some (cond {A = Option Path} b (rest_after (y ∷ e) []) None) ≡ same_path (x ∷ y ∷ e) (n ∷ [])) [
-    | true ↦ λ h. sym (same_path-cons x (y ∷ e) n [] ∙ ap (λ b. b && false) h)
-    | false ↦ λ h. sym (same_path-cons x (y ∷ e) n [] ∙ ap (λ b. b && false) h)
-  ] refl
+  | true ↦ λ h. sym (same_path-cons x (y ∷ e) n [] ∙ ap (λ b. b && false) h)
+  | false ↦ λ h. sym (same_path-cons x (y ∷ e) n [] ∙ ap (λ b. b && false) h)
+] refl
 front_end (x ∷ e) (z ∷ d) n = elim (same_name x z) as (λ b. same_name x z ≡ b → is_some (cond {A = Option Path} b (rest_after e (d ++ n ∷ [])) None) ≡ (is_some (cond {A = Option Path} b (rest_after e d) None) || same_path (x ∷ e) (z ∷ (d ++ n ∷ [])))) [
-    | true ↦ λ h. front_end e d n ∙ ap (λ b. is_front e d || b) (sym (same_path-cons x e z (d ++ n ∷ []) ∙ ap (λ b. b && same_path e (d ++ n ∷ [])) h))
-    | false ↦ λ h. sym (same_path-cons x e z (d ++ n ∷ []) ∙ ap (λ b. b && same_path e (d ++ n ∷ [])) h)
-  ] refl
+  | true ↦ λ h. front_end e d n ∙ ap (λ b. is_front e d || b) (sym (same_path-cons x e z (d ++ n ∷ []) ∙ ap (λ b. b && same_path e (d ++ n ∷ [])) h))
+  | false ↦ λ h. sym (same_path-cons x e z (d ++ n ∷ []) ∙ ap (λ b. b && same_path e (d ++ n ∷ [])) h)
+] refl
 
 -- ---- what is opened and closed
 
@@ -144,20 +144,20 @@ module _ (trees : List PathMap) (d : Path) (n : Name) where
   pub closes-child : (w : Path) → is_front p w ≡ false → closes p w ≡ call.CloseDir p ∷ closes d w
   closes-child w h =
       ap (λ l. map call.CloseDir (reverse l))
-        ( ap (filter (λ e. not (is_front e w))) (fronts_end d n)
-        ∙ filter-append (λ e. not (is_front e w)) (fronts d) (p ∷ [])
-        ∙ (λ i. filter (λ e. not (is_front e w)) (fronts d) ++ cond (not (h i)) (p ∷ []) [])
-        )
+      (ap (filter (λ e. not (is_front e w))) (fronts_end d n)
+      ∙ filter-append (λ e. not (is_front e w)) (fronts d) (p ∷ [])
+      ∙ (λ i. filter (λ e. not (is_front e w)) (fronts d) ++ cond (not (h i)) (p ∷ []) [])
+      )
       ∙ ap (map call.CloseDir) (reverse-append (filter (λ e. not (is_front e w)) (fronts d)) (p ∷ []))
 
   -- beside the child the same is opened as from its directory
   pub opens-beside : (w : Path) → is_front p w ≡ false → opens trees p w ≡ opens trees d w
   opens-beside w h =
       ap (λ l. map (λ e. call.OpenDir (above e) e (base_number trees)) l)
-        (filter_same (λ e. not (is_front e p)) (λ e. not (is_front e d)) (fronts (above w)) (all_map (fronts (above w)) same (fronts_are [] (above w) w (above_rest w) (above_is w))))
+      (filter_same (λ e. not (is_front e p)) (λ e. not (is_front e d)) (fronts (above w)) (all_map (fronts (above w)) same (fronts_are [] (above w) w (above_rest w) (above_is w))))
     where
       same : (e : Path) → not (is_front e w) ≡ false → not (is_front e p) ≡ not (is_front e d)
       same e f = ap not (front_end e d n ∙ elim (same_path e p) as (λ b. same_path e p ≡ b → (is_front e d || b) ≡ is_front e d) [
-          | true ↦ λ g. cc (f, ap (λ z. is_front z w) (path_of_same e p g), h)
-          | false ↦ λ g. or_false (is_front e d)
-        ] refl)
+        | true ↦ λ g. cc (f, ap (λ z. is_front z w) (path_of_same e p g), h)
+        | false ↦ λ g. or_false (is_front e d)
+      ] refl)

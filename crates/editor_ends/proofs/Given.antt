@@ -1,8 +1,8 @@
 -- What the calls that give properties and texts make of a node.
-use Rattle.std.proofs.Common.{◌≡◌, ℕ, zero, suc, ◌≤◌, Bool, true, false, cond, not, List, [], ◌∷◌, ◌++◌, length, map, filter, take, drop, Option, Some, None, is_some, refl, sym, ap, ◌∙◌, append_assoc, append-nil, arith, length-drop}
-use Rattle.std.proofs.lemmas.List.{take-append-drop}
+use Rattle.std.proofs.Common.{◌≡◌, ℕ, zero, suc, ◌<◌, ◌≤◌, Bool, true, false, cond, not, List, [], ◌∷◌, ◌++◌, length, map, filter, take, drop, Option, Some, None, is_some, refl, sym, ap, ◌∙◌, arith, length-drop}
+use Rattle.std.proofs.lemmas.List.{take-append-drop, length-take}
 use Rattle.std.specs.Option.{option_map, option_map_or, option_or}
-use Rattle.std.specs.List.{concat}
+use Rattle.std.specs.List.{concat, AllByRecursion}
 use Rattle.std.specs.FinMap.{get, get-entries, entries, entries_sorted, contains_key, same_map, find}
 use Rattle.md5.specs.Md5.{md5}
 use Rattle.node_base.specs.Path.{Name, Path, same_path, same_name, names_total, names_exact, name_cmp}
@@ -17,7 +17,7 @@ use Rattle.delta_editor.specs.declared.call.Call.{Call}
 use Rattle.delta_editor.specs.declared.call.Call.TheVariants as call
 use Rattle.delta_editor.specs.CallEffect.{called, all_called, prop_put, with_prop, with_text}
 use Rattle.delta_editor.proofs.CallLemmas.{Nodes, all_called-append, changed-twice, called-text, get-prop_put}
-use Rattle.editor_ends.specs.Parts.{removals, settings, prop_calls, pieces_of, pieces, text_calls, dir_parts, file_parts, parts}
+use Rattle.editor_ends.specs.Parts.{prop_calls, pieces_of, pieces, text_calls, parts}
 
 -- ---- texts
 
@@ -26,6 +26,14 @@ join-pieces zero [] l = refl
 join-pieces zero (b ∷ t) l = absurd (omega (arith, l))
 join-pieces (suc k) [] l = refl
 join-pieces (suc k) (b ∷ t) l = ap (λ z. take 65536 (b ∷ t) ++ z) (join-pieces k (drop 65536 (b ∷ t)) (omega (arith, l, length-drop 65536 (b ∷ t)))) ∙ take-append-drop 65536 (b ∷ t)
+
+all_small : (k : ℕ) (t : List ℕ) → AllByRecursion (λ p. (0 < length p) × (length p ≤ 65536)) (pieces_of k t)
+all_small zero t = tt
+all_small (suc k) [] = tt
+all_small (suc k) (b ∷ t) = ((omega (arith, length-take 65536 (b ∷ t)), omega (arith, length-take 65536 (b ∷ t))), all_small k (drop 65536 (b ∷ t)))
+
+pub pieces_are : (t : List ℕ) → (concat (pieces t) ≡ t) × AllByRecursion (λ p. (0 < length p) × (length p ≤ 65536)) (pieces t)
+pieces_are t = (join-pieces (length t) t (omega arith), all_small (length t) t)
 
 given-text : (trees : List PathMap) (h : Nodes) (p : Path) (t : List ℕ) → ◌≡◌ {A = Nodes} (all_called trees h (text_calls p t)) (changed_at h p (with_text (Some t)))
 given-text trees h p t = called-text trees h p (pieces t) ∙ ap (λ z. changed_at h p (with_text (Some z))) (join-pieces (length t) t (omega arith))
@@ -94,9 +102,9 @@ module _ (old new : PropMap) where
             ∙ ap (λ b. put_of q (map gone (filter goes es)) (cond b None o)) s
             ∙ nones q (filter goes es)
         | false ↦ λ s g. elim (goes e) as (λ t. put_of q (map gone (cond t (e ∷ filter goes es) (filter goes es))) o ≡ None) [
-            | true ↦ ap (λ b. put_of q (map gone (filter goes es)) (cond b None o)) s ∙ gone_of q es w o g n
-            | false ↦ gone_of q es w o g n
-          ]
+          | true ↦ ap (λ b. put_of q (map gone (filter goes es)) (cond b None o)) s ∙ gone_of q es w o g n
+          | false ↦ gone_of q es w o g n
+        ]
       ] refl f
 
   abbrev pub puts : Puts
@@ -153,9 +161,9 @@ changed_same h p g same = λ i q. at q (h q) refl i
     at : (q : Path) (o : Option Node) → h q ≡ o → o ≡ option_map (λ x. cond (same_path p q) (g x) x) o
     at q None e = refl
     at q (Some x) e = ap Some (elim (same_path p q) as (λ b. same_path p q ≡ b → x ≡ cond b (g x) x) [
-        | true ↦ λ s. sym (same x (ap h (path_of_same p q s) ∙ e))
-        | false ↦ λ s. refl
-      ] refl)
+      | true ↦ λ s. sym (same x (ap h (path_of_same p q s) ∙ e))
+      | false ↦ λ s. refl
+    ] refl)
 
 -- two changes that do the same to the node that is there
 pub changed_alike : (h : Nodes) (p : Path) (g k : Node → Node) → ((x : Node) → h p ≡ Some x → g x ≡ k x) → ◌≡◌ {A = Nodes} (changed_at h p g) (changed_at h p k)
@@ -164,9 +172,9 @@ changed_alike h p g k same = λ i q. at q (h q) refl i
     at : (q : Path) (o : Option Node) → h q ≡ o → option_map (λ x. cond (same_path p q) (g x) x) o ≡ option_map (λ x. cond (same_path p q) (k x) x) o
     at q None e = refl
     at q (Some x) e = ap Some (elim (same_path p q) as (λ b. same_path p q ≡ b → cond b (g x) x ≡ cond b (k x) x) [
-        | true ↦ λ s. same x (ap h (path_of_same p q s) ∙ e)
-        | false ↦ λ s. refl
-      ] refl)
+      | true ↦ λ s. same x (ap h (path_of_same p q s) ∙ e)
+      | false ↦ λ s. refl
+    ] refl)
 
 -- the node at the path, if there is one, has these properties
 abbrev pub HasProps : Nodes → Path → PropMap → Type 0

@@ -1,5 +1,5 @@
 -- The calls of a set keep the nesting.
-use Rattle.std.proofs.Common.{◌≡◌, ℕ, Bool, true, false, cond, not, ◌&&◌, ◌||◌, List, [], ◌∷◌, ◌++◌, map, filter, reverse, length, Option, Some, None, is_some, refl, sym, ap, subst, ◌∙◌, append_assoc, append-nil}
+use Rattle.std.proofs.Common.{◌≡◌, ℕ, Bool, true, false, cond, not, ◌||◌, List, [], ◌∷◌, ◌++◌, map, filter, reverse, length, Option, Some, None, is_some, refl, sym, ap, subst, ◌∙◌, append_assoc, append-nil}
 use Rattle.std.proofs.lemmas.List.{reverse-append}
 use Rattle.std.proofs.lemmas.List.Elements.{filter-append}
 use Rattle.std.specs.Option.{option_map, option_map_or, option_and_then, IsNone, IsSomeAnd}
@@ -9,7 +9,7 @@ use Rattle.md5.specs.Md5.{md5}
 use Rattle.std.specs.declared.cmp.Ordering.TheVariants.{Less}
 use Rattle.node_base.specs.Path.{Name, Path, path_cmp, same_name, same_path, is_front, rest_after}
 use Rattle.node_base.specs.Props.{PropMap}
-use Rattle.node_base.specs.Tree.{PathMap, IsDirAt, base, marked, with_number}
+use Rattle.node_base.specs.Tree.{PathMap, IsDirAt, base, with_number}
 use Rattle.node_base.specs.declared.node.Node.{Node}
 use Rattle.node_base.specs.declared.node.Action.{Action}
 use Rattle.node_base.specs.declared.node.Action.TheVariants.{Modify, Add, Delete, Replace}
@@ -21,7 +21,7 @@ use Rattle.dump_load.specs.Faults.{fault, fault_of, fault_after}
 use Rattle.dump_load.proofs.Walk.{effect_none}
 use Rattle.delta_editor.specs.declared.call.Call.{Call}
 use Rattle.delta_editor.specs.declared.call.Call.TheVariants as call
-use Rattle.delta_editor.specs.Nesting.{Opened, OpenDir, OpenFile, OpenText, TextDone, Stage, Before, Within, After, is_dir, is_fresh, is_in_text, is_told, innermost, within, next, run, IsNested}
+use Rattle.delta_editor.specs.Nesting.{Opened, OpenDir, OpenFile, OpenText, TextDone, Stage, Within, is_dir, is_fresh, is_in_text, is_told, innermost, next, run, IsNested}
 use Rattle.editor_ends.specs.Fronts.{above, fronts_from, fronts}
 use Rattle.editor_ends.specs.Parts.{prop_calls, pieces, text_calls, dir_parts, file_parts, parts}
 use Rattle.editor_ends.specs.Drive.{base_number, opening, opens, closes, calls_with, change_calls, of_file, old_props, rests_with, rests_at, walk, drive}
@@ -101,7 +101,7 @@ opens_all b m [] = ap (λ z. Some (Within (stack z))) (sym (append-nil m))
 opens_all b m (n ∷ w) =
     ap (λ u. run (Within (stack m)) (call.OpenDir u p b ∷ map (λ d. call.OpenDir (above d) d b) (fronts_from p w))) (above-end m n)
     ∙ run-one (Within (stack m)) (Within (stack p)) (call.OpenDir m p b) (map (λ d. call.OpenDir (above d) d b) (fronts_from p w))
-      (inner (is_dir m) (λ o out. OpenDir p ∷ o ∷ out) (OpenDir m) (stack m) (top m).rest (top m).is (same_path_itself m) ∙ ap (λ os. Some (Within (OpenDir p ∷ os))) (sym (top m).is) ∙ ap (λ os. Some (Within os)) (sym (stack-end m n)))
+    (inner (is_dir m) (λ o out. OpenDir p ∷ o ∷ out) (OpenDir m) (stack m) (top m).rest (top m).is (same_path_itself m) ∙ ap (λ os. Some (Within (OpenDir p ∷ os))) (sym (top m).is) ∙ ap (λ os. Some (Within os)) (sym (stack-end m n)))
     ∙ opens_all b p w
     ∙ ap (λ z. Some (Within (stack z))) (append_assoc m (n ∷ []) w)
   where
@@ -211,7 +211,7 @@ module _ (p : Path) (os : List Opened) where
   run_file c old e =
       ap (λ z. run (Within (OpenFile p ∷ os)) (option_map_or (prop_calls (call.FileProp z) old) c.props [] ++ (option_map_or (text_calls z) c.text [] ++ call.CloseFile z (option_map md5 c.text) ∷ []))) e
       ∙ run-through (Within (OpenFile p ∷ os)) (Within (OpenFile p ∷ os)) (option_map_or (prop_calls (call.FileProp p) old) c.props []) (option_map_or (text_calls p) c.text [] ++ call.CloseFile p (option_map md5 c.text) ∷ [])
-        (run_props (Within (OpenFile p ∷ os)) (call.FileProp p) (λ k v. inner (λ o. is_fresh p o || is_in_text p o || is_told p o) (λ o out. o ∷ out) (OpenFile p) (OpenFile p ∷ os) os refl (ap (λ b. b || false || false) (same_path_itself p))) old c.props)
+      (run_props (Within (OpenFile p ∷ os)) (call.FileProp p) (λ k v. inner (λ o. is_fresh p o || is_in_text p o || is_told p o) (λ o out. o ∷ out) (OpenFile p) (OpenFile p ∷ os) os refl (ap (λ b. b || false || false) (same_path_itself p))) old c.props)
       ∙ run_given c.text (option_map md5 c.text)
 
   module _ (trees : List PathMap) (t : Top (above p) os) where
@@ -324,10 +324,10 @@ nested-walk : (trees : List PathMap) (done s : List Change) (at : Path) → IsNo
 nested-walk trees done [] at normal h = all_closed at
 nested-walk trees done (c ∷ s) at normal h =
     run-through (Within (stack at)) (Within (stack (rests_at trees f c))) (closes at c.path ++ (opens trees at c.path ++ change_calls trees f c)) (walk trees (done ++ c ∷ []) (rests_at trees f c) s)
-      ( ap (run (Within (stack at))) (sym (append_assoc (closes at c.path) (opens trees at c.path) (change_calls trees f c)))
-      ∙ run-through (Within (stack at)) (Within (stack (above c.path))) (closes at c.path ++ opens trees at c.path) (change_calls trees f c) (way trees at c.path h.0)
-      ∙ run_change trees (of_file trees f c) (old_props trees f c) c (below_root c.path at h.0)
-      )
+    (ap (run (Within (stack at))) (sym (append_assoc (closes at c.path) (opens trees at c.path) (change_calls trees f c)))
+    ∙ run-through (Within (stack at)) (Within (stack (above c.path))) (closes at c.path ++ opens trees at c.path) (change_calls trees f c) (way trees at c.path h.0)
+    ∙ run_change trees (of_file trees f c) (old_props trees f c) c (below_root c.path at h.0)
+    )
     ∙ nested-walk trees (done ++ c ∷ []) s (rests_at trees f c) normal.2 (rests_before (of_file trees f c) c s normal.1)
   where
     f : Path → Option Node

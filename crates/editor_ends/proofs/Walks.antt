@@ -1,5 +1,5 @@
 -- What is left to show, a step at a time.
-use Rattle.std.proofs.Common.{◌≡◌, ◌⊎◌, inl, inr, nat_le, ℕ, zero, suc, ◌+◌, ◌<◌, ◌≤◌, Bool, true, false, cond, not, ◌&&◌, List, [], ◌∷◌, ◌++◌, length, take, drop, get_or, Option, Some, None, is_some, refl, sym, ap, subst, ◌∙◌, append_assoc, append-nil, add-one, drop-cons, arith, length-append}
+use Rattle.std.proofs.Common.{◌≡◌, ◌⊎◌, inl, inr, nat_le, ℕ, zero, suc, ◌+◌, ◌<◌, ◌≤◌, Bool, true, false, cond, ◌&&◌, List, [], ◌∷◌, ◌++◌, length, take, drop, Option, Some, None, is_some, refl, sym, ap, subst, ◌∙◌, append_assoc, append-nil, add-one, drop-cons, arith, length-append}
 use Rattle.std.proofs.Math.Seq.{take-suc}
 use Rattle.std.proofs.lemmas.Option.{get_or_from_slice_get}
 use Rattle.std.specs.Option.{option_map, option_map_or}
@@ -7,8 +7,7 @@ use Rattle.std.proofs.lemmas.List.{drop_all}
 use Rattle.std.proofs.lemmas.Bool.{cases_lt}
 use Rattle.std.specs.List.{slice_get}
 use Rattle.std.specs.Prelude.{OnOk, IsOk, IfOk, IfErr, MatchOption, Result, Ok, Err}
-use Rattle.std.specs.declared.cmp.Ordering.{Ordering}
-use Rattle.std.specs.declared.cmp.Ordering.TheVariants.{Less, Equal}
+use Rattle.std.specs.declared.cmp.Ordering.TheVariants.{Less}
 use Rattle.std.specs.Cmp.{tied_itself}
 use Rattle.std.specs.List.{AllByRecursion}
 use Rattle.std.proofs.lemmas.Bool.Decides.{nat_tests}
@@ -27,7 +26,7 @@ use Rattle.dump_load.specs.Changes.{settles, is_delete, Precedes, IsNormal}
 use Rattle.dump_load.specs.Effect.{effect}
 use Rattle.delta_editor.specs.declared.call.Call.{Call}
 use Rattle.delta_editor.specs.declared.call.Call.TheVariants as call
-use Rattle.delta_editor.specs.Calls.{Adds, Refused}
+use Rattle.delta_editor.specs.Calls.{Adds}
 use Rattle.delta_editor.specs.declared.fault.EditorFault.{EditorFault}
 use Rattle.delta_editor.specs.declared.fault.EditorFault.TheVariants as refusal
 use Rattle.delta_editor.specs.Faults.{refused}
@@ -117,9 +116,9 @@ pub record Rest (p w : Path) : Type 0 where
 
 pub front_rest : (p w : Path) → is_front p w ≡ true → Rest p w
 front_rest p w h = elim (rest_after p w) as (λ o. rest_after p w ≡ o → is_some o ≡ true → Rest p w) [
-    | None ↦ λ e f. absurd (false_isnt_true f)
-    | Some r ↦ λ e f. record { rest = r; is = append_of_rest p w r e }
-  ] refl h
+  | None ↦ λ e f. absurd (false_isnt_true f)
+  | Some r ↦ λ e f. record { rest = r; is = append_of_rest p w r e }
+] refl h
 
 pub at_path : (p w : Path) → is_front p w ≡ true → length w ≤ length p → w ≡ p
 at_path p w h l = ends (front_rest p w h).rest (front_rest p w h).is
@@ -140,8 +139,8 @@ module _ (trees : List PathMap) (set : List Change) (i : ℕ) (d path : Path) (n
   next-opens base b l =
       let f = further path next.change.path next.under l in
       subst (λ (z : Path). next.change.path ≡ z ++ f.name ∷ f.rest → left trees set i d ≡ call.OpenDir d z base ∷ left trees set i z) (sym next.child)
-        (λ e. left-opens trees set i d next.name next.change next.is f.name f.rest e ∙ ap (λ x. call.OpenDir d (d ++ next.name ∷ []) x ∷ left trees set i (d ++ next.name ∷ [])) (sym b))
-        f.is
+      (λ e. left-opens trees set i d next.name next.change next.is f.name f.rest e ∙ ap (λ x. call.OpenDir d (d ++ next.name ∷ []) x ∷ left trees set i (d ++ next.name ∷ [])) (sym b))
+      f.is
 
   pub next-change : length next.change.path ≤ length path → left trees set i d ≡ change_calls trees (effect trees (take i set)) next.change ++ left trees set (i + 1) (rests_at trees (effect trees (take i set)) next.change)
   next-change l = left-change trees set i d next.name next.change next.is (at_path path next.change.path next.under l ∙ next.child)
@@ -160,16 +159,16 @@ module _ (trees : List PathMap) (set : List Change) (i : ℕ) (d path : Path) (n
 
   -- what is shown of it
   pub next-shown : length next.change.path ≤ length path → (f : Path → Option Node) → ◌≡◌ {A = Path → Option Node} f (effect trees (take i set)) → (file : Bool) → file ≡ of_file trees f next.change → (old : PropMap) → old ≡ old_props trees f next.change
-    → left trees set i d ≡ calls_with trees file old next.change ++ left trees set (i + 1) (rests_at trees (effect trees (take i set)) next.change)
+      → left trees set i d ≡ calls_with trees file old next.change ++ left trees set (i + 1) (rests_at trees (effect trees (take i set)) next.change)
   next-shown l f fs file files old olds =
       next-change l ∙ (λ k. calls_with trees (sym (files ∙ (λ h. of_file trees (fs h) next.change)) k) (sym (olds ∙ (λ h. old_props trees (fs h) next.change)) k) next.change ++ left trees set (i + 1) (rests_at trees (effect trees (take i set)) next.change))
 
   -- what a change right below leaves open
   pub next-entered : (j : ℕ) → j ≡ i + 1 → length next.change.path ≤ length path → (f : Path → Option Node) → ◌≡◌ {A = Path → Option Node} f (effect trees (take i set)) → (file : Bool) → file ≡ of_file trees f next.change → (old : PropMap) → old ≡ old_props trees f next.change
-    → {E D F : Type 0} (shows : E → List Call → Type 0) (dir_path : D → Path) (a b : E) (res : Result (Option D) F)
-    → OnOk res (Adds shows a b (calls_with trees file old next.change))
-    → IfOk res (λ o. MatchOption o (rests_with file next.change ≡ above next.change.path) (λ e. (dir_path e ≡ next.change.path) × (rests_with file next.change ≡ next.change.path)))
-    → IfOk res (Entered shows dir_path a b (left trees set i d) (left trees set j) d path)
+      → {E D F : Type 0} (shows : E → List Call → Type 0) (dir_path : D → Path) (a b : E) (res : Result (Option D) F)
+      → OnOk res (Adds shows a b (calls_with trees file old next.change))
+      → IfOk res (λ o. MatchOption o (rests_with file next.change ≡ above next.change.path) (λ e. (dir_path e ≡ next.change.path) × (rests_with file next.change ≡ next.change.path)))
+      → IfOk res (Entered shows dir_path a b (left trees set i d) (left trees set j) d path)
   next-entered j js l f fs file files old olds {E} {D} shows dir_path a b (Ok None) adds rests =
       shown_adds shows a b (calls_with trees file old next.change) (left trees set i d) (left trees set j d) adds (goes d (rests ∙ next-above l))
     where
@@ -212,8 +211,8 @@ pub shown_child : (trees : List PathMap) (set : List Change) (i j k : ℕ) (at p
     → {E : Type 0} (shows : E → List Call → Type 0) (a b c e : E) → Shown shows a b (left trees set i at) (left trees set j path) → Shown shows b c (left trees set j path) (left trees set k path) → Adds shows c e (call.CloseDir p ∷ []) → Shown shows a e (left trees set i at) (left trees set k at)
 shown_child trees set i j k at path p next past ps shows a b c e x y z =
     shown_twice shows a c e (left trees set i at) (left trees set k path) (left trees set k at) (shown_twice shows a b c (left trees set i at) (left trees set j path) (left trees set k path) x y)
-      (shown_adds shows c e (call.CloseDir p ∷ []) (left trees set k path) (left trees set k at) z
-        (subst (λ (z : Path). is_under set k z ≡ false → left trees set k z ≡ call.CloseDir z ∷ left trees set k at) (sym next.child) (left-closes trees set k at next.name) past ∙ ap (λ z. call.CloseDir z ∷ left trees set k at) (sym ps)))
+    (shown_adds shows c e (call.CloseDir p ∷ []) (left trees set k path) (left trees set k at) z
+    (subst (λ (z : Path). is_under set k z ≡ false → left trees set k z ≡ call.CloseDir z ∷ left trees set k at) (sym next.child) (left-closes trees set k at next.name) past ∙ ap (λ z. call.CloseDir z ∷ left trees set k at) (sym ps)))
 
 pub found : {X : Type 0} (o : Option X) (p : X) (A : Type 0) (B : X → Type 0) → o ≡ Some p → MatchOption o A B → B p
 found o p A B e h = subst (λ (z : Option _). MatchOption z A B) e h

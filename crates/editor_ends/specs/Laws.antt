@@ -1,5 +1,6 @@
 -- Laws of the calls that a set is driven as.
-use Rattle.std.specs.Prelude.{◌≡◌, List, [], None}
+use Rattle.std.specs.Prelude.{◌≡◌, ℕ, ◌<◌, ◌≤◌, List, [], None, length}
+use Rattle.std.specs.List.{AllByRecursion, concat}
 use Rattle.node_base.specs.Path.{Path}
 use Rattle.node_base.specs.Tree.{PathMap, IsDirAt, base}
 use Rattle.dump_load.specs.declared.change.Change.{Change}
@@ -8,6 +9,7 @@ use Rattle.dump_load.specs.Effect.{effect}
 use Rattle.dump_load.specs.Faults.{fault}
 use Rattle.delta_editor.specs.CallEffect.{call_effect}
 use Rattle.delta_editor.specs.Nesting.{IsNested}
+use Rattle.editor_ends.specs.Parts.{pieces}
 use Rattle.editor_ends.specs.Drive.{drive}
 
 -- where a set has no fault, the calls that it is driven as have its effect
@@ -17,3 +19,7 @@ DriveHasTheEffect = (trees : List PathMap) (s : List Change) → IsNormal s → 
 -- and over a tree, whose root is a directory, they keep the nesting and the order of a text's calls
 abbrev pub DriveIsNested : Type 0
 DriveIsNested = (trees : List PathMap) (s : List Change) → IsNormal s → fault trees s ≡ None → IsDirAt (base trees) [] → IsNested (drive trees s)
+
+-- the pieces of a text joined are the text, and each has a byte at least and 65,536 at most
+abbrev pub PiecesOfAText : Type 0
+PiecesOfAText = (t : List ℕ) → (concat (pieces t) ≡ t) × AllByRecursion (λ p. (0 < length p) × (length p ≤ 65536)) (pieces t)

@@ -16,4 +16,6 @@ mod parts;
 mod plan;
 mod props;
 mod show;
+#[cfg(test)]
+mod tests;
 mod text;

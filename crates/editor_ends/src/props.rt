@@ -34,11 +34,7 @@ fn unset_dir<E: Editor>(
 }
 
 // Gives a directory each of the new properties.
-fn set_dir<E: Editor>(
-    editor: &mut E,
-    dir: &mut E::Dir,
-    new: &Props,
-) -> Result<(), EditorFault>
+fn set_dir<E: Editor>(editor: &mut E, dir: &mut E::Dir, new: &Props) -> Result<(), EditorFault>
     ensures shown { OnOk result (Adds E.shows editor.old editor.new (settings (call.DirProp (E.dir_path dir.old)) (map.entries new.now))) }
     ensures stops { IfErr result (Stops E.shows E.over E.refuses editor.old (settings (call.DirProp (E.dir_path dir.old)) (map.entries new.now))) }
     ensures baton { E.dir_path dir.new ≡ E.dir_path dir.old }
@@ -74,11 +70,7 @@ fn unset_file<E: Editor>(
 }
 
 // Gives a file each of the new properties.
-fn set_file<E: Editor>(
-    editor: &mut E,
-    file: &mut E::File,
-    new: &Props,
-) -> Result<(), EditorFault>
+fn set_file<E: Editor>(editor: &mut E, file: &mut E::File, new: &Props) -> Result<(), EditorFault>
     ensures shown { OnOk result (Adds E.shows editor.old editor.new (settings (call.FileProp (E.file_path file.old)) (map.entries new.now))) }
     ensures stops { IfErr result (Stops E.shows E.over E.refuses editor.old (settings (call.FileProp (E.file_path file.old)) (map.entries new.now))) }
     ensures baton { E.file_path file.new ≡ E.file_path file.old }

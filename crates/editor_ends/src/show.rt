@@ -1,12 +1,14 @@
 //! A set of changes, shown to an editor.
 ghost use Rattle.std.specs.Prelude.{◌≡◌, ◌≤◌, ◌<◌, ◌++◌, ◌∷◌, [], Some, None, length, false, IfOk, IfErr, IsOk, MatchOption, OnOk};
-ghost use Rattle.node_base.specs.Path.{is_front};
+ghost use Rattle.node_base.specs.Path.{Path, is_front};
 ghost use Rattle.node_base.specs.Limits.{fits};
 ghost use Rattle.delta_editor.specs.Calls.{Adds};
 ghost use Rattle.delta_editor.specs.declared.call.Call.TheVariants as call;
 ghost use Rattle.delta_editor.specs.declared.fault.EditorFault.TheVariants.{OutOfMemory};
 ghost use Rattle.dump_load.specs.Changes.{IsNormal};
+ghost use Rattle.dump_load.specs.Effect.{effect};
 ghost use Rattle.dump_load.specs.Faults.{fault};
+ghost use Rattle.delta_editor.specs.CallEffect.{call_effect};
 ghost use Rattle.dump_load.specs.Walk.{Walked};
 ghost use Rattle.editor_ends.specs.Drive.{base_number, calls_with, rests_with, walk};
 ghost use Rattle.editor_ends.specs.Drive as calls;
@@ -262,6 +264,7 @@ pub fn drive<E: Editor>(
     requires new { E.shows editor [] }
     ensures shown { IfOk result (λ d. E.done_shows d (calls.drive trees.now set.now)) }
     ensures faultless { OnOk result (fault trees.now set.now ≡ None) }
+    ensures effect { OnOk result ((q : Path) → call_effect trees.now (calls.drive trees.now set.now) q ≡ effect trees.now set.now q) }
     ensures refused { IfErr result (IsDriveRefusal E.refuses (E.over editor) trees.now set.now) }
 {
     let mut editor = editor;

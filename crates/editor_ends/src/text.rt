@@ -35,11 +35,7 @@ fn send_pieces<E: Editor>(
 }
 
 // Sends a whole text.
-fn send_text<E: Editor>(
-    editor: &mut E,
-    file: &mut E::File,
-    text: &Text,
-) -> Result<(), EditorFault>
+fn send_text<E: Editor>(editor: &mut E, file: &mut E::File, text: &Text) -> Result<(), EditorFault>
     ensures shown { OnOk result (Adds E.shows editor.old editor.new (text_calls (E.file_path file.old) text.now)) }
     ensures stops { IfErr result (Stops E.shows E.over E.refuses editor.old (text_calls (E.file_path file.old) text.now)) }
     ensures baton { E.file_path file.new ≡ E.file_path file.old }

@@ -1,4 +1,4 @@
-use Rattle.std.proofs.Common.{rules, ◌∙◌, [], subst}
+use Rattle.std.proofs.Common.{◌∙◌, [], subst}
 use Rattle.std.specs.Prelude.{IfErr}
 use Rattle.std.specs.Option.{option_map_or, option_map}
 use Rattle.md5.specs.Md5.{md5}

@@ -1,15 +1,15 @@
-use Rattle.std.proofs.Common.{◌≡◌, sym, ap, ◌∙◌, arith, [], ◌∷◌, length, subst, ◌+◌, refl, ◌<◌}
+use Rattle.std.proofs.Common.{◌≡◌, sym, ap, ◌∙◌, arith, [], length, subst, refl, ◌<◌}
 use Rattle.std.proofs.lemmas.Option.{get_or_from_slice_get}
 use Rattle.std.proofs.lemmas.Result.{err_from_is_err_and}
 use Rattle.std.specs.FinMap as map
 use Rattle.std.specs.Prelude.{OnOk, IfOk, IfErr, MatchOption}
-use Rattle.delta_editor.specs.Calls.{Adds, Refused}
+use Rattle.delta_editor.specs.Calls.{Adds}
 use Rattle.node_base.specs.Path.{is_front}
 use Rattle.delta_editor.specs.declared.call.Call.TheVariants as call
 use Rattle.editor_ends.specs.Fronts.{above}
-use Rattle.editor_ends.specs.Drive.{calls_with, rests_with, base_number}
-use Rattle.editor_ends.specs.Shown.{Stops, Halts, Refusal, IsLater, left}
-use Rattle.editor_ends.proofs.Showing.{shown_adds, stops_first, stops_before}
+use Rattle.editor_ends.specs.Drive.{calls_with, rests_with}
+use Rattle.editor_ends.specs.Shown.{Stops, Refusal, IsLater, left}
+use Rattle.editor_ends.proofs.Showing.{shown_adds, stops_first}
 use Rattle.editor_ends.proofs.Walks.{next-opens, next-above, next-below_root, next-entered, next-shown, later_here, later_child, below_is_later, halt_before, for_each_ok}
 use Rattle.editor_ends.proofs.show.enter.Goals as goal
 
@@ -61,6 +61,6 @@ returns-clause-shown g c =
     let here = c.index-set-at.is ∙ get_or_from_slice_get c.args.set.now c.args.next.now c.requires.child.change c.index-set-at.result c.requires.child.is in
     let plan = c.in_ok-plan.ensures.plan c.requires.child.change c.requires.child.is in
     next-entered c.args.trees.now c.args.set.now c.args.next.now (g.E.Editor.dir_path c.args.up.now) c.args.path.now c.requires.child c.advance.new.next c.in_ok-plan.ensures.next (omega (arith, c.if-names.false, ap (λ x. length x.path) (get_or_from_slice_get c.args.set.now c.args.next.now c.requires.child.change c.index-set-next.result c.requires.child.is), ap length c.names.ensures.names, ap length c.names-2.ensures.names)) (map.get c.args.tree.now) (λ k q. c.requires.walked.is q k) c.in_ok-plan.plan.file plan.0 c.in_ok-plan.plan.old plan.1
-      g.E.Editor.shows g.E.Editor.dir_path c.args.editor.now c.show_change.new.editor c.show_change.result
-      (subst (λ x. OnOk c.show_change.result (Adds g.E.Editor.shows c.args.editor.now c.show_change.new.editor (calls_with c.args.trees.now c.in_ok-plan.plan.file c.in_ok-plan.plan.old x))) here c.show_change.ensures.shown)
-      (subst (λ x. IfOk c.show_change.result (λ o. MatchOption o (rests_with c.in_ok-plan.plan.file x ≡ above x.path) (λ d. (g.E.Editor.dir_path d ≡ x.path) × (rests_with c.in_ok-plan.plan.file x ≡ x.path)))) here c.show_change.ensures.rests)
+    g.E.Editor.shows g.E.Editor.dir_path c.args.editor.now c.show_change.new.editor c.show_change.result
+    (subst (λ x. OnOk c.show_change.result (Adds g.E.Editor.shows c.args.editor.now c.show_change.new.editor (calls_with c.args.trees.now c.in_ok-plan.plan.file c.in_ok-plan.plan.old x))) here c.show_change.ensures.shown)
+    (subst (λ x. IfOk c.show_change.result (λ o. MatchOption o (rests_with c.in_ok-plan.plan.file x ≡ above x.path) (λ d. (g.E.Editor.dir_path d ≡ x.path) × (rests_with c.in_ok-plan.plan.file x ≡ x.path)))) here c.show_change.ensures.rests)

@@ -1,4 +1,4 @@
-use Rattle.std.proofs.Common.{◌≡◌, sym, ap, [], ◌∙◌, subst, false}
+use Rattle.std.proofs.Common.{◌≡◌, [], subst, false}
 use Rattle.std.specs.Prelude.{OnOk, IfErr}
 use Rattle.editor_ends.specs.Shown.{Shown, Halts, left, is_under}
 use Rattle.editor_ends.proofs.Edits.{end_faultless, end_shown, halt_behind}

@@ -1,5 +1,5 @@
-use Rattle.std.proofs.Common.{◌≡◌, sym, ap, [], ◌∷◌, ◌∙◌, subst, length}
-use Rattle.std.specs.Prelude.{OnOk, IfErr}
+use Rattle.std.proofs.Common.{[], ◌∷◌, ◌∙◌, subst}
+use Rattle.std.specs.Prelude.{IfErr}
 use Rattle.std.proofs.lemmas.Result.{err_from_is_err_and}
 use Rattle.delta_editor.specs.Calls.{Adds, Refused}
 use Rattle.delta_editor.specs.declared.call.Call.TheVariants as call

@@ -1,4 +1,4 @@
-use Rattle.std.proofs.Common.{◌≡◌, sym, ap, [], ◌∙◌, ◌++◌, ◌+◌, arith, subst}
+use Rattle.std.proofs.Common.{sym, ap, [], ◌∙◌, arith, subst}
 use Rattle.std.proofs.lemmas.Option.{slice_get-get_or}
 use Rattle.std.specs.Prelude.{Some}
 use Rattle.std.specs.FinMap as map
@@ -31,8 +31,8 @@ returns-clause-shown g c =
     let root = of_root c.args.trees.now (map.get c.args.tree.now) x at (c.in_ok-plan.ensures.faultless x here) c.is_tree.ensures.root in
     let plan = c.in_ok-plan.ensures.plan x here in
     shown_root c.args.trees.now c.args.set.now c.args.next.now c.advance.new.next x c.in_ok-plan.plan.old
-      (left-root c.args.trees.now c.args.set.now c.args.next.now x here at root.stays (map.get c.args.tree.now) (λ k q. c.requires.walked.is q k) root.dir c.in_ok-plan.plan.old plan.1 c.advance.new.next c.in_ok-plan.ensures.next)
-      g.E.Editor.shows c.args.editor.now c.give_dir.new.editor c.give_dir.result c.give_dir.ensures.shown
+    (left-root c.args.trees.now c.args.set.now c.args.next.now x here at root.stays (map.get c.args.tree.now) (λ k q. c.requires.walked.is q k) root.dir c.in_ok-plan.plan.old plan.1 c.advance.new.next c.in_ok-plan.ensures.next)
+    g.E.Editor.shows c.args.editor.now c.give_dir.new.editor c.give_dir.result c.give_dir.ensures.shown
 
 pub returns-clause-halts : goal.returns-clause-halts
 returns-clause-halts g c =
@@ -42,4 +42,4 @@ returns-clause-halts g c =
     let root = of_root c.args.trees.now (map.get c.args.tree.now) x at (c.in_ok-plan.ensures.faultless x here) c.is_tree.ensures.root in
     let plan = c.in_ok-plan.ensures.plan x here in
     halt_before g.E.Editor.shows g.E.Editor.over g.E.Editor.refuses c.args.trees.now c.args.set.now c.args.editor.now (dir_parts x c.in_ok-plan.plan.old) (left c.args.trees.now c.args.set.now c.advance.new.next []) (left c.args.trees.now c.args.set.now c.args.next.now []) c.give_dir.result c.give_dir.ensures.stops
-      (left-root c.args.trees.now c.args.set.now c.args.next.now x here at root.stays (map.get c.args.tree.now) (λ k q. c.requires.walked.is q k) root.dir c.in_ok-plan.plan.old plan.1 c.advance.new.next c.in_ok-plan.ensures.next)
+    (left-root c.args.trees.now c.args.set.now c.args.next.now x here at root.stays (map.get c.args.tree.now) (λ k q. c.requires.walked.is q k) root.dir c.in_ok-plan.plan.old plan.1 c.advance.new.next c.in_ok-plan.ensures.next)
