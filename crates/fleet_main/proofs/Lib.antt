@@ -1,1 +1,7 @@
-mod Behind
+pub mod Behind
+pub mod Due
+pub mod Ending
+pub mod Feeding
+pub mod Streaming
+pub mod Taking
+pub mod Telling

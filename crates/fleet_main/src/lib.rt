@@ -3,18 +3,19 @@
 
 ghost use Rattle.fleet_main.specs.Pieces.{RecordsDontMatter};
 
-pub use canon::run_canon;
 pub use command_line::{Command, Usage, plan};
+pub use commands::{run_canon, run_list};
 pub use execute::run;
 pub use lines::{push_node_line, push_path, write_fault};
-pub use list::run_list;
+pub use stream::{Sink, Source};
 
-mod canon;
 mod command_line;
+mod commands;
+mod engine;
 mod execute;
 mod history;
 mod lines;
-mod list;
+mod listing;
 mod refusals;
 mod stream;
 
