@@ -29,7 +29,7 @@ closes_count t u out (a_revision r set tree e z m d o) =
     let b : length out ≡ 1 = ap length o in
     omega (arith, a, b, length-append t.trees (tree ∷ []))
 
-takes_count : (t u : Told) (r : DumpRecord) (out : List Rev) → Takes t r u out → length u.trees ≡ length t.trees + length out
+pub takes_count : (t u : Told) (r : DumpRecord) (out : List Rev) → Takes t r u out → length u.trees ≡ length t.trees + length out
 takes_count t u (Identity id) out p =
     let a : length u.trees ≡ length t.trees = ap (λ x. length x.trees) p.0 ∙ identified_trees t id in
     let b : length out ≡ 0 = ap length p.1 in

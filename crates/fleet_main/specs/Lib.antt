@@ -1,3 +1,4 @@
+pub mod Grouping
 pub mod Histories
 pub mod Listing
 pub mod Pieces

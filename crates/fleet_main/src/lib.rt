@@ -1,6 +1,7 @@
 //! The commands of svnfleet over any reader and writer.
 #![tactic(auto)]
 
+ghost use Rattle.fleet_main.specs.Grouping.{RevisionsAreGrouped};
 ghost use Rattle.fleet_main.specs.Pieces.{RecordsDontMatter};
 
 pub use command_line::{Command, Usage, plan};
@@ -22,4 +23,9 @@ mod stream;
 /// What comes next of a stream doesn't depend on the records that are whole.
 pub fn records_dont_matter()
     ensures { RecordsDontMatter }
+{}
+
+/// What is taken record by record is a list of revisions, each with its nodes, that make trees one after another.
+pub fn revisions_are_grouped()
+    ensures { RevisionsAreGrouped }
 {}
