@@ -1,5 +1,5 @@
 -- Records that are whole don't matter to what comes.
-use Rattle.std.proofs.Common.{◌≡◌, ℕ, ◌==◌, ◌+◌, not, Bool, true, false, List, [], ◌∷◌, ◌++◌, length, nat_lt, Option, Some, None, Ok, Err, Result, refl, sym, ap, ◌∙◌, append_assoc, append-nil}
+use Rattle.std.proofs.Common.{◌≡◌, ℕ, ◌==◌, ◌+◌, not, Bool, true, false, List, [], ◌∷◌, ◌++◌, length, nat_lt, Option, Some, None, Ok, Err, Result, refl, ap, ◌∙◌, append_assoc}
 use Rattle.std.specs.Bool.{if◌then◌else◌}
 use Rattle.node_base.specs.Props.{PropMap}
 use Rattle.node_base.specs.Blocks.{Step, block_step, new_block, Next, Whole, Refused}
@@ -7,7 +7,7 @@ use Rattle.dump_text.specs.Headers.{same}
 use Rattle.dump_text.specs.Heads.{line_says}
 use Rattle.dump_text.specs.Forms.{record_of, stage_after, fits_form, lengths_agree, lengths_fit}
 use Rattle.dump_text.specs.declared.fault.DumpFault.{DumpFault}
-use Rattle.dump_text.specs.declared.fault.DumpFault.TheVariants.{BadHeader, BadProps}
+use Rattle.dump_text.specs.declared.fault.DumpFault.TheVariants.{BadProps}
 use Rattle.dump_text.specs.declared.head.Head.{Head}
 use Rattle.dump_text.specs.declared.state.Place.{Place}
 use Rattle.dump_text.specs.declared.state.Place.TheVariants as at

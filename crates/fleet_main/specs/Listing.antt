@@ -20,6 +20,10 @@ node_line p x =
     option_map_or (λ text. codes "F " ++ (decimal x.changed ++ (codes " " ++ (decimal (length text) ++ (codes " " ++ (shown_path p ++ 10 ∷ []))))))
     x.text (codes "D " ++ (decimal x.changed ++ (codes " " ++ (shown_path p ++ 10 ∷ []))))
 
+-- the line of a path and its node
+abbrev pub entry_line : Path × Node → List ℕ
+entry_line e = node_line e.0 e.1
+
 -- the number of a revision, and a line for each node of its tree in path order
 abbrev pub listing : ℕ → PathMap → List ℕ
-listing number tree = codes "revision " ++ (decimal number ++ (10 ∷ [] ++ flat_map (λ e. node_line e.0 e.1) (finite.entries tree)))
+listing number tree = codes "revision " ++ (decimal number ++ (10 ∷ [] ++ flat_map entry_line (finite.entries tree)))

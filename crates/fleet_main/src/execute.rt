@@ -1,43 +1,84 @@
 //! One command, from its words to its status.
-ghost use Rattle.std.specs.Prelude.{◌≡◌};
+ghost use Rattle.std.specs.Prelude.{◌≡◌, ◌⊎◌, true, IfSome, IfErr, OnOk};
+ghost use Rattle.std.specs.Io.KnownBytes.{Appends};
+ghost use Rattle.node_base.specs.declared.refusal.Refusal.{Refusal as RefusalOf};
+ghost use Rattle.node_base.specs.Refusals.{fault_line};
+ghost use Rattle.fleet_main.specs.Runs.{Accepted, BothFlagged, Refused};
 
-use crate::canon::run_canon;
 use crate::command_line::Command;
-use crate::lines::write_fault;
-use crate::list::run_list;
+use crate::commands::{run_canon, run_list};
+use crate::stream::{Sink, Source};
 use node_base::Refusal;
+use std::alloc::Global;
 use std::io::{Read, Write};
 
 // The status of a command that was refused.
 const REFUSED: u8 = 1;
 
-/// Runs a command. The status is 0, or 1 where it was refused, and then the refusal's line is on `errors`.
-/// What was written before a refusal is flushed before its line.
-pub fn run<T: AllocGlobal, R: Read, W: Write, E: Write>(
-    rt: &T,
+// The command's answer, with what it wrote.
+fn run_one<R: Read + Drop, W: Write + Drop>(
+    alloc: Global,
     command: Command,
-    input: &mut R,
-    output: &mut W,
-    errors: &mut E,
-) -> u8 {
-    let done = match command {
-        Command::List => run_list(rt.alloc(), input, output),
-        Command::Canon => run_canon(rt.alloc(), input, output),
-    };
+    input: &mut Source<R>,
+    output: &mut Sink<W>,
+) -> Result<(), Refusal>
+    ensures ok { OnOk result (IfSome (R.remaining input.old.inner) (λ bytes. Accepted command bytes (W.contents output.old.inner) (W.contents output.new.inner))) }
+    ensures refused { IfErr result (λ e. (output.new.failed ≡ true) ⊎ IfSome (R.remaining input.old.inner) (λ bytes. Refused command bytes (W.contents output.old.inner) (W.contents output.new.inner) e)) }
+    ensures peer { BothFlagged result input.old.failed input.new.failed output.old.failed output.new.failed }
+{
+    match command {
+        Command::List => run_list(alloc, input, output),
+        Command::Canon => run_canon(alloc, input, output),
+    }
+}
+
+// The command's answer, when what it wrote is handed on.
+fn run_flushed<R: Read + Drop, W: Write + Drop>(
+    alloc: Global,
+    command: Command,
+    input: &mut Source<R>,
+    output: &mut Sink<W>,
+) -> Result<(), Refusal>
+    ensures ok { OnOk result (IfSome (R.remaining input.old.inner) (λ bytes. Accepted command bytes (W.contents output.old.inner) (W.contents output.new.inner))) }
+    ensures refused { IfErr result (λ e. (output.new.failed ≡ true) ⊎ IfSome (R.remaining input.old.inner) (λ bytes. Refused command bytes (W.contents output.old.inner) (W.contents output.new.inner) e)) }
+    ensures unfailed { OnOk result ((input.new.failed ≡ input.old.failed) × (output.new.failed ≡ output.old.failed)) }
+{
+    let done = run_one(alloc, command, input, output);
     let flushed = output.flush();
     match done {
-        Ok(()) => match flushed {
-            Ok(()) => 0,
-            Err(_) => refused(&Refusal::PeerFailed, errors),
-        },
+        Ok(()) => flushed,
+        Err(refusal) => Err(refusal),
+    }
+}
+
+/// Runs a command. The status is 0, or 1 where it was refused, and then the refusal's line is on `errors`.
+/// What was written before a refusal is flushed before its line.
+pub fn run<T: AllocGlobal, R: Read + Drop, W: Write + Drop, E: Write + Drop>(
+    rt: &T,
+    command: Command,
+    input: &mut Source<R>,
+    output: &mut Sink<W>,
+    errors: &mut Sink<E>,
+) -> u8
+    ensures status { (result ≡ 0) ⊎ (result ≡ 1) }
+    ensures done { result ≡ 0 → IfSome (R.remaining input.old.inner) (λ bytes. Accepted command bytes (W.contents output.old.inner) (W.contents output.new.inner)) }
+    ensures unfailed { result ≡ 0 → (input.new.failed ≡ input.old.failed) × (output.new.failed ≡ output.old.failed) }
+    ensures silent { result ≡ 0 → E.contents errors.new.inner ≡ E.contents errors.old.inner }
+    ensures refused { result ≡ 1 → (e : RefusalOf) × ((output.new.failed ≡ true) ⊎ IfSome (R.remaining input.old.inner) (λ bytes. Refused command bytes (W.contents output.old.inner) (W.contents output.new.inner) e)) × ((errors.new.failed ≡ true) ⊎ Appends (E.contents errors.old.inner) (E.contents errors.new.inner) (fault_line e)) }
+{
+    match run_flushed(rt.alloc(), command, input, output) {
+        Ok(()) => 0,
         Err(refusal) => refused(&refusal, errors),
     }
 }
 
 // A line that can't be written is lost: the status tells.
-fn refused<E: Write>(refusal: &Refusal, errors: &mut E) -> u8
-    ensures { result ≡ 1 }
+fn refused<E: Write + Drop>(refusal: &Refusal, errors: &mut Sink<E>) -> u8
+    ensures status { result ≡ 1 }
+    ensures line { (errors.new.failed ≡ true) ⊎ Appends (E.contents errors.old.inner) (E.contents errors.new.inner) (fault_line refusal.now) }
 {
-    let _ = write_fault(errors, refusal);
-    REFUSED
+    match errors.line(refusal) {
+        Ok(()) => REFUSED,
+        Err(_) => REFUSED,
+    }
 }

@@ -1,11 +1,16 @@
 //! The refusals that a library's errors are.
+ghost use Rattle.std.specs.Prelude.{◌≡◌};
+ghost use Rattle.fleet_main.specs.Refusals.{change_refusal, dump_refusal};
 
 use dump_load::ChangeFault;
 use dump_text::DumpFault;
 use node_base::Refusal;
 
 /// The refusal that a fault of dump text is.
-pub fn dump_refusal(fault: DumpFault) -> Refusal {
+pub fn dump_refusal(fault: DumpFault) -> Refusal
+    ensures value { result ≡ dump_refusal fault }
+    ensures no_peer { result ≡ Refusal.PeerFailed → ⊥ }
+{
     match fault {
         DumpFault::BadVersion => Refusal::BadVersion,
         DumpFault::BadHeader => Refusal::BadHeader,
@@ -23,7 +28,10 @@ pub fn dump_refusal(fault: DumpFault) -> Refusal {
 }
 
 /// The refusal that a fault of a set of changes is.
-pub fn change_refusal(fault: ChangeFault) -> Refusal {
+pub fn change_refusal(fault: ChangeFault) -> Refusal
+    ensures value { result ≡ change_refusal fault }
+    ensures no_peer { result ≡ Refusal.PeerFailed → ⊥ }
+{
     match fault {
         ChangeFault::BadHeader => Refusal::BadHeader,
         ChangeFault::TooLong => Refusal::TooLong,

@@ -1,7 +1,7 @@
 //! svnfleet: lists and rewrites the dumps of Subversion repositories.
 #![tactic(auto)]
 
-use fleet_main::{Usage, plan, run};
+use fleet_main::{Sink, Source, Usage, plan, run};
 use std::io::BufWriter;
 use std::process::ExitCode;
 use std::{env, io};
@@ -28,11 +28,14 @@ fn status(rt: &HostRuntime) -> u8 {
     };
     match plan(rt.alloc(), &words) {
         Ok(command) => {
-            let Ok(mut output) = BufWriter::with_capacity(rt.alloc(), 65_536, rt.stdout()) else {
+            let Ok(buffer) = BufWriter::with_capacity(rt.alloc(), 65_536, rt.stdout()) else {
                 let _ = rt.eprintln("svnfleet: 70 out of memory");
                 return 1;
             };
-            run(rt, command, &mut rt.stdin(), &mut output, &mut rt.stderr())
+            let mut input = Source::new(rt.stdin());
+            let mut output = Sink::new(buffer);
+            let mut errors = Sink::new(rt.stderr());
+            run(rt, command, &mut input, &mut output, &mut errors)
         }
         Err(Usage::Shown(text)) => match rt.print(text) {
             Ok(()) => 0,

@@ -1,6 +1,6 @@
 //! Whole runs of `list` and `canon` over memory.
 
-use fleet_main::{Command, Usage, plan, run};
+use fleet_main::{Command, Sink, Source, Usage, plan, run};
 use std::alloc::{AllocError, Global};
 use std::io;
 use std::io::{Read, Write};
@@ -42,14 +42,15 @@ fn joined(alloc: Global, parts: &[&str]) -> Result<Vec<u8>, AllocError> {
 }
 
 fn outcome_of(rt: &HostRuntime, command: Command, parts: &[&str]) -> Result<Ran, Fail> {
-    let input = joined(rt.alloc(), parts)?;
-    let mut output = Vec::new(rt.alloc());
-    let mut errors = Vec::new(rt.alloc());
-    let status = run(rt, command, &mut input.as_slice(), &mut output, &mut errors);
+    let bytes = joined(rt.alloc(), parts)?;
+    let mut input = Source::new(bytes.as_slice());
+    let mut output = Sink::new(Vec::new(rt.alloc()));
+    let mut errors = Sink::new(Vec::new(rt.alloc()));
+    let status = run(rt, command, &mut input, &mut output, &mut errors);
     Ok(Ran {
         status,
-        output,
-        errors,
+        output: output.into_inner(),
+        errors: errors.into_inner(),
     })
 }
 
@@ -459,27 +460,29 @@ impl Write for Closed {
 }
 
 #[test]
-fn failed_streams_are_told(rt: HostRuntime) -> Result<(), Fail> {
+fn failed_reader_is_told(rt: HostRuntime) -> Result<(), Fail> {
     let whole = joined(rt.alloc(), &[HEAD, ZERO, ONE_FILE])?;
-    let mut output = Vec::new(rt.alloc());
-    let mut errors = Vec::new(rt.alloc());
-    let mut broken = Broken {
+    let mut output = Sink::new(Vec::new(rt.alloc()));
+    let mut errors = Sink::new(Vec::new(rt.alloc()));
+    let mut broken = Source::new(Broken {
         bytes: whole.as_slice(),
-    };
+    });
     let status = run(&rt, Command::Canon, &mut broken, &mut output, &mut errors);
-    assert_eq!(rt; status, 1);
-    assert!(rt; errors.as_slice() == b"svnfleet: 49 stream failed\n".as_slice());
+    assert!(rt; status == 1 && broken.failed);
+    assert!(rt; errors.into_inner().as_slice() == b"svnfleet: 49 stream failed\n".as_slice());
     let written = joined(rt.alloc(), &[HEAD, ZERO])?;
-    assert!(rt; output.as_slice() == written.as_slice());
-    let mut told = Vec::new(rt.alloc());
-    let status = run(
-        &rt,
-        Command::Canon,
-        &mut whole.as_slice(),
-        &mut Closed,
-        &mut told,
-    );
-    assert_eq!(rt; status, 1);
-    assert!(rt; told.as_slice() == b"svnfleet: 49 stream failed\n".as_slice());
+    assert!(rt; output.into_inner().as_slice() == written.as_slice());
+    Ok(())
+}
+
+#[test]
+fn failed_writer_is_told(rt: HostRuntime) -> Result<(), Fail> {
+    let whole = joined(rt.alloc(), &[HEAD, ZERO, ONE_FILE])?;
+    let mut input = Source::new(whole.as_slice());
+    let mut output = Sink::new(Closed);
+    let mut errors = Sink::new(Vec::new(rt.alloc()));
+    let status = run(&rt, Command::Canon, &mut input, &mut output, &mut errors);
+    assert!(rt; status == 1 && output.failed && !input.failed);
+    assert!(rt; errors.into_inner().as_slice() == b"svnfleet: 49 stream failed\n".as_slice());
     Ok(())
 }

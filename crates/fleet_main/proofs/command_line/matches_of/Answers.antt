@@ -1,4 +1,4 @@
-use Rattle.std.proofs.Common.{rules, ap, refl, true, map, string_bytes, IfOk, ◌≡◌, ◌∙◌}
+use Rattle.std.proofs.Common.{ap, refl, true, map, string_bytes, ◌≡◌, ◌∙◌}
 use Rattle.std.proofs.lemmas.Result.{IfOk-weaker}
 use Rattle.clap.specs.Words.{is_simple, subcommand_of}
 use Rattle.clap.proofs.OnLiterals.{clap_on_literals}
