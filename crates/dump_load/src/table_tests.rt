@@ -13,7 +13,7 @@ const DELETE: Action = Action::Delete;
 
 const REPLACE: Action = Action::Replace;
 
-const T1: Option<(&str, u16)> = Some(("t", 1));
+const FROM_T: Option<(&str, u16)> = Some(("t", 1));
 
 // The number of the refusal, or 0.
 fn answer(alloc: Global, stated: &[Stated<'_>]) -> Result<u8, Fail> {
@@ -94,7 +94,7 @@ fn what_is_there(rt: HostRuntime) -> Result<(), Fail> {
         (&[("", MODIFY, DIR, None)], 0),
         (&[("", MODIFY, FILE, None)], 17),
         (&[("", DELETE, None, None)], 10),
-        (&[("", REPLACE, DIR, T1)], 10),
+        (&[("", REPLACE, DIR, FROM_T)], 10),
         (&[("n", MODIFY, None, None)], 11),
         (&[("n", DELETE, None, None)], 11),
         (&[("n/m/o", ADD, DIR, None)], 11),
@@ -114,7 +114,7 @@ fn what_is_there(rt: HostRuntime) -> Result<(), Fail> {
 
 #[test]
 fn what_a_source_is(rt: HostRuntime) -> Result<(), Fail> {
-    let copied = ("b", ADD, None, T1);
+    let copied = ("b", ADD, None, FROM_T);
     let table: &[(&[Stated<'_>], u8)] = &[
         (&[copied], 0),
         (&[copied, ("b/x", MODIFY, FILE, None)], 0),
@@ -125,9 +125,9 @@ fn what_a_source_is(rt: HostRuntime) -> Result<(), Fail> {
         (&[("b", ADD, None, Some(("t", 2)))], 14),
         (&[("b", ADD, None, Some(("t", 65_535)))], 14),
         (&[("b", ADD, None, Some(("t/x/y", 1)))], 14),
-        (&[("b", ADD, FILE, T1)], 17),
+        (&[("b", ADD, FILE, FROM_T)], 17),
         (&[("b", ADD, DIR, Some(("t/x", 1)))], 17),
-        (&[("t/x", REPLACE, None, T1)], 0),
+        (&[("t/x", REPLACE, None, FROM_T)], 0),
     ];
     assert_eq!(rt; first_wrong(rt.alloc(), table)?, None);
     Ok(())
@@ -158,7 +158,7 @@ const FILE2: Option<(NodeKind, u16)> = Some((NodeKind::File, 2));
 #[test]
 fn what_copies_make(rt: HostRuntime) -> Result<(), Fail> {
     let alloc = rt.alloc();
-    let copied = ("b", ADD, None, T1);
+    let copied = ("b", ADD, None, FROM_T);
     let deleted = [copied, ("b/x", DELETE, None, None)];
     let left = [
         ("b", DIR2),
@@ -180,7 +180,7 @@ fn what_copies_make(rt: HostRuntime) -> Result<(), Fail> {
         ("t/x", FILE1),
     ];
     assert!(rt; makes(alloc, &replaced, &with_deep)?);
-    let within = [("t/in", ADD, DIR, T1)];
+    let within = [("t/in", ADD, DIR, FROM_T)];
     let twice = [
         ("t", DIR2),
         ("t/in", DIR2),
@@ -203,7 +203,7 @@ fn what_copies_of_copies_make(rt: HostRuntime) -> Result<(), Fail> {
         ("t", DIR1),
     ];
     assert!(rt; makes(alloc, &root, &all)?);
-    let itself = [("t", REPLACE, None, T1), ("t/x", MODIFY, None, None)];
+    let itself = [("t", REPLACE, None, FROM_T), ("t/x", MODIFY, None, None)];
     assert!(rt;
         makes(
             alloc,
@@ -214,7 +214,7 @@ fn what_copies_of_copies_make(rt: HostRuntime) -> Result<(), Fail> {
     let emptied = [
         ("t", DELETE, None, None),
         ("t", ADD, DIR, None),
-        ("t/old", ADD, None, T1),
+        ("t/old", ADD, None, FROM_T),
         ("t/old/x", DELETE, None, None),
         ("t/old/x", ADD, DIR, None),
     ];

@@ -8,14 +8,14 @@ use std::alloc::Global;
 use std::test::Fail;
 
 /// A record without parts: path, action, kind and source.
-pub type Stated<'a> = (&'a str, Action, Option<NodeKind>, Option<(&'a str, u16)>);
+pub(crate) type Stated<'a> = (&'a str, Action, Option<NodeKind>, Option<(&'a str, u16)>);
 
-pub const FILE: Option<NodeKind> = Some(NodeKind::File);
+pub(crate) const FILE: Option<NodeKind> = Some(NodeKind::File);
 
-pub const DIR: Option<NodeKind> = Some(NodeKind::Dir);
+pub(crate) const DIR: Option<NodeKind> = Some(NodeKind::Dir);
 
 /// The path of a text.
-pub fn path(alloc: Global, text: &str) -> Result<NodePath, Fail> {
+pub(crate) fn path(alloc: Global, text: &str) -> Result<NodePath, Fail> {
     Ok(NodePath::parse(alloc, text.as_bytes())?)
 }
 
@@ -30,7 +30,7 @@ fn source(alloc: Global, from: Option<(&str, u16)>) -> Result<Option<Source>, Fa
 }
 
 /// The records that are stated.
-pub fn records(alloc: Global, stated: &[Stated<'_>]) -> Result<Vec<NodeRecord>, Fail> {
+pub(crate) fn records(alloc: Global, stated: &[Stated<'_>]) -> Result<Vec<NodeRecord>, Fail> {
     let mut all = Vec::new(alloc);
     for (text, action, kind, from) in stated {
         all.push(NodeRecord {
@@ -46,7 +46,7 @@ pub fn records(alloc: Global, stated: &[Stated<'_>]) -> Result<Vec<NodeRecord>, 
 }
 
 /// Revision 0, and revision 1 with a directory t and the files t/x and t/y.
-pub fn two_trees(alloc: Global) -> Result<Vec<Tree>, Fail> {
+pub(crate) fn two_trees(alloc: Global) -> Result<Vec<Tree>, Fail> {
     let mut trees = Vec::new(alloc);
     let (_, root) = load_revision(alloc, &[], RevNo::ZERO, Vec::new(alloc))?;
     trees.push(root)?;
@@ -66,7 +66,7 @@ pub fn two_trees(alloc: Global) -> Result<Vec<Tree>, Fail> {
 }
 
 /// The tree that revision 2 makes of these records.
-pub fn second(alloc: Global, stated: &[Stated<'_>]) -> Result<Result<Tree, ChangeFault>, Fail> {
+pub(crate) fn second(alloc: Global, stated: &[Stated<'_>]) -> Result<Result<Tree, ChangeFault>, Fail> {
     let trees = two_trees(alloc)?;
     if trees.len() > 65_535 {
         return Ok(Err(ChangeFault::WrongNumber));
@@ -81,7 +81,7 @@ pub fn second(alloc: Global, stated: &[Stated<'_>]) -> Result<Result<Tree, Chang
 }
 
 /// The kind and the changed-number of a node.
-pub fn at(alloc: Global, tree: &Tree, text: &str) -> Result<Option<(NodeKind, u16)>, Fail> {
+pub(crate) fn at(alloc: Global, tree: &Tree, text: &str) -> Result<Option<(NodeKind, u16)>, Fail> {
     let path = path(alloc, text)?;
     Ok(
         tree.get(path.names())
