@@ -1,19 +1,16 @@
 -- The laws' proofs.
-use Rattle.std.proofs.Common.{◌≡◌, ℕ, zero, suc, ◌+◌, ◌-◌, ◌<◌, ◌≤◌, Bool, true, false, nat_lt, nat_le, cond, List, [], ◌∷◌, ◌++◌, length, map, take, Option, Some, None, refl, sym, ap, ap₂, subst, ◌∙◌, arith, append-nil, append_assoc, length-append}
-use Rattle.std.specs.Prelude.{slice_get, slice_set}
-use Rattle.std.specs.Option.{option_map, option_map_or, option_or}
+use Rattle.std.proofs.Common.{◌≡◌, ℕ, zero, suc, ◌≤◌, Bool, true, false, nat_lt, cond, List, [], ◌∷◌, ◌++◌, length, take, Option, Some, None, refl, sym, ap, subst, ◌∙◌, arith, append-nil, append_assoc, length-append}
+use Rattle.std.specs.Prelude.{slice_get}
+use Rattle.std.specs.Option.{option_map, option_or}
 use Rattle.std.proofs.lemmas.Option.{slice_get-map}
-use Rattle.jiff.specs.Types.{DateTime}
 use Rattle.jiff.proofs.Family.{epoch_day_injective, civil_nanos_injective, time_nanos_injective}
 use Rattle.node_base.specs.Props.{PropMap}
 use Rattle.node_base.specs.Tree.{PathMap}
 use Rattle.dump_load.specs.declared.change.Change.{Change}
 use Rattle.dump_load.specs.Trees.{effect_tree}
 use Rattle.dump_load.specs.Faults.{fault}
-use Rattle.repo_core.specs.Repository.{Revision, Repository, trees_of, tree_at, root_alone, Makes, AllMade, IsRepository}
-use Rattle.repo_core.specs.Entries.{Entry, Revised, Mapped, with_props, with_entry, with_entry_in, revisions_after}
-use Rattle.repo_core.specs.Refusals.{by_repository, limit_fault}
-use Rattle.repo_core.specs.Dates.{IsMoment, date_text}
+use Rattle.repo_core.specs.Repository.{Revision, trees_of, root_alone, Makes, AllMade}
+use Rattle.repo_core.specs.Entries.{Revised, Mapped, with_props, with_entry}
 use Rattle.repo_core.specs.Laws.{EntriesJoin, FreshIsOne, SetsMakeTrees, EntriesKeep, OneDate}
 use Rattle.repo_core.proofs.MadeTrees.{made-push}
 use Rattle.repo_core.proofs.Roots.{get-root_alone, root_is_made}

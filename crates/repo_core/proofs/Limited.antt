@@ -3,15 +3,13 @@ use Rattle.std.proofs.Common.{◌≡◌, ℕ, ◌<◌, ◌≤◌, Bool, true, fa
 use Rattle.std.specs.List.{list_all}
 use Rattle.std.specs.FinMap as map
 use Rattle.std.specs.FinMap.{find, is_sorted, get-entries, get-insert, entries_sorted}
-use Rattle.std.proofs.lemmas.Cmp.{tied_itself}
 use Rattle.node_base.specs.Path.{Name, name_cmp, same_name, names_total}
 use Rattle.node_base.specs.Entries.{Entries}
 use Rattle.node_base.specs.Props.{PropMap, IsProps, is_prop_name, props_fit}
 use Rattle.node_base.proofs.EntryLemmas.{both_true, find_absent}
 use Rattle.node_base.proofs.PathLemmas.{name_of_same, same_name_itself}
 use Rattle.dump_load.specs.Faults.{fault_if}
-use Rattle.repo_core.specs.Refusals.{is_short, within_limits, limit_fault}
-use Rattle.repo_core.specs.declared.fault.RepoFault.{RepoFault}
+use Rattle.repo_core.specs.Refusals.{is_short, limit_fault}
 use Rattle.repo_core.specs.declared.fault.RepoFault.TheVariants.{TooLong}
 
 abbrev Short : Name → List ℕ → Type 0

@@ -1,8 +1,6 @@
 -- Sets beside the trees that they make.
-use Rattle.std.proofs.Common.{◌≡◌, ℕ, suc, ◌+◌, List, [], ◌∷◌, ◌++◌, length, None, refl, sym, ap, subst, ◌∙◌, append-nil, append_assoc}
-use Rattle.std.specs.FinMap as map
-use Rattle.node_base.specs.Path.{Path}
-use Rattle.node_base.specs.Tree.{PathMap, alone, new_dir}
+use Rattle.std.proofs.Common.{◌≡◌, suc, List, [], ◌∷◌, ◌++◌, length, refl, sym, ap, subst, append-nil, append_assoc}
+use Rattle.node_base.specs.Tree.{PathMap}
 use Rattle.dump_load.specs.declared.change.Change.{Change}
 use Rattle.repo_core.specs.Repository.{Makes, AllMade}
 

@@ -1,5 +1,5 @@
 -- Entries that are ready.
-use Rattle.std.proofs.Common.{◌≡◌, ℕ, zero, suc, ◌+◌, ◌<◌, ◌≤◌, true, false, nat_lt, nat_le, List, [], ◌∷◌, length, Option, Some, None, refl, sym, ap, subst, ◌∙◌, arith}
+use Rattle.std.proofs.Common.{◌≡◌, ℕ, zero, suc, ◌<◌, ◌≤◌, true, false, nat_lt, nat_le, List, [], ◌∷◌, length, Some, None, refl, sym, ap, subst, ◌∙◌, arith}
 use Rattle.std.specs.Prelude.{slice_get}
 use Rattle.std.specs.Option.{option_map}
 use Rattle.node_base.specs.Props.{PropMap}
@@ -8,9 +8,8 @@ use Rattle.dump_load.specs.declared.change.Change.{Change}
 use Rattle.dump_load.specs.Faults.{fault}
 use Rattle.dump_load.specs.Trees.{effect_tree}
 use Rattle.repo_core.specs.Repository.{Revision, trees_of}
-use Rattle.repo_core.specs.Entries.{Entry, Revised, Mapped}
+use Rattle.repo_core.specs.Entries.{Revised, Mapped}
 use Rattle.repo_core.specs.Refusals.{by_repository, limit_fault}
-use Rattle.repo_core.specs.declared.fault.RepoFault.{RepoFault}
 use Rattle.repo_core.specs.declared.fault.RepoFault.TheVariants.{NoSuchRevision}
 use Rattle.repo_core.specs.Staging.{StagedEntry, IsReady, IsNext, new_tree}
 

@@ -1,9 +1,8 @@
 -- The root alone.
-use Rattle.std.proofs.Common.{◌≡◌, ◌∷◌, [], cond, Some, None, refl, sym, ◌∙◌}
+use Rattle.std.proofs.Common.{◌≡◌, ◌∷◌, [], refl, sym, ◌∙◌}
 use Rattle.std.specs.FinMap as map
 use Rattle.std.specs.FinMap.{get-insert, get-empty, same_map}
 use Rattle.node_base.specs.Path.{Path, path_cmp, paths_total, paths_exact}
-use Rattle.node_base.specs.declared.node.Node.{Node}
 use Rattle.node_base.specs.Tree.{PathMap, alone, new_dir}
 use Rattle.dump_load.specs.Effect.{effect}
 use Rattle.dump_load.proofs.Walk.{effect_none}

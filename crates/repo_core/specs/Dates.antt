@@ -1,5 +1,5 @@
 -- Moments, and the text of one in the property svn:date.
-use Rattle.std.specs.Prelude.{◌≡◌, ℕ, ◌/◌, ◌^◌, ◌-◌, false, List, [], ◌∷◌, ◌++◌, pos, unsigned_abs, ◌*ℤ◌, codes, Option}
+use Rattle.std.specs.Prelude.{◌≡◌, ℕ, ◌/◌, false, List, [], ◌∷◌, ◌++◌, pos, unsigned_abs, ◌*ℤ◌, codes, Option}
 use Rattle.std.specs.Option.{option_map_or}
 use Rattle.std.specs.Fmt.{decimal, padded_integral, format_spec}
 use Rattle.std.specs.FinMap as map

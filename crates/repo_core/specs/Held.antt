@@ -1,5 +1,5 @@
 -- How a repository is held in memory.
-use Rattle.std.specs.Prelude.{◌≡◌, ℕ, ◌<◌, ◌≤◌, List, [], ◌∷◌, length, vec_capacity}
+use Rattle.std.specs.Prelude.{◌≡◌, ◌<◌, ◌≤◌, List, [], ◌∷◌, length, vec_capacity}
 use Rattle.node_base.specs.Props.{PropMap}
 use Rattle.node_base.specs.Tree.{PathMap}
 use Rattle.repo_core.specs.Repository.{Revision, Repository, AllMade}

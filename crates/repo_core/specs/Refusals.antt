@@ -1,13 +1,10 @@
 -- What a repository refuses.
-use Rattle.std.specs.Prelude.{◌≡◌, ℕ, ◌+◌, ◌<◌, Bool, true, false, not, ◌&&◌, nat_le, nat_lt, List, [], ◌∷◌, length, slice_get, Option, Some, None, is_none, if◌then◌else◌}
+use Rattle.std.specs.Prelude.{◌≡◌, ℕ, Bool, true, false, not, ◌&&◌, nat_le, nat_lt, List, [], ◌∷◌, length, Option, Some, is_none}
 use Rattle.std.specs.Option.{option_map, option_map_or}
 use Rattle.std.specs.List.{list_all}
 use Rattle.std.specs.FinMap as map
-use Rattle.std.specs.declared.vec.Vec.{Vec}
 use Rattle.node_base.specs.Path.{Name, same_name}
 use Rattle.node_base.specs.Props.{PropMap, props_fit}
-use Rattle.node_base.specs.Tree.{PathMap}
-use Rattle.dump_load.specs.declared.fault.ChangeFault.{ChangeFault}
 use Rattle.dump_load.specs.Faults.{fault_if, first_of, fault, refused}
 use Rattle.dump_load.specs.Faults as changes
 use Rattle.repo_core.specs.Repository.{Revision, trees_of, head_of, props_at}

@@ -1,4 +1,3 @@
-use Rattle.std.proofs.Common.{◌≡◌, rules, sym, subst, ◌∙◌}
 use Rattle.repo_core.proofs.Limited.{props_within, long_value}
 use Rattle.repo_core.proofs.maps.insert.Goals as goal
 

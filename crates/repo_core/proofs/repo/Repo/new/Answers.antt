@@ -1,6 +1,4 @@
-use Rattle.std.proofs.Common.{◌≡◌, ◌∷◌, [], length, refl, ap, ap₂, sym, ◌∙◌, arith}
-use Rattle.repo_core.specs.Repository.{AllMade}
-use Rattle.repo_core.specs.Held.{revisions_of}
+use Rattle.std.proofs.Common.{refl, arith}
 use Rattle.repo_core.proofs.Roots.{is_root_alone, root_is_made}
 use Rattle.repo_core.proofs.repo.Repo.new.Goals as goal
 

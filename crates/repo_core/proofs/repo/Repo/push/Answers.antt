@@ -1,4 +1,4 @@
-use Rattle.std.proofs.Common.{◌≡◌, ◌∷◌, [], ◌++◌, length, refl, ap, sym, subst, ◌∙◌, arith, length-append}
+use Rattle.std.proofs.Common.{◌∷◌, [], refl, ap, sym, subst, ◌∙◌, arith, length-append}
 use Rattle.repo_core.specs.Repository.{Makes, trees_of}
 use Rattle.repo_core.proofs.Lists.{length-revisions, trees-revisions, revisions-push}
 use Rattle.repo_core.proofs.MadeTrees.{length-made, made-push}

@@ -1,4 +1,4 @@
-use Rattle.std.proofs.Common.{◌≡◌, refl, ap, sym, ◌∙◌, arith}
+use Rattle.std.proofs.Common.{refl, arith}
 use Rattle.repo_core.proofs.Lists.{length-revisions, revisions-set}
 use Rattle.repo_core.proofs.repo.Repo.replace.Goals as goal
 

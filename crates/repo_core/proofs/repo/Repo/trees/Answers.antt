@@ -1,5 +1,4 @@
-use Rattle.std.proofs.Common.{ap, length, sym, ◌∙◌}
-use Rattle.repo_core.specs.Repository.{Repository}
+use Rattle.std.proofs.Common.{ap, length}
 use Rattle.repo_core.proofs.Lists.{length-revisions, trees-revisions}
 use Rattle.repo_core.proofs.repo.Repo.trees.Goals as goal
 
