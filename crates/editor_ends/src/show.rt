@@ -252,8 +252,8 @@ fn show_edit<E: Editor>(
 /// of the node that it begins with: a removal for each name that goes, then each new value, both in the order of the names. A
 /// text is sent whole, in pieces of 65,536 bytes at most, and the close of its file has its MD5.
 ///
-/// Refused: with the set's first fault (8, 10 to 14, 17) once all changes before it were shown, for want of memory (70), and
-/// with what the editor refuses one of the calls with. The editor is given up then.
+/// Refused: with the set's first fault (8, 10 to 14, 17), for want of memory (70), and with what the editor may answer at one
+/// of these calls after those before it. The editor is given up then.
 pub fn drive<E: Editor>(
     alloc: Global,
     trees: &[Tree],
