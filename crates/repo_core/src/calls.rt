@@ -56,6 +56,7 @@ impl Repo {
     /// Puts all properties of a revision, without memory. Refused is a revision above the head (21), and then nothing changes.
     pub fn put_props(&mut self, number: RevNo, props: Props) -> Result<(), RepoFault>
         ensures made { OnOk result (self.new ≡ with_entry_in self.old (Mapped number props)) }
+        ensures taken { OnOk result (by_repository self.old.revisions (Mapped number props) ≡ None) }
         ensures refused { IfErr result (λ e. by_repository self.old.revisions (Mapped number props) ≡ Some e) }
         ensures there { number < length self.old.revisions → IsOk result }
         ensures same { OnErr result (self.new ≡ self.old) }
