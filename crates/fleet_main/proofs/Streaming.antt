@@ -1,7 +1,7 @@
 -- A stream of known bytes, read to its end or not.
-use Rattle.std.proofs.Common.{◌≡◌, ℕ, ◌||◌, Bool, true, List, Result, Ok, Err, [], ◌++◌, Option, None, Some, IfSome, refl, sym, ap, subst, ◌∙◌, append-nil, arith, inl, inr}
+use Rattle.std.proofs.Common.{◌≡◌, ℕ, ◌||◌, Bool, true, false, List, Result, Ok, Err, [], ◌++◌, Option, None, Some, IfSome, refl, sym, ap, subst, ◌∙◌, append-nil, arith, inl, inr}
 use Rattle.std.proofs.KnownBytes.{Appends-nil, Appends-kept, Keeps-refl, Consumes-trans, Consumes-kept, Consumes-whole}
-use Rattle.std.specs.Result.{OnOk}
+use Rattle.std.specs.Result.{OnOk, OnErr, IfErr}
 use Rattle.std.specs.Io.KnownBytes.{Consumes, Keeps, IsAtEnd}
 use Rattle.node_base.specs.Refusals.{refusal_number}
 use Rattle.node_base.specs.declared.refusal.Refusal.{Refusal}
@@ -132,3 +132,17 @@ pub failed_stays : (r : Result (Unit {0}) Refusal) (old new : Bool) → Flagged 
 failed_stays (Ok x) old new f e = f ∙ e
 failed_stays (Err x) old new (inl f) e = f.1
 failed_stays (Err x) old new (inr f) e = f.1 ∙ e
+
+-- a failure is told where the writer failed
+pub err_flagged : (r : Result (Unit {0}) Refusal) (i new : Bool) → OnErr r (new ≡ true) → IfErr r (λ e. e ≡ PeerFailed → (i || new) ≡ true)
+err_flagged (Ok x) i new h = tt
+err_flagged (Err e) i new h = λ _. ap (λ b. i || b) h ∙ or-true i
+
+or_stays : (i old new : Bool) → (old ≡ true → new ≡ true) → (i || old) ≡ true → (i || new) ≡ true
+or_stays true old new f h = refl
+or_stays false old new f h = f h
+
+-- and a failure that was told stays
+pub told_flagged : (r : Result (Unit {0}) Refusal) (e : Refusal) (i0 i o0 old new : Bool) → BothFlagged {T = Unit {0}} (Err e) i0 i o0 old → Flagged r old new → e ≡ PeerFailed → (i || new) ≡ true
+told_flagged r e i0 i o0 old new (inl b) f p = or_stays i old new (failed_stays r old new f) b.1
+told_flagged r e i0 i o0 old new (inr b) f p = absurd (b.0 p)

@@ -1,5 +1,5 @@
 //! One command, from its words to its status.
-ghost use Rattle.std.specs.Prelude.{◌≡◌, ◌⊎◌, true, IfSome, IfErr, OnOk};
+ghost use Rattle.std.specs.Prelude.{◌≡◌, ◌⊎◌, ◌||◌, true, IfSome, IfErr, OnOk};
 ghost use Rattle.std.specs.Io.KnownBytes.{Appends};
 ghost use Rattle.node_base.specs.declared.refusal.Refusal.{Refusal as RefusalOf};
 ghost use Rattle.node_base.specs.Refusals.{fault_line};
@@ -42,6 +42,7 @@ fn run_flushed<R: Read + Drop, W: Write + Drop>(
     ensures ok { OnOk result (IfSome (R.remaining input.old.inner) (λ bytes. Accepted command bytes (W.contents output.old.inner) (W.contents output.new.inner))) }
     ensures refused { IfErr result (λ e. (output.new.failed ≡ true) ⊎ IfSome (R.remaining input.old.inner) (λ bytes. Refused command bytes (W.contents output.old.inner) (W.contents output.new.inner) e)) }
     ensures unfailed { OnOk result ((input.new.failed ≡ input.old.failed) × (output.new.failed ≡ output.old.failed)) }
+    ensures peer { IfErr result (λ e. e ≡ Refusal.PeerFailed → (input.new.failed || output.new.failed) ≡ true) }
 {
     let done = run_one(alloc, command, input, output);
     let flushed = output.flush();
@@ -64,7 +65,7 @@ pub fn run<T: AllocGlobal, R: Read + Drop, W: Write + Drop, E: Write + Drop>(
     ensures done { result ≡ 0 → IfSome (R.remaining input.old.inner) (λ bytes. Accepted command bytes (W.contents output.old.inner) (W.contents output.new.inner)) }
     ensures unfailed { result ≡ 0 → (input.new.failed ≡ input.old.failed) × (output.new.failed ≡ output.old.failed) }
     ensures silent { result ≡ 0 → E.contents errors.new.inner ≡ E.contents errors.old.inner }
-    ensures refused { result ≡ 1 → (e : RefusalOf) × ((output.new.failed ≡ true) ⊎ IfSome (R.remaining input.old.inner) (λ bytes. Refused command bytes (W.contents output.old.inner) (W.contents output.new.inner) e)) × ((errors.new.failed ≡ true) ⊎ Appends (E.contents errors.old.inner) (E.contents errors.new.inner) (fault_line e)) }
+    ensures refused { result ≡ 1 → (e : RefusalOf) × ((output.new.failed ≡ true) ⊎ IfSome (R.remaining input.old.inner) (λ bytes. Refused command bytes (W.contents output.old.inner) (W.contents output.new.inner) e)) × (e ≡ Refusal.PeerFailed → (input.new.failed || output.new.failed) ≡ true) × ((errors.new.failed ≡ true) ⊎ Appends (E.contents errors.old.inner) (E.contents errors.new.inner) (fault_line e)) }
 {
     match run_flushed(rt.alloc(), command, input, output) {
         Ok(()) => 0,

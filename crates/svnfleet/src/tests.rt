@@ -1,6 +1,9 @@
 //! Whole runs of `list` and `canon` over memory.
 
-use fleet_main::{Command, Sink, Source, Usage, plan, run};
+use fleet_main::{
+    Command, Sink, Source, Usage, plan, records_dont_matter, revisions_are_grouped, run, run_canon,
+    run_list,
+};
 use std::alloc::{AllocError, Global};
 use std::io;
 use std::io::{Read, Write};
@@ -484,5 +487,20 @@ fn failed_writer_is_told(rt: HostRuntime) -> Result<(), Fail> {
     let status = run(&rt, Command::Canon, &mut input, &mut output, &mut errors);
     assert!(rt; status == 1 && output.failed && !input.failed);
     assert!(rt; errors.into_inner().as_slice() == b"svnfleet: 49 stream failed\n".as_slice());
+    Ok(())
+}
+
+#[test]
+fn commands_answer_without_a_status(rt: HostRuntime) -> Result<(), Fail> {
+    let whole = joined(rt.alloc(), &[HEAD, ZERO, ONE_FILE])?;
+    let mut listed = Sink::new(Vec::new(rt.alloc()));
+    let mut copied = Sink::new(Vec::new(rt.alloc()));
+    let list = run_list(rt.alloc(), &mut Source::new(whole.as_slice()), &mut listed);
+    let canon = run_canon(rt.alloc(), &mut Source::new(whole.as_slice()), &mut copied);
+    assert!(rt; list.is_ok() && canon.is_ok());
+    assert!(rt; listed.into_inner().as_slice() == b"revision 1\nD 1 /\nF 1 6 a\n".as_slice());
+    assert!(rt; copied.into_inner().as_slice() == whole.as_slice());
+    records_dont_matter();
+    revisions_are_grouped();
     Ok(())
 }

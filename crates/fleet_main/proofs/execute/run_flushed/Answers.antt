@@ -1,5 +1,5 @@
 use Rattle.std.proofs.Common.{inl, inr}
-use Rattle.fleet_main.proofs.Streaming.{some_accepted, some_refused, failed_stays}
+use Rattle.fleet_main.proofs.Streaming.{some_accepted, some_refused, failed_stays, err_flagged, told_flagged}
 use Rattle.fleet_main.proofs.execute.run_flushed.Goals as goal
 
 pub returns-in-Ok-clause-ok : goal.returns-in-Ok-clause-ok
@@ -12,3 +12,10 @@ returns-in-Err-clause-refused g c =
       | inl failed ↦ inl (failed_stays c.flush-flushed.result c.run_one-done.new.output.failed c.flush-flushed.new.self.failed c.flush-flushed.ensures.peer failed)
       | inr p ↦ inr (some_refused (g.R.Read.remaining c.args.input.now.inner) c.args.command (g.W.Write.contents c.args.output.now.inner) (g.W.Write.contents c.run_one-done.new.output.inner) (g.W.Write.contents c.flush-flushed.new.self.inner) c.in-Err.refusal c.flush-flushed.ensures.kept p)
     ]
+
+pub returns-in-Ok-clause-peer : goal.returns-in-Ok-clause-peer
+returns-in-Ok-clause-peer g c = err_flagged c.flush-flushed.result c.run_one-done.new.input.failed c.flush-flushed.new.self.failed c.flush-flushed.ensures.only_peer
+
+pub returns-in-Err-clause-peer : goal.returns-in-Err-clause-peer
+returns-in-Err-clause-peer g c =
+    told_flagged c.flush-flushed.result c.in-Err.refusal c.args.input.now.failed c.run_one-done.new.input.failed c.args.output.now.failed c.run_one-done.new.output.failed c.flush-flushed.new.self.failed c.in-Err.ensures.peer c.flush-flushed.ensures.peer
