@@ -66,7 +66,10 @@ pub(crate) fn two_trees(alloc: Global) -> Result<Vec<Tree>, Fail> {
 }
 
 /// The tree that revision 2 makes of these records.
-pub(crate) fn second(alloc: Global, stated: &[Stated<'_>]) -> Result<Result<Tree, ChangeFault>, Fail> {
+pub(crate) fn second(
+    alloc: Global,
+    stated: &[Stated<'_>],
+) -> Result<Result<Tree, ChangeFault>, Fail> {
     let trees = two_trees(alloc)?;
     if trees.len() > 65_535 {
         return Ok(Err(ChangeFault::WrongNumber));
