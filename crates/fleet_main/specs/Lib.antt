@@ -1,8 +1,1 @@
-pub mod Grouping
-pub mod Histories
-pub mod Listing
-pub mod Pieces
-pub mod Refusals
-pub mod Revisions
-pub mod Runs
 pub mod Words

@@ -2,6 +2,8 @@
 use Rattle.std.specs.Prelude.{ℕ, List, true, codes}
 use Rattle.clap.specs.Words.{App, new_app, with_subcommand}
 use Rattle.clap.specs.Simple.{on_top}
+use Rattle.fleet_engines.specs.declared.product.Product.{Product}
+use Rattle.fleet_engines.specs.declared.product.Product.TheVariants as product
 use Rattle.fleet_main.specs.declared.command_line.Command.{Command}
 use Rattle.fleet_main.specs.declared.command_line.Command.TheVariants.{List as ListIt, Canon}
 
@@ -19,3 +21,8 @@ svnfleet_app = with_subcommand (with_subcommand (on_top (λ s. record s { has_ve
 abbrev pub word_of : Command → List ℕ
 word_of ListIt = codes "list"
 word_of Canon = codes "canon"
+
+-- what a command makes of the dump that it reads
+abbrev pub product_of : Command → Product
+product_of ListIt = product.List
+product_of Canon = product.Canon

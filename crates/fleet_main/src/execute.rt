@@ -3,11 +3,11 @@ ghost use Rattle.std.specs.Prelude.{◌≡◌, ◌⊎◌, ◌||◌, true, IfSome
 ghost use Rattle.std.specs.Io.KnownBytes.{Appends};
 ghost use Rattle.node_base.specs.declared.refusal.Refusal.{Refusal as RefusalOf};
 ghost use Rattle.node_base.specs.Refusals.{fault_line};
-ghost use Rattle.fleet_main.specs.Runs.{Accepted, BothFlagged, Refused};
+ghost use Rattle.fleet_engines.specs.Runs.{Accepted, BothFlagged, Refused};
+ghost use Rattle.fleet_main.specs.Words.{product_of};
 
 use crate::command_line::Command;
-use crate::commands::{run_canon, run_list};
-use crate::stream::{Sink, Source};
+use fleet_engines::{Sink, Source, run_canon, run_list};
 use node_base::Refusal;
 use std::alloc::Global;
 use std::io::{Read, Write};
@@ -22,8 +22,8 @@ fn run_one<R: Read + Drop, W: Write + Drop>(
     input: &mut Source<R>,
     output: &mut Sink<W>,
 ) -> Result<(), Refusal>
-    ensures ok { OnOk result (IfSome (R.remaining input.old.inner) (λ bytes. Accepted command bytes (W.contents output.old.inner) (W.contents output.new.inner))) }
-    ensures refused { IfErr result (λ e. (output.new.failed ≡ true) ⊎ IfSome (R.remaining input.old.inner) (λ bytes. Refused command bytes (W.contents output.old.inner) (W.contents output.new.inner) e)) }
+    ensures ok { OnOk result (IfSome (R.remaining input.old.inner) (λ bytes. Accepted (product_of command) bytes (W.contents output.old.inner) (W.contents output.new.inner))) }
+    ensures refused { IfErr result (λ e. (output.new.failed ≡ true) ⊎ IfSome (R.remaining input.old.inner) (λ bytes. Refused (product_of command) bytes (W.contents output.old.inner) (W.contents output.new.inner) e)) }
     ensures peer { BothFlagged result input.old.failed input.new.failed output.old.failed output.new.failed }
 {
     match command {
@@ -39,8 +39,8 @@ fn run_flushed<R: Read + Drop, W: Write + Drop>(
     input: &mut Source<R>,
     output: &mut Sink<W>,
 ) -> Result<(), Refusal>
-    ensures ok { OnOk result (IfSome (R.remaining input.old.inner) (λ bytes. Accepted command bytes (W.contents output.old.inner) (W.contents output.new.inner))) }
-    ensures refused { IfErr result (λ e. (output.new.failed ≡ true) ⊎ IfSome (R.remaining input.old.inner) (λ bytes. Refused command bytes (W.contents output.old.inner) (W.contents output.new.inner) e)) }
+    ensures ok { OnOk result (IfSome (R.remaining input.old.inner) (λ bytes. Accepted (product_of command) bytes (W.contents output.old.inner) (W.contents output.new.inner))) }
+    ensures refused { IfErr result (λ e. (output.new.failed ≡ true) ⊎ IfSome (R.remaining input.old.inner) (λ bytes. Refused (product_of command) bytes (W.contents output.old.inner) (W.contents output.new.inner) e)) }
     ensures unfailed { OnOk result ((input.new.failed ≡ input.old.failed) × (output.new.failed ≡ output.old.failed)) }
     ensures peer { IfErr result (λ e. e ≡ Refusal.PeerFailed → (input.new.failed || output.new.failed) ≡ true) }
 {
@@ -62,10 +62,10 @@ pub fn run<T: AllocGlobal, R: Read + Drop, W: Write + Drop, E: Write + Drop>(
     errors: &mut Sink<E>,
 ) -> u8
     ensures status { (result ≡ 0) ⊎ (result ≡ 1) }
-    ensures done { result ≡ 0 → IfSome (R.remaining input.old.inner) (λ bytes. Accepted command bytes (W.contents output.old.inner) (W.contents output.new.inner)) }
+    ensures done { result ≡ 0 → IfSome (R.remaining input.old.inner) (λ bytes. Accepted (product_of command) bytes (W.contents output.old.inner) (W.contents output.new.inner)) }
     ensures unfailed { result ≡ 0 → (input.new.failed ≡ input.old.failed) × (output.new.failed ≡ output.old.failed) }
     ensures silent { result ≡ 0 → E.contents errors.new.inner ≡ E.contents errors.old.inner }
-    ensures refused { result ≡ 1 → (e : RefusalOf) × ((output.new.failed ≡ true) ⊎ IfSome (R.remaining input.old.inner) (λ bytes. Refused command bytes (W.contents output.old.inner) (W.contents output.new.inner) e)) × (e ≡ Refusal.PeerFailed → (input.new.failed || output.new.failed) ≡ true) × ((errors.new.failed ≡ true) ⊎ Appends (E.contents errors.old.inner) (E.contents errors.new.inner) (fault_line e)) }
+    ensures refused { result ≡ 1 → (e : RefusalOf) × ((output.new.failed ≡ true) ⊎ IfSome (R.remaining input.old.inner) (λ bytes. Refused (product_of command) bytes (W.contents output.old.inner) (W.contents output.new.inner) e)) × (e ≡ Refusal.PeerFailed → (input.new.failed || output.new.failed) ≡ true) × ((errors.new.failed ≡ true) ⊎ Appends (E.contents errors.old.inner) (E.contents errors.new.inner) (fault_line e)) }
 {
     match run_flushed(rt.alloc(), command, input, output) {
         Ok(()) => 0,

@@ -1,9 +1,9 @@
 //! Whole runs of `list` and `canon` over memory.
 
-use fleet_main::{
-    Command, Sink, Source, Usage, plan, records_dont_matter, revisions_are_grouped, run, run_canon,
-    run_list,
+use fleet_engines::{
+    Sink, Source, records_dont_matter, revisions_are_grouped, run_canon, run_list,
 };
+use fleet_main::{Command, Usage, plan, run};
 use std::alloc::{AllocError, Global};
 use std::io;
 use std::io::{Read, Write};

@@ -1,0 +1,15 @@
+use Rattle.std.proofs.Common.{◌&&◌, ◌∙◌, ap, not}
+use Rattle.std.proofs.lemmas.Result.{on_ok_weaker}
+use Rattle.fleet_engines.specs.Histories.{revs_of, told_of}
+use Rattle.fleet_engines.specs.Runs.{has_begun}
+use Rattle.fleet_engines.proofs.Due.{rewritten}
+use Rattle.fleet_engines.proofs.engine.Engine.rewrite.Goals as goal
+
+pub returns-clause-ok : goal.returns-clause-ok
+returns-clause-ok g c =
+    let t = told_of c.args.self.now.history in
+    let u = told_of c.take.new.self in
+    let due = c.begins-is_due.ensures ∙ ap (λ b. not b && has_begun u) c.has_begun-had_begun.ensures in
+    on_ok_weaker c.write_closed.result
+    (λ w rs start. rewritten rs t u c.args.next (revs_of c.in_ok-closed.closed) start (g.W.Write.contents c.args.output.now.inner) (g.W.Write.contents c.write_beginning.new.output.inner) (g.W.Write.contents c.write_closed.new.output.inner) c.begins-is_due.result due c.in_ok-closed.ensures.taken c.in_ok-write_beginning.ensures.ok w)
+    c.write_closed.ensures.ok

@@ -1,0 +1,12 @@
+use Rattle.std.proofs.Common.{◌≡◌, ◌++◌}
+use Rattle.fleet_engines.specs.Histories.{told_of}
+use Rattle.fleet_engines.specs.Runs.{Moves}
+use Rattle.fleet_engines.proofs.engine.Engine.take_all.Given as goal
+
+abbrev pub invariant-loop-next : goal.invariant-loop-next
+invariant-loop-next g l = record {
+  moved : Moves l.fn.self.product (told_of l.fn.self.history) (told_of l.self.history) (g.W.Write.contents l.fn.output.inner) (g.W.Write.contents l.output.inner) l.yielded;
+  split : l.yielded ++ l.next-iterator.rest.items ≡ l.fn.records.items;
+  failed : l.output.failed ≡ l.fn.output.failed;
+  product : l.self.product ≡ l.fn.self.product;
+}

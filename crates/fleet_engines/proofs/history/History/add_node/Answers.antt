@@ -1,0 +1,14 @@
+use Rattle.std.proofs.Common.{◌∙◌, ap, sym, refl, Some}
+use Rattle.std.specs.Option.{option_map}
+use Rattle.fleet_engines.specs.Histories.{rev_of, told_of}
+use Rattle.fleet_engines.proofs.history.History.add_node.Goals as goal
+
+pub returns-in-Ok-clause-taken : goal.returns-in-Ok-clause-taken
+returns-in-Ok-clause-taken c =
+    let r = rev_of c.in-Some.revision in (
+      r,
+      ap (option_map rev_of) (sym c.take.ensures.value ∙ c.in-Some.is),
+      sym c.is_past_zero.ensures ∙ c.if-not-is_past_zero.false,
+      ap (λ ns. record (told_of c.args.self.now) { last = Some (record r { nodes = ns }) }) c.in-Ok.ensures.items,
+      refl,
+    )

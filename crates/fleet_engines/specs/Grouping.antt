@@ -1,0 +1,46 @@
+-- A stream's records as revisions, whatever the order of taking.
+use Rattle.std.specs.Prelude.{◌≡◌, Bool, true, false, List, [], ◌∷◌, ◌++◌, map}
+use Rattle.std.specs.List.{filter, flat_map}
+use Rattle.std.specs.FinMap as finite
+use Rattle.node_base.specs.Props.{PropMap}
+use Rattle.node_base.specs.Tree.{PathMap}
+use Rattle.dump_text.specs.declared.record.DumpRecord.{DumpRecord}
+use Rattle.dump_text.specs.declared.record.DumpRecord.TheVariants.{Identity, Revision, Node}
+use Rattle.dump_load.specs.declared.change.Change.{Change}
+use Rattle.fleet_engines.specs.Revisions.{Rev, Told, root_alone, untold, by_set, Makes, Closes, Tells}
+
+abbrev pub is_no_identity : DumpRecord → Bool
+is_no_identity (Identity id) = false
+is_no_identity r = true
+
+-- a revision's record, and one for each of its nodes
+abbrev pub records_of_rev : Rev → List DumpRecord
+records_of_rev r = Revision r.number r.props ∷ map Node r.nodes
+
+-- entries of revision 0, which has no nodes
+abbrev pub AreZero : List Rev → Type 0
+AreZero [] = Unit {0}
+AreZero (r ∷ rs) = (r.number ≡ 0) × (r.nodes ≡ []) × AreZero rs
+
+-- the properties of the last entry
+abbrev pub zero_of : PropMap → List Rev → PropMap
+zero_of props [] = props
+zero_of props (r ∷ rs) = zero_of r.props rs
+
+-- revisions that make trees one after another, each with the next number, and how they are written
+abbrev pub MakeTrees : List PathMap → List Rev → List PathMap → List Rev → Type 0
+MakeTrees trees [] all out = (all ≡ trees) × (out ≡ [])
+MakeTrees trees (r ∷ rs) all out = (set : List Change) × (tree : PathMap) × (rest : List Rev) × Makes trees r set tree × MakeTrees (trees ++ tree ∷ []) rs all rest × (out ≡ by_set r set ∷ rest)
+
+-- apart from identities, records are entries of revision 0 and then the revisions, each followed by its nodes
+pub record Grouped (rs : List DumpRecord) (all : Told) (out : List Rev) : Type 0 where
+  pub zeros : List Rev
+  pub revisions : List Rev
+  pub records : filter is_no_identity rs ≡ flat_map records_of_rev (zeros ++ revisions)
+  pub entries : AreZero zeros
+  pub props : all.zero ≡ zero_of finite.empty zeros
+  pub trees : MakeTrees (root_alone ∷ []) revisions all.trees out
+
+-- what is accepted record by record is such a list of revisions
+abbrev pub RevisionsAreGrouped : Type 0
+RevisionsAreGrouped = (rs : List DumpRecord) (t all : Told) (out newest : List Rev) → Tells untold rs t out → Closes t all newest → Grouped rs all (out ++ newest)

@@ -1,0 +1,17 @@
+-- What a history is seen as.
+use Rattle.std.specs.Prelude.{List, [], ◌∷◌, Option, Some, None}
+use Rattle.std.specs.Option.{option_map}
+use Rattle.dump_text.specs.declared.record.RevRecord.{RevRecord}
+use Rattle.fleet_engines.specs.Revisions.{Rev, Told}
+use Rattle.fleet_engines.specs.declared.history.History.{History}
+
+abbrev pub rev_of : RevRecord → Rev
+rev_of r = record { number = r.number; props = r.props; nodes = r.nodes.items }
+
+abbrev pub told_of : History → Told
+told_of h = record { identity = h.uuid; zero = h.zero; trees = h.trees.items; last = option_map rev_of h.last }
+
+-- what was given back
+abbrev pub revs_of : Option RevRecord → List Rev
+revs_of None = []
+revs_of (Some r) = rev_of r ∷ []

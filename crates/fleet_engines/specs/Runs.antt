@@ -1,0 +1,113 @@
+-- What is made of a dump, and what the answer says of the bytes that were read.
+use Rattle.std.specs.Prelude.{◌≡◌, ℕ, ◌-◌, ◌⊎◌, ◌||◌, not, Bool, true, false, List, [], ◌∷◌, ◌++◌, length, Option, Result, Ok, Err, if◌then◌else◌}
+use Rattle.std.specs.Option.{option_map_or}
+use Rattle.std.specs.List.{flat_map, slice_get}
+use Rattle.std.specs.Io.KnownBytes.{Appends}
+use Rattle.node_base.specs.Tree.{PathMap}
+use Rattle.node_base.specs.declared.refusal.Refusal.{Refusal}
+use Rattle.node_base.specs.declared.refusal.Refusal.TheVariants.{Truncated, PeerFailed, OutOfMemory}
+use Rattle.dump_text.specs.declared.record.DumpRecord.{DumpRecord}
+use Rattle.dump_text.specs.declared.fault.DumpFault.{DumpFault}
+use Rattle.dump_text.specs.declared.state.ReadState.{ReadState}
+use Rattle.dump_text.specs.Canon.{canon_head, canon_entry, canon_node}
+use Rattle.dump_text.specs.Streams.{Reads, Refuses, dump, records_of, is_between}
+use Rattle.fleet_engines.specs.declared.product.Product.{Product}
+use Rattle.fleet_engines.specs.declared.product.Product.TheVariants.{List as ListIt, Canon}
+use Rattle.fleet_engines.specs.Listing.{listing}
+use Rattle.fleet_engines.specs.Refusals.{dump_refusal}
+use Rattle.fleet_engines.specs.Revisions.{Rev, Told, untold, is_lone, is_past_zero, Closes, CantClose, CantTake, Tells}
+
+-- a revision in its canonical spelling
+abbrev pub canon_of : Rev → List ℕ
+canon_of r = canon_entry r.number r.props ++ flat_map canon_node r.nodes
+
+-- the head and revision 0 in theirs
+abbrev pub head_of : Told → List ℕ
+head_of t = canon_head t.identity ++ canon_entry 0 t.zero
+
+-- the listing of the newest tree
+abbrev pub newest_listing : List PathMap → List ℕ
+newest_listing trees = option_map_or (λ tree. listing (length trees - 1) tree) (slice_get trees (length trees - 1)) []
+
+-- a revision other than 0 has begun
+abbrev pub has_begun : Told → Bool
+has_begun t = not (is_lone t.trees) || is_past_zero t.last
+
+-- what is written behind some records: nothing of a listing; of a canonical spelling the head and revision 0 once another revision has begun, and each later revision that is whole
+abbrev pub due : Product → Told → List Rev → List ℕ
+due ListIt t out = []
+due Canon t out = if has_begun t then head_of t ++ flat_map canon_of out else []
+
+-- what is written of a whole stream
+abbrev pub whole : Product → Told → List Rev → List ℕ
+whole ListIt t out = newest_listing t.trees
+whole Canon t out = head_of t ++ flat_map canon_of out
+
+-- the records have told that, and what a writer holds is what it held at the start and what is due
+pub record Stands (c : Product) (rs : List DumpRecord) (t : Told) (start now : Option (List ℕ)) : Type 0 where
+  pub out : List Rev
+  pub tells : Tells untold rs t out
+  pub written : Appends start now (due c t out)
+
+-- some records more lead from what stood so to what stands so
+abbrev pub Moves : Product → Told → Told → Option (List ℕ) → Option (List ℕ) → List DumpRecord → Type 0
+Moves c t u before now new = (rs : List DumpRecord) (start : Option (List ℕ)) → Stands c rs t start before → Stands c (rs ++ new) u start now
+
+-- bytes were read as records, and these stand so
+pub record Reached (c : Product) (bytes : List ℕ) (reader : ReadState) (t : Told) (start now : Option (List ℕ)) : Type 0 where
+  pub records : List DumpRecord
+  pub read : dump bytes ≡ Reads records reader
+  pub stands : Stands c records t start now
+
+-- bytes lead from what stood so before them to what stands so behind them
+abbrev pub Leads : Product → ReadState → Told → Option (List ℕ) → List ℕ → ReadState → Told → Option (List ℕ) → Type 0
+Leads c old t before bytes new u now = (start : Option (List ℕ)) → Reached c [] old t start before → Reached c bytes new u start now
+
+-- some records were taken, and what stopped the others
+pub record Stops (c : Product) (rs new : List DumpRecord) (start now : Option (List ℕ)) (e : Refusal) : Type 0 where
+  pub taken : List DumpRecord
+  pub first : DumpRecord
+  pub rest : List DumpRecord
+  pub split : new ≡ taken ++ first ∷ rest
+  pub told : Told
+  pub stands : Stands c (rs ++ taken) told start now
+  pub why : (e ≡ OutOfMemory) ⊎ CantTake told first e
+
+-- why a stream is refused behind some records that told that: the next record can't be taken; or the byte behind them shows a fault of the text; or the stream ends there, in a record; or the last revision can't be closed; or memory ran out, or a peer failed, before the next record was taken
+pub data Why (bytes : List ℕ) (rs : List DumpRecord) (t : Told) (e : Refusal) : Type 0 where
+  record_refused : (r : DumpRecord) (more : List DumpRecord) → records_of (dump bytes) ≡ rs ++ r ∷ more → CantTake t r e → Why bytes rs t e
+  byte_refused : (f : DumpFault) → dump bytes ≡ Refuses rs f → e ≡ dump_refusal f → Why bytes rs t e
+  cut_short : (reader : ReadState) → dump bytes ≡ Reads rs reader → is_between reader ≡ false → e ≡ Truncated → Why bytes rs t e
+  last_refused : (reader : ReadState) → dump bytes ≡ Reads rs reader → is_between reader ≡ true → CantClose t e → Why bytes rs t e
+  stopped : (more : List DumpRecord) → records_of (dump bytes) ≡ rs ++ more → (e ≡ OutOfMemory) ⊎ (e ≡ PeerFailed) → Why bytes rs t e
+
+-- a stream is refused, and what is due of the records before the fault is written, and nothing else
+pub record Refused (c : Product) (bytes : List ℕ) (start now : Option (List ℕ)) (e : Refusal) : Type 0 where
+  pub records : List DumpRecord
+  pub told : Told
+  pub stands : Stands c records told start now
+  pub why : Why bytes records told e
+
+-- a stream is a whole dump, each of its revisions makes a tree, and what it comes to is written, and nothing else
+pub record Accepted (c : Product) (bytes : List ℕ) (start now : Option (List ℕ)) : Type 0 where
+  pub records : List DumpRecord
+  pub reader : ReadState
+  pub read : dump bytes ≡ Reads records reader
+  pub ended : is_between reader ≡ true
+  pub told : Told
+  pub out : List Rev
+  pub tells : Tells untold records told out
+  pub all : Told
+  pub newest : List Rev
+  pub closes : Closes told all newest
+  pub written : Appends start now (whole c all (out ++ newest))
+
+-- a stream's failure is told by PeerFailed, and by nothing else
+abbrev pub Flagged : {T : Type 0} → Result T Refusal → Bool → Bool → Type 0
+Flagged (Ok x) old new = new ≡ old
+Flagged (Err e) old new = ((e ≡ PeerFailed) × (new ≡ true)) ⊎ ((e ≡ PeerFailed → ⊥) × (new ≡ old))
+
+-- the same for a reader and a writer
+abbrev pub BothFlagged : {T : Type 0} → Result T Refusal → Bool → Bool → Bool → Bool → Type 0
+BothFlagged (Ok x) old new before after = (new ≡ old) × (after ≡ before)
+BothFlagged (Err e) old new before after = ((e ≡ PeerFailed) × ((new || after) ≡ true)) ⊎ ((e ≡ PeerFailed → ⊥) × (new ≡ old) × (after ≡ before))

@@ -1,0 +1,207 @@
+//! The revisions of a dump, judged one after the other.
+ghost use Rattle.std.specs.Prelude.{◌≡◌, ◌∷◌, ◌++◌, ◌⊎◌, [], length, List, Some, false, true, IfOk, IfErr};
+ghost use Rattle.std.specs.Option.{option_copied, option_map};
+ghost use Rattle.std.specs.List.{slice_get};
+ghost use Rattle.dump_load.specs.declared.change.Change.{Change};
+ghost use Rattle.dump_text.specs.Canon.{now_of};
+ghost use Rattle.node_base.specs.Tree.{PathMap};
+ghost use Rattle.fleet_engines.specs.Histories.{told_of, revs_of, rev_of};
+ghost use Rattle.fleet_engines.specs.Revisions.{by_set, is_past_zero, is_zero, root_alone, untold, Makes, IsUnfit, Closes, CantClose, Takes, CantTake};
+ghost use Rattle.fleet_engines.specs.Runs.{has_begun};
+
+use crate::refusals::change_refusal;
+use dump_load::load_revision;
+use dump_text::{DumpRecord, NodeRecord, RevRecord};
+use node_base::{Props, Refusal, RevNo};
+use path_tree::Tree;
+use std::alloc::{AllocError, Global};
+use uuid::Uuid;
+
+/// What a dump's records have made so far: the identity, revision 0's properties, the trees from revision 0 on, and the revision that is still read.
+#[derive(Drop)]
+pub struct History {
+    alloc: Global,
+    uuid: Option<Uuid>,
+    zero: Props,
+    trees: Vec<Tree>,
+    last: Option<RevRecord>,
+}
+
+// Whether it is revision 0, before any other.
+fn is_zero(trees: &[Tree], revision: &RevRecord) -> bool
+    ensures { result ≡ is_zero trees.now (rev_of revision.now) }
+{
+    trees.len() == 1 && revision.number == RevNo::ZERO
+}
+
+// The trees before revision 1.
+fn first_trees(alloc: Global) -> Result<Vec<Tree>, AllocError>
+    ensures { IfOk result (λ trees. trees.items ≡ root_alone ∷ []) }
+{
+    let mut trees = Vec::new(alloc);
+    trees.push(Tree::empty(alloc)?)?;
+    Ok(trees)
+}
+
+impl History {
+    /// Before the first record: revision 0 is the root alone.
+    pub fn new(alloc: Global) -> Result<History, Refusal>
+        ensures new { IfOk result (λ h. told_of h ≡ untold) }
+        ensures memory { IfErr result (λ e. e ≡ Refusal.OutOfMemory) }
+    {
+        let trees = match first_trees(alloc) {
+            Ok(trees) => trees,
+            Err(_) => return Err(Refusal::OutOfMemory),
+        };
+        Ok(History {
+            alloc,
+            uuid: None,
+            zero: Props::empty(),
+            trees,
+            last: None,
+        })
+    }
+
+    /// Takes a record. Where it begins a revision, the one before it is judged and, unless it is revision 0, given back as it is written.
+    pub fn take(&mut self, next: DumpRecord) -> Result<Option<RevRecord>, Refusal>
+        ensures taken { IfOk result (λ out. Takes (told_of self.old) next (told_of self.new) (revs_of out)) }
+        ensures refused { IfErr result (λ e. (e ≡ Refusal.OutOfMemory) ⊎ CantTake (told_of self.old) next e) }
+        ensures no_peer { IfErr result (λ e. e ≡ Refusal.PeerFailed → ⊥) }
+    {
+        match next {
+            DumpRecord::Identity(uuid) => {
+                if self.trees.len() == 1 && self.last.is_none() {
+                    self.uuid = Some(uuid);
+                }
+                Ok(None)
+            }
+            DumpRecord::Revision(number, props) => {
+                let closed = self.close()?;
+                self.begin(number, props);
+                Ok(closed)
+            }
+            DumpRecord::Node(node) => {
+                self.add_node(node)?;
+                Ok(None)
+            }
+        }
+    }
+
+    fn begin(&mut self, number: RevNo, props: Props)
+        ensures { told_of self.new ≡ record (told_of self.old) { last = Some (record { number = number; props = props; nodes = [] }) } }
+    {
+        let nodes = Vec::new(self.alloc);
+        self.last = Some(RevRecord {
+            number,
+            props,
+            nodes,
+        });
+    }
+
+    // A node record of no revision, or of revision 0, is WrongNumber (16).
+    fn add_node(&mut self, node: NodeRecord) -> Result<(), Refusal>
+        ensures taken { IfOk result (λ _. Takes (told_of self.old) (DumpRecord.Node node) (told_of self.new) []) }
+        ensures refused { IfErr result (λ e. (e ≡ Refusal.OutOfMemory) ⊎ CantTake (told_of self.old) (DumpRecord.Node node) e) }
+        ensures no_peer { IfErr result (λ e. e ≡ Refusal.PeerFailed → ⊥) }
+    {
+        if !self.is_past_zero() {
+            return Err(Refusal::WrongNumber);
+        }
+        let Some(mut revision) = self.last.take() else {
+            return Err(Refusal::WrongNumber);
+        };
+        match revision.nodes.push(node) {
+            Ok(()) => {
+                self.last = Some(revision);
+                Ok(())
+            }
+            Err(_) => Err(Refusal::OutOfMemory),
+        }
+    }
+
+    // Whether a revision other than 0 is read.
+    fn is_past_zero(&self) -> bool
+        ensures { result ≡ is_past_zero (told_of self.now).last }
+    {
+        match &self.last {
+            Some(revision) => revision.number != RevNo::ZERO,
+            None => false,
+        }
+    }
+
+    /// Judges the revision that is read, if there is one: its number, then its changes. Revision 0, before any other, gives its properties.
+    pub fn close(&mut self) -> Result<Option<RevRecord>, Refusal>
+        ensures closed { IfOk result (λ out. Closes (told_of self.old) (told_of self.new) (revs_of out)) }
+        ensures refused { IfErr result (λ e. (e ≡ Refusal.OutOfMemory) ⊎ CantClose (told_of self.old) e) }
+        ensures no_peer { IfErr result (λ e. e ≡ Refusal.PeerFailed → ⊥) }
+    {
+        let Some(revision) = self.last.take() else {
+            return Ok(None);
+        };
+        if is_zero(&self.trees, &revision) {
+            self.zero = revision.props;
+            return Ok(None);
+        }
+        let judged = self.add_revision(revision)?;
+        Ok(Some(judged))
+    }
+
+    // One tree more. The records come back in their canonical order.
+    fn add_revision(&mut self, revision: RevRecord) -> Result<RevRecord, Refusal>
+        ensures made { IfOk result (λ out. (set : List Change) × (tree : PathMap) × Makes self.old.trees.items (rev_of revision) set tree × (rev_of out ≡ by_set (rev_of revision) set) × (told_of self.new ≡ record (told_of self.old) { trees = self.old.trees.items ++ tree ∷ [] })) }
+        ensures refused { IfErr result (λ e. (e ≡ Refusal.OutOfMemory) ⊎ IsUnfit self.old.trees.items (rev_of revision) e) }
+        ensures no_peer { IfErr result (λ e. e ≡ Refusal.PeerFailed → ⊥) }
+    {
+        let RevRecord {
+            number,
+            props,
+            nodes,
+        } = revision;
+        if number.index() != self.trees.len() {
+            return Err(Refusal::WrongNumber);
+        }
+        let (set, tree) = match load_revision(self.alloc, &self.trees, number, nodes) {
+            Ok(loaded) => loaded,
+            Err(fault) => return Err(change_refusal(fault)),
+        };
+        let Ok(nodes) = set.to_records(self.alloc) else {
+            return Err(Refusal::OutOfMemory);
+        };
+        match self.trees.push(tree) {
+            Ok(()) => Ok(RevRecord {
+                number,
+                props,
+                nodes,
+            }),
+            Err(_) => Err(Refusal::OutOfMemory),
+        }
+    }
+
+    /// Whether a revision other than 0 has begun.
+    pub fn has_begun(&self) -> bool
+        ensures { result ≡ has_begun (told_of self.now) }
+    {
+        self.trees.len() != 1 || self.is_past_zero()
+    }
+
+    /// The identity, where the dump told one.
+    pub fn uuid(&self) -> Option<&Uuid>
+        ensures { now_of result ≡ (told_of self.now).identity }
+    {
+        self.uuid.as_ref()
+    }
+
+    /// Revision 0's properties.
+    pub fn zero(&self) -> &Props
+        ensures { result.now ≡ (told_of self.now).zero }
+    {
+        &self.zero
+    }
+
+    /// The trees of the revisions so far, revision 0's first.
+    pub fn trees(&self) -> &[Tree]
+        ensures { result.now ≡ (told_of self.now).trees }
+    {
+        self.trees.as_slice()
+    }
+}

@@ -1,0 +1,29 @@
+//! The engines of svnfleet's commands over any reader and writer.
+#![tactic(auto)]
+
+ghost use Rattle.fleet_engines.specs.Grouping.{RevisionsAreGrouped};
+ghost use Rattle.fleet_engines.specs.Pieces.{RecordsDontMatter};
+
+pub use commands::{run_canon, run_list};
+pub use lines::{push_node_line, push_path, write_fault};
+pub use product::Product;
+pub use stream::{Sink, Source};
+
+mod commands;
+mod engine;
+mod history;
+mod lines;
+mod listing;
+mod product;
+mod refusals;
+mod stream;
+
+/// What comes next of a stream doesn't depend on the records that are whole.
+pub fn records_dont_matter()
+    ensures { RecordsDontMatter }
+{}
+
+/// What is taken record by record is a list of revisions, each with its nodes, that make trees one after another.
+pub fn revisions_are_grouped()
+    ensures { RevisionsAreGrouped }
+{}

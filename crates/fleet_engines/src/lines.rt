@@ -1,0 +1,66 @@
+//! Lines that the program prints.
+ghost use Rattle.std.specs.Prelude.{◌≡◌, ◌++◌, ◌∷◌, map, OnOk, string_bytes};
+ghost use Rattle.std.specs.Io.KnownBytes.{Appends};
+ghost use Rattle.fleet_engines.specs.Listing.{node_line, shown_path};
+ghost use Rattle.node_base.specs.PathText.{path_text, slashed};
+ghost use Rattle.node_base.specs.Refusals.{fault_line};
+
+use node_base::{Node, NodeName, Refusal};
+use std::alloc::AllocError;
+use std::io;
+use std::io::Write;
+
+/// Adds a path as it is printed: its names with slashes between them, the root as a slash.
+pub fn push_path(line: &mut String, path: &[&NodeName]) -> Result<(), AllocError>
+    ensures { OnOk result (string_bytes line.new ≡ string_bytes line.old ++ shown_path (map (λ n. n.now) path.now)) }
+{
+    match path.split_first() {
+        Some((first, rest)) => push_names(line, *first, rest),
+        None => Ok(line.push_str("/")?),
+    }
+}
+
+// Adds a name, and others behind slashes.
+#[tactic(auto, using(node_base::proofs::TextLemmas::text_of_first))]
+fn push_names(line: &mut String, first: &NodeName, rest: &[&NodeName]) -> Result<(), AllocError>
+    ensures { OnOk result (string_bytes line.new ≡ string_bytes line.old ++ path_text (first.now ∷ map (λ n. n.now) rest.now)) }
+{
+    line.push_str(first.as_str())?;
+    push_rest(line, rest)
+}
+
+// Adds names, each behind a slash.
+fn push_rest(line: &mut String, names: &[&NodeName]) -> Result<(), AllocError>
+    ensures { OnOk result (string_bytes line.new ≡ string_bytes line.old ++ slashed (map (λ n. n.now) names.now)) }
+{
+    for name in names {
+        line.push_str("/")?;
+        line.push_str(name.as_str())?;
+    }
+    Ok(())
+}
+
+/// Adds a node's line of a listing.
+pub fn push_node_line(line: &mut String, path: &[&NodeName], node: &Node) -> Result<(), AllocError>
+    ensures { OnOk result (string_bytes line.new ≡ string_bytes line.old ++ node_line (map (λ n. n.now) path.now) node.now) }
+{
+    let changed = node.changed.get();
+    match &node.text {
+        Some(text) => {
+            let length = text.len();
+            write!(line, "F {changed} {length} ")?;
+        }
+        None => write!(line, "D {changed} ")?,
+    }
+    push_path(line, path)?;
+    line.push_str("\n")?;
+    Ok(())
+}
+
+/// Writes the line that tells a refusal: `svnfleet: NUMBER TEXT`.
+pub fn write_fault<W: Write>(errors: &mut W, refusal: &Refusal) -> io::Result<()>
+    ensures { OnOk result (Appends (W.contents errors.old) (W.contents errors.new) (fault_line refusal.now)) }
+{
+    let number = refusal.number();
+    writeln!(errors, "svnfleet: {number} {refusal}")
+}

@@ -1,0 +1,10 @@
+//! What is made of a dump.
+
+/// What is made of a dump that is read.
+#[derive(Clone, Copy, Debug, PartialEq, Eq)]
+pub enum Product {
+    /// The listing of its newest tree.
+    List,
+    /// Its canonical spelling.
+    Canon,
+}

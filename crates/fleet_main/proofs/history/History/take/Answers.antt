@@ -1,5 +1,0 @@
-use Rattle.fleet_main.specs.Histories.{told_of}
-use Rattle.fleet_main.proofs.history.History.take.Goals as goal
-
-pub returns-in_ok-closed-in-Revision-clause-taken : goal.returns-in_ok-closed-in-Revision-clause-taken
-returns-in_ok-closed-in-Revision-clause-taken c = rw c.in-Revision.is (told_of c.close.new.self, c.in_ok-closed-in-Revision.ensures.closed, c.begin.ensures)

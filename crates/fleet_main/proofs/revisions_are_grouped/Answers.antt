@@ -1,5 +1,0 @@
-use Rattle.fleet_main.proofs.Groups.{revisions_are_grouped}
-use Rattle.fleet_main.proofs.revisions_are_grouped.Goals as goal
-
-pub returns : goal.returns
-returns c = revisions_are_grouped
