@@ -1,5 +1,6 @@
 -- What the program tells where the words name no command.
 use Rattle.std.specs.Prelude.{◌≢◌}
+use Rattle.clap.specs.Kinds.{Kinds, IsAmong}
 use Rattle.clap.specs.declared.error.kind.ErrorKind.{ErrorKind}
 use Rattle.clap.specs.declared.error.kind.ErrorKind.TheVariants as kind
 use Rattle.fleet_main.specs.declared.command_line.Usage.{Usage}
@@ -14,3 +15,9 @@ abbrev pub IsUsageOf : ErrorKind → Usage → Type 0
 IsUsageOf k (Shown text) = (k ≢ kind.OutOfMemory) × (IsMistake k → ⊥)
 IsUsageOf k (Wrong text) = (k ≢ kind.OutOfMemory) × IsMistake k
 IsUsageOf k OutOfMemory = Unit {0}
+
+-- of words, by the kinds of error that they have
+abbrev pub IsUsageAt : Kinds → Usage → Type 0
+IsUsageAt kinds (Shown text) = (k : ErrorKind) × IsAmong k kinds × (IsMistake k → ⊥)
+IsUsageAt kinds (Wrong text) = (k : ErrorKind) × IsAmong k kinds × IsMistake k
+IsUsageAt kinds OutOfMemory = Unit {0}

@@ -1,10 +1,12 @@
 //! The command line.
-ghost use Rattle.std.specs.Prelude.{◌≡◌, ◌++◌, ℕ, List, IfOk, IfSome, Some, map, false, string_bytes, codes};
+ghost use Rattle.std.specs.Prelude.{◌≡◌, ◌++◌, ℕ, List, IfOk, IfErr, IfSome, Some, map, false, string_bytes, codes};
 ghost use Rattle.std.specs.Option.{option_map};
+ghost use Rattle.clap.specs.Faults.{fault_of};
+ghost use Rattle.clap.specs.Kinds.{FailsBy};
 ghost use Rattle.clap.specs.Values.{kind_of};
 ghost use Rattle.clap.specs.Words.{app_of, subcommand_of, subcommand_rows_of};
 ghost use Rattle.clap.specs.declared.builder.command.Command.TheViews.{out-Command as fields_of};
-ghost use Rattle.fleet_main.specs.Usages.{IsUsageOf};
+ghost use Rattle.fleet_main.specs.Usages.{IsUsageAt, IsUsageOf};
 ghost use Rattle.fleet_main.specs.Words.{canon_app, list_app, svnfleet_app, word_of};
 
 use clap::error::ErrorKind;
@@ -68,9 +70,11 @@ fn svnfleet<'a>(alloc: Global) -> Result<clap::Command<'a>, AllocError>
     Ok(whole)
 }
 
-/// The command that the words name, the program's name first. Usage where they name none.
+/// The command that the words name, the program's name first. Usage where they name none: help or the version only where it was
+/// asked for, and else what is wrong.
 pub fn plan(alloc: Global, words: &[String]) -> Result<Command, Usage>
-    ensures { IfOk result (λ c. option_map (λ p. p.0) (subcommand_of svnfleet_app (map string_bytes words.now)) ≡ Some (word_of c)) }
+    ensures usage { IfErr result (IsUsageAt (fault_of svnfleet_app (map string_bytes words.now))) }
+    ensures named { IfOk result (λ c. option_map (λ p. p.0) (subcommand_of svnfleet_app (map string_bytes words.now)) ≡ Some (word_of c)) }
 {
     match matches_of(alloc, words) {
         Ok(matches) => match named(&matches) {
@@ -83,7 +87,8 @@ pub fn plan(alloc: Global, words: &[String]) -> Result<Command, Usage>
 
 // What clap reads in the words.
 fn matches_of<'a>(alloc: Global, words: &'a [String]) -> Result<ArgMatches<'a>, Error>
-    ensures { IfOk result (λ m. subcommand_rows_of m ≡ subcommand_of svnfleet_app (map string_bytes words.now)) }
+    ensures found { IfOk result (λ m. subcommand_rows_of m ≡ subcommand_of svnfleet_app (map string_bytes words.now)) }
+    ensures kinds { FailsBy (fault_of svnfleet_app (map string_bytes words.now)) result }
 {
     let top = svnfleet(alloc)?;
     top.try_get_matches_from(words)
