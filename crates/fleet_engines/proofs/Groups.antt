@@ -11,6 +11,7 @@ use Rattle.dump_text.specs.declared.record.DumpRecord.{DumpRecord}
 use Rattle.dump_text.specs.declared.record.DumpRecord.TheVariants.{Identity, Revision, Node}
 use Rattle.fleet_engines.specs.Grouping.{is_no_identity, records_of_rev, AreZero, zero_of, MakeTrees, RevisionsAreGrouped}
 use Rattle.fleet_engines.specs.Revisions.{Rev, Told, untold, is_lone, is_past_zero, no_revision, revision_0, a_revision, Closes, Tells}
+use Rattle.fleet_engines.proofs.Identities.{identity_told}
 use Rattle.fleet_engines.proofs.Telling.{takes_count}
 
 plain : List DumpRecord → List DumpRecord
@@ -194,4 +195,4 @@ pub revisions_are_grouped : RevisionsAreGrouped
 unfolding pending plain
 revisions_are_grouped rs t all out newest p c =
     let g = groups rs untold t all out newest 0 quiet_none refl p c in
-    record { zeros = g.zeros; revisions = g.revisions; records = g.records; entries = g.entries; props = g.props; trees = g.made }
+    record { zeros = g.zeros; revisions = g.revisions; records = g.records; identity = identity_told rs t all out newest p c; entries = g.entries; props = g.props; trees = g.made }

@@ -3,6 +3,7 @@ pub mod Due
 pub mod Ending
 pub mod Feeding
 pub mod Groups
+pub mod Identities
 pub mod Streaming
 pub mod Taking
 pub mod Telling

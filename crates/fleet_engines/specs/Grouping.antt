@@ -1,5 +1,5 @@
 -- A stream's records as revisions, whatever the order of taking.
-use Rattle.std.specs.Prelude.{◌≡◌, Bool, true, false, List, [], ◌∷◌, ◌++◌, map}
+use Rattle.std.specs.Prelude.{◌≡◌, ℕ, Bool, true, false, List, [], ◌∷◌, ◌++◌, map, Option, Some, None}
 use Rattle.std.specs.List.{filter, flat_map}
 use Rattle.std.specs.FinMap as finite
 use Rattle.node_base.specs.Props.{PropMap}
@@ -12,6 +12,12 @@ use Rattle.fleet_engines.specs.Revisions.{Rev, Told, root_alone, untold, by_set,
 abbrev pub is_no_identity : DumpRecord → Bool
 is_no_identity (Identity id) = false
 is_no_identity r = true
+
+-- the last identity before the first other record
+abbrev pub identity_of : Option (List ℕ) → List DumpRecord → Option (List ℕ)
+identity_of known [] = known
+identity_of known (Identity id ∷ rs) = identity_of (Some id) rs
+identity_of known (r ∷ rs) = known
 
 -- a revision's record, and one for each of its nodes
 abbrev pub records_of_rev : Rev → List DumpRecord
@@ -32,11 +38,12 @@ abbrev pub MakeTrees : List PathMap → List Rev → List PathMap → List Rev �
 MakeTrees trees [] all out = (all ≡ trees) × (out ≡ [])
 MakeTrees trees (r ∷ rs) all out = (set : List Change) × (tree : PathMap) × (rest : List Rev) × Makes trees r set tree × MakeTrees (trees ++ tree ∷ []) rs all rest × (out ≡ by_set r set ∷ rest)
 
--- apart from identities, records are entries of revision 0 and then the revisions, each followed by its nodes
+-- apart from identities, records are entries of revision 0 and then the revisions, each followed by its nodes; the identity is the last one before them
 pub record Grouped (rs : List DumpRecord) (all : Told) (out : List Rev) : Type 0 where
   pub zeros : List Rev
   pub revisions : List Rev
   pub records : filter is_no_identity rs ≡ flat_map records_of_rev (zeros ++ revisions)
+  pub identity : all.identity ≡ identity_of None rs
   pub entries : AreZero zeros
   pub props : all.zero ≡ zero_of finite.empty zeros
   pub trees : MakeTrees (root_alone ∷ []) revisions all.trees out

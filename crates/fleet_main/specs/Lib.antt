@@ -1,1 +1,2 @@
+pub mod Usages
 pub mod Words

@@ -1,8 +1,10 @@
 //! The command line.
-ghost use Rattle.std.specs.Prelude.{◌≡◌, IfOk, IfSome, Some, map, false, string_bytes};
+ghost use Rattle.std.specs.Prelude.{◌≡◌, ◌++◌, ℕ, List, IfOk, IfSome, Some, map, false, string_bytes, codes};
 ghost use Rattle.std.specs.Option.{option_map};
+ghost use Rattle.clap.specs.Values.{kind_of};
 ghost use Rattle.clap.specs.Words.{app_of, subcommand_of, subcommand_rows_of};
 ghost use Rattle.clap.specs.declared.builder.command.Command.TheViews.{out-Command as fields_of};
+ghost use Rattle.fleet_main.specs.Usages.{IsUsageOf};
 ghost use Rattle.fleet_main.specs.Words.{canon_app, list_app, svnfleet_app, word_of};
 
 use clap::error::ErrorKind;
@@ -97,7 +99,10 @@ fn named(matches: &ArgMatches<'_>) -> Option<Command>
     }
 }
 
-fn usage_of(alloc: Global, error: &Error) -> Usage {
+// What the program tells of an error.
+fn usage_of(alloc: Global, error: &Error) -> Usage
+    ensures { IsUsageOf (kind_of error.now) result }
+{
     if error.kind() == ErrorKind::OutOfMemory {
         return Usage::OutOfMemory;
     }
@@ -114,7 +119,9 @@ fn usage_of(alloc: Global, error: &Error) -> Usage {
 }
 
 // What clap finds wrong, without its further lines.
-fn one_line(alloc: Global, text: &str) -> Result<String, AllocError> {
+fn one_line(alloc: Global, text: &str) -> Result<String, AllocError>
+    ensures { IfOk result (λ line. (wrong : List ℕ) × (string_bytes line ≡ codes "svnfleet: " ++ (wrong ++ codes " (svnfleet --help tells more)"))) }
+{
     let first = match text.lines().next() {
         Some(line) => line,
         None => text,
