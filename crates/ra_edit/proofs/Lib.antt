@@ -3,3 +3,5 @@ mod Runs
 mod Spelled
 mod Standing
 mod Written
+pub mod Streaming
+pub mod ByteFaults

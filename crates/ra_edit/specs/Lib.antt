@@ -5,3 +5,6 @@ pub mod Laws
 pub mod Reading
 pub mod Spelling
 pub mod Streams
+pub mod EditFaults
+pub mod Rests
+pub mod ItemStreams

@@ -6,10 +6,12 @@
 //! [`writer`] writes the one spelling.
 #![tactic(auto)]
 
+pub mod edit_fault;
 pub mod fault;
 pub mod law;
 pub mod reader;
 mod reading;
+pub mod stream;
 #[cfg(test)]
 mod tests;
 pub mod writer;
