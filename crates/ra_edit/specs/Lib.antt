@@ -1,3 +1,5 @@
+pub mod Commands
+pub mod Edits
 pub mod Faults
 pub mod Grammar
 pub mod Groups
