@@ -5,3 +5,5 @@ mod Standing
 mod Written
 pub mod Streaming
 pub mod ByteFaults
+pub mod Receiving
+pub mod Steps

@@ -10,3 +10,5 @@ pub mod Streams
 pub mod EditFaults
 pub mod Rests
 pub mod ItemStreams
+pub mod Receiving
+pub mod Edit

@@ -11,7 +11,12 @@ pub mod fault;
 pub mod law;
 pub mod reader;
 mod reading;
+pub mod receive;
+pub mod receive_command;
+mod receive_edit;
 pub mod stream;
+#[cfg(test)]
+mod receive_tests;
 #[cfg(test)]
 mod tests;
 pub mod writer;

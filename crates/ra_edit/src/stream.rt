@@ -142,6 +142,15 @@ impl<R: Read + Drop> ItemStream<R> {
         self.rest = Rest::Spent;
     }
 
+    /// Makes no further read, and counts that as a failed one.
+    pub fn give_up(&mut self) -> EditFault
+        ensures failed { has_failed self.new ≡ true }
+        ensures peer { result ≡ edit.PeerFailed }
+    {
+        self.source.failed = true;
+        EditFault::PeerFailed
+    }
+
     // Reads until an item is ready, or to the end between items, which answers false.
     fn fill(&mut self) -> Result<bool, EditFault>
         ensures fills { Fills R.remaining self.old self.new result }
