@@ -1,6 +1,8 @@
 -- Where the commands of a drive stand, and what was given of an open file's text.
-use Rattle.std.specs.Prelude.{◌≡◌, ℕ, List, [], ◌∷◌, ◌++◌, map, reverse, Option, Some, None}
+use Rattle.std.specs.Prelude.{◌≡◌, ℕ, Bool, true, false, List, [], ◌∷◌, ◌++◌, map, reverse, Option, Some, None}
 use Rattle.md5.specs.Md5.{Holds, md5}
+use Rattle.ra_edit.specs.Reading.{is_between}
+use Rattle.ra_edit.specs.declared.reading.Reading.{Reading}
 use Rattle.ra_item.specs.Items.{Item}
 use Rattle.node_base.specs.Path.{Path}
 use Rattle.delta_editor.specs.Calls.{Adds}
@@ -46,3 +48,34 @@ pub record Moves {E : Type 0} (shows : E → List Call → Type 0) (old new : E)
   pub says : Says at item calls to
   pub shown : Adds shows old new calls
   pub now : stands to
+
+-- before the root
+abbrev pub is_unopened : Stage → Bool
+is_unopened stage.Begun = true
+is_unopened stage.Targeted = true
+is_unopened stage.Inside = false
+is_unopened (stage.Announced root) = false
+
+-- whether the root was opened
+abbrev pub has_root : Stage → Bool
+has_root stage.Begun = false
+has_root stage.Targeted = false
+has_root stage.Inside = true
+has_root (stage.Announced root) = root
+
+-- a text has ended with this sum
+abbrev pub TextEnds : Given → List ℕ → Type 0
+TextEnds g sum = (held : Held) → GivenIs g held → (text : List ℕ) × (r : Reading) × (held ≡ Within text r) × (is_between r ≡ true) × (sum ≡ md5 text)
+
+-- the sum that came with a text's end is the text's, where there is one
+abbrev pub SumIs : Given → Option (List ℕ) → Type 0
+SumIs given.Nothing sum = Unit {0}
+SumIs (given.Begun r s) sum = ⊥
+SumIs (given.Whole found) sum = (s : List ℕ) → sum ≡ Some s → s ≡ found
+
+-- whether the end was announced
+abbrev pub is_announced : Stage → Bool
+is_announced stage.Begun = false
+is_announced stage.Targeted = false
+is_announced stage.Inside = false
+is_announced (stage.Announced root) = true

@@ -14,9 +14,9 @@ mod reading;
 pub mod receive;
 pub mod receive_command;
 mod receive_edit;
-pub mod stream;
 #[cfg(test)]
 mod receive_tests;
+pub mod stream;
 #[cfg(test)]
 mod tests;
 pub mod writer;

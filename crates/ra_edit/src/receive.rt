@@ -1,5 +1,8 @@
 //! An edit from its items.
 
+ghost use Rattle.std.specs.Prelude.{◌≡◌, OnErr, true};
+ghost use Rattle.ra_edit.specs.ItemStreams.{is_spent};
+
 use crate::edit_fault::EditFault;
 use crate::receive_command::Command;
 use crate::receive_edit::Edit;
@@ -19,7 +22,9 @@ pub fn receive<R: Read + Drop, E: Editor>(
     alloc: Global,
     items: &mut ItemStream<R>,
     editor: E,
-) -> Result<E::Done, EditFault> {
+) -> Result<E::Done, EditFault>
+    ensures { OnErr result (is_spent items.new ≡ true) }
+{
     let mut edit = Edit::new(alloc, editor);
     if let Err(fault) = take_commands(alloc, items, &mut edit) {
         edit.abort();
@@ -40,7 +45,8 @@ fn take_commands<R: Read + Drop, E: Editor>(
     alloc: Global,
     items: &mut ItemStream<R>,
     edit: &mut Edit<E>,
-) -> Result<(), EditFault> {
+) -> Result<(), EditFault>
+{
     for _ in 0..u64::MAX {
         let Some(item) = items.next()? else {
             return Err(EditFault::BadShape);

@@ -12,7 +12,7 @@ ghost use Rattle.delta_editor.specs.declared.call.Call.TheVariants as call;
 ghost use Rattle.ra_edit.specs.Streams.{reading, Reads};
 ghost use Rattle.ra_edit.specs.Edits.{At, Begun, is_free, last_calls, Within};
 ghost use Rattle.ra_edit.specs.Receiving.{Forms};
-ghost use Rattle.ra_edit.specs.Edit.{Stands, Moves, dirs_named};
+ghost use Rattle.ra_edit.specs.Edit.{Stands, Moves, dirs_named, is_unopened, is_announced, has_root, TextEnds, SumIs};
 ghost use Rattle.ra_edit.specs.declared.receive_command.Command.TheVariants as command;
 ghost use Rattle.ra_edit.specs.declared.receive_edit.Given.TheVariants as given;
 
@@ -97,7 +97,7 @@ impl<E: Editor> Edit<E> {
 
     /// Does what a command says; `finish-replay` answers true, and nothing is done for it yet.
     pub fn step(&mut self, command: Command) -> Result<bool, EditFault> {
-        if let Stage::Announced(_) = self.stage {
+        if self.is_announced() {
             return match command {
                 Command::Finish => Ok(true),
                 Command::Abort => Err(EditFault::Refused),
@@ -127,6 +127,7 @@ impl<E: Editor> Edit<E> {
     }
 
     fn target(&mut self, rev: RevNo) -> Result<(), EditFault>
+        ensures moved { OnOk result ((at : At) (item : Item) → Forms (command.Target rev) item → Stands E.dir_path E.file_path self.old.stage self.old.dirs.items self.old.file at → Moves E.shows self.old.editor self.new.editor item at (Stands E.dir_path E.file_path self.new.stage self.new.dirs.items self.new.file)) }
     {
         let Stage::Begun = self.stage else {
             return Err(EditFault::BadShape);
@@ -136,11 +137,31 @@ impl<E: Editor> Edit<E> {
         Ok(())
     }
 
-    fn open_root(&mut self, base: Option<RevNo>, token: Vec<u8>) -> Result<(), EditFault>
+    // Whether the end was announced.
+    fn is_announced(&self) -> bool
+        ensures { result ≡ is_announced self.now.stage }
     {
         match self.stage {
-            Stage::Begun | Stage::Targeted => {}
-            Stage::Inside | Stage::Announced(_) => return Err(EditFault::BadShape),
+            Stage::Announced(_) => true,
+            Stage::Begun | Stage::Targeted | Stage::Inside => false,
+        }
+    }
+
+    // Whether the root wasn't opened, nor an end announced.
+    fn is_unopened(&self) -> bool
+        ensures { result ≡ is_unopened self.now.stage }
+    {
+        match self.stage {
+            Stage::Begun | Stage::Targeted => true,
+            Stage::Inside | Stage::Announced(_) => false,
+        }
+    }
+
+    fn open_root(&mut self, base: Option<RevNo>, token: Vec<u8>) -> Result<(), EditFault>
+        ensures moved { OnOk result ((at : At) (item : Item) → Forms (command.OpenRoot base token) item → Stands E.dir_path E.file_path self.old.stage self.old.dirs.items self.old.file at → Moves E.shows self.old.editor self.new.editor item at (Stands E.dir_path E.file_path self.new.stage self.new.dirs.items self.new.file)) }
+    {
+        if !self.is_unopened() {
+            return Err(EditFault::BadShape);
         }
         self.dirs.reserve(1)?;
         let baton = self.editor.open_root(base)?;
@@ -174,7 +195,9 @@ impl<E: Editor> Edit<E> {
     }
 
     // Whether nothing that is open has the token.
-    fn is_free(&self, token: &[u8]) -> bool {
+    fn is_free(&self, token: &[u8]) -> bool
+        ensures { result ≡ true → is_free token.now (dirs_named E.dir_path self.now.dirs.items) ≡ true }
+    {
         for dir in self.dirs.iter() {
             if is_same(dir.token.as_slice(), token) {
                 return false;
@@ -186,6 +209,7 @@ impl<E: Editor> Edit<E> {
     // Room for one more, by a token that isn't in use, in the innermost open thing, which is a directory with this token.
     fn take_parent(&mut self, up: &[u8], token: &[u8]) -> Result<OpenDir<E::Dir>, EditFault>
         ensures taken { IfOk result (λ d. (self.old.dirs.items ≡ self.new.dirs.items ++ d ∷ []) × (d.token.items ≡ up.now) × (self.old.file ≡ None)) }
+        ensures free { OnOk result (is_free token.now (dirs_named E.dir_path self.old.dirs.items) ≡ true) }
         ensures room { OnOk result (vec_len self.new.dirs + 2 ≤ vec_capacity self.new.dirs) }
         ensures file { self.new.file ≡ self.old.file }
         ensures editor { self.new.editor ≡ self.old.editor }
@@ -204,6 +228,7 @@ impl<E: Editor> Edit<E> {
         base: Option<RevNo>,
         up: Vec<u8>,
     ) -> Result<(), EditFault>
+        ensures moved { OnOk result ((at : At) (item : Item) → Forms (command.DeleteEntry path base up) item → Stands E.dir_path E.file_path self.old.stage self.old.dirs.items self.old.file at → Moves E.shows self.old.editor self.new.editor item at (Stands E.dir_path E.file_path self.new.stage self.new.dirs.items self.new.file)) }
     {
         let mut dir = self.take_innermost(up.as_slice())?;
         let done = self.editor.delete_entry(&mut dir.baton, &path, base);
@@ -219,6 +244,7 @@ impl<E: Editor> Edit<E> {
         token: Vec<u8>,
         from: Option<Source>,
     ) -> Result<(), EditFault>
+        ensures moved { OnOk result ((at : At) (item : Item) → Forms (command.AddDir path up token from) item → Stands E.dir_path E.file_path self.old.stage self.old.dirs.items self.old.file at → Moves E.shows self.old.editor self.new.editor item at (Stands E.dir_path E.file_path self.new.stage self.new.dirs.items self.new.file)) }
     {
         let mut dir = self.take_parent(up.as_slice(), token.as_slice())?;
         let done = self.editor.add_dir(&mut dir.baton, &path, from.as_ref());
@@ -235,6 +261,7 @@ impl<E: Editor> Edit<E> {
         token: Vec<u8>,
         base: Option<RevNo>,
     ) -> Result<(), EditFault>
+        ensures moved { OnOk result ((at : At) (item : Item) → Forms (command.OpenDir path up token base) item → Stands E.dir_path E.file_path self.old.stage self.old.dirs.items self.old.file at → Moves E.shows self.old.editor self.new.editor item at (Stands E.dir_path E.file_path self.new.stage self.new.dirs.items self.new.file)) }
     {
         let mut dir = self.take_parent(up.as_slice(), token.as_slice())?;
         let done = self.editor.open_dir(&mut dir.baton, &path, base);
@@ -261,8 +288,7 @@ impl<E: Editor> Edit<E> {
         token: Vec<u8>,
         name: PropName,
         value: Option<Vec<u8>>,
-    ) -> Result<(), EditFault>
-    {
+    ) -> Result<(), EditFault> {
         let at = self.find(token.as_slice())?;
         let dir = &mut self.dirs[at];
         self.editor
@@ -271,6 +297,7 @@ impl<E: Editor> Edit<E> {
     }
 
     fn close_dir(&mut self, token: Vec<u8>) -> Result<(), EditFault>
+        ensures moved { OnOk result ((at : At) (item : Item) → Forms (command.CloseDir token) item → Stands E.dir_path E.file_path self.old.stage self.old.dirs.items self.old.file at → Moves E.shows self.old.editor self.new.editor item at (Stands E.dir_path E.file_path self.new.stage self.new.dirs.items self.new.file)) }
     {
         let OpenDir { token: _, baton } = self.take_innermost(token.as_slice())?;
         self.editor.close_dir(baton)?;
@@ -284,6 +311,7 @@ impl<E: Editor> Edit<E> {
         token: Vec<u8>,
         from: Option<Source>,
     ) -> Result<(), EditFault>
+        ensures moved { OnOk result ((at : At) (item : Item) → Forms (command.AddFile path up token from) item → Stands E.dir_path E.file_path self.old.stage self.old.dirs.items self.old.file at → Moves E.shows self.old.editor self.new.editor item at (Stands E.dir_path E.file_path self.new.stage self.new.dirs.items self.new.file)) }
     {
         let mut dir = self.take_parent(up.as_slice(), token.as_slice())?;
         let done = self.editor.add_file(&mut dir.baton, &path, from.as_ref());
@@ -300,6 +328,7 @@ impl<E: Editor> Edit<E> {
         token: Vec<u8>,
         base: Option<RevNo>,
     ) -> Result<(), EditFault>
+        ensures moved { OnOk result ((at : At) (item : Item) → Forms (command.OpenFile path up token base) item → Stands E.dir_path E.file_path self.old.stage self.old.dirs.items self.old.file at → Moves E.shows self.old.editor self.new.editor item at (Stands E.dir_path E.file_path self.new.stage self.new.dirs.items self.new.file)) }
     {
         let mut dir = self.take_parent(up.as_slice(), token.as_slice())?;
         let done = self.editor.open_file(&mut dir.baton, &path, base);
@@ -373,7 +402,14 @@ impl<E: Editor> Edit<E> {
         let Given::Begun(reader, sum) = &mut file.given else {
             return Err(EditFault::BadShape);
         };
-        take_chunk(&mut self.editor, &mut file.baton, reader, sum, bytes.as_slice())
+        take_chunk(
+            &mut self.editor,
+            &mut file.baton,
+            reader,
+            sum,
+            bytes.as_slice(),
+        )?;
+        Ok(())
     }
 
     fn text_end(&mut self, token: Vec<u8>) -> Result<(), EditFault>
@@ -384,65 +420,74 @@ impl<E: Editor> Edit<E> {
         if !is_same(file.token.as_slice(), token.as_slice()) {
             return Err(EditFault::BadToken);
         }
-        match mem::replace(&mut file.given, Given::Nothing) {
-            Given::Begun(reader, sum) => {
-                reader.finish()?;
-                self.editor.text_end(&mut file.baton)?;
-                file.given = Given::Whole(sum.finalize());
-                Ok(())
-            }
-            Given::Nothing | Given::Whole(_) => Err(EditFault::BadShape),
-        }
+        let sum = end_text(&mut file.given)?;
+        self.editor.text_end(&mut file.baton)?;
+        file.given = Given::Whole(sum);
+        Ok(())
     }
 
     fn close_file(&mut self, token: Vec<u8>, sum: Option<[u8; 16]>) -> Result<(), EditFault>
+        ensures moved { OnOk result ((at : At) (item : Item) → Forms (command.CloseFile token sum) item → Stands E.dir_path E.file_path self.old.stage self.old.dirs.items self.old.file at → Moves E.shows self.old.editor self.new.editor item at (Stands E.dir_path E.file_path self.new.stage self.new.dirs.items self.new.file)) }
+    {
+        let OpenFile {
+            token: _,
+            baton,
+            given: _,
+        } = self.take_file(token.as_slice(), sum)?;
+        self.editor.close_file(baton, sum)?;
+        Ok(())
+    }
+
+    // Takes the open file, which has this token, and this sum where there is one and a text came.
+    fn take_file(
+        &mut self,
+        token: &[u8],
+        sum: Option<[u8; 16]>,
+    ) -> Result<OpenFile<E::File>, EditFault>
+        ensures taken { IfOk result (λ f. (self.old.file ≡ Some f) × (f.token.items ≡ token.now) × SumIs f.given sum) }
+        ensures none { OnOk result (self.new.file ≡ None) }
+        ensures dirs { self.new.dirs ≡ self.old.dirs }
+        ensures editor { self.new.editor ≡ self.old.editor }
+        ensures stage { self.new.stage ≡ self.old.stage }
     {
         let Some(file) = &self.file else {
             return Err(EditFault::BadToken);
         };
-        if !is_same(file.token.as_slice(), token.as_slice()) {
+        if !is_same(file.token.as_slice(), token) {
             return Err(EditFault::BadToken);
         }
-        match &file.given {
-            Given::Nothing => {}
-            Given::Begun(..) => return Err(EditFault::BadShape),
-            Given::Whole(found) => {
-                if let Some(wanted) = &sum
-                    && wanted != found
-                {
-                    return Err(EditFault::BadSum);
-                }
-            }
-        }
+        check_sum(&file.given, sum)?;
         match self.file.take() {
-            Some(OpenFile {
-                token: _,
-                baton,
-                given: _,
-            }) => {
-                self.editor.close_file(baton, sum)?;
-                Ok(())
-            }
+            Some(file) => Ok(file),
             None => Err(EditFault::BadToken),
         }
     }
 
     // Whether nothing is open.
-    fn is_closed(&self) -> bool {
+    fn is_closed(&self) -> bool
+        ensures { result ≡ true → (self.now.dirs.items ≡ []) × (self.now.file ≡ None) }
+    {
         self.file.is_none() && self.dirs.is_empty()
     }
 
     fn close_edit(&mut self) -> Result<(), EditFault>
+        ensures moved { OnOk result ((at : At) (item : Item) → Forms (command.CloseEdit) item → Stands E.dir_path E.file_path self.old.stage self.old.dirs.items self.old.file at → Moves E.shows self.old.editor self.new.editor item at (Stands E.dir_path E.file_path self.new.stage self.new.dirs.items self.new.file)) }
     {
+        if self.is_announced() {
+            return Err(EditFault::BadShape);
+        }
         if !self.is_closed() {
             return Err(EditFault::BadToken);
         }
-        self.stage = Stage::Announced(self.has_root());
+        let root = self.has_root();
+        self.stage = Stage::Announced(root);
         Ok(())
     }
 
     // Whether the root was opened.
-    fn has_root(&self) -> bool {
+    fn has_root(&self) -> bool
+        ensures { result ≡ has_root self.now.stage }
+    {
         match self.stage {
             Stage::Begun | Stage::Targeted => false,
             Stage::Inside => true,
@@ -481,11 +526,13 @@ impl<E: Editor> Edit<E> {
         } = self;
         let mut editor = editor;
         let mut dirs = dirs;
-        if let Some(OpenFile {
-            token: _,
-            baton,
-            given: _,
-        }) = file
+        if let Some(
+            OpenFile {
+                token: _,
+                baton,
+                given: _,
+            },
+        ) = file
         {
             editor.discard_file(baton);
         }
@@ -513,6 +560,52 @@ fn show_root<E: Editor>(editor: &mut E) -> Result<(), EditorFault> {
     editor.close_dir(root)
 }
 
+// The MD5 of a text that ends between windows.
+fn end_text(given: &mut Given) -> Result<[u8; 16], EditFault>
+    ensures { IfOk result (λ sum. TextEnds given.old sum) }
+{
+    match mem::replace(given, Given::Nothing) {
+        Given::Begun(reader, sum) => {
+            reader.finish()?;
+            Ok(sum.finalize())
+        }
+        Given::Nothing | Given::Whole(_) => Err(EditFault::BadShape),
+    }
+}
+
+// The sum that came is that of the text, where both are there.
+fn check_sum(given: &Given, sum: Option<[u8; 16]>) -> Result<(), EditFault>
+    ensures { OnOk result (SumIs given.now sum) }
+{
+    match given {
+        Given::Nothing => Ok(()),
+        Given::Begun(..) => Err(EditFault::BadShape),
+        Given::Whole(found) => match sum {
+            Some(wanted) if wanted != *found => Err(EditFault::BadSum),
+            Some(_) | None => Ok(()),
+        },
+    }
+}
+
+// Hands on new data, if there is some, and sums it.
+fn take_stretch<E: Editor>(
+    editor: &mut E,
+    file: &mut E::File,
+    sum: &mut Md5,
+    bytes: &[u8],
+) -> Result<(), EditFault>
+    ensures pieces { OnOk result ((pieces : List (List ℕ)) × (concat pieces ≡ bytes.now) × Adds E.shows editor.old editor.new (map (call.TextPiece (E.file_path file.old)) pieces)) }
+    ensures sum { OnOk result ((text : List ℕ) → Holds sum.old text → Holds sum.new (text ++ bytes.now)) }
+    ensures file { OnOk result (E.file_path file.new ≡ E.file_path file.old) }
+{
+    if bytes.is_empty() {
+        return Ok(());
+    }
+    editor.text_piece(file, bytes)?;
+    sum.update(bytes);
+    Ok(())
+}
+
 // Hands on the new data in bytes of a text, and sums it.
 fn take_chunk<E: Editor>(
     editor: &mut E,
@@ -520,14 +613,13 @@ fn take_chunk<E: Editor>(
     reader: &mut WindowReader,
     sum: &mut Md5,
     bytes: &[u8],
-) -> Result<(), EditFault> {
+) -> Result<(), EditFault>
+    ensures file { OnOk result (E.file_path file.new ≡ E.file_path file.old) }
+{
     let mut rest = bytes;
     while !rest.is_empty() {
         let stretch = reader.next(rest)?;
-        if !stretch.bytes.is_empty() {
-            editor.text_piece(file, stretch.bytes)?;
-            sum.update(stretch.bytes);
-        }
+        take_stretch(editor, file, sum, stretch.bytes)?;
         rest = stretch.rest;
     }
     Ok(())
