@@ -7,3 +7,6 @@ pub mod Laws
 pub mod Reading
 pub mod Spelling
 pub mod Streams
+pub mod Tokens
+pub mod Wire
+pub mod Written

@@ -6,10 +6,15 @@
 //! [`writer`] writes the one spelling.
 #![tactic(auto)]
 
+mod command;
 pub mod fault;
 pub mod law;
 pub mod reader;
 mod reading;
 #[cfg(test)]
 mod tests;
+mod token;
+pub mod wire;
+#[cfg(test)]
+mod wire_tests;
 pub mod writer;
