@@ -1,7 +1,9 @@
+mod Chunks
 mod Read
 mod Runs
 mod Spelled
 mod Standing
+mod Told
 mod Written
 pub mod Streaming
 pub mod ByteFaults

@@ -12,3 +12,6 @@ pub mod Rests
 pub mod ItemStreams
 pub mod Receiving
 pub mod Edit
+pub mod Tokens
+pub mod Wire
+pub mod Written

@@ -6,6 +6,7 @@
 //! [`writer`] writes the one spelling.
 #![tactic(auto)]
 
+mod command;
 pub mod edit_fault;
 pub mod fault;
 pub mod law;
@@ -19,4 +20,8 @@ mod receive_tests;
 pub mod stream;
 #[cfg(test)]
 mod tests;
+mod token;
+pub mod wire;
+#[cfg(test)]
+mod wire_tests;
 pub mod writer;
