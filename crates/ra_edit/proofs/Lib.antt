@@ -1,4 +1,6 @@
 mod Chunks
+mod EditRead
+mod EditSays
 mod Read
 mod Runs
 mod Spelled

@@ -242,17 +242,17 @@ other_length d k h = grind arith
 chosen_other : (d k n m : ℕ) → nat_lt d k ≡ true → (if nat_eq d k then n else m) ≡ m
 chosen_other d k n m h = ap (λ b. if b then n else m) (other_length d k h)
 
-not_true_false : (b : Bool) → (b ≡ true → ⊥) → b ≡ false
+pub not_true_false : (b : Bool) → (b ≡ true → ⊥) → b ≡ false
 not_true_false true h = absurd (h refl)
 not_true_false false h = refl
 
-shorter_other : (p q : Path) → nat_lt (length q) (length p) ≡ true → same_path p q ≡ false
+pub shorter_other : (p q : Path) → nat_lt (length q) (length p) ≡ true → same_path p q ≡ false
 shorter_other p q h = not_true_false (same_path p q) (λ e. below (length q) (length p) h (ap length (path_of_same p q e)))
   where
     below : (a b : ℕ) → nat_lt a b ≡ true → b ≡ a → ⊥
     below a b k e = grind arith
 
-both : (a b : Bool) → (a && b) ≡ true → (a ≡ true) × (b ≡ true)
+pub both : (a b : Bool) → (a && b) ≡ true → (a ≡ true) × (b ≡ true)
 both true b e = (refl, e)
 both false b e = cc
 

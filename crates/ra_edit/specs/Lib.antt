@@ -1,4 +1,5 @@
 pub mod Commands
+pub mod EditLaws
 pub mod Edits
 pub mod Faults
 pub mod Grammar
