@@ -45,8 +45,7 @@ fn take_commands<R: Read + Drop, E: Editor>(
     alloc: Global,
     items: &mut ItemStream<R>,
     edit: &mut Edit<E>,
-) -> Result<(), EditFault>
-{
+) -> Result<(), EditFault> {
     for _ in 0..u64::MAX {
         let Some(item) = items.next()? else {
             return Err(EditFault::BadShape);

@@ -362,8 +362,7 @@ impl<E: Editor> Edit<E> {
         token: Vec<u8>,
         name: PropName,
         value: Option<Vec<u8>>,
-    ) -> Result<(), EditFault>
-    {
+    ) -> Result<(), EditFault> {
         let Some(file) = &mut self.file else {
             return Err(EditFault::BadToken);
         };
@@ -375,8 +374,7 @@ impl<E: Editor> Edit<E> {
         Ok(())
     }
 
-    fn text_start(&mut self, token: Vec<u8>) -> Result<(), EditFault>
-    {
+    fn text_start(&mut self, token: Vec<u8>) -> Result<(), EditFault> {
         let Some(file) = &mut self.file else {
             return Err(EditFault::BadToken);
         };
@@ -391,8 +389,7 @@ impl<E: Editor> Edit<E> {
         Ok(())
     }
 
-    fn chunk(&mut self, token: Vec<u8>, bytes: Vec<u8>) -> Result<(), EditFault>
-    {
+    fn chunk(&mut self, token: Vec<u8>, bytes: Vec<u8>) -> Result<(), EditFault> {
         let Some(file) = &mut self.file else {
             return Err(EditFault::BadToken);
         };
@@ -412,8 +409,7 @@ impl<E: Editor> Edit<E> {
         Ok(())
     }
 
-    fn text_end(&mut self, token: Vec<u8>) -> Result<(), EditFault>
-    {
+    fn text_end(&mut self, token: Vec<u8>) -> Result<(), EditFault> {
         let Some(file) = &mut self.file else {
             return Err(EditFault::BadToken);
         };
