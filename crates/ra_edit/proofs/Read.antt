@@ -210,7 +210,7 @@ regroup a b c d e f g more =
     ∙ ap (λ t. e ++ t) (append_assoc f g more)))))
 
 -- a window
-window_read : (text bytes new more : List ℕ) (r : Reading) → r.place ≡ at.Between → IsWindow bytes new → length new ≤ r.room → Behind (reading (Reads text r) (bytes ++ more)) (text ++ new) (r.room - length new) more
+pub window_read : (text bytes new more : List ℕ) (r : Reading) → r.place ≡ at.Between → IsWindow bytes new → length new ≤ r.room → Behind (reading (Reads text r) (bytes ++ more)) (text ++ new) (r.room - length new) more
 window_read text bytes new more r e w h =
     let n = length new in
     let rest = w.instructions ++ (new ++ more) in

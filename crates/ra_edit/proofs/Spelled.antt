@@ -71,7 +71,7 @@ zero_spelled : Spells (0 ∷ []) 0
 zero_spelled = record { ends = refl; short = omega arith; number = refl; small = omega arith }
 
 -- a window
-window_is : (new : List ℕ) → 0 < length new → length new ≤ 65536 → IsWindow (window new) new
+pub window_is : (new : List ℕ) → 0 < length new → length new ≤ 65536 → IsWindow (window new) new
 window_is new some h =
     let n = length new in
     let small : n < 2 ^ 64 = omega (arith, h) in

@@ -1,3 +1,6 @@
+pub mod Commands
+pub mod EditLaws
+pub mod Edits
 pub mod Faults
 pub mod Grammar
 pub mod Groups
@@ -5,3 +8,11 @@ pub mod Laws
 pub mod Reading
 pub mod Spelling
 pub mod Streams
+pub mod EditFaults
+pub mod Rests
+pub mod ItemStreams
+pub mod Receiving
+pub mod Edit
+pub mod Tokens
+pub mod Wire
+pub mod Written

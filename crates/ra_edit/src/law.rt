@@ -1,5 +1,6 @@
-//! Laws of texts in windows, over all bytes. Each is proved as the contract of a function that does nothing.
+//! Laws of texts in windows, over all bytes, and of edits in items. Each is proved as the contract of a function that does nothing.
 
+ghost use Rattle.ra_edit.specs.EditLaws.{WrittenIsEdit};
 ghost use Rattle.ra_edit.specs.Laws.{PiecesJoin, TextsAreRead, OneText, WrittenIsText, WrittenIsRead, ReadIsText};
 
 /// It doesn't matter how bytes are cut into pieces.
@@ -30,4 +31,9 @@ pub fn written_is_read()
 /// What is read, up to an end between windows, is in the grammar.
 pub fn read_is_text()
     ensures { ReadIsText }
+{}
+
+/// The items that are written for an edit are one of its forms that are read, with each piece of a text in its parts.
+pub fn written_is_edit()
+    ensures { WrittenIsEdit }
 {}

@@ -1,15 +1,31 @@
-//! Texts as Subversion's editor drives carry them: svndiff version 0, in windows of new data alone.
+//! What Subversion's editor drives are over the wire: commands in items, and texts in windows.
 //!
-//! A text is sent as four bytes and then windows. A window has five numbers in front (the place and length
-//! of its source, the length of its text, of its instructions and of its new data), then its instructions,
-//! then its new data. [`reader::WindowReader`] takes windows whose text is new data alone, cut anyhow, and
-//! [`writer`] writes the one spelling.
+//! A revision is sent as commands of the ra_svn protocol, one for each call of an editor, and a text in it as svndiff
+//! version 0: four bytes, and then windows of new data alone, each with five numbers in front (the place and length of its
+//! source, the length of its text, of its instructions and of its new data) and its instructions.
+//!
+//! - [`wire::WireEditor`] is an editor that writes the calls that it is shown, in one spelling and with one reserved buffer.
+//! - [`reader::WindowReader`] takes windows cut anyhow, and [`writer`] writes the one spelling of a text.
+//!
+//! What is written for an edit is one of the forms that `specs/Edits.antt` takes, and what is written for a text is read again.
 #![tactic(auto)]
 
+mod command;
+pub mod edit_fault;
 pub mod fault;
 pub mod law;
 pub mod reader;
 mod reading;
+pub mod receive;
+pub mod receive_command;
+mod receive_edit;
+#[cfg(test)]
+mod receive_tests;
+pub mod stream;
 #[cfg(test)]
 mod tests;
+mod token;
+pub mod wire;
+#[cfg(test)]
+mod wire_tests;
 pub mod writer;

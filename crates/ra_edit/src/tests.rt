@@ -211,5 +211,6 @@ fn laws_are_called(rt: HostRuntime) {
     law::written_is_text();
     law::written_is_read();
     law::read_is_text();
+    law::written_is_edit();
     assert!(rt; WindowFault::CopyWindow.number() == 45);
 }

@@ -2,7 +2,7 @@
 //!
 //! Each `Err` is the writer's own; then some of the bytes may have been written.
 
-ghost use Rattle.std.specs.Prelude.{◌≡◌, ◌≤◌, ◌<◌, ◌++◌, length, OnOk};
+ghost use Rattle.std.specs.Prelude.{◌≡◌, ◌≤◌, ◌<◌, ◌++◌, ℕ, List, length, OnOk};
 ghost use Rattle.std.specs.Io.KnownBytes.{Appends};
 ghost use Rattle.ra_edit.specs.Spelling.{groups, new_data, window, windows, head, spelled};
 
@@ -40,8 +40,8 @@ pub fn write_text<W: Write>(out: &mut W, text: &[u8]) -> io::Result<()>
     write_windows(out, text)
 }
 
-// A window of so much new data.
-fn write_window<W: Write>(out: &mut W, bytes: &[u8]) -> io::Result<()>
+/// A window of so much new data.
+pub fn write_window<W: Write>(out: &mut W, bytes: &[u8]) -> io::Result<()>
     requires { length bytes.now ≤ 65536 }
     ensures { OnOk result (Appends (W.contents out.old) (W.contents out.new) (window bytes.now)) }
 {
@@ -52,6 +52,27 @@ fn write_window<W: Write>(out: &mut W, bytes: &[u8]) -> io::Result<()>
     write_number(out, n)?;
     write_instruction(out, n)?;
     out.write_all(bytes)
+}
+
+/// How many bytes a window of so much new data has.
+pub fn window_size(n: u32) -> u32
+    requires { n ≤ 65536 }
+    ensures { (new : List ℕ) → length new ≡ n → result ≡ length (window new) }
+{
+    2 + 2 * number_size(n) + number_size(instruction_size(n)) + instruction_size(n) + n
+}
+
+// How many groups of seven bits a number has.
+fn number_size(n: u32) -> u32
+    requires { n < 2097152 }
+    ensures size { result ≡ length (groups n) }
+    ensures small { result ≤ 3 }
+{
+    match n {
+        0..128 => 1,
+        128..16384 => 2,
+        _ => 3,
+    }
 }
 
 // How many bytes the instruction for so much new data has.

@@ -1,0 +1,25 @@
+-- Commands and their items.
+use Rattle.std.proofs.Common.{◌≡◌, ℕ, List, [], ◌∷◌, ◌++◌, refl, sym, ap, ◌∙◌}
+use Rattle.std.specs.Prelude.{reverse}
+use Rattle.std.proofs.lemmas.List.{reverse-append, reverse-reverse}
+use Rattle.ra_item.specs.Items.{Item, Word, row}
+use Rattle.ra_edit.specs.Commands.{list}
+use Rattle.ra_edit.specs.Edits.{IsCommand}
+
+pub turned : (old new : List Item) (x : Item) → old ≡ new ++ x ∷ [] → reverse old ≡ x ∷ reverse new
+turned old new x e = ap reverse e ∙ reverse-append new (x ∷ [])
+
+pub named0 : (name : List ℕ) (a rest : List Item) → IsCommand name [] (list (Word name ∷ list a ∷ rest))
+named0 name a rest = (a, rest, refl)
+
+pub named1 : (name : List ℕ) (a b rest : List Item) (x : Item) → a ≡ x ∷ b → IsCommand name (x ∷ []) (list (Word name ∷ list a ∷ rest))
+named1 name a b rest x p = (b, rest, ap (λ l. list (Word name ∷ list l ∷ rest)) p)
+
+pub named2 : (name : List ℕ) (a b d rest : List Item) (x y : Item) → a ≡ x ∷ b → b ≡ y ∷ d → IsCommand name (x ∷ y ∷ []) (list (Word name ∷ list a ∷ rest))
+named2 name a b d rest x y p q = (d, rest, ap (λ l. list (Word name ∷ list l ∷ rest)) (p ∙ ap (λ l. x ∷ l) q))
+
+pub named3 : (name : List ℕ) (a b d e rest : List Item) (x y z : Item) → a ≡ x ∷ b → b ≡ y ∷ d → d ≡ z ∷ e → IsCommand name (x ∷ y ∷ z ∷ []) (list (Word name ∷ list a ∷ rest))
+named3 name a b d e rest x y z p q r = (e, rest, ap (λ l. list (Word name ∷ list l ∷ rest)) (p ∙ ap (λ l. x ∷ l) (q ∙ ap (λ l. y ∷ l) r)))
+
+pub named4 : (name : List ℕ) (a b d e f rest : List Item) (x y z w : Item) → a ≡ x ∷ b → b ≡ y ∷ d → d ≡ z ∷ e → e ≡ w ∷ f → IsCommand name (x ∷ y ∷ z ∷ w ∷ []) (list (Word name ∷ list a ∷ rest))
+named4 name a b d e f rest x y z w p q r s = (f, rest, ap (λ l. list (Word name ∷ list l ∷ rest)) (p ∙ ap (λ l. x ∷ l) (q ∙ ap (λ l. y ∷ l) (r ∙ ap (λ l. z ∷ l) s))))

@@ -1,0 +1,13 @@
+use Rattle.std.proofs.Common.{◌≡◌, ◌∙◌, Ok, ap, sym}
+use Rattle.ra_item.specs.Items.{Text, Number}
+use Rattle.ra_edit.specs.Commands.{list}
+use Rattle.ra_edit.specs.Receiving.{left_of, word_of}
+use Rattle.ra_edit.specs.declared.receive_command.Name.TheVariants as name
+use Rattle.ra_edit.proofs.Receiving.{named3}
+use Rattle.ra_edit.proofs.receive_command.change_file_prop.Goals as goal
+
+pub returns : goal.returns
+returns c =
+    let q = c.in_ok-name.ensures in
+    let s = c.in_ok-value.ensures in
+    λ rest. (q.item, s.item, q.is, s.is, named3 (word_of name.ChangeFileProp) (left_of c.args.params.now) (left_of c.text.new.self) (left_of c.prop_name.new.self) (left_of c.value.new.self) rest (Text c.in_ok-token.token.items) q.item s.item c.in_ok-token.ensures q.joined s.joined)

@@ -1,0 +1,12 @@
+use Rattle.std.proofs.Common.{◌≡◌, ◌∙◌, Ok, ap, sym}
+use Rattle.ra_item.specs.Items.{Text, Number}
+use Rattle.ra_edit.specs.Commands.{list}
+use Rattle.ra_edit.specs.Receiving.{left_of, word_of}
+use Rattle.ra_edit.specs.declared.receive_command.Name.TheVariants as name
+use Rattle.ra_edit.proofs.Receiving.{named2}
+use Rattle.ra_edit.proofs.receive_command.close_file.Goals as goal
+
+pub returns : goal.returns
+returns c =
+    let s = c.in_ok-sum.ensures in
+    λ rest. (s.item, s.is, named2 (word_of name.CloseFile) (left_of c.args.params.now) (left_of c.text.new.self) (left_of c.sum.new.self) rest (Text c.in_ok-token.token.items) s.item c.in_ok-token.ensures s.joined)

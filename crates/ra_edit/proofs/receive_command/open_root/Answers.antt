@@ -1,0 +1,12 @@
+use Rattle.std.proofs.Common.{◌≡◌, ◌∙◌, Ok, ap, sym}
+use Rattle.ra_item.specs.Items.{Text, Number}
+use Rattle.ra_edit.specs.Commands.{list}
+use Rattle.ra_edit.specs.Receiving.{left_of, word_of}
+use Rattle.ra_edit.specs.declared.receive_command.Name.TheVariants as name
+use Rattle.ra_edit.proofs.Receiving.{named2}
+use Rattle.ra_edit.proofs.receive_command.open_root.Goals as goal
+
+pub returns : goal.returns
+returns c =
+    let b = c.in_ok-base.ensures in
+    λ rest. (b.item, b.is, named2 (word_of name.OpenRoot) (left_of c.args.params.now) (left_of c.base.new.self) (left_of c.text.new.self) rest b.item (Text c.in_ok-text.field-0.items) b.joined c.in_ok-text.ensures)

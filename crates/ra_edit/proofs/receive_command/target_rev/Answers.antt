@@ -1,0 +1,12 @@
+use Rattle.std.proofs.Common.{◌≡◌, ◌∙◌, Ok, ap, sym}
+use Rattle.ra_item.specs.Items.{Text, Number}
+use Rattle.ra_edit.specs.Commands.{list}
+use Rattle.ra_edit.specs.Receiving.{left_of, word_of}
+use Rattle.ra_edit.specs.declared.receive_command.Name.TheVariants as name
+use Rattle.ra_edit.proofs.Receiving.{named1}
+use Rattle.ra_edit.proofs.receive_command.target_rev.Goals as goal
+
+pub returns : goal.returns
+returns c =
+    let n = c.in_ok-revision.ensures in
+    λ rest. (n.0, named1 (word_of name.TargetRev) (left_of c.args.params.now) (left_of c.revision.new.self) rest (Number c.in_ok-revision.field-0) n.1)

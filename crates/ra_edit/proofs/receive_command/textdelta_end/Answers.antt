@@ -1,0 +1,11 @@
+use Rattle.std.proofs.Common.{◌≡◌, ◌∙◌, Ok, ap, sym}
+use Rattle.ra_item.specs.Items.{Text, Number}
+use Rattle.ra_edit.specs.Commands.{list}
+use Rattle.ra_edit.specs.Receiving.{left_of, word_of}
+use Rattle.ra_edit.specs.declared.receive_command.Name.TheVariants as name
+use Rattle.ra_edit.proofs.Receiving.{named1}
+use Rattle.ra_edit.proofs.receive_command.textdelta_end.Goals as goal
+
+pub returns : goal.returns
+returns c =
+    λ rest. named1 (word_of name.TextdeltaEnd) (left_of c.args.params.now) (left_of c.text.new.self) rest (Text c.in_ok-text.field-0.items) c.in_ok-text.ensures

@@ -1,0 +1,13 @@
+use Rattle.std.proofs.Common.{◌≡◌, ◌∙◌, ◌∷◌, ◌++◌, [], ap, sym, refl}
+use Rattle.std.specs.Prelude.{map}
+use Rattle.std.specs.Option.{option_map}
+use Rattle.delta_editor.specs.declared.call.Call.TheVariants as call
+use Rattle.ra_edit.specs.declared.receive_edit.Given.TheVariants as given
+use Rattle.ra_edit.proofs.Steps.{end_moves}
+use Rattle.ra_edit.proofs.receive_edit.Edit.close_edit.Goals as goal
+
+pub returns : goal.returns
+returns g c =
+    let old = c.args.self.now in
+    let k = c.is_closed.ensures c.if-not-is_closed.false in
+    record { moved = λ at item f h. end_moves g.E.Editor.dir_path g.E.Editor.file_path g.E.Editor.shows old.editor old.stage old.dirs.items old.file item at c.has_root-root.result (sym c.is_announced.ensures ∙ c.if-is_announced.false) k.0 k.1 c.has_root-root.ensures f h }

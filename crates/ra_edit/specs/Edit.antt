@@ -1,0 +1,81 @@
+-- Where the commands of a drive stand, and what was given of an open file's text.
+use Rattle.std.specs.Prelude.{◌≡◌, ℕ, Bool, true, false, List, [], ◌∷◌, ◌++◌, map, reverse, Option, Some, None}
+use Rattle.md5.specs.Md5.{Holds, md5}
+use Rattle.ra_edit.specs.Reading.{is_between}
+use Rattle.ra_edit.specs.declared.reading.Reading.{Reading}
+use Rattle.ra_item.specs.Items.{Item}
+use Rattle.node_base.specs.Path.{Path}
+use Rattle.delta_editor.specs.Calls.{Adds}
+use Rattle.delta_editor.specs.declared.call.Call.{Call}
+use Rattle.ra_edit.specs.Edits.{Held, Dir, Fresh, Within, Told, Named, named, At, Begun, Targeted, Inside, Announced, Says, is_free}
+use Rattle.ra_edit.specs.declared.receive_edit.Given.{Given}
+use Rattle.ra_edit.specs.declared.receive_edit.Given.TheVariants as given
+use Rattle.ra_edit.specs.declared.receive_edit.OpenDir.{OpenDir}
+use Rattle.ra_edit.specs.declared.receive_edit.OpenFile.{OpenFile}
+use Rattle.ra_edit.specs.declared.receive_edit.Stage.{Stage}
+use Rattle.ra_edit.specs.declared.receive_edit.Stage.TheVariants as stage
+
+-- an open directory, with its token
+abbrev pub dir_named : {D : Type 0} → (D → Path) → OpenDir D → Named
+dir_named path d = named d.token.items (path d.baton) Dir
+
+-- those that are open, the innermost first
+abbrev pub dirs_named : {D : Type 0} → (D → Path) → List (OpenDir D) → List Named
+dirs_named path ds = reverse (map (dir_named path) ds)
+
+-- what was given of a file's text
+abbrev pub GivenIs : Given → Held → Type 0
+GivenIs given.Nothing held = held ≡ Fresh
+GivenIs (given.Begun reader sum) held = (text : List ℕ) × (held ≡ Within text reader) × Holds sum text
+GivenIs (given.Whole sum) held = (text : List ℕ) × (held ≡ Told text) × (sum ≡ md5 text)
+
+-- what is open: a file perhaps, and the directories around it
+abbrev pub OpenIs : {D F : Type 0} → (D → Path) → (F → Path) → List (OpenDir D) → Option (OpenFile F) → List Named → Type 0
+OpenIs dir_path file_path dirs None os = os ≡ dirs_named dir_path dirs
+OpenIs dir_path file_path dirs (Some f) os = (held : Held) × GivenIs f.given held × (os ≡ named f.token.items (file_path f.baton) held ∷ dirs_named dir_path dirs)
+
+-- where the commands stand
+abbrev pub Stands : {D F : Type 0} → (D → Path) → (F → Path) → Stage → List (OpenDir D) → Option (OpenFile F) → At → Type 0
+Stands dir_path file_path stage.Begun dirs file at = (at ≡ Begun) × (dirs ≡ []) × (file ≡ None)
+Stands dir_path file_path stage.Targeted dirs file at = (at ≡ Targeted) × (dirs ≡ []) × (file ≡ None)
+Stands dir_path file_path stage.Inside dirs file at = (os : List Named) × (at ≡ Inside os) × OpenIs dir_path file_path dirs file os
+Stands dir_path file_path (stage.Announced root) dirs file at = (at ≡ Announced root) × (dirs ≡ []) × (file ≡ None)
+
+-- an item moves an editor from one place to another by the calls that it says
+pub record Moves {E : Type 0} (shows : E → List Call → Type 0) (old new : E) (item : Item) (at : At) (stands : At → Type 0) : Type 0 where
+  pub calls : List Call
+  pub to : At
+  pub says : Says at item calls to
+  pub shown : Adds shows old new calls
+  pub now : stands to
+
+-- before the root
+abbrev pub is_unopened : Stage → Bool
+is_unopened stage.Begun = true
+is_unopened stage.Targeted = true
+is_unopened stage.Inside = false
+is_unopened (stage.Announced root) = false
+
+-- whether the root was opened
+abbrev pub has_root : Stage → Bool
+has_root stage.Begun = false
+has_root stage.Targeted = false
+has_root stage.Inside = true
+has_root (stage.Announced root) = root
+
+-- a text has ended with this sum
+abbrev pub TextEnds : Given → List ℕ → Type 0
+TextEnds g sum = (held : Held) → GivenIs g held → (text : List ℕ) × (r : Reading) × (held ≡ Within text r) × (is_between r ≡ true) × (sum ≡ md5 text)
+
+-- the sum that came with a text's end is the text's, where there is one
+abbrev pub SumIs : Given → Option (List ℕ) → Type 0
+SumIs given.Nothing sum = Unit {0}
+SumIs (given.Begun r s) sum = ⊥
+SumIs (given.Whole found) sum = (s : List ℕ) → sum ≡ Some s → s ≡ found
+
+-- whether the end was announced
+abbrev pub is_announced : Stage → Bool
+is_announced stage.Begun = false
+is_announced stage.Targeted = false
+is_announced stage.Inside = false
+is_announced (stage.Announced root) = true

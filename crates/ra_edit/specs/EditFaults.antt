@@ -1,0 +1,41 @@
+-- Why a drive isn't received, as numbers and from other refusals.
+use Rattle.std.specs.Prelude.{ℕ}
+use Rattle.delta_editor.specs.Faults.{number_of}
+use Rattle.ra_item.specs.declared.fault.ItemFault.{ItemFault}
+use Rattle.ra_item.specs.declared.fault.ItemFault.TheVariants as item
+use Rattle.ra_edit.specs.declared.edit_fault.EditFault.{EditFault}
+use Rattle.ra_edit.specs.declared.edit_fault.EditFault.TheVariants as fault
+use Rattle.ra_edit.specs.declared.fault.WindowFault.{WindowFault}
+use Rattle.ra_edit.specs.declared.fault.WindowFault.TheVariants as window
+
+abbrev pub edit_number : EditFault → ℕ
+edit_number fault.BadSum = 6
+edit_number fault.Truncated = 7
+edit_number fault.TooLong = 8
+edit_number fault.Failed = 32
+edit_number fault.BadItem = 41
+edit_number fault.TooDeep = 42
+edit_number fault.BadWindow = 44
+edit_number fault.CopyWindow = 45
+edit_number fault.BadToken = 46
+edit_number fault.BadShape = 48
+edit_number fault.PeerFailed = 49
+edit_number fault.Refused = 60
+edit_number fault.OutOfMemory = 70
+edit_number (fault.Editor f) = number_of f
+
+-- the refusal of bytes that are no items
+abbrev pub of_item : ItemFault → EditFault
+of_item item.Truncated = fault.Truncated
+of_item item.TooLong = fault.TooLong
+of_item item.Failed = fault.Failed
+of_item item.BadItem = fault.BadItem
+of_item item.TooDeep = fault.TooDeep
+of_item item.OutOfMemory = fault.OutOfMemory
+
+-- the refusal of bytes that are no windows
+abbrev pub of_window : WindowFault → EditFault
+of_window window.TooLong = fault.TooLong
+of_window window.Failed = fault.Failed
+of_window window.BadWindow = fault.BadWindow
+of_window window.CopyWindow = fault.CopyWindow

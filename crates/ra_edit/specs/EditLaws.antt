@@ -1,0 +1,70 @@
+-- What is written is one of the forms that are read.
+use Rattle.std.specs.Prelude.{◌≡◌, ℕ, ◌≤◌, ◌<◌, ◌^◌, Bool, true, false, List, [], ◌∷◌, ◌++◌, map, length, Option, Some, None, Ok, IfSome, ⊤}
+use Rattle.std.specs.List.{list_all}
+use Rattle.hex.specs.Hex.{IsBytes}
+use Rattle.node_base.specs.Path.{Path}
+use Rattle.node_base.specs.PathText.{path_text, path_read}
+use Rattle.node_base.specs.Props.{prop_name_read}
+use Rattle.node_base.specs.declared.node.Source.{Source}
+use Rattle.delta_editor.specs.declared.call.Call.{Call}
+use Rattle.delta_editor.specs.declared.call.Call.TheVariants as call
+use Rattle.delta_editor.specs.Nesting.{IsNested}
+use Rattle.ra_edit.specs.Commands.{parts, edit_items}
+use Rattle.ra_edit.specs.Edits.{SumsTo, SpellsEdit}
+use Rattle.ra_edit.specs.Wire.{AllDeeper}
+
+-- a path within the rules and limits, which is read again
+abbrev pub IsPathText : Path → Type 0
+IsPathText p = path_read (path_text p) ≡ Ok p
+
+abbrev pub IsRev : Option ℕ → Type 0
+IsRev base = IfSome base (λ n. n ≤ 65535)
+
+abbrev pub IsFrom : Option Source → Type 0
+IsFrom from = IfSome from (λ s. IsPathText s.path × (s.revision ≤ 65535))
+
+-- what a call says is within the rules and limits, as the types of an editor's arguments make sure
+abbrev pub IsWithin : Call → Type 0
+IsWithin (call.AddDir up p from) = IsPathText p × IsFrom from
+IsWithin (call.OpenDir up p base) = IsPathText p × IsRev base
+IsWithin (call.DeleteEntry up p base) = IsPathText p × IsRev base
+IsWithin (call.AddFile up p from) = IsPathText p × IsFrom from
+IsWithin (call.OpenFile up p base) = IsPathText p × IsRev base
+IsWithin (call.DirProp p name value) = prop_name_read name ≡ Ok name
+IsWithin (call.FileProp p name value) = prop_name_read name ≡ Ok name
+IsWithin (call.CloseFile p sum) = IfSome sum (λ s. (length s ≡ 16) × IsBytes s)
+IsWithin _ = ⊤
+
+abbrev pub AllWithin : List Call → Type 0
+AllWithin [] = ⊤
+AllWithin (c ∷ cs) = IsWithin c × AllWithin cs
+
+-- each text has at most 1,048,576 bytes and is closed with its own sum or none, where this was given of the open file's text
+abbrev pub TextsFit : Option (List ℕ) → List Call → Type 0
+TextsFit given [] = ⊤
+TextsFit given (call.AddFile up p from ∷ cs) = TextsFit None cs
+TextsFit given (call.OpenFile up p base ∷ cs) = TextsFit None cs
+TextsFit given (call.TextStart p ∷ cs) = TextsFit (Some []) cs
+TextsFit None (call.TextPiece p piece ∷ cs) = TextsFit None cs
+TextsFit (Some text) (call.TextPiece p piece ∷ cs) = (length (text ++ piece) ≤ 1048576) × TextsFit (Some (text ++ piece)) cs
+TextsFit None (call.CloseFile p sum ∷ cs) = TextsFit None cs
+TextsFit (Some text) (call.CloseFile p sum ∷ cs) = SumsTo sum text × TextsFit (Some text) cs
+TextsFit given (c ∷ cs) = TextsFit given cs
+
+abbrev pub is_no_target : Call → Bool
+is_no_target (call.Target n) = false
+is_no_target _ = true
+
+-- a call as it is read: a piece of a text comes in parts of 65,536 bytes
+abbrev pub cut : Call → List Call
+cut (call.TextPiece p piece) = map (call.TextPiece p) (parts piece)
+cut c = c ∷ []
+
+abbrev pub cut_all : List Call → List Call
+cut_all [] = []
+cut_all (c ∷ cs) = cut c ++ cut_all cs
+
+-- the items that are written for an edit are that edit: one that begins with its target, keeps the nesting, goes down, and says
+-- what is within the rules and limits
+abbrev pub WrittenIsEdit : Type 0
+WrittenIsEdit = (n : ℕ) (base : Option ℕ) (body : List Call) → n ≤ 65535 → IsRev base → list_all is_no_target body ≡ true → IsNested (call.Target n ∷ call.OpenRoot base ∷ body) → AllDeeper body → AllWithin body → TextsFit None body → length body < 2 ^ 64 → SpellsEdit (edit_items (call.Target n ∷ call.OpenRoot base ∷ body)) (call.Target n ∷ call.OpenRoot base ∷ cut_all body)

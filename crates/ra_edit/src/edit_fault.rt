@@ -1,0 +1,135 @@
+//! Why a drive isn't received.
+
+ghost use Rattle.std.specs.Prelude.{◌≡◌};
+ghost use Rattle.ra_edit.specs.EditFaults.{edit_number, of_item, of_window};
+ghost use Rattle.ra_edit.specs.declared.edit_fault.EditFault.TheVariants as fault;
+
+use crate::fault::WindowFault;
+use delta_editor::EditorFault;
+use ra_item::fault::ItemFault;
+use std::alloc::{AllocError, AllocFailed};
+use thiserror::Error;
+
+/// Why items don't come, or why they are no drive of an editor.
+#[derive(Clone, Copy, Debug, PartialEq, Eq, Drop, Error)]
+pub enum EditFault {
+    /// A text isn't the one whose MD5 came with it (6).
+    #[error("checksum mismatch")]
+    BadSum,
+    /// The bytes end inside an item (7).
+    #[error("unexpected end of input")]
+    Truncated,
+    /// A word, a string, an item, a window or a text is longer than its limit (8).
+    #[error("limit exceeded")]
+    TooLong,
+    /// The stream was refused before (32).
+    #[error("failed before")]
+    Failed,
+    /// A byte that no item has in its place (41).
+    #[error("bad item")]
+    BadItem,
+    /// Lists stand more than 16 deep in one another (42).
+    #[error("nesting too deep")]
+    TooDeep,
+    /// A text's bytes aren't svndiff version 0 (44).
+    #[error("bad window")]
+    BadWindow,
+    /// A window of a text copies (45).
+    #[error("window copies")]
+    CopyWindow,
+    /// A command names what isn't open, isn't the innermost open thing or is of another kind; a new token is in use; or something is
+    /// open at the end (46).
+    #[error("bad token")]
+    BadToken,
+    /// No editor command, one out of its place, a path, a property's name or a revision that is none, or the input's end between items (48).
+    #[error("bad command shape")]
+    BadShape,
+    /// A read failed (49).
+    #[error("stream failed")]
+    PeerFailed,
+    /// The peer gave the drive up: `abort-edit`, or a failure in place of a command (60).
+    #[error("refused")]
+    Refused,
+    /// A growth was refused (70).
+    #[error("out of memory")]
+    OutOfMemory,
+    /// The editor refused a call; the number is the editor's.
+    #[error("{0}")]
+    Editor(EditorFault),
+}
+
+impl EditFault {
+    /// The number by which logs and answers name the refusal.
+    pub fn number(&self) -> u8
+        ensures { result ≡ edit_number self.now }
+    {
+        match self {
+            EditFault::BadSum => 6,
+            EditFault::Truncated => 7,
+            EditFault::TooLong => 8,
+            EditFault::Failed => 32,
+            EditFault::BadItem => 41,
+            EditFault::TooDeep => 42,
+            EditFault::BadWindow => 44,
+            EditFault::CopyWindow => 45,
+            EditFault::BadToken => 46,
+            EditFault::BadShape => 48,
+            EditFault::PeerFailed => 49,
+            EditFault::Refused => 60,
+            EditFault::OutOfMemory => 70,
+            EditFault::Editor(fault) => fault.number(),
+        }
+    }
+}
+
+impl From<AllocError> for EditFault {
+    ghost from_gives = { λ _ e. e ≡ fault.OutOfMemory };
+
+    fn from(_: AllocError) -> EditFault {
+        EditFault::OutOfMemory
+    }
+}
+
+impl<T: Drop> From<AllocFailed<T>> for EditFault {
+    ghost from_gives = { λ _ e. e ≡ fault.OutOfMemory };
+
+    fn from(_: AllocFailed<T>) -> EditFault {
+        EditFault::OutOfMemory
+    }
+}
+
+impl From<ItemFault> for EditFault {
+    ghost from_gives = { λ f e. e ≡ of_item f };
+
+    fn from(fault: ItemFault) -> EditFault {
+        match fault {
+            ItemFault::Truncated => EditFault::Truncated,
+            ItemFault::TooLong => EditFault::TooLong,
+            ItemFault::Failed => EditFault::Failed,
+            ItemFault::BadItem => EditFault::BadItem,
+            ItemFault::TooDeep => EditFault::TooDeep,
+            ItemFault::OutOfMemory => EditFault::OutOfMemory,
+        }
+    }
+}
+
+impl From<WindowFault> for EditFault {
+    ghost from_gives = { λ f e. e ≡ of_window f };
+
+    fn from(fault: WindowFault) -> EditFault {
+        match fault {
+            WindowFault::TooLong => EditFault::TooLong,
+            WindowFault::Failed => EditFault::Failed,
+            WindowFault::BadWindow => EditFault::BadWindow,
+            WindowFault::CopyWindow => EditFault::CopyWindow,
+        }
+    }
+}
+
+impl From<EditorFault> for EditFault {
+    ghost from_gives = { λ f e. e ≡ fault.Editor f };
+
+    fn from(fault: EditorFault) -> EditFault {
+        EditFault::Editor(fault)
+    }
+}

@@ -1,0 +1,58 @@
+//! An edit from its items.
+
+ghost use Rattle.std.specs.Prelude.{◌≡◌, OnErr, true};
+ghost use Rattle.ra_edit.specs.ItemStreams.{is_spent};
+
+use crate::edit_fault::EditFault;
+use crate::receive_command::Command;
+use crate::receive_edit::Edit;
+use crate::stream::ItemStream;
+use delta_editor::Editor;
+use std::alloc::Global;
+use std::io::Read;
+
+/// Receives one edit: shows its editor the calls that the next items spell, up to `finish-replay`, and gives what the edit
+/// comes to. The new data of each window is handed on as it comes, and summed.
+///
+/// Refused: what the stream's `next` refuses; `BadShape` (48) for no command, one out of its place, and the end of the input
+/// between items; `BadToken` (46); `BadWindow` (44), `CopyWindow` (45) and `TooLong` (8) in a text; `BadSum` (6) at a
+/// `close-file`; `Refused` (60) at an `abort-edit` or a failure; `Editor` where the editor refuses a call; `OutOfMemory` (70).
+/// After a refusal what is open is discarded, the edit is aborted, and the stream answers `Failed` (32) from then on.
+pub fn receive<R: Read + Drop, E: Editor>(
+    alloc: Global,
+    items: &mut ItemStream<R>,
+    editor: E,
+) -> Result<E::Done, EditFault>
+    ensures { OnErr result (is_spent items.new ≡ true) }
+{
+    let mut edit = Edit::new(alloc, editor);
+    if let Err(fault) = take_commands(alloc, items, &mut edit) {
+        edit.abort();
+        items.spend();
+        return Err(fault);
+    }
+    match edit.finish() {
+        Ok(done) => Ok(done),
+        Err(fault) => {
+            items.spend();
+            Err(fault)
+        }
+    }
+}
+
+// Takes commands up to `finish-replay`.
+fn take_commands<R: Read + Drop, E: Editor>(
+    alloc: Global,
+    items: &mut ItemStream<R>,
+    edit: &mut Edit<E>,
+) -> Result<(), EditFault> {
+    for _ in 0..u64::MAX {
+        let Some(item) = items.next()? else {
+            return Err(EditFault::BadShape);
+        };
+        if edit.step(Command::parse(alloc, item)?)? {
+            return Ok(());
+        }
+    }
+    Err(items.give_up())
+}

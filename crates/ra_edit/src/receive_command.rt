@@ -1,0 +1,467 @@
+//! Editor commands and their items, as the ra_svn protocol has them.
+
+ghost use Rattle.std.specs.Prelude.{◌≡◌, ◌≤◌, ◌⊎◌, List, [], ◌∷◌, reverse, IfOk, IfSome, Ok, true};
+ghost use Rattle.std.specs.Option.{option_map};
+ghost use Rattle.ra_item.specs.Items.{Word, Number, Text};
+ghost use Rattle.node_base.specs.PathText.{path_read};
+ghost use Rattle.node_base.specs.Props.{prop_name_read};
+ghost use Rattle.ra_edit.specs.Commands.{list};
+ghost use Rattle.ra_edit.specs.Edits.{IsRevision, IsString, IsSum, IsSource};
+ghost use Rattle.ra_edit.specs.Receiving.{left_of, NextIs, word_of, IsPath, IsPropName, Forms, FormsWith};
+ghost use Rattle.ra_edit.specs.declared.receive_command.Name.TheVariants as name;
+
+use crate::edit_fault::EditFault;
+use hex::decode_to_slice;
+use node_base::{NodePath, PathFault, PropFault, PropName, RevNo, Source};
+use ra_item::item::{Content, Item};
+use std::alloc::Global;
+
+/// One command of an editor drive. What is open is named by a token, a string that the peer chose when it was opened.
+#[derive(Debug, Drop)]
+pub enum Command {
+    /// `target-rev`: the revision that is shown.
+    Target(RevNo),
+    /// `open-root`: the root is opened by a token.
+    OpenRoot(Option<RevNo>, Vec<u8>),
+    /// `delete-entry`: an entry is deleted in a directory.
+    DeleteEntry(NodePath, Option<RevNo>, Vec<u8>),
+    /// `add-dir`: in a directory, a directory is added by a token.
+    AddDir(NodePath, Vec<u8>, Vec<u8>, Option<Source>),
+    /// `open-dir`: in a directory, a directory is opened by a token.
+    OpenDir(NodePath, Vec<u8>, Vec<u8>, Option<RevNo>),
+    /// `change-dir-prop`: a directory's property gets a value, or is removed.
+    DirProp(Vec<u8>, PropName, Option<Vec<u8>>),
+    /// `close-dir`.
+    CloseDir(Vec<u8>),
+    /// `add-file`: in a directory, a file is added by a token.
+    AddFile(NodePath, Vec<u8>, Vec<u8>, Option<Source>),
+    /// `open-file`: in a directory, a file is opened by a token.
+    OpenFile(NodePath, Vec<u8>, Vec<u8>, Option<RevNo>),
+    /// `change-file-prop`: a file's property gets a value, or is removed.
+    FileProp(Vec<u8>, PropName, Option<Vec<u8>>),
+    /// `apply-textdelta`: a file's text begins.
+    TextStart(Vec<u8>),
+    /// `textdelta-chunk`: bytes of a file's text in windows.
+    Chunk(Vec<u8>, Vec<u8>),
+    /// `textdelta-end`: a file's text ends.
+    TextEnd(Vec<u8>),
+    /// `close-file`, with the MD5 of its text or none.
+    CloseFile(Vec<u8>, Option<[u8; 16]>),
+    /// `close-edit`.
+    CloseEdit,
+    /// `finish-replay`: the end.
+    Finish,
+    /// `abort-edit`, or a failure in place of a command.
+    Abort,
+}
+
+// The name of a command, or of a failure.
+#[derive(Clone, Copy)]
+enum Name {
+    TargetRev,
+    OpenRoot,
+    DeleteEntry,
+    AddDir,
+    OpenDir,
+    ChangeDirProp,
+    CloseDir,
+    AddFile,
+    OpenFile,
+    ChangeFileProp,
+    ApplyTextdelta,
+    TextdeltaChunk,
+    TextdeltaEnd,
+    CloseFile,
+    CloseEdit,
+    FinishReplay,
+    AbortEdit,
+    Failure,
+}
+
+// The names that open, close and delete directories, and those of an edit.
+fn outer_name(word: &[u8]) -> Option<Name>
+    ensures { IfSome result (λ n. word.now ≡ word_of n) }
+{
+    if word == b"target-rev".as_slice() {
+        Some(Name::TargetRev)
+    } else if word == b"open-root".as_slice() {
+        Some(Name::OpenRoot)
+    } else if word == b"delete-entry".as_slice() {
+        Some(Name::DeleteEntry)
+    } else if word == b"add-dir".as_slice() {
+        Some(Name::AddDir)
+    } else if word == b"open-dir".as_slice() {
+        Some(Name::OpenDir)
+    } else if word == b"change-dir-prop".as_slice() {
+        Some(Name::ChangeDirProp)
+    } else if word == b"close-dir".as_slice() {
+        Some(Name::CloseDir)
+    } else if word == b"close-edit".as_slice() {
+        Some(Name::CloseEdit)
+    } else if word == b"finish-replay".as_slice() {
+        Some(Name::FinishReplay)
+    } else if word == b"abort-edit".as_slice() {
+        Some(Name::AbortEdit)
+    } else if word == b"failure".as_slice() {
+        Some(Name::Failure)
+    } else {
+        None
+    }
+}
+
+// The names of what is done with files.
+fn file_name(word: &[u8]) -> Option<Name>
+    ensures { IfSome result (λ n. word.now ≡ word_of n) }
+{
+    if word == b"add-file".as_slice() {
+        Some(Name::AddFile)
+    } else if word == b"open-file".as_slice() {
+        Some(Name::OpenFile)
+    } else if word == b"change-file-prop".as_slice() {
+        Some(Name::ChangeFileProp)
+    } else if word == b"apply-textdelta".as_slice() {
+        Some(Name::ApplyTextdelta)
+    } else if word == b"textdelta-chunk".as_slice() {
+        Some(Name::TextdeltaChunk)
+    } else if word == b"textdelta-end".as_slice() {
+        Some(Name::TextdeltaEnd)
+    } else if word == b"close-file".as_slice() {
+        Some(Name::CloseFile)
+    } else {
+        None
+    }
+}
+
+// The items of a list that weren't taken yet.
+#[derive(Drop)]
+struct Params {
+    // The next one last.
+    items: Vec<Item>,
+}
+
+impl Params {
+    // All the items of a list.
+    fn all(items: Vec<Item>) -> Params
+        ensures { left_of result ≡ items.items }
+    {
+        let mut items = items;
+        items.as_mut_slice().reverse();
+        Params { items }
+    }
+
+    // The items of an item that is a list.
+    fn of(item: Item) -> Result<Params, EditFault>
+        ensures { IfOk result (λ p. item ≡ list (left_of p)) }
+    {
+        match item.into_content() {
+            Content::List(items) => Ok(Params::all(items)),
+            Content::Word(_) | Content::Number(_) | Content::Text(_) => Err(EditFault::BadShape),
+        }
+    }
+
+    // The next item.
+    #[tactic(auto, using(crate::proofs::Receiving::turned))]
+    fn next(&mut self) -> Result<Item, EditFault>
+        ensures { IfOk result (λ x. left_of self.old ≡ x ∷ left_of self.new) }
+    {
+        match self.items.pop() {
+            Some(item) => Ok(item),
+            None => Err(EditFault::BadShape),
+        }
+    }
+
+    // The next item, which is a word.
+    fn word(&mut self) -> Result<Vec<u8>, EditFault>
+        ensures { IfOk result (λ w. left_of self.old ≡ Word w.items ∷ left_of self.new) }
+    {
+        match self.next()?.into_content() {
+            Content::Word(word) => Ok(word),
+            Content::List(_) | Content::Number(_) | Content::Text(_) => Err(EditFault::BadShape),
+        }
+    }
+
+    // The next item, which is a string.
+    fn text(&mut self) -> Result<Vec<u8>, EditFault>
+        ensures { IfOk result (λ t. left_of self.old ≡ Text t.items ∷ left_of self.new) }
+    {
+        match self.next()?.into_content() {
+            Content::Text(text) => Ok(text),
+            Content::List(_) | Content::Number(_) | Content::Word(_) => Err(EditFault::BadShape),
+        }
+    }
+
+    // The next item, which is a list.
+    fn list(&mut self) -> Result<Params, EditFault>
+        ensures { IfOk result (λ p. left_of self.old ≡ list (left_of p) ∷ left_of self.new) }
+    {
+        Params::of(self.next()?)
+    }
+
+    // The next item, which is a revision.
+    fn revision(&mut self) -> Result<RevNo, EditFault>
+        ensures { IfOk result (λ n. (n ≤ 65535) × (left_of self.old ≡ Number n ∷ left_of self.new)) }
+    {
+        match self.next()?.into_content() {
+            Content::Number(n) if n <= 65_535 => Ok(RevNo::new(n as u16)),
+            Content::Number(_) | Content::List(_) | Content::Text(_) | Content::Word(_) => {
+                Err(EditFault::BadShape)
+            }
+        }
+    }
+
+    // Whether nothing is left.
+    fn is_empty(&self) -> bool
+        ensures { result ≡ true → left_of self.now ≡ [] }
+    {
+        self.items.is_empty()
+    }
+
+    // The next item, which is a path.
+    fn path(&mut self, alloc: Global) -> Result<NodePath, EditFault>
+        ensures { IfOk result (λ p. NextIs (IsPath p) (left_of self.old) (left_of self.new)) }
+    {
+        let text = self.text()?;
+        read_path(alloc, text.as_slice())
+    }
+
+    // The next item, which is a property's name.
+    fn prop_name(&mut self) -> Result<PropName, EditFault>
+        ensures { IfOk result (λ n. NextIs (IsPropName n) (left_of self.old) (left_of self.new)) }
+    {
+        match PropName::from_bytes(self.text()?) {
+            Ok(name) => Ok(name),
+            Err(PropFault::OutOfMemory) => Err(EditFault::OutOfMemory),
+            Err(_) => Err(EditFault::BadShape),
+        }
+    }
+
+    // The next item, which is a list of a revision or of nothing.
+    fn base(&mut self) -> Result<Option<RevNo>, EditFault>
+        ensures { IfOk result (λ b. NextIs (IsRevision b) (left_of self.old) (left_of self.new)) }
+    {
+        let mut inner = self.list()?;
+        if inner.is_empty() {
+            return Ok(None);
+        }
+        Ok(Some(inner.revision()?))
+    }
+
+    // The next item, which is a list of a string or of nothing.
+    fn value(&mut self) -> Result<Option<Vec<u8>>, EditFault>
+        ensures { IfOk result (λ v. NextIs (IsString (option_map (λ s. s.items) v)) (left_of self.old) (left_of self.new)) }
+    {
+        let mut inner = self.list()?;
+        if inner.is_empty() {
+            return Ok(None);
+        }
+        Ok(Some(inner.text()?))
+    }
+
+    // The next item, which is a list of a sum in hexadecimal digits or of nothing.
+    fn sum(&mut self) -> Result<Option<[u8; 16]>, EditFault>
+        ensures { IfOk result (λ sum. NextIs (IsSum sum) (left_of self.old) (left_of self.new)) }
+    {
+        let Some(digits) = self.value()? else {
+            return Ok(None);
+        };
+        let mut sum = [0u8; 16];
+        match decode_to_slice(digits.as_slice(), &mut sum) {
+            Ok(()) => Ok(Some(sum)),
+            Err(_) => Err(EditFault::BadShape),
+        }
+    }
+
+    // The next item, which is a list of a source's path, behind one slash or none, and its revision, or of nothing.
+    fn source(&mut self, alloc: Global) -> Result<Option<Source>, EditFault>
+        ensures { IfOk result (λ from. NextIs (IsSource from) (left_of self.old) (left_of self.new)) }
+    {
+        let mut inner = self.list()?;
+        if inner.is_empty() {
+            return Ok(None);
+        }
+        let text = inner.text()?;
+        let path = read_path(alloc, without_slash(text.as_slice()))?;
+        let revision = inner.revision()?;
+        Ok(Some(Source { path, revision }))
+    }
+}
+
+// A path without a slash in front.
+fn without_slash(text: &[u8]) -> &[u8]
+    ensures { (text.now ≡ result.now) ⊎ (text.now ≡ 47 ∷ result.now) }
+{
+    match text.split_first() {
+        Some((b'/', rest)) => rest,
+        _ => text,
+    }
+}
+
+// The path that bytes spell.
+fn read_path(alloc: Global, text: &[u8]) -> Result<NodePath, EditFault>
+    ensures { IfOk result (λ p. path_read text.now ≡ Ok p) }
+{
+    match NodePath::parse(alloc, text) {
+        Ok(path) => Ok(path),
+        Err(PathFault::OutOfMemory) => Err(EditFault::OutOfMemory),
+        Err(PathFault::TooLong | PathFault::BadPath) => Err(EditFault::BadShape),
+    }
+}
+
+impl Command {
+    /// The command that an item is. `BadShape` (48) where it is none: its name, what it names, a path, a property's name or a
+    /// revision; `OutOfMemory` (70).
+    pub fn parse(alloc: Global, item: Item) -> Result<Command, EditFault>
+        ensures forms { IfOk result (λ c. Forms c item) }
+    {
+        let mut parts = Params::of(item)?;
+        let word = parts.word()?;
+        let mut params = parts.list()?;
+        if let Some(name) = outer_name(word.as_slice()) {
+            return outer_command(alloc, name, &mut params);
+        }
+        if let Some(name) = file_name(word.as_slice()) {
+            return file_command(alloc, name, &mut params);
+        }
+        Err(EditFault::BadShape)
+    }
+}
+
+fn outer_command(alloc: Global, name: Name, params: &mut Params) -> Result<Command, EditFault>
+    ensures { IfOk result (λ c. FormsWith c name (left_of params.old)) }
+{
+    match name {
+        Name::TargetRev => target_rev(params),
+        Name::OpenRoot => open_root(params),
+        Name::DeleteEntry => delete_entry(alloc, params),
+        Name::AddDir => add_dir(alloc, params),
+        Name::OpenDir => open_dir(alloc, params),
+        Name::ChangeDirProp => change_dir_prop(params),
+        Name::CloseDir => close_dir(params),
+        Name::CloseEdit => Ok(Command::CloseEdit),
+        Name::FinishReplay => Ok(Command::Finish),
+        Name::AbortEdit | Name::Failure => Ok(Command::Abort),
+        _ => Err(EditFault::BadShape),
+    }
+}
+
+fn file_command(alloc: Global, name: Name, params: &mut Params) -> Result<Command, EditFault>
+    ensures { IfOk result (λ c. FormsWith c name (left_of params.old)) }
+{
+    match name {
+        Name::AddFile => add_file(alloc, params),
+        Name::OpenFile => open_file(alloc, params),
+        Name::ChangeFileProp => change_file_prop(params),
+        Name::ApplyTextdelta => apply_textdelta(params),
+        Name::TextdeltaChunk => textdelta_chunk(params),
+        Name::TextdeltaEnd => textdelta_end(params),
+        Name::CloseFile => close_file(params),
+        _ => Err(EditFault::BadShape),
+    }
+}
+
+fn target_rev(params: &mut Params) -> Result<Command, EditFault>
+    ensures { IfOk result (λ c. FormsWith c name.TargetRev (left_of params.old)) }
+{
+    Ok(Command::Target(params.revision()?))
+}
+
+fn open_root(params: &mut Params) -> Result<Command, EditFault>
+    ensures { IfOk result (λ c. FormsWith c name.OpenRoot (left_of params.old)) }
+{
+    let base = params.base()?;
+    Ok(Command::OpenRoot(base, params.text()?))
+}
+
+fn delete_entry(alloc: Global, params: &mut Params) -> Result<Command, EditFault>
+    ensures { IfOk result (λ c. FormsWith c name.DeleteEntry (left_of params.old)) }
+{
+    let path = params.path(alloc)?;
+    let base = params.base()?;
+    Ok(Command::DeleteEntry(path, base, params.text()?))
+}
+
+fn add_dir(alloc: Global, params: &mut Params) -> Result<Command, EditFault>
+    ensures { IfOk result (λ c. FormsWith c name.AddDir (left_of params.old)) }
+{
+    let path = params.path(alloc)?;
+    let up = params.text()?;
+    let token = params.text()?;
+    Ok(Command::AddDir(path, up, token, params.source(alloc)?))
+}
+
+fn open_dir(alloc: Global, params: &mut Params) -> Result<Command, EditFault>
+    ensures { IfOk result (λ c. FormsWith c name.OpenDir (left_of params.old)) }
+{
+    let path = params.path(alloc)?;
+    let up = params.text()?;
+    let token = params.text()?;
+    Ok(Command::OpenDir(path, up, token, params.base()?))
+}
+
+fn change_dir_prop(params: &mut Params) -> Result<Command, EditFault>
+    ensures { IfOk result (λ c. FormsWith c name.ChangeDirProp (left_of params.old)) }
+{
+    let token = params.text()?;
+    let name = params.prop_name()?;
+    Ok(Command::DirProp(token, name, params.value()?))
+}
+
+fn close_dir(params: &mut Params) -> Result<Command, EditFault>
+    ensures { IfOk result (λ c. FormsWith c name.CloseDir (left_of params.old)) }
+{
+    Ok(Command::CloseDir(params.text()?))
+}
+
+fn add_file(alloc: Global, params: &mut Params) -> Result<Command, EditFault>
+    ensures { IfOk result (λ c. FormsWith c name.AddFile (left_of params.old)) }
+{
+    let path = params.path(alloc)?;
+    let up = params.text()?;
+    let token = params.text()?;
+    Ok(Command::AddFile(path, up, token, params.source(alloc)?))
+}
+
+fn open_file(alloc: Global, params: &mut Params) -> Result<Command, EditFault>
+    ensures { IfOk result (λ c. FormsWith c name.OpenFile (left_of params.old)) }
+{
+    let path = params.path(alloc)?;
+    let up = params.text()?;
+    let token = params.text()?;
+    Ok(Command::OpenFile(path, up, token, params.base()?))
+}
+
+fn change_file_prop(params: &mut Params) -> Result<Command, EditFault>
+    ensures { IfOk result (λ c. FormsWith c name.ChangeFileProp (left_of params.old)) }
+{
+    let token = params.text()?;
+    let name = params.prop_name()?;
+    Ok(Command::FileProp(token, name, params.value()?))
+}
+
+fn apply_textdelta(params: &mut Params) -> Result<Command, EditFault>
+    ensures { IfOk result (λ c. FormsWith c name.ApplyTextdelta (left_of params.old)) }
+{
+    let token = params.text()?;
+    let _sum = params.list()?;
+    Ok(Command::TextStart(token))
+}
+
+fn textdelta_chunk(params: &mut Params) -> Result<Command, EditFault>
+    ensures { IfOk result (λ c. FormsWith c name.TextdeltaChunk (left_of params.old)) }
+{
+    let token = params.text()?;
+    Ok(Command::Chunk(token, params.text()?))
+}
+
+fn textdelta_end(params: &mut Params) -> Result<Command, EditFault>
+    ensures { IfOk result (λ c. FormsWith c name.TextdeltaEnd (left_of params.old)) }
+{
+    Ok(Command::TextEnd(params.text()?))
+}
+
+fn close_file(params: &mut Params) -> Result<Command, EditFault>
+    ensures { IfOk result (λ c. FormsWith c name.CloseFile (left_of params.old)) }
+{
+    let token = params.text()?;
+    Ok(Command::CloseFile(token, params.sum()?))
+}

@@ -1,0 +1,622 @@
+//! An edit that is received: what is open, and what a command does.
+
+ghost use Rattle.std.specs.Prelude.{◌≡◌, ◌+◌, ◌≤◌, ◌<◌, ◌++◌, ◌∷◌, [], ℕ, List, map, length, reverse, IfOk, IfErr, OnOk, OnErr, Ok, Err, Some, None, true, false, vec_len, vec_capacity, slice_get};
+ghost use Rattle.std.specs.Option.{option_copied, option_map};
+ghost use Rattle.std.specs.List.{concat};
+ghost use Rattle.md5.specs.Md5.{Holds, md5};
+ghost use Rattle.ra_item.specs.Items.{Item};
+ghost use Rattle.node_base.specs.Path.{same_name};
+ghost use Rattle.delta_editor.specs.Calls.{Adds};
+ghost use Rattle.delta_editor.specs.declared.call.Call.{Call};
+ghost use Rattle.delta_editor.specs.declared.call.Call.TheVariants as call;
+ghost use Rattle.ra_edit.specs.Streams.{reading, Reads};
+ghost use Rattle.ra_edit.specs.Edits.{At, Begun, is_free, last_calls, Within};
+ghost use Rattle.ra_edit.specs.Receiving.{Forms};
+ghost use Rattle.ra_edit.specs.Edit.{Stands, Moves, dirs_named, is_unopened, is_announced, has_root, TextEnds, SumIs};
+ghost use Rattle.ra_edit.specs.declared.receive_command.Command.TheVariants as command;
+ghost use Rattle.ra_edit.specs.declared.receive_edit.Given.TheVariants as given;
+
+use crate::edit_fault::EditFault;
+use crate::reader::WindowReader;
+use crate::receive_command::Command;
+use delta_editor::{Editor, EditorFault};
+use md5::{Digest, Md5};
+use node_base::{NodePath, PropName, RevNo, Source};
+use std::alloc::Global;
+use std::cmp::Ordering;
+use std::mem;
+
+// A directory that is open, and its token.
+pub struct OpenDir<D> {
+    token: Vec<u8>,
+    baton: D,
+}
+
+// What was given of a file's text.
+#[derive(Drop)]
+pub enum Given {
+    // Nothing.
+    Nothing,
+    // So much, with what has come of the window that isn't whole.
+    Begun(WindowReader, Md5),
+    // All of it, with this MD5.
+    Whole([u8; 16]),
+}
+
+// A file that is open, and its token.
+pub struct OpenFile<F> {
+    token: Vec<u8>,
+    baton: F,
+    given: Given,
+}
+
+// Which commands have come.
+#[derive(Clone, Copy)]
+pub enum Stage {
+    // None.
+    Begun,
+    // The target.
+    Targeted,
+    // The root was opened.
+    Inside,
+    // `close-edit`, with or without a root.
+    Announced(bool),
+}
+
+/// An edit that is received: the editor, and what is open.
+pub struct Edit<E: Editor> {
+    editor: E,
+    stage: Stage,
+    // The innermost last.
+    dirs: Vec<OpenDir<E::Dir>>,
+    file: Option<OpenFile<E::File>>,
+}
+
+// Whether two tokens are the same.
+#[tactic(auto, using(crate::proofs::Steps::name_of_same))]
+fn is_same(a: &[u8], b: &[u8]) -> bool
+    ensures same { result ≡ same_name a.now b.now }
+    ensures is { result ≡ true → a.now ≡ b.now }
+{
+    a.cmp(&b) == Ordering::Equal
+}
+
+impl<E: Editor> Edit<E> {
+    /// Before the first command.
+    pub fn new(alloc: Global, editor: E) -> Edit<E>
+        ensures editor { result.editor ≡ editor }
+        ensures stands { Stands E.dir_path E.file_path result.stage result.dirs.items result.file Begun }
+    {
+        Edit {
+            editor,
+            stage: Stage::Begun,
+            dirs: Vec::new(alloc),
+            file: None,
+        }
+    }
+
+    /// Does what a command says; `finish-replay` answers true, and nothing is done for it yet.
+    pub fn step(&mut self, command: Command) -> Result<bool, EditFault> {
+        if self.is_announced() {
+            return match command {
+                Command::Finish => Ok(true),
+                Command::Abort => Err(EditFault::Refused),
+                _ => Err(EditFault::BadShape),
+            };
+        }
+        match command {
+            Command::Target(rev) => self.target(rev)?,
+            Command::OpenRoot(base, token) => self.open_root(base, token)?,
+            Command::DeleteEntry(path, base, up) => self.delete_entry(path, base, up)?,
+            Command::AddDir(path, up, token, from) => self.add_dir(path, up, token, from)?,
+            Command::OpenDir(path, up, token, base) => self.open_dir(path, up, token, base)?,
+            Command::DirProp(token, name, value) => self.dir_prop(token, name, value)?,
+            Command::CloseDir(token) => self.close_dir(token)?,
+            Command::AddFile(path, up, token, from) => self.add_file(path, up, token, from)?,
+            Command::OpenFile(path, up, token, base) => self.open_file(path, up, token, base)?,
+            Command::FileProp(token, name, value) => self.file_prop(token, name, value)?,
+            Command::TextStart(token) => self.text_start(token)?,
+            Command::Chunk(token, bytes) => self.chunk(token, bytes)?,
+            Command::TextEnd(token) => self.text_end(token)?,
+            Command::CloseFile(token, sum) => self.close_file(token, sum)?,
+            Command::CloseEdit => self.close_edit()?,
+            Command::Finish => return Ok(true),
+            Command::Abort => return Err(EditFault::Refused),
+        }
+        Ok(false)
+    }
+
+    fn target(&mut self, rev: RevNo) -> Result<(), EditFault>
+        ensures moved { OnOk result ((at : At) (item : Item) → Forms (command.Target rev) item → Stands E.dir_path E.file_path self.old.stage self.old.dirs.items self.old.file at → Moves E.shows self.old.editor self.new.editor item at (Stands E.dir_path E.file_path self.new.stage self.new.dirs.items self.new.file)) }
+    {
+        let Stage::Begun = self.stage else {
+            return Err(EditFault::BadShape);
+        };
+        self.editor.target(rev)?;
+        self.stage = Stage::Targeted;
+        Ok(())
+    }
+
+    // Whether the end was announced.
+    fn is_announced(&self) -> bool
+        ensures { result ≡ is_announced self.now.stage }
+    {
+        match self.stage {
+            Stage::Announced(_) => true,
+            Stage::Begun | Stage::Targeted | Stage::Inside => false,
+        }
+    }
+
+    // Whether the root wasn't opened, nor an end announced.
+    fn is_unopened(&self) -> bool
+        ensures { result ≡ is_unopened self.now.stage }
+    {
+        match self.stage {
+            Stage::Begun | Stage::Targeted => true,
+            Stage::Inside | Stage::Announced(_) => false,
+        }
+    }
+
+    fn open_root(&mut self, base: Option<RevNo>, token: Vec<u8>) -> Result<(), EditFault>
+        ensures moved { OnOk result ((at : At) (item : Item) → Forms (command.OpenRoot base token) item → Stands E.dir_path E.file_path self.old.stage self.old.dirs.items self.old.file at → Moves E.shows self.old.editor self.new.editor item at (Stands E.dir_path E.file_path self.new.stage self.new.dirs.items self.new.file)) }
+    {
+        if !self.is_unopened() {
+            return Err(EditFault::BadShape);
+        }
+        self.dirs.reserve(1)?;
+        let baton = self.editor.open_root(base)?;
+        self.dirs.push_reserved(OpenDir { token, baton });
+        self.stage = Stage::Inside;
+        Ok(())
+    }
+
+    // Takes the innermost open thing, which is a directory with this token.
+    fn take_innermost(&mut self, token: &[u8]) -> Result<OpenDir<E::Dir>, EditFault>
+        ensures taken { IfOk result (λ d. (self.old.dirs.items ≡ self.new.dirs.items ++ d ∷ []) × (d.token.items ≡ token.now) × (self.old.file ≡ None)) }
+        ensures room { OnOk result ((vec_len self.new.dirs + 1 ≡ vec_len self.old.dirs) × (vec_capacity self.new.dirs ≡ vec_capacity self.old.dirs)) }
+        ensures file { self.new.file ≡ self.old.file }
+        ensures editor { self.new.editor ≡ self.old.editor }
+        ensures stage { self.new.stage ≡ self.old.stage }
+    {
+        if self.file.is_some() {
+            return Err(EditFault::BadToken);
+        }
+        match self.dirs.pop() {
+            None => Err(EditFault::BadToken),
+            Some(dir) => {
+                if is_same(dir.token.as_slice(), token) {
+                    Ok(dir)
+                } else {
+                    self.dirs.push_reserved(dir);
+                    Err(EditFault::BadToken)
+                }
+            }
+        }
+    }
+
+    // Whether nothing that is open has the token.
+    fn is_free(&self, token: &[u8]) -> bool
+        ensures { result ≡ true → is_free token.now (dirs_named E.dir_path self.now.dirs.items) ≡ true }
+    {
+        for dir in self.dirs.iter() {
+            if is_same(dir.token.as_slice(), token) {
+                return false;
+            }
+        }
+        true
+    }
+
+    // Room for one more, by a token that isn't in use, in the innermost open thing, which is a directory with this token.
+    fn take_parent(&mut self, up: &[u8], token: &[u8]) -> Result<OpenDir<E::Dir>, EditFault>
+        ensures taken { IfOk result (λ d. (self.old.dirs.items ≡ self.new.dirs.items ++ d ∷ []) × (d.token.items ≡ up.now) × (self.old.file ≡ None)) }
+        ensures free { OnOk result (is_free token.now (dirs_named E.dir_path self.old.dirs.items) ≡ true) }
+        ensures room { OnOk result (vec_len self.new.dirs + 2 ≤ vec_capacity self.new.dirs) }
+        ensures file { self.new.file ≡ self.old.file }
+        ensures editor { self.new.editor ≡ self.old.editor }
+        ensures stage { self.new.stage ≡ self.old.stage }
+    {
+        if !self.is_free(token) {
+            return Err(EditFault::BadToken);
+        }
+        self.dirs.reserve(1)?;
+        self.take_innermost(up)
+    }
+
+    fn delete_entry(
+        &mut self,
+        path: NodePath,
+        base: Option<RevNo>,
+        up: Vec<u8>,
+    ) -> Result<(), EditFault>
+        ensures moved { OnOk result ((at : At) (item : Item) → Forms (command.DeleteEntry path base up) item → Stands E.dir_path E.file_path self.old.stage self.old.dirs.items self.old.file at → Moves E.shows self.old.editor self.new.editor item at (Stands E.dir_path E.file_path self.new.stage self.new.dirs.items self.new.file)) }
+    {
+        let mut dir = self.take_innermost(up.as_slice())?;
+        let done = self.editor.delete_entry(&mut dir.baton, &path, base);
+        self.dirs.push_reserved(dir);
+        done?;
+        Ok(())
+    }
+
+    fn add_dir(
+        &mut self,
+        path: NodePath,
+        up: Vec<u8>,
+        token: Vec<u8>,
+        from: Option<Source>,
+    ) -> Result<(), EditFault>
+        ensures moved { OnOk result ((at : At) (item : Item) → Forms (command.AddDir path up token from) item → Stands E.dir_path E.file_path self.old.stage self.old.dirs.items self.old.file at → Moves E.shows self.old.editor self.new.editor item at (Stands E.dir_path E.file_path self.new.stage self.new.dirs.items self.new.file)) }
+    {
+        let mut dir = self.take_parent(up.as_slice(), token.as_slice())?;
+        let done = self.editor.add_dir(&mut dir.baton, &path, from.as_ref());
+        self.dirs.push_reserved(dir);
+        let baton = done?;
+        self.dirs.push_reserved(OpenDir { token, baton });
+        Ok(())
+    }
+
+    fn open_dir(
+        &mut self,
+        path: NodePath,
+        up: Vec<u8>,
+        token: Vec<u8>,
+        base: Option<RevNo>,
+    ) -> Result<(), EditFault>
+        ensures moved { OnOk result ((at : At) (item : Item) → Forms (command.OpenDir path up token base) item → Stands E.dir_path E.file_path self.old.stage self.old.dirs.items self.old.file at → Moves E.shows self.old.editor self.new.editor item at (Stands E.dir_path E.file_path self.new.stage self.new.dirs.items self.new.file)) }
+    {
+        let mut dir = self.take_parent(up.as_slice(), token.as_slice())?;
+        let done = self.editor.open_dir(&mut dir.baton, &path, base);
+        self.dirs.push_reserved(dir);
+        let baton = done?;
+        self.dirs.push_reserved(OpenDir { token, baton });
+        Ok(())
+    }
+
+    // The place of a directory that is open with this token.
+    fn find(&self, token: &[u8]) -> Result<usize, EditFault>
+        ensures { IfOk result (λ i. i < vec_len self.now.dirs) }
+    {
+        for (i, dir) in self.dirs.iter().enumerate() {
+            if is_same(dir.token.as_slice(), token) {
+                return Ok(i);
+            }
+        }
+        Err(EditFault::BadToken)
+    }
+
+    fn dir_prop(
+        &mut self,
+        token: Vec<u8>,
+        name: PropName,
+        value: Option<Vec<u8>>,
+    ) -> Result<(), EditFault> {
+        let at = self.find(token.as_slice())?;
+        let dir = &mut self.dirs[at];
+        self.editor
+            .dir_prop(&mut dir.baton, &name, slice_of(&value))?;
+        Ok(())
+    }
+
+    fn close_dir(&mut self, token: Vec<u8>) -> Result<(), EditFault>
+        ensures moved { OnOk result ((at : At) (item : Item) → Forms (command.CloseDir token) item → Stands E.dir_path E.file_path self.old.stage self.old.dirs.items self.old.file at → Moves E.shows self.old.editor self.new.editor item at (Stands E.dir_path E.file_path self.new.stage self.new.dirs.items self.new.file)) }
+    {
+        let OpenDir { token: _, baton } = self.take_innermost(token.as_slice())?;
+        self.editor.close_dir(baton)?;
+        Ok(())
+    }
+
+    fn add_file(
+        &mut self,
+        path: NodePath,
+        up: Vec<u8>,
+        token: Vec<u8>,
+        from: Option<Source>,
+    ) -> Result<(), EditFault>
+        ensures moved { OnOk result ((at : At) (item : Item) → Forms (command.AddFile path up token from) item → Stands E.dir_path E.file_path self.old.stage self.old.dirs.items self.old.file at → Moves E.shows self.old.editor self.new.editor item at (Stands E.dir_path E.file_path self.new.stage self.new.dirs.items self.new.file)) }
+    {
+        let mut dir = self.take_parent(up.as_slice(), token.as_slice())?;
+        let done = self.editor.add_file(&mut dir.baton, &path, from.as_ref());
+        self.dirs.push_reserved(dir);
+        let baton = done?;
+        self.hold(token, baton);
+        Ok(())
+    }
+
+    fn open_file(
+        &mut self,
+        path: NodePath,
+        up: Vec<u8>,
+        token: Vec<u8>,
+        base: Option<RevNo>,
+    ) -> Result<(), EditFault>
+        ensures moved { OnOk result ((at : At) (item : Item) → Forms (command.OpenFile path up token base) item → Stands E.dir_path E.file_path self.old.stage self.old.dirs.items self.old.file at → Moves E.shows self.old.editor self.new.editor item at (Stands E.dir_path E.file_path self.new.stage self.new.dirs.items self.new.file)) }
+    {
+        let mut dir = self.take_parent(up.as_slice(), token.as_slice())?;
+        let done = self.editor.open_file(&mut dir.baton, &path, base);
+        self.dirs.push_reserved(dir);
+        let baton = done?;
+        self.hold(token, baton);
+        Ok(())
+    }
+
+    // A file was opened.
+    fn hold(&mut self, token: Vec<u8>, baton: E::File)
+        requires none { self.old.file ≡ None }
+        ensures file { self.new.file ≡ Some (record { token = token; baton = baton; given = given.Nothing }) }
+        ensures dirs { self.new.dirs ≡ self.old.dirs }
+        ensures editor { self.new.editor ≡ self.old.editor }
+        ensures stage { self.new.stage ≡ self.old.stage }
+    {
+        let file = OpenFile {
+            token,
+            baton,
+            given: Given::Nothing,
+        };
+        match mem::replace(&mut self.file, Some(file)) {
+            None => {}
+            Some(_before) => unreachable!(),
+        }
+    }
+
+    fn file_prop(
+        &mut self,
+        token: Vec<u8>,
+        name: PropName,
+        value: Option<Vec<u8>>,
+    ) -> Result<(), EditFault> {
+        let Some(file) = &mut self.file else {
+            return Err(EditFault::BadToken);
+        };
+        if !is_same(file.token.as_slice(), token.as_slice()) {
+            return Err(EditFault::BadToken);
+        }
+        self.editor
+            .file_prop(&mut file.baton, &name, slice_of(&value))?;
+        Ok(())
+    }
+
+    fn text_start(&mut self, token: Vec<u8>) -> Result<(), EditFault> {
+        let Some(file) = &mut self.file else {
+            return Err(EditFault::BadToken);
+        };
+        if !is_same(file.token.as_slice(), token.as_slice()) {
+            return Err(EditFault::BadToken);
+        }
+        let Given::Nothing = file.given else {
+            return Err(EditFault::BadShape);
+        };
+        self.editor.text_start(&mut file.baton)?;
+        file.given = Given::Begun(WindowReader::new(), Md5::new());
+        Ok(())
+    }
+
+    fn chunk(&mut self, token: Vec<u8>, bytes: Vec<u8>) -> Result<(), EditFault> {
+        let Some(file) = &mut self.file else {
+            return Err(EditFault::BadToken);
+        };
+        if !is_same(file.token.as_slice(), token.as_slice()) {
+            return Err(EditFault::BadToken);
+        }
+        let Given::Begun(reader, sum) = &mut file.given else {
+            return Err(EditFault::BadShape);
+        };
+        take_chunk(
+            &mut self.editor,
+            &mut file.baton,
+            reader,
+            sum,
+            bytes.as_slice(),
+        )?;
+        Ok(())
+    }
+
+    fn text_end(&mut self, token: Vec<u8>) -> Result<(), EditFault> {
+        let Some(file) = &mut self.file else {
+            return Err(EditFault::BadToken);
+        };
+        if !is_same(file.token.as_slice(), token.as_slice()) {
+            return Err(EditFault::BadToken);
+        }
+        let sum = end_text(&mut file.given)?;
+        self.editor.text_end(&mut file.baton)?;
+        file.given = Given::Whole(sum);
+        Ok(())
+    }
+
+    fn close_file(&mut self, token: Vec<u8>, sum: Option<[u8; 16]>) -> Result<(), EditFault>
+        ensures moved { OnOk result ((at : At) (item : Item) → Forms (command.CloseFile token sum) item → Stands E.dir_path E.file_path self.old.stage self.old.dirs.items self.old.file at → Moves E.shows self.old.editor self.new.editor item at (Stands E.dir_path E.file_path self.new.stage self.new.dirs.items self.new.file)) }
+    {
+        let OpenFile {
+            token: _,
+            baton,
+            given: _,
+        } = self.take_file(token.as_slice(), sum)?;
+        self.editor.close_file(baton, sum)?;
+        Ok(())
+    }
+
+    // Takes the open file, which has this token, and this sum where there is one and a text came.
+    fn take_file(
+        &mut self,
+        token: &[u8],
+        sum: Option<[u8; 16]>,
+    ) -> Result<OpenFile<E::File>, EditFault>
+        ensures taken { IfOk result (λ f. (self.old.file ≡ Some f) × (f.token.items ≡ token.now) × SumIs f.given sum) }
+        ensures none { OnOk result (self.new.file ≡ None) }
+        ensures dirs { self.new.dirs ≡ self.old.dirs }
+        ensures editor { self.new.editor ≡ self.old.editor }
+        ensures stage { self.new.stage ≡ self.old.stage }
+    {
+        let Some(file) = &self.file else {
+            return Err(EditFault::BadToken);
+        };
+        if !is_same(file.token.as_slice(), token) {
+            return Err(EditFault::BadToken);
+        }
+        check_sum(&file.given, sum)?;
+        match self.file.take() {
+            Some(file) => Ok(file),
+            None => Err(EditFault::BadToken),
+        }
+    }
+
+    // Whether nothing is open.
+    fn is_closed(&self) -> bool
+        ensures { result ≡ true → (self.now.dirs.items ≡ []) × (self.now.file ≡ None) }
+    {
+        self.file.is_none() && self.dirs.is_empty()
+    }
+
+    fn close_edit(&mut self) -> Result<(), EditFault>
+        ensures moved { OnOk result ((at : At) (item : Item) → Forms (command.CloseEdit) item → Stands E.dir_path E.file_path self.old.stage self.old.dirs.items self.old.file at → Moves E.shows self.old.editor self.new.editor item at (Stands E.dir_path E.file_path self.new.stage self.new.dirs.items self.new.file)) }
+    {
+        if self.is_announced() {
+            return Err(EditFault::BadShape);
+        }
+        if !self.is_closed() {
+            return Err(EditFault::BadToken);
+        }
+        let root = self.has_root();
+        self.stage = Stage::Announced(root);
+        Ok(())
+    }
+
+    // Whether the root was opened.
+    fn has_root(&self) -> bool
+        ensures { result ≡ has_root self.now.stage }
+    {
+        match self.stage {
+            Stage::Begun | Stage::Targeted => false,
+            Stage::Inside => true,
+            Stage::Announced(root) => root,
+        }
+    }
+
+    /// Ends the edit at `finish-replay`: the root is opened and closed where it wasn't, and the editor's `close_edit` is called.
+    /// `BadToken` (46) where something is open; then it is discarded, and the edit is aborted.
+    pub fn finish(self) -> Result<E::Done, EditFault> {
+        if !self.is_closed() {
+            self.abort();
+            return Err(EditFault::BadToken);
+        }
+        let root = self.has_root();
+        let mut editor = self.into_editor();
+        if !root && let Err(fault) = show_root(&mut editor) {
+            editor.abort_edit();
+            return Err(fault.into());
+        }
+        Ok(editor.close_edit()?)
+    }
+
+    /// Discards what is open, and aborts the edit.
+    pub fn abort(self) {
+        self.into_editor().abort_edit();
+    }
+
+    // The editor, once what is open is discarded.
+    fn into_editor(self) -> E {
+        let Edit {
+            editor,
+            stage: _,
+            dirs,
+            file,
+        } = self;
+        let mut editor = editor;
+        let mut dirs = dirs;
+        if let Some(
+            OpenFile {
+                token: _,
+                baton,
+                given: _,
+            },
+        ) = file
+        {
+            editor.discard_file(baton);
+        }
+        while let Some(OpenDir { token: _, baton }) = dirs.pop() {
+            editor.discard_dir(baton);
+        }
+        dirs.destroy_empty();
+        editor
+    }
+}
+
+// The bytes of a value, where there is one.
+fn slice_of(value: &Option<Vec<u8>>) -> Option<&[u8]>
+    ensures { option_map (λ v. v.now) result ≡ option_map (λ s. s.items) value.now }
+{
+    match value {
+        Some(value) => Some(value.as_slice()),
+        None => None,
+    }
+}
+
+// The root, opened without a base and closed.
+fn show_root<E: Editor>(editor: &mut E) -> Result<(), EditorFault> {
+    let root = editor.open_root(None)?;
+    editor.close_dir(root)
+}
+
+// The MD5 of a text that ends between windows.
+fn end_text(given: &mut Given) -> Result<[u8; 16], EditFault>
+    ensures { IfOk result (λ sum. TextEnds given.old sum) }
+{
+    match mem::replace(given, Given::Nothing) {
+        Given::Begun(reader, sum) => {
+            reader.finish()?;
+            Ok(sum.finalize())
+        }
+        Given::Nothing | Given::Whole(_) => Err(EditFault::BadShape),
+    }
+}
+
+// The sum that came is that of the text, where both are there.
+fn check_sum(given: &Given, sum: Option<[u8; 16]>) -> Result<(), EditFault>
+    ensures { OnOk result (SumIs given.now sum) }
+{
+    match given {
+        Given::Nothing => Ok(()),
+        Given::Begun(..) => Err(EditFault::BadShape),
+        Given::Whole(found) => match sum {
+            Some(wanted) if wanted != *found => Err(EditFault::BadSum),
+            Some(_) | None => Ok(()),
+        },
+    }
+}
+
+// Hands on new data, if there is some, and sums it.
+fn take_stretch<E: Editor>(
+    editor: &mut E,
+    file: &mut E::File,
+    sum: &mut Md5,
+    bytes: &[u8],
+) -> Result<(), EditFault>
+    ensures pieces { OnOk result ((pieces : List (List ℕ)) × (concat pieces ≡ bytes.now) × Adds E.shows editor.old editor.new (map (call.TextPiece (E.file_path file.old)) pieces)) }
+    ensures sum { OnOk result ((text : List ℕ) → Holds sum.old text → Holds sum.new (text ++ bytes.now)) }
+    ensures file { OnOk result (E.file_path file.new ≡ E.file_path file.old) }
+{
+    if bytes.is_empty() {
+        return Ok(());
+    }
+    editor.text_piece(file, bytes)?;
+    sum.update(bytes);
+    Ok(())
+}
+
+// Hands on the new data in bytes of a text, and sums it.
+fn take_chunk<E: Editor>(
+    editor: &mut E,
+    file: &mut E::File,
+    reader: &mut WindowReader,
+    sum: &mut Md5,
+    bytes: &[u8],
+) -> Result<(), EditFault>
+    ensures file { OnOk result (E.file_path file.new ≡ E.file_path file.old) }
+{
+    let mut rest = bytes;
+    while !rest.is_empty() {
+        let stretch = reader.next(rest)?;
+        take_stretch(editor, file, sum, stretch.bytes)?;
+        rest = stretch.rest;
+    }
+    Ok(())
+}
