@@ -1,0 +1,5 @@
+pub mod Jobs
+pub mod Law
+pub mod Mirror
+pub mod Names
+pub mod World

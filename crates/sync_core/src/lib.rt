@@ -1,0 +1,13 @@
+//! The core of svnsync mirrors, with no disk, no thread and no stream: a mirror's calls on plain states, a job's decisions,
+//! and the law over every run.
+//!
+//! A mirror keeps on its revision 0 where it is copied from (`svn:sync-from-url`, `svn:sync-from-uuid`), the last revision
+//! that is copied whole (`svn:sync-last-merged-rev`), the one that is being copied (`svn:sync-currently-copying`) and the
+//! token of the job that copies (`svn:sync-lock`), as the Subversion book's chapter on svnsync says.
+#![tactic(auto)]
+
+pub mod law;
+pub mod need;
+pub mod number;
+pub mod resting;
+pub mod standing;
