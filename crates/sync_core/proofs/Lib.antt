@@ -1,1 +1,8 @@
-
+pub mod Lists
+pub mod Kept
+pub mod Writes
+pub mod Revisions
+pub mod Calls
+pub mod Stands
+pub mod Jobs
+pub mod Rooms
