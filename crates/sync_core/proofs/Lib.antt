@@ -6,3 +6,8 @@ pub mod Calls
 pub mod Stands
 pub mod Jobs
 pub mod Rooms
+pub mod Origins
+pub mod Runs
+pub mod Holder
+pub mod HolderCalls
+pub mod HolderRuns

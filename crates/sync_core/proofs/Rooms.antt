@@ -111,24 +111,32 @@ held-after o shaped room seat job ClearCopying k free i h =
     url-sync o shaped x _ k.revisions.some (clear-write o shaped x (number_is (standing_of x).merged (head_of x) a.1)) ∙ k.held i h
 held-after o shaped room seat job Look k free i h = k.held i h
 
--- what is not initialised after a call wasn't before it, and copied nothing
-new-after : (o : Origin) (shaped : Bool) (room : Room) (seat : ℕ) (job : Job) (call : Call) → RoomKept o shaped room → refusal room.mirror seat call ≡ None → has_url (stands room seat job call).mirror.revisions ≡ false → (n : ℕ) → (stands room seat job call).copied n ≡ 0
-new-after o shaped room seat job Look k free e n = k.new e n
-new-after o shaped room seat job (Init url uuid props) k free e n =
+-- where a mirror isn't initialised after a call, the call was a look
+only-look : (o : Origin) (shaped : Bool) (room : Room) (seat : ℕ) (job : Job) (call : Call) → RoomKept o shaped room → refusal room.mirror seat call ≡ None → has_url (stands room seat job call).mirror.revisions ≡ false → call ≡ Look
+only-look o shaped room seat job Look k free e = refl
+only-look o shaped room seat job (Init url uuid props) k free e =
     let f = zeroth_of room.mirror.revisions k.revisions.some in
     let there : has_url (stands room seat job (Init url uuid props)).mirror.revisions ≡ true = ap (λ q. is_some (get q url_name)) (props-there room.mirror.revisions 0 f.0 (first_map url uuid props) f.1) ∙ ap is_some (first_map-url url uuid props) in
     let c : true ≡ false = sym there ∙ e in absurd (cc)
-new-after o shaped room seat job ReleaseLock k free e n =
+only-look o shaped room seat job ReleaseLock k free e =
     let x : List Revision = room.mirror.revisions in
     let there : has_url (stands room seat job ReleaseLock).mirror.revisions ≡ true = url-sync o shaped x _ k.revisions.some (unlock-write o shaped x room.journal room.copied k.revisions) ∙ k.held seat (holder_by room.mirror seat None (no_need room.mirror seat ReleaseLock free)) in
     let c : true ≡ false = sym there ∙ e in absurd (cc)
-new-after o shaped room seat job (TakeLock token) k free e n = let c : true ≡ false = sym (held-after o shaped room seat job (TakeLock token) k free seat refl) ∙ e in absurd (cc)
-new-after o shaped room seat job (StealLock token) k free e n = let c : true ≡ false = sym (held-after o shaped room seat job (StealLock token) k free seat refl) ∙ e in absurd (cc)
-new-after o shaped room seat job (SetCopying m) k free e n = let c : true ≡ false = sym (held-after o shaped room seat job (SetCopying m) k free seat (holder_by room.mirror seat _ (no_need room.mirror seat (SetCopying m) free))) ∙ e in absurd (cc)
-new-after o shaped room seat job (Commit m set props) k free e n = let c : true ≡ false = sym (held-after o shaped room seat job (Commit m set props) k free seat (holder_by room.mirror seat _ (no_need room.mirror seat (Commit m set props) free))) ∙ e in absurd (cc)
-new-after o shaped room seat job (PutProps m props) k free e n = let c : true ≡ false = sym (held-after o shaped room seat job (PutProps m props) k free seat (holder_by room.mirror seat _ (no_need room.mirror seat (PutProps m props) free))) ∙ e in absurd (cc)
-new-after o shaped room seat job (SetMerged m) k free e n = let c : true ≡ false = sym (held-after o shaped room seat job (SetMerged m) k free seat (holder_by room.mirror seat _ (no_need room.mirror seat (SetMerged m) free))) ∙ e in absurd (cc)
-new-after o shaped room seat job ClearCopying k free e n = let c : true ≡ false = sym (held-after o shaped room seat job ClearCopying k free seat (holder_by room.mirror seat _ (no_need room.mirror seat ClearCopying free))) ∙ e in absurd (cc)
+only-look o shaped room seat job (TakeLock token) k free e = let c : true ≡ false = sym (held-after o shaped room seat job (TakeLock token) k free seat refl) ∙ e in absurd (cc)
+only-look o shaped room seat job (StealLock token) k free e = let c : true ≡ false = sym (held-after o shaped room seat job (StealLock token) k free seat refl) ∙ e in absurd (cc)
+only-look o shaped room seat job (SetCopying m) k free e = let c : true ≡ false = sym (held-after o shaped room seat job (SetCopying m) k free seat (holder_by room.mirror seat _ (no_need room.mirror seat (SetCopying m) free))) ∙ e in absurd (cc)
+only-look o shaped room seat job (Commit m set props) k free e = let c : true ≡ false = sym (held-after o shaped room seat job (Commit m set props) k free seat (holder_by room.mirror seat _ (no_need room.mirror seat (Commit m set props) free))) ∙ e in absurd (cc)
+only-look o shaped room seat job (PutProps m props) k free e = let c : true ≡ false = sym (held-after o shaped room seat job (PutProps m props) k free seat (holder_by room.mirror seat _ (no_need room.mirror seat (PutProps m props) free))) ∙ e in absurd (cc)
+only-look o shaped room seat job (SetMerged m) k free e = let c : true ≡ false = sym (held-after o shaped room seat job (SetMerged m) k free seat (holder_by room.mirror seat _ (no_need room.mirror seat (SetMerged m) free))) ∙ e in absurd (cc)
+only-look o shaped room seat job ClearCopying k free e = let c : true ≡ false = sym (held-after o shaped room seat job ClearCopying k free seat (holder_by room.mirror seat _ (no_need room.mirror seat ClearCopying free))) ∙ e in absurd (cc)
+
+-- so it copied nothing, and changed nothing
+new-after : (o : Origin) (shaped : Bool) (room : Room) (seat : ℕ) (job : Job) (call : Call) → RoomKept o shaped room → refusal room.mirror seat call ≡ None → has_url (stands room seat job call).mirror.revisions ≡ false → (n : ℕ) → (stands room seat job call).copied n ≡ 0
+new-after o shaped room seat job call k free e n =
+    subst (λ c. has_url (stands room seat job c).mirror.revisions ≡ false → (stands room seat job c).copied n ≡ 0) (sym (only-look o shaped room seat job call k free e)) (λ f. k.new f n) e
+
+blank-after : (o : Origin) (shaped : Bool) (room : Room) (seat : ℕ) (job : Job) (call : Call) → RoomKept o shaped room → refusal room.mirror seat call ≡ None → has_url (stands room seat job call).mirror.revisions ≡ false → (stands room seat job call).mirror.revisions ≡ room.mirror.revisions
+blank-after o shaped room seat job call k free e = subst (λ c. (stands room seat job c).mirror.revisions ≡ room.mirror.revisions) (sym (only-look o shaped room seat job call k free e)) refl
 
 -- the commit's number is the new head
 commit-head : (o : Origin) (shaped : Bool) (room : Room) (seat : ℕ) (job : Job) (call : Call) → RoomKept o shaped room → refusal room.mirror seat call ≡ None → acknowledged_after room.acknowledged call ≤ head_of (stands room seat job call).mirror.revisions
@@ -272,3 +280,27 @@ room-rises o shaped room (Leave seat) k may n = le_refl (room.copied n)
 room-rises o shaped room (Read m) k may n = le_refl (room.copied n)
 room-rises o shaped room Stop k may n = le_refl (room.copied n)
 room-rises o shaped room (StopAfter seat call) k may n = let is : IsCallOf room seat call = may.0 in rw is.runs (made-rise o shaped room seat is.job call k is.runs is.lawful may.1 n)
+
+-- a mirror that isn't initialised is as it was
+pub room-blank : (o : Origin) (shaped : Bool) (room : Room) (what : Happening) → RoomKept o shaped room → MayHappen o room what → has_url (room_after o room what).mirror.revisions ≡ false → (room_after o room what).mirror.revisions ≡ room.mirror.revisions
+room-blank o shaped room (Begin order) k may e = refl
+room-blank o shaped room (Ask seat question) k may e =
+    elim (job_at room.jobs seat) as (λ s. (option_map_or (λ job. hears room seat (told o job question)) s room).mirror.revisions ≡ room.mirror.revisions) [ None ↦ refl | Some job ↦ refl ]
+room-blank o shaped room (Make seat call) k may e = made_blank e
+  where
+    made_blank : has_url (room_after o room (Make seat call)).mirror.revisions ≡ false → (room_after o room (Make seat call)).mirror.revisions ≡ room.mirror.revisions
+    made_blank =
+        rw may.runs
+        (elim (refusal room.mirror seat call) as (λ s. refusal room.mirror seat call ≡ s → has_url (if is_some s then hears room seat (refused_to may.job call) else does room seat may.job call).mirror.revisions ≡ false → (if is_some s then hears room seat (refused_to may.job call) else does room seat may.job call).mirror.revisions ≡ room.mirror.revisions) [
+          | None ↦ λ free h. blank-after o shaped room seat may.job call k free h
+          | Some why ↦ λ no h. refl
+        ] refl)
+room-blank o shaped room (Starve seat call) k may e =
+    elim (job_at room.jobs seat) as (λ s. (option_map_or (λ job. hears room seat (refused_to job call)) s room).mirror.revisions ≡ room.mirror.revisions) [ None ↦ refl | Some job ↦ refl ]
+room-blank o shaped room (Leave seat) k may e = refl
+room-blank o shaped room (Read m) k may e = refl
+room-blank o shaped room Stop k may e = refl
+room-blank o shaped room (StopAfter seat call) k may e = stopped_blank e
+  where
+    stopped_blank : has_url (room_after o room (StopAfter seat call)).mirror.revisions ≡ false → (room_after o room (StopAfter seat call)).mirror.revisions ≡ room.mirror.revisions
+    stopped_blank = let is : IsCallOf room seat call = may.0 in rw is.runs (λ h. blank-after o shaped room seat is.job call k may.1 h)
