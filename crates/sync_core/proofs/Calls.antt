@@ -1,36 +1,28 @@
 -- The revisions and the journal through each accepted call.
-use Rattle.std.proofs.Common.{◌≡◌, ◌≢◌, ◌⊎◌, inl, inr, ℕ, zero, suc, ◌+◌, ◌-◌, ◌<◌, ◌≤◌, ◌^◌, ◌==◌, Bool, true, false, cond, not, ◌&&◌, ◌||◌, List, [], ◌∷◌, ◌++◌, map, length, take, slice_get, slice_set, if◌then◌else◌, Option, Some, None, is_some, is_none, nat_le, refl, sym, ap, ◌∙◌, subst, arith, length-append, length-set}
+use Rattle.std.proofs.Common.{◌≡◌, ◌≢◌, ◌⊎◌, inl, inr, ℕ, suc, ◌+◌, ◌-◌, ◌<◌, ◌≤◌, ◌==◌, Bool, true, List, [], ◌∷◌, ◌++◌, length, take, slice_get, if◌then◌else◌, Some, refl, sym, ap, ◌∙◌, arith, length-append}
 use Rattle.std.specs.Fmt.{decimal}
-use Rattle.std.specs.Option.{option_map_or, option_map}
+use Rattle.std.specs.Option.{option_map_or}
 use Rattle.std.specs.List.{range_with_len}
-use Rattle.std.specs.FinMap.{get, insert, remove, empty}
+use Rattle.std.specs.FinMap.{get, insert, remove}
 use Rattle.std.proofs.lemmas.Option.{slice_get_within}
 use Rattle.std.proofs.lemmas.List.{map-append}
-use Rattle.std.proofs.lemmas.Bool.Decides.{nat_tests}
-use Rattle.node_base.specs.Path.{Name, name_cmp, same_name, names_total, names_exact}
-use Rattle.node_base.specs.Props.{PropMap, is_sync, without_sync, copied_beside}
-use Rattle.node_base.specs.Tree.{PathMap}
+use Rattle.node_base.specs.Path.{Name}
+use Rattle.node_base.specs.Props.{PropMap, without_sync}
 use Rattle.dump_load.specs.declared.change.Change.{Change}
-use Rattle.dump_load.specs.Faults.{fault, fault_if}
 use Rattle.dump_load.specs.Trees.{effect_tree}
-use Rattle.repo_core.specs.declared.fault.RepoFault.{RepoFault}
 use Rattle.repo_core.specs.declared.entry.Entry.{Entry}
 use Rattle.repo_core.specs.declared.entry.Entry.TheVariants.{Revised, Mapped}
-use Rattle.repo_core.specs.Repository.{Revision, trees_of, tree_at, head_of, props_at, root_alone}
-use Rattle.repo_core.specs.Entries.{with_entry, revisions_after}
-use Rattle.repo_core.specs.Refusals.{by_repository}
-use Rattle.sync_core.specs.declared.need.Need.TheVariants as need
-use Rattle.sync_core.specs.declared.resting.Resting.{Resting}
+use Rattle.repo_core.specs.Repository.{Revision, trees_of, head_of, props_at, root_alone}
+use Rattle.repo_core.specs.Entries.{with_entry}
 use Rattle.sync_core.specs.declared.resting.Resting.TheVariants as resting
-use Rattle.sync_core.specs.Names.{url_name, uuid_name, merged_name, copying_name, lock_name, Number, Absent, Misspelt, Spelt, Huge, number_of, number_at, is_number, is_absent, reaches, precedes, is_spelt, starts_right}
-use Rattle.sync_core.specs.Mirror.{Mirror, fresh, Standing, standing_in, standing_of, HasShape, IsAtRest, Need, Call, Init, TakeLock, StealLock, ReleaseLock, SetCopying, Commit, PutProps, SetMerged, ClearCopying, Look, holds, unmet, first_map, entry_of, Refusal, Missed, OfRepository, refusal, holder_after, accepted, Reply, Done, Seen, granted, commits_of}
-use Rattle.sync_core.specs.Jobs.{Order, Initialise, Sync, CopyProps, Stage, Begun, Locked, Over, Fetched, Job, begun, last_fetch, GivesSet, GivesMap, KnowsShape, MayPutNumber, Lawful, locked, done_by, refused_to, answered}
-use Rattle.sync_core.specs.World.{Origin, moment_of, map_at, maps_now, IsOrigin, Room, fresh_room, World, Question, Identity, Latest, Fetch, FetchProps, Happening, Begin, Ask, Make, Starve, Leave, Read, Stop, StopAfter, Event, MasterCommit, MasterEdit, At, job_at, Makes, IsTrueAnswer, IsCallOf, MayHappen, MayBe, told, moment_for, stamped, copied_after, acknowledged_after, stands, hears, does, made, stopped, holder_left, with_job, room_after, world_after, run, IsRun}
-use Rattle.sync_core.specs.Law.{IsCopy, IsCopied, IsMirrorOf, Holds, IsInitialised, IsOpened, Starts, IsRoomOf, start, FreshStarts, EveryRun, EveryFreshRun, MomentsRise, StaysBlank, GoesOn, HolderGoesOn}
+use Rattle.sync_core.specs.Names.{url_name, uuid_name, merged_name, copying_name, lock_name, Absent, Spelt, number_of, number_at}
+use Rattle.sync_core.specs.Mirror.{fresh, standing_of, first_map}
+use Rattle.sync_core.specs.World.{Origin, map_at, Makes}
+use Rattle.sync_core.specs.Law.{IsCopied}
 use Rattle.sync_core.proofs.Lists.{slice_get-stored, slice_get-push, slice_get-grown, take-next, range-next, some_is}
-use Rattle.sync_core.proofs.Writes.{number_of-decimal, get-put_there, get-put_other, get-drop_there, get-drop_other, put_is_copy, drop_is_copy, without_sync-is_copy, get-without_sync, Differ, url-lock, uuid-lock, merged-lock, copying-lock, url-copying, uuid-copying, merged-copying, url-merged, uuid-merged, copying-merged, url-uuid, copying-url, copying-uuid, is_sync-url, is_sync-uuid, is_sync-merged, is_sync-copying, is_sync-lock}
-use Rattle.sync_core.proofs.Kept.{Rest, Kept, JobsKept, RoomKept, IsFetched, has_url, revisions-push, commits-push_revision, number_is, absent_is, is_equal, itself, is_other, passes, not_false, both, holder_is, trees-mapped, length-mapped}
-use Rattle.sync_core.proofs.Revisions.{rest-like, kept-mapped, kept-sync, kept-put, IsSyncWrite, zeroth_of, props-there, none_written}
+use Rattle.sync_core.proofs.Writes.{number_of-decimal, get-put_there, get-put_other, get-drop_there, get-drop_other, put_is_copy, drop_is_copy, without_sync-is_copy, get-without_sync, url-lock, uuid-lock, merged-lock, copying-lock, url-copying, uuid-copying, merged-copying, url-merged, uuid-merged, copying-merged, copying-url, copying-uuid, is_sync-url, is_sync-uuid, is_sync-merged, is_sync-copying, is_sync-lock}
+use Rattle.sync_core.proofs.Kept.{Rest, Kept, has_url, revisions-push, commits-push_revision, itself, is_other, trees-mapped, length-mapped}
+use Rattle.sync_core.proofs.Revisions.{rest-like, kept-mapped, IsSyncWrite, zeroth_of, props-there, none_written}
 
 -- a number in a property
 number-same : (p q : PropMap) (s : Name) → get p s ≡ get q s → number_at p s ≡ number_at q s
@@ -69,10 +61,14 @@ copying-write o shaped x n small some m e =
       url = get-put_other p copying_name (decimal n) url_name url-copying;
       uuid = get-put_other p copying_name (decimal n) uuid_name uuid-copying;
       others = λ q c. put_is_copy p q copying_name (decimal n) is_sync-copying c;
-      shape = λ h z. (resting.Copying n,
-          (number-same (insert p copying_name (decimal n)) p merged_name (get-put_other p copying_name (decimal n) merged_name merged-copying) ∙ m,
+      shape = λ h z. (
+        resting.Copying n,
+        (
+          number-same (insert p copying_name (decimal n)) p merged_name (get-put_other p copying_name (decimal n) merged_name merged-copying) ∙ m,
           ap (λ s. option_map_or number_of s Absent) (get-put_there p copying_name (decimal n)) ∙ spelt,
-          e));
+          e,
+        ),
+      );
     }
 
 pub merged-write : (o : Origin) (shaped : Bool) (x : List Revision) (n : ℕ) → length x ≤ 65536 → 0 < length x → (standing_of x).copying ≡ Spelt n → n ≡ head_of x → IsSyncWrite o shaped x (insert (props_at x 0) merged_name (decimal n))
@@ -83,9 +79,13 @@ merged-write o shaped x n small some c e =
       url = get-put_other p merged_name (decimal n) url_name url-merged;
       uuid = get-put_other p merged_name (decimal n) uuid_name uuid-merged;
       others = λ q g. put_is_copy p q merged_name (decimal n) is_sync-merged g;
-      shape = λ h z. (resting.Merged,
-          (ap (λ s. option_map_or number_of s Absent) (get-put_there p merged_name (decimal n)) ∙ spelt ∙ ap Spelt e,
-          number-same (insert p merged_name (decimal n)) p copying_name (get-put_other p merged_name (decimal n) copying_name copying-merged) ∙ c ∙ ap Spelt e));
+      shape = λ h z. (
+        resting.Merged,
+        (
+          ap (λ s. option_map_or number_of s Absent) (get-put_there p merged_name (decimal n)) ∙ spelt ∙ ap Spelt e,
+          number-same (insert p merged_name (decimal n)) p copying_name (get-put_other p merged_name (decimal n) copying_name copying-merged) ∙ c ∙ ap Spelt e,
+        ),
+      );
     }
 
 pub clear-write : (o : Origin) (shaped : Bool) (x : List Revision) → (standing_of x).merged ≡ Spelt (head_of x) → IsSyncWrite o shaped x (remove (props_at x 0) copying_name)
@@ -95,9 +95,13 @@ clear-write o shaped x m =
       url = get-drop_other p copying_name url_name url-copying;
       uuid = get-drop_other p copying_name uuid_name uuid-copying;
       others = λ q g. drop_is_copy p q copying_name is_sync-copying g;
-      shape = λ h z. (resting.Idle,
-          (number-same (remove p copying_name) p merged_name (get-drop_other p copying_name merged_name merged-copying) ∙ m,
-          ap (λ s. option_map_or number_of s Absent) (get-drop_there p copying_name)));
+      shape = λ h z. (
+        resting.Idle,
+        (
+          number-same (remove p copying_name) p merged_name (get-drop_other p copying_name merged_name merged-copying) ∙ m,
+          ap (λ s. option_map_or number_of s Absent) (get-drop_there p copying_name),
+        ),
+      );
     }
 
 pub kept-commit :
@@ -134,10 +138,14 @@ kept-commit o shaped x es copied n set theirs t k is m c next room makes given =
             ∙ sym (take-next o.trees n (effect_tree (take n o.trees) set) makes.tree)
             ∙ ap (λ i. take i o.trees) (let e : suc n ≡ length x + 1 = omega arith in e ∙ sym long);
         identity = ap (λ q. get q uuid_name) zeroth ∙ rest.identity;
-        shape = λ z. (resting.Committed n,
-            (ap (λ q. number_at q copying_name) zeroth ∙ c,
+        shape = λ z. (
+          resting.Committed n,
+          (
+            ap (λ q. number_at q copying_name) zeroth ∙ c,
             next ∙ sym grown,
-            (head_of x, ap (λ q. number_at q merged_name) zeroth ∙ m, next)));
+            (head_of x, ap (λ q. number_at q merged_name) zeroth ∙ m, next),
+          ),
+        );
         maps = λ i z at. written i z rest end (slice_get-push x new i z at);
       };
     }
@@ -189,9 +197,13 @@ kept-init o shaped x es copied url theirs t k blank given =
           ∙ sym (take-next o.trees 0 root_alone k.master)
           ∙ ap (λ i. take i o.trees) (sym same);
       identity = ap (λ q. get q uuid_name) now ∙ get-put_other p2 merged_name (decimal 0) uuid_name uuid-merged ∙ get-put_there p1 uuid_name o.identity;
-      shape = λ z. (resting.Idle,
-          (ap (λ q. number_at q merged_name) now ∙ ap (λ s. option_map_or number_of s Absent) (get-put_there p2 merged_name (decimal 0)) ∙ zero_is ∙ ap Spelt (sym head),
-          ap (λ q. number_at q copying_name) now ∙ ap (λ s. option_map_or number_of s Absent) (get-put_other p2 merged_name (decimal 0) copying_name copying-merged ∙ get-put_other p1 uuid_name o.identity copying_name copying-uuid ∙ get-put_other p url_name url copying_name copying-url ∙ get-without_sync theirs copying_name is_sync-copying)));
+      shape = λ z. (
+        resting.Idle,
+        (
+          ap (λ q. number_at q merged_name) now ∙ ap (λ s. option_map_or number_of s Absent) (get-put_there p2 merged_name (decimal 0)) ∙ zero_is ∙ ap Spelt (sym head),
+          ap (λ q. number_at q copying_name) now ∙ ap (λ s. option_map_or number_of s Absent) (get-put_other p2 merged_name (decimal 0) copying_name copying-merged ∙ get-put_other p1 uuid_name o.identity copying_name copying-uuid ∙ get-put_other p url_name url copying_name copying-url ∙ get-without_sync theirs copying_name is_sync-copying),
+        ),
+      );
       maps = λ i z at. written i z one (slice_get-stored x 0 (record { tree = option_map_or (λ a. a.tree) (slice_get x 0) root_alone; props = first_map url o.identity theirs }) i z at);
     })
   where

@@ -1,29 +1,18 @@
 -- What the holder knows of its mirror.
-use Rattle.std.proofs.Common.{◌≡◌, ◌≢◌, ◌⊎◌, inl, inr, ℕ, zero, suc, ◌+◌, ◌-◌, ◌<◌, ◌≤◌, ◌^◌, ◌==◌, Bool, true, false, cond, not, ◌&&◌, ◌||◌, List, [], ◌∷◌, ◌++◌, length, slice_get, slice_set, if◌then◌else◌, nat_le, Option, Some, None, is_some, is_none, refl, sym, ap, ◌∙◌, subst, arith, length-append, length-set}
-use Rattle.std.specs.Option.{option_map_or, option_and_then}
-use Rattle.std.specs.FinMap.{get, insert, remove}
+use Rattle.std.proofs.Common.{◌≡◌, ◌≢◌, ◌⊎◌, inl, inr, ℕ, ◌+◌, ◌-◌, ◌<◌, ◌≤◌, ◌==◌, Bool, true, false, not, ◌&&◌, ◌||◌, List, length, slice_set, Option, Some, None, is_some, refl, sym, ap, ◌∙◌, subst, arith}
+use Rattle.std.specs.FinMap.{get}
 use Rattle.std.proofs.lemmas.Bool.Decides.{nat_tests}
-use Rattle.node_base.specs.Path.{Name, name_cmp, same_name, names_total, names_exact}
-use Rattle.node_base.specs.Props.{PropMap, is_sync, without_sync, copied_beside}
-use Rattle.node_base.specs.Tree.{PathMap}
-use Rattle.dump_load.specs.declared.change.Change.{Change}
-use Rattle.dump_load.specs.Faults.{fault, fault_if}
-use Rattle.dump_load.specs.Trees.{effect_tree}
-use Rattle.repo_core.specs.declared.fault.RepoFault.{RepoFault}
-use Rattle.repo_core.specs.declared.entry.Entry.{Entry}
-use Rattle.repo_core.specs.declared.entry.Entry.TheVariants.{Revised, Mapped}
-use Rattle.repo_core.specs.Repository.{Revision, trees_of, tree_at, head_of, props_at, root_alone}
-use Rattle.repo_core.specs.Entries.{with_entry, revisions_after}
-use Rattle.repo_core.specs.Refusals.{by_repository}
+use Rattle.node_base.specs.Path.{Name}
+use Rattle.node_base.specs.Props.{PropMap, is_sync, copied_beside}
+use Rattle.repo_core.specs.declared.entry.Entry.TheVariants.{Mapped}
+use Rattle.repo_core.specs.Repository.{Revision, head_of, props_at}
+use Rattle.repo_core.specs.Entries.{with_entry}
 use Rattle.sync_core.specs.declared.need.Need.TheVariants as need
-use Rattle.sync_core.specs.declared.resting.Resting.{Resting}
-use Rattle.sync_core.specs.declared.resting.Resting.TheVariants as resting
-use Rattle.sync_core.specs.Names.{url_name, uuid_name, merged_name, copying_name, lock_name, Number, Absent, Misspelt, Spelt, Huge, number_of, number_at, is_number, is_absent, reaches, precedes, is_spelt, starts_right}
-use Rattle.sync_core.specs.Mirror.{Mirror, fresh, Standing, standing_in, standing_of, HasShape, IsAtRest, Need, Call, Init, TakeLock, StealLock, ReleaseLock, SetCopying, Commit, PutProps, SetMerged, ClearCopying, Look, holds, unmet, first_map, entry_of, Refusal, Missed, OfRepository, refusal, holder_after, accepted, Reply, Done, Seen, granted, commits_of}
-use Rattle.sync_core.specs.Jobs.{Order, Initialise, Sync, CopyProps, Stage, Begun, Locked, Over, Fetched, Job, begun, last_fetch, GivesSet, GivesMap, KnowsShape, MayPutNumber, Lawful, locked, done_by, refused_to, answered}
-use Rattle.sync_core.specs.World.{Origin, moment_of, map_at, maps_now, IsOrigin, Room, fresh_room, World, Question, Identity, Latest, Fetch, FetchProps, Happening, Begin, Ask, Make, Starve, Leave, Read, Stop, StopAfter, Event, MasterCommit, MasterEdit, At, job_at, Makes, IsTrueAnswer, IsCallOf, MayHappen, MayBe, told, moment_for, stamped, copied_after, acknowledged_after, stands, hears, does, made, stopped, holder_left, with_job, room_after, world_after, run, IsRun}
-use Rattle.sync_core.specs.Law.{IsCopy, IsCopied, IsMirrorOf, Holds, IsInitialised, IsOpened, Starts, IsRoomOf, start, FreshStarts, EveryRun, EveryFreshRun, MomentsRise, StaysBlank, GoesOn, HolderGoesOn}
-use Rattle.sync_core.proofs.Writes.{number_of-decimal, get-put_there, get-put_other, get-drop_there, get-drop_other, merged-lock, copying-lock, merged-copying, copying-merged, copied_beside-own, is_sync-merged, is_sync-copying, is_sync-lock}
+use Rattle.sync_core.specs.Names.{Number, Absent, Spelt, is_number, is_absent, reaches, precedes}
+use Rattle.sync_core.specs.Mirror.{Standing, standing_of, Need, Call, Init, TakeLock, StealLock, ReleaseLock, SetCopying, Commit, PutProps, SetMerged, ClearCopying, Look, holds, unmet}
+use Rattle.sync_core.specs.Jobs.{Order, Initialise, Sync, CopyProps, Begun, Locked, Over, Job, MayPutNumber, Lawful}
+use Rattle.sync_core.specs.World.{job_at}
+use Rattle.sync_core.proofs.Writes.{copied_beside-own}
 use Rattle.sync_core.proofs.Kept.{refuse_if, is_equal, itself, length-mapped}
 use Rattle.sync_core.proofs.Lists.{some_is}
 use Rattle.sync_core.proofs.Jobs.{job-stored}

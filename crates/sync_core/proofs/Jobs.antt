@@ -1,28 +1,15 @@
 -- The jobs of a mirror through every happening.
-use Rattle.std.proofs.Common.{◌≡◌, ◌≢◌, ◌⊎◌, inl, inr, ⊎_elim, ℕ, zero, suc, ◌+◌, ◌-◌, ◌<◌, ◌≤◌, ◌==◌, Bool, true, false, cond, not, List, [], ◌∷◌, ◌++◌, length, slice_get, slice_set, if◌then◌else◌, Option, Some, None, is_some, le_refl, refl, sym, ap, ◌∙◌, subst, arith}
+use Rattle.std.proofs.Common.{◌≡◌, ◌≢◌, ◌⊎◌, inl, inr, ℕ, ◌≤◌, ◌==◌, true, false, not, List, [], ◌∷◌, ◌++◌, length, slice_get, slice_set, if◌then◌else◌, Option, Some, None, is_some, le_refl, refl, sym, ap, ◌∙◌, subst, arith}
 use Rattle.std.specs.Option.{option_map_or, option_and_then}
-use Rattle.node_base.specs.Path.{Name, name_cmp, same_name, names_total, names_exact}
-use Rattle.node_base.specs.Props.{PropMap, is_sync, without_sync, copied_beside}
-use Rattle.node_base.specs.Tree.{PathMap}
+use Rattle.node_base.specs.Path.{Name}
+use Rattle.node_base.specs.Props.{PropMap}
 use Rattle.dump_load.specs.declared.change.Change.{Change}
-use Rattle.dump_load.specs.Faults.{fault, fault_if}
-use Rattle.dump_load.specs.Trees.{effect_tree}
-use Rattle.repo_core.specs.declared.fault.RepoFault.{RepoFault}
-use Rattle.repo_core.specs.declared.entry.Entry.{Entry}
-use Rattle.repo_core.specs.declared.entry.Entry.TheVariants.{Revised, Mapped}
-use Rattle.repo_core.specs.Repository.{Revision, trees_of, tree_at, head_of, props_at, root_alone}
-use Rattle.repo_core.specs.Entries.{with_entry, revisions_after}
-use Rattle.repo_core.specs.Refusals.{by_repository}
 use Rattle.sync_core.specs.declared.need.Need.TheVariants as need
-use Rattle.sync_core.specs.declared.resting.Resting.{Resting}
-use Rattle.sync_core.specs.declared.resting.Resting.TheVariants as resting
-use Rattle.sync_core.specs.Names.{url_name, uuid_name, merged_name, copying_name, lock_name, Number, Absent, Misspelt, Spelt, Huge, number_of, number_at, is_number, is_absent, reaches, precedes, is_spelt, starts_right}
-use Rattle.sync_core.specs.Mirror.{Mirror, fresh, Standing, standing_in, standing_of, HasShape, IsAtRest, Need, Call, Init, TakeLock, StealLock, ReleaseLock, SetCopying, Commit, PutProps, SetMerged, ClearCopying, Look, holds, unmet, first_map, entry_of, Refusal, Missed, OfRepository, refusal, holder_after, accepted, Reply, Done, Seen, granted, commits_of}
-use Rattle.sync_core.specs.Jobs.{Order, Initialise, Sync, CopyProps, Stage, Begun, Locked, Over, Fetched, Job, begun, last_fetch, GivesSet, GivesMap, KnowsShape, MayPutNumber, Lawful, locked, done_by, refused_to, answered}
-use Rattle.sync_core.specs.World.{Origin, moment_of, map_at, maps_now, IsOrigin, Room, fresh_room, World, Question, Identity, Latest, Fetch, FetchProps, Happening, Begin, Ask, Make, Starve, Leave, Read, Stop, StopAfter, Event, MasterCommit, MasterEdit, At, job_at, Makes, IsTrueAnswer, IsCallOf, MayHappen, MayBe, told, moment_for, stamped, copied_after, acknowledged_after, stands, hears, does, made, stopped, holder_left, with_job, room_after, world_after, run, IsRun}
-use Rattle.sync_core.specs.Law.{IsCopy, IsCopied, IsMirrorOf, Holds, IsInitialised, IsOpened, Starts, IsRoomOf, start, FreshStarts, EveryRun, EveryFreshRun, MomentsRise, StaysBlank, GoesOn, HolderGoesOn}
+use Rattle.sync_core.specs.Mirror.{Mirror, standing_of, Need, Call, Init, TakeLock, StealLock, ReleaseLock, SetCopying, Commit, PutProps, SetMerged, ClearCopying, Look, holds, refusal, holder_after, granted}
+use Rattle.sync_core.specs.Jobs.{Fetched, Job, last_fetch, GivesSet, GivesMap, Lawful, done_by, refused_to, answered}
+use Rattle.sync_core.specs.World.{Origin, moment_of, map_at, Question, Identity, Latest, Fetch, FetchProps, job_at, Makes, IsTrueAnswer, told, moment_for, stamped, copied_after}
 use Rattle.sync_core.proofs.Lists.{some_is, none_isnt, slice_get-push, slice_get-stored}
-use Rattle.sync_core.proofs.Kept.{refuse_if, JobsKept, RoomKept, IsFetched, has_url, is_equal, itself, is_other, passes, no_need, not_false, holder_is}
+use Rattle.sync_core.proofs.Kept.{refuse_if, JobsKept, IsFetched, has_url, is_equal, passes, no_need, not_false, holder_is}
 
 pub job-stored : (jobs : List (Option Job)) (seat : ℕ) (new : Option Job) (i : ℕ) (job : Job) → job_at (slice_set jobs seat new) i ≡ Some job → ((i ≡ seat) × (new ≡ Some job)) ⊎ ((i ≢ seat) × (job_at jobs i ≡ Some job))
 job-stored jobs seat new i job e = cases (slice_get (slice_set jobs seat new) i) refl e

@@ -1,33 +1,22 @@
 -- The revisions and the journal through every accepted call.
-use Rattle.std.proofs.Common.{◌≡◌, ◌≢◌, ◌⊎◌, inl, inr, ℕ, zero, suc, ◌+◌, ◌-◌, ◌<◌, ◌≤◌, ◌^◌, ◌==◌, Bool, true, false, cond, not, ◌&&◌, ◌||◌, List, [], ◌∷◌, ◌++◌, map, length, take, slice_get, slice_set, if◌then◌else◌, Option, Some, None, is_some, refl, sym, ap, ◌∙◌, subst, arith, length-append, length-set}
+use Rattle.std.proofs.Common.{◌≡◌, ◌≢◌, ◌⊎◌, inl, inr, ℕ, ◌-◌, ◌<◌, ◌==◌, Bool, true, false, List, [], ◌∷◌, ◌++◌, length, take, slice_get, if◌then◌else◌, Some, is_some, refl, sym, ap, ◌∙◌, subst, arith}
 use Rattle.std.specs.Option.{option_map_or}
 use Rattle.std.specs.List.{range_with_len}
-use Rattle.std.specs.FinMap.{get, insert, remove, empty}
-use Rattle.std.proofs.lemmas.Option.{slice_get_within}
-use Rattle.std.proofs.lemmas.List.{map-append}
-use Rattle.node_base.specs.Path.{Name, name_cmp, same_name, names_total, names_exact}
-use Rattle.node_base.specs.Props.{PropMap, is_sync, without_sync, copied_beside}
-use Rattle.node_base.specs.Tree.{PathMap}
-use Rattle.dump_load.specs.declared.change.Change.{Change}
-use Rattle.dump_load.specs.Faults.{fault, fault_if}
-use Rattle.dump_load.specs.Trees.{effect_tree}
-use Rattle.repo_core.specs.declared.fault.RepoFault.{RepoFault}
+use Rattle.std.specs.FinMap.{get, empty}
+use Rattle.node_base.specs.Path.{Name}
+use Rattle.node_base.specs.Props.{PropMap, is_sync, copied_beside}
 use Rattle.repo_core.specs.declared.entry.Entry.{Entry}
-use Rattle.repo_core.specs.declared.entry.Entry.TheVariants.{Revised, Mapped}
-use Rattle.repo_core.specs.Repository.{Revision, trees_of, tree_at, head_of, props_at, root_alone}
-use Rattle.repo_core.specs.Entries.{with_entry, revisions_after}
-use Rattle.repo_core.specs.Refusals.{by_repository}
-use Rattle.sync_core.specs.declared.need.Need.TheVariants as need
+use Rattle.repo_core.specs.declared.entry.Entry.TheVariants.{Mapped}
+use Rattle.repo_core.specs.Repository.{Revision, head_of, props_at, root_alone}
+use Rattle.repo_core.specs.Entries.{with_entry}
 use Rattle.sync_core.specs.declared.resting.Resting.{Resting}
-use Rattle.sync_core.specs.declared.resting.Resting.TheVariants as resting
-use Rattle.sync_core.specs.Names.{url_name, uuid_name, merged_name, copying_name, lock_name, Number, Absent, Misspelt, Spelt, Huge, number_of, number_at, is_number, is_absent, reaches, precedes, is_spelt, starts_right}
-use Rattle.sync_core.specs.Mirror.{Mirror, fresh, Standing, standing_in, standing_of, HasShape, IsAtRest, Need, Call, Init, TakeLock, StealLock, ReleaseLock, SetCopying, Commit, PutProps, SetMerged, ClearCopying, Look, holds, unmet, first_map, entry_of, Refusal, Missed, OfRepository, refusal, holder_after, accepted, Reply, Done, Seen, granted, commits_of}
-use Rattle.sync_core.specs.Jobs.{Order, Initialise, Sync, CopyProps, Stage, Begun, Locked, Over, Fetched, Job, begun, last_fetch, GivesSet, GivesMap, KnowsShape, MayPutNumber, Lawful, locked, done_by, refused_to, answered}
-use Rattle.sync_core.specs.World.{Origin, moment_of, map_at, maps_now, IsOrigin, Room, fresh_room, World, Question, Identity, Latest, Fetch, FetchProps, Happening, Begin, Ask, Make, Starve, Leave, Read, Stop, StopAfter, Event, MasterCommit, MasterEdit, At, job_at, Makes, IsTrueAnswer, IsCallOf, MayHappen, MayBe, told, moment_for, stamped, copied_after, acknowledged_after, stands, hears, does, made, stopped, holder_left, with_job, room_after, world_after, run, IsRun}
-use Rattle.sync_core.specs.Law.{IsCopy, IsCopied, IsMirrorOf, Holds, IsInitialised, IsOpened, Starts, IsRoomOf, start, FreshStarts, EveryRun, EveryFreshRun, MomentsRise, StaysBlank, GoesOn, HolderGoesOn}
-use Rattle.sync_core.proofs.Lists.{slice_get-stored, slice_get-set_there, slice_get-set_elsewhere, slice_get-push, slice_get-grown, map-set_same, take-next, range-next, some_is}
-use Rattle.sync_core.proofs.Writes.{number_of-decimal, get-put_there, get-put_other, get-drop_there, get-drop_other, put_is_copy, drop_is_copy, copied_beside-own, copied_beside-is_copy, without_sync-is_copy, get-without_sync, Differ, url-lock, uuid-lock, merged-lock, copying-lock, url-copying, uuid-copying, merged-copying, url-merged, uuid-merged, copying-merged, is_sync-url, is_sync-uuid, is_sync-merged, is_sync-copying, is_sync-lock}
-use Rattle.sync_core.proofs.Kept.{Rest, Kept, has_url, revisions-push, commits-push_map, commits-push_revision, number_is, is_equal, itself, is_other, trees-mapped, length-mapped}
+use Rattle.sync_core.specs.Names.{url_name, uuid_name, merged_name, copying_name, Number, Absent, number_of}
+use Rattle.sync_core.specs.Mirror.{fresh, standing_in, HasShape, IsAtRest}
+use Rattle.sync_core.specs.World.{Origin, map_at}
+use Rattle.sync_core.specs.Law.{IsCopy, IsCopied}
+use Rattle.sync_core.proofs.Lists.{slice_get-stored, slice_get-set_there, slice_get-set_elsewhere}
+use Rattle.sync_core.proofs.Writes.{copied_beside-own, copied_beside-is_copy, is_sync-url, is_sync-uuid, is_sync-merged, is_sync-copying}
+use Rattle.sync_core.proofs.Kept.{Rest, Kept, has_url, revisions-push, commits-push_map, is_equal, itself, is_other, trees-mapped, length-mapped}
 
 -- a write of one map: what any such call keeps
 pub kept-mapped :

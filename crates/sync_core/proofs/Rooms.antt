@@ -1,35 +1,26 @@
 -- A mirror and its jobs through every happening, and through the master's own steps.
-use Rattle.std.proofs.Common.{◌≡◌, ◌≢◌, ◌⊎◌, inl, inr, ⊎_elim, ℕ, zero, suc, ◌+◌, ◌-◌, ◌<◌, ◌≤◌, ◌==◌, max, Bool, true, false, cond, not, List, [], ◌∷◌, ◌++◌, length, take, slice_get, slice_set, if◌then◌else◌, Option, Some, None, is_some, is_none, le_trans, le_refl, ◌&&◌, ◌||◌, refl, sym, ap, ◌∙◌, subst, arith, length-append, length-set}
-use Rattle.std.specs.Option.{option_map_or, option_and_then}
+use Rattle.std.proofs.Common.{◌≡◌, ◌≢◌, ◌⊎◌, inl, inr, ℕ, ◌+◌, ◌<◌, ◌≤◌, ◌==◌, Bool, true, false, not, List, [], ◌∷◌, ◌++◌, length, slice_get, if◌then◌else◌, Option, Some, None, is_some, is_none, le_trans, le_refl, ◌&&◌, refl, sym, ap, ◌∙◌, subst, arith, length-append, length-set}
+use Rattle.std.specs.Option.{option_map_or}
 use Rattle.std.specs.FinMap.{get, empty, get-empty}
-use Rattle.std.proofs.lemmas.Option.{slice_get_within}
-use Rattle.node_base.specs.Path.{Name, name_cmp, same_name, names_total, names_exact}
-use Rattle.node_base.specs.Props.{PropMap, is_sync, without_sync, copied_beside}
-use Rattle.node_base.specs.Tree.{PathMap}
-use Rattle.dump_load.specs.declared.change.Change.{Change}
-use Rattle.dump_load.specs.Faults.{fault, fault_if}
+use Rattle.node_base.specs.Path.{Name, name_cmp}
+use Rattle.node_base.specs.Props.{PropMap, without_sync, copied_beside}
 use Rattle.dump_load.specs.Trees.{effect_tree}
-use Rattle.repo_core.specs.declared.fault.RepoFault.{RepoFault}
 use Rattle.repo_core.specs.declared.entry.Entry.{Entry}
 use Rattle.repo_core.specs.declared.entry.Entry.TheVariants.{Revised, Mapped}
-use Rattle.repo_core.specs.Repository.{Revision, trees_of, tree_at, head_of, props_at, root_alone}
-use Rattle.repo_core.specs.Entries.{with_entry, revisions_after}
-use Rattle.repo_core.specs.Refusals.{by_repository}
+use Rattle.repo_core.specs.Repository.{Revision, trees_of, head_of, props_at, root_alone}
+use Rattle.repo_core.specs.Entries.{with_entry}
 use Rattle.sync_core.specs.declared.need.Need.TheVariants as need
-use Rattle.sync_core.specs.declared.resting.Resting.{Resting}
-use Rattle.sync_core.specs.declared.resting.Resting.TheVariants as resting
-use Rattle.sync_core.specs.Names.{url_name, uuid_name, merged_name, copying_name, lock_name, Number, Absent, Misspelt, Spelt, Huge, number_of, number_at, is_number, is_absent, reaches, precedes, is_spelt, starts_right}
-use Rattle.sync_core.specs.Mirror.{Mirror, fresh, Standing, standing_in, standing_of, HasShape, IsAtRest, Need, Call, Init, TakeLock, StealLock, ReleaseLock, SetCopying, Commit, PutProps, SetMerged, ClearCopying, Look, holds, unmet, first_map, entry_of, Refusal, Missed, OfRepository, refusal, holder_after, accepted, Reply, Done, Seen, granted, commits_of}
-use Rattle.sync_core.specs.Jobs.{Order, Initialise, Sync, CopyProps, Stage, Begun, Locked, Over, Fetched, Job, begun, last_fetch, GivesSet, GivesMap, KnowsShape, MayPutNumber, Lawful, locked, done_by, refused_to, answered}
-use Rattle.sync_core.specs.World.{Origin, moment_of, map_at, maps_now, IsOrigin, Room, fresh_room, World, Question, Identity, Latest, Fetch, FetchProps, Happening, Begin, Ask, Make, Starve, Leave, Read, Stop, StopAfter, Event, MasterCommit, MasterEdit, At, job_at, Makes, IsTrueAnswer, IsCallOf, MayHappen, MayBe, told, moment_for, stamped, copied_after, acknowledged_after, stands, hears, does, made, stopped, holder_left, with_job, room_after, world_after, run, IsRun}
-use Rattle.sync_core.specs.Law.{IsCopy, IsCopied, IsMirrorOf, Holds, IsInitialised, IsOpened, Starts, IsRoomOf, start, FreshStarts, EveryRun, EveryFreshRun, MomentsRise, StaysBlank, GoesOn, HolderGoesOn}
-use Rattle.sync_core.proofs.Lists.{some_is, none_isnt, slice_get-grown, take-grown}
-use Rattle.sync_core.proofs.Kept.{refuse_if, Rest, Kept, JobsKept, RoomKept, IsFetched, has_url, passes, no_need, is_equal, itself, both, number_is, absent_is}
+use Rattle.sync_core.specs.Names.{url_name, is_number, is_absent, precedes}
+use Rattle.sync_core.specs.Mirror.{standing_of, Call, Init, TakeLock, StealLock, ReleaseLock, SetCopying, Commit, PutProps, SetMerged, ClearCopying, Look, first_map, entry_of, refusal, holder_after}
+use Rattle.sync_core.specs.Jobs.{Fetched, Job, begun, last_fetch, Lawful, refused_to}
+use Rattle.sync_core.specs.World.{Origin, moment_of, Room, Happening, Begin, Ask, Make, Starve, Leave, Read, Stop, StopAfter, job_at, IsCallOf, MayHappen, told, acknowledged_after, stands, hears, does, made, stopped, holder_left, room_after}
+use Rattle.sync_core.proofs.Lists.{some_is, none_isnt}
+use Rattle.sync_core.proofs.Kept.{refuse_if, Kept, RoomKept, IsFetched, has_url, passes, no_need, is_equal, itself, both, number_is}
 use Rattle.sync_core.proofs.Writes.{first_map-url, copied_beside-own, is_sync-url}
 use Rattle.sync_core.proofs.Revisions.{IsSyncWrite, zeroth_of, props-there, props-elsewhere}
 use Rattle.sync_core.proofs.Calls.{lock-write, unlock-write, copying-write, merged-write, clear-write}
 use Rattle.sync_core.proofs.Stands.{kept-stands, turn_of}
-use Rattle.sync_core.proofs.Jobs.{jobs-set, jobs-hear, jobs-done, jobs-none, holder_by, moments-rise, job-stored, job-pushed, JobKept, at_seat, kept-told, kept-refused}
+use Rattle.sync_core.proofs.Jobs.{jobs-hear, jobs-done, jobs-none, holder_by, moments-rise, job-stored, job-pushed, JobKept, at_seat, kept-told, kept-refused}
 
 -- no call makes the head fall
 head-rises : (x : List Revision) (e : Entry) → head_of x ≤ head_of (with_entry x e)

@@ -1,30 +1,16 @@
 -- Whole runs.
-use Rattle.std.proofs.Common.{◌≡◌, ◌≢◌, ◌⊎◌, inl, inr, ℕ, zero, suc, ◌+◌, ◌-◌, ◌<◌, ◌≤◌, Bool, true, false, List, [], ◌∷◌, ◌++◌, length, take, replicate, slice_get, slice_set, Option, Some, None, is_some, refl, sym, ap, ◌∙◌, subst, arith, le_trans, le_refl, length-append, ◌==◌}
-use Rattle.std.specs.Option.{option_map_or, option_and_then}
-use Rattle.std.proofs.lemmas.Option.{slice_get_within}
-use Rattle.std.specs.FinMap.{get, empty, get-empty}
-use Rattle.node_base.specs.Path.{Name, name_cmp, same_name, names_total, names_exact}
-use Rattle.node_base.specs.Props.{PropMap, is_sync, without_sync, copied_beside}
+use Rattle.std.proofs.Common.{◌≡◌, ◌≢◌, ◌⊎◌, inl, inr, ℕ, zero, suc, ◌<◌, ◌≤◌, Bool, true, false, List, [], ◌∷◌, ◌++◌, length, replicate, slice_get, slice_set, Option, Some, None, is_some, refl, sym, ap, ◌∙◌, subst, arith, le_trans, le_refl, length-append, ◌==◌}
+use Rattle.std.specs.Option.{option_map_or}
+use Rattle.std.specs.FinMap.{get-empty}
+use Rattle.node_base.specs.Path.{name_cmp}
 use Rattle.node_base.specs.Tree.{PathMap}
-use Rattle.dump_load.specs.declared.change.Change.{Change}
-use Rattle.dump_load.specs.Faults.{fault, fault_if}
 use Rattle.dump_load.specs.Trees.{effect_tree}
-use Rattle.repo_core.specs.declared.fault.RepoFault.{RepoFault}
-use Rattle.repo_core.specs.declared.entry.Entry.{Entry}
-use Rattle.repo_core.specs.declared.entry.Entry.TheVariants.{Revised, Mapped}
-use Rattle.repo_core.specs.Repository.{Revision, trees_of, tree_at, head_of, props_at, root_alone}
-use Rattle.repo_core.specs.Entries.{with_entry, revisions_after}
-use Rattle.repo_core.specs.Refusals.{by_repository}
-use Rattle.sync_core.specs.declared.need.Need.TheVariants as need
-use Rattle.sync_core.specs.declared.resting.Resting.{Resting}
-use Rattle.sync_core.specs.declared.resting.Resting.TheVariants as resting
-use Rattle.sync_core.specs.Names.{url_name, uuid_name, merged_name, copying_name, lock_name, Number, Absent, Misspelt, Spelt, Huge, number_of, number_at, is_number, is_absent, reaches, precedes, is_spelt, starts_right}
-use Rattle.sync_core.specs.Mirror.{Mirror, fresh, Standing, standing_in, standing_of, HasShape, IsAtRest, Need, Call, Init, TakeLock, StealLock, ReleaseLock, SetCopying, Commit, PutProps, SetMerged, ClearCopying, Look, holds, unmet, first_map, entry_of, Refusal, Missed, OfRepository, refusal, holder_after, accepted, Reply, Done, Seen, granted, commits_of}
-use Rattle.sync_core.specs.Jobs.{Order, Initialise, Sync, CopyProps, Stage, Begun, Locked, Over, Fetched, Job, begun, last_fetch, GivesSet, GivesMap, KnowsShape, MayPutNumber, Lawful, locked, done_by, refused_to, answered}
-use Rattle.sync_core.specs.World.{Origin, moment_of, map_at, maps_now, IsOrigin, Room, fresh_room, World, Question, Identity, Latest, Fetch, FetchProps, Happening, Begin, Ask, Make, Starve, Leave, Read, Stop, StopAfter, Event, MasterCommit, MasterEdit, At, job_at, Makes, IsTrueAnswer, IsCallOf, MayHappen, MayBe, told, moment_for, stamped, copied_after, acknowledged_after, stands, hears, does, made, stopped, holder_left, with_job, room_after, world_after, run, IsRun}
-use Rattle.sync_core.specs.Law.{IsCopy, IsCopied, IsMirrorOf, Holds, IsInitialised, IsOpened, Starts, IsRoomOf, start, FreshStarts, EveryRun, EveryFreshRun, MomentsRise, StaysBlank, GoesOn, HolderGoesOn}
-use Rattle.sync_core.proofs.Lists.{slice_get-grown, slice_get-stored, slice_get-set_there, slice_get-set_elsewhere, take-next, none_isnt, some_is}
-use Rattle.sync_core.proofs.Kept.{Rest, Kept, JobsKept, RoomKept, has_url, is_equal, itself}
+use Rattle.repo_core.specs.Repository.{Revision, trees_of, tree_at, root_alone}
+use Rattle.sync_core.specs.Names.{url_name}
+use Rattle.sync_core.specs.World.{Origin, maps_now, IsOrigin, Room, fresh_room, World, Event, MasterCommit, MasterEdit, At, MayBe, room_after, world_after, run, IsRun}
+use Rattle.sync_core.specs.Law.{IsMirrorOf, Holds, IsOpened, Starts, start, FreshStarts, EveryRun, EveryFreshRun, MomentsRise, StaysBlank}
+use Rattle.sync_core.proofs.Lists.{slice_get-stored, slice_get-set_there, slice_get-set_elsewhere, none_isnt, some_is}
+use Rattle.sync_core.proofs.Kept.{Rest, JobsKept, RoomKept, has_url, is_equal, itself}
 use Rattle.sync_core.proofs.Jobs.{jobs-none}
 use Rattle.sync_core.proofs.Rooms.{kept-room, room-rises, room-blank}
 use Rattle.sync_core.proofs.Origins.{Grows, committed-grows, edited-grows, room-grown}

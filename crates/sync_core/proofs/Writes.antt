@@ -1,11 +1,11 @@
 -- What a map of sync properties has after one of them was written, and after a copying.
-use Rattle.std.proofs.Common.{rules, ◌≡◌, ◌≢◌, ◌⊎◌, inl, inr, ℕ, ◌+◌, ◌<◌, ◌≤◌, ◌^◌, ◌==◌, ◌&&◌, Bool, true, false, cond, not, length, get_or, zero, suc, List, [], ◌∷◌, ◌++◌, if◌then◌else◌, Option, Some, None, refl, sym, ap, ◌∙◌, subst, arith}
-use Rattle.std.specs.Option.{option_or, option_map_or}
+use Rattle.std.proofs.Common.{rules, ◌≡◌, ℕ, ◌<◌, ◌^◌, ◌&&◌, Bool, true, false, cond, not, length, get_or, zero, suc, List, [], ◌∷◌, if◌then◌else◌, Some, None, refl, ap, ◌∙◌, arith}
+use Rattle.std.specs.Option.{option_map_or}
 use Rattle.std.specs.Fmt.{decimal}
-use Rattle.std.specs.FinMap.{get, insert, remove, empty, retain_keys, get-insert, get-remove, get-empty}
+use Rattle.std.specs.FinMap.{get, insert, remove, get-insert, get-remove}
 use Rattle.std.proofs.lemmas.Fmt.{decimal_digit, decimal_nonempty, first_decimal, digits_decimal}
 use Rattle.std.proofs.lemmas.Str.Parse.{IsNumeralModel, numerals_by_fold}
-use Rattle.node_base.specs.Path.{Name, name_cmp, same_name, names_total, names_exact}
+use Rattle.node_base.specs.Path.{Name, same_name, names_total}
 use Rattle.node_base.specs.Props.{PropMap, is_sync, without_sync, copied_beside}
 use Rattle.node_base.specs.Numbers.{is_digit, all_bytes, number_after, SpellsNumber}
 use Rattle.node_base.specs.Numbers as numbers
@@ -13,7 +13,7 @@ use Rattle.node_base.proofs.PathLemmas.{same_name_itself, name_of_same}
 use Rattle.node_base.proofs.PropLemmas.{get-retained}
 use Rattle.node_base.proofs.CopiedProps.{get-copied}
 use Rattle.node_base.proofs.NumbersRead.{read_of_spelled}
-use Rattle.sync_core.specs.Names.{url_name, uuid_name, merged_name, copying_name, lock_name, Number, Absent, Misspelt, Spelt, Huge, number_of, number_at, starts_right, is_spelt}
+use Rattle.sync_core.specs.Names.{url_name, uuid_name, merged_name, copying_name, lock_name, Misspelt, Spelt, Huge, number_of, starts_right, is_spelt}
 use Rattle.sync_core.specs.Mirror.{first_map}
 use Rattle.sync_core.specs.Law.{IsCopy}
 use Rattle.sync_core.proofs.Kept.{is_other}
