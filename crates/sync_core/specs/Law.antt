@@ -1,5 +1,5 @@
 -- What holds of every mirror after every list of events.
-use Rattle.std.specs.Prelude.{◌≡◌, ℕ, ◌≤◌, Bool, true, false, List, [], ◌++◌, length, take, replicate, slice_get, Option, Some, None, is_some}
+use Rattle.std.specs.Prelude.{◌≡◌, ℕ, ◌≤◌, Bool, true, false, List, [], ◌++◌, length, take, replicate, slice_get, Some, None, is_some}
 use Rattle.std.specs.List.{range_with_len}
 use Rattle.std.specs.FinMap as finite
 use Rattle.node_base.specs.Path.{Name}

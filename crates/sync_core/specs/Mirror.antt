@@ -1,9 +1,8 @@
 -- A mirror, its calls, and what they do.
-use Rattle.std.specs.Prelude.{◌≡◌, ℕ, ◌+◌, ◌==◌, ◌&&◌, ◌||◌, not, Bool, true, false, List, [], ◌∷◌, ◌++◌, Option, Some, None, is_some, is_none, if◌then◌else◌}
-use Rattle.std.specs.Option.{option_map_or, option_map, option_or, option_and_then}
+use Rattle.std.specs.Prelude.{◌≡◌, ℕ, ◌+◌, ◌==◌, ◌&&◌, ◌||◌, not, Bool, false, List, [], ◌∷◌, Option, Some, None, is_some, is_none, if◌then◌else◌}
+use Rattle.std.specs.Option.{option_map_or, option_map, option_and_then}
 use Rattle.std.specs.FinMap as finite
 use Rattle.std.specs.Fmt as fmt
-use Rattle.node_base.specs.Path.{Name}
 use Rattle.node_base.specs.Props.{PropMap, without_sync, copied_beside}
 use Rattle.dump_load.specs.declared.change.Change.{Change}
 use Rattle.dump_load.specs.Faults.{fault_if, first_of}

@@ -1,10 +1,10 @@
 -- The properties of a mirror's synchronisation, on its revision 0, and how numbers stand in them.
-use Rattle.std.specs.Prelude.{◌≡◌, ℕ, ◌+◌, ◌==◌, ◌&&◌, nat_le, not, Bool, true, false, List, [], ◌∷◌, codes, Option, if◌then◌else◌}
+use Rattle.std.specs.Prelude.{ℕ, ◌+◌, ◌==◌, ◌&&◌, nat_le, not, Bool, true, false, List, [], ◌∷◌, codes, if◌then◌else◌}
 use Rattle.std.specs.Option.{option_map_or}
 use Rattle.std.specs.FinMap as finite
 use Rattle.node_base.specs.Path.{Name}
 use Rattle.node_base.specs.Props.{PropMap}
-use Rattle.node_base.specs.Numbers.{is_nil, is_digit, all_bytes, decimal}
+use Rattle.node_base.specs.Numbers.{is_digit, all_bytes, decimal}
 pub use Rattle.sync_core.specs.declared.number.Number.{Number}
 pub use Rattle.sync_core.specs.declared.number.Number.TheVariants.{Absent, Misspelt, Spelt, Huge}
 

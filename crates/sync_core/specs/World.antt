@@ -8,7 +8,7 @@ use Rattle.dump_load.specs.Faults.{fault}
 use Rattle.dump_load.specs.Trees.{effect_tree}
 use Rattle.repo_core.specs.Repository.{head_of, root_alone}
 use Rattle.repo_core.specs.declared.entry.Entry.{Entry}
-use Rattle.sync_core.specs.Mirror.{Mirror, fresh, Call, Init, TakeLock, StealLock, ReleaseLock, SetCopying, Commit, PutProps, SetMerged, ClearCopying, Look, refusal, entry_of, accepted, granted}
+use Rattle.sync_core.specs.Mirror.{Mirror, fresh, Call, Init, Commit, PutProps, refusal, entry_of, accepted, granted}
 use Rattle.sync_core.specs.Jobs.{Order, Job, begun, last_fetch, Lawful, answered, refused_to}
 
 -- the master so far: its identity, the trees of its revisions, and the maps of all revisions at each count of its steps
