@@ -2,6 +2,7 @@ pub mod Calls
 pub mod CopyFollows
 pub mod CopyTable
 pub mod Deeds
+pub mod Dues
 pub mod Endings
 pub mod Faults
 pub mod Identities
