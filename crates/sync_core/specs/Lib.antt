@@ -12,6 +12,7 @@ pub mod Jobs
 pub mod Law
 pub mod Mirror
 pub mod Names
+pub mod Plain
 pub mod Shapes
 pub mod States
 pub mod SyncFollows

@@ -7,7 +7,7 @@ ghost use Rattle.node_base.specs.Props.{copied_beside};
 ghost use Rattle.repo_core.specs.Repository.{props_at};
 ghost use Rattle.repo_core.specs.Refusals.{by_repository, limit_fault};
 ghost use Rattle.repo_core.specs.declared.entry.Entry.TheVariants.{Revised, Mapped};
-ghost use Rattle.sync_core.specs.Names.{merged_name, copying_name, lock_name};
+ghost use Rattle.sync_core.specs.Names.{url_name, uuid_name, merged_name, copying_name, lock_name};
 ghost use Rattle.sync_core.specs.Mirror.{entry_of, first_map};
 ghost use Rattle.sync_core.specs.Calls.{call_of};
 ghost use Rattle.sync_core.specs.Dues.{IsDue};
@@ -120,8 +120,8 @@ fn merged_entry(alloc: Global, own: &Props, number: RevNo) -> Result<Entry, Sync
     Ok(of_zero(props))
 }
 
-// The copied properties, where they come from, and that no more is merged than revision 0.
-#[tactic(auto, unfolding(crate::specs::Mirror::first_map, crate::specs::Names::url_name, crate::specs::Names::uuid_name, crate::specs::Names::merged_name))]
+// The copied properties, where they come from, and that no more is merged than revision 0. They are within the limits: of the
+// names that begin with `svn:sync-` there are three.
 fn init_entry(
     alloc: Global,
     url: &PropValue,
@@ -129,13 +129,49 @@ fn init_entry(
     props: &Props,
 ) -> Result<Entry, SyncFault>
     ensures entry { IfOk result (λ e. e ≡ Mapped 0 (first_map url.now uuid.now props.now)) }
-    ensures refused { IfErr result (λ f. IsDue f (limit_fault (first_map url.now uuid.now props.now))) }
+    ensures memory { IfErr result (λ f. f ≡ OutOfMemory) }
 {
     let copied = props.without_sync(alloc)?;
-    let with_url = with_value(alloc, copied, URL, url.copy(alloc)?)?;
-    let with_uuid = with_value(alloc, with_url, UUID, uuid.copy(alloc)?)?;
-    let props = with_value(alloc, with_uuid, MERGED, decimal(alloc, RevNo::ZERO)?)?;
+    let with_url = with_url(alloc, copied, url)?;
+    let with_uuid = with_uuid(alloc, with_url, uuid)?;
+    let props = with_none_merged(alloc, with_uuid)?;
     Ok(of_zero(props))
+}
+
+#[tactic(auto, unfolding(crate::specs::Names::url_name))]
+fn with_url(alloc: Global, props: Props, url: &PropValue) -> Result<Props, SyncFault>
+    ensures map { IfOk result (λ m. m ≡ finite.insert props url_name url.now) }
+    ensures memory { IfErr result (λ f. f ≡ OutOfMemory) }
+{
+    let value = url.copy(alloc)?;
+    match with_value(alloc, props, URL, value) {
+        Ok(props) => Ok(props),
+        Err(_) => Err(SyncFault::OutOfMemory),
+    }
+}
+
+#[tactic(auto, unfolding(crate::specs::Names::uuid_name))]
+fn with_uuid(alloc: Global, props: Props, uuid: &PropValue) -> Result<Props, SyncFault>
+    ensures map { IfOk result (λ m. m ≡ finite.insert props uuid_name uuid.now) }
+    ensures memory { IfErr result (λ f. f ≡ OutOfMemory) }
+{
+    let value = uuid.copy(alloc)?;
+    match with_value(alloc, props, UUID, value) {
+        Ok(props) => Ok(props),
+        Err(_) => Err(SyncFault::OutOfMemory),
+    }
+}
+
+#[tactic(auto, unfolding(crate::specs::Names::merged_name))]
+fn with_none_merged(alloc: Global, props: Props) -> Result<Props, SyncFault>
+    ensures map { IfOk result (λ m. m ≡ finite.insert props merged_name (fmt.decimal 0)) }
+    ensures memory { IfErr result (λ f. f ≡ OutOfMemory) }
+{
+    let value = decimal(alloc, RevNo::ZERO)?;
+    match with_value(alloc, props, MERGED, value) {
+        Ok(props) => Ok(props),
+        Err(_) => Err(SyncFault::OutOfMemory),
+    }
 }
 
 // The copied properties of a revision that is there, beside its own.

@@ -18,6 +18,7 @@ mod init_job;
 pub mod law;
 pub mod lock_token;
 pub mod look;
+pub mod mirror;
 pub mod need;
 pub mod needs;
 pub mod number;
