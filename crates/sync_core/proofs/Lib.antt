@@ -9,6 +9,7 @@ pub mod Jobs
 pub mod Kept
 pub mod Lists
 pub mod Origins
+pub mod PlainAnswers
 pub mod Revisions
 pub mod Rooms
 pub mod Runs

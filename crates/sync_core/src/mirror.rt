@@ -51,8 +51,9 @@ impl PlainMirror {
         ensures { Answers (mirror_of self.old) seat (call_of call.now) result (mirror_of self.new) }
     {
         let own = own_of(&self.repo);
-        if let Some(need) = unmet_need(own, self.repo.head(), self.holder, seat, call) {
-            return Err(need_fault(alloc, need, own));
+        match unmet_need(own, self.repo.head(), self.holder, seat, call) {
+            Some(need) => return Err(need_fault(alloc, need, own)),
+            None => {}
         }
         let Some(entry) = entry_of(alloc, &self.repo, call)? else {
             return Ok(Reply::Seen(look(alloc, own, self.repo.head())?));
