@@ -11,3 +11,6 @@ pub mod Runs
 pub mod Holder
 pub mod HolderCalls
 pub mod HolderRuns
+pub mod Table
+pub mod Turns
+pub mod Replays
