@@ -6,8 +6,26 @@
 //! token of the job that copies (`svn:sync-lock`), as the Subversion book's chapter on svnsync says.
 #![tactic(auto)]
 
+pub mod action;
+pub mod answer;
+pub mod call;
+mod copy_job;
+pub mod ending;
+pub mod fault;
+mod identity;
+mod init_job;
 pub mod law;
+pub mod lock_token;
+pub mod look;
 pub mod need;
+pub mod needs;
 pub mod number;
+mod number_words;
+pub mod properties;
 pub mod resting;
+pub mod seat;
+pub mod shape;
 pub mod standing;
+pub mod state;
+mod sync_job;
+pub mod token;
