@@ -37,23 +37,23 @@ sees r holder seat job k known is_locked spelt =
       | false ↦ λ e. let f : Absent ≡ Spelt k = sym (known.blind is_locked e) ∙ spelt in absurd (cc)
     ] refl
 
-free-held : (holder : Option ℕ) (seat : ℕ) (rest : Option Need) → holder ≡ Some seat → rest ≡ None → refuse_if (not (holds holder seat)) need.NotHolder rest ≡ None
+pub free-held : (holder : Option ℕ) (seat : ℕ) (rest : Option Need) → holder ≡ Some seat → rest ≡ None → refuse_if (not (holds holder seat)) need.NotHolder rest ≡ None
 free-held holder seat rest h e = rw (h, itself seat) e
 
-free-turn : (b : Bool) (rest : Option Need) → b ≡ true → rest ≡ None → refuse_if (not b) need.OutOfTurn rest ≡ None
+pub free-turn : (b : Bool) (rest : Option Need) → b ≡ true → rest ≡ None → refuse_if (not b) need.OutOfTurn rest ≡ None
 free-turn b rest h e = rw h e
 
-all : (a b c : Bool) → a ≡ true → b ≡ true → c ≡ true → (a && b && c) ≡ true
+pub all : (a b c : Bool) → a ≡ true → b ≡ true → c ≡ true → (a && b && c) ≡ true
 all a b c p q r = rw (p, q) r
 
-is_the : (m : Number) (n k : ℕ) → m ≡ Spelt n → n ≡ k → is_number m k ≡ true
+pub is_the : (m : Number) (n k : ℕ) → m ≡ Spelt n → n ≡ k → is_number m k ≡ true
 is_the m n k e f = rw (e, f) (itself k)
 
-either : (a b : Bool) → b ≡ true → (a || b) ≡ true
+pub either : (a b : Bool) → b ≡ true → (a || b) ≡ true
 either true b h = refl
 either false b h = h
 
-before_is : (m : Number) (n k : ℕ) → m ≡ Spelt k → n ≡ k + 1 → precedes m n ≡ true
+pub before_is : (m : Number) (n k : ℕ) → m ≡ Spelt k → n ≡ k + 1 → precedes m n ≡ true
 before_is m n k e f = rw (e, f) (itself (k + 1))
 
 le_is : (n k : ℕ) (m : Number) → m ≡ Spelt k → n ≤ k → reaches m n ≡ true

@@ -1,15 +1,15 @@
 -- What is known through whole runs.
-use Rattle.std.proofs.Common.{◌≡◌, ◌≢◌, ◌⊎◌, inl, inr, ℕ, ◌==◌, Bool, true, false, List, [], ◌∷◌, slice_get, slice_set, if◌then◌else◌, Option, Some, None, is_some, is_none, refl, sym, ap, ◌∙◌, subst}
+use Rattle.std.proofs.Common.{◌≡◌, ◌≢◌, ◌⊎◌, inl, inr, ℕ, ◌==◌, Bool, true, false, List, [], ◌∷◌, slice_get, slice_set, if◌then◌else◌, Option, Some, None, is_some, is_none, not, refl, sym, ap, ◌∙◌, subst}
 use Rattle.std.specs.Option.{option_map_or, option_map, option_or}
 use Rattle.repo_core.specs.Repository.{Revision}
 use Rattle.sync_core.specs.declared.need.Need.TheVariants as need
-use Rattle.sync_core.specs.Mirror.{Standing, standing_of, Call, Init, TakeLock, StealLock, ReleaseLock, SetCopying, Commit, PutProps, SetMerged, ClearCopying, Look, Refusal, Missed, refusal}
+use Rattle.sync_core.specs.Mirror.{Mirror, Need, Standing, standing_of, holds, Call, Init, TakeLock, StealLock, ReleaseLock, SetCopying, Commit, PutProps, SetMerged, ClearCopying, Look, Refusal, Missed, refusal}
 use Rattle.sync_core.specs.Jobs.{Begun, Locked, Job, begun, refused_to}
 use Rattle.sync_core.specs.World.{Origin, moment_of, map_at, Room, World, Question, Identity, Latest, Fetch, FetchProps, Happening, Begin, Ask, Make, Starve, Leave, Read, Stop, StopAfter, Event, MasterCommit, MasterEdit, At, job_at, IsCallOf, MayHappen, MayBe, told, hears, does, holder_left, room_after, world_after, run, IsRun}
 use Rattle.sync_core.specs.Law.{IsOpened, Starts, GoesOn, HolderGoesOn}
 use Rattle.sync_core.proofs.Lists.{some_is, none_isnt, slice_get-stored}
-use Rattle.sync_core.proofs.Kept.{refuse_if, RoomKept, is_other}
-use Rattle.sync_core.proofs.Jobs.{job-stored, job-pushed}
+use Rattle.sync_core.proofs.Kept.{refuse_if, passes, no_need, RoomKept, is_other}
+use Rattle.sync_core.proofs.Jobs.{job-stored, job-pushed, holder_by}
 use Rattle.sync_core.proofs.Holder.{SameNumbers, Knowing, RoomKnows, over, goes-on}
 use Rattle.sync_core.proofs.HolderCalls.{knows-done}
 use Rattle.sync_core.proofs.Runs.{WorldKept, kept-start, kept-event, kept-run}
@@ -149,6 +149,32 @@ not_none : {A : Type 0} (a : Option A) → is_some a ≡ true → is_none a ≡ 
 not_none None e = cc
 not_none (Some x) e = refl
 
+-- nobody else's call is accepted but a look
+held-alone : (m : Mirror) (seat other : ℕ) (rest : Option Need) (call : Call) → m.holder ≡ Some seat → other ≢ seat → refuse_if (not (holds m.holder other)) need.NotHolder rest ≡ None → call ≡ Look
+held-alone m seat other rest call h differs e = absurd (differs (some_is other seat (sym (holder_by m other rest e) ∙ h)))
+
+is-alone :
+    (m : Mirror) (seat other : ℕ) (call : Call) → m.holder ≡ Some seat → is_some (standing_of m.revisions).url ≡ true → is_some (standing_of m.revisions).lock ≡ true
+    → other ≢ seat → refusal m other call ≡ None → call ≡ Look
+is-alone m seat other (Init url uuid props) h there lock differs free =
+    let e : is_some (standing_of m.revisions).url ≡ false = (passes (is_some (standing_of m.revisions).url) need.AlreadyInitialised _ (no_need m other (Init url uuid props) free)).0 in
+    let f : true ≡ false = sym there ∙ e in absurd (cc)
+is-alone m seat other (TakeLock token) h there lock differs free =
+    let e = passes (is_none (standing_of m.revisions).url) need.NotInitialised _ (no_need m other (TakeLock token) free) in
+    let none : is_some (standing_of m.revisions).lock ≡ false = (passes (is_some (standing_of m.revisions).lock) need.LockHeld None e.1).0 in
+    let f : true ≡ false = sym lock ∙ none in absurd (cc)
+is-alone m seat other (StealLock token) h there lock differs free =
+    let e = passes (is_none (standing_of m.revisions).url) need.NotInitialised _ (no_need m other (StealLock token) free) in
+    let none : is_some m.holder ≡ false = (passes (is_some m.holder) need.HolderRunning None e.1).0 in
+    let f : true ≡ false = sym (ap is_some h) ∙ none in absurd (cc)
+is-alone m seat other ReleaseLock h there lock differs free = held-alone m seat other None ReleaseLock h differs (no_need m other ReleaseLock free)
+is-alone m seat other (SetCopying n) h there lock differs free = held-alone m seat other _ (SetCopying n) h differs (no_need m other (SetCopying n) free)
+is-alone m seat other (Commit n set props) h there lock differs free = held-alone m seat other _ (Commit n set props) h differs (no_need m other (Commit n set props) free)
+is-alone m seat other (PutProps n props) h there lock differs free = held-alone m seat other _ (PutProps n props) h differs (no_need m other (PutProps n props) free)
+is-alone m seat other (SetMerged n) h there lock differs free = held-alone m seat other _ (SetMerged n) h differs (no_need m other (SetMerged n) free)
+is-alone m seat other ClearCopying h there lock differs free = held-alone m seat other _ ClearCopying h differs (no_need m other ClearCopying free)
+is-alone m seat other Look h there lock differs free = refl
+
 goes-on-in : (o : Origin) (shaped : Bool) (room : Room) (seat : ℕ) (job : Job) → RoomKept o shaped room → Knows room → job_at room.jobs seat ≡ Some job → job.stage ≡ Locked → GoesOn room seat job
 goes-on-in o shaped room seat job k n there is =
     let known = n.jobs_know seat job there in
@@ -156,6 +182,7 @@ goes-on-in o shaped room seat job k n there is =
     let url = not_none (standing_of room.mirror.revisions).url (k.held seat h) in
     record {
       holder = h;
+      alone = λ other call differs free. is-alone room.mirror seat other call h (k.held seat h) (n.lock seat h) differs free;
       merged = λ l. sym (known.numbers is l).merged;
       copying = λ l. sym (known.numbers is l).copying;
       head = λ l. sym (known.numbers is l).head;

@@ -10,6 +10,7 @@ pub mod Kept
 pub mod Lists
 pub mod Origins
 pub mod PlainAnswers
+pub mod Replays
 pub mod Revisions
 pub mod Rooms
 pub mod Runs
@@ -17,4 +18,6 @@ pub mod ShapeLemmas
 pub mod Stands
 pub mod StateLemmas
 pub mod SyncLemmas
+pub mod Table
+pub mod Turns
 pub mod Writes

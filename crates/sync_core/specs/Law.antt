@@ -1,12 +1,12 @@
 -- What holds of every mirror after every list of events.
-use Rattle.std.specs.Prelude.{◌≡◌, ℕ, ◌≤◌, Bool, true, false, List, [], ◌++◌, length, take, replicate, slice_get, Some, None, is_some}
+use Rattle.std.specs.Prelude.{◌≡◌, ◌≢◌, ℕ, ◌≤◌, Bool, true, false, List, [], ◌++◌, length, take, replicate, slice_get, Some, None, is_some}
 use Rattle.std.specs.List.{range_with_len}
 use Rattle.std.specs.FinMap as finite
 use Rattle.node_base.specs.Path.{Name}
 use Rattle.node_base.specs.Props.{PropMap, is_sync}
 use Rattle.repo_core.specs.Repository.{Revision, trees_of, tree_at, head_of, root_alone}
 use Rattle.repo_core.specs.Entries.{revisions_after}
-use Rattle.sync_core.specs.Mirror.{fresh, standing_of, IsAtRest, Call, TakeLock, StealLock, unmet, refusal, Missed, commits_of}
+use Rattle.sync_core.specs.Mirror.{fresh, standing_of, IsAtRest, Call, TakeLock, StealLock, Look, unmet, refusal, Missed, commits_of}
 use Rattle.sync_core.specs.declared.need.Need.TheVariants as need
 use Rattle.sync_core.specs.Jobs.{Job, Locked, Lawful}
 use Rattle.sync_core.specs.World.{Origin, IsOrigin, Room, fresh_room, World, Event, moment_of, map_at, job_at, run, IsRun}
@@ -90,10 +90,12 @@ StaysBlank =
     (w : World) (shaped : ℕ → Bool) (events : List Event) → Starts w shaped → IsRun w events
     → (i : ℕ) (first last : Room) → IsRoomOf w i first → IsRoomOf (run w events) i last → is_some (standing_of last.mirror.revisions).url ≡ false → last.mirror.revisions ≡ first.mirror.revisions
 
--- a job whose lock was answered: it is the holder; a look answers what its last one and its own accepted calls left; none of its
--- lawful calls misses a need; and nobody else gets the lock
+-- a job whose lock was answered: it is the holder; nobody else's call is accepted but a look, which changes nothing; its own look
+-- answers what its last one and its own accepted calls since left; none of its lawful calls misses a need; and nobody gets the
+-- lock
 pub record GoesOn (room : Room) (seat : ℕ) (job : Job) : Type 0 where
   pub holder : room.mirror.holder ≡ Some seat
+  pub alone : (other : ℕ) (call : Call) → other ≢ seat → refusal room.mirror other call ≡ None → call ≡ Look
   pub merged : job.looked ≡ true → (standing_of room.mirror.revisions).merged ≡ job.merged
   pub copying : job.looked ≡ true → (standing_of room.mirror.revisions).copying ≡ job.copying
   pub head : job.looked ≡ true → (standing_of room.mirror.revisions).head ≡ job.head

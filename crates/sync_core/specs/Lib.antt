@@ -13,9 +13,11 @@ pub mod Law
 pub mod Mirror
 pub mod Names
 pub mod Plain
+pub mod Replay
 pub mod Shapes
 pub mod States
 pub mod SyncFollows
 pub mod SyncTable
+pub mod Table
 pub mod Tokens
 pub mod World
