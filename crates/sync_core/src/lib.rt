@@ -32,3 +32,5 @@ pub mod standing;
 pub mod state;
 mod sync_job;
 pub mod token;
+#[cfg(test)]
+mod tests;
