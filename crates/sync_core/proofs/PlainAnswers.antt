@@ -71,7 +71,7 @@ told old seat call f (Some e) n d h =
     let same : f ≡ of_repository e = cc in
     refuses old seat call (OfRepository e) f
     (ap (λ (x : Option Need). first_of (option_map Missed x ∷ option_map OfRepository (by_entry old call) ∷ [])) n
-     ∙ ap (λ (x : Option RepoFault). first_of (None ∷ option_map OfRepository x ∷ [])) d)
+    ∙ ap (λ (x : Option RepoFault). first_of (None ∷ option_map OfRepository x ∷ [])) d)
     same
 
 due_answer : (old : Mirror) (seat : ℕ) (call : Call) (f : SyncFault) → needs old seat call ≡ None → IsDue f (by_entry old call) → AnswersErr old seat call f old

@@ -48,14 +48,14 @@ shape_of_found m c h =
     (first_of (fault_if (is_number m h && is_number c (h + 1)) (resting.Copying (h + 1)) ∷ fault_if (is_number c h && precedes m h) (resting.Committed h) ∷ fault_if (is_number m h && is_number c h) resting.Merged ∷ []))
     (λ e. let p = both (is_number m h) (is_absent c) e in (number_is m h p.0, absent_is c p.1))
     (found P (is_number m h && is_number c (h + 1)) (resting.Copying (h + 1))
-     (first_of (fault_if (is_number c h && precedes m h) (resting.Committed h) ∷ fault_if (is_number m h && is_number c h) resting.Merged ∷ []))
-     (λ e. let p = both (is_number m h) (is_number c (h + 1)) e in (number_is m h p.0, number_is c (h + 1) p.1, refl))
-     (found P (is_number c h && precedes m h) (resting.Committed h)
-      (first_of (fault_if (is_number m h && is_number c h) resting.Merged ∷ []))
-      (λ e. let p = both (is_number c h) (precedes m h) e in (number_is c h p.0, refl, precedes_is m h p.1))
-      (found P (is_number m h && is_number c h) resting.Merged None
-       (λ e. let p = both (is_number m h) (is_number c h) e in (number_is m h p.0, number_is c h p.1))
-       tt)))
+    (first_of (fault_if (is_number c h && precedes m h) (resting.Committed h) ∷ fault_if (is_number m h && is_number c h) resting.Merged ∷ []))
+    (λ e. let p = both (is_number m h) (is_number c (h + 1)) e in (number_is m h p.0, number_is c (h + 1) p.1, refl))
+    (found P (is_number c h && precedes m h) (resting.Committed h)
+    (first_of (fault_if (is_number m h && is_number c h) resting.Merged ∷ []))
+    (λ e. let p = both (is_number c h) (precedes m h) e in (number_is c h p.0, refl, precedes_is m h p.1))
+    (found P (is_number m h && is_number c h) resting.Merged None
+    (λ e. let p = both (is_number m h) (is_number c h) e in (number_is m h p.0, number_is c h p.1))
+    tt)))
 
 seen : (b : Bool) (s : Resting) (rest : Option Resting) → b ≡ true → option_or (fault_if b s) rest ≡ None → ⊥
 seen true s rest e n = absurd (cc)
@@ -82,5 +82,5 @@ none_of_none m c h n (resting.Committed k) f =
     (later _ _ (later _ _ n))
 none_of_none m c h n resting.Merged f =
     seen (is_number m h && is_number c h) resting.Merged None (and _ _ (is_this m h f.0) (is_this c h f.1)) (later (fault_if (is_number c h && precedes m h) (resting.Committed h)) (first_of (fault_if (is_number m h && is_number c h) resting.Merged ∷ []))
-     (later (fault_if (is_number m h && is_number c (h + 1)) (resting.Copying (h + 1))) (first_of (fault_if (is_number c h && precedes m h) (resting.Committed h) ∷ fault_if (is_number m h && is_number c h) resting.Merged ∷ []))
-      (later (fault_if (is_number m h && is_absent c) resting.Idle) (first_of (fault_if (is_number m h && is_number c (h + 1)) (resting.Copying (h + 1)) ∷ fault_if (is_number c h && precedes m h) (resting.Committed h) ∷ fault_if (is_number m h && is_number c h) resting.Merged ∷ [])) n)))
+    (later (fault_if (is_number m h && is_number c (h + 1)) (resting.Copying (h + 1))) (first_of (fault_if (is_number c h && precedes m h) (resting.Committed h) ∷ fault_if (is_number m h && is_number c h) resting.Merged ∷ []))
+    (later (fault_if (is_number m h && is_absent c) resting.Idle) (first_of (fault_if (is_number m h && is_number c (h + 1)) (resting.Copying (h + 1)) ∷ fault_if (is_number c h && precedes m h) (resting.Committed h) ∷ fault_if (is_number m h && is_number c h) resting.Merged ∷ [])) n)))

@@ -36,9 +36,7 @@ pub fn entry_of(
 {
     let own = own_of(repo);
     match call {
-        MirrorCall::Init { url, uuid, props } => {
-            Ok(Some(init_entry(alloc, url, uuid, props)?))
-        }
+        MirrorCall::Init { url, uuid, props } => { Ok(Some(init_entry(alloc, url, uuid, props)?)) }
         MirrorCall::TakeLock(token) => Ok(Some(lock_entry(alloc, own, token)?)),
         MirrorCall::StealLock(token) => Ok(Some(lock_entry(alloc, own, token)?)),
         MirrorCall::ReleaseLock => Ok(Some(release_entry(alloc, own)?)),
@@ -175,12 +173,7 @@ fn with_none_merged(alloc: Global, props: Props) -> Result<Props, SyncFault>
 }
 
 // The copied properties of a revision that is there, beside its own.
-fn props_entry(
-    alloc: Global,
-    repo: &Repo,
-    number: RevNo,
-    props: &Props,
-) -> Result<Entry, SyncFault>
+fn props_entry(alloc: Global, repo: &Repo, number: RevNo, props: &Props) -> Result<Entry, SyncFault>
     ensures entry { IfOk result (λ e. e ≡ Mapped number (copied_beside (props_at repo.now.revisions number) props.now)) }
     ensures refused { IfErr result (λ f. IsDue f (by_repository repo.now.revisions (Mapped number (copied_beside (props_at repo.now.revisions number) props.now)))) }
 {

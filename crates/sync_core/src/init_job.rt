@@ -17,14 +17,9 @@ enum InitPhase {
     /// Asks who the master is.
     Who,
     /// Fetches the properties of revision 0.
-    FetchProps {
-        uuid: PropValue,
-    },
+    FetchProps { uuid: PropValue },
     /// Initializes the mirror.
-    Init {
-        uuid: PropValue,
-        props: Props,
-    },
+    Init { uuid: PropValue, props: Props },
     /// Has ended so.
     End(Ending),
 }

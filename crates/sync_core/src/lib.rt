@@ -31,6 +31,6 @@ pub mod shape;
 pub mod standing;
 pub mod state;
 mod sync_job;
-pub mod token;
 #[cfg(test)]
 mod tests;
+pub mod token;

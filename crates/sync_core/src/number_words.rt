@@ -44,7 +44,8 @@ impl Number {
         ensures { result ≡ names.precedes self number }
     {
         match self {
-            Number::Spelt(spelt) => spelt < u64::from(number.get()) && u64::from(number.get()) - spelt == 1,
+            Number::Spelt(spelt) => spelt < u64::from(number.get())
+                && u64::from(number.get()) - spelt == 1,
             Number::Absent | Number::Misspelt | Number::Huge => false,
         }
     }

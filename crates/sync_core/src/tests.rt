@@ -111,9 +111,7 @@ fn of_master(
         Action::AskIdentity => Ok(Answer::Identity(value(rt, alloc, identity))),
         Action::AskLatest => Ok(Answer::Latest(master.head())),
         Action::Fetch(number) => match (master.set(*number), master.props(*number)) {
-            (Some(set), Some(props)) => {
-                Ok(Answer::Revision(set.share(alloc)?, props.share()?))
-            }
+            (Some(set), Some(props)) => { Ok(Answer::Revision(set.share(alloc)?, props.share()?)) }
             _ => Ok(Answer::Failed(format!(in alloc; "no such revision")?)),
         },
         Action::FetchProps(number) => match master.props(*number) {
@@ -189,7 +187,16 @@ fn resumed(rt: &impl Abort, alloc: Global, actions: u64) -> Result<(u8, Vec<u8>,
     let mut mirror = begun(rt, alloc, &master)?;
     let mut lines = Vec::new(alloc);
     let first = sync(rt, alloc, false);
-    let _ = run(rt, alloc, &mut mirror, 1, &master, first, actions, &mut lines)?;
+    let _ = run(
+        rt,
+        alloc,
+        &mut mirror,
+        1,
+        &master,
+        first,
+        actions,
+        &mut lines,
+    )?;
     mirror.leave(Seat::new(1));
     let again = sync(rt, alloc, false);
     let again = run(rt, alloc, &mut mirror, 2, &master, again, 99, &mut lines)?;
@@ -221,7 +228,9 @@ fn a_sync_goes_on_where_another_stopped(rt: HostRuntime) -> Result<(), Fail> {
 fn sync_names_are_not_copied(rt: HostRuntime) -> Result<(), Fail> {
     let alloc = rt.alloc();
     let mirror = begun(&rt, alloc, &master(&rt, alloc, 1)?)?;
-    assert!(rt; has(&mirror, 0, b"svn:date", Some(b"d")) && has(&mirror, 0, b"svn:sync-lock", None));
+    assert!(rt;
+        has(&mirror, 0, b"svn:date", Some(b"d")) && has(&mirror, 0, b"svn:sync-lock", None)
+    );
     assert!(rt;
         has(&mirror, 0, b"svn:sync-from-url", Some(b"/master"))
             && has(&mirror, 0, b"svn:sync-from-uuid", Some(b"u"))
@@ -235,17 +244,44 @@ fn turns(rt: &impl Abort, alloc: Global) -> Result<Vec<u8>, Fail> {
     let mut mirror = begun(rt, alloc, &master(rt, alloc, 0)?)?;
     let mut lines = Vec::new(alloc);
     let three = master(rt, alloc, 3)?;
-    let job = run(rt, alloc, &mut mirror, 1, &three, sync(rt, alloc, false), 99, &mut lines)?;
+    let job = run(
+        rt,
+        alloc,
+        &mut mirror,
+        1,
+        &three,
+        sync(rt, alloc, false),
+        99,
+        &mut lines,
+    )?;
     let mut answers = Vec::new(alloc);
     answers.push(ended(job))?;
     let token = token(rt, alloc, b"job");
     let props = Props::empty();
     let four = RevNo::new(4);
     answers.push(say(alloc, &mut mirror, 1, &MirrorCall::TakeLock(&token)))?;
-    answers.push(say(alloc, &mut mirror, 1, &MirrorCall::SetCopying(RevNo::new(5))))?;
-    answers.push(say(alloc, &mut mirror, 2, &MirrorCall::SetCopying(RevNo::new(5))))?;
+    answers.push(say(
+        alloc,
+        &mut mirror,
+        1,
+        &MirrorCall::SetCopying(RevNo::new(5)),
+    ))?;
+    answers.push(say(
+        alloc,
+        &mut mirror,
+        2,
+        &MirrorCall::SetCopying(RevNo::new(5)),
+    ))?;
     answers.push(say(alloc, &mut mirror, 1, &MirrorCall::SetCopying(four)))?;
-    answers.push(say(alloc, &mut mirror, 1, &MirrorCall::PutProps { number: four, props: &props }))?;
+    answers.push(say(
+        alloc,
+        &mut mirror,
+        1,
+        &MirrorCall::PutProps {
+            number: four,
+            props: &props,
+        },
+    ))?;
     answers.push(say(alloc, &mut mirror, 2, &MirrorCall::StealLock(&token)))?;
     mirror.leave(Seat::new(1));
     answers.push(say(alloc, &mut mirror, 2, &MirrorCall::StealLock(&token)))?;
@@ -295,18 +331,38 @@ fn numbers_that_fit_no_shape(rt: HostRuntime) -> Result<(), Fail> {
     let apart = told_of(&rt, alloc, b"3", Some(b"5"), 3)?;
     assert_eq!(rt; apart.as_str(), "inconsistent: merged 3, copying 5, head 3");
     let misspelt = told_of(&rt, alloc, b"07", None, 7)?;
-    assert_eq!(rt; misspelt.as_str(), "inconsistent: merged -, copying -, head 7");
+    assert_eq!(rt;
+        misspelt.as_str(),
+        "inconsistent: merged -, copying -, head 7"
+    );
     let far = told_of(&rt, alloc, b"99999", None, 7)?;
-    assert_eq!(rt; far.as_str(), "inconsistent: merged 99999, copying -, head 7");
+    assert_eq!(rt;
+        far.as_str(),
+        "inconsistent: merged 99999, copying -, head 7"
+    );
     Ok(())
 }
 
 // The end of a job that copies properties of a range of an edited master, and what the mirror then has of revision 2.
-fn copied(rt: &impl Abort, alloc: Global, low: u16, high: u16) -> Result<(u8, Vec<u8>, bool), Fail> {
+fn copied(
+    rt: &impl Abort,
+    alloc: Global,
+    low: u16,
+    high: u16,
+) -> Result<(u8, Vec<u8>, bool), Fail> {
     let mut four = master(rt, alloc, 4)?;
     let mut mirror = begun(rt, alloc, &four)?;
     let mut lines = Vec::new(alloc);
-    let job = run(rt, alloc, &mut mirror, 1, &four, sync(rt, alloc, false), 99, &mut lines)?;
+    let job = run(
+        rt,
+        alloc,
+        &mut mirror,
+        1,
+        &four,
+        sync(rt, alloc, false),
+        99,
+        &mut lines,
+    )?;
     assert_eq!(rt; ended(job), 0);
     assert_eq!(rt; lines.as_slice(), b"cpcpcpcp".as_slice());
     four.put_props(RevNo::new(2), one_prop(rt, alloc, b"svn:log", b"two"))?;
@@ -331,10 +387,23 @@ fn others(rt: &impl Abort, alloc: Global) -> Result<Vec<u8>, Fail> {
     let master = master(rt, alloc, 1)?;
     let mut mirror = begun(rt, alloc, &master)?;
     let mut answers = Vec::new(alloc);
-    let job = absorb(sync(rt, alloc, false), of_step(mirror.step(alloc, Seat::new(1), &MirrorCall::TakeLock(&token(rt, alloc, b"job")))));
-    let job = absorb(job, of_step(mirror.step(alloc, Seat::new(1), &MirrorCall::Look)));
+    let job = absorb(
+        sync(rt, alloc, false),
+        of_step(mirror.step(
+            alloc,
+            Seat::new(1),
+            &MirrorCall::TakeLock(&token(rt, alloc, b"job")),
+        )),
+    );
+    let job = absorb(
+        job,
+        of_step(mirror.step(alloc, Seat::new(1), &MirrorCall::Look)),
+    );
     let job = absorb(job, Answer::Identity(value(rt, alloc, b"U")));
-    let job = absorb(job, of_step(mirror.step(alloc, Seat::new(1), &MirrorCall::ReleaseLock)));
+    let job = absorb(
+        job,
+        of_step(mirror.step(alloc, Seat::new(1), &MirrorCall::ReleaseLock)),
+    );
     answers.push(ended(job))?;
     let mut lines = Vec::new(alloc);
     let init = JobState::init(value(rt, alloc, b"/master"));
@@ -343,7 +412,16 @@ fn others(rt: &impl Abort, alloc: Global) -> Result<Vec<u8>, Fail> {
     let zero = repo(alloc)?;
     let init = JobState::init(value(rt, alloc, b"/master"));
     answers.push(ended(run(rt, alloc, &mut full, 3, &zero, init, 9, &mut lines)?))?;
-    answers.push(ended(run(rt, alloc, &mut full, 4, &zero, sync(rt, alloc, false), 9, &mut lines)?))?;
+    answers.push(ended(run(
+        rt,
+        alloc,
+        &mut full,
+        4,
+        &zero,
+        sync(rt, alloc, false),
+        9,
+        &mut lines,
+    )?))?;
     Ok(answers)
 }
 
