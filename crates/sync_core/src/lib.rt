@@ -34,3 +34,5 @@ mod sync_job;
 #[cfg(test)]
 mod tests;
 pub mod token;
+#[cfg(test)]
+mod walk_tests;
