@@ -1,0 +1,176 @@
+//! Why a mirror or a job refuses.
+ghost use Rattle.std.specs.Prelude.{◌≡◌};
+ghost use Rattle.node_base.specs.Refusals.{refusal_number};
+ghost use Rattle.sync_core.specs.Faults.{refusal_of, of_changes};
+
+use crate::lock_token::LockToken;
+use crate::number::Number;
+use dump_load::ChangeFault;
+use node_base::{Refusal, RevNo};
+use repo_core::RepoFault;
+use std::alloc::{AllocError, AllocFailed};
+use thiserror::Error;
+
+/// Why a call of a mirror was refused, or a job ended without what it was to do. Each message is the refusal's.
+#[derive(Debug, Drop, Error)]
+pub enum SyncFault {
+    /// The mirror isn't initialized (51).
+    #[error("not initialized")]
+    NotInitialised,
+    /// The mirror is initialized already (52).
+    #[error("already initialized")]
+    AlreadyInitialised,
+    /// The mirror has revisions and can't be initialized (53).
+    #[error("the mirror has revisions")]
+    NotEmpty,
+    /// The sync lock is held, by the job of that token (54).
+    #[error("the sync lock is held by {0}")]
+    LockHeld(LockToken),
+    /// The holder of the sync lock, of that token, is running (55).
+    #[error("the holder {0} is running")]
+    HolderRunning(LockToken),
+    /// The source isn't the repository that the mirror was initialized from (56).
+    #[error("the source is another repository")]
+    WrongMaster,
+    /// What is merged, what is being copied and the head fit no shape in which a mirror rests (57).
+    #[error("inconsistent: merged {merged}, copying {copying}, head {head}")]
+    Inconsistent {
+        merged: Number,
+        copying: Number,
+        head: RevNo,
+    },
+    /// Properties are to be copied up to that revision, which isn't merged yet (58).
+    #[error("revision {0} is not copied yet")]
+    NotYetCopied(RevNo),
+    /// The caller doesn't hold the sync lock (59).
+    #[error("the sync lock is not held")]
+    NotHolder,
+    /// The master refused, with that text (60).
+    #[error("master: {0}")]
+    MasterFailed(String),
+    /// It isn't the call's turn, or an answer fits no question (61).
+    #[error("call out of turn")]
+    OutOfTurn,
+    /// What the mirror's repository refuses, or what keeps it.
+    #[error("{0}")]
+    Other(Refusal),
+    /// A growth was refused (70).
+    #[error("out of memory")]
+    OutOfMemory,
+}
+
+impl From<SyncFault> for Refusal {
+    ghost use Rattle.std.specs.Prelude.{◌≡◌};
+    ghost use Rattle.sync_core.specs.Faults.{refusal_of};
+
+    ghost from_gives = { λ f r. r ≡ refusal_of f };
+
+    fn from(fault: SyncFault) -> Refusal {
+        match fault {
+            SyncFault::NotInitialised => Refusal::NotInitialised,
+            SyncFault::AlreadyInitialised => Refusal::AlreadyInitialised,
+            SyncFault::NotEmpty => Refusal::NotEmpty,
+            SyncFault::LockHeld(token) => Refusal::LockHeld(token.bytes),
+            SyncFault::HolderRunning(token) => Refusal::HolderRunning(token.bytes),
+            SyncFault::WrongMaster => Refusal::WrongMaster,
+            SyncFault::Inconsistent {
+                merged,
+                copying,
+                head,
+            } => Refusal::Inconsistent {
+                merged: merged.spelt(),
+                copying: copying.spelt(),
+                head,
+            },
+            SyncFault::NotYetCopied(number) => Refusal::NotYetCopied(number),
+            SyncFault::NotHolder => Refusal::NotHolder,
+            SyncFault::MasterFailed(text) => Refusal::MasterFailed(text),
+            SyncFault::OutOfTurn => Refusal::OutOfTurn,
+            SyncFault::Other(refusal) => refusal,
+            SyncFault::OutOfMemory => Refusal::OutOfMemory,
+        }
+    }
+}
+
+impl SyncFault {
+    /// Its number in the table of refusals.
+    pub fn number(&self) -> u8
+        ensures { result ≡ refusal_number (refusal_of self.now) }
+    {
+        match self {
+            SyncFault::NotInitialised => 51,
+            SyncFault::AlreadyInitialised => 52,
+            SyncFault::NotEmpty => 53,
+            SyncFault::LockHeld(_) => 54,
+            SyncFault::HolderRunning(_) => 55,
+            SyncFault::WrongMaster => 56,
+            SyncFault::Inconsistent { .. } => 57,
+            SyncFault::NotYetCopied(_) => 58,
+            SyncFault::NotHolder => 59,
+            SyncFault::MasterFailed(_) => 60,
+            SyncFault::OutOfTurn => 61,
+            SyncFault::Other(refusal) => refusal.number(),
+            SyncFault::OutOfMemory => 70,
+        }
+    }
+}
+
+impl From<AllocError> for SyncFault {
+    ghost use Rattle.std.specs.Prelude.{◌≡◌};
+    ghost use Rattle.sync_core.specs.declared.fault.SyncFault.TheVariants.{OutOfMemory};
+
+    ghost from_gives = { λ _ e. e ≡ OutOfMemory };
+
+    fn from(_: AllocError) -> SyncFault {
+        SyncFault::OutOfMemory
+    }
+}
+
+impl<T: Drop> From<AllocFailed<T>> for SyncFault {
+    ghost use Rattle.std.specs.Prelude.{◌≡◌};
+    ghost use Rattle.sync_core.specs.declared.fault.SyncFault.TheVariants.{OutOfMemory};
+
+    ghost from_gives = { λ _ e. e ≡ OutOfMemory };
+
+    fn from(_: AllocFailed<T>) -> SyncFault {
+        SyncFault::OutOfMemory
+    }
+}
+
+impl From<RepoFault> for SyncFault {
+    ghost use Rattle.std.specs.Prelude.{◌≡◌};
+    ghost use Rattle.sync_core.specs.Faults.{of_repository};
+
+    ghost from_gives = { λ f e. e ≡ of_repository f };
+
+    fn from(fault: RepoFault) -> SyncFault {
+        match fault {
+            RepoFault::NoSuchRevision => SyncFault::Other(Refusal::NoSuchRevision),
+            RepoFault::BaseMismatch(_) => SyncFault::Other(Refusal::BaseMismatch),
+            RepoFault::Full => SyncFault::Other(Refusal::Full),
+            RepoFault::Behind(head) => SyncFault::Other(Refusal::Behind(head)),
+            RepoFault::Change(fault) => of_changes(fault),
+            RepoFault::TooLong => SyncFault::Other(Refusal::TooLong),
+            RepoFault::OutOfMemory => SyncFault::OutOfMemory,
+        }
+    }
+}
+
+// What is wrong with a set of changes.
+fn of_changes(fault: ChangeFault) -> SyncFault
+    ensures { result ≡ of_changes fault }
+{
+    match fault {
+        ChangeFault::BadHeader => SyncFault::Other(Refusal::BadHeader),
+        ChangeFault::TooLong => SyncFault::Other(Refusal::TooLong),
+        ChangeFault::BadPath => SyncFault::Other(Refusal::BadPath),
+        ChangeFault::NoSuchPath => SyncFault::Other(Refusal::NoSuchPath),
+        ChangeFault::PathThere => SyncFault::Other(Refusal::PathThere),
+        ChangeFault::NotDir => SyncFault::Other(Refusal::NotDir),
+        ChangeFault::NoSource => SyncFault::Other(Refusal::NoSource),
+        ChangeFault::OutOfOrder => SyncFault::Other(Refusal::OutOfOrder),
+        ChangeFault::WrongNumber => SyncFault::Other(Refusal::WrongNumber),
+        ChangeFault::KindMismatch => SyncFault::Other(Refusal::KindMismatch),
+        ChangeFault::OutOfMemory => SyncFault::OutOfMemory,
+    }
+}

@@ -1,0 +1,38 @@
+//! What holds of every mirror, whatever happens: any list of commits and property edits of the master, jobs that begin, ask,
+//! call, run out of memory and leave, readers, and stops of mirrors with the entry of a call in flight kept or not. Each
+//! function does nothing: its contract is the law.
+ghost use Rattle.sync_core.specs.Law.{FreshStarts, EveryRun, EveryFreshRun, MomentsRise, StaysBlank, HolderGoesOn};
+ghost use Rattle.sync_core.specs.Replay.{CallsAreJournalled, CallsJoin};
+ghost use Rattle.sync_core.specs.Table.{NeedsAreMet, ShapesTurn};
+
+/// After every list of events each initialised mirror is a mirror of the master: its identity, a front of its trees, and each
+/// map as it was when its last copying was fetched. It rests in one of four shapes, nothing that was acknowledged or shown is
+/// missing, and its journal commits 1 to its head in order, each once. The moment of a revision's last copying never falls. A
+/// mirror that isn't initialized is as it was. A job whose lock was answered is never refused a lawful call for its turn or
+/// its lock, and its looks answer what its own accepted calls left.
+pub fn every_run()
+    ensures mirrors { EveryRun }
+    ensures fresh { EveryFreshRun }
+    ensures starts { FreshStarts }
+    ensures moments { MomentsRise }
+    ensures blank { StaysBlank }
+    ensures holder { HolderGoesOn }
+{}
+
+/// A call misses no need just where the table of the calls says so in words.
+pub fn needs_are_met()
+    ensures { NeedsAreMet }
+{}
+
+/// The shapes follow one another, whoever calls and whether or not the call is lawful: idle, copying, committed, merged, idle.
+/// Other calls that a mirror accepts leave its shape.
+pub fn shapes_turn()
+    ensures { ShapesTurn }
+{}
+
+/// The entries that accepted calls write, one for each call but a look, stand for what the calls make of a mirror; lists of
+/// calls join.
+pub fn calls_are_journalled()
+    ensures journal { CallsAreJournalled }
+    ensures joined { CallsJoin }
+{}

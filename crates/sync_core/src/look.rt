@@ -1,0 +1,62 @@
+//! Looking how a mirror stands.
+ghost use Rattle.std.specs.Prelude.{◌≡◌, IfOk};
+ghost use Rattle.std.specs.FinMap as finite;
+ghost use Rattle.sync_core.specs.Mirror.{standing_in};
+ghost use Rattle.sync_core.specs.Names.{url_name, uuid_name, lock_name};
+
+use crate::properties::{LOCK, URL, UUID, copying, merged};
+use crate::standing::Standing;
+use node_base::{PropValue, Props, RevNo};
+use std::alloc::{AllocError, Global};
+
+/// How a mirror stands whose revision 0 has these properties, and whose head that is. The texts are copied.
+pub fn look(alloc: Global, own: &Props, head: RevNo) -> Result<Standing, AllocError>
+    ensures { IfOk result (λ s. s ≡ standing_in own.now head) }
+{
+    let url = url_of(alloc, own)?;
+    let uuid = uuid_of(alloc, own)?;
+    let lock = lock_of(alloc, own)?;
+    Ok(Standing {
+        url,
+        uuid,
+        merged: merged(own),
+        copying: copying(own),
+        lock,
+        head,
+    })
+}
+
+#[tactic(auto, unfolding(crate::specs::Names::url_name))]
+fn url_of(alloc: Global, own: &Props) -> Result<Option<PropValue>, AllocError>
+    ensures { IfOk result (λ v. v ≡ finite.get own.now url_name) }
+{
+    value_at(alloc, own, URL)
+}
+
+#[tactic(auto, unfolding(crate::specs::Names::uuid_name))]
+fn uuid_of(alloc: Global, own: &Props) -> Result<Option<PropValue>, AllocError>
+    ensures { IfOk result (λ v. v ≡ finite.get own.now uuid_name) }
+{
+    value_at(alloc, own, UUID)
+}
+
+#[tactic(auto, unfolding(crate::specs::Names::lock_name))]
+fn lock_of(alloc: Global, own: &Props) -> Result<Option<PropValue>, AllocError>
+    ensures { IfOk result (λ v. v ≡ finite.get own.now lock_name) }
+{
+    value_at(alloc, own, LOCK)
+}
+
+// The value at a name, copied.
+fn value_at(alloc: Global, own: &Props, name: &[u8]) -> Result<Option<PropValue>, AllocError>
+    ensures { IfOk result (λ v. v ≡ finite.get own.now name.now) }
+{
+    let _ = own.entries();
+    match own.get(name) {
+        None => Ok(None),
+        Some(value) => match PropValue::new(Vec::from_slice(alloc, value)?) {
+            Ok(value) => Ok(Some(value)),
+            Err(_) => unreachable!(),
+        },
+    }
+}
