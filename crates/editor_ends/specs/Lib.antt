@@ -1,3 +1,5 @@
+pub mod BuildFaults
+pub mod Built
 pub mod Drive
 pub mod Fronts
 pub mod Laws
