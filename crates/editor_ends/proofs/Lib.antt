@@ -1,5 +1,6 @@
 pub mod CallEffects
 pub mod Edits
+pub mod Filled
 pub mod Fronts
 pub mod Given
 pub mod Nested

@@ -17,7 +17,7 @@ use Rattle.dump_load.specs.declared.change.Change.{Change}
 use Rattle.dump_load.specs.Changes.{settles, is_delete, is_add, IsNormal}
 use Rattle.dump_load.specs.Effect.{effect}
 use Rattle.dump_load.specs.Faults.{fault_if, first_of, fault_of}
-use Rattle.delta_editor.specs.Calls.{Call}
+use Rattle.delta_editor.specs.declared.call.Call.{Call}
 use Rattle.delta_editor.specs.declared.call.Call.TheVariants as call
 use Rattle.delta_editor.specs.CallEffect.{call_effect}
 use Rattle.delta_editor.specs.Faults.{refused}

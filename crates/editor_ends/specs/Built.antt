@@ -10,19 +10,16 @@ use Rattle.node_base.specs.declared.node.Node.{Node}
 use Rattle.dump_load.specs.declared.change.Change.{Change}
 use Rattle.dump_load.specs.Changes.{is_delete, change_at, IsNormal}
 use Rattle.dump_load.specs.Effect.{effect, stepped}
-use Rattle.delta_editor.specs.Calls.{Call}
+use Rattle.delta_editor.specs.declared.call.Call.{Call}
 use Rattle.delta_editor.specs.CallEffect.{call_effect}
 use Rattle.delta_editor.specs.Nesting.{Stage, Before, Within, After, run, IsNested}
 use Rattle.delta_editor.specs.declared.fault.EditorFault.{EditorFault}
 use Rattle.editor_ends.specs.BuildFaults.{is_below, takes, acts_below, begin_fault, first_refusal}
 
--- a change whose parts, where it gives them, are those of a node
-abbrev pub with_parts_of : Change → Node → Change
-with_parts_of c x = record { path = c.path; action = c.action; kind = c.kind; source = c.source; props = option_map (λ _. x.props) c.props; text = option_map (λ t. unwrap_or x.text t) c.text }
-
 -- a change whose parts, where it gives them, are those of the node at its path
 abbrev pub filled : (Path → Option Node) → Change → Change
-filled f c = option_map_or (with_parts_of c) (f c.path) c
+filled f c =
+    record { path = c.path; action = c.action; kind = c.kind; source = c.source; props = option_map (λ m. option_map_or (λ x. x.props) (f c.path) m) c.props; text = option_map (λ t. option_map_or (λ x. unwrap_or x.text t) (f c.path) t) c.text }
 
 -- whether something is opened or added at a path
 abbrev pub is_taken : List Change → Path → Bool
