@@ -37,7 +37,7 @@ pub or_no : (a : Bool) → (a || false) ≡ a
 or_no true = refl
 or_no false = refl
 
-or_yes : (a : Bool) → (a || true) ≡ true
+pub or_yes : (a : Bool) → (a || true) ≡ true
 or_yes true = refl
 or_yes false = refl
 
@@ -61,7 +61,7 @@ pub rest_itself : (p : Path) → rest_after p p ≡ Some []
 rest_itself p = ap (rest_after p) (sym (append-nil p)) ∙ rest_after-append p []
 
 module _ (f : Nodes) where
-  change_at-filled : (s : List Change) (p : Path) → change_at s p ≡ None → change_at (map (filled f) s) p ≡ None
+  pub change_at-filled : (s : List Change) (p : Path) → change_at s p ≡ None → change_at (map (filled f) s) p ≡ None
   change_at-filled [] p e = refl
   change_at-filled (c ∷ s) p e =
       elim (same_path c.path p) as (λ b. cond b (Some c) (change_at s p) ≡ None → cond b (Some (filled f c)) (change_at (map (filled f) s) p) ≡ None) [
@@ -69,7 +69,7 @@ module _ (f : Nodes) where
         | false ↦ λ e. change_at-filled s p e
       ] e
 
-  clear-filled : (s : List Change) (x : Change) → IsClear s x → IsClear (map (filled f) s) x
+  pub clear-filled : (s : List Change) (x : Change) → IsClear s x → IsClear (map (filled f) s) x
   clear-filled [] x h = tt
   clear-filled (c ∷ s) x h = (h.0, clear-filled s x h.1)
 

@@ -1,8 +1,11 @@
+pub mod Began
 pub mod CallEffects
 pub mod Edits
+pub mod Ended
 pub mod Filled
 pub mod Fronts
 pub mod Given
 pub mod Nested
+pub mod Parted
 pub mod Showing
 pub mod Walks

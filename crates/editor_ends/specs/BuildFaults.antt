@@ -99,18 +99,18 @@ refusal_after trees done (c ∷ cs) = option_or (call_fault trees done c) (refus
 abbrev pub first_refusal : List PathMap → List Call → Option EditorFault
 first_refusal trees calls = refusal_after trees [] calls
 
--- the calls come to a normal set of more than 4,096 changes
-pub record IsTooLarge (trees : List PathMap) (calls : List Call) : Type 0 where
+-- what is there is the effect of a normal set of more than 4,096 changes
+pub record IsTooLarge (trees : List PathMap) (f : Path → Option Node) : Type 0 where
   pub set : List Change
   pub normal : IsNormal set
-  pub effect : (q : Path) → effect trees set q ≡ call_effect trees calls q
+  pub is : (q : Path) → effect trees set q ≡ f q
   pub many : 4096 < length set
 
 -- memory ran out, it is the fault of the call, or the calls come to too many changes
 pub data IsCallRefusal (trees : List PathMap) (done : List Call) (c : Call) (e : EditorFault) : Type 0 where
   OfMemory : e ≡ refusal.OutOfMemory → IsCallRefusal trees done c e
   OfCall : call_fault trees done c ≡ Some e → IsCallRefusal trees done c e
-  OfSize : c ≡ call.CloseEdit → e ≡ refusal.TooLong → IsTooLarge trees done → IsCallRefusal trees done c e
+  OfSize : c ≡ call.CloseEdit → e ≡ refusal.TooLong → IsTooLarge trees (call_effect trees done) → IsCallRefusal trees done c e
 
 -- where the calls keep the nesting
 abbrev pub RefusesWithin : List PathMap → List Call → Call → EditorFault → Type 0

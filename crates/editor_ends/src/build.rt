@@ -215,7 +215,13 @@ impl<'a> Editor for BuildEditor<'a> {
     }
 
     fn text_piece(&mut self, file: &mut BuiltFile, piece: &[u8]) -> Result<(), EditorFault> {
-        append_text(self.alloc, &mut self.tree, &file.path, piece)
+        append_text(
+            self.alloc,
+            &mut self.tree,
+            &mut self.changes,
+            &file.path,
+            piece,
+        )
     }
 
     fn text_end(&mut self, file: &mut BuiltFile) -> Result<(), EditorFault> {

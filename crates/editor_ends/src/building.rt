@@ -1,4 +1,22 @@
 //! The changes that calls begin and give parts to, in path order beside the tree that they make.
+ghost use Rattle.std.specs.Prelude.{◌≡◌, ◌≤◌, ◌<◌, ◌||◌, length, true, false, not, Some, None, IsSome, IfOk, IfErr, IfSome, OnOk, [], List, ◌&&◌};
+ghost use Rattle.std.specs.Option.{option_copied, option_map, option_map_or};
+ghost use Rattle.std.specs.FinMap as map;
+ghost use Rattle.std.specs.List.{slice_get};
+ghost use Rattle.node_base.specs.Path.{Path, same_path, is_front};
+ghost use Rattle.node_base.specs.NodeEdits.{with_prop, with_piece};
+ghost use Rattle.node_base.specs.Tree.{PathMap, with_given};
+ghost use Rattle.path_tree.specs.Calls.{text_fault};
+ghost use Rattle.path_tree.specs.NodeCalls.{piece_fault};
+ghost use Rattle.dump_load.specs.declared.change.Change.{Change as ChangeOf};
+ghost use Rattle.dump_load.specs.Changes.{settles, is_delete, is_add, IsWhole, IsNormal};
+ghost use Rattle.dump_load.specs.Effect.{stepped};
+ghost use Rattle.dump_load.specs.Faults.{fault_of, fault_if};
+ghost use Rattle.delta_editor.specs.declared.fault.EditorFault.TheVariants.{TooLong};
+ghost use Rattle.node_base.specs.declared.node.Action.TheVariants.{Replace};
+ghost use Rattle.delta_editor.specs.Faults.{refused};
+ghost use Rattle.editor_ends.specs.BuildFaults.{begun, begin_fault, blank_text, is_long, put_fault};
+ghost use Rattle.editor_ends.specs.Built.{Made, Begins, Gives, IsFresh, IsFaultOr, Placed, is_late_in, is_taken, giving_props, giving_text, told};
 
 use delta_editor::EditorFault;
 use dump_load::{Change, fault_of, is_add, is_delete, settles, step};
@@ -13,7 +31,12 @@ pub fn new_change(
     kind: Option<NodeKind>,
     path: &NodePath,
     from: Option<&Source>,
-) -> Result<Change, AllocError> {
+) -> Result<Change, AllocError>
+    requires described { is_add action ≡ true → IsSome kind }
+    requires known { (is_add action || not (settles action) || is_delete action) ≡ true }
+    ensures begun { IfOk result (λ c. c ≡ begun action kind path.now (option_copied from.entry)) }
+    ensures whole { IfOk result IsWhole }
+{
     let source = copied_source(alloc, from)?;
     let whole = is_add(action) && source.is_none();
     let props = if whole { Some(Props::empty()) } else { None };
@@ -32,7 +55,9 @@ pub fn new_change(
     })
 }
 
-fn copied_source(alloc: Global, source: Option<&Source>) -> Result<Option<Source>, AllocError> {
+fn copied_source(alloc: Global, source: Option<&Source>) -> Result<Option<Source>, AllocError>
+    ensures { IfOk result (λ s. s ≡ option_copied source.entry) }
+{
     match source {
         None => Ok(None),
         Some(source) => Ok(Some(Source {
@@ -42,7 +67,9 @@ fn copied_source(alloc: Global, source: Option<&Source>) -> Result<Option<Source
     }
 }
 
-fn blank_text(alloc: Global, kind: Option<NodeKind>) -> Result<Option<Text>, AllocError> {
+fn blank_text(alloc: Global, kind: Option<NodeKind>) -> Result<Option<Text>, AllocError>
+    ensures { IfOk result (λ t. t ≡ blank_text kind) }
+{
     match kind {
         Some(NodeKind::File) => Ok(Some(Text::new(alloc, Vec::new(alloc))?)),
         Some(NodeKind::Dir) | None => Ok(None),
@@ -50,7 +77,11 @@ fn blank_text(alloc: Global, kind: Option<NodeKind>) -> Result<Option<Text>, All
 }
 
 // Where the change of a path stands, or where it would.
-fn place_of(changes: &[Change], path: &NodePath) -> Result<usize, usize> {
+fn place_of(changes: &[Change], path: &NodePath) -> Result<usize, usize>
+    ensures found { IfOk result (λ i. i < length changes.now) }
+    ensures in_range { IfErr result (λ i. i ≤ length changes.now) }
+    ensures placed { IsNormal changes.now → Placed changes.now path.now result }
+{
     changes.binary_search_by(|change| change.path.compare(path))
 }
 
@@ -60,7 +91,13 @@ fn make(
     trees: &[Tree],
     tree: &mut Tree,
     change: &Change,
-) -> Result<(), EditorFault> {
+) -> Result<(), EditorFault>
+    requires few { length trees.now ≤ 65535 }
+    requires whole { IsWhole change.now }
+    ensures made { OnOk result ((q : Path) → map.get tree.new q ≡ stepped trees.now (map.get tree.old) change.now q) }
+    ensures faultless { OnOk result (fault_of trees.now (map.get tree.old) change.now ≡ None) }
+    ensures refused { IfErr result (IsFaultOr (option_map refused (fault_of trees.now (map.get tree.old) change.now))) }
+{
     if let Some(fault) = fault_of(trees, tree, change) {
         return Err(EditorFault::from(fault));
     }
@@ -74,7 +111,14 @@ pub fn open_or_add(
     tree: &mut Tree,
     changes: &mut Vec<Change>,
     change: Change,
-) -> Result<(), EditorFault> {
+) -> Result<(), EditorFault>
+    requires few { length trees.now ≤ 65535 }
+    requires whole { IsWhole change }
+    requires fresh { IsFresh change }
+    requires stays { is_delete change.action ≡ false }
+    ensures begins { OnOk result (Made trees.now tree.old changes.old.items → Begins trees.now tree.old changes.old.items tree.new changes.new.items change) }
+    ensures refused { IfErr result (λ e. Made trees.now tree.old changes.old.items → IsFaultOr (begin_fault trees.now (map.get tree.old) (is_late_in changes.old.items change) change) e) }
+{
     if settles(change.action) && change.path.is_root() {
         return Err(EditorFault::BadPath);
     }
@@ -95,7 +139,9 @@ pub fn open_or_add(
     }
 }
 
-fn replacing(change: Change) -> Change {
+fn replacing(change: Change) -> Change
+    ensures { result ≡ record change { action = Replace } }
+{
     let mut change = change;
     change.action = Action::Replace;
     change
@@ -108,7 +154,14 @@ pub fn delete(
     tree: &mut Tree,
     changes: &mut Vec<Change>,
     change: Change,
-) -> Result<(), EditorFault> {
+) -> Result<(), EditorFault>
+    requires few { length trees.now ≤ 65535 }
+    requires whole { IsWhole change }
+    requires fresh { IsFresh change }
+    requires deletes { is_delete change.action ≡ true }
+    ensures begins { OnOk result (Made trees.now tree.old changes.old.items → Begins trees.now tree.old changes.old.items tree.new changes.new.items change) }
+    ensures refused { IfErr result (λ e. Made trees.now tree.old changes.old.items → IsFaultOr (begin_fault trees.now (map.get tree.old) (is_late_in changes.old.items change) change) e) }
+{
     if change.path.is_root() {
         return Err(EditorFault::BadPath);
     }
@@ -134,7 +187,9 @@ pub fn delete(
 }
 
 // Whether the change at a place is below a path.
-fn is_next_below(changes: &[Change], at: usize, path: &NodePath) -> bool {
+fn is_next_below(changes: &[Change], at: usize, path: &NodePath) -> bool
+    ensures { result ≡ option_map_or (λ (c : ChangeOf). is_front path.now c.path) (slice_get changes.now at) false }
+{
     if at >= changes.len() {
         return false;
     }
@@ -142,7 +197,11 @@ fn is_next_below(changes: &[Change], at: usize, path: &NodePath) -> bool {
 }
 
 // Where the change of what is open stands.
-fn place_open(changes: &[Change], path: &NodePath) -> Option<usize> {
+fn place_open(changes: &[Change], path: &NodePath) -> Option<usize>
+    ensures found { IfSome result (λ i. i < length changes.now) }
+    ensures placed { IfSome result (λ i. IsNormal changes.now → (c : ChangeOf) → slice_get changes.now i ≡ Some c → c.path ≡ path.now) }
+    ensures none { result ≡ None → IsNormal changes.now → is_taken changes.now path.now ≡ false }
+{
     match place_of(changes, path) {
         Ok(at) => {
             if is_delete(changes[at].action) {
@@ -156,7 +215,9 @@ fn place_open(changes: &[Change], path: &NodePath) -> Option<usize> {
 }
 
 // Why a tree refused, as an editor says it.
-fn told(error: TreeError) -> EditorFault {
+fn told(error: TreeError) -> EditorFault
+    ensures { result ≡ told error }
+{
     match error {
         TreeError::Fault(fault) => EditorFault::from(fault),
         TreeError::OutOfMemory => EditorFault::OutOfMemory,
@@ -164,7 +225,11 @@ fn told(error: TreeError) -> EditorFault {
 }
 
 // A value as it is put. More than 65,536 bytes are refused.
-fn copied_value(alloc: Global, value: Option<&[u8]>) -> Result<Option<PropValue>, EditorFault> {
+fn copied_value(alloc: Global, value: Option<&[u8]>) -> Result<Option<PropValue>, EditorFault>
+    ensures value { IfOk result (λ v. v ≡ option_map (λ b. b.now) value.entry) }
+    ensures small { OnOk result (is_long (option_map (λ b. b.now) value.entry) ≡ false) }
+    ensures refused { IfErr result (IsFaultOr (fault_if (is_long (option_map (λ b. b.now) value.entry)) TooLong)) }
+{
     let Some(value) = value else {
         return Ok(None);
     };
@@ -182,7 +247,11 @@ pub fn put_prop(
     path: &NodePath,
     name: &PropName,
     value: Option<&[u8]>,
-) -> Result<(), EditorFault> {
+) -> Result<(), EditorFault>
+    ensures gives { OnOk result ((trees : List PathMap) → Made trees tree.old changes.old.items → Gives trees tree.old changes.old.items tree.new changes.new.items path.now (with_prop name.now (option_map (λ b. b.now) value.entry))) }
+    ensures faultless { OnOk result (put_fault (map.get tree.old) path.now name.now (option_map (λ b. b.now) value.entry) ≡ None) }
+    ensures refused { IfErr result (λ e. IsNormal changes.old.items → is_taken changes.old.items path.now ≡ true → IsFaultOr (put_fault (map.get tree.old) path.now name.now (option_map (λ b. b.now) value.entry)) e) }
+{
     let Some(at) = place_open(changes, path) else {
         return Err(EditorFault::NoSuchPath);
     };
@@ -192,7 +261,26 @@ pub fn put_prop(
         Ok(()) => {}
         Err(error) => return Err(told(error)),
     }
-    changes[at].props = Some(Props::empty());
+    give_props(&mut changes[at]);
+    Ok(())
+}
+
+// A change gives properties from now on.
+fn give_props(change: &mut Change)
+    ensures { change.new ≡ giving_props change.old }
+{
+    if change.props.is_none() {
+        change.props = Some(Props::empty());
+    }
+}
+
+// A change gives a text from now on.
+fn give_text(alloc: Global, change: &mut Change) -> Result<(), AllocError>
+    ensures { OnOk result (change.new ≡ giving_text change.old) }
+{
+    if change.text.is_none() {
+        change.text = Some(Text::new(alloc, Vec::new(alloc))?);
+    }
     Ok(())
 }
 
@@ -202,16 +290,19 @@ pub fn start_text(
     tree: &mut Tree,
     changes: &mut Vec<Change>,
     path: &NodePath,
-) -> Result<(), EditorFault> {
+) -> Result<(), EditorFault>
+    ensures gives { OnOk result ((trees : List PathMap) → Made trees tree.old changes.old.items → Gives trees tree.old changes.old.items tree.new changes.new.items path.now (with_given (Some []) None)) }
+    ensures faultless { OnOk result (text_fault (map.get tree.old) path.now ≡ None) }
+    ensures refused { IfErr result (λ e. IsNormal changes.old.items → is_taken changes.old.items path.now ≡ true → IsFaultOr (option_map refused (text_fault (map.get tree.old) path.now)) e) }
+{
     let Some(at) = place_open(changes, path) else {
         return Err(EditorFault::NoSuchPath);
     };
-    let text = Text::new(alloc, Vec::new(alloc))?;
     match tree.start_text(alloc, path) {
         Ok(()) => {}
         Err(error) => return Err(told(error)),
     }
-    changes[at].text = Some(text);
+    give_text(alloc, &mut changes[at])?;
     Ok(())
 }
 
@@ -219,11 +310,21 @@ pub fn start_text(
 pub fn append_text(
     alloc: Global,
     tree: &mut Tree,
+    changes: &mut Vec<Change>,
     path: &NodePath,
     piece: &[u8],
-) -> Result<(), EditorFault> {
+) -> Result<(), EditorFault>
+    ensures gives { OnOk result ((trees : List PathMap) → Made trees tree.old changes.old.items → Gives trees tree.old changes.old.items tree.new changes.new.items path.now (with_piece piece.now)) }
+    ensures faultless { OnOk result (piece_fault (map.get tree.old) path.now piece.now ≡ None) }
+    ensures refused { IfErr result (λ e. IsNormal changes.old.items → is_taken changes.old.items path.now ≡ true → IsFaultOr (option_map refused (piece_fault (map.get tree.old) path.now piece.now)) e) }
+{
+    let Some(at) = place_open(changes, path) else {
+        return Err(EditorFault::NoSuchPath);
+    };
     match tree.append_text(alloc, path, piece) {
-        Ok(()) => Ok(()),
-        Err(error) => Err(told(error)),
+        Ok(()) => {}
+        Err(error) => return Err(told(error)),
     }
+    give_text(alloc, &mut changes[at])?;
+    Ok(())
 }
