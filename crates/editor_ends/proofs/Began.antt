@@ -196,6 +196,7 @@ module _ (trees : List PathMap) (tree new_tree : PathMap) (x : Change) (step : (
       fault = begin_none trees (get tree) (is_late_in (front ++ rest) x) x root late fault;
       tree_is = step;
       made = record {
+        numbered = m.numbered;
         made = λ q. ap (λ s. effect trees s q) (map-append (filled (get new_tree)) front (x ∷ rest) ∙ shape)
           ∙ effect_one_more (map (filled (get tree)) front) (map (filled (get tree)) rest) x spread_none trees spread q
           ∙ (λ i. stepped trees (λ r. (ap (λ s. effect trees s r) (sym (map-append (filled (get tree)) front rest)) ∙ m.made r) i) x q)
@@ -248,6 +249,7 @@ module _ (trees : List PathMap) (tree new_tree : PathMap) (x : Change) (step : (
       fault = begin_none trees (get tree) (is_late_in (front ++ d ∷ rest) x) x root late fault;
       tree_is = step;
       made = record {
+        numbered = m.numbered;
         made = λ q. ap (λ s. effect trees s q) (map-append (filled (get new_tree)) front (replacing ∷ rest) ∙ shape)
           ∙ effect_replaced trees (map (filled (get tree)) front) (map (filled (get tree)) rest) (filled (get tree) d) replacing same spread (Rattle.dump_load.proofs.Faultless.deletes_settle d.action gone) refl q
           ∙ (λ i. stepped trees (λ r. (ap (λ s. effect trees s r) (sym (map-append (filled (get tree)) front (d ∷ rest))) ∙ m.made r) i) replacing q)

@@ -8,4 +8,5 @@ pub mod Given
 pub mod Nested
 pub mod Parted
 pub mod Showing
+pub mod Shows
 pub mod Walks

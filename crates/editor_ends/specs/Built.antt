@@ -53,6 +53,7 @@ is_late_in s x = is_taken s x.path || (is_delete x.action && is_above s x.path)
 
 -- the changes, their parts filled in, have the tree as their effect; they are a normal set; and something is above each
 pub record Made (trees : List PathMap) (tree : PathMap) (s : List Change) : Type 0 where
+  pub numbered : length trees ≤ 65535
   pub made : (q : Path) → effect trees (map (filled (finite.get tree)) s) q ≡ finite.get tree q
   pub normal : IsNormal s
   pub stands : (p : Path) → is_above s p ≡ true → IsSome (finite.get tree p)

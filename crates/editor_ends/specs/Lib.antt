@@ -1,4 +1,5 @@
 pub mod BuildFaults
+pub mod Builders
 pub mod Built
 pub mod Drive
 pub mod Fronts

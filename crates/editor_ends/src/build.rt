@@ -1,4 +1,11 @@
 //! An editor that makes a set of changes of what it is shown.
+ghost use Rattle.std.specs.Prelude.{◌≡◌, ◌≤◌, ◌||◌, length, not, true, false, Some, None, [], IsSome, IfOk, IfErr, OnOk};
+ghost use Rattle.std.specs.Option.{option_copied};
+ghost use Rattle.std.specs.FinMap as map;
+ghost use Rattle.dump_load.specs.Changes.{is_add, is_delete, settles, IsNormal};
+ghost use Rattle.editor_ends.specs.BuildFaults.{begun, begin_fault};
+ghost use Rattle.editor_ends.specs.Built.{Made, Begins, IsFaultOr, is_late_in};
+ghost use Rattle.editor_ends.specs.Builders.{has_shown, trees_of};
 
 use crate::building::{append_text, delete, new_change, open_or_add, put_prop, start_text};
 use crate::finish::finish;
@@ -49,7 +56,11 @@ impl<'a> Built<'a> {
 
 impl<'a> BuildEditor<'a> {
     /// Nothing was shown yet.
-    pub fn new(alloc: Global, trees: &'a [Tree]) -> Result<BuildEditor<'a>, AllocError> {
+    pub fn new(alloc: Global, trees: &'a [Tree]) -> Result<BuildEditor<'a>, AllocError>
+        requires { length trees.now ≤ 65535 }
+        ensures new { IfOk result (λ e. has_shown e []) }
+        ensures over { IfOk result (λ e. trees_of e ≡ trees.now) }
+    {
         Ok(BuildEditor {
             alloc,
             trees,
@@ -64,7 +75,13 @@ impl<'a> BuildEditor<'a> {
         kind: NodeKind,
         path: &NodePath,
         from: Option<&Source>,
-    ) -> Result<NodePath, EditorFault> {
+    ) -> Result<NodePath, EditorFault>
+        requires known { (is_add action || not (settles action)) ≡ true }
+        ensures begins { OnOk result (Made self.old.trees.now self.old.tree self.old.changes.items → Begins self.old.trees.now self.old.tree self.old.changes.items self.new.tree self.new.changes.items (begun action (Some kind) path.now (option_copied from.entry))) }
+        ensures baton { IfOk result (λ p. p ≡ path.now) }
+        ensures refused { IfErr result (λ e. Made self.old.trees.now self.old.tree self.old.changes.items → IsFaultOr (begin_fault self.old.trees.now (map.get self.old.tree) (is_late_in self.old.changes.items (begun action (Some kind) path.now (option_copied from.entry))) (begun action (Some kind) path.now (option_copied from.entry))) e) }
+        ensures over { trees_of self.new ≡ trees_of self.old }
+    {
         let baton = path.copy(self.alloc)?;
         let change = new_change(self.alloc, action, Some(kind), path, from)?;
         open_or_add(
@@ -79,7 +96,7 @@ impl<'a> BuildEditor<'a> {
 }
 
 impl<'a> Editor for BuildEditor<'a> {
-    ghost use Rattle.delta_editor.specs.Calls.{Call};
+    ghost use Rattle.delta_editor.specs.declared.call.Call.{Call};
     ghost use Rattle.editor_ends.specs.BuildFaults.{RefusesWithin};
     ghost use Rattle.editor_ends.specs.Built.{BuildsWithin, IsSetWithin};
 

@@ -92,12 +92,14 @@ fn make(
     tree: &mut Tree,
     change: &Change,
 ) -> Result<(), EditorFault>
-    requires few { length trees.now ≤ 65535 }
     requires whole { IsWhole change.now }
     ensures made { OnOk result ((q : Path) → map.get tree.new q ≡ stepped trees.now (map.get tree.old) change.now q) }
     ensures faultless { OnOk result (fault_of trees.now (map.get tree.old) change.now ≡ None) }
-    ensures refused { IfErr result (IsFaultOr (option_map refused (fault_of trees.now (map.get tree.old) change.now))) }
+    ensures refused { IfErr result (λ e. length trees.now ≤ 65535 → IsFaultOr (option_map refused (fault_of trees.now (map.get tree.old) change.now)) e) }
 {
+    if trees.len() > 65_535 {
+        return Err(EditorFault::WrongNumber);
+    }
     if let Some(fault) = fault_of(trees, tree, change) {
         return Err(EditorFault::from(fault));
     }
@@ -112,7 +114,6 @@ pub fn open_or_add(
     changes: &mut Vec<Change>,
     change: Change,
 ) -> Result<(), EditorFault>
-    requires few { length trees.now ≤ 65535 }
     requires whole { IsWhole change }
     requires fresh { IsFresh change }
     requires stays { is_delete change.action ≡ false }
@@ -155,7 +156,6 @@ pub fn delete(
     changes: &mut Vec<Change>,
     change: Change,
 ) -> Result<(), EditorFault>
-    requires few { length trees.now ≤ 65535 }
     requires whole { IsWhole change }
     requires fresh { IsFresh change }
     requires deletes { is_delete change.action ≡ true }

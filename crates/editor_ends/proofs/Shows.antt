@@ -1,0 +1,242 @@
+-- What a call adds to what an editor that builds a set was shown, and why it is refused.
+use Rattle.std.proofs.Common.{◌≡◌, ℕ, ◌==◌, ◌≤◌, ◌<◌, Bool, true, false, cond, not, ◌&&◌, ◌||◌, List, [], ◌∷◌, ◌++◌, length, map, Option, Some, None, IsSome, is_some, ◌⊎◌, inl, inr, refl, sym, ap, subst, ◌∙◌, append_assoc, append-nil}
+use Rattle.std.specs.Option.{option_map, option_map_or, option_or, option_and_then}
+use Rattle.std.specs.List.{list_any, AllByRecursion}
+use Rattle.std.proofs.lemmas.List.Folds.{list_any-append}
+use Rattle.std.specs.FinMap.{get}
+use Rattle.node_base.specs.Path.{Path, Name, same_path, is_front}
+use Rattle.node_base.proofs.PathLemmas.{same_path_itself, path_of_same}
+use Rattle.node_base.specs.Tree.{PathMap, marked, changed_at, grafted, with_number, with_given, base, kind_of}
+use Rattle.node_base.specs.NodeEdits.{with_prop, with_piece}
+use Rattle.node_base.specs.declared.node.Node.{Node}
+use Rattle.node_base.specs.declared.node.NodeKind.{NodeKind}
+use Rattle.node_base.specs.declared.node.NodeKind.TheVariants.{File, Dir}
+use Rattle.node_base.specs.declared.node.Action.{Action}
+use Rattle.node_base.specs.declared.node.Action.TheVariants.{Modify, Add, Delete, Replace}
+use Rattle.node_base.specs.declared.node.Source.{Source}
+use Rattle.node_base.specs.declared.fault.TreeFault.TheVariants.{NoSuchPath, KindMismatch}
+use Rattle.dump_load.specs.declared.change.Change.{Change}
+use Rattle.dump_load.specs.Changes.{settles, is_delete, IsNormal}
+use Rattle.dump_load.specs.Effect.{effect, stepped, with_parts}
+use Rattle.dump_load.specs.Faults.{fault_of, fault_if, first_of}
+use Rattle.dump_load.proofs.Walk.{effect_none}
+use Rattle.delta_editor.specs.declared.call.Call.{Call}
+use Rattle.delta_editor.specs.declared.call.Call.TheVariants as call
+use Rattle.delta_editor.specs.CallEffect.{called, all_called, call_effect}
+use Rattle.delta_editor.specs.Laws.{touched}
+use Rattle.delta_editor.specs.Nesting.{Stage, Before, Within, After, Opened, OpenDir, OpenFile, OpenText, TextDone, run, next, begun, within, innermost, ended, is_dir, is_fresh, is_in_text, is_told, IsNested}
+use Rattle.delta_editor.specs.declared.fault.EditorFault.{EditorFault}
+use Rattle.delta_editor.specs.declared.fault.EditorFault.TheVariants as refusal
+use Rattle.delta_editor.proofs.CallLemmas.{all_called-append}
+use Rattle.editor_ends.specs.BuildFaults.{is_below, takes, acts_below, begin_fault, is_late, beginning, call_fault, refusal_after, first_refusal, IsTooLarge, IsCallRefusal, OfMemory, OfCall, OfSize, RefusesWithin}
+use Rattle.editor_ends.specs.BuildFaults as faults
+use Rattle.editor_ends.specs.Built.{is_taken, is_above, is_late_in, Made, Begins, Gives, IsFaultOr, IsSetOver, IsFinishRefusal, seen, Builds, BuildsWithin, IsSetOf, IsSetWithin}
+use Rattle.editor_ends.specs.Built as built
+use Rattle.editor_ends.proofs.Filled.{Nodes, or_no}
+
+-- ---- lists of calls, by their last
+
+or_none : {A : Type 0} (o : Option A) → option_or o None ≡ o
+or_none None = refl
+or_none (Some x) = refl
+
+or_assoc : {A : Type 0} (a b c : Option A) → option_or a (option_or b c) ≡ option_or (option_or a b) c
+or_assoc None b c = refl
+or_assoc (Some x) b c = refl
+
+refusal-end : (trees : List PathMap) (done cs : List Call) (c : Call) → refusal_after trees done (cs ++ c ∷ []) ≡ option_or (refusal_after trees done cs) (call_fault trees (done ++ cs) c)
+refusal-end trees done [] c = or_none (call_fault trees done c) ∙ ap (λ ds. call_fault trees ds c) (sym (append-nil done))
+refusal-end trees done (d ∷ cs) c =
+    ap (option_or (call_fault trees done d)) (refusal-end trees (done ++ d ∷ []) cs c ∙ ap (λ ds. option_or (refusal_after trees (done ++ d ∷ []) cs) (call_fault trees ds c)) (append_assoc done (d ∷ []) cs))
+    ∙ or_assoc (call_fault trees done d) (refusal_after trees (done ++ d ∷ []) cs) (call_fault trees (done ++ (d ∷ cs)) c)
+
+first-end : (trees : List PathMap) (calls : List Call) (c : Call) → first_refusal trees calls ≡ None → call_fault trees calls c ≡ None → first_refusal trees (calls ++ c ∷ []) ≡ None
+first-end trees calls c a b = refusal-end trees [] calls c ∙ (λ i. option_or (a i) (b i))
+
+run-append : (s : Stage) (cs ds : List Call) → run s (cs ++ ds) ≡ option_and_then (λ t. run t ds) (run s cs)
+run-append s [] ds = refl
+run-append s (c ∷ cs) ds = elim (next s c) as (λ o. option_and_then (λ t. run t (cs ++ ds)) o ≡ option_and_then (λ t. run t ds) (option_and_then (λ t. run t cs) o)) [ None ↦ refl | Some t ↦ run-append t cs ds ]
+
+-- the last of some calls
+pub record Last (calls : List Call) (c : Call) (t : Stage) : Type 0 where
+  pub stage : Stage
+  pub ran : run Before calls ≡ Some stage
+  pub goes : next stage c ≡ Some t
+
+pub last : (calls : List Call) (c : Call) (t : Stage) → run Before (calls ++ c ∷ []) ≡ Some t → Last calls c t
+last calls c t e = at (run Before calls) refl (sym (run-append Before calls (c ∷ [])) ∙ e)
+  where
+    ends : (o : Option Stage) → option_and_then (λ u. run u []) o ≡ o
+    ends None = refl
+    ends (Some u) = refl
+
+    at : (o : Option Stage) → run Before calls ≡ o → option_and_then (λ s. run s (c ∷ [])) o ≡ Some t → Last calls c t
+    at None h k = cc
+    at (Some s) h k = record { stage = s; ran = h; goes = sym (ends (next s c)) ∙ k }
+
+-- ---- stages
+
+abbrev pub is_before : Stage → Bool
+is_before Before = true
+is_before (Within os) = false
+is_before After = false
+
+seen_later : (trees : List PathMap) (t : Stage) (f : Nodes) (q : Path) → is_before t ≡ false → seen t trees f q ≡ f q
+seen_later trees Before f q e = cc
+seen_later trees (Within os) f q e = refl
+seen_later trees After f q e = refl
+
+innermost_later : (test : Opened → Bool) (new : Opened → List Opened → List Opened) (os : List Opened) (t : Stage) → innermost test new os ≡ Some t → is_before t ≡ false
+innermost_later test new [] t e = cc
+innermost_later test new (o ∷ os) t e = elim (test o) as (λ b. cond b (Some (Within (new o os))) None ≡ Some t → is_before t ≡ false) [ true ↦ λ h. later h | false ↦ λ h. cc ] e
+  where
+    later : Some (Within (new o os)) ≡ Some t → is_before t ≡ false
+    later h = ap (λ o. option_map_or is_before o false) (sym h)
+
+within_later : (os : List Opened) (c : Call) (t : Stage) → within os c ≡ Some t → is_before t ≡ false
+within_later os (call.Target n) t e = ap (λ o. option_map_or is_before o false) (sym e)
+within_later os (call.OpenRoot b) t e = cc
+within_later os (call.AddDir up p from) t e = innermost_later _ _ os t e
+within_later os (call.OpenDir up p b) t e = innermost_later _ _ os t e
+within_later os (call.DeleteEntry up p b) t e = innermost_later _ _ os t e
+within_later os (call.AddFile up p from) t e = innermost_later _ _ os t e
+within_later os (call.OpenFile up p b) t e = innermost_later _ _ os t e
+within_later os (call.DirProp p name value) t e = elim (list_any (is_dir p) os) as (λ b. cond b (Some (Within os)) None ≡ Some t → is_before t ≡ false) [ true ↦ λ h. ap (λ o. option_map_or is_before o false) (sym h) | false ↦ λ h. cc ] e
+within_later os (call.FileProp p name value) t e = innermost_later _ _ os t e
+within_later os (call.TextStart p) t e = innermost_later _ _ os t e
+within_later os (call.TextPiece p piece) t e = innermost_later _ _ os t e
+within_later os (call.TextEnd p) t e = innermost_later _ _ os t e
+within_later os (call.CloseFile p sum) t e = innermost_later _ _ os t e
+within_later os (call.CloseDir p) t e = innermost_later _ _ os t e
+within_later [] call.CloseEdit t e = ap (λ o. option_map_or is_before o false) (sym e)
+within_later (o ∷ os) call.CloseEdit t e = cc
+
+-- ---- one call more
+
+module _ (trees : List PathMap) (tree new_tree : PathMap) (s new : List Change) (calls : List Call) (c : Call) where
+  goes_on : (stage t : Stage) → Builds trees tree s calls stage → ((q : Path) → get new_tree q ≡ seen t trees (called trees (call_effect trees calls) c) q) → Made trees new_tree new → ((p : Path) → is_taken new p ≡ (is_taken s p || takes p c)) → ((p : Path) → is_above new p ≡ (is_above s p || acts_below p c)) → call_fault trees calls c ≡ None → Builds trees new_tree new (calls ++ c ∷ []) t
+  goes_on stage t b is made taken above fault = record {
+    called = λ q. is q ∙ (λ i. seen t trees (sym (all_called-append trees (base trees) calls (c ∷ [])) i) q);
+    made = made;
+    taken = λ p. taken p ∙ (λ i. b.taken p i || sym (or_no (takes p c)) i) ∙ sym (list_any-append (takes p) calls (c ∷ []));
+    above = λ p. above p ∙ (λ i. b.above p i || sym (or_no (acts_below p c)) i) ∙ sym (list_any-append (acts_below p) calls (c ∷ []));
+    unrefused = first-end trees calls c b.unrefused fault;
+  }
+
+-- what a call says of the change that it begins
+pub record BeginsAs (c : Call) (x : Change) : Type 0 where
+  pub fault : (trees : List PathMap) (calls : List Call) → call_fault trees calls c ≡ beginning trees calls x
+  pub effect_is : (trees : List PathMap) (f : Nodes) (q : Path) → called trees f c q ≡ stepped trees f x q
+  pub takes_it : (p : Path) → takes p c ≡ (same_path x.path p && not (is_delete x.action))
+  pub below : (p : Path) → acts_below p c ≡ is_below p x.path
+  pub not_first : begun c ≡ None
+
+kept_node : (b : Bool) (x : Node) → cond b (with_given None None x) x ≡ x
+kept_node true x = refl
+kept_node false x = refl
+
+unchanged : (f : Nodes) (p q : Path) → f q ≡ changed_at f p (with_given None None) q
+unchanged f p q = elim (f q) as (λ o. o ≡ option_map (λ x. cond (same_path p q) (with_given None None x) x) o) [ None ↦ refl | Some x ↦ ap Some (sym (kept_node (same_path p q) x)) ]
+
+and_true : (b : Bool) → b ≡ (b && true)
+and_true true = refl
+and_true false = refl
+
+and_false : (b : Bool) → false ≡ (b && false)
+and_false true = refl
+and_false false = refl
+
+pub opens_dir : (up p : Path) (b : Option ℕ) → BeginsAs (call.OpenDir up p b) (faults.begun Modify (Some Dir) p None)
+opens_dir up p b = record { fault = λ trees calls. refl; effect_is = λ trees f q. unchanged (marked f p (length trees)) p q; takes_it = λ r. and_true (same_path p r); below = λ r. refl; not_first = refl }
+
+pub opens_file : (up p : Path) (b : Option ℕ) → BeginsAs (call.OpenFile up p b) (faults.begun Modify (Some File) p None)
+opens_file up p b = record { fault = λ trees calls. refl; effect_is = λ trees f q. unchanged (marked f p (length trees)) p q; takes_it = λ r. and_true (same_path p r); below = λ r. refl; not_first = refl }
+
+pub deletes : (up p : Path) (b : Option ℕ) → BeginsAs (call.DeleteEntry up p b) (faults.begun Delete None p None)
+deletes up p b = record { fault = λ trees calls. refl; effect_is = λ trees f q. refl; takes_it = λ r. and_false (same_path p r); below = λ r. refl; not_first = refl }
+
+pub adds_dir : (up p : Path) (from : Option Source) → BeginsAs (call.AddDir up p from) (faults.begun Add (Some Dir) p from)
+adds_dir up p None = record { fault = λ trees calls. refl; effect_is = λ trees f q. (λ i. grafted (marked f p (length trees)) p (λ r. top trees r i) q); takes_it = λ r. and_true (same_path p r); below = λ r. refl; not_first = refl }
+  where
+    top : (trees : List PathMap) (r : Path) → Rattle.delta_editor.specs.CallEffect.added trees Dir None r ≡ Rattle.dump_load.specs.Effect.arrives trees (faults.begun Add (Some Dir) p None) r
+    top trees [] = refl
+    top trees (n ∷ r) = refl
+adds_dir up p (Some s) = record { fault = λ trees calls. refl; effect_is = λ trees f q. refl; takes_it = λ r. and_true (same_path p r); below = λ r. refl; not_first = refl }
+
+pub adds_file : (up p : Path) (from : Option Source) → BeginsAs (call.AddFile up p from) (faults.begun Add (Some File) p from)
+adds_file up p None = record { fault = λ trees calls. refl; effect_is = λ trees f q. (λ i. grafted (marked f p (length trees)) p (λ r. top trees r i) q); takes_it = λ r. and_true (same_path p r); below = λ r. refl; not_first = refl }
+  where
+    top : (trees : List PathMap) (r : Path) → Rattle.delta_editor.specs.CallEffect.added trees File None r ≡ Rattle.dump_load.specs.Effect.arrives trees (faults.begun Add (Some File) p None) r
+    top trees [] = refl
+    top trees (n ∷ r) = refl
+adds_file up p (Some s) = record { fault = λ trees calls. refl; effect_is = λ trees f q. refl; takes_it = λ r. and_true (same_path p r); below = λ r. refl; not_first = refl }
+
+-- what comes within an edit
+pub record Inside (stage t : Stage) (c : Call) : Type 0 where
+  pub opened : List Opened
+  pub is : stage ≡ Within opened
+  pub goes : within opened c ≡ Some t
+
+inside : (stage t : Stage) (c : Call) → begun c ≡ None → next stage c ≡ Some t → Inside stage t c
+inside Before t c none e = cc
+inside (Within os) t c none e = record { opened = os; is = refl; goes = e }
+inside After t c none e = cc
+
+called_within : (trees : List PathMap) (tree : PathMap) (s : List Change) (calls : List Call) (stage : Stage) (os : List Opened) → stage ≡ Within os → Builds trees tree s calls stage → (q : Path) → get tree q ≡ call_effect trees calls q
+called_within trees tree s calls stage os e b q = b.called q ∙ ap (λ (z : Stage). seen z trees (call_effect trees calls) q) e
+
+same_fault : (trees : List PathMap) (tree : PathMap) (s : List Change) (calls : List Call) (stage : Stage) (x : Change) → Builds trees tree s calls stage → ((q : Path) → get tree q ≡ call_effect trees calls q) → begin_fault trees (get tree) (is_late_in s x) x ≡ beginning trees calls x
+same_fault trees tree s calls stage x b is = λ i. begin_fault trees (λ q. is q i) (b.taken x.path i || (is_delete x.action && b.above x.path i)) x
+
+pub adds_begun : (trees : List PathMap) (tree new_tree : PathMap) (s new : List Change) (c : Call) (x : Change) → BeginsAs c x → (Made trees tree s → Begins trees tree s new_tree new x) → (calls : List Call) → BuildsWithin trees tree s calls → BuildsWithin trees new_tree new (calls ++ c ∷ [])
+adds_begun trees tree new_tree s new c x facts h calls builds t e =
+    let l = last calls c t e in
+    let b = builds l.stage l.ran in
+    let w = inside l.stage t c facts.not_first l.goes in
+    let is = called_within trees tree s calls l.stage w.opened w.is b in
+    let g = h b.made in
+    goes_on trees tree new_tree s new calls c l.stage t b
+    (λ q. g.tree_is q ∙ (λ i. stepped trees (λ r. is r i) x q) ∙ sym (facts.effect_is trees (call_effect trees calls) q) ∙ sym (seen_later trees t (called trees (call_effect trees calls) c) q (within_later w.opened c t w.goes)))
+    g.made (λ p. g.taken p ∙ ap (λ z. is_taken s p || z) (sym (facts.takes_it p))) (λ p. g.above p ∙ ap (λ z. is_above s p || z) (sym (facts.below p)))
+    (facts.fault trees calls ∙ sym (same_fault trees tree s calls l.stage x b is) ∙ g.fault)
+
+-- ---- refusals
+
+pub either : (first : Option EditorFault) (e : EditorFault) → IsFaultOr first e → (e ≡ refusal.OutOfMemory) ⊎ (first ≡ Some e)
+either first refusal.TooLong h = inr h
+either first refusal.BadPath h = inr h
+either first refusal.NoSuchPath h = inr h
+either first refusal.PathThere h = inr h
+either first refusal.NotDir h = inr h
+either first refusal.NoSource h = inr h
+either first refusal.OutOfOrder h = inr h
+either first refusal.WrongNumber h = inr h
+either first refusal.KindMismatch h = inr h
+either first refusal.PeerFailed h = inr h
+either first refusal.OutOfMemory h = inl refl
+
+pub fault_or : (first : Option EditorFault) (e : EditorFault) → first ≡ Some e → IsFaultOr first e
+fault_or first refusal.TooLong h = h
+fault_or first refusal.BadPath h = h
+fault_or first refusal.NoSuchPath h = h
+fault_or first refusal.PathThere h = h
+fault_or first refusal.NotDir h = h
+fault_or first refusal.NoSource h = h
+fault_or first refusal.OutOfOrder h = h
+fault_or first refusal.WrongNumber h = h
+fault_or first refusal.KindMismatch h = h
+fault_or first refusal.PeerFailed h = h
+fault_or first refusal.OutOfMemory h = tt
+
+pub refused_as : (trees : List PathMap) (calls : List Call) (c : Call) (first : Option EditorFault) (e : EditorFault) → first ≡ call_fault trees calls c → IsFaultOr first e → IsCallRefusal trees calls c e
+refused_as trees calls c first e is h = elim (either first e h) [ inl m ↦ OfMemory m | inr k ↦ OfCall (sym is ∙ k) ]
+
+pub refuses_begun : (trees : List PathMap) (tree : PathMap) (s : List Change) (c : Call) (x : Change) (e : EditorFault) → BeginsAs c x → (Made trees tree s → IsFaultOr (begin_fault trees (get tree) (is_late_in s x) x) e) → (calls : List Call) → BuildsWithin trees tree s calls → RefusesWithin trees calls c e
+refuses_begun trees tree s c x e facts h calls builds t r =
+    let l = last calls c t r in
+    let b = builds l.stage l.ran in
+    let w = inside l.stage t c facts.not_first l.goes in
+    refused_as trees calls c (begin_fault trees (get tree) (is_late_in s x) x) e (same_fault trees tree s calls l.stage x b (called_within trees tree s calls l.stage w.opened w.is b) ∙ sym (facts.fault trees calls)) (h b.made)
+
+pub refuses_memory : (trees : List PathMap) (tree : PathMap) (s : List Change) (c : Call) (e : EditorFault) → e ≡ refusal.OutOfMemory → (calls : List Call) → BuildsWithin trees tree s calls → RefusesWithin trees calls c e
+refuses_memory trees tree s c e m calls builds t r = OfMemory m
