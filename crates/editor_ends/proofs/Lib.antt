@@ -6,7 +6,9 @@ pub mod Filled
 pub mod Fronts
 pub mod Given
 pub mod Nested
+pub mod Opened
 pub mod Parted
+pub mod Places
 pub mod Showing
 pub mod Shows
 pub mod Walks

@@ -240,3 +240,143 @@ refuses_begun trees tree s c x e facts h calls builds t r =
 
 pub refuses_memory : (trees : List PathMap) (tree : PathMap) (s : List Change) (c : Call) (e : EditorFault) → e ≡ refusal.OutOfMemory → (calls : List Call) → BuildsWithin trees tree s calls → RefusesWithin trees calls c e
 refuses_memory trees tree s c e m calls builds t r = OfMemory m
+
+-- ---- the root
+
+root_node : (n : ℕ) (b d : Bool) (x : Node) → cond d (with_given None None (cond b (with_number n (cond b (with_number n x) x)) (cond b (with_number n x) x))) (cond b (with_number n (cond b (with_number n x) x)) (cond b (with_number n x) x)) ≡ cond b (with_number n x) x
+root_node n true true x = refl
+root_node n true false x = refl
+root_node n false true x = refl
+root_node n false false x = refl
+
+root_step : (trees : List PathMap) (f : Nodes) (q : Path) → stepped trees (marked f [] (length trees)) (faults.begun Modify (Some Dir) [] None) q ≡ marked f [] (length trees) q
+root_step trees f q = elim (f q) as (λ o. option_map (λ x. cond (same_path [] q) (with_given None None x) x) (option_map (λ x. cond (is_front q []) (with_number (length trees) x) x) (option_map (λ x. cond (is_front q []) (with_number (length trees) x) x) o)) ≡ option_map (λ x. cond (is_front q []) (with_number (length trees) x) x) o) [ None ↦ refl | Some x ↦ ap Some (root_node (length trees) (is_front q []) (same_path [] q) x) ]
+
+root_fault : (trees : List PathMap) (f : Nodes) (late : Bool) → begin_fault trees (marked f [] (length trees)) late (faults.begun Modify (Some Dir) [] None) ≡ begin_fault trees f late (faults.begun Modify (Some Dir) [] None)
+root_fault trees f late = at (f [])
+  where
+    given : Option Node → Option EditorFault
+    given o = option_or (fault_if late refusal.OutOfOrder) (option_or (option_map Rattle.delta_editor.specs.Faults.refused (option_or (fault_if (not (is_some o)) NoSuchPath) (option_or (fault_if (option_map_or (Rattle.dump_load.specs.Faults.mismatches (Some Dir) false) (option_map kind_of o) false) KindMismatch) None))) None)
+
+    at : (o : Option Node) → option_or (fault_if late refusal.OutOfOrder) (option_or (option_map Rattle.delta_editor.specs.Faults.refused (option_or (fault_if (not (is_some (option_map (with_number (length trees)) o))) NoSuchPath) (option_or (fault_if (option_map_or (Rattle.dump_load.specs.Faults.mismatches (Some Dir) false) (option_map kind_of (option_map (with_number (length trees)) o)) false) KindMismatch) None))) None) ≡ option_or (fault_if late refusal.OutOfOrder) (option_or (option_map Rattle.delta_editor.specs.Faults.refused (option_or (fault_if (not (is_some o)) NoSuchPath) (option_or (fault_if (option_map_or (Rattle.dump_load.specs.Faults.mismatches (Some Dir) false) (option_map kind_of o) false) KindMismatch) None))) None)
+    at None = refl
+    at (Some x) = refl
+
+-- the first call that opens something
+pub record First (stage t : Stage) : Type 0 where
+  pub is : stage ≡ Before
+  pub later : is_before t ≡ false
+
+first : (stage t : Stage) (b : Option ℕ) → next stage (call.OpenRoot b) ≡ Some t → First stage t
+first Before t b e = record { is = refl; later = ap (λ o. option_map_or is_before o false) (sym e) }
+first (Within os) t b e = cc
+first After t b e = cc
+
+called_before : (trees : List PathMap) (tree : PathMap) (s : List Change) (calls : List Call) (stage : Stage) → stage ≡ Before → Builds trees tree s calls stage → (q : Path) → get tree q ≡ marked (call_effect trees calls) [] (length trees) q
+called_before trees tree s calls stage e b q = b.called q ∙ ap (λ (z : Stage). seen z trees (call_effect trees calls) q) e
+
+root_same : (trees : List PathMap) (tree : PathMap) (s : List Change) (calls : List Call) (stage : Stage) → Builds trees tree s calls stage → ((q : Path) → get tree q ≡ marked (call_effect trees calls) [] (length trees) q) → begin_fault trees (get tree) (is_late_in s (faults.begun Modify (Some Dir) [] None)) (faults.begun Modify (Some Dir) [] None) ≡ beginning trees calls (faults.begun Modify (Some Dir) [] None)
+root_same trees tree s calls stage b is = (λ i. begin_fault trees (λ q. is q i) (b.taken [] i || false) (faults.begun Modify (Some Dir) [] None)) ∙ root_fault trees (call_effect trees calls) (list_any (takes []) calls || false)
+
+pub adds_root : (trees : List PathMap) (tree new_tree : PathMap) (s new : List Change) (base : Option ℕ) → (Made trees tree s → Begins trees tree s new_tree new (faults.begun Modify (Some Dir) [] None)) → (calls : List Call) → BuildsWithin trees tree s calls → BuildsWithin trees new_tree new (calls ++ call.OpenRoot base ∷ [])
+adds_root trees tree new_tree s new base h calls builds t e =
+    let x : Change = faults.begun Modify (Some Dir) [] None in
+    let l = last calls (call.OpenRoot base) t e in
+    let b = builds l.stage l.ran in
+    let w = first l.stage t base l.goes in
+    let is = called_before trees tree s calls l.stage w.is b in
+    let g = h b.made in
+    goes_on trees tree new_tree s new calls (call.OpenRoot base) l.stage t b
+    (λ q. g.tree_is q ∙ (λ i. stepped trees (λ r. is r i) x q) ∙ root_step trees (call_effect trees calls) q ∙ sym (seen_later trees t (marked (call_effect trees calls) [] (length trees)) q w.later))
+    g.made (λ p. g.taken p ∙ ap (λ z. is_taken s p || z) (sym (and_true (same_path [] p)))) (λ p. g.above p)
+    (sym (root_same trees tree s calls l.stage b is) ∙ g.fault)
+
+pub refuses_root : (trees : List PathMap) (tree : PathMap) (s : List Change) (base : Option ℕ) (e : EditorFault) → (Made trees tree s → IsFaultOr (begin_fault trees (get tree) (is_late_in s (faults.begun Modify (Some Dir) [] None)) (faults.begun Modify (Some Dir) [] None)) e) → (calls : List Call) → BuildsWithin trees tree s calls → RefusesWithin trees calls (call.OpenRoot base) e
+refuses_root trees tree s base e h calls builds t r =
+    let x : Change = faults.begun Modify (Some Dir) [] None in
+    let l = last calls (call.OpenRoot base) t r in
+    let b = builds l.stage l.ran in
+    let w = first l.stage t base l.goes in
+    refused_as trees calls (call.OpenRoot base) (begin_fault trees (get tree) (is_late_in s x) x) e (root_same trees tree s calls l.stage b (called_before trees tree s calls l.stage w.is b)) (h b.made)
+
+-- ---- what says nothing of the set
+
+pub record IsSilent (c : Call) : Type 0 where
+  pub effect_is : (trees : List PathMap) (f : Nodes) → ◌≡◌ {A = Nodes} (called trees f c) f
+  pub takes_none : (p : Path) → takes p c ≡ false
+  pub below : (p : Path) → acts_below p c ≡ false
+  pub stage_stays : (s t : Stage) → next s c ≡ Some t → is_before t ≡ is_before s
+
+within_same : (c : Call) → begun c ≡ None → (s t : Stage) → next s c ≡ Some t → is_before t ≡ is_before s
+within_same c none Before t e = cc
+within_same c none (Within os) t e = within_later os c t e
+within_same c none After t e = cc
+
+pub text_ends : (p : Path) → IsSilent (call.TextEnd p)
+text_ends p = record { effect_is = λ trees f. refl; takes_none = λ q. refl; below = λ q. refl; stage_stays = within_same (call.TextEnd p) refl }
+
+pub closes_file : (p : Path) (sum : Option (List ℕ)) → IsSilent (call.CloseFile p sum)
+closes_file p sum = record { effect_is = λ trees f. refl; takes_none = λ q. refl; below = λ q. refl; stage_stays = within_same (call.CloseFile p sum) refl }
+
+pub closes_dir : (p : Path) → IsSilent (call.CloseDir p)
+closes_dir p = record { effect_is = λ trees f. refl; takes_none = λ q. refl; below = λ q. refl; stage_stays = within_same (call.CloseDir p) refl }
+
+pub targets : (n : ℕ) → IsSilent (call.Target n)
+targets n = record { effect_is = λ trees f. refl; takes_none = λ q. refl; below = λ q. refl; stage_stays = stays }
+  where
+    stays : (s t : Stage) → next s (call.Target n) ≡ Some t → is_before t ≡ is_before s
+    stays Before t e = ap (λ o. option_map_or is_before o true) (sym e)
+    stays (Within os) t e = ap (λ o. option_map_or is_before o false) (sym e)
+    stays After t e = cc
+
+seen_same : (trees : List PathMap) (s t : Stage) (f : Nodes) (q : Path) → is_before t ≡ is_before s → seen s trees f q ≡ seen t trees f q
+seen_same trees Before Before f q e = refl
+seen_same trees Before (Within os) f q e = cc
+seen_same trees Before After f q e = cc
+seen_same trees (Within os) t f q e = sym (seen_later trees t f q e)
+seen_same trees After t f q e = sym (seen_later trees t f q e)
+
+pub adds_silent : (trees : List PathMap) (tree : PathMap) (s : List Change) (c : Call) → IsSilent c → (calls : List Call) → call_fault trees calls c ≡ None → BuildsWithin trees tree s calls → BuildsWithin trees tree s (calls ++ c ∷ [])
+adds_silent trees tree s c facts calls fault builds t e =
+    let l = last calls c t e in
+    let b = builds l.stage l.ran in
+    goes_on trees tree tree s s calls c l.stage t b
+    (λ q. b.called q ∙ seen_same trees l.stage t (call_effect trees calls) q (facts.stage_stays l.stage t l.goes) ∙ (λ i. seen t trees (sym (facts.effect_is trees (call_effect trees calls)) i) q))
+    b.made (λ p. sym (ap (λ z. is_taken s p || z) (facts.takes_none p) ∙ or_no (is_taken s p))) (λ p. sym (ap (λ z. is_above s p || z) (facts.below p) ∙ or_no (is_above s p)))
+    fault
+
+-- ---- what gives parts
+
+pub record GivesAs (c : Call) (p : Path) (g : Node → Node) : Type 0 where
+  pub effect_is : (trees : List PathMap) (f : Nodes) (q : Path) → called trees f c q ≡ changed_at f p g q
+  pub takes_none : (q : Path) → takes q c ≡ false
+  pub below : (q : Path) → acts_below q c ≡ false
+  pub not_first : begun c ≡ None
+
+pub puts_dir : (p : Path) (name : Name) (value : Option (List ℕ)) → GivesAs (call.DirProp p name value) p (with_prop name value)
+puts_dir p name value = record { effect_is = λ trees f q. same f value q; takes_none = λ q. refl; below = λ q. refl; not_first = refl }
+  where
+    same : (f : Nodes) (value : Option (List ℕ)) (q : Path) → changed_at f p (Rattle.delta_editor.specs.CallEffect.with_prop name value) q ≡ changed_at f p (with_prop name value) q
+    same f None q = refl
+    same f (Some v) q = refl
+
+pub puts_file : (p : Path) (name : Name) (value : Option (List ℕ)) → GivesAs (call.FileProp p name value) p (with_prop name value)
+puts_file p name value = record { effect_is = (puts_dir p name value).effect_is; takes_none = λ q. refl; below = λ q. refl; not_first = refl }
+
+pub starts : (p : Path) → GivesAs (call.TextStart p) p (with_given (Some []) None)
+starts p = record { effect_is = λ trees f q. refl; takes_none = λ q. refl; below = λ q. refl; not_first = refl }
+
+pub pieces_on : (p : Path) (piece : List ℕ) → GivesAs (call.TextPiece p piece) p (with_piece piece)
+pieces_on p piece = record { effect_is = λ trees f q. refl; takes_none = λ q. refl; below = λ q. refl; not_first = refl }
+
+pub adds_given : (trees : List PathMap) (tree new_tree : PathMap) (s new : List Change) (c : Call) (p : Path) (g : Node → Node) (fault : Nodes → Option EditorFault) → GivesAs c p g → ((calls : List Call) → call_fault trees calls c ≡ fault (call_effect trees calls)) → fault (get tree) ≡ None → (Made trees tree s → Gives trees tree s new_tree new p g) → (calls : List Call) → BuildsWithin trees tree s calls → BuildsWithin trees new_tree new (calls ++ c ∷ [])
+adds_given trees tree new_tree s new c p g fault facts same none h calls builds t e =
+    let l = last calls c t e in
+    let b = builds l.stage l.ran in
+    let w = inside l.stage t c facts.not_first l.goes in
+    let is = called_within trees tree s calls l.stage w.opened w.is b in
+    let d = h b.made in
+    goes_on trees tree new_tree s new calls c l.stage t b
+    (λ q. d.tree_is q ∙ (λ i. changed_at (λ r. is r i) p g q) ∙ sym (facts.effect_is trees (call_effect trees calls) q) ∙ sym (seen_later trees t (called trees (call_effect trees calls) c) q (within_later w.opened c t w.goes)))
+    d.made (λ q. d.taken q ∙ sym (ap (λ z. is_taken s q || z) (facts.takes_none q) ∙ or_no (is_taken s q))) (λ q. d.above q ∙ sym (ap (λ z. is_above s q || z) (facts.below q) ∙ or_no (is_above s q)))
+    (same calls ∙ (λ i. fault (λ r. sym (is r) i)) ∙ none)

@@ -106,6 +106,13 @@ fn make(
     Ok(step(alloc, trees, tree, change)?)
 }
 
+// Whether the root is added or deleted.
+fn is_root_settled(change: &Change) -> bool
+    ensures { result ≡ (same_path change.now.path [] && settles change.now.action) }
+{
+    change.path.is_root() && settles(change.action)
+}
+
 /// Opens or adds something: a change begins, or a deletion and an add of one path become a replace.
 pub fn open_or_add(
     alloc: Global,
@@ -116,11 +123,11 @@ pub fn open_or_add(
 ) -> Result<(), EditorFault>
     requires whole { IsWhole change }
     requires fresh { IsFresh change }
-    requires stays { is_delete change.action ≡ false }
+    requires known { (is_add change.action || not (settles change.action)) ≡ true }
     ensures begins { OnOk result (Made trees.now tree.old changes.old.items → Begins trees.now tree.old changes.old.items tree.new changes.new.items change) }
     ensures refused { IfErr result (λ e. Made trees.now tree.old changes.old.items → IsFaultOr (begin_fault trees.now (map.get tree.old) (is_late_in changes.old.items change) change) e) }
 {
-    if settles(change.action) && change.path.is_root() {
+    if is_root_settled(&change) {
         return Err(EditorFault::BadPath);
     }
     match place_of(changes, &change.path) {
@@ -162,7 +169,7 @@ pub fn delete(
     ensures begins { OnOk result (Made trees.now tree.old changes.old.items → Begins trees.now tree.old changes.old.items tree.new changes.new.items change) }
     ensures refused { IfErr result (λ e. Made trees.now tree.old changes.old.items → IsFaultOr (begin_fault trees.now (map.get tree.old) (is_late_in changes.old.items change) change) e) }
 {
-    if change.path.is_root() {
+    if is_root_settled(&change) {
         return Err(EditorFault::BadPath);
     }
     match place_of(changes, &change.path) {

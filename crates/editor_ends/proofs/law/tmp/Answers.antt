@@ -1,6 +1,5 @@
 use Rattle.editor_ends.proofs.Began.{tmp}
-use Rattle.editor_ends.proofs.Ended.{keeps_same}
-use Rattle.editor_ends.proofs.Parted.{gives_text}
+use Rattle.editor_ends.proofs.Opened.{open_again}
 use Rattle.editor_ends.proofs.Shows.{last}
 use Rattle.editor_ends.proofs.law.tmp.Goals as goal
 
