@@ -199,3 +199,34 @@ module _ (trees : List PathMap) (tree new_tree : PathMap) (s : List Change) (i :
       found Delete e None h n = cc
       found Delete e (Some y) h n = cc
       found Replace e o h n = cc
+
+  -- what is deleted once more after a deletion: late only where something below was touched, and nothing below a deletion is
+  not_late_gone : is_delete x.action ≡ true → is_delete d.action ≡ true → is_late_in s x ≡ false
+  not_late_gone del gone_too = (λ j. (taken ∙ ap not gone_too) j || (del j && nothing j))
+    where
+      clear : Rattle.dump_load.specs.Changes.IsClear (take i s ++ drop (i + 1) s) d
+      clear = Rattle.editor_ends.proofs.Filled.clear_of_deleted (take i s) (drop (i + 1) s) d normal gone_too
+
+      none : (t : List Change) → Rattle.dump_load.specs.Changes.IsClear t d → is_above t d.path ≡ false
+      none [] h = refl
+      none (e ∷ t) h = (λ j. (is_some (h.0 j) && not (same_path d.path e.path)) || none t h.1 j)
+
+      itself : is_below d.path d.path ≡ false
+      itself = ap (λ b. is_front d.path d.path && not b) (Rattle.node_base.proofs.PathLemmas.same_path_itself d.path) ∙ ends (is_front d.path d.path)
+        where
+          ends : (b : Bool) → (b && false) ≡ false
+          ends true = refl
+          ends false = refl
+
+      nothing : is_above s x.path ≡ false
+      nothing = (λ j. is_above (split j) (sym same j)) ∙ Rattle.editor_ends.proofs.Began.above-amid (take i s) (drop (i + 1) s) d d.path ∙ (λ j. none (take i s ++ drop (i + 1) s) clear j || itself j)
+
+  pub refuse_gone : is_delete x.action ≡ true → is_delete d.action ≡ true → (same_path x.path [] && settles x.action) ≡ false → (e : EditorFault) → option_map refused (fault_of trees (get tree) x) ≡ Some e → IsFaultOr (begin_fault trees (get tree) (is_late_in s x) x) e
+  refuse_gone del gone_too root e h = fault_or _ e (begin_faulty trees (get tree) (is_late_in s x) x e root (not_late_gone del gone_too) h)
+
+-- whether a path is taken, by what the search finds
+pub taken_place : (s : List Change) (i : ℕ) (p : Path) (d : Change) → i < length s → d ≡ get_or s i d → Placed s p (Ok i) → IsNormal s → is_taken s p ≡ not (is_delete d.action)
+taken_place s i p d here is at n = (λ j. is_taken (split_at s i d here is j) (sym (at d (slice_get-get_or s i d here ∙ ap Some (sym is))) j)) ∙ taken_at (take i s) (drop (i + 1) s) d (subst IsNormal (split_at s i d here is) n)
+
+pub taken_gap : (s : List Change) (i : ℕ) (p : Path) → Placed s p (Err i) → is_taken s p ≡ false
+taken_gap s i p g = ap (λ o. option_map_or (λ (c : Change). not (is_delete c.action)) o false) (subst (λ z. change_at z p ≡ None) (take-append-drop i s) (none_in_gap (take i s) (drop i s) p g))

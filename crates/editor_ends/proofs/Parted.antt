@@ -19,6 +19,16 @@ use Rattle.dump_load.proofs.PathOrder.{less_differs, greater_differs}
 use Rattle.dump_load.proofs.Reparted.{effect_reparted}
 use Rattle.dump_load.proofs.Walk.{normal_follows, whole_in}
 use Rattle.editor_ends.specs.Built.{filled, is_taken, is_above, Made, Gives, giving_props, giving_text}
+use Rattle.std.proofs.Common.{◌<◌, ◌+◌, take, drop, get_or, Ok}
+use Rattle.std.specs.Prelude.{slice_set}
+use Rattle.std.specs.List.{slice_get}
+use Rattle.std.proofs.lemmas.Option.{slice_get-get_or}
+use Rattle.node_base.specs.declared.fault.TreeFault.{TreeFault}
+use Rattle.node_base.specs.declared.fault.TreeFault.TheVariants.{KindMismatch}
+use Rattle.path_tree.specs.Calls.{Answers, is_dir, change_fault, text_fault}
+use Rattle.path_tree.specs.NodeCalls.{piece_fault}
+use Rattle.path_tree.proofs.Faults.{first_none, second_none, test_fails}
+use Rattle.editor_ends.proofs.Places.{split_at, set_at}
 use Rattle.editor_ends.proofs.Given.{changed_alike}
 use Rattle.editor_ends.proofs.Filled.{Nodes, SameParts, same_all, none_in_gap, all_of, all_append}
 use Rattle.editor_ends.proofs.Began.{gap_of, normal_without, normal_amid, later_than, taken-amid, above-amid}
@@ -139,3 +149,47 @@ gives_text trees tree new_tree front rest c g props number has m step =
   where
     text_is : (x : Node) → get tree c.path ≡ Some x → Some (new_text g c (get tree c.path)) ≡ (g x).text
     text_is x e = ap (λ o. Some (option_map_or (λ y. unwrap_or (g y).text (unwrap_or c.text [])) o (unwrap_or c.text []))) e ∙ some_is (g x).text (unwrap_or c.text []) (has x e)
+
+-- ---- at the place that a search found
+
+module _ (trees : List PathMap) (tree new_tree : PathMap) (s : List Change) (i : ℕ) (d e : Change) (p : Path) (m : Made trees tree s) (here : i < length s) (at : d ≡ get_or s i d) (placed : IsNormal s → (c : Change) → slice_get s i ≡ Some c → c.path ≡ p) where
+  found_path : d.path ≡ p
+  found_path = placed m.normal d (slice_get-get_or s i d here ∙ ap Some (sym at))
+
+  split_made : Made trees tree (take i s ++ d ∷ drop (i + 1) s)
+  split_made = subst (Made trees tree) (split_at s i d here at) m
+
+  brought_back : (f : Change) (g : Node → Node) → e ≡ f → Gives trees tree (take i s ++ d ∷ drop (i + 1) s) new_tree (take i s ++ f ∷ drop (i + 1) s) d.path g → Gives trees tree s new_tree (slice_set s i e) p g
+  brought_back f g is h =
+      subst (λ z. Gives trees tree s new_tree z p g) (sym (set_at s i e here ∙ ap (λ x. take i s ++ x ∷ drop (i + 1) s) is))
+      (subst (λ z. Gives trees tree z new_tree (take i s ++ f ∷ drop (i + 1) s) p g) (sym (split_at s i d here at)) (subst (λ z. Gives trees tree (take i s ++ d ∷ drop (i + 1) s) new_tree (take i s ++ f ∷ drop (i + 1) s) z g) found_path h))
+
+  pub props_at : (name : Name) (value : Option (List ℕ)) → e ≡ giving_props d → ((q : Path) → get new_tree q ≡ changed_at (get tree) p (with_prop name value) q) → Gives trees tree s new_tree (slice_set s i e) p (with_prop name value)
+  props_at name value is step =
+      brought_back (giving_props d) (with_prop name value) is
+      (gives_props trees tree new_tree (take i s) (drop (i + 1) s) d name value split_made (λ q. step q ∙ ap (λ z. changed_at (get tree) z (with_prop name value) q) (sym found_path)))
+
+  pub started_at : e ≡ giving_text d → ((q : Path) → get new_tree q ≡ changed_at (get tree) p (with_given (Some []) None) q) → Gives trees tree s new_tree (slice_set s i e) p (with_given (Some []) None)
+  started_at is step =
+      brought_back (giving_text d) (with_given (Some []) None) is
+      (gives_text trees tree new_tree (take i s) (drop (i + 1) s) d (with_given (Some []) None) (λ x. refl) (λ x. refl) (λ x h. refl) split_made (λ q. step q ∙ ap (λ z. changed_at (get tree) z (with_given (Some []) None) q) (sym found_path)))
+
+  pub appended_at : (piece : List ℕ) → e ≡ giving_text d → piece_fault (get tree) p piece ≡ None → ((q : Path) → get new_tree q ≡ changed_at (get tree) p (with_piece piece) q) → Gives trees tree s new_tree (slice_set s i e) p (with_piece piece)
+  appended_at piece is fault step =
+      brought_back (giving_text d) (with_piece piece) is
+      (gives_text trees tree new_tree (take i s) (drop (i + 1) s) d (with_piece piece) (λ x. refl) (λ x. refl) (λ x h. longer x.text (has_text (get tree p) x (test_fails (is_dir (get tree p)) KindMismatch (second_none (change_fault (get tree) p) _ (first_none (text_fault (get tree) p) _ fault))) (ap (get tree) (sym found_path) ∙ h))) split_made (λ q. step q ∙ ap (λ z. changed_at (get tree) z (with_piece piece) q) (sym found_path)))
+    where
+      has_text : (o : Option Node) (x : Node) → is_dir o ≡ false → o ≡ Some x → IsSome x.text
+      has_text o x e h = there x.text (ap is_dir (sym h) ∙ e)
+        where
+          there : (t : Option (List ℕ)) → is_none t ≡ false → IsSome t
+          there None e = cc
+          there (Some t) e = refl
+
+      longer : (t : Option (List ℕ)) → IsSome t → IsSome (option_map (λ z. z ++ piece) t)
+      longer None h = cc h
+      longer (Some t) h = refl
+
+pub answers_none : (o : Option TreeFault) (x : Unit {0}) → Answers o (Ok x) → o ≡ None
+answers_none None x h = refl
+answers_none (Some f) x h = cc

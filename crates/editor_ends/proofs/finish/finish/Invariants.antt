@@ -6,4 +6,4 @@ use Rattle.editor_ends.specs.Built.{Keeps, filled}
 use Rattle.editor_ends.proofs.finish.finish.Given as goal
 
 abbrev pub invariant-loop-change : goal.invariant-loop-change
-invariant-loop-change l = (trees : List PathMap) → IsNormal (map (filled (get l.tree.now)) l.fn.changes.items) → Keeps trees (map (filled (get l.tree.now)) l.fn.changes.items) (l.kept.items ++ map (filled (get l.tree.now)) l.change-iterator.rest.items)
+invariant-loop-change l = (trees : List PathMap) → IsNormal (map (filled (get l.tree)) l.fn.changes.items) → Keeps trees (map (filled (get l.tree)) l.fn.changes.items) (l.kept.items ++ map (filled (get l.tree)) l.change-iterator.rest.items)
