@@ -380,3 +380,172 @@ adds_given trees tree new_tree s new c p g fault facts same none h calls builds 
     (λ q. d.tree_is q ∙ (λ i. changed_at (λ r. is r i) p g q) ∙ sym (facts.effect_is trees (call_effect trees calls) q) ∙ sym (seen_later trees t (called trees (call_effect trees calls) c) q (within_later w.opened c t w.goes)))
     d.made (λ q. d.taken q ∙ sym (ap (λ z. is_taken s q || z) (facts.takes_none q) ∙ or_no (is_taken s q))) (λ q. d.above q ∙ sym (ap (λ z. is_above s q || z) (facts.below q) ∙ or_no (is_above s q)))
     (same calls ∙ (λ i. fault (λ r. sym (is r) i)) ∙ none)
+
+-- ---- what is open was opened or added
+
+abbrev pub path_of : Opened → Path
+path_of (OpenDir p) = p
+path_of (OpenFile p) = p
+path_of (OpenText p) = p
+path_of (TextDone p) = p
+
+abbrev pub AreTaken : List Call → List Opened → Type 0
+AreTaken done os = AllByRecursion (λ o. list_any (takes (path_of o)) done ≡ true) os
+
+abbrev pub StageTaken : List Call → Stage → Type 0
+StageTaken done Before = Unit {0}
+StageTaken done (Within os) = AreTaken done os
+StageTaken done After = Unit {0}
+
+taken_more : (done : List Call) (c : Call) (p : Path) → list_any (takes p) done ≡ true → list_any (takes p) (done ++ c ∷ []) ≡ true
+taken_more done c p e = list_any-append (takes p) done (c ∷ []) ∙ ap (λ b. b || list_any (takes p) (c ∷ [])) e
+
+taken_now : (done : List Call) (c : Call) (p : Path) → takes p c ≡ true → list_any (takes p) (done ++ c ∷ []) ≡ true
+taken_now done c p e = list_any-append (takes p) done (c ∷ []) ∙ ap (λ b. list_any (takes p) done || (b || false)) e ∙ Rattle.editor_ends.proofs.Filled.or_yes (list_any (takes p) done)
+
+all_more : (done : List Call) (c : Call) (os : List Opened) → AreTaken done os → AreTaken (done ++ c ∷ []) os
+all_more done c [] h = tt
+all_more done c (o ∷ os) h = (taken_more done c (path_of o) h.0, all_more done c os h.1)
+
+pub same_stage : (s t : Stage) → Some s ≡ Some t → s ≡ t
+same_stage s t e = ap (λ (z : Option Stage). option_map_or (λ x. x) z After) e
+
+innermost_taken : (done : List Call) (c : Call) (test : Opened → Bool) (new : Opened → List Opened → List Opened) (os : List Opened) (t : Stage) → ((o : Opened) (out : List Opened) → test o ≡ true → AreTaken done (o ∷ out) → AreTaken (done ++ c ∷ []) (new o out)) → AreTaken done os → innermost test new os ≡ Some t → StageTaken (done ++ c ∷ []) t
+innermost_taken done c test new [] t keep h e = cc
+innermost_taken done c test new (o ∷ os) t keep h e =
+    elim (test o) as (λ b. test o ≡ b → cond b (Some (Within (new o os))) None ≡ Some t → StageTaken (done ++ c ∷ []) t) [
+      | true ↦ λ k e. subst (StageTaken (done ++ c ∷ [])) (same_stage (Within (new o os)) t e) (keep o os k h)
+      | false ↦ λ k e. cc
+    ] refl e
+
+same_opened : (p : Path) (o : Opened) → (is_fresh p o ≡ true) ⊎ (is_in_text p o ≡ true) → path_of o ≡ p
+same_opened p (OpenDir q) (inl e) = cc
+same_opened p (OpenDir q) (inr e) = cc
+same_opened p (OpenFile q) (inl e) = sym (path_of_same p q e)
+same_opened p (OpenFile q) (inr e) = cc
+same_opened p (OpenText q) (inl e) = cc
+same_opened p (OpenText q) (inr e) = sym (path_of_same p q e)
+same_opened p (TextDone q) (inl e) = cc
+same_opened p (TextDone q) (inr e) = cc
+
+taken_next : (done : List Call) (s t : Stage) (c : Call) → StageTaken done s → next s c ≡ Some t → StageTaken (done ++ c ∷ []) t
+taken_next done Before t (call.Target n) h e = subst (StageTaken (done ++ call.Target n ∷ [])) (same_stage Before t e) tt
+taken_next done Before t (call.OpenRoot b) h e = subst (StageTaken (done ++ call.OpenRoot b ∷ [])) (same_stage (Within (OpenDir [] ∷ [])) t e) (taken_now done (call.OpenRoot b) [] refl, tt)
+taken_next done Before t (call.AddDir up p from) h e = cc
+taken_next done Before t (call.OpenDir up p b) h e = cc
+taken_next done Before t (call.DeleteEntry up p b) h e = cc
+taken_next done Before t (call.AddFile up p from) h e = cc
+taken_next done Before t (call.OpenFile up p b) h e = cc
+taken_next done Before t (call.DirProp p name value) h e = cc
+taken_next done Before t (call.FileProp p name value) h e = cc
+taken_next done Before t (call.TextStart p) h e = cc
+taken_next done Before t (call.TextPiece p piece) h e = cc
+taken_next done Before t (call.TextEnd p) h e = cc
+taken_next done Before t (call.CloseFile p sum) h e = cc
+taken_next done Before t (call.CloseDir p) h e = cc
+taken_next done Before t call.CloseEdit h e = cc
+taken_next done (Within os) t (call.Target n) h e = subst (StageTaken (done ++ call.Target n ∷ [])) (same_stage (Within os) t e) (all_more done (call.Target n) os h)
+taken_next done (Within os) t (call.OpenRoot b) h e = cc
+taken_next done (Within os) t (call.AddDir up p from) h e = innermost_taken done (call.AddDir up p from) _ _ os t (λ o out k a. (taken_now done (call.AddDir up p from) p (same_path_itself p), all_more done (call.AddDir up p from) (o ∷ out) a)) h e
+taken_next done (Within os) t (call.OpenDir up p b) h e = innermost_taken done (call.OpenDir up p b) _ _ os t (λ o out k a. (taken_now done (call.OpenDir up p b) p (same_path_itself p), all_more done (call.OpenDir up p b) (o ∷ out) a)) h e
+taken_next done (Within os) t (call.DeleteEntry up p b) h e = innermost_taken done (call.DeleteEntry up p b) _ _ os t (λ o out k a. all_more done (call.DeleteEntry up p b) (o ∷ out) a) h e
+taken_next done (Within os) t (call.AddFile up p from) h e = innermost_taken done (call.AddFile up p from) _ _ os t (λ o out k a. (taken_now done (call.AddFile up p from) p (same_path_itself p), all_more done (call.AddFile up p from) (o ∷ out) a)) h e
+taken_next done (Within os) t (call.OpenFile up p b) h e = innermost_taken done (call.OpenFile up p b) _ _ os t (λ o out k a. (taken_now done (call.OpenFile up p b) p (same_path_itself p), all_more done (call.OpenFile up p b) (o ∷ out) a)) h e
+taken_next done (Within os) t (call.DirProp p name value) h e = elim (list_any (is_dir p) os) as (λ b. cond b (Some (Within os)) None ≡ Some t → StageTaken (done ++ call.DirProp p name value ∷ []) t) [ true ↦ λ e. subst (StageTaken (done ++ call.DirProp p name value ∷ [])) (same_stage (Within os) t e) (all_more done (call.DirProp p name value) os h) | false ↦ λ e. cc ] e
+taken_next done (Within os) t (call.FileProp p name value) h e = innermost_taken done (call.FileProp p name value) _ _ os t (λ o out k a. all_more done (call.FileProp p name value) (o ∷ out) a) h e
+taken_next done (Within os) t (call.TextStart p) h e = innermost_taken done (call.TextStart p) _ _ os t (λ o out k a. let b = all_more done (call.TextStart p) (o ∷ out) a in (ap (λ z. list_any (takes z) (done ++ call.TextStart p ∷ [])) (sym (same_opened p o (inl k))) ∙ b.0, b.1)) h e
+taken_next done (Within os) t (call.TextPiece p piece) h e = innermost_taken done (call.TextPiece p piece) _ _ os t (λ o out k a. all_more done (call.TextPiece p piece) (o ∷ out) a) h e
+taken_next done (Within os) t (call.TextEnd p) h e = innermost_taken done (call.TextEnd p) _ _ os t (λ o out k a. let b = all_more done (call.TextEnd p) (o ∷ out) a in (ap (λ z. list_any (takes z) (done ++ call.TextEnd p ∷ [])) (sym (same_opened p o (inr k))) ∙ b.0, b.1)) h e
+taken_next done (Within os) t (call.CloseFile p sum) h e = innermost_taken done (call.CloseFile p sum) _ _ os t (λ o out k a. all_more done (call.CloseFile p sum) out a.1) h e
+taken_next done (Within os) t (call.CloseDir p) h e = innermost_taken done (call.CloseDir p) _ _ os t (λ o out k a. all_more done (call.CloseDir p) out a.1) h e
+taken_next done (Within []) t call.CloseEdit h e = subst (StageTaken (done ++ call.CloseEdit ∷ [])) (same_stage After t e) tt
+taken_next done (Within (o ∷ os)) t call.CloseEdit h e = cc
+taken_next done After t c h e = cc
+
+pub taken_run : (done cs : List Call) (s t : Stage) → StageTaken done s → run s cs ≡ Some t → StageTaken (done ++ cs) t
+taken_run done [] s t h e = subst (λ ds. StageTaken ds t) (sym (append-nil done)) (subst (StageTaken done) (same_stage s t e) h)
+taken_run done (c ∷ cs) s t h e = at (λ u k f. subst (λ ds. StageTaken ds t) (append_assoc done (c ∷ []) cs) (taken_run (done ++ c ∷ []) cs u t (taken_next done s u c h k) f)) (next s c) refl e
+  where
+    at : ((u : Stage) → next s c ≡ Some u → run u cs ≡ Some t → StageTaken (done ++ (c ∷ cs)) t) → (o : Option Stage) → next s c ≡ o → option_and_then (λ u. run u cs) o ≡ Some t → StageTaken (done ++ (c ∷ cs)) t
+    at k None n e = cc
+    at k (Some u) n e = k u n e
+
+-- what is given something is open, and so it was opened or added
+abbrev pub IsOpenAt : Call → Path → Type 0
+IsOpenAt c p = (calls : List Call) (os : List Opened) (t : Stage) → AreTaken calls os → within os c ≡ Some t → list_any (takes p) calls ≡ true
+
+open_inner : (p : Path) (test : Opened → Bool) (new : Opened → List Opened → List Opened) → ((o : Opened) → test o ≡ true → path_of o ≡ p) → (calls : List Call) (os : List Opened) (t : Stage) → AreTaken calls os → innermost test new os ≡ Some t → list_any (takes p) calls ≡ true
+open_inner p test new is calls [] t h e = cc
+open_inner p test new is calls (o ∷ os) t h e =
+    elim (test o) as (λ b. test o ≡ b → cond b (Some (Within (new o os))) None ≡ Some t → list_any (takes p) calls ≡ true) [
+      | true ↦ λ k _. ap (λ z. list_any (takes z) calls) (sym (is o k)) ∙ h.0
+      | false ↦ λ k e. cc
+    ] refl e
+
+pub dir_open : (p : Path) (name : Name) (value : Option (List ℕ)) → IsOpenAt (call.DirProp p name value) p
+dir_open p name value calls os t h e = any os h (elim (list_any (is_dir p) os) as (λ b. cond b (Some (Within os)) None ≡ Some t → b ≡ true) [ true ↦ λ _. refl | false ↦ λ e. cc ] e)
+  where
+    at : (o : Opened) → is_dir p o ≡ true → path_of o ≡ p
+    at (OpenDir q) e = sym (path_of_same p q e)
+    at (OpenFile q) e = cc
+    at (OpenText q) e = cc
+    at (TextDone q) e = cc
+
+    any : (os : List Opened) → AreTaken calls os → list_any (is_dir p) os ≡ true → list_any (takes p) calls ≡ true
+    any [] h e = cc
+    any (o ∷ os) h e = elim (is_dir p o) as (λ b. is_dir p o ≡ b → (b || list_any (is_dir p) os) ≡ true → list_any (takes p) calls ≡ true) [
+        | true ↦ λ k _. ap (λ z. list_any (takes z) calls) (sym (at o k)) ∙ h.0
+        | false ↦ λ k e. any os h.1 e
+      ] refl e
+
+pub file_open : (p : Path) (name : Name) (value : Option (List ℕ)) → IsOpenAt (call.FileProp p name value) p
+file_open p name value calls os t h e = open_inner p _ _ at calls os t h e
+  where
+    at : (o : Opened) → (is_fresh p o || (is_in_text p o || is_told p o)) ≡ true → path_of o ≡ p
+    at (OpenDir q) e = cc
+    at (OpenFile q) e = sym (path_of_same p q (sym (or_no (same_path p q)) ∙ e))
+    at (OpenText q) e = sym (path_of_same p q (sym (or_no (same_path p q)) ∙ e))
+    at (TextDone q) e = sym (path_of_same p q e)
+
+pub start_open : (p : Path) → IsOpenAt (call.TextStart p) p
+start_open p = open_inner p _ _ (λ o k. same_opened p o (inl k))
+
+pub piece_open : (p : Path) (piece : List ℕ) → IsOpenAt (call.TextPiece p piece) p
+piece_open p piece = open_inner p _ _ (λ o k. same_opened p o (inr k))
+
+pub refuses_given : (trees : List PathMap) (tree : PathMap) (s : List Change) (c : Call) (p : Path) (e : EditorFault) (fault : Nodes → Option EditorFault) → begun c ≡ None → IsOpenAt c p → ((calls : List Call) → call_fault trees calls c ≡ fault (call_effect trees calls)) → (IsNormal s → is_taken s p ≡ true → IsFaultOr (fault (get tree)) e) → (calls : List Call) → BuildsWithin trees tree s calls → RefusesWithin trees calls c e
+refuses_given trees tree s c p e fault none open_at same h calls builds t r =
+    let l = last calls c t r in
+    let b = builds l.stage l.ran in
+    let w = inside l.stage t c none l.goes in
+    let is = called_within trees tree s calls l.stage w.opened w.is b in
+    let all = taken_run [] calls Before (Within w.opened) tt (l.ran ∙ ap (λ (z : Stage). Some z) w.is) in
+    refused_as trees calls c (fault (get tree)) e ((λ i. fault (λ q. is q i)) ∙ sym (same calls)) (h b.made.normal (b.taken p ∙ open_at calls w.opened t all w.goes))
+
+-- ---- the end
+
+pub new_shown : (trees : List PathMap) (tree : PathMap) → length trees ≤ 65535 → ((q : Path) → get tree q ≡ effect trees [] q) → BuildsWithin trees tree [] []
+new_shown trees tree few is stage e = subst (Builds trees tree [] []) (same_stage Before stage e) (record {
+  called = λ q. is q ∙ effect_none trees q;
+  made = record { numbered = few; made = λ q. sym (is q); normal = tt; stands = λ p h. cc };
+  taken = λ p. refl;
+  above = λ p. refl;
+  unrefused = refl;
+})
+
+ends_within : (stage : Stage) → next stage call.CloseEdit ≡ Some After → (trees : List PathMap) (f : Nodes) (q : Path) → seen stage trees f q ≡ f q
+ends_within Before e trees f q = cc
+ends_within (Within os) e trees f q = refl
+ends_within After e trees f q = cc
+
+pub adds_end : (trees : List PathMap) (tree : PathMap) (s set : List Change) → (Made trees tree s → IsSetOver trees (get tree) set) → (calls : List Call) → BuildsWithin trees tree s calls → IsSetWithin trees set (calls ++ call.CloseEdit ∷ [])
+adds_end trees tree s set h calls builds e =
+    let l = last calls call.CloseEdit After e in
+    let b = builds l.stage l.ran in
+    let o = h b.made in
+    record {
+      unrefused = first-end trees calls call.CloseEdit b.unrefused refl;
+      normal = o.normal;
+      effect_is = λ q. o.effect_is q ∙ b.called q ∙ ends_within l.stage l.goes trees (call_effect trees calls) q ∙ (λ i. sym (all_called-append trees (base trees) calls (call.CloseEdit ∷ [])) i q);
+      few = o.few;
+    }
