@@ -1,5 +1,4 @@
 use Rattle.editor_ends.proofs.Began.{tmp}
-use Rattle.editor_ends.proofs.Opened.{open_again}
 use Rattle.editor_ends.proofs.Shows.{last}
 use Rattle.editor_ends.proofs.law.tmp.Goals as goal
 
