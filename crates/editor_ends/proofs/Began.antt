@@ -334,6 +334,3 @@ module _ (trees : List PathMap) (tree new_tree : PathMap) (x : Change) (step : (
 
             is_taken_before : is_taken (front ++ rest) p ≡ is_taken (front ++ d ∷ rest) p
             is_taken_before = sym (taken-amid front rest d none_of_d p ∙ (λ j. is_taken (front ++ rest) p || (same_path d.path p && not (gone j))) ∙ ends (is_taken (front ++ rest) p) (same_path d.path p))
-
-pub tmp : (a : Bool) → (a || false) ≡ a
-tmp = or_no

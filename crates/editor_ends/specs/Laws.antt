@@ -23,6 +23,3 @@ DriveIsNested = (trees : List PathMap) (s : List Change) → IsNormal s → faul
 -- the pieces of a text joined are the text, and each has a byte at least and 65,536 at most
 abbrev pub PiecesOfAText : Type 0
 PiecesOfAText = (t : List ℕ) → (concat (pieces t) ≡ t) × AllByRecursion (λ p. (0 < length p) × (length p ≤ 65536)) (pieces t)
-
-abbrev pub Tmp : Type 0
-Tmp = (a : Rattle.std.specs.Prelude.Bool) → (Rattle.std.specs.Prelude.◌||◌ a Rattle.std.specs.Prelude.false) ≡ a

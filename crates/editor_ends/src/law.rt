@@ -1,5 +1,5 @@
 //! Laws of the calls that a set is driven as: each function does nothing, and its contract is the law.
-ghost use Rattle.editor_ends.specs.Laws.{DriveHasTheEffect, DriveIsNested, PiecesOfAText, Tmp};
+ghost use Rattle.editor_ends.specs.Laws.{DriveHasTheEffect, DriveIsNested, PiecesOfAText};
 
 /// Where a set has no fault, the calls that it is driven as have its effect.
 pub fn drive_has_the_effect()
@@ -15,9 +15,4 @@ pub fn drive_is_nested()
 /// The pieces that a text is sent in make the text, and each has a byte at least and 65,536 at most.
 pub fn pieces_of_a_text()
     ensures { PiecesOfAText }
-{}
-
-/// Temporary.
-pub fn tmp()
-    ensures { Tmp }
 {}
