@@ -5,6 +5,7 @@ pub mod Ended
 pub mod Filled
 pub mod Fronts
 pub mod Given
+pub mod Methods
 pub mod Nested
 pub mod Opened
 pub mod Parted
