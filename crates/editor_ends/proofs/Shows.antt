@@ -549,3 +549,19 @@ adds_end trees tree s set h calls builds e =
       effect_is = λ q. o.effect_is q ∙ b.called q ∙ ends_within l.stage l.goes trees (call_effect trees calls) q ∙ (λ i. sym (all_called-append trees (base trees) calls (call.CloseEdit ∷ [])) i q);
       few = o.few;
     }
+
+pub refuses_end : (trees : List PathMap) (tree : PathMap) (s : List Change) (e : EditorFault) → (Made trees tree s → IsFinishRefusal trees (get tree) e) → (calls : List Call) → BuildsWithin trees tree s calls → RefusesWithin trees calls call.CloseEdit e
+refuses_end trees tree s e h calls builds t r = at (h b.made)
+  where
+    l : Last calls call.CloseEdit t
+    l = last calls call.CloseEdit t r
+
+    b : Builds trees tree s calls l.stage
+    b = builds l.stage l.ran
+
+    w : Inside l.stage t call.CloseEdit
+    w = inside l.stage t call.CloseEdit refl l.goes
+
+    at : IsFinishRefusal trees (get tree) e → IsCallRefusal trees calls call.CloseEdit e
+    at (built.OfMemory m) = OfMemory m
+    at (built.OfSize k large) = OfSize refl k (record { set = large.set; normal = large.normal; is = λ q. large.is q ∙ called_within trees tree s calls l.stage w.opened w.is b q; many = large.many })
