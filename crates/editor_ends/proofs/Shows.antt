@@ -499,11 +499,11 @@ dir_open p name value calls os t h e = any os h (elim (list_any (is_dir p) os) a
       ] refl e
 
 pub file_open : (p : Path) (name : Name) (value : Option (List ℕ)) → IsOpenAt (call.FileProp p name value) p
-file_open p name value calls os t h e = open_inner p _ _ at calls os t h e
+file_open p name value calls os t h e = open_inner p (λ o. is_fresh p o || is_in_text p o || is_told p o) (λ o out. o ∷ out) at calls os t h e
   where
-    at : (o : Opened) → (is_fresh p o || (is_in_text p o || is_told p o)) ≡ true → path_of o ≡ p
+    at : (o : Opened) → (is_fresh p o || is_in_text p o || is_told p o) ≡ true → path_of o ≡ p
     at (OpenDir q) e = cc
-    at (OpenFile q) e = sym (path_of_same p q (sym (or_no (same_path p q)) ∙ e))
+    at (OpenFile q) e = sym (path_of_same p q (sym (or_no (same_path p q)) ∙ (sym (or_no (same_path p q || false)) ∙ e)))
     at (OpenText q) e = sym (path_of_same p q (sym (or_no (same_path p q)) ∙ e))
     at (TextDone q) e = sym (path_of_same p q e)
 
