@@ -503,7 +503,7 @@ file_open p name value calls os t h e = open_inner p (λ o. is_fresh p o || is_i
   where
     at : (o : Opened) → (is_fresh p o || is_in_text p o || is_told p o) ≡ true → path_of o ≡ p
     at (OpenDir q) e = cc
-    at (OpenFile q) e = sym (path_of_same p q (sym (or_no (same_path p q || false) ∙ or_no (same_path p q)) ∙ e))
+    at (OpenFile q) e = sym (path_of_same p q (sym (or_no (same_path p q)) ∙ (sym (or_no (same_path p q || false)) ∙ e)))
     at (OpenText q) e = sym (path_of_same p q (sym (or_no (same_path p q)) ∙ e))
     at (TextDone q) e = sym (path_of_same p q e)
 

@@ -1,11 +1,13 @@
 //! An editor that makes a set of changes of what it is shown.
-ghost use Rattle.std.specs.Prelude.{◌≡◌, ◌≤◌, ◌||◌, length, not, true, false, Some, None, [], IsSome, IfOk, IfErr, OnOk};
+ghost use Rattle.std.specs.Prelude.{◌≡◌, ◌≤◌, ◌||◌, length, not, true, false, Some, None, [], List, IsSome, IfOk, IfErr, OnOk};
 ghost use Rattle.std.specs.Option.{option_copied};
 ghost use Rattle.std.specs.FinMap as map;
+ghost use Rattle.delta_editor.specs.Nesting.{IsNested};
+ghost use Rattle.delta_editor.specs.declared.call.Call.{Call};
 ghost use Rattle.dump_load.specs.Changes.{is_add, is_delete, settles, IsNormal};
 ghost use Rattle.editor_ends.specs.BuildFaults.{begun, begin_fault};
-ghost use Rattle.editor_ends.specs.Built.{Made, Begins, IsFaultOr, is_late_in};
-ghost use Rattle.editor_ends.specs.Builders.{has_shown, trees_of};
+ghost use Rattle.editor_ends.specs.Built.{Made, Begins, IsFaultOr, IsSetOf, is_late_in};
+ghost use Rattle.editor_ends.specs.Builders.{has_shown, trees_of, set_within, built_over, is_made_of};
 
 use crate::building::{append_text, delete, new_change, open_or_add, put_prop, start_text};
 use crate::finish::finish;
@@ -42,13 +44,19 @@ pub struct BuiltFile {
 }
 
 impl<'a> Built<'a> {
-    /// The set of changes.
-    pub fn set(&self) -> &ChangeSet {
+    /// The set of changes, which are those of the calls that were shown: a normal set of 4,096 changes at most, with the effect of the calls.
+    pub fn set(&self) -> &ChangeSet
+        ensures within { result.now ≡ set_within self.now }
+        ensures built { (calls : List Call) → is_made_of self.now calls → IsNested calls → IsSetOf (built_over self.now) result.now calls }
+    {
         &self.set
     }
 
-    /// The set of changes alone.
-    pub fn into_set(self) -> ChangeSet {
+    /// The set of changes alone, of which the same holds.
+    pub fn into_set(self) -> ChangeSet
+        ensures within { result ≡ set_within self.entry }
+        ensures built { (calls : List Call) → is_made_of self.entry calls → IsNested calls → IsSetOf (built_over self.entry) result calls }
+    {
         let Built { trees: _, set } = self;
         set
     }
