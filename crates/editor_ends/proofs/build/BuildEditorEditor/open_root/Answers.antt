@@ -28,5 +28,5 @@ returns-clause-shown c =
     let now = c.open_or_add.new.self in
     let kept = c.in_ok-open_or_add.ensures.over in
     let adds = adds_root trees tree now.tree s now.changes.items c.args.base
-        (subst (λ (p : Path). Made trees tree s → Begins trees tree s now.tree now.changes.items (begun Modify (Some Dir) p None)) c.root-root.ensures c.in_ok-open_or_add.ensures.begins) in
+    (subst (λ (p : Path). Made trees tree s → Begins trees tree s now.tree now.changes.items (begun Modify (Some Dir) p None)) c.root-root.ensures c.in_ok-open_or_add.ensures.begins) in
     λ calls h. rw kept (adds calls h)
