@@ -25,6 +25,7 @@ use node_base::{NodePath, PropName, RevNo};
 /// - `done_shows` says it of what `close_edit` answers.
 /// - `dir_path` and `file_path` are the full paths of batons.
 /// - `over` is the trees that an editor is over, those before the revision that is shown, or none where it needs none.
+/// - `done_over` is the same of what `close_edit` answers.
 /// - `refuses` says, over such trees and after such calls, which refusals the next call may meet.
 pub trait Editor {
     /// A directory that is open.
@@ -45,6 +46,8 @@ pub trait Editor {
     ghost file_path: { Self.File → Path };
 
     ghost over: { Self → List PathMap };
+
+    ghost done_over: { Self.Done → List PathMap };
 
     ghost refuses: { List PathMap → List Call → Call → EditorFault → Type 0 };
 
@@ -193,6 +196,7 @@ pub trait Editor {
     /// Ends the edit, and gives what it came to.
     fn close_edit(self) -> Result<Self::Done, EditorFault>
         ensures shown { IfOk result (λ d. (calls : List Call) → shows self calls → done_shows d (calls ++ call.CloseEdit ∷ [])) }
+        ensures over { IfOk result (λ d. done_over d ≡ over self) }
         ensures refused { IfErr result (Refused shows over refuses self call.CloseEdit) };
 
     /// Gives the edit up after a refusal.

@@ -115,6 +115,8 @@ impl Editor for Recorder {
 
     ghost over = { λ r. [] };
 
+    ghost done_over = { λ d. [] };
+
     ghost refuses = { λ trees calls c e. e ≡ OutOfMemory };
 
     fn target(&mut self, rev: RevNo) -> Result<(), EditorFault> {

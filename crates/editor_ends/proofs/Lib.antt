@@ -1,7 +1,15 @@
+pub mod Began
 pub mod CallEffects
 pub mod Edits
+pub mod Ended
+pub mod Filled
 pub mod Fronts
 pub mod Given
+pub mod Methods
 pub mod Nested
+pub mod Opened
+pub mod Parted
+pub mod Places
 pub mod Showing
+pub mod Shows
 pub mod Walks

@@ -1,3 +1,6 @@
+pub mod BuildFaults
+pub mod Builders
+pub mod Built
 pub mod Drive
 pub mod Fronts
 pub mod Laws

@@ -9,8 +9,16 @@
 //! Contract: where it answers Ok, the editor was shown exactly the calls that the set is driven as, whatever editor it is.
 #![tactic(auto)]
 
+pub use build::{BuildEditor, Built, BuiltDir, BuiltFile};
 pub use show::drive;
 
+mod build;
+#[cfg(test)]
+mod build_tests;
+mod building;
+mod finish;
+#[cfg(test)]
+mod generated_tests;
 pub mod law;
 mod parts;
 mod plan;

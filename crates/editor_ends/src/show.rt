@@ -262,6 +262,7 @@ pub fn drive<E: Editor>(
 ) -> Result<E::Done, EditorFault>
     requires few { length trees.now ≤ 65535 }
     requires new { E.shows editor [] }
+    ensures over { IfOk result (λ d. E.done_over d ≡ E.over editor) }
     ensures shown { IfOk result (λ d. E.done_shows d (calls.drive trees.now set.now)) }
     ensures faultless { OnOk result (fault trees.now set.now ≡ None) }
     ensures effect { OnOk result ((q : Path) → call_effect trees.now (calls.drive trees.now set.now) q ≡ effect trees.now set.now q) }

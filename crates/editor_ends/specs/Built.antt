@@ -1,0 +1,136 @@
+-- What an editor that builds a set keeps: changes beside the tree that they make.
+use Rattle.std.specs.Prelude.{◌≡◌, ℕ, ◌≤◌, take, drop, Result, Ok, Err, Bool, true, false, not, ◌&&◌, ◌||◌, List, ◌++◌, ◌∷◌, [], map, length, Option, Some, None, IsSome}
+use Rattle.std.specs.Option.{option_map, option_map_or}
+use Rattle.std.specs.Prelude.{unwrap_or}
+use Rattle.std.specs.List.{list_any, slice_get, AllByRecursion}
+use Rattle.std.specs.declared.cmp.Ordering.TheVariants.{Less}
+use Rattle.std.specs.FinMap as finite
+use Rattle.node_base.specs.Path.{Path, path_cmp, same_path, is_front}
+use Rattle.node_base.specs.Tree.{PathMap, marked, changed_at}
+use Rattle.node_base.specs.declared.node.Node.{Node}
+use Rattle.dump_load.specs.declared.change.Change.{Change}
+use Rattle.dump_load.specs.Changes.{settles, is_delete, change_at, IsNormal}
+use Rattle.path_tree.specs.declared.error.TreeError.{TreeError}
+use Rattle.path_tree.specs.declared.error.TreeError.TheVariants.{Fault}
+use Rattle.path_tree.specs.declared.error.TreeError.TheVariants as error
+use Rattle.delta_editor.specs.Faults.{refused}
+use Rattle.std.specs.Prelude.{is_none}
+use Rattle.dump_load.specs.Effect.{effect, stepped}
+use Rattle.delta_editor.specs.declared.call.Call.{Call}
+use Rattle.delta_editor.specs.CallEffect.{call_effect}
+use Rattle.delta_editor.specs.Nesting.{Stage, Before, Within, After, run, IsNested}
+use Rattle.delta_editor.specs.declared.fault.EditorFault.{EditorFault}
+use Rattle.delta_editor.specs.declared.fault.EditorFault.TheVariants as refusal
+use Rattle.editor_ends.specs.BuildFaults.{is_below, takes, acts_below, begun, begin_fault, first_refusal, IsTooLarge}
+
+-- a change whose parts, where it gives them, are those of the node at its path
+abbrev pub filled : (Path → Option Node) → Change → Change
+filled f c =
+    record { path = c.path; action = c.action; kind = c.kind; source = c.source; props = option_map (λ m. option_map_or (λ x. x.props) (f c.path) m) c.props; text = option_map (λ t. option_map_or (λ x. unwrap_or x.text t) (f c.path) t) c.text }
+
+-- a change that gives properties, or a text
+abbrev pub giving_props : Change → Change
+giving_props c = record { path = c.path; action = c.action; kind = c.kind; source = c.source; props = Some (unwrap_or c.props finite.empty); text = c.text }
+
+abbrev pub giving_text : Change → Change
+giving_text c = record { path = c.path; action = c.action; kind = c.kind; source = c.source; props = c.props; text = Some (unwrap_or c.text []) }
+
+-- a change as a call begins it
+abbrev pub IsFresh : Change → Type 0
+IsFresh c = c ≡ begun c.action c.kind c.path c.source
+
+-- whether something is opened or added at a path
+abbrev pub is_taken : List Change → Path → Bool
+is_taken s p = option_map_or (λ c. not (is_delete c.action)) (change_at s p) false
+
+-- whether something is changed below a path
+abbrev pub is_above : List Change → Path → Bool
+is_above s p = list_any (λ c. is_below p c.path) s
+
+-- whether a change comes too late
+abbrev pub is_late_in : List Change → Change → Bool
+is_late_in s x = is_taken s x.path || (is_delete x.action && is_above s x.path)
+
+-- the changes, their parts filled in, have the tree as their effect; they are a normal set; and something is above each
+pub record Made (trees : List PathMap) (tree : PathMap) (s : List Change) : Type 0 where
+  pub numbered : length trees ≤ 65535
+  pub made : (q : Path) → effect trees (map (filled (finite.get tree)) s) q ≡ finite.get tree q
+  pub normal : IsNormal s
+  pub stands : (p : Path) → is_above s p ≡ true → IsSome (finite.get tree p)
+
+-- a change was begun
+pub record Begins (trees : List PathMap) (tree : PathMap) (s : List Change) (new_tree : PathMap) (new : List Change) (x : Change) : Type 0 where
+  pub fault : begin_fault trees (finite.get tree) (is_late_in s x) x ≡ None
+  pub tree_is : (q : Path) → finite.get new_tree q ≡ stepped trees (finite.get tree) x q
+  pub made : Made trees new_tree new
+  pub taken : (p : Path) → is_taken new p ≡ (is_taken s p || (same_path x.path p && not (is_delete x.action)))
+  pub above : (p : Path) → is_above new p ≡ (is_above s p || is_below p x.path)
+
+-- the node at a path was given something
+pub record Gives (trees : List PathMap) (tree : PathMap) (s : List Change) (new_tree : PathMap) (new : List Change) (p : Path) (g : Node → Node) : Type 0 where
+  pub tree_is : (q : Path) → finite.get new_tree q ≡ changed_at (finite.get tree) p g q
+  pub made : Made trees new_tree new
+  pub taken : (q : Path) → is_taken new q ≡ is_taken s q
+  pub above : (q : Path) → is_above new q ≡ is_above s q
+
+-- a fault is the one that is said, but for memory
+abbrev pub IsFaultOr : Option EditorFault → EditorFault → Type 0
+IsFaultOr first refusal.OutOfMemory = Unit {0}
+IsFaultOr first e = first ≡ Some e
+
+-- what a search by halves finds of a path among changes in order: its change, or where it would go
+abbrev pub Placed : List Change → Path → Result ℕ ℕ → Type 0
+Placed s p (Ok i) = (c : Change) → slice_get s i ≡ Some c → c.path ≡ p
+Placed s p (Err i) = AllByRecursion (λ c. path_cmp c.path p ≡ Less) (take i s) × AllByRecursion (λ c. path_cmp p c.path ≡ Less) (drop i s)
+
+abbrev pub told : TreeError → EditorFault
+told (Fault f) = refused f
+told error.OutOfMemory = refusal.OutOfMemory
+
+-- a change of what is there that gives nothing, where another is below it
+abbrev pub is_idle : Change → Change → Bool
+is_idle c d = not (settles c.action) && (is_none c.props && (is_none c.text && is_front c.path d.path))
+
+-- a normal set with the effect of another
+pub record Keeps (trees : List PathMap) (s new : List Change) : Type 0 where
+  pub normal : IsNormal new
+  pub effect_is : (q : Path) → effect trees new q ≡ effect trees s q
+
+-- a normal set of no more than 4,096 changes has this effect
+pub record IsSetOver (trees : List PathMap) (f : Path → Option Node) (set : List Change) : Type 0 where
+  pub normal : IsNormal set
+  pub effect_is : (q : Path) → effect trees set q ≡ f q
+  pub few : length set ≤ 4096
+
+-- memory ran out, or there are too many changes
+pub data IsFinishRefusal (trees : List PathMap) (f : Path → Option Node) (e : EditorFault) : Type 0 where
+  OfMemory : e ≡ refusal.OutOfMemory → IsFinishRefusal trees f e
+  OfSize : e ≡ refusal.TooLong → IsTooLarge trees f → IsFinishRefusal trees f e
+
+-- the root is numbered before it is opened
+abbrev pub seen : Stage → List PathMap → (Path → Option Node) → Path → Option Node
+seen Before trees f = marked f [] (length trees)
+seen (Within os) trees f = f
+seen After trees f = f
+
+-- the tree and the changes are what the calls come to so far
+pub record Builds (trees : List PathMap) (tree : PathMap) (s : List Change) (calls : List Call) (stage : Stage) : Type 0 where
+  pub called : (q : Path) → finite.get tree q ≡ seen stage trees (call_effect trees calls) q
+  pub made : Made trees tree s
+  pub taken : (p : Path) → is_taken s p ≡ list_any (takes p) calls
+  pub above : (p : Path) → is_above s p ≡ list_any (acts_below p) calls
+  pub unrefused : first_refusal trees calls ≡ None
+
+-- the same, wherever the calls keep the nesting
+abbrev pub BuildsWithin : List PathMap → PathMap → List Change → List Call → Type 0
+BuildsWithin trees tree s calls = (stage : Stage) → run Before calls ≡ Some stage → Builds trees tree s calls stage
+
+-- the set is what the calls come to
+pub record IsSetOf (trees : List PathMap) (set : List Change) (calls : List Call) : Type 0 where
+  pub unrefused : first_refusal trees calls ≡ None
+  pub normal : IsNormal set
+  pub effect_is : (q : Path) → effect trees set q ≡ call_effect trees calls q
+  pub few : length set ≤ 4096
+
+abbrev pub IsSetWithin : List PathMap → List Change → List Call → Type 0
+IsSetWithin trees set calls = IsNested calls → IsSetOf trees set calls

@@ -1,0 +1,293 @@
+//! An editor that makes a set of changes of what it is shown.
+ghost use Rattle.std.specs.Prelude.{◌≡◌, ◌≤◌, ◌||◌, length, not, true, false, Some, None, [], List, IsSome, IfOk, IfErr, OnOk};
+ghost use Rattle.std.specs.Option.{option_copied};
+ghost use Rattle.std.specs.FinMap as map;
+ghost use Rattle.delta_editor.specs.Nesting.{IsNested};
+ghost use Rattle.delta_editor.specs.declared.call.Call.{Call};
+ghost use Rattle.dump_load.specs.Changes.{is_add, is_delete, settles, IsNormal};
+ghost use Rattle.editor_ends.specs.BuildFaults.{begun, begin_fault};
+ghost use Rattle.editor_ends.specs.Built.{Made, Begins, IsFaultOr, IsSetOf, is_late_in};
+ghost use Rattle.editor_ends.specs.Builders.{has_shown, trees_of, set_within, built_over, is_made_of};
+
+use crate::building::{append_text, delete, new_change, open_or_add, put_prop, start_text};
+use crate::finish::finish;
+use delta_editor::{Editor, EditorFault, Source};
+use dump_load::{Change, ChangeSet, begin};
+use node_base::{Action, NodeKind, NodePath, PropName, RevNo};
+use path_tree::Tree;
+use std::alloc::{AllocError, Global};
+
+/// Makes the set of changes that it is shown as calls, for the revision that comes after some trees.
+#[derive(Drop)]
+pub struct BuildEditor<'a> {
+    alloc: Global,
+    trees: &'a [Tree],
+    tree: Tree,
+    changes: Vec<Change>,
+}
+
+/// A set of changes and the trees that it was built over.
+#[derive(Drop)]
+pub struct Built<'a> {
+    trees: &'a [Tree],
+    set: ChangeSet,
+}
+
+/// A directory that is open in a `BuildEditor`. It has to be closed or discarded.
+pub struct BuiltDir {
+    path: NodePath,
+}
+
+/// A file that is open in a `BuildEditor`. It has to be closed or discarded.
+pub struct BuiltFile {
+    path: NodePath,
+}
+
+impl<'a> Built<'a> {
+    /// The set of changes, which are those of the calls that were shown: a normal set of 4,096 changes at most, with the effect of the calls.
+    pub fn set(&self) -> &ChangeSet
+        ensures within { result.now ≡ set_within self.now }
+        ensures built { (calls : List Call) → is_made_of self.now calls → IsNested calls → IsSetOf (built_over self.now) result.now calls }
+    {
+        &self.set
+    }
+
+    /// The set of changes alone, of which the same holds.
+    pub fn into_set(self) -> ChangeSet
+        ensures within { result ≡ set_within self.entry }
+        ensures built { (calls : List Call) → is_made_of self.entry calls → IsNested calls → IsSetOf (built_over self.entry) result calls }
+    {
+        let Built { trees: _, set } = self;
+        set
+    }
+}
+
+impl<'a> BuildEditor<'a> {
+    /// Nothing was shown yet.
+    pub fn new(alloc: Global, trees: &'a [Tree]) -> Result<BuildEditor<'a>, AllocError>
+        requires { length trees.now ≤ 65535 }
+        ensures new { IfOk result (λ e. has_shown e []) }
+        ensures over { IfOk result (λ e. trees_of e ≡ trees.now) }
+    {
+        Ok(BuildEditor {
+            alloc,
+            trees,
+            tree: begin(alloc, trees)?,
+            changes: Vec::new(alloc),
+        })
+    }
+
+    fn open_or_add(
+        &mut self,
+        action: Action,
+        kind: NodeKind,
+        path: &NodePath,
+        from: Option<&Source>,
+    ) -> Result<NodePath, EditorFault>
+        requires known { (is_add action || not (settles action)) ≡ true }
+        ensures begins { OnOk result (Made self.old.trees.now self.old.tree self.old.changes.items → Begins self.old.trees.now self.old.tree self.old.changes.items self.new.tree self.new.changes.items (begun action (Some kind) path.now (option_copied from.entry))) }
+        ensures baton { IfOk result (λ p. p ≡ path.now) }
+        ensures refused { IfErr result (λ e. Made self.old.trees.now self.old.tree self.old.changes.items → IsFaultOr (begin_fault self.old.trees.now (map.get self.old.tree) (is_late_in self.old.changes.items (begun action (Some kind) path.now (option_copied from.entry))) (begun action (Some kind) path.now (option_copied from.entry))) e) }
+        ensures over { trees_of self.new ≡ trees_of self.old }
+    {
+        let baton = path.copy(self.alloc)?;
+        let change = new_change(self.alloc, action, Some(kind), path, from)?;
+        open_or_add(
+            self.alloc,
+            self.trees,
+            &mut self.tree,
+            &mut self.changes,
+            change,
+        )?;
+        Ok(baton)
+    }
+}
+
+impl<'a> Editor for BuildEditor<'a> {
+    ghost use Rattle.delta_editor.specs.declared.call.Call.{Call};
+    ghost use Rattle.editor_ends.specs.BuildFaults.{RefusesWithin};
+    ghost use Rattle.editor_ends.specs.Built.{BuildsWithin, IsSetWithin};
+
+    type Dir = BuiltDir;
+
+    type File = BuiltFile;
+
+    type Done = Built<'a>;
+
+    ghost shows = { λ e calls. BuildsWithin e.trees.now e.tree e.changes.items calls };
+
+    ghost done_shows = { λ d calls. IsSetWithin d.trees.now d.set calls };
+
+    ghost dir_path = { λ d. d.path };
+
+    ghost file_path = { λ f. f.path };
+
+    ghost over = { λ e. e.trees.now };
+
+    ghost done_over = { λ d. d.trees.now };
+
+    ghost refuses = { RefusesWithin };
+
+    fn target(&mut self, rev: RevNo) -> Result<(), EditorFault> {
+        if rev.index() == self.trees.len() {
+            Ok(())
+        } else {
+            Err(EditorFault::WrongNumber)
+        }
+    }
+
+    fn open_root(&mut self, base: Option<RevNo>) -> Result<BuiltDir, EditorFault> {
+        let root = NodePath::root(self.alloc);
+        Ok(BuiltDir {
+            path: self.open_or_add(Action::Modify, NodeKind::Dir, &root, None)?,
+        })
+    }
+
+    fn add_dir(
+        &mut self,
+        up: &mut BuiltDir,
+        path: &NodePath,
+        from: Option<&Source>,
+    ) -> Result<BuiltDir, EditorFault> {
+        Ok(BuiltDir {
+            path: self.open_or_add(Action::Add, NodeKind::Dir, path, from)?,
+        })
+    }
+
+    fn open_dir(
+        &mut self,
+        up: &mut BuiltDir,
+        path: &NodePath,
+        base: Option<RevNo>,
+    ) -> Result<BuiltDir, EditorFault> {
+        Ok(BuiltDir {
+            path: self.open_or_add(Action::Modify, NodeKind::Dir, path, None)?,
+        })
+    }
+
+    fn delete_entry(
+        &mut self,
+        up: &mut BuiltDir,
+        path: &NodePath,
+        base: Option<RevNo>,
+    ) -> Result<(), EditorFault> {
+        let change = new_change(self.alloc, Action::Delete, None, path, None)?;
+        delete(
+            self.alloc,
+            self.trees,
+            &mut self.tree,
+            &mut self.changes,
+            change,
+        )
+    }
+
+    fn add_file(
+        &mut self,
+        up: &mut BuiltDir,
+        path: &NodePath,
+        from: Option<&Source>,
+    ) -> Result<BuiltFile, EditorFault> {
+        Ok(BuiltFile {
+            path: self.open_or_add(Action::Add, NodeKind::File, path, from)?,
+        })
+    }
+
+    fn open_file(
+        &mut self,
+        up: &mut BuiltDir,
+        path: &NodePath,
+        base: Option<RevNo>,
+    ) -> Result<BuiltFile, EditorFault> {
+        Ok(BuiltFile {
+            path: self.open_or_add(Action::Modify, NodeKind::File, path, None)?,
+        })
+    }
+
+    fn dir_prop(
+        &mut self,
+        dir: &mut BuiltDir,
+        name: &PropName,
+        value: Option<&[u8]>,
+    ) -> Result<(), EditorFault> {
+        put_prop(
+            self.alloc,
+            &mut self.tree,
+            &mut self.changes,
+            &dir.path,
+            name,
+            value,
+        )
+    }
+
+    fn file_prop(
+        &mut self,
+        file: &mut BuiltFile,
+        name: &PropName,
+        value: Option<&[u8]>,
+    ) -> Result<(), EditorFault> {
+        put_prop(
+            self.alloc,
+            &mut self.tree,
+            &mut self.changes,
+            &file.path,
+            name,
+            value,
+        )
+    }
+
+    fn text_start(&mut self, file: &mut BuiltFile) -> Result<(), EditorFault> {
+        start_text(self.alloc, &mut self.tree, &mut self.changes, &file.path)
+    }
+
+    fn text_piece(&mut self, file: &mut BuiltFile, piece: &[u8]) -> Result<(), EditorFault> {
+        append_text(
+            self.alloc,
+            &mut self.tree,
+            &mut self.changes,
+            &file.path,
+            piece,
+        )
+    }
+
+    fn text_end(&mut self, file: &mut BuiltFile) -> Result<(), EditorFault> {
+        Ok(())
+    }
+
+    fn close_file(&mut self, file: BuiltFile, sum: Option<[u8; 16]>) -> Result<(), EditorFault> {
+        let BuiltFile { path: _ } = file;
+        Ok(())
+    }
+
+    fn close_dir(&mut self, dir: BuiltDir) -> Result<(), EditorFault> {
+        let BuiltDir { path: _ } = dir;
+        Ok(())
+    }
+
+    fn discard_file(&mut self, file: BuiltFile) {
+        let BuiltFile { path: _ } = file;
+    }
+
+    fn discard_dir(&mut self, dir: BuiltDir) {
+        let BuiltDir { path: _ } = dir;
+    }
+
+    fn close_edit(self) -> Result<Built<'a>, EditorFault> {
+        let BuildEditor {
+            alloc,
+            trees,
+            tree,
+            changes,
+        } = self;
+        let set = finish(alloc, &tree, changes)?;
+        Ok(Built { trees, set })
+    }
+
+    fn abort_edit(self) {
+        let BuildEditor {
+            alloc: _,
+            trees: _,
+            tree: _,
+            changes: _,
+        } = self;
+    }
+}
