@@ -176,9 +176,9 @@ module _ (trees : List PathMap) (tree new_tree : PathMap) (x : Change) (step : (
       where
         below : AllByRecursion (λ d. is_delete x.action ≡ true → is_below x.path d.path ≡ false) (front ++ rest)
         below = elim (is_delete x.action) as (λ b. is_delete x.action ≡ b → AllByRecursion (λ d. b ≡ true → is_below x.path d.path ≡ false) (front ++ rest)) [
-            | true ↦ λ e. all_of (front ++ rest) (λ d h _. h) (not_below (front ++ rest) x.path (clear (Rattle.dump_load.proofs.Faultless.deletes_settle x.action e)))
-            | false ↦ λ e. all_trivial (front ++ rest)
-          ] refl
+          | true ↦ λ e. all_of (front ++ rest) (λ d h _. h) (not_below (front ++ rest) x.path (clear (Rattle.dump_load.proofs.Faultless.deletes_settle x.action e)))
+          | false ↦ λ e. all_trivial (front ++ rest)
+        ] refl
           where
             all_trivial : (s : List Change) → AllByRecursion (λ d. false ≡ true → is_below x.path d.path ≡ false) s
             all_trivial [] = tt
@@ -198,9 +198,9 @@ module _ (trees : List PathMap) (tree new_tree : PathMap) (x : Change) (step : (
       made = record {
         numbered = m.numbered;
         made = λ q. ap (λ s. effect trees s q) (map-append (filled (get new_tree)) front (x ∷ rest) ∙ shape)
-          ∙ effect_one_more (map (filled (get tree)) front) (map (filled (get tree)) rest) x spread_none trees spread q
-          ∙ (λ i. stepped trees (λ r. (ap (λ s. effect trees s r) (sym (map-append (filled (get tree)) front rest)) ∙ m.made r) i) x q)
-          ∙ sym (step q);
+            ∙ effect_one_more (map (filled (get tree)) front) (map (filled (get tree)) rest) x spread_none trees spread q
+            ∙ (λ i. stepped trees (λ r. (ap (λ s. effect trees s r) (sym (map-append (filled (get tree)) front rest)) ∙ m.made r) i) x q)
+            ∙ sym (step q);
         normal = normal_amid front rest x m.normal before after w;
         stands = stands_on trees tree new_tree (front ++ rest) (front ++ x ∷ rest) x m.stands free clear step (above-amid front rest x);
       };
@@ -251,10 +251,10 @@ module _ (trees : List PathMap) (tree new_tree : PathMap) (x : Change) (step : (
       made = record {
         numbered = m.numbered;
         made = λ q. ap (λ s. effect trees s q) (map-append (filled (get new_tree)) front (replacing ∷ rest) ∙ shape)
-          ∙ effect_replaced trees (map (filled (get tree)) front) (map (filled (get tree)) rest) (filled (get tree) d) replacing same spread (Rattle.dump_load.proofs.Faultless.deletes_settle d.action gone) refl q
-          ∙ (λ i. stepped trees (λ r. (ap (λ s. effect trees s r) (sym (map-append (filled (get tree)) front (d ∷ rest))) ∙ m.made r) i) replacing q)
-          ∙ same_step q x.action adds
-          ∙ sym (step q);
+            ∙ effect_replaced trees (map (filled (get tree)) front) (map (filled (get tree)) rest) (filled (get tree) d) replacing same spread (Rattle.dump_load.proofs.Faultless.deletes_settle d.action gone) refl q
+            ∙ (λ i. stepped trees (λ r. (ap (λ s. effect trees s r) (sym (map-append (filled (get tree)) front (d ∷ rest))) ∙ m.made r) i) replacing q)
+            ∙ same_step q x.action adds
+            ∙ sym (step q);
         normal = normal_amid front rest replacing (normal_without front rest d m.normal) (all_of front (λ c h. record { rises = ap (path_cmp c.path) (sym same) ∙ h.rises; stands = λ e. ap (is_front c.path) (sym same) ∙ h.stands e }) (normal_follows front rest d m.normal)) (all_of rest (λ c h. record { rises = ap (λ p. path_cmp p c.path) (sym same) ∙ h.rises; stands = λ e. cc e }) (later_than front rest d m.normal)) (whole_again x.action adds w);
         stands = stands_on trees tree new_tree (front ++ d ∷ rest) (front ++ replacing ∷ rest) x m.stands free (λ _. nothing_below) step above;
       };

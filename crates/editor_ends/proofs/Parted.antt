@@ -77,7 +77,7 @@ module _ (trees : List PathMap) (tree new_tree : PathMap) (front rest : List Cha
   gives_parts = record {
     tree_is = step;
     made = record {
-        numbered = m.numbered;
+      numbered = m.numbered;
       made = given_made;
       normal = normal;
       stands = λ p h. subst IsSome (sym (step p)) (mapped _ (get tree p) (m.stands p (sym (above p) ∙ h)));

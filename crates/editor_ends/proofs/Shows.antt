@@ -494,9 +494,9 @@ dir_open p name value calls os t h e = any os h (elim (list_any (is_dir p) os) a
     any : (os : List Opened) → AreTaken calls os → list_any (is_dir p) os ≡ true → list_any (takes p) calls ≡ true
     any [] h e = cc
     any (o ∷ os) h e = elim (is_dir p o) as (λ b. is_dir p o ≡ b → (b || list_any (is_dir p) os) ≡ true → list_any (takes p) calls ≡ true) [
-        | true ↦ λ k _. ap (λ z. list_any (takes z) calls) (sym (at o k)) ∙ h.0
-        | false ↦ λ k e. any os h.1 e
-      ] refl e
+      | true ↦ λ k _. ap (λ z. list_any (takes z) calls) (sym (at o k)) ∙ h.0
+      | false ↦ λ k e. any os h.1 e
+    ] refl e
 
 pub file_open : (p : Path) (name : Name) (value : Option (List ℕ)) → IsOpenAt (call.FileProp p name value) p
 file_open p name value calls os t h e = open_inner p (λ o. is_fresh p o || is_in_text p o || is_told p o) (λ o out. o ∷ out) at calls os t h e

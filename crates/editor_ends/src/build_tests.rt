@@ -291,13 +291,21 @@ fn what_is_touched_twice_is_out_of_order(rt: HostRuntime) -> Result<(), Fail> {
     let trees = over_two(&rt, alloc)?;
     let over = trees.as_slice();
     let twice = [
-        refusal(alloc, over, &[Doing::OpenFile("t/x"), Doing::OpenFile("t/x")]),
+        refusal(
+            alloc,
+            over,
+            &[Doing::OpenFile("t/x"), Doing::OpenFile("t/x")],
+        ),
         refusal(alloc, over, &[Doing::AddDir("u"), Doing::AddDir("u")]),
         refusal(alloc, over, &[Doing::OpenDir("t"), Doing::Delete("t")]),
         refusal(alloc, over, &[Doing::OpenFile("t/x"), Doing::Delete("t")]),
         refusal(alloc, over, &[Doing::Delete("t/x"), Doing::Delete("t")]),
         refusal(alloc, over, &[Doing::Delete("t/x"), Doing::Delete("t/x")]),
-        refusal(alloc, over, &[Doing::Delete("t"), Doing::AddFile("t"), Doing::Delete("t")]),
+        refusal(
+            alloc,
+            over,
+            &[Doing::Delete("t"), Doing::AddFile("t"), Doing::Delete("t")],
+        ),
         refusal(alloc, over, &[Doing::Delete("t"), Doing::OpenDir("t")]),
         refusal(alloc, over, &[Doing::Delete("t/x"), Doing::AddDir("t/x")]),
     ];
@@ -312,11 +320,7 @@ fn a_deletion_and_an_add_are_a_replace(rt: HostRuntime) -> Result<(), Fail> {
     let set = done(
         alloc,
         trees.as_slice(),
-        &[
-            Doing::AddDir("u"),
-            Doing::Delete("t"),
-            Doing::OpenDir(""),
-        ],
+        &[Doing::AddDir("u"), Doing::Delete("t"), Doing::OpenDir("")],
     );
     assert!(rt; set.is_err_and(|fault| fault == EditorFault::OutOfOrder));
     let set = done(
@@ -329,8 +333,15 @@ fn a_deletion_and_an_add_are_a_replace(rt: HostRuntime) -> Result<(), Fail> {
             Doing::AddDir("u/v"),
         ],
     )?;
-    assert!(rt; lines(alloc, &set)?.as_str() == "replace /t true true\nadd /u true false\nadd /u/v true false\n");
-    let none = done(alloc, trees.as_slice(), &[Doing::OpenDir("t"), Doing::OpenFile("t/x")])?;
+    assert!(rt;
+        lines(alloc, &set)?.as_str()
+            == "replace /t true true\nadd /u true false\nadd /u/v true false\n"
+    );
+    let none = done(
+        alloc,
+        trees.as_slice(),
+        &[Doing::OpenDir("t"), Doing::OpenFile("t/x")],
+    )?;
     assert!(rt; lines(alloc, &none)?.as_str() == "change /t/x false false\n");
     Ok(())
 }

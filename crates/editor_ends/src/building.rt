@@ -86,12 +86,7 @@ fn place_of(changes: &[Change], path: &NodePath) -> Result<usize, usize>
 }
 
 // Makes a change of the tree where it has no fault there.
-fn make(
-    alloc: Global,
-    trees: &[Tree],
-    tree: &mut Tree,
-    change: &Change,
-) -> Result<(), EditorFault>
+fn make(alloc: Global, trees: &[Tree], tree: &mut Tree, change: &Change) -> Result<(), EditorFault>
     requires whole { IsWhole change.now }
     ensures made { OnOk result ((q : Path) → map.get tree.new q ≡ stepped trees.now (map.get tree.old) change.now q) }
     ensures faultless { OnOk result (fault_of trees.now (map.get tree.old) change.now ≡ None) }
