@@ -1,5 +1,5 @@
 -- What commands do.
-use Rattle.std.proofs.Common.{◌≡◌, ◌≢◌, ℕ, zero, suc, Bool, true, false, not, ◌&&◌, List, [], ◌∷◌, ◌++◌, Option, Some, None, Ok, refl, sym, ap, subst, ◌∙◌, append_assoc, append-nil, inl, inr}
+use Rattle.std.proofs.Common.{◌≡◌, ℕ, zero, suc, Bool, true, false, List, [], ◌∷◌, ◌++◌, Option, Some, None, Ok, refl, sym, ap, subst, ◌∙◌, append_assoc, append-nil, inl, inr}
 use Rattle.std.specs.Prelude.{map, reverse, codes, ◌≤◌, Result, Err, OnOk, IsSomeAnd, slice_get, slice_set, slice_index_or}
 use Rattle.std.specs.Ordering.{is_eq}
 use Rattle.std.specs.declared.cmp.Ordering.{Ordering}
@@ -7,9 +7,7 @@ use Rattle.std.specs.declared.cmp.Ordering.TheVariants.{Less, Equal, Greater}
 use Rattle.std.proofs.lemmas.List.{map-append, reverse-append}
 use Rattle.node_base.specs.Path.{Path, Name, name_cmp, names_exact, same_name}
 use Rattle.md5.specs.Md5.{Holds, md5}
-use Rattle.ra_item.specs.Items.{Item, Items, Word, Number, Text, Nested}
-use Rattle.node_base.specs.PathText.{path_read}
-use Rattle.node_base.specs.Props.{prop_name_read}
+use Rattle.ra_item.specs.Items.{Item, Items, Number, Text, Nested}
 use Rattle.node_base.specs.declared.node.Source.{Source}
 use Rattle.delta_editor.specs.Calls.{Adds}
 use Rattle.delta_editor.specs.declared.call.Call.{Call}
@@ -17,14 +15,14 @@ use Rattle.delta_editor.specs.declared.call.Call.TheVariants as call
 use Rattle.ra_edit.specs.Edits as edits
 use Rattle.ra_edit.specs.Edits.{Held, Dir, Fresh, Within, Told, Named, named, At, Begun, Targeted, Inside, Announced, Says, is_free, IsCommand, IsRevision, IsSource, IsString, IsUnopened, IsOpenDir}
 use Rattle.std.specs.List.{concat}
-use Rattle.ra_edit.specs.Reading.{begin, is_between}
+use Rattle.ra_edit.specs.Reading.{begin}
 use Rattle.ra_edit.specs.Streams.{reading, Reads}
 use Rattle.ra_edit.specs.Edits.{IsSum, SumsTo}
 use Rattle.ra_edit.specs.declared.reading.Reading.{Reading}
 use Rattle.ra_edit.specs.Receiving.{IsPath, IsPropName, Forms}
 use Rattle.ra_edit.specs.declared.edit_fault.EditFault.{EditFault}
 use Rattle.ra_edit.specs.declared.receive_command.Command.{Command}
-use Rattle.ra_edit.specs.Edit.{dir_named, dirs_named, GivenIs, OpenIs, Stands, Moves, is_unopened, is_announced, has_root, TextEnds, SumIs, FileMoves}
+use Rattle.ra_edit.specs.Edit.{dir_named, dirs_named, GivenIs, Stands, Moves, is_unopened, is_announced, has_root, TextEnds, SumIs, FileMoves}
 use Rattle.ra_edit.specs.declared.receive_edit.Given.{Given}
 use Rattle.ra_edit.specs.declared.receive_edit.Given.TheVariants as given
 use Rattle.ra_edit.specs.declared.receive_edit.OpenDir.{OpenDir}

@@ -1,5 +1,5 @@
 -- Where the commands of a drive stand, and what was given of an open file's text.
-use Rattle.std.specs.Prelude.{◌≡◌, ℕ, Bool, true, false, List, [], ◌∷◌, ◌++◌, map, reverse, Option, Some, None, codes}
+use Rattle.std.specs.Prelude.{◌≡◌, ℕ, Bool, true, false, List, [], ◌∷◌, map, reverse, Option, Some, None, codes}
 use Rattle.md5.specs.Md5.{Holds, md5}
 use Rattle.ra_edit.specs.Reading.{is_between}
 use Rattle.ra_edit.specs.declared.reading.Reading.{Reading}
@@ -7,7 +7,7 @@ use Rattle.ra_item.specs.Items.{Item}
 use Rattle.node_base.specs.Path.{Path}
 use Rattle.delta_editor.specs.Calls.{Adds}
 use Rattle.delta_editor.specs.declared.call.Call.{Call}
-use Rattle.ra_edit.specs.Edits.{Held, Dir, Fresh, Within, Told, Named, named, At, Begun, Targeted, Inside, Announced, Says, is_free, IsCommand}
+use Rattle.ra_edit.specs.Edits.{Held, Dir, Fresh, Within, Told, Named, named, At, Begun, Targeted, Inside, Announced, Says, IsCommand}
 use Rattle.ra_edit.specs.declared.receive_edit.Given.{Given}
 use Rattle.ra_edit.specs.declared.receive_edit.Given.TheVariants as given
 use Rattle.ra_edit.specs.declared.receive_edit.OpenDir.{OpenDir}

@@ -1,8 +1,4 @@
-use Rattle.std.proofs.Common.{◌≡◌, ◌∙◌, ◌∷◌, ◌++◌, [], ap, sym, refl, subst}
-use Rattle.std.specs.Prelude.{map, codes}
-use Rattle.ra_item.specs.Items.{Text}
-use Rattle.ra_edit.specs.Edits.{IsCommand}
-use Rattle.std.specs.Option.{option_map}
+use Rattle.std.proofs.Common.{◌∙◌, ◌∷◌, [], sym, refl}
 use Rattle.delta_editor.specs.declared.call.Call.TheVariants as call
 use Rattle.ra_edit.specs.declared.receive_edit.Given.TheVariants as given
 use Rattle.ra_edit.proofs.Steps.{says_text_start}

@@ -1,4 +1,4 @@
-use Rattle.std.proofs.Common.{◌≡◌, ◌∙◌, ◌++◌, ap, subst}
+use Rattle.std.proofs.Common.{◌∙◌, ◌++◌, ap, subst}
 use Rattle.std.specs.List.{concat}
 use Rattle.md5.specs.Md5.{Holds}
 use Rattle.ra_edit.specs.Reading.{is_failed}

@@ -1,8 +1,7 @@
-use Rattle.std.proofs.Common.{◌≡◌, ap}
+use Rattle.std.proofs.Common.{ap}
 use Rattle.std.specs.Prelude.{reverse, slice_set}
 use Rattle.std.specs.Option.{option_map}
 use Rattle.ra_edit.specs.Edits.{Dir, named}
-use Rattle.ra_edit.specs.Edit.{dir_named}
 use Rattle.ra_edit.proofs.Steps.{dir_at, open_at, prop_in_dir}
 use Rattle.ra_edit.proofs.receive_edit.Edit.dir_prop.Goals as goal
 
