@@ -1,11 +1,11 @@
 -- What bytes are refused with while items are read.
-use Rattle.std.proofs.Common.{◌≡◌, ◌≢◌, ℕ, ◌+◌, ◌-◌, ◌*◌, ◌==◌, nat_lt, Bool, true, false, List, [], ◌∷◌, ◌++◌, length, Result, Ok, Err, refl, sym, ap, subst, ◌∙◌}
+use Rattle.std.proofs.Common.{◌≡◌, ℕ, ◌+◌, ◌-◌, ◌*◌, ◌==◌, nat_lt, Bool, true, false, List, [], ◌∷◌, ◌++◌, length, Result, Ok, Err, refl, ap, subst}
 use Rattle.std.specs.Prelude.{if◌then◌else◌}
 use Rattle.ra_item.specs.Bytes.{is_white, is_digit, is_letter, is_word_byte, is_word}
-use Rattle.ra_item.specs.Items.{Item, Items, Word, Number, Text, Nested, row, nesting, spell}
+use Rattle.ra_item.specs.Items.{Item, Items, Number, Nested, row, nesting, spell}
 use Rattle.ra_item.specs.Makers.{word_of, text_of, list_of}
 use Rattle.ra_item.specs.Reading.{Step, Next, Gives, Refused, is_nil, is_between, give, made, close, open_list, start, ends, in_word, in_number, byte_step, counted, one_step}
-use Rattle.ra_item.specs.Streams.{Stream, Reads, Refuses, of_step, one_byte, reading, is_failed}
+use Rattle.ra_item.specs.Streams.{Stream, Reads, Refuses, of_step, reading, is_failed}
 use Rattle.ra_item.specs.declared.fault.ItemFault.{ItemFault}
 use Rattle.ra_item.specs.declared.fault.ItemFault.TheVariants as item
 use Rattle.ra_item.specs.declared.reading.Place.{Place}

@@ -1,8 +1,8 @@
 -- Commands and their items.
-use Rattle.std.proofs.Common.{◌≡◌, ℕ, List, [], ◌∷◌, ◌++◌, refl, sym, ap, ◌∙◌}
+use Rattle.std.proofs.Common.{◌≡◌, ℕ, List, [], ◌∷◌, ◌++◌, refl, ap, ◌∙◌}
 use Rattle.std.specs.Prelude.{reverse}
-use Rattle.std.proofs.lemmas.List.{reverse-append, reverse-reverse}
-use Rattle.ra_item.specs.Items.{Item, Word, row}
+use Rattle.std.proofs.lemmas.List.{reverse-append}
+use Rattle.ra_item.specs.Items.{Item, Word}
 use Rattle.ra_edit.specs.Commands.{list}
 use Rattle.ra_edit.specs.Edits.{IsCommand}
 

@@ -1,28 +1,28 @@
 -- What commands do.
-use Rattle.std.proofs.Common.{◌≡◌, ◌≢◌, ℕ, Bool, true, false, not, ◌&&◌, List, [], ◌∷◌, ◌++◌, Option, Some, None, Ok, refl, sym, ap, subst, ◌∙◌, append_assoc, append-nil, inl, inr}
-use Rattle.std.specs.Prelude.{map, reverse, codes, ◌≤◌}
+use Rattle.std.proofs.Common.{◌≡◌, ℕ, zero, suc, Bool, true, false, List, [], ◌∷◌, ◌++◌, Option, Some, None, Ok, refl, sym, ap, subst, ◌∙◌, append_assoc, append-nil, inl, inr}
+use Rattle.std.specs.Prelude.{map, reverse, codes, ◌≤◌, Result, Err, OnOk, IsSomeAnd, slice_get, slice_set, slice_index_or}
 use Rattle.std.specs.Ordering.{is_eq}
 use Rattle.std.specs.declared.cmp.Ordering.{Ordering}
 use Rattle.std.specs.declared.cmp.Ordering.TheVariants.{Less, Equal, Greater}
 use Rattle.std.proofs.lemmas.List.{map-append, reverse-append}
 use Rattle.node_base.specs.Path.{Path, Name, name_cmp, names_exact, same_name}
 use Rattle.md5.specs.Md5.{Holds, md5}
-use Rattle.ra_item.specs.Items.{Item, Items, Word, Number, Text, Nested}
-use Rattle.node_base.specs.PathText.{path_read}
-use Rattle.node_base.specs.Props.{prop_name_read}
+use Rattle.ra_item.specs.Items.{Item, Items, Number, Text, Nested}
 use Rattle.node_base.specs.declared.node.Source.{Source}
 use Rattle.delta_editor.specs.Calls.{Adds}
 use Rattle.delta_editor.specs.declared.call.Call.{Call}
 use Rattle.delta_editor.specs.declared.call.Call.TheVariants as call
 use Rattle.ra_edit.specs.Edits as edits
-use Rattle.ra_edit.specs.Edits.{Held, Dir, Fresh, Within, Told, Named, named, At, Begun, Targeted, Inside, Announced, Says, is_free, IsCommand, IsRevision, IsSource, IsString, IsUnopened}
+use Rattle.ra_edit.specs.Edits.{Held, Dir, Fresh, Within, Told, Named, named, At, Begun, Targeted, Inside, Announced, Says, is_free, IsCommand, IsRevision, IsSource, IsString, IsUnopened, IsOpenDir}
 use Rattle.std.specs.List.{concat}
-use Rattle.ra_edit.specs.Reading.{begin, is_between}
+use Rattle.ra_edit.specs.Reading.{begin}
 use Rattle.ra_edit.specs.Streams.{reading, Reads}
 use Rattle.ra_edit.specs.Edits.{IsSum, SumsTo}
 use Rattle.ra_edit.specs.declared.reading.Reading.{Reading}
-use Rattle.ra_edit.specs.Receiving.{IsPath, IsPropName}
-use Rattle.ra_edit.specs.Edit.{dir_named, dirs_named, GivenIs, OpenIs, Stands, Moves, is_unopened, is_announced, has_root, TextEnds, SumIs}
+use Rattle.ra_edit.specs.Receiving.{IsPath, IsPropName, Forms}
+use Rattle.ra_edit.specs.declared.edit_fault.EditFault.{EditFault}
+use Rattle.ra_edit.specs.declared.receive_command.Command.{Command}
+use Rattle.ra_edit.specs.Edit.{dir_named, dirs_named, GivenIs, Stands, Moves, is_unopened, is_announced, has_root, TextEnds, SumIs, FileMoves}
 use Rattle.ra_edit.specs.declared.receive_edit.Given.{Given}
 use Rattle.ra_edit.specs.declared.receive_edit.Given.TheVariants as given
 use Rattle.ra_edit.specs.declared.receive_edit.OpenDir.{OpenDir}
@@ -69,7 +69,7 @@ stands_file dp fp (stage.Announced b) now file f held os s n g e = cc
 
 -- ---- calls in the innermost directory
 
-says_shown : {S : Type 0} (shows : S → List Call → Type 0) (old mid new : S) (c d : Call) → mid ≡ old → d ≡ c → Adds shows mid new (d ∷ []) → Adds shows old new (c ∷ [])
+pub says_shown : {S : Type 0} (shows : S → List Call → Type 0) (old mid new : S) (c d : Call) → mid ≡ old → d ≡ c → Adds shows mid new (d ∷ []) → Adds shows old new (c ∷ [])
 says_shown shows old mid new c d e f s = subst (λ x. Adds shows x new (c ∷ [])) e (subst (λ x. Adds shows mid new (x ∷ [])) f s)
 
 -- nothing more is open afterwards
@@ -327,3 +327,89 @@ pub prop_moves : {D F S : Type 0} (dp : D → Path) (fp : F → Path) (shows : S
     → Stands dp fp st dirs file at → Adds shows old new (call.FileProp (fp f.baton) n v' ∷ []) → Moves shows old new item at (Stands dp fp st dirs (Some f'))
 prop_moves dp fp shows old new st dirs file f f' t n value v' q v item at e tk path eg tok ev name is cmd h s =
     in_file dp fp shows old new st dirs file (Some f') f f' (call.FileProp (fp f.baton) n value ∷ []) item at e refl tk path (says_file_prop fp f f' t n value q v item eg tok name is cmd) h (says_shown shows old old new (call.FileProp (fp f.baton) n value) (call.FileProp (fp f.baton) n v') refl (ap (call.FileProp (fp f.baton) n) ev) s)
+
+-- what moved inside the open file has moved
+pub file_moved : {D F S : Type 0} (dp : D → Path) (fp : F → Path) (shows : S → List Call → Type 0) (old new : S) (st : Stage) (dirs : List (OpenDir D)) (file : Option (OpenFile F)) (f f' : OpenFile F) (item : Item) (at : At)
+    → file ≡ Some f → Stands dp fp st dirs file at → FileMoves fp shows old new item f f' → Moves shows old new item at (Stands dp fp st dirs (Some f'))
+file_moved dp fp shows old new st dirs file f f' item at e h m = in_file dp fp shows old new st dirs file (Some f') f f' m.calls item at e refl m.token m.path m.says h m.shown
+
+-- ---- bytes of a text, stretch by stretch
+
+concat_join : (xs ys : List (List ℕ)) → concat (xs ++ ys) ≡ concat xs ++ concat ys
+concat_join [] ys = refl
+concat_join (x ∷ xs) ys = ap (λ t. x ++ t) (concat_join xs ys) ∙ sym (append_assoc x (concat xs) (concat ys))
+
+pub pieces_join : (text : List ℕ) (xs ys : List (List ℕ)) (bytes : List ℕ) → concat ys ≡ bytes → (text ++ concat xs) ++ bytes ≡ text ++ concat (xs ++ ys)
+pieces_join text xs ys bytes e = append_assoc text (concat xs) bytes ∙ ap (λ t. text ++ t) (ap (λ t. concat xs ++ t) (sym e) ∙ sym (concat_join xs ys))
+
+pub adds_join : {S : Type 0} (shows : S → List Call → Type 0) (a b c : S) (xs ys : List Call) → Adds shows a b xs → Adds shows b c ys → Adds shows a c (xs ++ ys)
+adds_join shows a b c xs ys f g = λ calls h. subst (shows c) (append_assoc calls xs ys) (g (calls ++ xs) (f calls h))
+
+pub pieces_added : {S : Type 0} (shows : S → List Call → Type 0) (a b c : S) (p q : Path) (xs ys : List (List ℕ)) → q ≡ p → Adds shows a b (map (call.TextPiece p) xs) → Adds shows b c (map (call.TextPiece q) ys) → Adds shows a c (map (call.TextPiece p) (xs ++ ys))
+pieces_added shows a b c p q xs ys e f g = subst (λ l. Adds shows a c l) (sym (map-append (call.TextPiece p) xs ys)) (adds_join shows a b c (map (call.TextPiece p) xs) (map (call.TextPiece p) ys) f (subst (λ x. Adds shows b c (map (call.TextPiece x) ys)) e g))
+
+ok_not_err : {T E : Type 0} (r : Result T E) (x : T) (f : E) → r ≡ Ok x → r ≡ Err f → ⊥
+ok_not_err (Ok y) x f e h = cc
+ok_not_err (Err y) x f e h = cc
+
+pub not_failed : {T E : Type 0} (b : Bool) (r : Result T E) (x : T) (f : E) → r ≡ Ok x → (b ≡ true → r ≡ Err f) → b ≡ false
+not_failed false r x f e h = refl
+not_failed true r x f e h = absurd (ok_not_err r x f e (h refl))
+
+-- ---- a property of a directory that is open
+
+-- at this place stands a directory with this token, and another in its place has its path
+pub dir_at : {D : Type 0} (dp : D → Path) (xs : List (OpenDir D)) (i : ℕ) (r e : OpenDir D) (t u : List ℕ) → IsSomeAnd (slice_get xs i) (λ d. d.token.items ≡ t) → t ≡ u → r ≡ slice_index_or xs i r → dir_named dp e ≡ dir_named dp r
+    → (front back : List Named) × (map (dir_named dp) xs ≡ front ++ named u (dp r.baton) Dir ∷ back) × (map (dir_named dp) (slice_set xs i e) ≡ map (dir_named dp) xs)
+dir_at dp [] i r e t u h k v same = absurd h
+dir_at dp (x ∷ xs) zero r e t u h k v same =
+    let tok : r.token.items ≡ u = ap (λ d. d.token.items) v ∙ h ∙ k in (
+      [],
+      map (dir_named dp) xs,
+      ap (λ y. y ∷ map (dir_named dp) xs) (ap (dir_named dp) (sym v) ∙ ap (λ a. named a (dp r.baton) Dir) tok),
+      ap (λ y. y ∷ map (dir_named dp) xs) (same ∙ ap (dir_named dp) v),
+    )
+dir_at dp (x ∷ xs) (suc i) r e t u h k v same =
+    let w = dir_at dp xs i r e t u h k v same in
+    (dir_named dp x ∷ w.0, w.1, ap (λ l. dir_named dp x ∷ l) w.2, ap (λ l. dir_named dp x ∷ l) w.3)
+
+pub open_at : (ns : List Named) (front back : List Named) (t : List ℕ) (p : Path) → ns ≡ front ++ named t p Dir ∷ back → IsOpenDir t p (reverse ns)
+open_at ns front back t p e = (
+  reverse back,
+  reverse front,
+  ap reverse e ∙ reverse-append front (named t p Dir ∷ back) ∙ ap (λ l. l ++ reverse front) (reverse-append (named t p Dir ∷ []) back) ∙ append_assoc (reverse back) (named t p Dir ∷ []) (reverse front),
+)
+
+none_open : (t : List ℕ) (p : Path) → IsOpenDir t p [] → ⊥
+none_open t p ([], outer, e) = cc
+none_open t p (x ∷ inner, outer, e) = cc
+
+not_here : {D : Type 0} (dp : D → Path) (dirs : List (OpenDir D)) (t : List ℕ) (p : Path) → dirs ≡ [] → IsOpenDir t p (dirs_named dp dirs) → ⊥
+not_here dp dirs t p e is = none_open t p (subst (λ d. IsOpenDir t p (dirs_named dp d)) e is)
+
+pub prop_in_dir : {D F S : Type 0} (dp : D → Path) (fp : F → Path) (shows : S → List Call → Type 0) (old new : S) (st : Stage) (dirs now : List (OpenDir D)) (file : Option (OpenFile F)) (t : List ℕ) (p : Path) (n : Name) (value v' : Option (List ℕ)) (q v item : Item) (at : At)
+    → dirs_named dp now ≡ dirs_named dp dirs → IsOpenDir t p (dirs_named dp dirs) → v' ≡ value → IsPropName n q → IsString value v → IsCommand (codes "change-dir-prop") (Text t ∷ q ∷ v ∷ []) item
+    → Stands dp fp st dirs file at → Adds shows old new (call.DirProp p n v' ∷ []) → Moves shows old new item at (Stands dp fp st now file)
+prop_in_dir dp fp shows old new stage.Begun dirs now file t p n value v' q v item at same is ev name str cmd h s = absurd (not_here dp dirs t p h.1 is)
+prop_in_dir dp fp shows old new stage.Targeted dirs now file t p n value v' q v item at same is ev name str cmd h s = absurd (not_here dp dirs t p h.1 is)
+prop_in_dir dp fp shows old new (stage.Announced b) dirs now file t p n value v' q v item at same is ev name str cmd h s = absurd (not_here dp dirs t p h.1 is)
+prop_in_dir dp fp shows old new stage.Inside dirs now None t p n value v' q v item at same is ev name str cmd h s = record {
+  calls = call.DirProp p n value ∷ [];
+  to = Inside h.0;
+  says = subst (λ a. Says a item (call.DirProp p n value ∷ []) (Inside h.0)) (sym h.1) (edits.DirProp t p h.0 name.0 n value v item (subst (λ o. IsOpenDir t p o) (sym h.2) is) name.1 str (subst (λ z. IsCommand (codes "change-dir-prop") (Text t ∷ z ∷ v ∷ []) item) name.2 cmd));
+  shown = says_shown shows old old new (call.DirProp p n value) (call.DirProp p n v') refl (ap (call.DirProp p n) ev) s;
+  now = (h.0, refl, h.2 ∙ sym same);
+}
+prop_in_dir dp fp shows old new stage.Inside dirs now (Some f) t p n value v' q v item at same is ev name str cmd h s =
+    let x = named f.token.items (fp f.baton) h.2.0 in
+    record {
+      calls = call.DirProp p n value ∷ [];
+      to = Inside h.0;
+      says = subst (λ a. Says a item (call.DirProp p n value ∷ []) (Inside h.0)) (sym h.1) (edits.DirProp t p h.0 name.0 n value v item (subst (λ o. IsOpenDir t p o) (sym h.2.2) (x ∷ is.0, is.1, ap (λ l. x ∷ l) is.2)) name.1 str (subst (λ z. IsCommand (codes "change-dir-prop") (Text t ∷ z ∷ v ∷ []) item) name.2 cmd));
+      shown = says_shown shows old old new (call.DirProp p n value) (call.DirProp p n v') refl (ap (call.DirProp p n) ev) s;
+      now = (h.0, refl, (h.2.0, h.2.1, h.2.2 ∙ ap (λ l. x ∷ l) (sym same)));
+    }
+
+-- what holds of one command holds of the command that is it
+pub as_command : (r : Result (Unit {0}) EditFault) (c d : Command) (P : At → Type 0) (Q : At → Item → Type 0) → c ≡ d → OnOk r ((at : At) (item : Item) → Forms d item → P at → Q at item) → OnOk r ((at : At) (item : Item) → Forms c item → P at → Q at item)
+as_command r c d P Q e h = subst (λ x. OnOk r ((at : At) (item : Item) → Forms x item → P at → Q at item)) (sym e) h

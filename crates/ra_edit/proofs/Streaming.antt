@@ -1,11 +1,10 @@
 -- Items that are ready, and what is read behind them.
-use Rattle.std.proofs.Common.{◌≡◌, ◌≢◌, ◌≤◌, ◌<◌, ℕ, Bool, true, false, ◌||◌, List, [], ◌∷◌, ◌++◌, length, Option, Some, None, Result, Ok, Err, refl, sym, ap, subst, ◌∙◌, append_assoc, append-nil, arith}
+use Rattle.std.proofs.Common.{◌≡◌, ◌≢◌, ℕ, Bool, true, false, ◌||◌, List, [], ◌∷◌, ◌++◌, Option, Result, Ok, Err, refl, sym, ap, subst, ◌∙◌, append_assoc}
 use Rattle.std.proofs.lemmas.List.{reverse-reverse, reverse-append}
 use Rattle.std.specs.Prelude.{reverse, OnOk}
-use Rattle.std.specs.Io.KnownBytes.{Consumes, IsAtEnd}
 use Rattle.std.proofs.KnownBytes.{Consumes-nil, Consumes-trans}
 use Rattle.ra_item.specs.Items.{Item}
-use Rattle.ra_item.specs.Reading.{Step, Next, Gives, Refused, one_step, is_between}
+use Rattle.ra_item.specs.Reading.{Step, Next, Gives, Refused, one_step}
 use Rattle.ra_item.specs.Streams.{Stream, Reads, Refuses, of_step, one_byte, reading, StreamIs}
 use Rattle.ra_item.specs.declared.fault.ItemFault.{ItemFault}
 use Rattle.ra_item.specs.declared.fault.ItemFault.TheVariants as item

@@ -1,5 +1,5 @@
 -- Where the commands of a drive stand, and what was given of an open file's text.
-use Rattle.std.specs.Prelude.{◌≡◌, ℕ, Bool, true, false, List, [], ◌∷◌, ◌++◌, map, reverse, Option, Some, None}
+use Rattle.std.specs.Prelude.{◌≡◌, ℕ, Bool, true, false, List, [], ◌∷◌, map, reverse, Option, Some, None, codes}
 use Rattle.md5.specs.Md5.{Holds, md5}
 use Rattle.ra_edit.specs.Reading.{is_between}
 use Rattle.ra_edit.specs.declared.reading.Reading.{Reading}
@@ -7,7 +7,7 @@ use Rattle.ra_item.specs.Items.{Item}
 use Rattle.node_base.specs.Path.{Path}
 use Rattle.delta_editor.specs.Calls.{Adds}
 use Rattle.delta_editor.specs.declared.call.Call.{Call}
-use Rattle.ra_edit.specs.Edits.{Held, Dir, Fresh, Within, Told, Named, named, At, Begun, Targeted, Inside, Announced, Says, is_free}
+use Rattle.ra_edit.specs.Edits.{Held, Dir, Fresh, Within, Told, Named, named, At, Begun, Targeted, Inside, Announced, Says, IsCommand}
 use Rattle.ra_edit.specs.declared.receive_edit.Given.{Given}
 use Rattle.ra_edit.specs.declared.receive_edit.Given.TheVariants as given
 use Rattle.ra_edit.specs.declared.receive_edit.OpenDir.{OpenDir}
@@ -79,3 +79,16 @@ is_announced stage.Begun = false
 is_announced stage.Targeted = false
 is_announced stage.Inside = false
 is_announced (stage.Announced root) = true
+
+-- an item moves an editor inside the open file
+pub record FileMoves {E F : Type 0} (file_path : F → Path) (shows : E → List Call → Type 0) (old new : E) (item : Item) (f g : OpenFile F) : Type 0 where
+  pub calls : List Call
+  pub token : g.token.items ≡ f.token.items
+  pub path : file_path g.baton ≡ file_path f.baton
+  pub says : (held : Held) (os : List Named) → GivenIs f.given held → (after : Held) × GivenIs g.given after × Says (Inside (named f.token.items (file_path f.baton) held ∷ os)) item calls (Inside (named f.token.items (file_path f.baton) after ∷ os))
+  pub shown : Adds shows old new calls
+
+-- a command was done; or it is the end of the drive, and nothing was done for it
+abbrev pub Stepped : {E : Type 0} → (E → List Call → Type 0) → E → E → Item → At → (At → Type 0) → Bool → Type 0
+Stepped shows old new item at stands false = Moves shows old new item at stands
+Stepped shows old new item at stands true = IsCommand (codes "finish-replay") [] item × (new ≡ old) × stands at

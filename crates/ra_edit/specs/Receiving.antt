@@ -1,5 +1,5 @@
 -- What is received of a drive: commands and their items.
-use Rattle.std.specs.Prelude.{◌≡◌, ℕ, ◌≤◌, List, [], ◌∷◌, ◌++◌, reverse, Option, Some, None, Ok, codes}
+use Rattle.std.specs.Prelude.{◌≡◌, ℕ, ◌≤◌, List, [], ◌∷◌, reverse, Ok, codes}
 use Rattle.std.specs.Option.{option_map}
 use Rattle.ra_item.specs.Items.{Item, Items, Word, Number, Text, Nested}
 use Rattle.node_base.specs.Path.{Path}

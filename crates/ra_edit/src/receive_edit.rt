@@ -1,6 +1,6 @@
 //! An edit that is received: what is open, and what a command does.
 
-ghost use Rattle.std.specs.Prelude.{◌≡◌, ◌+◌, ◌≤◌, ◌<◌, ◌++◌, ◌∷◌, [], ℕ, List, map, length, reverse, IfOk, IfErr, OnOk, OnErr, Ok, Err, Some, None, true, false, vec_len, vec_capacity, slice_get};
+ghost use Rattle.std.specs.Prelude.{◌≡◌, ◌+◌, ◌≤◌, ◌<◌, ◌++◌, ◌∷◌, [], ℕ, List, map, length, reverse, IfOk, IfErr, IsSomeAnd, OnOk, OnErr, Ok, Err, Some, None, true, false, vec_len, vec_capacity, slice_get};
 ghost use Rattle.std.specs.Option.{option_copied, option_map};
 ghost use Rattle.std.specs.List.{concat};
 ghost use Rattle.md5.specs.Md5.{Holds, md5};
@@ -12,7 +12,7 @@ ghost use Rattle.delta_editor.specs.declared.call.Call.TheVariants as call;
 ghost use Rattle.ra_edit.specs.Streams.{reading, Reads};
 ghost use Rattle.ra_edit.specs.Edits.{At, Begun, is_free, last_calls, Within};
 ghost use Rattle.ra_edit.specs.Receiving.{Forms};
-ghost use Rattle.ra_edit.specs.Edit.{Stands, Moves, dirs_named, is_unopened, is_announced, has_root, TextEnds, SumIs};
+ghost use Rattle.ra_edit.specs.Edit.{Stands, Moves, dirs_named, is_unopened, is_announced, has_root, TextEnds, SumIs, FileMoves, Stepped};
 ghost use Rattle.ra_edit.specs.declared.receive_command.Command.TheVariants as command;
 ghost use Rattle.ra_edit.specs.declared.receive_edit.Given.TheVariants as given;
 
@@ -96,34 +96,43 @@ impl<E: Editor> Edit<E> {
     }
 
     /// Does what a command says; `finish-replay` answers true, and nothing is done for it yet.
-    pub fn step(&mut self, command: Command) -> Result<bool, EditFault> {
-        if self.is_announced() {
-            return match command {
-                Command::Finish => Ok(true),
-                Command::Abort => Err(EditFault::Refused),
-                _ => Err(EditFault::BadShape),
-            };
-        }
-        match command {
-            Command::Target(rev) => self.target(rev)?,
-            Command::OpenRoot(base, token) => self.open_root(base, token)?,
-            Command::DeleteEntry(path, base, up) => self.delete_entry(path, base, up)?,
-            Command::AddDir(path, up, token, from) => self.add_dir(path, up, token, from)?,
-            Command::OpenDir(path, up, token, base) => self.open_dir(path, up, token, base)?,
-            Command::DirProp(token, name, value) => self.dir_prop(token, name, value)?,
-            Command::CloseDir(token) => self.close_dir(token)?,
-            Command::AddFile(path, up, token, from) => self.add_file(path, up, token, from)?,
-            Command::OpenFile(path, up, token, base) => self.open_file(path, up, token, base)?,
-            Command::FileProp(token, name, value) => self.file_prop(token, name, value)?,
-            Command::TextStart(token) => self.text_start(token)?,
-            Command::Chunk(token, bytes) => self.chunk(token, bytes)?,
-            Command::TextEnd(token) => self.text_end(token)?,
-            Command::CloseFile(token, sum) => self.close_file(token, sum)?,
-            Command::CloseEdit => self.close_edit()?,
+    pub fn step(&mut self, command: Command) -> Result<bool, EditFault>
+        ensures moved { IfOk result (λ done. (at : At) (item : Item) → Forms command item → Stands E.dir_path E.file_path self.old.stage self.old.dirs.items self.old.file at → Stepped E.shows self.old.editor self.new.editor item at (Stands E.dir_path E.file_path self.new.stage self.new.dirs.items self.new.file) done) }
+    {
+        match &command {
             Command::Finish => return Ok(true),
             Command::Abort => return Err(EditFault::Refused),
+            _ => {}
         }
+        if self.is_announced() {
+            return Err(EditFault::BadShape);
+        }
+        self.perform(command)?;
         Ok(false)
+    }
+
+    // Does what a command says that isn't the end.
+    fn perform(&mut self, command: Command) -> Result<(), EditFault>
+        ensures moved { OnOk result ((at : At) (item : Item) → Forms command item → Stands E.dir_path E.file_path self.old.stage self.old.dirs.items self.old.file at → Moves E.shows self.old.editor self.new.editor item at (Stands E.dir_path E.file_path self.new.stage self.new.dirs.items self.new.file)) }
+    {
+        match command {
+            Command::Target(rev) => self.target(rev),
+            Command::OpenRoot(base, token) => self.open_root(base, token),
+            Command::DeleteEntry(path, base, up) => self.delete_entry(path, base, up),
+            Command::AddDir(path, up, token, from) => self.add_dir(path, up, token, from),
+            Command::OpenDir(path, up, token, base) => self.open_dir(path, up, token, base),
+            Command::DirProp(token, name, value) => self.dir_prop(token, name, value),
+            Command::CloseDir(token) => self.close_dir(token),
+            Command::AddFile(path, up, token, from) => self.add_file(path, up, token, from),
+            Command::OpenFile(path, up, token, base) => self.open_file(path, up, token, base),
+            Command::FileProp(token, name, value) => self.file_prop(token, name, value),
+            Command::TextStart(token) => self.text_start(token),
+            Command::Chunk(token, bytes) => self.chunk(token, bytes),
+            Command::TextEnd(token) => self.text_end(token),
+            Command::CloseFile(token, sum) => self.close_file(token, sum),
+            Command::CloseEdit => self.close_edit(),
+            Command::Finish | Command::Abort => Err(EditFault::BadShape),
+        }
     }
 
     fn target(&mut self, rev: RevNo) -> Result<(), EditFault>
@@ -273,7 +282,8 @@ impl<E: Editor> Edit<E> {
 
     // The place of a directory that is open with this token.
     fn find(&self, token: &[u8]) -> Result<usize, EditFault>
-        ensures { IfOk result (λ i. i < vec_len self.now.dirs) }
+        ensures place { IfOk result (λ i. i < vec_len self.now.dirs) }
+        ensures found { IfOk result (λ i. IsSomeAnd (slice_get self.now.dirs.items i) (λ d. d.token.items ≡ token.now)) }
     {
         for (i, dir) in self.dirs.iter().enumerate() {
             if is_same(dir.token.as_slice(), token) {
@@ -288,7 +298,9 @@ impl<E: Editor> Edit<E> {
         token: Vec<u8>,
         name: PropName,
         value: Option<Vec<u8>>,
-    ) -> Result<(), EditFault> {
+    ) -> Result<(), EditFault>
+        ensures moved { OnOk result ((at : At) (item : Item) → Forms (command.DirProp token name value) item → Stands E.dir_path E.file_path self.old.stage self.old.dirs.items self.old.file at → Moves E.shows self.old.editor self.new.editor item at (Stands E.dir_path E.file_path self.new.stage self.new.dirs.items self.new.file)) }
+    {
         let at = self.find(token.as_slice())?;
         let dir = &mut self.dirs[at];
         self.editor
@@ -362,63 +374,43 @@ impl<E: Editor> Edit<E> {
         token: Vec<u8>,
         name: PropName,
         value: Option<Vec<u8>>,
-    ) -> Result<(), EditFault> {
+    ) -> Result<(), EditFault>
+        ensures moved { OnOk result ((at : At) (item : Item) → Forms (command.FileProp token name value) item → Stands E.dir_path E.file_path self.old.stage self.old.dirs.items self.old.file at → Moves E.shows self.old.editor self.new.editor item at (Stands E.dir_path E.file_path self.new.stage self.new.dirs.items self.new.file)) }
+    {
         let Some(file) = &mut self.file else {
             return Err(EditFault::BadToken);
         };
-        if !is_same(file.token.as_slice(), token.as_slice()) {
-            return Err(EditFault::BadToken);
-        }
-        self.editor
-            .file_prop(&mut file.baton, &name, slice_of(&value))?;
+        give_prop(&mut self.editor, file, token, name, value)?;
         Ok(())
     }
 
-    fn text_start(&mut self, token: Vec<u8>) -> Result<(), EditFault> {
+    fn text_start(&mut self, token: Vec<u8>) -> Result<(), EditFault>
+        ensures moved { OnOk result ((at : At) (item : Item) → Forms (command.TextStart token) item → Stands E.dir_path E.file_path self.old.stage self.old.dirs.items self.old.file at → Moves E.shows self.old.editor self.new.editor item at (Stands E.dir_path E.file_path self.new.stage self.new.dirs.items self.new.file)) }
+    {
         let Some(file) = &mut self.file else {
             return Err(EditFault::BadToken);
         };
-        if !is_same(file.token.as_slice(), token.as_slice()) {
-            return Err(EditFault::BadToken);
-        }
-        let Given::Nothing = file.given else {
-            return Err(EditFault::BadShape);
-        };
-        self.editor.text_start(&mut file.baton)?;
-        file.given = Given::Begun(WindowReader::new(), Md5::new());
+        begin_text(&mut self.editor, file, token)?;
         Ok(())
     }
 
-    fn chunk(&mut self, token: Vec<u8>, bytes: Vec<u8>) -> Result<(), EditFault> {
+    fn chunk(&mut self, token: Vec<u8>, bytes: Vec<u8>) -> Result<(), EditFault>
+        ensures moved { OnOk result ((at : At) (item : Item) → Forms (command.Chunk token bytes) item → Stands E.dir_path E.file_path self.old.stage self.old.dirs.items self.old.file at → Moves E.shows self.old.editor self.new.editor item at (Stands E.dir_path E.file_path self.new.stage self.new.dirs.items self.new.file)) }
+    {
         let Some(file) = &mut self.file else {
             return Err(EditFault::BadToken);
         };
-        if !is_same(file.token.as_slice(), token.as_slice()) {
-            return Err(EditFault::BadToken);
-        }
-        let Given::Begun(reader, sum) = &mut file.given else {
-            return Err(EditFault::BadShape);
-        };
-        take_chunk(
-            &mut self.editor,
-            &mut file.baton,
-            reader,
-            sum,
-            bytes.as_slice(),
-        )?;
+        give_bytes(&mut self.editor, file, token, bytes)?;
         Ok(())
     }
 
-    fn text_end(&mut self, token: Vec<u8>) -> Result<(), EditFault> {
+    fn text_end(&mut self, token: Vec<u8>) -> Result<(), EditFault>
+        ensures moved { OnOk result ((at : At) (item : Item) → Forms (command.TextEnd token) item → Stands E.dir_path E.file_path self.old.stage self.old.dirs.items self.old.file at → Moves E.shows self.old.editor self.new.editor item at (Stands E.dir_path E.file_path self.new.stage self.new.dirs.items self.new.file)) }
+    {
         let Some(file) = &mut self.file else {
             return Err(EditFault::BadToken);
         };
-        if !is_same(file.token.as_slice(), token.as_slice()) {
-            return Err(EditFault::BadToken);
-        }
-        let sum = end_text(&mut file.given)?;
-        self.editor.text_end(&mut file.baton)?;
-        file.given = Given::Whole(sum);
+        close_text(&mut self.editor, file, token)?;
         Ok(())
     }
 
@@ -556,6 +548,78 @@ fn show_root<E: Editor>(editor: &mut E) -> Result<(), EditorFault> {
     editor.close_dir(root)
 }
 
+// Gives a property of the open file, which has this token, a value, or removes it.
+fn give_prop<E: Editor>(
+    editor: &mut E,
+    file: &mut OpenFile<E::File>,
+    token: Vec<u8>,
+    name: PropName,
+    value: Option<Vec<u8>>,
+) -> Result<(), EditFault>
+    ensures moved { OnOk result ((item : Item) → Forms (command.FileProp token name value) item → FileMoves E.file_path E.shows editor.old editor.new item file.old file.new) }
+{
+    if !is_same(file.token.as_slice(), token.as_slice()) {
+        return Err(EditFault::BadToken);
+    }
+    editor.file_prop(&mut file.baton, &name, slice_of(&value))?;
+    Ok(())
+}
+
+// Begins the text of the open file, which has this token and none yet.
+fn begin_text<E: Editor>(
+    editor: &mut E,
+    file: &mut OpenFile<E::File>,
+    token: Vec<u8>,
+) -> Result<(), EditFault>
+    ensures moved { OnOk result ((item : Item) → Forms (command.TextStart token) item → FileMoves E.file_path E.shows editor.old editor.new item file.old file.new) }
+{
+    if !is_same(file.token.as_slice(), token.as_slice()) {
+        return Err(EditFault::BadToken);
+    }
+    let Given::Nothing = file.given else {
+        return Err(EditFault::BadShape);
+    };
+    editor.text_start(&mut file.baton)?;
+    file.given = Given::Begun(WindowReader::new(), Md5::new());
+    Ok(())
+}
+
+// Takes bytes of the text of the open file, which has this token.
+fn give_bytes<E: Editor>(
+    editor: &mut E,
+    file: &mut OpenFile<E::File>,
+    token: Vec<u8>,
+    bytes: Vec<u8>,
+) -> Result<(), EditFault>
+    ensures moved { OnOk result ((item : Item) → Forms (command.Chunk token bytes) item → FileMoves E.file_path E.shows editor.old editor.new item file.old file.new) }
+{
+    if !is_same(file.token.as_slice(), token.as_slice()) {
+        return Err(EditFault::BadToken);
+    }
+    let Given::Begun(reader, sum) = &mut file.given else {
+        return Err(EditFault::BadShape);
+    };
+    take_chunk(editor, &mut file.baton, reader, sum, bytes.as_slice())?;
+    Ok(())
+}
+
+// Ends the text of the open file, which has this token.
+fn close_text<E: Editor>(
+    editor: &mut E,
+    file: &mut OpenFile<E::File>,
+    token: Vec<u8>,
+) -> Result<(), EditFault>
+    ensures moved { OnOk result ((item : Item) → Forms (command.TextEnd token) item → FileMoves E.file_path E.shows editor.old editor.new item file.old file.new) }
+{
+    if !is_same(file.token.as_slice(), token.as_slice()) {
+        return Err(EditFault::BadToken);
+    }
+    let sum = end_text(&mut file.given)?;
+    editor.text_end(&mut file.baton)?;
+    file.given = Given::Whole(sum);
+    Ok(())
+}
+
 // The MD5 of a text that ends between windows.
 fn end_text(given: &mut Given) -> Result<[u8; 16], EditFault>
     ensures { IfOk result (λ sum. TextEnds given.old sum) }
@@ -611,6 +675,7 @@ fn take_chunk<E: Editor>(
     bytes: &[u8],
 ) -> Result<(), EditFault>
     ensures file { OnOk result (E.file_path file.new ≡ E.file_path file.old) }
+    ensures taken { OnOk result ((pieces : List (List ℕ)) × Adds E.shows editor.old editor.new (map (call.TextPiece (E.file_path file.old)) pieces) × ((text : List ℕ) → reading (Reads text reader.old) bytes.now ≡ Reads (text ++ concat pieces) reader.new) × ((text : List ℕ) → Holds sum.old text → Holds sum.new (text ++ concat pieces))) }
 {
     let mut rest = bytes;
     while !rest.is_empty() {

@@ -1,5 +1,4 @@
-use Rattle.std.proofs.Common.{◌≡◌, ◌∙◌, Ok, ap, sym}
-use Rattle.ra_item.specs.Items.{Text, Number, row}
+use Rattle.ra_item.specs.Items.{Text, row}
 use Rattle.ra_edit.specs.Commands.{list}
 use Rattle.ra_edit.specs.Receiving.{left_of, word_of}
 use Rattle.ra_edit.specs.declared.receive_command.Name.TheVariants as name

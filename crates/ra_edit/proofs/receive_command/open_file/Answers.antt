@@ -1,6 +1,5 @@
-use Rattle.std.proofs.Common.{◌≡◌, ◌∙◌, Ok, ap, sym}
-use Rattle.ra_item.specs.Items.{Text, Number}
-use Rattle.ra_edit.specs.Commands.{list}
+use Rattle.std.proofs.Common.{◌∙◌, Ok, ap, sym}
+use Rattle.ra_item.specs.Items.{Text}
 use Rattle.ra_edit.specs.Receiving.{left_of, word_of}
 use Rattle.ra_edit.specs.declared.receive_command.Name.TheVariants as name
 use Rattle.ra_edit.proofs.Receiving.{named4}

@@ -1,4 +1,4 @@
-use Rattle.std.proofs.Common.{◌≡◌, ◌∙◌, ◌∷◌, [], ap, sym, refl, subst}
+use Rattle.std.proofs.Common.{◌∙◌, ◌∷◌, [], ap, sym, refl, subst}
 use Rattle.std.specs.Option.{option_copied}
 use Rattle.delta_editor.specs.Calls.{Adds}
 use Rattle.delta_editor.specs.declared.call.Call.TheVariants as call

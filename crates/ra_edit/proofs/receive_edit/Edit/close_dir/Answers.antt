@@ -1,8 +1,4 @@
-use Rattle.std.proofs.Common.{◌≡◌, ◌∙◌, ◌∷◌, ◌++◌, [], ap, sym, refl}
-use Rattle.std.specs.Prelude.{map}
-use Rattle.std.specs.Option.{option_map}
-use Rattle.delta_editor.specs.declared.call.Call.TheVariants as call
-use Rattle.ra_edit.specs.declared.receive_edit.Given.TheVariants as given
+use Rattle.std.proofs.Common.{◌∙◌}
 use Rattle.ra_edit.proofs.Steps.{dir_closed}
 use Rattle.ra_edit.proofs.receive_edit.Edit.close_dir.Goals as goal
 

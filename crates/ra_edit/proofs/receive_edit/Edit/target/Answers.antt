@@ -1,5 +1,3 @@
-use Rattle.std.proofs.Common.{◌≡◌, ◌∙◌, ◌∷◌, [], ap, sym, refl}
-use Rattle.delta_editor.specs.declared.call.Call.TheVariants as call
 use Rattle.ra_edit.proofs.Steps.{target_moves}
 use Rattle.ra_edit.proofs.receive_edit.Edit.target.Goals as goal
 

@@ -1,4 +1,3 @@
-use Rattle.std.proofs.Common.{◌≡◌, ◌∙◌, []}
 use Rattle.std.proofs.lemmas.Result.{err_from_is_err_and}
 use Rattle.ra_edit.specs.ItemStreams.{reader_of, has_failed, is_spent, ahead}
 use Rattle.ra_edit.proofs.Streaming.{goes_on, stops_later, quiet}

@@ -1,4 +1,4 @@
-use Rattle.std.proofs.Common.{◌≡◌, ◌∙◌, ◌++◌, ap}
+use Rattle.std.proofs.Common.{◌∙◌, ◌++◌, ap}
 use Rattle.std.specs.Option.{option_to_list}
 use Rattle.ra_edit.specs.ItemStreams.{reader_of, ahead}
 use Rattle.ra_edit.proofs.Streaming.{popped}

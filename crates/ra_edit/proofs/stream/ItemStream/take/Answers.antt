@@ -1,4 +1,3 @@
-use Rattle.std.proofs.Common.{◌≡◌}
 use Rattle.ra_edit.specs.ItemStreams.{ahead}
 use Rattle.ra_edit.proofs.Streaming.{taken_ok, taken_unless, refused_of_byte}
 use Rattle.ra_edit.proofs.stream.ItemStream.take.Goals as goal

@@ -1,0 +1,21 @@
+use Rattle.std.proofs.Common.{◌∙◌, ◌++◌, ap, subst}
+use Rattle.std.specs.List.{concat}
+use Rattle.md5.specs.Md5.{Holds}
+use Rattle.ra_edit.specs.Reading.{is_failed}
+use Rattle.ra_edit.specs.Streams.{reading, Reads}
+use Rattle.ra_edit.proofs.Steps.{pieces_join, pieces_added, not_failed}
+use Rattle.ra_edit.proofs.receive_edit.take_chunk.Goals as goal
+
+pub loop-rest-preserved : goal.loop-rest-preserved
+loop-rest-preserved g c =
+    let l = c.loop-rest in
+    let i = l.invariant in
+    let s = c.in_ok-stretch.stretch in
+    let q = c.in_ok-take_stretch.ensures.pieces in
+    let fp = g.E.Editor.file_path in (
+      i.0 ++ q.0,
+      pieces_added g.E.Editor.shows c.args.editor.now l.editor c.take_stretch.new.editor (fp c.args.file.now) (fp l.file) i.0 q.0 i.4 i.1 q.2,
+      λ text. i.2 text ∙ c.in_ok-stretch.ensures.reads (not_failed (is_failed l.reader) c.next.result _ _ c.in_ok-stretch.was c.next.ensures.failed) (text ++ concat i.0) ∙ ap (λ t. reading (Reads t c.next.new.self) s.rest.now) (pieces_join text i.0 q.0 s.bytes.now q.1),
+      λ text h. subst (λ t. Holds c.take_stretch.new.sum t) (pieces_join text i.0 q.0 s.bytes.now q.1) (c.in_ok-take_stretch.ensures.sum (text ++ concat i.0) (i.3 text h)),
+      c.in_ok-take_stretch.ensures.file ∙ i.4,
+    )
