@@ -116,6 +116,8 @@ impl<W: Write + Drop> Editor for WireEditor<W> {
 
     ghost over = { λ e. [] };
 
+    ghost done_over = { λ d. [] };
+
     ghost refuses = { λ trees calls c e. e ≡ PeerFailed };
 
     fn target(&mut self, rev: RevNo) -> Result<(), EditorFault> {
