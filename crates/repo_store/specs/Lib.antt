@@ -1,0 +1,4 @@
+pub mod Forms
+pub mod Journal
+pub mod Refusals
+pub mod Words
