@@ -1,5 +1,5 @@
 -- Which sets of changes dump text can say.
-use Rattle.std.specs.Prelude.{ℕ, Bool, true, not, nat_le, nat_lt, List, [], ◌∷◌, length, Option}
+use Rattle.std.specs.Prelude.{◌≡◌, None, ℕ, Bool, true, not, nat_le, nat_lt, List, [], ◌∷◌, length, Option}
 use Rattle.std.specs.Option.{option_map_or}
 use Rattle.std.specs.List.{list_all}
 use Rattle.dump_text.specs.Written.{has_node_form}
@@ -7,6 +7,8 @@ use Rattle.dump_load.specs.declared.change.Change.{Change}
 use Rattle.dump_load.specs.declared.fault.ChangeFault.TheVariants.{BadHeader}
 use Rattle.dump_load.specs.Faults.{fault_if, first_of}
 use Rattle.dump_load.specs.Records.{record_of}
+use Rattle.repo_core.specs.declared.entry.Entry.{Entry}
+use Rattle.repo_core.specs.declared.entry.Entry.TheVariants.{Revised, Mapped}
 use Rattle.repo_core.specs.declared.fault.RepoFault.{RepoFault}
 use Rattle.repo_core.specs.declared.fault.RepoFault.TheVariants as refusal
 
@@ -27,3 +29,8 @@ form_fault set =
     ∷ fault_if (not (list_all has_size set)) refusal.TooLong
     ∷ []
     )
+
+-- an entry can say the set of a revision
+abbrev pub HasForm : Entry → Type 0
+HasForm (Revised n set props) = form_fault set ≡ None
+HasForm (Mapped n props) = Unit {0}

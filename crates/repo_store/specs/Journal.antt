@@ -1,6 +1,7 @@
 -- The repository that a journal's entries stand for.
-use Rattle.std.specs.Prelude.{◌≡◌, ◌<◌, ◌≤◌, ◌+◌, ◌⊎◌, ℕ, List, [], ◌∷◌, ◌++◌, map, length, take, Option, Some, None, codes}
+use Rattle.std.specs.Prelude.{◌≡◌, ◌<◌, ◌≤◌, ◌+◌, ◌⊎◌, ℕ, List, [], ◌∷◌, ◌++◌, map, length, take, slice_get, Some, None}
 use Rattle.std.specs.List.{flat_map}
+use Rattle.std.specs.FinMap as finite
 use Rattle.node_base.specs.Props.{PropMap}
 use Rattle.dump_text.specs.Canon.{canon_head, canon_entry, canon_node}
 use Rattle.dump_text.specs.Grammar.{Dump}
@@ -12,8 +13,10 @@ use Rattle.dump_load.specs.Changes.{IsNormal}
 use Rattle.dump_load.specs.Records.{record_of}
 use Rattle.fleet_disk.specs.Image.{Image}
 use Rattle.gate_log.specs.Standing.{Stands, IsDamagedAt}
-use Rattle.repo_core.specs.Repository.{Revision, fresh}
-use Rattle.repo_core.specs.Entries.{Entry, Revised, Mapped, with_entry}
+use Rattle.repo_core.specs.Repository.{Revision, Repository, fresh}
+use Rattle.repo_core.specs.declared.entry.Entry.{Entry}
+use Rattle.repo_core.specs.declared.entry.Entry.TheVariants.{Revised, Mapped}
+use Rattle.repo_core.specs.Entries.{with_entry}
 use Rattle.repo_core.specs.Refusals.{by_repository}
 use Rattle.repo_core.specs.Staging.{IsNext}
 
@@ -43,6 +46,10 @@ pub record Takes (x : List Revision) (e : Entry) : Type 0 where
   pub set : HasSet e
   pub accepted : by_repository x e ≡ None
 
+-- the bytes of a repository's first entry as it is made
+abbrev pub beginning_of : List ℕ → List ℕ
+beginning_of identity = canon_head (Some identity) ++ canon_entry 0 finite.empty
+
 -- these bytes are a first entry: the head with the identity, and revision 0's record
 pub record IsBeginning (bytes : List ℕ) (identity : List ℕ) (props : PropMap) : Type 0 where
   pub canonical : bytes ≡ canon_head (Some identity) ++ canon_entry 0 props
@@ -64,16 +71,24 @@ StandsFor (first ∷ rest) identity x = (props : PropMap) × IsBeginning first i
 
 -- an image reopens to a repository: entries stand in it that stand for that repository
 abbrev pub ReopensTo : List ℕ → List Revision → Image → Type 0
-ReopensTo identity x image = ∥ (entries : List (List ℕ)) × Stands image entries × StandsFor entries identity x ∥₁
+ReopensTo identity x image = ∥ ((entries : List (List ℕ)) × Stands image entries × StandsFor entries identity x) ∥₁
 
 -- to the one before an entry, or to the one after it
 abbrev pub IsBeforeOrAfter : List ℕ → List Revision → Entry → Image → Type 0
 IsBeforeOrAfter identity x e image = ReopensTo identity x image ⊎ ReopensTo identity (with_entry x e) image
 
+-- an image reopens to whatever the first reopens to
+abbrev pub ReopensAlike : Image → Image → Type 0
+ReopensAlike first image = (identity : List ℕ) (x : List Revision) → ReopensTo identity x first → ReopensTo identity x image
+
+-- the canonical text of a revision: the set that made its tree, and the properties that it has now
+abbrev pub IsExport : Repository → ℕ → List ℕ → Type 0
+IsExport r n bytes = (y : Revision) × (set : List Change) × (slice_get r.revisions n ≡ Some y) × (slice_get r.sets n ≡ Some set) × (bytes ≡ spelling (Revised n set y.props))
+
 -- of entries this one is the first that is damaged: those before it stand for a repository, and with it they stand for none
 pub record IsFirstBad (entry : ℕ) (entries : List (List ℕ)) : Type 0 where
   pub there : entry < length entries
-  pub before : 0 < entry → ∥ (identity : List ℕ) × (x : List Revision) × StandsFor (take entry entries) identity x ∥₁
+  pub before : 0 < entry → ∥ ((identity : List ℕ) × (x : List Revision) × StandsFor (take entry entries) identity x) ∥₁
   pub breaks : (identity : List ℕ) (x : List Revision) → StandsFor (take (entry + 1) entries) identity x → ⊥
 
 -- of an image this entry is the first that is damaged: it breaks the layout of the log, or else it is no entry

@@ -1,12 +1,16 @@
 //! How entries are read.
-ghost use Rattle.std.specs.Prelude.{◌≡◌, ◌∷◌, ◌++◌, ◌↔◌, [], ℕ, List, Some, IfOk, OnOk, IsErrOf, IsTrue};
+ghost use Rattle.std.specs.Prelude.{◌≡◌, ◌∷◌, ◌++◌, ◌↔◌, [], ℕ, List, map, false, Some, IfOk, IfNone, IfSome, OnOk, IsErrOf, IsTrue};
 ghost use Rattle.node_base.specs.Props.{PropMap};
 ghost use Rattle.dump_text.specs.Canon.{canon_revision};
-ghost use Rattle.dump_text.specs.Streams.{dump, Reads};
+ghost use Rattle.dump_text.specs.Streams.{dump, reading, Reads, has_failed};
+ghost use Rattle.dump_text.specs.Written.{AreFormed, AreRecords, read_revision};
+ghost use Rattle.dump_text.specs.declared.state.ReadState.{ReadState};
 ghost use Rattle.dump_text.specs.declared.record.DumpRecord.{DumpRecord as RecordOf};
-ghost use Rattle.repo_core.specs.Entries.{Entry};
-ghost use Rattle.repo_store.specs.Journal.{IsBeginning, Spells, version_block};
-ghost use Rattle.repo_store.specs.Readings.{records_of, told, IsRead, IsBad};
+ghost use Rattle.dump_text.specs.declared.record.DumpRecord.TheVariants as told;
+ghost use Rattle.dump_text.specs.declared.record.NodeRecord.{NodeRecord as NodeOf};
+ghost use Rattle.repo_core.specs.declared.entry.Entry.{Entry as EntryOf};
+ghost use Rattle.repo_store.specs.Journal.{IsBeginning, Spells};
+ghost use Rattle.repo_store.specs.Readings.{records_of, so_far, AreReadAs, IsDumpOf, IsRevisionOf};
 
 use crate::spell;
 use dump_text::{DumpFault, DumpReader, DumpRecord, RevRecord, write_revision};
@@ -50,7 +54,11 @@ fn feed(
     reader: &mut DumpReader,
     piece: &[u8],
     records: &mut Vec<DumpRecord>,
-) -> Result<(), ReadFault> {
+) -> Result<(), ReadFault>
+    requires { has_failed reader.old ≡ false }
+    ensures reads { OnOk result (reading (Reads records.old.items reader.old) piece.now ≡ Reads records.new.items reader.new) }
+    ensures bad { IsErrOf result ReadFault.Bad → (rs : List RecordOf) (r : ReadState) → reading (Reads records.old.items reader.old) piece.now ≡ Reads rs r → ⊥ }
+{
     match reader.feed(piece, records) {
         Ok(()) => Ok(()),
         Err(DumpFault::OutOfMemory) => Err(ReadFault::OutOfMemory),
@@ -59,7 +67,10 @@ fn feed(
 }
 
 // The records of a dump's bytes.
-fn records_in(alloc: Global, bytes: &[u8]) -> Result<Vec<DumpRecord>, ReadFault> {
+fn records_in(alloc: Global, bytes: &[u8]) -> Result<Vec<DumpRecord>, ReadFault>
+    ensures read { IfOk result (λ rs. IsDumpOf bytes.now rs.items) }
+    ensures bad { IsErrOf result ReadFault.Bad → (rs : List RecordOf) → IsDumpOf bytes.now rs → ⊥ }
+{
     let mut reader = DumpReader::new(alloc);
     let mut records = Vec::new(alloc);
     feed(&mut reader, bytes, &mut records)?;
@@ -67,7 +78,10 @@ fn records_in(alloc: Global, bytes: &[u8]) -> Result<Vec<DumpRecord>, ReadFault>
 }
 
 // The records of bytes behind the version block.
-fn records_behind(alloc: Global, bytes: &[u8]) -> Result<Vec<DumpRecord>, ReadFault> {
+fn records_behind(alloc: Global, bytes: &[u8]) -> Result<Vec<DumpRecord>, ReadFault>
+    ensures read { IfOk result (λ rs. AreReadAs bytes.now rs.items) }
+    ensures bad { IsErrOf result ReadFault.Bad → (rs : List RecordOf) → AreReadAs bytes.now rs → ⊥ }
+{
     let mut reader = DumpReader::new(alloc);
     let mut records = Vec::new(alloc);
     feed(
@@ -84,7 +98,11 @@ fn join(
     alloc: Global,
     revision: Option<RevRecord>,
     record: DumpRecord,
-) -> Result<RevRecord, ReadFault> {
+) -> Result<RevRecord, ReadFault>
+    ensures joined { IfOk result (λ r. records_of r ≡ so_far revision ++ record ∷ []) }
+    ensures bad { IsErrOf result ReadFault.Bad → (rest : List RecordOf) (n : ℕ) (props : PropMap) (nodes : List NodeOf)
+        → so_far revision ++ record ∷ rest ≡ told.Revision n props ∷ map told.Node nodes → ⊥ }
+{
     match (revision, record) {
         (None, DumpRecord::Revision(number, props)) => Ok(RevRecord {
             number,
@@ -101,7 +119,11 @@ fn join(
 }
 
 // The one revision that records say.
-fn revision_of(alloc: Global, records: Vec<DumpRecord>) -> Result<RevRecord, ReadFault> {
+fn revision_of(alloc: Global, records: Vec<DumpRecord>) -> Result<RevRecord, ReadFault>
+    ensures read { IfOk result (λ r. records_of r ≡ records.items) }
+    ensures bad { IsErrOf result ReadFault.Bad → (n : ℕ) (props : PropMap) (nodes : List NodeOf)
+        → records.items ≡ told.Revision n props ∷ map told.Node nodes → ⊥ }
+{
     let mut revision = None;
     for record in records {
         revision = Some(join(alloc, revision, record)?);
@@ -113,7 +135,10 @@ fn revision_of(alloc: Global, records: Vec<DumpRecord>) -> Result<RevRecord, Rea
 }
 
 // Whether bytes are the canonical spelling of a revision.
-fn is_canonical(alloc: Global, revision: &RevRecord, bytes: &[u8]) -> Result<bool, AllocError> {
+fn is_canonical(alloc: Global, revision: &RevRecord, bytes: &[u8]) -> Result<bool, AllocError>
+    ensures holds { IfOk result (λ b. IsTrue b ↔ (canon_revision revision.now ≡ bytes.now)) }
+    ensures readable { OnOk result (AreFormed revision.now.nodes.items → AreRecords (canon_revision revision.now) (read_revision revision.now)) }
+{
     let mut written = Vec::with_capacity(alloc, bytes.len())?;
     if write_revision(&mut written, revision).is_err() {
         return Err(AllocError);
@@ -122,7 +147,10 @@ fn is_canonical(alloc: Global, revision: &RevRecord, bytes: &[u8]) -> Result<boo
 }
 
 /// The revision that an entry's bytes spell, its nodes in their order.
-pub fn read_revision(alloc: Global, bytes: &[u8]) -> Result<RevRecord, ReadFault> {
+pub fn read_revision(alloc: Global, bytes: &[u8]) -> Result<RevRecord, ReadFault>
+    ensures read { IfOk result (IsRevisionOf bytes.now) }
+    ensures bad { IsErrOf result ReadFault.Bad → (e : EntryOf) → Spells bytes.now e → ⊥ }
+{
     let records = records_behind(alloc, bytes)?;
     let revision = revision_of(alloc, records)?;
     if is_canonical(alloc, &revision, bytes)? {
@@ -133,7 +161,10 @@ pub fn read_revision(alloc: Global, bytes: &[u8]) -> Result<RevRecord, ReadFault
 }
 
 // The identity and the properties that two records say.
-fn beginning_of(records: Vec<DumpRecord>) -> Option<(Uuid, Props)> {
+fn beginning_of(records: Vec<DumpRecord>) -> Option<(Uuid, Props)>
+    ensures read { IfSome result (λ p. records.items ≡ told.Identity p.0 ∷ told.Revision 0 p.1 ∷ []) }
+    ensures bad { IfNone result ((identity : List ℕ) (props : PropMap) → records.items ≡ told.Identity identity ∷ told.Revision 0 props ∷ [] → ⊥) }
+{
     let mut records = records;
     let last = records.pop()?;
     let first = records.pop()?;
@@ -153,7 +184,10 @@ fn beginning_of(records: Vec<DumpRecord>) -> Option<(Uuid, Props)> {
 }
 
 /// The identity and revision 0's properties that the first entry's bytes spell.
-pub fn read_beginning(alloc: Global, bytes: &[u8]) -> Result<(Uuid, Props), ReadFault> {
+pub fn read_beginning(alloc: Global, bytes: &[u8]) -> Result<(Uuid, Props), ReadFault>
+    ensures read { IfOk result (λ p. IsBeginning bytes.now p.0 p.1) }
+    ensures bad { IsErrOf result ReadFault.Bad → (identity : List ℕ) (props : PropMap) → IsBeginning bytes.now identity props → ⊥ }
+{
     let records = records_in(alloc, bytes)?;
     let Some((identity, props)) = beginning_of(records) else {
         return Err(ReadFault::Bad);

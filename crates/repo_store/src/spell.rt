@@ -1,9 +1,8 @@
 //! How entries are written.
-ghost use Rattle.std.specs.Prelude.{◌≡◌, ◌∷◌, ◌++◌, [], IfOk, None};
-ghost use Rattle.repo_core.specs.Entries.{Revised, Mapped};
-ghost use Rattle.repo_core.specs.Refusals.{form_of};
+ghost use Rattle.std.specs.Prelude.{◌≡◌, ◌<◌, ◌∷◌, ◌++◌, [], length, IfOk, None};
+ghost use Rattle.repo_core.specs.declared.entry.Entry.TheVariants.{Revised, Mapped};
 ghost use Rattle.repo_store.specs.Journal.{spelling, Spells, IsBeginning};
-ghost use Rattle.repo_store.specs.Forms.{form_fault};
+ghost use Rattle.repo_store.specs.Forms.{form_fault, HasForm};
 
 use dump_load::ChangeSet;
 use dump_text::{RevRecord, write_head, write_props_entry, write_revision};
@@ -73,7 +72,11 @@ pub fn revision_bytes(
 }
 
 /// The bytes of an entry.
-pub fn entry_bytes(alloc: Global, entry: &Entry) -> Result<Vec<u8>, AllocError> {
+pub fn entry_bytes(alloc: Global, entry: &Entry) -> Result<Vec<u8>, AllocError>
+    ensures canonical { IfOk result (λ v. v.items ≡ spelling entry.now) }
+    ensures spelled { HasForm entry.now → IfOk result (λ v. Spells v.items entry.now) }
+    ensures some { IfOk result (λ v. 0 < length v.items) }
+{
     match entry {
         Entry::Revised { number, set, props } => revision_bytes(alloc, *number, set, props),
         Entry::Mapped { number, props } => map_bytes(alloc, *number, props),
