@@ -22,12 +22,12 @@ use Rattle.repo_core.specs.Staging.{IsNext}
 
 -- the canonical spelling of an entry: a revision's record and its nodes, or the record alone
 abbrev pub spelling : Entry → List ℕ
-spelling (Revised n set props) = canon_entry n props ++ flat_map (λ c. canon_node (record_of c)) set
+spelling (Revised n set props) = canon_entry n props ++ flat_map canon_node (map record_of set)
 spelling (Mapped n props) = canon_entry n props
 
 -- the records of dump text that it says; of a deletion the kind isn't told
 abbrev pub records_in : Entry → List DumpRecord
-records_in (Revised n set props) = told.Revision n props ∷ map (λ c. read_node (record_of c)) set
+records_in (Revised n set props) = told.Revision n props ∷ map read_node (map record_of set)
 records_in (Mapped n props) = told.Revision n props ∷ []
 
 -- these bytes are the entry: its canonical spelling, and dump text of its records

@@ -13,7 +13,7 @@ ghost use Rattle.repo_store.specs.Journal.{IsBeginning, Spells};
 ghost use Rattle.repo_store.specs.Readings.{records_of, so_far, AreReadAs, IsDumpOf, IsRevisionOf};
 
 use crate::spell;
-use dump_text::{DumpFault, DumpReader, DumpRecord, RevRecord, write_revision};
+use dump_text::{DumpFault, DumpReader, DumpRecord, NodeRecord, RevRecord, write_revision};
 use node_base::{Props, RevNo};
 use std::alloc::{AllocError, AllocFailed, Global};
 use uuid::Uuid;
@@ -93,40 +93,73 @@ fn records_behind(alloc: Global, bytes: &[u8]) -> Result<Vec<DumpRecord>, ReadFa
     Ok(records)
 }
 
-// A record more of one revision.
-fn join(
+// The first record of one revision.
+#[tactic(auto, using(crate::proofs::Reading::second_revision))]
+fn first(
     alloc: Global,
     revision: Option<RevRecord>,
-    record: DumpRecord,
+    number: RevNo,
+    props: Props,
 ) -> Result<RevRecord, ReadFault>
-    ensures joined { IfOk result (λ r. records_of r ≡ so_far revision ++ record ∷ []) }
-    ensures bad { IsErrOf result ReadFault.Bad → (rest : List RecordOf) (n : ℕ) (props : PropMap) (nodes : List NodeOf)
-        → so_far revision ++ record ∷ rest ≡ told.Revision n props ∷ map told.Node nodes → ⊥ }
+    ensures joined { IfOk result (λ r. records_of r ≡ so_far revision ++ told.Revision number props ∷ []) }
+    ensures bad { IsErrOf result ReadFault.Bad → (rest : List RecordOf) (n : ℕ) (ps : PropMap) (nodes : List NodeOf)
+        → so_far revision ++ told.Revision number props ∷ rest ≡ told.Revision n ps ∷ map told.Node nodes → ⊥ }
 {
-    match (revision, record) {
-        (None, DumpRecord::Revision(number, props)) => Ok(RevRecord {
+    match revision {
+        Some(_) => Err(ReadFault::Bad),
+        None => Ok(RevRecord {
             number,
             props,
             nodes: Vec::new(alloc),
         }),
-        (Some(revision), DumpRecord::Node(node)) => {
+    }
+}
+
+// A node more of one revision.
+#[tactic(auto, using(crate::proofs::Reading::early_node))]
+fn node_more(revision: Option<RevRecord>, node: NodeRecord) -> Result<RevRecord, ReadFault>
+    ensures joined { IfOk result (λ r. records_of r ≡ so_far revision ++ told.Node node ∷ []) }
+    ensures bad { IsErrOf result ReadFault.Bad → (rest : List RecordOf) (n : ℕ) (ps : PropMap) (nodes : List NodeOf)
+        → so_far revision ++ told.Node node ∷ rest ≡ told.Revision n ps ∷ map told.Node nodes → ⊥ }
+{
+    match revision {
+        Some(revision) => {
             let mut revision = revision;
             revision.nodes.push(node)?;
             Ok(revision)
         }
-        _ => Err(ReadFault::Bad),
+        None => Err(ReadFault::Bad),
+    }
+}
+
+// A record more of one revision.
+#[tactic(auto, using(crate::proofs::Reading::an_identity))]
+fn join(
+    alloc: Global,
+    revision: Option<RevRecord>,
+    next: DumpRecord,
+) -> Result<RevRecord, ReadFault>
+    ensures joined { IfOk result (λ r. records_of r ≡ so_far revision ++ next ∷ []) }
+    ensures bad { IsErrOf result ReadFault.Bad → (rest : List RecordOf) (n : ℕ) (ps : PropMap) (nodes : List NodeOf)
+        → so_far revision ++ next ∷ rest ≡ told.Revision n ps ∷ map told.Node nodes → ⊥ }
+{
+    match next {
+        DumpRecord::Revision(number, props) => first(alloc, revision, number, props),
+        DumpRecord::Node(node) => node_more(revision, node),
+        DumpRecord::Identity(_) => Err(ReadFault::Bad),
     }
 }
 
 // The one revision that records say.
+#[tactic(auto, using(crate::proofs::Reading::no_record))]
 fn revision_of(alloc: Global, records: Vec<DumpRecord>) -> Result<RevRecord, ReadFault>
     ensures read { IfOk result (λ r. records_of r ≡ records.items) }
     ensures bad { IsErrOf result ReadFault.Bad → (n : ℕ) (props : PropMap) (nodes : List NodeOf)
         → records.items ≡ told.Revision n props ∷ map told.Node nodes → ⊥ }
 {
     let mut revision = None;
-    for record in records {
-        revision = Some(join(alloc, revision, record)?);
+    for next in records {
+        revision = Some(join(alloc, revision, next)?);
     }
     match revision {
         Some(revision) => Ok(revision),
@@ -160,27 +193,47 @@ pub fn read_revision(alloc: Global, bytes: &[u8]) -> Result<RevRecord, ReadFault
     }
 }
 
-// The identity and the properties that two records say.
-fn beginning_of(records: Vec<DumpRecord>) -> Option<(Uuid, Props)>
-    ensures read { IfSome result (λ p. records.items ≡ told.Identity p.0 ∷ told.Revision 0 p.1 ∷ []) }
-    ensures bad { IfNone result ((identity : List ℕ) (props : PropMap) → records.items ≡ told.Identity identity ∷ told.Revision 0 props ∷ [] → ⊥) }
+// The identity that a record says.
+fn identity_in(said: &DumpRecord) -> Option<Uuid>
+    ensures some { IfSome result (λ id. said.now ≡ told.Identity id) }
+    ensures none { IfNone result ((id : List ℕ) → said.now ≡ told.Identity id → ⊥) }
 {
-    let mut records = records;
-    let last = records.pop()?;
-    let first = records.pop()?;
-    if !records.is_empty() {
-        return None;
+    match said {
+        DumpRecord::Identity(identity) => Some(*identity),
+        _ => None,
     }
-    match (first, last) {
-        (DumpRecord::Identity(identity), DumpRecord::Revision(number, props)) => {
+}
+
+// The properties of revision 0 that a record says.
+fn zero_in(said: DumpRecord) -> Option<Props>
+    ensures some { IfSome result (λ p. said ≡ told.Revision 0 p) }
+    ensures none { IfNone result ((p : PropMap) → said ≡ told.Revision 0 p → ⊥) }
+{
+    match said {
+        DumpRecord::Revision(number, props) => {
             if number == RevNo::ZERO {
-                Some((identity, props))
+                Some(props)
             } else {
                 None
             }
         }
         _ => None,
     }
+}
+
+// The identity and the properties that two records say.
+fn beginning_of(records: Vec<DumpRecord>) -> Option<(Uuid, Props)>
+    ensures read { IfSome result (λ p. records.items ≡ told.Identity p.0 ∷ told.Revision 0 p.1 ∷ []) }
+    ensures bad { IfNone result ((identity : List ℕ) (props : PropMap) → records.items ≡ told.Identity identity ∷ told.Revision 0 props ∷ [] → ⊥) }
+{
+    let mut records = records;
+    if records.len() != 2 {
+        return None;
+    }
+    let identity = identity_in(&records[0])?;
+    let last = records.pop()?;
+    let props = zero_in(last)?;
+    Some((identity, props))
 }
 
 /// The identity and revision 0's properties that the first entry's bytes spell.

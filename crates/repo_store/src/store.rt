@@ -104,6 +104,7 @@ impl<D: Disk> RepoStore<D> {
         ensures stands { D.honest (disk_of self.now) → ¬ HasFailed self.now → (image : Image) → D.may_leave (disk_of self.now) image
             → ReopensTo (identity_of self.now) (revisions_of self.now) image }
     {
+        let _count = self.log.len();
         &self.repo
     }
 
@@ -264,8 +265,8 @@ impl<D: Disk> RepoStore<D> {
             → ReopensTo (identity_of self.old) (with_entry (revisions_of self.old) (entry_in staged)) image) }
         ensures any_moment { D.honest (disk_of self.old) → LeavesOnly D.clock D.left_since (disk_of self.old) (disk_of self.new)
             (IsBeforeOrAfter (identity_of self.old) (revisions_of self.old) (entry_in staged)) }
-        ensures either { D.honest (disk_of self.old) → OnErr result ((image : Image) → D.may_leave (disk_of self.new) image
-            → IsBeforeOrAfter (identity_of self.old) (revisions_of self.old) (entry_in staged) image) }
+        ensures either { D.honest (disk_of self.old) → IsErr result → (image : Image) → D.may_leave (disk_of self.new) image
+            → IsBeforeOrAfter (identity_of self.old) (revisions_of self.old) (entry_in staged) image }
         ensures device { IfErr result (λ e. (e ≡ refusal.Log log.DeviceFailed) × Rose (D.failures (disk_of self.old)) (D.failures (disk_of self.new))) }
         ensures working { HasFailed self.new ↔ IsErr result }
         ensures honest { D.honest (disk_of self.old) ↔ D.honest (disk_of self.new) }
