@@ -1,5 +1,5 @@
 -- What images reopen to.
-use Rattle.std.proofs.Common.{◌≡◌, ◌≤◌, ◌⊎◌, ℕ, List, [], ◌∷◌, ◌++◌, refl, sym, ◌∙◌, ap, subst, inl, inr}
+use Rattle.std.proofs.Common.{◌≡◌, ◌≤◌, ◌⊎◌, ℕ, List, [], ◌∷◌, ◌++◌, refl, sym, ◌∙◌, ap, subst, inl, inr, arith}
 use Rattle.std.proofs.Math.Logic.{∥∥₁_map}
 use Rattle.fleet_disk.specs.Image.{Image}
 use Rattle.fleet_disk.specs.Rules.{LeavesOnly}
@@ -42,6 +42,12 @@ after_reopens entries identity x bytes e image known spells takes new =
 -- what is ready is taken
 pub takes_of : (x : List Revision) (s : StagedEntry) → IsReady x s → HasSet s.entry → Takes x s.entry
 takes_of x s ready set = record { next = ready.next; set = set; accepted = ready.accepted }
+
+-- nothing was done
+pub unmoved : {D : Type 0} (clock : D → ℕ) (left_since : D → ℕ → Image → Type 0) (may_leave : D → Image → Type 0) (old new : D) (P : Image → Type 0)
+    → new ≡ old → ((c : Image) → left_since old (clock old) c → may_leave old c) → ((c : Image) → may_leave old c → P c) → LeavesOnly clock left_since old new P
+unmoved {D} clock left_since may_leave old new P same only f =
+    subst (λ (d : D). LeavesOnly clock left_since old d P) (sym same) (record { later = omega arith; each = λ c h. f c (only c h); before = λ t c le h. inl h })
 
 -- moments of which less is said
 pub leaves_map : {D : Type 0} (clock : D → ℕ) (left_since : D → ℕ → Image → Type 0) (old new : D) (P Q : Image → Type 0)

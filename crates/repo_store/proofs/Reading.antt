@@ -1,5 +1,5 @@
 -- Entries that are read.
-use Rattle.std.proofs.Common.{◌≡◌, ℕ, List, [], ◌∷◌, ◌++◌, map, drop, Option, None, Some, refl, sym, ◌∙◌, ap}
+use Rattle.std.proofs.Common.{◌≡◌, ℕ, List, [], ◌∷◌, ◌++◌, map, drop, Option, None, Some, refl, sym, ◌∙◌, ap, ap₂, subst}
 use Rattle.node_base.specs.Props.{PropMap}
 use Rattle.dump_text.specs.Streams.{Stream, Reads, Refuses, reading, records_of, fresh, version_line}
 use Rattle.dump_text.specs.declared.state.ReadState.{ReadState}
@@ -7,22 +7,36 @@ use Rattle.dump_text.specs.declared.record.NodeRecord.{NodeRecord}
 use Rattle.dump_text.specs.declared.record.RevRecord.{RevRecord}
 use Rattle.dump_text.specs.declared.record.DumpRecord.{DumpRecord}
 use Rattle.dump_text.specs.declared.record.DumpRecord.TheVariants.{Identity, Revision, Node}
-use Rattle.repo_store.specs.Readings.{behind, so_far}
+use Rattle.dump_text.specs.Laws.{DumpsAreRead}
+use Rattle.dump_text.specs.Canon.{told_kind}
+use Rattle.dump_text.specs.Written.{read_node}
+use Rattle.dump_text.specs.declared.form.Stage.TheVariants.{First}
+use Rattle.dump_load.specs.Records.{record_of}
+use Rattle.repo_core.specs.Staging.{number_in, props_in}
+use Rattle.repo_core.specs.declared.entry.Entry.{Entry}
+use Rattle.repo_core.specs.declared.entry.Entry.TheVariants.{Revised, Mapped}
+use Rattle.repo_store.specs.Journal.{Spells, records_in}
+use Rattle.repo_store.specs.Readings.{AreReadAs, behind, so_far}
 
 -- the version block alone
 pub version_read : reading (Reads [] fresh) (version_line ++ 10 ∷ 10 ∷ []) ≡ Reads [] behind
 version_read = refl
 
-state_of : Stream → ReadState
+abbrev state_of : Stream → ReadState
 state_of (Reads rs r) = r
 state_of (Refuses rs f) = fresh
 
--- what it leaves
-pub came_records : (rs : List DumpRecord) (r : ReadState) → reading (Reads [] fresh) (version_line ++ 10 ∷ 10 ∷ []) ≡ Reads rs r → rs ≡ []
-came_records rs r h = ap records_of (sym h ∙ version_read)
+pub version_read_of : (items : List DumpRecord) (start : ReadState) → items ≡ [] → start ≡ fresh → reading (Reads items start) (version_line ++ 10 ∷ 10 ∷ []) ≡ Reads [] behind
+version_read_of items start none new = ap₂ (λ (i : List DumpRecord) (s : ReadState). reading (Reads i s) (version_line ++ 10 ∷ 10 ∷ [])) none new ∙ version_read
 
-pub came_state : (rs : List DumpRecord) (r : ReadState) → reading (Reads [] fresh) (version_line ++ 10 ∷ 10 ∷ []) ≡ Reads rs r → r ≡ behind
-came_state rs r h = ap state_of (sym h ∙ version_read)
+-- what it leaves
+pub came_records : (items : List DumpRecord) (start : ReadState) → items ≡ [] → start ≡ fresh → (rs : List DumpRecord) (r : ReadState)
+    → reading (Reads items start) (version_line ++ 10 ∷ 10 ∷ []) ≡ Reads rs r → rs ≡ []
+came_records items start none new rs r h = ap records_of (sym h ∙ version_read_of items start none new)
+
+pub came_state : (items : List DumpRecord) (start : ReadState) → items ≡ [] → start ≡ fresh → (rs : List DumpRecord) (r : ReadState)
+    → reading (Reads items start) (version_line ++ 10 ∷ 10 ∷ []) ≡ Reads rs r → r ≡ behind
+came_state items start none new rs r h = ap state_of (sym h ∙ version_read_of items start none new)
 
 revision_among : (ns nodes : List NodeRecord) (number : ℕ) (props : PropMap) (rest : List DumpRecord) → map Node ns ++ Revision number props ∷ rest ≡ map Node nodes → ⊥
 revision_among [] [] number props rest h = cc
@@ -54,3 +68,33 @@ early_node node rest n ps nodes h = cc
 -- no revision has no record
 pub no_record : (n : ℕ) (ps : PropMap) (nodes : List NodeRecord) → [] ≡ Revision n ps ∷ map Node nodes → ⊥
 no_record n ps nodes h = cc
+
+-- from there on
+pub joined : (items : List DumpRecord) (start : ReadState) (bytes : List ℕ) → items ≡ [] → start ≡ behind → (rs : List DumpRecord) (r : ReadState)
+    → reading (Reads items start) bytes ≡ Reads rs r → reading (Reads [] behind) bytes ≡ Reads rs r
+joined items start bytes none new rs r h = ap₂ (λ (i : List DumpRecord) (s : ReadState). reading (Reads i s) bytes) (sym none) (sym new) ∙ h
+
+-- what is an entry is read as its records
+pub spelled_read : (law : DumpsAreRead) (bytes : List ℕ) (e : Entry) → Spells bytes e → AreReadAs bytes (records_in e)
+spelled_read law bytes e s = (_, law (version_line ++ 10 ∷ 10 ∷ bytes) (records_in e) (bytes, refl, s.readable First))
+
+-- bytes are read in one way
+pub one_read : (bytes : List ℕ) (rs others : List DumpRecord) → AreReadAs bytes rs → AreReadAs bytes others → rs ≡ others
+one_read bytes rs others a b = ap records_of (sym a.1 ∙ b.1)
+
+abbrev pub told_of : NodeRecord → NodeRecord
+told_of r = record r { kind = told_kind r.action r.kind }
+
+nodes_told : (ns : List NodeRecord) → map read_node ns ≡ map Node (map told_of ns)
+nodes_told [] = refl
+nodes_told (n ∷ ns) = ap (λ (l : List DumpRecord). Node (told_of n) ∷ l) (nodes_told ns)
+
+-- the nodes that an entry says
+abbrev pub nodes_in : Entry → List NodeRecord
+nodes_in (Revised n set props) = map told_of (map record_of set)
+nodes_in (Mapped n props) = []
+
+-- an entry's records are those of one revision
+pub one_revision : (e : Entry) → records_in e ≡ Revision (number_in e) (props_in e) ∷ map Node (nodes_in e)
+one_revision (Revised n set props) = ap (λ (l : List DumpRecord). Revision n props ∷ l) (nodes_told (map record_of set))
+one_revision (Mapped n props) = refl

@@ -1,7 +1,7 @@
 -- Entries that are written.
 use Rattle.std.proofs.lemmas.Bool.Decides.{nat_tests}
 use Rattle.std.specs.Option.{option_map_or}
-use Rattle.std.proofs.Common.{Result, Ok, Err, IfOk, OnOk, ◌≡◌, ◌≤◌, ◌&&◌, arith, length, nat_le, nat_lt, IfSome, ℕ, Bool, true, false, not, List, [], ◌∷◌, ◌++◌, map, Option, None, Some, refl, sym, ◌∙◌, ap, subst, rules}
+use Rattle.std.proofs.Common.{◌<◌, length-append, codes, Result, Ok, Err, IfOk, OnOk, ◌≡◌, ◌≤◌, ◌&&◌, arith, length, nat_le, nat_lt, IfSome, ℕ, Bool, true, false, not, List, [], ◌∷◌, ◌++◌, map, Option, None, Some, refl, sym, ◌∙◌, ap, subst, rules}
 use Rattle.std.specs.Prelude.{Vec}
 use Rattle.std.specs.declared.alloc.Global.{Global}
 use Rattle.std.specs.List.{list_all, flat_map}
@@ -18,8 +18,9 @@ use Rattle.dump_load.specs.Records.{record_of}
 use Rattle.dump_load.specs.declared.fault.ChangeFault.TheVariants.{BadHeader}
 use Rattle.repo_core.specs.declared.fault.RepoFault.TheVariants as refusal
 use Rattle.repo_store.specs.Forms.{has_form, has_size, form_fault}
-use Rattle.repo_store.specs.Journal.{IsBeginning, Spells, records_in}
-use Rattle.repo_core.specs.declared.entry.Entry.TheVariants.{Revised}
+use Rattle.repo_store.specs.Journal.{IsBeginning, Spells, records_in, spelling}
+use Rattle.repo_core.specs.declared.entry.Entry.{Entry}
+use Rattle.repo_core.specs.declared.entry.Entry.TheVariants.{Revised, Mapped}
 
 -- a head and revision 0's record are a first entry
 pub beginning_spelled : (law : DumpsGoOn) (identity : List ℕ) (props : PropMap) (bytes : List ℕ)
@@ -80,3 +81,14 @@ spelled_if (Ok v) n set props ps nodes same one h a b =
     let is = subst (λ (p : PropMap). v.items ≡ canon_entry n p ++ flat_map canon_node (map record_of set)) one (subst (λ (l : List NodeRecord). v.items ≡ canon_entry n ps ++ flat_map canon_node l) same a) in
     record { canonical = is; readable = subst (λ (l : List ℕ). AreRecords l (records_in (Revised n set props))) (sym is) all }
 spelled_if (Err e) n set props ps nodes same one h a b = tt
+
+some_of : (tail : List ℕ) → 0 < length (codes "Revision-number: " ++ tail)
+some_of tail = omega (arith, length-append (codes "Revision-number: ") tail)
+
+-- an entry isn't empty
+pub spelling_some : (e : Entry) → 0 < length (spelling e)
+spelling_some (Revised n set props) = some_of _
+spelling_some (Mapped n props) = some_of _
+
+pub spelled_some : (bytes : List ℕ) (e : Entry) → bytes ≡ spelling e → 0 < length bytes
+spelled_some bytes e is = omega (arith, spelling_some e, ap length is)

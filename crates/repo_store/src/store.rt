@@ -234,6 +234,7 @@ impl<D: Disk> RepoStore<D> {
     }
 
     // The entry of a change, and the journal's room for it.
+    #[tactic(auto, using(crate::proofs::Spelling::spelled_some))]
     fn stage(&mut self, alloc: Global, change: repo_core::Staged) -> Result<Staged, StoreFault>
         requires working { ¬ HasFailed self.old }
         requires ready { IsReady (revisions_of self.old) change }
@@ -309,6 +310,7 @@ impl<D: Disk> RepoStore<D> {
         ensures honest { D.honest (disk_of self.old) ↔ D.honest (disk_of self.new) }
         ensures later { D.failures (disk_of self.old) ≤ D.failures (disk_of self.new) }
     {
+        let _repo = self.repo();
         let staged = self.stage_commit(alloc, base, set, props, moment)?;
         let receipt = self.install(staged)?;
         let number = self.repo.head();
@@ -345,8 +347,10 @@ impl<D: Disk> RepoStore<D> {
         ensures honest { D.honest (disk_of self.old) ↔ D.honest (disk_of self.new) }
         ensures later { D.failures (disk_of self.old) ≤ D.failures (disk_of self.new) }
     {
+        let _repo = self.repo();
         let staged = self.stage_change_prop(alloc, number, name, value, expected)?;
-        self.install(staged)
+        let receipt = self.install(staged)?;
+        Ok(receipt)
     }
 
     /// Puts all properties of a revision. `stage_put_props` and `install` have the refusals.
@@ -376,8 +380,10 @@ impl<D: Disk> RepoStore<D> {
         ensures honest { D.honest (disk_of self.old) ↔ D.honest (disk_of self.new) }
         ensures later { D.failures (disk_of self.old) ≤ D.failures (disk_of self.new) }
     {
+        let _repo = self.repo();
         let staged = self.stage_put_props(alloc, number, props)?;
-        self.install(staged)
+        let receipt = self.install(staged)?;
+        Ok(receipt)
     }
 }
 
