@@ -1,5 +1,6 @@
 -- Entries that are read.
-use Rattle.std.proofs.Common.{◌≡◌, ℕ, List, [], ◌∷◌, ◌++◌, map, drop, Option, None, Some, refl, sym, ◌∙◌, ap, ap₂, subst}
+use Rattle.std.proofs.Common.{◌≡◌, ℕ, List, [], ◌∷◌, ◌++◌, map, drop, Option, None, Some, refl, sym, ◌∙◌, ap, ap₂, subst, codes}
+use Rattle.std.proofs.lemmas.List.{append-nil}
 use Rattle.node_base.specs.Props.{PropMap}
 use Rattle.dump_text.specs.Streams.{Stream, Reads, Refuses, reading, records_of, fresh, version_line}
 use Rattle.dump_text.specs.declared.state.ReadState.{ReadState}
@@ -8,15 +9,20 @@ use Rattle.dump_text.specs.declared.record.RevRecord.{RevRecord}
 use Rattle.dump_text.specs.declared.record.DumpRecord.{DumpRecord}
 use Rattle.dump_text.specs.declared.record.DumpRecord.TheVariants.{Identity, Revision, Node}
 use Rattle.dump_text.specs.Laws.{DumpsAreRead}
-use Rattle.dump_text.specs.Canon.{told_kind}
+use Rattle.node_base.specs.PathText.{path_text}
+use Rattle.node_base.specs.declared.node.Action.{Action}
+use Rattle.node_base.specs.declared.node.Action.TheVariants.{Modify, Add, Delete, Replace}
+use Rattle.node_base.specs.declared.node.NodeKind.{NodeKind}
+use Rattle.std.specs.List.{flat_map}
+use Rattle.dump_text.specs.Canon.{told_kind, canon_entry, canon_node, canon_revision, header_line, kind_line, action_word, source_lines, block_line, text_lines, content_line, content_of}
 use Rattle.dump_text.specs.Written.{read_node}
 use Rattle.dump_text.specs.declared.form.Stage.TheVariants.{First}
 use Rattle.dump_load.specs.Records.{record_of}
 use Rattle.repo_core.specs.Staging.{number_in, props_in}
 use Rattle.repo_core.specs.declared.entry.Entry.{Entry}
 use Rattle.repo_core.specs.declared.entry.Entry.TheVariants.{Revised, Mapped}
-use Rattle.repo_store.specs.Journal.{Spells, records_in}
-use Rattle.repo_store.specs.Readings.{AreReadAs, behind, so_far}
+use Rattle.repo_store.specs.Journal.{Spells, records_in, spelling}
+use Rattle.repo_store.specs.Readings.{records_of as records_of_revision, AreReadAs, behind, so_far}
 
 -- the version block alone
 pub version_read : reading (Reads [] fresh) (version_line ++ 10 ∷ 10 ∷ []) ≡ Reads [] behind
@@ -98,3 +104,37 @@ nodes_in (Mapped n props) = []
 pub one_revision : (e : Entry) → records_in e ≡ Revision (number_in e) (props_in e) ∷ map Node (nodes_in e)
 one_revision (Revised n set props) = ap (λ (l : List DumpRecord). Revision n props ∷ l) (nodes_told (map record_of set))
 one_revision (Mapped n props) = refl
+
+twice : (a : Action) (k : Option NodeKind) → told_kind a (told_kind a k) ≡ told_kind a k
+twice Modify k = refl
+twice Add k = refl
+twice Delete k = refl
+twice Replace k = refl
+
+canon_told : (r : NodeRecord) → canon_node (told_of r) ≡ canon_node r
+canon_told r =
+    ap (λ (k : Option NodeKind). header_line (codes "Node-path: ") (path_text r.path) ++ (kind_line k ++ (header_line (codes "Node-action: ") (action_word r.action) ++ (source_lines r.source ++ (block_line r.props ++ (text_lines r.text ++ (content_line r.props r.text ++ content_of r.props r.text)))))))
+    (twice r.action r.kind)
+
+canon_nodes : (ns : List NodeRecord) → flat_map canon_node (map told_of ns) ≡ flat_map canon_node ns
+canon_nodes [] = refl
+canon_nodes (n ∷ ns) = ap₂ (λ (a b : List ℕ). a ++ b) (canon_told n) (canon_nodes ns)
+
+-- an entry's spelling is that of its one revision
+pub one_spelling : (e : Entry) → spelling e ≡ canon_entry (number_in e) (props_in e) ++ flat_map canon_node (nodes_in e)
+one_spelling (Revised n set props) = ap (λ (l : List ℕ). canon_entry n props ++ l) (sym (canon_nodes (map record_of set)))
+one_spelling (Mapped n props) = sym (append-nil (canon_entry n props))
+
+number_told : DumpRecord → ℕ
+number_told (Revision n props) = n
+number_told (Identity id) = 0
+number_told (Node r) = 0
+
+-- a revision that is read from an entry is the entry's
+pub read_back : (law : DumpsAreRead) (bytes : List ℕ) (e : Entry) (r : RevRecord) (rs : List DumpRecord) → Spells bytes e → AreReadAs bytes rs → records_of_revision r ≡ rs
+    → records_of_revision r ≡ Revision (number_in e) (props_in e) ∷ map Node (nodes_in e)
+read_back law bytes e r rs spells read same = same ∙ one_read bytes rs (records_in e) read (spelled_read law bytes e spells) ∙ one_revision e
+
+-- no refusal where an entry is read
+pub never_refused : (law : DumpsAreRead) (bytes : List ℕ) (e : Entry) (rs : List DumpRecord) → Spells bytes e → AreReadAs bytes rs → rs ≡ Revision (number_in e) (props_in e) ∷ map Node (nodes_in e)
+never_refused law bytes e rs spells read = one_read bytes rs (records_in e) read (spelled_read law bytes e spells) ∙ one_revision e
