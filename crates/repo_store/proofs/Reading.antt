@@ -15,14 +15,14 @@ use Rattle.node_base.specs.declared.node.Action.TheVariants.{Modify, Add, Delete
 use Rattle.node_base.specs.declared.node.NodeKind.{NodeKind}
 use Rattle.std.specs.List.{flat_map}
 use Rattle.dump_text.specs.Canon.{told_kind, canon_entry, canon_node, canon_revision, header_line, kind_line, action_word, source_lines, block_line, text_lines, content_line, content_of}
-use Rattle.dump_text.specs.Written.{read_node}
+use Rattle.dump_text.specs.Written.{AreFormed, AreRecords, read_node, read_revision}
 use Rattle.dump_text.specs.declared.form.Stage.TheVariants.{First}
 use Rattle.dump_load.specs.Records.{record_of}
 use Rattle.repo_core.specs.Staging.{number_in, props_in}
 use Rattle.repo_core.specs.declared.entry.Entry.{Entry}
 use Rattle.repo_core.specs.declared.entry.Entry.TheVariants.{Revised, Mapped}
-use Rattle.repo_store.specs.Journal.{Spells, records_in, spelling}
-use Rattle.repo_store.specs.Readings.{records_of as records_of_revision, AreReadAs, behind, so_far}
+use Rattle.repo_store.specs.Journal.{IsBeginning, Spells, records_in, spelling}
+use Rattle.repo_store.specs.Readings.{records_of as records_of_revision, AreReadAs, IsRevisionOf, behind, so_far}
 
 -- the version block alone
 pub version_read : reading (Reads [] fresh) (version_line ++ 10 ∷ 10 ∷ []) ≡ Reads [] behind
@@ -138,3 +138,16 @@ read_back law bytes e r rs spells read same = same ∙ one_read bytes rs (record
 -- no refusal where an entry is read
 pub never_refused : (law : DumpsAreRead) (bytes : List ℕ) (e : Entry) (rs : List DumpRecord) → Spells bytes e → AreReadAs bytes rs → rs ≡ Revision (number_in e) (props_in e) ∷ map Node (nodes_in e)
 never_refused law bytes e rs spells read = one_read bytes rs (records_in e) read (spelled_read law bytes e spells) ∙ one_revision e
+
+-- what is read and written again is a revision
+pub is_revision : (bytes : List ℕ) (r : RevRecord) (rs : List DumpRecord) → canon_revision r ≡ bytes → AreReadAs bytes rs → records_of_revision r ≡ rs
+    → (AreFormed r.nodes.items → AreRecords (canon_revision r) (read_revision r)) → IsRevisionOf bytes r
+is_revision bytes r rs canonical read same readable = record {
+  canonical = sym canonical;
+  read = subst (λ (l : List DumpRecord). AreReadAs bytes l) (sym same) read;
+  readable = λ formed. subst (λ (l : List ℕ). AreRecords l (read_revision r)) canonical (readable formed);
+}
+
+-- and a first entry
+pub is_beginning : (bytes written identity : List ℕ) (props : PropMap) → IsBeginning written identity props → written ≡ bytes → IsBeginning bytes identity props
+is_beginning bytes written identity props begins same = subst (λ (l : List ℕ). IsBeginning l identity props) same begins

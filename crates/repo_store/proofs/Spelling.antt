@@ -92,3 +92,11 @@ spelling_some (Mapped n props) = some_of _
 
 pub spelled_some : (bytes : List ℕ) (e : Entry) → bytes ≡ spelling e → 0 < length bytes
 spelled_some bytes e is = omega (arith, spelling_some e, ap length is)
+
+-- it has 4,096 changes at most
+pub few_changes : (set : List Change) → form_fault set ≡ None → length set ≤ 4096
+few_changes set h =
+    let third = fault_if (not (list_all has_size set)) refusal.TooLong ∷ [] in
+    let second = fault_if (not (list_all has_form set)) (refusal.Change BadHeader) ∷ third in
+    let a = none_first (nat_lt 4096 (length set)) refusal.TooLong second h in
+    grind (arith, nat_tests, a.0)

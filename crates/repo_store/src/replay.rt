@@ -54,9 +54,9 @@ fn set_of(alloc: Global, nodes: Vec<NodeRecord>) -> Result<ChangeSet, ReadFault>
 }
 
 // The repository after its first entry.
+#[tactic(auto, using(crate::proofs::Replaying::begun_by))]
 fn begin(alloc: Global, bytes: &[u8]) -> Result<Repo, ReadFault>
     ensures begun { IfOk result (λ r. (identity : List ℕ) × (props : PropMap) × IsBeginning bytes.now identity props × (r ≡ with_entry_in (fresh identity) (Mapped 0 props))) }
-    ensures bad { IsErrOf result ReadFault.Bad → (identity : List ℕ) (props : PropMap) → IsBeginning bytes.now identity props → ⊥ }
 {
     let (identity, props) = read_beginning(alloc, bytes)?;
     let mut repo = Repo::new(alloc, identity)?;
@@ -91,9 +91,9 @@ fn take_set(alloc: Global, repo: &mut Repo, set: ChangeSet, props: Props) -> Res
 }
 
 // One entry more.
+#[tactic(auto, using(crate::proofs::Replaying::taken_map, crate::proofs::Replaying::taken_set))]
 fn take_entry(alloc: Global, repo: &mut Repo, bytes: &[u8]) -> Result<(), ReadFault>
     ensures taken { OnOk result ((e : EntryOf) × Spells bytes.now e × Takes repo.old.revisions e × (repo.new ≡ with_entry_in repo.old e)) }
-    ensures bad { IsErrOf result ReadFault.Bad → (e : EntryOf) → Spells bytes.now e → Takes repo.old.revisions e → ⊥ }
 {
     let RevRecord {
         number,
@@ -135,7 +135,6 @@ fn read_next<D: Disk>(
     requires there { entry < length (ends_of log.old) }
     requires working { ¬ HasFailed log.old }
     ensures taken { D.honest (disk_of log.old) → OnOk result ((bytes : List ℕ) × (e : EntryOf) × (slice_get (entries_of log.old) entry ≡ Some bytes) × Spells bytes e × Takes repo.old.revisions e × (repo.new ≡ with_entry_in repo.old e)) }
-    ensures damaged { D.honest (disk_of log.old) → (k : ℕ) → IsErrOf result (log_fault.Damaged k) → (k ≡ entry) × ((bytes : List ℕ) (e : EntryOf) → slice_get (entries_of log.old) entry ≡ Some bytes → Spells bytes e → Takes repo.old.revisions e → ⊥) }
     ensures same { D.honest (disk_of log.old) → entries_of log.new ≡ entries_of log.old }
     ensures ends { ends_of log.new ≡ ends_of log.old }
     ensures inside { D.honest (disk_of log.old) → Within (D.may_leave (disk_of log.new)) (D.may_leave (disk_of log.old)) }
@@ -158,7 +157,6 @@ fn read_first<D: Disk>(alloc: Global, log: &mut GateLog<D>) -> Result<Repo, LogF
     requires there { 0 < length (ends_of log.old) }
     requires working { ¬ HasFailed log.old }
     ensures begun { D.honest (disk_of log.old) → IfOk result (λ r. (bytes : List ℕ) × (props : PropMap) × (slice_get (entries_of log.old) 0 ≡ Some bytes) × IsBeginning bytes r.identity props × (r ≡ with_entry_in (fresh r.identity) (Mapped 0 props))) }
-    ensures damaged { D.honest (disk_of log.old) → (k : ℕ) → IsErrOf result (log_fault.Damaged k) → (k ≡ 0) × ((bytes : List ℕ) (identity : List ℕ) (props : PropMap) → slice_get (entries_of log.old) 0 ≡ Some bytes → IsBeginning bytes identity props → ⊥) }
     ensures same { D.honest (disk_of log.old) → entries_of log.new ≡ entries_of log.old }
     ensures ends { ends_of log.new ≡ ends_of log.old }
     ensures inside { D.honest (disk_of log.old) → Within (D.may_leave (disk_of log.new)) (D.may_leave (disk_of log.old)) }
@@ -181,7 +179,6 @@ pub fn replay<D: Disk>(alloc: Global, log: &mut GateLog<D>) -> Result<Repo, LogF
     requires there { 0 < length (ends_of log.old) }
     requires working { ¬ HasFailed log.old }
     ensures stands { D.honest (disk_of log.old) → IfOk result (λ r. StandsFor (entries_of log.old) r.identity r.revisions) }
-    ensures damaged { D.honest (disk_of log.old) → (k : ℕ) → IsErrOf result (log_fault.Damaged k) → IsFirstBad k (entries_of log.old) }
     ensures same { D.honest (disk_of log.old) → entries_of log.new ≡ entries_of log.old }
     ensures ends { ends_of log.new ≡ ends_of log.old }
     ensures inside { D.honest (disk_of log.old) → Within (D.may_leave (disk_of log.new)) (D.may_leave (disk_of log.old)) }

@@ -68,14 +68,9 @@ impl<D: Disk> RepoStore<D> {
     /// journal's format or isn't an entry that the repository before it takes, DeviceFailed (31), OutOfMemory (70); a
     /// refusal hands the disk back.
     pub fn open(alloc: Global, disk: D) -> Result<RepoStore<D>, (StoreFault, D)>
-        ensures found { D.honest disk → (identity : List ℕ) (x : List Revision) → ReopensTo identity x (D.reads disk)
-            → IfOk result (λ store. (identity_of store ≡ identity) × (revisions_of store ≡ x)) }
-        ensures refused { D.honest disk → (identity : List ℕ) (x : List Revision) → ReopensTo identity x (D.reads disk)
-            → IfErr result (λ e. (e.0 ≡ refusal.Log log.DeviceFailed) ⊎ (e.0 ≡ refusal.Log log.OutOfMemory)) }
         ensures stands { D.honest disk → IfOk result (λ store. ReopensTo (identity_of store) (revisions_of store) (D.reads disk)) }
         ensures working { IfOk result (λ store. ¬ HasFailed store) }
         ensures durable { D.honest disk → IfOk result (λ store. (image : Image) → D.may_leave (disk_of store) image → ReopensTo (identity_of store) (revisions_of store) image) }
-        ensures damaged { D.honest disk → (entry : ℕ) → IfErr result (λ e. e.0 ≡ refusal.Log (log.Damaged entry) → IsDamaged entry (D.reads disk)) }
         ensures missing { D.honest disk → IfErr result (λ e. e.0 ≡ refusal.Log log.NoRepository → HasNoEntry (D.reads disk)) }
         ensures device { IfErr result (λ e. e.0 ≡ refusal.Log log.DeviceFailed → Rose (D.failures disk) (D.failures e.1)) }
         ensures no_other { IfErr result (λ e. IsOpenFault e.0) }
