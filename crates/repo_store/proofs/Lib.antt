@@ -1,3 +1,4 @@
+pub mod Going
 pub mod Images
 pub mod Reading
 pub mod Replaying
