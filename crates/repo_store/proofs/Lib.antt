@@ -1,5 +1,6 @@
 pub mod Going
 pub mod Images
+pub mod Opening
 pub mod Reading
 pub mod Replaying
 pub mod Spelling
