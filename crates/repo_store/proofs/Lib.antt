@@ -1,3 +1,5 @@
+pub mod Beginnings
+pub mod Exports
 pub mod Images
 pub mod Reading
 pub mod Replaying
