@@ -14,7 +14,7 @@ use Rattle.repo_core.specs.Repository.{Repository, fresh}
 use Rattle.repo_store.specs.Journal.{IsBeginning, StandsFor}
 
 head_size : (id : List ℕ) → length (canon_head (Some id)) ≤ 200
-head_size id = omega (arith, length-append (hyphenated_text lower id) (10 ∷ 10 ∷ []), by_index_length 36 (λ k. 0), id_size)
+head_size id = omega (arith, length-append (hyphenated_text lower id) (10 ∷ 10 ∷ []), id_size)
   where
     id_size : length (hyphenated_text lower id) ≡ 36
     id_size = by_index_length 36 _
