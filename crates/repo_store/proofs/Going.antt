@@ -10,7 +10,7 @@ use Rattle.repo_core.specs.Repository.{Repository, Revision, fresh}
 use Rattle.repo_core.specs.Entries.{with_entry_in}
 use Rattle.repo_core.specs.declared.entry.Entry.{Entry}
 use Rattle.repo_core.specs.declared.entry.Entry.TheVariants.{Mapped}
-use Rattle.repo_store.specs.Journal.{IsBeginning, Spells, Takes, StandsFor}
+use Rattle.repo_store.specs.Journal.{IsBeginning, Spells, Takes, StandsFor, IsReached}
 use Rattle.repo_store.proofs.Images.{stands_more}
 
 -- a disk is looked at
@@ -60,3 +60,13 @@ pub next_in : (there entries : List (List ℕ)) (i : ℕ) (old new : Repository)
     → (bytes : List ℕ) × (e : Entry) × (slice_get there i ≡ Some bytes) × Spells bytes e × Takes old.revisions e × (new ≡ with_entry_in old e)
     → (bytes : List ℕ) × (e : Entry) × (slice_get entries i ≡ Some bytes) × Spells bytes e × Takes old.revisions e × (new ≡ with_entry_in old e)
 next_in there entries i old new same (bytes, e, at, spells, takes, is) = (bytes, e, subst (λ (l : List (List ℕ)). slice_get l i ≡ Some bytes) same at, spells, takes, is)
+
+-- the first entry is reached
+pub reached_first : (entries : List (List ℕ)) (k : ℕ) → k ≡ 0 → 0 < length entries → IsReached k entries
+reached_first entries k is some = record { there = omega (arith, is, some); before = λ more. absurd (omega (arith, is, more)) }
+
+-- so is a later one
+pub reached_next : (entries : List (List ℕ)) (i k : ℕ) (r : Repository) → k ≡ i → i < length entries → StandsFor (take i entries) r.identity r.revisions → IsReached k entries
+reached_next entries i k r is there stands =
+    let found : (identity : List ℕ) × (x : List Revision) × StandsFor (take k entries) identity x = (r.identity, r.revisions, subst (λ (n : ℕ). StandsFor (take n entries) r.identity r.revisions) (sym is) stands) in
+    record { there = omega (arith, is, there); before = λ more. ∣ found ∣₁ }

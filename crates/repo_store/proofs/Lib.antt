@@ -1,3 +1,5 @@
+pub mod Beginnings
+pub mod Exports
 pub mod Going
 pub mod Images
 pub mod Opening

@@ -14,7 +14,7 @@ ghost use Rattle.repo_core.specs.declared.entry.Entry.{Entry as EntryOf};
 ghost use Rattle.repo_core.specs.declared.entry.Entry.TheVariants.{Revised, Mapped};
 ghost use Rattle.repo_store.specs.Forms.{form_fault};
 ghost use Rattle.repo_store.specs.Refusals.{IsReplayFault};
-ghost use Rattle.repo_store.specs.Journal.{IsBeginning, Spells, Takes, StandsFor, IsFirstBad};
+ghost use Rattle.repo_store.specs.Journal.{IsBeginning, Spells, Takes, StandsFor, IsReached};
 
 use crate::form::judge_form;
 use crate::read::{ReadFault, read_beginning, read_revision};
@@ -137,6 +137,7 @@ fn read_next<D: Disk>(
     requires there { entry < length (ends_of log.old) }
     requires working { ¬ HasFailed log.old }
     ensures taken { D.honest (disk_of log.old) → OnOk result ((bytes : List ℕ) × (e : EntryOf) × (slice_get (entries_of log.old) entry ≡ Some bytes) × Spells bytes e × Takes repo.old.revisions e × (repo.new ≡ with_entry_in repo.old e)) }
+    ensures damaged { D.honest (disk_of log.old) → (k : ℕ) → IsErrOf result (log_fault.Damaged k) → k ≡ entry }
     ensures same { D.honest (disk_of log.old) → entries_of log.new ≡ entries_of log.old }
     ensures ends { ends_of log.new ≡ ends_of log.old }
     ensures inside { D.honest (disk_of log.old) → Within (D.may_leave (disk_of log.new)) (D.may_leave (disk_of log.old)) }
@@ -159,6 +160,7 @@ fn read_first<D: Disk>(alloc: Global, log: &mut GateLog<D>) -> Result<Repo, LogF
     requires there { 0 < length (ends_of log.old) }
     requires working { ¬ HasFailed log.old }
     ensures begun { D.honest (disk_of log.old) → IfOk result (λ r. (bytes : List ℕ) × (props : PropMap) × (slice_get (entries_of log.old) 0 ≡ Some bytes) × IsBeginning bytes r.identity props × (r ≡ with_entry_in (fresh r.identity) (Mapped 0 props))) }
+    ensures damaged { D.honest (disk_of log.old) → (k : ℕ) → IsErrOf result (log_fault.Damaged k) → k ≡ 0 }
     ensures same { D.honest (disk_of log.old) → entries_of log.new ≡ entries_of log.old }
     ensures ends { ends_of log.new ≡ ends_of log.old }
     ensures inside { D.honest (disk_of log.old) → Within (D.may_leave (disk_of log.new)) (D.may_leave (disk_of log.old)) }
@@ -181,6 +183,7 @@ pub fn replay<D: Disk>(alloc: Global, log: &mut GateLog<D>) -> Result<Repo, LogF
     requires there { 0 < length (ends_of log.old) }
     requires working { ¬ HasFailed log.old }
     ensures stands { D.honest (disk_of log.old) → IfOk result (λ r. StandsFor (entries_of log.old) r.identity r.revisions) }
+    ensures damaged { D.honest (disk_of log.old) → (k : ℕ) → IsErrOf result (log_fault.Damaged k) → IsReached k (entries_of log.old) }
     ensures same { D.honest (disk_of log.old) → entries_of log.new ≡ entries_of log.old }
     ensures ends { ends_of log.new ≡ ends_of log.old }
     ensures inside { D.honest (disk_of log.old) → Within (D.may_leave (disk_of log.new)) (D.may_leave (disk_of log.old)) }

@@ -15,7 +15,7 @@ ghost use Rattle.repo_core.specs.Entries.{with_entry, with_entry_in};
 ghost use Rattle.repo_core.specs.Staging.{IsReady};
 ghost use Rattle.repo_core.specs.Refusals.{commit_fault, change_fault, by_repository, with_value, IsDue};
 ghost use Rattle.repo_store.specs.Forms.{form_fault, HasForm};
-ghost use Rattle.repo_store.specs.Journal.{spelling, beginning_of, HasSet, StandsFor, ReopensTo, IsBeforeOrAfter, IsDamaged, IsExport, IsBeginning, ReopensAlike};
+ghost use Rattle.repo_store.specs.Journal.{spelling, beginning_of, HasSet, StandsFor, ReopensTo, IsBeforeOrAfter, IsStopped, IsExport, IsBeginning, ReopensAlike};
 ghost use Rattle.repo_store.specs.Refusals.{IsStageFault, IsStoreFault, IsCreateFault, IsOpenFault};
 ghost use Rattle.repo_store.specs.declared.fault.StoreFault.TheVariants as refusal;
 ghost use Rattle.gate_log.specs.declared.log.Receipt.{Receipt as ReceiptOf};
@@ -49,7 +49,19 @@ impl<D: Disk> RepoStore<D> {
     /// Begins a repository of revision 0 alone, without properties, on a disk of two empty files. ThereAlready (35) where
     /// a file isn't empty, DeviceFailed (31), OutOfMemory (70); a refusal hands the disk back. What a stop leaves before
     /// Ok isn't said: an opening then refuses, or finds an empty repository.
-    pub fn create(alloc: Global, disk: D, identity: Uuid) -> Result<RepoStore<D>, (StoreFault, D)> {
+    pub fn create(alloc: Global, disk: D, identity: Uuid) -> Result<RepoStore<D>, (StoreFault, D)>
+        ensures made { IfOk result (λ store. repository_of store ≡ fresh identity) }
+        ensures working { IfOk result (λ store. ¬ HasFailed store) }
+        ensures durable { D.honest disk → IfOk result (λ store. (image : Image) → D.may_leave (disk_of store) image → ReopensTo identity (fresh identity).revisions image) }
+        ensures empty { D.honest disk → OnOk result (D.reads disk ≡ no_bytes) }
+        ensures there { D.honest disk → IfErr result (λ e. e.0 ≡ refusal.Log log.ThereAlready → D.reads disk ≢ no_bytes) }
+        ensures device { IfErr result (λ e. e.0 ≡ refusal.Log log.DeviceFailed → Rose (D.failures disk) (D.failures e.1)) }
+        ensures no_other { IfErr result (λ e. IsCreateFault e.0) }
+        ensures honest { IfOk result (λ store. D.honest disk ↔ D.honest (disk_of store)) }
+        ensures honest_err { IfErr result (λ e. D.honest disk ↔ D.honest e.1) }
+        ensures later { IfOk result (λ store. D.failures disk ≤ D.failures (disk_of store)) }
+        ensures later_err { IfErr result (λ e. D.failures disk ≤ D.failures e.1) }
+    {
         let (repo, bytes) = match prepare(alloc, identity) {
             Ok(prepared) => prepared,
             Err(_) => return Err((StoreFault::Log(LogFault::OutOfMemory), disk)),
@@ -71,6 +83,7 @@ impl<D: Disk> RepoStore<D> {
         ensures stands { D.honest disk → IfOk result (λ store. ReopensTo (identity_of store) (revisions_of store) (D.reads disk)) }
         ensures working { IfOk result (λ store. ¬ HasFailed store) }
         ensures durable { D.honest disk → IfOk result (λ store. (image : Image) → D.may_leave (disk_of store) image → ReopensTo (identity_of store) (revisions_of store) image) }
+        ensures damaged { D.honest disk → (entry : ℕ) → IfErr result (λ e. e.0 ≡ refusal.Log (log.Damaged entry) → IsStopped entry (D.reads disk)) }
         ensures missing { D.honest disk → IfErr result (λ e. e.0 ≡ refusal.Log log.NoRepository → HasNoEntry (D.reads disk)) }
         ensures device { IfErr result (λ e. e.0 ≡ refusal.Log log.DeviceFailed → Rose (D.failures disk) (D.failures e.1)) }
         ensures no_other { IfErr result (λ e. IsOpenFault e.0) }
@@ -124,7 +137,11 @@ impl<D: Disk> RepoStore<D> {
         ensures canonical { IfOk result (λ bytes. IsExport (repository_of self.now) number bytes.items) }
         ensures refused { IfErr result (λ e. ((e ≡ refusal.Repo core.NoSuchRevision) × (length (revisions_of self.now) ≤ number)) ⊎ (e ≡ refusal.Log log.OutOfMemory)) }
     {
-        let (Some(set), Some(props)) = (self.repo.set(number), self.repo.props(number)) else {
+        self.repo.is_repository();
+        let Some(props) = self.repo.props(number) else {
+            return Err(StoreFault::Repo(RepoFault::NoSuchRevision));
+        };
+        let Some(set) = self.repo.set(number) else {
             return Err(StoreFault::Repo(RepoFault::NoSuchRevision));
         };
         let bytes = revision_bytes(alloc, number, set, props)?;
@@ -386,6 +403,7 @@ impl<D: Disk> RepoStore<D> {
 fn prepare(alloc: Global, identity: Uuid) -> Result<(Repo, Vec<u8>), AllocError>
     ensures repository { IfOk result (λ p. p.0 ≡ fresh identity) }
     ensures bytes { IfOk result (λ p. IsBeginning p.1.items identity finite.empty) }
+    ensures size { IfOk result (λ p. (0 < length p.1.items) × (length p.1.items ≤ 2 ^ 56)) }
 {
     let repo = Repo::new(alloc, identity)?;
     let bytes = beginning(alloc, &identity, &Props::empty())?;

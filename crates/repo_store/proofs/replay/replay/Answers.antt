@@ -1,6 +1,7 @@
 use Rattle.std.proofs.Common.{◌≡◌, ◌∙◌, ap, length, ℕ, List, Some, slice_get, arith, rules}
 use Rattle.gate_log.specs.Log.{disk_of, ends_of, entries_of}
-use Rattle.repo_store.proofs.Going.{goes_on, rose_on, first_stands, next_stands, next_in}
+use Rattle.gate_log.proofs.EndLemmas.{length_parts}
+use Rattle.repo_store.proofs.Going.{goes_on, rose_on, first_stands, next_stands, next_in, reached_first, reached_next}
 use Rattle.repo_store.proofs.replay.replay.Goals as goal
 
 pub loop-entry-init : goal.loop-entry-init
@@ -30,3 +31,14 @@ loop-entry-preserved g c =
       goes = goes_on g.D.Disk.honest g.D.Disk.may_leave g.D.Disk.clock g.D.Disk.left_since g.D.Disk.failures (disk_of c.args.log.now) (disk_of c.loop-entry.log) (disk_of c.read_next.new.log) kept.goes
           (record { both_ways = c.read_next.ensures.honest; inside = c.read_next.ensures.inside; moments = c.read_next.ensures.any_moment; later = c.read_next.ensures.later });
     }
+
+pub returns-in_err-repo-clause-damaged : goal.returns-in_err-repo-clause-damaged
+returns-in_err-repo-clause-damaged g c h k is =
+    let long = length_parts 0 (ends_of c.args.log.now) (g.D.Disk.reads (disk_of c.args.log.now)).journal in
+    reached_first (entries_of c.args.log.now) k (c.read_first.ensures.damaged h k (search rules)) (omega (arith, c.requires.there, long))
+
+pub returns-in_err-read_next-clause-damaged : goal.returns-in_err-read_next-clause-damaged
+returns-in_err-read_next-clause-damaged g c h k is =
+    let kept = c.loop-entry.invariant in
+    let long = length_parts 0 (ends_of c.args.log.now) (g.D.Disk.reads (disk_of c.args.log.now)).journal in
+    reached_next (entries_of c.args.log.now) c.loop-entry.entry k c.loop-entry.repo (c.read_next.ensures.damaged (kept.goes.both_ways.0 h) k (search rules)) (omega (arith, c.loop-entry-test.true, kept.few, long)) (kept.stands h)
