@@ -1,5 +1,5 @@
 -- Entries that are taken one after another.
-use Rattle.std.proofs.Common.{◌≡◌, ◌<◌, ◌≤◌, ℕ, List, [], ◌∷◌, ◌++◌, map, length, nat_lt, Bool, false, Option, None, Some, refl, sym, ◌∙◌, ap, ap₂, subst, arith}
+use Rattle.std.proofs.Common.{Result, Ok, Err, OnOk, slice_get, ◌≡◌, ◌<◌, ◌≤◌, ℕ, List, [], ◌∷◌, ◌++◌, map, length, nat_lt, Bool, false, Option, None, Some, refl, sym, ◌∙◌, ap, ap₂, subst, arith}
 use Rattle.std.proofs.lemmas.Bool.Decides.{nat_tests}
 use Rattle.std.proofs.lemmas.List.{append-nil}
 use Rattle.std.specs.List.{flat_map}
@@ -67,3 +67,33 @@ taken_set bytes r set old new is same normal form next accepted then =
     let spells : Spells bytes (Revised r.number set r.props) = record { canonical = canonical; readable = readable } in
     let spelled = subst (λ (n : ℕ). Spells bytes (Revised n set r.props)) next spells in
     (Revised (length old.revisions) set r.props, spelled, record { next = refl; set = (normal, few_changes set form); accepted = accepted }, then)
+
+-- bytes that bring one repository to the next
+abbrev pub IsTaken : List ℕ → Repository → Repository → Type 0
+IsTaken bytes old new = (e : Entry) × Spells bytes e × Takes old.revisions e × (new ≡ with_entry_in old e)
+
+pub map_if : {A E : Type 0} (res : Result A E) (bytes : List ℕ) (r : RevRecord) (old new : Repository) → IsRevisionOf bytes r → r.nodes.items ≡ [] → r.number < length old.revisions
+    → OnOk res (by_repository old.revisions (Mapped r.number r.props) ≡ None) → OnOk res (new ≡ with_entry_in old (Mapped r.number r.props)) → OnOk res (IsTaken bytes old new)
+map_if (Ok v) bytes r old new is none there accepted then = taken_map bytes r old new is none there accepted then
+map_if (Err e) bytes r old new is none there accepted then = tt
+
+pub set_if : {A E : Type 0} (res : Result A E) (bytes : List ℕ) (r : RevRecord) (set : List Change) (old new : Repository) → IsRevisionOf bytes r → set ≡ map change_of r.nodes.items
+    → IsNormal (map change_of r.nodes.items) → form_fault (map change_of r.nodes.items) ≡ None
+    → r.number ≡ length old.revisions → OnOk res (by_repository old.revisions (Revised (length old.revisions) set r.props) ≡ None)
+    → OnOk res (new ≡ with_entry_in old (Revised (length old.revisions) set r.props)) → OnOk res (IsTaken bytes old new)
+set_if (Ok v) bytes r set old new is same normal form next accepted then =
+    taken_set bytes r set old new is same (subst (λ (s : List Change). IsNormal s) (sym same) normal) (subst (λ (s : List Change). form_fault s ≡ None) (sym same) form) next accepted then
+set_if (Err e) bytes r set old new is same normal form next accepted then = tt
+
+-- the entry that is read and taken
+pub next_taken : (entries : List (List ℕ)) (i : ℕ) (bytes items : List ℕ) (old new : Repository) → slice_get entries i ≡ Some items → bytes ≡ items → IsTaken bytes old new
+    → (b : List ℕ) × (e : Entry) × (slice_get entries i ≡ Some b) × Spells b e × Takes old.revisions e × (new ≡ with_entry_in old e)
+next_taken entries i bytes items old new there same (e, spells, takes, then) = (items, e, there, subst (λ (b : List ℕ). Spells b e) same spells, takes, then)
+
+-- the first entry that is read and taken
+pub first_taken : (entries : List (List ℕ)) (bytes items : List ℕ) (r : Repository) → slice_get entries 0 ≡ Some items → bytes ≡ items
+    → (id : List ℕ) × (ps : PropMap) × IsBeginning bytes id ps × (r ≡ with_entry_in (fresh id) (Mapped 0 ps))
+    → (b : List ℕ) × (ps : PropMap) × (slice_get entries 0 ≡ Some b) × IsBeginning b r.identity ps × (r ≡ with_entry_in (fresh r.identity) (Mapped 0 ps))
+first_taken entries bytes items r there same (id, ps, begins, then) =
+    let one : id ≡ r.identity = sym (ap (λ (q : Repository). q.identity) then) in
+    (items, ps, there, subst (λ (i : List ℕ). IsBeginning items i ps) one (subst (λ (b : List ℕ). IsBeginning b id ps) same begins), then ∙ ap (λ (i : List ℕ). with_entry_in (fresh i) (Mapped 0 ps)) one)

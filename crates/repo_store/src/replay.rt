@@ -54,7 +54,6 @@ fn set_of(alloc: Global, nodes: Vec<NodeRecord>) -> Result<ChangeSet, ReadFault>
 }
 
 // The repository after its first entry.
-#[tactic(auto, using(crate::proofs::Replaying::begun_by))]
 fn begin(alloc: Global, bytes: &[u8]) -> Result<Repo, ReadFault>
     ensures begun { IfOk result (λ r. (identity : List ℕ) × (props : PropMap) × IsBeginning bytes.now identity props × (r ≡ with_entry_in (fresh identity) (Mapped 0 props))) }
 {
@@ -79,7 +78,11 @@ fn take_map(repo: &mut Repo, number: RevNo, props: Props) -> Result<(), ReadFaul
 }
 
 // The revision after the head.
-fn take_set(alloc: Global, repo: &mut Repo, set: ChangeSet, props: Props) -> Result<(), ReadFault> {
+fn take_set(alloc: Global, repo: &mut Repo, set: ChangeSet, props: Props) -> Result<(), ReadFault>
+    ensures taken { OnOk result (repo.new ≡ with_entry_in repo.old (Revised (length repo.old.revisions) set props)) }
+    ensures accepted { OnOk result (by_repository repo.old.revisions (Revised (length repo.old.revisions) set props) ≡ None) }
+    ensures bad { IsErrOf result ReadFault.Bad → by_repository repo.old.revisions (Revised (length repo.old.revisions) set props) ≡ None → ⊥ }
+{
     match repo.stage_commit(alloc, repo.head(), set, props, None) {
         Ok(staged) => {
             repo.install(staged);
@@ -91,7 +94,6 @@ fn take_set(alloc: Global, repo: &mut Repo, set: ChangeSet, props: Props) -> Res
 }
 
 // One entry more.
-#[tactic(auto, using(crate::proofs::Replaying::taken_map, crate::proofs::Replaying::taken_set))]
 fn take_entry(alloc: Global, repo: &mut Repo, bytes: &[u8]) -> Result<(), ReadFault>
     ensures taken { OnOk result ((e : EntryOf) × Spells bytes.now e × Takes repo.old.revisions e × (repo.new ≡ with_entry_in repo.old e)) }
 {
