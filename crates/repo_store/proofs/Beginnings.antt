@@ -36,13 +36,13 @@ entry_size = sized (canon_block finite.empty) block_size
   where
     sized : (block : List ℕ) → length block ≡ 10
         → length
-          (header_line (codes "Revision-number: ") (printed 0)
-          ++ (header_line (codes "Prop-content-length: ") (printed (length block))
-          ++ (header_line (codes "Content-length: ") (printed (length block)) ++ (10 ∷ [] ++ (block ++ 10 ∷ [])))))
+        (header_line (codes "Revision-number: ") (printed 0)
+        ++ (header_line (codes "Prop-content-length: ") (printed (length block))
+        ++ (header_line (codes "Content-length: ") (printed (length block)) ++ (10 ∷ [] ++ (block ++ 10 ∷ [])))))
         ≤ 200
     sized block h =
         let a = four (header_line (codes "Revision-number: ") (printed 0)) (header_line (codes "Prop-content-length: ") (printed (length block)))
-            (header_line (codes "Content-length: ") (printed (length block))) (10 ∷ [] ++ (block ++ 10 ∷ [])) in
+        (header_line (codes "Content-length: ") (printed (length block))) (10 ∷ [] ++ (block ++ 10 ∷ [])) in
         let b = line_size (codes "Revision-number: ") (printed 0) in
         let c = line_size (codes "Prop-content-length: ") (printed (length block)) in
         let d = line_size (codes "Content-length: ") (printed (length block)) in

@@ -13,9 +13,9 @@ use Rattle.repo_store.specs.Journal.{IsExport, spelling}
 
 past_of : {X : Type 0} (xs : List X) (n : ℕ) → None ≡ slice_get xs n → length xs ≤ n
 past_of xs n h = elim ((slice_get_cases xs n).1) [
-    | inl (x, under, is, same) ↦ cc
-    | inr (past, none) ↦ past
-  ]
+  | inl (x, under, is, same) ↦ cc
+  | inr (past, none) ↦ past
+]
 
 -- a revision without a set isn't there
 pub absent_set : (r : Repository) (n : ℕ) → IsRepository r → None ≡ slice_get r.sets n → length r.revisions ≤ n

@@ -46,9 +46,9 @@ pub struct RepoStore<D: Disk> {
 impl<D: Disk> RepoStore<D> {
     ghost use Rattle.repo_store.specs.Words.{log_of, disk_of, repository_of, revisions_of, identity_of, entry_in, HasFailed, IsReadyFor};
 
-    /// Begins a repository of revision 0 alone, without properties, on a disk of two empty files. ThereAlready (35) where
-    /// a file isn't empty, DeviceFailed (31), OutOfMemory (70); a refusal hands the disk back. What a stop leaves before
-    /// Ok isn't said: an opening then refuses, or finds an empty repository.
+    /// Begins a repository of revision 0 alone, without properties, on a disk of two empty files; from Ok on a stop leaves
+    /// what reopens to it. ThereAlready (35) where a file isn't empty, DeviceFailed (31), OutOfMemory (70); a refusal hands
+    /// the disk back. What a stop leaves before Ok isn't said.
     pub fn create(alloc: Global, disk: D, identity: Uuid) -> Result<RepoStore<D>, (StoreFault, D)>
         ensures made { IfOk result (λ store. repository_of store ≡ fresh identity) }
         ensures working { IfOk result (λ store. ¬ HasFailed store) }

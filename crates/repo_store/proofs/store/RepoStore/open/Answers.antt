@@ -31,7 +31,7 @@ returns-in-Ok-replay-clause-any_moment g c h =
     let first = g.D.Disk.reads c.args.disk in
     let honest = c.in-Ok.ensures.honest.0 h in
     let opened = weaker g.D.Disk.clock g.D.Disk.left_since c.args.disk (disk_of c.in-Ok.log) (λ (i : Image). g.D.Disk.may_leave c.args.disk i ⊎ StandsAlike first i) (λ (i : Image). g.D.Disk.may_leave c.args.disk i ⊎ ReopensAlike first i)
-            (c.in-Ok.ensures.any_moment h) (λ i p. alike_or first i p) in
+    (c.in-Ok.ensures.any_moment h) (λ i p. alike_or first i p) in
     joined g.D.Disk.clock g.D.Disk.left_since c.args.disk (disk_of c.in-Ok.log) (disk_of c.replay.new.log) (λ (i : Image). g.D.Disk.may_leave c.args.disk i ⊎ ReopensAlike first i) (g.D.Disk.may_leave (disk_of c.in-Ok.log))
     opened (c.replay.ensures.any_moment honest) (λ i left. inr (alike first i (entries_of c.in-Ok.log) (c.in-Ok.ensures.stands h) (c.in-Ok.ensures.durable h i left)))
 
@@ -40,9 +40,9 @@ returns-in-Err-replay-clause-any_moment_err g c h =
     let first = g.D.Disk.reads c.args.disk in
     let honest = c.in-Ok.ensures.honest.0 h in
     let opened = weaker g.D.Disk.clock g.D.Disk.left_since c.args.disk (disk_of c.in-Ok.log) (λ (i : Image). g.D.Disk.may_leave c.args.disk i ⊎ StandsAlike first i) (λ (i : Image). g.D.Disk.may_leave c.args.disk i ⊎ ReopensAlike first i)
-            (c.in-Ok.ensures.any_moment h) (λ i p. alike_or first i p) in
+    (c.in-Ok.ensures.any_moment h) (λ i p. alike_or first i p) in
     let all = joined g.D.Disk.clock g.D.Disk.left_since c.args.disk (disk_of c.in-Ok.log) (disk_of c.replay.new.log) (λ (i : Image). g.D.Disk.may_leave c.args.disk i ⊎ ReopensAlike first i) (g.D.Disk.may_leave (disk_of c.in-Ok.log))
-            opened (c.replay.ensures.any_moment honest) (λ i left. inr (alike first i (entries_of c.in-Ok.log) (c.in-Ok.ensures.stands h) (c.in-Ok.ensures.durable h i left))) in
+    opened (c.replay.ensures.any_moment honest) (λ i left. inr (alike first i (entries_of c.in-Ok.log) (c.in-Ok.ensures.stands h) (c.in-Ok.ensures.durable h i left))) in
     subst (λ (d : g.row.D.Denot). LeavesOnly g.D.Disk.clock g.D.Disk.left_since c.args.disk d (λ (i : Image). g.D.Disk.may_leave c.args.disk i ⊎ ReopensAlike first i)) (sym c.into_disk.ensures) all
 
 pub returns-in-Err-replay-clause-damaged : goal.returns-in-Err-replay-clause-damaged
