@@ -1,0 +1,60 @@
+-- What images reopen to.
+use Rattle.std.proofs.Common.{◌≡◌, ◌≤◌, ◌⊎◌, ℕ, List, [], ◌∷◌, ◌++◌, refl, sym, ◌∙◌, ap, subst, inl, inr, arith}
+use Rattle.std.proofs.Math.Logic.{∥∥₁_map}
+use Rattle.fleet_disk.specs.Image.{Image}
+use Rattle.fleet_disk.specs.Rules.{LeavesOnly}
+use Rattle.gate_log.specs.Standing.{Stands, IsEither}
+use Rattle.repo_core.specs.Repository.{Revision}
+use Rattle.repo_core.specs.Entries.{with_entry}
+use Rattle.repo_core.specs.Staging.{StagedEntry, IsReady}
+use Rattle.repo_core.specs.declared.entry.Entry.{Entry}
+use Rattle.repo_store.specs.Journal.{HasSet, Spells, Takes, Continues, StandsFor, ReopensTo, IsBeforeOrAfter}
+
+-- one entry more behind those that are taken
+continues_more : (x y : List Revision) (entries : List (List ℕ)) (bytes : List ℕ) (e : Entry)
+    → Continues x entries y → Spells bytes e → Takes y e → Continues x (entries ++ bytes ∷ []) (with_entry y e)
+continues_more x y [] bytes e same spells takes = (e, spells, subst (λ (z : List Revision). Takes z e) same takes, ap (λ (z : List Revision). with_entry z e) same)
+continues_more x y (b ∷ rest) bytes e (f, s, t, more) spells takes = (f, s, t, continues_more (with_entry x f) y rest bytes e more spells takes)
+
+-- one entry more behind those of a repository
+pub stands_more : (entries : List (List ℕ)) (identity : List ℕ) (x : List Revision) (bytes : List ℕ) (e : Entry)
+    → StandsFor entries identity x → Spells bytes e → Takes x e → StandsFor (entries ++ bytes ∷ []) identity (with_entry x e)
+stands_more [] identity x bytes e none spells takes = absurd none
+stands_more (first ∷ rest) identity x bytes e (props, begins, more) spells takes = (props, begins, continues_more _ x rest bytes e more spells takes)
+
+-- an image in which the entries stand reopens
+pub reopened : (entries : List (List ℕ)) (identity : List ℕ) (x : List Revision) (image : Image)
+    → ∥ StandsFor entries identity x ∥₁ → Stands image entries → ReopensTo identity x image
+reopened entries identity x image known stands = ∥∥₁_map known (λ s. (entries, stands, s))
+
+-- so does one with the new entry, or without it
+pub either_reopens : (entries : List (List ℕ)) (identity : List ℕ) (x : List Revision) (bytes : List ℕ) (e : Entry) (image : Image)
+    → ∥ StandsFor entries identity x ∥₁ → Spells bytes e → Takes x e → IsEither entries bytes image → IsBeforeOrAfter identity x e image
+either_reopens entries identity x bytes e image known spells takes (inl old) = inl (reopened entries identity x image known old)
+either_reopens entries identity x bytes e image known spells takes (inr new) =
+    inr (∥∥₁_map known (λ s. (entries ++ bytes ∷ [], new, stands_more entries identity x bytes e s spells takes)))
+
+pub after_reopens : (entries : List (List ℕ)) (identity : List ℕ) (x : List Revision) (bytes : List ℕ) (e : Entry) (image : Image)
+    → ∥ StandsFor entries identity x ∥₁ → Spells bytes e → Takes x e → Stands image (entries ++ bytes ∷ []) → ReopensTo identity (with_entry x e) image
+after_reopens entries identity x bytes e image known spells takes new =
+    ∥∥₁_map known (λ s. (entries ++ bytes ∷ [], new, stands_more entries identity x bytes e s spells takes))
+
+-- what is ready is taken
+pub takes_of : (x : List Revision) (s : StagedEntry) → IsReady x s → HasSet s.entry → Takes x s.entry
+takes_of x s ready set = record { next = ready.next; set = set; accepted = ready.accepted }
+
+-- nothing was done
+pub unmoved : {D : Type 0} (clock : D → ℕ) (left_since : D → ℕ → Image → Type 0) (may_leave : D → Image → Type 0) (old new : D) (P : Image → Type 0)
+    → new ≡ old → ((c : Image) → left_since old (clock old) c → may_leave old c) → ((c : Image) → may_leave old c → P c) → LeavesOnly clock left_since old new P
+unmoved {D} clock left_since may_leave old new P same only f =
+    subst (λ (d : D). LeavesOnly clock left_since old d P) (sym same) (record { later = omega arith; each = λ c h. f c (only c h); before = λ t c le h. inl h })
+
+-- moments of which less is said
+pub leaves_map : {D : Type 0} (clock : D → ℕ) (left_since : D → ℕ → Image → Type 0) (old new : D) (P Q : Image → Type 0)
+    → ((c : Image) → P c → Q c) → LeavesOnly clock left_since old new P → LeavesOnly clock left_since old new Q
+leaves_map clock left_since old new P Q f l =
+    record { later = l.later; each = λ c h. f c (l.each c h); before = λ t c le h. weaker t c (l.before t c le h) }
+  where
+    weaker : (t : ℕ) (c : Image) → left_since old t c ⊎ P c → left_since old t c ⊎ Q c
+    weaker t c (inl h) = inl h
+    weaker t c (inr h) = inr (f c h)

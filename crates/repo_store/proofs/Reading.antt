@@ -1,0 +1,153 @@
+-- Entries that are read.
+use Rattle.std.proofs.Common.{◌≡◌, ℕ, List, [], ◌∷◌, ◌++◌, map, drop, Option, None, Some, refl, sym, ◌∙◌, ap, ap₂, subst, codes}
+use Rattle.std.proofs.lemmas.List.{append-nil}
+use Rattle.node_base.specs.Props.{PropMap}
+use Rattle.dump_text.specs.Streams.{Stream, Reads, Refuses, reading, records_of, fresh, version_line}
+use Rattle.dump_text.specs.declared.state.ReadState.{ReadState}
+use Rattle.dump_text.specs.declared.record.NodeRecord.{NodeRecord}
+use Rattle.dump_text.specs.declared.record.RevRecord.{RevRecord}
+use Rattle.dump_text.specs.declared.record.DumpRecord.{DumpRecord}
+use Rattle.dump_text.specs.declared.record.DumpRecord.TheVariants.{Identity, Revision, Node}
+use Rattle.dump_text.specs.Laws.{DumpsAreRead}
+use Rattle.node_base.specs.PathText.{path_text}
+use Rattle.node_base.specs.declared.node.Action.{Action}
+use Rattle.node_base.specs.declared.node.Action.TheVariants.{Modify, Add, Delete, Replace}
+use Rattle.node_base.specs.declared.node.NodeKind.{NodeKind}
+use Rattle.std.specs.List.{flat_map}
+use Rattle.dump_text.specs.Canon.{told_kind, canon_entry, canon_node, canon_revision, header_line, kind_line, action_word, source_lines, block_line, text_lines, content_line, content_of}
+use Rattle.dump_text.specs.Written.{AreFormed, AreRecords, read_node, read_revision}
+use Rattle.dump_text.specs.declared.form.Stage.TheVariants.{First}
+use Rattle.dump_load.specs.Records.{record_of}
+use Rattle.repo_core.specs.Staging.{number_in, props_in}
+use Rattle.repo_core.specs.declared.entry.Entry.{Entry}
+use Rattle.repo_core.specs.declared.entry.Entry.TheVariants.{Revised, Mapped}
+use Rattle.repo_store.specs.Journal.{IsBeginning, Spells, records_in, spelling}
+use Rattle.repo_store.specs.Readings.{records_of as records_of_revision, AreReadAs, IsRevisionOf, behind, so_far}
+
+-- the version block alone
+pub version_read : reading (Reads [] fresh) (version_line ++ 10 ∷ 10 ∷ []) ≡ Reads [] behind
+version_read = refl
+
+abbrev state_of : Stream → ReadState
+state_of (Reads rs r) = r
+state_of (Refuses rs f) = fresh
+
+pub version_read_of : (items : List DumpRecord) (start : ReadState) → items ≡ [] → start ≡ fresh → reading (Reads items start) (version_line ++ 10 ∷ 10 ∷ []) ≡ Reads [] behind
+version_read_of items start none new = ap₂ (λ (i : List DumpRecord) (s : ReadState). reading (Reads i s) (version_line ++ 10 ∷ 10 ∷ [])) none new ∙ version_read
+
+-- what it leaves
+pub came_records : (items : List DumpRecord) (start : ReadState) → items ≡ [] → start ≡ fresh → (rs : List DumpRecord) (r : ReadState)
+    → reading (Reads items start) (version_line ++ 10 ∷ 10 ∷ []) ≡ Reads rs r → rs ≡ []
+came_records items start none new rs r h = ap records_of (sym h ∙ version_read_of items start none new)
+
+pub came_state : (items : List DumpRecord) (start : ReadState) → items ≡ [] → start ≡ fresh → (rs : List DumpRecord) (r : ReadState)
+    → reading (Reads items start) (version_line ++ 10 ∷ 10 ∷ []) ≡ Reads rs r → r ≡ behind
+came_state items start none new rs r h = ap state_of (sym h ∙ version_read_of items start none new)
+
+revision_among : (ns nodes : List NodeRecord) (number : ℕ) (props : PropMap) (rest : List DumpRecord) → map Node ns ++ Revision number props ∷ rest ≡ map Node nodes → ⊥
+revision_among [] [] number props rest h = cc
+revision_among [] (m ∷ ms) number props rest h = cc
+revision_among (n ∷ ns) [] number props rest h = cc
+revision_among (n ∷ ns) (m ∷ ms) number props rest h = revision_among ns ms number props rest (ap (drop 1) h)
+
+identity_among : (ns nodes : List NodeRecord) (id : List ℕ) (rest : List DumpRecord) → map Node ns ++ Identity id ∷ rest ≡ map Node nodes → ⊥
+identity_among [] [] id rest h = cc
+identity_among [] (m ∷ ms) id rest h = cc
+identity_among (n ∷ ns) [] id rest h = cc
+identity_among (n ∷ ns) (m ∷ ms) id rest h = identity_among ns ms id rest (ap (drop 1) h)
+
+-- a second revision record is no node of the first
+pub second_revision : (r : RevRecord) (number : ℕ) (props : PropMap) (rest : List DumpRecord) (n : ℕ) (ps : PropMap) (nodes : List NodeRecord)
+    → so_far (Some r) ++ Revision number props ∷ rest ≡ Revision n ps ∷ map Node nodes → ⊥
+second_revision r number props rest n ps nodes h = revision_among r.nodes.items nodes number props rest (ap (drop 1) h)
+
+-- nor is an identity
+pub an_identity : (begun : Option RevRecord) (id : List ℕ) (rest : List DumpRecord) (n : ℕ) (ps : PropMap) (nodes : List NodeRecord)
+    → so_far begun ++ Identity id ∷ rest ≡ Revision n ps ∷ map Node nodes → ⊥
+an_identity None id rest n ps nodes h = cc
+an_identity (Some r) id rest n ps nodes h = identity_among r.nodes.items nodes id rest (ap (drop 1) h)
+
+-- a node before the first
+pub early_node : (node : NodeRecord) (rest : List DumpRecord) (n : ℕ) (ps : PropMap) (nodes : List NodeRecord) → so_far None ++ Node node ∷ rest ≡ Revision n ps ∷ map Node nodes → ⊥
+early_node node rest n ps nodes h = cc
+
+-- no revision has no record
+pub no_record : (n : ℕ) (ps : PropMap) (nodes : List NodeRecord) → [] ≡ Revision n ps ∷ map Node nodes → ⊥
+no_record n ps nodes h = cc
+
+-- from there on
+pub joined : (items : List DumpRecord) (start : ReadState) (bytes : List ℕ) → items ≡ [] → start ≡ behind → (rs : List DumpRecord) (r : ReadState)
+    → reading (Reads items start) bytes ≡ Reads rs r → reading (Reads [] behind) bytes ≡ Reads rs r
+joined items start bytes none new rs r h = ap₂ (λ (i : List DumpRecord) (s : ReadState). reading (Reads i s) bytes) (sym none) (sym new) ∙ h
+
+-- what is an entry is read as its records
+pub spelled_read : (law : DumpsAreRead) (bytes : List ℕ) (e : Entry) → Spells bytes e → AreReadAs bytes (records_in e)
+spelled_read law bytes e s = (_, law (version_line ++ 10 ∷ 10 ∷ bytes) (records_in e) (bytes, refl, s.readable First))
+
+-- bytes are read in one way
+pub one_read : (bytes : List ℕ) (rs others : List DumpRecord) → AreReadAs bytes rs → AreReadAs bytes others → rs ≡ others
+one_read bytes rs others a b = ap records_of (sym a.1 ∙ b.1)
+
+abbrev pub told_of : NodeRecord → NodeRecord
+told_of r = record r { kind = told_kind r.action r.kind }
+
+nodes_told : (ns : List NodeRecord) → map read_node ns ≡ map Node (map told_of ns)
+nodes_told [] = refl
+nodes_told (n ∷ ns) = ap (λ (l : List DumpRecord). Node (told_of n) ∷ l) (nodes_told ns)
+
+-- the nodes that an entry says
+abbrev pub nodes_in : Entry → List NodeRecord
+nodes_in (Revised n set props) = map told_of (map record_of set)
+nodes_in (Mapped n props) = []
+
+-- an entry's records are those of one revision
+pub one_revision : (e : Entry) → records_in e ≡ Revision (number_in e) (props_in e) ∷ map Node (nodes_in e)
+one_revision (Revised n set props) = ap (λ (l : List DumpRecord). Revision n props ∷ l) (nodes_told (map record_of set))
+one_revision (Mapped n props) = refl
+
+twice : (a : Action) (k : Option NodeKind) → told_kind a (told_kind a k) ≡ told_kind a k
+twice Modify k = refl
+twice Add k = refl
+twice Delete k = refl
+twice Replace k = refl
+
+canon_told : (r : NodeRecord) → canon_node (told_of r) ≡ canon_node r
+canon_told r =
+    ap (λ (k : Option NodeKind). header_line (codes "Node-path: ") (path_text r.path) ++ (kind_line k ++ (header_line (codes "Node-action: ") (action_word r.action) ++ (source_lines r.source ++ (block_line r.props ++ (text_lines r.text ++ (content_line r.props r.text ++ content_of r.props r.text)))))))
+    (twice r.action r.kind)
+
+canon_nodes : (ns : List NodeRecord) → flat_map canon_node (map told_of ns) ≡ flat_map canon_node ns
+canon_nodes [] = refl
+canon_nodes (n ∷ ns) = ap₂ (λ (a b : List ℕ). a ++ b) (canon_told n) (canon_nodes ns)
+
+-- an entry's spelling is that of its one revision
+pub one_spelling : (e : Entry) → spelling e ≡ canon_entry (number_in e) (props_in e) ++ flat_map canon_node (nodes_in e)
+one_spelling (Revised n set props) = ap (λ (l : List ℕ). canon_entry n props ++ l) (sym (canon_nodes (map record_of set)))
+one_spelling (Mapped n props) = sym (append-nil (canon_entry n props))
+
+number_told : DumpRecord → ℕ
+number_told (Revision n props) = n
+number_told (Identity id) = 0
+number_told (Node r) = 0
+
+-- a revision that is read from an entry is the entry's
+pub read_back : (law : DumpsAreRead) (bytes : List ℕ) (e : Entry) (r : RevRecord) (rs : List DumpRecord) → Spells bytes e → AreReadAs bytes rs → records_of_revision r ≡ rs
+    → records_of_revision r ≡ Revision (number_in e) (props_in e) ∷ map Node (nodes_in e)
+read_back law bytes e r rs spells read same = same ∙ one_read bytes rs (records_in e) read (spelled_read law bytes e spells) ∙ one_revision e
+
+-- no refusal where an entry is read
+pub never_refused : (law : DumpsAreRead) (bytes : List ℕ) (e : Entry) (rs : List DumpRecord) → Spells bytes e → AreReadAs bytes rs → rs ≡ Revision (number_in e) (props_in e) ∷ map Node (nodes_in e)
+never_refused law bytes e rs spells read = one_read bytes rs (records_in e) read (spelled_read law bytes e spells) ∙ one_revision e
+
+-- what is read and written again is a revision
+pub is_revision : (bytes : List ℕ) (r : RevRecord) (rs : List DumpRecord) → canon_revision r ≡ bytes → AreReadAs bytes rs → records_of_revision r ≡ rs
+    → (AreFormed r.nodes.items → AreRecords (canon_revision r) (read_revision r)) → IsRevisionOf bytes r
+is_revision bytes r rs canonical read same readable = record {
+  canonical = sym canonical;
+  read = subst (λ (l : List DumpRecord). AreReadAs bytes l) (sym same) read;
+  readable = λ formed. subst (λ (l : List ℕ). AreRecords l (read_revision r)) canonical (readable formed);
+}
+
+-- and a first entry
+pub is_beginning : (bytes written identity : List ℕ) (props : PropMap) → IsBeginning written identity props → written ≡ bytes → IsBeginning bytes identity props
+is_beginning bytes written identity props begins same = subst (λ (l : List ℕ). IsBeginning l identity props) same begins

@@ -1,0 +1,99 @@
+-- Entries that are taken one after another.
+use Rattle.std.proofs.Common.{Result, Ok, Err, OnOk, slice_get, ◌≡◌, ◌<◌, ◌≤◌, ℕ, List, [], ◌∷◌, ◌++◌, map, length, nat_lt, Bool, false, Option, None, Some, refl, sym, ◌∙◌, ap, ap₂, subst, arith}
+use Rattle.std.proofs.lemmas.Bool.Decides.{nat_tests}
+use Rattle.std.proofs.lemmas.List.{append-nil}
+use Rattle.std.specs.List.{flat_map}
+use Rattle.std.specs.Option.{option_map}
+use Rattle.node_base.specs.Props.{PropMap}
+use Rattle.dump_text.specs.Canon.{canon_entry, canon_node, canon_revision}
+use Rattle.dump_text.specs.Written.{AreFormed, AreRecords, read_node}
+use Rattle.dump_text.specs.declared.record.NodeRecord.{NodeRecord}
+use Rattle.dump_text.specs.declared.record.PropPart.{PropPart}
+use Rattle.dump_text.specs.declared.record.PropPart.TheVariants.{Whole}
+use Rattle.dump_text.specs.declared.record.RevRecord.{RevRecord}
+use Rattle.dump_text.specs.declared.record.DumpRecord.{DumpRecord}
+use Rattle.dump_text.specs.declared.record.DumpRecord.TheVariants as told
+use Rattle.dump_load.specs.declared.change.Change.{Change}
+use Rattle.dump_load.specs.Changes.{IsNormal}
+use Rattle.dump_load.specs.Records.{change_of, record_of, whole_props}
+use Rattle.repo_core.specs.Repository.{Repository, Revision, fresh}
+use Rattle.repo_core.specs.Entries.{with_entry_in}
+use Rattle.repo_core.specs.Refusals.{by_repository}
+use Rattle.repo_core.specs.declared.entry.Entry.{Entry}
+use Rattle.repo_core.specs.declared.entry.Entry.TheVariants.{Revised, Mapped}
+use Rattle.repo_store.specs.Forms.{form_fault}
+use Rattle.repo_store.specs.Journal.{IsBeginning, Spells, Takes, records_in}
+use Rattle.repo_store.specs.Readings.{IsRevisionOf}
+use Rattle.repo_store.proofs.Spelling.{formed_set, few_changes}
+
+part_back : (p : Option PropPart) → option_map Whole (option_map whole_props p) ≡ p
+part_back None = refl
+part_back (Some (Whole m)) = refl
+
+abbrev with_part : NodeRecord → Option PropPart → NodeRecord
+with_part r q = record r { props = q }
+
+node_back : (r : NodeRecord) → record_of (change_of r) ≡ r
+node_back r = ap (with_part r) (part_back r.props)
+
+nodes_back : (ns : List NodeRecord) → map record_of (map change_of ns) ≡ ns
+nodes_back [] = refl
+nodes_back (n ∷ ns) = ap₂ (λ (a : NodeRecord) (l : List NodeRecord). a ∷ l) (node_back n) (nodes_back ns)
+
+-- the first entry is taken
+pub begun_by : (bytes identity : List ℕ) (props : PropMap) (old new : Repository) → IsBeginning bytes identity props → old ≡ fresh identity → new ≡ with_entry_in old (Mapped 0 props)
+    → (id : List ℕ) × (ps : PropMap) × IsBeginning bytes id ps × (new ≡ with_entry_in (fresh id) (Mapped 0 ps))
+begun_by bytes identity props old new begins first then = (identity, props, begins, then ∙ ap (λ (r : Repository). with_entry_in r (Mapped 0 props)) first)
+
+-- other properties are taken
+pub taken_map : (bytes : List ℕ) (r : RevRecord) (old new : Repository) → IsRevisionOf bytes r → r.nodes.items ≡ [] → r.number < length old.revisions
+    → by_repository old.revisions (Mapped r.number r.props) ≡ None → new ≡ with_entry_in old (Mapped r.number r.props)
+    → (e : Entry) × Spells bytes e × Takes old.revisions e × (new ≡ with_entry_in old e)
+taken_map bytes r old new is none there accepted then =
+    let formed = subst (λ (l : List NodeRecord). AreFormed l) (sym none) tt in
+    let canonical = is.canonical ∙ ap (λ (l : List NodeRecord). canon_entry r.number r.props ++ flat_map canon_node l) none ∙ append-nil (canon_entry r.number r.props) in
+    let readable = subst (λ (l : List NodeRecord). AreRecords bytes (told.Revision r.number r.props ∷ map read_node l)) none (is.readable formed) in
+    (Mapped r.number r.props, record { canonical = canonical; readable = readable }, record { next = there; set = tt; accepted = accepted }, then)
+
+-- a new revision is taken
+pub taken_set : (bytes : List ℕ) (r : RevRecord) (set : List Change) (old new : Repository) → IsRevisionOf bytes r → set ≡ map change_of r.nodes.items → IsNormal set → form_fault set ≡ None
+    → r.number ≡ length old.revisions → by_repository old.revisions (Revised (length old.revisions) set r.props) ≡ None → new ≡ with_entry_in old (Revised (length old.revisions) set r.props)
+    → (e : Entry) × Spells bytes e × Takes old.revisions e × (new ≡ with_entry_in old e)
+taken_set bytes r set old new is same normal form next accepted then =
+    let nodes : map record_of set ≡ r.nodes.items = ap (λ (s : List Change). map record_of s) same ∙ nodes_back r.nodes.items in
+    let formed = subst (λ (l : List NodeRecord). AreFormed l) nodes (formed_set set form) in
+    let canonical = is.canonical ∙ ap (λ (l : List NodeRecord). canon_entry r.number r.props ++ flat_map canon_node l) (sym nodes) in
+    let readable = subst (λ (l : List NodeRecord). AreRecords bytes (told.Revision r.number r.props ∷ map read_node l)) (sym nodes) (is.readable formed) in
+    let spells : Spells bytes (Revised r.number set r.props) = record { canonical = canonical; readable = readable } in
+    let spelled = subst (λ (n : ℕ). Spells bytes (Revised n set r.props)) next spells in
+    (Revised (length old.revisions) set r.props, spelled, record { next = refl; set = (normal, few_changes set form); accepted = accepted }, then)
+
+-- bytes that bring one repository to the next
+abbrev pub IsTaken : List ℕ → Repository → Repository → Type 0
+IsTaken bytes old new = (e : Entry) × Spells bytes e × Takes old.revisions e × (new ≡ with_entry_in old e)
+
+pub map_if : {A E : Type 0} (res : Result A E) (bytes : List ℕ) (r : RevRecord) (old new : Repository) → IsRevisionOf bytes r → r.nodes.items ≡ [] → r.number < length old.revisions
+    → OnOk res (by_repository old.revisions (Mapped r.number r.props) ≡ None) → OnOk res (new ≡ with_entry_in old (Mapped r.number r.props)) → OnOk res (IsTaken bytes old new)
+map_if (Ok v) bytes r old new is none there accepted then = taken_map bytes r old new is none there accepted then
+map_if (Err e) bytes r old new is none there accepted then = tt
+
+pub set_if : {A E : Type 0} (res : Result A E) (bytes : List ℕ) (r : RevRecord) (set : List Change) (old new : Repository) → IsRevisionOf bytes r → set ≡ map change_of r.nodes.items
+    → IsNormal (map change_of r.nodes.items) → form_fault (map change_of r.nodes.items) ≡ None
+    → r.number ≡ length old.revisions → OnOk res (by_repository old.revisions (Revised (length old.revisions) set r.props) ≡ None)
+    → OnOk res (new ≡ with_entry_in old (Revised (length old.revisions) set r.props)) → OnOk res (IsTaken bytes old new)
+set_if (Ok v) bytes r set old new is same normal form next accepted then =
+    taken_set bytes r set old new is same (subst (λ (s : List Change). IsNormal s) (sym same) normal) (subst (λ (s : List Change). form_fault s ≡ None) (sym same) form) next accepted then
+set_if (Err e) bytes r set old new is same normal form next accepted then = tt
+
+-- the entry that is read and taken
+pub next_taken : (entries : List (List ℕ)) (i : ℕ) (bytes items : List ℕ) (old new : Repository) → slice_get entries i ≡ Some items → bytes ≡ items → IsTaken bytes old new
+    → (b : List ℕ) × (e : Entry) × (slice_get entries i ≡ Some b) × Spells b e × Takes old.revisions e × (new ≡ with_entry_in old e)
+next_taken entries i bytes items old new there same (e, spells, takes, then) = (items, e, there, subst (λ (b : List ℕ). Spells b e) same spells, takes, then)
+
+-- the first entry that is read and taken
+pub first_taken : (entries : List (List ℕ)) (bytes items : List ℕ) (r : Repository) → slice_get entries 0 ≡ Some items → bytes ≡ items
+    → (id : List ℕ) × (ps : PropMap) × IsBeginning bytes id ps × (r ≡ with_entry_in (fresh id) (Mapped 0 ps))
+    → (b : List ℕ) × (ps : PropMap) × (slice_get entries 0 ≡ Some b) × IsBeginning b r.identity ps × (r ≡ with_entry_in (fresh r.identity) (Mapped 0 ps))
+first_taken entries bytes items r there same (id, ps, begins, then) =
+    let one : id ≡ r.identity = sym (ap (λ (q : Repository). q.identity) then) in
+    (items, ps, there, subst (λ (i : List ℕ). IsBeginning items i ps) one (subst (λ (b : List ℕ). IsBeginning b id ps) same begins), then ∙ ap (λ (i : List ℕ). with_entry_in (fresh i) (Mapped 0 ps)) one)

@@ -1,0 +1,44 @@
+use Rattle.std.proofs.Common.{◌≡◌, ◌∙◌, ap, length, ℕ, List, Some, slice_get, arith, rules}
+use Rattle.gate_log.specs.Log.{disk_of, ends_of, entries_of}
+use Rattle.gate_log.proofs.EndLemmas.{length_parts}
+use Rattle.repo_store.proofs.Going.{goes_on, rose_on, first_stands, next_stands, next_in, reached_first, reached_next}
+use Rattle.repo_store.proofs.replay.replay.Goals as goal
+
+pub loop-entry-init : goal.loop-entry-init
+loop-entry-init g c = record {
+  begun = omega arith;
+  inside = omega (arith, c.requires.there, c.len-entry-end.ensures.count, ap length c.read_first.ensures.ends);
+  few = c.len-entry-end.ensures.count ∙ ap length c.read_first.ensures.ends;
+  ends = c.read_first.ensures.ends;
+  working = search rules;
+  same = c.read_first.ensures.same;
+  stands = λ h. first_stands (entries_of c.args.log.now) c.in_ok-repo.repo (c.in_ok-repo.ensures.begun h);
+  goes = record { both_ways = c.read_first.ensures.honest; inside = c.read_first.ensures.inside; moments = c.read_first.ensures.any_moment; later = c.read_first.ensures.later };
+}
+
+pub loop-entry-preserved : goal.loop-entry-preserved
+loop-entry-preserved g c =
+    let kept = c.loop-entry.invariant in
+    record {
+      begun = omega arith;
+      inside = omega (arith, c.loop-entry-test.true);
+      few = kept.few;
+      ends = c.read_next.ensures.ends ∙ kept.ends;
+      working = search rules;
+      same = λ h. c.read_next.ensures.same (kept.goes.both_ways.0 h) ∙ kept.same h;
+      stands = λ h. next_stands (entries_of c.args.log.now) c.loop-entry.entry c.loop-entry.repo c.read_next.new.repo (kept.stands h)
+          (next_in (entries_of c.loop-entry.log) (entries_of c.args.log.now) c.loop-entry.entry c.loop-entry.repo c.read_next.new.repo (kept.same h) (c.in_ok-read_next.ensures.taken (kept.goes.both_ways.0 h)));
+      goes = goes_on g.D.Disk.honest g.D.Disk.may_leave g.D.Disk.clock g.D.Disk.left_since g.D.Disk.failures (disk_of c.args.log.now) (disk_of c.loop-entry.log) (disk_of c.read_next.new.log) kept.goes
+          (record { both_ways = c.read_next.ensures.honest; inside = c.read_next.ensures.inside; moments = c.read_next.ensures.any_moment; later = c.read_next.ensures.later });
+    }
+
+pub returns-in_err-repo-clause-damaged : goal.returns-in_err-repo-clause-damaged
+returns-in_err-repo-clause-damaged g c h k is =
+    let long = length_parts 0 (ends_of c.args.log.now) (g.D.Disk.reads (disk_of c.args.log.now)).journal in
+    reached_first (entries_of c.args.log.now) k (c.read_first.ensures.damaged h k (search rules)) (omega (arith, c.requires.there, long))
+
+pub returns-in_err-read_next-clause-damaged : goal.returns-in_err-read_next-clause-damaged
+returns-in_err-read_next-clause-damaged g c h k is =
+    let kept = c.loop-entry.invariant in
+    let long = length_parts 0 (ends_of c.args.log.now) (g.D.Disk.reads (disk_of c.args.log.now)).journal in
+    reached_next (entries_of c.args.log.now) c.loop-entry.entry k c.loop-entry.repo (c.read_next.ensures.damaged (kept.goes.both_ways.0 h) k (search rules)) (omega (arith, c.loop-entry-test.true, kept.few, long)) (kept.stands h)

@@ -1,0 +1,105 @@
+-- The repository that a journal's entries stand for.
+use Rattle.std.specs.Prelude.{◌≡◌, ◌<◌, ◌≤◌, ◌+◌, ◌⊎◌, ℕ, List, [], ◌∷◌, ◌++◌, map, length, take, slice_get, Some, None}
+use Rattle.std.specs.List.{flat_map}
+use Rattle.std.specs.FinMap as finite
+use Rattle.node_base.specs.Props.{PropMap}
+use Rattle.dump_text.specs.Canon.{canon_head, canon_entry, canon_node}
+use Rattle.dump_text.specs.Grammar.{Dump}
+use Rattle.dump_text.specs.Written.{AreRecords, read_node}
+use Rattle.dump_text.specs.declared.record.DumpRecord.{DumpRecord}
+use Rattle.dump_text.specs.declared.record.DumpRecord.TheVariants as told
+use Rattle.dump_load.specs.declared.change.Change.{Change}
+use Rattle.dump_load.specs.Changes.{IsNormal}
+use Rattle.dump_load.specs.Records.{record_of}
+use Rattle.fleet_disk.specs.Image.{Image}
+use Rattle.gate_log.specs.Standing.{Stands, IsDamagedAt}
+use Rattle.repo_core.specs.Repository.{Revision, Repository, fresh}
+use Rattle.repo_core.specs.declared.entry.Entry.{Entry}
+use Rattle.repo_core.specs.declared.entry.Entry.TheVariants.{Revised, Mapped}
+use Rattle.repo_core.specs.Entries.{with_entry}
+use Rattle.repo_core.specs.Refusals.{by_repository}
+use Rattle.repo_core.specs.Staging.{IsNext}
+
+-- the canonical spelling of an entry: a revision's record and its nodes, or the record alone
+abbrev pub spelling : Entry → List ℕ
+spelling (Revised n set props) = canon_entry n props ++ flat_map canon_node (map record_of set)
+spelling (Mapped n props) = canon_entry n props
+
+-- the records of dump text that it says; of a deletion the kind isn't told
+abbrev pub records_in : Entry → List DumpRecord
+records_in (Revised n set props) = told.Revision n props ∷ map read_node (map record_of set)
+records_in (Mapped n props) = told.Revision n props ∷ []
+
+-- these bytes are the entry: its canonical spelling, and dump text of its records
+pub record Spells (bytes : List ℕ) (e : Entry) : Type 0 where
+  pub canonical : bytes ≡ spelling e
+  pub readable : AreRecords bytes (records_in e)
+
+-- a revision's set is normal, and has 4,096 changes at most
+abbrev pub HasSet : Entry → Type 0
+HasSet (Revised n set props) = IsNormal set × (length set ≤ 4096)
+HasSet (Mapped n props) = Unit {0}
+
+-- the revisions take the entry: it is the revision after the head, or properties of one that is there, and nothing is refused
+pub record Takes (x : List Revision) (e : Entry) : Type 0 where
+  pub next : IsNext x e
+  pub set : HasSet e
+  pub accepted : by_repository x e ≡ None
+
+-- the bytes of a repository's first entry as it is made
+abbrev pub beginning_of : List ℕ → List ℕ
+beginning_of identity = canon_head (Some identity) ++ canon_entry 0 finite.empty
+
+-- these bytes are a first entry: the head with the identity, and revision 0's record
+pub record IsBeginning (bytes : List ℕ) (identity : List ℕ) (props : PropMap) : Type 0 where
+  pub canonical : bytes ≡ canon_head (Some identity) ++ canon_entry 0 props
+  pub readable : Dump bytes (told.Identity identity ∷ told.Revision 0 props ∷ [])
+
+-- the revisions after a first entry
+abbrev pub begun : List ℕ → PropMap → List Revision
+begun identity props = with_entry (fresh identity).revisions (Mapped 0 props)
+
+-- from the revisions x on, each of the entries is taken, and leaves y in the end
+abbrev pub Continues : List Revision → List (List ℕ) → List Revision → Type 0
+Continues x [] y = y ≡ x
+Continues x (bytes ∷ rest) y = (e : Entry) × Spells bytes e × Takes x e × Continues (with_entry x e) rest y
+
+-- the repository that a journal's entries stand for
+abbrev pub StandsFor : List (List ℕ) → List ℕ → List Revision → Type 0
+StandsFor [] identity x = ⊥
+StandsFor (first ∷ rest) identity x = (props : PropMap) × IsBeginning first identity props × Continues (begun identity props) rest x
+
+-- an image reopens to a repository: entries stand in it that stand for that repository
+abbrev pub ReopensTo : List ℕ → List Revision → Image → Type 0
+ReopensTo identity x image = ∥ ((entries : List (List ℕ)) × Stands image entries × StandsFor entries identity x) ∥₁
+
+-- to the one before an entry, or to the one after it
+abbrev pub IsBeforeOrAfter : List ℕ → List Revision → Entry → Image → Type 0
+IsBeforeOrAfter identity x e image = ReopensTo identity x image ⊎ ReopensTo identity (with_entry x e) image
+
+-- an image reopens to whatever the first reopens to
+abbrev pub ReopensAlike : Image → Image → Type 0
+ReopensAlike first image = (identity : List ℕ) (x : List Revision) → ReopensTo identity x first → ReopensTo identity x image
+
+-- the canonical text of a revision: the set that made its tree, and the properties that it has now
+abbrev pub IsExport : Repository → ℕ → List ℕ → Type 0
+IsExport r n bytes = (y : Revision) × (set : List Change) × (slice_get r.revisions n ≡ Some y) × (slice_get r.sets n ≡ Some set) × (bytes ≡ spelling (Revised n set y.props))
+
+-- of entries this one is there, and those before it stand for a repository
+pub record IsReached (entry : ℕ) (entries : List (List ℕ)) : Type 0 where
+  pub there : entry < length entries
+  pub before : 0 < entry → ∥ ((identity : List ℕ) × (x : List Revision) × StandsFor (take entry entries) identity x) ∥₁
+
+-- of an image this entry breaks the layout of the log, or else those before it stand for a repository
+abbrev pub IsStopped : ℕ → Image → Type 0
+IsStopped entry image = IsDamagedAt entry image ⊎ ((entries : List (List ℕ)) × Stands image entries × IsReached entry entries)
+
+-- of entries this one is the first that is damaged: those before it stand for a repository, and with it they stand for none
+pub record IsFirstBad (entry : ℕ) (entries : List (List ℕ)) : Type 0 where
+  pub there : entry < length entries
+  pub before : 0 < entry → ∥ ((identity : List ℕ) × (x : List Revision) × StandsFor (take entry entries) identity x) ∥₁
+  pub breaks : (identity : List ℕ) (x : List Revision) → StandsFor (take (entry + 1) entries) identity x → ⊥
+
+-- of an image this entry is the first that is damaged: it breaks the layout of the log, or else it is no entry
+abbrev pub IsDamaged : ℕ → Image → Type 0
+IsDamaged entry image = IsDamagedAt entry image ⊎ ((entries : List (List ℕ)) × Stands image entries × IsFirstBad entry entries)

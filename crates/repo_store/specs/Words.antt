@@ -1,0 +1,54 @@
+-- What a store is to its caller.
+use Rattle.std.specs.Prelude.{◌<◌, ◌≤◌, ◌+◌, ◌^◌, ℕ, List, length, Option}
+use Rattle.fleet_disk.specs.declared.disk.Disk.{Ghosts}
+use Rattle.gate_log.specs.declared.log.GateLog.{GateLog}
+use Rattle.gate_log.specs.Log as log
+use Rattle.node_base.specs.Tree.{PathMap}
+use Rattle.repo_core.specs.Repository.{Repository, Revision}
+use Rattle.repo_core.specs.declared.entry.Entry.{Entry}
+use Rattle.repo_core.specs.Staging.{IsReady}
+use Rattle.repo_store.specs.Journal.{Spells, HasSet}
+use Rattle.repo_store.specs.declared.store.RepoStore.{RepoStore}
+use Rattle.repo_store.specs.declared.staged.Staged.{Staged}
+
+-- the entry that is staged
+abbrev pub entry_in : Staged → Entry
+entry_in staged = staged.change.entry
+
+-- the tree of the new revision, where there is one
+abbrev pub tree_in : Staged → Option PathMap
+tree_in staged = staged.change.tree
+
+-- its journal
+abbrev pub log_of : {D : Type 0} {G : Ghosts D} → RepoStore D G → GateLog D G
+log_of store = store.log
+
+-- the disk that it is kept on
+abbrev pub disk_of : {D : Type 0} {G : Ghosts D} → RepoStore D G → D
+disk_of store = log.disk_of store.log
+
+-- its repository
+abbrev pub repository_of : {D : Type 0} {G : Ghosts D} → RepoStore D G → Repository
+repository_of store = store.repo
+
+-- its revisions
+abbrev pub revisions_of : {D : Type 0} {G : Ghosts D} → RepoStore D G → List Revision
+revisions_of store = store.repo.revisions
+
+-- its identity
+abbrev pub identity_of : {D : Type 0} {G : Ghosts D} → RepoStore D G → List ℕ
+identity_of store = store.repo.identity
+
+-- the device failed in a call of it
+abbrev pub HasFailed : {D : Type 0} {G : Ghosts D} → RepoStore D G → Type 0
+HasFailed store = log.HasFailed store.log
+
+-- the store is ready for what is staged: it takes it, the bytes spell it, and the journal has room for them
+pub record IsReadyFor {D : Type 0} {G : Ghosts D} (store : RepoStore D G) (staged : Staged) : Type 0 where
+  pub change : IsReady store.repo.revisions staged.change
+  pub set : HasSet staged.change.entry
+  pub bytes : Spells staged.bytes.items staged.change.entry
+  pub some : 0 < length staged.bytes.items
+  pub room : log.HasRoom store.log
+  pub fits : log.size_of store.log + length staged.bytes.items ≤ 2 ^ 56
+  pub working : ¬ log.HasFailed store.log

@@ -1,0 +1,77 @@
+//! Why a store refuses a call.
+ghost use Rattle.std.specs.Prelude.{◌≡◌};
+ghost use Rattle.repo_store.specs.Refusals.{number_of};
+
+use gate_log::LogFault;
+use repo_core::RepoFault;
+use std::alloc::{AllocError, AllocFailed};
+use thiserror::Error;
+
+/// Why a store refuses a call. Want of memory (70) may come as either.
+#[derive(Debug, Drop, Error)]
+pub enum StoreFault {
+    /// The repository doesn't take the change: 2, 8, 10 to 14, 17, 21, 22, 23, 25, 70.
+    #[error("{0}")]
+    Repo(RepoFault),
+    /// The journal: 31 to 36, 70. Damaged (33) also tells an entry that isn't one.
+    #[error("{0}")]
+    Log(LogFault),
+}
+
+impl StoreFault {
+    /// Its number in the table of refusals.
+    pub fn number(&self) -> u8
+        ensures { result ≡ number_of self.now }
+    {
+        match self {
+            StoreFault::Repo(fault) => fault.number(),
+            StoreFault::Log(fault) => fault.number(),
+        }
+    }
+}
+
+impl From<RepoFault> for StoreFault {
+    ghost use Rattle.std.specs.Prelude.{◌≡◌};
+    ghost use Rattle.repo_store.specs.declared.fault.StoreFault.TheVariants.{Repo};
+
+    ghost from_gives = { λ f e. e ≡ Repo f };
+
+    fn from(fault: RepoFault) -> StoreFault {
+        StoreFault::Repo(fault)
+    }
+}
+
+impl From<LogFault> for StoreFault {
+    ghost use Rattle.std.specs.Prelude.{◌≡◌};
+    ghost use Rattle.repo_store.specs.declared.fault.StoreFault.TheVariants.{Log};
+
+    ghost from_gives = { λ f e. e ≡ Log f };
+
+    fn from(fault: LogFault) -> StoreFault {
+        StoreFault::Log(fault)
+    }
+}
+
+impl From<AllocError> for StoreFault {
+    ghost use Rattle.std.specs.Prelude.{◌≡◌};
+    ghost use Rattle.gate_log.specs.declared.fault.LogFault.TheVariants.{OutOfMemory};
+    ghost use Rattle.repo_store.specs.declared.fault.StoreFault.TheVariants.{Log};
+
+    ghost from_gives = { λ _ e. e ≡ Log OutOfMemory };
+
+    fn from(_: AllocError) -> StoreFault {
+        StoreFault::Log(LogFault::OutOfMemory)
+    }
+}
+
+impl<T: Drop> From<AllocFailed<T>> for StoreFault {
+    ghost use Rattle.std.specs.Prelude.{◌≡◌};
+    ghost use Rattle.gate_log.specs.declared.fault.LogFault.TheVariants.{OutOfMemory};
+    ghost use Rattle.repo_store.specs.declared.fault.StoreFault.TheVariants.{Log};
+
+    ghost from_gives = { λ _ e. e ≡ Log OutOfMemory };
+
+    fn from(_: AllocFailed<T>) -> StoreFault {
+        StoreFault::Log(LogFault::OutOfMemory)
+    }
+}

@@ -1,0 +1,34 @@
+//! A repository that is kept on a disk: each accepted change is an entry of a journal, in the dump text that says it.
+//!
+//! The first entry is the dump's head with the identity, and revision 0's record. A new revision is an entry of its record
+//! and its nodes; other properties of a revision are an entry of that revision's record alone, with the whole map. All of
+//! it is in the canonical spelling (the dump-load-format notes), so that the journal is itself a dump of the history.
+//! An entry is acknowledged once its gate is synced (`gate_log`).
+//!
+//! ```text
+//! let mut store = RepoStore::create(alloc, HostDisk::create(&rt, alloc, "folder")?, identity)?;
+//! let committed = store.commit(alloc, store.repo().head(), set, props, Moment::from_micros(now))?;
+//! let store = RepoStore::open(alloc, store.into_disk())?;
+//! let text = store.export(alloc, committed.number)?;
+//! ```
+//!
+//! At each moment since a call began, a stop leaves an image that reopens to the repository before the call or after it;
+//! once the call has answered Ok, to the one after it. Opening answers 33 for the first entry that is damaged, and only
+//! there.
+#![tactic(auto)]
+
+pub use committed::Committed;
+pub use fault::StoreFault;
+pub use staged::Staged;
+pub use store::RepoStore;
+
+mod committed;
+mod fault;
+mod form;
+mod read;
+mod replay;
+mod spell;
+mod staged;
+mod store;
+#[cfg(test)]
+mod tests;

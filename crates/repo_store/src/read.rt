@@ -1,0 +1,255 @@
+//! How entries are read.
+ghost use Rattle.std.specs.Prelude.{◌≡◌, ◌∷◌, ◌++◌, ◌↔◌, [], ℕ, List, map, false, Some, IfOk, IfNone, IfSome, OnOk, IsErrOf, IsTrue};
+ghost use Rattle.node_base.specs.Props.{PropMap};
+ghost use Rattle.dump_text.specs.Canon.{canon_revision};
+ghost use Rattle.dump_text.specs.Streams.{dump, reading, Reads, has_failed};
+ghost use Rattle.dump_text.specs.Written.{AreFormed, AreRecords, read_revision};
+ghost use Rattle.dump_text.specs.declared.state.ReadState.{ReadState};
+ghost use Rattle.dump_text.specs.declared.record.DumpRecord.{DumpRecord as RecordOf};
+ghost use Rattle.dump_text.specs.declared.record.DumpRecord.TheVariants as told;
+ghost use Rattle.dump_text.specs.declared.record.NodeRecord.{NodeRecord as NodeOf};
+ghost use Rattle.repo_core.specs.declared.entry.Entry.{Entry as EntryOf};
+ghost use Rattle.repo_store.specs.Journal.{IsBeginning, Spells};
+ghost use Rattle.repo_store.specs.Readings.{records_of, so_far, AreReadAs, IsDumpOf, IsRevisionOf};
+
+use crate::spell;
+use dump_text::{DumpFault, DumpReader, DumpRecord, NodeRecord, RevRecord, write_revision};
+use node_base::{Props, RevNo};
+use std::alloc::{AllocError, AllocFailed, Global};
+use uuid::Uuid;
+
+/// Why bytes aren't read as an entry.
+#[derive(Clone, Copy, Debug, PartialEq, Eq)]
+pub enum ReadFault {
+    /// They are none.
+    Bad,
+    /// A growth was refused.
+    OutOfMemory,
+}
+
+impl From<AllocError> for ReadFault {
+    ghost use Rattle.std.specs.Prelude.{◌≡◌};
+    ghost use Rattle.repo_store.specs.declared.read.ReadFault.TheVariants.{OutOfMemory};
+
+    ghost from_gives = { λ _ e. e ≡ OutOfMemory };
+
+    fn from(_: AllocError) -> ReadFault {
+        ReadFault::OutOfMemory
+    }
+}
+
+impl<T: Drop> From<AllocFailed<T>> for ReadFault {
+    ghost use Rattle.std.specs.Prelude.{◌≡◌};
+    ghost use Rattle.repo_store.specs.declared.read.ReadFault.TheVariants.{OutOfMemory};
+
+    ghost from_gives = { λ _ e. e ≡ OutOfMemory };
+
+    fn from(_: AllocFailed<T>) -> ReadFault {
+        ReadFault::OutOfMemory
+    }
+}
+
+// One piece more.
+fn feed(
+    reader: &mut DumpReader,
+    piece: &[u8],
+    records: &mut Vec<DumpRecord>,
+) -> Result<(), ReadFault>
+    requires { has_failed reader.old ≡ false }
+    ensures reads { OnOk result (reading (Reads records.old.items reader.old) piece.now ≡ Reads records.new.items reader.new) }
+    ensures bad { IsErrOf result ReadFault.Bad → (rs : List RecordOf) (r : ReadState) → reading (Reads records.old.items reader.old) piece.now ≡ Reads rs r → ⊥ }
+{
+    match reader.feed(piece, records) {
+        Ok(()) => Ok(()),
+        Err(DumpFault::OutOfMemory) => Err(ReadFault::OutOfMemory),
+        Err(_) => Err(ReadFault::Bad),
+    }
+}
+
+// The records of a dump's bytes.
+fn records_in(alloc: Global, bytes: &[u8]) -> Result<Vec<DumpRecord>, ReadFault>
+    ensures read { IfOk result (λ rs. IsDumpOf bytes.now rs.items) }
+    ensures bad { IsErrOf result ReadFault.Bad → (rs : List RecordOf) → IsDumpOf bytes.now rs → ⊥ }
+{
+    let mut reader = DumpReader::new(alloc);
+    let mut records = Vec::new(alloc);
+    feed(&mut reader, bytes, &mut records)?;
+    Ok(records)
+}
+
+// The records of bytes behind the version block.
+fn records_behind(alloc: Global, bytes: &[u8]) -> Result<Vec<DumpRecord>, ReadFault>
+    ensures read { IfOk result (λ rs. AreReadAs bytes.now rs.items) }
+    ensures bad { IsErrOf result ReadFault.Bad → (rs : List RecordOf) → AreReadAs bytes.now rs → ⊥ }
+{
+    let mut reader = DumpReader::new(alloc);
+    let mut records = Vec::new(alloc);
+    feed(
+        &mut reader,
+        b"SVN-fs-dump-format-version: 2\n\n",
+        &mut records,
+    )?;
+    feed(&mut reader, bytes, &mut records)?;
+    Ok(records)
+}
+
+// The first record of one revision.
+#[tactic(auto, using(crate::proofs::Reading::second_revision))]
+fn first(
+    alloc: Global,
+    revision: Option<RevRecord>,
+    number: RevNo,
+    props: Props,
+) -> Result<RevRecord, ReadFault>
+    ensures joined { IfOk result (λ r. records_of r ≡ so_far revision ++ told.Revision number props ∷ []) }
+    ensures bad { IsErrOf result ReadFault.Bad → (rest : List RecordOf) (n : ℕ) (ps : PropMap) (nodes : List NodeOf)
+        → so_far revision ++ told.Revision number props ∷ rest ≡ told.Revision n ps ∷ map told.Node nodes → ⊥ }
+{
+    match revision {
+        Some(_) => Err(ReadFault::Bad),
+        None => Ok(RevRecord {
+            number,
+            props,
+            nodes: Vec::new(alloc),
+        }),
+    }
+}
+
+// A node more of one revision.
+#[tactic(auto, using(crate::proofs::Reading::early_node))]
+fn node_more(revision: Option<RevRecord>, node: NodeRecord) -> Result<RevRecord, ReadFault>
+    ensures joined { IfOk result (λ r. records_of r ≡ so_far revision ++ told.Node node ∷ []) }
+    ensures bad { IsErrOf result ReadFault.Bad → (rest : List RecordOf) (n : ℕ) (ps : PropMap) (nodes : List NodeOf)
+        → so_far revision ++ told.Node node ∷ rest ≡ told.Revision n ps ∷ map told.Node nodes → ⊥ }
+{
+    match revision {
+        Some(revision) => {
+            let mut revision = revision;
+            revision.nodes.push(node)?;
+            Ok(revision)
+        }
+        None => Err(ReadFault::Bad),
+    }
+}
+
+// A record more of one revision.
+#[tactic(auto, using(crate::proofs::Reading::an_identity))]
+fn join(
+    alloc: Global,
+    revision: Option<RevRecord>,
+    next: DumpRecord,
+) -> Result<RevRecord, ReadFault>
+    ensures joined { IfOk result (λ r. records_of r ≡ so_far revision ++ next ∷ []) }
+    ensures bad { IsErrOf result ReadFault.Bad → (rest : List RecordOf) (n : ℕ) (ps : PropMap) (nodes : List NodeOf)
+        → so_far revision ++ next ∷ rest ≡ told.Revision n ps ∷ map told.Node nodes → ⊥ }
+{
+    match next {
+        DumpRecord::Revision(number, props) => first(alloc, revision, number, props),
+        DumpRecord::Node(node) => node_more(revision, node),
+        DumpRecord::Identity(_) => Err(ReadFault::Bad),
+    }
+}
+
+// The one revision that records say.
+#[tactic(auto, using(crate::proofs::Reading::no_record))]
+fn revision_of(alloc: Global, records: Vec<DumpRecord>) -> Result<RevRecord, ReadFault>
+    ensures read { IfOk result (λ r. records_of r ≡ records.items) }
+    ensures bad { IsErrOf result ReadFault.Bad → (n : ℕ) (props : PropMap) (nodes : List NodeOf)
+        → records.items ≡ told.Revision n props ∷ map told.Node nodes → ⊥ }
+{
+    let mut revision = None;
+    for next in records {
+        revision = Some(join(alloc, revision, next)?);
+    }
+    match revision {
+        Some(revision) => Ok(revision),
+        None => Err(ReadFault::Bad),
+    }
+}
+
+// Whether bytes are the canonical spelling of a revision.
+fn is_canonical(alloc: Global, revision: &RevRecord, bytes: &[u8]) -> Result<bool, AllocError>
+    ensures holds { IfOk result (λ b. IsTrue b ↔ (canon_revision revision.now ≡ bytes.now)) }
+    ensures readable { OnOk result (AreFormed revision.now.nodes.items → AreRecords (canon_revision revision.now) (read_revision revision.now)) }
+{
+    let mut written = Vec::with_capacity(alloc, bytes.len())?;
+    if write_revision(&mut written, revision).is_err() {
+        return Err(AllocError);
+    }
+    Ok(written.as_slice() == bytes)
+}
+
+/// The revision that an entry's bytes spell, its nodes in their order.
+#[tactic(auto, using(crate::proofs::Reading::is_revision))]
+pub fn read_revision(alloc: Global, bytes: &[u8]) -> Result<RevRecord, ReadFault>
+    ensures read { IfOk result (IsRevisionOf bytes.now) }
+{
+    let records = records_behind(alloc, bytes)?;
+    let revision = revision_of(alloc, records)?;
+    let canonical = is_canonical(alloc, &revision, bytes)?;
+    if canonical {
+        Ok(revision)
+    } else {
+        Err(ReadFault::Bad)
+    }
+}
+
+// The identity that a record says.
+fn identity_in(said: &DumpRecord) -> Option<Uuid>
+    ensures some { IfSome result (λ id. said.now ≡ told.Identity id) }
+    ensures none { IfNone result ((id : List ℕ) → said.now ≡ told.Identity id → ⊥) }
+{
+    match said {
+        DumpRecord::Identity(identity) => Some(*identity),
+        _ => None,
+    }
+}
+
+// The properties of revision 0 that a record says.
+fn zero_in(said: DumpRecord) -> Option<Props>
+    ensures some { IfSome result (λ p. said ≡ told.Revision 0 p) }
+    ensures none { IfNone result ((p : PropMap) → said ≡ told.Revision 0 p → ⊥) }
+{
+    match said {
+        DumpRecord::Revision(number, props) => {
+            if number == RevNo::ZERO {
+                Some(props)
+            } else {
+                None
+            }
+        }
+        _ => None,
+    }
+}
+
+// The identity and the properties that two records say.
+fn beginning_of(records: Vec<DumpRecord>) -> Option<(Uuid, Props)>
+    ensures read { IfSome result (λ p. records.items ≡ told.Identity p.0 ∷ told.Revision 0 p.1 ∷ []) }
+    ensures bad { IfNone result ((identity : List ℕ) (props : PropMap) → records.items ≡ told.Identity identity ∷ told.Revision 0 props ∷ [] → ⊥) }
+{
+    let mut records = records;
+    if records.len() != 2 {
+        return None;
+    }
+    let identity = identity_in(&records[0])?;
+    let last = records.pop()?;
+    let props = zero_in(last)?;
+    Some((identity, props))
+}
+
+/// The identity and revision 0's properties that the first entry's bytes spell.
+#[tactic(auto, using(crate::proofs::Reading::is_beginning))]
+pub fn read_beginning(alloc: Global, bytes: &[u8]) -> Result<(Uuid, Props), ReadFault>
+    ensures read { IfOk result (λ p. IsBeginning bytes.now p.0 p.1) }
+{
+    let records = records_in(alloc, bytes)?;
+    let Some((identity, props)) = beginning_of(records) else {
+        return Err(ReadFault::Bad);
+    };
+    let written = spell::beginning(alloc, &identity, &props)?;
+    if written.as_slice() == bytes {
+        Ok((identity, props))
+    } else {
+        Err(ReadFault::Bad)
+    }
+}

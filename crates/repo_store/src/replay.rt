@@ -1,0 +1,202 @@
+//! The repository that a journal's entries stand for.
+ghost use Rattle.std.specs.Prelude.{◌≡◌, ◌<◌, ◌≤◌, ◌+◌, ◌⊎◌, ◌↔◌, ℕ, List, [], map, length, slice_get, take, Some, None, IfOk, IfErr, OnOk, IsErrOf};
+ghost use Rattle.std.specs.Option.{option_map};
+ghost use Rattle.node_base.specs.Props.{PropMap};
+ghost use Rattle.dump_load.specs.Changes.{IsNormal};
+ghost use Rattle.dump_load.specs.Records.{change_of};
+ghost use Rattle.fleet_disk.specs.Rules.{LeavesOnly, Rose, Within};
+ghost use Rattle.gate_log.specs.Log.{disk_of, ends_of, entries_of, HasFailed};
+ghost use Rattle.gate_log.specs.declared.fault.LogFault.TheVariants as log_fault;
+ghost use Rattle.repo_core.specs.Repository.{Revision, Repository, fresh};
+ghost use Rattle.repo_core.specs.Entries.{with_entry_in};
+ghost use Rattle.repo_core.specs.Refusals.{by_repository};
+ghost use Rattle.repo_core.specs.declared.entry.Entry.{Entry as EntryOf};
+ghost use Rattle.repo_core.specs.declared.entry.Entry.TheVariants.{Revised, Mapped};
+ghost use Rattle.repo_store.specs.Forms.{form_fault};
+ghost use Rattle.repo_store.specs.Refusals.{IsReplayFault};
+ghost use Rattle.repo_store.specs.Journal.{IsBeginning, Spells, Takes, StandsFor, IsReached};
+
+use crate::form::judge_form;
+use crate::read::{ReadFault, read_beginning, read_revision};
+use dump_load::{Change, ChangeSet};
+use dump_text::{NodeRecord, RevRecord};
+use fleet_disk::Disk;
+use gate_log::{GateLog, LogFault};
+use node_base::{Props, RevNo};
+use repo_core::{Repo, RepoFault};
+use std::alloc::{AllocError, Global};
+
+// The changes that records state, in their order.
+fn changes_of(alloc: Global, nodes: Vec<NodeRecord>) -> Result<Vec<Change>, AllocError>
+    ensures { IfOk result (λ v. v.items ≡ map change_of nodes.items) }
+{
+    nodes
+        .into_iter()
+        .map(|node| Change::from_record(node))
+        .collect(alloc)
+}
+
+// The set that an entry's nodes are.
+fn set_of(alloc: Global, nodes: Vec<NodeRecord>) -> Result<ChangeSet, ReadFault>
+    ensures set { IfOk result (λ s. s ≡ map change_of nodes.items) }
+    ensures normal { OnOk result (IsNormal (map change_of nodes.items)) }
+    ensures form { OnOk result (form_fault (map change_of nodes.items) ≡ None) }
+    ensures bad { IsErrOf result ReadFault.Bad → IsNormal (map change_of nodes.items) → form_fault (map change_of nodes.items) ≡ None → ⊥ }
+{
+    let changes = changes_of(alloc, nodes)?;
+    let Some(set) = ChangeSet::from_changes(changes) else {
+        return Err(ReadFault::Bad);
+    };
+    match judge_form(&set) {
+        Ok(()) => Ok(set),
+        Err(_) => Err(ReadFault::Bad),
+    }
+}
+
+// The repository after its first entry.
+fn begin(alloc: Global, bytes: &[u8]) -> Result<Repo, ReadFault>
+    ensures begun { IfOk result (λ r. (identity : List ℕ) × (props : PropMap) × IsBeginning bytes.now identity props × (r ≡ with_entry_in (fresh identity) (Mapped 0 props))) }
+{
+    let (identity, props) = read_beginning(alloc, bytes)?;
+    let mut repo = Repo::new(alloc, identity)?;
+    match repo.put_props(RevNo::ZERO, props) {
+        Ok(()) => Ok(repo),
+        Err(_) => Err(ReadFault::Bad),
+    }
+}
+
+// Other properties for a revision that is there.
+fn take_map(repo: &mut Repo, number: RevNo, props: Props) -> Result<(), ReadFault>
+    ensures taken { OnOk result (repo.new ≡ with_entry_in repo.old (Mapped number props)) }
+    ensures accepted { OnOk result (by_repository repo.old.revisions (Mapped number props) ≡ None) }
+    ensures bad { IsErrOf result ReadFault.Bad → by_repository repo.old.revisions (Mapped number props) ≡ None → ⊥ }
+{
+    match repo.put_props(number, props) {
+        Ok(()) => Ok(()),
+        Err(_) => Err(ReadFault::Bad),
+    }
+}
+
+// The revision after the head.
+fn take_set(alloc: Global, repo: &mut Repo, set: ChangeSet, props: Props) -> Result<(), ReadFault>
+    ensures taken { OnOk result (repo.new ≡ with_entry_in repo.old (Revised (length repo.old.revisions) set props)) }
+    ensures accepted { OnOk result (by_repository repo.old.revisions (Revised (length repo.old.revisions) set props) ≡ None) }
+    ensures bad { IsErrOf result ReadFault.Bad → by_repository repo.old.revisions (Revised (length repo.old.revisions) set props) ≡ None → ⊥ }
+{
+    match repo.stage_commit(alloc, repo.head(), set, props, None) {
+        Ok(staged) => {
+            repo.install(staged);
+            Ok(())
+        }
+        Err(RepoFault::OutOfMemory) => Err(ReadFault::OutOfMemory),
+        Err(_) => Err(ReadFault::Bad),
+    }
+}
+
+// One entry more.
+fn take_entry(alloc: Global, repo: &mut Repo, bytes: &[u8]) -> Result<(), ReadFault>
+    ensures taken { OnOk result ((e : EntryOf) × Spells bytes.now e × Takes repo.old.revisions e × (repo.new ≡ with_entry_in repo.old e)) }
+{
+    let RevRecord {
+        number,
+        props,
+        nodes,
+    } = read_revision(alloc, bytes)?;
+    let next = repo.head().index() + 1;
+    if number.index() < next {
+        if nodes.is_empty() {
+            return take_map(repo, number, props);
+        }
+        return Err(ReadFault::Bad);
+    }
+    if number.index() > next {
+        return Err(ReadFault::Bad);
+    }
+    let set = set_of(alloc, nodes)?;
+    take_set(alloc, repo, set, props)
+}
+
+// What a fault of an entry is to the log's reader.
+fn damaged(entry: u64, fault: ReadFault) -> LogFault
+    ensures bad { fault ≡ ReadFault.Bad → result ≡ log_fault.Damaged entry }
+    ensures memory { fault ≡ ReadFault.OutOfMemory → result ≡ log_fault.OutOfMemory }
+{
+    match fault {
+        ReadFault::Bad => LogFault::Damaged(entry),
+        ReadFault::OutOfMemory => LogFault::OutOfMemory,
+    }
+}
+
+// The repository after one entry more, which is read from the log.
+fn read_next<D: Disk>(
+    alloc: Global,
+    log: &mut GateLog<D>,
+    entry: u64,
+    repo: &mut Repo,
+) -> Result<(), LogFault>
+    requires there { entry < length (ends_of log.old) }
+    requires working { ¬ HasFailed log.old }
+    ensures taken { D.honest (disk_of log.old) → OnOk result ((bytes : List ℕ) × (e : EntryOf) × (slice_get (entries_of log.old) entry ≡ Some bytes) × Spells bytes e × Takes repo.old.revisions e × (repo.new ≡ with_entry_in repo.old e)) }
+    ensures damaged { D.honest (disk_of log.old) → (k : ℕ) → IsErrOf result (log_fault.Damaged k) → k ≡ entry }
+    ensures same { D.honest (disk_of log.old) → entries_of log.new ≡ entries_of log.old }
+    ensures ends { ends_of log.new ≡ ends_of log.old }
+    ensures inside { D.honest (disk_of log.old) → Within (D.may_leave (disk_of log.new)) (D.may_leave (disk_of log.old)) }
+    ensures any_moment { D.honest (disk_of log.old) → LeavesOnly D.clock D.left_since (disk_of log.old) (disk_of log.new) (D.may_leave (disk_of log.old)) }
+    ensures device { IsErrOf result log_fault.DeviceFailed → Rose (D.failures (disk_of log.old)) (D.failures (disk_of log.new)) }
+    ensures working { OnOk result (¬ HasFailed log.new) }
+    ensures no_other { IfErr result IsReplayFault }
+    ensures honest { D.honest (disk_of log.old) ↔ D.honest (disk_of log.new) }
+    ensures later { D.failures (disk_of log.old) ≤ D.failures (disk_of log.new) }
+{
+    let bytes = log.read_entry(alloc, entry)?;
+    match take_entry(alloc, repo, &bytes) {
+        Ok(()) => Ok(()),
+        Err(fault) => Err(damaged(entry, fault)),
+    }
+}
+
+// The repository after the first entry, which is read from the log.
+fn read_first<D: Disk>(alloc: Global, log: &mut GateLog<D>) -> Result<Repo, LogFault>
+    requires there { 0 < length (ends_of log.old) }
+    requires working { ¬ HasFailed log.old }
+    ensures begun { D.honest (disk_of log.old) → IfOk result (λ r. (bytes : List ℕ) × (props : PropMap) × (slice_get (entries_of log.old) 0 ≡ Some bytes) × IsBeginning bytes r.identity props × (r ≡ with_entry_in (fresh r.identity) (Mapped 0 props))) }
+    ensures damaged { D.honest (disk_of log.old) → (k : ℕ) → IsErrOf result (log_fault.Damaged k) → k ≡ 0 }
+    ensures same { D.honest (disk_of log.old) → entries_of log.new ≡ entries_of log.old }
+    ensures ends { ends_of log.new ≡ ends_of log.old }
+    ensures inside { D.honest (disk_of log.old) → Within (D.may_leave (disk_of log.new)) (D.may_leave (disk_of log.old)) }
+    ensures any_moment { D.honest (disk_of log.old) → LeavesOnly D.clock D.left_since (disk_of log.old) (disk_of log.new) (D.may_leave (disk_of log.old)) }
+    ensures device { IsErrOf result log_fault.DeviceFailed → Rose (D.failures (disk_of log.old)) (D.failures (disk_of log.new)) }
+    ensures working { OnOk result (¬ HasFailed log.new) }
+    ensures no_other { IfErr result IsReplayFault }
+    ensures honest { D.honest (disk_of log.old) ↔ D.honest (disk_of log.new) }
+    ensures later { D.failures (disk_of log.old) ≤ D.failures (disk_of log.new) }
+{
+    let bytes = log.read_entry(alloc, 0)?;
+    match begin(alloc, &bytes) {
+        Ok(repo) => Ok(repo),
+        Err(fault) => Err(damaged(0, fault)),
+    }
+}
+
+/// The repository that a log's entries stand for.
+pub fn replay<D: Disk>(alloc: Global, log: &mut GateLog<D>) -> Result<Repo, LogFault>
+    requires there { 0 < length (ends_of log.old) }
+    requires working { ¬ HasFailed log.old }
+    ensures stands { D.honest (disk_of log.old) → IfOk result (λ r. StandsFor (entries_of log.old) r.identity r.revisions) }
+    ensures damaged { D.honest (disk_of log.old) → (k : ℕ) → IsErrOf result (log_fault.Damaged k) → IsReached k (entries_of log.old) }
+    ensures same { D.honest (disk_of log.old) → entries_of log.new ≡ entries_of log.old }
+    ensures ends { ends_of log.new ≡ ends_of log.old }
+    ensures inside { D.honest (disk_of log.old) → Within (D.may_leave (disk_of log.new)) (D.may_leave (disk_of log.old)) }
+    ensures any_moment { D.honest (disk_of log.old) → LeavesOnly D.clock D.left_since (disk_of log.old) (disk_of log.new) (D.may_leave (disk_of log.old)) }
+    ensures device { IsErrOf result log_fault.DeviceFailed → Rose (D.failures (disk_of log.old)) (D.failures (disk_of log.new)) }
+    ensures working { OnOk result (¬ HasFailed log.new) }
+    ensures no_other { IfErr result IsReplayFault }
+    ensures honest { D.honest (disk_of log.old) ↔ D.honest (disk_of log.new) }
+    ensures later { D.failures (disk_of log.old) ≤ D.failures (disk_of log.new) }
+{
+    let mut repo = read_first(alloc, log)?;
+    for entry in 1..log.len() {
+        read_next(alloc, log, entry, &mut repo)?;
+    }
+    Ok(repo)
+}

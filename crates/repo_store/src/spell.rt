@@ -1,0 +1,100 @@
+//! How entries are written.
+ghost use Rattle.std.specs.Prelude.{◌≡◌, ◌∷◌, ◌++◌, [], IfOk, OnOk, None};
+ghost use Rattle.dump_text.specs.Canon.{canon_entry, canon_revision};
+ghost use Rattle.dump_text.specs.Written.{AreFormed, AreRecords, read_revision};
+ghost use Rattle.dump_text.specs.declared.record.DumpRecord.TheVariants as told;
+ghost use Rattle.repo_core.specs.declared.entry.Entry.TheVariants.{Revised, Mapped};
+ghost use Rattle.repo_store.specs.Journal.{spelling, Spells, IsBeginning};
+ghost use Rattle.repo_store.specs.Forms.{form_fault, HasForm};
+
+use dump_load::ChangeSet;
+use dump_text::law::dumps_go_on;
+use dump_text::{RevRecord, write_head, write_props_entry, write_revision};
+use node_base::{Props, RevNo};
+use repo_core::Entry;
+use std::alloc::{AllocError, Global};
+use uuid::Uuid;
+
+// What a node's headers have, more or less.
+const NODE_BYTES: usize = 512;
+
+// Room for a revision's entry, more or less.
+fn room_for(set: &ChangeSet) -> usize {
+    let mut room = NODE_BYTES;
+    for change in set.changes() {
+        room = room.saturating_add(NODE_BYTES);
+        if let Some(text) = &change.text {
+            room = room.saturating_add(text.len());
+        }
+    }
+    room
+}
+
+/// The first entry: the head with the identity, and revision 0's record.
+#[tactic(auto, using(crate::proofs::Spelling::beginning_spelled))]
+pub fn beginning(alloc: Global, identity: &Uuid, props: &Props) -> Result<Vec<u8>, AllocError>
+    ensures { IfOk result (λ v. IsBeginning v.items identity.now props.now) }
+{
+    dumps_go_on();
+    let mut bytes = Vec::new(alloc);
+    if write_head(&mut bytes, Some(identity)).is_err() {
+        return Err(AllocError);
+    }
+    if write_props_entry(&mut bytes, RevNo::ZERO, props).is_err() {
+        return Err(AllocError);
+    }
+    Ok(bytes)
+}
+
+// The entry of a revision's other properties.
+fn map_bytes(alloc: Global, number: RevNo, props: &Props) -> Result<Vec<u8>, AllocError>
+    ensures canonical { IfOk result (λ v. v.items ≡ canon_entry number props.now) }
+    ensures readable { OnOk result (AreRecords (canon_entry number props.now) (told.Revision number props.now ∷ [])) }
+{
+    let mut bytes = Vec::new(alloc);
+    if write_props_entry(&mut bytes, number, props).is_err() {
+        return Err(AllocError);
+    }
+    Ok(bytes)
+}
+
+// The canonical spelling of a revision.
+fn text_of(alloc: Global, room: usize, revision: &RevRecord) -> Result<Vec<u8>, AllocError>
+    ensures canonical { IfOk result (λ v. v.items ≡ canon_revision revision.now) }
+    ensures readable { OnOk result (AreFormed revision.now.nodes.items → AreRecords (canon_revision revision.now) (read_revision revision.now)) }
+{
+    let mut bytes = Vec::with_capacity(alloc, room)?;
+    if write_revision(&mut bytes, revision).is_err() {
+        return Err(AllocError);
+    }
+    Ok(bytes)
+}
+
+/// The entry of a new revision, or of one as it is now.
+pub fn revision_bytes(
+    alloc: Global,
+    number: RevNo,
+    set: &ChangeSet,
+    props: &Props,
+) -> Result<Vec<u8>, AllocError>
+    ensures canonical { IfOk result (λ v. v.items ≡ spelling (Revised number set.now props.now)) }
+    ensures spelled { form_fault set.now ≡ None → IfOk result (λ v. Spells v.items (Revised number set.now props.now)) }
+{
+    let revision = RevRecord {
+        number,
+        props: props.share()?,
+        nodes: set.to_records(alloc)?,
+    };
+    text_of(alloc, room_for(set), &revision)
+}
+
+/// The bytes of an entry.
+pub fn entry_bytes(alloc: Global, entry: &Entry) -> Result<Vec<u8>, AllocError>
+    ensures canonical { IfOk result (λ v. v.items ≡ spelling entry.now) }
+    ensures spelled { HasForm entry.now → IfOk result (λ v. Spells v.items entry.now) }
+{
+    match entry {
+        Entry::Revised { number, set, props } => revision_bytes(alloc, *number, set, props),
+        Entry::Mapped { number, props } => map_bytes(alloc, *number, props),
+    }
+}
