@@ -13,7 +13,7 @@ use Rattle.delta_editor.specs.Calls.{Adds}
 use Rattle.delta_editor.specs.declared.call.Call.{Call}
 use Rattle.delta_editor.specs.declared.call.Call.TheVariants as call
 use Rattle.ra_edit.specs.Edits as edits
-use Rattle.ra_edit.specs.Edits.{Held, Dir, Fresh, Within, Told, Named, named, At, Begun, Targeted, Inside, Announced, Says, is_free, IsCommand, IsRevision, IsSource, IsString, IsUnopened, IsOpenDir}
+use Rattle.ra_edit.specs.Edits.{Held, Dir, Fresh, Within, Told, Named, named, At, Begun, Targeted, Inside, Announced, Ended, last_calls, Says, is_free, IsCommand, IsRevision, IsSource, IsString, IsUnopened, IsOpenDir}
 use Rattle.std.specs.List.{concat}
 use Rattle.ra_edit.specs.Reading.{begin}
 use Rattle.ra_edit.specs.Streams.{reading, Reads}
@@ -413,3 +413,19 @@ prop_in_dir dp fp shows old new stage.Inside dirs now (Some f) t p n value v' q 
 -- what holds of one command holds of the command that is it
 pub as_command : (r : Result (Unit {0}) EditFault) (c d : Command) (P : At → Type 0) (Q : At → Item → Type 0) → c ≡ d → OnOk r ((at : At) (item : Item) → Forms d item → P at → Q at item) → OnOk r ((at : At) (item : Item) → Forms c item → P at → Q at item)
 as_command r c d P Q e h = subst (λ x. OnOk r ((at : At) (item : Item) → Forms x item → P at → Q at item)) (sym e) h
+
+-- ---- the end
+
+pub ends : {D F : Type 0} (dp : D → Path) (fp : F → Path) (st : Stage) (dirs : List (OpenDir D)) (file : Option (OpenFile F)) (item : Item) (at : At) (root : Bool)
+    → dirs ≡ [] → file ≡ None → root ≡ has_root st → IsCommand (codes "finish-replay") [] item → Stands dp fp st dirs file at → Says at item (last_calls root) Ended
+ends dp fp stage.Begun dirs file item at root none nf r cmd h = subst (λ b. Says at item (last_calls b) Ended) (sym r) (edits.FinishNone at item (inl h.0) cmd)
+ends dp fp stage.Targeted dirs file item at root none nf r cmd h = subst (λ b. Says at item (last_calls b) Ended) (sym r) (edits.FinishNone at item (inr h.0) cmd)
+ends dp fp stage.Inside dirs None item at root none nf r cmd h = subst (λ b. Says at item (last_calls b) Ended) (sym r) (subst (λ a. Says a item (last_calls true) Ended) (sym (h.1 ∙ ap Inside (h.2 ∙ ap (dirs_named dp) none))) (edits.Finish item cmd))
+ends dp fp stage.Inside dirs (Some f) item at root none nf r cmd h = cc
+ends dp fp (stage.Announced b) dirs file item at root none nf r cmd h = subst (λ x. Says at item (last_calls x) Ended) (sym r) (subst (λ a. Says a item (last_calls b) Ended) (sym h.0) (edits.FinishAnnounced b item cmd))
+
+pub root_shown : {S : Type 0} (shows : S → List Call → Type 0) (a b c : S) (p : Path) → p ≡ [] → Adds shows a b (call.OpenRoot None ∷ []) → Adds shows b c (call.CloseDir p ∷ []) → Adds shows a c (call.OpenRoot None ∷ call.CloseDir [] ∷ [])
+root_shown shows a b c p e f h = adds_join shows a b c (call.OpenRoot None ∷ []) (call.CloseDir [] ∷ []) f (subst (λ q. Adds shows b c (call.CloseDir q ∷ [])) e h)
+
+pub done_after_root : {S T : Type 0} (shows : S → List Call → Type 0) (done_shows : T → List Call → Type 0) (a b c : S) (d : T) → b ≡ a → Adds shows b c (call.OpenRoot None ∷ call.CloseDir [] ∷ []) → ((shown : List Call) → shows c shown → done_shows d (shown ++ call.CloseEdit ∷ [])) → (shown : List Call) → shows a shown → done_shows d (shown ++ last_calls false)
+done_after_root shows done_shows a b c d e f k shown h = subst (done_shows d) (append_assoc shown (call.OpenRoot None ∷ call.CloseDir [] ∷ []) (call.CloseEdit ∷ [])) (k (shown ++ call.OpenRoot None ∷ call.CloseDir [] ∷ []) (f shown (subst (λ x. shows x shown) (sym e) h)))

@@ -1,5 +1,5 @@
 -- Where the commands of a drive stand, and what was given of an open file's text.
-use Rattle.std.specs.Prelude.{◌≡◌, ℕ, Bool, true, false, List, [], ◌∷◌, map, reverse, Option, Some, None, codes}
+use Rattle.std.specs.Prelude.{◌++◌, ◌≡◌, ℕ, Bool, true, false, List, [], ◌∷◌, map, reverse, Option, Some, None, codes}
 use Rattle.md5.specs.Md5.{Holds, md5}
 use Rattle.ra_edit.specs.Reading.{is_between}
 use Rattle.ra_edit.specs.declared.reading.Reading.{Reading}
@@ -7,7 +7,7 @@ use Rattle.ra_item.specs.Items.{Item}
 use Rattle.node_base.specs.Path.{Path}
 use Rattle.delta_editor.specs.Calls.{Adds}
 use Rattle.delta_editor.specs.declared.call.Call.{Call}
-use Rattle.ra_edit.specs.Edits.{Held, Dir, Fresh, Within, Told, Named, named, At, Begun, Targeted, Inside, Announced, Says, IsCommand}
+use Rattle.ra_edit.specs.Edits.{Held, Dir, Fresh, Within, Told, Named, named, At, Begun, Targeted, Inside, Announced, Ended, Says, IsCommand}
 use Rattle.ra_edit.specs.declared.receive_edit.Given.{Given}
 use Rattle.ra_edit.specs.declared.receive_edit.Given.TheVariants as given
 use Rattle.ra_edit.specs.declared.receive_edit.OpenDir.{OpenDir}
@@ -92,3 +92,7 @@ pub record FileMoves {E F : Type 0} (file_path : F → Path) (shows : E → List
 abbrev pub Stepped : {E : Type 0} → (E → List Call → Type 0) → E → E → Item → At → (At → Type 0) → Bool → Type 0
 Stepped shows old new item at stands false = Moves shows old new item at stands
 Stepped shows old new item at stands true = IsCommand (codes "finish-replay") [] item × (new ≡ old) × stands at
+
+-- `finish-replay` ends the edit, and this was shown by it
+abbrev pub Finishes : {E D : Type 0} → (E → List Call → Type 0) → (D → List Call → Type 0) → E → D → Item → At → Type 0
+Finishes shows done_shows editor done item at = (calls : List Call) × Says at item calls Ended × ((shown : List Call) → shows editor shown → done_shows done (shown ++ calls))

@@ -1,6 +1,6 @@
 //! An edit that is received: what is open, and what a command does.
 
-ghost use Rattle.std.specs.Prelude.{◌≡◌, ◌+◌, ◌≤◌, ◌<◌, ◌++◌, ◌∷◌, [], ℕ, List, map, length, reverse, IfOk, IfErr, IsSomeAnd, OnOk, OnErr, Ok, Err, Some, None, true, false, vec_len, vec_capacity, slice_get};
+ghost use Rattle.std.specs.Prelude.{◌≡◌, ◌+◌, ◌≤◌, ◌<◌, ◌++◌, ◌∷◌, [], ℕ, List, map, length, reverse, IfOk, IfErr, IsSomeAnd, OnOk, OnErr, Ok, Err, Some, None, true, false, vec_len, vec_capacity, slice_get, codes};
 ghost use Rattle.std.specs.Option.{option_copied, option_map};
 ghost use Rattle.std.specs.List.{concat};
 ghost use Rattle.md5.specs.Md5.{Holds, md5};
@@ -10,9 +10,9 @@ ghost use Rattle.delta_editor.specs.Calls.{Adds};
 ghost use Rattle.delta_editor.specs.declared.call.Call.{Call};
 ghost use Rattle.delta_editor.specs.declared.call.Call.TheVariants as call;
 ghost use Rattle.ra_edit.specs.Streams.{reading, Reads};
-ghost use Rattle.ra_edit.specs.Edits.{At, Begun, is_free, last_calls, Within};
+ghost use Rattle.ra_edit.specs.Edits.{At, Begun, is_free, last_calls, Within, IsCommand};
 ghost use Rattle.ra_edit.specs.Receiving.{Forms};
-ghost use Rattle.ra_edit.specs.Edit.{Stands, Moves, dirs_named, is_unopened, is_announced, has_root, TextEnds, SumIs, FileMoves, Stepped};
+ghost use Rattle.ra_edit.specs.Edit.{Stands, Moves, dirs_named, is_unopened, is_announced, has_root, TextEnds, SumIs, FileMoves, Stepped, Finishes};
 ghost use Rattle.ra_edit.specs.declared.receive_command.Command.TheVariants as command;
 ghost use Rattle.ra_edit.specs.declared.receive_edit.Given.TheVariants as given;
 
@@ -485,18 +485,43 @@ impl<E: Editor> Edit<E> {
 
     /// Ends the edit at `finish-replay`: the root is opened and closed where it wasn't, and the editor's `close_edit` is called.
     /// `BadToken` (46) where something is open; then it is discarded, and the edit is aborted.
-    pub fn finish(self) -> Result<E::Done, EditFault> {
+    pub fn finish(self) -> Result<E::Done, EditFault>
+        ensures done { IfOk result (λ d. (at : At) (item : Item) → IsCommand (codes "finish-replay") [] item → Stands E.dir_path E.file_path self.stage self.dirs.items self.file at → Finishes E.shows E.done_shows self.editor d item at) }
+    {
         if !self.is_closed() {
             self.abort();
             return Err(EditFault::BadToken);
         }
         let root = self.has_root();
-        let mut editor = self.into_editor();
-        if !root && let Err(fault) = show_root(&mut editor) {
+        let mut editor = self.into_closed();
+        if root {
+            return Ok(editor.close_edit()?);
+        }
+        if let Err(fault) = show_root(&mut editor) {
             editor.abort_edit();
             return Err(fault.into());
         }
         Ok(editor.close_edit()?)
+    }
+
+    // The editor, where nothing is open.
+    fn into_closed(self) -> E
+        requires dirs { self.dirs.items ≡ [] }
+        requires file { self.file ≡ None }
+        ensures { result ≡ self.editor }
+    {
+        let Edit {
+            editor,
+            stage: _,
+            dirs,
+            file,
+        } = self;
+        match file {
+            None => {}
+            Some(_open) => unreachable!(),
+        }
+        dirs.destroy_empty();
+        editor
     }
 
     /// Discards what is open, and aborts the edit.
@@ -543,9 +568,12 @@ fn slice_of(value: &Option<Vec<u8>>) -> Option<&[u8]>
 }
 
 // The root, opened without a base and closed.
-fn show_root<E: Editor>(editor: &mut E) -> Result<(), EditorFault> {
+fn show_root<E: Editor>(editor: &mut E) -> Result<(), EditorFault>
+    ensures shown { OnOk result (Adds E.shows editor.old editor.new (call.OpenRoot None ∷ call.CloseDir [] ∷ [])) }
+{
     let root = editor.open_root(None)?;
-    editor.close_dir(root)
+    editor.close_dir(root)?;
+    Ok(())
 }
 
 // Gives a property of the open file, which has this token, a value, or removes it.
