@@ -57,7 +57,7 @@ fn copied(alloc: Global, numbers: &mut Numbers, at: &str, head: u16) -> Result<C
     let mut change = bare(alloc, at, Action::Add)?;
     change.source = Some(Source {
         path: crate::tests::path(alloc, numbers.one_of(&PATHS))?,
-        revision: RevNo::new(numbers.below(u64::from(head) + 1) as u16),
+        revision: RevNo::new(u16::try_from(numbers.below(u64::from(head) + 1)).unwrap_or(0)),
     });
     Ok(change)
 }
