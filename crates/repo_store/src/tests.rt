@@ -338,16 +338,22 @@ fn a_store_where_one_is(rt: HostRuntime) -> Result<(), Fail> {
     Ok(())
 }
 
+// The number of the refusal of a creation whose calls after the first ones fail once, and 0 where it isn't refused.
+fn creation(alloc: Global, calls: u64) -> Result<u8, Fail> {
+    let disk = FuseDisk::new(MemDisk::new(alloc), calls, Fuse::Once);
+    let made = RepoStore::create(alloc, disk, identity()?);
+    match made.map_err(|refused| refused.0) {
+        Ok(_) => Ok(0),
+        Err(fault) => Ok(fault.number()),
+    }
+}
+
 #[test]
-fn a_create_whose_call_fails_hands_the_disk_back(rt: HostRuntime) -> Result<(), Fail> {
+fn a_create_whose_call_fails(rt: HostRuntime) -> Result<(), Fail> {
     let alloc = rt.alloc();
     // Four calls begin the log, and five append the first entry.
     for calls in 0u64..9 {
-        let fused = FuseDisk::new(MemDisk::new(alloc), calls, Fuse::Once);
-        match RepoStore::create(alloc, fused, identity()?) {
-            Ok(_) => assert!(rt; false, "call {calls} passed"),
-            Err((fault, _disk)) => assert_eq!(rt; fault.number(), 31),
-        }
+        assert_eq!(rt; creation(alloc, calls)?, 31);
     }
     Ok(())
 }
