@@ -11,7 +11,11 @@ use std::process::Abort;
 use std::test::Fail;
 
 /// The set of changes that is built of the calls which show a set.
-pub fn built(alloc: Global, trees: &[Tree], set: &ChangeSet) -> Result<ChangeSet, EditorFault> {
+pub(crate) fn built(
+    alloc: Global,
+    trees: &[Tree],
+    set: &ChangeSet,
+) -> Result<ChangeSet, EditorFault> {
     if trees.len() > 65_535 {
         return Err(EditorFault::TooLong);
     }
@@ -41,7 +45,7 @@ fn same_entry(one: &Entry<'_>, other: &Entry<'_>) -> bool {
 }
 
 /// Whether two trees have the same paths with the same nodes.
-pub fn same_tree(alloc: Global, one: &Tree, other: &Tree) -> Result<bool, Fail> {
+pub(crate) fn same_tree(alloc: Global, one: &Tree, other: &Tree) -> Result<bool, Fail> {
     let these = one.list(alloc)?;
     let those = other.list(alloc)?;
     if these.len() != those.len() {
@@ -56,7 +60,7 @@ pub fn same_tree(alloc: Global, one: &Tree, other: &Tree) -> Result<bool, Fail> 
 }
 
 /// Whether a set and what is built of the calls that show it make the same tree.
-pub fn comes_back(alloc: Global, trees: &[Tree], set: &ChangeSet) -> Result<bool, Fail> {
+pub(crate) fn comes_back(alloc: Global, trees: &[Tree], set: &ChangeSet) -> Result<bool, Fail> {
     if trees.len() > 65_535 {
         return Ok(false);
     }

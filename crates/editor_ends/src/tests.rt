@@ -11,16 +11,16 @@ use std::test::Fail;
 // The MD5 of no bytes, as RFC 1321 has it.
 const OF_NOTHING: &str = "[212, 29, 140, 217, 143, 0, 178, 4, 233, 128, 9, 152, 236, 248, 66, 126]";
 
-pub fn path(alloc: Global, text: &str) -> Result<NodePath, Fail> {
+pub(crate) fn path(alloc: Global, text: &str) -> Result<NodePath, Fail> {
     Ok(NodePath::parse(alloc, text.as_bytes())?)
 }
 
-pub fn text(alloc: Global, bytes: &str) -> Result<Option<Text>, Fail> {
+pub(crate) fn text(alloc: Global, bytes: &str) -> Result<Option<Text>, Fail> {
     let bytes = Vec::from_slice(alloc, bytes.as_bytes())?;
     Ok(Some(Text::new(alloc, bytes)?))
 }
 
-pub fn props(alloc: Global, pairs: &[(&str, &str)]) -> Result<Option<Props>, Fail> {
+pub(crate) fn props(alloc: Global, pairs: &[(&str, &str)]) -> Result<Option<Props>, Fail> {
     let mut props = Props::empty();
     for (name, value) in pairs {
         let name = PropName::parse(alloc, name.as_bytes())?;
@@ -31,7 +31,7 @@ pub fn props(alloc: Global, pairs: &[(&str, &str)]) -> Result<Option<Props>, Fai
 }
 
 // A change without parts.
-pub fn bare(alloc: Global, at: &str, action: Action) -> Result<Change, Fail> {
+pub(crate) fn bare(alloc: Global, at: &str, action: Action) -> Result<Change, Fail> {
     Ok(Change {
         path: path(alloc, at)?,
         action,
@@ -42,14 +42,14 @@ pub fn bare(alloc: Global, at: &str, action: Action) -> Result<Change, Fail> {
     })
 }
 
-pub fn dir(alloc: Global, at: &str) -> Result<Change, Fail> {
+pub(crate) fn dir(alloc: Global, at: &str) -> Result<Change, Fail> {
     let mut change = bare(alloc, at, Action::Add)?;
     change.kind = Some(NodeKind::Dir);
     change.props = props(alloc, &[])?;
     Ok(change)
 }
 
-pub fn file(alloc: Global, at: &str, bytes: &str) -> Result<Change, Fail> {
+pub(crate) fn file(alloc: Global, at: &str, bytes: &str) -> Result<Change, Fail> {
     let mut change = bare(alloc, at, Action::Add)?;
     change.kind = Some(NodeKind::File);
     change.props = props(alloc, &[])?;
@@ -57,12 +57,12 @@ pub fn file(alloc: Global, at: &str, bytes: &str) -> Result<Change, Fail> {
     Ok(change)
 }
 
-pub fn set_of(rt: &impl Abort, changes: Vec<Change>) -> ChangeSet {
+pub(crate) fn set_of(rt: &impl Abort, changes: Vec<Change>) -> ChangeSet {
     ChangeSet::from_changes(changes).expect(rt, "a normal set")
 }
 
 // The revision that a set makes, behind the others.
-pub fn commit(alloc: Global, trees: &mut Vec<Tree>, set: &ChangeSet) -> Result<(), Fail> {
+pub(crate) fn commit(alloc: Global, trees: &mut Vec<Tree>, set: &ChangeSet) -> Result<(), Fail> {
     if trees.len() > 65_535 {
         return Ok(());
     }
@@ -167,7 +167,10 @@ fn are(alloc: Global, calls: &[Call], wanted: &str) -> Result<bool, Fail> {
 }
 
 // Revision 0, and revision 1 with a directory t and the files t/x and t/y.
-pub fn two_revisions(rt: &impl Abort, alloc: Global) -> Result<(Vec<Tree>, ChangeSet), Fail> {
+pub(crate) fn two_revisions(
+    rt: &impl Abort,
+    alloc: Global,
+) -> Result<(Vec<Tree>, ChangeSet), Fail> {
     let mut trees = Vec::new(alloc);
     commit(alloc, &mut trees, &ChangeSet::empty(alloc))?;
     let mut changes = Vec::new(alloc);
