@@ -1,5 +1,5 @@
 -- Refusals: their numbers, their texts, and the line that the program prints.
-use Rattle.std.specs.Prelude.{ℕ, ◌&&◌, nat_le, List, [], ◌∷◌, ◌++◌, map, Option, Some, None, if◌then◌else◌, codes, string_bytes}
+use Rattle.std.specs.Prelude.{ℕ, Bool, true, false, ◌&&◌, nat_le, List, [], ◌∷◌, ◌++◌, map, Option, Some, None, if◌then◌else◌, codes, string_bytes}
 use Rattle.std.specs.Fmt.{decimal}
 use Rattle.node_base.specs.declared.refusal.Refusal.{Refusal}
 use Rattle.node_base.specs.declared.refusal.Refusal.TheVariants.{BadVersion, BadHeader, BadNumber, BadLength, BadProps, BadSum, Truncated, TooLong, TextDelta, BadPath, NoSuchPath, PathThere, NotDir, NoSource, OutOfOrder, WrongNumber, KindMismatch, NoSuchRevision, BaseMismatch, Full, ReadOnly, Behind, DeviceFailed, Failed, Damaged, NoRepository, ThereAlready, LogFull, BadItem, TooDeep, ReplayForm, BadWindow, CopyWindow, BadToken, UnknownCommand, BadShape, PeerFailed, NotInitialised, AlreadyInitialised, NotEmpty, LockHeld, HolderRunning, WrongMaster, Inconsistent, NotYetCopied, NotHolder, MasterFailed, OutOfTurn, OutOfMemory}
@@ -124,6 +124,17 @@ refusal_text NotHolder = codes "the sync lock is not held"
 refusal_text (MasterFailed text) = codes "master: " ++ string_bytes text
 refusal_text OutOfTurn = codes "call out of turn"
 refusal_text OutOfMemory = codes "out of memory"
+
+-- whether a refusal tells a number, a token or a text of its own
+abbrev pub tells_more : Refusal → Bool
+tells_more (Behind head) = true
+tells_more (Damaged entry) = true
+tells_more (LockHeld token) = true
+tells_more (HolderRunning token) = true
+tells_more (Inconsistent merged copying head) = true
+tells_more (NotYetCopied n) = true
+tells_more (MasterFailed text) = true
+tells_more r = false
 
 -- the line that the program prints for a refusal
 abbrev pub fault_line : Refusal → List ℕ

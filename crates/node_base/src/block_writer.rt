@@ -2,23 +2,28 @@
 ghost use Rattle.std.specs.Prelude.{◌≡◌, ◌≤◌, length, OnOk};
 ghost use Rattle.std.specs.Io.KnownBytes.{Appends};
 ghost use Rattle.std.specs.Fmt.{decimal};
-ghost use Rattle.node_base.specs.BlockCanon.{canon_property, canon_block};
+ghost use Rattle.node_base.specs.BlockCanon.{counted, canon_property, canon_block};
 
 use crate::{PropName, PropValue, Props};
 use std::io;
 use std::io::Write;
 
+// Writes a letter with the count of some bytes, and the bytes, each line with its LF.
+fn write_counted<W: Write>(out: &mut W, letter: &str, bytes: &[u8]) -> io::Result<()>
+    ensures { OnOk result (Appends (W.contents out.old) (W.contents out.new) (counted letter.now bytes.now)) }
+{
+    let n = bytes.len();
+    write!(out, "{letter} {n}\n")?;
+    out.write_all(bytes)?;
+    out.write_all(b"\n")
+}
+
 // Writes a property.
 fn write_property<W: Write>(out: &mut W, name: &PropName, value: &PropValue) -> io::Result<()>
     ensures { OnOk result (Appends (W.contents out.old) (W.contents out.new) (canon_property (name.now, value.now))) }
 {
-    let n = name.len();
-    let m = value.len();
-    write!(out, "K {n}\n")?;
-    out.write_all(name.as_bytes())?;
-    write!(out, "\nV {m}\n")?;
-    out.write_all(value.as_slice())?;
-    out.write_all(b"\n")
+    write_counted(out, "K", name.as_bytes())?;
+    write_counted(out, "V", value.as_slice())
 }
 
 // How many digits a number has.

@@ -56,6 +56,17 @@ fn place_of(entries: &[(PropName, PropValue)], name: &[u8]) -> Result<usize, usi
     Err(low)
 }
 
+// The same name and value once more.
+fn copy_entry(
+    alloc: Global,
+    entry: &(PropName, PropValue),
+) -> Result<(PropName, PropValue), AllocError>
+    ensures { IfOk result (λ e. e ≡ entry.now) }
+{
+    let name = entry.0.copy(alloc)?;
+    Ok((name, entry.1.copy(alloc)?))
+}
+
 impl PropList {
     // No entries.
     pub fn new(alloc: Global) -> PropList
@@ -122,8 +133,8 @@ impl PropList {
         ensures { IfOk result (λ l. l ≡ self.now) }
     {
         let mut entries = Vec::with_capacity(alloc, self.entries.len())?;
-        for (name, value) in &self.entries {
-            entries.push((name.copy(alloc)?, value.copy(alloc)?))?;
+        for entry in &self.entries {
+            entries.push(copy_entry(alloc, entry)?)?;
         }
         Ok(PropList { entries })
     }
@@ -133,9 +144,9 @@ impl PropList {
         ensures { IfOk result (λ l. l ≡ without_sync self.now) }
     {
         let mut entries = Vec::new(alloc);
-        for (name, value) in &self.entries {
-            if !is_sync_name(name.as_bytes()) {
-                entries.push((name.copy(alloc)?, value.copy(alloc)?))?;
+        for entry in &self.entries {
+            if !is_sync_name(entry.0.as_bytes()) {
+                entries.push(copy_entry(alloc, entry)?)?;
             }
         }
         Ok(PropList { entries })

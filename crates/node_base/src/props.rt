@@ -4,7 +4,7 @@ ghost use Rattle.std.specs.FinMap as map;
 ghost use Rattle.std.specs.Option.{option_copied};
 ghost use Rattle.std.specs.Slice.Iter.{iter_rest};
 ghost use Rattle.node_base.specs.declared.prop_fault.PropFault.TheVariants.{TooLong, OutOfMemory};
-ghost use Rattle.node_base.specs.Props.{IsProps, props_fit, fits_with, is_sync, sync_part, without_sync, copied_beside};
+ghost use Rattle.node_base.specs.Props.{PropMap, IsProps, props_fit, fits_with, is_sync, sync_part, without_sync, copied_beside};
 
 use crate::limits::{PROPS, SYNC_PROPS};
 use crate::prop_list::PropList;
@@ -126,15 +126,24 @@ impl Props {
     pub fn copied_beside(&self, alloc: Global, copied: &Props) -> Result<Props, AllocError>
         ensures { IfOk result (λ p. p ≡ copied_beside self.now copied.now) }
     {
+        let _ = &self.list;
         let _ = &copied.list;
         let mut list = copied.others(alloc)?;
+        self.put_sync(alloc, &mut list)?;
+        let list = Arc::new(alloc, list)?;
+        Ok(Props { list: Some(list) })
+    }
+
+    // Puts those whose names begin with `svn:sync-` into entries that have none of them.
+    fn put_sync(&self, alloc: Global, list: &mut PropList) -> Result<(), AllocError>
+        ensures { OnOk result ((copied : PropMap) → list.old ≡ without_sync copied → list.new ≡ copied_beside self.now copied) }
+    {
         for (name, value) in self.entries() {
             if is_sync_name(name.as_bytes()) {
                 list.insert(name.copy(alloc)?, value.copy(alloc)?)?;
             }
         }
-        let list = Arc::new(alloc, list)?;
-        Ok(Props { list: Some(list) })
+        Ok(())
     }
 
     // The entries whose names don't begin with `svn:sync-`.
@@ -201,19 +210,37 @@ impl Props {
         ensures ok { OnOk result (self.new ≡ map.remove self.old name.now) }
         ensures err { OnErr result (self.new ≡ self.old) }
     {
-        let mut rest = match &mut self.list {
+        match &mut self.list {
             Some(list) => match Arc::get_mut(list) {
                 Some(list) => {
                     list.remove(name);
-                    return Ok(());
+                    Ok(())
                 }
-                None => list.copy(alloc)?,
+                None => self.remove_in_copy(alloc, name),
             },
-            None => return Ok(()),
-        };
+            None => Ok(()),
+        }
+    }
+
+    // The same in a copy of the entries.
+    fn remove_in_copy(&mut self, alloc: Global, name: &[u8]) -> Result<(), AllocError>
+        ensures ok { OnOk result (self.new ≡ map.remove self.old name.now) }
+        ensures err { OnErr result (self.new ≡ self.old) }
+    {
+        let mut rest = self.copied(alloc)?;
         rest.remove(name);
         self.list = Some(Arc::new(alloc, rest)?);
         Ok(())
+    }
+
+    // The entries once more.
+    fn copied(&self, alloc: Global) -> Result<PropList, AllocError>
+        ensures { IfOk result (λ l. l ≡ self.now) }
+    {
+        match &self.list {
+            Some(list) => list.copy(alloc),
+            None => Ok(PropList::new(alloc)),
+        }
     }
 
     /// The value stands at the name from now on. TooLong where the map would pass 256 names, or 16 names that begin with `svn:sync-` and are counted apart.
@@ -237,15 +264,28 @@ impl Props {
         ensures ok { OnOk result (self.new ≡ map.insert self.old name value) }
         ensures err { OnErr result (self.new ≡ self.old) }
     {
-        let mut shared = match &mut self.list {
-            Some(list) => match Arc::get_mut(list) {
-                Some(list) => return list.insert(name, value),
-                None => list.copy(alloc)?,
-            },
-            None => PropList::new(alloc),
-        };
-        shared.insert(name, value)?;
-        self.list = Some(Arc::new(alloc, shared)?);
+        if let Some(list) = &mut self.list {
+            if let Some(list) = Arc::get_mut(list) {
+                return list.insert(name, value);
+            }
+        }
+        self.put_in_copy(alloc, name, value)
+    }
+
+    // The same in a copy of the entries.
+    fn put_in_copy(
+        &mut self,
+        alloc: Global,
+        name: PropName,
+        value: PropValue,
+    ) -> Result<(), AllocError>
+        requires { IsProps (map.insert self.old name value) }
+        ensures ok { OnOk result (self.new ≡ map.insert self.old name value) }
+        ensures err { OnErr result (self.new ≡ self.old) }
+    {
+        let mut list = self.copied(alloc)?;
+        list.insert(name, value)?;
+        self.list = Some(Arc::new(alloc, list)?);
         Ok(())
     }
 }

@@ -1,7 +1,8 @@
 //! Refusals: every way in which a call says no, with its number and its text.
-ghost use Rattle.std.specs.Prelude.{◌≡◌, ◌<◌, ◌++◌, Some, IfOk, codes, string_bytes};
+ghost use Rattle.std.specs.Prelude.{◌≡◌, ◌<◌, ◌++◌, false, Some, IfOk, codes, string_bytes};
 ghost use Rattle.std.specs.Fmt.{DisplaysOnOk};
-ghost use Rattle.node_base.specs.Refusals.{inconsistent_text, refusal_number, refusal_text, shown_byte, shown_token, number_or_dash, fault_line};
+ghost use Rattle.std.specs.Option.{option_map};
+ghost use Rattle.node_base.specs.Refusals.{inconsistent_text, refusal_number, refusal_text, tells_more, shown_byte, shown_token, number_or_dash, fault_line};
 
 use crate::RevNo;
 use std::alloc::{AllocError, Global};
@@ -195,6 +196,57 @@ impl Refusal {
             Refusal::OutOfMemory => 70,
         }
     }
+
+    /// The text of a refusal that tells no more than that it is this one.
+    fn fixed_text(&self) -> &'static str
+        ensures { tells_more self.now ≡ false → result.now ≡ refusal_text self.now }
+    {
+        match self {
+            Refusal::BadVersion => "unsupported dump format version",
+            Refusal::BadHeader => "bad header",
+            Refusal::BadNumber => "bad number",
+            Refusal::BadLength => "lengths do not agree",
+            Refusal::BadProps => "bad property block",
+            Refusal::BadSum => "checksum mismatch",
+            Refusal::Truncated => "unexpected end of input",
+            Refusal::TooLong => "limit exceeded",
+            Refusal::TextDelta => "text deltas are not supported",
+            Refusal::BadPath => "bad path",
+            Refusal::NoSuchPath => "no such path",
+            Refusal::PathThere => "path already exists",
+            Refusal::NotDir => "not a directory",
+            Refusal::NoSource => "no such copy source",
+            Refusal::OutOfOrder => "changes of one path do not combine",
+            Refusal::WrongNumber => "revision out of sequence",
+            Refusal::KindMismatch => "node kind mismatch",
+            Refusal::NoSuchRevision => "no such revision",
+            Refusal::BaseMismatch => "the property is not as expected",
+            Refusal::Full => "no more revisions",
+            Refusal::ReadOnly => "the mirror is read-only",
+            Refusal::DeviceFailed => "device failed",
+            Refusal::Failed => "failed before",
+            Refusal::NoRepository => "no repository",
+            Refusal::ThereAlready => "repository already there",
+            Refusal::LogFull => "journal is full",
+            Refusal::BadItem => "bad item",
+            Refusal::TooDeep => "nesting too deep",
+            Refusal::ReplayForm => "replay form not supported",
+            Refusal::BadWindow => "bad window",
+            Refusal::CopyWindow => "window copies",
+            Refusal::BadToken => "bad token",
+            Refusal::UnknownCommand => "unknown command",
+            Refusal::BadShape => "bad command shape",
+            Refusal::PeerFailed => "stream failed",
+            Refusal::NotInitialised => "not initialized",
+            Refusal::AlreadyInitialised => "already initialized",
+            Refusal::NotEmpty => "the mirror has revisions",
+            Refusal::WrongMaster => "the source is another repository",
+            Refusal::NotHolder => "the sync lock is not held",
+            Refusal::OutOfTurn => "call out of turn",
+            Refusal::OutOfMemory => "out of memory",
+            _ => "",
+        }
+    }
 }
 
 impl fmt::Display for Refusal {
@@ -203,61 +255,38 @@ impl fmt::Display for Refusal {
     /// Its text, without a line end.
     fn fmt<W: fmt::Write>(&self, f: &mut fmt::Formatter<W>) -> fmt::Result {
         match self {
-            Refusal::Behind(head) => write!(f, "the base is not the head {head}"),
-            Refusal::Damaged(entry) => write!(f, "entry {entry} is damaged"),
-            Refusal::LockHeld(token) => write!(f, "the sync lock is held by {}", shown(token)),
-            Refusal::HolderRunning(token) => write!(f, "the holder {} is running", shown(token)),
+            Refusal::Behind(head) => write_told("the base is not the head ", head, "", f),
+            Refusal::Damaged(entry) => write_told("entry ", entry, " is damaged", f),
+            Refusal::LockHeld(token) => {
+                write_told("the sync lock is held by ", &shown(token), "", f)
+            }
+            Refusal::HolderRunning(token) => {
+                write_told("the holder ", &shown(token), " is running", f)
+            }
             Refusal::Inconsistent {
                 merged,
                 copying,
                 head,
             } => write_inconsistent(OrDash(*merged), OrDash(*copying), *head, f),
-            Refusal::NotYetCopied(number) => write!(f, "revision {number} is not copied yet"),
-            Refusal::MasterFailed(text) => write!(f, "master: {}", text.as_str()),
-            Refusal::BadVersion => f.write_str("unsupported dump format version"),
-            Refusal::BadHeader => f.write_str("bad header"),
-            Refusal::BadNumber => f.write_str("bad number"),
-            Refusal::BadLength => f.write_str("lengths do not agree"),
-            Refusal::BadProps => f.write_str("bad property block"),
-            Refusal::BadSum => f.write_str("checksum mismatch"),
-            Refusal::Truncated => f.write_str("unexpected end of input"),
-            Refusal::TooLong => f.write_str("limit exceeded"),
-            Refusal::TextDelta => f.write_str("text deltas are not supported"),
-            Refusal::BadPath => f.write_str("bad path"),
-            Refusal::NoSuchPath => f.write_str("no such path"),
-            Refusal::PathThere => f.write_str("path already exists"),
-            Refusal::NotDir => f.write_str("not a directory"),
-            Refusal::NoSource => f.write_str("no such copy source"),
-            Refusal::OutOfOrder => f.write_str("changes of one path do not combine"),
-            Refusal::WrongNumber => f.write_str("revision out of sequence"),
-            Refusal::KindMismatch => f.write_str("node kind mismatch"),
-            Refusal::NoSuchRevision => f.write_str("no such revision"),
-            Refusal::BaseMismatch => f.write_str("the property is not as expected"),
-            Refusal::Full => f.write_str("no more revisions"),
-            Refusal::ReadOnly => f.write_str("the mirror is read-only"),
-            Refusal::DeviceFailed => f.write_str("device failed"),
-            Refusal::Failed => f.write_str("failed before"),
-            Refusal::NoRepository => f.write_str("no repository"),
-            Refusal::ThereAlready => f.write_str("repository already there"),
-            Refusal::LogFull => f.write_str("journal is full"),
-            Refusal::BadItem => f.write_str("bad item"),
-            Refusal::TooDeep => f.write_str("nesting too deep"),
-            Refusal::ReplayForm => f.write_str("replay form not supported"),
-            Refusal::BadWindow => f.write_str("bad window"),
-            Refusal::CopyWindow => f.write_str("window copies"),
-            Refusal::BadToken => f.write_str("bad token"),
-            Refusal::UnknownCommand => f.write_str("unknown command"),
-            Refusal::BadShape => f.write_str("bad command shape"),
-            Refusal::PeerFailed => f.write_str("stream failed"),
-            Refusal::NotInitialised => f.write_str("not initialized"),
-            Refusal::AlreadyInitialised => f.write_str("already initialized"),
-            Refusal::NotEmpty => f.write_str("the mirror has revisions"),
-            Refusal::WrongMaster => f.write_str("the source is another repository"),
-            Refusal::NotHolder => f.write_str("the sync lock is not held"),
-            Refusal::OutOfTurn => f.write_str("call out of turn"),
-            Refusal::OutOfMemory => f.write_str("out of memory"),
+            Refusal::NotYetCopied(number) => {
+                write_told("revision ", number, " is not copied yet", f)
+            }
+            Refusal::MasterFailed(text) => write_told("master: ", text, "", f),
+            other => f.write_str(other.fixed_text()),
         }
     }
+}
+
+/// Writes what a refusal tells, between two texts.
+fn write_told<T: fmt::Display, W: fmt::Write>(
+    before: &str,
+    told: &T,
+    after: &str,
+    f: &mut fmt::Formatter<W>,
+) -> fmt::Result
+    ensures { DisplaysOnOk W.write_str_gives f.old result (option_map (λ t. before.now ++ t ++ after.now) (T.output told.now)) f.new }
+{
+    write!(f, "{before}{told}{after}")
 }
 
 /// Writes that a mirror's properties of its synchronisation fit no state.

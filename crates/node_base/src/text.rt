@@ -91,9 +91,7 @@ impl Text {
             body.sum = None;
             return Ok(());
         }
-        let mut bytes = Vec::with_capacity(alloc, self.len() + piece.len())?;
-        bytes.extend_from_slice(self.as_slice())?;
-        bytes.extend_from_slice(piece)?;
+        let bytes = joined(alloc, self.as_slice(), piece)?;
         self.body = Arc::new(alloc, Body { bytes, sum: None })?;
         Ok(())
     }
@@ -106,4 +104,14 @@ impl Text {
             body: Arc::try_clone(&self.body)?,
         })
     }
+}
+
+// Some bytes, and others behind them.
+fn joined(alloc: Global, front: &[u8], back: &[u8]) -> Result<Vec<u8>, AllocError>
+    ensures { IfOk result (λ v. v.items ≡ front.now ++ back.now) }
+{
+    let mut bytes = Vec::with_capacity(alloc, front.len() + back.len())?;
+    bytes.extend_from_slice(front)?;
+    bytes.extend_from_slice(back)?;
+    Ok(bytes)
 }

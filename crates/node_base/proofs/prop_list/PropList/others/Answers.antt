@@ -6,11 +6,11 @@ use Rattle.node_base.proofs.prop_list.PropList.others.Goals as goal
 
 pub invariant_of-result : goal.invariant_of-result
 invariant_of-result c =
-    let rising = subst IsRising (sym c.deref-name-items.ensures.value) c.self.invariant in
-    (lists_kept c.deref-name-items.result.now _ (λ n. not (is_sync n)) rising (kept_all _ _ _ c.loop-name.name-index c.loop-name-test.false c.loop-name.invariant)).rising
+    let rising = subst IsRising (sym c.deref-entry-items.ensures.value) c.self.invariant in
+    (lists_kept c.deref-entry-items.result.now _ (λ n. not (is_sync n)) rising (kept_all _ _ _ c.loop-entry.entry-index c.loop-entry-test.false c.loop-entry.invariant)).rising
 
 pub returns : goal.returns
 returns c =
-    let rising = subst IsRising (sym c.deref-name-items.ensures.value) c.self.invariant in
-    (lists_kept c.deref-name-items.result.now _ (λ n. not (is_sync n)) rising (kept_all _ _ _ c.loop-name.name-index c.loop-name-test.false c.loop-name.invariant)).is
-    ∙ ap without_sync (rw (← c.deref-name-items.ensures.value) at c.self.view_is)
+    let rising = subst IsRising (sym c.deref-entry-items.ensures.value) c.self.invariant in
+    (lists_kept c.deref-entry-items.result.now _ (λ n. not (is_sync n)) rising (kept_all _ _ _ c.loop-entry.entry-index c.loop-entry-test.false c.loop-entry.invariant)).is
+    ∙ ap without_sync (rw (← c.deref-entry-items.ensures.value) at c.self.view_is)

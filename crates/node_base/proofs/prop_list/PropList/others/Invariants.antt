@@ -4,5 +4,5 @@ use Rattle.node_base.specs.Path.{name_cmp}
 use Rattle.node_base.specs.Props.{is_sync}
 use Rattle.node_base.proofs.prop_list.PropList.others.Given as goal
 
-abbrev pub invariant-loop-name : goal.invariant-loop-name
-invariant-loop-name l = l.entries.items ++ where_key name_cmp (λ n. not (is_sync n)) (drop l.name-index l.name-items) ≡ where_key name_cmp (λ n. not (is_sync n)) l.name-items
+abbrev pub invariant-loop-entry : goal.invariant-loop-entry
+invariant-loop-entry l = l.entries.items ++ where_key name_cmp (λ n. not (is_sync n)) (drop l.entry-index l.entry-items) ≡ where_key name_cmp (λ n. not (is_sync n)) l.entry-items

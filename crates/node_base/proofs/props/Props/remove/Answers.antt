@@ -15,9 +15,3 @@ invariant_of-self c =
 pub returns-in-None-clause-ok : goal.returns-in-None-clause-ok
 returns-in-None-clause-ok c =
     c.self.view_is ∙ remove_none c.args.self.now c.args.name.now (sym (get-empty name_cmp c.args.name.now) ∙ ap (λ m. map.get m c.args.name.now) (rw c.in-None.is at c.self.view_is))
-
-pub invariant_of-self-2 : goal.invariant_of-self-2
-invariant_of-self-2 c =
-    let old = subst IsProps c.self.view_is c.self.invariant in
-    let same = rw c.in-Some.is at c.self.view_is in
-    rw (c.in_ok-new.ensures.ok, c.remove-2.ensures.removed, c.in_ok-rest-in-None-get_mut.ensures, c.deref.ensures, same) (props_without c.args.self.now c.args.name.now old)
