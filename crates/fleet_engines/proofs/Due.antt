@@ -162,13 +162,11 @@ begin_written a b d is_due t id zero e i z p q =
     subst (λ v. Appends a d (if v then head_of t else [])) (sym e)
     (subst (λ v. Appends a d (canon_head v ++ canon_entry 0 t.zero)) i (subst (λ v. Appends a d (canon_head id ++ canon_entry 0 v)) z (Appends-trans a b d (canon_head id) (canon_entry 0 zero) p q)))
 
-pub rewritten : (rs : List DumpRecord) (t u : Told) (r : DumpRecord) (out : List Rev) (start now mid later : Option (List ℕ)) (is_due : Bool) → is_due ≡ (not (has_begun t) && has_begun u) → Takes t r u out
-    → Appends now mid (if is_due then head_of u else []) → Appends mid later (flat_map canon_of out) → Stands Canon rs t start now → Stands Canon (rs ++ r ∷ []) u start later
-rewritten rs t u r out start now mid later is_due e k p q s =
-    canon_stands rs t u r out start now later k
-    (Appends-trans now mid later (if not (has_begun t) && has_begun u then head_of u else []) (flat_map canon_of out) (subst (λ v. Appends now mid (if v then head_of u else [])) e p) q) s
+pub rewritten : (rs : List DumpRecord) (t u : Told) (r : DumpRecord) (out : List Rev) (start now later : Option (List ℕ)) (is_due : Bool) → is_due ≡ (not (has_begun t) && has_begun u) → Takes t r u out
+    → Appends now later ((if is_due then head_of u else []) ++ flat_map canon_of out) → Stands Canon rs t start now → Stands Canon (rs ++ r ∷ []) u start later
+rewritten rs t u r out start now later is_due e k p s =
+    canon_stands rs t u r out start now later k (subst (λ v. Appends now later ((if v then head_of u else []) ++ flat_map canon_of out)) e p) s
 
-pub ended : (t u : Told) (newest : List Rev) (now mid later : Option (List ℕ)) (had : Bool) → had ≡ has_begun t
-    → Appends now mid (if not had then head_of u else []) → Appends mid later (flat_map canon_of newest) → Appends now later (ends t u newest)
-ended t u newest now mid later had e p q =
-    Appends-trans now mid later (if not (has_begun t) then head_of u else []) (flat_map canon_of newest) (subst (λ v. Appends now mid (if not v then head_of u else [])) e p) q
+pub ended : (t u : Told) (newest : List Rev) (now later : Option (List ℕ)) (had : Bool) → had ≡ has_begun t
+    → Appends now later ((if not had then head_of u else []) ++ flat_map canon_of newest) → Appends now later (ends t u newest)
+ended t u newest now later had e p = subst (λ v. Appends now later ((if not v then head_of u else []) ++ flat_map canon_of newest)) e p

@@ -78,12 +78,12 @@ output_flagged e i0 i o0 o o1 p q (inr f) = inr (f.0, p, f.1 ∙ q)
 pub keeps_same : (a b : Option (List ℕ)) → b ≡ a → Keeps a b
 keeps_same a b e = subst (Keeps a) (sym e) (Keeps-refl a)
 
--- the end of a stream that was read from its first byte
-pub run_ended : (c k0 k1 : Product) (r0 r1 : ReadState) (t0 t1 : Told) (start now : Option (List ℕ)) (a b : Option (List ℕ)) (bytes : List ℕ) (Q : Product → List ℕ → Type 0) → k0 ≡ c → k1 ≡ k0 → r0 ≡ fresh → t0 ≡ untold
-    → Consumes a b bytes → IsAtEnd b → Leads k0 r0 t0 start bytes r1 t1 now → ((bs : List ℕ) (st : Option (List ℕ)) → Reached k1 bs r1 t1 st now → st ≡ start → Q k1 bs) → IfSome a (Q c)
-run_ended c k0 k1 r0 r1 t0 t1 start now a b bytes Q d e f h p q l k =
-    let there : Reached k1 bytes r1 t1 start now = subst (λ z. Reached z bytes r1 t1 start now) (sym e) (l start (first_reached k0 r0 t0 start f h)) in
-    Consumes-whole a b bytes (Q c) p q (subst (λ z. Q z bytes) (e ∙ d) (k bytes start there refl))
+-- the end of a stream that was read from what stood so
+pub all_ended : (k0 k1 : Product) (r0 r1 : ReadState) (t0 t1 : Told) (before now : Option (List ℕ)) (a b : Option (List ℕ)) (bytes : List ℕ) (start : Option (List ℕ)) (Q : Product → List ℕ → Type 0) → k1 ≡ k0
+    → Consumes a b bytes → IsAtEnd b → Leads k0 r0 t0 before bytes r1 t1 now → ((bs : List ℕ) → Reached k1 bs r1 t1 start now → Q k1 bs) → Reached k0 [] r0 t0 start before → IfSome a (Q k0)
+all_ended k0 k1 r0 r1 t0 t1 before now a b bytes start Q e p q l k s =
+    let there : Reached k1 bytes r1 t1 start now = subst (λ z. Reached z bytes r1 t1 start now) (sym e) (l start s) in
+    Consumes-whole a b bytes (Q k0) p q (subst (λ z. Q z bytes) e (k bytes there))
 
 -- want of memory is no failure of a peer
 pub memory_no_peer : (e : Refusal) → e ≡ OutOfMemory → e ≡ PeerFailed → ⊥

@@ -41,6 +41,38 @@ fn read_all<R: Read + Drop, W: Write + Drop>(
     Err(input.give_up())
 }
 
+// Reads a stream to its end and ends what is made of it.
+fn read_dump<R: Read + Drop, W: Write + Drop>(
+    engine: &mut Engine,
+    mut reader: DumpReader,
+    piece: &mut [u8],
+    input: &mut Source<R>,
+    output: &mut Sink<W>,
+) -> Result<(), Refusal>
+    ensures ok { OnOk result (0 < length piece.old → (start : Option (List ℕ)) → Reached engine.old.product [] reader (told_of engine.old.history) start (W.contents output.old.inner) → IfSome (R.remaining input.old.inner) (λ bytes. Accepted engine.old.product bytes start (W.contents output.new.inner))) }
+    ensures refused { IfErr result (λ e. (output.new.failed ≡ true) ⊎ (0 < length piece.old → (start : Option (List ℕ)) → Reached engine.old.product [] reader (told_of engine.old.history) start (W.contents output.old.inner) → IfSome (R.remaining input.old.inner) (λ bytes. Refused engine.old.product bytes start (W.contents output.new.inner) e))) }
+    ensures peer { BothFlagged result input.old.failed input.new.failed output.old.failed output.new.failed }
+{
+    read_all(engine, &mut reader, piece, input, output)?;
+    engine.finish(reader, output)
+}
+
+// Reads a dump by way of a piece of memory and writes what is made of it.
+fn run_pieces<R: Read + Drop, W: Write + Drop>(
+    alloc: Global,
+    product: Product,
+    piece: &mut [u8],
+    input: &mut Source<R>,
+    output: &mut Sink<W>,
+) -> Result<(), Refusal>
+    ensures ok { OnOk result (0 < length piece.old → IfSome (R.remaining input.old.inner) (λ bytes. Accepted product bytes (W.contents output.old.inner) (W.contents output.new.inner))) }
+    ensures refused { IfErr result (λ e. (output.new.failed ≡ true) ⊎ (0 < length piece.old → IfSome (R.remaining input.old.inner) (λ bytes. Refused product bytes (W.contents output.old.inner) (W.contents output.new.inner) e))) }
+    ensures peer { BothFlagged result input.old.failed input.new.failed output.old.failed output.new.failed }
+{
+    let mut engine = Engine::new(alloc, product)?;
+    read_dump(&mut engine, DumpReader::new(alloc), piece, input, output)
+}
+
 // Reads a dump in pieces and writes what is made of it.
 fn run_dump<R: Read + Drop, W: Write + Drop>(
     alloc: Global,
@@ -52,19 +84,10 @@ fn run_dump<R: Read + Drop, W: Write + Drop>(
     ensures refused { IfErr result (λ e. (output.new.failed ≡ true) ⊎ IfSome (R.remaining input.old.inner) (λ bytes. Refused product bytes (W.contents output.old.inner) (W.contents output.new.inner) e)) }
     ensures peer { BothFlagged result input.old.failed input.new.failed output.old.failed output.new.failed }
 {
-    let mut engine = Engine::new(alloc, product)?;
-    let mut reader = DumpReader::new(alloc);
-    let Ok(mut piece) = Vec::from_elem(alloc, 0u8, PIECE) else {
-        return Err(Refusal::OutOfMemory);
-    };
-    read_all(
-        &mut engine,
-        &mut reader,
-        piece.as_mut_slice(),
-        input,
-        output,
-    )?;
-    engine.finish(reader, output)
+    match Vec::from_elem(alloc, 0u8, PIECE) {
+        Ok(mut piece) => run_pieces(alloc, product, piece.as_mut_slice(), input, output),
+        Err(_) => Err(Refusal::OutOfMemory),
+    }
 }
 
 /// Reads a dump and, at its end, prints its newest tree: nothing is written before the end has come without a fault.

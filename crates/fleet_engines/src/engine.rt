@@ -64,6 +64,21 @@ fn write_closed<W: Write + Drop>(
     }
 }
 
+// Writes what is due: the head and revision 0, or not, and then the revision that is whole, if there is one.
+fn write_due<W: Write + Drop>(
+    is_due: bool,
+    history: &History,
+    closed: &Option<RevRecord>,
+    output: &mut Sink<W>,
+) -> Result<(), Refusal>
+    ensures ok { OnOk result (Appends (W.contents output.old.inner) (W.contents output.new.inner) ((if is_due then head_of (told_of history.now) else []) ++ flat_map canon_of (revs_of closed.now))) }
+    ensures peer { Flagged result output.old.failed output.new.failed }
+    ensures only_peer { OnErr result (output.new.failed ≡ true) }
+{
+    write_beginning(is_due, history, output)?;
+    write_closed(closed, output)
+}
+
 impl Engine {
     /// Before the first record.
     pub fn new(alloc: Global, product: Product) -> Result<Engine, Refusal>
@@ -112,8 +127,7 @@ impl Engine {
         let had_begun = self.history.has_begun();
         let closed = self.history.take(next)?;
         let is_due = begins(had_begun, &self.history);
-        write_beginning(is_due, &self.history, output)?;
-        write_closed(&closed, output)
+        write_due(is_due, &self.history, &closed, output)
     }
 
     // Some records more.
@@ -156,25 +170,20 @@ impl Engine {
 
     /// The end of the dump.
     pub fn finish<W: Write + Drop>(
-        self,
+        &mut self,
         reader: DumpReader,
         output: &mut Sink<W>,
     ) -> Result<(), Refusal>
-        ensures ok { OnOk result ((bytes : List ℕ) (start : Option (List ℕ)) → Reached self.product bytes reader (told_of self.history) start (W.contents output.old.inner) → Accepted self.product bytes start (W.contents output.new.inner)) }
-        ensures refused { IfErr result (λ e. (output.new.failed ≡ true) ⊎ ((bytes : List ℕ) (start : Option (List ℕ)) → Reached self.product bytes reader (told_of self.history) start (W.contents output.old.inner) → Refused self.product bytes start (W.contents output.new.inner) e)) }
+        ensures ok { OnOk result ((bytes : List ℕ) (start : Option (List ℕ)) → Reached self.old.product bytes reader (told_of self.old.history) start (W.contents output.old.inner) → Accepted self.old.product bytes start (W.contents output.new.inner)) }
+        ensures refused { IfErr result (λ e. (output.new.failed ≡ true) ⊎ ((bytes : List ℕ) (start : Option (List ℕ)) → Reached self.old.product bytes reader (told_of self.old.history) start (W.contents output.old.inner) → Refused self.old.product bytes start (W.contents output.new.inner) e)) }
         ensures peer { Flagged result output.old.failed output.new.failed }
     {
         if let Err(fault) = reader.finish() {
             return Err(dump_refusal(fault));
         }
-        let Engine {
-            alloc,
-            product,
-            history,
-        } = self;
-        match product {
-            Product::List => finish_list(alloc, history, output),
-            Product::Canon => finish_canon(history, output),
+        match self.product {
+            Product::List => finish_list(self.alloc, &mut self.history, output),
+            Product::Canon => finish_canon(&mut self.history, output),
         }
     }
 }
@@ -182,11 +191,11 @@ impl Engine {
 // The listing of the newest tree.
 fn finish_list<W: Write + Drop>(
     alloc: Global,
-    mut history: History,
+    history: &mut History,
     output: &mut Sink<W>,
 ) -> Result<(), Refusal>
-    ensures ok { OnOk result ((all : Told) × (newest : List Rev) × Closes (told_of history) all newest × Appends (W.contents output.old.inner) (W.contents output.new.inner) (newest_listing all.trees)) }
-    ensures refused { IfErr result (λ e. (output.new.failed ≡ true) ⊎ ((W.contents output.new.inner ≡ W.contents output.old.inner) × ((e ≡ Refusal.OutOfMemory) ⊎ CantClose (told_of history) e))) }
+    ensures ok { OnOk result ((all : Told) × (newest : List Rev) × Closes (told_of history.old) all newest × Appends (W.contents output.old.inner) (W.contents output.new.inner) (newest_listing all.trees)) }
+    ensures refused { IfErr result (λ e. (output.new.failed ≡ true) ⊎ ((W.contents output.new.inner ≡ W.contents output.old.inner) × ((e ≡ Refusal.OutOfMemory) ⊎ CantClose (told_of history.old) e))) }
     ensures peer { Flagged result output.old.failed output.new.failed }
 {
     history.close()?;
@@ -198,13 +207,12 @@ fn finish_list<W: Write + Drop>(
 }
 
 // What isn't written yet of the canonical spelling.
-fn finish_canon<W: Write + Drop>(mut history: History, output: &mut Sink<W>) -> Result<(), Refusal>
-    ensures ok { OnOk result ((all : Told) × (newest : List Rev) × Closes (told_of history) all newest × Appends (W.contents output.old.inner) (W.contents output.new.inner) ((if not (has_begun (told_of history)) then head_of all else []) ++ flat_map canon_of newest)) }
-    ensures refused { IfErr result (λ e. (output.new.failed ≡ true) ⊎ ((W.contents output.new.inner ≡ W.contents output.old.inner) × ((e ≡ Refusal.OutOfMemory) ⊎ CantClose (told_of history) e))) }
+fn finish_canon<W: Write + Drop>(history: &mut History, output: &mut Sink<W>) -> Result<(), Refusal>
+    ensures ok { OnOk result ((all : Told) × (newest : List Rev) × Closes (told_of history.old) all newest × Appends (W.contents output.old.inner) (W.contents output.new.inner) ((if not (has_begun (told_of history.old)) then head_of all else []) ++ flat_map canon_of newest)) }
+    ensures refused { IfErr result (λ e. (output.new.failed ≡ true) ⊎ ((W.contents output.new.inner ≡ W.contents output.old.inner) × ((e ≡ Refusal.OutOfMemory) ⊎ CantClose (told_of history.old) e))) }
     ensures peer { Flagged result output.old.failed output.new.failed }
 {
     let had_begun = history.has_begun();
     let closed = history.close()?;
-    write_beginning(!had_begun, &history, output)?;
-    write_closed(&closed, output)
+    write_due(!had_begun, history, &closed, output)
 }

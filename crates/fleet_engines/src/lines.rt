@@ -1,5 +1,6 @@
 //! Lines that the program prints.
-ghost use Rattle.std.specs.Prelude.{◌≡◌, ◌++◌, ◌∷◌, map, OnOk, string_bytes};
+ghost use Rattle.std.specs.Prelude.{◌≡◌, ◌++◌, ◌∷◌, codes, map, OnOk, string_bytes};
+ghost use Rattle.std.specs.Fmt.{decimal};
 ghost use Rattle.std.specs.Io.KnownBytes.{Appends};
 ghost use Rattle.fleet_engines.specs.Listing.{node_line, shown_path};
 ghost use Rattle.node_base.specs.PathText.{path_text, slashed};
@@ -46,15 +47,26 @@ pub fn push_node_line(line: &mut String, path: &[&NodeName], node: &Node) -> Res
 {
     let changed = node.changed.get();
     match &node.text {
-        Some(text) => {
-            let length = text.len();
-            write!(line, "F {changed} {length} ")?;
-        }
-        None => write!(line, "D {changed} ")?,
+        Some(text) => push_file_front(line, changed, text.len())?,
+        None => push_dir_front(line, changed)?,
     }
     push_path(line, path)?;
     line.push_str("\n")?;
     Ok(())
+}
+
+// Adds what stands before a file's path: its revision and its length.
+fn push_file_front(line: &mut String, changed: u16, length: usize) -> Result<(), AllocError>
+    ensures { OnOk result (string_bytes line.new ≡ string_bytes line.old ++ codes "F " ++ decimal changed ++ codes " " ++ decimal length ++ codes " ") }
+{
+    write!(line, "F {changed} {length} ")
+}
+
+// Adds what stands before a directory's path: its revision.
+fn push_dir_front(line: &mut String, changed: u16) -> Result<(), AllocError>
+    ensures { OnOk result (string_bytes line.new ≡ string_bytes line.old ++ codes "D " ++ decimal changed ++ codes " ") }
+{
+    write!(line, "D {changed} ")
 }
 
 /// Writes the line that tells a refusal: `svnfleet: NUMBER TEXT`.

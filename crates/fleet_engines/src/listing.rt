@@ -1,5 +1,6 @@
 //! The listing of the newest tree.
-ghost use Rattle.std.specs.Prelude.{◌≡◌, ◌++◌, OnOk, string_bytes};
+ghost use Rattle.std.specs.Prelude.{◌≡◌, ◌++◌, ◌∷◌, [], codes, OnOk, string_bytes};
+ghost use Rattle.std.specs.Fmt.{decimal};
 ghost use Rattle.std.specs.List.{flat_map};
 ghost use Rattle.path_tree.specs.Listed.{shown};
 ghost use Rattle.fleet_engines.specs.Listing.{entry_line, listing};
@@ -19,12 +20,19 @@ fn push_entries(text: &mut String, entries: &[Entry<'_>]) -> Result<(), AllocErr
     Ok(())
 }
 
+// Adds the line with a revision's number.
+fn push_number_line(text: &mut String, number: usize) -> Result<(), AllocError>
+    ensures { OnOk result (string_bytes text.new ≡ string_bytes text.old ++ codes "revision " ++ decimal number ++ 10 ∷ []) }
+{
+    write!(text, "revision {number}\n")
+}
+
 // Adds the listing of a revision's tree.
 fn push_tree(alloc: Global, text: &mut String, number: usize, tree: &Tree) -> Result<(), AllocError>
     ensures { OnOk result (string_bytes text.new ≡ string_bytes text.old ++ listing number tree.now) }
 {
     let entries = tree.list(alloc)?;
-    write!(text, "revision {number}\n")?;
+    push_number_line(text, number)?;
     push_entries(text, &entries)
 }
 

@@ -9,13 +9,13 @@ pub returns-in-Err-clause-refused : goal.returns-in-Err-clause-refused
 returns-in-Err-clause-refused g c =
     let now = g.W.Write.contents c.args.output.now.inner in
     rw c.dump_refusal.ensures.value
-    (inr (λ bytes start. is_cut c.args.self.product bytes c.args.reader (told_of c.args.self.history) start now c.finish.result c.in-Err.fault c.finish.ensures.ended c.in-Err.is))
+    (inr (λ bytes start. is_cut c.args.self.now.product bytes c.args.reader (told_of c.args.self.now.history) start now c.finish.result c.in-Err.fault c.finish.ensures.ended c.in-Err.is))
 
 pub returns-in-List-clause-ok : goal.returns-in-List-clause-ok
 returns-in-List-clause-ok g c =
     let now = g.W.Write.contents c.args.output.now.inner in
     let later = g.W.Write.contents c.finish_list.new.output.inner in
-    let t = told_of c.args.self.history in
+    let t = told_of c.args.self.now.history in
     rw c.in-List.is
     (on_ok_weaker c.finish_list.result
     (λ k bytes start p. list_accepted bytes c.args.reader t k.0 k.1 start now later (ends_between ListIt bytes c.args.reader t start now c.finish.result c.in_default.field-0 c.finish.ensures.ended c.in_default.is p) k.2 k.3 p)
@@ -25,11 +25,11 @@ pub returns-in-List-clause-refused : goal.returns-in-List-clause-refused
 returns-in-List-clause-refused g c =
     let now = g.W.Write.contents c.args.output.now.inner in
     let later = g.W.Write.contents c.finish_list.new.output.inner in
-    let t = told_of c.args.self.history in
+    let t = told_of c.args.self.now.history in
     IfErr-weaker c.finish_list.result _ _
     (λ e d. elim d [
       | inl failed ↦ inl failed
-      | inr k ↦ inr (λ bytes start p. end_refused c.args.self.product bytes c.args.reader t start now later e (ends_between c.args.self.product bytes c.args.reader t start now c.finish.result c.in_default.field-0 c.finish.ensures.ended c.in_default.is p) k.0 k.1 p)
+      | inr k ↦ inr (λ bytes start p. end_refused c.args.self.now.product bytes c.args.reader t start now later e (ends_between c.args.self.now.product bytes c.args.reader t start now c.finish.result c.in_default.field-0 c.finish.ensures.ended c.in_default.is p) k.0 k.1 p)
     ])
     c.finish_list.ensures.refused
 
@@ -37,7 +37,7 @@ pub returns-in-Canon-clause-ok : goal.returns-in-Canon-clause-ok
 returns-in-Canon-clause-ok g c =
     let now = g.W.Write.contents c.args.output.now.inner in
     let later = g.W.Write.contents c.finish_canon.new.output.inner in
-    let t = told_of c.args.self.history in
+    let t = told_of c.args.self.now.history in
     rw c.in-Canon.is
     (on_ok_weaker c.finish_canon.result
     (λ k bytes start p. canon_accepted bytes c.args.reader t k.0 k.1 start now later (ends_between Canon bytes c.args.reader t start now c.finish.result c.in_default.field-0 c.finish.ensures.ended c.in_default.is p) k.2 k.3 p)
@@ -47,10 +47,10 @@ pub returns-in-Canon-clause-refused : goal.returns-in-Canon-clause-refused
 returns-in-Canon-clause-refused g c =
     let now = g.W.Write.contents c.args.output.now.inner in
     let later = g.W.Write.contents c.finish_canon.new.output.inner in
-    let t = told_of c.args.self.history in
+    let t = told_of c.args.self.now.history in
     IfErr-weaker c.finish_canon.result _ _
     (λ e d. elim d [
       | inl failed ↦ inl failed
-      | inr k ↦ inr (λ bytes start p. end_refused c.args.self.product bytes c.args.reader t start now later e (ends_between c.args.self.product bytes c.args.reader t start now c.finish.result c.in_default.field-0 c.finish.ensures.ended c.in_default.is p) k.0 k.1 p)
+      | inr k ↦ inr (λ bytes start p. end_refused c.args.self.now.product bytes c.args.reader t start now later e (ends_between c.args.self.now.product bytes c.args.reader t start now c.finish.result c.in_default.field-0 c.finish.ensures.ended c.in_default.is p) k.0 k.1 p)
     ])
     c.finish_canon.ensures.refused

@@ -10,6 +10,6 @@ returns-clause-ok g c =
     let t = told_of c.args.self.now.history in
     let u = told_of c.take.new.self in
     let due = c.begins-is_due.ensures ∙ ap (λ b. not b && has_begun u) c.has_begun-had_begun.ensures in
-    on_ok_weaker c.write_closed.result
-    (λ w rs start. rewritten rs t u c.args.next (revs_of c.in_ok-closed.closed) start (g.W.Write.contents c.args.output.now.inner) (g.W.Write.contents c.write_beginning.new.output.inner) (g.W.Write.contents c.write_closed.new.output.inner) c.begins-is_due.result due c.in_ok-closed.ensures.taken c.in_ok-write_beginning.ensures.ok w)
-    c.write_closed.ensures.ok
+    on_ok_weaker c.write_due.result
+    (λ w rs start. rewritten rs t u c.args.next (revs_of c.in_ok-closed.closed) start (g.W.Write.contents c.args.output.now.inner) (g.W.Write.contents c.write_due.new.output.inner) c.begins-is_due.result due c.in_ok-closed.ensures.taken w)
+    c.write_due.ensures.ok
