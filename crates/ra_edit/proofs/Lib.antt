@@ -11,3 +11,6 @@ pub mod Streaming
 pub mod ByteFaults
 pub mod Receiving
 pub mod Steps
+pub mod Drives
+pub mod OneEdit
+pub mod WrittenReceived

@@ -1,7 +1,9 @@
 -- What is written is one of the forms that are read.
 use Rattle.std.specs.Prelude.{◌≡◌, ℕ, ◌≤◌, ◌<◌, ◌^◌, Bool, true, false, List, [], ◌∷◌, ◌++◌, map, length, Option, Some, None, Ok, IfSome, ⊤}
-use Rattle.std.specs.List.{list_all}
+use Rattle.std.specs.List.{list_all, AllByRecursion}
 use Rattle.hex.specs.Hex.{IsBytes}
+use Rattle.ra_item.specs.Items.{Item, Within}
+use Rattle.ra_item.specs.Streams.{Stream, stream_of}
 use Rattle.node_base.specs.Path.{Path}
 use Rattle.node_base.specs.PathText.{path_text, path_read}
 use Rattle.node_base.specs.Props.{prop_name_read}
@@ -9,8 +11,9 @@ use Rattle.node_base.specs.declared.node.Source.{Source}
 use Rattle.delta_editor.specs.declared.call.Call.{Call}
 use Rattle.delta_editor.specs.declared.call.Call.TheVariants as call
 use Rattle.delta_editor.specs.Nesting.{IsNested}
-use Rattle.ra_edit.specs.Commands.{parts, edit_items}
+use Rattle.ra_edit.specs.Commands.{parts, edit_items, edit_bytes}
 use Rattle.ra_edit.specs.Edits.{SumsTo, SpellsEdit}
+use Rattle.ra_edit.specs.ItemStreams.{Takes}
 use Rattle.ra_edit.specs.Wire.{AllDeeper}
 
 -- a path within the rules and limits, which is read again
@@ -68,3 +71,40 @@ cut_all (c ∷ cs) = cut c ++ cut_all cs
 -- what is within the rules and limits
 abbrev pub WrittenIsEdit : Type 0
 WrittenIsEdit = (n : ℕ) (base : Option ℕ) (body : List Call) → n ≤ 65535 → IsRev base → list_all is_no_target body ≡ true → IsNested (call.Target n ∷ call.OpenRoot base ∷ body) → AllDeeper body → AllWithin body → TextsFit None body → length body < 2 ^ 64 → SpellsEdit (edit_items (call.Target n ∷ call.OpenRoot base ∷ body)) (call.Target n ∷ call.OpenRoot base ∷ cut_all body)
+
+-- a call, with each byte of a text in a piece of its own
+abbrev pub each_byte : Call → List Call
+each_byte (call.TextPiece p piece) = map (λ b. call.TextPiece p (b ∷ [])) piece
+each_byte c = c ∷ []
+
+abbrev pub byte_by_byte : List Call → List Call
+byte_by_byte [] = []
+byte_by_byte (c ∷ cs) = each_byte c ++ byte_by_byte cs
+
+-- the same calls, but for where the pieces of texts are cut
+abbrev pub AreSameCalls : List Call → List Call → Type 0
+AreSameCalls one other = byte_by_byte one ≡ byte_by_byte other
+
+-- items are the calls of one edit at most
+abbrev pub OneEdit : Type 0
+OneEdit = (items : List Item) (one other : List Call) → SpellsEdit items one → SpellsEdit items other → AreSameCalls one other
+
+-- no edit begins with another
+abbrev pub EndsOnce : Type 0
+EndsOnce = (items more : List Item) (one other : List Call) → SpellsEdit items one → SpellsEdit (items ++ more) other → more ≡ []
+
+-- an edit that is written, and whose items are within the limits of items
+pub record IsWritten (n : ℕ) (base : Option ℕ) (body : List Call) : Type 0 where
+  pub rev : n ≤ 65535
+  pub from : IsRev base
+  pub no_target : list_all is_no_target body ≡ true
+  pub nested : IsNested (call.Target n ∷ call.OpenRoot base ∷ body)
+  pub deeper : AllDeeper body
+  pub within : AllWithin body
+  pub texts : TextsFit None body
+  pub count : length body < 2 ^ 64
+  pub items : AllByRecursion Within (edit_items (call.Target n ∷ call.OpenRoot base ∷ body))
+
+-- what was written is received as the same calls, however its bytes and texts are cut and whatever follows it
+abbrev pub WrittenIsReceived : Type 0
+WrittenIsReceived = (n : ℕ) (base : Option ℕ) (body : List Call) (more : List ℕ) (after : Option (List ℕ)) (is : List ℕ → Stream) (items : List Item) (calls : List Call) → IsWritten n base body → Takes items (Some (edit_bytes (call.Target n ∷ call.OpenRoot base ∷ body) ++ more)) after stream_of is → SpellsEdit items calls → AreSameCalls calls (call.Target n ∷ call.OpenRoot base ∷ body)

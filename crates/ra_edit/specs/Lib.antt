@@ -14,5 +14,6 @@ pub mod ItemStreams
 pub mod Receiving
 pub mod Edit
 pub mod Tokens
+pub mod Received
 pub mod Wire
 pub mod Written

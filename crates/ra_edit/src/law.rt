@@ -1,6 +1,6 @@
 //! Laws of texts in windows, over all bytes, and of edits in items. Each is proved as the contract of a function that does nothing.
 
-ghost use Rattle.ra_edit.specs.EditLaws.{WrittenIsEdit};
+ghost use Rattle.ra_edit.specs.EditLaws.{WrittenIsEdit, OneEdit, EndsOnce, WrittenIsReceived};
 ghost use Rattle.ra_edit.specs.Laws.{PiecesJoin, TextsAreRead, OneText, WrittenIsText, WrittenIsRead, ReadIsText};
 
 /// It doesn't matter how bytes are cut into pieces.
@@ -37,3 +37,20 @@ pub fn read_is_text()
 pub fn written_is_edit()
     ensures { WrittenIsEdit }
 {}
+
+/// Items are the calls of one edit at most, but for where the pieces of texts are cut.
+pub fn one_edit()
+    ensures { OneEdit }
+{}
+
+/// No edit begins with another one.
+pub fn ends_once()
+    ensures { EndsOnce }
+{}
+
+/// What was written is received as the same calls, however its bytes and its texts are cut and whatever follows it.
+pub fn written_is_received()
+    ensures { WrittenIsReceived }
+{
+    ra_item::law::written_is_read();
+}

@@ -1,7 +1,10 @@
 //! An edit from its items.
 
-ghost use Rattle.std.specs.Prelude.{◌≡◌, OnErr, true};
-ghost use Rattle.ra_edit.specs.ItemStreams.{is_spent};
+ghost use Rattle.std.specs.Prelude.{◌≡◌, IfOk, OnOk, OnErr, true, false};
+ghost use Rattle.ra_edit.specs.Edit.{Stands};
+ghost use Rattle.ra_edit.specs.Edits.{Begun};
+ghost use Rattle.ra_edit.specs.ItemStreams.{reader_of, is_spent, ahead};
+ghost use Rattle.ra_edit.specs.Received.{Comes, TakesOne, Received};
 
 use crate::edit_fault::EditFault;
 use crate::receive_command::Command;
@@ -23,7 +26,9 @@ pub fn receive<R: Read + Drop, E: Editor>(
     items: &mut ItemStream<R>,
     editor: E,
 ) -> Result<E::Done, EditFault>
-    ensures { OnErr result (is_spent items.new ≡ true) }
+    ensures received { IfOk result (λ done. Received E.shows E.done_shows editor done (R.remaining (reader_of items.old)) (R.remaining (reader_of items.new)) (ahead items.old) (ahead items.new)) }
+    ensures goes_on { OnOk result (is_spent items.new ≡ false) }
+    ensures spent { OnErr result (is_spent items.new ≡ true) }
 {
     let mut edit = Edit::new(alloc, editor);
     if let Err(fault) = take_commands(alloc, items, &mut edit) {
@@ -45,14 +50,30 @@ fn take_commands<R: Read + Drop, E: Editor>(
     alloc: Global,
     items: &mut ItemStream<R>,
     edit: &mut Edit<E>,
-) -> Result<(), EditFault> {
+) -> Result<(), EditFault>
+    requires begun { Stands E.dir_path E.file_path edit.old.stage edit.old.dirs.items edit.old.file Begun }
+    ensures comes { OnOk result (Comes E.shows edit.old.editor edit.new.editor (R.remaining (reader_of items.old)) (R.remaining (reader_of items.new)) (ahead items.old) (ahead items.new) (Stands E.dir_path E.file_path edit.new.stage edit.new.dirs.items edit.new.file)) }
+    ensures goes_on { OnOk result (is_spent items.new ≡ false) }
+{
     for _ in 0..u64::MAX {
-        let Some(item) = items.next()? else {
-            return Err(EditFault::BadShape);
-        };
-        if edit.step(Command::parse(alloc, item)?)? {
+        if take_command(alloc, items, edit)? {
             return Ok(());
         }
     }
     Err(items.give_up())
+}
+
+// Takes one command; `finish-replay` answers true.
+fn take_command<R: Read + Drop, E: Editor>(
+    alloc: Global,
+    items: &mut ItemStream<R>,
+    edit: &mut Edit<E>,
+) -> Result<bool, EditFault>
+    ensures taken { IfOk result (TakesOne E.shows edit.old.editor edit.new.editor (R.remaining (reader_of items.old)) (R.remaining (reader_of items.new)) (ahead items.old) (ahead items.new) (Stands E.dir_path E.file_path edit.old.stage edit.old.dirs.items edit.old.file) (Stands E.dir_path E.file_path edit.new.stage edit.new.dirs.items edit.new.file)) }
+    ensures goes_on { OnOk result (is_spent items.new ≡ false) }
+{
+    let Some(item) = items.next()? else {
+        return Err(EditFault::BadShape);
+    };
+    edit.step(Command::parse(alloc, item)?)
 }

@@ -1,0 +1,64 @@
+-- Items of a drive, one after another.
+use Rattle.std.proofs.Common.{◌≡◌, ℕ, Bool, true, false, List, [], ◌∷◌, ◌++◌, Option, refl, sym, ap, subst, ◌∙◌, append_assoc, append-nil, codes}
+use Rattle.ra_item.specs.Items.{Item}
+use Rattle.ra_item.specs.Streams.{Stream}
+use Rattle.delta_editor.specs.Calls.{Adds}
+use Rattle.delta_editor.specs.declared.call.Call.{Call}
+use Rattle.ra_edit.specs.Edits.{At, Begun, Ended, Says, AllSay, Nothing, Then, SpellsEdit, IsCommand}
+use Rattle.ra_edit.specs.Edit.{Moves, Finishes}
+use Rattle.ra_edit.specs.ItemStreams.{Takes}
+use Rattle.ra_edit.specs.Received.{Goes, Comes, Received}
+use Rattle.ra_edit.proofs.Streaming.{takes_none, takes_more}
+use Rattle.ra_edit.proofs.Steps.{adds_join}
+
+-- one item more
+pub say_more : (at mid end : At) (items : List Item) (calls more : List Call) (item : Item) → AllSay at items calls mid → Says mid item more end → AllSay at (items ++ item ∷ []) (calls ++ more) end
+say_more at mid end [] [] more item (Nothing x) s = subst (λ l. AllSay at (item ∷ []) l end) (append-nil more) (Then at end end item [] more [] s (Nothing end))
+say_more at mid end all both more item (Then from next last z rest first others one behind) s =
+    subst (λ l. AllSay from (z ∷ (rest ++ item ∷ [])) l end) (sym (append_assoc first others more)) (Then from next end z (rest ++ item ∷ []) first (others ++ more) one (say_more next mid end rest others more item behind s))
+
+-- nothing was read
+pub goes_none : {E : Type 0} (shows : E → List Call → Type 0) (e : E) (a : Option (List ℕ)) (s : List ℕ → Stream) (stands : At → Type 0) → stands Begun → Goes shows e e a a s s stands
+goes_none shows e a s stands h = record { items = []; calls = []; at = Begun; taken = takes_none a s; say = Nothing Begun; shown = λ calls k. subst (shows e) (sym (append-nil calls)) k; here = h }
+
+-- one item more was read
+pub goes_more : {E : Type 0} (shows : E → List Call → Type 0) (old mid new : E) (a b d : Option (List ℕ)) (s t u : List ℕ → Stream) (stood stands : At → Type 0) (item : Item) → Goes shows old mid a b s t stood → Takes (item ∷ []) b d t u → ((at : At) → stood at → Moves shows mid new item at stands) → Goes shows old new a d s u stands
+goes_more shows old mid new a b d s t u stood stands item k took step =
+    let m = step k.at k.here in
+    record {
+      items = k.items ++ item ∷ [];
+      calls = k.calls ++ m.calls;
+      at = m.to;
+      taken = takes_more k.items (item ∷ []) a b d s t u k.taken took;
+      say = say_more Begun k.at m.to k.items k.calls m.calls item k.say m.says;
+      shown = adds_join shows old mid new k.calls m.calls k.shown m.shown;
+      here = m.now;
+    }
+
+-- `finish-replay` was read
+pub comes : {E : Type 0} (shows : E → List Call → Type 0) (old mid new : E) (a b d : Option (List ℕ)) (s t u : List ℕ → Stream) (stood stands : At → Type 0) (item : Item) → Goes shows old mid a b s t stood → Takes (item ∷ []) b d t u → ((at : At) → stood at → IsCommand (codes "finish-replay") [] item × (new ≡ mid) × stands at) → Comes shows old new a d s u stands
+comes shows old mid new a b d s t u stood stands item k took step =
+    let m = step k.at k.here in
+    record {
+      items = k.items;
+      last = item;
+      calls = k.calls;
+      at = k.at;
+      taken = takes_more k.items (item ∷ []) a b d s t u k.taken took;
+      say = k.say;
+      end = m.0;
+      shown = λ calls h. subst (λ e. shows e (calls ++ k.calls)) (sym m.1) (k.shown calls h);
+      here = m.2;
+    }
+
+-- the edit was ended
+pub received : {E D : Type 0} (shows : E → List Call → Type 0) (done_shows : D → List Call → Type 0) (start old new : E) (done : D) (a b : Option (List ℕ)) (s t : List ℕ → Stream) (stands : At → Type 0) → old ≡ start → Comes shows old new a b s t stands → ((at : At) (item : Item) → IsCommand (codes "finish-replay") [] item → stands at → Finishes shows done_shows new done item at) → Received shows done_shows start done a b s t
+received shows done_shows start old new done a b s t stands e k finish =
+    let f = finish k.at k.last k.end k.here in
+    record {
+      items = k.items ++ k.last ∷ [];
+      calls = k.calls ++ f.0;
+      taken = k.taken;
+      spelled = say_more Begun k.at Ended k.items k.calls f.0 k.last k.say f.1;
+      shown = λ shown h. subst (done_shows done) (append_assoc shown k.calls f.0) (f.2 (shown ++ k.calls) (k.shown shown (subst (λ x. shows x shown) (sym e) h)));
+    }

@@ -1,0 +1,45 @@
+-- What was read of a drive, and what its editor was shown.
+use Rattle.std.specs.Prelude.{◌≡◌, ℕ, Bool, true, false, List, [], ◌∷◌, ◌++◌, Option, codes}
+use Rattle.ra_item.specs.Items.{Item}
+use Rattle.ra_item.specs.Streams.{Stream}
+use Rattle.delta_editor.specs.Calls.{Adds}
+use Rattle.delta_editor.specs.declared.call.Call.{Call}
+use Rattle.ra_edit.specs.Edits.{At, Begun, AllSay, SpellsEdit, IsCommand}
+use Rattle.ra_edit.specs.Edit.{Stepped}
+use Rattle.ra_edit.specs.ItemStreams.{Takes}
+
+-- these items were read and are these calls, which an editor was shown, and so the commands stand
+pub record Goes {E : Type 0} (shows : E → List Call → Type 0) (old new : E) (before after : Option (List ℕ)) (was is : List ℕ → Stream) (stands : At → Type 0) : Type 0 where
+  pub items : List Item
+  pub calls : List Call
+  pub at : At
+  pub taken : Takes items before after was is
+  pub say : AllSay Begun items calls at
+  pub shown : Adds shows old new calls
+  pub here : stands at
+
+-- and behind them `finish-replay`
+pub record Comes {E : Type 0} (shows : E → List Call → Type 0) (old new : E) (before after : Option (List ℕ)) (was is : List ℕ → Stream) (stands : At → Type 0) : Type 0 where
+  pub items : List Item
+  pub last : Item
+  pub calls : List Call
+  pub at : At
+  pub taken : Takes (items ++ last ∷ []) before after was is
+  pub say : AllSay Begun items calls at
+  pub end : IsCommand (codes "finish-replay") [] last
+  pub shown : Adds shows old new calls
+  pub here : stands at
+
+-- one item was read, and what it says was done
+pub record TakesOne {E : Type 0} (shows : E → List Call → Type 0) (old new : E) (before after : Option (List ℕ)) (was is : List ℕ → Stream) (stood stands : At → Type 0) (done : Bool) : Type 0 where
+  pub item : Item
+  pub taken : Takes (item ∷ []) before after was is
+  pub stepped : (at : At) → stood at → Stepped shows old new item at stands done
+
+-- the items that were read are a whole edit, and what it came to shows its calls behind those that the editor was shown before
+pub record Received {E D : Type 0} (shows : E → List Call → Type 0) (done_shows : D → List Call → Type 0) (editor : E) (done : D) (before after : Option (List ℕ)) (was is : List ℕ → Stream) : Type 0 where
+  pub items : List Item
+  pub calls : List Call
+  pub taken : Takes items before after was is
+  pub spelled : SpellsEdit items calls
+  pub shown : (shown : List Call) → shows editor shown → done_shows done (shown ++ calls)
