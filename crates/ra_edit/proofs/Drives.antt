@@ -1,14 +1,17 @@
 -- Items of a drive, one after another.
-use Rattle.std.proofs.Common.{◌≡◌, ℕ, Bool, true, false, List, [], ◌∷◌, ◌++◌, Option, refl, sym, ap, subst, ◌∙◌, append_assoc, append-nil, codes}
+use Rattle.std.proofs.Common.{◌≡◌, ℕ, Bool, true, false, ◌||◌, inl, inr, Result, Ok, Err, List, [], ◌∷◌, ◌++◌, Option, refl, sym, ap, subst, ◌∙◌, append_assoc, append-nil, codes}
 use Rattle.ra_item.specs.Items.{Item}
 use Rattle.ra_item.specs.Streams.{Stream}
 use Rattle.delta_editor.specs.Calls.{Adds}
 use Rattle.delta_editor.specs.declared.call.Call.{Call}
 use Rattle.ra_edit.specs.Edits.{At, Begun, Ended, Says, AllSay, Nothing, Then, SpellsEdit, IsCommand}
 use Rattle.ra_edit.specs.Edit.{Moves, Finishes}
-use Rattle.ra_edit.specs.ItemStreams.{Takes}
-use Rattle.ra_edit.specs.Received.{Goes, Comes, Received}
-use Rattle.ra_edit.proofs.Streaming.{takes_none, takes_more}
+use Rattle.ra_edit.specs.EditFaults.{of_command}
+use Rattle.ra_edit.specs.ItemStreams.{Takes, Ends, Stops}
+use Rattle.ra_edit.specs.Received.{Goes, Comes, Received, RefusesItem, StopsBehind, RefusesDrive}
+use Rattle.ra_edit.specs.declared.command_fault.CommandFault.{CommandFault}
+use Rattle.ra_edit.specs.declared.edit_fault.EditFault.{EditFault}
+use Rattle.ra_edit.proofs.Streaming.{takes_none, takes_more, takes_end, takes_stop}
 use Rattle.ra_edit.proofs.Steps.{adds_join}
 
 -- one item more
@@ -62,3 +65,22 @@ received shows done_shows start old new done a b s t stands e k finish =
       spelled = say_more Begun k.at Ended k.items k.calls f.0 k.last k.say f.1;
       shown = λ shown h. subst (done_shows done) (append_assoc shown k.calls f.0) (f.2 (shown ++ k.calls) (k.shown shown (subst (λ x. shows x shown) (sym e) h)));
     }
+
+-- ---- refusals
+
+pub spent_not : (new old : Bool) → new ≡ false → new ≡ true → old ≡ true
+spent_not true old e h = cc
+spent_not false old e h = cc
+
+-- a refusal behind items that were taken
+pub stops_behind : (xs : List Item) (f : EditFault) (a b d : Option (List ℕ)) (s t : List ℕ → Stream) (before spent failed : Bool) → Takes xs a b s t → (spent ≡ true → before ≡ true) → StopsBehind [] b d t spent failed f → StopsBehind xs a d s before failed f
+stops_behind xs f a b d s t before spent failed p g (inl q) = inl (subst (λ l. Stops l a d s before failed f) (append-nil xs) (takes_stop xs [] f a b d s t before spent failed p g q))
+stops_behind xs f a b d s t before spent failed p g (inr (inl q)) = inr (inl (q.0, subst (λ l. Ends l true a d s) (append-nil xs) (takes_end xs [] true a b d s t p q.1)))
+stops_behind xs f a b d s t before spent failed p g (inr (inr q)) = inr (inr (record { item = q.item; why = q.why; is = q.is; taken = takes_more xs (q.item ∷ []) a b d s t q.is p q.taken; same = q.same }))
+
+pub drive_refused : {E : Type 0} (shows : E → List Call → Type 0) (old mid : E) (a b d : Option (List ℕ)) (s t : List ℕ → Stream) (before spent failed : Bool) (stood : At → Type 0) (f : EditFault) → Goes shows old mid a b s t stood → (spent ≡ true → before ≡ true) → StopsBehind [] b d t spent failed f → RefusesDrive a d s before failed f
+drive_refused shows old mid a b d s t before spent failed stood f k g q = record { items = k.items; calls = k.calls; at = k.at; say = k.say; stops = stops_behind k.items f a b d s t before spent failed k.taken g q }
+
+-- at the end of a drive
+pub end_refused : {E : Type 0} (shows : E → List Call → Type 0) (old new : E) (a b : Option (List ℕ)) (s t : List ℕ → Stream) (before failed : Bool) (stands : At → Type 0) (f : CommandFault) → Comes shows old new a b s t stands → RefusesDrive a b s before failed (of_command f)
+end_refused shows old new a b s t before failed stands f k = record { items = k.items; calls = k.calls; at = k.at; say = k.say; stops = inr (inr (record { item = k.last; why = f; is = t; taken = k.taken; same = refl })) }

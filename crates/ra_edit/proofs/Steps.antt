@@ -20,7 +20,7 @@ use Rattle.ra_edit.specs.Streams.{reading, Reads}
 use Rattle.ra_edit.specs.Edits.{IsSum, SumsTo}
 use Rattle.ra_edit.specs.declared.reading.Reading.{Reading}
 use Rattle.ra_edit.specs.Receiving.{IsPath, IsPropName, Forms}
-use Rattle.ra_edit.specs.declared.edit_fault.EditFault.{EditFault}
+use Rattle.ra_edit.specs.declared.command_fault.CommandFault.{CommandFault}
 use Rattle.ra_edit.specs.declared.receive_command.Command.{Command}
 use Rattle.ra_edit.specs.Edit.{dir_named, dirs_named, GivenIs, Stands, Moves, is_unopened, is_announced, has_root, TextEnds, SumIs, FileMoves}
 use Rattle.ra_edit.specs.declared.receive_edit.Given.{Given}
@@ -411,7 +411,7 @@ prop_in_dir dp fp shows old new stage.Inside dirs now (Some f) t p n value v' q 
     }
 
 -- what holds of one command holds of the command that is it
-pub as_command : (r : Result (Unit {0}) EditFault) (c d : Command) (P : At → Type 0) (Q : At → Item → Type 0) → c ≡ d → OnOk r ((at : At) (item : Item) → Forms d item → P at → Q at item) → OnOk r ((at : At) (item : Item) → Forms c item → P at → Q at item)
+pub as_command : (r : Result (Unit {0}) CommandFault) (c d : Command) (P : At → Type 0) (Q : At → Item → Type 0) → c ≡ d → OnOk r ((at : At) (item : Item) → Forms d item → P at → Q at item) → OnOk r ((at : At) (item : Item) → Forms c item → P at → Q at item)
 as_command r c d P Q e h = subst (λ x. OnOk r ((at : At) (item : Item) → Forms x item → P at → Q at item)) (sym e) h
 
 -- ---- the end

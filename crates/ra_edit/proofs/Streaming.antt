@@ -122,12 +122,12 @@ takes_break xs ys f a b d s t p q = record {
   items = λ more. ap s (append_assoc p.bytes q.bytes more) ∙ p.items (q.bytes ++ more) ∙ ap (behind xs) (q.items more);
 }
 
-pub takes_stop : (xs ys : List Item) (f : EditFault) (a b d : Option (List ℕ)) (s t : List ℕ → Stream) (before spent failed : Bool) → Takes xs a b s t → spent ≡ false → Stops ys b d t spent failed f → Stops (xs ++ ys) a d s before failed f
+pub takes_stop : (xs ys : List Item) (f : EditFault) (a b d : Option (List ℕ)) (s t : List ℕ → Stream) (before spent failed : Bool) → Takes xs a b s t → (spent ≡ true → before ≡ true) → Stops ys b d t spent failed f → Stops (xs ++ ys) a d s before failed f
 takes_stop xs ys edit.Truncated a b d s t before spent failed p g q = takes_end xs ys false a b d s t p q
 takes_stop xs ys edit.TooLong a b d s t before spent failed p g q = takes_break xs ys item.TooLong a b d s t p q
 takes_stop xs ys edit.BadItem a b d s t before spent failed p g q = takes_break xs ys item.BadItem a b d s t p q
 takes_stop xs ys edit.TooDeep a b d s t before spent failed p g q = takes_break xs ys item.TooDeep a b d s t p q
-takes_stop xs ys edit.Failed a b d s t before spent failed p g q = cc
+takes_stop xs ys edit.Failed a b d s t before spent failed p g q = g q
 takes_stop xs ys edit.PeerFailed a b d s t before spent failed p g q = q
 takes_stop xs ys edit.OutOfMemory a b d s t before spent failed p g q = tt
 takes_stop xs ys edit.BadSum a b d s t before spent failed p g q = absurd q
@@ -177,6 +177,10 @@ pub quiet : (a b d : Bool) → b ≡ a → d ≡ (b || false) → d ≡ a
 quiet true b d p q = cc (ap (λ x. x || false) p)
 quiet false b d p q = cc (ap (λ x. x || false) p)
 
+not_spent : (spent before : Bool) → spent ≡ false → spent ≡ true → before ≡ true
+not_spent true before n h = cc
+not_spent false before n h = cc
+
 -- a refusal behind what was taken
 pub stops_later : (a b d : Option (List ℕ)) (s t : List ℕ → Stream) (before spent failed : Bool) (f : EditFault) → Takes [] a b s t → spent ≡ false → Stops [] b d t spent failed f → Stops [] a d s before failed f
-stops_later a b d s t before spent failed f = takes_stop [] [] f a b d s t before spent failed
+stops_later a b d s t before spent failed f p n = takes_stop [] [] f a b d s t before spent failed p (not_spent spent before n)

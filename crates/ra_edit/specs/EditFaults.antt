@@ -3,6 +3,8 @@ use Rattle.std.specs.Prelude.{ℕ}
 use Rattle.delta_editor.specs.Faults.{number_of}
 use Rattle.ra_item.specs.declared.fault.ItemFault.{ItemFault}
 use Rattle.ra_item.specs.declared.fault.ItemFault.TheVariants as item
+use Rattle.ra_edit.specs.declared.command_fault.CommandFault.{CommandFault}
+use Rattle.ra_edit.specs.declared.command_fault.CommandFault.TheVariants as command
 use Rattle.ra_edit.specs.declared.edit_fault.EditFault.{EditFault}
 use Rattle.ra_edit.specs.declared.edit_fault.EditFault.TheVariants as fault
 use Rattle.ra_edit.specs.declared.fault.WindowFault.{WindowFault}
@@ -34,8 +36,21 @@ of_item item.TooDeep = fault.TooDeep
 of_item item.OutOfMemory = fault.OutOfMemory
 
 -- the refusal of bytes that are no windows
-abbrev pub of_window : WindowFault → EditFault
-of_window window.TooLong = fault.TooLong
-of_window window.Failed = fault.Failed
-of_window window.BadWindow = fault.BadWindow
-of_window window.CopyWindow = fault.CopyWindow
+abbrev pub of_window : WindowFault → CommandFault
+of_window window.TooLong = command.TooLong
+of_window window.Failed = command.Failed
+of_window window.BadWindow = command.BadWindow
+of_window window.CopyWindow = command.CopyWindow
+
+-- the refusal of a command
+abbrev pub of_command : CommandFault → EditFault
+of_command command.BadSum = fault.BadSum
+of_command command.TooLong = fault.TooLong
+of_command command.Failed = fault.Failed
+of_command command.BadWindow = fault.BadWindow
+of_command command.CopyWindow = fault.CopyWindow
+of_command command.BadToken = fault.BadToken
+of_command command.BadShape = fault.BadShape
+of_command command.Refused = fault.Refused
+of_command command.OutOfMemory = fault.OutOfMemory
+of_command (command.Editor f) = fault.Editor f

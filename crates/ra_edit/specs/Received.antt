@@ -1,12 +1,16 @@
 -- What was read of a drive, and what its editor was shown.
-use Rattle.std.specs.Prelude.{◌≡◌, ℕ, Bool, true, false, List, [], ◌∷◌, ◌++◌, Option, codes}
+use Rattle.std.specs.Prelude.{◌≡◌, ◌⊎◌, ℕ, Bool, true, false, List, [], ◌∷◌, ◌++◌, Option, codes}
 use Rattle.ra_item.specs.Items.{Item}
 use Rattle.ra_item.specs.Streams.{Stream}
 use Rattle.delta_editor.specs.Calls.{Adds}
 use Rattle.delta_editor.specs.declared.call.Call.{Call}
 use Rattle.ra_edit.specs.Edits.{At, Begun, AllSay, SpellsEdit, IsCommand}
 use Rattle.ra_edit.specs.Edit.{Stepped}
-use Rattle.ra_edit.specs.ItemStreams.{Takes}
+use Rattle.ra_edit.specs.EditFaults.{of_command}
+use Rattle.ra_edit.specs.ItemStreams.{Takes, Ends, Stops}
+use Rattle.ra_edit.specs.declared.command_fault.CommandFault.{CommandFault}
+use Rattle.ra_edit.specs.declared.edit_fault.EditFault.{EditFault}
+use Rattle.ra_edit.specs.declared.edit_fault.EditFault.TheVariants as fault
 
 -- these items were read and are these calls, which an editor was shown, and so the commands stand
 pub record Goes {E : Type 0} (shows : E → List Call → Type 0) (old new : E) (before after : Option (List ℕ)) (was is : List ℕ → Stream) (stands : At → Type 0) : Type 0 where
@@ -43,3 +47,23 @@ pub record Received {E D : Type 0} (shows : E → List Call → Type 0) (done_sh
   pub taken : Takes items before after was is
   pub spelled : SpellsEdit items calls
   pub shown : (shown : List Call) → shows editor shown → done_shows done (shown ++ calls)
+
+-- behind these items one more was read, and refused for what it says
+pub record RefusesItem (items : List Item) (before after : Option (List ℕ)) (was : List ℕ → Stream) (f : EditFault) : Type 0 where
+  pub item : Item
+  pub why : CommandFault
+  pub is : List ℕ → Stream
+  pub taken : Takes (items ++ item ∷ []) before after was is
+  pub same : f ≡ of_command why
+
+-- behind these items the stream was refused, or ended, or the next item was refused
+abbrev pub StopsBehind : List Item → Option (List ℕ) → Option (List ℕ) → (List ℕ → Stream) → Bool → Bool → EditFault → Type 0
+StopsBehind items before after was spent failed f = Stops items before after was spent failed f ⊎ (((f ≡ fault.BadShape) × Ends items true before after was) ⊎ RefusesItem items before after was f)
+
+-- a drive was refused behind items that are calls of an edit
+pub record RefusesDrive (before after : Option (List ℕ)) (was : List ℕ → Stream) (spent failed : Bool) (f : EditFault) : Type 0 where
+  pub items : List Item
+  pub calls : List Call
+  pub at : At
+  pub say : AllSay Begun items calls at
+  pub stops : StopsBehind items before after was spent failed f

@@ -1,13 +1,11 @@
 //! Why a drive isn't received.
 
 ghost use Rattle.std.specs.Prelude.{◌≡◌};
-ghost use Rattle.ra_edit.specs.EditFaults.{edit_number, of_item, of_window};
-ghost use Rattle.ra_edit.specs.declared.edit_fault.EditFault.TheVariants as fault;
+ghost use Rattle.ra_edit.specs.EditFaults.{edit_number, of_item, of_command};
 
-use crate::fault::WindowFault;
+use crate::command_fault::CommandFault;
 use delta_editor::EditorFault;
 use ra_item::fault::ItemFault;
-use std::alloc::{AllocError, AllocFailed};
 use thiserror::Error;
 
 /// Why items don't come, or why they are no drive of an editor.
@@ -82,22 +80,6 @@ impl EditFault {
     }
 }
 
-impl From<AllocError> for EditFault {
-    ghost from_gives = { λ _ e. e ≡ fault.OutOfMemory };
-
-    fn from(_: AllocError) -> EditFault {
-        EditFault::OutOfMemory
-    }
-}
-
-impl<T: Drop> From<AllocFailed<T>> for EditFault {
-    ghost from_gives = { λ _ e. e ≡ fault.OutOfMemory };
-
-    fn from(_: AllocFailed<T>) -> EditFault {
-        EditFault::OutOfMemory
-    }
-}
-
 impl From<ItemFault> for EditFault {
     ghost from_gives = { λ f e. e ≡ of_item f };
 
@@ -113,23 +95,21 @@ impl From<ItemFault> for EditFault {
     }
 }
 
-impl From<WindowFault> for EditFault {
-    ghost from_gives = { λ f e. e ≡ of_window f };
+impl From<CommandFault> for EditFault {
+    ghost from_gives = { λ f e. e ≡ of_command f };
 
-    fn from(fault: WindowFault) -> EditFault {
+    fn from(fault: CommandFault) -> EditFault {
         match fault {
-            WindowFault::TooLong => EditFault::TooLong,
-            WindowFault::Failed => EditFault::Failed,
-            WindowFault::BadWindow => EditFault::BadWindow,
-            WindowFault::CopyWindow => EditFault::CopyWindow,
+            CommandFault::BadSum => EditFault::BadSum,
+            CommandFault::TooLong => EditFault::TooLong,
+            CommandFault::Failed => EditFault::Failed,
+            CommandFault::BadWindow => EditFault::BadWindow,
+            CommandFault::CopyWindow => EditFault::CopyWindow,
+            CommandFault::BadToken => EditFault::BadToken,
+            CommandFault::BadShape => EditFault::BadShape,
+            CommandFault::Refused => EditFault::Refused,
+            CommandFault::OutOfMemory => EditFault::OutOfMemory,
+            CommandFault::Editor(fault) => EditFault::Editor(fault),
         }
-    }
-}
-
-impl From<EditorFault> for EditFault {
-    ghost from_gives = { λ f e. e ≡ fault.Editor f };
-
-    fn from(fault: EditorFault) -> EditFault {
-        EditFault::Editor(fault)
     }
 }

@@ -11,6 +11,7 @@
 #![tactic(auto)]
 
 mod command;
+pub mod command_fault;
 pub mod edit_fault;
 pub mod fault;
 pub mod law;
@@ -21,6 +22,8 @@ pub mod receive_command;
 mod receive_edit;
 #[cfg(test)]
 mod receive_tests;
+#[cfg(test)]
+mod received_tests;
 pub mod stream;
 #[cfg(test)]
 mod tests;

@@ -1,10 +1,10 @@
 //! An edit from its items.
 
-ghost use Rattle.std.specs.Prelude.{◌≡◌, IfOk, OnOk, OnErr, true, false};
+ghost use Rattle.std.specs.Prelude.{◌≡◌, ◌||◌, IfOk, IfErr, OnOk, OnErr, [], true, false};
 ghost use Rattle.ra_edit.specs.Edit.{Stands};
 ghost use Rattle.ra_edit.specs.Edits.{Begun};
-ghost use Rattle.ra_edit.specs.ItemStreams.{reader_of, is_spent, ahead};
-ghost use Rattle.ra_edit.specs.Received.{Comes, TakesOne, Received};
+ghost use Rattle.ra_edit.specs.ItemStreams.{reader_of, has_failed, is_spent, is_peer, ahead};
+ghost use Rattle.ra_edit.specs.Received.{Comes, TakesOne, Received, StopsBehind, RefusesDrive};
 
 use crate::edit_fault::EditFault;
 use crate::receive_command::Command;
@@ -27,6 +27,8 @@ pub fn receive<R: Read + Drop, E: Editor>(
     editor: E,
 ) -> Result<E::Done, EditFault>
     ensures received { IfOk result (λ done. Received E.shows E.done_shows editor done (R.remaining (reader_of items.old)) (R.remaining (reader_of items.new)) (ahead items.old) (ahead items.new)) }
+    ensures refused { IfErr result (RefusesDrive (R.remaining (reader_of items.old)) (R.remaining (reader_of items.new)) (ahead items.old) (is_spent items.old) (has_failed items.new)) }
+    ensures failed { has_failed items.new ≡ (has_failed items.old || is_peer result) }
     ensures goes_on { OnOk result (is_spent items.new ≡ false) }
     ensures spent { OnErr result (is_spent items.new ≡ true) }
 {
@@ -40,7 +42,7 @@ pub fn receive<R: Read + Drop, E: Editor>(
         Ok(done) => Ok(done),
         Err(fault) => {
             items.spend();
-            Err(fault)
+            Err(fault.into())
         }
     }
 }
@@ -53,6 +55,8 @@ fn take_commands<R: Read + Drop, E: Editor>(
 ) -> Result<(), EditFault>
     requires begun { Stands E.dir_path E.file_path edit.old.stage edit.old.dirs.items edit.old.file Begun }
     ensures comes { OnOk result (Comes E.shows edit.old.editor edit.new.editor (R.remaining (reader_of items.old)) (R.remaining (reader_of items.new)) (ahead items.old) (ahead items.new) (Stands E.dir_path E.file_path edit.new.stage edit.new.dirs.items edit.new.file)) }
+    ensures refused { IfErr result (RefusesDrive (R.remaining (reader_of items.old)) (R.remaining (reader_of items.new)) (ahead items.old) (is_spent items.old) (has_failed items.new)) }
+    ensures failed { has_failed items.new ≡ (has_failed items.old || is_peer result) }
     ensures goes_on { OnOk result (is_spent items.new ≡ false) }
 {
     for _ in 0..u64::MAX {
@@ -70,10 +74,13 @@ fn take_command<R: Read + Drop, E: Editor>(
     edit: &mut Edit<E>,
 ) -> Result<bool, EditFault>
     ensures taken { IfOk result (TakesOne E.shows edit.old.editor edit.new.editor (R.remaining (reader_of items.old)) (R.remaining (reader_of items.new)) (ahead items.old) (ahead items.new) (Stands E.dir_path E.file_path edit.old.stage edit.old.dirs.items edit.old.file) (Stands E.dir_path E.file_path edit.new.stage edit.new.dirs.items edit.new.file)) }
+    ensures refused { IfErr result (StopsBehind [] (R.remaining (reader_of items.old)) (R.remaining (reader_of items.new)) (ahead items.old) (is_spent items.old) (has_failed items.new)) }
+    ensures failed { has_failed items.new ≡ (has_failed items.old || is_peer result) }
     ensures goes_on { OnOk result (is_spent items.new ≡ false) }
 {
     let Some(item) = items.next()? else {
         return Err(EditFault::BadShape);
     };
-    edit.step(Command::parse(alloc, item)?)
+    let command = Command::parse(alloc, item)?;
+    Ok(edit.step(command)?)
 }

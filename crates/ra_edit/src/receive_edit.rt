@@ -16,7 +16,7 @@ ghost use Rattle.ra_edit.specs.Edit.{Stands, Moves, dirs_named, is_unopened, is_
 ghost use Rattle.ra_edit.specs.declared.receive_command.Command.TheVariants as command;
 ghost use Rattle.ra_edit.specs.declared.receive_edit.Given.TheVariants as given;
 
-use crate::edit_fault::EditFault;
+use crate::command_fault::CommandFault;
 use crate::reader::WindowReader;
 use crate::receive_command::Command;
 use delta_editor::{Editor, EditorFault};
@@ -96,23 +96,23 @@ impl<E: Editor> Edit<E> {
     }
 
     /// Does what a command says; `finish-replay` answers true, and nothing is done for it yet.
-    pub fn step(&mut self, command: Command) -> Result<bool, EditFault>
+    pub fn step(&mut self, command: Command) -> Result<bool, CommandFault>
         ensures moved { IfOk result (λ done. (at : At) (item : Item) → Forms command item → Stands E.dir_path E.file_path self.old.stage self.old.dirs.items self.old.file at → Stepped E.shows self.old.editor self.new.editor item at (Stands E.dir_path E.file_path self.new.stage self.new.dirs.items self.new.file) done) }
     {
         match &command {
             Command::Finish => return Ok(true),
-            Command::Abort => return Err(EditFault::Refused),
+            Command::Abort => return Err(CommandFault::Refused),
             _ => {}
         }
         if self.is_announced() {
-            return Err(EditFault::BadShape);
+            return Err(CommandFault::BadShape);
         }
         self.perform(command)?;
         Ok(false)
     }
 
     // Does what a command says that isn't the end.
-    fn perform(&mut self, command: Command) -> Result<(), EditFault>
+    fn perform(&mut self, command: Command) -> Result<(), CommandFault>
         ensures moved { OnOk result ((at : At) (item : Item) → Forms command item → Stands E.dir_path E.file_path self.old.stage self.old.dirs.items self.old.file at → Moves E.shows self.old.editor self.new.editor item at (Stands E.dir_path E.file_path self.new.stage self.new.dirs.items self.new.file)) }
     {
         match command {
@@ -131,15 +131,15 @@ impl<E: Editor> Edit<E> {
             Command::TextEnd(token) => self.text_end(token),
             Command::CloseFile(token, sum) => self.close_file(token, sum),
             Command::CloseEdit => self.close_edit(),
-            Command::Finish | Command::Abort => Err(EditFault::BadShape),
+            Command::Finish | Command::Abort => Err(CommandFault::BadShape),
         }
     }
 
-    fn target(&mut self, rev: RevNo) -> Result<(), EditFault>
+    fn target(&mut self, rev: RevNo) -> Result<(), CommandFault>
         ensures moved { OnOk result ((at : At) (item : Item) → Forms (command.Target rev) item → Stands E.dir_path E.file_path self.old.stage self.old.dirs.items self.old.file at → Moves E.shows self.old.editor self.new.editor item at (Stands E.dir_path E.file_path self.new.stage self.new.dirs.items self.new.file)) }
     {
         let Stage::Begun = self.stage else {
-            return Err(EditFault::BadShape);
+            return Err(CommandFault::BadShape);
         };
         self.editor.target(rev)?;
         self.stage = Stage::Targeted;
@@ -166,11 +166,11 @@ impl<E: Editor> Edit<E> {
         }
     }
 
-    fn open_root(&mut self, base: Option<RevNo>, token: Vec<u8>) -> Result<(), EditFault>
+    fn open_root(&mut self, base: Option<RevNo>, token: Vec<u8>) -> Result<(), CommandFault>
         ensures moved { OnOk result ((at : At) (item : Item) → Forms (command.OpenRoot base token) item → Stands E.dir_path E.file_path self.old.stage self.old.dirs.items self.old.file at → Moves E.shows self.old.editor self.new.editor item at (Stands E.dir_path E.file_path self.new.stage self.new.dirs.items self.new.file)) }
     {
         if !self.is_unopened() {
-            return Err(EditFault::BadShape);
+            return Err(CommandFault::BadShape);
         }
         self.dirs.reserve(1)?;
         let baton = self.editor.open_root(base)?;
@@ -180,7 +180,7 @@ impl<E: Editor> Edit<E> {
     }
 
     // Takes the innermost open thing, which is a directory with this token.
-    fn take_innermost(&mut self, token: &[u8]) -> Result<OpenDir<E::Dir>, EditFault>
+    fn take_innermost(&mut self, token: &[u8]) -> Result<OpenDir<E::Dir>, CommandFault>
         ensures taken { IfOk result (λ d. (self.old.dirs.items ≡ self.new.dirs.items ++ d ∷ []) × (d.token.items ≡ token.now) × (self.old.file ≡ None)) }
         ensures room { OnOk result ((vec_len self.new.dirs + 1 ≡ vec_len self.old.dirs) × (vec_capacity self.new.dirs ≡ vec_capacity self.old.dirs)) }
         ensures file { self.new.file ≡ self.old.file }
@@ -188,16 +188,16 @@ impl<E: Editor> Edit<E> {
         ensures stage { self.new.stage ≡ self.old.stage }
     {
         if self.file.is_some() {
-            return Err(EditFault::BadToken);
+            return Err(CommandFault::BadToken);
         }
         match self.dirs.pop() {
-            None => Err(EditFault::BadToken),
+            None => Err(CommandFault::BadToken),
             Some(dir) => {
                 if is_same(dir.token.as_slice(), token) {
                     Ok(dir)
                 } else {
                     self.dirs.push_reserved(dir);
-                    Err(EditFault::BadToken)
+                    Err(CommandFault::BadToken)
                 }
             }
         }
@@ -216,7 +216,7 @@ impl<E: Editor> Edit<E> {
     }
 
     // Room for one more, by a token that isn't in use, in the innermost open thing, which is a directory with this token.
-    fn take_parent(&mut self, up: &[u8], token: &[u8]) -> Result<OpenDir<E::Dir>, EditFault>
+    fn take_parent(&mut self, up: &[u8], token: &[u8]) -> Result<OpenDir<E::Dir>, CommandFault>
         ensures taken { IfOk result (λ d. (self.old.dirs.items ≡ self.new.dirs.items ++ d ∷ []) × (d.token.items ≡ up.now) × (self.old.file ≡ None)) }
         ensures free { OnOk result (is_free token.now (dirs_named E.dir_path self.old.dirs.items) ≡ true) }
         ensures room { OnOk result (vec_len self.new.dirs + 2 ≤ vec_capacity self.new.dirs) }
@@ -225,7 +225,7 @@ impl<E: Editor> Edit<E> {
         ensures stage { self.new.stage ≡ self.old.stage }
     {
         if !self.is_free(token) {
-            return Err(EditFault::BadToken);
+            return Err(CommandFault::BadToken);
         }
         self.dirs.reserve(1)?;
         self.take_innermost(up)
@@ -236,7 +236,7 @@ impl<E: Editor> Edit<E> {
         path: NodePath,
         base: Option<RevNo>,
         up: Vec<u8>,
-    ) -> Result<(), EditFault>
+    ) -> Result<(), CommandFault>
         ensures moved { OnOk result ((at : At) (item : Item) → Forms (command.DeleteEntry path base up) item → Stands E.dir_path E.file_path self.old.stage self.old.dirs.items self.old.file at → Moves E.shows self.old.editor self.new.editor item at (Stands E.dir_path E.file_path self.new.stage self.new.dirs.items self.new.file)) }
     {
         let mut dir = self.take_innermost(up.as_slice())?;
@@ -252,7 +252,7 @@ impl<E: Editor> Edit<E> {
         up: Vec<u8>,
         token: Vec<u8>,
         from: Option<Source>,
-    ) -> Result<(), EditFault>
+    ) -> Result<(), CommandFault>
         ensures moved { OnOk result ((at : At) (item : Item) → Forms (command.AddDir path up token from) item → Stands E.dir_path E.file_path self.old.stage self.old.dirs.items self.old.file at → Moves E.shows self.old.editor self.new.editor item at (Stands E.dir_path E.file_path self.new.stage self.new.dirs.items self.new.file)) }
     {
         let mut dir = self.take_parent(up.as_slice(), token.as_slice())?;
@@ -269,7 +269,7 @@ impl<E: Editor> Edit<E> {
         up: Vec<u8>,
         token: Vec<u8>,
         base: Option<RevNo>,
-    ) -> Result<(), EditFault>
+    ) -> Result<(), CommandFault>
         ensures moved { OnOk result ((at : At) (item : Item) → Forms (command.OpenDir path up token base) item → Stands E.dir_path E.file_path self.old.stage self.old.dirs.items self.old.file at → Moves E.shows self.old.editor self.new.editor item at (Stands E.dir_path E.file_path self.new.stage self.new.dirs.items self.new.file)) }
     {
         let mut dir = self.take_parent(up.as_slice(), token.as_slice())?;
@@ -281,7 +281,7 @@ impl<E: Editor> Edit<E> {
     }
 
     // The place of a directory that is open with this token.
-    fn find(&self, token: &[u8]) -> Result<usize, EditFault>
+    fn find(&self, token: &[u8]) -> Result<usize, CommandFault>
         ensures place { IfOk result (λ i. i < vec_len self.now.dirs) }
         ensures found { IfOk result (λ i. IsSomeAnd (slice_get self.now.dirs.items i) (λ d. d.token.items ≡ token.now)) }
     {
@@ -290,7 +290,7 @@ impl<E: Editor> Edit<E> {
                 return Ok(i);
             }
         }
-        Err(EditFault::BadToken)
+        Err(CommandFault::BadToken)
     }
 
     fn dir_prop(
@@ -298,7 +298,7 @@ impl<E: Editor> Edit<E> {
         token: Vec<u8>,
         name: PropName,
         value: Option<Vec<u8>>,
-    ) -> Result<(), EditFault>
+    ) -> Result<(), CommandFault>
         ensures moved { OnOk result ((at : At) (item : Item) → Forms (command.DirProp token name value) item → Stands E.dir_path E.file_path self.old.stage self.old.dirs.items self.old.file at → Moves E.shows self.old.editor self.new.editor item at (Stands E.dir_path E.file_path self.new.stage self.new.dirs.items self.new.file)) }
     {
         let at = self.find(token.as_slice())?;
@@ -308,7 +308,7 @@ impl<E: Editor> Edit<E> {
         Ok(())
     }
 
-    fn close_dir(&mut self, token: Vec<u8>) -> Result<(), EditFault>
+    fn close_dir(&mut self, token: Vec<u8>) -> Result<(), CommandFault>
         ensures moved { OnOk result ((at : At) (item : Item) → Forms (command.CloseDir token) item → Stands E.dir_path E.file_path self.old.stage self.old.dirs.items self.old.file at → Moves E.shows self.old.editor self.new.editor item at (Stands E.dir_path E.file_path self.new.stage self.new.dirs.items self.new.file)) }
     {
         let OpenDir { token: _, baton } = self.take_innermost(token.as_slice())?;
@@ -322,7 +322,7 @@ impl<E: Editor> Edit<E> {
         up: Vec<u8>,
         token: Vec<u8>,
         from: Option<Source>,
-    ) -> Result<(), EditFault>
+    ) -> Result<(), CommandFault>
         ensures moved { OnOk result ((at : At) (item : Item) → Forms (command.AddFile path up token from) item → Stands E.dir_path E.file_path self.old.stage self.old.dirs.items self.old.file at → Moves E.shows self.old.editor self.new.editor item at (Stands E.dir_path E.file_path self.new.stage self.new.dirs.items self.new.file)) }
     {
         let mut dir = self.take_parent(up.as_slice(), token.as_slice())?;
@@ -339,7 +339,7 @@ impl<E: Editor> Edit<E> {
         up: Vec<u8>,
         token: Vec<u8>,
         base: Option<RevNo>,
-    ) -> Result<(), EditFault>
+    ) -> Result<(), CommandFault>
         ensures moved { OnOk result ((at : At) (item : Item) → Forms (command.OpenFile path up token base) item → Stands E.dir_path E.file_path self.old.stage self.old.dirs.items self.old.file at → Moves E.shows self.old.editor self.new.editor item at (Stands E.dir_path E.file_path self.new.stage self.new.dirs.items self.new.file)) }
     {
         let mut dir = self.take_parent(up.as_slice(), token.as_slice())?;
@@ -374,47 +374,47 @@ impl<E: Editor> Edit<E> {
         token: Vec<u8>,
         name: PropName,
         value: Option<Vec<u8>>,
-    ) -> Result<(), EditFault>
+    ) -> Result<(), CommandFault>
         ensures moved { OnOk result ((at : At) (item : Item) → Forms (command.FileProp token name value) item → Stands E.dir_path E.file_path self.old.stage self.old.dirs.items self.old.file at → Moves E.shows self.old.editor self.new.editor item at (Stands E.dir_path E.file_path self.new.stage self.new.dirs.items self.new.file)) }
     {
         let Some(file) = &mut self.file else {
-            return Err(EditFault::BadToken);
+            return Err(CommandFault::BadToken);
         };
         give_prop(&mut self.editor, file, token, name, value)?;
         Ok(())
     }
 
-    fn text_start(&mut self, token: Vec<u8>) -> Result<(), EditFault>
+    fn text_start(&mut self, token: Vec<u8>) -> Result<(), CommandFault>
         ensures moved { OnOk result ((at : At) (item : Item) → Forms (command.TextStart token) item → Stands E.dir_path E.file_path self.old.stage self.old.dirs.items self.old.file at → Moves E.shows self.old.editor self.new.editor item at (Stands E.dir_path E.file_path self.new.stage self.new.dirs.items self.new.file)) }
     {
         let Some(file) = &mut self.file else {
-            return Err(EditFault::BadToken);
+            return Err(CommandFault::BadToken);
         };
         begin_text(&mut self.editor, file, token)?;
         Ok(())
     }
 
-    fn chunk(&mut self, token: Vec<u8>, bytes: Vec<u8>) -> Result<(), EditFault>
+    fn chunk(&mut self, token: Vec<u8>, bytes: Vec<u8>) -> Result<(), CommandFault>
         ensures moved { OnOk result ((at : At) (item : Item) → Forms (command.Chunk token bytes) item → Stands E.dir_path E.file_path self.old.stage self.old.dirs.items self.old.file at → Moves E.shows self.old.editor self.new.editor item at (Stands E.dir_path E.file_path self.new.stage self.new.dirs.items self.new.file)) }
     {
         let Some(file) = &mut self.file else {
-            return Err(EditFault::BadToken);
+            return Err(CommandFault::BadToken);
         };
         give_bytes(&mut self.editor, file, token, bytes)?;
         Ok(())
     }
 
-    fn text_end(&mut self, token: Vec<u8>) -> Result<(), EditFault>
+    fn text_end(&mut self, token: Vec<u8>) -> Result<(), CommandFault>
         ensures moved { OnOk result ((at : At) (item : Item) → Forms (command.TextEnd token) item → Stands E.dir_path E.file_path self.old.stage self.old.dirs.items self.old.file at → Moves E.shows self.old.editor self.new.editor item at (Stands E.dir_path E.file_path self.new.stage self.new.dirs.items self.new.file)) }
     {
         let Some(file) = &mut self.file else {
-            return Err(EditFault::BadToken);
+            return Err(CommandFault::BadToken);
         };
         close_text(&mut self.editor, file, token)?;
         Ok(())
     }
 
-    fn close_file(&mut self, token: Vec<u8>, sum: Option<[u8; 16]>) -> Result<(), EditFault>
+    fn close_file(&mut self, token: Vec<u8>, sum: Option<[u8; 16]>) -> Result<(), CommandFault>
         ensures moved { OnOk result ((at : At) (item : Item) → Forms (command.CloseFile token sum) item → Stands E.dir_path E.file_path self.old.stage self.old.dirs.items self.old.file at → Moves E.shows self.old.editor self.new.editor item at (Stands E.dir_path E.file_path self.new.stage self.new.dirs.items self.new.file)) }
     {
         let OpenFile {
@@ -431,7 +431,7 @@ impl<E: Editor> Edit<E> {
         &mut self,
         token: &[u8],
         sum: Option<[u8; 16]>,
-    ) -> Result<OpenFile<E::File>, EditFault>
+    ) -> Result<OpenFile<E::File>, CommandFault>
         ensures taken { IfOk result (λ f. (self.old.file ≡ Some f) × (f.token.items ≡ token.now) × SumIs f.given sum) }
         ensures none { OnOk result (self.new.file ≡ None) }
         ensures dirs { self.new.dirs ≡ self.old.dirs }
@@ -439,15 +439,15 @@ impl<E: Editor> Edit<E> {
         ensures stage { self.new.stage ≡ self.old.stage }
     {
         let Some(file) = &self.file else {
-            return Err(EditFault::BadToken);
+            return Err(CommandFault::BadToken);
         };
         if !is_same(file.token.as_slice(), token) {
-            return Err(EditFault::BadToken);
+            return Err(CommandFault::BadToken);
         }
         check_sum(&file.given, sum)?;
         match self.file.take() {
             Some(file) => Ok(file),
-            None => Err(EditFault::BadToken),
+            None => Err(CommandFault::BadToken),
         }
     }
 
@@ -458,14 +458,14 @@ impl<E: Editor> Edit<E> {
         self.file.is_none() && self.dirs.is_empty()
     }
 
-    fn close_edit(&mut self) -> Result<(), EditFault>
+    fn close_edit(&mut self) -> Result<(), CommandFault>
         ensures moved { OnOk result ((at : At) (item : Item) → Forms (command.CloseEdit) item → Stands E.dir_path E.file_path self.old.stage self.old.dirs.items self.old.file at → Moves E.shows self.old.editor self.new.editor item at (Stands E.dir_path E.file_path self.new.stage self.new.dirs.items self.new.file)) }
     {
         if self.is_announced() {
-            return Err(EditFault::BadShape);
+            return Err(CommandFault::BadShape);
         }
         if !self.is_closed() {
-            return Err(EditFault::BadToken);
+            return Err(CommandFault::BadToken);
         }
         let root = self.has_root();
         self.stage = Stage::Announced(root);
@@ -485,12 +485,12 @@ impl<E: Editor> Edit<E> {
 
     /// Ends the edit at `finish-replay`: the root is opened and closed where it wasn't, and the editor's `close_edit` is called.
     /// `BadToken` (46) where something is open; then it is discarded, and the edit is aborted.
-    pub fn finish(self) -> Result<E::Done, EditFault>
+    pub fn finish(self) -> Result<E::Done, CommandFault>
         ensures done { IfOk result (λ d. (at : At) (item : Item) → IsCommand (codes "finish-replay") [] item → Stands E.dir_path E.file_path self.stage self.dirs.items self.file at → Finishes E.shows E.done_shows self.editor d item at) }
     {
         if !self.is_closed() {
             self.abort();
-            return Err(EditFault::BadToken);
+            return Err(CommandFault::BadToken);
         }
         let root = self.has_root();
         let mut editor = self.into_closed();
@@ -583,11 +583,11 @@ fn give_prop<E: Editor>(
     token: Vec<u8>,
     name: PropName,
     value: Option<Vec<u8>>,
-) -> Result<(), EditFault>
+) -> Result<(), CommandFault>
     ensures moved { OnOk result ((item : Item) → Forms (command.FileProp token name value) item → FileMoves E.file_path E.shows editor.old editor.new item file.old file.new) }
 {
     if !is_same(file.token.as_slice(), token.as_slice()) {
-        return Err(EditFault::BadToken);
+        return Err(CommandFault::BadToken);
     }
     editor.file_prop(&mut file.baton, &name, slice_of(&value))?;
     Ok(())
@@ -598,14 +598,14 @@ fn begin_text<E: Editor>(
     editor: &mut E,
     file: &mut OpenFile<E::File>,
     token: Vec<u8>,
-) -> Result<(), EditFault>
+) -> Result<(), CommandFault>
     ensures moved { OnOk result ((item : Item) → Forms (command.TextStart token) item → FileMoves E.file_path E.shows editor.old editor.new item file.old file.new) }
 {
     if !is_same(file.token.as_slice(), token.as_slice()) {
-        return Err(EditFault::BadToken);
+        return Err(CommandFault::BadToken);
     }
     let Given::Nothing = file.given else {
-        return Err(EditFault::BadShape);
+        return Err(CommandFault::BadShape);
     };
     editor.text_start(&mut file.baton)?;
     file.given = Given::Begun(WindowReader::new(), Md5::new());
@@ -618,14 +618,14 @@ fn give_bytes<E: Editor>(
     file: &mut OpenFile<E::File>,
     token: Vec<u8>,
     bytes: Vec<u8>,
-) -> Result<(), EditFault>
+) -> Result<(), CommandFault>
     ensures moved { OnOk result ((item : Item) → Forms (command.Chunk token bytes) item → FileMoves E.file_path E.shows editor.old editor.new item file.old file.new) }
 {
     if !is_same(file.token.as_slice(), token.as_slice()) {
-        return Err(EditFault::BadToken);
+        return Err(CommandFault::BadToken);
     }
     let Given::Begun(reader, sum) = &mut file.given else {
-        return Err(EditFault::BadShape);
+        return Err(CommandFault::BadShape);
     };
     take_chunk(editor, &mut file.baton, reader, sum, bytes.as_slice())?;
     Ok(())
@@ -636,11 +636,11 @@ fn close_text<E: Editor>(
     editor: &mut E,
     file: &mut OpenFile<E::File>,
     token: Vec<u8>,
-) -> Result<(), EditFault>
+) -> Result<(), CommandFault>
     ensures moved { OnOk result ((item : Item) → Forms (command.TextEnd token) item → FileMoves E.file_path E.shows editor.old editor.new item file.old file.new) }
 {
     if !is_same(file.token.as_slice(), token.as_slice()) {
-        return Err(EditFault::BadToken);
+        return Err(CommandFault::BadToken);
     }
     let sum = end_text(&mut file.given)?;
     editor.text_end(&mut file.baton)?;
@@ -649,7 +649,7 @@ fn close_text<E: Editor>(
 }
 
 // The MD5 of a text that ends between windows.
-fn end_text(given: &mut Given) -> Result<[u8; 16], EditFault>
+fn end_text(given: &mut Given) -> Result<[u8; 16], CommandFault>
     ensures { IfOk result (λ sum. TextEnds given.old sum) }
 {
     match mem::replace(given, Given::Nothing) {
@@ -657,19 +657,19 @@ fn end_text(given: &mut Given) -> Result<[u8; 16], EditFault>
             reader.finish()?;
             Ok(sum.finalize())
         }
-        Given::Nothing | Given::Whole(_) => Err(EditFault::BadShape),
+        Given::Nothing | Given::Whole(_) => Err(CommandFault::BadShape),
     }
 }
 
 // The sum that came is that of the text, where both are there.
-fn check_sum(given: &Given, sum: Option<[u8; 16]>) -> Result<(), EditFault>
+fn check_sum(given: &Given, sum: Option<[u8; 16]>) -> Result<(), CommandFault>
     ensures { OnOk result (SumIs given.now sum) }
 {
     match given {
         Given::Nothing => Ok(()),
-        Given::Begun(..) => Err(EditFault::BadShape),
+        Given::Begun(..) => Err(CommandFault::BadShape),
         Given::Whole(found) => match sum {
-            Some(wanted) if wanted != *found => Err(EditFault::BadSum),
+            Some(wanted) if wanted != *found => Err(CommandFault::BadSum),
             Some(_) | None => Ok(()),
         },
     }
@@ -681,7 +681,7 @@ fn take_stretch<E: Editor>(
     file: &mut E::File,
     sum: &mut Md5,
     bytes: &[u8],
-) -> Result<(), EditFault>
+) -> Result<(), CommandFault>
     ensures pieces { OnOk result ((pieces : List (List ℕ)) × (concat pieces ≡ bytes.now) × Adds E.shows editor.old editor.new (map (call.TextPiece (E.file_path file.old)) pieces)) }
     ensures sum { OnOk result ((text : List ℕ) → Holds sum.old text → Holds sum.new (text ++ bytes.now)) }
     ensures file { OnOk result (E.file_path file.new ≡ E.file_path file.old) }
@@ -701,7 +701,7 @@ fn take_chunk<E: Editor>(
     reader: &mut WindowReader,
     sum: &mut Md5,
     bytes: &[u8],
-) -> Result<(), EditFault>
+) -> Result<(), CommandFault>
     ensures file { OnOk result (E.file_path file.new ≡ E.file_path file.old) }
     ensures taken { OnOk result ((pieces : List (List ℕ)) × Adds E.shows editor.old editor.new (map (call.TextPiece (E.file_path file.old)) pieces) × ((text : List ℕ) → reading (Reads text reader.old) bytes.now ≡ Reads (text ++ concat pieces) reader.new) × ((text : List ℕ) → Holds sum.old text → Holds sum.new (text ++ concat pieces))) }
 {
