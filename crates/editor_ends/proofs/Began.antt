@@ -16,19 +16,15 @@ use Rattle.node_base.specs.declared.node.Action.TheVariants.{Modify, Add, Delete
 use Rattle.node_base.specs.declared.node.NodeKind.{NodeKind}
 use Rattle.node_base.specs.declared.node.NodeKind.TheVariants.{File, Dir}
 use Rattle.node_base.specs.declared.node.Source.{Source}
-use Rattle.node_base.specs.declared.fault.TreeFault.{TreeFault}
 use Rattle.dump_load.specs.declared.change.Change.{Change}
 use Rattle.dump_load.specs.Changes.{settles, is_delete, is_add, change_at, IsClear, IsWhole, IsNormal, Precedes, Follows}
 use Rattle.dump_load.specs.Effect.{effect, stepped, arrives}
 use Rattle.dump_load.specs.Faults.{fault_of, place_fault, fault_if}
 use Rattle.dump_load.proofs.PathOrder.{less_differs, greater_differs}
-use Rattle.dump_load.proofs.OneMore.{change_at-append}
 use Rattle.dump_load.proofs.Permuted.{effect_one_more}
 use Rattle.dump_load.proofs.Reparted.{effect_replaced}
-use Rattle.dump_load.proofs.Again.{order_of}
-use Rattle.dump_load.proofs.Moved.{at_own_path}
 use Rattle.dump_load.proofs.Faultless.{faultless}
-use Rattle.dump_load.proofs.Walk.{normal_follows, whole_in}
+use Rattle.dump_load.proofs.Walk.{normal_follows}
 use Rattle.delta_editor.specs.Faults.{refused}
 use Rattle.delta_editor.specs.declared.fault.EditorFault.{EditorFault}
 use Rattle.delta_editor.specs.declared.fault.EditorFault.TheVariants as refusal

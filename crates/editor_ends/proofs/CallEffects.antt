@@ -41,7 +41,7 @@ called-closes trees f (p ∷ ps) = called-closes trees f ps
 
 -- ---- marks
 
-front_through : (q d p : Path) → is_front q d ≡ true → is_front d p ≡ true → is_front q p ≡ true
+pub front_through : (q d p : Path) → is_front q d ≡ true → is_front d p ≡ true → is_front q p ≡ true
 front_through q d p h k =
     let a = front_rest q d h in
     let b = front_rest d p k in
@@ -225,10 +225,10 @@ found_source : (o : Option Node) → is_none o ≡ false → is_some o ≡ true
 found_source None e = cc
 found_source (Some x) e = refl
 
-judged_brings : (trees : List PathMap) (f : Nodes) (c : Change) → brings c ≡ true → judged trees f c ≡ option_map_or (λ s. option_map kind_of (source_at trees s [])) c.source c.kind
+pub judged_brings : (trees : List PathMap) (f : Nodes) (c : Change) → brings c ≡ true → judged trees f c ≡ option_map_or (λ s. option_map kind_of (source_at trees s [])) c.source c.kind
 judged_brings trees f c b = ap (λ z. cond z (option_map_or (λ s. option_map kind_of (source_at trees s [])) c.source c.kind) (option_map kind_of (f c.path))) b
 
-judged_stays : (trees : List PathMap) (f : Nodes) (c : Change) → brings c ≡ false → judged trees f c ≡ option_map kind_of (f c.path)
+pub judged_stays : (trees : List PathMap) (f : Nodes) (c : Change) → brings c ≡ false → judged trees f c ≡ option_map kind_of (f c.path)
 judged_stays trees f c b = ap (λ z. cond z (option_map_or (λ s. option_map kind_of (source_at trees s [])) c.source c.kind) (option_map kind_of (f c.path))) b
 
 known : (trees : List PathMap) (f : Nodes) (c : Change) → fault_of trees f c ≡ None → IsWhole c → Known trees f c
@@ -320,6 +320,10 @@ plain trees f c none whole =
     of_known : of_file trees f c ≡ is_file k.kind
     of_known = ap (λ o. option_map_or is_file o false) k.is
 
+-- the kind that counts
+pub judged_kind : (trees : List PathMap) (f : Nodes) (c : Change) → fault_of trees f c ≡ None → IsWhole c → judged trees f c ≡ Some (kind (of_file trees f c))
+judged_kind trees f c none whole = let k = known trees f c none whole in k.is ∙ ap Some (sym (kind_back k.kind) ∙ ap kind (sym (ap (λ o. option_map_or is_file o false) k.is)))
+
 -- ---- the change of the root
 
 mapped_same : (o : Option Node) → option_map (λ x. x) o ≡ o
@@ -338,7 +342,7 @@ marked-root trees done = λ i q. at q i
     at [] = twice (laid trees done []) (parted (change_at done []))
     at (n ∷ q) = sym (mapped_same (effect trees done (n ∷ q)))
 
-called-root : (trees : List PathMap) (f : Nodes) (c : Change) → IsPlain trees f c → c.path ≡ [] → ◌≡◌ {A = Nodes} f (marked f [] (length trees))
+pub called-root : (trees : List PathMap) (f : Nodes) (c : Change) → IsPlain trees f c → c.path ≡ [] → ◌≡◌ {A = Nodes} f (marked f [] (length trees))
     → ◌≡◌ {A = Nodes} (all_called trees f (closes [] c.path ++ (opens trees [] c.path ++ change_calls trees f c))) (stepped trees f c)
 called-root trees f c p e m =
     (λ i. all_called trees f (closes [] (e i) ++ (opens trees [] (e i) ++ (cond (is_front (e i) []) [] (opening trees file c) ++ cond (stays i) [] (parts file c old)))))
@@ -390,7 +394,7 @@ pub none_first : {A : Type 0} (a b : Option A) → option_or a b ≡ None → a 
 none_first None b e = refl
 none_first (Some x) b e = cc
 
-none_rest : {A : Type 0} (a b : Option A) → option_or a b ≡ None → b ≡ None
+pub none_rest : {A : Type 0} (a b : Option A) → option_or a b ≡ None → b ≡ None
 none_rest None b e = e
 none_rest (Some x) b e = cc
 

@@ -1,18 +1,15 @@
 -- The set that changes come to once the edit ends.
 use Rattle.std.proofs.Common.{◌≡◌, ◌≤◌, ◌<◌, Bool, true, false, not, ◌&&◌, ◌||◌, List, [], ◌∷◌, ◌++◌, length, map, Option, Some, None, refl, sym, ap, subst, ◌∙◌, append_assoc, append-nil}
 use Rattle.std.specs.Prelude.{is_none}
-use Rattle.std.specs.List.{list_any, AllByRecursion}
+use Rattle.std.specs.List.{list_any}
 use Rattle.std.proofs.lemmas.List.Folds.{list_any-append}
 use Rattle.std.specs.FinMap.{get}
-use Rattle.node_base.specs.Path.{Path, same_path, is_front}
+use Rattle.node_base.specs.Path.{same_path, is_front}
 use Rattle.node_base.specs.Tree.{PathMap}
-use Rattle.node_base.specs.declared.node.Node.{Node}
 use Rattle.dump_load.specs.declared.change.Change.{Change}
 use Rattle.dump_load.specs.Changes.{settles, IsNormal, IsBare, Precedes}
-use Rattle.dump_load.specs.Effect.{effect}
 use Rattle.dump_load.proofs.PathOrder.{less_differs}
 use Rattle.dump_load.proofs.Bare.{effect_bare, counted_from_below}
-use Rattle.dump_load.proofs.Walk.{normal_follows}
 use Rattle.editor_ends.specs.BuildFaults.{IsTooLarge}
 use Rattle.editor_ends.specs.Built.{filled, is_idle, Keeps, Made, IsSetOver}
 use Rattle.editor_ends.proofs.Filled.{and_split, none_in_gap, normal-filled, or_yes}

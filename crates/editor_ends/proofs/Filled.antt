@@ -1,28 +1,26 @@
 -- Changes beside the tree that they make, and what one change more leaves of them.
 use Rattle.std.proofs.Common.{◌≡◌, ℕ, Bool, true, false, cond, not, ◌&&◌, ◌||◌, List, [], ◌∷◌, ◌++◌, length, map, Option, Some, None, IsSome, is_some, refl, sym, ap, subst, ◌∙◌, append-nil}
-use Rattle.std.specs.Prelude.{unwrap_or, is_none}
-use Rattle.std.specs.Option.{option_map, option_map_or, option_or}
-use Rattle.std.specs.List.{AllByRecursion, list_any}
+use Rattle.std.specs.Prelude.{unwrap_or}
+use Rattle.std.specs.Option.{option_map, option_map_or}
+use Rattle.std.specs.List.{AllByRecursion}
 use Rattle.std.proofs.lemmas.List.{map-append}
-use Rattle.std.proofs.lemmas.List.Folds.{list_any-append}
 use Rattle.std.specs.FinMap.{get}
 use Rattle.std.specs.declared.cmp.Ordering.TheVariants.{Less}
 use Rattle.node_base.specs.Path.{Path, Name, path_cmp, same_path, is_front, rest_after}
 use Rattle.node_base.proofs.PathLemmas.{same_path_itself, path_of_same, rest_after-append, append_of_rest, later_is_no_front, same_path-append, rest_after-longer}
-use Rattle.node_base.specs.Tree.{PathMap, with_number, marked, changed_at, grafted, blocked, numbered}
+use Rattle.node_base.specs.Tree.{PathMap, with_number, marked, changed_at, grafted, blocked}
 use Rattle.node_base.specs.declared.node.Node.{Node}
-use Rattle.node_base.specs.declared.fault.TreeFault.{TreeFault}
 use Rattle.node_base.specs.declared.fault.TreeFault.TheVariants.{NoSuchPath, NotDir}
 use Rattle.dump_load.specs.declared.change.Change.{Change}
 use Rattle.dump_load.specs.Changes.{settles, is_delete, change_at, IsClear, IsWhole, IsNormal, Precedes}
 use Rattle.dump_load.specs.Effect.{effect, stepped, arrives, brought, with_parts}
 use Rattle.dump_load.proofs.PathOrder.{no_front_none, less_differs, greater_differs}
-use Rattle.dump_load.proofs.OneMore.{clear_of_follows, change_at-append}
+use Rattle.dump_load.proofs.OneMore.{clear_of_follows}
 use Rattle.dump_load.proofs.Permuted.{effect_one_more}
 use Rattle.dump_load.proofs.Walk.{normal_follows}
 use Rattle.dump_load.proofs.Faultless.{deletes_settle}
 use Rattle.editor_ends.specs.BuildFaults.{is_below}
-use Rattle.editor_ends.specs.Built.{filled, is_taken, is_above, Made}
+use Rattle.editor_ends.specs.Built.{filled, is_above, Made}
 
 abbrev pub Nodes : Type 0
 Nodes = Path → Option Node
@@ -177,7 +175,7 @@ clear_of_deleted front rest d n del =
 
 module _ (trees : List PathMap) (f : Nodes) (x : Change) where
   -- away from its path, and where it settles it from what is below, a step only numbers
-  stepped_away : (q : Path) → (settles x.action ≡ true → rest_after x.path q ≡ None) → same_path x.path q ≡ false → stepped trees f x q ≡ marked f x.path (length trees) q
+  pub stepped_away : (q : Path) → (settles x.action ≡ true → rest_after x.path q ≡ None) → same_path x.path q ≡ false → stepped trees f x q ≡ marked f x.path (length trees) q
   stepped_away q clear apart =
       elim (settles x.action) as (λ b. (b ≡ true → rest_after x.path q ≡ None) → (cond b (grafted (marked f x.path (length trees)) x.path (arrives trees x)) (changed_at (marked f x.path (length trees)) x.path (with_parts x))) q ≡ marked f x.path (length trees) q) [
         | true ↦ λ k. ap (λ o. option_map_or (arrives trees x) o (marked f x.path (length trees) q)) (k refl)

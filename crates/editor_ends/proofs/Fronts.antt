@@ -32,7 +32,7 @@ filter_none t (x ∷ xs) h = λ i. cond (h.0 i) (x ∷ filter t xs) (filter_none
 
 -- ---- fronts
 
-strict : (p : Path) (n : Name) → rest_after (p ++ n ∷ []) p ≡ None
+pub strict : (p : Path) (n : Name) → rest_after (p ++ n ∷ []) p ≡ None
 strict p n = rest_after-longer p (n ∷ []) p ∙ ap (option_and_then (rest_after (n ∷ []))) (ap (rest_after p) (sym (append-nil p)) ∙ rest_after-append p [])
 
 pub fronts_are : (d q w r : Path) → w ≡ d ++ (q ++ r) → AllByRecursion (λ e. not (is_front e w) ≡ false) (fronts_from d q)
@@ -82,7 +82,7 @@ or_false : (b : Bool) → (b || false) ≡ b
 or_false true = refl
 or_false false = refl
 
-front_end : (e d : Path) (n : Name) → is_front e (d ++ n ∷ []) ≡ (is_front e d || same_path e (d ++ n ∷ []))
+pub front_end : (e d : Path) (n : Name) → is_front e (d ++ n ∷ []) ≡ (is_front e d || same_path e (d ++ n ∷ []))
 front_end [] d n = refl
 front_end (x ∷ []) [] n = elim (same_name x n) as (λ b. same_name x n ≡ b → is_some (cond {A = Option Path} b (Some []) None) ≡ same_path (x ∷ []) (n ∷ [])) [
   | true ↦ λ e. sym (same_path-cons x [] n [] ∙ ap (λ b. b && true) e)

@@ -162,7 +162,7 @@ apart_back u k [] h = tt
 apart_back [] k (l ∷ v) h = tt
 apart_back (n ∷ u) k (l ∷ v) h = name_back n k h
 
-is_front-append : (m u : Path) → is_front m (m ++ u) ≡ true
+pub is_front-append : (m u : Path) → is_front m (m ++ u) ≡ true
 is_front-append m u = ap is_some (rest_after-append m u)
 
 -- the way from the innermost open directory to what is above a path
@@ -240,15 +240,15 @@ module _ (p : Path) (os : List Opened) where
         by Replace false d = run-one (Within os) (Within os) (call.DeleteEntry (above p) p (base_number trees)) (call.AddDir (above p) p c.source ∷ []) (deleted (base_number trees)) ∙ run-one (Within os) (Within (OpenDir p ∷ os)) (call.AddDir (above p) p c.source) [] (child (OpenDir p))
 
 -- a path below the root ends in a name
-record Ends (p : Path) : Type 0 where
-  name : Name
-  is : p ≡ above p ++ name ∷ []
+pub record Ends (p : Path) : Type 0 where
+  pub name : Name
+  pub is : p ≡ above p ++ name ∷ []
 
 ends : (n : Name) (p : Path) → Ends (n ∷ p)
 ends n [] = record { name = n; is = refl }
 ends n (m ∷ p) = record { name = (ends m p).name; is = ap (λ z. n ∷ z) (ends m p).is }
 
-ends_of : (p : Path) → is_front p [] ≡ false → Ends p
+pub ends_of : (p : Path) → is_front p [] ≡ false → Ends p
 ends_of [] h = absurd (is_true h)
   where
     is_true : true ≡ false → ⊥
@@ -291,7 +291,7 @@ run_change trees file old c below = ap (λ b. run (Within os) (cond b [] (openin
 -- ---- all changes
 
 -- where a change leaves the innermost open directory, no later path is a front of it
-rests_before : (file : Bool) (c : Change) (s : List Change) → AllByRecursion (Precedes c) s → AllByRecursion (λ d. is_front d.path (rests_with file c) ≡ false) s
+pub rests_before : (file : Bool) (c : Change) (s : List Change) → AllByRecursion (Precedes c) s → AllByRecursion (λ d. is_front d.path (rests_with file c) ≡ false) s
 rests_before file c s h = all_map s one h
   where
     none : (q p r : Path) → rest_after q (p ++ r) ≡ None → is_front q p ≡ false
@@ -316,7 +316,7 @@ all_closed at = ap (λ l. run (Within (stack at)) (map call.CloseDir (reverse l)
     none [] = tt
     none (n ∷ u) = tt
 
-below_root : (p q : Path) → is_front p q ≡ false → is_front p [] ≡ false
+pub below_root : (p q : Path) → is_front p q ≡ false → is_front p [] ≡ false
 below_root [] q h = cc
 below_root (n ∷ p) q h = refl
 
@@ -333,12 +333,12 @@ nested-walk trees done (c ∷ s) at normal h =
     f : Path → Option Node
     f = effect trees done
 
-later_below : (p q : Path) → path_cmp p q ≡ Less → is_front q [] ≡ false
+pub later_below : (p q : Path) → path_cmp p q ≡ Less → is_front q [] ≡ false
 later_below p (n ∷ q) e = refl
 later_below [] [] e = cc
 later_below (m ∷ p) [] e = cc
 
-root_is_dir : (trees : List PathMap) → IsDirAt (base trees) [] → IsDirAt (effect trees []) []
+pub root_is_dir : (trees : List PathMap) → IsDirAt (base trees) [] → IsDirAt (effect trees []) []
 root_is_dir trees h = subst (λ (o : Option Node). IsSomeAnd o (λ x. IsNone x.text)) (sym (effect_none trees [])) (kept (base trees []) h)
   where
     kept : (o : Option Node) → IsSomeAnd o (λ x. IsNone x.text) → IsSomeAnd (option_map (λ x. with_number (length trees) x) o) (λ x. IsNone x.text)

@@ -1,15 +1,15 @@
 -- A change that a call begins, where a search has found its place.
 use Rattle.std.proofs.Common.{◌≡◌, ℕ, ◌<◌, ◌≤◌, ◌+◌, Bool, true, false, cond, not, ◌&&◌, ◌||◌, List, [], ◌∷◌, ◌++◌, length, take, drop, map, get_or, Option, Some, None, IsSome, is_some, Ok, Err, refl, sym, ap, subst, ◌∙◌, suc, zero}
-use Rattle.std.specs.Prelude.{slice_set, is_none}
+use Rattle.std.specs.Prelude.{slice_set}
 use Rattle.std.specs.Option.{option_map, option_map_or}
-use Rattle.std.specs.List.{AllByRecursion, slice_get, list_any}
+use Rattle.std.specs.List.{AllByRecursion, slice_get}
 use Rattle.std.proofs.lemmas.List.{take-append-drop}
 use Rattle.std.proofs.lemmas.List.Folds.{list_any-append}
 use Rattle.std.proofs.lemmas.Option.{slice_get-get_or}
 use Rattle.std.specs.FinMap.{get}
 use Rattle.std.specs.declared.cmp.Ordering.TheVariants.{Less}
 use Rattle.node_base.specs.Path.{Path, path_cmp, same_path, is_front, rest_after}
-use Rattle.node_base.specs.Tree.{PathMap, blocked}
+use Rattle.node_base.specs.Tree.{PathMap}
 use Rattle.node_base.specs.declared.node.Node.{Node}
 use Rattle.node_base.specs.declared.node.Action.{Action}
 use Rattle.node_base.specs.declared.node.Action.TheVariants.{Modify, Add, Delete, Replace}
@@ -23,7 +23,7 @@ use Rattle.dump_load.proofs.Faultless.{faultless}
 use Rattle.delta_editor.specs.Faults.{refused}
 use Rattle.delta_editor.specs.declared.fault.EditorFault.{EditorFault}
 use Rattle.delta_editor.specs.declared.fault.EditorFault.TheVariants as refusal
-use Rattle.editor_ends.specs.BuildFaults.{is_below, begun, begin_fault}
+use Rattle.editor_ends.specs.BuildFaults.{is_below, begin_fault}
 use Rattle.editor_ends.specs.Built.{filled, is_taken, is_above, is_late_in, Made, Begins, IsFresh, IsFaultOr, Placed}
 use Rattle.editor_ends.proofs.Filled.{Nodes, Gap, none_in_gap, deleted_gone, and_split, or_yes}
 use Rattle.editor_ends.proofs.Began.{fresh_begun, begin_late, begin_faulty, begins_new, begins_again}

@@ -1,7 +1,7 @@
 -- Properties and texts that are given to what has a change already.
 use Rattle.std.proofs.Common.{◌≡◌, ℕ, Bool, true, false, cond, not, ◌&&◌, ◌||◌, List, [], ◌∷◌, ◌++◌, length, map, Option, Some, None, IsSome, is_some, refl, sym, ap, subst, ◌∙◌}
 use Rattle.std.specs.Prelude.{unwrap_or, is_none}
-use Rattle.std.specs.Option.{option_map, option_map_or, option_or}
+use Rattle.std.specs.Option.{option_map, option_map_or}
 use Rattle.std.specs.List.{AllByRecursion}
 use Rattle.std.proofs.lemmas.List.{map-append}
 use Rattle.std.specs.FinMap as finite
@@ -13,7 +13,7 @@ use Rattle.node_base.specs.Tree.{PathMap, changed_at, with_given}
 use Rattle.node_base.specs.NodeEdits.{prop_put, with_prop, with_piece}
 use Rattle.node_base.specs.declared.node.Node.{Node}
 use Rattle.dump_load.specs.declared.change.Change.{Change}
-use Rattle.dump_load.specs.Changes.{settles, is_delete, change_at, IsWhole, IsNormal, Precedes, regiven, is_described}
+use Rattle.dump_load.specs.Changes.{is_delete, change_at, IsWhole, IsNormal, regiven, is_described}
 use Rattle.dump_load.specs.Effect.{effect}
 use Rattle.dump_load.proofs.PathOrder.{less_differs, greater_differs}
 use Rattle.dump_load.proofs.Reparted.{effect_reparted}

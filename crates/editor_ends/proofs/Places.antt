@@ -1,5 +1,5 @@
 -- What a search by halves finds among changes in path order.
-use Rattle.std.proofs.Common.{◌≡◌, ℕ, zero, suc, ◌<◌, ◌≤◌, List, [], ◌∷◌, ◌++◌, length, take, drop, get_or, Some, None, Result, Ok, Err, ◌⊎◌, inl, inr, refl, sym, ap, subst, ◌∙◌, ◌+◌, arith, not, Bool, true, false, cond, Option}
+use Rattle.std.proofs.Common.{◌≡◌, ℕ, zero, suc, ◌<◌, ◌≤◌, List, [], ◌∷◌, ◌++◌, length, take, drop, get_or, Result, Ok, Err, ◌⊎◌, inl, inr, refl, sym, ap, subst, ◌∙◌, ◌+◌, arith, not, false}
 use Rattle.std.specs.Option.{option_map_or}
 use Rattle.std.specs.List.{slice_get, AllByRecursion}
 use Rattle.std.specs.declared.cmp.Ordering.{Ordering}
@@ -12,7 +12,7 @@ use Rattle.std.proofs.lemmas.List.{take-append-drop, take-set, drop-set}
 use Rattle.std.proofs.Common.{add-one, drop-cons}
 use Rattle.node_base.specs.Path.{Path, path_cmp, paths_total, paths_exact}
 use Rattle.dump_load.specs.declared.change.Change.{Change}
-use Rattle.dump_load.specs.Changes.{IsNormal, Precedes, change_at, is_delete}
+use Rattle.dump_load.specs.Changes.{IsNormal, Precedes, is_delete}
 use Rattle.dump_load.proofs.Again.{order_of}
 use Rattle.dump_load.proofs.Moved.{at_own_path}
 use Rattle.editor_ends.specs.Built.{Placed, is_taken}

@@ -1,5 +1,5 @@
 -- What a call adds to what an editor that builds a set was shown, and why it is refused.
-use Rattle.std.proofs.Common.{◌≡◌, ℕ, ◌==◌, ◌≤◌, ◌<◌, Bool, true, false, cond, not, ◌&&◌, ◌||◌, List, [], ◌∷◌, ◌++◌, length, map, Option, Some, None, IsSome, is_some, ◌⊎◌, inl, inr, refl, sym, ap, subst, ◌∙◌, append_assoc, append-nil}
+use Rattle.std.proofs.Common.{◌≡◌, ℕ, ◌≤◌, Bool, true, false, cond, not, ◌&&◌, ◌||◌, List, [], ◌∷◌, ◌++◌, length, Option, Some, None, is_some, ◌⊎◌, inl, inr, refl, sym, ap, subst, ◌∙◌, append_assoc, append-nil}
 use Rattle.std.specs.Option.{option_map, option_map_or, option_or, option_and_then}
 use Rattle.std.specs.List.{list_any, AllByRecursion}
 use Rattle.std.proofs.lemmas.List.Folds.{list_any-append}
@@ -9,22 +9,19 @@ use Rattle.node_base.proofs.PathLemmas.{same_path_itself, path_of_same}
 use Rattle.node_base.specs.Tree.{PathMap, marked, changed_at, grafted, with_number, with_given, base, kind_of}
 use Rattle.node_base.specs.NodeEdits.{with_prop, with_piece}
 use Rattle.node_base.specs.declared.node.Node.{Node}
-use Rattle.node_base.specs.declared.node.NodeKind.{NodeKind}
 use Rattle.node_base.specs.declared.node.NodeKind.TheVariants.{File, Dir}
-use Rattle.node_base.specs.declared.node.Action.{Action}
-use Rattle.node_base.specs.declared.node.Action.TheVariants.{Modify, Add, Delete, Replace}
+use Rattle.node_base.specs.declared.node.Action.TheVariants.{Modify, Add, Delete}
 use Rattle.node_base.specs.declared.node.Source.{Source}
 use Rattle.node_base.specs.declared.fault.TreeFault.TheVariants.{NoSuchPath, KindMismatch}
 use Rattle.dump_load.specs.declared.change.Change.{Change}
-use Rattle.dump_load.specs.Changes.{settles, is_delete, IsNormal}
+use Rattle.dump_load.specs.Changes.{is_delete, IsNormal}
 use Rattle.dump_load.specs.Effect.{effect, stepped, with_parts}
 use Rattle.dump_load.specs.Faults.{fault_of, fault_if, first_of}
 use Rattle.dump_load.proofs.Walk.{effect_none}
 use Rattle.delta_editor.specs.declared.call.Call.{Call}
 use Rattle.delta_editor.specs.declared.call.Call.TheVariants as call
 use Rattle.delta_editor.specs.CallEffect.{called, all_called, call_effect}
-use Rattle.delta_editor.specs.Laws.{touched}
-use Rattle.delta_editor.specs.Nesting.{Stage, Before, Within, After, Opened, OpenDir, OpenFile, OpenText, TextDone, run, next, begun, within, innermost, ended, is_dir, is_fresh, is_in_text, is_told, IsNested}
+use Rattle.delta_editor.specs.Nesting.{Stage, Before, Within, After, Opened, OpenDir, OpenFile, OpenText, TextDone, run, next, begun, within, innermost, is_dir, is_fresh, is_in_text, is_told}
 use Rattle.delta_editor.specs.declared.fault.EditorFault.{EditorFault}
 use Rattle.delta_editor.specs.declared.fault.EditorFault.TheVariants as refusal
 use Rattle.delta_editor.proofs.CallLemmas.{all_called-append}

@@ -1,5 +1,5 @@
 -- What an editor that builds a set keeps: changes beside the tree that they make.
-use Rattle.std.specs.Prelude.{◌≡◌, ℕ, ◌≤◌, take, drop, Result, Ok, Err, Bool, true, false, not, ◌&&◌, ◌||◌, List, ◌++◌, ◌∷◌, [], map, length, Option, Some, None, IsSome}
+use Rattle.std.specs.Prelude.{◌≡◌, ℕ, ◌≤◌, take, drop, Result, Ok, Err, Bool, true, false, not, ◌&&◌, ◌||◌, List, [], map, length, Option, Some, None, IsSome}
 use Rattle.std.specs.Option.{option_map, option_map_or}
 use Rattle.std.specs.Prelude.{unwrap_or}
 use Rattle.std.specs.List.{list_any, slice_get, AllByRecursion}

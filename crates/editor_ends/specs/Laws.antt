@@ -1,7 +1,8 @@
 -- Laws of the calls that a set is driven as.
-use Rattle.std.specs.Prelude.{◌≡◌, ℕ, ◌<◌, ◌≤◌, List, [], None, length}
+use Rattle.std.specs.Prelude.{◌≡◌, ℕ, ◌<◌, ◌≤◌, List, [], None, length, IfSome}
 use Rattle.std.specs.List.{AllByRecursion, concat}
 use Rattle.node_base.specs.Path.{Path}
+use Rattle.node_base.specs.Props.{IsProps}
 use Rattle.node_base.specs.Tree.{PathMap, IsDirAt, base}
 use Rattle.dump_load.specs.declared.change.Change.{Change}
 use Rattle.dump_load.specs.Changes.{IsNormal}
@@ -11,6 +12,7 @@ use Rattle.delta_editor.specs.CallEffect.{call_effect}
 use Rattle.delta_editor.specs.Nesting.{IsNested}
 use Rattle.editor_ends.specs.Parts.{pieces}
 use Rattle.editor_ends.specs.Drive.{drive}
+use Rattle.editor_ends.specs.BuildFaults.{first_refusal}
 
 -- where a set has no fault, the calls that it is driven as have its effect
 abbrev pub DriveHasTheEffect : Type 0
@@ -23,3 +25,11 @@ DriveIsNested = (trees : List PathMap) (s : List Change) → IsNormal s → faul
 -- the pieces of a text joined are the text, and each has a byte at least and 65,536 at most
 abbrev pub PiecesOfAText : Type 0
 PiecesOfAText = (t : List ℕ) → (concat (pieces t) ≡ t) × AllByRecursion (λ p. (0 < length p) × (length p ≤ 65536)) (pieces t)
+
+-- the properties and the text that a change gives are within the limits
+abbrev pub IsWithin : Change → Type 0
+IsWithin c = IfSome c.props IsProps × IfSome c.text (λ t. length t ≤ 1048576)
+
+-- where a set has no fault, an editor that builds over the same trees has no cause to refuse one of the calls that it is driven as
+abbrev pub DriveIsTaken : Type 0
+DriveIsTaken = (trees : List PathMap) (s : List Change) → IsNormal s → fault trees s ≡ None → IsDirAt (base trees) [] → AllByRecursion IsWithin s → first_refusal trees (drive trees s) ≡ None

@@ -1,5 +1,5 @@
 //! Laws of the calls that a set is driven as: each function does nothing, and its contract is the law.
-ghost use Rattle.editor_ends.specs.Laws.{DriveHasTheEffect, DriveIsNested, PiecesOfAText};
+ghost use Rattle.editor_ends.specs.Laws.{DriveHasTheEffect, DriveIsNested, DriveIsTaken, PiecesOfAText};
 
 /// Where a set has no fault, the calls that it is driven as have its effect.
 pub fn drive_has_the_effect()
@@ -10,6 +10,12 @@ pub fn drive_has_the_effect()
 /// close, and a text's calls in their order.
 pub fn drive_is_nested()
     ensures { DriveIsNested }
+{}
+
+/// Where a set has no fault and what it gives is within the limits, none of the calls that it is driven as is refused by an
+/// editor that builds over the same trees, but for want of memory.
+pub fn drive_is_taken()
+    ensures { DriveIsTaken }
 {}
 
 /// The pieces that a text is sent in make the text, and each has a byte at least and 65,536 at most.

@@ -2,7 +2,7 @@ use Rattle.std.proofs.Common.{◌≡◌, ◌<◌, length, Some, subst}
 use Rattle.std.specs.List.{slice_get}
 use Rattle.dump_load.specs.declared.change.Change.{Change}
 use Rattle.dump_load.specs.Changes.{IsNormal}
-use Rattle.editor_ends.proofs.Parted.{started_at, appended_at, answers_none}
+use Rattle.editor_ends.proofs.Parted.{appended_at, answers_none}
 use Rattle.editor_ends.proofs.building.append_text.Goals as goal
 
 pub returns-clause-gives : goal.returns-clause-gives

@@ -5,7 +5,6 @@ use Rattle.std.specs.List.{slice_get}
 use Rattle.node_base.specs.Path.{is_front}
 use Rattle.dump_load.specs.declared.change.Change.{Change}
 use Rattle.dump_load.specs.Changes.{IsNormal}
-use Rattle.dump_load.proofs.Faultless.{deletes_settle}
 use Rattle.delta_editor.specs.Faults.{refused}
 use Rattle.editor_ends.specs.Built.{Placed}
 use Rattle.editor_ends.proofs.Opened.{delete_new, late_delete, refuse_delete, late_again, refuse_gone, never_deleted}

@@ -1,7 +1,6 @@
 use Rattle.std.proofs.Common.{rules, [], ◌≡◌, ◌≤◌, ◌<◌, ◌++◌, ◌∷◌, map, length, sym, subst, ◌∙◌, arith}
 use Rattle.std.proofs.lemmas.List.{nil_from_length}
 use Rattle.std.specs.FinMap.{get}
-use Rattle.dump_load.specs.Changes.{IsNormal}
 use Rattle.editor_ends.specs.Built.{Keeps, IsSetOver, OfSize, filled}
 use Rattle.editor_ends.proofs.Ended.{keeps_twice, over_all, too_large}
 use Rattle.editor_ends.proofs.finish.finish.Goals as goal

@@ -1,4 +1,4 @@
-use Rattle.std.proofs.Common.{◌≡◌, ℕ, ◌==◌, length, true, not, None, sym, ap, ◌∙◌}
+use Rattle.std.proofs.Common.{length, not, sym, ap, ◌∙◌}
 use Rattle.std.proofs.lemmas.Bool.{eq-eqb}
 use Rattle.dump_load.specs.Faults.{fault_if}
 use Rattle.delta_editor.specs.declared.call.Call.TheVariants as call
