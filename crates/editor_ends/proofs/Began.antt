@@ -29,8 +29,8 @@ use Rattle.delta_editor.specs.Faults.{refused}
 use Rattle.delta_editor.specs.declared.fault.EditorFault.{EditorFault}
 use Rattle.delta_editor.specs.declared.fault.EditorFault.TheVariants as refusal
 use Rattle.editor_ends.specs.BuildFaults.{is_below, begun, begin_fault}
-use Rattle.editor_ends.specs.Built.{filled, is_taken, is_above, is_late_in, Made, Begins}
-use Rattle.editor_ends.proofs.Filled.{Nodes, Gap, or_no, or_yes, and_split, rest_itself, parts_stay, some_stays, none_in_gap, clear_in_gap, clear_of_deleted, all_of, all_two, all_append, all_front, all_rest, deleted_gone, there_above, not_both, above_through, not_below}
+use Rattle.editor_ends.specs.Built.{filled, is_taken, is_above, is_given, is_full, is_late_in, Made, Begins}
+use Rattle.editor_ends.proofs.Filled.{Nodes, Gap, or_no, or_yes, or_swap, and_split, rest_itself, parts_stay, some_stays, none_in_gap, clear_in_gap, clear_of_deleted, all_of, all_two, all_append, all_front, all_rest, deleted_gone, there_above, not_both, above_through, not_below}
 
 -- ---- what is fresh
 
@@ -88,7 +88,7 @@ pub gap_of : (front rest : List Change) (d : Change) → IsNormal (front ++ d �
 gap_of front rest d n = (all_of front (λ c h. h.rises) (normal_follows front rest d n), all_of rest (λ c h. h.rises) (later_than front rest d n))
 
 -- the change at a path where there was none
-change_at-amid : (front rest : List Change) (x : Change) → change_at (front ++ rest) x.path ≡ None → (p : Path) → change_at (front ++ x ∷ rest) p ≡ cond (same_path x.path p) (Some x) (change_at (front ++ rest) p)
+pub change_at-amid : (front rest : List Change) (x : Change) → change_at (front ++ rest) x.path ≡ None → (p : Path) → change_at (front ++ x ∷ rest) p ≡ cond (same_path x.path p) (Some x) (change_at (front ++ rest) p)
 change_at-amid [] rest x none p = refl
 change_at-amid (c ∷ front) rest x none p =
     elim (same_path c.path p) as (λ b. same_path c.path p ≡ b → cond b (Some c) (change_at (front ++ x ∷ rest) p) ≡ cond (same_path x.path p) (Some x) (cond b (Some c) (change_at (front ++ rest) p))) [
@@ -113,6 +113,12 @@ taken-amid front rest x none p =
       | true ↦ λ e. sym (ap (λ o. option_map_or (λ (c : Change). not (is_delete c.action)) o false || not (is_delete x.action)) (ap (change_at (front ++ rest)) (sym (path_of_same x.path p e)) ∙ none))
       | false ↦ λ e. sym (or_no (is_taken (front ++ rest) p))
     ] refl
+
+pub given-amid : (front rest : List Change) (x : Change) (p : Path) → is_given (front ++ x ∷ rest) p ≡ (is_given (front ++ rest) p || (same_path x.path p && is_full x))
+given-amid front rest x p =
+    list_any-append (λ c. same_path c.path p && is_full c) front (x ∷ rest)
+    ∙ or_swap (is_given front p) (same_path x.path p && is_full x) (is_given rest p)
+    ∙ ap (λ b. b || (same_path x.path p && is_full x)) (sym (list_any-append (λ c. same_path c.path p && is_full c) front rest))
 
 pub above-amid : (front rest : List Change) (x : Change) (p : Path) → is_above (front ++ x ∷ rest) p ≡ (is_above (front ++ rest) p || is_below p x.path)
 above-amid front rest x p =
@@ -202,6 +208,7 @@ module _ (trees : List PathMap) (tree new_tree : PathMap) (x : Change) (step : (
       };
       taken = taken-amid front rest x none;
       above = above-amid front rest x;
+      given = λ p h. sym (given-amid front rest x p) ∙ h;
     }
       where
         shape : map (filled (get new_tree)) front ++ filled (get new_tree) x ∷ map (filled (get new_tree)) rest ≡ map (filled (get tree)) front ++ x ∷ map (filled (get tree)) rest
@@ -256,8 +263,21 @@ module _ (trees : List PathMap) (tree new_tree : PathMap) (x : Change) (step : (
       };
       taken = taken;
       above = above;
+      given = λ p h. ap (λ b. b || (same_path x.path p && is_full x)) (given-amid front rest d p) ∙ again (is_given (front ++ rest) p) (same_path x.path p) (is_full x) (same_path d.path p && is_full d) (full x.action adds) (sym (given-amid front rest replacing p) ∙ h);
     }
       where
+        full : (a : Action) → is_add a ≡ true → (settles a || (is_some x.props || is_some x.text)) ≡ true
+        full Modify e = cc
+        full Add e = refl
+        full Delete e = cc
+        full Replace e = cc
+
+        again : (r s g e : Bool) → g ≡ true → (r || (s && true)) ≡ true → ((r || e) || (s && g)) ≡ true
+        again true s g e k h = refl
+        again false true g true k h = refl
+        again false true g false k h = k
+        again false false g e k h = cc
+
         none : change_at (front ++ rest) x.path ≡ None
         none = none_in_gap front rest x.path (subst (Gap front rest) same (gap_of front rest d m.normal))
 

@@ -39,7 +39,7 @@ pub or_yes : (a : Bool) → (a || true) ≡ true
 or_yes true = refl
 or_yes false = refl
 
-or_swap : (a b c : Bool) → (a || (b || c)) ≡ ((a || c) || b)
+pub or_swap : (a b c : Bool) → (a || (b || c)) ≡ ((a || c) || b)
 or_swap true b c = refl
 or_swap false true c = sym (or_yes c)
 or_swap false false c = sym (or_no c)

@@ -1,5 +1,6 @@
 pub mod Began
 pub mod CallEffects
+pub mod Down
 pub mod Edits
 pub mod Ended
 pub mod Faultfree
@@ -7,6 +8,7 @@ pub mod Filled
 pub mod Fitting
 pub mod Fronts
 pub mod Given
+pub mod Memory
 pub mod Methods
 pub mod Nested
 pub mod Opened

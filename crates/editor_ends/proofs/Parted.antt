@@ -18,7 +18,7 @@ use Rattle.dump_load.specs.Effect.{effect}
 use Rattle.dump_load.proofs.PathOrder.{less_differs, greater_differs}
 use Rattle.dump_load.proofs.Reparted.{effect_reparted}
 use Rattle.dump_load.proofs.Walk.{normal_follows, whole_in}
-use Rattle.editor_ends.specs.Built.{filled, is_taken, is_above, Made, Gives, giving_props, giving_text}
+use Rattle.editor_ends.specs.Built.{filled, is_taken, is_above, is_given, is_full, Made, Gives, giving_props, giving_text}
 use Rattle.std.proofs.Common.{◌<◌, ◌+◌, take, drop, get_or, Ok}
 use Rattle.std.specs.Prelude.{slice_set}
 use Rattle.std.specs.List.{slice_get}
@@ -30,8 +30,8 @@ use Rattle.path_tree.specs.NodeCalls.{piece_fault}
 use Rattle.path_tree.proofs.Faults.{first_none, second_none, test_fails}
 use Rattle.editor_ends.proofs.Places.{split_at, set_at}
 use Rattle.editor_ends.proofs.Given.{changed_alike}
-use Rattle.editor_ends.proofs.Filled.{Nodes, SameParts, same_all, none_in_gap, all_of, all_append}
-use Rattle.editor_ends.proofs.Began.{gap_of, normal_without, normal_amid, later_than, taken-amid, above-amid}
+use Rattle.editor_ends.proofs.Filled.{Nodes, or_yes, SameParts, same_all, none_in_gap, all_of, all_append}
+use Rattle.editor_ends.proofs.Began.{gap_of, normal_without, normal_amid, later_than, taken-amid, given-amid, above-amid}
 
 module _ (trees : List PathMap) (tree new_tree : PathMap) (front rest : List Change) (c e : Change) (m : Made trees tree (front ++ c ∷ rest)) (same : e.path ≡ c.path) (does : e.action ≡ c.action) (whole : IsWhole c → IsWhole e) (g : Node → Node) (step : (q : Path) → get new_tree q ≡ changed_at (get tree) c.path g q) (text : Option (List ℕ)) (props : Option PropMap) (is : filled (get new_tree) e ≡ regiven text props (filled (get tree) c)) (gives : (x : Node) → get tree c.path ≡ Some x → with_given text props x ≡ g x) where
   none : change_at (front ++ rest) c.path ≡ None
@@ -84,8 +84,15 @@ module _ (trees : List PathMap) (tree new_tree : PathMap) (front rest : List Cha
     };
     taken = λ q. taken-amid front rest e none_e q ∙ (λ i. is_taken (front ++ rest) q || (same_path (same i) q && not (is_delete (does i)))) ∙ sym (taken-amid front rest c none q);
     above = above;
+    given = λ q h.
+        ap (λ b. b || same_path c.path q) (given-amid front rest c q) ∙ own (is_given (front ++ rest) q) (same_path c.path q) (is_full e) (is_full c) (sym (given-amid front rest e q ∙ ap (λ p. is_given (front ++ rest) q || (same_path p q && is_full e)) same) ∙ h);
   }
     where
+      own : (r s g e : Bool) → (r || (s && g)) ≡ true → ((r || (s && e)) || s) ≡ true
+      own true s g e h = refl
+      own false true g e h = or_yes e
+      own false false g e h = cc
+
       mapped : (k : Node → Node) (o : Option Node) → IsSome o → IsSome (option_map k o)
       mapped k None h = cc h
       mapped k (Some y) h = refl

@@ -62,11 +62,13 @@ stands_next trees done p x c g k h =
 -- entries that a sorted list has
 entries_all : (P : Name → List ℕ → Type 0) (es : Entries) → IsRising es → ((q : Name) (v : List ℕ) → find name_cmp q es ≡ Some v → P q v) → AllByRecursion (λ e. P e.0 e.1) es
 entries_all P [] r k = tt
-entries_all P (e ∷ es) r k =
-    (k e.0 e.1 (ap (λ b. cond b (Some e.1) (find name_cmp e.0 es)) (same_name_itself e.0)), entries_all P es (both_true _ _ r).1 (λ q v f. k q v (elim (same_name q e.0) as (λ b. same_name q e.0 ≡ b → cond b (Some e.1) (find name_cmp q es) ≡ Some v) [
-      | true ↦ λ s. cc (find_absent e.0 es (both_true _ _ r).0, ap (λ z. find name_cmp z es) (sym (name_of_same q e.0 s)), f)
-      | false ↦ λ s. f
-    ] refl)))
+entries_all P (e ∷ es) r k = (
+  k e.0 e.1 (ap (λ b. cond b (Some e.1) (find name_cmp e.0 es)) (same_name_itself e.0)),
+  entries_all P es (both_true _ _ r).1 (λ q v f. k q v (elim (same_name q e.0) as (λ b. same_name q e.0 ≡ b → cond b (Some e.1) (find name_cmp q es) ≡ Some v) [
+    | true ↦ λ s. cc (find_absent e.0 es (both_true _ _ r).0, ap (λ z. find name_cmp z es) (sym (name_of_same q e.0 s)), f)
+    | false ↦ λ s. f
+  ] refl)),
+)
 
 not_long : (v : List ℕ) → length v ≤ 65536 → nat_lt 65536 (length v) ≡ false
 not_long v l = short (length v) l

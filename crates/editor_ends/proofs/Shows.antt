@@ -25,11 +25,11 @@ use Rattle.delta_editor.specs.Nesting.{Stage, Before, Within, After, Opened, Ope
 use Rattle.delta_editor.specs.declared.fault.EditorFault.{EditorFault}
 use Rattle.delta_editor.specs.declared.fault.EditorFault.TheVariants as refusal
 use Rattle.delta_editor.proofs.CallLemmas.{all_called-append}
-use Rattle.editor_ends.specs.BuildFaults.{is_below, takes, acts_below, begin_fault, is_late, beginning, call_fault, refusal_after, first_refusal, IsTooLarge, IsCallRefusal, OfMemory, OfCall, OfSize, RefusesWithin}
+use Rattle.editor_ends.specs.BuildFaults.{is_below, takes, acts_below, gives, is_changed, begin_fault, is_late, beginning, call_fault, refusal_after, first_refusal, IsTooLarge, IsCallRefusal, OfMemory, OfCall, OfSize, RefusesWithin}
 use Rattle.editor_ends.specs.BuildFaults as faults
-use Rattle.editor_ends.specs.Built.{is_taken, is_above, is_late_in, Made, Begins, Gives, IsFaultOr, IsSetOver, IsFinishRefusal, seen, Builds, BuildsWithin, IsSetOf, IsSetWithin}
+use Rattle.editor_ends.specs.Built.{is_taken, is_above, is_given, is_full, is_needed, is_late_in, Made, Begins, Gives, IsFaultOr, IsSetOver, IsFinishRefusal, seen, Builds, BuildsWithin, IsSetOf, IsSetWithin}
 use Rattle.editor_ends.specs.Built as built
-use Rattle.editor_ends.proofs.Filled.{Nodes, or_no}
+use Rattle.editor_ends.proofs.Filled.{Nodes, or_no, all_of}
 
 -- ---- lists of calls, by their last
 
@@ -50,7 +50,7 @@ refusal-end trees done (d ∷ cs) c =
 first-end : (trees : List PathMap) (calls : List Call) (c : Call) → first_refusal trees calls ≡ None → call_fault trees calls c ≡ None → first_refusal trees (calls ++ c ∷ []) ≡ None
 first-end trees calls c a b = refusal-end trees [] calls c ∙ (λ i. option_or (a i) (b i))
 
-run-append : (s : Stage) (cs ds : List Call) → run s (cs ++ ds) ≡ option_and_then (λ t. run t ds) (run s cs)
+pub run-append : (s : Stage) (cs ds : List Call) → run s (cs ++ ds) ≡ option_and_then (λ t. run t ds) (run s cs)
 run-append s [] ds = refl
 run-append s (c ∷ cs) ds = elim (next s c) as (λ o. option_and_then (λ t. run t (cs ++ ds)) o ≡ option_and_then (λ t. run t ds) (option_and_then (λ t. run t cs) o)) [ None ↦ refl | Some t ↦ run-append t cs ds ]
 
@@ -111,14 +111,20 @@ within_later (o ∷ os) call.CloseEdit t e = cc
 -- ---- one call more
 
 module _ (trees : List PathMap) (tree new_tree : PathMap) (s new : List Change) (calls : List Call) (c : Call) where
-  goes_on : (stage t : Stage) → Builds trees tree s calls stage → ((q : Path) → get new_tree q ≡ seen t trees (called trees (call_effect trees calls) c) q) → Made trees new_tree new → ((p : Path) → is_taken new p ≡ (is_taken s p || takes p c)) → ((p : Path) → is_above new p ≡ (is_above s p || acts_below p c)) → call_fault trees calls c ≡ None → Builds trees new_tree new (calls ++ c ∷ []) t
-  goes_on stage t b is made taken above fault = record {
+  goes_on : (stage t : Stage) → Builds trees tree s calls stage → ((q : Path) → get new_tree q ≡ seen t trees (called trees (call_effect trees calls) c) q) → Made trees new_tree new → ((p : Path) → is_taken new p ≡ (is_taken s p || takes p c)) → ((p : Path) → is_above new p ≡ (is_above s p || acts_below p c)) → ((p : Path) → is_given new p ≡ true → (is_given s p || gives p c) ≡ true) → call_fault trees calls c ≡ None → Builds trees new_tree new (calls ++ c ∷ []) t
+  goes_on stage t b is made taken above given fault = record {
     called = λ q. is q ∙ (λ i. seen t trees (sym (all_called-append trees (base trees) calls (c ∷ [])) i) q);
     made = made;
     taken = λ p. taken p ∙ (λ i. b.taken p i || sym (or_no (takes p c)) i) ∙ sym (list_any-append (takes p) calls (c ∷ []));
     above = λ p. above p ∙ (λ i. b.above p i || sym (or_no (acts_below p c)) i) ∙ sym (list_any-append (acts_below p) calls (c ∷ []));
+    given = λ p h. list_any-append (gives p) calls (c ∷ []) ∙ carry (is_given s p) (list_any (gives p) calls) (gives p c) (b.given p) (given p h);
     unrefused = first-end trees calls c b.unrefused fault;
   }
+    where
+      carry : (a b g : Bool) → (a ≡ true → b ≡ true) → (a || g) ≡ true → (b || (g || false)) ≡ true
+      carry true b g k h = ap (λ z. z || (g || false)) (k refl)
+      carry false true g k h = refl
+      carry false false g k h = or_no g ∙ h
 
 -- what a call says of the change that it begins
 pub record BeginsAs (c : Call) (x : Change) : Type 0 where
@@ -126,6 +132,7 @@ pub record BeginsAs (c : Call) (x : Change) : Type 0 where
   pub effect_is : (trees : List PathMap) (f : Nodes) (q : Path) → called trees f c q ≡ stepped trees f x q
   pub takes_it : (p : Path) → takes p c ≡ (same_path x.path p && not (is_delete x.action))
   pub below : (p : Path) → acts_below p c ≡ is_below p x.path
+  pub gives_it : (p : Path) → gives p c ≡ (same_path x.path p && is_full x)
   pub not_first : begun c ≡ None
 
 kept_node : (b : Bool) (x : Node) → cond b (with_given None None x) x ≡ x
@@ -144,29 +151,29 @@ and_false true = refl
 and_false false = refl
 
 pub opens_dir : (up p : Path) (b : Option ℕ) → BeginsAs (call.OpenDir up p b) (faults.begun Modify (Some Dir) p None)
-opens_dir up p b = record { fault = λ trees calls. refl; effect_is = λ trees f q. unchanged (marked f p (length trees)) p q; takes_it = λ r. and_true (same_path p r); below = λ r. refl; not_first = refl }
+opens_dir up p b = record { fault = λ trees calls. refl; effect_is = λ trees f q. unchanged (marked f p (length trees)) p q; takes_it = λ r. and_true (same_path p r); below = λ r. refl; gives_it = λ r. and_false (same_path p r); not_first = refl }
 
 pub opens_file : (up p : Path) (b : Option ℕ) → BeginsAs (call.OpenFile up p b) (faults.begun Modify (Some File) p None)
-opens_file up p b = record { fault = λ trees calls. refl; effect_is = λ trees f q. unchanged (marked f p (length trees)) p q; takes_it = λ r. and_true (same_path p r); below = λ r. refl; not_first = refl }
+opens_file up p b = record { fault = λ trees calls. refl; effect_is = λ trees f q. unchanged (marked f p (length trees)) p q; takes_it = λ r. and_true (same_path p r); below = λ r. refl; gives_it = λ r. and_false (same_path p r); not_first = refl }
 
 pub deletes : (up p : Path) (b : Option ℕ) → BeginsAs (call.DeleteEntry up p b) (faults.begun Delete None p None)
-deletes up p b = record { fault = λ trees calls. refl; effect_is = λ trees f q. refl; takes_it = λ r. and_false (same_path p r); below = λ r. refl; not_first = refl }
+deletes up p b = record { fault = λ trees calls. refl; effect_is = λ trees f q. refl; takes_it = λ r. and_false (same_path p r); below = λ r. refl; gives_it = λ r. and_true (same_path p r); not_first = refl }
 
 pub adds_dir : (up p : Path) (from : Option Source) → BeginsAs (call.AddDir up p from) (faults.begun Add (Some Dir) p from)
-adds_dir up p None = record { fault = λ trees calls. refl; effect_is = λ trees f q. (λ i. grafted (marked f p (length trees)) p (λ r. top trees r i) q); takes_it = λ r. and_true (same_path p r); below = λ r. refl; not_first = refl }
+adds_dir up p None = record { fault = λ trees calls. refl; effect_is = λ trees f q. (λ i. grafted (marked f p (length trees)) p (λ r. top trees r i) q); takes_it = λ r. and_true (same_path p r); below = λ r. refl; gives_it = λ r. and_true (same_path p r); not_first = refl }
   where
     top : (trees : List PathMap) (r : Path) → Rattle.delta_editor.specs.CallEffect.added trees Dir None r ≡ Rattle.dump_load.specs.Effect.arrives trees (faults.begun Add (Some Dir) p None) r
     top trees [] = refl
     top trees (n ∷ r) = refl
-adds_dir up p (Some s) = record { fault = λ trees calls. refl; effect_is = λ trees f q. refl; takes_it = λ r. and_true (same_path p r); below = λ r. refl; not_first = refl }
+adds_dir up p (Some s) = record { fault = λ trees calls. refl; effect_is = λ trees f q. refl; takes_it = λ r. and_true (same_path p r); below = λ r. refl; gives_it = λ r. and_true (same_path p r); not_first = refl }
 
 pub adds_file : (up p : Path) (from : Option Source) → BeginsAs (call.AddFile up p from) (faults.begun Add (Some File) p from)
-adds_file up p None = record { fault = λ trees calls. refl; effect_is = λ trees f q. (λ i. grafted (marked f p (length trees)) p (λ r. top trees r i) q); takes_it = λ r. and_true (same_path p r); below = λ r. refl; not_first = refl }
+adds_file up p None = record { fault = λ trees calls. refl; effect_is = λ trees f q. (λ i. grafted (marked f p (length trees)) p (λ r. top trees r i) q); takes_it = λ r. and_true (same_path p r); below = λ r. refl; gives_it = λ r. and_true (same_path p r); not_first = refl }
   where
     top : (trees : List PathMap) (r : Path) → Rattle.delta_editor.specs.CallEffect.added trees File None r ≡ Rattle.dump_load.specs.Effect.arrives trees (faults.begun Add (Some File) p None) r
     top trees [] = refl
     top trees (n ∷ r) = refl
-adds_file up p (Some s) = record { fault = λ trees calls. refl; effect_is = λ trees f q. refl; takes_it = λ r. and_true (same_path p r); below = λ r. refl; not_first = refl }
+adds_file up p (Some s) = record { fault = λ trees calls. refl; effect_is = λ trees f q. refl; takes_it = λ r. and_true (same_path p r); below = λ r. refl; gives_it = λ r. and_true (same_path p r); not_first = refl }
 
 -- what comes within an edit
 pub record Inside (stage t : Stage) (c : Call) : Type 0 where
@@ -194,7 +201,7 @@ adds_begun trees tree new_tree s new c x facts h calls builds t e =
     let g = h b.made in
     goes_on trees tree new_tree s new calls c l.stage t b
     (λ q. g.tree_is q ∙ (λ i. stepped trees (λ r. is r i) x q) ∙ sym (facts.effect_is trees (call_effect trees calls) q) ∙ sym (seen_later trees t (called trees (call_effect trees calls) c) q (within_later w.opened c t w.goes)))
-    g.made (λ p. g.taken p ∙ ap (λ z. is_taken s p || z) (sym (facts.takes_it p))) (λ p. g.above p ∙ ap (λ z. is_above s p || z) (sym (facts.below p)))
+    g.made (λ p. g.taken p ∙ ap (λ z. is_taken s p || z) (sym (facts.takes_it p))) (λ p. g.above p ∙ ap (λ z. is_above s p || z) (sym (facts.below p))) (λ p k. ap (λ z. is_given s p || z) (facts.gives_it p) ∙ g.given p k)
     (facts.fault trees calls ∙ sym (same_fault trees tree s calls l.stage x b is) ∙ g.fault)
 
 -- ---- refusals
@@ -285,7 +292,7 @@ adds_root trees tree new_tree s new base h calls builds t e =
     let g = h b.made in
     goes_on trees tree new_tree s new calls (call.OpenRoot base) l.stage t b
     (λ q. g.tree_is q ∙ (λ i. stepped trees (λ r. is r i) x q) ∙ root_step trees (call_effect trees calls) q ∙ sym (seen_later trees t (marked (call_effect trees calls) [] (length trees)) q w.later))
-    g.made (λ p. g.taken p ∙ ap (λ z. is_taken s p || z) (sym (and_true (same_path [] p)))) (λ p. g.above p)
+    g.made (λ p. g.taken p ∙ ap (λ z. is_taken s p || z) (sym (and_true (same_path [] p)))) (λ p. g.above p) (λ p k. ap (λ z. is_given s p || z) (and_false (same_path [] p)) ∙ g.given p k)
     (sym (root_same trees tree s calls l.stage b is) ∙ g.fault)
 
 pub refuses_root : (trees : List PathMap) (tree : PathMap) (s : List Change) (base : Option ℕ) (e : EditorFault) → (Made trees tree s → IsFaultOr (begin_fault trees (get tree) (is_late_in s (faults.begun Modify (Some Dir) [] None)) (faults.begun Modify (Some Dir) [] None)) e) → (calls : List Call) → BuildsWithin trees tree s calls → RefusesWithin trees calls (call.OpenRoot base) e
@@ -339,7 +346,7 @@ adds_silent trees tree s c facts calls fault builds t e =
     let b = builds l.stage l.ran in
     goes_on trees tree tree s s calls c l.stage t b
     (λ q. b.called q ∙ seen_same trees l.stage t (call_effect trees calls) q (facts.stage_stays l.stage t l.goes) ∙ (λ i. seen t trees (sym (facts.effect_is trees (call_effect trees calls)) i) q))
-    b.made (λ p. sym (ap (λ z. is_taken s p || z) (facts.takes_none p) ∙ or_no (is_taken s p))) (λ p. sym (ap (λ z. is_above s p || z) (facts.below p) ∙ or_no (is_above s p)))
+    b.made (λ p. sym (ap (λ z. is_taken s p || z) (facts.takes_none p) ∙ or_no (is_taken s p))) (λ p. sym (ap (λ z. is_above s p || z) (facts.below p) ∙ or_no (is_above s p))) (λ p h. ap (λ z. z || gives p c) h)
     fault
 
 -- ---- what gives parts
@@ -348,23 +355,24 @@ pub record GivesAs (c : Call) (p : Path) (g : Node → Node) : Type 0 where
   pub effect_is : (trees : List PathMap) (f : Nodes) (q : Path) → called trees f c q ≡ changed_at f p g q
   pub takes_none : (q : Path) → takes q c ≡ false
   pub below : (q : Path) → acts_below q c ≡ false
+  pub gives_own : (q : Path) → gives q c ≡ same_path p q
   pub not_first : begun c ≡ None
 
 pub puts_dir : (p : Path) (name : Name) (value : Option (List ℕ)) → GivesAs (call.DirProp p name value) p (with_prop name value)
-puts_dir p name value = record { effect_is = λ trees f q. same f value q; takes_none = λ q. refl; below = λ q. refl; not_first = refl }
+puts_dir p name value = record { effect_is = λ trees f q. same f value q; takes_none = λ q. refl; below = λ q. refl; gives_own = λ q. refl; not_first = refl }
   where
     same : (f : Nodes) (value : Option (List ℕ)) (q : Path) → changed_at f p (Rattle.delta_editor.specs.CallEffect.with_prop name value) q ≡ changed_at f p (with_prop name value) q
     same f None q = refl
     same f (Some v) q = refl
 
 pub puts_file : (p : Path) (name : Name) (value : Option (List ℕ)) → GivesAs (call.FileProp p name value) p (with_prop name value)
-puts_file p name value = record { effect_is = (puts_dir p name value).effect_is; takes_none = λ q. refl; below = λ q. refl; not_first = refl }
+puts_file p name value = record { effect_is = (puts_dir p name value).effect_is; takes_none = λ q. refl; below = λ q. refl; gives_own = λ q. refl; not_first = refl }
 
 pub starts : (p : Path) → GivesAs (call.TextStart p) p (with_given (Some []) None)
-starts p = record { effect_is = λ trees f q. refl; takes_none = λ q. refl; below = λ q. refl; not_first = refl }
+starts p = record { effect_is = λ trees f q. refl; takes_none = λ q. refl; below = λ q. refl; gives_own = λ q. refl; not_first = refl }
 
 pub pieces_on : (p : Path) (piece : List ℕ) → GivesAs (call.TextPiece p piece) p (with_piece piece)
-pieces_on p piece = record { effect_is = λ trees f q. refl; takes_none = λ q. refl; below = λ q. refl; not_first = refl }
+pieces_on p piece = record { effect_is = λ trees f q. refl; takes_none = λ q. refl; below = λ q. refl; gives_own = λ q. refl; not_first = refl }
 
 pub adds_given : (trees : List PathMap) (tree new_tree : PathMap) (s new : List Change) (c : Call) (p : Path) (g : Node → Node) (fault : Nodes → Option EditorFault) → GivesAs c p g → ((calls : List Call) → call_fault trees calls c ≡ fault (call_effect trees calls)) → fault (get tree) ≡ None → (Made trees tree s → Gives trees tree s new_tree new p g) → (calls : List Call) → BuildsWithin trees tree s calls → BuildsWithin trees new_tree new (calls ++ c ∷ [])
 adds_given trees tree new_tree s new c p g fault facts same none h calls builds t e =
@@ -375,7 +383,7 @@ adds_given trees tree new_tree s new c p g fault facts same none h calls builds 
     let d = h b.made in
     goes_on trees tree new_tree s new calls c l.stage t b
     (λ q. d.tree_is q ∙ (λ i. changed_at (λ r. is r i) p g q) ∙ sym (facts.effect_is trees (call_effect trees calls) q) ∙ sym (seen_later trees t (called trees (call_effect trees calls) c) q (within_later w.opened c t w.goes)))
-    d.made (λ q. d.taken q ∙ sym (ap (λ z. is_taken s q || z) (facts.takes_none q) ∙ or_no (is_taken s q))) (λ q. d.above q ∙ sym (ap (λ z. is_above s q || z) (facts.below q) ∙ or_no (is_above s q)))
+    d.made (λ q. d.taken q ∙ sym (ap (λ z. is_taken s q || z) (facts.takes_none q) ∙ or_no (is_taken s q))) (λ q. d.above q ∙ sym (ap (λ z. is_above s q || z) (facts.below q) ∙ or_no (is_above s q))) (λ q k. ap (λ z. is_given s q || z) (facts.gives_own q) ∙ d.given q k)
     (same calls ∙ (λ i. fault (λ r. sym (is r) i)) ∙ none)
 
 -- ---- what is open was opened or added
@@ -527,6 +535,7 @@ new_shown trees tree few is stage e = subst (Builds trees tree [] []) (same_stag
   made = record { numbered = few; made = λ q. sym (is q); normal = tt; stands = λ p h. cc };
   taken = λ p. refl;
   above = λ p. refl;
+  given = λ p h. cc;
   unrefused = refl;
 })
 
@@ -535,7 +544,22 @@ ends_within Before e trees f q = cc
 ends_within (Within os) e trees f q = refl
 ends_within After e trees f q = cc
 
-pub adds_end : (trees : List PathMap) (tree : PathMap) (s set : List Change) → (Made trees tree s → IsSetOver trees (get tree) set) → (calls : List Call) → BuildsWithin trees tree s calls → IsSetWithin trees set (calls ++ call.CloseEdit ∷ [])
+-- what is needed of the changes is what the calls change
+needs_change : (trees : List PathMap) (tree : PathMap) (s : List Change) (calls : List Call) (stage : Stage) → Builds trees tree s calls stage → (p : Path) → is_needed s p ≡ true → is_changed calls p ≡ true
+needs_change trees tree s calls stage b p h = sym (λ i. list_any (gives p) calls || (b.taken p i && not (b.above p i))) ∙ needs (is_given s p) (list_any (gives p) calls) (is_taken s p && not (is_above s p)) (b.given p) h
+  where
+    needs : (g k r : Bool) → (g ≡ true → k ≡ true) → (g || r) ≡ true → (k || r) ≡ true
+    needs true k r f h = ap (λ z. z || r) (f refl)
+    needs false true r f h = refl
+    needs false false r f h = h
+
+pub change_end : (calls : List Call) (p : Path) → is_changed (calls ++ call.CloseEdit ∷ []) p ≡ is_changed calls p
+change_end calls p = λ i. none (gives p) refl i || (none (takes p) refl i && not (none (acts_below p) refl i))
+  where
+    none : (test : Call → Bool) → test call.CloseEdit ≡ false → list_any test (calls ++ call.CloseEdit ∷ []) ≡ list_any test calls
+    none test e = list_any-append test calls (call.CloseEdit ∷ []) ∙ ap (λ b. list_any test calls || (b || false)) e ∙ or_no (list_any test calls)
+
+pub adds_end : (trees : List PathMap) (tree : PathMap) (s set : List Change) → (Made trees tree s → IsSetOver trees (get tree) s set) → (calls : List Call) → BuildsWithin trees tree s calls → IsSetWithin trees set (calls ++ call.CloseEdit ∷ [])
 adds_end trees tree s set h calls builds e =
     let l = last calls call.CloseEdit After e in
     let b = builds l.stage l.ran in
@@ -544,10 +568,11 @@ adds_end trees tree s set h calls builds e =
       unrefused = first-end trees calls call.CloseEdit b.unrefused refl;
       normal = o.normal;
       effect_is = λ q. o.effect_is q ∙ b.called q ∙ ends_within l.stage l.goes trees (call_effect trees calls) q ∙ (λ i. sym (all_called-append trees (base trees) calls (call.CloseEdit ∷ [])) i q);
+      changed = all_of set (λ c k. change_end calls c.path ∙ needs_change trees tree s calls l.stage b c.path k) o.needed;
       few = o.few;
     }
 
-pub refuses_end : (trees : List PathMap) (tree : PathMap) (s : List Change) (e : EditorFault) → (Made trees tree s → IsFinishRefusal trees (get tree) e) → (calls : List Call) → BuildsWithin trees tree s calls → RefusesWithin trees calls call.CloseEdit e
+pub refuses_end : (trees : List PathMap) (tree : PathMap) (s : List Change) (e : EditorFault) → (Made trees tree s → IsFinishRefusal trees (get tree) s e) → (calls : List Call) → BuildsWithin trees tree s calls → RefusesWithin trees calls call.CloseEdit e
 refuses_end trees tree s e h calls builds t r = at (h b.made)
   where
     l : Last calls call.CloseEdit t
@@ -559,6 +584,6 @@ refuses_end trees tree s e h calls builds t r = at (h b.made)
     w : Inside l.stage t call.CloseEdit
     w = inside l.stage t call.CloseEdit refl l.goes
 
-    at : IsFinishRefusal trees (get tree) e → IsCallRefusal trees calls call.CloseEdit e
+    at : IsFinishRefusal trees (get tree) s e → IsCallRefusal trees calls call.CloseEdit e
     at (built.OfMemory m) = OfMemory m
-    at (built.OfSize k large) = OfSize refl k (record { set = large.set; normal = large.normal; is = λ q. large.is q ∙ called_within trees tree s calls l.stage w.opened w.is b q; many = large.many })
+    at (built.OfSize k large) = OfSize refl k (record { set = large.set; normal = large.normal; is = λ q. large.is q ∙ called_within trees tree s calls l.stage w.opened w.is b q; changed = all_of large.set (λ c n. needs_change trees tree s calls l.stage b c.path n) large.needed; many = large.many })

@@ -556,7 +556,7 @@ module _ (trees : List PathMap) (done : List Change) (c : Change) (s : List Chan
       by : (b : Bool) → is_delete c.action ≡ b → (k : Bool) → of_file trees f c ≡ k → Kept (rests_at trees f c) s c.path
       by true d k e = inr (all_past c.path s rise (all_map s (λ x pr. pr.stands d) here.1))
       by false d true e = inr (all_past c.path s rise (under_file trees (done ++ c ∷ []) s c.path (subst IsNormal (sym (append_assoc done (c ∷ []) s)) normal) (none_rest (fault_of trees f c) (fault_after trees (done ++ c ∷ []) s) none)
-        (ap (option_map kind_of) (effect-end trees done c (normal_follows done s c normal) (deletes_settle c.action) c.path) ∙ leaves_file trees f c faultless_here (whole_in done s c normal) below d e) rise))
+          (ap (option_map kind_of) (effect-end trees done c (normal_follows done s c normal) (deletes_settle c.action) c.path) ∙ leaves_file trees f c faultless_here (whole_in done s c normal) below d e) rise))
       by false d false e = inl ((λ i. is_front c.path (cond (d i) (above c.path) (cond (e i) (above c.path) c.path))) ∙ itself c.path)
 
   touched_on : Touches (Kept (rests_at trees f c) s) (calls ++ here_calls)

@@ -1,7 +1,7 @@
 -- Why an editor that builds a set refuses a call, by the calls before it.
-use Rattle.std.specs.Prelude.{◌≡◌, ℕ, ◌==◌, nat_lt, ◌<◌, Bool, false, not, ◌&&◌, ◌||◌, List, [], ◌∷◌, ◌++◌, length, Option, Some, None, is_some, is_none, if◌then◌else◌}
+use Rattle.std.specs.Prelude.{◌≡◌, ℕ, ◌==◌, nat_lt, ◌<◌, Bool, true, false, not, ◌&&◌, ◌||◌, List, [], ◌∷◌, ◌++◌, length, Option, Some, None, is_some, is_none, if◌then◌else◌}
 use Rattle.std.specs.Option.{option_or, option_map, option_map_or}
-use Rattle.std.specs.List.{list_any}
+use Rattle.std.specs.List.{list_any, AllByRecursion}
 use Rattle.std.specs.FinMap as finite
 use Rattle.node_base.specs.Path.{Path, Name, same_path, is_front}
 use Rattle.node_base.specs.Tree.{PathMap}
@@ -99,18 +99,35 @@ refusal_after trees done (c ∷ cs) = option_or (call_fault trees done c) (refus
 abbrev pub first_refusal : List PathMap → List Call → Option EditorFault
 first_refusal trees calls = refusal_after trees [] calls
 
--- what is there is the effect of a normal set of more than 4,096 changes
-pub record IsTooLarge (trees : List PathMap) (f : Path → Option Node) : Type 0 where
+-- whether a call adds or deletes what is at a path, or gives it something
+abbrev pub gives : Path → Call → Bool
+gives p (call.AddDir up q from) = same_path q p
+gives p (call.DeleteEntry up q base) = same_path q p
+gives p (call.AddFile up q from) = same_path q p
+gives p (call.DirProp q name value) = same_path q p
+gives p (call.FileProp q name value) = same_path q p
+gives p (call.TextStart q) = same_path q p
+gives p (call.TextPiece q piece) = same_path q p
+gives p _ = false
+
+-- whether calls come to a change of a path: one of them adds or deletes it or gives it something, or it is opened and nothing
+-- below it is opened, added or deleted
+abbrev pub is_changed : List Call → Path → Bool
+is_changed calls p = list_any (gives p) calls || (list_any (takes p) calls && not (list_any (acts_below p) calls))
+
+-- calls come to more than 4,096 changes: a normal set of so many has their effect, each of a path that they change
+pub record IsTooLarge (trees : List PathMap) (calls : List Call) : Type 0 where
   pub set : List Change
   pub normal : IsNormal set
-  pub is : (q : Path) → effect trees set q ≡ f q
+  pub is : (q : Path) → effect trees set q ≡ call_effect trees calls q
+  pub changed : AllByRecursion (λ c. is_changed calls c.path ≡ true) set
   pub many : 4096 < length set
 
 -- memory ran out, it is the fault of the call, or the calls come to too many changes
 pub data IsCallRefusal (trees : List PathMap) (done : List Call) (c : Call) (e : EditorFault) : Type 0 where
   OfMemory : e ≡ refusal.OutOfMemory → IsCallRefusal trees done c e
   OfCall : call_fault trees done c ≡ Some e → IsCallRefusal trees done c e
-  OfSize : c ≡ call.CloseEdit → e ≡ refusal.TooLong → IsTooLarge trees (call_effect trees done) → IsCallRefusal trees done c e
+  OfSize : c ≡ call.CloseEdit → e ≡ refusal.TooLong → IsTooLarge trees done → IsCallRefusal trees done c e
 
 -- where the calls keep the nesting
 abbrev pub RefusesWithin : List PathMap → List Call → Call → EditorFault → Type 0

@@ -1,5 +1,5 @@
 -- What an editor that builds a set keeps: changes beside the tree that they make.
-use Rattle.std.specs.Prelude.{◌≡◌, ℕ, ◌≤◌, take, drop, Result, Ok, Err, Bool, true, false, not, ◌&&◌, ◌||◌, List, [], map, length, Option, Some, None, IsSome}
+use Rattle.std.specs.Prelude.{◌≡◌, ℕ, ◌≤◌, ◌<◌, take, drop, Result, Ok, Err, Bool, true, false, not, ◌&&◌, ◌||◌, List, ◌∷◌, [], map, length, Option, Some, None, IsSome}
 use Rattle.std.specs.Option.{option_map, option_map_or}
 use Rattle.std.specs.Prelude.{unwrap_or}
 use Rattle.std.specs.List.{list_any, slice_get, AllByRecursion}
@@ -14,14 +14,14 @@ use Rattle.path_tree.specs.declared.error.TreeError.{TreeError}
 use Rattle.path_tree.specs.declared.error.TreeError.TheVariants.{Fault}
 use Rattle.path_tree.specs.declared.error.TreeError.TheVariants as error
 use Rattle.delta_editor.specs.Faults.{refused}
-use Rattle.std.specs.Prelude.{is_none}
+use Rattle.std.specs.Prelude.{is_none, is_some}
 use Rattle.dump_load.specs.Effect.{effect, stepped}
 use Rattle.delta_editor.specs.declared.call.Call.{Call}
 use Rattle.delta_editor.specs.CallEffect.{call_effect}
 use Rattle.delta_editor.specs.Nesting.{Stage, Before, Within, After, run, IsNested}
 use Rattle.delta_editor.specs.declared.fault.EditorFault.{EditorFault}
 use Rattle.delta_editor.specs.declared.fault.EditorFault.TheVariants as refusal
-use Rattle.editor_ends.specs.BuildFaults.{is_below, takes, acts_below, begun, begin_fault, first_refusal, IsTooLarge}
+use Rattle.editor_ends.specs.BuildFaults.{is_below, takes, acts_below, gives, is_changed, begun, begin_fault, first_refusal}
 
 -- a change whose parts, where it gives them, are those of the node at its path
 abbrev pub filled : (Path → Option Node) → Change → Change
@@ -47,6 +47,18 @@ is_taken s p = option_map_or (λ c. not (is_delete c.action)) (change_at s p) fa
 abbrev pub is_above : List Change → Path → Bool
 is_above s p = list_any (λ c. is_below p c.path) s
 
+-- a change that adds or deletes, or gives something
+abbrev pub is_full : Change → Bool
+is_full c = settles c.action || (is_some c.props || is_some c.text)
+
+-- whether there is such a change of a path
+abbrev pub is_given : List Change → Path → Bool
+is_given s p = list_any (λ c. same_path c.path p && is_full c) s
+
+-- whether a change of a path is needed: there is such a one, or nothing is changed below
+abbrev pub is_needed : List Change → Path → Bool
+is_needed s p = is_given s p || (is_taken s p && not (is_above s p))
+
 -- whether a change comes too late
 abbrev pub is_late_in : List Change → Change → Bool
 is_late_in s x = is_taken s x.path || (is_delete x.action && is_above s x.path)
@@ -65,6 +77,7 @@ pub record Begins (trees : List PathMap) (tree : PathMap) (s : List Change) (new
   pub made : Made trees new_tree new
   pub taken : (p : Path) → is_taken new p ≡ (is_taken s p || (same_path x.path p && not (is_delete x.action)))
   pub above : (p : Path) → is_above new p ≡ (is_above s p || is_below p x.path)
+  pub given : (p : Path) → is_given new p ≡ true → (is_given s p || (same_path x.path p && is_full x)) ≡ true
 
 -- the node at a path was given something
 pub record Gives (trees : List PathMap) (tree : PathMap) (s : List Change) (new_tree : PathMap) (new : List Change) (p : Path) (g : Node → Node) : Type 0 where
@@ -72,6 +85,7 @@ pub record Gives (trees : List PathMap) (tree : PathMap) (s : List Change) (new_
   pub made : Made trees new_tree new
   pub taken : (q : Path) → is_taken new q ≡ is_taken s q
   pub above : (q : Path) → is_above new q ≡ is_above s q
+  pub given : (q : Path) → is_given new q ≡ true → (is_given s q || same_path p q) ≡ true
 
 -- a fault is the one that is said, but for memory
 abbrev pub IsFaultOr : Option EditorFault → EditorFault → Type 0
@@ -91,21 +105,42 @@ told error.OutOfMemory = refusal.OutOfMemory
 abbrev pub is_idle : Change → Change → Bool
 is_idle c d = not (settles c.action) && (is_none c.props && (is_none c.text && is_front c.path d.path))
 
--- a normal set with the effect of another
+-- whether a change only leads to the first of those behind it
+abbrev pub leads_on : Change → List Change → Bool
+leads_on c [] = false
+leads_on c (d ∷ s) = is_idle c d
+
+-- none of them does
+abbrev pub IsLean : List Change → Type 0
+IsLean [] = Unit {0}
+IsLean (c ∷ s) = (leads_on c s ≡ false) × IsLean s
+
+-- a normal set with the effect of another, of whose changes it has some, and some below each path that had some below
 pub record Keeps (trees : List PathMap) (s new : List Change) : Type 0 where
   pub normal : IsNormal new
   pub effect_is : (q : Path) → effect trees new q ≡ effect trees s q
+  pub above : (p : Path) → is_above new p ≡ is_above s p
+  pub stays : (p : Path) (c : Change) → change_at new p ≡ Some c → change_at s p ≡ Some c
 
--- a normal set of no more than 4,096 changes has this effect
-pub record IsSetOver (trees : List PathMap) (f : Path → Option Node) (set : List Change) : Type 0 where
+-- a normal set of no more than 4,096 changes has this effect, and each of them is needed
+pub record IsSetOver (trees : List PathMap) (f : Path → Option Node) (changes set : List Change) : Type 0 where
   pub normal : IsNormal set
   pub effect_is : (q : Path) → effect trees set q ≡ f q
+  pub needed : AllByRecursion (λ c. is_needed changes c.path ≡ true) set
   pub few : length set ≤ 4096
 
+-- it takes more changes than that
+pub record IsTooMany (trees : List PathMap) (f : Path → Option Node) (changes : List Change) : Type 0 where
+  pub set : List Change
+  pub normal : IsNormal set
+  pub is : (q : Path) → effect trees set q ≡ f q
+  pub needed : AllByRecursion (λ c. is_needed changes c.path ≡ true) set
+  pub many : 4096 < length set
+
 -- memory ran out, or there are too many changes
-pub data IsFinishRefusal (trees : List PathMap) (f : Path → Option Node) (e : EditorFault) : Type 0 where
-  OfMemory : e ≡ refusal.OutOfMemory → IsFinishRefusal trees f e
-  OfSize : e ≡ refusal.TooLong → IsTooLarge trees f → IsFinishRefusal trees f e
+pub data IsFinishRefusal (trees : List PathMap) (f : Path → Option Node) (changes : List Change) (e : EditorFault) : Type 0 where
+  OfMemory : e ≡ refusal.OutOfMemory → IsFinishRefusal trees f changes e
+  OfSize : e ≡ refusal.TooLong → IsTooMany trees f changes → IsFinishRefusal trees f changes e
 
 -- the root is numbered before it is opened
 abbrev pub seen : Stage → List PathMap → (Path → Option Node) → Path → Option Node
@@ -119,6 +154,7 @@ pub record Builds (trees : List PathMap) (tree : PathMap) (s : List Change) (cal
   pub made : Made trees tree s
   pub taken : (p : Path) → is_taken s p ≡ list_any (takes p) calls
   pub above : (p : Path) → is_above s p ≡ list_any (acts_below p) calls
+  pub given : (p : Path) → is_given s p ≡ true → list_any (gives p) calls ≡ true
   pub unrefused : first_refusal trees calls ≡ None
 
 -- the same, wherever the calls keep the nesting
@@ -130,6 +166,7 @@ pub record IsSetOf (trees : List PathMap) (set : List Change) (calls : List Call
   pub unrefused : first_refusal trees calls ≡ None
   pub normal : IsNormal set
   pub effect_is : (q : Path) → effect trees set q ≡ call_effect trees calls q
+  pub changed : AllByRecursion (λ c. is_changed calls c.path ≡ true) set
   pub few : length set ≤ 4096
 
 abbrev pub IsSetWithin : List PathMap → List Change → List Call → Type 0

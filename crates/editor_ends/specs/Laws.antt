@@ -1,7 +1,7 @@
 -- Laws of the calls that a set is driven as.
-use Rattle.std.specs.Prelude.{◌≡◌, ℕ, ◌<◌, ◌≤◌, List, [], None, length, IfSome}
+use Rattle.std.specs.Prelude.{◌≡◌, ℕ, ◌<◌, ◌≤◌, List, [], ◌∷◌, ◌++◌, None, length, IfSome}
 use Rattle.std.specs.List.{AllByRecursion, concat}
-use Rattle.node_base.specs.Path.{Path}
+use Rattle.node_base.specs.Path.{Name, Path}
 use Rattle.node_base.specs.Props.{IsProps}
 use Rattle.node_base.specs.Tree.{PathMap, IsDirAt, base}
 use Rattle.dump_load.specs.declared.change.Change.{Change}
@@ -9,10 +9,15 @@ use Rattle.dump_load.specs.Changes.{IsNormal}
 use Rattle.dump_load.specs.Effect.{effect}
 use Rattle.dump_load.specs.Faults.{fault}
 use Rattle.delta_editor.specs.CallEffect.{call_effect}
+use Rattle.delta_editor.specs.declared.call.Call.{Call}
+use Rattle.delta_editor.specs.declared.call.Call.TheVariants as call
+use Rattle.delta_editor.specs.declared.fault.EditorFault.{EditorFault}
+use Rattle.delta_editor.specs.declared.fault.EditorFault.TheVariants.{OutOfMemory}
 use Rattle.delta_editor.specs.Nesting.{IsNested}
 use Rattle.editor_ends.specs.Parts.{pieces}
 use Rattle.editor_ends.specs.Drive.{drive}
-use Rattle.editor_ends.specs.BuildFaults.{first_refusal}
+use Rattle.editor_ends.specs.BuildFaults.{first_refusal, RefusesWithin}
+use Rattle.editor_ends.specs.Refusals.{IsDriveRefusal}
 
 -- where a set has no fault, the calls that it is driven as have its effect
 abbrev pub DriveHasTheEffect : Type 0
@@ -33,3 +38,25 @@ IsWithin c = IfSome c.props IsProps × IfSome c.text (λ t. length t ≤ 1048576
 -- where a set has no fault, an editor that builds over the same trees has no cause to refuse one of the calls that it is driven as
 abbrev pub DriveIsTaken : Type 0
 DriveIsTaken = (trees : List PathMap) (s : List Change) → IsNormal s → fault trees s ≡ None → IsDirAt (base trees) [] → AllByRecursion IsWithin s → first_refusal trees (drive trees s) ≡ None
+
+-- and such a drive, of no more than 4,096 changes, is refused for want of memory alone
+abbrev pub DriveForMemoryAlone : Type 0
+DriveForMemoryAlone = (trees : List PathMap) (s : List Change) (e : EditorFault) → IsNormal s → fault trees s ≡ None → IsDirAt (base trees) [] → AllByRecursion IsWithin s → length s ≤ 4096 → IsDriveRefusal RefusesWithin trees trees s e → e ≡ OutOfMemory
+
+-- a path is right below another
+pub record IsChild (up p : Path) : Type 0 where
+  pub name : Name
+  pub is : p ≡ up ++ name ∷ []
+
+-- what a call opens, adds or deletes is right below its directory
+abbrev pub GoesDown : Call → Type 0
+GoesDown (call.AddDir up p from) = IsChild up p
+GoesDown (call.OpenDir up p base) = IsChild up p
+GoesDown (call.DeleteEntry up p base) = IsChild up p
+GoesDown (call.AddFile up p from) = IsChild up p
+GoesDown (call.OpenFile up p base) = IsChild up p
+GoesDown _ = Unit {0}
+
+-- all calls that a set is driven as go down
+abbrev pub DriveGoesDown : Type 0
+DriveGoesDown = (trees : List PathMap) (s : List Change) → AllByRecursion GoesDown (drive trees s)

@@ -1,5 +1,5 @@
 //! Laws of the calls that a set is driven as: each function does nothing, and its contract is the law.
-ghost use Rattle.editor_ends.specs.Laws.{DriveHasTheEffect, DriveIsNested, DriveIsTaken, PiecesOfAText};
+ghost use Rattle.editor_ends.specs.Laws.{DriveForMemoryAlone, DriveGoesDown, DriveHasTheEffect, DriveIsNested, DriveIsTaken, PiecesOfAText};
 
 /// Where a set has no fault, the calls that it is driven as have its effect.
 pub fn drive_has_the_effect()
@@ -16,6 +16,16 @@ pub fn drive_is_nested()
 /// editor that builds over the same trees, but for want of memory.
 pub fn drive_is_taken()
     ensures { DriveIsTaken }
+{}
+
+/// And where such a set has no more than 4,096 changes, want of memory is all that a drive of it to such an editor is refused for.
+pub fn drive_is_refused_for_memory_alone()
+    ensures { DriveForMemoryAlone }
+{}
+
+/// What a set's calls open, add or delete is right below the directory in which it is.
+pub fn drive_goes_down()
+    ensures { DriveGoesDown }
 {}
 
 /// The pieces that a text is sent in make the text, and each has a byte at least and 65,536 at most.

@@ -334,6 +334,9 @@ fn a_set_with_a_fault(rt: HostRuntime) -> Result<(), Fail> {
     assert!(rt; again.is_err_and(|fault| fault == EditorFault::PathThere));
     law::drive_has_the_effect();
     law::drive_is_nested();
+    law::drive_is_taken();
+    law::drive_is_refused_for_memory_alone();
+    law::drive_goes_down();
     law::pieces_of_a_text();
     Ok(())
 }
