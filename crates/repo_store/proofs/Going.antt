@@ -1,16 +1,16 @@
 -- How the reading of a log's entries goes on.
-use Rattle.std.proofs.Common.{◌≡◌, ◌<◌, ◌≤◌, ◌+◌, ◌^◌, ◌⊎◌, ◌↔◌, ℕ, List, [], ◌∷◌, ◌++◌, length, take, slice_get, Option, Some, None, refl, sym, ◌∙◌, ap, subst, inl, inr, arith}
+use Rattle.std.proofs.Common.{◌≡◌, ◌≤◌, ◌+◌, ◌↔◌, ℕ, List, [], ◌∷◌, ◌++◌, take, slice_get, Some, sym, ◌∙◌, ap, subst, inl, inr, arith}
 use Rattle.std.proofs.lemmas.List.{take_more}
 use Rattle.std.proofs.lemmas.Option.{slice_get_within, get_or_from_slice_get}
 use Rattle.fleet_disk.specs.Image.{Image}
 use Rattle.fleet_disk.specs.Rules.{LeavesOnly, Rose, Within}
-use Rattle.fleet_disk.proofs.Moments.{joined, started}
+use Rattle.fleet_disk.proofs.Moments.{joined}
 use Rattle.node_base.specs.Props.{PropMap}
-use Rattle.repo_core.specs.Repository.{Repository, Revision, fresh}
+use Rattle.repo_core.specs.Repository.{Repository, fresh}
 use Rattle.repo_core.specs.Entries.{with_entry_in}
 use Rattle.repo_core.specs.declared.entry.Entry.{Entry}
 use Rattle.repo_core.specs.declared.entry.Entry.TheVariants.{Mapped}
-use Rattle.repo_store.specs.Journal.{IsBeginning, Spells, Takes, StandsFor, IsReached}
+use Rattle.repo_store.specs.Journal.{IsBeginning, Spells, Takes, StandsFor}
 use Rattle.repo_store.proofs.Images.{stands_more}
 
 -- a disk is looked at
@@ -60,13 +60,3 @@ pub next_in : (there entries : List (List ℕ)) (i : ℕ) (old new : Repository)
     → (bytes : List ℕ) × (e : Entry) × (slice_get there i ≡ Some bytes) × Spells bytes e × Takes old.revisions e × (new ≡ with_entry_in old e)
     → (bytes : List ℕ) × (e : Entry) × (slice_get entries i ≡ Some bytes) × Spells bytes e × Takes old.revisions e × (new ≡ with_entry_in old e)
 next_in there entries i old new same (bytes, e, at, spells, takes, is) = (bytes, e, subst (λ (l : List (List ℕ)). slice_get l i ≡ Some bytes) same at, spells, takes, is)
-
--- the first entry is reached
-pub reached_first : (entries : List (List ℕ)) (k : ℕ) → k ≡ 0 → 0 < length entries → IsReached k entries
-reached_first entries k is some = record { there = omega (arith, is, some); before = λ more. absurd (omega (arith, is, more)) }
-
--- so is a later one
-pub reached_next : (entries : List (List ℕ)) (i k : ℕ) (r : Repository) → k ≡ i → i < length entries → StandsFor (take i entries) r.identity r.revisions → IsReached k entries
-reached_next entries i k r is there stands =
-    let found : (identity : List ℕ) × (x : List Revision) × StandsFor (take k entries) identity x = (r.identity, r.revisions, subst (λ (n : ℕ). StandsFor (take n entries) r.identity r.revisions) (sym is) stands) in
-    record { there = omega (arith, is, there); before = λ more. ∣ found ∣₁ }

@@ -1,8 +1,12 @@
 pub mod Beginnings
 pub mod Exports
+pub mod Formed
 pub mod Going
 pub mod Images
+pub mod OneImage
 pub mod Opening
 pub mod Reading
 pub mod Replaying
 pub mod Spelling
+pub mod Taking
+pub mod Told

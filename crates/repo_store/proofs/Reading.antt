@@ -1,6 +1,7 @@
 -- Entries that are read.
 use Rattle.std.proofs.Common.{◌≡◌, ℕ, List, [], ◌∷◌, ◌++◌, map, drop, Option, None, Some, refl, sym, ◌∙◌, ap, ap₂, subst, codes}
 use Rattle.std.proofs.lemmas.List.{append-nil}
+use Rattle.std.specs.FinMap as finite
 use Rattle.node_base.specs.Props.{PropMap}
 use Rattle.dump_text.specs.Streams.{Stream, Reads, Refuses, reading, records_of, fresh, version_line}
 use Rattle.dump_text.specs.declared.state.ReadState.{ReadState}
@@ -14,7 +15,7 @@ use Rattle.node_base.specs.declared.node.Action.{Action}
 use Rattle.node_base.specs.declared.node.Action.TheVariants.{Modify, Add, Delete, Replace}
 use Rattle.node_base.specs.declared.node.NodeKind.{NodeKind}
 use Rattle.std.specs.List.{flat_map}
-use Rattle.dump_text.specs.Canon.{told_kind, canon_entry, canon_node, canon_revision, header_line, kind_line, action_word, source_lines, block_line, text_lines, content_line, content_of}
+use Rattle.dump_text.specs.Canon.{told_kind, canon_head, canon_entry, canon_node, canon_revision, header_line, kind_line, action_word, source_lines, block_line, text_lines, content_line, content_of}
 use Rattle.dump_text.specs.Written.{AreFormed, AreRecords, read_node, read_revision}
 use Rattle.dump_text.specs.declared.form.Stage.TheVariants.{First}
 use Rattle.dump_load.specs.Records.{record_of}
@@ -22,7 +23,7 @@ use Rattle.repo_core.specs.Staging.{number_in, props_in}
 use Rattle.repo_core.specs.declared.entry.Entry.{Entry}
 use Rattle.repo_core.specs.declared.entry.Entry.TheVariants.{Revised, Mapped}
 use Rattle.repo_store.specs.Journal.{IsBeginning, Spells, records_in, spelling}
-use Rattle.repo_store.specs.Readings.{records_of as records_of_revision, AreReadAs, IsRevisionOf, behind, so_far}
+use Rattle.repo_store.specs.Readings.{records_of as records_of_revision, AreReadAs, IsDumpOf, IsRevisionOf, behind, so_far}
 
 -- the version block alone
 pub version_read : reading (Reads [] fresh) (version_line ++ 10 ∷ 10 ∷ []) ≡ Reads [] behind
@@ -125,7 +126,7 @@ pub one_spelling : (e : Entry) → spelling e ≡ canon_entry (number_in e) (pro
 one_spelling (Revised n set props) = ap (λ (l : List ℕ). canon_entry n props ++ l) (sym (canon_nodes (map record_of set)))
 one_spelling (Mapped n props) = sym (append-nil (canon_entry n props))
 
-number_told : DumpRecord → ℕ
+abbrev number_told : DumpRecord → ℕ
 number_told (Revision n props) = n
 number_told (Identity id) = 0
 number_told (Node r) = 0
@@ -138,6 +139,82 @@ read_back law bytes e r rs spells read same = same ∙ one_read bytes rs (record
 -- no refusal where an entry is read
 pub never_refused : (law : DumpsAreRead) (bytes : List ℕ) (e : Entry) (rs : List DumpRecord) → Spells bytes e → AreReadAs bytes rs → rs ≡ Revision (number_in e) (props_in e) ∷ map Node (nodes_in e)
 never_refused law bytes e rs spells read = one_read bytes rs (records_in e) read (spelled_read law bytes e spells) ∙ one_revision e
+
+-- the nodes among records
+abbrev nodes_among : List DumpRecord → List NodeRecord
+nodes_among [] = []
+nodes_among (Node r ∷ rs) = r ∷ nodes_among rs
+nodes_among (Revision n props ∷ rs) = nodes_among rs
+nodes_among (Identity id ∷ rs) = nodes_among rs
+
+nodes_alone : (ns : List NodeRecord) → nodes_among (map Node ns) ≡ ns
+nodes_alone [] = refl
+nodes_alone (n ∷ ns) = ap (λ (l : List NodeRecord). n ∷ l) (nodes_alone ns)
+
+abbrev first_number : List DumpRecord → ℕ
+first_number [] = 0
+first_number (r ∷ rs) = number_told r
+
+abbrev props_told : DumpRecord → PropMap
+props_told (Revision n props) = props
+props_told (Identity id) = finite.empty
+props_told (Node r) = finite.empty
+
+abbrev first_props : List DumpRecord → PropMap
+first_props [] = finite.empty
+first_props (r ∷ rs) = props_told r
+
+-- one revision that is told has one number, one map and one list of nodes
+pub one_told : (n m : ℕ) (props others : PropMap) (ns ms : List NodeRecord) → Revision n props ∷ map Node ns ≡ Revision m others ∷ map Node ms → (n ≡ m) × (props ≡ others) × (ns ≡ ms)
+one_told n m props others ns ms same = (ap first_number same, ap first_props same, sym (nodes_alone ns) ∙ ap nodes_among same ∙ nodes_alone ms)
+
+-- an entry that is read has the revision's number, properties and nodes
+pub revision_is : (law : DumpsAreRead) (bytes : List ℕ) (e : Entry) (r : RevRecord) → Spells bytes e → AreReadAs bytes (records_of_revision r)
+    → (r.number ≡ number_in e) × (r.props ≡ props_in e) × (r.nodes.items ≡ nodes_in e)
+revision_is law bytes e r spells read =
+    one_told r.number (number_in e) r.props (props_in e) r.nodes.items (nodes_in e) (read_back law bytes e r (records_of_revision r) spells read refl)
+
+-- and its spelling
+pub spelled_alike : (law : DumpsAreRead) (bytes : List ℕ) (e : Entry) (r : RevRecord) (rs : List DumpRecord) → Spells bytes e → AreReadAs bytes rs → records_of_revision r ≡ rs → canon_revision r ≡ bytes
+spelled_alike law bytes e r rs spells read same =
+    let (number, props, nodes) = revision_is law bytes e r spells (subst (λ (l : List DumpRecord). AreReadAs bytes l) (sym same) read) in
+    (λ i. canon_entry (number i) (props i) ++ flat_map canon_node (nodes i)) ∙ sym (one_spelling e) ∙ sym spells.canonical
+
+-- what is a first entry is read as its records
+pub beginning_read : (law : DumpsAreRead) (bytes identity : List ℕ) (props : PropMap) → IsBeginning bytes identity props → IsDumpOf bytes (Identity identity ∷ Revision 0 props ∷ [])
+beginning_read law bytes identity props begins = (_, law bytes (Identity identity ∷ Revision 0 props ∷ []) begins.readable)
+
+-- bytes are one dump
+pub one_dump : (bytes : List ℕ) (rs others : List DumpRecord) → IsDumpOf bytes rs → IsDumpOf bytes others → rs ≡ others
+one_dump bytes rs others a b = ap records_of (sym a.1 ∙ b.1)
+
+abbrev identity_told : DumpRecord → List ℕ
+identity_told (Identity id) = id
+identity_told (Revision n props) = []
+identity_told (Node r) = []
+
+abbrev first_identity : List DumpRecord → List ℕ
+first_identity [] = []
+first_identity (r ∷ rs) = identity_told r
+
+abbrev second_props : List DumpRecord → PropMap
+second_props [] = finite.empty
+second_props (r ∷ rs) = first_props rs
+
+-- of one identity and one map
+pub one_beginning : (id other : List ℕ) (props others : PropMap) → Identity id ∷ Revision 0 props ∷ [] ≡ Identity other ∷ Revision 0 others ∷ [] → (id ≡ other) × (props ≡ others)
+one_beginning id other props others same = (ap first_identity same, ap second_props same)
+
+-- no refusal where a first entry is read
+pub never_no_beginning : (law : DumpsAreRead) (bytes identity : List ℕ) (props : PropMap) (rs : List DumpRecord) → IsBeginning bytes identity props → IsDumpOf bytes rs → rs ≡ Identity identity ∷ Revision 0 props ∷ []
+never_no_beginning law bytes identity props rs begins read = one_dump bytes rs (Identity identity ∷ Revision 0 props ∷ []) read (beginning_read law bytes identity props begins)
+
+-- and its spelling is the same
+pub begun_alike : (law : DumpsAreRead) (bytes written identity other : List ℕ) (props others : PropMap) (rs : List DumpRecord) → IsBeginning bytes identity props → IsDumpOf bytes rs
+    → rs ≡ Identity other ∷ Revision 0 others ∷ [] → IsBeginning written other others → written ≡ bytes
+begun_alike law bytes written identity other props others rs begins read same writes =
+    let (one, map_same) = one_beginning other identity others props (sym same ∙ never_no_beginning law bytes identity props rs begins read) in
+    writes.canonical ∙ (λ i. canon_head (Some (one i)) ++ canon_entry 0 (map_same i)) ∙ sym begins.canonical
 
 -- what is read and written again is a revision
 pub is_revision : (bytes : List ℕ) (r : RevRecord) (rs : List DumpRecord) → canon_revision r ≡ bytes → AreReadAs bytes rs → records_of_revision r ≡ rs

@@ -1,28 +1,30 @@
 -- Entries that are taken one after another.
-use Rattle.std.proofs.Common.{Result, Ok, Err, OnOk, slice_get, ◌≡◌, ◌<◌, ◌≤◌, ℕ, List, [], ◌∷◌, ◌++◌, map, length, nat_lt, Bool, false, Option, None, Some, refl, sym, ◌∙◌, ap, ap₂, subst, arith}
-use Rattle.std.proofs.lemmas.Bool.Decides.{nat_tests}
+use Rattle.std.proofs.Common.{Result, Ok, Err, OnOk, slice_get, ◌==◌, ◌≡◌, ◌<◌, ℕ, List, [], ◌∷◌, ◌++◌, map, length, false, Option, None, Some, refl, sym, ◌∙◌, ap, ap₂, subst}
 use Rattle.std.proofs.lemmas.List.{append-nil}
 use Rattle.std.specs.List.{flat_map}
 use Rattle.std.specs.Option.{option_map}
 use Rattle.node_base.specs.Props.{PropMap}
-use Rattle.dump_text.specs.Canon.{canon_entry, canon_node, canon_revision}
+use Rattle.dump_text.specs.Canon.{canon_entry, canon_node}
 use Rattle.dump_text.specs.Written.{AreFormed, AreRecords, read_node}
 use Rattle.dump_text.specs.declared.record.NodeRecord.{NodeRecord}
 use Rattle.dump_text.specs.declared.record.PropPart.{PropPart}
 use Rattle.dump_text.specs.declared.record.PropPart.TheVariants.{Whole}
 use Rattle.dump_text.specs.declared.record.RevRecord.{RevRecord}
-use Rattle.dump_text.specs.declared.record.DumpRecord.{DumpRecord}
 use Rattle.dump_text.specs.declared.record.DumpRecord.TheVariants as told
 use Rattle.dump_load.specs.declared.change.Change.{Change}
 use Rattle.dump_load.specs.Changes.{IsNormal}
 use Rattle.dump_load.specs.Records.{change_of, record_of, whole_props}
-use Rattle.repo_core.specs.Repository.{Repository, Revision, fresh}
+use Rattle.repo_core.specs.Repository.{Repository, fresh}
 use Rattle.repo_core.specs.Entries.{with_entry_in}
 use Rattle.repo_core.specs.Refusals.{by_repository}
 use Rattle.repo_core.specs.declared.entry.Entry.{Entry}
 use Rattle.repo_core.specs.declared.entry.Entry.TheVariants.{Revised, Mapped}
+use Rattle.gate_log.specs.declared.fault.LogFault.{LogFault}
+use Rattle.gate_log.specs.declared.fault.LogFault.TheVariants.{Damaged, OutOfMemory as LogMemory}
+use Rattle.repo_store.specs.declared.read.ReadFault.{ReadFault}
+use Rattle.repo_store.specs.declared.read.ReadFault.TheVariants.{Bad, OutOfMemory as ReadMemory}
 use Rattle.repo_store.specs.Forms.{form_fault}
-use Rattle.repo_store.specs.Journal.{IsBeginning, Spells, Takes, records_in}
+use Rattle.repo_store.specs.Journal.{IsBeginning, Spells, Takes}
 use Rattle.repo_store.specs.Readings.{IsRevisionOf}
 use Rattle.repo_store.proofs.Spelling.{formed_set, few_changes}
 
@@ -33,7 +35,7 @@ part_back (Some (Whole m)) = refl
 abbrev with_part : NodeRecord → Option PropPart → NodeRecord
 with_part r q = record r { props = q }
 
-node_back : (r : NodeRecord) → record_of (change_of r) ≡ r
+pub node_back : (r : NodeRecord) → record_of (change_of r) ≡ r
 node_back r = ap (with_part r) (part_back r.props)
 
 nodes_back : (ns : List NodeRecord) → map record_of (map change_of ns) ≡ ns
@@ -97,3 +99,26 @@ pub first_taken : (entries : List (List ℕ)) (bytes items : List ℕ) (r : Repo
 first_taken entries bytes items r there same (id, ps, begins, then) =
     let one : id ≡ r.identity = sym (ap (λ (q : Repository). q.identity) then) in
     (items, ps, there, subst (λ (i : List ℕ). IsBeginning items i ps) one (subst (λ (b : List ℕ). IsBeginning b id ps) same begins), then ∙ ap (λ (i : List ℕ). with_entry_in (fresh i) (Mapped 0 ps)) one)
+
+-- an entry of the list is the one that was read
+pub same_entry : (entries : List (List ℕ)) (i : ℕ) (bytes items now : List ℕ) → slice_get entries i ≡ Some items → now ≡ items → slice_get entries i ≡ Some bytes → bytes ≡ now
+same_entry entries i bytes items now read same there = some_is bytes items (sym there ∙ read) ∙ sym same
+  where
+    some_is : (a b : List ℕ) → Some a ≡ Some b → a ≡ b
+    some_is a b e = cc
+
+-- what is told as damage is no want of memory
+pub is_bad : (f : ReadFault) (told : LogFault) (k : ℕ) → (f ≡ ReadMemory → told ≡ LogMemory) → told ≡ Damaged k → f ≡ Bad
+is_bad Bad told k memory is = refl
+is_bad ReadMemory told k memory is = absurd (never (memory refl) is)
+  where
+    never : told ≡ LogMemory → told ≡ Damaged k → ⊥
+    never a b = cc
+
+abbrev pub fault_in : {T : Type 0} → Result T LogFault → LogFault
+fault_in (Ok v) = LogMemory
+fault_in (Err f) = f
+
+-- some nodes aren't none
+pub some_nodes : (n : ℕ) → false ≡ (n == 0) → n ≡ 0 → ⊥
+some_nodes n h none = cc (h ∙ ap (λ (k : ℕ). k == 0) none)

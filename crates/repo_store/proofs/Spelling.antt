@@ -1,7 +1,7 @@
 -- Entries that are written.
 use Rattle.std.proofs.lemmas.Bool.Decides.{nat_tests}
 use Rattle.std.specs.Option.{option_map_or}
-use Rattle.std.proofs.Common.{◌<◌, length-append, codes, Result, Ok, Err, IfOk, OnOk, ◌≡◌, ◌≤◌, ◌&&◌, arith, length, nat_le, nat_lt, IfSome, ℕ, Bool, true, false, not, List, [], ◌∷◌, ◌++◌, map, Option, None, Some, refl, sym, ◌∙◌, ap, subst, rules}
+use Rattle.std.proofs.Common.{◌<◌, length-append, codes, Result, Ok, Err, IfOk, OnOk, ◌≡◌, ◌≤◌, ◌&&◌, arith, length, nat_le, nat_lt, IfSome, ℕ, Bool, true, false, not, List, [], ◌∷◌, ◌++◌, map, Option, None, Some, refl, sym, ap, subst}
 use Rattle.std.specs.Prelude.{Vec}
 use Rattle.std.specs.declared.alloc.Global.{Global}
 use Rattle.std.specs.List.{list_all, flat_map}

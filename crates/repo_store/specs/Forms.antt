@@ -1,5 +1,5 @@
 -- Which sets of changes dump text can say.
-use Rattle.std.specs.Prelude.{◌≡◌, None, ℕ, Bool, true, not, nat_le, nat_lt, List, [], ◌∷◌, length, Option}
+use Rattle.std.specs.Prelude.{◌≡◌, None, Bool, true, not, nat_le, nat_lt, List, [], ◌∷◌, length, Option}
 use Rattle.std.specs.Option.{option_map_or}
 use Rattle.std.specs.List.{list_all}
 use Rattle.dump_text.specs.Written.{has_node_form}

@@ -85,15 +85,6 @@ ReopensAlike first image = (identity : List ℕ) (x : List Revision) → Reopens
 abbrev pub IsExport : Repository → ℕ → List ℕ → Type 0
 IsExport r n bytes = (y : Revision) × (set : List Change) × (slice_get r.revisions n ≡ Some y) × (slice_get r.sets n ≡ Some set) × (bytes ≡ spelling (Revised n set y.props))
 
--- of entries this one is there, and those before it stand for a repository
-pub record IsReached (entry : ℕ) (entries : List (List ℕ)) : Type 0 where
-  pub there : entry < length entries
-  pub before : 0 < entry → ∥ ((identity : List ℕ) × (x : List Revision) × StandsFor (take entry entries) identity x) ∥₁
-
--- of an image this entry breaks the layout of the log, or else those before it stand for a repository
-abbrev pub IsStopped : ℕ → Image → Type 0
-IsStopped entry image = IsDamagedAt entry image ⊎ ((entries : List (List ℕ)) × Stands image entries × IsReached entry entries)
-
 -- of entries this one is the first that is damaged: those before it stand for a repository, and with it they stand for none
 pub record IsFirstBad (entry : ℕ) (entries : List (List ℕ)) : Type 0 where
   pub there : entry < length entries

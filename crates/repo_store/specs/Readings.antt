@@ -1,5 +1,5 @@
 -- How entries are read.
-use Rattle.std.specs.Prelude.{◌≡◌, ℕ, List, [], ◌∷◌, ◌++◌, map, Option, Some, None}
+use Rattle.std.specs.Prelude.{◌≡◌, ℕ, List, [], ◌∷◌, map, Option, Some, None}
 use Rattle.dump_text.specs.Canon.{canon_revision}
 use Rattle.dump_text.specs.Streams.{reading, Reads, begin, dump}
 use Rattle.dump_text.specs.Written.{AreFormed, AreRecords, read_revision}

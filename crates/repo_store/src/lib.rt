@@ -13,14 +13,15 @@
 //! ```
 //!
 //! At each moment since a call began, a stop leaves an image that reopens to the repository before the call or after it;
-//! once the call has answered Ok, to the one after it. Opening answers 33 for the first entry that is damaged, and only
-//! there.
+//! once the call has answered Ok, to the one after it. An image reopens to one repository at most. Opening gives that one;
+//! it answers 33 for the first entry that is damaged, and only there.
 #![tactic(auto)]
 
 pub use committed::Committed;
 pub use fault::StoreFault;
 pub use staged::Staged;
 pub use store::RepoStore;
+pub use verdicts::one_verdict;
 
 mod committed;
 mod fault;
@@ -32,3 +33,4 @@ mod staged;
 mod store;
 #[cfg(test)]
 mod tests;
+mod verdicts;

@@ -13,6 +13,7 @@ ghost use Rattle.repo_store.specs.Journal.{IsBeginning, Spells};
 ghost use Rattle.repo_store.specs.Readings.{records_of, so_far, AreReadAs, IsDumpOf, IsRevisionOf};
 
 use crate::spell;
+use dump_text::law::dumps_are_read;
 use dump_text::{DumpFault, DumpReader, DumpRecord, NodeRecord, RevRecord, write_revision};
 use node_base::{Props, RevNo};
 use std::alloc::{AllocError, AllocFailed, Global};
@@ -183,7 +184,9 @@ fn is_canonical(alloc: Global, revision: &RevRecord, bytes: &[u8]) -> Result<boo
 #[tactic(auto, using(crate::proofs::Reading::is_revision))]
 pub fn read_revision(alloc: Global, bytes: &[u8]) -> Result<RevRecord, ReadFault>
     ensures read { IfOk result (IsRevisionOf bytes.now) }
+    ensures bad { IsErrOf result ReadFault.Bad → (e : EntryOf) → Spells bytes.now e → ⊥ }
 {
+    dumps_are_read();
     let records = records_behind(alloc, bytes)?;
     let revision = revision_of(alloc, records)?;
     let canonical = is_canonical(alloc, &revision, bytes)?;
@@ -241,7 +244,9 @@ fn beginning_of(records: Vec<DumpRecord>) -> Option<(Uuid, Props)>
 #[tactic(auto, using(crate::proofs::Reading::is_beginning))]
 pub fn read_beginning(alloc: Global, bytes: &[u8]) -> Result<(Uuid, Props), ReadFault>
     ensures read { IfOk result (λ p. IsBeginning bytes.now p.0 p.1) }
+    ensures bad { IsErrOf result ReadFault.Bad → (identity : List ℕ) (props : PropMap) → IsBeginning bytes.now identity props → ⊥ }
 {
+    dumps_are_read();
     let records = records_in(alloc, bytes)?;
     let Some((identity, props)) = beginning_of(records) else {
         return Err(ReadFault::Bad);

@@ -14,11 +14,12 @@ ghost use Rattle.repo_core.specs.declared.entry.Entry.{Entry as EntryOf};
 ghost use Rattle.repo_core.specs.declared.entry.Entry.TheVariants.{Revised, Mapped};
 ghost use Rattle.repo_store.specs.Forms.{form_fault};
 ghost use Rattle.repo_store.specs.Refusals.{IsReplayFault};
-ghost use Rattle.repo_store.specs.Journal.{IsBeginning, Spells, Takes, StandsFor, IsReached};
+ghost use Rattle.repo_store.specs.Journal.{IsBeginning, Spells, Takes, StandsFor, IsFirstBad};
 
 use crate::form::judge_form;
 use crate::read::{ReadFault, read_beginning, read_revision};
 use dump_load::{Change, ChangeSet};
+use dump_text::law::dumps_are_read;
 use dump_text::{NodeRecord, RevRecord};
 use fleet_disk::Disk;
 use gate_log::{GateLog, LogFault};
@@ -56,6 +57,7 @@ fn set_of(alloc: Global, nodes: Vec<NodeRecord>) -> Result<ChangeSet, ReadFault>
 // The repository after its first entry.
 fn begin(alloc: Global, bytes: &[u8]) -> Result<Repo, ReadFault>
     ensures begun { IfOk result (λ r. (identity : List ℕ) × (props : PropMap) × IsBeginning bytes.now identity props × (r ≡ with_entry_in (fresh identity) (Mapped 0 props))) }
+    ensures bad { IsErrOf result ReadFault.Bad → (identity : List ℕ) (props : PropMap) → IsBeginning bytes.now identity props → ⊥ }
 {
     let (identity, props) = read_beginning(alloc, bytes)?;
     let mut repo = Repo::new(alloc, identity)?;
@@ -96,7 +98,9 @@ fn take_set(alloc: Global, repo: &mut Repo, set: ChangeSet, props: Props) -> Res
 // One entry more.
 fn take_entry(alloc: Global, repo: &mut Repo, bytes: &[u8]) -> Result<(), ReadFault>
     ensures taken { OnOk result ((e : EntryOf) × Spells bytes.now e × Takes repo.old.revisions e × (repo.new ≡ with_entry_in repo.old e)) }
+    ensures bad { IsErrOf result ReadFault.Bad → (e : EntryOf) → Spells bytes.now e → Takes repo.old.revisions e → ⊥ }
 {
+    dumps_are_read();
     let RevRecord {
         number,
         props,
@@ -138,6 +142,7 @@ fn read_next<D: Disk>(
     requires working { ¬ HasFailed log.old }
     ensures taken { D.honest (disk_of log.old) → OnOk result ((bytes : List ℕ) × (e : EntryOf) × (slice_get (entries_of log.old) entry ≡ Some bytes) × Spells bytes e × Takes repo.old.revisions e × (repo.new ≡ with_entry_in repo.old e)) }
     ensures damaged { D.honest (disk_of log.old) → (k : ℕ) → IsErrOf result (log_fault.Damaged k) → k ≡ entry }
+    ensures breaks { D.honest (disk_of log.old) → (k : ℕ) → IsErrOf result (log_fault.Damaged k) → (bytes : List ℕ) (e : EntryOf) → slice_get (entries_of log.old) entry ≡ Some bytes → Spells bytes e → Takes repo.old.revisions e → ⊥ }
     ensures same { D.honest (disk_of log.old) → entries_of log.new ≡ entries_of log.old }
     ensures ends { ends_of log.new ≡ ends_of log.old }
     ensures inside { D.honest (disk_of log.old) → Within (D.may_leave (disk_of log.new)) (D.may_leave (disk_of log.old)) }
@@ -161,6 +166,7 @@ fn read_first<D: Disk>(alloc: Global, log: &mut GateLog<D>) -> Result<Repo, LogF
     requires working { ¬ HasFailed log.old }
     ensures begun { D.honest (disk_of log.old) → IfOk result (λ r. (bytes : List ℕ) × (props : PropMap) × (slice_get (entries_of log.old) 0 ≡ Some bytes) × IsBeginning bytes r.identity props × (r ≡ with_entry_in (fresh r.identity) (Mapped 0 props))) }
     ensures damaged { D.honest (disk_of log.old) → (k : ℕ) → IsErrOf result (log_fault.Damaged k) → k ≡ 0 }
+    ensures breaks { D.honest (disk_of log.old) → (k : ℕ) → IsErrOf result (log_fault.Damaged k) → (bytes identity : List ℕ) (props : PropMap) → slice_get (entries_of log.old) 0 ≡ Some bytes → IsBeginning bytes identity props → ⊥ }
     ensures same { D.honest (disk_of log.old) → entries_of log.new ≡ entries_of log.old }
     ensures ends { ends_of log.new ≡ ends_of log.old }
     ensures inside { D.honest (disk_of log.old) → Within (D.may_leave (disk_of log.new)) (D.may_leave (disk_of log.old)) }
@@ -183,7 +189,7 @@ pub fn replay<D: Disk>(alloc: Global, log: &mut GateLog<D>) -> Result<Repo, LogF
     requires there { 0 < length (ends_of log.old) }
     requires working { ¬ HasFailed log.old }
     ensures stands { D.honest (disk_of log.old) → IfOk result (λ r. StandsFor (entries_of log.old) r.identity r.revisions) }
-    ensures damaged { D.honest (disk_of log.old) → (k : ℕ) → IsErrOf result (log_fault.Damaged k) → IsReached k (entries_of log.old) }
+    ensures damaged { D.honest (disk_of log.old) → (k : ℕ) → IsErrOf result (log_fault.Damaged k) → IsFirstBad k (entries_of log.old) }
     ensures same { D.honest (disk_of log.old) → entries_of log.new ≡ entries_of log.old }
     ensures ends { ends_of log.new ≡ ends_of log.old }
     ensures inside { D.honest (disk_of log.old) → Within (D.may_leave (disk_of log.new)) (D.may_leave (disk_of log.old)) }
@@ -194,6 +200,7 @@ pub fn replay<D: Disk>(alloc: Global, log: &mut GateLog<D>) -> Result<Repo, LogF
     ensures honest { D.honest (disk_of log.old) ↔ D.honest (disk_of log.new) }
     ensures later { D.failures (disk_of log.old) ≤ D.failures (disk_of log.new) }
 {
+    dumps_are_read();
     let mut repo = read_first(alloc, log)?;
     for entry in 1..log.len() {
         read_next(alloc, log, entry, &mut repo)?;

@@ -15,7 +15,7 @@ ghost use Rattle.repo_core.specs.Entries.{with_entry, with_entry_in};
 ghost use Rattle.repo_core.specs.Staging.{IsReady};
 ghost use Rattle.repo_core.specs.Refusals.{commit_fault, change_fault, by_repository, with_value, IsDue};
 ghost use Rattle.repo_store.specs.Forms.{form_fault, HasForm};
-ghost use Rattle.repo_store.specs.Journal.{spelling, beginning_of, HasSet, StandsFor, ReopensTo, IsBeforeOrAfter, IsStopped, IsExport, IsBeginning, ReopensAlike};
+ghost use Rattle.repo_store.specs.Journal.{spelling, beginning_of, HasSet, StandsFor, ReopensTo, IsBeforeOrAfter, IsDamaged, IsExport, IsBeginning, ReopensAlike};
 ghost use Rattle.repo_store.specs.Refusals.{IsStageFault, IsStoreFault, IsCreateFault, IsOpenFault};
 ghost use Rattle.repo_store.specs.declared.fault.StoreFault.TheVariants as refusal;
 ghost use Rattle.gate_log.specs.declared.log.Receipt.{Receipt as ReceiptOf};
@@ -26,6 +26,7 @@ ghost use Rattle.repo_core.specs.declared.fault.RepoFault.TheVariants as core;
 use crate::form::judge_form;
 use crate::replay::replay;
 use crate::spell::{beginning, entry_bytes, revision_bytes};
+use crate::verdicts::one_verdict;
 use crate::{Committed, Staged, StoreFault};
 use dump_load::ChangeSet;
 use fleet_disk::Disk;
@@ -76,14 +77,21 @@ impl<D: Disk> RepoStore<D> {
         }
     }
 
-    /// Opens the repository that a disk holds. NoRepository (34), Damaged (33) with the first entry that breaks the
-    /// journal's format or isn't an entry that the repository before it takes, DeviceFailed (31), OutOfMemory (70); a
-    /// refusal hands the disk back.
+    /// Opens the repository that a disk holds, the one to which what a read gives reopens. NoRepository (34), Damaged (33)
+    /// with the first entry that breaks the journal's format or isn't an entry that the repository before it takes, and
+    /// only there, DeviceFailed (31), OutOfMemory (70); a refusal hands the disk back.
     pub fn open(alloc: Global, disk: D) -> Result<RepoStore<D>, (StoreFault, D)>
         ensures stands { D.honest disk → IfOk result (λ store. ReopensTo (identity_of store) (revisions_of store) (D.reads disk)) }
         ensures working { IfOk result (λ store. ¬ HasFailed store) }
         ensures durable { D.honest disk → IfOk result (λ store. (image : Image) → D.may_leave (disk_of store) image → ReopensTo (identity_of store) (revisions_of store) image) }
-        ensures damaged { D.honest disk → (entry : ℕ) → IfErr result (λ e. e.0 ≡ refusal.Log (log.Damaged entry) → IsStopped entry (D.reads disk)) }
+        ensures found { D.honest disk → (identity : List ℕ) (x : List Revision) → ReopensTo identity x (D.reads disk)
+            → IfOk result (λ store. (identity_of store ≡ identity) × (revisions_of store ≡ x)) }
+        ensures refused { D.honest disk → (identity : List ℕ) (x : List Revision) → ReopensTo identity x (D.reads disk)
+            → IfErr result (λ e. (e.0 ≡ refusal.Log log.DeviceFailed) ⊎ (e.0 ≡ refusal.Log log.OutOfMemory)) }
+        ensures damaged { D.honest disk → (entry : ℕ) → IfErr result (λ e. e.0 ≡ refusal.Log (log.Damaged entry) → IsDamaged entry (D.reads disk)) }
+        ensures stopped { D.honest disk → (entry : ℕ) → IsDamaged entry (D.reads disk) → IsErr result }
+        ensures first { D.honest disk → (entry : ℕ) → IsDamaged entry (D.reads disk)
+            → IfErr result (λ e. (e.0 ≡ refusal.Log (log.Damaged entry)) ⊎ (e.0 ≡ refusal.Log log.DeviceFailed) ⊎ (e.0 ≡ refusal.Log log.OutOfMemory)) }
         ensures missing { D.honest disk → IfErr result (λ e. e.0 ≡ refusal.Log log.NoRepository → HasNoEntry (D.reads disk)) }
         ensures device { IfErr result (λ e. e.0 ≡ refusal.Log log.DeviceFailed → Rose (D.failures disk) (D.failures e.1)) }
         ensures no_other { IfErr result (λ e. IsOpenFault e.0) }
@@ -96,6 +104,7 @@ impl<D: Disk> RepoStore<D> {
         ensures later { IfOk result (λ store. D.failures disk ≤ D.failures (disk_of store)) }
         ensures later_err { IfErr result (λ e. D.failures disk ≤ D.failures e.1) }
     {
+        one_verdict();
         let mut log = match GateLog::open(alloc, disk) {
             Ok(log) => log,
             Err((fault, disk)) => return Err((StoreFault::Log(fault), disk)),

@@ -1,4 +1,4 @@
-use Rattle.std.proofs.Common.{rules, ◌≡◌, [], ap, sym, ◌∙◌}
+use Rattle.std.proofs.Common.{rules, [], ap}
 use Rattle.dump_text.specs.Streams.{has_failed}
 use Rattle.repo_store.specs.Readings.{behind}
 use Rattle.repo_store.proofs.Reading.{version_read_of, came_records, came_state, joined}

@@ -1,7 +1,8 @@
-use Rattle.std.proofs.Common.{◌≡◌, ◌∙◌, ap, length, ℕ, List, Some, slice_get, arith, rules}
+use Rattle.std.proofs.Common.{◌≡◌, ◌∙◌, ap, sym, subst, length, ℕ, List, Some, slice_get, arith, rules}
 use Rattle.gate_log.specs.Log.{disk_of, ends_of, entries_of}
 use Rattle.gate_log.proofs.EndLemmas.{length_parts}
-use Rattle.repo_store.proofs.Going.{goes_on, rose_on, first_stands, next_stands, next_in, reached_first, reached_next}
+use Rattle.repo_store.proofs.Going.{goes_on, first_stands, next_stands, next_in}
+use Rattle.repo_store.proofs.OneImage.{first_bad, next_bad}
 use Rattle.repo_store.proofs.replay.replay.Goals as goal
 
 pub loop-entry-init : goal.loop-entry-init
@@ -35,10 +36,12 @@ loop-entry-preserved g c =
 pub returns-in_err-repo-clause-damaged : goal.returns-in_err-repo-clause-damaged
 returns-in_err-repo-clause-damaged g c h k is =
     let long = length_parts 0 (ends_of c.args.log.now) (g.D.Disk.reads (disk_of c.args.log.now)).journal in
-    reached_first (entries_of c.args.log.now) k (c.read_first.ensures.damaged h k (search rules)) (omega (arith, c.requires.there, long))
+    first_bad (entries_of c.args.log.now) k (c.read_first.ensures.damaged h k (search rules)) (omega (arith, c.requires.there, long)) (c.read_first.ensures.breaks h k (search rules))
 
 pub returns-in_err-read_next-clause-damaged : goal.returns-in_err-read_next-clause-damaged
 returns-in_err-read_next-clause-damaged g c h k is =
     let kept = c.loop-entry.invariant in
     let long = length_parts 0 (ends_of c.args.log.now) (g.D.Disk.reads (disk_of c.args.log.now)).journal in
-    reached_next (entries_of c.args.log.now) c.loop-entry.entry k c.loop-entry.repo (c.read_next.ensures.damaged (kept.goes.both_ways.0 h) k (search rules)) (omega (arith, c.loop-entry-test.true, kept.few, long)) (kept.stands h)
+    let honest = kept.goes.both_ways.0 h in
+    next_bad c.dumps_are_read.ensures (entries_of c.args.log.now) c.loop-entry.entry k c.loop-entry.repo (c.read_next.ensures.damaged honest k (search rules)) (omega (arith, kept.begun)) (omega (arith, c.loop-entry-test.true, kept.few, long)) (kept.stands h)
+    (λ bytes e there. c.read_next.ensures.breaks honest k (search rules) bytes e (subst (λ (l : List (List ℕ)). slice_get l c.loop-entry.entry ≡ Some bytes) (sym (kept.same h)) there))

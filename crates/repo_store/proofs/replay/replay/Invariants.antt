@@ -1,4 +1,4 @@
-use Rattle.std.proofs.Common.{◌≡◌, ◌<◌, ◌≤◌, length, take}
+use Rattle.std.proofs.Common.{◌≡◌, ◌≤◌, length, take}
 use Rattle.gate_log.specs.Log.{disk_of, ends_of, entries_of, HasFailed}
 use Rattle.repo_store.specs.Journal.{StandsFor}
 use Rattle.repo_store.proofs.Going.{Goes}

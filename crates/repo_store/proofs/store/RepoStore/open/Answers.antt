@@ -1,4 +1,4 @@
-use Rattle.std.proofs.Common.{◌≡◌, ◌⊎◌, inl, inr, sym, subst, ap, Err}
+use Rattle.std.proofs.Common.{◌⊎◌, inl, inr, sym, subst, ap, Err}
 use Rattle.fleet_disk.specs.Image.{Image}
 use Rattle.fleet_disk.specs.Rules.{LeavesOnly}
 use Rattle.fleet_disk.proofs.Moments.{joined, weaker}
@@ -7,7 +7,7 @@ use Rattle.gate_log.specs.Standing.{StandsAlike}
 use Rattle.gate_log.specs.declared.fault.LogFault.{LogFault}
 use Rattle.repo_store.specs.Journal.{ReopensAlike}
 use Rattle.repo_store.proofs.Images.{reopened}
-use Rattle.repo_store.proofs.Opening.{alike, alike_or, same_fault}
+use Rattle.repo_store.proofs.Opening.{alike, alike_or, same_fault, only_device, only_first, replayed_fault, never_missing}
 use Rattle.repo_store.proofs.store.RepoStore.open.Goals as goal
 
 pub returns-in-Err-clause-any_moment_err : goal.returns-in-Err-clause-any_moment_err
@@ -47,5 +47,41 @@ returns-in-Err-replay-clause-any_moment_err g c h =
 
 pub returns-in-Err-replay-clause-damaged : goal.returns-in-Err-replay-clause-damaged
 returns-in-Err-replay-clause-damaged g c h entry is =
-    let reached = c.in-Err-replay.ensures.damaged (c.in-Ok.ensures.honest.0 h) entry (ap (λ (f : LogFault). Err f) (same_fault c.in-Err-replay.fault _ is)) in
-    inr (entries_of c.in-Ok.log, c.in-Ok.ensures.stands h, reached)
+    let bad = c.in-Err-replay.ensures.damaged (c.in-Ok.ensures.honest.0 h) entry (ap (λ (f : LogFault). Err f) (same_fault c.in-Err-replay.fault _ is)) in
+    inr (entries_of c.in-Ok.log, c.in-Ok.ensures.stands h, bad)
+
+pub returns-in-Ok-replay-clause-found : goal.returns-in-Ok-replay-clause-found
+returns-in-Ok-replay-clause-found g c h identity x known =
+    let honest = c.in-Ok.ensures.honest.0 h in
+    let stands = reopened (entries_of c.in-Ok.log) c.in-Ok-replay.repo.identity c.in-Ok-replay.repo.revisions (g.D.Disk.reads c.args.disk) (∣ c.in-Ok-replay.ensures.stands honest ∣₁) (c.in-Ok.ensures.stands h) in
+    c.one_verdict.ensures.one_repository (g.D.Disk.reads c.args.disk) c.in-Ok-replay.repo.identity identity c.in-Ok-replay.repo.revisions x stands known
+
+pub returns-in-Err-clause-refused : goal.returns-in-Err-clause-refused
+returns-in-Err-clause-refused g c h identity x known =
+    only_device c.one_verdict.ensures.not_damaged c.one_verdict.ensures.not_missing (g.D.Disk.reads c.args.disk) identity x c.in-Err.fault known c.in-Err.ensures.no_other
+    (λ n is. inl (c.in-Err.ensures.damaged h n is)) (λ is. c.in-Err.ensures.missing h is)
+
+pub returns-in-Err-replay-clause-refused : goal.returns-in-Err-replay-clause-refused
+returns-in-Err-replay-clause-refused g c h identity x known =
+    let honest = c.in-Ok.ensures.honest.0 h in
+    only_device c.one_verdict.ensures.not_damaged c.one_verdict.ensures.not_missing (g.D.Disk.reads c.args.disk) identity x c.in-Err-replay.fault known (replayed_fault c.in-Err-replay.fault c.in-Err-replay.ensures.no_other)
+    (λ n is. inr (entries_of c.in-Ok.log, c.in-Ok.ensures.stands h, c.in-Err-replay.ensures.damaged honest n (ap (λ (f : LogFault). Err f) is)))
+    (λ is. absurd (never_missing c.in-Err-replay.fault c.in-Err-replay.ensures.no_other is))
+
+pub returns-in-Ok-replay-clause-stopped : goal.returns-in-Ok-replay-clause-stopped
+returns-in-Ok-replay-clause-stopped g c h entry damage =
+    let honest = c.in-Ok.ensures.honest.0 h in
+    let stands = reopened (entries_of c.in-Ok.log) c.in-Ok-replay.repo.identity c.in-Ok-replay.repo.revisions (g.D.Disk.reads c.args.disk) (∣ c.in-Ok-replay.ensures.stands honest ∣₁) (c.in-Ok.ensures.stands h) in
+    absurd (c.one_verdict.ensures.not_damaged (g.D.Disk.reads c.args.disk) c.in-Ok-replay.repo.identity c.in-Ok-replay.repo.revisions entry stands damage)
+
+pub returns-in-Err-clause-first : goal.returns-in-Err-clause-first
+returns-in-Err-clause-first g c h entry damage =
+    only_first c.one_verdict.ensures.one_damage c.one_verdict.ensures.damage_not_missing (g.D.Disk.reads c.args.disk) entry c.in-Err.fault damage c.in-Err.ensures.no_other
+    (λ n is. inl (c.in-Err.ensures.damaged h n is)) (λ is. c.in-Err.ensures.missing h is)
+
+pub returns-in-Err-replay-clause-first : goal.returns-in-Err-replay-clause-first
+returns-in-Err-replay-clause-first g c h entry damage =
+    let honest = c.in-Ok.ensures.honest.0 h in
+    only_first c.one_verdict.ensures.one_damage c.one_verdict.ensures.damage_not_missing (g.D.Disk.reads c.args.disk) entry c.in-Err-replay.fault damage (replayed_fault c.in-Err-replay.fault c.in-Err-replay.ensures.no_other)
+    (λ n is. inr (entries_of c.in-Ok.log, c.in-Ok.ensures.stands h, c.in-Err-replay.ensures.damaged honest n (ap (λ (f : LogFault). Err f) is)))
+    (λ is. absurd (never_missing c.in-Err-replay.fault c.in-Err-replay.ensures.no_other is))

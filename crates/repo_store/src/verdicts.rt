@@ -1,0 +1,19 @@
+//! The law that an opening finds one thing in each image.
+ghost use Rattle.repo_store.specs.Verdicts.{OneJournal, OneRepository, NotDamaged, NotMissing, OneDamage, DamageNotMissing};
+
+use dump_text::law::dumps_are_read;
+
+/// Of each image one verdict holds at most: it reopens to one repository, or one entry of it is the first that is
+/// damaged, or it has no entry. So `open` answers Ok, Damaged and NoRepository only where its clauses say so, and there
+/// always but for the device and memory.
+pub fn one_verdict()
+    ensures one_journal { OneJournal }
+    ensures one_repository { OneRepository }
+    ensures not_damaged { NotDamaged }
+    ensures not_missing { NotMissing }
+    ensures one_damage { OneDamage }
+    ensures damage_not_missing { DamageNotMissing }
+{
+    dumps_are_read();
+    gate_log::one_verdict();
+}
