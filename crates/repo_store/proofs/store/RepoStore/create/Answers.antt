@@ -1,9 +1,9 @@
-use Rattle.std.proofs.Common.{◌≡◌, ◌++◌, ◌∷◌, [], List, ℕ, sym, subst, ap, ◌∙◌, refl, rules}
+use Rattle.std.proofs.Common.{◌≡◌, ◌++◌, ◌∷◌, [], List, ℕ, sym, subst, ap, ◌∙◌, refl}
 use Rattle.std.specs.FinMap as finite
 use Rattle.gate_log.specs.Log.{entries_of}
 use Rattle.gate_log.specs.Standing.{Stands, parts}
-use Rattle.repo_core.specs.Repository.{Repository, fresh}
-use Rattle.repo_store.specs.Journal.{IsBeginning, ReopensTo}
+use Rattle.repo_core.specs.Repository.{fresh}
+use Rattle.repo_store.specs.Journal.{IsBeginning}
 use Rattle.repo_store.proofs.Beginnings.{begins_fresh}
 use Rattle.repo_store.proofs.Images.{reopened}
 use Rattle.repo_store.proofs.store.RepoStore.create.Goals as goal

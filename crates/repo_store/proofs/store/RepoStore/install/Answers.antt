@@ -1,9 +1,9 @@
-use Rattle.std.proofs.Common.{◌≡◌, List, ℕ, ◌∷◌, ◌++◌, [], subst, sym, ◌∙◌, ap, rules}
+use Rattle.std.proofs.Common.{List, ℕ, subst, sym, rules}
 use Rattle.std.proofs.Math.Logic.{∥∥₁_map}
 use Rattle.gate_log.specs.Log.{entries_of}
 use Rattle.repo_core.specs.Repository.{Repository}
 use Rattle.repo_core.specs.Entries.{with_entry}
-use Rattle.repo_store.specs.Journal.{Spells, Takes, StandsFor}
+use Rattle.repo_store.specs.Journal.{Spells, StandsFor}
 use Rattle.repo_store.proofs.Images.{either_reopens, after_reopens, leaves_map, stands_more, takes_of}
 use Rattle.repo_store.proofs.store.RepoStore.install.Goals as goal
 

@@ -1,11 +1,7 @@
-use Rattle.std.proofs.Common.{◌≡◌, List, ℕ, sym, subst, inl, length, rules}
-use Rattle.std.specs.Option.{option_copied}
-use Rattle.repo_core.specs.Repository.{Repository, props_at}
-use Rattle.repo_core.specs.Dates.{dated}
+use Rattle.std.proofs.Common.{sym, subst, inl, rules}
+use Rattle.repo_core.specs.Repository.{Repository}
 use Rattle.repo_core.specs.Entries.{with_entry}
-use Rattle.repo_core.specs.Refusals.{with_value}
 use Rattle.repo_core.specs.declared.entry.Entry.{Entry}
-use Rattle.repo_core.specs.declared.entry.Entry.TheVariants.{Revised, Mapped}
 use Rattle.repo_store.specs.Journal.{IsBeforeOrAfter, ReopensTo}
 use Rattle.repo_store.specs.Words.{entry_in}
 use Rattle.repo_store.proofs.Images.{unmoved}

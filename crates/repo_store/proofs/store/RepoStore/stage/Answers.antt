@@ -1,4 +1,4 @@
-use Rattle.std.proofs.Common.{◌≡◌, List, ℕ, sym, subst, ap₂, rules}
+use Rattle.std.proofs.Common.{◌≡◌, List, ℕ, sym, subst, ap₂}
 use Rattle.std.proofs.Math.Logic.{∥∥₁_map}
 use Rattle.gate_log.specs.Log.{entries_of}
 use Rattle.gate_log.specs.Standing.{parts}
