@@ -29,6 +29,10 @@ deed_in (phase.End e) = Ends
 abbrev pub next_deed : CopyJob → Deed
 next_deed s = deed_in s.phase
 
+-- as a job begins
+abbrev pub start : List ℕ → ℕ → ℕ → CopyJob
+start token low high = record { low = low; high = high; phase = phase.Lock token }
+
 -- gives the lock back, and then ends with that refusal
 abbrev pub give_up : SyncFault → CopyPhase
 give_up f = phase.Release (ending.Refused f)

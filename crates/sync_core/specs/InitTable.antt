@@ -20,6 +20,10 @@ deed_in url (phase.End e) = Ends
 abbrev pub next_deed : InitJob → Deed
 next_deed s = deed_in s.url s.phase
 
+-- as a job begins
+abbrev pub start : List ℕ → InitJob
+start url = record { url = url; phase = phase.Who }
+
 -- a refusal ends the job
 abbrev pub refused : Answer → InitPhase
 refused a = phase.End (ending.Refused (fault_in a))

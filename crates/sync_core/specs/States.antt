@@ -1,5 +1,5 @@
 -- Jobs' states: what a job does in each, where an answer leads, and what a state says of what the job has heard.
-use Rattle.std.specs.Prelude.{◌≡◌, ℕ, ◌≤◌, Option}
+use Rattle.std.specs.Prelude.{◌≡◌, ℕ, ◌≤◌, Bool, List, Option}
 use Rattle.sync_core.specs.declared.state.JobState.{JobState}
 use Rattle.sync_core.specs.declared.state.JobState.TheVariants as state
 use Rattle.sync_core.specs.declared.answer.Answer.{Answer}
@@ -13,6 +13,16 @@ use Rattle.sync_core.specs.CopyTable as copy
 use Rattle.sync_core.specs.InitFollows.{FollowsInit}
 use Rattle.sync_core.specs.SyncFollows.{FollowsSync}
 use Rattle.sync_core.specs.CopyFollows.{FollowsCopy}
+
+-- as jobs begin
+abbrev pub init_start : List ℕ → JobState
+init_start url = state.Init (init.start url)
+
+abbrev pub sync_start : List ℕ → Bool → JobState
+sync_start token steal = state.Sync (sync.start token steal)
+
+abbrev pub copy_start : List ℕ → ℕ → ℕ → JobState
+copy_start token low high = state.Copy (copy.start token low high)
 
 abbrev pub deed_in : JobState → Deed
 deed_in (state.Init s) = init.next_deed s

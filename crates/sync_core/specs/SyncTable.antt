@@ -46,6 +46,10 @@ next_deed s = deed_in s.phase
 abbrev pub at : Known → SyncPhase → SyncJob
 at known phase = record { known = known; phase = phase }
 
+-- as a job begins: it knows nothing yet
+abbrev pub start : List ℕ → Bool → SyncJob
+start token steal = at (record { merged = Absent; copying = Absent; head = 0; latest = None }) (phase.Lock token steal)
+
 -- gives the lock back, and then ends with that refusal
 abbrev pub give_up : Known → SyncFault → SyncJob
 give_up known f = at known (phase.Release (ending.Refused f))

@@ -51,8 +51,8 @@ pub struct CopyJob {
 impl CopyJob {
     /// A job that copies the properties of the revisions from `low` to `high`, and takes the lock with the token.
     pub fn new(token: Token, low: RevNo, high: RevNo) -> CopyJob
+        ensures start { result ≡ table.start token low high }
         ensures begun { FollowsCopy (begun (CopyProps token)) result }
-        ensures range { (result.low ≡ low) × (result.high ≡ high) }
     {
         CopyJob {
             low,

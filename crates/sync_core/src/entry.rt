@@ -15,7 +15,7 @@ ghost use Rattle.sync_core.specs.declared.fault.SyncFault.TheVariants.{OutOfMemo
 
 use crate::call::MirrorCall;
 use crate::fault::SyncFault;
-use crate::properties::{COPYING, LOCK, MERGED, URL, UUID};
+use crate::properties::{copying_name, lock_name, merged_name, url_name, uuid_name};
 use crate::token::Token;
 use node_base::{PropFault, PropName, PropValue, Props, Refusal, RevNo};
 use repo_core::{Entry, Repo};
@@ -71,51 +71,39 @@ pub fn own_of(repo: &Repo) -> &Props
     }
 }
 
-#[tactic(auto, unfolding(crate::specs::Names::lock_name))]
 fn lock_entry(alloc: Global, own: &Props, token: &Token) -> Result<Entry, SyncFault>
     ensures entry { IfOk result (λ e. e ≡ Mapped 0 (finite.insert own.now lock_name token.now)) }
     ensures refused { IfErr result (λ f. IsDue f (limit_fault (finite.insert own.now lock_name token.now))) }
 {
-    let props = with_value(alloc, own.share()?, LOCK, token.value(alloc)?)?;
-    Ok(of_zero(props))
+    put_entry(alloc, own, lock_name(), token.value(alloc)?)
 }
 
-#[tactic(auto, unfolding(crate::specs::Names::lock_name))]
 fn release_entry(alloc: Global, own: &Props) -> Result<Entry, SyncFault>
     ensures entry { IfOk result (λ e. e ≡ Mapped 0 (finite.remove own.now lock_name)) }
     ensures refused { IfErr result (λ f. f ≡ OutOfMemory) }
 {
-    let mut props = own.share()?;
-    props.remove(alloc, LOCK)?;
-    Ok(of_zero(props))
+    removal_entry(alloc, own, lock_name())
 }
 
-#[tactic(auto, unfolding(crate::specs::Names::copying_name))]
 fn copying_entry(alloc: Global, own: &Props, number: RevNo) -> Result<Entry, SyncFault>
     ensures entry { IfOk result (λ e. e ≡ Mapped 0 (finite.insert own.now copying_name (fmt.decimal number))) }
     ensures refused { IfErr result (λ f. IsDue f (limit_fault (finite.insert own.now copying_name (fmt.decimal number)))) }
 {
-    let props = with_value(alloc, own.share()?, COPYING, decimal(alloc, number)?)?;
-    Ok(of_zero(props))
+    put_entry(alloc, own, copying_name(), decimal(alloc, number)?)
 }
 
-#[tactic(auto, unfolding(crate::specs::Names::copying_name))]
 fn clear_entry(alloc: Global, own: &Props) -> Result<Entry, SyncFault>
     ensures entry { IfOk result (λ e. e ≡ Mapped 0 (finite.remove own.now copying_name)) }
     ensures refused { IfErr result (λ f. f ≡ OutOfMemory) }
 {
-    let mut props = own.share()?;
-    props.remove(alloc, COPYING)?;
-    Ok(of_zero(props))
+    removal_entry(alloc, own, copying_name())
 }
 
-#[tactic(auto, unfolding(crate::specs::Names::merged_name))]
 fn merged_entry(alloc: Global, own: &Props, number: RevNo) -> Result<Entry, SyncFault>
     ensures entry { IfOk result (λ e. e ≡ Mapped 0 (finite.insert own.now merged_name (fmt.decimal number))) }
     ensures refused { IfErr result (λ f. IsDue f (limit_fault (finite.insert own.now merged_name (fmt.decimal number)))) }
 {
-    let props = with_value(alloc, own.share()?, MERGED, decimal(alloc, number)?)?;
-    Ok(of_zero(props))
+    put_entry(alloc, own, merged_name(), decimal(alloc, number)?)
 }
 
 // The copied properties, where they come from, and that no more is merged than revision 0. They are within the limits: of the
@@ -136,37 +124,34 @@ fn init_entry(
     Ok(of_zero(props))
 }
 
-#[tactic(auto, unfolding(crate::specs::Names::url_name))]
 fn with_url(alloc: Global, props: Props, url: &PropValue) -> Result<Props, SyncFault>
     ensures map { IfOk result (λ m. m ≡ finite.insert props url_name url.now) }
     ensures memory { IfErr result (λ f. f ≡ OutOfMemory) }
 {
     let value = url.copy(alloc)?;
-    match with_value(alloc, props, URL, value) {
+    match with_value(alloc, props, url_name(), value) {
         Ok(props) => Ok(props),
         Err(_) => Err(SyncFault::OutOfMemory),
     }
 }
 
-#[tactic(auto, unfolding(crate::specs::Names::uuid_name))]
 fn with_uuid(alloc: Global, props: Props, uuid: &PropValue) -> Result<Props, SyncFault>
     ensures map { IfOk result (λ m. m ≡ finite.insert props uuid_name uuid.now) }
     ensures memory { IfErr result (λ f. f ≡ OutOfMemory) }
 {
     let value = uuid.copy(alloc)?;
-    match with_value(alloc, props, UUID, value) {
+    match with_value(alloc, props, uuid_name(), value) {
         Ok(props) => Ok(props),
         Err(_) => Err(SyncFault::OutOfMemory),
     }
 }
 
-#[tactic(auto, unfolding(crate::specs::Names::merged_name))]
 fn with_none_merged(alloc: Global, props: Props) -> Result<Props, SyncFault>
     ensures map { IfOk result (λ m. m ≡ finite.insert props merged_name (fmt.decimal 0)) }
     ensures memory { IfErr result (λ f. f ≡ OutOfMemory) }
 {
     let value = decimal(alloc, RevNo::ZERO)?;
-    match with_value(alloc, props, MERGED, value) {
+    match with_value(alloc, props, merged_name(), value) {
         Ok(props) => Ok(props),
         Err(_) => Err(SyncFault::OutOfMemory),
     }
@@ -184,6 +169,25 @@ fn props_entry(alloc: Global, repo: &Repo, number: RevNo, props: &Props) -> Resu
         }),
         None => Err(SyncFault::Other(Refusal::NoSuchRevision)),
     }
+}
+
+// Revision 0's map with a value at a name.
+fn put_entry(alloc: Global, own: &Props, name: &[u8], value: PropValue) -> Result<Entry, SyncFault>
+    ensures entry { IfOk result (λ e. e ≡ Mapped 0 (finite.insert own.now name.now value)) }
+    ensures refused { IfErr result (λ f. IsDue f (limit_fault (finite.insert own.now name.now value))) }
+{
+    let props = with_value(alloc, own.share()?, name, value)?;
+    Ok(of_zero(props))
+}
+
+// Revision 0's map without a name.
+fn removal_entry(alloc: Global, own: &Props, name: &[u8]) -> Result<Entry, SyncFault>
+    ensures entry { IfOk result (λ e. e ≡ Mapped 0 (finite.remove own.now name.now)) }
+    ensures refused { IfErr result (λ f. f ≡ OutOfMemory) }
+{
+    let mut props = own.share()?;
+    props.remove(alloc, name)?;
+    Ok(of_zero(props))
 }
 
 // The entry of revision 0's new map.

@@ -34,6 +34,7 @@ pub struct InitJob {
 impl InitJob {
     /// A job that initializes a mirror from that URL.
     pub fn new(url: PropValue) -> InitJob
+        ensures start { result ≡ table.start url }
         ensures begun { FollowsInit (begun (Initialise url)) result }
     {
         InitJob {

@@ -15,7 +15,7 @@ use crate::call::MirrorCall;
 use crate::entry::{entry_of, own_of};
 use crate::fault::SyncFault;
 use crate::lock_token::LockToken;
-use crate::look::look;
+use crate::looking::look;
 use crate::need::Need;
 use crate::needs::unmet_need;
 use crate::properties::lock;

@@ -23,44 +23,76 @@ pub const COPYING: &[u8] = b"svn:sync-currently-copying";
 /// `svn:sync-lock`.
 pub const LOCK: &[u8] = b"svn:sync-lock";
 
-/// Where the mirror is copied from; None where it isn't initialized.
+// The names as contracts have them.
+
 #[tactic(auto, unfolding(crate::specs::Names::url_name))]
+pub(crate) fn url_name() -> &'static [u8]
+    ensures { result.now ≡ url_name }
+{
+    URL
+}
+
+#[tactic(auto, unfolding(crate::specs::Names::uuid_name))]
+pub(crate) fn uuid_name() -> &'static [u8]
+    ensures { result.now ≡ uuid_name }
+{
+    UUID
+}
+
+#[tactic(auto, unfolding(crate::specs::Names::merged_name))]
+pub(crate) fn merged_name() -> &'static [u8]
+    ensures { result.now ≡ merged_name }
+{
+    MERGED
+}
+
+#[tactic(auto, unfolding(crate::specs::Names::copying_name))]
+pub(crate) fn copying_name() -> &'static [u8]
+    ensures { result.now ≡ copying_name }
+{
+    COPYING
+}
+
+#[tactic(auto, unfolding(crate::specs::Names::lock_name))]
+pub(crate) fn lock_name() -> &'static [u8]
+    ensures { result.now ≡ lock_name }
+{
+    LOCK
+}
+
+/// Where the mirror is copied from; None where it isn't initialized.
 pub fn url(props: &Props) -> Option<&[u8]>
     ensures { option_copied result ≡ finite.get props.now url_name }
 {
-    props.get(URL)
+    props.get(url_name())
 }
 
 /// The identity of the repository that it is copied from.
-#[tactic(auto, unfolding(crate::specs::Names::uuid_name))]
 pub fn uuid(props: &Props) -> Option<&[u8]>
     ensures { option_copied result ≡ finite.get props.now uuid_name }
 {
-    props.get(UUID)
+    props.get(uuid_name())
 }
 
 /// The token of the job that took the sync lock.
-#[tactic(auto, unfolding(crate::specs::Names::lock_name))]
 pub fn lock(props: &Props) -> Option<&[u8]>
     ensures { option_copied result ≡ finite.get props.now lock_name }
 {
-    props.get(LOCK)
+    props.get(lock_name())
 }
 
 /// The last revision that is copied whole.
-#[tactic(auto, unfolding(crate::specs::Names::merged_name))]
 pub fn merged(props: &Props) -> Number
     ensures { result ≡ number_at props.now merged_name }
 {
-    number_in(props.get(MERGED))
+    number_in(props.get(merged_name()))
 }
 
 /// The revision that is being copied.
-#[tactic(auto, unfolding(crate::specs::Names::copying_name))]
 pub fn copying(props: &Props) -> Number
     ensures { result ≡ number_at props.now copying_name }
 {
-    number_in(props.get(COPYING))
+    number_in(props.get(copying_name()))
 }
 
 // What the value of a property says as a number, where there is one.

@@ -2,7 +2,7 @@
 ghost use Rattle.std.specs.Prelude.{◌≡◌, ℕ};
 ghost use Rattle.sync_core.specs.Jobs.{Job, Initialise, Sync, CopyProps, begun};
 ghost use Rattle.sync_core.specs.Deeds.{deed_of, heard, IsLawfulDeed};
-ghost use Rattle.sync_core.specs.States.{deed_in, after, ending_of, Follows, IsAskedFor};
+ghost use Rattle.sync_core.specs.States.{init_start, sync_start, copy_start, deed_in, after, ending_of, Follows, IsAskedFor};
 
 use crate::action::Action;
 use crate::answer::Answer;
@@ -27,6 +27,7 @@ pub enum JobState {
 impl JobState {
     /// A job that makes a mirror one of the master, which is reached by that URL.
     pub fn init(url: PropValue) -> JobState
+        ensures start { result ≡ init_start url }
         ensures begun { Follows (begun (Initialise url)) result }
     {
         JobState::Init(InitJob::new(url))
@@ -34,6 +35,7 @@ impl JobState {
 
     /// A job that brings a mirror up to its master. It takes the lock with the token, or steals it where that is asked.
     pub fn sync(token: Token, steal: bool) -> JobState
+        ensures start { result ≡ sync_start token steal }
         ensures begun { Follows (begun (Sync token steal)) result }
     {
         JobState::Sync(SyncJob::new(token, steal))
@@ -41,6 +43,7 @@ impl JobState {
 
     /// A job that copies the properties of the revisions from `low` to `high` again. It takes the lock with the token.
     pub fn copy_props(token: Token, low: RevNo, high: RevNo) -> JobState
+        ensures start { result ≡ copy_start token low high }
         ensures begun { Follows (begun (CopyProps token)) result }
     {
         JobState::Copy(CopyJob::new(token, low, high))

@@ -77,6 +77,7 @@ pub struct SyncJob {
 impl SyncJob {
     /// A job that takes the lock with the token, or steals it where that is asked.
     pub fn new(token: Token, steal: bool) -> SyncJob
+        ensures start { result ≡ table.start token steal }
         ensures begun { FollowsSync (begun (Sync token steal)) result }
     {
         SyncJob {

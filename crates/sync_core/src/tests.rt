@@ -4,7 +4,7 @@ use crate::answer::Answer;
 use crate::call::MirrorCall;
 use crate::ending::Ending;
 use crate::fault::SyncFault;
-use crate::look::look;
+use crate::looking::look;
 use crate::mirror::PlainMirror;
 use crate::reply::Reply;
 use crate::seat::Seat;

@@ -1,6 +1,6 @@
 //! A walk of random calls over a mirror in memory, beside a plain re-computation.
 use crate::call::MirrorCall;
-use crate::look::look;
+use crate::looking::look;
 use crate::mirror::PlainMirror;
 use crate::number::Number;
 use crate::seat::Seat;

@@ -4,7 +4,7 @@ ghost use Rattle.std.specs.FinMap as finite;
 ghost use Rattle.sync_core.specs.Mirror.{standing_in};
 ghost use Rattle.sync_core.specs.Names.{url_name, uuid_name, lock_name};
 
-use crate::properties::{LOCK, URL, UUID, copying, merged};
+use crate::properties::{copying, lock_name, merged, url_name, uuid_name};
 use crate::standing::Standing;
 use node_base::{PropValue, Props, RevNo};
 use std::alloc::{AllocError, Global};
@@ -26,25 +26,22 @@ pub fn look(alloc: Global, own: &Props, head: RevNo) -> Result<Standing, AllocEr
     })
 }
 
-#[tactic(auto, unfolding(crate::specs::Names::url_name))]
 fn url_of(alloc: Global, own: &Props) -> Result<Option<PropValue>, AllocError>
     ensures { IfOk result (λ v. v ≡ finite.get own.now url_name) }
 {
-    value_at(alloc, own, URL)
+    value_at(alloc, own, url_name())
 }
 
-#[tactic(auto, unfolding(crate::specs::Names::uuid_name))]
 fn uuid_of(alloc: Global, own: &Props) -> Result<Option<PropValue>, AllocError>
     ensures { IfOk result (λ v. v ≡ finite.get own.now uuid_name) }
 {
-    value_at(alloc, own, UUID)
+    value_at(alloc, own, uuid_name())
 }
 
-#[tactic(auto, unfolding(crate::specs::Names::lock_name))]
 fn lock_of(alloc: Global, own: &Props) -> Result<Option<PropValue>, AllocError>
     ensures { IfOk result (λ v. v ≡ finite.get own.now lock_name) }
 {
-    value_at(alloc, own, LOCK)
+    value_at(alloc, own, lock_name())
 }
 
 // The value at a name, copied.
