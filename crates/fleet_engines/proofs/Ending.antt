@@ -23,11 +23,11 @@ fault_in : Result (Unit {0}) DumpFault → DumpFault
 fault_in (Ok u) = Failed
 fault_in (Err f) = f
 
-fits_end : (b : Bool) (u : Unit {0}) → ◌≡◌ {A = Result (Unit {0}) DumpFault} (Ok u) (if b then Ok tt else Err Truncated) → b ≡ true
+pub fits_end : (b : Bool) (u : Unit {0}) → ◌≡◌ {A = Result (Unit {0}) DumpFault} (Ok u) (if b then Ok tt else Err Truncated) → b ≡ true
 fits_end true u e = refl
 fits_end false u e = absurd (true≢false (ap is_ok e))
 
-no_end : (b : Bool) (f : DumpFault) → ◌≡◌ {A = Result (Unit {0}) DumpFault} (Err f) (if b then Ok tt else Err Truncated) → (b ≡ false) × (f ≡ Truncated)
+pub no_end : (b : Bool) (f : DumpFault) → ◌≡◌ {A = Result (Unit {0}) DumpFault} (Err f) (if b then Ok tt else Err Truncated) → (b ≡ false) × (f ≡ Truncated)
 unfolding fault_in
 no_end true f e = absurd (false≢true (ap is_ok e))
 no_end false f e = (refl, ap fault_in e)

@@ -105,11 +105,11 @@ not_failed bytes rs r e = subst Sound e (sound_on (Reads [] fresh) bytes refl)
 
 -- ---- pieces
 
-joins : (s : Stream) (a b : List ℕ) → reading s (a ++ b) ≡ reading (reading s a) b
+pub joins : (s : Stream) (a b : List ℕ) → reading s (a ++ b) ≡ reading (reading s a) b
 joins s [] b = refl
 joins s (x ∷ a) b = joins (one_byte s x) a b
 
-stays : (rs : List DumpRecord) (f : DumpFault) (bs : List ℕ) → reading (Refuses rs f) bs ≡ Refuses rs f
+pub stays : (rs : List DumpRecord) (f : DumpFault) (bs : List ℕ) → reading (Refuses rs f) bs ≡ Refuses rs f
 stays rs f [] = refl
 stays rs f (b ∷ bs) = stays rs f bs
 
@@ -141,11 +141,11 @@ next_records bytes piece rest rs out r e front =
     (front.0 ++ g.0, ap records_of (joins (Reads [] fresh) (bytes ++ piece) rest) ∙ g.1 ∙ ap (λ x. x ++ g.0) here ∙ append_assoc (rs ++ out) front.0 g.0)
 
 -- what a call of the reader answers
-refuses_or_lacks : (f : DumpFault) (new : ReadState) (out : List DumpRecord) (s : Stream) → StreamIs (Err f) new out s → (f ≡ OutOfMemory) ⊎ (s ≡ Refuses out f)
+pub refuses_or_lacks : (f : DumpFault) (new : ReadState) (out : List DumpRecord) (s : Stream) → StreamIs (Err f) new out s → (f ≡ OutOfMemory) ⊎ (s ≡ Refuses out f)
 refuses_or_lacks OutOfMemory new out s h = inl refl
 refuses_or_lacks f new out s h = inr h
 
-front_of : (a : Result (Unit {0}) DumpFault) (new : ReadState) (out : List DumpRecord) (s : Stream) → StreamIs a new out s → OnErr a (IsFront out s) → IsFront out s
+pub front_of : (a : Result (Unit {0}) DumpFault) (new : ReadState) (out : List DumpRecord) (s : Stream) → StreamIs a new out s → OnErr a (IsFront out s) → IsFront out s
 front_of (Ok u) new out s h p = ([], ap records_of h ∙ sym (append-nil out))
 front_of (Err f) new out s h p = p
 
@@ -177,7 +177,7 @@ fed_err c bytes piece rest old new out t u start a b f h front m p =
       ];
     }
 
-regroup : (a b : List DumpRecord) (x : DumpRecord) (c d : List DumpRecord) → (a ++ (b ++ x ∷ c)) ++ d ≡ (a ++ b) ++ x ∷ (c ++ d)
+pub regroup : (a b : List DumpRecord) (x : DumpRecord) (c d : List DumpRecord) → (a ++ (b ++ x ∷ c)) ++ d ≡ (a ++ b) ++ x ∷ (c ++ d)
 regroup a b x c d = ap (λ l. l ++ d) (sym (append_assoc a b (x ∷ c))) ∙ append_assoc (a ++ b) (x ∷ c) d
 
 -- a record of a piece isn't taken

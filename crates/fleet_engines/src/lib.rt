@@ -7,6 +7,7 @@ ghost use Rattle.fleet_engines.specs.Pieces.{RecordsDontMatter};
 pub use commands::{run_canon, run_list};
 pub use lines::{push_node_line, push_path, write_fault};
 pub use product::Product;
+pub use refusals::{change_refusal, dump_refusal};
 pub use stream::{Sink, Source};
 
 mod commands;

@@ -1,0 +1,9 @@
+use Rattle.std.proofs.Common.{◌∙◌, sym}
+use Rattle.store_engines.proofs.Beginning.{create_refused, there_already}
+use Rattle.store_engines.proofs.begin.create_store.Goals as goal
+
+pub returns-in-Err-clause-there : goal.returns-in-Err-clause-there
+returns-in-Err-clause-there g c h e = c.in-Err.ensures.there h (there_already c.in-Err.fault c.in-Err.ensures.no_other (sym c.store_refusal.ensures.value ∙ e))
+
+pub returns-in-Err-clause-no_other : goal.returns-in-Err-clause-no_other
+returns-in-Err-clause-no_other g c = rw c.store_refusal.ensures.value (create_refused c.in-Err.fault c.in-Err.ensures.no_other)

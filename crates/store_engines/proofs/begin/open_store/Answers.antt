@@ -1,0 +1,12 @@
+use Rattle.std.proofs.Common.{◌∙◌, sym}
+use Rattle.store_engines.proofs.Beginning.{open_refused, is_damaged, is_missing}
+use Rattle.store_engines.proofs.begin.open_store.Goals as goal
+
+pub returns-in-Err-clause-damaged : goal.returns-in-Err-clause-damaged
+returns-in-Err-clause-damaged g c h entry e = c.in-Err.ensures.damaged h entry (is_damaged c.in-Err.fault entry c.in-Err.ensures.no_other (sym c.store_refusal.ensures.value ∙ e))
+
+pub returns-in-Err-clause-missing : goal.returns-in-Err-clause-missing
+returns-in-Err-clause-missing g c h e = c.in-Err.ensures.missing h (is_missing c.in-Err.fault c.in-Err.ensures.no_other (sym c.store_refusal.ensures.value ∙ e))
+
+pub returns-in-Err-clause-no_other : goal.returns-in-Err-clause-no_other
+returns-in-Err-clause-no_other g c = rw c.store_refusal.ensures.value (open_refused c.in-Err.fault c.in-Err.ensures.no_other)

@@ -1,0 +1,11 @@
+use Rattle.std.proofs.Common.{◌∙◌, subst}
+use Rattle.std.proofs.lemmas.Result.{on_ok_weaker}
+use Rattle.std.specs.Io.KnownBytes.{Appends}
+use Rattle.repo_store.specs.Words.{repository_of}
+use Rattle.store_engines.proofs.Dumping.{export_now}
+use Rattle.store_engines.proofs.dump.write_one.Goals as goal
+
+pub returns-in-Ok-clause-ok : goal.returns-in-Ok-clause-ok
+returns-in-Ok-clause-ok g c =
+    let text = c.deref.ensures.value ∙ export_now (repository_of c.args.store.now) c.args.number c.in-Ok.text.items c.in-Ok.ensures.canonical in
+    on_ok_weaker c.bytes.result (λ w. subst (Appends (g.W.Write.contents c.args.output.now.inner) (g.W.Write.contents c.bytes.new.self.inner)) text w) c.bytes.ensures.ok

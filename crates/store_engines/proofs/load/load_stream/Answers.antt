@@ -1,0 +1,53 @@
+use Rattle.std.proofs.Common.{◌<◌, length, arith}
+use Rattle.std.proofs.lemmas.Result.{err_from_is_err_and, on_ok_weaker, IfErr-weaker}
+use Rattle.fleet_engines.proofs.Streaming.{later_flagged}
+use Rattle.repo_store.specs.Words.{repository_of}
+use Rattle.store_engines.specs.Loaders.{last_of}
+use Rattle.store_engines.specs.Loads.{Loaded, Refused}
+use Rattle.store_engines.proofs.Feeding.{first_refused, first_reached, run_ended}
+use Rattle.store_engines.proofs.load.load_stream.Goals as goal
+
+pub returns-in_default-clause-refused : goal.returns-in_default-clause-refused
+returns-in_default-clause-refused g c = first_refused (repository_of c.args.store.now) (g.W.Write.contents c.args.output.now.inner) (g.R.Read.remaining c.args.input.now.inner) c.args.output.now.failed
+
+pub returns-in_err-read_all-clause-refused : goal.returns-in_err-read_all-clause-refused
+returns-in_err-read_all-clause-refused g c =
+    let p = err_from_is_err_and c.from_residual.result c.from_residual.ensures.1 in
+    rw (p.1, p.2)
+    (c.in_err-read_all.ensures.refused (repository_of c.args.store.now) (g.W.Write.contents c.args.output.now.inner) (first_reached (repository_of c.args.store.now) c.new-reader.result (last_of c.new-loader.result) (g.W.Write.contents c.args.output.now.inner) c.new-reader.ensures c.new-loader.ensures))
+
+pub returns-in_err-read_all-clause-peer : goal.returns-in_err-read_all-clause-peer
+returns-in_err-read_all-clause-peer g c =
+    let p = err_from_is_err_and c.from_residual.result c.from_residual.ensures.1 in
+    rw (p.1, p.2) c.in_err-read_all.ensures.peer
+
+pub returns-clause-ok : goal.returns-clause-ok
+returns-clause-ok g c =
+    let y = repository_of c.read_all.new.store in
+    let z = repository_of c.finish.new.store in
+    let now = g.W.Write.contents c.read_all.new.output.inner in
+    let later = g.W.Write.contents c.finish.new.output.inner in
+    let some : 0 < length c.as_mut_slice.result.now = omega (arith, c.as_mut_slice.ensures.len, c.in-Ok.ensures.len) in
+    let r = c.in_ok-read_all.ensures.ok some in
+    on_ok_weaker c.finish.result
+    (λ k. run_ended (repository_of c.args.store.now) y c.new-reader.result c.read_all.new.reader (last_of c.new-loader.result) (last_of c.read_all.new.loader) (g.W.Write.contents c.args.output.now.inner) now (g.R.Read.remaining c.args.input.now.inner) (g.R.Read.remaining c.read_all.new.input.inner) r.0
+    (λ bytes. Loaded (repository_of c.args.store.now) bytes z (g.W.Write.contents c.args.output.now.inner) later) c.new-reader.ensures c.new-loader.ensures r.1 r.2 r.3 (λ bs w. k (repository_of c.args.store.now) bs (g.W.Write.contents c.args.output.now.inner) w))
+    c.finish.ensures.ok
+
+pub returns-clause-refused : goal.returns-clause-refused
+returns-clause-refused g c =
+    let y = repository_of c.read_all.new.store in
+    let z = repository_of c.finish.new.store in
+    let now = g.W.Write.contents c.read_all.new.output.inner in
+    let later = g.W.Write.contents c.finish.new.output.inner in
+    let some : 0 < length c.as_mut_slice.result.now = omega (arith, c.as_mut_slice.ensures.len, c.in-Ok.ensures.len) in
+    let r = c.in_ok-read_all.ensures.ok some in
+    IfErr-weaker c.finish.result _ _
+    (λ e k. run_ended (repository_of c.args.store.now) y c.new-reader.result c.read_all.new.reader (last_of c.new-loader.result) (last_of c.read_all.new.loader) (g.W.Write.contents c.args.output.now.inner) now (g.R.Read.remaining c.args.input.now.inner) (g.R.Read.remaining c.read_all.new.input.inner) r.0
+    (λ bytes. Refused (repository_of c.args.store.now) bytes z (g.W.Write.contents c.args.output.now.inner) later c.finish.new.output.failed e) c.new-reader.ensures c.new-loader.ensures r.1 r.2 r.3 (λ bs w. k (repository_of c.args.store.now) bs (g.W.Write.contents c.args.output.now.inner) w))
+    c.finish.ensures.refused
+
+pub returns-clause-peer : goal.returns-clause-peer
+returns-clause-peer g c =
+    let f = c.in_ok-read_all.ensures.peer in
+    later_flagged c.finish.result c.args.input.now.failed c.read_all.new.input.failed c.args.output.now.failed c.read_all.new.output.failed c.finish.new.output.failed f.0 f.1 c.finish.ensures.peer

@@ -1,0 +1,63 @@
+-- The commit of a directory.
+use Rattle.std.specs.Prelude.{◌≡◌, ℕ, Bool, true, List, [], ◌∷◌, ◌++◌, length, Option, Some, None, Result, Ok, Err, codes, if◌then◌else◌}
+use Rattle.std.specs.Option.{option_map}
+use Rattle.std.specs.FinMap as finite
+use Rattle.std.specs.Fmt.{decimal}
+use Rattle.std.specs.Io.KnownBytes.{Appends}
+use Rattle.jiff.specs.Types.{DateTime}
+use Rattle.node_base.specs.Path.{Path}
+use Rattle.node_base.specs.PathText.{path_read}
+use Rattle.node_base.specs.Props.{PropMap}
+use Rattle.node_base.specs.declared.fault.PathFault.{PathFault}
+use Rattle.node_base.specs.declared.node.Action.TheVariants.{Add}
+use Rattle.node_base.specs.declared.node.NodeKind.TheVariants.{Dir}
+use Rattle.node_base.specs.declared.refusal.Refusal.{Refusal}
+use Rattle.node_base.specs.declared.refusal.Refusal.TheVariants as refusal
+use Rattle.dump_load.specs.declared.change.Change.{Change}
+use Rattle.repo_core.specs.Dates.{dated}
+use Rattle.repo_core.specs.Repository.{Repository, Revision}
+use Rattle.repo_core.specs.Entries.{with_entry_in}
+use Rattle.repo_core.specs.declared.entry.Entry.{Entry}
+use Rattle.repo_core.specs.declared.entry.Entry.TheVariants.{Revised}
+use Rattle.store_engines.specs.Loads.{entry_fault, IsStop}
+use Rattle.store_engines.specs.Mirrors.{is_mirror}
+use Rattle.store_engines.specs.Refusals.{path_refusal, repo_refusal}
+
+-- what is said of a revision that was committed
+abbrev pub committed_line : ℕ → List ℕ
+committed_line n = codes "Committed revision " ++ (decimal n ++ codes ".\n")
+
+-- the set that adds a directory without properties
+abbrev pub directory_set : Path → List Change
+directory_set path = record { path = path; action = Add; kind = Some Dir; source = None; props = Some finite.empty; text = None } ∷ []
+
+-- the properties of a revision with that message
+abbrev pub logged : List ℕ → PropMap
+logged message = finite.insert finite.empty (codes "svn:log") message
+
+-- the revision after the head that adds a directory, with that message and that date
+abbrev pub directory_entry : List Revision → Path → List ℕ → DateTime → Entry
+directory_entry x path message moment = Revised (length x) (directory_set path) (dated (logged message) (Some moment))
+
+-- of what was read as a path: it is none, or the repository refuses the directory there
+abbrev pub fault_there : List Revision → List ℕ → DateTime → Result Path PathFault → Option Refusal
+fault_there x message moment (Err f) = Some (path_refusal f)
+fault_there x message moment (Ok path) = option_map repo_refusal (entry_fault x (directory_entry x path message moment))
+
+-- why a directory isn't committed: the repository is a mirror; or these bytes are no path; or what the repository refuses, the message past its limit at last
+abbrev pub directory_fault : List Revision → List ℕ → List ℕ → DateTime → Option Refusal
+directory_fault x bytes message moment = if is_mirror x then Some refusal.ReadOnly else fault_there x message moment (path_read bytes)
+
+-- the directory is committed, where nothing is refused, and it is said
+pub record IsCommitted (x : Repository) (bytes message : List ℕ) (moment : DateTime) (y : Repository) (before now : Option (List ℕ)) : Type 0 where
+  pub path : Path
+  pub read : path_read bytes ≡ Ok path
+  pub taken : directory_fault x.revisions bytes message moment ≡ None
+  pub made : y ≡ with_entry_in x (directory_entry x.revisions path message moment)
+  pub written : Appends before now (committed_line (length x.revisions))
+
+-- the directory isn't committed: the refusal is the one that is due; or memory, the device or the journal ends it; in both nothing is done; or it is committed, and can't be said
+pub data NotCommitted (x : Repository) (bytes message : List ℕ) (moment : DateTime) (y : Repository) (before now : Option (List ℕ)) (failed : Bool) (e : Refusal) : Type 0 where
+  commit_refused : directory_fault x.revisions bytes message moment ≡ Some e → y ≡ x → now ≡ before → NotCommitted x bytes message moment y before now failed e
+  commit_stops : IsStop e → y ≡ x → now ≡ before → NotCommitted x bytes message moment y before now failed e
+  commit_unsaid : (path : Path) → path_read bytes ≡ Ok path → directory_fault x.revisions bytes message moment ≡ None → y ≡ with_entry_in x (directory_entry x.revisions path message moment) → failed ≡ true → NotCommitted x bytes message moment y before now failed e

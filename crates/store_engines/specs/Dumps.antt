@@ -1,0 +1,36 @@
+-- What a dump of a repository is.
+use Rattle.std.specs.Prelude.{◌≡◌, ◌<◌, ◌≤◌, ℕ, Bool, true, List, [], ◌++◌, length, slice_get, unwrap_or, Option, Some}
+use Rattle.std.specs.List.{flat_map, range_with_len}
+use Rattle.std.specs.Io.KnownBytes.{Appends}
+use Rattle.node_base.specs.declared.refusal.Refusal.{Refusal}
+use Rattle.node_base.specs.declared.refusal.Refusal.TheVariants as refusal
+use Rattle.dump_text.specs.Canon.{canon_head}
+use Rattle.dump_load.specs.declared.change.Change.{Change}
+use Rattle.repo_core.specs.Repository.{Repository, props_at}
+use Rattle.repo_core.specs.declared.entry.Entry.{Entry}
+use Rattle.repo_core.specs.declared.entry.Entry.TheVariants.{Revised}
+use Rattle.repo_store.specs.Journal.{spelling}
+use Rattle.store_engines.specs.Ranges.{first_wanted, last_wanted, count_wanted}
+use Rattle.store_engines.specs.declared.range.RevRange.{RevRange}
+
+-- the set that made the tree of a revision
+abbrev pub set_at : Repository → ℕ → List Change
+set_at r n = unwrap_or (slice_get r.sets n) []
+
+-- a revision as it is now: the set that made its tree, and its properties
+abbrev pub revision_now : Repository → ℕ → Entry
+revision_now r n = Revised n (set_at r n) (props_at r.revisions n)
+
+-- so many revisions from one on, each in its canonical text
+abbrev pub revisions_text : Repository → ℕ → ℕ → List ℕ
+revisions_text r first count = flat_map (λ n. spelling (revision_now r n)) (range_with_len first count)
+
+-- a dump of them: the head with the identity, and the revisions
+abbrev pub dump_text : Repository → ℕ → ℕ → List ℕ
+dump_text r first count = canon_head (Some r.identity) ++ revisions_text r first count
+
+-- a dump ends before its end: a revision that is wanted is above the head, and nothing is written; or memory runs out at one of the revisions, and all before it is written; or the writer fails
+pub data DumpStops (r : Repository) (range : Option RevRange) (before now : Option (List ℕ)) (failed : Bool) (e : Refusal) : Type 0 where
+  no_revision : length r.revisions ≤ last_wanted r range → e ≡ refusal.NoSuchRevision → now ≡ before → DumpStops r range before now failed e
+  no_memory : (written : ℕ) → last_wanted r range < length r.revisions → written < count_wanted r range → e ≡ refusal.OutOfMemory → Appends before now (dump_text r (first_wanted range) written) → DumpStops r range before now failed e
+  writer_fails : last_wanted r range < length r.revisions → failed ≡ true → DumpStops r range before now failed e

@@ -1,0 +1,7 @@
+pub mod Commits
+pub mod Dumps
+pub mod Loaders
+pub mod Loads
+pub mod Mirrors
+pub mod Ranges
+pub mod Refusals

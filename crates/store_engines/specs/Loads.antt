@@ -1,0 +1,139 @@
+-- What a load makes of a repository, revision by revision.
+use Rattle.std.specs.Prelude.{◌≡◌, ℕ, ◌⊎◌, Bool, true, false, List, [], ◌∷◌, ◌++◌, Option, Some, None, IfSome, codes}
+use Rattle.std.specs.List.{filter, flat_map}
+use Rattle.std.specs.Fmt.{decimal}
+use Rattle.std.specs.Io.KnownBytes.{Appends}
+use Rattle.node_base.specs.Props.{PropMap}
+use Rattle.node_base.specs.Tree.{PathMap}
+use Rattle.node_base.specs.declared.refusal.Refusal.{Refusal}
+use Rattle.node_base.specs.declared.refusal.Refusal.TheVariants as refusal
+use Rattle.dump_text.specs.declared.record.NodeRecord.{NodeRecord}
+use Rattle.dump_text.specs.declared.record.DumpRecord.{DumpRecord}
+use Rattle.dump_text.specs.declared.record.DumpRecord.TheVariants.{Revision as Begins, Node}
+use Rattle.dump_text.specs.declared.fault.DumpFault.{DumpFault}
+use Rattle.dump_text.specs.declared.state.ReadState.{ReadState}
+use Rattle.dump_text.specs.Streams.{Reads, Refuses, dump, records_of, is_between}
+use Rattle.dump_load.specs.declared.change.Change.{Change}
+use Rattle.repo_core.specs.Repository.{Repository, Revision, trees_of, head_of}
+use Rattle.repo_core.specs.Entries.{with_entry_in}
+use Rattle.repo_core.specs.declared.entry.Entry.{Entry}
+use Rattle.repo_core.specs.declared.entry.Entry.TheVariants.{Revised, Mapped}
+use Rattle.repo_core.specs.Refusals.{by_repository, commit_fault, IsDue}
+use Rattle.repo_core.specs.declared.fault.RepoFault.{RepoFault}
+use Rattle.repo_store.specs.Forms.{form_fault}
+use Rattle.dump_load.specs.Faults.{first_of}
+use Rattle.fleet_engines.specs.Refusals.{dump_refusal}
+use Rattle.fleet_engines.specs.Revisions.{Rev, Makes, IsUnfit, is_zero, is_past_zero}
+use Rattle.fleet_engines.specs.Grouping.{records_of_rev, is_no_identity}
+use Rattle.store_engines.specs.Refusals.{repo_refusal}
+
+-- what is said of a revision that was loaded
+abbrev pub loaded_line : ℕ → List ℕ
+loaded_line n = codes "Loaded revision " ++ (decimal n ++ codes ".\n")
+
+-- over a repository's revisions a whole revision is this entry, and this is said of it: revision 0 without others gives its properties, and another one is the next, with the tree that its set makes
+pub data IsLoaded (x : List Revision) (r : Rev) (e : Entry) (said : List ℕ) : Type 0 where
+  revision_0 : is_zero (trees_of x) r ≡ true → r.nodes ≡ [] → e ≡ Mapped 0 r.props → said ≡ [] → IsLoaded x r e said
+  a_revision : (set : List Change) (tree : PathMap) → is_zero (trees_of x) r ≡ false → Makes (trees_of x) r set tree → e ≡ Revised r.number set r.props → said ≡ loaded_line r.number → IsLoaded x r e said
+
+-- whole revisions one after another, and all that is said of them
+abbrev pub Loads : Repository → List Rev → Repository → List ℕ → Type 0
+Loads x [] y said = (y ≡ x) × (said ≡ [])
+Loads x (r ∷ rs) y said = (e : Entry) × (line rest : List ℕ) × IsLoaded x.revisions r e line × Loads (with_entry_in x e) rs y rest × (said ≡ line ++ rest)
+
+-- what the repository refuses of an entry as it is committed
+abbrev pub entry_fault : List Revision → Entry → Option RepoFault
+entry_fault x (Revised n set props) = first_of (commit_fault x (head_of x) (Revised n set props) ∷ form_fault set ∷ [])
+entry_fault x (Mapped n props) = by_repository x (Mapped n props)
+
+-- a whole revision is refused: it makes no tree, or the repository refuses its entry
+pub data CantLoad (x : List Revision) (r : Rev) (e : Refusal) : Type 0 where
+  unfit : is_zero (trees_of x) r ≡ false → IsUnfit (trees_of x) r e → CantLoad x r e
+  entry_refused : (entry : Entry) (said : List ℕ) (f : RepoFault) → IsLoaded x r entry said → IsDue f (entry_fault x entry) → e ≡ repo_refusal f → CantLoad x r e
+
+-- what ends a load whatever is read: memory, a device that fails or has failed before, a full journal
+abbrev pub IsStop : Refusal → Type 0
+IsStop e = (e ≡ refusal.OutOfMemory) ⊎ (e ≡ refusal.DeviceFailed) ⊎ (e ≡ refusal.Failed) ⊎ (e ≡ refusal.LogFull)
+
+-- a whole revision isn't loaded: it is refused, or the load stops, and nothing is done; or it is loaded and can't be said
+pub data NotLoaded (x : Repository) (r : Rev) (y : Repository) (before now : Option (List ℕ)) (failed : Bool) (e : Refusal) : Type 0 where
+  load_refused : CantLoad x.revisions r e → y ≡ x → now ≡ before → NotLoaded x r y before now failed e
+  load_stops : IsStop e → y ≡ x → now ≡ before → NotLoaded x r y before now failed e
+  load_unsaid : (entry : Entry) (line : List ℕ) → IsLoaded x.revisions r entry line → y ≡ with_entry_in x entry → failed ≡ true → NotLoaded x r y before now failed e
+
+-- the records of a revision that is still read
+abbrev pub read_of : Option Rev → List DumpRecord
+read_of None = []
+read_of (Some r) = records_of_rev r
+
+-- of revision 0 no node is read
+abbrev pub IsBare : Rev → Type 0
+IsBare r = r.number ≡ 0 → r.nodes ≡ []
+
+-- the records are whole revisions, which are loaded and said, and the revision that is still read; from the first on there is one
+pub record Stands (x : Repository) (rs : List DumpRecord) (y : Repository) (last : Option Rev) (start now : Option (List ℕ)) : Type 0 where
+  pub whole : List Rev
+  pub said : List ℕ
+  pub records : filter is_no_identity rs ≡ flat_map records_of_rev whole ++ read_of last
+  pub begun : last ≡ None → whole ≡ []
+  pub bare : IfSome last IsBare
+  pub loads : Loads x whole y said
+  pub written : Appends start now said
+
+-- the records are whole revisions, which are loaded and said
+pub record Gathered (x : Repository) (rs : List DumpRecord) (y : Repository) (start now : Option (List ℕ)) : Type 0 where
+  pub whole : List Rev
+  pub said : List ℕ
+  pub records : filter is_no_identity rs ≡ flat_map records_of_rev whole
+  pub loads : Loads x whole y said
+  pub written : Appends start now said
+
+-- the revision that is read, and is whole now, is refused; or the load stops before it; or it is loaded and can't be said
+pub data CantClose (x : Repository) (rs : List DumpRecord) (y : Repository) (start now : Option (List ℕ)) (failed : Bool) (e : Refusal) : Type 0 where
+  close_refused : (r : Rev) → Stands x rs y (Some r) start now → CantLoad y.revisions r e → CantClose x rs y start now failed e
+  close_stops : (last : Option Rev) → Stands x rs y last start now → IsStop e → CantClose x rs y start now failed e
+  close_unsaid : (z : Repository) (r : Rev) (entry : Entry) (line : List ℕ) (before : Option (List ℕ)) → Stands x rs z (Some r) start before → IsLoaded z.revisions r entry line → y ≡ with_entry_in z entry → failed ≡ true → CantClose x rs y start now failed e
+
+-- the next record isn't taken: the revision before it can't be closed; or it is a node, and no revision other than 0 is read; or the load stops
+pub data CantTake (x : Repository) (rs : List DumpRecord) (next : DumpRecord) (y : Repository) (start now : Option (List ℕ)) (failed : Bool) (e : Refusal) : Type 0 where
+  not_closed : (n : ℕ) (props : PropMap) → next ≡ Begins n props → CantClose x rs y start now failed e → CantTake x rs next y start now failed e
+  no_revision : (node : NodeRecord) (last : Option Rev) → next ≡ Node node → Stands x rs y last start now → is_past_zero last ≡ false → e ≡ refusal.WrongNumber → CantTake x rs next y start now failed e
+  take_stops : (last : Option Rev) → Stands x rs y last start now → IsStop e → CantTake x rs next y start now failed e
+
+-- some records more lead from what stood so to what stands so
+abbrev pub Moves : Repository → Option Rev → Option (List ℕ) → List DumpRecord → Repository → Option Rev → Option (List ℕ) → Type 0
+Moves y last before new z later now = (x : Repository) (rs : List DumpRecord) (start : Option (List ℕ)) → Stands x rs y last start before → Stands x (rs ++ new) z later start now
+
+-- some records were taken, and what stopped the others
+pub record Stops (x : Repository) (rs new : List DumpRecord) (y : Repository) (start now : Option (List ℕ)) (failed : Bool) (e : Refusal) : Type 0 where
+  pub taken : List DumpRecord
+  pub first : DumpRecord
+  pub rest : List DumpRecord
+  pub split : new ≡ taken ++ first ∷ rest
+  pub why : CantTake x (rs ++ taken) first y start now failed e
+
+-- bytes were read as records, and these stand so
+pub record Reached (x : Repository) (bytes : List ℕ) (reader : ReadState) (y : Repository) (last : Option Rev) (start now : Option (List ℕ)) : Type 0 where
+  pub records : List DumpRecord
+  pub read : dump bytes ≡ Reads records reader
+  pub stands : Stands x records y last start now
+
+-- a dump is loaded whole: it is whole revisions, each of them is loaded, and is said
+pub record Loaded (x : Repository) (bytes : List ℕ) (y : Repository) (start now : Option (List ℕ)) : Type 0 where
+  pub records : List DumpRecord
+  pub reader : ReadState
+  pub read : dump bytes ≡ Reads records reader
+  pub ended : is_between reader ≡ true
+  pub gathered : Gathered x records y start now
+
+-- a load is refused, and what was loaded before stays: at the next record; or by the byte behind some records; or as the stream ends, in a record or behind the last one; or memory or a stream fails
+pub data Refused (x : Repository) (bytes : List ℕ) (y : Repository) (start now : Option (List ℕ)) (failed : Bool) (e : Refusal) : Type 0 where
+  at_record : (rs : List DumpRecord) (next : DumpRecord) (more : List DumpRecord) → records_of (dump bytes) ≡ rs ++ next ∷ more → CantTake x rs next y start now failed e → Refused x bytes y start now failed e
+  at_byte : (rs : List DumpRecord) (f : DumpFault) (last : Option Rev) → dump bytes ≡ Refuses rs f → Stands x rs y last start now → e ≡ dump_refusal f → Refused x bytes y start now failed e
+  cut_short : (rs : List DumpRecord) (reader : ReadState) (last : Option Rev) → dump bytes ≡ Reads rs reader → is_between reader ≡ false → Stands x rs y last start now → e ≡ refusal.Truncated → Refused x bytes y start now failed e
+  at_end : (rs : List DumpRecord) (reader : ReadState) → dump bytes ≡ Reads rs reader → is_between reader ≡ true → CantClose x rs y start now failed e → Refused x bytes y start now failed e
+  stopped : (rs more : List DumpRecord) (last : Option Rev) → records_of (dump bytes) ≡ rs ++ more → Stands x rs y last start now → (e ≡ refusal.OutOfMemory) ⊎ (e ≡ refusal.PeerFailed) → Refused x bytes y start now failed e
+
+-- bytes lead from what stood so before them to what stands so behind them
+abbrev pub Leads : ReadState → Repository → Option Rev → Option (List ℕ) → List ℕ → ReadState → Repository → Option Rev → Option (List ℕ) → Type 0
+Leads old y last before bytes new z later now = (x : Repository) (start : Option (List ℕ)) → Reached x [] old y last start before → Reached x bytes new z later start now

@@ -1,0 +1,55 @@
+//! Stores begun and opened.
+ghost use Rattle.std.specs.Prelude.{◌≡◌, ◌≢◌, ◌↔◌, ℕ, IfOk, IfErr, OnOk};
+ghost use Rattle.fleet_disk.specs.Image.{Image, no_bytes};
+ghost use Rattle.gate_log.specs.Standing.{HasNoEntry};
+ghost use Rattle.repo_core.specs.Repository.{fresh};
+ghost use Rattle.repo_store.specs.Journal.{IsStopped, ReopensTo};
+ghost use Rattle.repo_store.specs.Words.{disk_of, identity_of, repository_of, revisions_of, HasFailed};
+ghost use Rattle.store_engines.specs.Refusals.{IsCreateRefusal, IsOpenRefusal};
+
+use crate::refusals::store_refusal;
+use fleet_disk::Disk;
+use node_base::Refusal;
+use repo_store::RepoStore;
+use std::alloc::Global;
+use uuid::Uuid;
+
+/// Begins a repository of revision 0 alone, without properties, on a disk of two empty files; from Ok on a stop leaves what
+/// reopens to it. ThereAlready (35) where a file isn't empty, DeviceFailed (31), OutOfMemory (70).
+pub fn create_store<D: Disk + Drop>(
+    alloc: Global,
+    disk: D,
+    identity: Uuid,
+) -> Result<RepoStore<D>, Refusal>
+    ensures made { IfOk result (λ store. repository_of store ≡ fresh identity) }
+    ensures working { IfOk result (λ store. ¬ HasFailed store) }
+    ensures durable { D.honest disk → IfOk result (λ store. (image : Image) → D.may_leave (disk_of store) image → ReopensTo identity (fresh identity).revisions image) }
+    ensures empty { D.honest disk → OnOk result (D.reads disk ≡ no_bytes) }
+    ensures there { D.honest disk → IfErr result (λ e. e ≡ Refusal.ThereAlready → D.reads disk ≢ no_bytes) }
+    ensures no_other { IfErr result IsCreateRefusal }
+    ensures honest { IfOk result (λ store. D.honest disk ↔ D.honest (disk_of store)) }
+    ensures no_peer { IfErr result (λ e. e ≡ Refusal.PeerFailed → ⊥) }
+{
+    match RepoStore::create(alloc, disk, identity) {
+        Ok(store) => Ok(store),
+        Err((fault, _disk)) => Err(store_refusal(fault)),
+    }
+}
+
+/// Opens the repository that a disk holds. NoRepository (34) where it holds none, Damaged (33) with the first entry that is,
+/// DeviceFailed (31), OutOfMemory (70).
+pub fn open_store<D: Disk + Drop>(alloc: Global, disk: D) -> Result<RepoStore<D>, Refusal>
+    ensures stands { D.honest disk → IfOk result (λ store. ReopensTo (identity_of store) (revisions_of store) (D.reads disk)) }
+    ensures working { IfOk result (λ store. ¬ HasFailed store) }
+    ensures durable { D.honest disk → IfOk result (λ store. (image : Image) → D.may_leave (disk_of store) image → ReopensTo (identity_of store) (revisions_of store) image) }
+    ensures damaged { D.honest disk → (entry : ℕ) → IfErr result (λ e. e ≡ Refusal.Damaged entry → IsStopped entry (D.reads disk)) }
+    ensures missing { D.honest disk → IfErr result (λ e. e ≡ Refusal.NoRepository → HasNoEntry (D.reads disk)) }
+    ensures no_other { IfErr result IsOpenRefusal }
+    ensures honest { IfOk result (λ store. D.honest disk ↔ D.honest (disk_of store)) }
+    ensures no_peer { IfErr result (λ e. e ≡ Refusal.PeerFailed → ⊥) }
+{
+    match RepoStore::open(alloc, disk) {
+        Ok(store) => Ok(store),
+        Err((fault, _disk)) => Err(store_refusal(fault)),
+    }
+}

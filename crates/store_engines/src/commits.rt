@@ -1,0 +1,39 @@
+//! Commits against the head.
+ghost use Rattle.std.specs.Prelude.{◌≡◌, ◌⊎◌, length, None, IfErr, OnOk, OnErr};
+ghost use Rattle.repo_core.specs.Dates.{dated};
+ghost use Rattle.repo_core.specs.Entries.{with_entry_in};
+ghost use Rattle.repo_core.specs.Refusals.{IsDue};
+ghost use Rattle.repo_core.specs.declared.entry.Entry.TheVariants.{Revised};
+ghost use Rattle.repo_core.specs.declared.fault.RepoFault.{RepoFault as RepoFaultOf};
+ghost use Rattle.repo_store.specs.Words.{repository_of, revisions_of};
+ghost use Rattle.store_engines.specs.Loads.{entry_fault, IsStop};
+ghost use Rattle.store_engines.specs.Refusals.{repo_refusal};
+
+use crate::refusals::store_refusal;
+use dump_load::ChangeSet;
+use fleet_disk::Disk;
+use node_base::{Props, Refusal};
+use repo_core::Moment;
+use repo_store::RepoStore;
+use std::alloc::Global;
+
+/// Commits the revision after the head.
+pub fn commit<D: Disk + Drop>(
+    alloc: Global,
+    store: &mut RepoStore<D>,
+    set: ChangeSet,
+    props: Props,
+    moment: Option<Moment>,
+) -> Result<(), Refusal>
+    ensures ok { OnOk result (repository_of store.new ≡ with_entry_in (repository_of store.old) (Revised (length (revisions_of store.old)) set (dated props moment))) }
+    ensures taken { OnOk result (entry_fault (revisions_of store.old) (Revised (length (revisions_of store.old)) set (dated props moment)) ≡ None) }
+    ensures same { OnErr result (repository_of store.new ≡ repository_of store.old) }
+    ensures refused { IfErr result (λ e. IsStop e ⊎ ((f : RepoFaultOf) × IsDue f (entry_fault (revisions_of store.old) (Revised (length (revisions_of store.old)) set (dated props moment))) × (e ≡ repo_refusal f))) }
+    ensures no_peer { IfErr result (λ e. e ≡ Refusal.PeerFailed → ⊥) }
+{
+    let head = store.repo().head();
+    match store.commit(alloc, head, set, props, moment) {
+        Ok(_committed) => Ok(()),
+        Err(fault) => Err(store_refusal(fault)),
+    }
+}

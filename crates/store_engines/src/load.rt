@@ -1,0 +1,353 @@
+//! `load` over any disk, reader and writer.
+ghost use Rattle.std.specs.Prelude.{◌≡◌, ◌≢◌, ◌⊎◌, ◌<◌, ◌∷◌, ◌++◌, [], ℕ, List, Option, Some, None, length, true, false, IfOk, IfErr, IfSome, OnOk, OnErr};
+ghost use Rattle.std.specs.Io.KnownBytes.{Appends, Consumes, IsAtEnd};
+ghost use Rattle.node_base.specs.Props.{PropMap};
+ghost use Rattle.node_base.specs.Tree.{PathMap};
+ghost use Rattle.dump_load.specs.declared.change.Change.{Change as ChangeOf};
+ghost use Rattle.dump_text.specs.declared.record.DumpRecord.{DumpRecord as RecordOf};
+ghost use Rattle.repo_core.specs.Repository.{Repository, trees_of};
+ghost use Rattle.repo_core.specs.Entries.{with_entry_in};
+ghost use Rattle.repo_core.specs.declared.entry.Entry.{Entry};
+ghost use Rattle.repo_core.specs.declared.entry.Entry.TheVariants.{Mapped};
+ghost use Rattle.repo_core.specs.Refusals.{IsDue};
+ghost use Rattle.repo_core.specs.declared.fault.RepoFault.{RepoFault as RepoFaultOf};
+ghost use Rattle.repo_store.specs.Words.{repository_of, revisions_of};
+ghost use Rattle.fleet_engines.specs.Histories.{rev_of};
+ghost use Rattle.fleet_engines.specs.Revisions.{Rev, Makes, IsUnfit, is_zero, is_past_zero};
+ghost use Rattle.fleet_engines.specs.Runs.{Flagged, BothFlagged};
+ghost use Rattle.store_engines.specs.Loaders.{last_of};
+ghost use Rattle.store_engines.specs.Loads.{entry_fault, loaded_line, CantTake, CantClose, Gathered, IsBare, IsLoaded, IsStop, Leads, Loaded, Moves, NotLoaded, Reached, Refused, Stands, Stops};
+ghost use Rattle.store_engines.specs.Mirrors.{is_mirror};
+ghost use Rattle.store_engines.specs.Refusals.{repo_refusal};
+
+use crate::commits::commit;
+use crate::lines::{loaded_line, say};
+use crate::mirror::refuse_mirror;
+use crate::refusals::store_refusal;
+use dump_load::{ChangeSet, load_revision};
+use dump_text::{DumpReader, DumpRecord, NodeRecord, RevRecord};
+use fleet_disk::Disk;
+use fleet_engines::{Sink, Source, change_refusal, dump_refusal};
+use node_base::{Props, Refusal, RevNo};
+use path_tree::Tree;
+use repo_core::Repo;
+use repo_store::RepoStore;
+use std::alloc::Global;
+use std::io::{Read, Write};
+
+// How many bytes are read at a time: 64 KiB.
+const PIECE: usize = 65_536;
+
+// How many reads one stream gets: the next one isn't made and counts as failed.
+const READS: u64 = 1_099_511_627_775;
+
+// Whether it is revision 0 of a repository without any other.
+fn is_zero(repo: &Repo, revision: &RevRecord) -> bool
+    ensures { result ≡ is_zero (trees_of repo.now.revisions) (rev_of revision.now) }
+{
+    repo.trees().len() == 1 && revision.number == RevNo::ZERO
+}
+
+// The set of the revision after the head. WrongNumber (16) where the number isn't its, and then what makes no set or has a
+// fault over the trees so far.
+fn judge(
+    alloc: Global,
+    trees: &[Tree],
+    number: RevNo,
+    nodes: Vec<NodeRecord>,
+) -> Result<ChangeSet, Refusal>
+    ensures set { IfOk result (λ s. (props : PropMap) → (tree : PathMap) × Makes trees.now (record { number = number; props = props; nodes = nodes.items }) s tree) }
+    ensures refused { IfErr result (λ e. (e ≡ Refusal.OutOfMemory) ⊎ ((props : PropMap) → IsUnfit trees.now (record { number = number; props = props; nodes = nodes.items }) e)) }
+    ensures no_peer { IfErr result (λ e. e ≡ Refusal.PeerFailed → ⊥) }
+{
+    if number.index() != trees.len() {
+        return Err(Refusal::WrongNumber);
+    }
+    match load_revision(alloc, trees, number, nodes) {
+        Ok((set, _tree)) => Ok(set),
+        Err(fault) => Err(change_refusal(fault)),
+    }
+}
+
+// Other properties for revision 0.
+fn put_zero<D: Disk + Drop>(
+    alloc: Global,
+    store: &mut RepoStore<D>,
+    props: Props,
+) -> Result<(), Refusal>
+    ensures ok { OnOk result (repository_of store.new ≡ with_entry_in (repository_of store.old) (Mapped 0 props)) }
+    ensures same { OnErr result (repository_of store.new ≡ repository_of store.old) }
+    ensures refused { IfErr result (λ e. IsStop e ⊎ ((f : RepoFaultOf) × IsDue f (entry_fault (revisions_of store.old) (Mapped 0 props)) × (e ≡ repo_refusal f))) }
+    ensures no_peer { IfErr result (λ e. e ≡ Refusal.PeerFailed → ⊥) }
+{
+    match store.put_props(alloc, RevNo::ZERO, props) {
+        Ok(_receipt) => Ok(()),
+        Err(fault) => Err(store_refusal(fault)),
+    }
+}
+
+// Judges a revision other than 0, commits it, and says so.
+fn load_next<D: Disk + Drop, W: Write + Drop>(
+    alloc: Global,
+    revision: RevRecord,
+    store: &mut RepoStore<D>,
+    output: &mut Sink<W>,
+) -> Result<(), Refusal>
+    requires later { is_zero (trees_of (revisions_of store.old)) (rev_of revision) ≡ false }
+    ensures ok { OnOk result ((entry : Entry) × (line : List ℕ) × IsLoaded (revisions_of store.old) (rev_of revision) entry line × (repository_of store.new ≡ with_entry_in (repository_of store.old) entry) × Appends (W.contents output.old.inner) (W.contents output.new.inner) line) }
+    ensures refused { IfErr result (λ e. NotLoaded (repository_of store.old) (rev_of revision) (repository_of store.new) (W.contents output.old.inner) (W.contents output.new.inner) output.new.failed e) }
+    ensures peer { Flagged result output.old.failed output.new.failed }
+{
+    let RevRecord {
+        number,
+        props,
+        nodes,
+    } = revision;
+    let set = judge(alloc, store.repo().trees(), number, nodes)?;
+    let Ok(line) = loaded_line(alloc, number) else {
+        return Err(Refusal::OutOfMemory);
+    };
+    commit(alloc, store, set, props, None)?;
+    say(output, &line)
+}
+
+// Loads a revision that is whole.
+fn load_one<D: Disk + Drop, W: Write + Drop>(
+    alloc: Global,
+    revision: RevRecord,
+    store: &mut RepoStore<D>,
+    output: &mut Sink<W>,
+) -> Result<(), Refusal>
+    ensures ok { OnOk result (IsBare (rev_of revision) → (entry : Entry) × (line : List ℕ) × IsLoaded (revisions_of store.old) (rev_of revision) entry line × (repository_of store.new ≡ with_entry_in (repository_of store.old) entry) × Appends (W.contents output.old.inner) (W.contents output.new.inner) line) }
+    ensures refused { IfErr result (λ e. IsBare (rev_of revision) → NotLoaded (repository_of store.old) (rev_of revision) (repository_of store.new) (W.contents output.old.inner) (W.contents output.new.inner) output.new.failed e) }
+    ensures peer { Flagged result output.old.failed output.new.failed }
+{
+    if is_zero(store.repo(), &revision) {
+        return put_zero(alloc, store, revision.props);
+    }
+    load_next(alloc, revision, store, output)
+}
+
+/// What a load has read of a revision that isn't whole yet.
+#[derive(Drop)]
+pub struct Loader {
+    alloc: Global,
+    last: Option<RevRecord>,
+}
+
+impl Loader {
+    // Before the first record.
+    fn new(alloc: Global) -> Loader
+        ensures { last_of result ≡ None }
+    {
+        Loader { alloc, last: None }
+    }
+
+    // A record more. Where it begins a revision, the one before it is whole, and is loaded.
+    fn take<D: Disk + Drop, W: Write + Drop>(
+        &mut self,
+        next: DumpRecord,
+        store: &mut RepoStore<D>,
+        output: &mut Sink<W>,
+    ) -> Result<(), Refusal>
+        ensures ok { OnOk result (Moves (repository_of store.old) (last_of self.old) (W.contents output.old.inner) (next ∷ []) (repository_of store.new) (last_of self.new) (W.contents output.new.inner)) }
+        ensures refused { IfErr result (λ e. (x : Repository) (rs : List RecordOf) (start : Option (List ℕ)) → Stands x rs (repository_of store.old) (last_of self.old) start (W.contents output.old.inner) → CantTake x rs next (repository_of store.new) start (W.contents output.new.inner) output.new.failed e) }
+        ensures peer { Flagged result output.old.failed output.new.failed }
+    {
+        match next {
+            DumpRecord::Identity(_identity) => Ok(()),
+            DumpRecord::Revision(number, props) => {
+                self.close(store, output)?;
+                self.begin(number, props);
+                Ok(())
+            }
+            DumpRecord::Node(node) => self.add_node(node),
+        }
+    }
+
+    fn begin(&mut self, number: RevNo, props: Props)
+        ensures { last_of self.new ≡ Some (record { number = number; props = props; nodes = [] }) }
+    {
+        let nodes = Vec::new(self.alloc);
+        self.last = Some(RevRecord {
+            number,
+            props,
+            nodes,
+        });
+    }
+
+    // A node record of no revision, or of revision 0, is WrongNumber (16).
+    fn add_node(&mut self, node: NodeRecord) -> Result<(), Refusal>
+        ensures ok { OnOk result ((r : Rev) × (last_of self.old ≡ Some r) × (is_past_zero (last_of self.old) ≡ true) × (last_of self.new ≡ Some (record r { nodes = r.nodes ++ node ∷ [] }))) }
+        ensures refused { IfErr result (λ e. ((e ≡ Refusal.OutOfMemory) ⊎ ((e ≡ Refusal.WrongNumber) × (is_past_zero (last_of self.old) ≡ false)))) }
+        ensures no_peer { IfErr result (λ e. e ≡ Refusal.PeerFailed → ⊥) }
+    {
+        if !self.is_past_zero() {
+            return Err(Refusal::WrongNumber);
+        }
+        let Some(mut revision) = self.last.take() else {
+            return Err(Refusal::WrongNumber);
+        };
+        match revision.nodes.push(node) {
+            Ok(()) => {
+                self.last = Some(revision);
+                Ok(())
+            }
+            Err(_) => Err(Refusal::OutOfMemory),
+        }
+    }
+
+    // Whether a revision other than 0 is read.
+    fn is_past_zero(&self) -> bool
+        ensures { result ≡ is_past_zero (last_of self.now) }
+    {
+        match &self.last {
+            Some(revision) => revision.number != RevNo::ZERO,
+            None => false,
+        }
+    }
+
+    // Loads the revision that is read, if there is one.
+    fn close<D: Disk + Drop, W: Write + Drop>(
+        &mut self,
+        store: &mut RepoStore<D>,
+        output: &mut Sink<W>,
+    ) -> Result<(), Refusal>
+        ensures ok { OnOk result ((x : Repository) (rs : List RecordOf) (start : Option (List ℕ)) → Stands x rs (repository_of store.old) (last_of self.old) start (W.contents output.old.inner) → Gathered x rs (repository_of store.new) start (W.contents output.new.inner)) }
+        ensures last { last_of self.new ≡ None }
+        ensures refused { IfErr result (λ e. (x : Repository) (rs : List RecordOf) (start : Option (List ℕ)) → Stands x rs (repository_of store.old) (last_of self.old) start (W.contents output.old.inner) → CantClose x rs (repository_of store.new) start (W.contents output.new.inner) output.new.failed e) }
+        ensures peer { Flagged result output.old.failed output.new.failed }
+    {
+        match self.last.take() {
+            Some(revision) => load_one(self.alloc, revision, store, output),
+            None => Ok(()),
+        }
+    }
+
+    // Some records more.
+    fn take_all<D: Disk + Drop, W: Write + Drop>(
+        &mut self,
+        records: Vec<DumpRecord>,
+        store: &mut RepoStore<D>,
+        output: &mut Sink<W>,
+    ) -> Result<(), Refusal>
+        ensures ok { OnOk result (Moves (repository_of store.old) (last_of self.old) (W.contents output.old.inner) records.items (repository_of store.new) (last_of self.new) (W.contents output.new.inner)) }
+        ensures refused { IfErr result (λ e. (x : Repository) (rs : List RecordOf) (start : Option (List ℕ)) → Stands x rs (repository_of store.old) (last_of self.old) start (W.contents output.old.inner) → Stops x rs records.items (repository_of store.new) start (W.contents output.new.inner) output.new.failed e) }
+        ensures peer { Flagged result output.old.failed output.new.failed }
+    {
+        for next in records {
+            self.take(next, store, output)?;
+        }
+        Ok(())
+    }
+
+    // Takes the next piece of a dump.
+    fn feed<D: Disk + Drop, W: Write + Drop>(
+        &mut self,
+        reader: &mut DumpReader,
+        piece: &[u8],
+        store: &mut RepoStore<D>,
+        output: &mut Sink<W>,
+    ) -> Result<(), Refusal>
+        ensures ok { OnOk result ((x : Repository) (bytes : List ℕ) (start : Option (List ℕ)) → Reached x bytes reader.old (repository_of store.old) (last_of self.old) start (W.contents output.old.inner) → Reached x (bytes ++ piece.now) reader.new (repository_of store.new) (last_of self.new) start (W.contents output.new.inner)) }
+        ensures refused { IfErr result (λ e. (rest : List ℕ) (x : Repository) (bytes : List ℕ) (start : Option (List ℕ)) → Reached x bytes reader.old (repository_of store.old) (last_of self.old) start (W.contents output.old.inner) → Refused x ((bytes ++ piece.now) ++ rest) (repository_of store.new) start (W.contents output.new.inner) output.new.failed e) }
+        ensures peer { Flagged result output.old.failed output.new.failed }
+    {
+        let mut records = Vec::new(self.alloc);
+        let fed = reader.feed(piece, &mut records);
+        self.take_all(records, store, output)?;
+        match fed {
+            Ok(()) => Ok(()),
+            Err(fault) => Err(dump_refusal(fault)),
+        }
+    }
+
+    // The end of the dump.
+    fn finish<D: Disk + Drop, W: Write + Drop>(
+        &mut self,
+        reader: DumpReader,
+        store: &mut RepoStore<D>,
+        output: &mut Sink<W>,
+    ) -> Result<(), Refusal>
+        ensures ok { OnOk result ((x : Repository) (bytes : List ℕ) (start : Option (List ℕ)) → Reached x bytes reader (repository_of store.old) (last_of self.old) start (W.contents output.old.inner) → Loaded x bytes (repository_of store.new) start (W.contents output.new.inner)) }
+        ensures refused { IfErr result (λ e. (x : Repository) (bytes : List ℕ) (start : Option (List ℕ)) → Reached x bytes reader (repository_of store.old) (last_of self.old) start (W.contents output.old.inner) → Refused x bytes (repository_of store.new) start (W.contents output.new.inner) output.new.failed e) }
+        ensures peer { Flagged result output.old.failed output.new.failed }
+    {
+        if let Err(fault) = reader.finish() {
+            return Err(dump_refusal(fault));
+        }
+        self.close(store, output)
+    }
+}
+
+// Reads a stream to its end, piece by piece.
+fn read_all<D: Disk + Drop, R: Read + Drop, W: Write + Drop>(
+    loader: &mut Loader,
+    reader: &mut DumpReader,
+    piece: &mut [u8],
+    store: &mut RepoStore<D>,
+    input: &mut Source<R>,
+    output: &mut Sink<W>,
+) -> Result<(), Refusal>
+    ensures ok { OnOk result (0 < length piece.old → (bytes : List ℕ) × Consumes (R.remaining input.old.inner) (R.remaining input.new.inner) bytes × IsAtEnd (R.remaining input.new.inner) × Leads reader.old (repository_of store.old) (last_of loader.old) (W.contents output.old.inner) bytes reader.new (repository_of store.new) (last_of loader.new) (W.contents output.new.inner)) }
+    ensures refused { IfErr result (λ e. (x : Repository) (start : Option (List ℕ)) → Reached x [] reader.old (repository_of store.old) (last_of loader.old) start (W.contents output.old.inner) → IfSome (R.remaining input.old.inner) (λ bytes. Refused x bytes (repository_of store.new) start (W.contents output.new.inner) output.new.failed e)) }
+    ensures peer { BothFlagged result input.old.failed input.new.failed output.old.failed output.new.failed }
+{
+    for _ in 0..READS {
+        let n = input.read(piece)?;
+        if n == 0 {
+            return Ok(());
+        }
+        loader.feed(reader, &piece[..n], store, output)?;
+    }
+    Err(input.give_up())
+}
+
+// Loads a dump into a repository that is no mirror.
+fn load_stream<D: Disk + Drop, R: Read + Drop, W: Write + Drop>(
+    alloc: Global,
+    store: &mut RepoStore<D>,
+    input: &mut Source<R>,
+    output: &mut Sink<W>,
+) -> Result<(), Refusal>
+    ensures ok { OnOk result (IfSome (R.remaining input.old.inner) (λ bytes. Loaded (repository_of store.old) bytes (repository_of store.new) (W.contents output.old.inner) (W.contents output.new.inner))) }
+    ensures refused { IfErr result (λ e. IfSome (R.remaining input.old.inner) (λ bytes. Refused (repository_of store.old) bytes (repository_of store.new) (W.contents output.old.inner) (W.contents output.new.inner) output.new.failed e)) }
+    ensures peer { BothFlagged result input.old.failed input.new.failed output.old.failed output.new.failed }
+{
+    let mut loader = Loader::new(alloc);
+    let mut reader = DumpReader::new(alloc);
+    let Ok(mut piece) = Vec::from_elem(alloc, 0u8, PIECE) else {
+        return Err(Refusal::OutOfMemory);
+    };
+    read_all(
+        &mut loader,
+        &mut reader,
+        piece.as_mut_slice(),
+        store,
+        input,
+        output,
+    )?;
+    loader.finish(reader, store, output)
+}
+
+/// Loads a dump: each revision when its last record has been read, judged whole, committed, and told in a line. The identity
+/// of the dump is passed over.
+///
+/// A record of revision 0 gives its properties while there is no other revision; each other revision is the one after the
+/// head, else WrongNumber (16). A mirror is refused (24) before anything is read. A fault of the text (1 to 10), of a
+/// revision (2, 8, 10 to 17), of the store (31, 36, 70) or of a stream (49) ends the load, and what was loaded before it stays.
+pub fn run_load<D: Disk + Drop, R: Read + Drop, W: Write + Drop>(
+    alloc: Global,
+    store: &mut RepoStore<D>,
+    input: &mut Source<R>,
+    output: &mut Sink<W>,
+) -> Result<(), Refusal>
+    ensures ok { OnOk result (IfSome (R.remaining input.old.inner) (λ bytes. Loaded (repository_of store.old) bytes (repository_of store.new) (W.contents output.old.inner) (W.contents output.new.inner))) }
+    ensures refused { IfErr result (λ e. is_mirror (revisions_of store.old) ≡ false → IfSome (R.remaining input.old.inner) (λ bytes. Refused (repository_of store.old) bytes (repository_of store.new) (W.contents output.old.inner) (W.contents output.new.inner) output.new.failed e)) }
+    ensures mirror { is_mirror (revisions_of store.old) ≡ true → IfErr result (λ e. (e ≡ Refusal.ReadOnly) × (repository_of store.new ≡ repository_of store.old) × (R.remaining input.new.inner ≡ R.remaining input.old.inner) × (W.contents output.new.inner ≡ W.contents output.old.inner)) }
+    ensures no_mirror { OnOk result (is_mirror (revisions_of store.old) ≡ false) }
+    ensures peer { BothFlagged result input.old.failed input.new.failed output.old.failed output.new.failed }
+{
+    refuse_mirror(store.repo())?;
+    load_stream(alloc, store, input, output)
+}

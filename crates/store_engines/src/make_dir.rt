@@ -1,0 +1,156 @@
+//! `mkdir` over any disk and writer.
+ghost use Rattle.std.specs.Prelude.{◌≡◌, ◌<◌, ◌≤◌, ◌⊎◌, ℕ, List, length, true, false, Ok, Err, Some, IfOk, IfErr, OnOk, IsErrOf, codes};
+ghost use Rattle.std.specs.Option.{option_map};
+ghost use Rattle.fleet_engines.specs.Runs.{Flagged};
+ghost use Rattle.node_base.specs.Path.{Path};
+ghost use Rattle.node_base.specs.PathText.{path_read};
+ghost use Rattle.node_base.specs.declared.fault.PathFault.{PathFault as PathFaultOf};
+ghost use Rattle.repo_store.specs.Words.{repository_of, revisions_of};
+ghost use Rattle.store_engines.specs.Commits.{directory_entry, directory_set, logged, IsCommitted, NotCommitted};
+ghost use Rattle.store_engines.specs.Loads.{entry_fault, IsStop};
+ghost use Rattle.store_engines.specs.Mirrors.{is_mirror};
+ghost use Rattle.store_engines.specs.Refusals.{path_refusal, repo_refusal};
+
+use crate::commits::commit;
+use crate::lines::{committed_line, say};
+use crate::mirror::refuse_mirror;
+use crate::refusals::{path_refusal, store_refusal};
+use dump_load::{Change, ChangeSet};
+use fleet_disk::Disk;
+use fleet_engines::Sink;
+use node_base::limits::PROP_VALUE_BYTES;
+use node_base::{Action, NodeKind, NodePath, PropName, PropValue, Props, Refusal};
+use repo_core::Moment;
+use repo_store::RepoStore;
+use std::alloc::{AllocError, Global};
+use std::io::Write;
+
+// The path that a word spells.
+fn path_of(alloc: Global, word: &str) -> Result<NodePath, Refusal>
+    ensures path { IfOk result (λ p. path_read word.now ≡ Ok p) }
+    ensures refused { IfErr result (λ e. (e ≡ Refusal.OutOfMemory) ⊎ ((f : PathFaultOf) × (path_read word.now ≡ Err f) × (e ≡ path_refusal f))) }
+{
+    match NodePath::parse(alloc, word.as_bytes()) {
+        Ok(path) => Ok(path),
+        Err(fault) => Err(path_refusal(fault)),
+    }
+}
+
+// The set that adds a directory without properties.
+fn one_directory(alloc: Global, path: NodePath) -> Result<ChangeSet, Refusal>
+    ensures set { IfOk result (λ s. s ≡ directory_set path) }
+    ensures refused { IfErr result (λ e. e ≡ Refusal.OutOfMemory) }
+{
+    let add = Change {
+        path,
+        action: Action::Add,
+        kind: Some(NodeKind::Dir),
+        source: None,
+        props: Some(Props::empty()),
+        text: None,
+    };
+    let mut changes = Vec::new(alloc);
+    if changes.push(add).is_err() {
+        return Err(Refusal::OutOfMemory);
+    }
+    match ChangeSet::from_changes(changes) {
+        Some(set) => Ok(set),
+        None => unreachable!(),
+    }
+}
+
+// The name of the property that a message is.
+fn message_name(alloc: Global) -> Result<PropName, AllocError>
+    ensures { IfOk result (λ n. n ≡ codes "svn:log") }
+{
+    match PropName::parse(alloc, b"svn:log") {
+        Ok(name) => Ok(name),
+        Err(_) => Err(AllocError),
+    }
+}
+
+// The properties of a revision with that message.
+fn logged(alloc: Global, message: &str) -> Result<Props, AllocError>
+    requires small { length message.now ≤ 65536 }
+    ensures { IfOk result (λ p. p ≡ logged message.now) }
+{
+    let name = message_name(alloc)?;
+    let Ok(value) = PropValue::new(Vec::from_slice(alloc, message.as_bytes())?) else {
+        unreachable!();
+    };
+    let mut props = Props::empty();
+    match props.set(alloc, name, value) {
+        Ok(()) => Ok(props),
+        Err(_) => Err(AllocError),
+    }
+}
+
+// What is refused where a message is past its limit: what the repository refuses of the set comes before that.
+fn refused_message<D: Disk + Drop>(
+    alloc: Global,
+    store: &mut RepoStore<D>,
+    set: ChangeSet,
+    moment: Moment,
+) -> Refusal
+    ensures due { IsStop result ⊎ ((path : Path) (message : List ℕ) → set ≡ directory_set path → 65536 < length message
+        → option_map repo_refusal (entry_fault (revisions_of store.old) (directory_entry (revisions_of store.old) path message moment)) ≡ Some result) }
+    ensures same { repository_of store.new ≡ repository_of store.old }
+    ensures no_peer { result ≡ Refusal.PeerFailed → ⊥ }
+{
+    let head = store.repo().head();
+    match store.stage_commit(alloc, head, set, Props::empty(), Some(moment)) {
+        Ok(_staged) => Refusal::TooLong,
+        Err(fault) => store_refusal(fault),
+    }
+}
+
+// Commits a directory at a path, and says so.
+fn commit_directory<D: Disk + Drop, W: Write + Drop>(
+    alloc: Global,
+    store: &mut RepoStore<D>,
+    path: NodePath,
+    message: &str,
+    moment: Moment,
+    output: &mut Sink<W>,
+) -> Result<(), Refusal>
+    ensures ok { OnOk result ((bytes : List ℕ) → is_mirror (revisions_of store.old) ≡ false → path_read bytes ≡ Ok path → IsCommitted (repository_of store.old) bytes message.now moment (repository_of store.new) (W.contents output.old.inner) (W.contents output.new.inner)) }
+    ensures refused { IfErr result (λ e. (bytes : List ℕ) → is_mirror (revisions_of store.old) ≡ false → path_read bytes ≡ Ok path → NotCommitted (repository_of store.old) bytes message.now moment (repository_of store.new) (W.contents output.old.inner) (W.contents output.new.inner) output.new.failed e) }
+    ensures peer { Flagged result output.old.failed output.new.failed }
+{
+    let set = one_directory(alloc, path)?;
+    if message.len() > PROP_VALUE_BYTES {
+        return Err(refused_message(alloc, store, set, moment));
+    }
+    let Ok(props) = logged(alloc, message) else {
+        return Err(Refusal::OutOfMemory);
+    };
+    let Ok(line) = committed_line(alloc, store.repo().trees().len()) else {
+        return Err(Refusal::OutOfMemory);
+    };
+    commit(alloc, store, set, props, Some(moment))?;
+    say(output, &line)
+}
+
+/// Commits one directory, with a message as `svn:log` and a moment as `svn:date`, and says so in a line.
+///
+/// Refused are a mirror (24), then a path outside the limits (8) or the rule (10), then what the repository doesn't take: a
+/// revision after the last that can be (23), the root (10), a path that the tree doesn't take (11, 12, 13), and last a message
+/// past 65,536 bytes (8). The store's own are 31, 32, 36 and 70. All these leave the repository and the writer as they were. A
+/// line that can't be written is PeerFailed (49), and the directory stays.
+pub fn run_mkdir<D: Disk + Drop, W: Write + Drop>(
+    alloc: Global,
+    store: &mut RepoStore<D>,
+    path: &str,
+    message: &str,
+    moment: Moment,
+    output: &mut Sink<W>,
+) -> Result<(), Refusal>
+    ensures ok { OnOk result (IsCommitted (repository_of store.old) path.now message.now moment (repository_of store.new) (W.contents output.old.inner) (W.contents output.new.inner)) }
+    ensures refused { IfErr result (NotCommitted (repository_of store.old) path.now message.now moment (repository_of store.new) (W.contents output.old.inner) (W.contents output.new.inner) output.new.failed) }
+    ensures mirror { is_mirror (revisions_of store.old) ≡ true → IsErrOf result Refusal.ReadOnly }
+    ensures peer { Flagged result output.old.failed output.new.failed }
+{
+    refuse_mirror(store.repo())?;
+    let place = path_of(alloc, path)?;
+    commit_directory(alloc, store, place, message, moment, output)
+}
