@@ -1,11 +1,12 @@
 -- The command line of the program.
-use Rattle.std.specs.Prelude.{ℕ, List, true, codes}
-use Rattle.clap.specs.Words.{App, new_app, with_subcommand}
+use Rattle.std.specs.Prelude.{ℕ, List, true, Option, Some, None, codes}
+use Rattle.clap.specs.Words.{App, Rule, new_app, new_rule, with_rule, with_subcommand}
 use Rattle.clap.specs.Simple.{on_top}
+use Rattle.clap.specs.declared.builder.action.ArgAction.TheVariants.{Set}
 use Rattle.fleet_engines.specs.declared.product.Product.{Product}
 use Rattle.fleet_engines.specs.declared.product.Product.TheVariants as product
 use Rattle.fleet_main.specs.declared.command_line.Command.{Command}
-use Rattle.fleet_main.specs.declared.command_line.Command.TheVariants.{List as ListIt, Canon}
+use Rattle.fleet_main.specs.declared.command_line.Command.TheVariants.{List as ListIt, Canon, Create, Load, Dump, MakeDir}
 
 abbrev pub list_app : App
 list_app = new_app (codes "list")
@@ -13,16 +14,63 @@ list_app = new_app (codes "list")
 abbrev pub canon_app : App
 canon_app = new_app (codes "canon")
 
+-- a word that has to be there
+abbrev pub word_rule : List ℕ → Rule
+word_rule name = record (new_rule name) { required = true; action = Some Set }
+
+-- an option with a long name and one value, which has to be there
+abbrev pub named_rule : List ℕ → Rule
+named_rule name = record (word_rule name) { long = Some name; value_names = 1 }
+
+-- `-r LO:HI`
+abbrev pub range_rule : Rule
+range_rule = record (new_rule (codes "revisions")) { short = Some 114; action = Some Set; value_names = 1 }
+
+abbrev pub create_app : App
+create_app = with_rule (with_rule (new_app (codes "create")) (word_rule (codes "DIR"))) (named_rule (codes "uuid"))
+
+abbrev pub load_app : App
+load_app = with_rule (new_app (codes "load")) (word_rule (codes "DIR"))
+
+abbrev pub dump_app : App
+dump_app = with_rule (with_rule (new_app (codes "dump")) (word_rule (codes "DIR"))) range_rule
+
+abbrev pub mkdir_place_app : App
+mkdir_place_app = with_rule (with_rule (new_app (codes "mkdir")) (word_rule (codes "DIR"))) (word_rule (codes "PATH"))
+
+abbrev pub mkdir_app : App
+mkdir_app = with_rule (with_rule mkdir_place_app (named_rule (codes "message"))) (named_rule (codes "moment"))
+
+-- the program by itself
+abbrev pub bare_app : App
+bare_app = on_top (λ s. record s { has_version = true; subcommand_required = true }) (new_app (codes "svnfleet"))
+
+-- with the subcommands over streams alone
+abbrev pub streams_app : App
+streams_app = with_subcommand (with_subcommand bare_app list_app.top) canon_app.top
+
+-- and with those that fill a folder
+abbrev pub folders_app : App
+folders_app = with_subcommand (with_subcommand streams_app create_app.top) load_app.top
+
 -- the program and its subcommands, of which it wants one
 abbrev pub svnfleet_app : App
-svnfleet_app = with_subcommand (with_subcommand (on_top (λ s. record s { has_version = true; subcommand_required = true }) (new_app (codes "svnfleet"))) list_app.top) canon_app.top
+svnfleet_app = with_subcommand (with_subcommand folders_app dump_app.top) mkdir_app.top
 
 -- the word that names a command
 abbrev pub word_of : Command → List ℕ
 word_of ListIt = codes "list"
 word_of Canon = codes "canon"
+word_of (Create folder identity) = codes "create"
+word_of (Load folder) = codes "load"
+word_of (Dump folder range) = codes "dump"
+word_of (MakeDir folder path message moment) = codes "mkdir"
 
--- what a command makes of the dump that it reads
-abbrev pub product_of : Command → Product
-product_of ListIt = product.List
-product_of Canon = product.Canon
+-- what a command makes of the dump that it reads, where it makes something
+abbrev pub product_of : Command → Option Product
+product_of ListIt = Some product.List
+product_of Canon = Some product.Canon
+product_of (Create folder identity) = None
+product_of (Load folder) = None
+product_of (Dump folder range) = None
+product_of (MakeDir folder path message moment) = None

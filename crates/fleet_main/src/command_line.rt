@@ -1,25 +1,50 @@
 //! The command line.
-ghost use Rattle.std.specs.Prelude.{◌≡◌, ◌++◌, ℕ, List, IfOk, IfErr, IfSome, Some, map, false, string_bytes, codes};
+ghost use Rattle.std.specs.Prelude.{◌≡◌, ◌++◌, ℕ, List, Option, IfOk, IfErr, IfSome, Some, map, false, string_bytes, codes};
 ghost use Rattle.std.specs.Option.{option_map};
 ghost use Rattle.clap.specs.Faults.{fault_of};
 ghost use Rattle.clap.specs.Kinds.{FailsBy};
 ghost use Rattle.clap.specs.Values.{kind_of};
-ghost use Rattle.clap.specs.Words.{app_of, subcommand_of, subcommand_rows_of};
+ghost use Rattle.clap.specs.Words.{app_of, rule_of, subcommand_of, subcommand_rows_of};
 ghost use Rattle.clap.specs.declared.builder.command.Command.TheViews.{out-Command as fields_of};
-ghost use Rattle.fleet_main.specs.Usages.{IsUsageAt, IsUsageOf};
-ghost use Rattle.fleet_main.specs.Words.{canon_app, list_app, svnfleet_app, word_of};
+ghost use Rattle.fleet_main.specs.Usages.{IsUsageAt, IsUsageOf, IsValueRefused, TakesValue};
+ghost use Rattle.fleet_main.specs.Words.{canon_app, create_app, dump_app, folders_app, list_app, load_app, mkdir_app, mkdir_place_app, named_rule, range_rule, streams_app, svnfleet_app, word_of, word_rule};
 
 use clap::error::ErrorKind;
-use clap::{ArgMatches, Error};
+use clap::{Arg, ArgAction, ArgMatches, Error};
+use node_base::{RevNo, read_decimal};
+use repo_core::Moment;
 use std::alloc::{AllocError, Global};
+use store_engines::RevRange;
+use uuid::Uuid;
 
 /// What the program is told to do.
-#[derive(Clone, Copy, Debug, PartialEq, Eq)]
+#[derive(Debug, Drop)]
 pub enum Command {
     /// Print the newest tree of a dump.
     List,
     /// Write a dump in its canonical spelling.
     Canon,
+    /// Begin a repository in a folder.
+    Create {
+        folder: String,
+        identity: Uuid,
+    },
+    /// Load a dump into a folder's repository.
+    Load {
+        folder: String,
+    },
+    /// Dump a folder's repository, or a range of its revisions.
+    Dump {
+        folder: String,
+        range: Option<RevRange>,
+    },
+    /// Commit a directory to a folder's repository.
+    MakeDir {
+        folder: String,
+        path: String,
+        message: String,
+        moment: Moment,
+    },
 }
 
 /// Why the words name no command.
@@ -34,6 +59,11 @@ pub enum Usage {
 }
 
 impl From<AllocError> for Usage {
+    ghost use Rattle.std.specs.Prelude.{◌≡◌};
+    ghost use Rattle.fleet_main.specs.declared.command_line.Usage.TheVariants.{OutOfMemory};
+
+    ghost from_gives = { λ _ e. e ≡ OutOfMemory };
+
     fn from(_error: AllocError) -> Usage {
         Usage::OutOfMemory
     }
@@ -57,30 +87,170 @@ fn canon<'a>(alloc: Global) -> clap::Command<'a>
     )
 }
 
-fn svnfleet<'a>(alloc: Global) -> Result<clap::Command<'a>, AllocError>
-    ensures app { IfOk result (λ c. app_of c ≡ svnfleet_app) }
+// A word that has to be there.
+fn word<'a>(alloc: Global, name: &'a str, help: &'a str) -> Arg<'a>
+    ensures rule { rule_of result ≡ word_rule name.now }
+    ensures local { result.global ≡ false }
+{
+    Arg::new(alloc, name)
+        .required(true)
+        .action(ArgAction::Set)
+        .help(help)
+}
+
+// An option with a long name and one value, which has to be there.
+fn valued<'a>(alloc: Global, name: &'a str, value: &'a str, help: &'a str) -> Arg<'a>
+    ensures rule { rule_of result ≡ named_rule name.now }
+    ensures local { result.global ≡ false }
+{
+    Arg::new(alloc, name)
+        .required(true)
+        .action(ArgAction::Set)
+        .help(help)
+        .long(name)
+        .value_name(value)
+}
+
+// `-r LO:HI`, which may be left out.
+fn range<'a>(alloc: Global) -> Arg<'a>
+    ensures rule { rule_of result ≡ range_rule }
+    ensures local { result.global ≡ false }
+{
+    Arg::new(alloc, "revisions")
+        .short('r')
+        .value_name("LO:HI")
+        .action(ArgAction::Set)
+        .help("The first and the last revision to write; all where it is left out")
+}
+
+fn create<'a>(alloc: Global) -> Result<clap::Command<'a>, AllocError>
+    ensures app { IfOk result (λ c. app_of c ≡ create_app) }
+    ensures local { IfOk result (λ c. (fields_of c).has_globals ≡ false) }
+{
+    let folder = word(
+        alloc,
+        "DIR",
+        "The folder, which is made where it is missing",
+    );
+    let identity = valued(
+        alloc,
+        "uuid",
+        "UUID",
+        "The identity, as 8-4-4-4-12 hexadecimal digits",
+    );
+    let top = clap::Command::new(alloc, "create").about("Begins an empty repository in a folder");
+    let placed = top.arg(folder)?;
+    let whole = placed.arg(identity)?;
+    Ok(whole)
+}
+
+fn load<'a>(alloc: Global) -> Result<clap::Command<'a>, AllocError>
+    ensures app { IfOk result (λ c. app_of c ≡ load_app) }
+    ensures local { IfOk result (λ c. (fields_of c).has_globals ≡ false) }
+{
+    let folder = word(alloc, "DIR", "The folder of the repository");
+    let top = clap::Command::new(alloc, "load").about(
+        "Loads a dump on standard input into a folder's repository",
+    );
+    let whole = top.arg(folder)?;
+    Ok(whole)
+}
+
+fn dump<'a>(alloc: Global) -> Result<clap::Command<'a>, AllocError>
+    ensures app { IfOk result (λ c. app_of c ≡ dump_app) }
+    ensures local { IfOk result (λ c. (fields_of c).has_globals ≡ false) }
+{
+    let folder = word(alloc, "DIR", "The folder of the repository");
+    let range = range(alloc);
+    let top = clap::Command::new(alloc, "dump").about(
+        "Writes a folder's repository as a dump, each revision by its changes",
+    );
+    let placed = top.arg(folder)?;
+    let whole = placed.arg(range)?;
+    Ok(whole)
+}
+
+// The command and the places that it takes.
+fn mkdir_place<'a>(alloc: Global) -> Result<clap::Command<'a>, AllocError>
+    ensures app { IfOk result (λ c. app_of c ≡ mkdir_place_app) }
+    ensures local { IfOk result (λ c. (fields_of c).has_globals ≡ false) }
+{
+    let folder = word(alloc, "DIR", "The folder of the repository");
+    let path = word(alloc, "PATH", "The directory, without a slash in front");
+    let top = clap::Command::new(alloc, "mkdir").about(
+        "Commits one directory to a folder's repository",
+    );
+    let placed = top.arg(folder)?;
+    let whole = placed.arg(path)?;
+    Ok(whole)
+}
+
+fn mkdir<'a>(alloc: Global) -> Result<clap::Command<'a>, AllocError>
+    ensures app { IfOk result (λ c. app_of c ≡ mkdir_app) }
+    ensures local { IfOk result (λ c. (fields_of c).has_globals ≡ false) }
+{
+    let message = valued(alloc, "message", "TEXT", "The text of svn:log");
+    let moment = valued(
+        alloc,
+        "moment",
+        "MICROS",
+        "The microseconds since 1970 for svn:date",
+    );
+    let top = mkdir_place(alloc)?;
+    let placed = top.arg(message)?;
+    let whole = placed.arg(moment)?;
+    Ok(whole)
+}
+
+// The program with the commands over streams alone.
+fn over_streams<'a>(alloc: Global) -> Result<clap::Command<'a>, AllocError>
+    ensures app { IfOk result (λ c. app_of c ≡ streams_app) }
     ensures local { IfOk result (λ c. (fields_of c).has_globals ≡ false) }
 {
     let top = clap::Command::new(alloc, "svnfleet")
         .version("0.1.0")
-        .about("Lists and rewrites Subversion dumps, format 2")
+        .about(
+            "Keeps, lists and rewrites the histories of Subversion repositories, as dumps of format 2 say them",
+        )
         .subcommand_required(true);
-    let first = top.subcommand(list(alloc))?;
-    let whole = first.subcommand(canon(alloc))?;
+    let some = top.subcommand(list(alloc))?;
+    let whole = some.subcommand(canon(alloc))?;
+    Ok(whole)
+}
+
+// And with those that fill a folder.
+fn over_folders<'a>(alloc: Global) -> Result<clap::Command<'a>, AllocError>
+    ensures app { IfOk result (λ c. app_of c ≡ folders_app) }
+    ensures local { IfOk result (λ c. (fields_of c).has_globals ≡ false) }
+{
+    let create = create(alloc)?;
+    let load = load(alloc)?;
+    let top = over_streams(alloc)?;
+    let some = top.subcommand(create)?;
+    let whole = some.subcommand(load)?;
+    Ok(whole)
+}
+
+fn svnfleet<'a>(alloc: Global) -> Result<clap::Command<'a>, AllocError>
+    ensures app { IfOk result (λ c. app_of c ≡ svnfleet_app) }
+    ensures local { IfOk result (λ c. (fields_of c).has_globals ≡ false) }
+{
+    let dump = dump(alloc)?;
+    let mkdir = mkdir(alloc)?;
+    let top = over_folders(alloc)?;
+    let some = top.subcommand(dump)?;
+    let whole = some.subcommand(mkdir)?;
     Ok(whole)
 }
 
 /// The command that the words name, the program's name first. Usage where they name none: help or the version only where it was
-/// asked for, and else what is wrong.
+/// asked for, and else what is wrong, in the words or in the value of an identity, a range or a moment.
 pub fn plan(alloc: Global, words: &[String]) -> Result<Command, Usage>
-    ensures usage { IfErr result (IsUsageAt (fault_of svnfleet_app (map string_bytes words.now))) }
+    ensures usage { IfErr result (IsUsageAt (fault_of svnfleet_app (map string_bytes words.now)) (option_map (λ p. p.0) (subcommand_of svnfleet_app (map string_bytes words.now)))) }
     ensures named { IfOk result (λ c. option_map (λ p. p.0) (subcommand_of svnfleet_app (map string_bytes words.now)) ≡ Some (word_of c)) }
 {
     match matches_of(alloc, words) {
-        Ok(matches) => match named(&matches) {
-            Some(command) => Ok(command),
-            None => Err(Usage::OutOfMemory),
-        },
+        Ok(matches) => named(alloc, &matches),
         Err(error) => Err(usage_of(alloc, &error)),
     }
 }
@@ -94,14 +264,134 @@ fn matches_of<'a>(alloc: Global, words: &'a [String]) -> Result<ArgMatches<'a>, 
     top.try_get_matches_from(words)
 }
 
-fn named(matches: &ArgMatches<'_>) -> Option<Command>
-    ensures { IfSome result (λ c. option_map (λ p. p.0) (subcommand_rows_of matches.now) ≡ Some (word_of c)) }
+fn named(alloc: Global, matches: &ArgMatches<'_>) -> Result<Command, Usage>
+    ensures named { IfOk result (λ c. option_map (λ p. p.0) (subcommand_rows_of matches.now) ≡ Some (word_of c)) }
+    ensures usage { IfErr result (IsValueRefused (option_map (λ p. p.0) (subcommand_rows_of matches.now))) }
 {
-    match matches.subcommand_name() {
-        Some("list") => Some(Command::List),
-        Some("canon") => Some(Command::Canon),
-        _ => None,
+    match matches.subcommand() {
+        Some(("list", _)) => Ok(Command::List),
+        Some(("canon", _)) => Ok(Command::Canon),
+        Some(("create", given)) => create_named(alloc, given),
+        Some(("load", given)) => load_named(alloc, given),
+        Some(("dump", given)) => dump_named(alloc, given),
+        Some(("mkdir", given)) => mkdir_named(alloc, given),
+        _ => Err(Usage::OutOfMemory),
     }
+}
+
+// A copy of the value of that name, which clap has seen to be there.
+fn text(alloc: Global, given: &ArgMatches<'_>, name: &str) -> Result<String, Usage>
+    ensures { IfErr result (λ u. u ≡ Usage.OutOfMemory) }
+{
+    match given.get_str(name) {
+        Some(text) => Ok(String::from_str(alloc, text)?),
+        None => Err(Usage::OutOfMemory),
+    }
+}
+
+// What is wrong with a value, in a line.
+fn wrong(alloc: Global, value: &str, wanted: &str) -> Usage
+    ensures { (name : Option (List ℕ)) → TakesValue name → IsValueRefused name result }
+{
+    match format!(in alloc; "svnfleet: '{value}' is not {wanted} (svnfleet --help tells more)") {
+        Ok(line) => Usage::Wrong(line),
+        Err(_) => Usage::OutOfMemory,
+    }
+}
+
+fn create_named(alloc: Global, given: &ArgMatches<'_>) -> Result<Command, Usage>
+    ensures word { IfOk result (λ c. word_of c ≡ codes "create") }
+    ensures refused { IfErr result (IsValueRefused (Some (codes "create"))) }
+{
+    let value = text(alloc, given, "uuid")?;
+    match identity_of(value.as_str()) {
+        Some(identity) => Ok(Command::Create {
+            folder: text(alloc, given, "DIR")?,
+            identity,
+        }),
+        None => Err(wrong(
+            alloc,
+            value.as_str(),
+            "a UUID of the form 8-4-4-4-12 in hexadecimal digits",
+        )),
+    }
+}
+
+fn load_named(alloc: Global, given: &ArgMatches<'_>) -> Result<Command, Usage>
+    ensures word { IfOk result (λ c. word_of c ≡ codes "load") }
+    ensures refused { IfErr result (IsValueRefused (Some (codes "load"))) }
+{
+    Ok(Command::Load {
+        folder: text(alloc, given, "DIR")?,
+    })
+}
+
+fn dump_named(alloc: Global, given: &ArgMatches<'_>) -> Result<Command, Usage>
+    ensures word { IfOk result (λ c. word_of c ≡ codes "dump") }
+    ensures refused { IfErr result (IsValueRefused (Some (codes "dump"))) }
+{
+    let folder = text(alloc, given, "DIR")?;
+    let Some(value) = given.get_str("revisions") else {
+        return Ok(Command::Dump {
+            folder,
+            range: None,
+        });
+    };
+    match range_of(value) {
+        Some(range) => Ok(Command::Dump {
+            folder,
+            range: Some(range),
+        }),
+        None => Err(wrong(
+            alloc,
+            value,
+            "a range LO:HI of revisions from 0 to 65535, LO not above HI",
+        )),
+    }
+}
+
+fn mkdir_named(alloc: Global, given: &ArgMatches<'_>) -> Result<Command, Usage>
+    ensures word { IfOk result (λ c. word_of c ≡ codes "mkdir") }
+    ensures refused { IfErr result (IsValueRefused (Some (codes "mkdir"))) }
+{
+    let value = text(alloc, given, "moment")?;
+    match moment_of(value.as_str()) {
+        Some(moment) => Ok(Command::MakeDir {
+            folder: text(alloc, given, "DIR")?,
+            path: text(alloc, given, "PATH")?,
+            message: text(alloc, given, "message")?,
+            moment,
+        }),
+        None => Err(wrong(
+            alloc,
+            value.as_str(),
+            "a number of microseconds from 0 to 4102444799999999",
+        )),
+    }
+}
+
+// The identity that 36 bytes spell: 8-4-4-4-12 hexadecimal digits.
+fn identity_of(value: &str) -> Option<Uuid> {
+    if value.len() != 36 {
+        return None;
+    }
+    match Uuid::try_parse_ascii(value.as_bytes()) {
+        Ok(identity) => Some(identity),
+        Err(_) => None,
+    }
+}
+
+// The range that two numbers with a colon between them say.
+fn range_of(value: &str) -> Option<RevRange> {
+    let (first, last) = value.split_once(':')?;
+    let first = RevNo::parse(first.as_bytes())?;
+    let last = RevNo::parse(last.as_bytes())?;
+    RevRange::new(first, last)
+}
+
+// The moment that so many microseconds are after 1970 began.
+fn moment_of(value: &str) -> Option<Moment> {
+    Moment::from_micros(read_decimal(value.as_bytes())?)
 }
 
 // What the program tells of an error.

@@ -7,44 +7,76 @@ ghost use Rattle.fleet_engines.specs.Runs.{Accepted, BothFlagged, Refused};
 ghost use Rattle.fleet_main.specs.Words.{product_of};
 
 use crate::command_line::Command;
+use crate::folders::{created, opened};
 use fleet_engines::{Sink, Source, run_canon, run_list};
 use node_base::Refusal;
 use std::alloc::Global;
 use std::io::{Read, Write};
+use std::rt::Files;
+use store_engines::{run_dump, run_load, run_mkdir};
 
 // The status of a command that was refused.
 const REFUSED: u8 = 1;
 
 // The command's answer, with what it wrote.
-fn run_one<R: Read + Drop, W: Write + Drop>(
-    alloc: Global,
+fn run_one<T: AllocGlobal + Files, R: Read + Drop, W: Write + Drop>(
+    rt: &T,
     command: Command,
     input: &mut Source<R>,
     output: &mut Sink<W>,
 ) -> Result<(), Refusal>
-    ensures ok { OnOk result (IfSome (R.remaining input.old.inner) (λ bytes. Accepted (product_of command) bytes (W.contents output.old.inner) (W.contents output.new.inner))) }
-    ensures refused { IfErr result (λ e. (output.new.failed ≡ true) ⊎ IfSome (R.remaining input.old.inner) (λ bytes. Refused (product_of command) bytes (W.contents output.old.inner) (W.contents output.new.inner) e)) }
+    ensures ok { OnOk result (IfSome (product_of command) (λ p. IfSome (R.remaining input.old.inner) (λ bytes. Accepted p bytes (W.contents output.old.inner) (W.contents output.new.inner)))) }
+    ensures refused { IfErr result (λ e. IfSome (product_of command) (λ p. (output.new.failed ≡ true) ⊎ IfSome (R.remaining input.old.inner) (λ bytes. Refused p bytes (W.contents output.old.inner) (W.contents output.new.inner) e))) }
     ensures peer { BothFlagged result input.old.failed input.new.failed output.old.failed output.new.failed }
 {
+    let alloc = rt.alloc();
     match command {
         Command::List => run_list(alloc, input, output),
         Command::Canon => run_canon(alloc, input, output),
+        Command::Create { folder, identity } => {
+            let _store = created(rt, alloc, folder.as_str(), identity)?;
+            Ok(())
+        }
+        Command::Load { folder } => {
+            let mut store = opened(rt, alloc, folder.as_str())?;
+            run_load(alloc, &mut store, input, output)
+        }
+        Command::Dump { folder, range } => {
+            let store = opened(rt, alloc, folder.as_str())?;
+            run_dump(alloc, &store, range, output)
+        }
+        Command::MakeDir {
+            folder,
+            path,
+            message,
+            moment,
+        } => {
+            let mut store = opened(rt, alloc, folder.as_str())?;
+            run_mkdir(
+                alloc,
+                &mut store,
+                path.as_str(),
+                message.as_str(),
+                moment,
+                output,
+            )
+        }
     }
 }
 
 // The command's answer, when what it wrote is handed on.
-fn run_flushed<R: Read + Drop, W: Write + Drop>(
-    alloc: Global,
+fn run_flushed<T: AllocGlobal + Files, R: Read + Drop, W: Write + Drop>(
+    rt: &T,
     command: Command,
     input: &mut Source<R>,
     output: &mut Sink<W>,
 ) -> Result<(), Refusal>
-    ensures ok { OnOk result (IfSome (R.remaining input.old.inner) (λ bytes. Accepted (product_of command) bytes (W.contents output.old.inner) (W.contents output.new.inner))) }
-    ensures refused { IfErr result (λ e. (output.new.failed ≡ true) ⊎ IfSome (R.remaining input.old.inner) (λ bytes. Refused (product_of command) bytes (W.contents output.old.inner) (W.contents output.new.inner) e)) }
+    ensures ok { OnOk result (IfSome (product_of command) (λ p. IfSome (R.remaining input.old.inner) (λ bytes. Accepted p bytes (W.contents output.old.inner) (W.contents output.new.inner)))) }
+    ensures refused { IfErr result (λ e. IfSome (product_of command) (λ p. (output.new.failed ≡ true) ⊎ IfSome (R.remaining input.old.inner) (λ bytes. Refused p bytes (W.contents output.old.inner) (W.contents output.new.inner) e))) }
     ensures unfailed { OnOk result ((input.new.failed ≡ input.old.failed) × (output.new.failed ≡ output.old.failed)) }
     ensures peer { IfErr result (λ e. e ≡ Refusal.PeerFailed → (input.new.failed || output.new.failed) ≡ true) }
 {
-    let done = run_one(alloc, command, input, output);
+    let done = run_one(rt, command, input, output);
     let flushed = output.flush();
     match done {
         Ok(()) => flushed,
@@ -54,7 +86,7 @@ fn run_flushed<R: Read + Drop, W: Write + Drop>(
 
 /// Runs a command. The status is 0, or 1 where it was refused, and then the refusal's line is on `errors`.
 /// What was written before a refusal is flushed before its line.
-pub fn run<T: AllocGlobal, R: Read + Drop, W: Write + Drop, E: Write + Drop>(
+pub fn run<T: AllocGlobal + Files, R: Read + Drop, W: Write + Drop, E: Write + Drop>(
     rt: &T,
     command: Command,
     input: &mut Source<R>,
@@ -62,12 +94,12 @@ pub fn run<T: AllocGlobal, R: Read + Drop, W: Write + Drop, E: Write + Drop>(
     errors: &mut Sink<E>,
 ) -> u8
     ensures status { (result ≡ 0) ⊎ (result ≡ 1) }
-    ensures done { result ≡ 0 → IfSome (R.remaining input.old.inner) (λ bytes. Accepted (product_of command) bytes (W.contents output.old.inner) (W.contents output.new.inner)) }
+    ensures done { result ≡ 0 → IfSome (product_of command) (λ p. IfSome (R.remaining input.old.inner) (λ bytes. Accepted p bytes (W.contents output.old.inner) (W.contents output.new.inner))) }
     ensures unfailed { result ≡ 0 → (input.new.failed ≡ input.old.failed) × (output.new.failed ≡ output.old.failed) }
     ensures silent { result ≡ 0 → E.contents errors.new.inner ≡ E.contents errors.old.inner }
-    ensures refused { result ≡ 1 → (e : RefusalOf) × ((output.new.failed ≡ true) ⊎ IfSome (R.remaining input.old.inner) (λ bytes. Refused (product_of command) bytes (W.contents output.old.inner) (W.contents output.new.inner) e)) × (e ≡ Refusal.PeerFailed → (input.new.failed || output.new.failed) ≡ true) × ((errors.new.failed ≡ true) ⊎ Appends (E.contents errors.old.inner) (E.contents errors.new.inner) (fault_line e)) }
+    ensures refused { result ≡ 1 → (e : RefusalOf) × IfSome (product_of command) (λ p. (output.new.failed ≡ true) ⊎ IfSome (R.remaining input.old.inner) (λ bytes. Refused p bytes (W.contents output.old.inner) (W.contents output.new.inner) e)) × (e ≡ Refusal.PeerFailed → (input.new.failed || output.new.failed) ≡ true) × ((errors.new.failed ≡ true) ⊎ Appends (E.contents errors.old.inner) (E.contents errors.new.inner) (fault_line e)) }
 {
-    match run_flushed(rt.alloc(), command, input, output) {
+    match run_flushed(rt, command, input, output) {
         Ok(()) => 0,
         Err(refusal) => refused(&refusal, errors),
     }

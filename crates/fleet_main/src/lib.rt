@@ -4,6 +4,8 @@
 pub use command_line::{Command, Usage, plan};
 pub use execute::run;
 pub use fleet_engines::{Sink, Source};
+pub use store_engines::RevRange;
 
 mod command_line;
 mod execute;
+mod folders;
