@@ -1,5 +1,5 @@
 -- The faults of a store that is begun or opened, as refusals.
-use Rattle.std.proofs.Common.{◌≡◌, ℕ, sym, ap, ◌∙◌, arith, inl, inr, refl}
+use Rattle.std.proofs.Common.{◌≡◌, ◌⊎◌, ℕ, sym, ap, ◌∙◌, arith, inl, inr, refl}
 use Rattle.node_base.specs.Refusals.{refusal_number}
 use Rattle.node_base.specs.declared.refusal.Refusal.{Refusal}
 use Rattle.node_base.specs.declared.refusal.Refusal.TheVariants as refusal
@@ -65,3 +65,12 @@ log_missing log.LogFull k e = absurd k
 pub is_missing : (f : StoreFault) → IsOpenFault f → store_refusal f ≡ refusal.NoRepository → f ≡ Log log.NoRepository
 is_missing (Repo f) k e = absurd k
 is_missing (Log f) k e = ap Log (log_missing f k e)
+
+pub stops : (f : StoreFault) → (f ≡ Log log.DeviceFailed) ⊎ (f ≡ Log log.OutOfMemory) → (store_refusal f ≡ refusal.DeviceFailed) ⊎ (store_refusal f ≡ refusal.OutOfMemory)
+stops f (inl e) = inl (ap store_refusal e)
+stops f (inr e) = inr (ap store_refusal e)
+
+pub stops_first : (f : StoreFault) (entry : ℕ) → (f ≡ Log (log.Damaged entry)) ⊎ (f ≡ Log log.DeviceFailed) ⊎ (f ≡ Log log.OutOfMemory) → (store_refusal f ≡ refusal.Damaged entry) ⊎ (store_refusal f ≡ refusal.DeviceFailed) ⊎ (store_refusal f ≡ refusal.OutOfMemory)
+stops_first f entry (inl e) = inl (ap store_refusal e)
+stops_first f entry (inr (inl e)) = inr (inl (ap store_refusal e))
+stops_first f entry (inr (inr e)) = inr (inr (ap store_refusal e))

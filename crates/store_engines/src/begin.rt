@@ -1,9 +1,9 @@
 //! Stores begun and opened.
-ghost use Rattle.std.specs.Prelude.{◌≡◌, ◌≢◌, ◌↔◌, ℕ, IfOk, IfErr, OnOk};
+ghost use Rattle.std.specs.Prelude.{◌≡◌, ◌≢◌, ◌↔◌, ◌⊎◌, ℕ, List, IfOk, IfErr, IsErr, OnOk};
 ghost use Rattle.fleet_disk.specs.Image.{Image, no_bytes};
 ghost use Rattle.gate_log.specs.Standing.{HasNoEntry};
-ghost use Rattle.repo_core.specs.Repository.{fresh};
-ghost use Rattle.repo_store.specs.Journal.{IsStopped, ReopensTo};
+ghost use Rattle.repo_core.specs.Repository.{Revision, fresh};
+ghost use Rattle.repo_store.specs.Journal.{IsDamaged, ReopensTo};
 ghost use Rattle.repo_store.specs.Words.{disk_of, identity_of, repository_of, revisions_of, HasFailed};
 ghost use Rattle.store_engines.specs.Refusals.{IsCreateRefusal, IsOpenRefusal};
 
@@ -37,12 +37,19 @@ pub fn create_store<D: Disk + Drop>(
 }
 
 /// Opens the repository that a disk holds. NoRepository (34) where it holds none, Damaged (33) with the first entry that is,
-/// DeviceFailed (31), OutOfMemory (70).
+/// and only there, DeviceFailed (31), OutOfMemory (70).
 pub fn open_store<D: Disk + Drop>(alloc: Global, disk: D) -> Result<RepoStore<D>, Refusal>
     ensures stands { D.honest disk → IfOk result (λ store. ReopensTo (identity_of store) (revisions_of store) (D.reads disk)) }
     ensures working { IfOk result (λ store. ¬ HasFailed store) }
     ensures durable { D.honest disk → IfOk result (λ store. (image : Image) → D.may_leave (disk_of store) image → ReopensTo (identity_of store) (revisions_of store) image) }
-    ensures damaged { D.honest disk → (entry : ℕ) → IfErr result (λ e. e ≡ Refusal.Damaged entry → IsStopped entry (D.reads disk)) }
+    ensures found { D.honest disk → (identity : List ℕ) (x : List Revision) → ReopensTo identity x (D.reads disk)
+        → IfOk result (λ store. (identity_of store ≡ identity) × (revisions_of store ≡ x)) }
+    ensures refused { D.honest disk → (identity : List ℕ) (x : List Revision) → ReopensTo identity x (D.reads disk)
+        → IfErr result (λ e. (e ≡ Refusal.DeviceFailed) ⊎ (e ≡ Refusal.OutOfMemory)) }
+    ensures damaged { D.honest disk → (entry : ℕ) → IfErr result (λ e. e ≡ Refusal.Damaged entry → IsDamaged entry (D.reads disk)) }
+    ensures stopped { D.honest disk → (entry : ℕ) → IsDamaged entry (D.reads disk) → IsErr result }
+    ensures first { D.honest disk → (entry : ℕ) → IsDamaged entry (D.reads disk)
+        → IfErr result (λ e. (e ≡ Refusal.Damaged entry) ⊎ (e ≡ Refusal.DeviceFailed) ⊎ (e ≡ Refusal.OutOfMemory)) }
     ensures missing { D.honest disk → IfErr result (λ e. e ≡ Refusal.NoRepository → HasNoEntry (D.reads disk)) }
     ensures no_other { IfErr result IsOpenRefusal }
     ensures honest { IfOk result (λ store. D.honest disk ↔ D.honest (disk_of store)) }
