@@ -66,6 +66,8 @@ mod need;
 mod needs;
 mod number;
 mod number_words;
+#[cfg(test)]
+mod plain_world;
 pub mod properties;
 mod reply;
 mod resting;
@@ -79,3 +81,5 @@ mod tests;
 mod token;
 #[cfg(test)]
 mod walk_tests;
+#[cfg(test)]
+mod world_tests;

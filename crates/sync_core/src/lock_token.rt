@@ -30,7 +30,7 @@ fn shown_byte(byte: u8) -> u8
     ensures shown { result ≡ shown_byte byte }
     ensures ascii { result < 128 }
 {
-    if (0x20..=0x7E).contains(&byte) {
+    if 0x20 <= byte && byte <= 0x7E {
         byte
     } else {
         b'?'

@@ -273,6 +273,7 @@ fn turns(rt: &impl Abort, alloc: Global) -> Result<Vec<u8>, Fail> {
         &MirrorCall::SetCopying(RevNo::new(5)),
     ))?;
     answers.push(say(alloc, &mut mirror, 1, &MirrorCall::SetCopying(four)))?;
+    assert!(rt; has(&mirror, 0, b"svn:sync-currently-copying", Some(b"4")));
     answers.push(say(
         alloc,
         &mut mirror,
@@ -430,5 +431,52 @@ fn jobs_that_are_refused(rt: HostRuntime) -> Result<(), Fail> {
     let alloc = rt.alloc();
     let answers = others(&rt, alloc)?;
     assert_eq!(rt; answers.as_slice(), [56, 52, 53, 51].as_slice());
+    Ok(())
+}
+
+// What a seat is told that wants the lock of a mirror whose lock has that text.
+fn told_of_lock(rt: &impl Abort, alloc: Global, lock: &[u8]) -> Result<String, Fail> {
+    let mut own = one_prop(rt, alloc, b"svn:sync-from-url", b"/master");
+    set(rt, alloc, &mut own, b"svn:sync-lock", lock);
+    let mut repo = repo(alloc)?;
+    repo.put_props(RevNo::ZERO, own)?;
+    let mut mirror = PlainMirror::new(repo);
+    let token = token(rt, alloc, b"other");
+    match mirror.step(alloc, Seat::new(1), &MirrorCall::TakeLock(&token)) {
+        Ok(_) => Ok(format!(in alloc; "taken")?),
+        Err(fault) => Ok(format!(in alloc; "{fault}")?),
+    }
+}
+
+#[test]
+fn a_lock_is_told_with_its_token(rt: HostRuntime) -> Result<(), Fail> {
+    let alloc = rt.alloc();
+    let plain = told_of_lock(&rt, alloc, b"job")?;
+    assert_eq!(rt; plain.as_str(), "the sync lock is held by job");
+    let odd = told_of_lock(&rt, alloc, b"a b\x01\xFFc\n")?;
+    assert_eq!(rt; odd.as_str(), "the sync lock is held by a b??c?");
+    Ok(())
+}
+
+// The end of a sync with a master that has fewer revisions than its mirror, what it copied, and the mirror's head.
+fn behind(rt: &impl Abort, alloc: Global) -> Result<(u8, Vec<u8>, u16), Fail> {
+    let two = master(rt, alloc, 2)?;
+    let mut mirror = begun(rt, alloc, &two)?;
+    let mut lines = Vec::new(alloc);
+    let first = sync(rt, alloc, false);
+    let first = run(rt, alloc, &mut mirror, 1, &two, first, 99, &mut lines)?;
+    assert_eq!(rt; ended(first), 0);
+    lines.clear();
+    let one = master(rt, alloc, 1)?;
+    let again = sync(rt, alloc, false);
+    let again = run(rt, alloc, &mut mirror, 2, &one, again, 99, &mut lines)?;
+    Ok((ended(again), lines, mirror.repo.head().get()))
+}
+
+#[test]
+fn a_master_that_is_behind_changes_nothing(rt: HostRuntime) -> Result<(), Fail> {
+    let alloc = rt.alloc();
+    let end = behind(&rt, alloc)?;
+    assert!(rt; end.0 == 0 && end.1.as_slice() == b"".as_slice() && end.2 == 2);
     Ok(())
 }

@@ -141,12 +141,12 @@ impl Plain {
     }
 }
 
-fn value(rt: &impl Abort, alloc: Global, text: &[u8]) -> PropValue {
+pub(crate) fn value(rt: &impl Abort, alloc: Global, text: &[u8]) -> PropValue {
     let bytes = Vec::from_slice(alloc, text).expect(rt, "memory");
     PropValue::new(bytes).expect(rt, "a value")
 }
 
-fn token(rt: &impl Abort, alloc: Global, text: &[u8]) -> Token {
+pub(crate) fn token(rt: &impl Abort, alloc: Global, text: &[u8]) -> Token {
     Token::new(Vec::from_slice(alloc, text).expect(rt, "memory")).expect(rt, "a token")
 }
 
@@ -242,7 +242,7 @@ fn agree(alloc: Global, mirror: &PlainMirror, plain: &Plain, n: u16) -> Result<b
 }
 
 // The next of a row of numbers that look random.
-fn shuffled(state: u64) -> u64 {
+pub(crate) fn shuffled(state: u64) -> u64 {
     state
         .wrapping_mul(6_364_136_223_846_793_005)
         .wrapping_add(1_442_695_040_888_963_407)
