@@ -1,14 +1,13 @@
 -- Items of a drive, one after another.
-use Rattle.std.proofs.Common.{◌≡◌, ℕ, Bool, true, false, ◌||◌, inl, inr, Result, Ok, Err, List, [], ◌∷◌, ◌++◌, Option, refl, sym, ap, subst, ◌∙◌, append_assoc, append-nil, codes}
+use Rattle.std.proofs.Common.{◌≡◌, ℕ, Bool, true, false, inl, inr, List, [], ◌∷◌, ◌++◌, Option, refl, sym, subst, append_assoc, append-nil, codes}
 use Rattle.ra_item.specs.Items.{Item}
 use Rattle.ra_item.specs.Streams.{Stream}
-use Rattle.delta_editor.specs.Calls.{Adds}
 use Rattle.delta_editor.specs.declared.call.Call.{Call}
-use Rattle.ra_edit.specs.Edits.{At, Begun, Ended, Says, AllSay, Nothing, Then, SpellsEdit, IsCommand}
+use Rattle.ra_edit.specs.Edits.{At, Begun, Ended, Says, AllSay, Nothing, Then, IsCommand}
 use Rattle.ra_edit.specs.Edit.{Moves, Finishes}
 use Rattle.ra_edit.specs.EditFaults.{of_command}
 use Rattle.ra_edit.specs.ItemStreams.{Takes, Ends, Stops}
-use Rattle.ra_edit.specs.Received.{Goes, Comes, Received, RefusesItem, StopsBehind, RefusesDrive}
+use Rattle.ra_edit.specs.Received.{Goes, Comes, Received, StopsBehind, RefusesDrive}
 use Rattle.ra_edit.specs.declared.command_fault.CommandFault.{CommandFault}
 use Rattle.ra_edit.specs.declared.edit_fault.EditFault.{EditFault}
 use Rattle.ra_edit.proofs.Streaming.{takes_none, takes_more, takes_end, takes_stop}

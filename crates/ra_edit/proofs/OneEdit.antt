@@ -1,27 +1,25 @@
 -- What items say is a function of them, and of where the commands stand.
-use Rattle.std.proofs.Common.{◌≡◌, ℕ, zero, suc, ◌==◌, Bool, true, false, not, ◌&&◌, List, [], ◌∷◌, ◌++◌, drop, length, Option, Some, None, Result, Ok, Err, refl, sym, ap, subst, ◌∙◌, append_assoc, append-nil, inl, inr, codes, cond, arith}
+use Rattle.std.proofs.Common.{◌≡◌, ℕ, ◌==◌, Bool, true, false, not, ◌&&◌, List, [], ◌∷◌, ◌++◌, drop, length, Option, Some, None, Result, Ok, Err, refl, sym, ap, subst, ◌∙◌, append_assoc, inl, inr, codes, cond, arith}
 use Rattle.std.proofs.lemmas.Bool.Decides.{nat_tests}
 use Rattle.std.specs.Prelude.{map, ⊤}
 use Rattle.std.specs.List.{concat, list_all, slice_split}
-use Rattle.std.specs.Option.{option_and_then, option_map}
+use Rattle.std.specs.Option.{option_and_then}
 use Rattle.std.proofs.lemmas.List.{map-append}
 use Rattle.hex.specs.Hex.{decode_sized}
-use Rattle.ra_item.specs.Items.{Item, Items, Word, Number, Text, Nested, End, Then}
+use Rattle.ra_item.specs.Items.{Item, Items, Word, Number, Text, Nested, Then}
 use Rattle.node_base.specs.Path.{Path, Name, same_name}
 use Rattle.node_base.specs.Names.{is_name}
 use Rattle.node_base.specs.PathText.{path_read, pieces, is_past_limits}
 use Rattle.node_base.specs.Props.{prop_name_read}
 use Rattle.node_base.specs.declared.node.Source.{Source}
-use Rattle.node_base.specs.declared.fault.PathFault.{PathFault}
 use Rattle.node_base.specs.declared.fault.PathFault.TheVariants as fault
 use Rattle.delta_editor.specs.declared.call.Call.{Call}
 use Rattle.delta_editor.specs.declared.call.Call.TheVariants as call
 use Rattle.ra_edit.specs.Edits.{IsRevision, IsString, IsSum, IsSource, IsCommand, Held, Dir, Fresh, Within, Told, Named, named, is_free, At, Begun, Targeted, Inside, Announced, Ended, IsUnopened, last_calls, Says, AllSay, SpellsEdit}
 use Rattle.ra_edit.specs.Edits as edits
-use Rattle.ra_edit.specs.EditLaws.{each_byte, byte_by_byte, AreSameCalls, OneEdit, EndsOnce}
+use Rattle.ra_edit.specs.EditLaws.{each_byte, byte_by_byte, OneEdit, EndsOnce}
 use Rattle.ra_edit.specs.Reading.{begin}
 use Rattle.ra_edit.specs.Streams.{Stream, Reads, Refuses, reading}
-use Rattle.ra_edit.specs.declared.reading.Reading.{Reading}
 use Rattle.node_base.proofs.ReadBack.{name_of_test}
 use Rattle.node_base.proofs.PathLemmas.{same_name_itself, name_of_same}
 use Rattle.ra_edit.proofs.Told.{both}

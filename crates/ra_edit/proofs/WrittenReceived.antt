@@ -2,7 +2,7 @@
 use Rattle.std.proofs.Common.{◌≡◌, ◌⊎◌, ℕ, List, [], ◌∷◌, ◌++◌, length, Option, Some, None, refl, sym, ap, subst, ◌∙◌, append_assoc, append-nil, inl, inr, arith}
 use Rattle.std.specs.Prelude.{map}
 use Rattle.std.specs.List.{AllByRecursion}
-use Rattle.ra_item.specs.Items.{Item, Within, End, Nested, row, spell, spell_all}
+use Rattle.ra_item.specs.Items.{Item, Within, row, spell, spell_all}
 use Rattle.ra_item.specs.Laws.{WrittenIsRead}
 use Rattle.ra_item.specs.Reading.{begin}
 use Rattle.ra_item.specs.Streams.{Stream, Reads, Refuses, reading, stream_of, items_of}
@@ -10,7 +10,7 @@ use Rattle.delta_editor.specs.declared.call.Call.{Call}
 use Rattle.delta_editor.specs.declared.call.Call.TheVariants as call
 use Rattle.ra_edit.specs.Commands.{parts, edit_items, edit_bytes}
 use Rattle.ra_edit.specs.Edits.{SpellsEdit}
-use Rattle.ra_edit.specs.EditLaws.{cut, cut_all, each_byte, byte_by_byte, AreSameCalls, IsWritten, WrittenIsReceived}
+use Rattle.ra_edit.specs.EditLaws.{cut, cut_all, each_byte, byte_by_byte, WrittenIsReceived}
 use Rattle.ra_edit.specs.ItemStreams.{behind, Takes}
 use Rattle.ra_edit.proofs.EditRead.{parts_join}
 use Rattle.ra_edit.proofs.EditSays.{written_is_edit}

@@ -5,9 +5,11 @@
 //! source, the length of its text, of its instructions and of its new data) and its instructions.
 //!
 //! - [`wire::WireEditor`] is an editor that writes the calls that it is shown, in one spelling and with one reserved buffer.
+//! - [`receive::receive`] shows an editor the calls that items spell, in any of the forms that are read.
 //! - [`reader::WindowReader`] takes windows cut anyhow, and [`writer`] writes the one spelling of a text.
 //!
-//! What is written for an edit is one of the forms that `specs/Edits.antt` takes, and what is written for a text is read again.
+//! What is written for an edit is one of the forms that `specs/Edits.antt` takes, and is received as the same calls; what is
+//! written for a text is read again.
 #![tactic(auto)]
 
 mod command;
@@ -22,8 +24,6 @@ pub mod receive_command;
 mod receive_edit;
 #[cfg(test)]
 mod receive_tests;
-#[cfg(test)]
-mod received_tests;
 pub mod stream;
 #[cfg(test)]
 mod tests;

@@ -1,7 +1,7 @@
-use Rattle.std.proofs.Common.{◌≡◌, ◌∙◌, ◌||◌, Err, false, true, refl, sym, ap, inl}
+use Rattle.std.proofs.Common.{refl}
 use Rattle.std.proofs.lemmas.Result.{err_from_is_err_and}
 use Rattle.ra_edit.specs.Edit.{Stands}
-use Rattle.ra_edit.specs.ItemStreams.{reader_of, has_failed, is_spent, is_peer, ahead}
+use Rattle.ra_edit.specs.ItemStreams.{reader_of, has_failed, is_spent, ahead}
 use Rattle.ra_edit.proofs.Drives.{goes_none, goes_more, comes, drive_refused, spent_not}
 use Rattle.ra_edit.proofs.Streaming.{quiet}
 use Rattle.ra_edit.proofs.receive.take_commands.Goals as goal

@@ -1,4 +1,4 @@
-use Rattle.std.proofs.Common.{◌≡◌, ◌∙◌, true, false, sym, subst}
+use Rattle.std.proofs.Common.{◌∙◌, true, false, sym, subst}
 use Rattle.ra_edit.specs.Edits.{last_calls}
 use Rattle.ra_edit.proofs.Steps.{ends, done_after_root}
 use Rattle.ra_edit.proofs.receive_edit.Edit.finish.Goals as goal
