@@ -7,7 +7,9 @@ use Rattle.ra_edit.specs.Edits.{At, Begun, Ended, Says, AllSay, Nothing, Then, I
 use Rattle.ra_edit.specs.Edit.{Moves, Finishes}
 use Rattle.ra_edit.specs.EditFaults.{of_command}
 use Rattle.ra_edit.specs.ItemStreams.{Takes, Ends, Stops}
-use Rattle.ra_edit.specs.Received.{Goes, Comes, Received, StopsBehind, RefusesDrive}
+use Rattle.ra_edit.specs.Received.{Goes, Comes, Received, IsRefused, StopsBehind, RefusesDrive}
+use Rattle.ra_edit.specs.Refusals.{refusal, RefusedFor}
+use Rattle.ra_edit.specs.declared.receive_command.Command.TheVariants as command
 use Rattle.ra_edit.specs.declared.command_fault.CommandFault.{CommandFault}
 use Rattle.ra_edit.specs.declared.edit_fault.EditFault.{EditFault}
 use Rattle.ra_edit.proofs.Streaming.{takes_none, takes_more, takes_end, takes_stop}
@@ -72,14 +74,14 @@ spent_not true old e h = cc
 spent_not false old e h = cc
 
 -- a refusal behind items that were taken
-pub stops_behind : (xs : List Item) (f : EditFault) (a b d : Option (List ℕ)) (s t : List ℕ → Stream) (before spent failed : Bool) → Takes xs a b s t → (spent ≡ true → before ≡ true) → StopsBehind [] b d t spent failed f → StopsBehind xs a d s before failed f
-stops_behind xs f a b d s t before spent failed p g (inl q) = inl (subst (λ l. Stops l a d s before failed f) (append-nil xs) (takes_stop xs [] f a b d s t before spent failed p g q))
-stops_behind xs f a b d s t before spent failed p g (inr (inl q)) = inr (inl (q.0, subst (λ l. Ends l true a d s) (append-nil xs) (takes_end xs [] true a b d s t p q.1)))
-stops_behind xs f a b d s t before spent failed p g (inr (inr q)) = inr (inr (record { item = q.item; why = q.why; is = q.is; taken = takes_more xs (q.item ∷ []) a b d s t q.is p q.taken; same = q.same }))
+pub stops_behind : (xs : List Item) (at : At) (stood : At → Type 0) (f : EditFault) (a b d : Option (List ℕ)) (s t : List ℕ → Stream) (before spent failed : Bool) → stood at → Takes xs a b s t → (spent ≡ true → before ≡ true) → StopsBehind [] stood b d t spent failed f → StopsBehind xs (λ x. x ≡ at) a d s before failed f
+stops_behind xs at stood f a b d s t before spent failed here p g (inl q) = inl (subst (λ l. Stops l a d s before failed f) (append-nil xs) (takes_stop xs [] f a b d s t before spent failed p g q))
+stops_behind xs at stood f a b d s t before spent failed here p g (inr (inl q)) = inr (inl (q.0, subst (λ l. Ends l true a d s) (append-nil xs) (takes_end xs [] true a b d s t p q.1)))
+stops_behind xs at stood f a b d s t before spent failed here p g (inr (inr q)) = inr (inr (record { item = q.item; why = q.why; is = q.is; taken = takes_more xs (q.item ∷ []) a b d s t q.is p q.taken; same = q.same; due = λ x e. subst (λ y. IsRefused y q.item q.why) (sym e) (q.due at here) }))
 
-pub drive_refused : {E : Type 0} (shows : E → List Call → Type 0) (old mid : E) (a b d : Option (List ℕ)) (s t : List ℕ → Stream) (before spent failed : Bool) (stood : At → Type 0) (f : EditFault) → Goes shows old mid a b s t stood → (spent ≡ true → before ≡ true) → StopsBehind [] b d t spent failed f → RefusesDrive a d s before failed f
-drive_refused shows old mid a b d s t before spent failed stood f k g q = record { items = k.items; calls = k.calls; at = k.at; say = k.say; stops = stops_behind k.items f a b d s t before spent failed k.taken g q }
+pub drive_refused : {E : Type 0} (shows : E → List Call → Type 0) (old mid : E) (a b d : Option (List ℕ)) (s t : List ℕ → Stream) (before spent failed : Bool) (stood : At → Type 0) (f : EditFault) → Goes shows old mid a b s t stood → (spent ≡ true → before ≡ true) → StopsBehind [] stood b d t spent failed f → RefusesDrive a d s before failed f
+drive_refused shows old mid a b d s t before spent failed stood f k g q = record { items = k.items; calls = k.calls; at = k.at; say = k.say; stops = stops_behind k.items k.at stood f a b d s t before spent failed k.here k.taken g q }
 
 -- at the end of a drive
-pub end_refused : {E : Type 0} (shows : E → List Call → Type 0) (old new : E) (a b : Option (List ℕ)) (s t : List ℕ → Stream) (before failed : Bool) (stands : At → Type 0) (f : CommandFault) → Comes shows old new a b s t stands → RefusesDrive a b s before failed (of_command f)
-end_refused shows old new a b s t before failed stands f k = record { items = k.items; calls = k.calls; at = k.at; say = k.say; stops = inr (inr (record { item = k.last; why = f; is = t; taken = k.taken; same = refl })) }
+pub end_refused : {E : Type 0} (shows : E → List Call → Type 0) (old new : E) (a b : Option (List ℕ)) (s t : List ℕ → Stream) (before failed : Bool) (stands : At → Type 0) (f : CommandFault) → ((at : At) → stands at → RefusedFor f (refusal at command.Finish)) → Comes shows old new a b s t stands → RefusesDrive a b s before failed (of_command f)
+end_refused shows old new a b s t before failed stands f why k = record { items = k.items; calls = k.calls; at = k.at; say = k.say; stops = inr (inr (record { item = k.last; why = f; is = t; taken = k.taken; same = refl; due = λ x e. subst (λ y. IsRefused y k.last f) (sym e) (inr (command.Finish, k.end, why k.at k.here)) })) }

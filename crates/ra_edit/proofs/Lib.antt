@@ -10,6 +10,7 @@ mod Written
 pub mod Streaming
 pub mod ByteFaults
 pub mod Receiving
+pub mod Refusing
 pub mod Steps
 pub mod Drives
 pub mod OneEdit

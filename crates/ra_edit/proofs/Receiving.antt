@@ -1,10 +1,14 @@
 -- Commands and their items.
-use Rattle.std.proofs.Common.{◌≡◌, ℕ, List, [], ◌∷◌, ◌++◌, refl, ap, ◌∙◌}
-use Rattle.std.specs.Prelude.{reverse}
+use Rattle.std.proofs.Common.{◌≡◌, ℕ, List, [], ◌∷◌, ◌++◌, refl, sym, ap, subst, ◌∙◌, inl, inr}
+use Rattle.std.specs.Prelude.{◌⊎◌, reverse, codes}
 use Rattle.std.proofs.lemmas.List.{reverse-append}
 use Rattle.ra_item.specs.Items.{Item, Word}
 use Rattle.ra_edit.specs.Commands.{list}
 use Rattle.ra_edit.specs.Edits.{IsCommand}
+use Rattle.ra_edit.specs.Receiving.{FormsWith}
+use Rattle.ra_edit.specs.declared.receive_command.Command.TheVariants as command
+use Rattle.ra_edit.specs.declared.receive_command.Name.{Name}
+use Rattle.ra_edit.specs.declared.receive_command.Name.TheVariants as name
 
 pub turned : (old new : List Item) (x : Item) → old ≡ new ++ x ∷ [] → reverse old ≡ x ∷ reverse new
 turned old new x e = ap reverse e ∙ reverse-append new (x ∷ [])
@@ -23,3 +27,8 @@ named3 name a b d e rest x y z p q r = (e, rest, ap (λ l. list (Word name ∷ l
 
 pub named4 : (name : List ℕ) (a b d e f rest : List Item) (x y z w : Item) → a ≡ x ∷ b → b ≡ y ∷ d → d ≡ z ∷ e → e ≡ w ∷ f → IsCommand name (x ∷ y ∷ z ∷ w ∷ []) (list (Word name ∷ list a ∷ rest))
 named4 name a b d e f rest x y z w p q r s = (f, rest, ap (λ l. list (Word name ∷ list l ∷ rest)) (p ∙ ap (λ l. x ∷ l) (q ∙ ap (λ l. y ∷ l) (r ∙ ap (λ l. z ∷ l) s))))
+
+-- the edit was given up, or a failure came in place of a command
+pub given_up : (n : Name) (params : List Item) → (n ≡ name.AbortEdit) ⊎ (n ≡ name.Failure) → FormsWith command.Abort n params
+given_up n params (inl e) = subst (λ m. FormsWith command.Abort m params) (sym e) (λ rest. inl (named0 (codes "abort-edit") params rest))
+given_up n params (inr e) = subst (λ m. FormsWith command.Abort m params) (sym e) (λ rest. inr (named0 (codes "failure") params rest))

@@ -226,12 +226,12 @@ end_moves dp fp shows old (stage.Announced b) dirs file item at root x none nf r
 
 -- ---- calls in the open file
 
-not_dir : (g : Given) (held : Held) → GivenIs g held → held ≡ Dir → ⊥
+pub not_dir : (g : Given) (held : Held) → GivenIs g held → held ≡ Dir → ⊥
 not_dir given.Nothing held h e = cc
 not_dir (given.Begun r sum) held h e = cc (h.1)
 not_dir (given.Whole sum) held h e = cc (h.1)
 
-with_file : {D F : Type 0} (dp : D → Path) (fp : F → Path) (st : Stage) (dirs : List (OpenDir D)) (file : Option (OpenFile F)) (f : OpenFile F) (at : At) → file ≡ Some f → Stands dp fp st dirs file at
+pub with_file : {D F : Type 0} (dp : D → Path) (fp : F → Path) (st : Stage) (dirs : List (OpenDir D)) (file : Option (OpenFile F)) (f : OpenFile F) (at : At) → file ≡ Some f → Stands dp fp st dirs file at
     → (held : Held) × GivenIs f.given held × (st ≡ stage.Inside) × (at ≡ Inside (named f.token.items (fp f.baton) held ∷ dirs_named dp dirs))
 with_file dp fp stage.Begun dirs file f at e h = cc (h.2)
 with_file dp fp stage.Targeted dirs file f at e h = cc (h.2)

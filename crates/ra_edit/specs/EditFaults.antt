@@ -7,6 +7,8 @@ use Rattle.ra_edit.specs.declared.command_fault.CommandFault.{CommandFault}
 use Rattle.ra_edit.specs.declared.command_fault.CommandFault.TheVariants as command
 use Rattle.ra_edit.specs.declared.edit_fault.EditFault.{EditFault}
 use Rattle.ra_edit.specs.declared.edit_fault.EditFault.TheVariants as fault
+use Rattle.ra_edit.specs.declared.shape_fault.ShapeFault.{ShapeFault}
+use Rattle.ra_edit.specs.declared.shape_fault.ShapeFault.TheVariants as shape
 use Rattle.ra_edit.specs.declared.fault.WindowFault.{WindowFault}
 use Rattle.ra_edit.specs.declared.fault.WindowFault.TheVariants as window
 
@@ -41,6 +43,11 @@ of_window window.TooLong = command.TooLong
 of_window window.Failed = command.Failed
 of_window window.BadWindow = command.BadWindow
 of_window window.CopyWindow = command.CopyWindow
+
+-- the refusal of an item that is no command
+abbrev pub of_shape : ShapeFault → CommandFault
+of_shape shape.BadShape = command.BadShape
+of_shape shape.OutOfMemory = command.OutOfMemory
 
 -- the refusal of a command
 abbrev pub of_command : CommandFault → EditFault

@@ -13,6 +13,7 @@ pub mod Rests
 pub mod ItemStreams
 pub mod Receiving
 pub mod Edit
+pub mod Refusals
 pub mod Tokens
 pub mod Received
 pub mod Wire

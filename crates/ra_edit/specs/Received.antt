@@ -6,9 +6,13 @@ use Rattle.delta_editor.specs.Calls.{Adds}
 use Rattle.delta_editor.specs.declared.call.Call.{Call}
 use Rattle.ra_edit.specs.Edits.{At, Begun, AllSay, SpellsEdit, IsCommand}
 use Rattle.ra_edit.specs.Edit.{Stepped}
-use Rattle.ra_edit.specs.EditFaults.{of_command}
+use Rattle.ra_edit.specs.EditFaults.{of_command, of_shape}
+use Rattle.ra_edit.specs.Receiving.{Forms}
+use Rattle.ra_edit.specs.Refusals.{refusal, RefusedFor}
 use Rattle.ra_edit.specs.ItemStreams.{Takes, Ends, Stops}
 use Rattle.ra_edit.specs.declared.command_fault.CommandFault.{CommandFault}
+use Rattle.ra_edit.specs.declared.receive_command.Command.{Command}
+use Rattle.ra_edit.specs.declared.shape_fault.ShapeFault.{ShapeFault}
 use Rattle.ra_edit.specs.declared.edit_fault.EditFault.{EditFault}
 use Rattle.ra_edit.specs.declared.edit_fault.EditFault.TheVariants as fault
 
@@ -48,17 +52,22 @@ pub record Received {E D : Type 0} (shows : E → List Call → Type 0) (done_sh
   pub spelled : SpellsEdit items calls
   pub shown : (shown : List Call) → shows editor shown → done_shows done (shown ++ calls)
 
--- behind these items one more was read, and refused for what it says
-pub record RefusesItem (items : List Item) (before after : Option (List ℕ)) (was : List ℕ → Stream) (f : EditFault) : Type 0 where
+-- why an item is refused where the commands stand: it is read as no command, or as one for which this is due there
+abbrev pub IsRefused : At → Item → CommandFault → Type 0
+IsRefused at item why = ((f : ShapeFault) × (why ≡ of_shape f)) ⊎ ((c : Command) × Forms c item × RefusedFor why (refusal at c))
+
+-- behind these items, where the commands stand so, one more was read, and refused for what it says
+pub record RefusesItem (items : List Item) (stood : At → Type 0) (before after : Option (List ℕ)) (was : List ℕ → Stream) (f : EditFault) : Type 0 where
   pub item : Item
   pub why : CommandFault
   pub is : List ℕ → Stream
   pub taken : Takes (items ++ item ∷ []) before after was is
   pub same : f ≡ of_command why
+  pub due : (at : At) → stood at → IsRefused at item why
 
 -- behind these items the stream was refused, or ended, or the next item was refused
-abbrev pub StopsBehind : List Item → Option (List ℕ) → Option (List ℕ) → (List ℕ → Stream) → Bool → Bool → EditFault → Type 0
-StopsBehind items before after was spent failed f = Stops items before after was spent failed f ⊎ (((f ≡ fault.BadShape) × Ends items true before after was) ⊎ RefusesItem items before after was f)
+abbrev pub StopsBehind : List Item → (At → Type 0) → Option (List ℕ) → Option (List ℕ) → (List ℕ → Stream) → Bool → Bool → EditFault → Type 0
+StopsBehind items stood before after was spent failed f = Stops items before after was spent failed f ⊎ (((f ≡ fault.BadShape) × Ends items true before after was) ⊎ RefusesItem items stood before after was f)
 
 -- a drive was refused behind items that are calls of an edit
 pub record RefusesDrive (before after : Option (List ℕ)) (was : List ℕ → Stream) (spent failed : Bool) (f : EditFault) : Type 0 where
@@ -66,4 +75,4 @@ pub record RefusesDrive (before after : Option (List ℕ)) (was : List ℕ → S
   pub calls : List Call
   pub at : At
   pub say : AllSay Begun items calls at
-  pub stops : StopsBehind items before after was spent failed f
+  pub stops : StopsBehind items (λ a. a ≡ at) before after was spent failed f

@@ -1,5 +1,5 @@
 -- What is received of a drive: commands and their items.
-use Rattle.std.specs.Prelude.{◌≡◌, ℕ, ◌≤◌, List, [], ◌∷◌, reverse, Ok, codes}
+use Rattle.std.specs.Prelude.{◌≡◌, ◌⊎◌, ℕ, ◌≤◌, List, [], ◌∷◌, reverse, Ok, codes}
 use Rattle.std.specs.Option.{option_map}
 use Rattle.ra_item.specs.Items.{Item, Items, Word, Number, Text, Nested}
 use Rattle.node_base.specs.Path.{Path}
@@ -69,7 +69,7 @@ Forms (command.TextEnd t) x = IsCommand (codes "textdelta-end") (Text t.items �
 Forms (command.CloseFile t sum) x = (s : Item) × IsSum sum s × IsCommand (codes "close-file") (Text t.items ∷ s ∷ []) x
 Forms command.CloseEdit x = IsCommand (codes "close-edit") [] x
 Forms command.Finish x = IsCommand (codes "finish-replay") [] x
-Forms command.Abort x = Unit {0}
+Forms command.Abort x = IsCommand (codes "abort-edit") [] x ⊎ IsCommand (codes "failure") [] x
 
 -- the same of a name and what stands in the brackets behind it
 abbrev pub FormsWith : Command → Name → List Item → Type 0

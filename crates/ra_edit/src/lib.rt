@@ -24,6 +24,7 @@ pub mod receive_command;
 mod receive_edit;
 #[cfg(test)]
 mod receive_tests;
+pub mod shape_fault;
 pub mod stream;
 #[cfg(test)]
 mod tests;

@@ -74,7 +74,7 @@ fn take_command<R: Read + Drop, E: Editor>(
     edit: &mut Edit<E>,
 ) -> Result<bool, EditFault>
     ensures taken { IfOk result (TakesOne E.shows edit.old.editor edit.new.editor (R.remaining (reader_of items.old)) (R.remaining (reader_of items.new)) (ahead items.old) (ahead items.new) (Stands E.dir_path E.file_path edit.old.stage edit.old.dirs.items edit.old.file) (Stands E.dir_path E.file_path edit.new.stage edit.new.dirs.items edit.new.file)) }
-    ensures refused { IfErr result (StopsBehind [] (R.remaining (reader_of items.old)) (R.remaining (reader_of items.new)) (ahead items.old) (is_spent items.old) (has_failed items.new)) }
+    ensures refused { IfErr result (StopsBehind [] (Stands E.dir_path E.file_path edit.old.stage edit.old.dirs.items edit.old.file) (R.remaining (reader_of items.old)) (R.remaining (reader_of items.new)) (ahead items.old) (is_spent items.old) (has_failed items.new)) }
     ensures failed { has_failed items.new ≡ (has_failed items.old || is_peer result) }
     ensures goes_on { OnOk result (is_spent items.new ≡ false) }
 {

@@ -10,7 +10,7 @@ ghost use Rattle.ra_edit.specs.Edits.{IsRevision, IsString, IsSum, IsSource};
 ghost use Rattle.ra_edit.specs.Receiving.{left_of, NextIs, word_of, IsPath, IsPropName, Forms, FormsWith};
 ghost use Rattle.ra_edit.specs.declared.receive_command.Name.TheVariants as name;
 
-use crate::command_fault::CommandFault;
+use crate::shape_fault::ShapeFault;
 use hex::decode_to_slice;
 use node_base::{NodePath, PathFault, PropFault, PropName, RevNo, Source};
 use ra_item::item::{Content, Item};
@@ -150,61 +150,61 @@ impl Params {
     }
 
     // The items of an item that is a list.
-    fn of(item: Item) -> Result<Params, CommandFault>
+    fn of(item: Item) -> Result<Params, ShapeFault>
         ensures { IfOk result (λ p. item ≡ list (left_of p)) }
     {
         match item.into_content() {
             Content::List(items) => Ok(Params::all(items)),
-            Content::Word(_) | Content::Number(_) | Content::Text(_) => Err(CommandFault::BadShape),
+            Content::Word(_) | Content::Number(_) | Content::Text(_) => Err(ShapeFault::BadShape),
         }
     }
 
     // The next item.
     #[tactic(auto, using(crate::proofs::Receiving::turned))]
-    fn next(&mut self) -> Result<Item, CommandFault>
+    fn next(&mut self) -> Result<Item, ShapeFault>
         ensures { IfOk result (λ x. left_of self.old ≡ x ∷ left_of self.new) }
     {
         match self.items.pop() {
             Some(item) => Ok(item),
-            None => Err(CommandFault::BadShape),
+            None => Err(ShapeFault::BadShape),
         }
     }
 
     // The next item, which is a word.
-    fn word(&mut self) -> Result<Vec<u8>, CommandFault>
+    fn word(&mut self) -> Result<Vec<u8>, ShapeFault>
         ensures { IfOk result (λ w. left_of self.old ≡ Word w.items ∷ left_of self.new) }
     {
         match self.next()?.into_content() {
             Content::Word(word) => Ok(word),
-            Content::List(_) | Content::Number(_) | Content::Text(_) => Err(CommandFault::BadShape),
+            Content::List(_) | Content::Number(_) | Content::Text(_) => Err(ShapeFault::BadShape),
         }
     }
 
     // The next item, which is a string.
-    fn text(&mut self) -> Result<Vec<u8>, CommandFault>
+    fn text(&mut self) -> Result<Vec<u8>, ShapeFault>
         ensures { IfOk result (λ t. left_of self.old ≡ Text t.items ∷ left_of self.new) }
     {
         match self.next()?.into_content() {
             Content::Text(text) => Ok(text),
-            Content::List(_) | Content::Number(_) | Content::Word(_) => Err(CommandFault::BadShape),
+            Content::List(_) | Content::Number(_) | Content::Word(_) => Err(ShapeFault::BadShape),
         }
     }
 
     // The next item, which is a list.
-    fn list(&mut self) -> Result<Params, CommandFault>
+    fn list(&mut self) -> Result<Params, ShapeFault>
         ensures { IfOk result (λ p. left_of self.old ≡ list (left_of p) ∷ left_of self.new) }
     {
         Params::of(self.next()?)
     }
 
     // The next item, which is a revision.
-    fn revision(&mut self) -> Result<RevNo, CommandFault>
+    fn revision(&mut self) -> Result<RevNo, ShapeFault>
         ensures { IfOk result (λ n. (n ≤ 65535) × (left_of self.old ≡ Number n ∷ left_of self.new)) }
     {
         match self.next()?.into_content() {
             Content::Number(n) if n <= 65_535 => Ok(RevNo::new(n as u16)),
             Content::Number(_) | Content::List(_) | Content::Text(_) | Content::Word(_) => {
-                Err(CommandFault::BadShape)
+                Err(ShapeFault::BadShape)
             }
         }
     }
@@ -217,7 +217,7 @@ impl Params {
     }
 
     // The next item, which is a path.
-    fn path(&mut self, alloc: Global) -> Result<NodePath, CommandFault>
+    fn path(&mut self, alloc: Global) -> Result<NodePath, ShapeFault>
         ensures { IfOk result (λ p. NextIs (IsPath p) (left_of self.old) (left_of self.new)) }
     {
         let text = self.text()?;
@@ -225,18 +225,18 @@ impl Params {
     }
 
     // The next item, which is a property's name.
-    fn prop_name(&mut self) -> Result<PropName, CommandFault>
+    fn prop_name(&mut self) -> Result<PropName, ShapeFault>
         ensures { IfOk result (λ n. NextIs (IsPropName n) (left_of self.old) (left_of self.new)) }
     {
         match PropName::from_bytes(self.text()?) {
             Ok(name) => Ok(name),
-            Err(PropFault::OutOfMemory) => Err(CommandFault::OutOfMemory),
-            Err(_) => Err(CommandFault::BadShape),
+            Err(PropFault::OutOfMemory) => Err(ShapeFault::OutOfMemory),
+            Err(_) => Err(ShapeFault::BadShape),
         }
     }
 
     // The next item, which is a list of a revision or of nothing.
-    fn base(&mut self) -> Result<Option<RevNo>, CommandFault>
+    fn base(&mut self) -> Result<Option<RevNo>, ShapeFault>
         ensures { IfOk result (λ b. NextIs (IsRevision b) (left_of self.old) (left_of self.new)) }
     {
         let mut inner = self.list()?;
@@ -247,7 +247,7 @@ impl Params {
     }
 
     // The next item, which is a list of a string or of nothing.
-    fn value(&mut self) -> Result<Option<Vec<u8>>, CommandFault>
+    fn value(&mut self) -> Result<Option<Vec<u8>>, ShapeFault>
         ensures { IfOk result (λ v. NextIs (IsString (option_map (λ s. s.items) v)) (left_of self.old) (left_of self.new)) }
     {
         let mut inner = self.list()?;
@@ -258,7 +258,7 @@ impl Params {
     }
 
     // The next item, which is a list of a sum in hexadecimal digits or of nothing.
-    fn sum(&mut self) -> Result<Option<[u8; 16]>, CommandFault>
+    fn sum(&mut self) -> Result<Option<[u8; 16]>, ShapeFault>
         ensures { IfOk result (λ sum. NextIs (IsSum sum) (left_of self.old) (left_of self.new)) }
     {
         let Some(digits) = self.value()? else {
@@ -267,12 +267,12 @@ impl Params {
         let mut sum = [0u8; 16];
         match decode_to_slice(digits.as_slice(), &mut sum) {
             Ok(()) => Ok(Some(sum)),
-            Err(_) => Err(CommandFault::BadShape),
+            Err(_) => Err(ShapeFault::BadShape),
         }
     }
 
     // The next item, which is a list of a source's path, behind one slash or none, and its revision, or of nothing.
-    fn source(&mut self, alloc: Global) -> Result<Option<Source>, CommandFault>
+    fn source(&mut self, alloc: Global) -> Result<Option<Source>, ShapeFault>
         ensures { IfOk result (λ from. NextIs (IsSource from) (left_of self.old) (left_of self.new)) }
     {
         let mut inner = self.list()?;
@@ -297,20 +297,20 @@ fn without_slash(text: &[u8]) -> &[u8]
 }
 
 // The path that bytes spell.
-fn read_path(alloc: Global, text: &[u8]) -> Result<NodePath, CommandFault>
+fn read_path(alloc: Global, text: &[u8]) -> Result<NodePath, ShapeFault>
     ensures { IfOk result (λ p. path_read text.now ≡ Ok p) }
 {
     match NodePath::parse(alloc, text) {
         Ok(path) => Ok(path),
-        Err(PathFault::OutOfMemory) => Err(CommandFault::OutOfMemory),
-        Err(PathFault::TooLong | PathFault::BadPath) => Err(CommandFault::BadShape),
+        Err(PathFault::OutOfMemory) => Err(ShapeFault::OutOfMemory),
+        Err(PathFault::TooLong | PathFault::BadPath) => Err(ShapeFault::BadShape),
     }
 }
 
 impl Command {
     /// The command that an item is. `BadShape` (48) where it is none: its name, what it names, a path, a property's name or a
     /// revision; `OutOfMemory` (70).
-    pub fn parse(alloc: Global, item: Item) -> Result<Command, CommandFault>
+    pub fn parse(alloc: Global, item: Item) -> Result<Command, ShapeFault>
         ensures forms { IfOk result (λ c. Forms c item) }
     {
         let mut parts = Params::of(item)?;
@@ -322,11 +322,11 @@ impl Command {
         if let Some(name) = file_name(word.as_slice()) {
             return file_command(alloc, name, &mut params);
         }
-        Err(CommandFault::BadShape)
+        Err(ShapeFault::BadShape)
     }
 }
 
-fn outer_command(alloc: Global, name: Name, params: &mut Params) -> Result<Command, CommandFault>
+fn outer_command(alloc: Global, name: Name, params: &mut Params) -> Result<Command, ShapeFault>
     ensures { IfOk result (λ c. FormsWith c name (left_of params.old)) }
 {
     match name {
@@ -340,11 +340,11 @@ fn outer_command(alloc: Global, name: Name, params: &mut Params) -> Result<Comma
         Name::CloseEdit => Ok(Command::CloseEdit),
         Name::FinishReplay => Ok(Command::Finish),
         Name::AbortEdit | Name::Failure => Ok(Command::Abort),
-        _ => Err(CommandFault::BadShape),
+        _ => Err(ShapeFault::BadShape),
     }
 }
 
-fn file_command(alloc: Global, name: Name, params: &mut Params) -> Result<Command, CommandFault>
+fn file_command(alloc: Global, name: Name, params: &mut Params) -> Result<Command, ShapeFault>
     ensures { IfOk result (λ c. FormsWith c name (left_of params.old)) }
 {
     match name {
@@ -355,24 +355,24 @@ fn file_command(alloc: Global, name: Name, params: &mut Params) -> Result<Comman
         Name::TextdeltaChunk => textdelta_chunk(params),
         Name::TextdeltaEnd => textdelta_end(params),
         Name::CloseFile => close_file(params),
-        _ => Err(CommandFault::BadShape),
+        _ => Err(ShapeFault::BadShape),
     }
 }
 
-fn target_rev(params: &mut Params) -> Result<Command, CommandFault>
+fn target_rev(params: &mut Params) -> Result<Command, ShapeFault>
     ensures { IfOk result (λ c. FormsWith c name.TargetRev (left_of params.old)) }
 {
     Ok(Command::Target(params.revision()?))
 }
 
-fn open_root(params: &mut Params) -> Result<Command, CommandFault>
+fn open_root(params: &mut Params) -> Result<Command, ShapeFault>
     ensures { IfOk result (λ c. FormsWith c name.OpenRoot (left_of params.old)) }
 {
     let base = params.base()?;
     Ok(Command::OpenRoot(base, params.text()?))
 }
 
-fn delete_entry(alloc: Global, params: &mut Params) -> Result<Command, CommandFault>
+fn delete_entry(alloc: Global, params: &mut Params) -> Result<Command, ShapeFault>
     ensures { IfOk result (λ c. FormsWith c name.DeleteEntry (left_of params.old)) }
 {
     let path = params.path(alloc)?;
@@ -380,7 +380,7 @@ fn delete_entry(alloc: Global, params: &mut Params) -> Result<Command, CommandFa
     Ok(Command::DeleteEntry(path, base, params.text()?))
 }
 
-fn add_dir(alloc: Global, params: &mut Params) -> Result<Command, CommandFault>
+fn add_dir(alloc: Global, params: &mut Params) -> Result<Command, ShapeFault>
     ensures { IfOk result (λ c. FormsWith c name.AddDir (left_of params.old)) }
 {
     let path = params.path(alloc)?;
@@ -389,7 +389,7 @@ fn add_dir(alloc: Global, params: &mut Params) -> Result<Command, CommandFault>
     Ok(Command::AddDir(path, up, token, params.source(alloc)?))
 }
 
-fn open_dir(alloc: Global, params: &mut Params) -> Result<Command, CommandFault>
+fn open_dir(alloc: Global, params: &mut Params) -> Result<Command, ShapeFault>
     ensures { IfOk result (λ c. FormsWith c name.OpenDir (left_of params.old)) }
 {
     let path = params.path(alloc)?;
@@ -398,7 +398,7 @@ fn open_dir(alloc: Global, params: &mut Params) -> Result<Command, CommandFault>
     Ok(Command::OpenDir(path, up, token, params.base()?))
 }
 
-fn change_dir_prop(params: &mut Params) -> Result<Command, CommandFault>
+fn change_dir_prop(params: &mut Params) -> Result<Command, ShapeFault>
     ensures { IfOk result (λ c. FormsWith c name.ChangeDirProp (left_of params.old)) }
 {
     let token = params.text()?;
@@ -406,13 +406,13 @@ fn change_dir_prop(params: &mut Params) -> Result<Command, CommandFault>
     Ok(Command::DirProp(token, name, params.value()?))
 }
 
-fn close_dir(params: &mut Params) -> Result<Command, CommandFault>
+fn close_dir(params: &mut Params) -> Result<Command, ShapeFault>
     ensures { IfOk result (λ c. FormsWith c name.CloseDir (left_of params.old)) }
 {
     Ok(Command::CloseDir(params.text()?))
 }
 
-fn add_file(alloc: Global, params: &mut Params) -> Result<Command, CommandFault>
+fn add_file(alloc: Global, params: &mut Params) -> Result<Command, ShapeFault>
     ensures { IfOk result (λ c. FormsWith c name.AddFile (left_of params.old)) }
 {
     let path = params.path(alloc)?;
@@ -421,7 +421,7 @@ fn add_file(alloc: Global, params: &mut Params) -> Result<Command, CommandFault>
     Ok(Command::AddFile(path, up, token, params.source(alloc)?))
 }
 
-fn open_file(alloc: Global, params: &mut Params) -> Result<Command, CommandFault>
+fn open_file(alloc: Global, params: &mut Params) -> Result<Command, ShapeFault>
     ensures { IfOk result (λ c. FormsWith c name.OpenFile (left_of params.old)) }
 {
     let path = params.path(alloc)?;
@@ -430,7 +430,7 @@ fn open_file(alloc: Global, params: &mut Params) -> Result<Command, CommandFault
     Ok(Command::OpenFile(path, up, token, params.base()?))
 }
 
-fn change_file_prop(params: &mut Params) -> Result<Command, CommandFault>
+fn change_file_prop(params: &mut Params) -> Result<Command, ShapeFault>
     ensures { IfOk result (λ c. FormsWith c name.ChangeFileProp (left_of params.old)) }
 {
     let token = params.text()?;
@@ -438,7 +438,7 @@ fn change_file_prop(params: &mut Params) -> Result<Command, CommandFault>
     Ok(Command::FileProp(token, name, params.value()?))
 }
 
-fn apply_textdelta(params: &mut Params) -> Result<Command, CommandFault>
+fn apply_textdelta(params: &mut Params) -> Result<Command, ShapeFault>
     ensures { IfOk result (λ c. FormsWith c name.ApplyTextdelta (left_of params.old)) }
 {
     let token = params.text()?;
@@ -446,20 +446,20 @@ fn apply_textdelta(params: &mut Params) -> Result<Command, CommandFault>
     Ok(Command::TextStart(token))
 }
 
-fn textdelta_chunk(params: &mut Params) -> Result<Command, CommandFault>
+fn textdelta_chunk(params: &mut Params) -> Result<Command, ShapeFault>
     ensures { IfOk result (λ c. FormsWith c name.TextdeltaChunk (left_of params.old)) }
 {
     let token = params.text()?;
     Ok(Command::Chunk(token, params.text()?))
 }
 
-fn textdelta_end(params: &mut Params) -> Result<Command, CommandFault>
+fn textdelta_end(params: &mut Params) -> Result<Command, ShapeFault>
     ensures { IfOk result (λ c. FormsWith c name.TextdeltaEnd (left_of params.old)) }
 {
     Ok(Command::TextEnd(params.text()?))
 }
 
-fn close_file(params: &mut Params) -> Result<Command, CommandFault>
+fn close_file(params: &mut Params) -> Result<Command, ShapeFault>
     ensures { IfOk result (λ c. FormsWith c name.CloseFile (left_of params.old)) }
 {
     let token = params.text()?;

@@ -1,6 +1,6 @@
 //! An edit that is received: what is open, and what a command does.
 
-ghost use Rattle.std.specs.Prelude.{◌≡◌, ◌+◌, ◌≤◌, ◌<◌, ◌++◌, ◌∷◌, [], ℕ, List, map, length, reverse, IfOk, IfErr, IsSomeAnd, OnOk, OnErr, Ok, Err, Some, None, true, false, vec_len, vec_capacity, slice_get, codes};
+ghost use Rattle.std.specs.Prelude.{◌≡◌, ◌+◌, ◌≤◌, ◌<◌, ◌++◌, ◌∷◌, ◌&&◌, [], ℕ, List, Option, map, length, reverse, IfOk, IfErr, IsSomeAnd, OnOk, OnErr, Ok, Err, Some, None, true, false, vec_len, vec_capacity, slice_get, codes};
 ghost use Rattle.std.specs.Option.{option_copied, option_map};
 ghost use Rattle.std.specs.List.{concat};
 ghost use Rattle.md5.specs.Md5.{Holds, md5};
@@ -10,9 +10,12 @@ ghost use Rattle.delta_editor.specs.Calls.{Adds};
 ghost use Rattle.delta_editor.specs.declared.call.Call.{Call};
 ghost use Rattle.delta_editor.specs.declared.call.Call.TheVariants as call;
 ghost use Rattle.ra_edit.specs.Streams.{reading, Reads};
-ghost use Rattle.ra_edit.specs.Edits.{At, Begun, is_free, last_calls, Within, IsCommand};
+ghost use Rattle.ra_edit.specs.Edits.{Held, At, Begun, is_free, last_calls, Within, IsCommand};
 ghost use Rattle.ra_edit.specs.Receiving.{Forms};
-ghost use Rattle.ra_edit.specs.Edit.{Stands, Moves, dirs_named, is_unopened, is_announced, has_root, TextEnds, SumIs, FileMoves, Stepped, Finishes};
+ghost use Rattle.ra_edit.specs.Refusals.{open_of, unless, is_in_dir, has_dir, for_token, in_file, at_start, of_stream, at_chunk, at_end, at_close, is_finish, due, refusal, RefusedFor};
+ghost use Rattle.ra_edit.specs.declared.command_fault.CommandFault.{CommandFault};
+ghost use Rattle.ra_edit.specs.declared.command_fault.CommandFault.TheVariants as fault;
+ghost use Rattle.ra_edit.specs.Edit.{Stands, GivenIs, Moves, dirs_named, is_unopened, is_announced, has_root, TextEnds, SumIs, FileMoves, Stepped, Finishes};
 ghost use Rattle.ra_edit.specs.declared.receive_command.Command.TheVariants as command;
 ghost use Rattle.ra_edit.specs.declared.receive_edit.Given.TheVariants as given;
 
@@ -98,6 +101,7 @@ impl<E: Editor> Edit<E> {
     /// Does what a command says; `finish-replay` answers true, and nothing is done for it yet.
     pub fn step(&mut self, command: Command) -> Result<bool, CommandFault>
         ensures moved { IfOk result (λ done. (at : At) (item : Item) → Forms command item → Stands E.dir_path E.file_path self.old.stage self.old.dirs.items self.old.file at → Stepped E.shows self.old.editor self.new.editor item at (Stands E.dir_path E.file_path self.new.stage self.new.dirs.items self.new.file) done) }
+        ensures refused { IfErr result (λ f. (at : At) → Stands E.dir_path E.file_path self.old.stage self.old.dirs.items self.old.file at → RefusedFor f (refusal at command)) }
     {
         match &command {
             Command::Finish => return Ok(true),
@@ -114,6 +118,7 @@ impl<E: Editor> Edit<E> {
     // Does what a command says that isn't the end.
     fn perform(&mut self, command: Command) -> Result<(), CommandFault>
         ensures moved { OnOk result ((at : At) (item : Item) → Forms command item → Stands E.dir_path E.file_path self.old.stage self.old.dirs.items self.old.file at → Moves E.shows self.old.editor self.new.editor item at (Stands E.dir_path E.file_path self.new.stage self.new.dirs.items self.new.file)) }
+        ensures refused { IfErr result (λ f. (at : At) → is_finish command ≡ false → Stands E.dir_path E.file_path self.old.stage self.old.dirs.items self.old.file at → RefusedFor f (due at command)) }
     {
         match command {
             Command::Target(rev) => self.target(rev),
@@ -131,12 +136,14 @@ impl<E: Editor> Edit<E> {
             Command::TextEnd(token) => self.text_end(token),
             Command::CloseFile(token, sum) => self.close_file(token, sum),
             Command::CloseEdit => self.close_edit(),
-            Command::Finish | Command::Abort => Err(CommandFault::BadShape),
+            Command::Abort => Err(CommandFault::Refused),
+            Command::Finish => Err(CommandFault::BadShape),
         }
     }
 
     fn target(&mut self, rev: RevNo) -> Result<(), CommandFault>
         ensures moved { OnOk result ((at : At) (item : Item) → Forms (command.Target rev) item → Stands E.dir_path E.file_path self.old.stage self.old.dirs.items self.old.file at → Moves E.shows self.old.editor self.new.editor item at (Stands E.dir_path E.file_path self.new.stage self.new.dirs.items self.new.file)) }
+        ensures refused { IfErr result (λ f. (at : At) → Stands E.dir_path E.file_path self.old.stage self.old.dirs.items self.old.file at → RefusedFor f (due at (command.Target rev))) }
     {
         let Stage::Begun = self.stage else {
             return Err(CommandFault::BadShape);
@@ -168,6 +175,7 @@ impl<E: Editor> Edit<E> {
 
     fn open_root(&mut self, base: Option<RevNo>, token: Vec<u8>) -> Result<(), CommandFault>
         ensures moved { OnOk result ((at : At) (item : Item) → Forms (command.OpenRoot base token) item → Stands E.dir_path E.file_path self.old.stage self.old.dirs.items self.old.file at → Moves E.shows self.old.editor self.new.editor item at (Stands E.dir_path E.file_path self.new.stage self.new.dirs.items self.new.file)) }
+        ensures refused { IfErr result (λ f. (at : At) → Stands E.dir_path E.file_path self.old.stage self.old.dirs.items self.old.file at → RefusedFor f (due at (command.OpenRoot base token))) }
     {
         if !self.is_unopened() {
             return Err(CommandFault::BadShape);
@@ -182,6 +190,7 @@ impl<E: Editor> Edit<E> {
     // Takes the innermost open thing, which is a directory with this token.
     fn take_innermost(&mut self, token: &[u8]) -> Result<OpenDir<E::Dir>, CommandFault>
         ensures taken { IfOk result (λ d. (self.old.dirs.items ≡ self.new.dirs.items ++ d ∷ []) × (d.token.items ≡ token.now) × (self.old.file ≡ None)) }
+        ensures refused { IfErr result (λ f. (at : At) → Stands E.dir_path E.file_path self.old.stage self.old.dirs.items self.old.file at → RefusedFor f (unless (is_in_dir token.now (open_of at)) fault.BadToken)) }
         ensures room { OnOk result ((vec_len self.new.dirs + 1 ≡ vec_len self.old.dirs) × (vec_capacity self.new.dirs ≡ vec_capacity self.old.dirs)) }
         ensures file { self.new.file ≡ self.old.file }
         ensures editor { self.new.editor ≡ self.old.editor }
@@ -205,7 +214,7 @@ impl<E: Editor> Edit<E> {
 
     // Whether nothing that is open has the token.
     fn is_free(&self, token: &[u8]) -> bool
-        ensures { result ≡ true → is_free token.now (dirs_named E.dir_path self.now.dirs.items) ≡ true }
+        ensures { result ≡ is_free token.now (dirs_named E.dir_path self.now.dirs.items) }
     {
         for dir in self.dirs.iter() {
             if is_same(dir.token.as_slice(), token) {
@@ -218,6 +227,7 @@ impl<E: Editor> Edit<E> {
     // Room for one more, by a token that isn't in use, in the innermost open thing, which is a directory with this token.
     fn take_parent(&mut self, up: &[u8], token: &[u8]) -> Result<OpenDir<E::Dir>, CommandFault>
         ensures taken { IfOk result (λ d. (self.old.dirs.items ≡ self.new.dirs.items ++ d ∷ []) × (d.token.items ≡ up.now) × (self.old.file ≡ None)) }
+        ensures refused { IfErr result (λ f. (at : At) → Stands E.dir_path E.file_path self.old.stage self.old.dirs.items self.old.file at → RefusedFor f (unless (is_free token.now (open_of at) && is_in_dir up.now (open_of at)) fault.BadToken)) }
         ensures free { OnOk result (is_free token.now (dirs_named E.dir_path self.old.dirs.items) ≡ true) }
         ensures room { OnOk result (vec_len self.new.dirs + 2 ≤ vec_capacity self.new.dirs) }
         ensures file { self.new.file ≡ self.old.file }
@@ -238,6 +248,7 @@ impl<E: Editor> Edit<E> {
         up: Vec<u8>,
     ) -> Result<(), CommandFault>
         ensures moved { OnOk result ((at : At) (item : Item) → Forms (command.DeleteEntry path base up) item → Stands E.dir_path E.file_path self.old.stage self.old.dirs.items self.old.file at → Moves E.shows self.old.editor self.new.editor item at (Stands E.dir_path E.file_path self.new.stage self.new.dirs.items self.new.file)) }
+        ensures refused { IfErr result (λ f. (at : At) → Stands E.dir_path E.file_path self.old.stage self.old.dirs.items self.old.file at → RefusedFor f (due at (command.DeleteEntry path base up))) }
     {
         let mut dir = self.take_innermost(up.as_slice())?;
         let done = self.editor.delete_entry(&mut dir.baton, &path, base);
@@ -254,6 +265,7 @@ impl<E: Editor> Edit<E> {
         from: Option<Source>,
     ) -> Result<(), CommandFault>
         ensures moved { OnOk result ((at : At) (item : Item) → Forms (command.AddDir path up token from) item → Stands E.dir_path E.file_path self.old.stage self.old.dirs.items self.old.file at → Moves E.shows self.old.editor self.new.editor item at (Stands E.dir_path E.file_path self.new.stage self.new.dirs.items self.new.file)) }
+        ensures refused { IfErr result (λ f. (at : At) → Stands E.dir_path E.file_path self.old.stage self.old.dirs.items self.old.file at → RefusedFor f (due at (command.AddDir path up token from))) }
     {
         let mut dir = self.take_parent(up.as_slice(), token.as_slice())?;
         let done = self.editor.add_dir(&mut dir.baton, &path, from.as_ref());
@@ -271,6 +283,7 @@ impl<E: Editor> Edit<E> {
         base: Option<RevNo>,
     ) -> Result<(), CommandFault>
         ensures moved { OnOk result ((at : At) (item : Item) → Forms (command.OpenDir path up token base) item → Stands E.dir_path E.file_path self.old.stage self.old.dirs.items self.old.file at → Moves E.shows self.old.editor self.new.editor item at (Stands E.dir_path E.file_path self.new.stage self.new.dirs.items self.new.file)) }
+        ensures refused { IfErr result (λ f. (at : At) → Stands E.dir_path E.file_path self.old.stage self.old.dirs.items self.old.file at → RefusedFor f (due at (command.OpenDir path up token base))) }
     {
         let mut dir = self.take_parent(up.as_slice(), token.as_slice())?;
         let done = self.editor.open_dir(&mut dir.baton, &path, base);
@@ -284,6 +297,7 @@ impl<E: Editor> Edit<E> {
     fn find(&self, token: &[u8]) -> Result<usize, CommandFault>
         ensures place { IfOk result (λ i. i < vec_len self.now.dirs) }
         ensures found { IfOk result (λ i. IsSomeAnd (slice_get self.now.dirs.items i) (λ d. d.token.items ≡ token.now)) }
+        ensures none { IfErr result (λ f. (f ≡ fault.BadToken) × (has_dir token.now (dirs_named E.dir_path self.now.dirs.items) ≡ false)) }
     {
         for (i, dir) in self.dirs.iter().enumerate() {
             if is_same(dir.token.as_slice(), token) {
@@ -300,6 +314,7 @@ impl<E: Editor> Edit<E> {
         value: Option<Vec<u8>>,
     ) -> Result<(), CommandFault>
         ensures moved { OnOk result ((at : At) (item : Item) → Forms (command.DirProp token name value) item → Stands E.dir_path E.file_path self.old.stage self.old.dirs.items self.old.file at → Moves E.shows self.old.editor self.new.editor item at (Stands E.dir_path E.file_path self.new.stage self.new.dirs.items self.new.file)) }
+        ensures refused { IfErr result (λ f. (at : At) → Stands E.dir_path E.file_path self.old.stage self.old.dirs.items self.old.file at → RefusedFor f (due at (command.DirProp token name value))) }
     {
         let at = self.find(token.as_slice())?;
         let dir = &mut self.dirs[at];
@@ -310,6 +325,7 @@ impl<E: Editor> Edit<E> {
 
     fn close_dir(&mut self, token: Vec<u8>) -> Result<(), CommandFault>
         ensures moved { OnOk result ((at : At) (item : Item) → Forms (command.CloseDir token) item → Stands E.dir_path E.file_path self.old.stage self.old.dirs.items self.old.file at → Moves E.shows self.old.editor self.new.editor item at (Stands E.dir_path E.file_path self.new.stage self.new.dirs.items self.new.file)) }
+        ensures refused { IfErr result (λ f. (at : At) → Stands E.dir_path E.file_path self.old.stage self.old.dirs.items self.old.file at → RefusedFor f (due at (command.CloseDir token))) }
     {
         let OpenDir { token: _, baton } = self.take_innermost(token.as_slice())?;
         self.editor.close_dir(baton)?;
@@ -324,6 +340,7 @@ impl<E: Editor> Edit<E> {
         from: Option<Source>,
     ) -> Result<(), CommandFault>
         ensures moved { OnOk result ((at : At) (item : Item) → Forms (command.AddFile path up token from) item → Stands E.dir_path E.file_path self.old.stage self.old.dirs.items self.old.file at → Moves E.shows self.old.editor self.new.editor item at (Stands E.dir_path E.file_path self.new.stage self.new.dirs.items self.new.file)) }
+        ensures refused { IfErr result (λ f. (at : At) → Stands E.dir_path E.file_path self.old.stage self.old.dirs.items self.old.file at → RefusedFor f (due at (command.AddFile path up token from))) }
     {
         let mut dir = self.take_parent(up.as_slice(), token.as_slice())?;
         let done = self.editor.add_file(&mut dir.baton, &path, from.as_ref());
@@ -341,6 +358,7 @@ impl<E: Editor> Edit<E> {
         base: Option<RevNo>,
     ) -> Result<(), CommandFault>
         ensures moved { OnOk result ((at : At) (item : Item) → Forms (command.OpenFile path up token base) item → Stands E.dir_path E.file_path self.old.stage self.old.dirs.items self.old.file at → Moves E.shows self.old.editor self.new.editor item at (Stands E.dir_path E.file_path self.new.stage self.new.dirs.items self.new.file)) }
+        ensures refused { IfErr result (λ f. (at : At) → Stands E.dir_path E.file_path self.old.stage self.old.dirs.items self.old.file at → RefusedFor f (due at (command.OpenFile path up token base))) }
     {
         let mut dir = self.take_parent(up.as_slice(), token.as_slice())?;
         let done = self.editor.open_file(&mut dir.baton, &path, base);
@@ -376,6 +394,7 @@ impl<E: Editor> Edit<E> {
         value: Option<Vec<u8>>,
     ) -> Result<(), CommandFault>
         ensures moved { OnOk result ((at : At) (item : Item) → Forms (command.FileProp token name value) item → Stands E.dir_path E.file_path self.old.stage self.old.dirs.items self.old.file at → Moves E.shows self.old.editor self.new.editor item at (Stands E.dir_path E.file_path self.new.stage self.new.dirs.items self.new.file)) }
+        ensures refused { IfErr result (λ f. (at : At) → Stands E.dir_path E.file_path self.old.stage self.old.dirs.items self.old.file at → RefusedFor f (due at (command.FileProp token name value))) }
     {
         let Some(file) = &mut self.file else {
             return Err(CommandFault::BadToken);
@@ -386,6 +405,7 @@ impl<E: Editor> Edit<E> {
 
     fn text_start(&mut self, token: Vec<u8>) -> Result<(), CommandFault>
         ensures moved { OnOk result ((at : At) (item : Item) → Forms (command.TextStart token) item → Stands E.dir_path E.file_path self.old.stage self.old.dirs.items self.old.file at → Moves E.shows self.old.editor self.new.editor item at (Stands E.dir_path E.file_path self.new.stage self.new.dirs.items self.new.file)) }
+        ensures refused { IfErr result (λ f. (at : At) → Stands E.dir_path E.file_path self.old.stage self.old.dirs.items self.old.file at → RefusedFor f (due at (command.TextStart token))) }
     {
         let Some(file) = &mut self.file else {
             return Err(CommandFault::BadToken);
@@ -396,6 +416,7 @@ impl<E: Editor> Edit<E> {
 
     fn chunk(&mut self, token: Vec<u8>, bytes: Vec<u8>) -> Result<(), CommandFault>
         ensures moved { OnOk result ((at : At) (item : Item) → Forms (command.Chunk token bytes) item → Stands E.dir_path E.file_path self.old.stage self.old.dirs.items self.old.file at → Moves E.shows self.old.editor self.new.editor item at (Stands E.dir_path E.file_path self.new.stage self.new.dirs.items self.new.file)) }
+        ensures refused { IfErr result (λ f. (at : At) → Stands E.dir_path E.file_path self.old.stage self.old.dirs.items self.old.file at → RefusedFor f (due at (command.Chunk token bytes))) }
     {
         let Some(file) = &mut self.file else {
             return Err(CommandFault::BadToken);
@@ -406,6 +427,7 @@ impl<E: Editor> Edit<E> {
 
     fn text_end(&mut self, token: Vec<u8>) -> Result<(), CommandFault>
         ensures moved { OnOk result ((at : At) (item : Item) → Forms (command.TextEnd token) item → Stands E.dir_path E.file_path self.old.stage self.old.dirs.items self.old.file at → Moves E.shows self.old.editor self.new.editor item at (Stands E.dir_path E.file_path self.new.stage self.new.dirs.items self.new.file)) }
+        ensures refused { IfErr result (λ f. (at : At) → Stands E.dir_path E.file_path self.old.stage self.old.dirs.items self.old.file at → RefusedFor f (due at (command.TextEnd token))) }
     {
         let Some(file) = &mut self.file else {
             return Err(CommandFault::BadToken);
@@ -416,6 +438,7 @@ impl<E: Editor> Edit<E> {
 
     fn close_file(&mut self, token: Vec<u8>, sum: Option<[u8; 16]>) -> Result<(), CommandFault>
         ensures moved { OnOk result ((at : At) (item : Item) → Forms (command.CloseFile token sum) item → Stands E.dir_path E.file_path self.old.stage self.old.dirs.items self.old.file at → Moves E.shows self.old.editor self.new.editor item at (Stands E.dir_path E.file_path self.new.stage self.new.dirs.items self.new.file)) }
+        ensures refused { IfErr result (λ f. (at : At) → Stands E.dir_path E.file_path self.old.stage self.old.dirs.items self.old.file at → RefusedFor f (due at (command.CloseFile token sum))) }
     {
         let OpenFile {
             token: _,
@@ -433,6 +456,7 @@ impl<E: Editor> Edit<E> {
         sum: Option<[u8; 16]>,
     ) -> Result<OpenFile<E::File>, CommandFault>
         ensures taken { IfOk result (λ f. (self.old.file ≡ Some f) × (f.token.items ≡ token.now) × SumIs f.given sum) }
+        ensures refused { IfErr result (λ f. (at : At) → Stands E.dir_path E.file_path self.old.stage self.old.dirs.items self.old.file at → RefusedFor f (in_file token.now (open_of at) (at_close sum))) }
         ensures none { OnOk result (self.new.file ≡ None) }
         ensures dirs { self.new.dirs ≡ self.old.dirs }
         ensures editor { self.new.editor ≡ self.old.editor }
@@ -453,13 +477,15 @@ impl<E: Editor> Edit<E> {
 
     // Whether nothing is open.
     fn is_closed(&self) -> bool
-        ensures { result ≡ true → (self.now.dirs.items ≡ []) × (self.now.file ≡ None) }
+        ensures closed { result ≡ true → (self.now.dirs.items ≡ []) × (self.now.file ≡ None) }
+        ensures open { result ≡ false → self.now.dirs.items ≡ [] → self.now.file ≡ None → ⊥ }
     {
         self.file.is_none() && self.dirs.is_empty()
     }
 
     fn close_edit(&mut self) -> Result<(), CommandFault>
         ensures moved { OnOk result ((at : At) (item : Item) → Forms (command.CloseEdit) item → Stands E.dir_path E.file_path self.old.stage self.old.dirs.items self.old.file at → Moves E.shows self.old.editor self.new.editor item at (Stands E.dir_path E.file_path self.new.stage self.new.dirs.items self.new.file)) }
+        ensures refused { IfErr result (λ f. (at : At) → Stands E.dir_path E.file_path self.old.stage self.old.dirs.items self.old.file at → RefusedFor f (due at (command.CloseEdit))) }
     {
         if self.is_announced() {
             return Err(CommandFault::BadShape);
@@ -487,6 +513,7 @@ impl<E: Editor> Edit<E> {
     /// `BadToken` (46) where something is open; then it is discarded, and the edit is aborted.
     pub fn finish(self) -> Result<E::Done, CommandFault>
         ensures done { IfOk result (λ d. (at : At) (item : Item) → IsCommand (codes "finish-replay") [] item → Stands E.dir_path E.file_path self.stage self.dirs.items self.file at → Finishes E.shows E.done_shows self.editor d item at) }
+        ensures refused { IfErr result (λ f. (at : At) → Stands E.dir_path E.file_path self.stage self.dirs.items self.file at → RefusedFor f (refusal at command.Finish)) }
     {
         if !self.is_closed() {
             self.abort();
@@ -585,6 +612,7 @@ fn give_prop<E: Editor>(
     value: Option<Vec<u8>>,
 ) -> Result<(), CommandFault>
     ensures moved { OnOk result ((item : Item) → Forms (command.FileProp token name value) item → FileMoves E.file_path E.shows editor.old editor.new item file.old file.new) }
+    ensures refused { IfErr result (λ f. RefusedFor f (for_token token.items file.old.token.items None)) }
 {
     if !is_same(file.token.as_slice(), token.as_slice()) {
         return Err(CommandFault::BadToken);
@@ -600,6 +628,7 @@ fn begin_text<E: Editor>(
     token: Vec<u8>,
 ) -> Result<(), CommandFault>
     ensures moved { OnOk result ((item : Item) → Forms (command.TextStart token) item → FileMoves E.file_path E.shows editor.old editor.new item file.old file.new) }
+    ensures refused { IfErr result (λ f. (held : Held) → GivenIs file.old.given held → RefusedFor f (for_token token.items file.old.token.items (at_start held))) }
 {
     if !is_same(file.token.as_slice(), token.as_slice()) {
         return Err(CommandFault::BadToken);
@@ -620,6 +649,7 @@ fn give_bytes<E: Editor>(
     bytes: Vec<u8>,
 ) -> Result<(), CommandFault>
     ensures moved { OnOk result ((item : Item) → Forms (command.Chunk token bytes) item → FileMoves E.file_path E.shows editor.old editor.new item file.old file.new) }
+    ensures refused { IfErr result (λ f. (held : Held) → GivenIs file.old.given held → RefusedFor f (for_token token.items file.old.token.items (at_chunk bytes.items held))) }
 {
     if !is_same(file.token.as_slice(), token.as_slice()) {
         return Err(CommandFault::BadToken);
@@ -638,6 +668,7 @@ fn close_text<E: Editor>(
     token: Vec<u8>,
 ) -> Result<(), CommandFault>
     ensures moved { OnOk result ((item : Item) → Forms (command.TextEnd token) item → FileMoves E.file_path E.shows editor.old editor.new item file.old file.new) }
+    ensures refused { IfErr result (λ f. (held : Held) → GivenIs file.old.given held → RefusedFor f (for_token token.items file.old.token.items (at_end held))) }
 {
     if !is_same(file.token.as_slice(), token.as_slice()) {
         return Err(CommandFault::BadToken);
@@ -650,7 +681,8 @@ fn close_text<E: Editor>(
 
 // The MD5 of a text that ends between windows.
 fn end_text(given: &mut Given) -> Result<[u8; 16], CommandFault>
-    ensures { IfOk result (λ sum. TextEnds given.old sum) }
+    ensures ends { IfOk result (λ sum. TextEnds given.old sum) }
+    ensures refused { IfErr result (λ f. (held : Held) → GivenIs given.old held → RefusedFor f (at_end held)) }
 {
     match mem::replace(given, Given::Nothing) {
         Given::Begun(reader, sum) => {
@@ -663,7 +695,8 @@ fn end_text(given: &mut Given) -> Result<[u8; 16], CommandFault>
 
 // The sum that came is that of the text, where both are there.
 fn check_sum(given: &Given, sum: Option<[u8; 16]>) -> Result<(), CommandFault>
-    ensures { OnOk result (SumIs given.now sum) }
+    ensures is { OnOk result (SumIs given.now sum) }
+    ensures refused { IfErr result (λ f. (held : Held) → GivenIs given.now held → RefusedFor f (at_close sum held)) }
 {
     match given {
         Given::Nothing => Ok(()),
@@ -685,6 +718,7 @@ fn take_stretch<E: Editor>(
     ensures pieces { OnOk result ((pieces : List (List ℕ)) × (concat pieces ≡ bytes.now) × Adds E.shows editor.old editor.new (map (call.TextPiece (E.file_path file.old)) pieces)) }
     ensures sum { OnOk result ((text : List ℕ) → Holds sum.old text → Holds sum.new (text ++ bytes.now)) }
     ensures file { OnOk result (E.file_path file.new ≡ E.file_path file.old) }
+    ensures refused { IfErr result (λ f. (what : Option CommandFault) → RefusedFor f what) }
 {
     if bytes.is_empty() {
         return Ok(());
@@ -704,6 +738,7 @@ fn take_chunk<E: Editor>(
 ) -> Result<(), CommandFault>
     ensures file { OnOk result (E.file_path file.new ≡ E.file_path file.old) }
     ensures taken { OnOk result ((pieces : List (List ℕ)) × Adds E.shows editor.old editor.new (map (call.TextPiece (E.file_path file.old)) pieces) × ((text : List ℕ) → reading (Reads text reader.old) bytes.now ≡ Reads (text ++ concat pieces) reader.new) × ((text : List ℕ) → Holds sum.old text → Holds sum.new (text ++ concat pieces))) }
+    ensures refused { IfErr result (λ f. (text : List ℕ) → RefusedFor f (of_stream (reading (Reads text reader.old) bytes.now))) }
 {
     let mut rest = bytes;
     while !rest.is_empty() {

@@ -4,17 +4,15 @@ use Rattle.ra_edit.specs.declared.receive_edit.Given.TheVariants as given
 use Rattle.ra_edit.proofs.Steps.{says_text_end}
 use Rattle.ra_edit.proofs.receive_edit.close_text.Goals as goal
 
-pub returns : goal.returns
-returns g c =
+pub returns-clause-moved : goal.returns-clause-moved
+returns-clause-moved g c =
     let f = c.args.file.now in
     let fp = g.E.Editor.file_path in
     let f' = record f { baton = c.text_end.new.file; given = given.Whole c.in_ok-sum.sum } in
-    record {
-      moved = λ item k. record {
-        calls = call.TextEnd (fp f.baton) ∷ [];
-        token = refl;
-        path = c.in_ok-text_end.ensures.baton;
-        says = says_text_end fp f f' c.args.token.items c.in_ok-sum.sum item c.in_ok-sum.ensures refl (sym c.as_slice.ensures.value ∙ c.is_same.ensures.is c.if-not-is_same.false ∙ c.as_slice-2.ensures.value) k;
-        shown = c.in_ok-text_end.ensures.shown;
-      };
+    λ item k. record {
+      calls = call.TextEnd (fp f.baton) ∷ [];
+      token = refl;
+      path = c.in_ok-text_end.ensures.baton;
+      says = says_text_end fp f f' c.args.token.items c.in_ok-sum.sum item c.in_ok-sum.ensures.ends refl (sym c.as_slice.ensures.value ∙ c.is_same.ensures.is c.if-not-is_same.false ∙ c.as_slice-2.ensures.value) k;
+      shown = c.in_ok-text_end.ensures.shown;
     }

@@ -1,3 +1,7 @@
+use Rattle.std.proofs.lemmas.Result.{err_from_is_err_and}
+use Rattle.std.proofs.Common.{refl, rules}
+use Rattle.ra_edit.specs.declared.fault.WindowFault.TheVariants as failed
+use Rattle.ra_edit.proofs.Refusing.{chunk_refused, same_fault}
 use Rattle.std.proofs.Common.{◌∙◌, ◌++◌, ap, subst}
 use Rattle.std.specs.List.{concat}
 use Rattle.md5.specs.Md5.{Holds}
@@ -19,3 +23,10 @@ loop-rest-preserved g c =
       λ text h. subst (λ t. Holds c.take_stretch.new.sum t) (pieces_join text i.0 q.0 s.bytes.now q.1) (c.in_ok-take_stretch.ensures.sum (text ++ concat i.0) (i.3 text h)),
       c.in_ok-take_stretch.ensures.file ∙ i.4,
     )
+
+pub returns-in_err-stretch-clause-refused : goal.returns-in_err-stretch-clause-refused
+returns-in_err-stretch-clause-refused g c =
+    let p = err_from_is_err_and c.from_residual.result c.from_residual.ensures.1 in
+    let l = c.loop-rest in
+    let f = c.in_err-stretch.field-0.0 in
+    rw (p.1, p.2) (λ text. chunk_refused _ (text ++ concat l.invariant.0) l.reader l.rest.now f (is_failed l.reader) refl (l.invariant.2 text) c.in_err-stretch.ensures.refuses (λ e. same_fault c.next.result f failed.Failed c.in_err-stretch.was (c.next.ensures.failed e)) (λ e. search rules))

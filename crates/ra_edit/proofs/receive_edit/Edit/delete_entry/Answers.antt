@@ -4,15 +4,13 @@ use Rattle.ra_edit.specs.Edits.{Dir, named}
 use Rattle.ra_edit.proofs.Steps.{in_dir, says_delete}
 use Rattle.ra_edit.proofs.receive_edit.Edit.delete_entry.Goals as goal
 
-pub returns : goal.returns
-returns g c =
+pub returns-clause-moved : goal.returns-clause-moved
+returns-clause-moved g c =
     let old = c.args.self.now in
     let mid = c.take_innermost.new.self in
     let d = c.in_ok-dir.dir in
     let t = c.in_ok-dir.ensures in
     let dp = g.E.Editor.dir_path in
-    record {
-      moved = λ at item f h. in_dir dp g.E.Editor.file_path g.E.Editor.shows old.editor mid.editor c.delete_entry-done.new.self old.stage mid.stage old.dirs.items mid.dirs.items c.push_reserved.new.self.items d (record d { baton = c.delete_entry-done.new.up }) old.file mid.file (call.DeleteEntry (dp d.baton) c.args.path c.args.base) (call.DeleteEntry (dp d.baton) c.args.path c.args.base) item at
-          t.taken.0 t.taken.2 c.push_reserved.ensures.items (ap (λ x. named d.token.items x Dir) c.in_ok-done.ensures.up) t.editor t.stage t.file refl
-          (says_delete dp d c.args.path c.args.base c.args.up.items f.0 f.1 item f.2 f.3 f.4 (t.taken.1 ∙ c.as_slice.ensures.value)) h c.in_ok-done.ensures.shown;
-    }
+    λ at item f h. in_dir dp g.E.Editor.file_path g.E.Editor.shows old.editor mid.editor c.delete_entry-done.new.self old.stage mid.stage old.dirs.items mid.dirs.items c.push_reserved.new.self.items d (record d { baton = c.delete_entry-done.new.up }) old.file mid.file (call.DeleteEntry (dp d.baton) c.args.path c.args.base) (call.DeleteEntry (dp d.baton) c.args.path c.args.base) item at
+    t.taken.0 t.taken.2 c.push_reserved.ensures.items (ap (λ x. named d.token.items x Dir) c.in_ok-done.ensures.up) t.editor t.stage t.file refl
+    (says_delete dp d c.args.path c.args.base c.args.up.items f.0 f.1 item f.2 f.3 f.4 (t.taken.1 ∙ c.as_slice.ensures.value)) h c.in_ok-done.ensures.shown

@@ -5,14 +5,12 @@ use Rattle.ra_edit.specs.Edits.{Dir, named}
 use Rattle.ra_edit.proofs.Steps.{dir_at, open_at, prop_in_dir}
 use Rattle.ra_edit.proofs.receive_edit.Edit.dir_prop.Goals as goal
 
-pub returns : goal.returns
-returns g c =
+pub returns-clause-moved : goal.returns-clause-moved
+returns-clause-moved g c =
     let old = c.args.self.now in
     let dp = g.E.Editor.dir_path in
     let r = c.index_mut-dir.result.now in
     let e = record r { baton = c.dir_prop.new.dir } in
     let t = c.args.token.items in
     let k = dir_at dp old.dirs.items c.in_ok-at.at r e c.as_slice.result.now t c.in_ok-at.ensures.found c.as_slice.ensures.value c.index_mut-dir.ensures.value (ap (λ x. named r.token.items x Dir) c.in_ok-dir_prop.ensures.baton) in
-    record {
-      moved = λ at item f h. prop_in_dir dp g.E.Editor.file_path g.E.Editor.shows old.editor c.dir_prop.new.self old.stage old.dirs.items (slice_set old.dirs.items c.in_ok-at.at e) old.file t (dp r.baton) c.args.name (option_map (λ s. s.items) c.args.value) (option_map (λ v. v.now) c.slice_of.result) f.0 f.1 item at (ap reverse k.3) (open_at _ k.0 k.1 t (dp r.baton) k.2) c.slice_of.ensures f.2 f.3 f.4 h c.in_ok-dir_prop.ensures.shown;
-    }
+    λ at item f h. prop_in_dir dp g.E.Editor.file_path g.E.Editor.shows old.editor c.dir_prop.new.self old.stage old.dirs.items (slice_set old.dirs.items c.in_ok-at.at e) old.file t (dp r.baton) c.args.name (option_map (λ s. s.items) c.args.value) (option_map (λ v. v.now) c.slice_of.result) f.0 f.1 item at (ap reverse k.3) (open_at _ k.0 k.1 t (dp r.baton) k.2) c.slice_of.ensures f.2 f.3 f.4 h c.in_ok-dir_prop.ensures.shown

@@ -1,0 +1,114 @@
+-- What a command is refused for, where the commands so far stand.
+use Rattle.std.specs.Prelude.{◌≡◌, ℕ, Bool, true, false, ◌&&◌, ◌||◌, if◌then◌else◌, List, [], ◌∷◌, Option, Some, None, Result, Ok, Err}
+use Rattle.md5.specs.Md5.{md5}
+use Rattle.node_base.specs.Path.{same_name}
+use Rattle.ra_edit.specs.EditFaults.{of_window}
+use Rattle.ra_edit.specs.Edits.{Held, Dir, Fresh, Within, Told, Named, is_free, At, Begun, Targeted, Inside, Announced, Ended}
+use Rattle.ra_edit.specs.Reading.{is_between, is_failed}
+use Rattle.ra_edit.specs.Streams.{Stream, Reads, Refuses, reading}
+use Rattle.ra_edit.specs.declared.command_fault.CommandFault.{CommandFault}
+use Rattle.ra_edit.specs.declared.command_fault.CommandFault.TheVariants as fault
+use Rattle.ra_edit.specs.declared.receive_command.Command.{Command}
+use Rattle.ra_edit.specs.declared.receive_command.Command.TheVariants as command
+
+-- what is open
+abbrev pub open_of : At → List Named
+open_of (Inside os) = os
+open_of _ = []
+
+abbrev pub unless : Bool → CommandFault → Option CommandFault
+unless true f = None
+unless false f = Some f
+
+abbrev pub is_dir : Held → Bool
+is_dir Dir = true
+is_dir _ = false
+
+-- the innermost open thing is a directory with this token
+abbrev pub is_in_dir : List ℕ → List Named → Bool
+is_in_dir t [] = false
+is_in_dir t (o ∷ os) = is_dir o.held && same_name o.token t
+
+-- a directory is open by this token
+abbrev pub has_dir : List ℕ → List Named → Bool
+has_dir t [] = false
+has_dir t (o ∷ os) = (is_dir o.held && same_name o.token t) || has_dir t os
+
+-- the token is the one that was given, and then what else there is
+abbrev pub for_token : List ℕ → List ℕ → Option CommandFault → Option CommandFault
+for_token t found what = if same_name found t then what else Some fault.BadToken
+
+-- the innermost open thing is a file with this token, and then what its text asks for
+abbrev pub in_file : List ℕ → List Named → (Held → Option CommandFault) → Option CommandFault
+in_file t [] f = Some fault.BadToken
+in_file t (o ∷ os) f = if is_dir o.held then Some fault.BadToken else for_token t o.token (f o.held)
+
+abbrev pub at_start : Held → Option CommandFault
+at_start Fresh = None
+at_start _ = Some fault.BadShape
+
+abbrev pub of_stream : Stream → Option CommandFault
+of_stream (Reads text r) = None
+of_stream (Refuses text f) = Some (of_window f)
+
+abbrev pub at_chunk : List ℕ → Held → Option CommandFault
+at_chunk bytes (Within text r) = of_stream (reading (Reads text r) bytes)
+at_chunk bytes _ = Some fault.BadShape
+
+-- a text ends between windows, where its bytes weren't refused
+abbrev pub at_end : Held → Option CommandFault
+at_end (Within text r) = if is_failed r then Some fault.Failed else unless (is_between r) fault.BadWindow
+at_end _ = Some fault.BadShape
+
+abbrev pub sums : Option (List ℕ) → List ℕ → Bool
+sums None text = true
+sums (Some s) text = same_name s (md5 text)
+
+abbrev pub at_close : Option (List ℕ) → Held → Option CommandFault
+at_close sum (Told text) = unless (sums sum text) fault.BadSum
+at_close sum Fresh = None
+at_close sum _ = Some fault.BadShape
+
+-- `finish-replay`
+abbrev pub is_finish : Command → Bool
+is_finish command.Finish = true
+is_finish _ = false
+
+-- what a command is refused for before the end was announced, but for memory and the editor's own refusals
+abbrev pub due : At → Command → Option CommandFault
+due Begun (command.Target n) = None
+due at (command.Target n) = Some fault.BadShape
+due (Inside os) (command.OpenRoot base t) = Some fault.BadShape
+due (Announced root) (command.OpenRoot base t) = Some fault.BadShape
+due at (command.OpenRoot base t) = None
+due at (command.DeleteEntry p base u) = unless (is_in_dir u.items (open_of at)) fault.BadToken
+due at (command.AddDir p u t from) = unless (is_free t.items (open_of at) && is_in_dir u.items (open_of at)) fault.BadToken
+due at (command.OpenDir p u t base) = unless (is_free t.items (open_of at) && is_in_dir u.items (open_of at)) fault.BadToken
+due at (command.AddFile p u t from) = unless (is_free t.items (open_of at) && is_in_dir u.items (open_of at)) fault.BadToken
+due at (command.OpenFile p u t base) = unless (is_free t.items (open_of at) && is_in_dir u.items (open_of at)) fault.BadToken
+due at (command.DirProp t n value) = unless (has_dir t.items (open_of at)) fault.BadToken
+due at (command.CloseDir t) = unless (is_in_dir t.items (open_of at)) fault.BadToken
+due at (command.FileProp t n value) = in_file t.items (open_of at) (λ held. None)
+due at (command.TextStart t) = in_file t.items (open_of at) at_start
+due at (command.Chunk t bytes) = in_file t.items (open_of at) (at_chunk bytes.items)
+due at (command.TextEnd t) = in_file t.items (open_of at) at_end
+due at (command.CloseFile t sum) = in_file t.items (open_of at) (at_close sum)
+due (Inside (o ∷ os)) command.CloseEdit = Some fault.BadToken
+due (Announced root) command.CloseEdit = Some fault.BadShape
+due at command.CloseEdit = None
+due (Inside (o ∷ os)) command.Finish = Some fault.BadToken
+due at command.Finish = None
+due at command.Abort = Some fault.Refused
+
+-- behind `close-edit` nothing but the end comes
+abbrev pub refusal : At → Command → Option CommandFault
+refusal (Announced root) command.Finish = None
+refusal (Announced root) command.Abort = Some fault.Refused
+refusal (Announced root) c = Some fault.BadShape
+refusal at c = due at c
+
+-- why a command wasn't done: memory, the editor, or this
+abbrev pub RefusedFor : CommandFault → Option CommandFault → Type 0
+RefusedFor fault.OutOfMemory what = Unit {0}
+RefusedFor (fault.Editor e) what = Unit {0}
+RefusedFor f what = what ≡ Some f
