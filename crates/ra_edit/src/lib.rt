@@ -24,6 +24,8 @@ pub mod receive_command;
 mod receive_edit;
 #[cfg(test)]
 mod receive_tests;
+#[cfg(test)]
+mod received_tests;
 pub mod shape_fault;
 pub mod stream;
 #[cfg(test)]
