@@ -13,5 +13,6 @@ pub mod Receiving
 pub mod Refusing
 pub mod Steps
 pub mod Drives
+pub mod NothingDue
 pub mod OneEdit
 pub mod WrittenReceived

@@ -32,7 +32,7 @@ said calls to = Some (calls, to)
 
 -- ---- parameters
 
-abbrev ok_of : {T E : Type 0} → Result T E → Option T
+abbrev pub ok_of : {T E : Type 0} → Result T E → Option T
 ok_of (Ok x) = Some x
 ok_of (Err e) = None
 
@@ -44,11 +44,11 @@ abbrev base_of : Item → Option ℕ
 base_of (Nested (Then (Number n) more)) = Some n
 base_of _ = None
 
-abbrev string_of : Item → Option (List ℕ)
+abbrev pub string_of : Item → Option (List ℕ)
 string_of (Nested (Then (Text t) more)) = Some t
 string_of _ = None
 
-abbrev sum_of : Item → Option (List ℕ)
+abbrev pub sum_of : Item → Option (List ℕ)
 sum_of s = option_and_then (λ digits. ok_of (decode_sized digits 16)) (string_of s)
 
 -- a text behind one slash or none
@@ -72,7 +72,7 @@ string_says : (s : Option (List ℕ)) (x : Item) → IsString s x → string_of 
 string_says None x h = ap string_of h
 string_says (Some s) x h = ap string_of h.1
 
-sum_says : (s : Option (List ℕ)) (x : Item) → IsSum s x → sum_of x ≡ s
+pub sum_says : (s : Option (List ℕ)) (x : Item) → IsSum s x → sum_of x ≡ s
 sum_says None x h = ap sum_of h
 sum_says (Some s) x h = ap sum_of h.3 ∙ ap ok_of h.2
 

@@ -3,7 +3,10 @@ use Rattle.std.specs.Prelude.{◌≡◌, ℕ, Bool, true, false, ◌&&◌, ◌||
 use Rattle.md5.specs.Md5.{md5}
 use Rattle.node_base.specs.Path.{same_name}
 use Rattle.ra_edit.specs.EditFaults.{of_window}
-use Rattle.ra_edit.specs.Edits.{Held, Dir, Fresh, Within, Told, Named, is_free, At, Begun, Targeted, Inside, Announced, Ended}
+use Rattle.ra_item.specs.Items.{Item}
+use Rattle.delta_editor.specs.declared.call.Call.{Call}
+use Rattle.ra_edit.specs.Edits.{Held, Dir, Fresh, Within, Told, Named, is_free, At, Begun, Targeted, Inside, Announced, Ended, Says}
+use Rattle.ra_edit.specs.Receiving.{Forms}
 use Rattle.ra_edit.specs.Reading.{is_between, is_failed}
 use Rattle.ra_edit.specs.Streams.{Stream, Reads, Refuses, reading}
 use Rattle.ra_edit.specs.declared.command_fault.CommandFault.{CommandFault}
@@ -112,3 +115,7 @@ abbrev pub RefusedFor : CommandFault → Option CommandFault → Type 0
 RefusedFor fault.OutOfMemory what = Unit {0}
 RefusedFor (fault.Editor e) what = Unit {0}
 RefusedFor f what = what ≡ Some f
+
+-- an item that is an edit's next is no command that is refused where the commands stand
+abbrev pub NothingDue : Type 0
+NothingDue = (at to : At) (item : Item) (calls : List Call) (c : Command) → Says at item calls to → Forms c item → refusal at c ≡ None

@@ -1,6 +1,7 @@
 //! Laws of texts in windows, over all bytes, and of edits in items. Each is proved as the contract of a function that does nothing.
 
 ghost use Rattle.ra_edit.specs.EditLaws.{WrittenIsEdit, OneEdit, EndsOnce, WrittenIsReceived};
+ghost use Rattle.ra_edit.specs.Refusals.{NothingDue};
 ghost use Rattle.ra_edit.specs.Laws.{PiecesJoin, TextsAreRead, OneText, WrittenIsText, WrittenIsRead, ReadIsText};
 
 /// It doesn't matter how bytes are cut into pieces.
@@ -46,6 +47,11 @@ pub fn one_edit()
 /// No edit begins with another one.
 pub fn ends_once()
     ensures { EndsOnce }
+{}
+
+/// An item that is an edit's next, where the commands stand, is refused for nothing that it says.
+pub fn nothing_due()
+    ensures { NothingDue }
 {}
 
 /// What was written is received as the same calls, however its bytes and its texts are cut and whatever follows it.

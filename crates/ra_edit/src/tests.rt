@@ -212,5 +212,9 @@ fn laws_are_called(rt: HostRuntime) {
     law::written_is_read();
     law::read_is_text();
     law::written_is_edit();
+    law::one_edit();
+    law::ends_once();
+    law::written_is_received();
+    law::nothing_due();
     assert!(rt; WindowFault::CopyWindow.number() == 45);
 }
