@@ -2,8 +2,8 @@
 use crate::tests::{bare, commit, dir, file, path, props, set_of, two_revisions};
 use crate::{BuildEditor, BuiltDir, drive};
 use delta_editor::{Editor, EditorFault};
-use dump_load::{Change, ChangeSet, apply};
-use node_base::{Action, Node, PropName, RevNo, Source};
+use dump_load::{Change, ChangeSet, apply, in_path_order};
+use node_base::{Action, Node, NodeKind, PropName, RevNo, Source};
 use path_tree::{Entry, Tree};
 use std::alloc::Global;
 use std::cmp::Ordering;
@@ -438,5 +438,43 @@ fn a_set_of_too_many_changes(rt: HostRuntime) -> Result<(), Fail> {
     let trees = over_two(&rt, alloc)?;
     assert!(rt; add_many(alloc, trees.as_slice(), 4_096) == Ok(4_096));
     assert!(rt; add_many(alloc, trees.as_slice(), 4_097) == Err(EditorFault::TooLong));
+    Ok(())
+}
+
+// So many empty files in t, whose names are numbers.
+fn files_in_t(rt: &impl Abort, alloc: Global, count: u16) -> Result<ChangeSet, Fail> {
+    let mut changes = Vec::new(alloc);
+    for i in 0..count {
+        let at = format!(in alloc; "t/{i}")?;
+        changes.push(file(alloc, at.as_str(), "")?)?;
+    }
+    Ok(set_of(rt, in_path_order(changes)?))
+}
+
+fn adds_a_file(change: &Change) -> bool {
+    change.action == Action::Add && change.kind == Some(NodeKind::File)
+}
+
+// Whether a set adds so many files and changes nothing else.
+fn adds_files_alone(set: &ChangeSet, count: usize) -> bool {
+    for change in set.changes() {
+        if !adds_a_file(change) {
+            return false;
+        }
+    }
+    set.changes().len() == count
+}
+
+// Of the root, t and 4,096 files, which are all opened or added, the files alone are changes of the set.
+#[test]
+fn the_way_to_many_files_is_no_change(rt: HostRuntime) -> Result<(), Fail> {
+    let alloc = rt.alloc();
+    let trees = over_two(&rt, alloc)?;
+    let most = files_in_t(&rt, alloc, 4_096)?;
+    let again = built(alloc, trees.as_slice(), &most)?;
+    assert!(rt; adds_files_alone(&again, 4_096));
+    let more = files_in_t(&rt, alloc, 4_097)?;
+    let refused = built(alloc, trees.as_slice(), &more);
+    assert!(rt; refused.is_err_and(|fault| fault.number() == 8));
     Ok(())
 }
