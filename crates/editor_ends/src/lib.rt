@@ -22,6 +22,7 @@ mod generated_tests;
 pub mod law;
 mod parts;
 mod plan;
+mod progress;
 mod props;
 mod show;
 #[cfg(test)]

@@ -9,11 +9,12 @@ ghost use Rattle.dump_load.specs.Walk.{Walked};
 ghost use Rattle.editor_ends.specs.Drive.{of_file, old_props};
 ghost use Rattle.editor_ends.specs.Shown.{IsOwn};
 
+use crate::progress::{Progress, Revision};
 use delta_editor::EditorFault;
 use dump_load::{Change, fault_of, judged, source_node, step};
 use node_base::{NodeKind, Props};
 use path_tree::Tree;
-use std::alloc::{AllocError, Global};
+use std::alloc::AllocError;
 
 /// What is known of a change before it is made.
 #[derive(Drop)]
@@ -52,32 +53,28 @@ fn old_props(trees: &[Tree], tree: &Tree, change: &Change) -> Result<Props, Allo
 }
 
 /// Makes the next change in the tree that those before it left, where it has no fault there.
-pub fn advance(
-    alloc: Global,
-    trees: &[Tree],
-    set: &[Change],
-    next: &mut usize,
-    tree: &mut Tree,
-) -> Result<Plan, EditorFault>
-    requires few { length trees.now ≤ 65535 }
-    requires normal { IsNormal set.now }
-    requires here { next.old < length set.now }
-    requires walked { Walked trees.now set.now next.old tree.old }
-    ensures walked { OnOk result (Walked trees.now set.now next.new tree.new) }
-    ensures next { OnOk result (next.new ≡ next.old + 1) }
-    ensures plan { IfOk result (λ p. (c : Change) → slice_get set.now next.old ≡ Some c → (p.file ≡ of_file trees.now (map.get tree.old) c) × (p.old ≡ old_props trees.now (map.get tree.old) c)) }
-    ensures faultless { OnOk result ((c : Change) → slice_get set.now next.old ≡ Some c → fault_of trees.now (map.get tree.old) c ≡ None) }
-    ensures own { IfErr result (IsOwn trees.now set.now) }
+pub fn advance(revision: &Revision<'_>, progress: &mut Progress) -> Result<Plan, EditorFault>
+    requires few { length revision.now.trees.now ≤ 65535 }
+    requires normal { IsNormal revision.now.set.now }
+    requires here { progress.old.next < length revision.now.set.now }
+    requires walked { Walked revision.now.trees.now revision.now.set.now progress.old.next progress.old.tree }
+    ensures walked { OnOk result (Walked revision.now.trees.now revision.now.set.now progress.new.next progress.new.tree) }
+    ensures next { OnOk result (progress.new.next ≡ progress.old.next + 1) }
+    ensures plan { IfOk result (λ p. (c : Change) → slice_get revision.now.set.now progress.old.next ≡ Some c → (p.file ≡ of_file revision.now.trees.now (map.get progress.old.tree) c) × (p.old ≡ old_props revision.now.trees.now (map.get progress.old.tree) c)) }
+    ensures faultless { OnOk result ((c : Change) → slice_get revision.now.set.now progress.old.next ≡ Some c → fault_of revision.now.trees.now (map.get progress.old.tree) c ≡ None) }
+    ensures own { IfErr result (IsOwn revision.now.trees.now revision.now.set.now) }
 {
-    let change = &set[*next];
-    if let Some(fault) = fault_of(trees, tree, change) {
+    let trees = revision.trees;
+    let set = revision.set;
+    let change = &set[progress.next];
+    if let Some(fault) = fault_of(trees, &progress.tree, change) {
         return Err(EditorFault::from(fault));
     }
     let plan = Plan {
-        file: is_of_file(trees, tree, change),
-        old: old_props(trees, tree, change)?,
+        file: is_of_file(trees, &progress.tree, change),
+        old: old_props(trees, &progress.tree, change)?,
     };
-    step(alloc, trees, tree, change)?;
-    *next += 1;
+    step(revision.alloc, trees, &mut progress.tree, change)?;
+    progress.next += 1;
     Ok(plan)
 }

@@ -18,6 +18,7 @@ ghost use Rattle.editor_ends.specs.Shown.{Shown, Stops, Halts, left, is_under, I
 
 use crate::parts::{base_of, show_dir, show_file};
 use crate::plan::{Plan, advance};
+use crate::progress::{Progress, Revision};
 use crate::props::give_dir;
 use delta_editor::{Editor, EditorFault};
 use dump_load::{Change, ChangeSet, begin, next_number};
@@ -56,35 +57,33 @@ fn show_change<E: Editor>(
 
 // The directory on the way to the next change, which is opened, or that change, which is shown.
 fn enter<E: Editor>(
-    alloc: Global,
-    trees: &[Tree],
-    set: &[Change],
-    next: &mut usize,
-    tree: &mut Tree,
+    revision: &Revision<'_>,
+    progress: &mut Progress,
     editor: &mut E,
     up: &mut E::Dir,
     path: &NodePath,
 ) -> Result<Option<E::Dir>, EditorFault>
-    requires few { length trees.now ≤ 65535 }
-    requires normal { IsNormal set.now }
-    requires here { next.old < length set.now }
-    requires walked { Walked trees.now set.now next.old tree.old }
-    requires child { IsNext set.now next.old (E.dir_path up.old) path.now }
-    ensures walked { OnOk result (Walked trees.now set.now next.new tree.new) }
-    ensures within { OnOk result (next.new ≤ length set.now) }
-    ensures moved { IfOk result (λ o. MatchOption o (next.old < next.new) (λ _. next.old ≤ next.new)) }
-    ensures later { IfOk result (λ o. MatchOption o (E.dir_path up.old ≡ E.dir_path up.old) (λ _. IsLater set.now next.new path.now)) }
+    requires few { length revision.now.trees.now ≤ 65535 }
+    requires normal { IsNormal revision.now.set.now }
+    requires here { progress.old.next < length revision.now.set.now }
+    requires walked { Walked revision.now.trees.now revision.now.set.now progress.old.next progress.old.tree }
+    requires child { IsNext revision.now.set.now progress.old.next (E.dir_path up.old) path.now }
+    ensures walked { OnOk result (Walked revision.now.trees.now revision.now.set.now progress.new.next progress.new.tree) }
+    ensures within { OnOk result (progress.new.next ≤ length revision.now.set.now) }
+    ensures moved { IfOk result (λ o. MatchOption o (progress.old.next < progress.new.next) (λ _. progress.old.next ≤ progress.new.next)) }
+    ensures later { IfOk result (λ o. MatchOption o (E.dir_path up.old ≡ E.dir_path up.old) (λ _. IsLater revision.now.set.now progress.new.next path.now)) }
     ensures up { E.dir_path up.new ≡ E.dir_path up.old }
-    ensures shown { IfOk result (Entered E.shows E.dir_path editor.old editor.new (left trees.now set.now next.old (E.dir_path up.old)) (left trees.now set.now next.new) (E.dir_path up.old) path.now) }
-    ensures halts { IfErr result (Halts E.shows E.over E.refuses trees.now set.now editor.old (left trees.now set.now next.old (E.dir_path up.old))) }
+    ensures shown { IfOk result (Entered E.shows E.dir_path editor.old editor.new (left revision.now.trees.now revision.now.set.now progress.old.next (E.dir_path up.old)) (left revision.now.trees.now revision.now.set.now progress.new.next) (E.dir_path up.old) path.now) }
+    ensures halts { IfErr result (Halts E.shows E.over E.refuses revision.now.trees.now revision.now.set.now editor.old (left revision.now.trees.now revision.now.set.now progress.old.next (E.dir_path up.old))) }
     ensures over { E.over editor.new ≡ E.over editor.old }
 {
-    if set[*next].path.names().len() > path.names().len() {
-        return Ok(Some(editor.open_dir(up, path, base_of(trees))?));
+    let set = revision.set;
+    let change = &set[progress.next];
+    if change.path.names().len() > path.names().len() {
+        return Ok(Some(editor.open_dir(up, path, base_of(revision.trees))?));
     }
-    let at = *next;
-    let plan = advance(alloc, trees, set, next, tree)?;
-    show_change(trees, &set[at], &plan, editor, up)
+    let plan = advance(revision, progress)?;
+    show_change(revision.trees, change, &plan, editor, up)
 }
 
 // The path right below a directory, on the way to the next change, where that is below the directory.
@@ -117,40 +116,37 @@ fn child_of(
 
 // Shows the changes from the next one on that are below a directory, the innermost that is open.
 fn show_below<E: Editor>(
-    alloc: Global,
-    trees: &[Tree],
-    set: &[Change],
-    next: &mut usize,
-    tree: &mut Tree,
+    revision: &Revision<'_>,
+    progress: &mut Progress,
     editor: &mut E,
     dir: &mut E::Dir,
     at: &NodePath,
 ) -> Result<(), EditorFault>
-    requires few { length trees.now ≤ 65535 }
-    requires normal { IsNormal set.now }
-    requires within { next.old ≤ length set.now }
-    requires walked { Walked trees.now set.now next.old tree.old }
+    requires few { length revision.now.trees.now ≤ 65535 }
+    requires normal { IsNormal revision.now.set.now }
+    requires within { progress.old.next ≤ length revision.now.set.now }
+    requires walked { Walked revision.now.trees.now revision.now.set.now progress.old.next progress.old.tree }
     requires at { E.dir_path dir.old ≡ at.now }
-    requires later { IsLater set.now next.old at.now }
-    ensures walked { OnOk result (Walked trees.now set.now next.new tree.new) }
-    ensures within { OnOk result (next.new ≤ length set.now) }
-    ensures moved { OnOk result (next.old ≤ next.new) }
+    requires later { IsLater revision.now.set.now progress.old.next at.now }
+    ensures walked { OnOk result (Walked revision.now.trees.now revision.now.set.now progress.new.next progress.new.tree) }
+    ensures within { OnOk result (progress.new.next ≤ length revision.now.set.now) }
+    ensures moved { OnOk result (progress.old.next ≤ progress.new.next) }
     ensures baton { E.dir_path dir.new ≡ E.dir_path dir.old }
-    ensures past { OnOk result (is_under set.now next.new at.now ≡ false) }
-    ensures shown { OnOk result (Shown E.shows editor.old editor.new (left trees.now set.now next.old at.now) (left trees.now set.now next.new at.now)) }
-    ensures halts { IfErr result (Halts E.shows E.over E.refuses trees.now set.now editor.old (left trees.now set.now next.old at.now)) }
+    ensures past { OnOk result (is_under revision.now.set.now progress.new.next at.now ≡ false) }
+    ensures shown { OnOk result (Shown E.shows editor.old editor.new (left revision.now.trees.now revision.now.set.now progress.old.next at.now) (left revision.now.trees.now revision.now.set.now progress.new.next at.now)) }
+    ensures halts { IfErr result (Halts E.shows E.over E.refuses revision.now.trees.now revision.now.set.now editor.old (left revision.now.trees.now revision.now.set.now progress.old.next at.now)) }
     ensures over { E.over editor.new ≡ E.over editor.old }
 {
     loop {
-        let path = match child_of(alloc, set, *next, at)? {
+        let path = match child_of(revision.alloc, revision.set, progress.next, at)? {
             None => return Ok(()),
             Some(path) => path,
         };
-        let mut child = match enter(alloc, trees, set, next, tree, editor, dir, &path)? {
+        let mut child = match enter(revision, progress, editor, dir, &path)? {
             None => continue,
             Some(child) => child,
         };
-        match show_below(alloc, trees, set, next, tree, editor, &mut child, &path) {
+        match show_below(revision, progress, editor, &mut child, &path) {
             Ok(()) => editor.close_dir(child)?,
             Err(fault) => {
                 editor.discard_dir(child);
@@ -162,80 +158,73 @@ fn show_below<E: Editor>(
 
 // Shows the change of the root itself, where the set has one.
 fn show_root<E: Editor>(
-    alloc: Global,
-    trees: &[Tree],
-    set: &[Change],
-    next: &mut usize,
-    tree: &mut Tree,
+    revision: &Revision<'_>,
+    progress: &mut Progress,
     editor: &mut E,
     root: &mut E::Dir,
 ) -> Result<(), EditorFault>
-    requires few { length trees.now ≤ 65535 }
-    requires normal { IsNormal set.now }
-    requires first { next.old ≡ 0 }
-    requires walked { Walked trees.now set.now next.old tree.old }
+    requires few { length revision.now.trees.now ≤ 65535 }
+    requires normal { IsNormal revision.now.set.now }
+    requires first { progress.old.next ≡ 0 }
+    requires walked { Walked revision.now.trees.now revision.now.set.now progress.old.next progress.old.tree }
     requires at { E.dir_path root.old ≡ [] }
-    ensures walked { OnOk result (Walked trees.now set.now next.new tree.new) }
-    ensures within { OnOk result (next.new ≤ length set.now) }
-    ensures later { OnOk result (IsLater set.now next.new []) }
+    ensures walked { OnOk result (Walked revision.now.trees.now revision.now.set.now progress.new.next progress.new.tree) }
+    ensures within { OnOk result (progress.new.next ≤ length revision.now.set.now) }
+    ensures later { OnOk result (IsLater revision.now.set.now progress.new.next []) }
     ensures baton { E.dir_path root.new ≡ E.dir_path root.old }
-    ensures shown { OnOk result (Shown E.shows editor.old editor.new (left trees.now set.now next.old []) (left trees.now set.now next.new [])) }
-    ensures halts { IfErr result (Halts E.shows E.over E.refuses trees.now set.now editor.old (left trees.now set.now next.old [])) }
+    ensures shown { OnOk result (Shown E.shows editor.old editor.new (left revision.now.trees.now revision.now.set.now progress.old.next []) (left revision.now.trees.now revision.now.set.now progress.new.next [])) }
+    ensures halts { IfErr result (Halts E.shows E.over E.refuses revision.now.trees.now revision.now.set.now editor.old (left revision.now.trees.now revision.now.set.now progress.old.next [])) }
     ensures over { E.over editor.new ≡ E.over editor.old }
 {
-    if *next >= set.len() {
+    let set = revision.set;
+    if progress.next >= set.len() {
         return Ok(());
     }
-    let change = &set[*next];
+    let change = &set[progress.next];
     if !change.path.is_root() {
         return Ok(());
     }
-    tree.is_tree();
-    let plan = advance(alloc, trees, set, next, tree)?;
+    progress.tree.is_tree();
+    let plan = advance(revision, progress)?;
     give_dir(editor, root, change, &plan.old)
 }
 
 // Shows all changes in the root that is open.
 fn show_all<E: Editor>(
-    alloc: Global,
-    trees: &[Tree],
-    set: &[Change],
+    revision: &Revision<'_>,
     editor: &mut E,
     root: &mut E::Dir,
 ) -> Result<(), EditorFault>
-    requires few { length trees.now ≤ 65535 }
-    requires normal { IsNormal set.now }
+    requires few { length revision.now.trees.now ≤ 65535 }
+    requires normal { IsNormal revision.now.set.now }
     requires at { E.dir_path root.old ≡ [] }
-    ensures faultless { OnOk result (fault trees.now set.now ≡ None) }
+    ensures faultless { OnOk result (fault revision.now.trees.now revision.now.set.now ≡ None) }
     ensures baton { E.dir_path root.new ≡ E.dir_path root.old }
-    ensures shown { OnOk result (Adds E.shows editor.old editor.new (walk trees.now [] [] set.now)) }
-    ensures halts { IfErr result (Halts E.shows E.over E.refuses trees.now set.now editor.old (walk trees.now [] [] set.now)) }
+    ensures shown { OnOk result (Adds E.shows editor.old editor.new (walk revision.now.trees.now [] [] revision.now.set.now)) }
+    ensures halts { IfErr result (Halts E.shows E.over E.refuses revision.now.trees.now revision.now.set.now editor.old (walk revision.now.trees.now [] [] revision.now.set.now)) }
     ensures over { E.over editor.new ≡ E.over editor.old }
 {
-    let mut tree = begin(alloc, trees)?;
-    let mut next = 0;
-    show_root(alloc, trees, set, &mut next, &mut tree, editor, root)?;
-    let at = NodePath::root(alloc);
-    show_below(alloc, trees, set, &mut next, &mut tree, editor, root, &at)
+    let mut progress = Progress {
+        next: 0,
+        tree: begin(revision.alloc, revision.trees)?,
+    };
+    show_root(revision, &mut progress, editor, root)?;
+    let at = NodePath::root(revision.alloc);
+    show_below(revision, &mut progress, editor, root, &at)
 }
 
 // Shows the whole edit but its end.
-fn show_edit<E: Editor>(
-    alloc: Global,
-    trees: &[Tree],
-    set: &[Change],
-    editor: &mut E,
-) -> Result<(), EditorFault>
-    requires few { length trees.now ≤ 65535 }
-    requires normal { IsNormal set.now }
-    ensures faultless { OnOk result (fault trees.now set.now ≡ None) }
-    ensures shown { OnOk result (Adds E.shows editor.old editor.new (call.Target (length trees.now) ∷ call.OpenRoot (base_number trees.now) ∷ (walk trees.now [] [] set.now ++ call.CloseDir [] ∷ []))) }
-    ensures halts { IfErr result (Halts E.shows E.over E.refuses trees.now set.now editor.old (calls.drive trees.now set.now)) }
+fn show_edit<E: Editor>(revision: &Revision<'_>, editor: &mut E) -> Result<(), EditorFault>
+    requires few { length revision.now.trees.now ≤ 65535 }
+    requires normal { IsNormal revision.now.set.now }
+    ensures faultless { OnOk result (fault revision.now.trees.now revision.now.set.now ≡ None) }
+    ensures shown { OnOk result (Adds E.shows editor.old editor.new (call.Target (length revision.now.trees.now) ∷ call.OpenRoot (base_number revision.now.trees.now) ∷ (walk revision.now.trees.now [] [] revision.now.set.now ++ call.CloseDir [] ∷ []))) }
+    ensures halts { IfErr result (Halts E.shows E.over E.refuses revision.now.trees.now revision.now.set.now editor.old (calls.drive revision.now.trees.now revision.now.set.now)) }
     ensures over { E.over editor.new ≡ E.over editor.old }
 {
-    editor.target(next_number(trees))?;
-    let mut root = editor.open_root(base_of(trees))?;
-    match show_all(alloc, trees, set, editor, &mut root) {
+    editor.target(next_number(revision.trees))?;
+    let mut root = editor.open_root(base_of(revision.trees))?;
+    match show_all(revision, editor, &mut root) {
         Ok(()) => editor.close_dir(root),
         Err(fault) => {
             editor.discard_dir(root);
@@ -268,8 +257,13 @@ pub fn drive<E: Editor>(
     ensures effect { OnOk result ((q : Path) → call_effect trees.now (calls.drive trees.now set.now) q ≡ effect trees.now set.now q) }
     ensures refused { IfErr result (IsDriveRefusal E.refuses (E.over editor) trees.now set.now) }
 {
+    let revision = Revision {
+        alloc,
+        trees,
+        set: set.changes(),
+    };
     let mut editor = editor;
-    match show_edit(alloc, trees, set.changes(), &mut editor) {
+    match show_edit(&revision, &mut editor) {
         Ok(()) => editor.close_edit(),
         Err(fault) => {
             editor.abort_edit();

@@ -7,14 +7,14 @@ abbrev pub decreases-show_below : goal.decreases-show_below
 decreases-show_below g l = 64 - length l.at.now
 
 abbrev pub decreases-loop-path : goal.decreases-loop-path
-decreases-loop-path g l = length l.set - l.next
+decreases-loop-path g l = length l.revision.set.now - l.progress.next
 
 abbrev pub invariant-loop-path : goal.invariant-loop-path
 invariant-loop-path g l =
-    Walked l.trees l.set l.next l.tree
-    × (l.next ≤ length l.set)
-    × (l.fn.next ≤ l.next)
+    Walked l.revision.trees.now l.revision.set.now l.progress.next l.progress.tree
+    × (l.progress.next ≤ length l.revision.set.now)
+    × (l.fn.progress.next ≤ l.progress.next)
     × (g.E.Editor.dir_path l.dir ≡ l.at)
-    × IsLater l.set l.next l.at
+    × IsLater l.revision.set.now l.progress.next l.at
     × (g.E.Editor.over l.editor ≡ g.E.Editor.over l.fn.editor)
-    × Shown g.E.Editor.shows l.fn.editor l.editor (left l.trees l.set l.fn.next l.at) (left l.trees l.set l.next l.at)
+    × Shown g.E.Editor.shows l.fn.editor l.editor (left l.revision.trees.now l.revision.set.now l.fn.progress.next l.at) (left l.revision.trees.now l.revision.set.now l.progress.next l.at)
