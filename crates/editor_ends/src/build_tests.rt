@@ -3,7 +3,7 @@ use crate::tests::{bare, commit, dir, file, path, props, set_of, two_revisions};
 use crate::{BuildEditor, BuiltDir, drive};
 use delta_editor::{Editor, EditorFault};
 use dump_load::{Change, ChangeSet, apply, in_path_order};
-use node_base::{Action, Node, NodeKind, PropName, RevNo, Source};
+use node_base::{Action, Node, NodeKind, NodePath, PropName, RevNo, Source};
 use path_tree::{Entry, Tree};
 use std::alloc::Global;
 use std::cmp::Ordering;
@@ -123,6 +123,32 @@ fn a_deletion_under_a_copy_is_built_again(rt: HostRuntime) -> Result<(), Fail> {
     Ok(())
 }
 
+// Whether a set is one change, a copy of a path at a revision.
+fn is_copy_of(set: &ChangeSet, path: &NodePath, revision: u16) -> bool {
+    match set.changes() {
+        [change] => match &change.source {
+            Some(source) => {
+                source.path.compare(path) == Ordering::Equal && source.revision.get() == revision
+            }
+            None => false,
+        },
+        _ => false,
+    }
+}
+
+// An add of the same bytes would have the same effect.
+#[test]
+fn a_copied_file_is_built_as_a_copy(rt: HostRuntime) -> Result<(), Fail> {
+    let alloc = rt.alloc();
+    let trees = over_two(&rt, alloc)?;
+    let mut changes = Vec::new(alloc);
+    changes.push(copied(alloc, "c", "t/x")?)?;
+    let again = built(alloc, trees.as_slice(), &set_of(&rt, changes))?;
+    assert!(rt; lines(alloc, &again)?.as_str() == "add /c false false\n");
+    assert!(rt; is_copy_of(&again, &path(alloc, "t/x")?, 1));
+    Ok(())
+}
+
 // Each path with the number of the revision that last changed it.
 fn listing(alloc: Global, tree: &Tree) -> Result<String, Fail> {
     let mut all = String::new(alloc);
@@ -214,8 +240,8 @@ fn do_one<E: Editor>(
     }
 }
 
-fn parsed(alloc: Global, text: &str) -> Result<node_base::NodePath, EditorFault> {
-    match node_base::NodePath::parse(alloc, text.as_bytes()) {
+fn parsed(alloc: Global, text: &str) -> Result<NodePath, EditorFault> {
+    match NodePath::parse(alloc, text.as_bytes()) {
         Ok(path) => Ok(path),
         Err(_) => Err(EditorFault::OutOfMemory),
     }
