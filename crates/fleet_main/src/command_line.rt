@@ -293,7 +293,7 @@ fn text(alloc: Global, given: &ArgMatches<'_>, name: &str) -> Result<String, Usa
 fn wrong(alloc: Global, value: &str, wanted: &str) -> Usage
     ensures { (name : Option (List ℕ)) → TakesValue name → IsValueRefused name result }
 {
-    match format!(in alloc; "svnfleet: '{value}' is not {wanted} (svnfleet --help tells more)") {
+    match format!(in alloc; "svnfleet: {value:?} is not {wanted} (svnfleet --help tells more)") {
         Ok(line) => Usage::Wrong(line),
         Err(_) => Usage::OutOfMemory,
     }
@@ -413,17 +413,35 @@ fn usage_of(alloc: Global, error: &Error) -> Usage
     }
 }
 
-// What clap finds wrong, without its further lines.
+// What clap finds wrong, in a line: its first lines up to an empty one, which name what is missing.
 fn one_line(alloc: Global, text: &str) -> Result<String, AllocError>
     ensures { IfOk result (λ line. (wrong : List ℕ) × (string_bytes line ≡ codes "svnfleet: " ++ (wrong ++ codes " (svnfleet --help tells more)"))) }
 {
-    let first = match text.lines().next() {
-        Some(line) => line,
-        None => text,
-    };
-    let wrong = match first.strip_prefix("error: ") {
-        Some(rest) => rest,
-        None => first,
-    };
+    let joined = joined_lines(alloc, text)?;
+    let wrong = without_label(joined.as_str());
     format!(in alloc; "svnfleet: {wrong} (svnfleet --help tells more)")
+}
+
+// What stands behind the label `error: `, where there is one.
+fn without_label(text: &str) -> &str {
+    match text.strip_prefix("error: ") {
+        Some(rest) => rest,
+        None => text,
+    }
+}
+
+// The lines up to an empty one, with blanks between them.
+fn joined_lines(alloc: Global, text: &str) -> Result<String, AllocError> {
+    let mut joined = String::new(alloc);
+    for line in text.lines() {
+        let line = line.trim();
+        if line.is_empty() {
+            return Ok(joined);
+        }
+        if !joined.is_empty() {
+            joined.push(' ')?;
+        }
+        joined.push_str(line)?;
+    }
+    Ok(joined)
 }

@@ -1,8 +1,8 @@
-//! svnfleet: lists and rewrites the dumps of Subversion repositories.
+//! svnfleet: lists and rewrites the dumps of Subversion repositories, and keeps repositories in folders.
 #![tactic(auto)]
 
 use fleet_main::{Sink, Source, Usage, plan, run};
-use std::io::BufWriter;
+use std::io::{BufWriter, ErrorKind};
 use std::process::ExitCode;
 use std::{env, io};
 
@@ -19,18 +19,33 @@ fn words(rt: &HostRuntime) -> io::Result<Vec<String>> {
     Ok(words)
 }
 
+// Tells a line on standard error, where it can be told, and gives the status.
+fn told(rt: &HostRuntime, line: &str, status: u8) -> u8 {
+    let _ = rt.eprintln(line);
+    status
+}
+
 fn status(rt: &HostRuntime) -> u8 {
-    let Ok(words) = words(rt) else {
-        let _ = rt.eprintln(
-            "svnfleet: the words can't be read: they aren't UTF-8, or memory ran out",
-        );
-        return 2;
-    };
-    match plan(rt.alloc(), &words) {
+    match words(rt) {
+        Ok(words) => planned(rt, &words),
+        Err(error) => {
+            if error.kind() == ErrorKind::OutOfMemory {
+                return told(rt, "svnfleet: 70 out of memory", 1);
+            }
+            told(
+                rt,
+                "svnfleet: a word is not UTF-8 (svnfleet --help tells more)",
+                2,
+            )
+        }
+    }
+}
+
+fn planned(rt: &HostRuntime, words: &[String]) -> u8 {
+    match plan(rt.alloc(), words) {
         Ok(command) => {
             let Ok(buffer) = BufWriter::with_capacity(rt.alloc(), 65_536, rt.stdout()) else {
-                let _ = rt.eprintln("svnfleet: 70 out of memory");
-                return 1;
+                return told(rt, "svnfleet: 70 out of memory", 1);
             };
             let mut input = Source::new(rt.stdin());
             let mut output = Sink::new(buffer);
@@ -39,18 +54,14 @@ fn status(rt: &HostRuntime) -> u8 {
         }
         Err(Usage::Shown(text)) => match rt.print(text) {
             Ok(()) => 0,
-            Err(_) => 1,
+            Err(_) => told(rt, "svnfleet: 49 stream failed", 1),
         },
-        Err(Usage::Wrong(text)) => {
-            let _ = rt.eprintln(text);
-            2
-        }
-        Err(Usage::OutOfMemory) => {
-            let _ = rt.eprintln("svnfleet: 70 out of memory");
-            1
-        }
+        Err(Usage::Wrong(text)) => told(rt, text.as_str(), 2),
+        Err(Usage::OutOfMemory) => told(rt, "svnfleet: 70 out of memory", 1),
     }
 }
 
+#[cfg(test)]
+mod store_tests;
 #[cfg(test)]
 mod tests;
