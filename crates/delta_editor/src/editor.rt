@@ -20,36 +20,24 @@ use node_base::{NodePath, PropName, RevNo};
 /// The caller keeps the nesting: what is closed, takes a child or has an entry deleted is the innermost open thing; a file
 /// is given at most one text, its pieces between `text_start` and `text_end`; the root is opened once. The word for it is
 /// `IsNested`, of the whole list of calls. No method asks for it: an editor that needs it says so in what it shows.
-///
-/// - `shows` says which calls an editor was shown: a call that answers Ok has added itself.
-/// - `done_shows` says it of what `close_edit` answers.
-/// - `dir_path` and `file_path` are the full paths of batons.
-/// - `over` is the trees that an editor is over, those before the revision that is shown, or none where it needs none.
-/// - `done_over` is the same of what `close_edit` answers.
-/// - `refuses` says, over such trees and after such calls, which refusals the next call may meet.
 pub trait Editor {
-    /// A directory that is open.
-    type Dir;
-
-    /// A file that is open.
-    type File;
-
     /// What an edit comes to.
     type Done;
 
-    ghost shows: { Self → List Call → Type 0 };
+    ghost shows: { Self → List Call → Type 0  -- which calls it was shown: a call that answers Ok has added itself
+    };
 
-    ghost done_shows: { Self.Done → List Call → Type 0 };
+    ghost done_shows: { Self.Done → List Call → Type 0  -- the same of what `close_edit` answers
+    };
 
-    ghost dir_path: { Self.Dir → Path };
+    ghost over: { Self → List PathMap  -- the trees before the revision that is shown, or none where it needs none
+    };
 
-    ghost file_path: { Self.File → Path };
+    ghost done_over: { Self.Done → List PathMap  -- the same of what `close_edit` answers
+    };
 
-    ghost over: { Self → List PathMap };
-
-    ghost done_over: { Self.Done → List PathMap };
-
-    ghost refuses: { List PathMap → List Call → Call → EditorFault → Type 0 };
+    ghost refuses: { List PathMap → List Call → Call → EditorFault → Type 0  -- over such trees and after such calls, the refusals that the next call may meet
+    };
 
     /// Names the revision that is shown.
     fn target(&mut self, rev: RevNo) -> Result<(), EditorFault>
@@ -63,6 +51,21 @@ pub trait Editor {
         ensures baton { IfOk result (λ d. dir_path d ≡ []) }
         ensures refused { IfErr result (Refused shows over refuses self.old (call.OpenRoot base)) }
         ensures over { over self.new ≡ over self.old };
+
+    /// Ends the edit, and gives what it came to.
+    fn close_edit(self) -> Result<Self::Done, EditorFault>
+        ensures shown { IfOk result (λ d. (calls : List Call) → shows self calls → done_shows d (calls ++ call.CloseEdit ∷ [])) }
+        ensures over { IfOk result (λ d. done_over d ≡ over self) }
+        ensures refused { IfErr result (Refused shows over refuses self call.CloseEdit) };
+
+    /// Gives the edit up after a refusal.
+    fn abort_edit(self);
+
+    /// A directory that is open.
+    type Dir;
+
+    ghost dir_path: { Self.Dir → Path  -- the full path of an open directory
+    };
 
     /// Adds a directory in `up`, empty or as a copy of `from`.
     fn add_dir(
@@ -102,6 +105,34 @@ pub trait Editor {
         ensures refused { IfErr result (Refused shows over refuses self.old (call.DeleteEntry (dir_path up.old) path.now base)) }
         ensures over { over self.new ≡ over self.old };
 
+    /// Gives a directory's property a value, or with none removes it.
+    fn dir_prop(
+        &mut self,
+        dir: &mut Self::Dir,
+        name: &PropName,
+        value: Option<&[u8]>,
+    ) -> Result<(), EditorFault>
+        ensures shown { OnOk result (Adds shows self.old self.new (call.DirProp (dir_path dir.old) name.now (option_map (λ v. v.now) value.entry) ∷ [])) }
+        ensures baton { dir_path dir.new ≡ dir_path dir.old }
+        ensures refused { IfErr result (Refused shows over refuses self.old (call.DirProp (dir_path dir.old) name.now (option_map (λ v. v.now) value.entry))) }
+        ensures over { over self.new ≡ over self.old };
+
+    /// Closes a directory.
+    fn close_dir(&mut self, dir: Self::Dir) -> Result<(), EditorFault>
+        ensures shown { OnOk result (Adds shows self.old self.new (call.CloseDir (dir_path dir) ∷ [])) }
+        ensures refused { IfErr result (Refused shows over refuses self.old (call.CloseDir (dir_path dir))) }
+        ensures over { over self.new ≡ over self.old };
+
+    /// Lets go of an open directory after a refusal.
+    fn discard_dir(&mut self, dir: Self::Dir)
+        ensures { over self.new ≡ over self.old };
+
+    /// A file that is open.
+    type File;
+
+    ghost file_path: { Self.File → Path  -- the full path of an open file
+    };
+
     /// Adds a file in `up`, empty or as a copy of `from`.
     fn add_file(
         &mut self,
@@ -126,18 +157,6 @@ pub trait Editor {
         ensures baton { IfOk result (λ d. file_path d ≡ path.now) }
         ensures up { dir_path up.new ≡ dir_path up.old }
         ensures refused { IfErr result (Refused shows over refuses self.old (call.OpenFile (dir_path up.old) path.now base)) }
-        ensures over { over self.new ≡ over self.old };
-
-    /// Gives a directory's property a value, or with none removes it.
-    fn dir_prop(
-        &mut self,
-        dir: &mut Self::Dir,
-        name: &PropName,
-        value: Option<&[u8]>,
-    ) -> Result<(), EditorFault>
-        ensures shown { OnOk result (Adds shows self.old self.new (call.DirProp (dir_path dir.old) name.now (option_map (λ v. v.now) value.entry) ∷ [])) }
-        ensures baton { dir_path dir.new ≡ dir_path dir.old }
-        ensures refused { IfErr result (Refused shows over refuses self.old (call.DirProp (dir_path dir.old) name.now (option_map (λ v. v.now) value.entry))) }
         ensures over { over self.new ≡ over self.old };
 
     /// Gives a file's property a value, or with none removes it.
@@ -179,26 +198,7 @@ pub trait Editor {
         ensures refused { IfErr result (Refused shows over refuses self.old (call.CloseFile (file_path file) sum)) }
         ensures over { over self.new ≡ over self.old };
 
-    /// Closes a directory.
-    fn close_dir(&mut self, dir: Self::Dir) -> Result<(), EditorFault>
-        ensures shown { OnOk result (Adds shows self.old self.new (call.CloseDir (dir_path dir) ∷ [])) }
-        ensures refused { IfErr result (Refused shows over refuses self.old (call.CloseDir (dir_path dir))) }
-        ensures over { over self.new ≡ over self.old };
-
     /// Lets go of an open file after a refusal.
     fn discard_file(&mut self, file: Self::File)
         ensures { over self.new ≡ over self.old };
-
-    /// Lets go of an open directory after a refusal.
-    fn discard_dir(&mut self, dir: Self::Dir)
-        ensures { over self.new ≡ over self.old };
-
-    /// Ends the edit, and gives what it came to.
-    fn close_edit(self) -> Result<Self::Done, EditorFault>
-        ensures shown { IfOk result (λ d. (calls : List Call) → shows self calls → done_shows d (calls ++ call.CloseEdit ∷ [])) }
-        ensures over { IfOk result (λ d. done_over d ≡ over self) }
-        ensures refused { IfErr result (Refused shows over refuses self call.CloseEdit) };
-
-    /// Gives the edit up after a refusal.
-    fn abort_edit(self);
 }
