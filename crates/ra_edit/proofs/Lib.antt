@@ -16,3 +16,4 @@ pub mod Drives
 pub mod NothingDue
 pub mod OneEdit
 pub mod WrittenReceived
+pub mod NotRead

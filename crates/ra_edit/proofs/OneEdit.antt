@@ -80,7 +80,7 @@ eq_from : (a b : ℕ) → (a == b) ≡ true → a ≡ b
 eq_from a b e = grind (arith, nat_tests)
 
 -- no path begins with a slash
-no_slash : (text : List ℕ) (p : Path) → path_read (47 ∷ text) ≡ Ok p → ⊥
+pub no_slash : (text : List ℕ) (p : Path) → path_read (47 ∷ text) ≡ Ok p → ⊥
 unfolding path_read
 no_slash text p e = never (is_past_limits (47 ∷ text)) (is_name []) (list_all is_name (slice_split (λ x. x == 47) text)) refl (pieces (47 ∷ text)) e
   where

@@ -7,7 +7,7 @@ use Rattle.delta_editor.specs.declared.call.Call.{Call}
 use Rattle.ra_edit.specs.Edits.{At, Begun, AllSay, SpellsEdit, IsCommand}
 use Rattle.ra_edit.specs.Edit.{Stepped}
 use Rattle.ra_edit.specs.EditFaults.{of_command, of_shape}
-use Rattle.ra_edit.specs.Receiving.{Forms}
+use Rattle.ra_edit.specs.Receiving.{Forms, IsNoCommand}
 use Rattle.ra_edit.specs.Refusals.{refusal, RefusedFor}
 use Rattle.ra_edit.specs.ItemStreams.{Takes, Ends, Stops}
 use Rattle.ra_edit.specs.declared.command_fault.CommandFault.{CommandFault}
@@ -54,7 +54,7 @@ pub record Received {E D : Type 0} (shows : E → List Call → Type 0) (done_sh
 
 -- why an item is refused where the commands stand: it is read as no command, or as one for which this is due there
 abbrev pub IsRefused : At → Item → CommandFault → Type 0
-IsRefused at item why = ((f : ShapeFault) × (why ≡ of_shape f)) ⊎ ((c : Command) × Forms c item × RefusedFor why (refusal at c))
+IsRefused at item why = ((f : ShapeFault) × (why ≡ of_shape f) × IsNoCommand item f) ⊎ ((c : Command) × Forms c item × RefusedFor why (refusal at c))
 
 -- behind these items, where the commands stand so, one more was read, and refused for what it says
 pub record RefusesItem (items : List Item) (stood : At → Type 0) (before after : Option (List ℕ)) (was : List ℕ → Stream) (f : EditFault) : Type 0 where

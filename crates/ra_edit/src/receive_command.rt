@@ -1,14 +1,17 @@
 //! Editor commands and their items, as the ra_svn protocol has them.
 
-ghost use Rattle.std.specs.Prelude.{◌≡◌, ◌≤◌, ◌⊎◌, List, [], ◌∷◌, reverse, IfOk, IfSome, Ok, true};
+ghost use Rattle.std.specs.Prelude.{◌≡◌, ◌≤◌, ◌⊎◌, List, [], ◌∷◌, reverse, IfOk, IfErr, IfSome, Ok, None, true, false, ℕ};
 ghost use Rattle.std.specs.Option.{option_map};
 ghost use Rattle.ra_item.specs.Items.{Word, Number, Text};
 ghost use Rattle.node_base.specs.PathText.{path_read};
 ghost use Rattle.node_base.specs.Props.{prop_name_read};
 ghost use Rattle.ra_edit.specs.Commands.{list};
 ghost use Rattle.ra_edit.specs.Edits.{IsRevision, IsString, IsSum, IsSource};
-ghost use Rattle.ra_edit.specs.Receiving.{left_of, NextIs, word_of, IsPath, IsPropName, Forms, FormsWith};
+ghost use Rattle.ra_edit.specs.Receiving.{left_of, NextIs, word_of, IsPath, IsPropName, Forms, FormsWith, AWord, AText, AList, ARevision, APath, APropName, ABase, AValue, ASum, ASource, NotRead, params_of, is_of_file, IsNoCommand};
+ghost use Rattle.ra_edit.specs.declared.receive_command.Name.{Name};
 ghost use Rattle.ra_edit.specs.declared.receive_command.Name.TheVariants as name;
+ghost use Rattle.ra_edit.specs.declared.shape_fault.ShapeFault.TheVariants as shape;
+ghost use Rattle.node_base.specs.Path.{Path};
 
 use crate::shape_fault::ShapeFault;
 use hex::decode_to_slice;
@@ -78,9 +81,21 @@ enum Name {
     Failure,
 }
 
+// The name that a word is.
+fn any_name(word: &[u8]) -> Option<Name>
+    ensures name { IfSome result (λ n. word.now ≡ word_of n) }
+    ensures none { result ≡ None → (n : Name) → word.now ≡ word_of n → ⊥ }
+{
+    match outer_name(word) {
+        Some(name) => Some(name),
+        None => file_name(word),
+    }
+}
+
 // The names that open, close and delete directories, and those of an edit.
 fn outer_name(word: &[u8]) -> Option<Name>
-    ensures { IfSome result (λ n. word.now ≡ word_of n) }
+    ensures name { IfSome result (λ n. word.now ≡ word_of n) }
+    ensures none { result ≡ None → (n : Name) → is_of_file n ≡ false → word.now ≡ word_of n → ⊥ }
 {
     if word == b"target-rev".as_slice() {
         Some(Name::TargetRev)
@@ -111,7 +126,8 @@ fn outer_name(word: &[u8]) -> Option<Name>
 
 // The names of what is done with files.
 fn file_name(word: &[u8]) -> Option<Name>
-    ensures { IfSome result (λ n. word.now ≡ word_of n) }
+    ensures name { IfSome result (λ n. word.now ≡ word_of n) }
+    ensures none { result ≡ None → (n : Name) → is_of_file n ≡ true → word.now ≡ word_of n → ⊥ }
 {
     if word == b"add-file".as_slice() {
         Some(Name::AddFile)
@@ -151,7 +167,8 @@ impl Params {
 
     // The items of an item that is a list.
     fn of(item: Item) -> Result<Params, ShapeFault>
-        ensures { IfOk result (λ p. item ≡ list (left_of p)) }
+        ensures read { IfOk result (λ p. item ≡ list (left_of p)) }
+        ensures none { IfErr result (NotRead (AList ∷ []) (item ∷ [])) }
     {
         match item.into_content() {
             Content::List(items) => Ok(Params::all(items)),
@@ -162,7 +179,8 @@ impl Params {
     // The next item.
     #[tactic(auto, using(crate::proofs::Receiving::turned))]
     fn next(&mut self) -> Result<Item, ShapeFault>
-        ensures { IfOk result (λ x. left_of self.old ≡ x ∷ left_of self.new) }
+        ensures read { IfOk result (λ x. left_of self.old ≡ x ∷ left_of self.new) }
+        ensures none { IfErr result (λ f. left_of self.old ≡ []) }
     {
         match self.items.pop() {
             Some(item) => Ok(item),
@@ -172,7 +190,8 @@ impl Params {
 
     // The next item, which is a word.
     fn word(&mut self) -> Result<Vec<u8>, ShapeFault>
-        ensures { IfOk result (λ w. left_of self.old ≡ Word w.items ∷ left_of self.new) }
+        ensures read { IfOk result (λ w. left_of self.old ≡ Word w.items ∷ left_of self.new) }
+        ensures none { IfErr result (NotRead (AWord ∷ []) (left_of self.old)) }
     {
         match self.next()?.into_content() {
             Content::Word(word) => Ok(word),
@@ -182,7 +201,8 @@ impl Params {
 
     // The next item, which is a string.
     fn text(&mut self) -> Result<Vec<u8>, ShapeFault>
-        ensures { IfOk result (λ t. left_of self.old ≡ Text t.items ∷ left_of self.new) }
+        ensures read { IfOk result (λ t. left_of self.old ≡ Text t.items ∷ left_of self.new) }
+        ensures none { IfErr result (NotRead (AText ∷ []) (left_of self.old)) }
     {
         match self.next()?.into_content() {
             Content::Text(text) => Ok(text),
@@ -192,14 +212,16 @@ impl Params {
 
     // The next item, which is a list.
     fn list(&mut self) -> Result<Params, ShapeFault>
-        ensures { IfOk result (λ p. left_of self.old ≡ list (left_of p) ∷ left_of self.new) }
+        ensures read { IfOk result (λ p. left_of self.old ≡ list (left_of p) ∷ left_of self.new) }
+        ensures none { IfErr result (NotRead (AList ∷ []) (left_of self.old)) }
     {
         Params::of(self.next()?)
     }
 
     // The next item, which is a revision.
     fn revision(&mut self) -> Result<RevNo, ShapeFault>
-        ensures { IfOk result (λ n. (n ≤ 65535) × (left_of self.old ≡ Number n ∷ left_of self.new)) }
+        ensures read { IfOk result (λ n. (n ≤ 65535) × (left_of self.old ≡ Number n ∷ left_of self.new)) }
+        ensures none { IfErr result (NotRead (ARevision ∷ []) (left_of self.old)) }
     {
         match self.next()?.into_content() {
             Content::Number(n) if n <= 65_535 => Ok(RevNo::new(n as u16)),
@@ -211,14 +233,16 @@ impl Params {
 
     // Whether nothing is left.
     fn is_empty(&self) -> bool
-        ensures { result ≡ true → left_of self.now ≡ [] }
+        ensures empty { result ≡ true → left_of self.now ≡ [] }
+        ensures more { result ≡ false → left_of self.now ≡ [] → ⊥ }
     {
         self.items.is_empty()
     }
 
     // The next item, which is a path.
     fn path(&mut self, alloc: Global) -> Result<NodePath, ShapeFault>
-        ensures { IfOk result (λ p. NextIs (IsPath p) (left_of self.old) (left_of self.new)) }
+        ensures read { IfOk result (λ p. NextIs (IsPath p) (left_of self.old) (left_of self.new)) }
+        ensures none { IfErr result (NotRead (APath ∷ []) (left_of self.old)) }
     {
         let text = self.text()?;
         read_path(alloc, text.as_slice())
@@ -226,7 +250,8 @@ impl Params {
 
     // The next item, which is a property's name.
     fn prop_name(&mut self) -> Result<PropName, ShapeFault>
-        ensures { IfOk result (λ n. NextIs (IsPropName n) (left_of self.old) (left_of self.new)) }
+        ensures read { IfOk result (λ n. NextIs (IsPropName n) (left_of self.old) (left_of self.new)) }
+        ensures none { IfErr result (NotRead (APropName ∷ []) (left_of self.old)) }
     {
         match PropName::from_bytes(self.text()?) {
             Ok(name) => Ok(name),
@@ -237,7 +262,8 @@ impl Params {
 
     // The next item, which is a list of a revision or of nothing.
     fn base(&mut self) -> Result<Option<RevNo>, ShapeFault>
-        ensures { IfOk result (λ b. NextIs (IsRevision b) (left_of self.old) (left_of self.new)) }
+        ensures read { IfOk result (λ b. NextIs (IsRevision b) (left_of self.old) (left_of self.new)) }
+        ensures none { IfErr result (NotRead (ABase ∷ []) (left_of self.old)) }
     {
         let mut inner = self.list()?;
         if inner.is_empty() {
@@ -248,7 +274,8 @@ impl Params {
 
     // The next item, which is a list of a string or of nothing.
     fn value(&mut self) -> Result<Option<Vec<u8>>, ShapeFault>
-        ensures { IfOk result (λ v. NextIs (IsString (option_map (λ s. s.items) v)) (left_of self.old) (left_of self.new)) }
+        ensures read { IfOk result (λ v. NextIs (IsString (option_map (λ s. s.items) v)) (left_of self.old) (left_of self.new)) }
+        ensures none { IfErr result (NotRead (AValue ∷ []) (left_of self.old)) }
     {
         let mut inner = self.list()?;
         if inner.is_empty() {
@@ -259,7 +286,8 @@ impl Params {
 
     // The next item, which is a list of a sum in hexadecimal digits or of nothing.
     fn sum(&mut self) -> Result<Option<[u8; 16]>, ShapeFault>
-        ensures { IfOk result (λ sum. NextIs (IsSum sum) (left_of self.old) (left_of self.new)) }
+        ensures read { IfOk result (λ sum. NextIs (IsSum sum) (left_of self.old) (left_of self.new)) }
+        ensures none { IfErr result (NotRead (ASum ∷ []) (left_of self.old)) }
     {
         let Some(digits) = self.value()? else {
             return Ok(None);
@@ -273,7 +301,8 @@ impl Params {
 
     // The next item, which is a list of a source's path, behind one slash or none, and its revision, or of nothing.
     fn source(&mut self, alloc: Global) -> Result<Option<Source>, ShapeFault>
-        ensures { IfOk result (λ from. NextIs (IsSource from) (left_of self.old) (left_of self.new)) }
+        ensures read { IfOk result (λ from. NextIs (IsSource from) (left_of self.old) (left_of self.new)) }
+        ensures none { IfErr result (NotRead (ASource ∷ []) (left_of self.old)) }
     {
         let mut inner = self.list()?;
         if inner.is_empty() {
@@ -288,7 +317,8 @@ impl Params {
 
 // A path without a slash in front.
 fn without_slash(text: &[u8]) -> &[u8]
-    ensures { (text.now ≡ result.now) ⊎ (text.now ≡ 47 ∷ result.now) }
+    ensures rest { (text.now ≡ result.now) ⊎ (text.now ≡ 47 ∷ result.now) }
+    ensures bare { (rest : List ℕ) → text.now ≡ 47 ∷ rest → rest ≡ result.now }
 {
     match text.split_first() {
         Some((b'/', rest)) => rest,
@@ -298,7 +328,8 @@ fn without_slash(text: &[u8]) -> &[u8]
 
 // The path that bytes spell.
 fn read_path(alloc: Global, text: &[u8]) -> Result<NodePath, ShapeFault>
-    ensures { IfOk result (λ p. path_read text.now ≡ Ok p) }
+    ensures read { IfOk result (λ p. path_read text.now ≡ Ok p) }
+    ensures none { IfErr result (λ f. f ≡ shape.BadShape → (p : Path) → path_read text.now ≡ Ok p → ⊥) }
 {
     match NodePath::parse(alloc, text) {
         Ok(path) => Ok(path),
@@ -312,22 +343,21 @@ impl Command {
     /// revision; `OutOfMemory` (70).
     pub fn parse(alloc: Global, item: Item) -> Result<Command, ShapeFault>
         ensures forms { IfOk result (λ c. Forms c item) }
+        ensures none { IfErr result (IsNoCommand item) }
     {
         let mut parts = Params::of(item)?;
         let word = parts.word()?;
         let mut params = parts.list()?;
-        if let Some(name) = outer_name(word.as_slice()) {
-            return outer_command(alloc, name, &mut params);
+        match any_name(word.as_slice()) {
+            Some(name) => any_command(alloc, name, &mut params),
+            None => Err(ShapeFault::BadShape),
         }
-        if let Some(name) = file_name(word.as_slice()) {
-            return file_command(alloc, name, &mut params);
-        }
-        Err(ShapeFault::BadShape)
     }
 }
 
-fn outer_command(alloc: Global, name: Name, params: &mut Params) -> Result<Command, ShapeFault>
-    ensures { IfOk result (λ c. FormsWith c name (left_of params.old)) }
+fn any_command(alloc: Global, name: Name, params: &mut Params) -> Result<Command, ShapeFault>
+    ensures forms { IfOk result (λ c. FormsWith c name (left_of params.old)) }
+    ensures none { IfErr result (NotRead (params_of name) (left_of params.old)) }
 {
     match name {
         Name::TargetRev => target_rev(params),
@@ -337,17 +367,6 @@ fn outer_command(alloc: Global, name: Name, params: &mut Params) -> Result<Comma
         Name::OpenDir => open_dir(alloc, params),
         Name::ChangeDirProp => change_dir_prop(params),
         Name::CloseDir => close_dir(params),
-        Name::CloseEdit => Ok(Command::CloseEdit),
-        Name::FinishReplay => Ok(Command::Finish),
-        Name::AbortEdit | Name::Failure => Ok(Command::Abort),
-        _ => Err(ShapeFault::BadShape),
-    }
-}
-
-fn file_command(alloc: Global, name: Name, params: &mut Params) -> Result<Command, ShapeFault>
-    ensures { IfOk result (λ c. FormsWith c name (left_of params.old)) }
-{
-    match name {
         Name::AddFile => add_file(alloc, params),
         Name::OpenFile => open_file(alloc, params),
         Name::ChangeFileProp => change_file_prop(params),
@@ -355,25 +374,30 @@ fn file_command(alloc: Global, name: Name, params: &mut Params) -> Result<Comman
         Name::TextdeltaChunk => textdelta_chunk(params),
         Name::TextdeltaEnd => textdelta_end(params),
         Name::CloseFile => close_file(params),
-        _ => Err(ShapeFault::BadShape),
+        Name::CloseEdit => Ok(Command::CloseEdit),
+        Name::FinishReplay => Ok(Command::Finish),
+        Name::AbortEdit | Name::Failure => Ok(Command::Abort),
     }
 }
 
 fn target_rev(params: &mut Params) -> Result<Command, ShapeFault>
-    ensures { IfOk result (λ c. FormsWith c name.TargetRev (left_of params.old)) }
+    ensures forms { IfOk result (λ c. FormsWith c name.TargetRev (left_of params.old)) }
+    ensures none { IfErr result (NotRead (params_of name.TargetRev) (left_of params.old)) }
 {
     Ok(Command::Target(params.revision()?))
 }
 
 fn open_root(params: &mut Params) -> Result<Command, ShapeFault>
-    ensures { IfOk result (λ c. FormsWith c name.OpenRoot (left_of params.old)) }
+    ensures forms { IfOk result (λ c. FormsWith c name.OpenRoot (left_of params.old)) }
+    ensures none { IfErr result (NotRead (params_of name.OpenRoot) (left_of params.old)) }
 {
     let base = params.base()?;
     Ok(Command::OpenRoot(base, params.text()?))
 }
 
 fn delete_entry(alloc: Global, params: &mut Params) -> Result<Command, ShapeFault>
-    ensures { IfOk result (λ c. FormsWith c name.DeleteEntry (left_of params.old)) }
+    ensures forms { IfOk result (λ c. FormsWith c name.DeleteEntry (left_of params.old)) }
+    ensures none { IfErr result (NotRead (params_of name.DeleteEntry) (left_of params.old)) }
 {
     let path = params.path(alloc)?;
     let base = params.base()?;
@@ -381,7 +405,8 @@ fn delete_entry(alloc: Global, params: &mut Params) -> Result<Command, ShapeFaul
 }
 
 fn add_dir(alloc: Global, params: &mut Params) -> Result<Command, ShapeFault>
-    ensures { IfOk result (λ c. FormsWith c name.AddDir (left_of params.old)) }
+    ensures forms { IfOk result (λ c. FormsWith c name.AddDir (left_of params.old)) }
+    ensures none { IfErr result (NotRead (params_of name.AddDir) (left_of params.old)) }
 {
     let path = params.path(alloc)?;
     let up = params.text()?;
@@ -390,7 +415,8 @@ fn add_dir(alloc: Global, params: &mut Params) -> Result<Command, ShapeFault>
 }
 
 fn open_dir(alloc: Global, params: &mut Params) -> Result<Command, ShapeFault>
-    ensures { IfOk result (λ c. FormsWith c name.OpenDir (left_of params.old)) }
+    ensures forms { IfOk result (λ c. FormsWith c name.OpenDir (left_of params.old)) }
+    ensures none { IfErr result (NotRead (params_of name.OpenDir) (left_of params.old)) }
 {
     let path = params.path(alloc)?;
     let up = params.text()?;
@@ -399,7 +425,8 @@ fn open_dir(alloc: Global, params: &mut Params) -> Result<Command, ShapeFault>
 }
 
 fn change_dir_prop(params: &mut Params) -> Result<Command, ShapeFault>
-    ensures { IfOk result (λ c. FormsWith c name.ChangeDirProp (left_of params.old)) }
+    ensures forms { IfOk result (λ c. FormsWith c name.ChangeDirProp (left_of params.old)) }
+    ensures none { IfErr result (NotRead (params_of name.ChangeDirProp) (left_of params.old)) }
 {
     let token = params.text()?;
     let name = params.prop_name()?;
@@ -407,13 +434,15 @@ fn change_dir_prop(params: &mut Params) -> Result<Command, ShapeFault>
 }
 
 fn close_dir(params: &mut Params) -> Result<Command, ShapeFault>
-    ensures { IfOk result (λ c. FormsWith c name.CloseDir (left_of params.old)) }
+    ensures forms { IfOk result (λ c. FormsWith c name.CloseDir (left_of params.old)) }
+    ensures none { IfErr result (NotRead (params_of name.CloseDir) (left_of params.old)) }
 {
     Ok(Command::CloseDir(params.text()?))
 }
 
 fn add_file(alloc: Global, params: &mut Params) -> Result<Command, ShapeFault>
-    ensures { IfOk result (λ c. FormsWith c name.AddFile (left_of params.old)) }
+    ensures forms { IfOk result (λ c. FormsWith c name.AddFile (left_of params.old)) }
+    ensures none { IfErr result (NotRead (params_of name.AddFile) (left_of params.old)) }
 {
     let path = params.path(alloc)?;
     let up = params.text()?;
@@ -422,7 +451,8 @@ fn add_file(alloc: Global, params: &mut Params) -> Result<Command, ShapeFault>
 }
 
 fn open_file(alloc: Global, params: &mut Params) -> Result<Command, ShapeFault>
-    ensures { IfOk result (λ c. FormsWith c name.OpenFile (left_of params.old)) }
+    ensures forms { IfOk result (λ c. FormsWith c name.OpenFile (left_of params.old)) }
+    ensures none { IfErr result (NotRead (params_of name.OpenFile) (left_of params.old)) }
 {
     let path = params.path(alloc)?;
     let up = params.text()?;
@@ -431,7 +461,8 @@ fn open_file(alloc: Global, params: &mut Params) -> Result<Command, ShapeFault>
 }
 
 fn change_file_prop(params: &mut Params) -> Result<Command, ShapeFault>
-    ensures { IfOk result (λ c. FormsWith c name.ChangeFileProp (left_of params.old)) }
+    ensures forms { IfOk result (λ c. FormsWith c name.ChangeFileProp (left_of params.old)) }
+    ensures none { IfErr result (NotRead (params_of name.ChangeFileProp) (left_of params.old)) }
 {
     let token = params.text()?;
     let name = params.prop_name()?;
@@ -439,7 +470,8 @@ fn change_file_prop(params: &mut Params) -> Result<Command, ShapeFault>
 }
 
 fn apply_textdelta(params: &mut Params) -> Result<Command, ShapeFault>
-    ensures { IfOk result (λ c. FormsWith c name.ApplyTextdelta (left_of params.old)) }
+    ensures forms { IfOk result (λ c. FormsWith c name.ApplyTextdelta (left_of params.old)) }
+    ensures none { IfErr result (NotRead (params_of name.ApplyTextdelta) (left_of params.old)) }
 {
     let token = params.text()?;
     let _sum = params.list()?;
@@ -447,20 +479,23 @@ fn apply_textdelta(params: &mut Params) -> Result<Command, ShapeFault>
 }
 
 fn textdelta_chunk(params: &mut Params) -> Result<Command, ShapeFault>
-    ensures { IfOk result (λ c. FormsWith c name.TextdeltaChunk (left_of params.old)) }
+    ensures forms { IfOk result (λ c. FormsWith c name.TextdeltaChunk (left_of params.old)) }
+    ensures none { IfErr result (NotRead (params_of name.TextdeltaChunk) (left_of params.old)) }
 {
     let token = params.text()?;
     Ok(Command::Chunk(token, params.text()?))
 }
 
 fn textdelta_end(params: &mut Params) -> Result<Command, ShapeFault>
-    ensures { IfOk result (λ c. FormsWith c name.TextdeltaEnd (left_of params.old)) }
+    ensures forms { IfOk result (λ c. FormsWith c name.TextdeltaEnd (left_of params.old)) }
+    ensures none { IfErr result (NotRead (params_of name.TextdeltaEnd) (left_of params.old)) }
 {
     Ok(Command::TextEnd(params.text()?))
 }
 
 fn close_file(params: &mut Params) -> Result<Command, ShapeFault>
-    ensures { IfOk result (λ c. FormsWith c name.CloseFile (left_of params.old)) }
+    ensures forms { IfOk result (λ c. FormsWith c name.CloseFile (left_of params.old)) }
+    ensures none { IfErr result (NotRead (params_of name.CloseFile) (left_of params.old)) }
 {
     let token = params.text()?;
     Ok(Command::CloseFile(token, params.sum()?))

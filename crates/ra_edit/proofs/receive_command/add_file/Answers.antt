@@ -5,8 +5,8 @@ use Rattle.ra_edit.specs.declared.receive_command.Name.TheVariants as name
 use Rattle.ra_edit.proofs.Receiving.{named4}
 use Rattle.ra_edit.proofs.receive_command.add_file.Goals as goal
 
-pub returns : goal.returns
-returns c =
-    let q = c.in_ok-path.ensures in
-    let s = c.in_ok-source.ensures in
-    λ rest. (q.item, s.item, (q.is.0, q.is.1 ∙ ap Ok (sym c.path-2.view_is), q.is.2), s.is, named4 (word_of name.AddFile) (left_of c.args.params.now) (left_of c.path.new.self) (left_of c.text.new.self) (left_of c.text-2.new.self) (left_of c.source.new.self) rest q.item (Text c.in_ok-up.up.items) (Text c.in_ok-token.token.items) s.item q.joined c.in_ok-up.ensures c.in_ok-token.ensures s.joined)
+pub returns-clause-forms : goal.returns-clause-forms
+returns-clause-forms c =
+    let q = c.in_ok-path.ensures.read in
+    let s = c.in_ok-source.ensures.read in
+    λ rest. (q.item, s.item, (q.is.0, q.is.1 ∙ ap Ok (sym c.path-2.view_is), q.is.2), s.is, named4 (word_of name.AddFile) (left_of c.args.params.now) (left_of c.path.new.self) (left_of c.text.new.self) (left_of c.text-2.new.self) (left_of c.source.new.self) rest q.item (Text c.in_ok-up.up.items) (Text c.in_ok-token.token.items) s.item q.joined c.in_ok-up.ensures.read c.in_ok-token.ensures.read s.joined)

@@ -5,6 +5,6 @@ use Rattle.ra_edit.specs.declared.receive_command.Name.TheVariants as name
 use Rattle.ra_edit.proofs.Receiving.{named2}
 use Rattle.ra_edit.proofs.receive_command.apply_textdelta.Goals as goal
 
-pub returns : goal.returns
-returns c =
-    λ rest. (row (left_of c.in_ok-_sum._sum), named2 (word_of name.ApplyTextdelta) (left_of c.args.params.now) (left_of c.text.new.self) (left_of c.list.new.self) rest (Text c.in_ok-token.token.items) (list (left_of c.in_ok-_sum._sum)) c.in_ok-token.ensures c.in_ok-_sum.ensures)
+pub returns-clause-forms : goal.returns-clause-forms
+returns-clause-forms c =
+    λ rest. (row (left_of c.in_ok-_sum._sum), named2 (word_of name.ApplyTextdelta) (left_of c.args.params.now) (left_of c.text.new.self) (left_of c.list.new.self) rest (Text c.in_ok-token.token.items) (list (left_of c.in_ok-_sum._sum)) c.in_ok-token.ensures.read c.in_ok-_sum.ensures.read)
