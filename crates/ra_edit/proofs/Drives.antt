@@ -7,12 +7,16 @@ use Rattle.ra_edit.specs.Edits.{At, Begun, Ended, Says, AllSay, Nothing, Then, I
 use Rattle.ra_edit.specs.Edit.{Moves, Finishes}
 use Rattle.ra_edit.specs.EditFaults.{of_command}
 use Rattle.ra_edit.specs.ItemStreams.{Takes, Ends, Stops}
-use Rattle.ra_edit.specs.Received.{Goes, Comes, Received, IsRefused, StopsBehind, RefusesDrive}
-use Rattle.ra_edit.specs.Refusals.{refusal, RefusedFor}
+use Rattle.ra_edit.specs.Received.{Goes, Comes, Received, IsRefused, StopsBehind, ShownBefore, RefusesDrive}
+use Rattle.ra_edit.specs.Refusals.{refusal, RefusedFor, Meets, IfOwn}
+use Rattle.ra_edit.specs.declared.receive_command.Command.{Command}
+use Rattle.node_base.specs.Tree.{PathMap}
+use Rattle.delta_editor.specs.declared.fault.EditorFault.{EditorFault}
 use Rattle.ra_edit.specs.declared.receive_command.Command.TheVariants as command
 use Rattle.ra_edit.specs.declared.command_fault.CommandFault.{CommandFault}
 use Rattle.ra_edit.specs.declared.edit_fault.EditFault.{EditFault}
 use Rattle.ra_edit.proofs.Streaming.{takes_none, takes_more, takes_end, takes_stop}
+use Rattle.ra_edit.proofs.OwnRefusals.{own_map, met_before}
 use Rattle.ra_edit.proofs.Steps.{adds_join}
 
 -- one item more
@@ -73,15 +77,26 @@ pub spent_not : (new old : Bool) → new ≡ false → new ≡ true → old ≡ 
 spent_not true old e h = cc
 spent_not false old e h = cc
 
--- a refusal behind items that were taken
-pub stops_behind : (xs : List Item) (at : At) (stood : At → Type 0) (f : EditFault) (a b d : Option (List ℕ)) (s t : List ℕ → Stream) (before spent failed : Bool) → stood at → Takes xs a b s t → (spent ≡ true → before ≡ true) → StopsBehind [] stood b d t spent failed f → StopsBehind xs (λ x. x ≡ at) a d s before failed f
-stops_behind xs at stood f a b d s t before spent failed here p g (inl q) = inl (subst (λ l. Stops l a d s before failed f) (append-nil xs) (takes_stop xs [] f a b d s t before spent failed p g q))
-stops_behind xs at stood f a b d s t before spent failed here p g (inr (inl q)) = inr (inl (q.0, subst (λ l. Ends l true a d s) (append-nil xs) (takes_end xs [] true a b d s t p q.1)))
-stops_behind xs at stood f a b d s t before spent failed here p g (inr (inr q)) = inr (inr (record { item = q.item; why = q.why; is = q.is; taken = takes_more xs (q.item ∷ []) a b d s t q.is p q.taken; same = q.same; due = λ x e. subst (λ y. IsRefused y q.item q.why) (sym e) (q.due at here) }))
+-- what the editor may meet behind other calls
+lifted : (own met : At → Command → EditorFault → Type 0) (at : At) (item : Item) (why : CommandFault) → ((c : Command) (e : EditorFault) → own at c e → met at c e) → IsRefused own at item why → IsRefused met at item why
+lifted own met at item why lift (inl k) = inl k
+lifted own met at item why lift (inr k) = inr (k.0, k.1, k.2, own_map why (λ e. lift k.0 e) k.3)
 
-pub drive_refused : {E : Type 0} (shows : E → List Call → Type 0) (old mid : E) (a b d : Option (List ℕ)) (s t : List ℕ → Stream) (before spent failed : Bool) (stood : At → Type 0) (f : EditFault) → Goes shows old mid a b s t stood → (spent ≡ true → before ≡ true) → StopsBehind [] stood b d t spent failed f → RefusesDrive a d s before failed f
-drive_refused shows old mid a b d s t before spent failed stood f k g q = record { items = k.items; calls = k.calls; at = k.at; say = k.say; stops = stops_behind k.items k.at stood f a b d s t before spent failed k.here k.taken g q }
+-- a refusal behind items that were taken
+pub stops_behind : (own met : At → Command → EditorFault → Type 0) (xs : List Item) (at : At) (stood : At → Type 0) (f : EditFault) (a b d : Option (List ℕ)) (s t : List ℕ → Stream) (before spent failed : Bool) → ((c : Command) (e : EditorFault) → own at c e → met at c e) → stood at → Takes xs a b s t → (spent ≡ true → before ≡ true) → StopsBehind own [] stood b d t spent failed f → StopsBehind met xs (λ x. x ≡ at) a d s before failed f
+stops_behind own met xs at stood f a b d s t before spent failed lift here p g (inl q) = inl (subst (λ l. Stops l a d s before failed f) (append-nil xs) (takes_stop xs [] f a b d s t before spent failed p g q))
+stops_behind own met xs at stood f a b d s t before spent failed lift here p g (inr (inl q)) = inr (inl (q.0, subst (λ l. Ends l true a d s) (append-nil xs) (takes_end xs [] true a b d s t p q.1)))
+stops_behind own met xs at stood f a b d s t before spent failed lift here p g (inr (inr q)) = inr (inr (record { item = q.item; why = q.why; is = q.is; taken = takes_more xs (q.item ∷ []) a b d s t q.is p q.taken; same = q.same; due = λ x e. subst (λ y. IsRefused met y q.item q.why) (sym e) (lifted own met at q.item q.why lift (q.due at here)) }))
+
+pub drive_refused : {E : Type 0} (shows : E → List Call → Type 0) (over : E → List PathMap) (refuses : List PathMap → List Call → Call → EditorFault → Type 0) (old mid : E) (a b d : Option (List ℕ)) (s t : List ℕ → Stream) (before spent failed : Bool) (stood : At → Type 0) (f : EditFault) → over mid ≡ over old → Goes shows old mid a b s t stood → (spent ≡ true → before ≡ true) → StopsBehind (Meets shows over refuses mid) [] stood b d t spent failed f → RefusesDrive shows over refuses old a d s before failed f
+drive_refused shows over refuses old mid a b d s t before spent failed stood f same k g q = record { items = k.items; calls = k.calls; at = k.at; say = k.say; stops = stops_behind (Meets shows over refuses mid) (Meets (ShownBefore shows k.calls) over refuses old) k.items k.at stood f a b d s t before spent failed (λ c e. met_before shows over refuses old mid k.calls k.at c e k.shown same) k.here k.taken g q }
 
 -- at the end of a drive
-pub end_refused : {E : Type 0} (shows : E → List Call → Type 0) (old new : E) (a b : Option (List ℕ)) (s t : List ℕ → Stream) (before failed : Bool) (stands : At → Type 0) (f : CommandFault) → ((at : At) → stands at → RefusedFor f (refusal at command.Finish)) → Comes shows old new a b s t stands → RefusesDrive a b s before failed (of_command f)
-end_refused shows old new a b s t before failed stands f why k = record { items = k.items; calls = k.calls; at = k.at; say = k.say; stops = inr (inr (record { item = k.last; why = f; is = t; taken = k.taken; same = refl; due = λ x e. subst (λ y. IsRefused y k.last f) (sym e) (inr (command.Finish, k.end, why k.at k.here)) })) }
+pub end_refused : {E : Type 0} (shows : E → List Call → Type 0) (over : E → List PathMap) (refuses : List PathMap → List Call → Call → EditorFault → Type 0) (start old new : E) (a b : Option (List ℕ)) (s t : List ℕ → Stream) (before failed : Bool) (stands : At → Type 0) (f : CommandFault) → old ≡ start → over new ≡ over old → ((at : At) → stands at → RefusedFor f (refusal at command.Finish)) → IfOwn (λ e. (at : At) → stands at → Meets shows over refuses new at command.Finish e) f → Comes shows old new a b s t stands → RefusesDrive shows over refuses start a b s before failed (of_command f)
+end_refused shows over refuses start old new a b s t before failed stands f is same why own k = subst (λ x. RefusesDrive shows over refuses x a b s before failed (of_command f)) is (record {
+  items = k.items;
+  calls = k.calls;
+  at = k.at;
+  say = k.say;
+  stops = inr (inr (record { item = k.last; why = f; is = t; taken = k.taken; same = refl; due = λ x e. subst (λ y. IsRefused (Meets (ShownBefore shows k.calls) over refuses old) y k.last f) (sym e) (inr (command.Finish, k.end, why k.at k.here, own_map f (λ g m. met_before shows over refuses old new k.calls k.at command.Finish g k.shown same (m k.at k.here)) own)) }));
+})

@@ -17,3 +17,4 @@ pub mod NothingDue
 pub mod OneEdit
 pub mod WrittenReceived
 pub mod NotRead
+pub mod OwnRefusals

@@ -384,7 +384,7 @@ none_open : (t : List ℕ) (p : Path) → IsOpenDir t p [] → ⊥
 none_open t p ([], outer, e) = cc
 none_open t p (x ∷ inner, outer, e) = cc
 
-not_here : {D : Type 0} (dp : D → Path) (dirs : List (OpenDir D)) (t : List ℕ) (p : Path) → dirs ≡ [] → IsOpenDir t p (dirs_named dp dirs) → ⊥
+pub not_here : {D : Type 0} (dp : D → Path) (dirs : List (OpenDir D)) (t : List ℕ) (p : Path) → dirs ≡ [] → IsOpenDir t p (dirs_named dp dirs) → ⊥
 not_here dp dirs t p e is = none_open t p (subst (λ d. IsOpenDir t p (dirs_named dp d)) e is)
 
 pub prop_in_dir : {D F S : Type 0} (dp : D → Path) (fp : F → Path) (shows : S → List Call → Type 0) (old new : S) (st : Stage) (dirs now : List (OpenDir D)) (file : Option (OpenFile F)) (t : List ℕ) (p : Path) (n : Name) (value v' : Option (List ℕ)) (q v item : Item) (at : At)

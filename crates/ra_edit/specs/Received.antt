@@ -4,11 +4,13 @@ use Rattle.ra_item.specs.Items.{Item}
 use Rattle.ra_item.specs.Streams.{Stream}
 use Rattle.delta_editor.specs.Calls.{Adds}
 use Rattle.delta_editor.specs.declared.call.Call.{Call}
+use Rattle.delta_editor.specs.declared.fault.EditorFault.{EditorFault}
+use Rattle.node_base.specs.Tree.{PathMap}
 use Rattle.ra_edit.specs.Edits.{At, Begun, AllSay, SpellsEdit, IsCommand}
 use Rattle.ra_edit.specs.Edit.{Stepped}
 use Rattle.ra_edit.specs.EditFaults.{of_command, of_shape}
 use Rattle.ra_edit.specs.Receiving.{Forms, IsNoCommand}
-use Rattle.ra_edit.specs.Refusals.{refusal, RefusedFor}
+use Rattle.ra_edit.specs.Refusals.{refusal, RefusedFor, IfOwn, Meets}
 use Rattle.ra_edit.specs.ItemStreams.{Takes, Ends, Stops}
 use Rattle.ra_edit.specs.declared.command_fault.CommandFault.{CommandFault}
 use Rattle.ra_edit.specs.declared.receive_command.Command.{Command}
@@ -52,27 +54,32 @@ pub record Received {E D : Type 0} (shows : E → List Call → Type 0) (done_sh
   pub spelled : SpellsEdit items calls
   pub shown : (shown : List Call) → shows editor shown → done_shows done (shown ++ calls)
 
--- why an item is refused where the commands stand: it is read as no command, or as one for which this is due there
-abbrev pub IsRefused : At → Item → CommandFault → Type 0
-IsRefused at item why = ((f : ShapeFault) × (why ≡ of_shape f) × IsNoCommand item f) ⊎ ((c : Command) × Forms c item × RefusedFor why (refusal at c))
+-- why an item is refused where the commands stand: it is read as no command, or as one for which this is due there; the editor's
+-- own refusal is one that may be met
+abbrev pub IsRefused : (At → Command → EditorFault → Type 0) → At → Item → CommandFault → Type 0
+IsRefused met at item why = ((f : ShapeFault) × (why ≡ of_shape f) × IsNoCommand item f) ⊎ ((c : Command) × Forms c item × RefusedFor why (refusal at c) × IfOwn (met at c) why)
 
 -- behind these items, where the commands stand so, one more was read, and refused for what it says
-pub record RefusesItem (items : List Item) (stood : At → Type 0) (before after : Option (List ℕ)) (was : List ℕ → Stream) (f : EditFault) : Type 0 where
+pub record RefusesItem (met : At → Command → EditorFault → Type 0) (items : List Item) (stood : At → Type 0) (before after : Option (List ℕ)) (was : List ℕ → Stream) (f : EditFault) : Type 0 where
   pub item : Item
   pub why : CommandFault
   pub is : List ℕ → Stream
   pub taken : Takes (items ++ item ∷ []) before after was is
   pub same : f ≡ of_command why
-  pub due : (at : At) → stood at → IsRefused at item why
+  pub due : (at : At) → stood at → IsRefused met at item why
 
 -- behind these items the stream was refused, or ended, or the next item was refused
-abbrev pub StopsBehind : List Item → (At → Type 0) → Option (List ℕ) → Option (List ℕ) → (List ℕ → Stream) → Bool → Bool → EditFault → Type 0
-StopsBehind items stood before after was spent failed f = Stops items before after was spent failed f ⊎ (((f ≡ fault.BadShape) × Ends items true before after was) ⊎ RefusesItem items stood before after was f)
+abbrev pub StopsBehind : (At → Command → EditorFault → Type 0) → List Item → (At → Type 0) → Option (List ℕ) → Option (List ℕ) → (List ℕ → Stream) → Bool → Bool → EditFault → Type 0
+StopsBehind met items stood before after was spent failed f = Stops items before after was spent failed f ⊎ (((f ≡ fault.BadShape) × Ends items true before after was) ⊎ RefusesItem met items stood before after was f)
 
--- a drive was refused behind items that are calls of an edit
-pub record RefusesDrive (before after : Option (List ℕ)) (was : List ℕ → Stream) (spent failed : Bool) (f : EditFault) : Type 0 where
+-- what an editor was shown, once these calls are
+abbrev pub ShownBefore : {E : Type 0} → (E → List Call → Type 0) → List Call → E → List Call → Type 0
+ShownBefore shows calls e all = (shown : List Call) × shows e shown × (all ≡ shown ++ calls)
+
+-- a drive was refused behind items that are calls of an edit; by the editor, where it may refuse a call behind these
+pub record RefusesDrive {E : Type 0} (shows : E → List Call → Type 0) (over : E → List PathMap) (refuses : List PathMap → List Call → Call → EditorFault → Type 0) (editor : E) (before after : Option (List ℕ)) (was : List ℕ → Stream) (spent failed : Bool) (f : EditFault) : Type 0 where
   pub items : List Item
   pub calls : List Call
   pub at : At
   pub say : AllSay Begun items calls at
-  pub stops : StopsBehind items (λ a. a ≡ at) before after was spent failed f
+  pub stops : StopsBehind (Meets (ShownBefore shows calls) over refuses editor) items (λ a. a ≡ at) before after was spent failed f

@@ -1,13 +1,19 @@
 -- What a command is refused for, where the commands so far stand.
-use Rattle.std.specs.Prelude.{◌≡◌, ℕ, Bool, true, false, ◌&&◌, ◌||◌, if◌then◌else◌, List, [], ◌∷◌, Option, Some, None, Result, Ok, Err}
+use Rattle.std.specs.Prelude.{◌≡◌, ℕ, Bool, true, false, ◌&&◌, ◌||◌, if◌then◌else◌, List, [], ◌∷◌, ◌++◌, map, Option, Some, None, Result, Ok, Err}
+use Rattle.std.specs.List.{concat}
+use Rattle.std.specs.Option.{option_map}
 use Rattle.md5.specs.Md5.{md5}
-use Rattle.node_base.specs.Path.{same_name}
+use Rattle.node_base.specs.Path.{Path, same_name}
+use Rattle.node_base.specs.Tree.{PathMap}
 use Rattle.ra_edit.specs.EditFaults.{of_window}
 use Rattle.ra_item.specs.Items.{Item}
 use Rattle.delta_editor.specs.declared.call.Call.{Call}
-use Rattle.ra_edit.specs.Edits.{Held, Dir, Fresh, Within, Told, Named, is_free, At, Begun, Targeted, Inside, Announced, Ended, Says}
+use Rattle.delta_editor.specs.declared.call.Call.TheVariants as call
+use Rattle.delta_editor.specs.declared.fault.EditorFault.{EditorFault}
+use Rattle.ra_edit.specs.Edits.{Held, Dir, Fresh, Within, Told, Named, is_free, IsOpenDir, At, Begun, Targeted, Inside, Announced, Ended, Says, last_calls}
 use Rattle.ra_edit.specs.Receiving.{Forms}
 use Rattle.ra_edit.specs.Reading.{is_between, is_failed}
+use Rattle.ra_edit.specs.declared.reading.Reading.{Reading}
 use Rattle.ra_edit.specs.Streams.{Stream, Reads, Refuses, reading}
 use Rattle.ra_edit.specs.declared.command_fault.CommandFault.{CommandFault}
 use Rattle.ra_edit.specs.declared.command_fault.CommandFault.TheVariants as fault
@@ -119,3 +125,64 @@ RefusedFor f what = what ≡ Some f
 -- an item that is an edit's next is no command that is refused where the commands stand
 abbrev pub NothingDue : Type 0
 NothingDue = (at to : At) (item : Item) (calls : List Call) (c : Command) → Says at item calls to → Forms c item → refusal at c ≡ None
+
+-- ---- the editor's own refusals
+
+-- some of these calls were shown, and the next one may be refused so
+pub record RefusesOne {E : Type 0} (shows : E → List Call → Type 0) (over : E → List PathMap) (refuses : List PathMap → List Call → Call → EditorFault → Type 0) (e : E) (calls : List Call) (f : EditorFault) : Type 0 where
+  pub before : List Call
+  pub next : Call
+  pub rest : List Call
+  pub among : before ++ next ∷ rest ≡ calls
+  pub met : (shown : List Call) → shows e shown → refuses (over e) (shown ++ before) next f
+
+-- the innermost open thing: its path, and what was given of it
+abbrev pub path_at : At → Path
+path_at (Inside (o ∷ os)) = o.path
+path_at _ = []
+
+abbrev pub held_at : At → Held
+held_at (Inside (o ∷ os)) = o.held
+held_at _ = Dir
+
+-- whether the root was opened
+abbrev pub is_rooted : At → Bool
+is_rooted (Inside os) = true
+is_rooted (Announced root) = root
+is_rooted _ = false
+
+-- the first of the bytes read as these pieces of a text
+abbrev pub ReadFirst : Held → List ℕ → List (List ℕ) → Type 0
+ReadFirst (Within text r) bytes pieces = (rest : List ℕ) × (new : Reading) × (reading (Reads text r) bytes ≡ reading (Reads (text ++ concat pieces) new) rest)
+ReadFirst _ bytes pieces = ⊥
+
+-- the calls of the editor that a command asks for, where the commands stand so
+abbrev pub Asks : At → Command → List Call → Type 0
+Asks at (command.Target n) calls = calls ≡ call.Target n ∷ []
+Asks at (command.OpenRoot base t) calls = calls ≡ call.OpenRoot base ∷ []
+Asks at (command.DeleteEntry p base u) calls = calls ≡ call.DeleteEntry (path_at at) p base ∷ []
+Asks at (command.AddDir p u t from) calls = calls ≡ call.AddDir (path_at at) p from ∷ []
+Asks at (command.OpenDir p u t base) calls = calls ≡ call.OpenDir (path_at at) p base ∷ []
+Asks at (command.DirProp t n value) calls = (p : Path) × IsOpenDir t.items p (open_of at) × (calls ≡ call.DirProp p n (option_map (λ s. s.items) value) ∷ [])
+Asks at (command.CloseDir t) calls = calls ≡ call.CloseDir (path_at at) ∷ []
+Asks at (command.AddFile p u t from) calls = calls ≡ call.AddFile (path_at at) p from ∷ []
+Asks at (command.OpenFile p u t base) calls = calls ≡ call.OpenFile (path_at at) p base ∷ []
+Asks at (command.FileProp t n value) calls = calls ≡ call.FileProp (path_at at) n (option_map (λ s. s.items) value) ∷ []
+Asks at (command.TextStart t) calls = calls ≡ call.TextStart (path_at at) ∷ []
+Asks at (command.Chunk t bytes) calls = (pieces : List (List ℕ)) × ReadFirst (held_at at) bytes.items pieces × (calls ≡ map (call.TextPiece (path_at at)) pieces)
+Asks at (command.TextEnd t) calls = calls ≡ call.TextEnd (path_at at) ∷ []
+Asks at (command.CloseFile t sum) calls = calls ≡ call.CloseFile (path_at at) sum ∷ []
+Asks at command.CloseEdit calls = ⊥
+Asks at command.Finish calls = calls ≡ last_calls (is_rooted at)
+Asks at command.Abort calls = ⊥
+
+-- a command asks for calls that the editor may refuse so
+pub record Meets {E : Type 0} (shows : E → List Call → Type 0) (over : E → List PathMap) (refuses : List PathMap → List Call → Call → EditorFault → Type 0) (e : E) (at : At) (c : Command) (f : EditorFault) : Type 0 where
+  pub calls : List Call
+  pub asked : Asks at c calls
+  pub one : RefusesOne shows over refuses e calls f
+
+-- this holds of the editor's refusal, where it is one
+abbrev pub IfOwn : (EditorFault → Type 0) → CommandFault → Type 0
+IfOwn holds (fault.Editor f) = holds f
+IfOwn holds f = Unit {0}

@@ -24,6 +24,7 @@ pub mod receive_command;
 mod receive_edit;
 #[cfg(test)]
 mod receive_tests;
+mod receive_text;
 #[cfg(test)]
 mod received_tests;
 pub mod shape_fault;

@@ -4,6 +4,7 @@ ghost use Rattle.std.specs.Prelude.{◌≡◌, ◌||◌, IfOk, IfErr, OnOk, OnEr
 ghost use Rattle.ra_edit.specs.Edit.{Stands};
 ghost use Rattle.ra_edit.specs.Edits.{Begun};
 ghost use Rattle.ra_edit.specs.ItemStreams.{reader_of, has_failed, is_spent, is_peer, ahead};
+ghost use Rattle.ra_edit.specs.Refusals.{Meets};
 ghost use Rattle.ra_edit.specs.Received.{Comes, TakesOne, Received, StopsBehind, RefusesDrive};
 
 use crate::edit_fault::EditFault;
@@ -27,7 +28,7 @@ pub fn receive<R: Read + Drop, E: Editor>(
     editor: E,
 ) -> Result<E::Done, EditFault>
     ensures received { IfOk result (λ done. Received E.shows E.done_shows editor done (R.remaining (reader_of items.old)) (R.remaining (reader_of items.new)) (ahead items.old) (ahead items.new)) }
-    ensures refused { IfErr result (RefusesDrive (R.remaining (reader_of items.old)) (R.remaining (reader_of items.new)) (ahead items.old) (is_spent items.old) (has_failed items.new)) }
+    ensures refused { IfErr result (RefusesDrive E.shows E.over E.refuses editor (R.remaining (reader_of items.old)) (R.remaining (reader_of items.new)) (ahead items.old) (is_spent items.old) (has_failed items.new)) }
     ensures failed { has_failed items.new ≡ (has_failed items.old || is_peer result) }
     ensures goes_on { OnOk result (is_spent items.new ≡ false) }
     ensures spent { OnErr result (is_spent items.new ≡ true) }
@@ -54,8 +55,9 @@ fn take_commands<R: Read + Drop, E: Editor>(
     edit: &mut Edit<E>,
 ) -> Result<(), EditFault>
     requires begun { Stands E.dir_path E.file_path edit.old.stage edit.old.dirs.items edit.old.file Begun }
+    ensures over { E.over edit.new.editor ≡ E.over edit.old.editor }
     ensures comes { OnOk result (Comes E.shows edit.old.editor edit.new.editor (R.remaining (reader_of items.old)) (R.remaining (reader_of items.new)) (ahead items.old) (ahead items.new) (Stands E.dir_path E.file_path edit.new.stage edit.new.dirs.items edit.new.file)) }
-    ensures refused { IfErr result (RefusesDrive (R.remaining (reader_of items.old)) (R.remaining (reader_of items.new)) (ahead items.old) (is_spent items.old) (has_failed items.new)) }
+    ensures refused { IfErr result (RefusesDrive E.shows E.over E.refuses edit.old.editor (R.remaining (reader_of items.old)) (R.remaining (reader_of items.new)) (ahead items.old) (is_spent items.old) (has_failed items.new)) }
     ensures failed { has_failed items.new ≡ (has_failed items.old || is_peer result) }
     ensures goes_on { OnOk result (is_spent items.new ≡ false) }
 {
@@ -73,8 +75,9 @@ fn take_command<R: Read + Drop, E: Editor>(
     items: &mut ItemStream<R>,
     edit: &mut Edit<E>,
 ) -> Result<bool, EditFault>
+    ensures over { E.over edit.new.editor ≡ E.over edit.old.editor }
     ensures taken { IfOk result (TakesOne E.shows edit.old.editor edit.new.editor (R.remaining (reader_of items.old)) (R.remaining (reader_of items.new)) (ahead items.old) (ahead items.new) (Stands E.dir_path E.file_path edit.old.stage edit.old.dirs.items edit.old.file) (Stands E.dir_path E.file_path edit.new.stage edit.new.dirs.items edit.new.file)) }
-    ensures refused { IfErr result (StopsBehind [] (Stands E.dir_path E.file_path edit.old.stage edit.old.dirs.items edit.old.file) (R.remaining (reader_of items.old)) (R.remaining (reader_of items.new)) (ahead items.old) (is_spent items.old) (has_failed items.new)) }
+    ensures refused { IfErr result (StopsBehind (Meets E.shows E.over E.refuses edit.old.editor) [] (Stands E.dir_path E.file_path edit.old.stage edit.old.dirs.items edit.old.file) (R.remaining (reader_of items.old)) (R.remaining (reader_of items.new)) (ahead items.old) (is_spent items.old) (has_failed items.new)) }
     ensures failed { has_failed items.new ≡ (has_failed items.old || is_peer result) }
     ensures goes_on { OnOk result (is_spent items.new ≡ false) }
 {

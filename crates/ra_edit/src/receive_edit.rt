@@ -12,7 +12,7 @@ ghost use Rattle.delta_editor.specs.declared.call.Call.TheVariants as call;
 ghost use Rattle.ra_edit.specs.Streams.{reading, Reads};
 ghost use Rattle.ra_edit.specs.Edits.{Held, At, Begun, is_free, last_calls, Within, IsCommand};
 ghost use Rattle.ra_edit.specs.Receiving.{Forms};
-ghost use Rattle.ra_edit.specs.Refusals.{open_of, unless, is_in_dir, has_dir, for_token, in_file, at_start, of_stream, at_chunk, at_end, at_close, is_finish, due, refusal, RefusedFor};
+ghost use Rattle.ra_edit.specs.Refusals.{open_of, unless, is_in_dir, has_dir, for_token, in_file, at_start, of_stream, at_chunk, at_end, at_close, is_finish, due, refusal, RefusedFor, ReadFirst, RefusesOne, Meets, IfOwn};
 ghost use Rattle.ra_edit.specs.declared.command_fault.CommandFault.{CommandFault};
 ghost use Rattle.ra_edit.specs.declared.command_fault.CommandFault.TheVariants as fault;
 ghost use Rattle.ra_edit.specs.Edit.{Stands, GivenIs, Moves, dirs_named, is_unopened, is_announced, has_root, TextEnds, SumIs, FileMoves, Stepped, Finishes};
@@ -22,6 +22,7 @@ ghost use Rattle.ra_edit.specs.declared.receive_edit.Given.TheVariants as given;
 use crate::command_fault::CommandFault;
 use crate::reader::WindowReader;
 use crate::receive_command::Command;
+use crate::receive_text::take_chunk;
 use delta_editor::{Editor, EditorFault};
 use md5::{Digest, Md5};
 use node_base::{NodePath, PropName, RevNo, Source};
@@ -102,6 +103,8 @@ impl<E: Editor> Edit<E> {
     pub fn step(&mut self, command: Command) -> Result<bool, CommandFault>
         ensures moved { IfOk result (λ done. (at : At) (item : Item) → Forms command item → Stands E.dir_path E.file_path self.old.stage self.old.dirs.items self.old.file at → Stepped E.shows self.old.editor self.new.editor item at (Stands E.dir_path E.file_path self.new.stage self.new.dirs.items self.new.file) done) }
         ensures refused { IfErr result (λ f. (at : At) → Stands E.dir_path E.file_path self.old.stage self.old.dirs.items self.old.file at → RefusedFor f (refusal at command)) }
+        ensures own { IfErr result (IfOwn (λ f. (at : At) → Stands E.dir_path E.file_path self.old.stage self.old.dirs.items self.old.file at → Meets E.shows E.over E.refuses self.old.editor at command f)) }
+        ensures over { E.over self.new.editor ≡ E.over self.old.editor }
     {
         match &command {
             Command::Finish => return Ok(true),
@@ -119,6 +122,8 @@ impl<E: Editor> Edit<E> {
     fn perform(&mut self, command: Command) -> Result<(), CommandFault>
         ensures moved { OnOk result ((at : At) (item : Item) → Forms command item → Stands E.dir_path E.file_path self.old.stage self.old.dirs.items self.old.file at → Moves E.shows self.old.editor self.new.editor item at (Stands E.dir_path E.file_path self.new.stage self.new.dirs.items self.new.file)) }
         ensures refused { IfErr result (λ f. (at : At) → is_finish command ≡ false → Stands E.dir_path E.file_path self.old.stage self.old.dirs.items self.old.file at → RefusedFor f (due at command)) }
+        ensures own { IfErr result (IfOwn (λ f. (at : At) → Stands E.dir_path E.file_path self.old.stage self.old.dirs.items self.old.file at → Meets E.shows E.over E.refuses self.old.editor at command f)) }
+        ensures over { E.over self.new.editor ≡ E.over self.old.editor }
     {
         match command {
             Command::Target(rev) => self.target(rev),
@@ -144,6 +149,8 @@ impl<E: Editor> Edit<E> {
     fn target(&mut self, rev: RevNo) -> Result<(), CommandFault>
         ensures moved { OnOk result ((at : At) (item : Item) → Forms (command.Target rev) item → Stands E.dir_path E.file_path self.old.stage self.old.dirs.items self.old.file at → Moves E.shows self.old.editor self.new.editor item at (Stands E.dir_path E.file_path self.new.stage self.new.dirs.items self.new.file)) }
         ensures refused { IfErr result (λ f. (at : At) → Stands E.dir_path E.file_path self.old.stage self.old.dirs.items self.old.file at → RefusedFor f (due at (command.Target rev))) }
+        ensures own { IfErr result (IfOwn (λ f. (at : At) → Stands E.dir_path E.file_path self.old.stage self.old.dirs.items self.old.file at → Meets E.shows E.over E.refuses self.old.editor at (command.Target rev) f)) }
+        ensures over { E.over self.new.editor ≡ E.over self.old.editor }
     {
         let Stage::Begun = self.stage else {
             return Err(CommandFault::BadShape);
@@ -176,6 +183,8 @@ impl<E: Editor> Edit<E> {
     fn open_root(&mut self, base: Option<RevNo>, token: Vec<u8>) -> Result<(), CommandFault>
         ensures moved { OnOk result ((at : At) (item : Item) → Forms (command.OpenRoot base token) item → Stands E.dir_path E.file_path self.old.stage self.old.dirs.items self.old.file at → Moves E.shows self.old.editor self.new.editor item at (Stands E.dir_path E.file_path self.new.stage self.new.dirs.items self.new.file)) }
         ensures refused { IfErr result (λ f. (at : At) → Stands E.dir_path E.file_path self.old.stage self.old.dirs.items self.old.file at → RefusedFor f (due at (command.OpenRoot base token))) }
+        ensures own { IfErr result (IfOwn (λ f. (at : At) → Stands E.dir_path E.file_path self.old.stage self.old.dirs.items self.old.file at → Meets E.shows E.over E.refuses self.old.editor at (command.OpenRoot base token) f)) }
+        ensures over { E.over self.new.editor ≡ E.over self.old.editor }
     {
         if !self.is_unopened() {
             return Err(CommandFault::BadShape);
@@ -191,6 +200,7 @@ impl<E: Editor> Edit<E> {
     fn take_innermost(&mut self, token: &[u8]) -> Result<OpenDir<E::Dir>, CommandFault>
         ensures taken { IfOk result (λ d. (self.old.dirs.items ≡ self.new.dirs.items ++ d ∷ []) × (d.token.items ≡ token.now) × (self.old.file ≡ None)) }
         ensures refused { IfErr result (λ f. (at : At) → Stands E.dir_path E.file_path self.old.stage self.old.dirs.items self.old.file at → RefusedFor f (unless (is_in_dir token.now (open_of at)) fault.BadToken)) }
+        ensures own { IfErr result (IfOwn (λ f. ⊥)) }
         ensures room { OnOk result ((vec_len self.new.dirs + 1 ≡ vec_len self.old.dirs) × (vec_capacity self.new.dirs ≡ vec_capacity self.old.dirs)) }
         ensures file { self.new.file ≡ self.old.file }
         ensures editor { self.new.editor ≡ self.old.editor }
@@ -228,6 +238,7 @@ impl<E: Editor> Edit<E> {
     fn take_parent(&mut self, up: &[u8], token: &[u8]) -> Result<OpenDir<E::Dir>, CommandFault>
         ensures taken { IfOk result (λ d. (self.old.dirs.items ≡ self.new.dirs.items ++ d ∷ []) × (d.token.items ≡ up.now) × (self.old.file ≡ None)) }
         ensures refused { IfErr result (λ f. (at : At) → Stands E.dir_path E.file_path self.old.stage self.old.dirs.items self.old.file at → RefusedFor f (unless (is_free token.now (open_of at) && is_in_dir up.now (open_of at)) fault.BadToken)) }
+        ensures own { IfErr result (IfOwn (λ f. ⊥)) }
         ensures free { OnOk result (is_free token.now (dirs_named E.dir_path self.old.dirs.items) ≡ true) }
         ensures room { OnOk result (vec_len self.new.dirs + 2 ≤ vec_capacity self.new.dirs) }
         ensures file { self.new.file ≡ self.old.file }
@@ -249,6 +260,8 @@ impl<E: Editor> Edit<E> {
     ) -> Result<(), CommandFault>
         ensures moved { OnOk result ((at : At) (item : Item) → Forms (command.DeleteEntry path base up) item → Stands E.dir_path E.file_path self.old.stage self.old.dirs.items self.old.file at → Moves E.shows self.old.editor self.new.editor item at (Stands E.dir_path E.file_path self.new.stage self.new.dirs.items self.new.file)) }
         ensures refused { IfErr result (λ f. (at : At) → Stands E.dir_path E.file_path self.old.stage self.old.dirs.items self.old.file at → RefusedFor f (due at (command.DeleteEntry path base up))) }
+        ensures own { IfErr result (IfOwn (λ f. (at : At) → Stands E.dir_path E.file_path self.old.stage self.old.dirs.items self.old.file at → Meets E.shows E.over E.refuses self.old.editor at (command.DeleteEntry path base up) f)) }
+        ensures over { E.over self.new.editor ≡ E.over self.old.editor }
     {
         let mut dir = self.take_innermost(up.as_slice())?;
         let done = self.editor.delete_entry(&mut dir.baton, &path, base);
@@ -266,6 +279,8 @@ impl<E: Editor> Edit<E> {
     ) -> Result<(), CommandFault>
         ensures moved { OnOk result ((at : At) (item : Item) → Forms (command.AddDir path up token from) item → Stands E.dir_path E.file_path self.old.stage self.old.dirs.items self.old.file at → Moves E.shows self.old.editor self.new.editor item at (Stands E.dir_path E.file_path self.new.stage self.new.dirs.items self.new.file)) }
         ensures refused { IfErr result (λ f. (at : At) → Stands E.dir_path E.file_path self.old.stage self.old.dirs.items self.old.file at → RefusedFor f (due at (command.AddDir path up token from))) }
+        ensures own { IfErr result (IfOwn (λ f. (at : At) → Stands E.dir_path E.file_path self.old.stage self.old.dirs.items self.old.file at → Meets E.shows E.over E.refuses self.old.editor at (command.AddDir path up token from) f)) }
+        ensures over { E.over self.new.editor ≡ E.over self.old.editor }
     {
         let mut dir = self.take_parent(up.as_slice(), token.as_slice())?;
         let done = self.editor.add_dir(&mut dir.baton, &path, from.as_ref());
@@ -284,6 +299,8 @@ impl<E: Editor> Edit<E> {
     ) -> Result<(), CommandFault>
         ensures moved { OnOk result ((at : At) (item : Item) → Forms (command.OpenDir path up token base) item → Stands E.dir_path E.file_path self.old.stage self.old.dirs.items self.old.file at → Moves E.shows self.old.editor self.new.editor item at (Stands E.dir_path E.file_path self.new.stage self.new.dirs.items self.new.file)) }
         ensures refused { IfErr result (λ f. (at : At) → Stands E.dir_path E.file_path self.old.stage self.old.dirs.items self.old.file at → RefusedFor f (due at (command.OpenDir path up token base))) }
+        ensures own { IfErr result (IfOwn (λ f. (at : At) → Stands E.dir_path E.file_path self.old.stage self.old.dirs.items self.old.file at → Meets E.shows E.over E.refuses self.old.editor at (command.OpenDir path up token base) f)) }
+        ensures over { E.over self.new.editor ≡ E.over self.old.editor }
     {
         let mut dir = self.take_parent(up.as_slice(), token.as_slice())?;
         let done = self.editor.open_dir(&mut dir.baton, &path, base);
@@ -315,6 +332,8 @@ impl<E: Editor> Edit<E> {
     ) -> Result<(), CommandFault>
         ensures moved { OnOk result ((at : At) (item : Item) → Forms (command.DirProp token name value) item → Stands E.dir_path E.file_path self.old.stage self.old.dirs.items self.old.file at → Moves E.shows self.old.editor self.new.editor item at (Stands E.dir_path E.file_path self.new.stage self.new.dirs.items self.new.file)) }
         ensures refused { IfErr result (λ f. (at : At) → Stands E.dir_path E.file_path self.old.stage self.old.dirs.items self.old.file at → RefusedFor f (due at (command.DirProp token name value))) }
+        ensures own { IfErr result (IfOwn (λ f. (at : At) → Stands E.dir_path E.file_path self.old.stage self.old.dirs.items self.old.file at → Meets E.shows E.over E.refuses self.old.editor at (command.DirProp token name value) f)) }
+        ensures over { E.over self.new.editor ≡ E.over self.old.editor }
     {
         let at = self.find(token.as_slice())?;
         let dir = &mut self.dirs[at];
@@ -326,6 +345,8 @@ impl<E: Editor> Edit<E> {
     fn close_dir(&mut self, token: Vec<u8>) -> Result<(), CommandFault>
         ensures moved { OnOk result ((at : At) (item : Item) → Forms (command.CloseDir token) item → Stands E.dir_path E.file_path self.old.stage self.old.dirs.items self.old.file at → Moves E.shows self.old.editor self.new.editor item at (Stands E.dir_path E.file_path self.new.stage self.new.dirs.items self.new.file)) }
         ensures refused { IfErr result (λ f. (at : At) → Stands E.dir_path E.file_path self.old.stage self.old.dirs.items self.old.file at → RefusedFor f (due at (command.CloseDir token))) }
+        ensures own { IfErr result (IfOwn (λ f. (at : At) → Stands E.dir_path E.file_path self.old.stage self.old.dirs.items self.old.file at → Meets E.shows E.over E.refuses self.old.editor at (command.CloseDir token) f)) }
+        ensures over { E.over self.new.editor ≡ E.over self.old.editor }
     {
         let OpenDir { token: _, baton } = self.take_innermost(token.as_slice())?;
         self.editor.close_dir(baton)?;
@@ -341,6 +362,8 @@ impl<E: Editor> Edit<E> {
     ) -> Result<(), CommandFault>
         ensures moved { OnOk result ((at : At) (item : Item) → Forms (command.AddFile path up token from) item → Stands E.dir_path E.file_path self.old.stage self.old.dirs.items self.old.file at → Moves E.shows self.old.editor self.new.editor item at (Stands E.dir_path E.file_path self.new.stage self.new.dirs.items self.new.file)) }
         ensures refused { IfErr result (λ f. (at : At) → Stands E.dir_path E.file_path self.old.stage self.old.dirs.items self.old.file at → RefusedFor f (due at (command.AddFile path up token from))) }
+        ensures own { IfErr result (IfOwn (λ f. (at : At) → Stands E.dir_path E.file_path self.old.stage self.old.dirs.items self.old.file at → Meets E.shows E.over E.refuses self.old.editor at (command.AddFile path up token from) f)) }
+        ensures over { E.over self.new.editor ≡ E.over self.old.editor }
     {
         let mut dir = self.take_parent(up.as_slice(), token.as_slice())?;
         let done = self.editor.add_file(&mut dir.baton, &path, from.as_ref());
@@ -359,6 +382,8 @@ impl<E: Editor> Edit<E> {
     ) -> Result<(), CommandFault>
         ensures moved { OnOk result ((at : At) (item : Item) → Forms (command.OpenFile path up token base) item → Stands E.dir_path E.file_path self.old.stage self.old.dirs.items self.old.file at → Moves E.shows self.old.editor self.new.editor item at (Stands E.dir_path E.file_path self.new.stage self.new.dirs.items self.new.file)) }
         ensures refused { IfErr result (λ f. (at : At) → Stands E.dir_path E.file_path self.old.stage self.old.dirs.items self.old.file at → RefusedFor f (due at (command.OpenFile path up token base))) }
+        ensures own { IfErr result (IfOwn (λ f. (at : At) → Stands E.dir_path E.file_path self.old.stage self.old.dirs.items self.old.file at → Meets E.shows E.over E.refuses self.old.editor at (command.OpenFile path up token base) f)) }
+        ensures over { E.over self.new.editor ≡ E.over self.old.editor }
     {
         let mut dir = self.take_parent(up.as_slice(), token.as_slice())?;
         let done = self.editor.open_file(&mut dir.baton, &path, base);
@@ -395,6 +420,8 @@ impl<E: Editor> Edit<E> {
     ) -> Result<(), CommandFault>
         ensures moved { OnOk result ((at : At) (item : Item) → Forms (command.FileProp token name value) item → Stands E.dir_path E.file_path self.old.stage self.old.dirs.items self.old.file at → Moves E.shows self.old.editor self.new.editor item at (Stands E.dir_path E.file_path self.new.stage self.new.dirs.items self.new.file)) }
         ensures refused { IfErr result (λ f. (at : At) → Stands E.dir_path E.file_path self.old.stage self.old.dirs.items self.old.file at → RefusedFor f (due at (command.FileProp token name value))) }
+        ensures own { IfErr result (IfOwn (λ f. (at : At) → Stands E.dir_path E.file_path self.old.stage self.old.dirs.items self.old.file at → Meets E.shows E.over E.refuses self.old.editor at (command.FileProp token name value) f)) }
+        ensures over { E.over self.new.editor ≡ E.over self.old.editor }
     {
         let Some(file) = &mut self.file else {
             return Err(CommandFault::BadToken);
@@ -406,6 +433,8 @@ impl<E: Editor> Edit<E> {
     fn text_start(&mut self, token: Vec<u8>) -> Result<(), CommandFault>
         ensures moved { OnOk result ((at : At) (item : Item) → Forms (command.TextStart token) item → Stands E.dir_path E.file_path self.old.stage self.old.dirs.items self.old.file at → Moves E.shows self.old.editor self.new.editor item at (Stands E.dir_path E.file_path self.new.stage self.new.dirs.items self.new.file)) }
         ensures refused { IfErr result (λ f. (at : At) → Stands E.dir_path E.file_path self.old.stage self.old.dirs.items self.old.file at → RefusedFor f (due at (command.TextStart token))) }
+        ensures own { IfErr result (IfOwn (λ f. (at : At) → Stands E.dir_path E.file_path self.old.stage self.old.dirs.items self.old.file at → Meets E.shows E.over E.refuses self.old.editor at (command.TextStart token) f)) }
+        ensures over { E.over self.new.editor ≡ E.over self.old.editor }
     {
         let Some(file) = &mut self.file else {
             return Err(CommandFault::BadToken);
@@ -417,6 +446,8 @@ impl<E: Editor> Edit<E> {
     fn chunk(&mut self, token: Vec<u8>, bytes: Vec<u8>) -> Result<(), CommandFault>
         ensures moved { OnOk result ((at : At) (item : Item) → Forms (command.Chunk token bytes) item → Stands E.dir_path E.file_path self.old.stage self.old.dirs.items self.old.file at → Moves E.shows self.old.editor self.new.editor item at (Stands E.dir_path E.file_path self.new.stage self.new.dirs.items self.new.file)) }
         ensures refused { IfErr result (λ f. (at : At) → Stands E.dir_path E.file_path self.old.stage self.old.dirs.items self.old.file at → RefusedFor f (due at (command.Chunk token bytes))) }
+        ensures own { IfErr result (IfOwn (λ f. (at : At) → Stands E.dir_path E.file_path self.old.stage self.old.dirs.items self.old.file at → Meets E.shows E.over E.refuses self.old.editor at (command.Chunk token bytes) f)) }
+        ensures over { E.over self.new.editor ≡ E.over self.old.editor }
     {
         let Some(file) = &mut self.file else {
             return Err(CommandFault::BadToken);
@@ -428,6 +459,8 @@ impl<E: Editor> Edit<E> {
     fn text_end(&mut self, token: Vec<u8>) -> Result<(), CommandFault>
         ensures moved { OnOk result ((at : At) (item : Item) → Forms (command.TextEnd token) item → Stands E.dir_path E.file_path self.old.stage self.old.dirs.items self.old.file at → Moves E.shows self.old.editor self.new.editor item at (Stands E.dir_path E.file_path self.new.stage self.new.dirs.items self.new.file)) }
         ensures refused { IfErr result (λ f. (at : At) → Stands E.dir_path E.file_path self.old.stage self.old.dirs.items self.old.file at → RefusedFor f (due at (command.TextEnd token))) }
+        ensures own { IfErr result (IfOwn (λ f. (at : At) → Stands E.dir_path E.file_path self.old.stage self.old.dirs.items self.old.file at → Meets E.shows E.over E.refuses self.old.editor at (command.TextEnd token) f)) }
+        ensures over { E.over self.new.editor ≡ E.over self.old.editor }
     {
         let Some(file) = &mut self.file else {
             return Err(CommandFault::BadToken);
@@ -439,6 +472,8 @@ impl<E: Editor> Edit<E> {
     fn close_file(&mut self, token: Vec<u8>, sum: Option<[u8; 16]>) -> Result<(), CommandFault>
         ensures moved { OnOk result ((at : At) (item : Item) → Forms (command.CloseFile token sum) item → Stands E.dir_path E.file_path self.old.stage self.old.dirs.items self.old.file at → Moves E.shows self.old.editor self.new.editor item at (Stands E.dir_path E.file_path self.new.stage self.new.dirs.items self.new.file)) }
         ensures refused { IfErr result (λ f. (at : At) → Stands E.dir_path E.file_path self.old.stage self.old.dirs.items self.old.file at → RefusedFor f (due at (command.CloseFile token sum))) }
+        ensures own { IfErr result (IfOwn (λ f. (at : At) → Stands E.dir_path E.file_path self.old.stage self.old.dirs.items self.old.file at → Meets E.shows E.over E.refuses self.old.editor at (command.CloseFile token sum) f)) }
+        ensures over { E.over self.new.editor ≡ E.over self.old.editor }
     {
         let OpenFile {
             token: _,
@@ -457,6 +492,7 @@ impl<E: Editor> Edit<E> {
     ) -> Result<OpenFile<E::File>, CommandFault>
         ensures taken { IfOk result (λ f. (self.old.file ≡ Some f) × (f.token.items ≡ token.now) × SumIs f.given sum) }
         ensures refused { IfErr result (λ f. (at : At) → Stands E.dir_path E.file_path self.old.stage self.old.dirs.items self.old.file at → RefusedFor f (in_file token.now (open_of at) (at_close sum))) }
+        ensures own { IfErr result (IfOwn (λ f. ⊥)) }
         ensures none { OnOk result (self.new.file ≡ None) }
         ensures dirs { self.new.dirs ≡ self.old.dirs }
         ensures editor { self.new.editor ≡ self.old.editor }
@@ -486,6 +522,8 @@ impl<E: Editor> Edit<E> {
     fn close_edit(&mut self) -> Result<(), CommandFault>
         ensures moved { OnOk result ((at : At) (item : Item) → Forms (command.CloseEdit) item → Stands E.dir_path E.file_path self.old.stage self.old.dirs.items self.old.file at → Moves E.shows self.old.editor self.new.editor item at (Stands E.dir_path E.file_path self.new.stage self.new.dirs.items self.new.file)) }
         ensures refused { IfErr result (λ f. (at : At) → Stands E.dir_path E.file_path self.old.stage self.old.dirs.items self.old.file at → RefusedFor f (due at (command.CloseEdit))) }
+        ensures own { IfErr result (IfOwn (λ f. (at : At) → Stands E.dir_path E.file_path self.old.stage self.old.dirs.items self.old.file at → Meets E.shows E.over E.refuses self.old.editor at (command.CloseEdit) f)) }
+        ensures over { E.over self.new.editor ≡ E.over self.old.editor }
     {
         if self.is_announced() {
             return Err(CommandFault::BadShape);
@@ -514,6 +552,7 @@ impl<E: Editor> Edit<E> {
     pub fn finish(self) -> Result<E::Done, CommandFault>
         ensures done { IfOk result (λ d. (at : At) (item : Item) → IsCommand (codes "finish-replay") [] item → Stands E.dir_path E.file_path self.stage self.dirs.items self.file at → Finishes E.shows E.done_shows self.editor d item at) }
         ensures refused { IfErr result (λ f. (at : At) → Stands E.dir_path E.file_path self.stage self.dirs.items self.file at → RefusedFor f (refusal at command.Finish)) }
+        ensures own { IfErr result (IfOwn (λ f. (at : At) → Stands E.dir_path E.file_path self.stage self.dirs.items self.file at → Meets E.shows E.over E.refuses self.editor at command.Finish f)) }
     {
         if !self.is_closed() {
             self.abort();
@@ -597,6 +636,8 @@ fn slice_of(value: &Option<Vec<u8>>) -> Option<&[u8]>
 // The root, opened without a base and closed.
 fn show_root<E: Editor>(editor: &mut E) -> Result<(), EditorFault>
     ensures shown { OnOk result (Adds E.shows editor.old editor.new (call.OpenRoot None ∷ call.CloseDir [] ∷ [])) }
+    ensures refused { IfErr result (RefusesOne E.shows E.over E.refuses editor.old (call.OpenRoot None ∷ call.CloseDir [] ∷ [])) }
+    ensures over { E.over editor.new ≡ E.over editor.old }
 {
     let root = editor.open_root(None)?;
     editor.close_dir(root)?;
@@ -613,6 +654,8 @@ fn give_prop<E: Editor>(
 ) -> Result<(), CommandFault>
     ensures moved { OnOk result ((item : Item) → Forms (command.FileProp token name value) item → FileMoves E.file_path E.shows editor.old editor.new item file.old file.new) }
     ensures refused { IfErr result (λ f. RefusedFor f (for_token token.items file.old.token.items None)) }
+    ensures own { IfErr result (IfOwn (RefusesOne E.shows E.over E.refuses editor.old (call.FileProp (E.file_path file.old.baton) name (option_map (λ s. s.items) value) ∷ []))) }
+    ensures over { E.over editor.new ≡ E.over editor.old }
 {
     if !is_same(file.token.as_slice(), token.as_slice()) {
         return Err(CommandFault::BadToken);
@@ -629,6 +672,8 @@ fn begin_text<E: Editor>(
 ) -> Result<(), CommandFault>
     ensures moved { OnOk result ((item : Item) → Forms (command.TextStart token) item → FileMoves E.file_path E.shows editor.old editor.new item file.old file.new) }
     ensures refused { IfErr result (λ f. (held : Held) → GivenIs file.old.given held → RefusedFor f (for_token token.items file.old.token.items (at_start held))) }
+    ensures own { IfErr result (IfOwn (RefusesOne E.shows E.over E.refuses editor.old (call.TextStart (E.file_path file.old.baton) ∷ []))) }
+    ensures over { E.over editor.new ≡ E.over editor.old }
 {
     if !is_same(file.token.as_slice(), token.as_slice()) {
         return Err(CommandFault::BadToken);
@@ -650,6 +695,8 @@ fn give_bytes<E: Editor>(
 ) -> Result<(), CommandFault>
     ensures moved { OnOk result ((item : Item) → Forms (command.Chunk token bytes) item → FileMoves E.file_path E.shows editor.old editor.new item file.old file.new) }
     ensures refused { IfErr result (λ f. (held : Held) → GivenIs file.old.given held → RefusedFor f (for_token token.items file.old.token.items (at_chunk bytes.items held))) }
+    ensures own { IfErr result (IfOwn (λ f. (held : Held) → GivenIs file.old.given held → (pieces : List (List ℕ)) × ReadFirst held bytes.items pieces × RefusesOne E.shows E.over E.refuses editor.old (map (call.TextPiece (E.file_path file.old.baton)) pieces) f)) }
+    ensures over { E.over editor.new ≡ E.over editor.old }
 {
     if !is_same(file.token.as_slice(), token.as_slice()) {
         return Err(CommandFault::BadToken);
@@ -669,6 +716,8 @@ fn close_text<E: Editor>(
 ) -> Result<(), CommandFault>
     ensures moved { OnOk result ((item : Item) → Forms (command.TextEnd token) item → FileMoves E.file_path E.shows editor.old editor.new item file.old file.new) }
     ensures refused { IfErr result (λ f. (held : Held) → GivenIs file.old.given held → RefusedFor f (for_token token.items file.old.token.items (at_end held))) }
+    ensures own { IfErr result (IfOwn (RefusesOne E.shows E.over E.refuses editor.old (call.TextEnd (E.file_path file.old.baton) ∷ []))) }
+    ensures over { E.over editor.new ≡ E.over editor.old }
 {
     if !is_same(file.token.as_slice(), token.as_slice()) {
         return Err(CommandFault::BadToken);
@@ -683,6 +732,7 @@ fn close_text<E: Editor>(
 fn end_text(given: &mut Given) -> Result<[u8; 16], CommandFault>
     ensures ends { IfOk result (λ sum. TextEnds given.old sum) }
     ensures refused { IfErr result (λ f. (held : Held) → GivenIs given.old held → RefusedFor f (at_end held)) }
+    ensures own { IfErr result (IfOwn (λ f. ⊥)) }
 {
     match mem::replace(given, Given::Nothing) {
         Given::Begun(reader, sum) => {
@@ -697,6 +747,7 @@ fn end_text(given: &mut Given) -> Result<[u8; 16], CommandFault>
 fn check_sum(given: &Given, sum: Option<[u8; 16]>) -> Result<(), CommandFault>
     ensures is { OnOk result (SumIs given.now sum) }
     ensures refused { IfErr result (λ f. (held : Held) → GivenIs given.now held → RefusedFor f (at_close sum held)) }
+    ensures own { IfErr result (IfOwn (λ f. ⊥)) }
 {
     match given {
         Given::Nothing => Ok(()),
@@ -706,45 +757,4 @@ fn check_sum(given: &Given, sum: Option<[u8; 16]>) -> Result<(), CommandFault>
             Some(_) | None => Ok(()),
         },
     }
-}
-
-// Hands on new data, if there is some, and sums it.
-fn take_stretch<E: Editor>(
-    editor: &mut E,
-    file: &mut E::File,
-    sum: &mut Md5,
-    bytes: &[u8],
-) -> Result<(), CommandFault>
-    ensures pieces { OnOk result ((pieces : List (List ℕ)) × (concat pieces ≡ bytes.now) × Adds E.shows editor.old editor.new (map (call.TextPiece (E.file_path file.old)) pieces)) }
-    ensures sum { OnOk result ((text : List ℕ) → Holds sum.old text → Holds sum.new (text ++ bytes.now)) }
-    ensures file { OnOk result (E.file_path file.new ≡ E.file_path file.old) }
-    ensures refused { IfErr result (λ f. (what : Option CommandFault) → RefusedFor f what) }
-{
-    if bytes.is_empty() {
-        return Ok(());
-    }
-    editor.text_piece(file, bytes)?;
-    sum.update(bytes);
-    Ok(())
-}
-
-// Hands on the new data in bytes of a text, and sums it.
-fn take_chunk<E: Editor>(
-    editor: &mut E,
-    file: &mut E::File,
-    reader: &mut WindowReader,
-    sum: &mut Md5,
-    bytes: &[u8],
-) -> Result<(), CommandFault>
-    ensures file { OnOk result (E.file_path file.new ≡ E.file_path file.old) }
-    ensures taken { OnOk result ((pieces : List (List ℕ)) × Adds E.shows editor.old editor.new (map (call.TextPiece (E.file_path file.old)) pieces) × ((text : List ℕ) → reading (Reads text reader.old) bytes.now ≡ Reads (text ++ concat pieces) reader.new) × ((text : List ℕ) → Holds sum.old text → Holds sum.new (text ++ concat pieces))) }
-    ensures refused { IfErr result (λ f. (text : List ℕ) → RefusedFor f (of_stream (reading (Reads text reader.old) bytes.now))) }
-{
-    let mut rest = bytes;
-    while !rest.is_empty() {
-        let stretch = reader.next(rest)?;
-        take_stretch(editor, file, sum, stretch.bytes)?;
-        rest = stretch.rest;
-    }
-    Ok(())
 }

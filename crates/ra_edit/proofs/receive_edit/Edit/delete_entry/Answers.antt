@@ -1,7 +1,9 @@
-use Rattle.std.proofs.Common.{◌∙◌, ap, refl}
+use Rattle.std.proofs.Common.{◌∙◌, ap, refl, ◌∷◌, []}
 use Rattle.delta_editor.specs.declared.call.Call.TheVariants as call
 use Rattle.ra_edit.specs.Edits.{Dir, named}
 use Rattle.ra_edit.proofs.Steps.{in_dir, says_delete}
+use Rattle.std.proofs.lemmas.Result.{err_from_is_err_and}
+use Rattle.ra_edit.proofs.OwnRefusals.{dir_met}
 use Rattle.ra_edit.proofs.receive_edit.Edit.delete_entry.Goals as goal
 
 pub returns-clause-moved : goal.returns-clause-moved
@@ -14,3 +16,13 @@ returns-clause-moved g c =
     λ at item f h. in_dir dp g.E.Editor.file_path g.E.Editor.shows old.editor mid.editor c.delete_entry-done.new.self old.stage mid.stage old.dirs.items mid.dirs.items c.push_reserved.new.self.items d (record d { baton = c.delete_entry-done.new.up }) old.file mid.file (call.DeleteEntry (dp d.baton) c.args.path c.args.base) (call.DeleteEntry (dp d.baton) c.args.path c.args.base) item at
     t.taken.0 t.taken.2 c.push_reserved.ensures.items (ap (λ x. named d.token.items x Dir) c.in_ok-done.ensures.up) t.editor t.stage t.file refl
     (says_delete dp d c.args.path c.args.base c.args.up.items f.0 f.1 item f.2 f.3 f.4 (t.taken.1 ∙ c.as_slice.ensures.value)) h c.in_ok-done.ensures.shown
+
+pub returns-in_err-done-clause-own : goal.returns-in_err-done-clause-own
+returns-in_err-done-clause-own g c =
+    let p = err_from_is_err_and c.from_residual-in_err-done.result c.from_residual-in_err-done.ensures.1 in
+    let old = c.args.self.now in
+    let mid = c.take_innermost.new.self in
+    let d = c.in_ok-dir.dir in
+    let t = c.in_ok-dir.ensures in
+    let dp = g.E.Editor.dir_path in
+    rw (p.1, p.2) (λ at h. dir_met dp g.E.Editor.file_path g.E.Editor.shows g.E.Editor.over g.E.Editor.refuses old.editor mid.editor old.stage old.dirs.items mid.dirs.items d old.file at (λ q. call.DeleteEntry q c.args.path c.args.base) (call.DeleteEntry (dp d.baton) c.args.path c.args.base) _ c.in_err-done.field-0.0 t.taken.0 t.taken.2 t.editor refl (λ q e. ap (λ r. call.DeleteEntry r c.args.path c.args.base ∷ []) e) h c.in_err-done.ensures.refused)

@@ -5,6 +5,8 @@ use Rattle.ra_edit.specs.Edits.{Dir, named, is_free}
 use Rattle.ra_edit.specs.Edit.{dirs_named}
 use Rattle.ra_edit.specs.declared.receive_edit.Given.TheVariants as given
 use Rattle.ra_edit.proofs.Steps.{file_opened, says_open_file}
+use Rattle.std.proofs.lemmas.Result.{err_from_is_err_and}
+use Rattle.ra_edit.proofs.OwnRefusals.{dir_met}
 use Rattle.ra_edit.proofs.receive_edit.Edit.open_file.Goals as goal
 
 pub returns-clause-moved : goal.returns-clause-moved
@@ -21,3 +23,13 @@ returns-clause-moved g c =
     (ap (λ x. is_free x (dirs_named dp old.dirs.items)) (sym c.as_slice-2.ensures.value) ∙ t.free)
     (says_open_file dp fp d (record { token = c.args.token; baton = c.in_ok-baton.baton; given = given.Nothing }) c.args.path c.args.base c.args.up.items f.0 f.1 item f.2 f.3 f.4 (t.taken.1 ∙ c.as_slice.ensures.value) c.in_ok-baton.ensures.baton) h
     (subst (λ x. Adds g.E.Editor.shows mid.editor x ((call.OpenFile (dp d.baton) c.args.path c.args.base) ∷ [])) (sym c.hold.ensures.editor) c.in_ok-baton.ensures.shown)
+
+pub returns-in_err-baton-clause-own : goal.returns-in_err-baton-clause-own
+returns-in_err-baton-clause-own g c =
+    let p = err_from_is_err_and c.from_residual-in_err-baton.result c.from_residual-in_err-baton.ensures.1 in
+    let old = c.args.self.now in
+    let mid = c.take_parent.new.self in
+    let d = c.in_ok-dir.dir in
+    let t = c.in_ok-dir.ensures in
+    let dp = g.E.Editor.dir_path in
+    rw (p.1, p.2) (λ at h. dir_met dp g.E.Editor.file_path g.E.Editor.shows g.E.Editor.over g.E.Editor.refuses old.editor mid.editor old.stage old.dirs.items mid.dirs.items d old.file at (λ q. call.OpenFile q c.args.path c.args.base) (call.OpenFile (dp d.baton) c.args.path c.args.base) _ c.in_err-baton.field-0.0 t.taken.0 t.taken.2 t.editor refl (λ q e. ap (λ r. call.OpenFile r c.args.path c.args.base ∷ []) e) h c.in_err-baton.ensures.refused)

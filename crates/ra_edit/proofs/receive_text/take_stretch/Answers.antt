@@ -1,5 +1,5 @@
 use Rattle.std.proofs.Common.{◌∷◌, [], append-nil}
-use Rattle.ra_edit.proofs.receive_edit.take_stretch.Goals as goal
+use Rattle.ra_edit.proofs.receive_text.take_stretch.Goals as goal
 
 pub returns-clause-pieces : goal.returns-clause-pieces
 returns-clause-pieces g c = (c.args.bytes.now ∷ [], append-nil c.args.bytes.now, c.in_ok-text_piece.ensures.shown)
