@@ -14,7 +14,7 @@ use Rattle.dump_load.specs.Changes.{settles, is_delete, change_at, IsNormal, IsB
 use Rattle.dump_load.proofs.PathOrder.{less_differs, no_front_none, between}
 use Rattle.dump_load.proofs.Bare.{effect_bare, counted_from_below}
 use Rattle.editor_ends.specs.BuildFaults.{is_below}
-use Rattle.editor_ends.specs.Built.{filled, is_full, is_given, is_taken, is_above, is_needed, is_idle, leads_on, IsLean, Keeps, Made, IsSetOver, IsTooMany}
+use Rattle.editor_ends.specs.Built.{filled, is_full, is_given, is_taken, is_above, is_needed, is_idle, leads_on, IsLean, Keeps, Made, IsFilledOf, IsSetOver, IsTooMany}
 use Rattle.editor_ends.proofs.Filled.{Nodes, and_split, none_in_gap, normal-filled, or_no, or_yes, all_of, all_two, above_through}
 use Rattle.editor_ends.proofs.Began.{gap_of, normal_without, change_at-amid, above-amid}
 use Rattle.editor_ends.proofs.Walks.{front_rest}
@@ -164,6 +164,12 @@ own_all [] n = tt
 own_all (c ∷ s) n =
     (ap (λ b. cond b (Some c) (change_at s c.path)) (same_path_itself c.path), all_two s (λ d k pr. ap (λ b. cond b (Some c) (change_at s d.path)) (less_differs c.path d.path pr.rises) ∙ k) (own_all s n.2) n.1)
 
+-- the change that a filled one was
+record Lifted (f : Nodes) (s : List Change) (p : Path) (c : Change) : Type 0 where
+  pub stem : Change
+  pub at : change_at s p ≡ Some stem
+  pub is : c ≡ filled f stem
+
 module _ (f : Nodes) where
   full_filled : (c : Change) → is_full (filled f c) ≡ is_full c
   full_filled c = λ i. settles c.action || (kept c.props (λ m. Rattle.std.specs.Option.option_map_or (λ x. x.props) (f c.path) m) i || kept c.text (λ t. Rattle.std.specs.Option.option_map_or (λ x. Rattle.std.specs.Prelude.unwrap_or x.text t) (f c.path) t) i)
@@ -188,6 +194,20 @@ module _ (f : Nodes) where
     | true ↦ λ k. ap not (ap (λ x. is_delete x.action) (some_is (filled f d) c k) ∙ e)
     | false ↦ λ k. taken_of s p c k e
   ] h
+
+  stem_of : (s : List Change) (p : Path) (c : Change) → c.path ≡ p → change_at (map (filled f) s) p ≡ Some c → IsFilledOf f s c
+  stem_of s p c same h = let l = lifted s p c h in record { stem = l.stem; at = ap (change_at s) same ∙ l.at; is = l.is }
+    where
+      lifted : (s : List Change) (p : Path) (c : Change) → change_at (map (filled f) s) p ≡ Some c → Lifted f s p c
+      lifted [] p c h = cc
+      lifted (d ∷ s) p c h = elim (same_path d.path p) as (λ b. same_path d.path p ≡ b → cond b (Some (filled f d)) (change_at (map (filled f) s) p) ≡ Some c → Lifted f (d ∷ s) p c) [
+        | true ↦ λ e k. record { stem = d; at = ap (λ b. cond b (Some d) (change_at s p)) e; is = sym (some_is (filled f d) c k) }
+        | false ↦ λ e k. let l = lifted s p c k in record { stem = l.stem; at = ap (λ b. cond b (Some d) (change_at s p)) e ∙ l.at; is = l.is }
+      ] refl h
+
+  -- each that is kept is one of those before
+  stems_all : (trees : List PathMap) (s kept : List Change) → Keeps trees (map (filled f) s) kept → AllByRecursion (IsFilledOf f s) kept
+  stems_all trees s kept k = all_of kept (λ c own. stem_of s c.path c refl (k.stays c.path c own)) (own_all kept k.normal)
 
   above_of : (s : List Change) (p : Path) → is_above (map (filled f) s) p ≡ is_above s p
   above_of [] p = refl
@@ -214,7 +234,7 @@ pub over_all : (trees : List PathMap) (tree : PathMap) (changes kept : List Chan
 over_all trees tree changes kept m k lean few =
     let n = normal-filled (get tree) changes m.normal in
     let h = subst (Keeps trees (map (filled (get tree)) changes)) (append-nil kept) (k n) in
-    record { normal = h.normal; effect_is = λ q. h.effect_is q ∙ m.made q; needed = needed_all (get tree) trees changes kept h (lean n); few = few }
+    record { normal = h.normal; effect_is = λ q. h.effect_is q ∙ m.made q; needed = needed_all (get tree) trees changes kept h (lean n); stems = stems_all (get tree) trees changes kept h; few = few }
 
 pub too_large : (trees : List PathMap) (tree : PathMap) (changes kept : List Change) → Made trees tree changes → (IsNormal (map (filled (get tree)) changes) → Keeps trees (map (filled (get tree)) changes) (kept ++ [])) → (IsNormal (map (filled (get tree)) changes) → IsLean kept) → 4096 < length kept → IsTooMany trees (get tree) changes
 too_large trees tree changes kept m k lean many =

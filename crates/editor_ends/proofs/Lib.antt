@@ -1,3 +1,4 @@
+pub mod Asked
 pub mod Began
 pub mod CallEffects
 pub mod Down

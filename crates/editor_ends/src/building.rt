@@ -250,7 +250,7 @@ pub fn put_prop(
     name: &PropName,
     value: Option<&[u8]>,
 ) -> Result<(), EditorFault>
-    ensures gives { OnOk result ((trees : List PathMap) → Made trees tree.old changes.old.items → Gives trees tree.old changes.old.items tree.new changes.new.items path.now (with_prop name.now (option_map (λ b. b.now) value.entry))) }
+    ensures gives { OnOk result ((trees : List PathMap) → Made trees tree.old changes.old.items → Gives trees tree.old changes.old.items tree.new changes.new.items path.now (with_prop name.now (option_map (λ b. b.now) value.entry)) giving_props) }
     ensures faultless { OnOk result (put_fault (map.get tree.old) path.now name.now (option_map (λ b. b.now) value.entry) ≡ None) }
     ensures refused { IfErr result (λ e. IsNormal changes.old.items → is_taken changes.old.items path.now ≡ true → IsFaultOr (put_fault (map.get tree.old) path.now name.now (option_map (λ b. b.now) value.entry)) e) }
 {
@@ -293,7 +293,7 @@ pub fn start_text(
     changes: &mut Vec<Change>,
     path: &NodePath,
 ) -> Result<(), EditorFault>
-    ensures gives { OnOk result ((trees : List PathMap) → Made trees tree.old changes.old.items → Gives trees tree.old changes.old.items tree.new changes.new.items path.now (with_given (Some []) None)) }
+    ensures gives { OnOk result ((trees : List PathMap) → Made trees tree.old changes.old.items → Gives trees tree.old changes.old.items tree.new changes.new.items path.now (with_given (Some []) None) giving_text) }
     ensures faultless { OnOk result (text_fault (map.get tree.old) path.now ≡ None) }
     ensures refused { IfErr result (λ e. IsNormal changes.old.items → is_taken changes.old.items path.now ≡ true → IsFaultOr (option_map refused (text_fault (map.get tree.old) path.now)) e) }
 {
@@ -316,7 +316,7 @@ pub fn append_text(
     path: &NodePath,
     piece: &[u8],
 ) -> Result<(), EditorFault>
-    ensures gives { OnOk result ((trees : List PathMap) → Made trees tree.old changes.old.items → Gives trees tree.old changes.old.items tree.new changes.new.items path.now (with_piece piece.now)) }
+    ensures gives { OnOk result ((trees : List PathMap) → Made trees tree.old changes.old.items → Gives trees tree.old changes.old.items tree.new changes.new.items path.now (with_piece piece.now) giving_text) }
     ensures faultless { OnOk result (piece_fault (map.get tree.old) path.now piece.now ≡ None) }
     ensures refused { IfErr result (λ e. IsNormal changes.old.items → is_taken changes.old.items path.now ≡ true → IsFaultOr (option_map refused (piece_fault (map.get tree.old) path.now piece.now)) e) }
 {
