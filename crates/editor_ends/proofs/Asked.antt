@@ -202,8 +202,8 @@ module _ (c : Call) (p : Path) (k : Change → Change) (props text : Bool) (f : 
       ] refl
 
   no_deletion : (o : Option Change) (d : Change) → option_map_or (λ (x : Change). not (is_delete x.action)) o false ≡ true → option_map k o ≡ Some d → is_delete d.action ≡ true → d ≡ begun Delete None p None
-  no_deletion None d h e gone = cc h
-  no_deletion (Some b) d h e gone = cc (h, ap is_delete (sym (f.same_action b)), ap (λ z. option_map_or (λ (x : Change). is_delete x.action) z false) e, gone)
+  no_deletion None d h e gone = cc
+  no_deletion (Some b) d h e gone = cc (ap is_delete (sym (f.same_action b)), ap (λ z. option_map_or (λ (x : Change). is_delete x.action) z false) e, gone)
 
   pub given_bare : AreBare new
   given_bare q d e gone =

@@ -105,22 +105,17 @@ within_later (o ∷ os) call.CloseEdit t e = cc
 -- ---- one call more
 
 module _ (trees : List PathMap) (tree new_tree : PathMap) (s new : List Change) (calls : List Call) (c : Call) where
-  goes_on : (stage t : Stage) → Builds trees tree s calls stage → ((q : Path) → get new_tree q ≡ seen t trees (called trees (call_effect trees calls) c) q) → Made trees new_tree new → ((p : Path) → is_taken new p ≡ (is_taken s p || takes p c)) → ((p : Path) → is_above new p ≡ (is_above s p || acts_below p c)) → ((p : Path) → is_given new p ≡ true → (is_given s p || gives p c) ≡ true) → ((p : Path) → AskedStep c p (change_at s p) (change_at new p)) → AreBare new → call_fault trees calls c ≡ None → Builds trees new_tree new (calls ++ c ∷ []) t
+  goes_on : (stage t : Stage) → Builds trees tree s calls stage → ((q : Path) → get new_tree q ≡ seen t trees (called trees (call_effect trees calls) c) q) → Made trees new_tree new → ((p : Path) → is_taken new p ≡ (is_taken s p || takes p c)) → ((p : Path) → is_above new p ≡ (is_above s p || acts_below p c)) → ((p : Path) → is_given new p ≡ (is_given s p || gives p c)) → ((p : Path) → AskedStep c p (change_at s p) (change_at new p)) → AreBare new → call_fault trees calls c ≡ None → Builds trees new_tree new (calls ++ c ∷ []) t
   goes_on stage t b is made taken above given asked bare fault = record {
     called = λ q. is q ∙ (λ i. seen t trees (sym (all_called-append trees (base trees) calls (c ∷ [])) i) q);
     made = made;
     taken = λ p. taken p ∙ (λ i. b.taken p i || sym (or_no (takes p c)) i) ∙ sym (list_any-append (takes p) calls (c ∷ []));
     above = λ p. above p ∙ (λ i. b.above p i || sym (or_no (acts_below p c)) i) ∙ sym (list_any-append (acts_below p) calls (c ∷ []));
-    given = λ p h. list_any-append (gives p) calls (c ∷ []) ∙ carry (is_given s p) (list_any (gives p) calls) (gives p c) (b.given p) (given p h);
+    given = λ p. given p ∙ (λ i. b.given p i || sym (or_no (gives p c)) i) ∙ sym (list_any-append (gives p) calls (c ∷ []));
     asked = λ p. one_more calls c p (change_at s p) (change_at new p) (b.asked p) (asked p);
     bare = bare;
     unrefused = first-end trees calls c b.unrefused fault;
   }
-    where
-      carry : (a b g : Bool) → (a ≡ true → b ≡ true) → (a || g) ≡ true → (b || (g || false)) ≡ true
-      carry true b g k h = ap (λ z. z || (g || false)) (k refl)
-      carry false true g k h = refl
-      carry false false g k h = or_no g ∙ h
 
 -- what a call says of the change that it begins
 pub record BeginsAs (c : Call) (x : Change) : Type 0 where
@@ -222,7 +217,7 @@ adds_begun trees tree new_tree s new c x facts h calls builds t e =
     let g = h b.made in
     goes_on trees tree new_tree s new calls c l.stage t b
     (λ q. g.tree_is q ∙ (λ i. stepped trees (λ r. is r i) x q) ∙ sym (facts.effect_is trees (call_effect trees calls) q) ∙ sym (seen_later trees t (called trees (call_effect trees calls) c) q (within_later w.opened c t w.goes)))
-    g.made (λ p. g.taken p ∙ ap (λ z. is_taken s p || z) (sym (facts.takes_it p))) (λ p. g.above p ∙ ap (λ z. is_above s p || z) (sym (facts.below p))) (λ p k. ap (λ z. is_given s p || z) (facts.gives_it p) ∙ g.given p k)
+    g.made (λ p. g.taken p ∙ ap (λ z. is_taken s p || z) (sym (facts.takes_it p))) (λ p. g.above p ∙ ap (λ z. is_above s p || z) (sym (facts.below p))) (λ p. g.given p ∙ ap (λ z. is_given s p || z) (sym (facts.gives_it p)))
     (begun_step c x facts.asks s new b.bare g.begins_at g.elsewhere) (begun_bare c x facts.asks s new b.bare g.begins_at g.elsewhere)
     (facts.fault trees calls ∙ sym (same_fault trees tree s calls l.stage x b is) ∙ g.fault)
 
@@ -314,7 +309,7 @@ adds_root trees tree new_tree s new base h calls builds t e =
     let g = h b.made in
     goes_on trees tree new_tree s new calls (call.OpenRoot base) l.stage t b
     (λ q. g.tree_is q ∙ (λ i. stepped trees (λ r. is r i) x q) ∙ root_step trees (call_effect trees calls) q ∙ sym (seen_later trees t (marked (call_effect trees calls) [] (length trees)) q w.later))
-    g.made (λ p. g.taken p ∙ ap (λ z. is_taken s p || z) (sym (and_true (same_path [] p)))) (λ p. g.above p) (λ p k. ap (λ z. is_given s p || z) (and_false (same_path [] p)) ∙ g.given p k)
+    g.made (λ p. g.taken p ∙ ap (λ z. is_taken s p || z) (sym (and_true (same_path [] p)))) (λ p. g.above p) (λ p. g.given p ∙ ap (λ z. is_given s p || z) (sym (and_false (same_path [] p))))
     (begun_step (call.OpenRoot base) x (asks_root base) s new b.bare g.begins_at g.elsewhere) (begun_bare (call.OpenRoot base) x (asks_root base) s new b.bare g.begins_at g.elsewhere)
     (sym (root_same trees tree s calls l.stage b is) ∙ g.fault)
 
@@ -332,6 +327,7 @@ pub record IsSilent (c : Call) : Type 0 where
   pub effect_is : (trees : List PathMap) (f : Nodes) → ◌≡◌ {A = Nodes} (called trees f c) f
   pub takes_none : (p : Path) → takes p c ≡ false
   pub below : (p : Path) → acts_below p c ≡ false
+  pub gives_none : (p : Path) → gives p c ≡ false
   pub asks_nothing : (p : Path) → AsksNothing c p
   pub stage_stays : (s t : Stage) → next s c ≡ Some t → is_before t ≡ is_before s
 
@@ -341,16 +337,16 @@ within_same c none (Within os) t e = within_later os c t e
 within_same c none After t e = cc
 
 pub text_ends : (p : Path) → IsSilent (call.TextEnd p)
-text_ends p = record { effect_is = λ trees f. refl; takes_none = λ q. refl; below = λ q. refl; asks_nothing = λ q. record { deleted = refl; added = refl; kind_is = refl; source_is = refl; props_told = refl; text_told = refl }; stage_stays = within_same (call.TextEnd p) refl }
+text_ends p = record { effect_is = λ trees f. refl; takes_none = λ q. refl; below = λ q. refl; gives_none = λ q. refl; asks_nothing = λ q. record { deleted = refl; added = refl; kind_is = refl; source_is = refl; props_told = refl; text_told = refl }; stage_stays = within_same (call.TextEnd p) refl }
 
 pub closes_file : (p : Path) (sum : Option (List ℕ)) → IsSilent (call.CloseFile p sum)
-closes_file p sum = record { effect_is = λ trees f. refl; takes_none = λ q. refl; below = λ q. refl; asks_nothing = λ q. record { deleted = refl; added = refl; kind_is = refl; source_is = refl; props_told = refl; text_told = refl }; stage_stays = within_same (call.CloseFile p sum) refl }
+closes_file p sum = record { effect_is = λ trees f. refl; takes_none = λ q. refl; below = λ q. refl; gives_none = λ q. refl; asks_nothing = λ q. record { deleted = refl; added = refl; kind_is = refl; source_is = refl; props_told = refl; text_told = refl }; stage_stays = within_same (call.CloseFile p sum) refl }
 
 pub closes_dir : (p : Path) → IsSilent (call.CloseDir p)
-closes_dir p = record { effect_is = λ trees f. refl; takes_none = λ q. refl; below = λ q. refl; asks_nothing = λ q. record { deleted = refl; added = refl; kind_is = refl; source_is = refl; props_told = refl; text_told = refl }; stage_stays = within_same (call.CloseDir p) refl }
+closes_dir p = record { effect_is = λ trees f. refl; takes_none = λ q. refl; below = λ q. refl; gives_none = λ q. refl; asks_nothing = λ q. record { deleted = refl; added = refl; kind_is = refl; source_is = refl; props_told = refl; text_told = refl }; stage_stays = within_same (call.CloseDir p) refl }
 
 pub targets : (n : ℕ) → IsSilent (call.Target n)
-targets n = record { effect_is = λ trees f. refl; takes_none = λ q. refl; below = λ q. refl; asks_nothing = λ q. record { deleted = refl; added = refl; kind_is = refl; source_is = refl; props_told = refl; text_told = refl }; stage_stays = stays }
+targets n = record { effect_is = λ trees f. refl; takes_none = λ q. refl; below = λ q. refl; gives_none = λ q. refl; asks_nothing = λ q. record { deleted = refl; added = refl; kind_is = refl; source_is = refl; props_told = refl; text_told = refl }; stage_stays = stays }
   where
     stays : (s t : Stage) → next s (call.Target n) ≡ Some t → is_before t ≡ is_before s
     stays Before t e = ap (λ o. option_map_or is_before o true) (sym e)
@@ -370,7 +366,7 @@ adds_silent trees tree s c facts calls fault builds t e =
     let b = builds l.stage l.ran in
     goes_on trees tree tree s s calls c l.stage t b
     (λ q. b.called q ∙ seen_same trees l.stage t (call_effect trees calls) q (facts.stage_stays l.stage t l.goes) ∙ (λ i. seen t trees (sym (facts.effect_is trees (call_effect trees calls)) i) q))
-    b.made (λ p. sym (ap (λ z. is_taken s p || z) (facts.takes_none p) ∙ or_no (is_taken s p))) (λ p. sym (ap (λ z. is_above s p || z) (facts.below p) ∙ or_no (is_above s p))) (λ p h. ap (λ z. z || gives p c) h)
+    b.made (λ p. sym (ap (λ z. is_taken s p || z) (facts.takes_none p) ∙ or_no (is_taken s p))) (λ p. sym (ap (λ z. is_above s p || z) (facts.below p) ∙ or_no (is_above s p))) (λ p. sym (ap (λ z. is_given s p || z) (facts.gives_none p) ∙ or_no (is_given s p)))
     (λ p. stays c p (change_at s p) (change_at s p) (facts.asks_nothing p) refl) b.bare
     fault
 
@@ -543,7 +539,7 @@ adds_given trees tree new_tree s new c p g k props text fault facts open_at same
     let taken = b.taken p ∙ open_at calls w.opened t all w.goes in
     goes_on trees tree new_tree s new calls c l.stage t b
     (λ q. d.tree_is q ∙ (λ i. changed_at (λ r. is r i) p g q) ∙ sym (facts.effect_is trees (call_effect trees calls) q) ∙ sym (seen_later trees t (called trees (call_effect trees calls) c) q (within_later w.opened c t w.goes)))
-    d.made (λ q. d.taken q ∙ sym (ap (λ z. is_taken s q || z) (facts.takes_none q) ∙ or_no (is_taken s q))) (λ q. d.above q ∙ sym (ap (λ z. is_above s q || z) (facts.below q) ∙ or_no (is_above s q))) (λ q h. ap (λ z. is_given s q || z) (facts.gives_own q) ∙ d.given q h)
+    d.made (λ q. d.taken q ∙ sym (ap (λ z. is_taken s q || z) (facts.takes_none q) ∙ or_no (is_taken s q))) (λ q. d.above q ∙ sym (ap (λ z. is_above s q || z) (facts.below q) ∙ or_no (is_above s q))) (λ q. d.given q ∙ ap (λ z. is_given s q || z) (sym (facts.gives_own q)))
     (given_step c p k props text facts.tells s new b.bare taken d.became) (given_bare c p k props text facts.tells s new b.bare taken d.became)
     (same calls ∙ (λ i. fault (λ r. sym (is r) i)) ∙ none)
 
@@ -564,7 +560,7 @@ new_shown trees tree few is stage e = subst (Builds trees tree [] []) (same_stag
   made = record { numbered = few; made = λ q. sym (is q); normal = tt; stands = λ p h. cc };
   taken = λ p. refl;
   above = λ p. refl;
-  given = λ p h. cc;
+  given = λ p. refl;
   asked = λ p. record { deleted = refl; added = refl; kind_is = refl; source_is = refl; props_told = refl; text_told = refl };
   bare = λ p d h gone. cc h;
   unrefused = refl;
@@ -576,13 +572,8 @@ ends_within (Within os) e trees f q = refl
 ends_within After e trees f q = cc
 
 -- what is needed of the changes is what the calls change
-needs_change : (trees : List PathMap) (tree : PathMap) (s : List Change) (calls : List Call) (stage : Stage) → Builds trees tree s calls stage → (p : Path) → is_needed s p ≡ true → is_changed calls p ≡ true
-needs_change trees tree s calls stage b p h = sym (λ i. list_any (gives p) calls || (b.taken p i && not (b.above p i))) ∙ needs (is_given s p) (list_any (gives p) calls) (is_taken s p && not (is_above s p)) (b.given p) h
-  where
-    needs : (g k r : Bool) → (g ≡ true → k ≡ true) → (g || r) ≡ true → (k || r) ≡ true
-    needs true k r f h = ap (λ z. z || r) (f refl)
-    needs false true r f h = refl
-    needs false false r f h = h
+needs_change : (trees : List PathMap) (tree : PathMap) (s : List Change) (calls : List Call) (stage : Stage) → Builds trees tree s calls stage → (p : Path) → is_needed s p ≡ is_changed calls p
+needs_change trees tree s calls stage b p = λ i. b.given p i || (b.taken p i && not (b.above p i))
 
 pub change_end : (calls : List Call) (p : Path) → is_changed (calls ++ call.CloseEdit ∷ []) p ≡ is_changed calls p
 change_end calls p = λ i. none (gives p) refl i || (none (takes p) refl i && not (none (acts_below p) refl i))
@@ -599,7 +590,8 @@ adds_end trees tree s set h calls builds e =
       unrefused = first-end trees calls call.CloseEdit b.unrefused refl;
       normal = o.normal;
       effect_is = λ q. o.effect_is q ∙ b.called q ∙ ends_within l.stage l.goes trees (call_effect trees calls) q ∙ (λ i. sym (all_called-append trees (base trees) calls (call.CloseEdit ∷ [])) i q);
-      changed = all_of set (λ c k. change_end calls c.path ∙ needs_change trees tree s calls l.stage b c.path k) o.needed;
+      changed = all_of set (λ c k. change_end calls c.path ∙ sym (needs_change trees tree s calls l.stage b c.path) ∙ k) o.needed;
+      whole = λ p k. o.whole p (needs_change trees tree s calls l.stage b p ∙ sym (change_end calls p) ∙ k);
       asked = all_of set (λ c stem. asked_end calls s (get tree) c b.asked stem) o.stems;
       few = o.few;
     }
@@ -618,4 +610,4 @@ refuses_end trees tree s e h calls builds t r = at (h b.made)
 
     at : IsFinishRefusal trees (get tree) s e → IsCallRefusal trees calls call.CloseEdit e
     at (built.OfMemory m) = OfMemory m
-    at (built.OfSize k large) = OfSize refl k (record { set = large.set; normal = large.normal; is = λ q. large.is q ∙ called_within trees tree s calls l.stage w.opened w.is b q; changed = all_of large.set (λ c n. needs_change trees tree s calls l.stage b c.path n) large.needed; many = large.many })
+    at (built.OfSize k large) = OfSize refl k (record { set = large.set; normal = large.normal; is = λ q. large.is q ∙ called_within trees tree s calls l.stage w.opened w.is b q; changed = all_of large.set (λ c n. sym (needs_change trees tree s calls l.stage b c.path) ∙ n) large.needed; many = large.many })

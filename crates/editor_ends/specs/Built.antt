@@ -1,5 +1,5 @@
 -- What an editor that builds a set keeps: changes beside the tree that they make.
-use Rattle.std.specs.Prelude.{◌≡◌, ℕ, ◌≤◌, ◌<◌, take, drop, Result, Ok, Err, Bool, true, false, not, ◌&&◌, ◌||◌, List, ◌∷◌, [], map, length, Option, Some, None, IsSome, if◌then◌else◌}
+use Rattle.std.specs.Prelude.{◌≡◌, ℕ, ◌≤◌, ◌<◌, take, drop, Result, Ok, Err, Bool, true, false, not, ◌&&◌, ◌||◌, List, ◌∷◌, [], map, length, Option, Some, None, IsSome, if◌then◌else◌, ◌⊎◌}
 use Rattle.std.specs.Option.{option_map, option_map_or, option_and_then}
 use Rattle.std.specs.Prelude.{unwrap_or}
 use Rattle.std.specs.List.{list_any, slice_get, AllByRecursion}
@@ -84,7 +84,7 @@ pub record Begins (trees : List PathMap) (tree : PathMap) (s : List Change) (new
   pub made : Made trees new_tree new
   pub taken : (p : Path) → is_taken new p ≡ (is_taken s p || (same_path x.path p && not (is_delete x.action)))
   pub above : (p : Path) → is_above new p ≡ (is_above s p || is_below p x.path)
-  pub given : (p : Path) → is_given new p ≡ true → (is_given s p || (same_path x.path p && is_full x)) ≡ true
+  pub given : (p : Path) → is_given new p ≡ (is_given s p || (same_path x.path p && is_full x))
   pub begins_at : BeginsAt s new x
   pub elsewhere : (p : Path) → same_path x.path p ≡ false → change_at new p ≡ change_at s p
 
@@ -94,7 +94,7 @@ pub record Gives (trees : List PathMap) (tree : PathMap) (s : List Change) (new_
   pub made : Made trees new_tree new
   pub taken : (q : Path) → is_taken new q ≡ is_taken s q
   pub above : (q : Path) → is_above new q ≡ is_above s q
-  pub given : (q : Path) → is_given new q ≡ true → (is_given s q || same_path p q) ≡ true
+  pub given : (q : Path) → is_given new q ≡ (is_given s q || same_path p q)
   pub became : (q : Path) → change_at new q ≡ option_map (λ c. if same_path p q then k c else c) (change_at s q)
 
 -- a fault is the one that is said, but for memory
@@ -125,12 +125,14 @@ abbrev pub IsLean : List Change → Type 0
 IsLean [] = Unit {0}
 IsLean (c ∷ s) = (leads_on c s ≡ false) × IsLean s
 
--- a normal set with the effect of another, of whose changes it has some, and some below each path that had some below
+-- a normal set with the effect of another, of whose changes it has some, and some below each path that had some below; those that give
+-- something, and those with nothing below, stay
 pub record Keeps (trees : List PathMap) (s new : List Change) : Type 0 where
   pub normal : IsNormal new
   pub effect_is : (q : Path) → effect trees new q ≡ effect trees s q
   pub above : (p : Path) → is_above new p ≡ is_above s p
   pub stays : (p : Path) (c : Change) → change_at new p ≡ Some c → change_at s p ≡ Some c
+  pub keeps : (p : Path) (c : Change) → change_at s p ≡ Some c → (is_full c ≡ true) ⊎ (is_above s p ≡ false) → change_at new p ≡ Some c
 
 -- a change is one of some changes, its parts filled in
 pub record IsFilledOf (f : Path → Option Node) (changes : List Change) (c : Change) : Type 0 where
@@ -138,11 +140,13 @@ pub record IsFilledOf (f : Path → Option Node) (changes : List Change) (c : Ch
   pub at : change_at changes c.path ≡ Some stem
   pub is : c ≡ filled f stem
 
--- a normal set of no more than 4,096 changes has this effect, and each of them is needed and one of those before
+-- a normal set of no more than 4,096 changes has this effect, and each of them is needed and one of those before, and each that is
+-- needed is there
 pub record IsSetOver (trees : List PathMap) (f : Path → Option Node) (changes set : List Change) : Type 0 where
   pub normal : IsNormal set
   pub effect_is : (q : Path) → effect trees set q ≡ f q
   pub needed : AllByRecursion (λ c. is_needed changes c.path ≡ true) set
+  pub whole : (p : Path) → is_needed changes p ≡ true → IsSome (change_at set p)
   pub stems : AllByRecursion (IsFilledOf f changes) set
   pub few : length set ≤ 4096
 
@@ -184,7 +188,7 @@ pub record Builds (trees : List PathMap) (tree : PathMap) (s : List Change) (cal
   pub made : Made trees tree s
   pub taken : (p : Path) → is_taken s p ≡ list_any (takes p) calls
   pub above : (p : Path) → is_above s p ≡ list_any (acts_below p) calls
-  pub given : (p : Path) → is_given s p ≡ true → list_any (gives p) calls ≡ true
+  pub given : (p : Path) → is_given s p ≡ list_any (gives p) calls
   pub asked : (p : Path) → AskedAt calls p (change_at s p)
   pub bare : AreBare s
   pub unrefused : first_refusal trees calls ≡ None
@@ -193,12 +197,13 @@ pub record Builds (trees : List PathMap) (tree : PathMap) (s : List Change) (cal
 abbrev pub BuildsWithin : List PathMap → PathMap → List Change → List Call → Type 0
 BuildsWithin trees tree s calls = (stage : Stage) → run Before calls ≡ Some stage → Builds trees tree s calls stage
 
--- the set is what the calls come to
+-- the set is what the calls come to: it has their effect, and a change, as they ask for it, of each path that they change and of no other
 pub record IsSetOf (trees : List PathMap) (set : List Change) (calls : List Call) : Type 0 where
   pub unrefused : first_refusal trees calls ≡ None
   pub normal : IsNormal set
   pub effect_is : (q : Path) → effect trees set q ≡ call_effect trees calls q
   pub changed : AllByRecursion (λ c. is_changed calls c.path ≡ true) set
+  pub whole : (p : Path) → is_changed calls p ≡ true → IsSome (change_at set p)
   pub asked : AllByRecursion (IsAsked calls) set
   pub few : length set ≤ 4096
 
