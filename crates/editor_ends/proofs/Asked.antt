@@ -1,6 +1,8 @@
 -- What one call more asks for at a path.
 use Rattle.std.proofs.Common.{◌≡◌, Bool, true, false, cond, not, ◌&&◌, ◌||◌, List, [], ◌∷◌, ◌++◌, Option, Some, None, is_some, refl, sym, ap, subst, ◌∙◌}
+use Rattle.std.specs.Prelude.{unwrap_or}
 use Rattle.std.specs.Option.{option_map, option_map_or, option_or, option_and_then}
+use Rattle.std.specs.FinMap as finite
 use Rattle.std.specs.List.{list_any}
 use Rattle.std.proofs.lemmas.List.Folds.{list_any-append}
 use Rattle.node_base.specs.Path.{Path, same_path}
@@ -10,11 +12,13 @@ use Rattle.node_base.specs.declared.node.Action.TheVariants.{Modify, Add, Delete
 use Rattle.node_base.specs.declared.node.Node.{Node}
 use Rattle.dump_load.specs.declared.change.Change.{Change}
 use Rattle.dump_load.specs.Changes.{settles, is_delete, is_add, brings, change_at}
+use Rattle.node_base.specs.Tree.{PathMap}
+use Rattle.delta_editor.specs.CallEffect.{call_effect}
 use Rattle.delta_editor.specs.declared.call.Call.{Call}
 use Rattle.delta_editor.specs.declared.call.Call.TheVariants as call
 use Rattle.editor_ends.specs.Asked.{removes, deletes, adds, kind_at, source_at, tells_props, tells_text, last_of, IsAsked}
 use Rattle.editor_ends.specs.BuildFaults.{begun}
-use Rattle.editor_ends.specs.Built.{filled, is_taken, BeginsAt, First, Again, AskedAt, AreBare, IsFilledOf}
+use Rattle.editor_ends.specs.Built.{filled, is_taken, BeginsAt, First, Again, AskedAt, AreBare, IsBlank, AreBlank, IsFilledOf}
 use Rattle.editor_ends.proofs.Filled.{Nodes, or_no, or_yes}
 
 pub or_none : {A : Type 0} (o : Option A) → option_or o None ≡ o
@@ -87,6 +91,7 @@ pub record AsksFor (c : Call) (x : Change) : Type 0 where
   pub props_told : (p : Path) → tells_props p c ≡ (same_path x.path p && is_some x.props)
   pub text_told : (p : Path) → tells_text p c ≡ (same_path x.path p && is_some x.text)
   pub bare : is_delete x.action ≡ true → x ≡ begun Delete None x.path None
+  pub blank : IsBlank x
 
 brought : (a : Action) → is_add a ≡ true → (settles a && not (is_delete a)) ≡ true
 brought Modify e = cc
@@ -94,7 +99,7 @@ brought Add e = refl
 brought Delete e = cc
 brought Replace e = cc
 
-module _ (c : Call) (x : Change) (f : AsksFor c x) (s new : List Change) (bare : AreBare s) (at : BeginsAt s new x) (elsewhere : (p : Path) → same_path x.path p ≡ false → change_at new p ≡ change_at s p) where
+module _ (c : Call) (x : Change) (f : AsksFor c x) (s new : List Change) (bare : AreBare s) (blank : AreBlank s) (at : BeginsAt s new x) (elsewhere : (p : Path) → same_path x.path p ≡ false → change_at new p ≡ change_at s p) where
   not_here : (p : Path) → same_path x.path p ≡ false → AsksNothing c p
   not_here p e = record {
     deleted = f.deleted p ∙ ap (λ b. b && removes x.action) e;
@@ -154,6 +159,17 @@ module _ (c : Call) (x : Change) (f : AsksFor c x) (s new : List Change) (bare :
         | false ↦ λ k. bare p d (sym (elsewhere p k) ∙ e) gone
       ] refl
 
+  blank_here : BeginsAt s new x → (d : Change) → change_at new x.path ≡ Some d → IsBlank d
+  blank_here (First o n) d e = subst IsBlank (some_is x d (sym n ∙ e)) f.blank
+  blank_here (Again b o k add n) d e = subst IsBlank (some_is (record x { action = Replace }) d (sym n ∙ e)) (record { props_are = f.blank.props_are; text_is = f.blank.text_is })
+
+  pub begun_blank : AreBlank new
+  begun_blank p d e =
+      elim (same_path x.path p) as (λ b. same_path x.path p ≡ b → IsBlank d) [
+        | true ↦ λ k. blank_here at d (ap (change_at new) (path_of_same x.path p k) ∙ e)
+        | false ↦ λ k. blank p d (sym (elsewhere p k) ∙ e)
+      ] refl
+
 -- ---- a call that gives something to what is open
 
 pub record Tells (c : Call) (p : Path) (k : Change → Change) (props text : Bool) : Type 0 where
@@ -168,8 +184,9 @@ pub record Tells (c : Call) (p : Path) (k : Change → Change) (props text : Boo
   pub same_source : (d : Change) → (k d).source ≡ d.source
   pub props_are : (d : Change) → is_some (k d).props ≡ (is_some d.props || props)
   pub text_is : (d : Change) → is_some (k d).text ≡ (is_some d.text || text)
+  pub blank : (d : Change) → IsBlank d → IsBlank (k d)
 
-module _ (c : Call) (p : Path) (k : Change → Change) (props text : Bool) (f : Tells c p k props text) (s new : List Change) (bare : AreBare s) (taken : is_taken s p ≡ true) (became : (q : Path) → change_at new q ≡ option_map (λ d. cond (same_path p q) (k d) d) (change_at s q)) where
+module _ (c : Call) (p : Path) (k : Change → Change) (props text : Bool) (f : Tells c p k props text) (s new : List Change) (bare : AreBare s) (blank : AreBlank s) (taken : is_taken s p ≡ true) (became : (q : Path) → change_at new q ≡ option_map (λ d. cond (same_path p q) (k d) d) (change_at s q)) where
   apart : (q : Path) → same_path p q ≡ false → change_at new q ≡ change_at s q
   apart q e = became q ∙ ap (λ b. option_map (λ d. cond b (k d) d) (change_at s q)) e ∙ kept (change_at s q)
     where
@@ -212,21 +229,38 @@ module _ (c : Call) (p : Path) (k : Change → Change) (props text : Bool) (f : 
         | false ↦ λ h. bare q d (sym (apart q h) ∙ e) gone
       ] refl
 
+  became_blank : (o : Option Change) → change_at s p ≡ o → (d : Change) → option_map k o ≡ Some d → IsBlank d
+  became_blank None e d h = cc h
+  became_blank (Some b) e d h = subst IsBlank (some_same (k b) d h) (f.blank b (blank p b e))
+    where
+      some_same : (a b : Change) → Some a ≡ Some b → a ≡ b
+      some_same a b e = cc
+
+  pub given_blank : AreBlank new
+  given_blank q d e =
+      elim (same_path p q) as (λ b. same_path p q ≡ b → IsBlank d) [
+        | true ↦ λ h. became_blank (change_at s p) refl d (sym given_here ∙ (ap (change_at new) (path_of_same p q h) ∙ e))
+        | false ↦ λ h. blank q d (sym (apart q h) ∙ e)
+      ] refl
+
 -- ---- the end
 
-kept_some : {A : Type 0} (o : Option A) (g : A → A) → is_some (option_map g o) ≡ is_some o
-kept_some None g = refl
-kept_some (Some x) g = refl
+-- what is given is what is filled in, where it is given
+filled_in : {A : Type 0} (o : Option A) (b : Bool) (blank : A) (g : A → A) → is_some o ≡ b → o ≡ option_map (λ _. blank) o → option_map g o ≡ cond b (Some (g blank)) None
+filled_in None b blank g told is = ap (λ z. cond z (Some (g blank)) None) told
+filled_in (Some x) b blank g told is = ap (option_map g) is ∙ ap (λ z. cond z (Some (g blank)) None) told
 
 -- a change that is filled in is what its stem was asked for, and the end of the edit asks for nothing
-pub asked_end : (calls : List Call) (s : List Change) (f : Nodes) (c : Change) → ((p : Path) → AskedAt calls p (change_at s p)) → IsFilledOf f s c → IsAsked (calls ++ call.CloseEdit ∷ []) c
-asked_end calls s f c b stem =
+pub asked_end : (trees : List PathMap) (calls : List Call) (s : List Change) (f : Nodes) (c : Change) → ((p : Path) → AskedAt calls p (change_at s p)) → AreBlank s → ((q : Path) → f q ≡ call_effect trees (calls ++ call.CloseEdit ∷ []) q) → IsFilledOf f s c → IsAsked trees (calls ++ call.CloseEdit ∷ []) c
+asked_end trees calls s f c b blank nodes stem =
     let a = one_more calls call.CloseEdit c.path (Some stem.stem) (Some stem.stem) (subst (AskedAt calls c.path) stem.at (b c.path)) (stays call.CloseEdit c.path (Some stem.stem) (Some stem.stem) (record { deleted = refl; added = refl; kind_is = refl; source_is = refl; props_told = refl; text_told = refl }) refl) in
+    let k = blank c.path stem.stem stem.at in
+    let node : f stem.stem.path ≡ call_effect trees (calls ++ call.CloseEdit ∷ []) c.path = ap f (sym (ap (λ z. z.path) stem.is)) ∙ nodes c.path in
     record {
       deleted = ap (λ z. removes z.action) stem.is ∙ a.deleted;
       added = ap brings stem.is ∙ a.added;
       kind_is = ap (λ z. z.kind) stem.is ∙ a.kind_is;
       source_is = ap (λ z. z.source) stem.is ∙ a.source_is;
-      props_told = ap (λ z. is_some z.props) stem.is ∙ kept_some stem.stem.props _ ∙ a.props_told;
-      text_told = ap (λ z. is_some z.text) stem.is ∙ kept_some stem.stem.text _ ∙ a.text_told;
+      props_are = ap (λ z. z.props) stem.is ∙ filled_in stem.stem.props _ finite.empty (λ m. option_map_or (λ x. x.props) (f stem.stem.path) m) a.props_told k.props_are ∙ ap (λ o. cond (list_any (tells_props c.path) (calls ++ call.CloseEdit ∷ [])) (Some (option_map_or (λ (x : Node). x.props) o finite.empty)) None) node;
+      text_is = ap (λ z. z.text) stem.is ∙ filled_in stem.stem.text _ [] (λ t. option_map_or (λ x. unwrap_or x.text t) (f stem.stem.path) t) a.text_told k.text_is ∙ ap (λ o. cond (list_any (tells_text c.path) (calls ++ call.CloseEdit ∷ [])) (Some (option_map_or (λ (x : Node). unwrap_or x.text []) o [])) None) node;
     }

@@ -1,8 +1,10 @@
 -- What a call adds to what an editor that builds a set was shown, and why it is refused.
 use Rattle.std.proofs.Common.{◌≡◌, ℕ, ◌≤◌, Bool, true, false, cond, not, ◌&&◌, ◌||◌, List, [], ◌∷◌, ◌++◌, length, Option, Some, None, is_some, ◌⊎◌, inl, inr, refl, sym, ap, subst, ◌∙◌, append_assoc, append-nil}
+use Rattle.std.specs.Prelude.{unwrap_or}
 use Rattle.std.specs.Option.{option_map, option_map_or, option_or, option_and_then}
 use Rattle.std.specs.List.{list_any, AllByRecursion}
 use Rattle.std.proofs.lemmas.List.Folds.{list_any-append}
+use Rattle.std.specs.FinMap as finite
 use Rattle.std.specs.FinMap.{get}
 use Rattle.node_base.specs.Path.{Path, Name, same_path, is_front}
 use Rattle.node_base.proofs.PathLemmas.{same_path_itself, path_of_same}
@@ -27,10 +29,10 @@ use Rattle.delta_editor.specs.declared.fault.EditorFault.TheVariants as refusal
 use Rattle.delta_editor.proofs.CallLemmas.{all_called-append}
 use Rattle.editor_ends.specs.BuildFaults.{is_below, takes, acts_below, gives, is_changed, begin_fault, is_late, beginning, call_fault, refusal_after, first_refusal, IsTooLarge, IsCallRefusal, OfMemory, OfCall, OfSize, RefusesWithin}
 use Rattle.editor_ends.specs.BuildFaults as faults
-use Rattle.editor_ends.specs.Built.{is_taken, is_above, is_given, is_full, is_needed, is_late_in, Made, Begins, Gives, IsFaultOr, IsSetOver, IsFinishRefusal, seen, giving_props, giving_text, AreBare, AskedAt, Builds, BuildsWithin, IsSetOf, IsSetWithin}
+use Rattle.editor_ends.specs.Built.{is_taken, is_above, is_given, is_full, is_needed, is_late_in, Made, Begins, Gives, IsFaultOr, IsSetOver, IsFinishRefusal, seen, giving_props, giving_text, AreBare, IsBlank, AreBlank, AskedAt, Builds, BuildsWithin, IsSetOf, IsSetWithin}
 use Rattle.editor_ends.specs.Built as built
 use Rattle.editor_ends.specs.Asked.{removes, tells_props, tells_text}
-use Rattle.editor_ends.proofs.Asked.{or_none, or_assoc, AskedStep, AsksNothing, AsksFor, Tells, one_more, stays, begun_step, begun_bare, given_step, given_bare, asked_end}
+use Rattle.editor_ends.proofs.Asked.{or_none, or_assoc, AskedStep, AsksNothing, AsksFor, Tells, one_more, stays, begun_step, begun_bare, begun_blank, given_step, given_bare, given_blank, asked_end}
 use Rattle.editor_ends.proofs.Filled.{Nodes, or_no, or_yes, all_of}
 
 -- ---- lists of calls, by their last
@@ -105,8 +107,8 @@ within_later (o ∷ os) call.CloseEdit t e = cc
 -- ---- one call more
 
 module _ (trees : List PathMap) (tree new_tree : PathMap) (s new : List Change) (calls : List Call) (c : Call) where
-  goes_on : (stage t : Stage) → Builds trees tree s calls stage → ((q : Path) → get new_tree q ≡ seen t trees (called trees (call_effect trees calls) c) q) → Made trees new_tree new → ((p : Path) → is_taken new p ≡ (is_taken s p || takes p c)) → ((p : Path) → is_above new p ≡ (is_above s p || acts_below p c)) → ((p : Path) → is_given new p ≡ (is_given s p || gives p c)) → ((p : Path) → AskedStep c p (change_at s p) (change_at new p)) → AreBare new → call_fault trees calls c ≡ None → Builds trees new_tree new (calls ++ c ∷ []) t
-  goes_on stage t b is made taken above given asked bare fault = record {
+  goes_on : (stage t : Stage) → Builds trees tree s calls stage → ((q : Path) → get new_tree q ≡ seen t trees (called trees (call_effect trees calls) c) q) → Made trees new_tree new → ((p : Path) → is_taken new p ≡ (is_taken s p || takes p c)) → ((p : Path) → is_above new p ≡ (is_above s p || acts_below p c)) → ((p : Path) → is_given new p ≡ (is_given s p || gives p c)) → ((p : Path) → AskedStep c p (change_at s p) (change_at new p)) → AreBare new → AreBlank new → call_fault trees calls c ≡ None → Builds trees new_tree new (calls ++ c ∷ []) t
+  goes_on stage t b is made taken above given asked bare blank fault = record {
     called = λ q. is q ∙ (λ i. seen t trees (sym (all_called-append trees (base trees) calls (c ∷ [])) i) q);
     made = made;
     taken = λ p. taken p ∙ (λ i. b.taken p i || sym (or_no (takes p c)) i) ∙ sym (list_any-append (takes p) calls (c ∷ []));
@@ -114,6 +116,7 @@ module _ (trees : List PathMap) (tree new_tree : PathMap) (s new : List Change) 
     given = λ p. given p ∙ (λ i. b.given p i || sym (or_no (gives p c)) i) ∙ sym (list_any-append (gives p) calls (c ∷ []));
     asked = λ p. one_more calls c p (change_at s p) (change_at new p) (b.asked p) (asked p);
     bare = bare;
+    blank = blank;
     unrefused = first-end trees calls c b.unrefused fault;
   }
 
@@ -147,24 +150,24 @@ nothing true = refl
 nothing false = refl
 
 asks_opens_dir : (up p : Path) (b : Option ℕ) → AsksFor (call.OpenDir up p b) (faults.begun Modify (Some Dir) p None)
-asks_opens_dir up p b = record { deleted = λ r. and_false (same_path p r); added = λ r. and_false (same_path p r); kind_is = λ r. refl; source_is = λ r. nothing (same_path p r); props_told = λ r. and_false (same_path p r); text_told = λ r. and_false (same_path p r); bare = λ e. cc }
+asks_opens_dir up p b = record { deleted = λ r. and_false (same_path p r); added = λ r. and_false (same_path p r); kind_is = λ r. refl; source_is = λ r. nothing (same_path p r); props_told = λ r. and_false (same_path p r); text_told = λ r. and_false (same_path p r); bare = λ e. cc; blank = record { props_are = refl; text_is = refl } }
 
 asks_opens_file : (up p : Path) (b : Option ℕ) → AsksFor (call.OpenFile up p b) (faults.begun Modify (Some File) p None)
-asks_opens_file up p b = record { deleted = λ r. and_false (same_path p r); added = λ r. and_false (same_path p r); kind_is = λ r. refl; source_is = λ r. nothing (same_path p r); props_told = λ r. and_false (same_path p r); text_told = λ r. and_false (same_path p r); bare = λ e. cc }
+asks_opens_file up p b = record { deleted = λ r. and_false (same_path p r); added = λ r. and_false (same_path p r); kind_is = λ r. refl; source_is = λ r. nothing (same_path p r); props_told = λ r. and_false (same_path p r); text_told = λ r. and_false (same_path p r); bare = λ e. cc; blank = record { props_are = refl; text_is = refl } }
 
 asks_root : (b : Option ℕ) → AsksFor (call.OpenRoot b) (faults.begun Modify (Some Dir) [] None)
-asks_root b = record { deleted = λ r. and_false (same_path [] r); added = λ r. and_false (same_path [] r); kind_is = λ r. refl; source_is = λ r. nothing (same_path [] r); props_told = λ r. and_false (same_path [] r); text_told = λ r. and_false (same_path [] r); bare = λ e. cc }
+asks_root b = record { deleted = λ r. and_false (same_path [] r); added = λ r. and_false (same_path [] r); kind_is = λ r. refl; source_is = λ r. nothing (same_path [] r); props_told = λ r. and_false (same_path [] r); text_told = λ r. and_false (same_path [] r); bare = λ e. cc; blank = record { props_are = refl; text_is = refl } }
 
 asks_deletes : (up p : Path) (b : Option ℕ) → AsksFor (call.DeleteEntry up p b) (faults.begun Delete None p None)
-asks_deletes up p b = record { deleted = λ r. and_true (same_path p r); added = λ r. and_false (same_path p r); kind_is = λ r. nothing (same_path p r); source_is = λ r. nothing (same_path p r); props_told = λ r. and_false (same_path p r); text_told = λ r. and_false (same_path p r); bare = λ e. refl }
+asks_deletes up p b = record { deleted = λ r. and_true (same_path p r); added = λ r. and_false (same_path p r); kind_is = λ r. nothing (same_path p r); source_is = λ r. nothing (same_path p r); props_told = λ r. and_false (same_path p r); text_told = λ r. and_false (same_path p r); bare = λ e. refl; blank = record { props_are = refl; text_is = refl } }
 
 asks_adds_dir : (up p : Path) (from : Option Source) → AsksFor (call.AddDir up p from) (faults.begun Add (Some Dir) p from)
-asks_adds_dir up p None = record { deleted = λ r. and_false (same_path p r); added = λ r. and_true (same_path p r); kind_is = λ r. refl; source_is = λ r. refl; props_told = λ r. refl; text_told = λ r. and_false (same_path p r); bare = λ e. cc }
-asks_adds_dir up p (Some s) = record { deleted = λ r. and_false (same_path p r); added = λ r. and_true (same_path p r); kind_is = λ r. refl; source_is = λ r. refl; props_told = λ r. refl; text_told = λ r. and_false (same_path p r); bare = λ e. cc }
+asks_adds_dir up p None = record { deleted = λ r. and_false (same_path p r); added = λ r. and_true (same_path p r); kind_is = λ r. refl; source_is = λ r. refl; props_told = λ r. refl; text_told = λ r. and_false (same_path p r); bare = λ e. cc; blank = record { props_are = refl; text_is = refl } }
+asks_adds_dir up p (Some s) = record { deleted = λ r. and_false (same_path p r); added = λ r. and_true (same_path p r); kind_is = λ r. refl; source_is = λ r. refl; props_told = λ r. refl; text_told = λ r. and_false (same_path p r); bare = λ e. cc; blank = record { props_are = refl; text_is = refl } }
 
 asks_adds_file : (up p : Path) (from : Option Source) → AsksFor (call.AddFile up p from) (faults.begun Add (Some File) p from)
-asks_adds_file up p None = record { deleted = λ r. and_false (same_path p r); added = λ r. and_true (same_path p r); kind_is = λ r. refl; source_is = λ r. refl; props_told = λ r. refl; text_told = λ r. refl; bare = λ e. cc }
-asks_adds_file up p (Some s) = record { deleted = λ r. and_false (same_path p r); added = λ r. and_true (same_path p r); kind_is = λ r. refl; source_is = λ r. refl; props_told = λ r. refl; text_told = λ r. refl; bare = λ e. cc }
+asks_adds_file up p None = record { deleted = λ r. and_false (same_path p r); added = λ r. and_true (same_path p r); kind_is = λ r. refl; source_is = λ r. refl; props_told = λ r. refl; text_told = λ r. refl; bare = λ e. cc; blank = record { props_are = refl; text_is = refl } }
+asks_adds_file up p (Some s) = record { deleted = λ r. and_false (same_path p r); added = λ r. and_true (same_path p r); kind_is = λ r. refl; source_is = λ r. refl; props_told = λ r. refl; text_told = λ r. refl; bare = λ e. cc; blank = record { props_are = refl; text_is = refl } }
 
 pub opens_dir : (up p : Path) (b : Option ℕ) → BeginsAs (call.OpenDir up p b) (faults.begun Modify (Some Dir) p None)
 opens_dir up p b = record { fault = λ trees calls. refl; effect_is = λ trees f q. unchanged (marked f p (length trees)) p q; takes_it = λ r. and_true (same_path p r); below = λ r. refl; gives_it = λ r. and_false (same_path p r); asks = asks_opens_dir up p b; not_first = refl }
@@ -218,7 +221,7 @@ adds_begun trees tree new_tree s new c x facts h calls builds t e =
     goes_on trees tree new_tree s new calls c l.stage t b
     (λ q. g.tree_is q ∙ (λ i. stepped trees (λ r. is r i) x q) ∙ sym (facts.effect_is trees (call_effect trees calls) q) ∙ sym (seen_later trees t (called trees (call_effect trees calls) c) q (within_later w.opened c t w.goes)))
     g.made (λ p. g.taken p ∙ ap (λ z. is_taken s p || z) (sym (facts.takes_it p))) (λ p. g.above p ∙ ap (λ z. is_above s p || z) (sym (facts.below p))) (λ p. g.given p ∙ ap (λ z. is_given s p || z) (sym (facts.gives_it p)))
-    (begun_step c x facts.asks s new b.bare g.begins_at g.elsewhere) (begun_bare c x facts.asks s new b.bare g.begins_at g.elsewhere)
+    (begun_step c x facts.asks s new b.bare b.blank g.begins_at g.elsewhere) (begun_bare c x facts.asks s new b.bare b.blank g.begins_at g.elsewhere) (begun_blank c x facts.asks s new b.bare b.blank g.begins_at g.elsewhere)
     (facts.fault trees calls ∙ sym (same_fault trees tree s calls l.stage x b is) ∙ g.fault)
 
 -- ---- refusals
@@ -310,7 +313,7 @@ adds_root trees tree new_tree s new base h calls builds t e =
     goes_on trees tree new_tree s new calls (call.OpenRoot base) l.stage t b
     (λ q. g.tree_is q ∙ (λ i. stepped trees (λ r. is r i) x q) ∙ root_step trees (call_effect trees calls) q ∙ sym (seen_later trees t (marked (call_effect trees calls) [] (length trees)) q w.later))
     g.made (λ p. g.taken p ∙ ap (λ z. is_taken s p || z) (sym (and_true (same_path [] p)))) (λ p. g.above p) (λ p. g.given p ∙ ap (λ z. is_given s p || z) (sym (and_false (same_path [] p))))
-    (begun_step (call.OpenRoot base) x (asks_root base) s new b.bare g.begins_at g.elsewhere) (begun_bare (call.OpenRoot base) x (asks_root base) s new b.bare g.begins_at g.elsewhere)
+    (begun_step (call.OpenRoot base) x (asks_root base) s new b.bare b.blank g.begins_at g.elsewhere) (begun_bare (call.OpenRoot base) x (asks_root base) s new b.bare b.blank g.begins_at g.elsewhere) (begun_blank (call.OpenRoot base) x (asks_root base) s new b.bare b.blank g.begins_at g.elsewhere)
     (sym (root_same trees tree s calls l.stage b is) ∙ g.fault)
 
 pub refuses_root : (trees : List PathMap) (tree : PathMap) (s : List Change) (base : Option ℕ) (e : EditorFault) → (Made trees tree s → IsFaultOr (begin_fault trees (get tree) (is_late_in s (faults.begun Modify (Some Dir) [] None)) (faults.begun Modify (Some Dir) [] None)) e) → (calls : List Call) → BuildsWithin trees tree s calls → RefusesWithin trees calls (call.OpenRoot base) e
@@ -367,7 +370,7 @@ adds_silent trees tree s c facts calls fault builds t e =
     goes_on trees tree tree s s calls c l.stage t b
     (λ q. b.called q ∙ seen_same trees l.stage t (call_effect trees calls) q (facts.stage_stays l.stage t l.goes) ∙ (λ i. seen t trees (sym (facts.effect_is trees (call_effect trees calls)) i) q))
     b.made (λ p. sym (ap (λ z. is_taken s p || z) (facts.takes_none p) ∙ or_no (is_taken s p))) (λ p. sym (ap (λ z. is_above s p || z) (facts.below p) ∙ or_no (is_above s p))) (λ p. sym (ap (λ z. is_given s p || z) (facts.gives_none p) ∙ or_no (is_given s p)))
-    (λ p. stays c p (change_at s p) (change_at s p) (facts.asks_nothing p) refl) b.bare
+    (λ p. stays c p (change_at s p) (change_at s p) (facts.asks_nothing p) refl) b.bare b.blank
     fault
 
 -- ---- what gives parts
@@ -380,21 +383,25 @@ pub record GivesAs (c : Call) (p : Path) (g : Node → Node) (k : Change → Cha
   pub tells : Tells c p k props text
   pub not_first : begun c ≡ None
 
+blank_of : {A : Type 0} (o : Option A) (blank : A) → o ≡ option_map (λ _. blank) o → unwrap_or o blank ≡ blank
+blank_of None blank e = refl
+blank_of (Some x) blank e = ap (λ o. unwrap_or o blank) e
+
 pub puts_dir : (p : Path) (name : Name) (value : Option (List ℕ)) → GivesAs (call.DirProp p name value) p (with_prop name value) giving_props true false
-puts_dir p name value = record { effect_is = λ trees f q. same f value q; takes_none = λ q. refl; below = λ q. refl; gives_own = λ q. refl; tells = record { deleted = λ q. refl; added = λ q. refl; kind_is = λ q. refl; source_is = λ q. refl; props_told = λ q. and_true (same_path p q); text_told = λ q. and_false (same_path p q); same_action = λ d. refl; same_kind = λ d. refl; same_source = λ d. refl; props_are = λ d. sym (or_yes (is_some d.props)); text_is = λ d. sym (or_no (is_some d.text)) }; not_first = refl }
+puts_dir p name value = record { effect_is = λ trees f q. same f value q; takes_none = λ q. refl; below = λ q. refl; gives_own = λ q. refl; tells = record { deleted = λ q. refl; added = λ q. refl; kind_is = λ q. refl; source_is = λ q. refl; props_told = λ q. and_true (same_path p q); text_told = λ q. and_false (same_path p q); same_action = λ d. refl; same_kind = λ d. refl; same_source = λ d. refl; props_are = λ d. sym (or_yes (is_some d.props)); text_is = λ d. sym (or_no (is_some d.text)); blank = λ d b. record { props_are = ap Some (blank_of d.props finite.empty b.props_are); text_is = b.text_is } }; not_first = refl }
   where
     same : (f : Nodes) (value : Option (List ℕ)) (q : Path) → changed_at f p (Rattle.delta_editor.specs.CallEffect.with_prop name value) q ≡ changed_at f p (with_prop name value) q
     same f None q = refl
     same f (Some v) q = refl
 
 pub puts_file : (p : Path) (name : Name) (value : Option (List ℕ)) → GivesAs (call.FileProp p name value) p (with_prop name value) giving_props true false
-puts_file p name value = record { effect_is = (puts_dir p name value).effect_is; takes_none = λ q. refl; below = λ q. refl; gives_own = λ q. refl; tells = record { deleted = λ q. refl; added = λ q. refl; kind_is = λ q. refl; source_is = λ q. refl; props_told = λ q. and_true (same_path p q); text_told = λ q. and_false (same_path p q); same_action = λ d. refl; same_kind = λ d. refl; same_source = λ d. refl; props_are = λ d. sym (or_yes (is_some d.props)); text_is = λ d. sym (or_no (is_some d.text)) }; not_first = refl }
+puts_file p name value = record { effect_is = (puts_dir p name value).effect_is; takes_none = λ q. refl; below = λ q. refl; gives_own = λ q. refl; tells = record { deleted = λ q. refl; added = λ q. refl; kind_is = λ q. refl; source_is = λ q. refl; props_told = λ q. and_true (same_path p q); text_told = λ q. and_false (same_path p q); same_action = λ d. refl; same_kind = λ d. refl; same_source = λ d. refl; props_are = λ d. sym (or_yes (is_some d.props)); text_is = λ d. sym (or_no (is_some d.text)); blank = λ d b. record { props_are = ap Some (blank_of d.props finite.empty b.props_are); text_is = b.text_is } }; not_first = refl }
 
 pub starts : (p : Path) → GivesAs (call.TextStart p) p (with_given (Some []) None) giving_text false true
-starts p = record { effect_is = λ trees f q. refl; takes_none = λ q. refl; below = λ q. refl; gives_own = λ q. refl; tells = record { deleted = λ q. refl; added = λ q. refl; kind_is = λ q. refl; source_is = λ q. refl; props_told = λ q. and_false (same_path p q); text_told = λ q. and_true (same_path p q); same_action = λ d. refl; same_kind = λ d. refl; same_source = λ d. refl; props_are = λ d. sym (or_no (is_some d.props)); text_is = λ d. sym (or_yes (is_some d.text)) }; not_first = refl }
+starts p = record { effect_is = λ trees f q. refl; takes_none = λ q. refl; below = λ q. refl; gives_own = λ q. refl; tells = record { deleted = λ q. refl; added = λ q. refl; kind_is = λ q. refl; source_is = λ q. refl; props_told = λ q. and_false (same_path p q); text_told = λ q. and_true (same_path p q); same_action = λ d. refl; same_kind = λ d. refl; same_source = λ d. refl; props_are = λ d. sym (or_no (is_some d.props)); text_is = λ d. sym (or_yes (is_some d.text)); blank = λ d b. record { props_are = b.props_are; text_is = ap Some (blank_of d.text [] b.text_is) } }; not_first = refl }
 
 pub pieces_on : (p : Path) (piece : List ℕ) → GivesAs (call.TextPiece p piece) p (with_piece piece) giving_text false true
-pieces_on p piece = record { effect_is = λ trees f q. refl; takes_none = λ q. refl; below = λ q. refl; gives_own = λ q. refl; tells = record { deleted = λ q. refl; added = λ q. refl; kind_is = λ q. refl; source_is = λ q. refl; props_told = λ q. and_false (same_path p q); text_told = λ q. and_true (same_path p q); same_action = λ d. refl; same_kind = λ d. refl; same_source = λ d. refl; props_are = λ d. sym (or_no (is_some d.props)); text_is = λ d. sym (or_yes (is_some d.text)) }; not_first = refl }
+pieces_on p piece = record { effect_is = λ trees f q. refl; takes_none = λ q. refl; below = λ q. refl; gives_own = λ q. refl; tells = record { deleted = λ q. refl; added = λ q. refl; kind_is = λ q. refl; source_is = λ q. refl; props_told = λ q. and_false (same_path p q); text_told = λ q. and_true (same_path p q); same_action = λ d. refl; same_kind = λ d. refl; same_source = λ d. refl; props_are = λ d. sym (or_no (is_some d.props)); text_is = λ d. sym (or_yes (is_some d.text)); blank = λ d b. record { props_are = b.props_are; text_is = ap Some (blank_of d.text [] b.text_is) } }; not_first = refl }
 
 -- ---- what is open was opened or added
 
@@ -540,7 +547,7 @@ adds_given trees tree new_tree s new c p g k props text fault facts open_at same
     goes_on trees tree new_tree s new calls c l.stage t b
     (λ q. d.tree_is q ∙ (λ i. changed_at (λ r. is r i) p g q) ∙ sym (facts.effect_is trees (call_effect trees calls) q) ∙ sym (seen_later trees t (called trees (call_effect trees calls) c) q (within_later w.opened c t w.goes)))
     d.made (λ q. d.taken q ∙ sym (ap (λ z. is_taken s q || z) (facts.takes_none q) ∙ or_no (is_taken s q))) (λ q. d.above q ∙ sym (ap (λ z. is_above s q || z) (facts.below q) ∙ or_no (is_above s q))) (λ q. d.given q ∙ ap (λ z. is_given s q || z) (sym (facts.gives_own q)))
-    (given_step c p k props text facts.tells s new b.bare taken d.became) (given_bare c p k props text facts.tells s new b.bare taken d.became)
+    (given_step c p k props text facts.tells s new b.bare b.blank taken d.became) (given_bare c p k props text facts.tells s new b.bare b.blank taken d.became) (given_blank c p k props text facts.tells s new b.bare b.blank taken d.became)
     (same calls ∙ (λ i. fault (λ r. sym (is r) i)) ∙ none)
 
 pub refuses_given : (trees : List PathMap) (tree : PathMap) (s : List Change) (c : Call) (p : Path) (e : EditorFault) (fault : Nodes → Option EditorFault) → begun c ≡ None → IsOpenAt c p → ((calls : List Call) → call_fault trees calls c ≡ fault (call_effect trees calls)) → (IsNormal s → is_taken s p ≡ true → IsFaultOr (fault (get tree)) e) → (calls : List Call) → BuildsWithin trees tree s calls → RefusesWithin trees calls c e
@@ -563,6 +570,7 @@ new_shown trees tree few is stage e = subst (Builds trees tree [] []) (same_stag
   given = λ p. refl;
   asked = λ p. record { deleted = refl; added = refl; kind_is = refl; source_is = refl; props_told = refl; text_told = refl };
   bare = λ p d h gone. cc h;
+  blank = λ p d h. cc h;
   unrefused = refl;
 })
 
@@ -586,13 +594,14 @@ adds_end trees tree s set h calls builds e =
     let l = last calls call.CloseEdit After e in
     let b = builds l.stage l.ran in
     let o = h b.made in
+    let nodes : (q : Path) → get tree q ≡ call_effect trees (calls ++ call.CloseEdit ∷ []) q = λ q. b.called q ∙ ends_within l.stage l.goes trees (call_effect trees calls) q ∙ (λ i. sym (all_called-append trees (base trees) calls (call.CloseEdit ∷ [])) i q) in
     record {
       unrefused = first-end trees calls call.CloseEdit b.unrefused refl;
       normal = o.normal;
-      effect_is = λ q. o.effect_is q ∙ b.called q ∙ ends_within l.stage l.goes trees (call_effect trees calls) q ∙ (λ i. sym (all_called-append trees (base trees) calls (call.CloseEdit ∷ [])) i q);
+      effect_is = λ q. o.effect_is q ∙ nodes q;
       changed = all_of set (λ c k. change_end calls c.path ∙ sym (needs_change trees tree s calls l.stage b c.path) ∙ k) o.needed;
       whole = λ p k. o.whole p (needs_change trees tree s calls l.stage b p ∙ sym (change_end calls p) ∙ k);
-      asked = all_of set (λ c stem. asked_end calls s (get tree) c b.asked stem) o.stems;
+      asked = all_of set (λ c stem. asked_end trees calls s (get tree) c b.asked b.blank nodes stem) o.stems;
       few = o.few;
     }
 

@@ -1,8 +1,10 @@
 -- What calls ask of an editor that builds a set, path by path: what each change of the set is.
-use Rattle.std.specs.Prelude.{◌≡◌, Bool, true, false, ◌&&◌, List, [], ◌∷◌, Option, Some, None, is_some, is_none, if◌then◌else◌}
-use Rattle.std.specs.Option.{option_or}
+use Rattle.std.specs.Prelude.{◌≡◌, Bool, true, false, ◌&&◌, List, [], ◌∷◌, Option, Some, None, is_none, unwrap_or, if◌then◌else◌}
+use Rattle.std.specs.Option.{option_or, option_map_or}
 use Rattle.std.specs.List.{list_any}
+use Rattle.std.specs.FinMap as finite
 use Rattle.node_base.specs.Path.{Path, same_path}
+use Rattle.node_base.specs.Tree.{PathMap}
 use Rattle.node_base.specs.declared.node.NodeKind.{NodeKind}
 use Rattle.node_base.specs.declared.node.NodeKind.TheVariants.{File, Dir}
 use Rattle.node_base.specs.declared.node.Action.{Action}
@@ -10,6 +12,7 @@ use Rattle.node_base.specs.declared.node.Action.TheVariants.{Modify, Add, Delete
 use Rattle.node_base.specs.declared.node.Source.{Source}
 use Rattle.dump_load.specs.declared.change.Change.{Change}
 use Rattle.dump_load.specs.Changes.{brings}
+use Rattle.delta_editor.specs.CallEffect.{call_effect}
 use Rattle.delta_editor.specs.declared.call.Call.{Call}
 use Rattle.delta_editor.specs.declared.call.Call.TheVariants as call
 
@@ -67,12 +70,12 @@ removes Delete = true
 removes Replace = true
 
 -- a change is what the calls at its path ask for: it deletes where one of them deletes, and adds where one adds, so that it is a
--- replace where both are; it is of the kind that they open or add, a copy of the source that they name, and gives properties, and
--- a text, where they do
-pub record IsAsked (calls : List Call) (c : Change) : Type 0 where
+-- replace where both are; it is of the kind that they open or add, a copy of the source that they name, and gives the properties,
+-- and the text, that the calls come to, where they say what these are
+pub record IsAsked (trees : List PathMap) (calls : List Call) (c : Change) : Type 0 where
   pub deleted : removes c.action ≡ list_any (deletes c.path) calls
   pub added : brings c ≡ list_any (adds c.path) calls
   pub kind_is : c.kind ≡ last_of (kind_at c.path) calls
   pub source_is : c.source ≡ last_of (source_at c.path) calls
-  pub props_told : is_some c.props ≡ list_any (tells_props c.path) calls
-  pub text_told : is_some c.text ≡ list_any (tells_text c.path) calls
+  pub props_are : c.props ≡ (if list_any (tells_props c.path) calls then Some (option_map_or (λ x. x.props) (call_effect trees calls c.path) finite.empty) else None)
+  pub text_is : c.text ≡ (if list_any (tells_text c.path) calls then Some (option_map_or (λ x. unwrap_or x.text []) (call_effect trees calls c.path) []) else None)

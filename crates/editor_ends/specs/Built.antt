@@ -182,6 +182,14 @@ pub record AskedAt (calls : List Call) (p : Path) (o : Option Change) : Type 0 w
 abbrev pub AreBare : List Change → Type 0
 AreBare s = (p : Path) (d : Change) → change_at s p ≡ Some d → is_delete d.action ≡ true → d ≡ begun Delete None p None
 
+-- what a change gives is kept in the tree alone
+pub record IsBlank (c : Change) : Type 0 where
+  pub props_are : c.props ≡ option_map (λ _. finite.empty) c.props
+  pub text_is : c.text ≡ option_map (λ _. []) c.text
+
+abbrev pub AreBlank : List Change → Type 0
+AreBlank s = (p : Path) (c : Change) → change_at s p ≡ Some c → IsBlank c
+
 -- the tree and the changes are what the calls come to so far
 pub record Builds (trees : List PathMap) (tree : PathMap) (s : List Change) (calls : List Call) (stage : Stage) : Type 0 where
   pub called : (q : Path) → finite.get tree q ≡ seen stage trees (call_effect trees calls) q
@@ -191,6 +199,7 @@ pub record Builds (trees : List PathMap) (tree : PathMap) (s : List Change) (cal
   pub given : (p : Path) → is_given s p ≡ list_any (gives p) calls
   pub asked : (p : Path) → AskedAt calls p (change_at s p)
   pub bare : AreBare s
+  pub blank : AreBlank s
   pub unrefused : first_refusal trees calls ≡ None
 
 -- the same, wherever the calls keep the nesting
@@ -204,7 +213,7 @@ pub record IsSetOf (trees : List PathMap) (set : List Change) (calls : List Call
   pub effect_is : (q : Path) → effect trees set q ≡ call_effect trees calls q
   pub changed : AllByRecursion (λ c. is_changed calls c.path ≡ true) set
   pub whole : (p : Path) → is_changed calls p ≡ true → IsSome (change_at set p)
-  pub asked : AllByRecursion (IsAsked calls) set
+  pub asked : AllByRecursion (IsAsked trees calls) set
   pub few : length set ≤ 4096
 
 abbrev pub IsSetWithin : List PathMap → List Change → List Call → Type 0
