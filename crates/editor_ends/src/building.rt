@@ -202,6 +202,7 @@ fn is_next_below(changes: &[Change], at: usize, path: &NodePath) -> bool
 fn place_open(changes: &[Change], path: &NodePath) -> Option<usize>
     ensures found { IfSome result (λ i. i < length changes.now) }
     ensures placed { IfSome result (λ i. IsNormal changes.now → (c : ChangeOf) → slice_get changes.now i ≡ Some c → c.path ≡ path.now) }
+    ensures stands { IfSome result (λ i. IfSome (slice_get changes.now i) (λ c. is_delete c.action ≡ false)) }
     ensures none { result ≡ None → IsNormal changes.now → is_taken changes.now path.now ≡ false }
 {
     match place_of(changes, path) {
