@@ -29,7 +29,7 @@ use Rattle.delta_editor.specs.Faults.{refused}
 use Rattle.delta_editor.specs.declared.fault.EditorFault.{EditorFault}
 use Rattle.delta_editor.specs.declared.fault.EditorFault.TheVariants as refusal
 use Rattle.editor_ends.specs.BuildFaults.{is_below, begun, begin_fault}
-use Rattle.editor_ends.specs.Built.{filled, is_taken, is_above, is_given, is_full, is_late_in, Made, Begins}
+use Rattle.editor_ends.specs.Built.{filled, is_taken, is_above, is_given, is_full, is_late_in, Made, Begins, First, Again}
 use Rattle.editor_ends.proofs.Filled.{Nodes, Gap, or_no, or_yes, or_swap, and_split, rest_itself, parts_stay, some_stays, none_in_gap, clear_in_gap, clear_of_deleted, all_of, all_two, all_append, all_front, all_rest, deleted_gone, there_above, not_both, above_through, not_below}
 
 -- ---- what is fresh
@@ -208,7 +208,9 @@ module _ (trees : List PathMap) (tree new_tree : PathMap) (x : Change) (step : (
       };
       taken = taken-amid front rest x none;
       above = above-amid front rest x;
-      given = λ p h. sym (given-amid front rest x p) ∙ h;
+      given = given-amid front rest x;
+      begins_at = First none (change_at-amid front rest x none x.path ∙ ap (λ b. cond b (Some x) (change_at (front ++ rest) x.path)) (same_path_itself x.path));
+      elsewhere = λ p e. change_at-amid front rest x none p ∙ ap (λ b. cond b (Some x) (change_at (front ++ rest) p)) e;
     }
       where
         shape : map (filled (get new_tree)) front ++ filled (get new_tree) x ∷ map (filled (get new_tree)) rest ≡ map (filled (get tree)) front ++ x ∷ map (filled (get tree)) rest
@@ -263,7 +265,20 @@ module _ (trees : List PathMap) (tree new_tree : PathMap) (x : Change) (step : (
       };
       taken = taken;
       above = above;
-      given = λ p h. ap (λ b. b || (same_path x.path p && is_full x)) (given-amid front rest d p) ∙ again (is_given (front ++ rest) p) (same_path x.path p) (is_full x) (same_path d.path p && is_full d) (full x.action adds) (sym (given-amid front rest replacing p) ∙ h);
+      given = λ p.
+          given-amid front rest replacing p
+          ∙ again (is_given (front ++ rest) p) (same_path x.path p)
+          ∙ (λ i. (is_given (front ++ rest) p || (same_path (sym same i) p && sym full_deletion i)) || (same_path x.path p && sym (full x.action adds) i))
+          ∙ ap (λ b. b || (same_path x.path p && is_full x)) (sym (given-amid front rest d p));
+      begins_at =
+          Again d
+          (change_at-amid front rest d none_of_d x.path ∙ ap (λ b. cond b (Some d) (change_at (front ++ rest) x.path)) (ap (λ z. same_path z x.path) same ∙ same_path_itself x.path))
+          gone adds
+          (change_at-amid front rest replacing none x.path ∙ ap (λ b. cond b (Some replacing) (change_at (front ++ rest) x.path)) (same_path_itself x.path));
+      elsewhere = λ p e.
+          change_at-amid front rest replacing none p
+          ∙ ap (λ b. cond b (Some replacing) (change_at (front ++ rest) p)) e
+          ∙ sym (change_at-amid front rest d none_of_d p ∙ ap (λ b. cond b (Some d) (change_at (front ++ rest) p)) (ap (λ z. same_path z p) same ∙ e));
     }
       where
         full : (a : Action) → is_add a ≡ true → (settles a || (is_some x.props || is_some x.text)) ≡ true
@@ -272,11 +287,13 @@ module _ (trees : List PathMap) (tree new_tree : PathMap) (x : Change) (step : (
         full Delete e = cc
         full Replace e = cc
 
-        again : (r s g e : Bool) → g ≡ true → (r || (s && true)) ≡ true → ((r || e) || (s && g)) ≡ true
-        again true s g e k h = refl
-        again false true g true k h = refl
-        again false true g false k h = k
-        again false false g e k h = cc
+        full_deletion : is_full d ≡ true
+        full_deletion = ap (λ b. b || (is_some d.props || is_some d.text)) (Rattle.dump_load.proofs.Faultless.deletes_settle d.action gone)
+
+        again : (r s : Bool) → (r || (s && true)) ≡ ((r || (s && true)) || (s && true))
+        again true s = refl
+        again false true = refl
+        again false false = refl
 
         none : change_at (front ++ rest) x.path ≡ None
         none = none_in_gap front rest x.path (subst (Gap front rest) same (gap_of front rest d m.normal))

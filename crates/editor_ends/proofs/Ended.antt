@@ -1,6 +1,7 @@
 -- The set that changes come to once the edit ends.
-use Rattle.std.proofs.Common.{◌≡◌, ◌≤◌, ◌<◌, Bool, true, false, not, ◌&&◌, ◌||◌, List, [], ◌∷◌, ◌++◌, length, map, Option, Some, None, is_some, cond, refl, sym, ap, subst, ◌∙◌, append_assoc, append-nil}
+use Rattle.std.proofs.Common.{◌≡◌, ◌≤◌, ◌<◌, Bool, true, false, not, ◌&&◌, ◌||◌, List, [], ◌∷◌, ◌++◌, length, map, Option, Some, None, is_some, IsSome, cond, ◌⊎◌, inl, inr, refl, sym, ap, subst, ◌∙◌, append_assoc, append-nil}
 use Rattle.std.specs.Prelude.{is_none}
+use Rattle.std.specs.Option.{option_map, option_map_or}
 use Rattle.std.specs.List.{list_any, AllByRecursion}
 use Rattle.std.proofs.lemmas.List.Folds.{list_any-append}
 use Rattle.std.specs.FinMap.{get}
@@ -11,19 +12,19 @@ use Rattle.node_base.proofs.PathLemmas.{same_path_itself, path_of_same, later_is
 use Rattle.node_base.specs.Tree.{PathMap}
 use Rattle.dump_load.specs.declared.change.Change.{Change}
 use Rattle.dump_load.specs.Changes.{settles, is_delete, change_at, IsNormal, IsBare, Precedes}
-use Rattle.dump_load.proofs.PathOrder.{less_differs, no_front_none, between}
+use Rattle.dump_load.proofs.PathOrder.{less_differs, greater_differs, no_front_none, between}
 use Rattle.dump_load.proofs.Bare.{effect_bare, counted_from_below}
 use Rattle.editor_ends.specs.BuildFaults.{is_below}
-use Rattle.editor_ends.specs.Built.{filled, is_full, is_given, is_taken, is_above, is_needed, is_idle, leads_on, IsLean, Keeps, Made, IsSetOver, IsTooMany}
+use Rattle.editor_ends.specs.Built.{filled, is_full, is_given, is_taken, is_above, is_needed, is_idle, leads_on, IsLean, Keeps, Made, IsFilledOf, IsSetOver, IsTooMany}
 use Rattle.editor_ends.proofs.Filled.{Nodes, and_split, none_in_gap, normal-filled, or_no, or_yes, all_of, all_two, above_through}
 use Rattle.editor_ends.proofs.Began.{gap_of, normal_without, change_at-amid, above-amid}
 use Rattle.editor_ends.proofs.Walks.{front_rest}
 
 pub keeps_same : (trees : List PathMap) (s new : List Change) → new ≡ s → IsNormal s → Keeps trees s new
-keeps_same trees s new e n = subst (Keeps trees s) (sym e) (record { normal = n; effect_is = λ q. refl; above = λ p. refl; stays = λ p c h. h })
+keeps_same trees s new e n = subst (Keeps trees s) (sym e) (record { normal = n; effect_is = λ q. refl; above = λ p. refl; stays = λ p c h. h; keeps = λ p c h k. h })
 
 pub keeps_twice : (trees : List PathMap) (s t u : List Change) → Keeps trees s t → Keeps trees t u → Keeps trees s u
-keeps_twice trees s t u a b = record { normal = b.normal; effect_is = λ q. b.effect_is q ∙ a.effect_is q; above = λ p. b.above p ∙ a.above p; stays = λ p c h. a.stays p c (b.stays p c h) }
+keeps_twice trees s t u a b = record { normal = b.normal; effect_is = λ q. b.effect_is q ∙ a.effect_is q; above = λ p. b.above p ∙ a.above p; stays = λ p c h. a.stays p c (b.stays p c h); keeps = λ p c h k. b.keeps p c (a.keeps p c h k) (elim k as (λ _. (is_full c ≡ true) ⊎ (is_above t p ≡ false)) [ inl e ↦ inl e | inr e ↦ inr (a.above p ∙ e) ]) }
 
 -- one behind the others
 pub keeps_behind : (trees : List PathMap) (rest old new : List Change) (c : Change) → new ≡ old ++ c ∷ [] → IsNormal (old ++ c ∷ rest) → Keeps trees (old ++ c ∷ rest) (new ++ rest)
@@ -86,10 +87,24 @@ keeps_idle trees rest old front new l c o e idle n =
           | false ↦ λ e. h
         ] refl
 
+    not_full : is_full l ≡ false
+    not_full = λ i. bare.stays i || (is_some (bare.props i) || is_some (bare.text i))
+
+    over : is_above (front ++ l ∷ (c ∷ rest)) l.path ≡ true
+    over = above-amid front (c ∷ rest) l l.path ∙ ap (λ b. b || is_below l.path l.path) below
+
+    keeps : (p : Path) (x : Change) → change_at (front ++ l ∷ (c ∷ rest)) p ≡ Some x → (is_full x ≡ true) ⊎ (is_above (front ++ l ∷ (c ∷ rest)) p ≡ false) → change_at (front ++ c ∷ rest) p ≡ Some x
+    keeps p x h k =
+        elim (same_path l.path p) as (λ b. same_path l.path p ≡ b → cond b (Some l) (change_at (front ++ c ∷ rest) p) ≡ Some x → change_at (front ++ c ∷ rest) p ≡ Some x) [
+          | true ↦ λ e h. elim k [ inl full ↦ cc (not_full, ap (λ o. option_map_or is_full o false) h, full) | inr clear ↦ cc (over, ap (is_above (front ++ l ∷ (c ∷ rest))) (path_of_same l.path p e), clear) ]
+          | false ↦ λ e h. h
+        ] refl (sym (change_at-amid front (c ∷ rest) l none p) ∙ h)
+
     kept : Keeps trees (front ++ l ∷ (c ∷ rest)) (front ++ c ∷ rest)
     kept = record {
       above = λ p. absorbed p (is_below p l.path) refl ∙ sym (above-amid front (c ∷ rest) l p);
       stays = stays;
+      keeps = keeps;
       normal = normal_without front (c ∷ rest) l normal;
       effect_is = λ q. sym (effect_bare trees front (c ∷ rest) l bare (none_in_gap front (c ∷ rest) l.path (gap_of front (c ∷ rest) l normal)) (counted_from_below (front ++ c ∷ rest) l.path below) q);
     }
@@ -164,6 +179,30 @@ own_all [] n = tt
 own_all (c ∷ s) n =
     (ap (λ b. cond b (Some c) (change_at s c.path)) (same_path_itself c.path), all_two s (λ d k pr. ap (λ b. cond b (Some c) (change_at s d.path)) (less_differs c.path d.path pr.rises) ∙ k) (own_all s n.2) n.1)
 
+-- of each path there is one change at most
+record Given (s : List Change) (p : Path) : Type 0 where
+  pub given : Change
+  pub at : change_at s p ≡ Some given
+  pub full : is_full given ≡ true
+
+none_given : (d : Change) (s : List Change) → AllByRecursion (Precedes d) s → is_given s d.path ≡ false
+none_given d [] h = refl
+none_given d (c ∷ s) h = λ i. (greater_differs d.path c.path h.0.rises i && is_full c) || none_given d s h.1 i
+
+one_given : (s : List Change) (p : Path) → IsNormal s → is_given s p ≡ true → Given s p
+one_given [] p n e = cc
+one_given (d ∷ s) p n e =
+    elim (same_path d.path p) as (λ b. same_path d.path p ≡ b → ((b && is_full d) || is_given s p) ≡ true → Given (d ∷ s) p) [
+      | true ↦ λ same h. record { given = d; at = ap (λ b. cond b (Some d) (change_at s p)) same; full = sym (or_no (is_full d)) ∙ (λ i. is_full d || sym (ap (is_given s) (sym (path_of_same d.path p same)) ∙ none_given d s n.1) i) ∙ h }
+      | false ↦ λ same h. let g = one_given s p n.2 h in record { given = g.given; at = ap (λ b. cond b (Some d) (change_at s p)) same ∙ g.at; full = g.full }
+    ] refl e
+
+-- the change that a filled one was
+record Lifted (f : Nodes) (s : List Change) (p : Path) (c : Change) : Type 0 where
+  pub stem : Change
+  pub at : change_at s p ≡ Some stem
+  pub is : c ≡ filled f stem
+
 module _ (f : Nodes) where
   full_filled : (c : Change) → is_full (filled f c) ≡ is_full c
   full_filled c = λ i. settles c.action || (kept c.props (λ m. Rattle.std.specs.Option.option_map_or (λ x. x.props) (f c.path) m) i || kept c.text (λ t. Rattle.std.specs.Option.option_map_or (λ x. Rattle.std.specs.Prelude.unwrap_or x.text t) (f c.path) t) i)
@@ -189,9 +228,42 @@ module _ (f : Nodes) where
     | false ↦ λ k. taken_of s p c k e
   ] h
 
+  stem_of : (s : List Change) (p : Path) (c : Change) → c.path ≡ p → change_at (map (filled f) s) p ≡ Some c → IsFilledOf f s c
+  stem_of s p c same h = let l = lifted s p c h in record { stem = l.stem; at = ap (change_at s) same ∙ l.at; is = l.is }
+    where
+      lifted : (s : List Change) (p : Path) (c : Change) → change_at (map (filled f) s) p ≡ Some c → Lifted f s p c
+      lifted [] p c h = cc
+      lifted (d ∷ s) p c h = elim (same_path d.path p) as (λ b. same_path d.path p ≡ b → cond b (Some (filled f d)) (change_at (map (filled f) s) p) ≡ Some c → Lifted f (d ∷ s) p c) [
+        | true ↦ λ e k. record { stem = d; at = ap (λ b. cond b (Some d) (change_at s p)) e; is = sym (some_is (filled f d) c k) }
+        | false ↦ λ e k. let l = lifted s p c k in record { stem = l.stem; at = ap (λ b. cond b (Some d) (change_at s p)) e ∙ l.at; is = l.is }
+      ] refl h
+
+  -- each that is kept is one of those before
+  stems_all : (trees : List PathMap) (s kept : List Change) → Keeps trees (map (filled f) s) kept → AllByRecursion (IsFilledOf f s) kept
+  stems_all trees s kept k = all_of kept (λ c own. stem_of s c.path c refl (k.stays c.path c own)) (own_all kept k.normal)
+
+  filled_at : (s : List Change) (p : Path) → change_at (map (filled f) s) p ≡ option_map (filled f) (change_at s p)
+  filled_at [] p = refl
+  filled_at (d ∷ s) p = elim (same_path d.path p) as (λ b. cond b (Some (filled f d)) (change_at (map (filled f) s) p) ≡ option_map (filled f) (cond b (Some d) (change_at s p))) [ true ↦ refl | false ↦ filled_at s p ]
+
   above_of : (s : List Change) (p : Path) → is_above (map (filled f) s) p ≡ is_above s p
   above_of [] p = refl
   above_of (d ∷ s) p = ap (λ b. is_below p d.path || b) (above_of s p)
+
+  -- each that is needed is kept
+  whole_all : (trees : List PathMap) (s kept : List Change) → IsNormal s → Keeps trees (map (filled f) s) kept → (p : Path) → is_needed s p ≡ true → IsSome (change_at kept p)
+  whole_all trees s kept n k p h =
+      elim (is_given s p) as (λ b. is_given s p ≡ b → (b || (is_taken s p && not (is_above s p))) ≡ true → IsSome (change_at kept p)) [
+        | true ↦ λ e _. let g = one_given s p n e in there g.given g.at (inl (full_filled g.given ∙ g.full))
+        | false ↦ λ e t. let q = and_split (is_taken s p) _ t in any (change_at s p) refl q.0 (above_of s p ∙ not_true (is_above s p) q.1)
+      ] refl h
+    where
+      there : (c : Change) → change_at s p ≡ Some c → (is_full (filled f c) ≡ true) ⊎ (is_above (map (filled f) s) p ≡ false) → IsSome (change_at kept p)
+      there c at keep = subst IsSome (sym (k.keeps p (filled f c) (filled_at s p ∙ ap (option_map (filled f)) at) keep)) refl
+
+      any : (o : Option Change) → change_at s p ≡ o → option_map_or (λ (c : Change). not (is_delete c.action)) o false ≡ true → ((is_above (map (filled f) s) p ≡ false) → IsSome (change_at kept p))
+      any None e t clear = cc t
+      any (Some c) e t clear = there c e (inr clear)
 
   -- each that is kept is needed
   needed_all : (trees : List PathMap) (s kept : List Change) → Keeps trees (map (filled f) s) kept → IsLean kept → AllByRecursion (λ c. is_needed s c.path ≡ true) kept
@@ -214,7 +286,7 @@ pub over_all : (trees : List PathMap) (tree : PathMap) (changes kept : List Chan
 over_all trees tree changes kept m k lean few =
     let n = normal-filled (get tree) changes m.normal in
     let h = subst (Keeps trees (map (filled (get tree)) changes)) (append-nil kept) (k n) in
-    record { normal = h.normal; effect_is = λ q. h.effect_is q ∙ m.made q; needed = needed_all (get tree) trees changes kept h (lean n); few = few }
+    record { normal = h.normal; effect_is = λ q. h.effect_is q ∙ m.made q; needed = needed_all (get tree) trees changes kept h (lean n); whole = whole_all (get tree) trees changes kept m.normal h; stems = stems_all (get tree) trees changes kept h; few = few }
 
 pub too_large : (trees : List PathMap) (tree : PathMap) (changes kept : List Change) → Made trees tree changes → (IsNormal (map (filled (get tree)) changes) → Keeps trees (map (filled (get tree)) changes) (kept ++ [])) → (IsNormal (map (filled (get tree)) changes) → IsLean kept) → 4096 < length kept → IsTooMany trees (get tree) changes
 too_large trees tree changes kept m k lean many =

@@ -1,3 +1,4 @@
+pub mod Asked
 pub mod Began
 pub mod CallEffects
 pub mod Down
@@ -11,6 +12,7 @@ pub mod Given
 pub mod Memory
 pub mod Methods
 pub mod Nested
+pub mod OneBuilt
 pub mod Opened
 pub mod Parted
 pub mod Partfree

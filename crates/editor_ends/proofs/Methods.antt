@@ -1,5 +1,5 @@
 -- What the answer of a call adds to what was shown, or why it is a refusal.
-use Rattle.std.proofs.Common.{◌≡◌, ap, true, List, [], ◌∷◌, ◌++◌, Option, None}
+use Rattle.std.proofs.Common.{◌≡◌, ap, Bool, true, List, [], ◌∷◌, ◌++◌, Option, None}
 use Rattle.std.specs.Prelude.{OnOk, IfErr, Result, Ok, Err}
 use Rattle.std.specs.Option.{option_map}
 use Rattle.std.specs.FinMap.{get}
@@ -19,9 +19,9 @@ use Rattle.editor_ends.specs.Built.{is_taken, is_late_in, Made, Begins, Gives, I
 use Rattle.editor_ends.proofs.Filled.{Nodes}
 use Rattle.editor_ends.proofs.Shows.{BeginsAs, GivesAs, IsOpenAt, adds_begun, refuses_begun, adds_given, refuses_given}
 
-pub given_ok : {A : Type 0} (r : Result A EditorFault) (trees : List PathMap) (tree new_tree : PathMap) (s new : List Change) (c : Call) (p : Path) (g : Node → Node) (fault : Nodes → Option EditorFault) → GivesAs c p g → ((calls : List Call) → call_fault trees calls c ≡ fault (call_effect trees calls)) → OnOk r (fault (get tree) ≡ None) → OnOk r ((trees : List PathMap) → Made trees tree s → Gives trees tree s new_tree new p g) → OnOk r ((calls : List Call) → BuildsWithin trees tree s calls → BuildsWithin trees new_tree new (calls ++ c ∷ []))
-given_ok (Ok x) trees tree new_tree s new c p g fault facts same none h = adds_given trees tree new_tree s new c p g fault facts same none (h trees)
-given_ok (Err e) trees tree new_tree s new c p g fault facts same none h = tt
+pub given_ok : {A : Type 0} (r : Result A EditorFault) (trees : List PathMap) (tree new_tree : PathMap) (s new : List Change) (c : Call) (p : Path) (g : Node → Node) (k : Change → Change) (props text : Bool) (fault : Nodes → Option EditorFault) → GivesAs c p g k props text → IsOpenAt c p → ((calls : List Call) → call_fault trees calls c ≡ fault (call_effect trees calls)) → OnOk r (fault (get tree) ≡ None) → OnOk r ((trees : List PathMap) → Made trees tree s → Gives trees tree s new_tree new p g k) → OnOk r ((calls : List Call) → BuildsWithin trees tree s calls → BuildsWithin trees new_tree new (calls ++ c ∷ []))
+given_ok (Ok x) trees tree new_tree s new c p g k props text fault facts open_at same none h = adds_given trees tree new_tree s new c p g k props text fault facts open_at same none (h trees)
+given_ok (Err e) trees tree new_tree s new c p g k props text fault facts open_at same none h = tt
 
 pub given_err : {A : Type 0} (r : Result A EditorFault) (trees : List PathMap) (tree : PathMap) (s : List Change) (c : Call) (p : Path) (fault : Nodes → Option EditorFault) → begun c ≡ None → IsOpenAt c p → ((calls : List Call) → call_fault trees calls c ≡ fault (call_effect trees calls)) → IfErr r (λ e. IsNormal s → is_taken s p ≡ true → IsFaultOr (fault (get tree)) e) → IfErr r (λ e. (calls : List Call) → BuildsWithin trees tree s calls → RefusesWithin trees calls c e)
 given_err (Ok x) trees tree s c p fault none open_at same h = tt

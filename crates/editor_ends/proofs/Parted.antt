@@ -13,7 +13,7 @@ use Rattle.node_base.specs.Tree.{PathMap, changed_at, with_given}
 use Rattle.node_base.specs.NodeEdits.{prop_put, with_prop, with_piece}
 use Rattle.node_base.specs.declared.node.Node.{Node}
 use Rattle.dump_load.specs.declared.change.Change.{Change}
-use Rattle.dump_load.specs.Changes.{is_delete, change_at, IsWhole, IsNormal, regiven, is_described}
+use Rattle.dump_load.specs.Changes.{settles, is_delete, change_at, IsWhole, IsNormal, regiven, is_described}
 use Rattle.dump_load.specs.Effect.{effect}
 use Rattle.dump_load.proofs.PathOrder.{less_differs, greater_differs}
 use Rattle.dump_load.proofs.Reparted.{effect_reparted}
@@ -31,9 +31,9 @@ use Rattle.path_tree.proofs.Faults.{first_none, second_none, test_fails}
 use Rattle.editor_ends.proofs.Places.{split_at, set_at}
 use Rattle.editor_ends.proofs.Given.{changed_alike}
 use Rattle.editor_ends.proofs.Filled.{Nodes, or_yes, SameParts, same_all, none_in_gap, all_of, all_append}
-use Rattle.editor_ends.proofs.Began.{gap_of, normal_without, normal_amid, later_than, taken-amid, given-amid, above-amid}
+use Rattle.editor_ends.proofs.Began.{gap_of, normal_without, normal_amid, later_than, change_at-amid, taken-amid, given-amid, above-amid}
 
-module _ (trees : List PathMap) (tree new_tree : PathMap) (front rest : List Change) (c e : Change) (m : Made trees tree (front ++ c ∷ rest)) (same : e.path ≡ c.path) (does : e.action ≡ c.action) (whole : IsWhole c → IsWhole e) (g : Node → Node) (step : (q : Path) → get new_tree q ≡ changed_at (get tree) c.path g q) (text : Option (List ℕ)) (props : Option PropMap) (is : filled (get new_tree) e ≡ regiven text props (filled (get tree) c)) (gives : (x : Node) → get tree c.path ≡ Some x → with_given text props x ≡ g x) where
+module _ (trees : List PathMap) (tree new_tree : PathMap) (front rest : List Change) (c e : Change) (m : Made trees tree (front ++ c ∷ rest)) (k : Change → Change) (becomes : e ≡ k c) (full : is_full e ≡ true) (same : e.path ≡ c.path) (does : e.action ≡ c.action) (whole : IsWhole c → IsWhole e) (g : Node → Node) (step : (q : Path) → get new_tree q ≡ changed_at (get tree) c.path g q) (text : Option (List ℕ)) (props : Option PropMap) (is : filled (get new_tree) e ≡ regiven text props (filled (get tree) c)) (gives : (x : Node) → get tree c.path ≡ Some x → with_given text props x ≡ g x) where
   none : change_at (front ++ rest) c.path ≡ None
   none = none_in_gap front rest c.path (gap_of front rest c m.normal)
 
@@ -73,7 +73,7 @@ module _ (trees : List PathMap) (tree new_tree : PathMap) (front rest : List Cha
       spread : change_at (map (filled (get tree)) front ++ map (filled (get tree)) rest) c.path ≡ None
       spread = ap (λ s. change_at s c.path) (sym (map-append (filled (get tree)) front rest)) ∙ Rattle.editor_ends.proofs.Filled.change_at-filled (get tree) (front ++ rest) c.path none
 
-  pub gives_parts : Gives trees tree (front ++ c ∷ rest) new_tree (front ++ e ∷ rest) c.path g
+  pub gives_parts : Gives trees tree (front ++ c ∷ rest) new_tree (front ++ e ∷ rest) c.path g k
   gives_parts = record {
     tree_is = step;
     made = record {
@@ -84,18 +84,31 @@ module _ (trees : List PathMap) (tree new_tree : PathMap) (front rest : List Cha
     };
     taken = λ q. taken-amid front rest e none_e q ∙ (λ i. is_taken (front ++ rest) q || (same_path (same i) q && not (is_delete (does i)))) ∙ sym (taken-amid front rest c none q);
     above = above;
-    given = λ q h.
-        ap (λ b. b || same_path c.path q) (given-amid front rest c q) ∙ own (is_given (front ++ rest) q) (same_path c.path q) (is_full e) (is_full c) (sym (given-amid front rest e q ∙ ap (λ p. is_given (front ++ rest) q || (same_path p q && is_full e)) same) ∙ h);
+    given = λ q.
+        given-amid front rest e q
+        ∙ (λ i. is_given (front ++ rest) q || (same_path (same i) q && full i))
+        ∙ own (is_given (front ++ rest) q) (same_path c.path q) (is_full c)
+        ∙ ap (λ b. b || same_path c.path q) (sym (given-amid front rest c q));
+    became = λ q.
+        change_at-amid front rest e none_e q
+        ∙ ap (λ p. cond (same_path p q) (Some e) (change_at (front ++ rest) q)) same
+        ∙ turned (same_path c.path q) (change_at (front ++ rest) q)
+        ∙ ap (option_map (λ d. cond (same_path c.path q) (k d) d)) (sym (change_at-amid front rest c none q));
   }
     where
-      own : (r s g e : Bool) → (r || (s && g)) ≡ true → ((r || (s && e)) || s) ≡ true
-      own true s g e h = refl
-      own false true g e h = or_yes e
-      own false false g e h = cc
+      own : (r s g : Bool) → (r || (s && true)) ≡ ((r || (s && g)) || s)
+      own true s g = refl
+      own false true g = sym (or_yes g)
+      own false false g = refl
 
       mapped : (k : Node → Node) (o : Option Node) → IsSome o → IsSome (option_map k o)
       mapped k None h = cc h
       mapped k (Some y) h = refl
+
+      turned : (b : Bool) (o : Option Change) → cond b (Some e) o ≡ option_map (λ d. cond b (k d) d) (cond b (Some c) o)
+      turned true o = ap Some becomes
+      turned false None = refl
+      turned false (Some d) = refl
 
 whole_props : (c : Change) → IsWhole c → IsWhole (giving_props c)
 whole_props c w = λ plain. at c.kind (is_some c.props) (is_some c.text) (w plain)
@@ -129,9 +142,9 @@ props_after : (name : Name) (value : Option (List ℕ)) (c : Change) (o : Option
 props_after name value c None = refl
 props_after name value c (Some x) = refl
 
-pub gives_props : (trees : List PathMap) (tree new_tree : PathMap) (front rest : List Change) (c : Change) (name : Name) (value : Option (List ℕ)) → Made trees tree (front ++ c ∷ rest) → ((q : Path) → get new_tree q ≡ changed_at (get tree) c.path (with_prop name value) q) → Gives trees tree (front ++ c ∷ rest) new_tree (front ++ giving_props c ∷ rest) c.path (with_prop name value)
+pub gives_props : (trees : List PathMap) (tree new_tree : PathMap) (front rest : List Change) (c : Change) (name : Name) (value : Option (List ℕ)) → Made trees tree (front ++ c ∷ rest) → ((q : Path) → get new_tree q ≡ changed_at (get tree) c.path (with_prop name value) q) → Gives trees tree (front ++ c ∷ rest) new_tree (front ++ giving_props c ∷ rest) c.path (with_prop name value) giving_props
 gives_props trees tree new_tree front rest c name value m step =
-    gives_parts trees tree new_tree front rest c (giving_props c) m refl refl (whole_props c) (with_prop name value) step None (Some (new_props name value c (get tree c.path))) (ap (props_of c) (step c.path ∙ here_changed (get tree) c.path (with_prop name value)) ∙ props_after name value c (get tree c.path))
+    gives_parts trees tree new_tree front rest c (giving_props c) m giving_props refl (or_yes (settles c.action)) refl refl (whole_props c) (with_prop name value) step None (Some (new_props name value c (get tree c.path))) (ap (props_of c) (step c.path ∙ here_changed (get tree) c.path (with_prop name value)) ∙ props_after name value c (get tree c.path))
     (λ x e. λ i. record { text = x.text; props = new_props name value c (e i); changed = x.changed })
 
 abbrev pub new_text : (Node → Node) → Change → Option Node → List ℕ
@@ -149,9 +162,9 @@ some_is : (o : Option (List ℕ)) (t : List ℕ) → IsSome o → Some (unwrap_o
 some_is None t h = cc h
 some_is (Some s) t h = refl
 
-pub gives_text : (trees : List PathMap) (tree new_tree : PathMap) (front rest : List Change) (c : Change) (g : Node → Node) → ((x : Node) → (g x).props ≡ x.props) → ((x : Node) → (g x).changed ≡ x.changed) → ((x : Node) → get tree c.path ≡ Some x → IsSome (g x).text) → Made trees tree (front ++ c ∷ rest) → ((q : Path) → get new_tree q ≡ changed_at (get tree) c.path g q) → Gives trees tree (front ++ c ∷ rest) new_tree (front ++ giving_text c ∷ rest) c.path g
+pub gives_text : (trees : List PathMap) (tree new_tree : PathMap) (front rest : List Change) (c : Change) (g : Node → Node) → ((x : Node) → (g x).props ≡ x.props) → ((x : Node) → (g x).changed ≡ x.changed) → ((x : Node) → get tree c.path ≡ Some x → IsSome (g x).text) → Made trees tree (front ++ c ∷ rest) → ((q : Path) → get new_tree q ≡ changed_at (get tree) c.path g q) → Gives trees tree (front ++ c ∷ rest) new_tree (front ++ giving_text c ∷ rest) c.path g giving_text
 gives_text trees tree new_tree front rest c g props number has m step =
-    gives_parts trees tree new_tree front rest c (giving_text c) m refl refl (whole_text c) g step (Some (new_text g c (get tree c.path))) None (ap (text_of c) (step c.path ∙ here_changed (get tree) c.path g) ∙ text_after g c props (get tree c.path))
+    gives_parts trees tree new_tree front rest c (giving_text c) m giving_text refl (ap (λ b. settles c.action || b) (or_yes (is_some c.props)) ∙ or_yes (settles c.action)) refl refl (whole_text c) g step (Some (new_text g c (get tree c.path))) None (ap (text_of c) (step c.path ∙ here_changed (get tree) c.path g) ∙ text_after g c props (get tree c.path))
     (λ x e. λ i. record { text = text_is x e i; props = sym (props x) i; changed = sym (number x) i })
   where
     text_is : (x : Node) → get tree c.path ≡ Some x → Some (new_text g c (get tree c.path)) ≡ (g x).text
@@ -166,24 +179,24 @@ module _ (trees : List PathMap) (tree new_tree : PathMap) (s : List Change) (i :
   split_made : Made trees tree (take i s ++ d ∷ drop (i + 1) s)
   split_made = subst (Made trees tree) (split_at s i d here at) m
 
-  brought_back : (f : Change) (g : Node → Node) → e ≡ f → Gives trees tree (take i s ++ d ∷ drop (i + 1) s) new_tree (take i s ++ f ∷ drop (i + 1) s) d.path g → Gives trees tree s new_tree (slice_set s i e) p g
-  brought_back f g is h =
-      subst (λ z. Gives trees tree s new_tree z p g) (sym (set_at s i e here ∙ ap (λ x. take i s ++ x ∷ drop (i + 1) s) is))
-      (subst (λ z. Gives trees tree z new_tree (take i s ++ f ∷ drop (i + 1) s) p g) (sym (split_at s i d here at)) (subst (λ z. Gives trees tree (take i s ++ d ∷ drop (i + 1) s) new_tree (take i s ++ f ∷ drop (i + 1) s) z g) found_path h))
+  brought_back : (f : Change) (g : Node → Node) (k : Change → Change) → e ≡ f → Gives trees tree (take i s ++ d ∷ drop (i + 1) s) new_tree (take i s ++ f ∷ drop (i + 1) s) d.path g k → Gives trees tree s new_tree (slice_set s i e) p g k
+  brought_back f g k is h =
+      subst (λ z. Gives trees tree s new_tree z p g k) (sym (set_at s i e here ∙ ap (λ x. take i s ++ x ∷ drop (i + 1) s) is))
+      (subst (λ z. Gives trees tree z new_tree (take i s ++ f ∷ drop (i + 1) s) p g k) (sym (split_at s i d here at)) (subst (λ z. Gives trees tree (take i s ++ d ∷ drop (i + 1) s) new_tree (take i s ++ f ∷ drop (i + 1) s) z g k) found_path h))
 
-  pub props_at : (name : Name) (value : Option (List ℕ)) → e ≡ giving_props d → ((q : Path) → get new_tree q ≡ changed_at (get tree) p (with_prop name value) q) → Gives trees tree s new_tree (slice_set s i e) p (with_prop name value)
+  pub props_at : (name : Name) (value : Option (List ℕ)) → e ≡ giving_props d → ((q : Path) → get new_tree q ≡ changed_at (get tree) p (with_prop name value) q) → Gives trees tree s new_tree (slice_set s i e) p (with_prop name value) giving_props
   props_at name value is step =
-      brought_back (giving_props d) (with_prop name value) is
+      brought_back (giving_props d) (with_prop name value) giving_props is
       (gives_props trees tree new_tree (take i s) (drop (i + 1) s) d name value split_made (λ q. step q ∙ ap (λ z. changed_at (get tree) z (with_prop name value) q) (sym found_path)))
 
-  pub started_at : e ≡ giving_text d → ((q : Path) → get new_tree q ≡ changed_at (get tree) p (with_given (Some []) None) q) → Gives trees tree s new_tree (slice_set s i e) p (with_given (Some []) None)
+  pub started_at : e ≡ giving_text d → ((q : Path) → get new_tree q ≡ changed_at (get tree) p (with_given (Some []) None) q) → Gives trees tree s new_tree (slice_set s i e) p (with_given (Some []) None) giving_text
   started_at is step =
-      brought_back (giving_text d) (with_given (Some []) None) is
+      brought_back (giving_text d) (with_given (Some []) None) giving_text is
       (gives_text trees tree new_tree (take i s) (drop (i + 1) s) d (with_given (Some []) None) (λ x. refl) (λ x. refl) (λ x h. refl) split_made (λ q. step q ∙ ap (λ z. changed_at (get tree) z (with_given (Some []) None) q) (sym found_path)))
 
-  pub appended_at : (piece : List ℕ) → e ≡ giving_text d → piece_fault (get tree) p piece ≡ None → ((q : Path) → get new_tree q ≡ changed_at (get tree) p (with_piece piece) q) → Gives trees tree s new_tree (slice_set s i e) p (with_piece piece)
+  pub appended_at : (piece : List ℕ) → e ≡ giving_text d → piece_fault (get tree) p piece ≡ None → ((q : Path) → get new_tree q ≡ changed_at (get tree) p (with_piece piece) q) → Gives trees tree s new_tree (slice_set s i e) p (with_piece piece) giving_text
   appended_at piece is fault step =
-      brought_back (giving_text d) (with_piece piece) is
+      brought_back (giving_text d) (with_piece piece) giving_text is
       (gives_text trees tree new_tree (take i s) (drop (i + 1) s) d (with_piece piece) (λ x. refl) (λ x. refl) (λ x h. longer x.text (has_text (get tree p) x (test_fails (is_dir (get tree p)) KindMismatch (second_none (change_fault (get tree) p) _ (first_none (text_fault (get tree) p) _ fault))) (ap (get tree) (sym found_path) ∙ h))) split_made (λ q. step q ∙ ap (λ z. changed_at (get tree) z (with_piece piece) q) (sym found_path)))
     where
       has_text : (o : Option Node) (x : Node) → is_dir o ≡ false → o ≡ Some x → IsSome x.text

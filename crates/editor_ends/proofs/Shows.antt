@@ -1,8 +1,10 @@
 -- What a call adds to what an editor that builds a set was shown, and why it is refused.
 use Rattle.std.proofs.Common.{◌≡◌, ℕ, ◌≤◌, Bool, true, false, cond, not, ◌&&◌, ◌||◌, List, [], ◌∷◌, ◌++◌, length, Option, Some, None, is_some, ◌⊎◌, inl, inr, refl, sym, ap, subst, ◌∙◌, append_assoc, append-nil}
+use Rattle.std.specs.Prelude.{unwrap_or}
 use Rattle.std.specs.Option.{option_map, option_map_or, option_or, option_and_then}
 use Rattle.std.specs.List.{list_any, AllByRecursion}
 use Rattle.std.proofs.lemmas.List.Folds.{list_any-append}
+use Rattle.std.specs.FinMap as finite
 use Rattle.std.specs.FinMap.{get}
 use Rattle.node_base.specs.Path.{Path, Name, same_path, is_front}
 use Rattle.node_base.proofs.PathLemmas.{same_path_itself, path_of_same}
@@ -14,7 +16,7 @@ use Rattle.node_base.specs.declared.node.Action.TheVariants.{Modify, Add, Delete
 use Rattle.node_base.specs.declared.node.Source.{Source}
 use Rattle.node_base.specs.declared.fault.TreeFault.TheVariants.{NoSuchPath, KindMismatch}
 use Rattle.dump_load.specs.declared.change.Change.{Change}
-use Rattle.dump_load.specs.Changes.{is_delete, IsNormal}
+use Rattle.dump_load.specs.Changes.{is_delete, brings, change_at, IsNormal}
 use Rattle.dump_load.specs.Effect.{effect, stepped, with_parts}
 use Rattle.dump_load.specs.Faults.{fault_of, fault_if, first_of}
 use Rattle.dump_load.proofs.Walk.{effect_none}
@@ -27,19 +29,13 @@ use Rattle.delta_editor.specs.declared.fault.EditorFault.TheVariants as refusal
 use Rattle.delta_editor.proofs.CallLemmas.{all_called-append}
 use Rattle.editor_ends.specs.BuildFaults.{is_below, takes, acts_below, gives, is_changed, begin_fault, is_late, beginning, call_fault, refusal_after, first_refusal, IsTooLarge, IsCallRefusal, OfMemory, OfCall, OfSize, RefusesWithin}
 use Rattle.editor_ends.specs.BuildFaults as faults
-use Rattle.editor_ends.specs.Built.{is_taken, is_above, is_given, is_full, is_needed, is_late_in, Made, Begins, Gives, IsFaultOr, IsSetOver, IsFinishRefusal, seen, Builds, BuildsWithin, IsSetOf, IsSetWithin}
+use Rattle.editor_ends.specs.Built.{is_taken, is_above, is_given, is_full, is_needed, is_late_in, Made, Begins, Gives, IsFaultOr, IsSetOver, IsFinishRefusal, seen, giving_props, giving_text, AreBare, IsBlank, AreBlank, AskedAt, Builds, BuildsWithin, IsSetOf, IsSetWithin}
 use Rattle.editor_ends.specs.Built as built
-use Rattle.editor_ends.proofs.Filled.{Nodes, or_no, all_of}
+use Rattle.editor_ends.specs.Asked.{removes, tells_props, tells_text}
+use Rattle.editor_ends.proofs.Asked.{or_none, or_assoc, AskedStep, AsksNothing, AsksFor, Tells, one_more, stays, begun_step, begun_bare, begun_blank, given_step, given_bare, given_blank, asked_end}
+use Rattle.editor_ends.proofs.Filled.{Nodes, or_no, or_yes, all_of}
 
 -- ---- lists of calls, by their last
-
-or_none : {A : Type 0} (o : Option A) → option_or o None ≡ o
-or_none None = refl
-or_none (Some x) = refl
-
-or_assoc : {A : Type 0} (a b c : Option A) → option_or a (option_or b c) ≡ option_or (option_or a b) c
-or_assoc None b c = refl
-or_assoc (Some x) b c = refl
 
 refusal-end : (trees : List PathMap) (done cs : List Call) (c : Call) → refusal_after trees done (cs ++ c ∷ []) ≡ option_or (refusal_after trees done cs) (call_fault trees (done ++ cs) c)
 refusal-end trees done [] c = or_none (call_fault trees done c) ∙ ap (λ ds. call_fault trees ds c) (sym (append-nil done))
@@ -111,20 +107,18 @@ within_later (o ∷ os) call.CloseEdit t e = cc
 -- ---- one call more
 
 module _ (trees : List PathMap) (tree new_tree : PathMap) (s new : List Change) (calls : List Call) (c : Call) where
-  goes_on : (stage t : Stage) → Builds trees tree s calls stage → ((q : Path) → get new_tree q ≡ seen t trees (called trees (call_effect trees calls) c) q) → Made trees new_tree new → ((p : Path) → is_taken new p ≡ (is_taken s p || takes p c)) → ((p : Path) → is_above new p ≡ (is_above s p || acts_below p c)) → ((p : Path) → is_given new p ≡ true → (is_given s p || gives p c) ≡ true) → call_fault trees calls c ≡ None → Builds trees new_tree new (calls ++ c ∷ []) t
-  goes_on stage t b is made taken above given fault = record {
+  goes_on : (stage t : Stage) → Builds trees tree s calls stage → ((q : Path) → get new_tree q ≡ seen t trees (called trees (call_effect trees calls) c) q) → Made trees new_tree new → ((p : Path) → is_taken new p ≡ (is_taken s p || takes p c)) → ((p : Path) → is_above new p ≡ (is_above s p || acts_below p c)) → ((p : Path) → is_given new p ≡ (is_given s p || gives p c)) → ((p : Path) → AskedStep c p (change_at s p) (change_at new p)) → AreBare new → AreBlank new → call_fault trees calls c ≡ None → Builds trees new_tree new (calls ++ c ∷ []) t
+  goes_on stage t b is made taken above given asked bare blank fault = record {
     called = λ q. is q ∙ (λ i. seen t trees (sym (all_called-append trees (base trees) calls (c ∷ [])) i) q);
     made = made;
     taken = λ p. taken p ∙ (λ i. b.taken p i || sym (or_no (takes p c)) i) ∙ sym (list_any-append (takes p) calls (c ∷ []));
     above = λ p. above p ∙ (λ i. b.above p i || sym (or_no (acts_below p c)) i) ∙ sym (list_any-append (acts_below p) calls (c ∷ []));
-    given = λ p h. list_any-append (gives p) calls (c ∷ []) ∙ carry (is_given s p) (list_any (gives p) calls) (gives p c) (b.given p) (given p h);
+    given = λ p. given p ∙ (λ i. b.given p i || sym (or_no (gives p c)) i) ∙ sym (list_any-append (gives p) calls (c ∷ []));
+    asked = λ p. one_more calls c p (change_at s p) (change_at new p) (b.asked p) (asked p);
+    bare = bare;
+    blank = blank;
     unrefused = first-end trees calls c b.unrefused fault;
   }
-    where
-      carry : (a b g : Bool) → (a ≡ true → b ≡ true) → (a || g) ≡ true → (b || (g || false)) ≡ true
-      carry true b g k h = ap (λ z. z || (g || false)) (k refl)
-      carry false true g k h = refl
-      carry false false g k h = or_no g ∙ h
 
 -- what a call says of the change that it begins
 pub record BeginsAs (c : Call) (x : Change) : Type 0 where
@@ -133,6 +127,7 @@ pub record BeginsAs (c : Call) (x : Change) : Type 0 where
   pub takes_it : (p : Path) → takes p c ≡ (same_path x.path p && not (is_delete x.action))
   pub below : (p : Path) → acts_below p c ≡ is_below p x.path
   pub gives_it : (p : Path) → gives p c ≡ (same_path x.path p && is_full x)
+  pub asks : AsksFor c x
   pub not_first : begun c ≡ None
 
 kept_node : (b : Bool) (x : Node) → cond b (with_given None None x) x ≡ x
@@ -150,30 +145,54 @@ and_false : (b : Bool) → false ≡ (b && false)
 and_false true = refl
 and_false false = refl
 
+nothing : {A : Type 0} (b : Bool) → None ≡ cond {A = Option A} b None None
+nothing true = refl
+nothing false = refl
+
+asks_opens_dir : (up p : Path) (b : Option ℕ) → AsksFor (call.OpenDir up p b) (faults.begun Modify (Some Dir) p None)
+asks_opens_dir up p b = record { deleted = λ r. and_false (same_path p r); added = λ r. and_false (same_path p r); kind_is = λ r. refl; source_is = λ r. nothing (same_path p r); props_told = λ r. and_false (same_path p r); text_told = λ r. and_false (same_path p r); bare = λ e. cc; blank = record { props_are = refl; text_is = refl } }
+
+asks_opens_file : (up p : Path) (b : Option ℕ) → AsksFor (call.OpenFile up p b) (faults.begun Modify (Some File) p None)
+asks_opens_file up p b = record { deleted = λ r. and_false (same_path p r); added = λ r. and_false (same_path p r); kind_is = λ r. refl; source_is = λ r. nothing (same_path p r); props_told = λ r. and_false (same_path p r); text_told = λ r. and_false (same_path p r); bare = λ e. cc; blank = record { props_are = refl; text_is = refl } }
+
+asks_root : (b : Option ℕ) → AsksFor (call.OpenRoot b) (faults.begun Modify (Some Dir) [] None)
+asks_root b = record { deleted = λ r. and_false (same_path [] r); added = λ r. and_false (same_path [] r); kind_is = λ r. refl; source_is = λ r. nothing (same_path [] r); props_told = λ r. and_false (same_path [] r); text_told = λ r. and_false (same_path [] r); bare = λ e. cc; blank = record { props_are = refl; text_is = refl } }
+
+asks_deletes : (up p : Path) (b : Option ℕ) → AsksFor (call.DeleteEntry up p b) (faults.begun Delete None p None)
+asks_deletes up p b = record { deleted = λ r. and_true (same_path p r); added = λ r. and_false (same_path p r); kind_is = λ r. nothing (same_path p r); source_is = λ r. nothing (same_path p r); props_told = λ r. and_false (same_path p r); text_told = λ r. and_false (same_path p r); bare = λ e. refl; blank = record { props_are = refl; text_is = refl } }
+
+asks_adds_dir : (up p : Path) (from : Option Source) → AsksFor (call.AddDir up p from) (faults.begun Add (Some Dir) p from)
+asks_adds_dir up p None = record { deleted = λ r. and_false (same_path p r); added = λ r. and_true (same_path p r); kind_is = λ r. refl; source_is = λ r. refl; props_told = λ r. refl; text_told = λ r. and_false (same_path p r); bare = λ e. cc; blank = record { props_are = refl; text_is = refl } }
+asks_adds_dir up p (Some s) = record { deleted = λ r. and_false (same_path p r); added = λ r. and_true (same_path p r); kind_is = λ r. refl; source_is = λ r. refl; props_told = λ r. refl; text_told = λ r. and_false (same_path p r); bare = λ e. cc; blank = record { props_are = refl; text_is = refl } }
+
+asks_adds_file : (up p : Path) (from : Option Source) → AsksFor (call.AddFile up p from) (faults.begun Add (Some File) p from)
+asks_adds_file up p None = record { deleted = λ r. and_false (same_path p r); added = λ r. and_true (same_path p r); kind_is = λ r. refl; source_is = λ r. refl; props_told = λ r. refl; text_told = λ r. refl; bare = λ e. cc; blank = record { props_are = refl; text_is = refl } }
+asks_adds_file up p (Some s) = record { deleted = λ r. and_false (same_path p r); added = λ r. and_true (same_path p r); kind_is = λ r. refl; source_is = λ r. refl; props_told = λ r. refl; text_told = λ r. refl; bare = λ e. cc; blank = record { props_are = refl; text_is = refl } }
+
 pub opens_dir : (up p : Path) (b : Option ℕ) → BeginsAs (call.OpenDir up p b) (faults.begun Modify (Some Dir) p None)
-opens_dir up p b = record { fault = λ trees calls. refl; effect_is = λ trees f q. unchanged (marked f p (length trees)) p q; takes_it = λ r. and_true (same_path p r); below = λ r. refl; gives_it = λ r. and_false (same_path p r); not_first = refl }
+opens_dir up p b = record { fault = λ trees calls. refl; effect_is = λ trees f q. unchanged (marked f p (length trees)) p q; takes_it = λ r. and_true (same_path p r); below = λ r. refl; gives_it = λ r. and_false (same_path p r); asks = asks_opens_dir up p b; not_first = refl }
 
 pub opens_file : (up p : Path) (b : Option ℕ) → BeginsAs (call.OpenFile up p b) (faults.begun Modify (Some File) p None)
-opens_file up p b = record { fault = λ trees calls. refl; effect_is = λ trees f q. unchanged (marked f p (length trees)) p q; takes_it = λ r. and_true (same_path p r); below = λ r. refl; gives_it = λ r. and_false (same_path p r); not_first = refl }
+opens_file up p b = record { fault = λ trees calls. refl; effect_is = λ trees f q. unchanged (marked f p (length trees)) p q; takes_it = λ r. and_true (same_path p r); below = λ r. refl; gives_it = λ r. and_false (same_path p r); asks = asks_opens_file up p b; not_first = refl }
 
 pub deletes : (up p : Path) (b : Option ℕ) → BeginsAs (call.DeleteEntry up p b) (faults.begun Delete None p None)
-deletes up p b = record { fault = λ trees calls. refl; effect_is = λ trees f q. refl; takes_it = λ r. and_false (same_path p r); below = λ r. refl; gives_it = λ r. and_true (same_path p r); not_first = refl }
+deletes up p b = record { fault = λ trees calls. refl; effect_is = λ trees f q. refl; takes_it = λ r. and_false (same_path p r); below = λ r. refl; gives_it = λ r. and_true (same_path p r); asks = asks_deletes up p b; not_first = refl }
 
 pub adds_dir : (up p : Path) (from : Option Source) → BeginsAs (call.AddDir up p from) (faults.begun Add (Some Dir) p from)
-adds_dir up p None = record { fault = λ trees calls. refl; effect_is = λ trees f q. (λ i. grafted (marked f p (length trees)) p (λ r. top trees r i) q); takes_it = λ r. and_true (same_path p r); below = λ r. refl; gives_it = λ r. and_true (same_path p r); not_first = refl }
+adds_dir up p None = record { fault = λ trees calls. refl; effect_is = λ trees f q. (λ i. grafted (marked f p (length trees)) p (λ r. top trees r i) q); takes_it = λ r. and_true (same_path p r); below = λ r. refl; gives_it = λ r. and_true (same_path p r); asks = asks_adds_dir up p None; not_first = refl }
   where
     top : (trees : List PathMap) (r : Path) → Rattle.delta_editor.specs.CallEffect.added trees Dir None r ≡ Rattle.dump_load.specs.Effect.arrives trees (faults.begun Add (Some Dir) p None) r
     top trees [] = refl
     top trees (n ∷ r) = refl
-adds_dir up p (Some s) = record { fault = λ trees calls. refl; effect_is = λ trees f q. refl; takes_it = λ r. and_true (same_path p r); below = λ r. refl; gives_it = λ r. and_true (same_path p r); not_first = refl }
+adds_dir up p (Some s) = record { fault = λ trees calls. refl; effect_is = λ trees f q. refl; takes_it = λ r. and_true (same_path p r); below = λ r. refl; gives_it = λ r. and_true (same_path p r); asks = asks_adds_dir up p (Some s); not_first = refl }
 
 pub adds_file : (up p : Path) (from : Option Source) → BeginsAs (call.AddFile up p from) (faults.begun Add (Some File) p from)
-adds_file up p None = record { fault = λ trees calls. refl; effect_is = λ trees f q. (λ i. grafted (marked f p (length trees)) p (λ r. top trees r i) q); takes_it = λ r. and_true (same_path p r); below = λ r. refl; gives_it = λ r. and_true (same_path p r); not_first = refl }
+adds_file up p None = record { fault = λ trees calls. refl; effect_is = λ trees f q. (λ i. grafted (marked f p (length trees)) p (λ r. top trees r i) q); takes_it = λ r. and_true (same_path p r); below = λ r. refl; gives_it = λ r. and_true (same_path p r); asks = asks_adds_file up p None; not_first = refl }
   where
     top : (trees : List PathMap) (r : Path) → Rattle.delta_editor.specs.CallEffect.added trees File None r ≡ Rattle.dump_load.specs.Effect.arrives trees (faults.begun Add (Some File) p None) r
     top trees [] = refl
     top trees (n ∷ r) = refl
-adds_file up p (Some s) = record { fault = λ trees calls. refl; effect_is = λ trees f q. refl; takes_it = λ r. and_true (same_path p r); below = λ r. refl; gives_it = λ r. and_true (same_path p r); not_first = refl }
+adds_file up p (Some s) = record { fault = λ trees calls. refl; effect_is = λ trees f q. refl; takes_it = λ r. and_true (same_path p r); below = λ r. refl; gives_it = λ r. and_true (same_path p r); asks = asks_adds_file up p (Some s); not_first = refl }
 
 -- what comes within an edit
 pub record Inside (stage t : Stage) (c : Call) : Type 0 where
@@ -201,7 +220,8 @@ adds_begun trees tree new_tree s new c x facts h calls builds t e =
     let g = h b.made in
     goes_on trees tree new_tree s new calls c l.stage t b
     (λ q. g.tree_is q ∙ (λ i. stepped trees (λ r. is r i) x q) ∙ sym (facts.effect_is trees (call_effect trees calls) q) ∙ sym (seen_later trees t (called trees (call_effect trees calls) c) q (within_later w.opened c t w.goes)))
-    g.made (λ p. g.taken p ∙ ap (λ z. is_taken s p || z) (sym (facts.takes_it p))) (λ p. g.above p ∙ ap (λ z. is_above s p || z) (sym (facts.below p))) (λ p k. ap (λ z. is_given s p || z) (facts.gives_it p) ∙ g.given p k)
+    g.made (λ p. g.taken p ∙ ap (λ z. is_taken s p || z) (sym (facts.takes_it p))) (λ p. g.above p ∙ ap (λ z. is_above s p || z) (sym (facts.below p))) (λ p. g.given p ∙ ap (λ z. is_given s p || z) (sym (facts.gives_it p)))
+    (begun_step c x facts.asks s new b.bare b.blank g.begins_at g.elsewhere) (begun_bare c x facts.asks s new b.bare b.blank g.begins_at g.elsewhere) (begun_blank c x facts.asks s new b.bare b.blank g.begins_at g.elsewhere)
     (facts.fault trees calls ∙ sym (same_fault trees tree s calls l.stage x b is) ∙ g.fault)
 
 -- ---- refusals
@@ -292,7 +312,8 @@ adds_root trees tree new_tree s new base h calls builds t e =
     let g = h b.made in
     goes_on trees tree new_tree s new calls (call.OpenRoot base) l.stage t b
     (λ q. g.tree_is q ∙ (λ i. stepped trees (λ r. is r i) x q) ∙ root_step trees (call_effect trees calls) q ∙ sym (seen_later trees t (marked (call_effect trees calls) [] (length trees)) q w.later))
-    g.made (λ p. g.taken p ∙ ap (λ z. is_taken s p || z) (sym (and_true (same_path [] p)))) (λ p. g.above p) (λ p k. ap (λ z. is_given s p || z) (and_false (same_path [] p)) ∙ g.given p k)
+    g.made (λ p. g.taken p ∙ ap (λ z. is_taken s p || z) (sym (and_true (same_path [] p)))) (λ p. g.above p) (λ p. g.given p ∙ ap (λ z. is_given s p || z) (sym (and_false (same_path [] p))))
+    (begun_step (call.OpenRoot base) x (asks_root base) s new b.bare b.blank g.begins_at g.elsewhere) (begun_bare (call.OpenRoot base) x (asks_root base) s new b.bare b.blank g.begins_at g.elsewhere) (begun_blank (call.OpenRoot base) x (asks_root base) s new b.bare b.blank g.begins_at g.elsewhere)
     (sym (root_same trees tree s calls l.stage b is) ∙ g.fault)
 
 pub refuses_root : (trees : List PathMap) (tree : PathMap) (s : List Change) (base : Option ℕ) (e : EditorFault) → (Made trees tree s → IsFaultOr (begin_fault trees (get tree) (is_late_in s (faults.begun Modify (Some Dir) [] None)) (faults.begun Modify (Some Dir) [] None)) e) → (calls : List Call) → BuildsWithin trees tree s calls → RefusesWithin trees calls (call.OpenRoot base) e
@@ -309,6 +330,8 @@ pub record IsSilent (c : Call) : Type 0 where
   pub effect_is : (trees : List PathMap) (f : Nodes) → ◌≡◌ {A = Nodes} (called trees f c) f
   pub takes_none : (p : Path) → takes p c ≡ false
   pub below : (p : Path) → acts_below p c ≡ false
+  pub gives_none : (p : Path) → gives p c ≡ false
+  pub asks_nothing : (p : Path) → AsksNothing c p
   pub stage_stays : (s t : Stage) → next s c ≡ Some t → is_before t ≡ is_before s
 
 within_same : (c : Call) → begun c ≡ None → (s t : Stage) → next s c ≡ Some t → is_before t ≡ is_before s
@@ -317,16 +340,16 @@ within_same c none (Within os) t e = within_later os c t e
 within_same c none After t e = cc
 
 pub text_ends : (p : Path) → IsSilent (call.TextEnd p)
-text_ends p = record { effect_is = λ trees f. refl; takes_none = λ q. refl; below = λ q. refl; stage_stays = within_same (call.TextEnd p) refl }
+text_ends p = record { effect_is = λ trees f. refl; takes_none = λ q. refl; below = λ q. refl; gives_none = λ q. refl; asks_nothing = λ q. record { deleted = refl; added = refl; kind_is = refl; source_is = refl; props_told = refl; text_told = refl }; stage_stays = within_same (call.TextEnd p) refl }
 
 pub closes_file : (p : Path) (sum : Option (List ℕ)) → IsSilent (call.CloseFile p sum)
-closes_file p sum = record { effect_is = λ trees f. refl; takes_none = λ q. refl; below = λ q. refl; stage_stays = within_same (call.CloseFile p sum) refl }
+closes_file p sum = record { effect_is = λ trees f. refl; takes_none = λ q. refl; below = λ q. refl; gives_none = λ q. refl; asks_nothing = λ q. record { deleted = refl; added = refl; kind_is = refl; source_is = refl; props_told = refl; text_told = refl }; stage_stays = within_same (call.CloseFile p sum) refl }
 
 pub closes_dir : (p : Path) → IsSilent (call.CloseDir p)
-closes_dir p = record { effect_is = λ trees f. refl; takes_none = λ q. refl; below = λ q. refl; stage_stays = within_same (call.CloseDir p) refl }
+closes_dir p = record { effect_is = λ trees f. refl; takes_none = λ q. refl; below = λ q. refl; gives_none = λ q. refl; asks_nothing = λ q. record { deleted = refl; added = refl; kind_is = refl; source_is = refl; props_told = refl; text_told = refl }; stage_stays = within_same (call.CloseDir p) refl }
 
 pub targets : (n : ℕ) → IsSilent (call.Target n)
-targets n = record { effect_is = λ trees f. refl; takes_none = λ q. refl; below = λ q. refl; stage_stays = stays }
+targets n = record { effect_is = λ trees f. refl; takes_none = λ q. refl; below = λ q. refl; gives_none = λ q. refl; asks_nothing = λ q. record { deleted = refl; added = refl; kind_is = refl; source_is = refl; props_told = refl; text_told = refl }; stage_stays = stays }
   where
     stays : (s t : Stage) → next s (call.Target n) ≡ Some t → is_before t ≡ is_before s
     stays Before t e = ap (λ o. option_map_or is_before o true) (sym e)
@@ -346,45 +369,39 @@ adds_silent trees tree s c facts calls fault builds t e =
     let b = builds l.stage l.ran in
     goes_on trees tree tree s s calls c l.stage t b
     (λ q. b.called q ∙ seen_same trees l.stage t (call_effect trees calls) q (facts.stage_stays l.stage t l.goes) ∙ (λ i. seen t trees (sym (facts.effect_is trees (call_effect trees calls)) i) q))
-    b.made (λ p. sym (ap (λ z. is_taken s p || z) (facts.takes_none p) ∙ or_no (is_taken s p))) (λ p. sym (ap (λ z. is_above s p || z) (facts.below p) ∙ or_no (is_above s p))) (λ p h. ap (λ z. z || gives p c) h)
+    b.made (λ p. sym (ap (λ z. is_taken s p || z) (facts.takes_none p) ∙ or_no (is_taken s p))) (λ p. sym (ap (λ z. is_above s p || z) (facts.below p) ∙ or_no (is_above s p))) (λ p. sym (ap (λ z. is_given s p || z) (facts.gives_none p) ∙ or_no (is_given s p)))
+    (λ p. stays c p (change_at s p) (change_at s p) (facts.asks_nothing p) refl) b.bare b.blank
     fault
 
 -- ---- what gives parts
 
-pub record GivesAs (c : Call) (p : Path) (g : Node → Node) : Type 0 where
+pub record GivesAs (c : Call) (p : Path) (g : Node → Node) (k : Change → Change) (props text : Bool) : Type 0 where
   pub effect_is : (trees : List PathMap) (f : Nodes) (q : Path) → called trees f c q ≡ changed_at f p g q
   pub takes_none : (q : Path) → takes q c ≡ false
   pub below : (q : Path) → acts_below q c ≡ false
   pub gives_own : (q : Path) → gives q c ≡ same_path p q
+  pub tells : Tells c p k props text
   pub not_first : begun c ≡ None
 
-pub puts_dir : (p : Path) (name : Name) (value : Option (List ℕ)) → GivesAs (call.DirProp p name value) p (with_prop name value)
-puts_dir p name value = record { effect_is = λ trees f q. same f value q; takes_none = λ q. refl; below = λ q. refl; gives_own = λ q. refl; not_first = refl }
+blank_of : {A : Type 0} (o : Option A) (blank : A) → o ≡ option_map (λ _. blank) o → unwrap_or o blank ≡ blank
+blank_of None blank e = refl
+blank_of (Some x) blank e = ap (λ o. unwrap_or o blank) e
+
+pub puts_dir : (p : Path) (name : Name) (value : Option (List ℕ)) → GivesAs (call.DirProp p name value) p (with_prop name value) giving_props true false
+puts_dir p name value = record { effect_is = λ trees f q. same f value q; takes_none = λ q. refl; below = λ q. refl; gives_own = λ q. refl; tells = record { deleted = λ q. refl; added = λ q. refl; kind_is = λ q. refl; source_is = λ q. refl; props_told = λ q. and_true (same_path p q); text_told = λ q. and_false (same_path p q); same_action = λ d. refl; same_kind = λ d. refl; same_source = λ d. refl; props_are = λ d. sym (or_yes (is_some d.props)); text_is = λ d. sym (or_no (is_some d.text)); blank = λ d b. record { props_are = ap Some (blank_of d.props finite.empty b.props_are); text_is = b.text_is } }; not_first = refl }
   where
     same : (f : Nodes) (value : Option (List ℕ)) (q : Path) → changed_at f p (Rattle.delta_editor.specs.CallEffect.with_prop name value) q ≡ changed_at f p (with_prop name value) q
     same f None q = refl
     same f (Some v) q = refl
 
-pub puts_file : (p : Path) (name : Name) (value : Option (List ℕ)) → GivesAs (call.FileProp p name value) p (with_prop name value)
-puts_file p name value = record { effect_is = (puts_dir p name value).effect_is; takes_none = λ q. refl; below = λ q. refl; gives_own = λ q. refl; not_first = refl }
+pub puts_file : (p : Path) (name : Name) (value : Option (List ℕ)) → GivesAs (call.FileProp p name value) p (with_prop name value) giving_props true false
+puts_file p name value = record { effect_is = (puts_dir p name value).effect_is; takes_none = λ q. refl; below = λ q. refl; gives_own = λ q. refl; tells = record { deleted = λ q. refl; added = λ q. refl; kind_is = λ q. refl; source_is = λ q. refl; props_told = λ q. and_true (same_path p q); text_told = λ q. and_false (same_path p q); same_action = λ d. refl; same_kind = λ d. refl; same_source = λ d. refl; props_are = λ d. sym (or_yes (is_some d.props)); text_is = λ d. sym (or_no (is_some d.text)); blank = λ d b. record { props_are = ap Some (blank_of d.props finite.empty b.props_are); text_is = b.text_is } }; not_first = refl }
 
-pub starts : (p : Path) → GivesAs (call.TextStart p) p (with_given (Some []) None)
-starts p = record { effect_is = λ trees f q. refl; takes_none = λ q. refl; below = λ q. refl; gives_own = λ q. refl; not_first = refl }
+pub starts : (p : Path) → GivesAs (call.TextStart p) p (with_given (Some []) None) giving_text false true
+starts p = record { effect_is = λ trees f q. refl; takes_none = λ q. refl; below = λ q. refl; gives_own = λ q. refl; tells = record { deleted = λ q. refl; added = λ q. refl; kind_is = λ q. refl; source_is = λ q. refl; props_told = λ q. and_false (same_path p q); text_told = λ q. and_true (same_path p q); same_action = λ d. refl; same_kind = λ d. refl; same_source = λ d. refl; props_are = λ d. sym (or_no (is_some d.props)); text_is = λ d. sym (or_yes (is_some d.text)); blank = λ d b. record { props_are = b.props_are; text_is = ap Some (blank_of d.text [] b.text_is) } }; not_first = refl }
 
-pub pieces_on : (p : Path) (piece : List ℕ) → GivesAs (call.TextPiece p piece) p (with_piece piece)
-pieces_on p piece = record { effect_is = λ trees f q. refl; takes_none = λ q. refl; below = λ q. refl; gives_own = λ q. refl; not_first = refl }
-
-pub adds_given : (trees : List PathMap) (tree new_tree : PathMap) (s new : List Change) (c : Call) (p : Path) (g : Node → Node) (fault : Nodes → Option EditorFault) → GivesAs c p g → ((calls : List Call) → call_fault trees calls c ≡ fault (call_effect trees calls)) → fault (get tree) ≡ None → (Made trees tree s → Gives trees tree s new_tree new p g) → (calls : List Call) → BuildsWithin trees tree s calls → BuildsWithin trees new_tree new (calls ++ c ∷ [])
-adds_given trees tree new_tree s new c p g fault facts same none h calls builds t e =
-    let l = last calls c t e in
-    let b = builds l.stage l.ran in
-    let w = inside l.stage t c facts.not_first l.goes in
-    let is = called_within trees tree s calls l.stage w.opened w.is b in
-    let d = h b.made in
-    goes_on trees tree new_tree s new calls c l.stage t b
-    (λ q. d.tree_is q ∙ (λ i. changed_at (λ r. is r i) p g q) ∙ sym (facts.effect_is trees (call_effect trees calls) q) ∙ sym (seen_later trees t (called trees (call_effect trees calls) c) q (within_later w.opened c t w.goes)))
-    d.made (λ q. d.taken q ∙ sym (ap (λ z. is_taken s q || z) (facts.takes_none q) ∙ or_no (is_taken s q))) (λ q. d.above q ∙ sym (ap (λ z. is_above s q || z) (facts.below q) ∙ or_no (is_above s q))) (λ q k. ap (λ z. is_given s q || z) (facts.gives_own q) ∙ d.given q k)
-    (same calls ∙ (λ i. fault (λ r. sym (is r) i)) ∙ none)
+pub pieces_on : (p : Path) (piece : List ℕ) → GivesAs (call.TextPiece p piece) p (with_piece piece) giving_text false true
+pieces_on p piece = record { effect_is = λ trees f q. refl; takes_none = λ q. refl; below = λ q. refl; gives_own = λ q. refl; tells = record { deleted = λ q. refl; added = λ q. refl; kind_is = λ q. refl; source_is = λ q. refl; props_told = λ q. and_false (same_path p q); text_told = λ q. and_true (same_path p q); same_action = λ d. refl; same_kind = λ d. refl; same_source = λ d. refl; props_are = λ d. sym (or_no (is_some d.props)); text_is = λ d. sym (or_yes (is_some d.text)); blank = λ d b. record { props_are = b.props_are; text_is = ap Some (blank_of d.text [] b.text_is) } }; not_first = refl }
 
 -- ---- what is open was opened or added
 
@@ -518,6 +535,21 @@ start_open p = open_inner p _ _ (λ o k. same_opened p o (inl k))
 pub piece_open : (p : Path) (piece : List ℕ) → IsOpenAt (call.TextPiece p piece) p
 piece_open p piece = open_inner p _ _ (λ o k. same_opened p o (inr k))
 
+pub adds_given : (trees : List PathMap) (tree new_tree : PathMap) (s new : List Change) (c : Call) (p : Path) (g : Node → Node) (k : Change → Change) (props text : Bool) (fault : Nodes → Option EditorFault) → GivesAs c p g k props text → IsOpenAt c p → ((calls : List Call) → call_fault trees calls c ≡ fault (call_effect trees calls)) → fault (get tree) ≡ None → (Made trees tree s → Gives trees tree s new_tree new p g k) → (calls : List Call) → BuildsWithin trees tree s calls → BuildsWithin trees new_tree new (calls ++ c ∷ [])
+adds_given trees tree new_tree s new c p g k props text fault facts open_at same none h calls builds t e =
+    let l = last calls c t e in
+    let b = builds l.stage l.ran in
+    let w = inside l.stage t c facts.not_first l.goes in
+    let is = called_within trees tree s calls l.stage w.opened w.is b in
+    let d = h b.made in
+    let all = taken_run [] calls Before (Within w.opened) tt (l.ran ∙ ap (λ (z : Stage). Some z) w.is) in
+    let taken = b.taken p ∙ open_at calls w.opened t all w.goes in
+    goes_on trees tree new_tree s new calls c l.stage t b
+    (λ q. d.tree_is q ∙ (λ i. changed_at (λ r. is r i) p g q) ∙ sym (facts.effect_is trees (call_effect trees calls) q) ∙ sym (seen_later trees t (called trees (call_effect trees calls) c) q (within_later w.opened c t w.goes)))
+    d.made (λ q. d.taken q ∙ sym (ap (λ z. is_taken s q || z) (facts.takes_none q) ∙ or_no (is_taken s q))) (λ q. d.above q ∙ sym (ap (λ z. is_above s q || z) (facts.below q) ∙ or_no (is_above s q))) (λ q. d.given q ∙ ap (λ z. is_given s q || z) (sym (facts.gives_own q)))
+    (given_step c p k props text facts.tells s new b.bare b.blank taken d.became) (given_bare c p k props text facts.tells s new b.bare b.blank taken d.became) (given_blank c p k props text facts.tells s new b.bare b.blank taken d.became)
+    (same calls ∙ (λ i. fault (λ r. sym (is r) i)) ∙ none)
+
 pub refuses_given : (trees : List PathMap) (tree : PathMap) (s : List Change) (c : Call) (p : Path) (e : EditorFault) (fault : Nodes → Option EditorFault) → begun c ≡ None → IsOpenAt c p → ((calls : List Call) → call_fault trees calls c ≡ fault (call_effect trees calls)) → (IsNormal s → is_taken s p ≡ true → IsFaultOr (fault (get tree)) e) → (calls : List Call) → BuildsWithin trees tree s calls → RefusesWithin trees calls c e
 refuses_given trees tree s c p e fault none open_at same h calls builds t r =
     let l = last calls c t r in
@@ -535,7 +567,10 @@ new_shown trees tree few is stage e = subst (Builds trees tree [] []) (same_stag
   made = record { numbered = few; made = λ q. sym (is q); normal = tt; stands = λ p h. cc };
   taken = λ p. refl;
   above = λ p. refl;
-  given = λ p h. cc;
+  given = λ p. refl;
+  asked = λ p. record { deleted = refl; added = refl; kind_is = refl; source_is = refl; props_told = refl; text_told = refl };
+  bare = λ p d h gone. cc h;
+  blank = λ p d h. cc h;
   unrefused = refl;
 })
 
@@ -545,13 +580,8 @@ ends_within (Within os) e trees f q = refl
 ends_within After e trees f q = cc
 
 -- what is needed of the changes is what the calls change
-needs_change : (trees : List PathMap) (tree : PathMap) (s : List Change) (calls : List Call) (stage : Stage) → Builds trees tree s calls stage → (p : Path) → is_needed s p ≡ true → is_changed calls p ≡ true
-needs_change trees tree s calls stage b p h = sym (λ i. list_any (gives p) calls || (b.taken p i && not (b.above p i))) ∙ needs (is_given s p) (list_any (gives p) calls) (is_taken s p && not (is_above s p)) (b.given p) h
-  where
-    needs : (g k r : Bool) → (g ≡ true → k ≡ true) → (g || r) ≡ true → (k || r) ≡ true
-    needs true k r f h = ap (λ z. z || r) (f refl)
-    needs false true r f h = refl
-    needs false false r f h = h
+needs_change : (trees : List PathMap) (tree : PathMap) (s : List Change) (calls : List Call) (stage : Stage) → Builds trees tree s calls stage → (p : Path) → is_needed s p ≡ is_changed calls p
+needs_change trees tree s calls stage b p = λ i. b.given p i || (b.taken p i && not (b.above p i))
 
 pub change_end : (calls : List Call) (p : Path) → is_changed (calls ++ call.CloseEdit ∷ []) p ≡ is_changed calls p
 change_end calls p = λ i. none (gives p) refl i || (none (takes p) refl i && not (none (acts_below p) refl i))
@@ -564,11 +594,14 @@ adds_end trees tree s set h calls builds e =
     let l = last calls call.CloseEdit After e in
     let b = builds l.stage l.ran in
     let o = h b.made in
+    let nodes : (q : Path) → get tree q ≡ call_effect trees (calls ++ call.CloseEdit ∷ []) q = λ q. b.called q ∙ ends_within l.stage l.goes trees (call_effect trees calls) q ∙ (λ i. sym (all_called-append trees (base trees) calls (call.CloseEdit ∷ [])) i q) in
     record {
       unrefused = first-end trees calls call.CloseEdit b.unrefused refl;
       normal = o.normal;
-      effect_is = λ q. o.effect_is q ∙ b.called q ∙ ends_within l.stage l.goes trees (call_effect trees calls) q ∙ (λ i. sym (all_called-append trees (base trees) calls (call.CloseEdit ∷ [])) i q);
-      changed = all_of set (λ c k. change_end calls c.path ∙ needs_change trees tree s calls l.stage b c.path k) o.needed;
+      effect_is = λ q. o.effect_is q ∙ nodes q;
+      changed = all_of set (λ c k. change_end calls c.path ∙ sym (needs_change trees tree s calls l.stage b c.path) ∙ k) o.needed;
+      whole = λ p k. o.whole p (needs_change trees tree s calls l.stage b p ∙ sym (change_end calls p) ∙ k);
+      asked = all_of set (λ c stem. asked_end trees calls s (get tree) c b.asked b.blank nodes stem) o.stems;
       few = o.few;
     }
 
@@ -586,4 +619,4 @@ refuses_end trees tree s e h calls builds t r = at (h b.made)
 
     at : IsFinishRefusal trees (get tree) s e → IsCallRefusal trees calls call.CloseEdit e
     at (built.OfMemory m) = OfMemory m
-    at (built.OfSize k large) = OfSize refl k (record { set = large.set; normal = large.normal; is = λ q. large.is q ∙ called_within trees tree s calls l.stage w.opened w.is b q; changed = all_of large.set (λ c n. needs_change trees tree s calls l.stage b c.path n) large.needed; many = large.many })
+    at (built.OfSize k large) = OfSize refl k (record { set = large.set; normal = large.normal; is = λ q. large.is q ∙ called_within trees tree s calls l.stage w.opened w.is b q; changed = all_of large.set (λ c n. sym (needs_change trees tree s calls l.stage b c.path) ∙ n) large.needed; many = large.many })

@@ -1,6 +1,6 @@
 -- What an editor that builds a set keeps: changes beside the tree that they make.
-use Rattle.std.specs.Prelude.{◌≡◌, ℕ, ◌≤◌, ◌<◌, take, drop, Result, Ok, Err, Bool, true, false, not, ◌&&◌, ◌||◌, List, ◌∷◌, [], map, length, Option, Some, None, IsSome}
-use Rattle.std.specs.Option.{option_map, option_map_or}
+use Rattle.std.specs.Prelude.{◌≡◌, ℕ, ◌≤◌, ◌<◌, take, drop, Result, Ok, Err, Bool, true, false, not, ◌&&◌, ◌||◌, List, ◌∷◌, [], map, length, Option, Some, None, IsSome, if◌then◌else◌, ◌⊎◌}
+use Rattle.std.specs.Option.{option_map, option_map_or, option_and_then}
 use Rattle.std.specs.Prelude.{unwrap_or}
 use Rattle.std.specs.List.{list_any, slice_get, AllByRecursion}
 use Rattle.std.specs.declared.cmp.Ordering.TheVariants.{Less}
@@ -9,7 +9,8 @@ use Rattle.node_base.specs.Path.{Path, path_cmp, same_path, is_front}
 use Rattle.node_base.specs.Tree.{PathMap, marked, changed_at}
 use Rattle.node_base.specs.declared.node.Node.{Node}
 use Rattle.dump_load.specs.declared.change.Change.{Change}
-use Rattle.dump_load.specs.Changes.{settles, is_delete, change_at, IsNormal}
+use Rattle.node_base.specs.declared.node.Action.TheVariants.{Delete, Replace}
+use Rattle.dump_load.specs.Changes.{settles, is_delete, is_add, brings, change_at, IsNormal}
 use Rattle.path_tree.specs.declared.error.TreeError.{TreeError}
 use Rattle.path_tree.specs.declared.error.TreeError.TheVariants.{Fault}
 use Rattle.path_tree.specs.declared.error.TreeError.TheVariants as error
@@ -21,6 +22,7 @@ use Rattle.delta_editor.specs.CallEffect.{call_effect}
 use Rattle.delta_editor.specs.Nesting.{Stage, Before, Within, After, run, IsNested}
 use Rattle.delta_editor.specs.declared.fault.EditorFault.{EditorFault}
 use Rattle.delta_editor.specs.declared.fault.EditorFault.TheVariants as refusal
+use Rattle.editor_ends.specs.Asked.{removes, deletes, adds, kind_at, source_at, tells_props, tells_text, last_of, IsAsked}
 use Rattle.editor_ends.specs.BuildFaults.{is_below, takes, acts_below, gives, is_changed, begun, begin_fault, first_refusal}
 
 -- a change whose parts, where it gives them, are those of the node at its path
@@ -70,6 +72,11 @@ pub record Made (trees : List PathMap) (tree : PathMap) (s : List Change) : Type
   pub normal : IsNormal s
   pub stands : (p : Path) → is_above s p ≡ true → IsSome (finite.get tree p)
 
+-- a change stands where there was none; or an add in the place of a deletion, as a replace
+pub data BeginsAt (s new : List Change) (x : Change) : Type 0 where
+  First : change_at s x.path ≡ None → change_at new x.path ≡ Some x → BeginsAt s new x
+  Again : (d : Change) → change_at s x.path ≡ Some d → is_delete d.action ≡ true → is_add x.action ≡ true → change_at new x.path ≡ Some (record x { action = Replace }) → BeginsAt s new x
+
 -- a change was begun
 pub record Begins (trees : List PathMap) (tree : PathMap) (s : List Change) (new_tree : PathMap) (new : List Change) (x : Change) : Type 0 where
   pub fault : begin_fault trees (finite.get tree) (is_late_in s x) x ≡ None
@@ -77,15 +84,18 @@ pub record Begins (trees : List PathMap) (tree : PathMap) (s : List Change) (new
   pub made : Made trees new_tree new
   pub taken : (p : Path) → is_taken new p ≡ (is_taken s p || (same_path x.path p && not (is_delete x.action)))
   pub above : (p : Path) → is_above new p ≡ (is_above s p || is_below p x.path)
-  pub given : (p : Path) → is_given new p ≡ true → (is_given s p || (same_path x.path p && is_full x)) ≡ true
+  pub given : (p : Path) → is_given new p ≡ (is_given s p || (same_path x.path p && is_full x))
+  pub begins_at : BeginsAt s new x
+  pub elsewhere : (p : Path) → same_path x.path p ≡ false → change_at new p ≡ change_at s p
 
--- the node at a path was given something
-pub record Gives (trees : List PathMap) (tree : PathMap) (s : List Change) (new_tree : PathMap) (new : List Change) (p : Path) (g : Node → Node) : Type 0 where
+-- the node at a path was given something, so that the change of the path became another
+pub record Gives (trees : List PathMap) (tree : PathMap) (s : List Change) (new_tree : PathMap) (new : List Change) (p : Path) (g : Node → Node) (k : Change → Change) : Type 0 where
   pub tree_is : (q : Path) → finite.get new_tree q ≡ changed_at (finite.get tree) p g q
   pub made : Made trees new_tree new
   pub taken : (q : Path) → is_taken new q ≡ is_taken s q
   pub above : (q : Path) → is_above new q ≡ is_above s q
-  pub given : (q : Path) → is_given new q ≡ true → (is_given s q || same_path p q) ≡ true
+  pub given : (q : Path) → is_given new q ≡ (is_given s q || same_path p q)
+  pub became : (q : Path) → change_at new q ≡ option_map (λ c. if same_path p q then k c else c) (change_at s q)
 
 -- a fault is the one that is said, but for memory
 abbrev pub IsFaultOr : Option EditorFault → EditorFault → Type 0
@@ -115,18 +125,29 @@ abbrev pub IsLean : List Change → Type 0
 IsLean [] = Unit {0}
 IsLean (c ∷ s) = (leads_on c s ≡ false) × IsLean s
 
--- a normal set with the effect of another, of whose changes it has some, and some below each path that had some below
+-- a normal set with the effect of another, of whose changes it has some, and some below each path that had some below; those that give
+-- something, and those with nothing below, stay
 pub record Keeps (trees : List PathMap) (s new : List Change) : Type 0 where
   pub normal : IsNormal new
   pub effect_is : (q : Path) → effect trees new q ≡ effect trees s q
   pub above : (p : Path) → is_above new p ≡ is_above s p
   pub stays : (p : Path) (c : Change) → change_at new p ≡ Some c → change_at s p ≡ Some c
+  pub keeps : (p : Path) (c : Change) → change_at s p ≡ Some c → (is_full c ≡ true) ⊎ (is_above s p ≡ false) → change_at new p ≡ Some c
 
--- a normal set of no more than 4,096 changes has this effect, and each of them is needed
+-- a change is one of some changes, its parts filled in
+pub record IsFilledOf (f : Path → Option Node) (changes : List Change) (c : Change) : Type 0 where
+  pub stem : Change
+  pub at : change_at changes c.path ≡ Some stem
+  pub is : c ≡ filled f stem
+
+-- a normal set of no more than 4,096 changes has this effect, and each of them is needed and one of those before, and each that is
+-- needed is there
 pub record IsSetOver (trees : List PathMap) (f : Path → Option Node) (changes set : List Change) : Type 0 where
   pub normal : IsNormal set
   pub effect_is : (q : Path) → effect trees set q ≡ f q
   pub needed : AllByRecursion (λ c. is_needed changes c.path ≡ true) set
+  pub whole : (p : Path) → is_needed changes p ≡ true → IsSome (change_at set p)
+  pub stems : AllByRecursion (IsFilledOf f changes) set
   pub few : length set ≤ 4096
 
 -- it takes more changes than that
@@ -148,25 +169,51 @@ seen Before trees f = marked f [] (length trees)
 seen (Within os) trees f = f
 seen After trees f = f
 
+-- the change of a path, if there is one, is what calls ask for there
+pub record AskedAt (calls : List Call) (p : Path) (o : Option Change) : Type 0 where
+  pub deleted : option_map_or (λ c. removes c.action) o false ≡ list_any (deletes p) calls
+  pub added : option_map_or brings o false ≡ list_any (adds p) calls
+  pub kind_is : option_and_then (λ c. c.kind) o ≡ last_of (kind_at p) calls
+  pub source_is : option_and_then (λ c. c.source) o ≡ last_of (source_at p) calls
+  pub props_told : option_map_or (λ c. is_some c.props) o false ≡ list_any (tells_props p) calls
+  pub text_told : option_map_or (λ c. is_some c.text) o false ≡ list_any (tells_text p) calls
+
+-- a deletion says nothing else
+abbrev pub AreBare : List Change → Type 0
+AreBare s = (p : Path) (d : Change) → change_at s p ≡ Some d → is_delete d.action ≡ true → d ≡ begun Delete None p None
+
+-- what a change gives is kept in the tree alone
+pub record IsBlank (c : Change) : Type 0 where
+  pub props_are : c.props ≡ option_map (λ _. finite.empty) c.props
+  pub text_is : c.text ≡ option_map (λ _. []) c.text
+
+abbrev pub AreBlank : List Change → Type 0
+AreBlank s = (p : Path) (c : Change) → change_at s p ≡ Some c → IsBlank c
+
 -- the tree and the changes are what the calls come to so far
 pub record Builds (trees : List PathMap) (tree : PathMap) (s : List Change) (calls : List Call) (stage : Stage) : Type 0 where
   pub called : (q : Path) → finite.get tree q ≡ seen stage trees (call_effect trees calls) q
   pub made : Made trees tree s
   pub taken : (p : Path) → is_taken s p ≡ list_any (takes p) calls
   pub above : (p : Path) → is_above s p ≡ list_any (acts_below p) calls
-  pub given : (p : Path) → is_given s p ≡ true → list_any (gives p) calls ≡ true
+  pub given : (p : Path) → is_given s p ≡ list_any (gives p) calls
+  pub asked : (p : Path) → AskedAt calls p (change_at s p)
+  pub bare : AreBare s
+  pub blank : AreBlank s
   pub unrefused : first_refusal trees calls ≡ None
 
 -- the same, wherever the calls keep the nesting
 abbrev pub BuildsWithin : List PathMap → PathMap → List Change → List Call → Type 0
 BuildsWithin trees tree s calls = (stage : Stage) → run Before calls ≡ Some stage → Builds trees tree s calls stage
 
--- the set is what the calls come to
+-- the set is what the calls come to: it has their effect, and a change, as they ask for it, of each path that they change and of no other
 pub record IsSetOf (trees : List PathMap) (set : List Change) (calls : List Call) : Type 0 where
   pub unrefused : first_refusal trees calls ≡ None
   pub normal : IsNormal set
   pub effect_is : (q : Path) → effect trees set q ≡ call_effect trees calls q
   pub changed : AllByRecursion (λ c. is_changed calls c.path ≡ true) set
+  pub whole : (p : Path) → is_changed calls p ≡ true → IsSome (change_at set p)
+  pub asked : AllByRecursion (IsAsked trees calls) set
   pub few : length set ≤ 4096
 
 abbrev pub IsSetWithin : List PathMap → List Change → List Call → Type 0

@@ -1,4 +1,4 @@
--- Laws of the calls that a set is driven as.
+-- Laws of the calls that a set is driven as, and of the set that calls come to.
 use Rattle.std.specs.Prelude.{◌≡◌, ℕ, ◌<◌, ◌≤◌, List, [], ◌∷◌, ◌++◌, None, length, IfSome}
 use Rattle.std.specs.List.{AllByRecursion, concat}
 use Rattle.node_base.specs.Path.{Name, Path}
@@ -17,6 +17,7 @@ use Rattle.delta_editor.specs.Nesting.{IsNested}
 use Rattle.editor_ends.specs.Parts.{pieces}
 use Rattle.editor_ends.specs.Drive.{drive}
 use Rattle.editor_ends.specs.BuildFaults.{first_refusal, RefusesWithin}
+use Rattle.editor_ends.specs.Built.{IsSetOf}
 use Rattle.editor_ends.specs.Refusals.{IsDriveRefusal}
 
 -- where a set has no fault, the calls that it is driven as have its effect
@@ -42,6 +43,10 @@ DriveIsTaken = (trees : List PathMap) (s : List Change) → IsNormal s → fault
 -- and such a drive, of no more than 4,096 changes, is refused for want of memory alone
 abbrev pub DriveForMemoryAlone : Type 0
 DriveForMemoryAlone = (trees : List PathMap) (s : List Change) (e : EditorFault) → IsNormal s → fault trees s ≡ None → IsDirAt (base trees) [] → AllByRecursion IsWithin s → length s ≤ 4096 → IsDriveRefusal RefusesWithin trees trees s e → e ≡ OutOfMemory
+
+-- calls come to one set at most
+abbrev pub OneBuiltSet : Type 0
+OneBuiltSet = (trees : List PathMap) (calls : List Call) (s t : List Change) → IsSetOf trees s calls → IsSetOf trees t calls → s ≡ t
 
 -- a path is right below another
 pub record IsChild (up p : Path) : Type 0 where

@@ -1,3 +1,4 @@
+pub mod Asked
 pub mod BuildFaults
 pub mod Builders
 pub mod Built

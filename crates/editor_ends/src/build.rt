@@ -44,7 +44,9 @@ pub struct BuiltFile {
 }
 
 impl<'a> Built<'a> {
-    /// The set of changes, which are those of the calls that were shown: a normal set of 4,096 changes at most, with the effect of the calls.
+    /// The set that the calls come to: a normal set of 4,096 changes at most, with the effect of the calls. It has a change of
+    /// each path that they change and of no other, with the action, the kind and the source that they ask for there, and with the
+    /// properties, and the text, that they come to, where they say what these are.
     pub fn set(&self) -> &ChangeSet
         ensures within { result.now ≡ set_within self.now }
         ensures built { (calls : List Call) → is_made_of self.now calls → IsNested calls → IsSetOf (built_over self.now) result.now calls }

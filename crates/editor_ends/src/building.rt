@@ -202,6 +202,7 @@ fn is_next_below(changes: &[Change], at: usize, path: &NodePath) -> bool
 fn place_open(changes: &[Change], path: &NodePath) -> Option<usize>
     ensures found { IfSome result (λ i. i < length changes.now) }
     ensures placed { IfSome result (λ i. IsNormal changes.now → (c : ChangeOf) → slice_get changes.now i ≡ Some c → c.path ≡ path.now) }
+    ensures stands { IfSome result (λ i. IfSome (slice_get changes.now i) (λ c. is_delete c.action ≡ false)) }
     ensures none { result ≡ None → IsNormal changes.now → is_taken changes.now path.now ≡ false }
 {
     match place_of(changes, path) {
@@ -250,7 +251,7 @@ pub fn put_prop(
     name: &PropName,
     value: Option<&[u8]>,
 ) -> Result<(), EditorFault>
-    ensures gives { OnOk result ((trees : List PathMap) → Made trees tree.old changes.old.items → Gives trees tree.old changes.old.items tree.new changes.new.items path.now (with_prop name.now (option_map (λ b. b.now) value.entry))) }
+    ensures gives { OnOk result ((trees : List PathMap) → Made trees tree.old changes.old.items → Gives trees tree.old changes.old.items tree.new changes.new.items path.now (with_prop name.now (option_map (λ b. b.now) value.entry)) giving_props) }
     ensures faultless { OnOk result (put_fault (map.get tree.old) path.now name.now (option_map (λ b. b.now) value.entry) ≡ None) }
     ensures refused { IfErr result (λ e. IsNormal changes.old.items → is_taken changes.old.items path.now ≡ true → IsFaultOr (put_fault (map.get tree.old) path.now name.now (option_map (λ b. b.now) value.entry)) e) }
 {
@@ -293,7 +294,7 @@ pub fn start_text(
     changes: &mut Vec<Change>,
     path: &NodePath,
 ) -> Result<(), EditorFault>
-    ensures gives { OnOk result ((trees : List PathMap) → Made trees tree.old changes.old.items → Gives trees tree.old changes.old.items tree.new changes.new.items path.now (with_given (Some []) None)) }
+    ensures gives { OnOk result ((trees : List PathMap) → Made trees tree.old changes.old.items → Gives trees tree.old changes.old.items tree.new changes.new.items path.now (with_given (Some []) None) giving_text) }
     ensures faultless { OnOk result (text_fault (map.get tree.old) path.now ≡ None) }
     ensures refused { IfErr result (λ e. IsNormal changes.old.items → is_taken changes.old.items path.now ≡ true → IsFaultOr (option_map refused (text_fault (map.get tree.old) path.now)) e) }
 {
@@ -316,7 +317,7 @@ pub fn append_text(
     path: &NodePath,
     piece: &[u8],
 ) -> Result<(), EditorFault>
-    ensures gives { OnOk result ((trees : List PathMap) → Made trees tree.old changes.old.items → Gives trees tree.old changes.old.items tree.new changes.new.items path.now (with_piece piece.now)) }
+    ensures gives { OnOk result ((trees : List PathMap) → Made trees tree.old changes.old.items → Gives trees tree.old changes.old.items tree.new changes.new.items path.now (with_piece piece.now) giving_text) }
     ensures faultless { OnOk result (piece_fault (map.get tree.old) path.now piece.now ≡ None) }
     ensures refused { IfErr result (λ e. IsNormal changes.old.items → is_taken changes.old.items path.now ≡ true → IsFaultOr (option_map refused (piece_fault (map.get tree.old) path.now piece.now)) e) }
 {

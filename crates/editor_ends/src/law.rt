@@ -1,5 +1,6 @@
-//! Laws of the calls that a set is driven as: each function does nothing, and its contract is the law.
-ghost use Rattle.editor_ends.specs.Laws.{DriveForMemoryAlone, DriveGoesDown, DriveHasTheEffect, DriveIsNested, DriveIsTaken, PiecesOfAText};
+//! Laws of the calls that a set is driven as, and of the set that calls come to: each function does nothing, and its contract is
+//! the law.
+ghost use Rattle.editor_ends.specs.Laws.{DriveForMemoryAlone, DriveGoesDown, DriveHasTheEffect, DriveIsNested, DriveIsTaken, OneBuiltSet, PiecesOfAText};
 
 /// Where a set has no fault, the calls that it is driven as have its effect.
 pub fn drive_has_the_effect()
@@ -31,4 +32,9 @@ pub fn drive_goes_down()
 /// The pieces that a text is sent in make the text, and each has a byte at least and 65,536 at most.
 pub fn pieces_of_a_text()
     ensures { PiecesOfAText }
+{}
+
+/// Calls come to one set at most: what an editor that builds a set makes of them is determined.
+pub fn one_built_set()
+    ensures { OneBuiltSet }
 {}

@@ -337,6 +337,7 @@ fn a_set_with_a_fault(rt: HostRuntime) -> Result<(), Fail> {
     law::drive_is_taken();
     law::drive_is_refused_for_memory_alone();
     law::drive_goes_down();
+    law::one_built_set();
     law::pieces_of_a_text();
     Ok(())
 }
