@@ -1,8 +1,7 @@
 -- The states of a job that copies properties again follow what it hears, and what it does there is lawful.
-use Rattle.std.proofs.Common.{◌≡◌, ℕ, ◌+◌, ◌-◌, ◌<◌, ◌≤◌, ◌==◌, nat_lt, nat_le, Bool, true, false, not, List, Option, Some, None, IfSome, is_none, is_some, if◌then◌else◌, refl, sym, ap, ◌∙◌, subst, arith}
+use Rattle.std.proofs.Common.{◌≡◌, ℕ, ◌+◌, ◌-◌, ◌≤◌, ◌==◌, nat_lt, nat_le, Bool, true, false, not, List, Option, Some, None, IfSome, is_none, is_some, if◌then◌else◌, refl, sym, ap, ◌∙◌, subst, arith}
 use Rattle.std.proofs.lemmas.Bool.Decides.{nat_tests}
 use Rattle.node_base.specs.Props.{PropMap}
-use Rattle.dump_load.specs.declared.change.Change.{Change}
 use Rattle.sync_core.specs.declared.copy_job.CopyPhase.{CopyPhase}
 use Rattle.sync_core.specs.declared.copy_job.CopyPhase.TheVariants as phase
 use Rattle.sync_core.specs.declared.copy_job.CopyJob.{CopyJob}
@@ -17,13 +16,13 @@ use Rattle.sync_core.specs.declared.resting.Resting.TheVariants as resting
 use Rattle.sync_core.specs.Names.{Number, Spelt, reaches}
 use Rattle.sync_core.specs.Mirror.{Standing, HasShape, TakeLock, ReleaseLock, PutProps, Look}
 use Rattle.sync_core.specs.Jobs.{Job, Locked, MayPutNumber, locks_with}
-use Rattle.sync_core.specs.Deeds.{Deed, heard, called, IsLawfulDeed, with_fetched}
+use Rattle.sync_core.specs.Deeds.{heard, called, IsLawfulDeed, with_fetched}
 use Rattle.sync_core.specs.Shapes.{shape_in}
 use Rattle.sync_core.specs.Identities.{is_identity}
 use Rattle.sync_core.specs.Endings.{released}
 use Rattle.sync_core.specs.States.{IsAskedFor}
-use Rattle.sync_core.specs.CopyTable.{deed_in, next_deed, give_up, after_lock, looked, after_look, begin, after_who, after_fetch_props, next, after_put, after_in, after}
-use Rattle.sync_core.specs.CopyFollows.{IsCopying, HasMerged, put_before, IsAt, EndsFrom, FollowsIn, FollowsCopy}
+use Rattle.sync_core.specs.CopyTable.{deed_in, next_deed, give_up, after_lock, after_look, begin, after_who, after_fetch_props, after_put, after_in, after}
+use Rattle.sync_core.specs.CopyFollows.{IsCopying, HasMerged, EndsFrom, FollowsIn, FollowsCopy}
 use Rattle.sync_core.proofs.ShapeLemmas.{shape_of_found, itself}
 use Rattle.sync_core.proofs.Gives.{gives_map}
 

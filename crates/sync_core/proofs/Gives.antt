@@ -1,5 +1,5 @@
 -- What was fetched just now is the last that was fetched of its number.
-use Rattle.std.proofs.Common.{◌≡◌, ℕ, ◌==◌, Bool, List, ◌∷◌, Option, Some, None, if◌then◌else◌, refl, ap}
+use Rattle.std.proofs.Common.{ℕ, Bool, List, ◌∷◌, Option, Some, if◌then◌else◌, refl, ap}
 use Rattle.node_base.specs.Props.{PropMap}
 use Rattle.dump_load.specs.declared.change.Change.{Change}
 use Rattle.sync_core.specs.Jobs.{Fetched, GivesSet, GivesMap, last_fetch}

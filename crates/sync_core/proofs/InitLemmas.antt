@@ -1,5 +1,5 @@
 -- An init job's states follow what it hears, and what it does there is lawful.
-use Rattle.std.proofs.Common.{◌≡◌, ℕ, List, Option, Some, None, refl}
+use Rattle.std.proofs.Common.{ℕ, List, None, refl}
 use Rattle.node_base.specs.Props.{PropMap}
 use Rattle.sync_core.specs.declared.init_job.InitPhase.{InitPhase}
 use Rattle.sync_core.specs.declared.init_job.InitPhase.TheVariants as phase
@@ -9,7 +9,7 @@ use Rattle.sync_core.specs.declared.answer.Answer.{Answer}
 use Rattle.sync_core.specs.declared.answer.Answer.TheVariants as answer
 use Rattle.sync_core.specs.Mirror.{Init}
 use Rattle.sync_core.specs.Jobs.{Job}
-use Rattle.sync_core.specs.Deeds.{Deed, heard, called, IsLawfulDeed, with_fetched}
+use Rattle.sync_core.specs.Deeds.{heard, IsLawfulDeed}
 use Rattle.sync_core.specs.States.{IsAskedFor}
 use Rattle.sync_core.specs.InitTable.{deed_in, next_deed, after_who, after_fetch_props, after_init, after_in, after}
 use Rattle.sync_core.specs.InitFollows.{HasBegun, FollowsIn, FollowsInit}

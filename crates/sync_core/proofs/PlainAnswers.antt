@@ -1,5 +1,5 @@
 -- Refusals of a mirror in memory are steps.
-use Rattle.std.proofs.Common.{◌≡◌, ℕ, Bool, List, [], ◌∷◌, Option, Some, None, is_some, if◌then◌else◌, Result, Ok, Err, refl, sym, ap, ◌∙◌, subst}
+use Rattle.std.proofs.Common.{◌≡◌, ℕ, [], ◌∷◌, Option, Some, None, is_some, if◌then◌else◌, refl, sym, ap, ◌∙◌, subst}
 use Rattle.std.specs.Option.{option_map, option_map_or, option_and_then}
 use Rattle.std.specs.FinMap as finite
 use Rattle.node_base.specs.Props.{PropMap}
@@ -15,9 +15,9 @@ use Rattle.sync_core.specs.declared.fault.SyncFault.{SyncFault}
 use Rattle.sync_core.specs.declared.fault.SyncFault.TheVariants as fault
 use Rattle.sync_core.specs.Names.{lock_name}
 use Rattle.sync_core.specs.Faults.{of_repository}
-use Rattle.sync_core.specs.Dues.{IsDue, IsNeedFault, IsNeedAnswer}
-use Rattle.sync_core.specs.Mirror.{Mirror, Call, Need, Refused, Refusal, Missed, OfRepository, IsStep, standing_in, standing_of, unmet, entry_of, refusal, granted, accepted}
-use Rattle.sync_core.specs.Plain.{IsTold, IsRefused, AnswersErr, Answers}
+use Rattle.sync_core.specs.Dues.{IsDue, IsNeedAnswer}
+use Rattle.sync_core.specs.Mirror.{Mirror, Call, Need, Refused, Refusal, Missed, OfRepository, standing_in, standing_of, unmet, entry_of, refusal, granted, accepted}
+use Rattle.sync_core.specs.Plain.{IsTold, IsRefused, AnswersErr}
 
 refuses : (old : Mirror) (seat : ℕ) (call : Call) (why : Refusal) (f : SyncFault) → refusal old seat call ≡ Some why → IsTold (finite.get (props_at old.revisions 0) lock_name) why f → IsRefused old seat call f old
 refuses old seat call why f e t =

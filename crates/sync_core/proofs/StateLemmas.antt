@@ -1,5 +1,5 @@
 -- A job's states follow what it hears, and what it does there is lawful.
-use Rattle.std.proofs.Common.{◌≡◌, ℕ, refl, subst, sym}
+use Rattle.std.proofs.Common.{◌≡◌, ℕ, subst, sym}
 use Rattle.sync_core.specs.declared.state.JobState.{JobState}
 use Rattle.sync_core.specs.declared.state.JobState.TheVariants as state
 use Rattle.sync_core.specs.declared.answer.Answer.{Answer}

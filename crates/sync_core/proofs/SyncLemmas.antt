@@ -1,5 +1,5 @@
 -- A sync job's states follow what it hears, and what it does there is lawful.
-use Rattle.std.proofs.Common.{◌≡◌, ℕ, ◌+◌, ◌<◌, ◌≤◌, ◌==◌, nat_lt, ◌⊎◌, inl, inr, Bool, true, false, List, [], ◌∷◌, Option, Some, None, IfSome, is_none, if◌then◌else◌, refl, sym, ap, ◌∙◌, subst, arith}
+use Rattle.std.proofs.Common.{◌≡◌, ℕ, ◌+◌, ◌<◌, ◌≤◌, nat_lt, ◌⊎◌, inl, inr, Bool, true, false, List, Option, Some, None, IfSome, is_none, if◌then◌else◌, refl, sym, ap, ◌∙◌, subst, arith}
 use Rattle.std.specs.Option.{option_map_or}
 use Rattle.std.proofs.lemmas.Bool.Decides.{nat_tests}
 use Rattle.node_base.specs.Props.{PropMap}
@@ -16,17 +16,17 @@ use Rattle.sync_core.specs.declared.answer.Answer.{Answer}
 use Rattle.sync_core.specs.declared.answer.Answer.TheVariants as answer
 use Rattle.sync_core.specs.declared.resting.Resting.{Resting}
 use Rattle.sync_core.specs.declared.resting.Resting.TheVariants as resting
-use Rattle.sync_core.specs.Names.{Number, Absent, Misspelt, Spelt, Huge, is_absent}
-use Rattle.sync_core.specs.Mirror.{Standing, HasShape, Call, TakeLock, StealLock, ReleaseLock, SetCopying, Commit, PutProps, SetMerged, ClearCopying, Look}
-use Rattle.sync_core.specs.Jobs.{Job, Order, Initialise, Sync, CopyProps, Locked, Fetched, GivesSet, GivesMap, KnowsShape, MayPutNumber, is_sync_order, locks_with}
-use Rattle.sync_core.specs.Deeds.{Deed, heard, called, IsLawfulDeed, with_fetched}
+use Rattle.sync_core.specs.Names.{Number, Absent, Spelt, is_absent}
+use Rattle.sync_core.specs.Mirror.{Standing, HasShape, ReleaseLock, SetCopying, Commit, PutProps, SetMerged, ClearCopying, Look}
+use Rattle.sync_core.specs.Jobs.{Job, Sync, Locked, KnowsShape, MayPutNumber, is_sync_order, locks_with}
+use Rattle.sync_core.specs.Deeds.{heard, called, IsLawfulDeed, with_fetched}
 use Rattle.sync_core.specs.Shapes.{shape_in}
 use Rattle.sync_core.specs.Identities.{is_identity}
 use Rattle.sync_core.specs.Endings.{released}
-use Rattle.sync_core.specs.SyncTable.{next_deed, lock_call, at, give_up, inconsistent, after_lock, seen, looked, after_look, resumed, after_who, next, after_latest, after_set_copying, after_fetch, after_commit, after_fetch_props, after_put, after_merge, cleared, after_clear, after_in, after, deed_in}
+use Rattle.sync_core.specs.SyncTable.{next_deed, lock_call, at, give_up, inconsistent, after_lock, seen, after_look, resumed, after_who, next, after_latest, after_set_copying, after_fetch, after_commit, after_fetch_props, after_put, after_merge, after_clear, after_in, after, deed_in}
 use Rattle.sync_core.specs.declared.state.JobState.TheVariants as state
 use Rattle.sync_core.specs.States.{IsAskedFor}
-use Rattle.sync_core.specs.SyncFollows.{IsSync, Knows, IsIn, IsSynced, EndsFrom, FollowsIn, FollowsSync}
+use Rattle.sync_core.specs.SyncFollows.{IsSync, Knows, IsIn, EndsFrom, FollowsIn, FollowsSync}
 use Rattle.sync_core.proofs.ShapeLemmas.{shape_of_found}
 use Rattle.sync_core.proofs.Gives.{gives_set, gives_map}
 

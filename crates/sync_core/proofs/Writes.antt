@@ -7,7 +7,7 @@ use Rattle.std.proofs.lemmas.Fmt.{decimal_digit, decimal_nonempty, first_decimal
 use Rattle.std.proofs.lemmas.Str.Parse.{IsNumeralModel, numerals_by_fold}
 use Rattle.node_base.specs.Path.{Name, same_name, names_total}
 use Rattle.node_base.specs.Props.{PropMap, is_sync, without_sync, copied_beside}
-use Rattle.node_base.specs.Numbers.{is_digit, all_bytes, number_after, SpellsNumber}
+use Rattle.node_base.specs.Numbers.{is_digit, all_bytes, number_after}
 use Rattle.node_base.specs.Numbers as numbers
 use Rattle.node_base.proofs.PathLemmas.{same_name_itself, name_of_same}
 use Rattle.node_base.proofs.PropLemmas.{get-retained}

@@ -5,7 +5,7 @@ use Rattle.sync_core.specs.declared.copy_job.CopyPhase.TheVariants as phase
 use Rattle.sync_core.specs.declared.copy_job.CopyJob.{CopyJob}
 use Rattle.sync_core.specs.declared.ending.Ending.{Ending}
 use Rattle.sync_core.specs.declared.ending.Ending.TheVariants as ending
-use Rattle.sync_core.specs.Names.{Number, Spelt}
+use Rattle.sync_core.specs.Names.{Spelt}
 use Rattle.sync_core.specs.Jobs.{Job, CopyProps, Begun, Locked, GivesMap}
 
 -- the order of a job that copies properties

@@ -1,5 +1,5 @@
 -- The phases of a job that copies properties again: what it does in each, and where each answer leads.
-use Rattle.std.specs.Prelude.{ℕ, ◌+◌, nat_le, nat_lt, Bool, not, Option, Some, None, is_none, is_some, List, if◌then◌else◌}
+use Rattle.std.specs.Prelude.{ℕ, ◌+◌, nat_le, nat_lt, not, Option, Some, None, is_none, is_some, List, if◌then◌else◌}
 use Rattle.sync_core.specs.declared.copy_job.CopyPhase.{CopyPhase}
 use Rattle.sync_core.specs.declared.copy_job.CopyPhase.TheVariants as phase
 use Rattle.sync_core.specs.declared.copy_job.CopyJob.{CopyJob}

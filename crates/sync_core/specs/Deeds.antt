@@ -1,5 +1,5 @@
 -- What a job does, and what it has when it is answered.
-use Rattle.std.specs.Prelude.{ℕ, List, [], ◌∷◌, Option, Some, None}
+use Rattle.std.specs.Prelude.{ℕ, List, ◌∷◌, Option, Some, None}
 use Rattle.node_base.specs.Props.{PropMap}
 use Rattle.dump_load.specs.declared.change.Change.{Change}
 use Rattle.sync_core.specs.declared.fault.SyncFault.{SyncFault}
@@ -10,7 +10,7 @@ use Rattle.sync_core.specs.declared.answer.Answer.{Answer}
 use Rattle.sync_core.specs.declared.answer.Answer.TheVariants as answer
 use Rattle.sync_core.specs.Mirror.{Call, Done, Seen}
 use Rattle.sync_core.specs.Calls.{call_of}
-use Rattle.sync_core.specs.Jobs.{Job, Fetched, Lawful, answered, refused_to}
+use Rattle.sync_core.specs.Jobs.{Job, Lawful, answered, refused_to}
 
 -- a call of the mirror, a question to the master, or nothing more
 pub data Deed : Type 0 where

@@ -1,5 +1,5 @@
 -- Which refusal is due.
-use Rattle.std.specs.Prelude.{◌≡◌, ℕ, List, [], Option, Some, Result, Ok, Err, unwrap_or}
+use Rattle.std.specs.Prelude.{◌≡◌, ℕ, List, [], Option, Some, unwrap_or}
 use Rattle.std.specs.Option.{option_map}
 use Rattle.repo_core.specs.declared.fault.RepoFault.{RepoFault}
 use Rattle.sync_core.specs.declared.fault.SyncFault.{SyncFault}

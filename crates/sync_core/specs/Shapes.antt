@@ -1,5 +1,5 @@
 -- Which shape numbers have.
-use Rattle.std.specs.Prelude.{ℕ, ◌+◌, ◌&&◌, List, [], ◌∷◌, Option}
+use Rattle.std.specs.Prelude.{ℕ, ◌+◌, ◌&&◌, [], ◌∷◌, Option}
 use Rattle.dump_load.specs.Faults.{fault_if, first_of}
 use Rattle.sync_core.specs.Names.{Number, is_absent, is_number, precedes}
 use Rattle.sync_core.specs.declared.resting.Resting.{Resting}

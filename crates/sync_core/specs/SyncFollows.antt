@@ -1,5 +1,5 @@
 -- What a sync job's state says of what the job has heard.
-use Rattle.std.specs.Prelude.{◌≡◌, ℕ, ◌+◌, ◌<◌, ◌≤◌, ◌⊎◌, Bool, List, Option, Some, None}
+use Rattle.std.specs.Prelude.{◌≡◌, ℕ, ◌+◌, ◌<◌, ◌≤◌, ◌⊎◌, Bool, List, Some}
 use Rattle.sync_core.specs.declared.sync_job.Known.{Known}
 use Rattle.sync_core.specs.declared.sync_job.SyncPhase.{SyncPhase}
 use Rattle.sync_core.specs.declared.sync_job.SyncPhase.TheVariants as phase
@@ -8,9 +8,8 @@ use Rattle.sync_core.specs.declared.ending.Ending.{Ending}
 use Rattle.sync_core.specs.declared.ending.Ending.TheVariants as ending
 use Rattle.sync_core.specs.declared.resting.Resting.{Resting}
 use Rattle.sync_core.specs.declared.resting.Resting.TheVariants as resting
-use Rattle.sync_core.specs.Names.{Number}
 use Rattle.sync_core.specs.Mirror.{HasShape}
-use Rattle.sync_core.specs.Jobs.{Job, Sync, Begun, Locked, Over, GivesSet, GivesMap}
+use Rattle.sync_core.specs.Jobs.{Job, Sync, Begun, Locked, GivesSet, GivesMap}
 
 -- a sync job's order
 pub record IsSync (job : Job) : Type 0 where

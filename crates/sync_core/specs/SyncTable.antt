@@ -13,7 +13,7 @@ use Rattle.sync_core.specs.declared.answer.Answer.{Answer}
 use Rattle.sync_core.specs.declared.answer.Answer.TheVariants as answer
 use Rattle.sync_core.specs.declared.resting.Resting.{Resting}
 use Rattle.sync_core.specs.declared.resting.Resting.TheVariants as resting
-use Rattle.sync_core.specs.Names.{Number, Absent, Spelt, is_absent}
+use Rattle.sync_core.specs.Names.{Absent, Spelt, is_absent}
 use Rattle.sync_core.specs.Mirror.{Standing, Call, TakeLock, StealLock, ReleaseLock, SetCopying, Commit, PutProps, SetMerged, ClearCopying, Look}
 use Rattle.sync_core.specs.Deeds.{Deed, Calls, AsksIdentity, AsksLatest, Fetches, FetchesProps, Ends, fault_in}
 use Rattle.sync_core.specs.Shapes.{shape_in}

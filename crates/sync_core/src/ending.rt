@@ -1,5 +1,6 @@
 //! How a job ends.
 ghost use Rattle.std.specs.Prelude.{◌≡◌};
+ghost use Rattle.sync_core.specs.declared.ending.Ending.TheVariants.{Fine};
 ghost use Rattle.sync_core.specs.Endings.{released};
 
 use crate::answer::Answer;
@@ -20,11 +21,18 @@ impl Ending {
         ensures { result ≡ released self answer }
     {
         match self {
-            Ending::Fine => match answer {
-                Answer::Done => Ending::Fine,
-                other => Ending::Refused(other.fault()),
-            },
+            Ending::Fine => ended(answer),
             Ending::Refused(fault) => Ending::Refused(fault),
         }
+    }
+}
+
+// How a job ends whose last call is answered so.
+fn ended(answer: Answer) -> Ending
+    ensures { result ≡ released Fine answer }
+{
+    match answer {
+        Answer::Done => Ending::Fine,
+        other => Ending::Refused(other.fault()),
     }
 }

@@ -1,12 +1,14 @@
 //! The entry that a call writes.
-ghost use Rattle.std.specs.Prelude.{◌≡◌, ◌<◌, length, IfOk, IfErr};
+ghost use Rattle.std.specs.Prelude.{◌≡◌, ◌<◌, length, Option, Some, IfOk, IfErr};
 ghost use Rattle.std.specs.Option.{option_and_then};
 ghost use Rattle.std.specs.FinMap as finite;
 ghost use Rattle.std.specs.Fmt as fmt;
-ghost use Rattle.node_base.specs.Props.{copied_beside};
+ghost use Rattle.node_base.specs.Props.{copied_beside, without_sync};
 ghost use Rattle.repo_core.specs.Repository.{props_at};
 ghost use Rattle.repo_core.specs.Refusals.{by_repository, limit_fault};
+ghost use Rattle.repo_core.specs.declared.entry.Entry.{Entry};
 ghost use Rattle.repo_core.specs.declared.entry.Entry.TheVariants.{Revised, Mapped};
+ghost use Rattle.repo_core.specs.declared.fault.RepoFault.{RepoFault};
 ghost use Rattle.sync_core.specs.Names.{url_name, uuid_name, merged_name, copying_name, lock_name};
 ghost use Rattle.sync_core.specs.Mirror.{entry_of, first_map};
 ghost use Rattle.sync_core.specs.Calls.{call_of};
@@ -17,6 +19,7 @@ use crate::call::MirrorCall;
 use crate::fault::SyncFault;
 use crate::properties::{copying_name, lock_name, merged_name, url_name, uuid_name};
 use crate::token::Token;
+use dump_load::ChangeSet;
 use node_base::{PropFault, PropName, PropValue, Props, Refusal, RevNo};
 use repo_core::{Entry, Repo};
 use std::alloc::Global;
@@ -34,28 +37,30 @@ pub fn entry_of(
     ensures entry { IfOk result (λ e. e ≡ entry_of repo.now.revisions (call_of call.now)) }
     ensures refused { IfErr result (λ f. IsDue f (option_and_then (by_repository repo.now.revisions) (entry_of repo.now.revisions (call_of call.now)))) }
 {
-    let own = own_of(repo);
     match call {
-        MirrorCall::Init { url, uuid, props } => { Ok(Some(init_entry(alloc, url, uuid, props)?)) }
-        MirrorCall::TakeLock(token) => Ok(Some(lock_entry(alloc, own, token)?)),
-        MirrorCall::StealLock(token) => Ok(Some(lock_entry(alloc, own, token)?)),
-        MirrorCall::ReleaseLock => Ok(Some(release_entry(alloc, own)?)),
-        MirrorCall::SetCopying(number) => Ok(Some(copying_entry(alloc, own, *number)?)),
+        MirrorCall::Init { url, uuid, props } => written(init_entry(alloc, url, uuid, props)),
+        MirrorCall::TakeLock(token) => written(lock_entry(alloc, repo, token)),
+        MirrorCall::StealLock(token) => written(lock_entry(alloc, repo, token)),
+        MirrorCall::ReleaseLock => written(release_entry(alloc, repo)),
+        MirrorCall::SetCopying(number) => written(copying_entry(alloc, repo, *number)),
         MirrorCall::Commit { number, set, props } => {
-            let set = set.share(alloc)?;
-            let props = props.without_sync(alloc)?;
-            Ok(Some(Entry::Revised {
-                number: *number,
-                set,
-                props,
-            }))
+            written(commit_entry(alloc, *number, set, props))
         }
-        MirrorCall::PutProps { number, props } => {
-            Ok(Some(props_entry(alloc, repo, *number, props)?))
-        }
-        MirrorCall::SetMerged(number) => Ok(Some(merged_entry(alloc, own, *number)?)),
-        MirrorCall::ClearCopying => Ok(Some(clear_entry(alloc, own)?)),
+        MirrorCall::PutProps { number, props } => written(props_entry(alloc, repo, *number, props)),
+        MirrorCall::SetMerged(number) => written(merged_entry(alloc, repo, *number)),
+        MirrorCall::ClearCopying => written(clear_entry(alloc, repo)),
         MirrorCall::Look => Ok(None),
+    }
+}
+
+// The answer of a call that writes an entry.
+fn written(entry: Result<Entry, SyncFault>) -> Result<Option<Entry>, SyncFault>
+    ensures entry { (due : Entry) → IfOk entry (λ e. e ≡ due) → IfOk result (λ e. e ≡ Some due) }
+    ensures refused { (due : Option RepoFault) → IfErr entry (λ f. IsDue f due) → IfErr result (λ f. IsDue f due) }
+{
+    match entry {
+        Ok(entry) => Ok(Some(entry)),
+        Err(fault) => Err(fault),
     }
 }
 
@@ -71,39 +76,54 @@ pub fn own_of(repo: &Repo) -> &Props
     }
 }
 
-fn lock_entry(alloc: Global, own: &Props, token: &Token) -> Result<Entry, SyncFault>
-    ensures entry { IfOk result (λ e. e ≡ Mapped 0 (finite.insert own.now lock_name token.now)) }
-    ensures refused { IfErr result (λ f. IsDue f (limit_fault (finite.insert own.now lock_name token.now))) }
+fn lock_entry(alloc: Global, repo: &Repo, token: &Token) -> Result<Entry, SyncFault>
+    ensures entry { IfOk result (λ e. e ≡ Mapped 0 (finite.insert (props_at repo.now.revisions 0) lock_name token.now)) }
+    ensures refused { IfErr result (λ f. IsDue f (by_repository repo.now.revisions (Mapped 0 (finite.insert (props_at repo.now.revisions 0) lock_name token.now)))) }
 {
-    put_entry(alloc, own, lock_name(), token.value(alloc)?)
+    put_entry(alloc, repo, lock_name(), token.value(alloc)?)
 }
 
-fn release_entry(alloc: Global, own: &Props) -> Result<Entry, SyncFault>
-    ensures entry { IfOk result (λ e. e ≡ Mapped 0 (finite.remove own.now lock_name)) }
+fn release_entry(alloc: Global, repo: &Repo) -> Result<Entry, SyncFault>
+    ensures entry { IfOk result (λ e. e ≡ Mapped 0 (finite.remove (props_at repo.now.revisions 0) lock_name)) }
     ensures refused { IfErr result (λ f. f ≡ OutOfMemory) }
 {
-    removal_entry(alloc, own, lock_name())
+    removal_entry(alloc, repo, lock_name())
 }
 
-fn copying_entry(alloc: Global, own: &Props, number: RevNo) -> Result<Entry, SyncFault>
-    ensures entry { IfOk result (λ e. e ≡ Mapped 0 (finite.insert own.now copying_name (fmt.decimal number))) }
-    ensures refused { IfErr result (λ f. IsDue f (limit_fault (finite.insert own.now copying_name (fmt.decimal number)))) }
+fn copying_entry(alloc: Global, repo: &Repo, number: RevNo) -> Result<Entry, SyncFault>
+    ensures entry { IfOk result (λ e. e ≡ Mapped 0 (finite.insert (props_at repo.now.revisions 0) copying_name (fmt.decimal number))) }
+    ensures refused { IfErr result (λ f. IsDue f (by_repository repo.now.revisions (Mapped 0 (finite.insert (props_at repo.now.revisions 0) copying_name (fmt.decimal number))))) }
 {
-    put_entry(alloc, own, copying_name(), decimal(alloc, number)?)
+    put_entry(alloc, repo, copying_name(), decimal(alloc, number)?)
 }
 
-fn clear_entry(alloc: Global, own: &Props) -> Result<Entry, SyncFault>
-    ensures entry { IfOk result (λ e. e ≡ Mapped 0 (finite.remove own.now copying_name)) }
+fn clear_entry(alloc: Global, repo: &Repo) -> Result<Entry, SyncFault>
+    ensures entry { IfOk result (λ e. e ≡ Mapped 0 (finite.remove (props_at repo.now.revisions 0) copying_name)) }
     ensures refused { IfErr result (λ f. f ≡ OutOfMemory) }
 {
-    removal_entry(alloc, own, copying_name())
+    removal_entry(alloc, repo, copying_name())
 }
 
-fn merged_entry(alloc: Global, own: &Props, number: RevNo) -> Result<Entry, SyncFault>
-    ensures entry { IfOk result (λ e. e ≡ Mapped 0 (finite.insert own.now merged_name (fmt.decimal number))) }
-    ensures refused { IfErr result (λ f. IsDue f (limit_fault (finite.insert own.now merged_name (fmt.decimal number)))) }
+fn merged_entry(alloc: Global, repo: &Repo, number: RevNo) -> Result<Entry, SyncFault>
+    ensures entry { IfOk result (λ e. e ≡ Mapped 0 (finite.insert (props_at repo.now.revisions 0) merged_name (fmt.decimal number))) }
+    ensures refused { IfErr result (λ f. IsDue f (by_repository repo.now.revisions (Mapped 0 (finite.insert (props_at repo.now.revisions 0) merged_name (fmt.decimal number))))) }
 {
-    put_entry(alloc, own, merged_name(), decimal(alloc, number)?)
+    put_entry(alloc, repo, merged_name(), decimal(alloc, number)?)
+}
+
+// A revision with the copied properties.
+fn commit_entry(
+    alloc: Global,
+    number: RevNo,
+    set: &ChangeSet,
+    props: &Props,
+) -> Result<Entry, SyncFault>
+    ensures entry { IfOk result (λ e. e ≡ Revised number set.now (without_sync props.now)) }
+    ensures memory { IfErr result (λ f. f ≡ OutOfMemory) }
+{
+    let set = set.share(alloc)?;
+    let props = props.without_sync(alloc)?;
+    Ok(Entry::Revised { number, set, props })
 }
 
 // The copied properties, where they come from, and that no more is merged than revision 0. They are within the limits: of the
@@ -172,20 +192,21 @@ fn props_entry(alloc: Global, repo: &Repo, number: RevNo, props: &Props) -> Resu
 }
 
 // Revision 0's map with a value at a name.
-fn put_entry(alloc: Global, own: &Props, name: &[u8], value: PropValue) -> Result<Entry, SyncFault>
-    ensures entry { IfOk result (λ e. e ≡ Mapped 0 (finite.insert own.now name.now value)) }
-    ensures refused { IfErr result (λ f. IsDue f (limit_fault (finite.insert own.now name.now value))) }
+fn put_entry(alloc: Global, repo: &Repo, name: &[u8], value: PropValue) -> Result<Entry, SyncFault>
+    ensures entry { IfOk result (λ e. e ≡ Mapped 0 (finite.insert (props_at repo.now.revisions 0) name.now value)) }
+    ensures refused { IfErr result (λ f. IsDue f (by_repository repo.now.revisions (Mapped 0 (finite.insert (props_at repo.now.revisions 0) name.now value)))) }
 {
-    let props = with_value(alloc, own.share()?, name, value)?;
+    let own = own_of(repo).share()?;
+    let props = with_value(alloc, own, name, value)?;
     Ok(of_zero(props))
 }
 
 // Revision 0's map without a name.
-fn removal_entry(alloc: Global, own: &Props, name: &[u8]) -> Result<Entry, SyncFault>
-    ensures entry { IfOk result (λ e. e ≡ Mapped 0 (finite.remove own.now name.now)) }
+fn removal_entry(alloc: Global, repo: &Repo, name: &[u8]) -> Result<Entry, SyncFault>
+    ensures entry { IfOk result (λ e. e ≡ Mapped 0 (finite.remove (props_at repo.now.revisions 0) name.now)) }
     ensures refused { IfErr result (λ f. f ≡ OutOfMemory) }
 {
-    let mut props = own.share()?;
+    let mut props = own_of(repo).share()?;
     props.remove(alloc, name)?;
     Ok(of_zero(props))
 }

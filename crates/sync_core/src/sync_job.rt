@@ -1,6 +1,6 @@
 //! The job that brings a mirror up to its master.
-ghost use Rattle.std.specs.Prelude.{◌≡◌, ◌+◌, ◌<◌, ◌≤◌, IfSome, MatchOption};
-ghost use Rattle.sync_core.specs.Jobs.{Job, Sync, begun};
+ghost use Rattle.std.specs.Prelude.{◌≡◌, ◌+◌, ◌<◌};
+ghost use Rattle.sync_core.specs.Jobs.{Sync, begun};
 ghost use Rattle.sync_core.specs.Calls.{call_of};
 ghost use Rattle.sync_core.specs.Deeds.{deed_of};
 ghost use Rattle.sync_core.specs.SyncTable as table;
