@@ -1,6 +1,6 @@
 -- The commit of a directory: what is due, with a message past its limit too.
-use Rattle.std.proofs.Common.{◌≡◌, ℕ, ◌<◌, ◌⊎◌, Bool, true, false, cond, not, ◌&&◌, nat_le, nat_lt, List, [], ◌∷◌, length, Result, Ok, Err, Option, Some, None, is_none, is_some, refl, sym, ap, subst, ◌∙◌, arith, inl, inr, codes}
-use Rattle.std.proofs.lemmas.Bool.{true≢false, false≢true}
+use Rattle.std.proofs.Common.{◌≡◌, ℕ, ◌<◌, ◌+◌, ◌^◌, ◌⊎◌, ◌↔◌, Bool, true, false, cond, not, ◌&&◌, nat_le, nat_lt, List, [], ◌∷◌, length, Result, Ok, Err, Option, Some, None, is_some, refl, sym, ap, subst, ◌∙◌, arith, inl, inr, codes}
+use Rattle.std.proofs.lemmas.Bool.{true≢false}
 use Rattle.std.specs.Bool.{if◌then◌else◌}
 use Rattle.std.specs.Option.{option_map}
 use Rattle.std.specs.Result.{OnOk, OnErr, IfErr}
@@ -16,10 +16,8 @@ use Rattle.node_base.specs.Props.{PropMap, props_fit}
 use Rattle.node_base.specs.declared.refusal.Refusal.{Refusal}
 use Rattle.node_base.specs.declared.refusal.Refusal.TheVariants as refusal
 use Rattle.node_base.specs.declared.fault.PathFault.{PathFault}
-use Rattle.node_base.proofs.PathLemmas.{same_name_itself}
 use Rattle.dump_load.specs.Faults.{fault_if, first_of, fault, refused}
 use Rattle.dump_load.specs.declared.change.Change.{Change}
-use Rattle.gate_log.specs.declared.fault.LogFault.{LogFault}
 use Rattle.repo_core.specs.Dates.{dated, date_name, date_text}
 use Rattle.repo_core.specs.Repository.{Repository, Revision, trees_of, head_of}
 use Rattle.repo_core.specs.Entries.{with_entry_in}
@@ -28,11 +26,20 @@ use Rattle.repo_core.specs.declared.entry.Entry.TheVariants.{Revised}
 use Rattle.repo_core.specs.declared.fault.RepoFault.{RepoFault}
 use Rattle.repo_core.specs.declared.fault.RepoFault.TheVariants as core
 use Rattle.repo_store.specs.Forms.{form_fault}
-use Rattle.repo_store.specs.Refusals.{IsReserveFault, IsStageFault}
+use Rattle.repo_store.specs.Refusals.{IsStageFault}
 use Rattle.repo_store.specs.declared.fault.StoreFault.{StoreFault}
 use Rattle.repo_store.specs.declared.fault.StoreFault.TheVariants.{Repo, Log}
-use Rattle.store_engines.specs.Commits.{committed_line, directory_entry, directory_fault, directory_set, fault_there, logged, IsCommitted, NotCommitted, commit_refused, commit_stops, commit_unsaid}
-use Rattle.store_engines.specs.Loads.{entry_fault, IsStop}
+use Rattle.store_engines.specs.Commits.{committed_line, directory_entry, directory_fault, directory_set, fault_there, logged, IsCommitted, NotCommitted, bare_entry, commit_refused, commit_stops, commit_not_kept, commit_unsaid}
+use Rattle.fleet_disk.specs.declared.disk.Disk.{Ghosts}
+use Rattle.repo_store.specs.Words.{log_of, repository_of, revisions_of, HasFailed}
+use Rattle.repo_store.specs.declared.store.RepoStore.{RepoStore}
+use Rattle.repo_store.specs.Journal.{spelling}
+use Rattle.gate_log.specs.Log.{size_of, ends_of}
+use Rattle.gate_log.specs.Standing.{last_end}
+use Rattle.gate_log.specs.declared.fault.LogFault.TheVariants as log
+use Rattle.repo_core.specs.declared.entry.Entry.{Entry}
+use Rattle.store_engines.specs.Devices.{CantKeep, failed_before, no_room}
+use Rattle.store_engines.specs.Loads.{entry_fault}
 use Rattle.store_engines.specs.Mirrors.{is_mirror}
 use Rattle.store_engines.specs.Refusals.{log_refusal, path_refusal, repo_refusal, store_refusal}
 
@@ -123,23 +130,27 @@ long_all x path message moment m h due =
     ap (λ l. Due b n d l None) (long_message message moment h)
     ∙ all_else b n d (limit_fault m) due
 
-reserve_stop : (f : LogFault) → IsReserveFault f → IsStop (log_refusal f)
-reserve_stop f (inl e) = inr (inr (inl (ap log_refusal e)))
-reserve_stop f (inr (inl e)) = inr (inr (inr (ap log_refusal e)))
-reserve_stop f (inr (inr e)) = inl (ap log_refusal e)
-
 abbrev LongDue : List Revision → List Change → DateTime → Refusal → Type 0
 LongDue x set moment e = (path : Path) (message : List ℕ) → set ≡ directory_set path → 65536 < length message → option_map repo_refusal (entry_fault x (directory_entry x path message moment)) ≡ Some e
 
+abbrev BareUnkept : {D : Type 0} {G : Ghosts D} → RepoStore D G → List Revision → List Change → DateTime → Refusal → Type 0
+BareUnkept store x set moment e = (path : Path) → set ≡ directory_set path → CantKeep store (bare_entry x path moment) e
+
 -- with another message the set is refused
-pub refused_long : (x : List Revision) (base : ℕ) (set : List Change) (moment : DateTime) (m : PropMap) (e : StoreFault) → base ≡ head_of x → ((f : RepoFault) → e ≡ Repo f → IsDue f (due_with x base set m)) → IsStageFault e
-    → IsStop (store_refusal e) ⊎ LongDue x set moment (store_refusal e)
-refused_long x base set moment m (Log f) b h s = inl (reserve_stop f s)
-refused_long x base set moment m (Repo f) b h s =
+pub refused_long : {D : Type 0} {G : Ghosts D} (a b : RepoStore D G) (x : List Revision) (base : ℕ) (set : List Change) (moment : DateTime) (m : PropMap) (e : StoreFault) → m ≡ dated map.empty (Some moment) → base ≡ head_of x → ((f : RepoFault) → e ≡ Repo f → IsDue f (due_with x base set m)) → IsStageFault e
+    → ends_of (log_of b) ≡ ends_of (log_of a) → HasFailed b ↔ HasFailed a → (e ≡ Log log.Failed → HasFailed a) → (e ≡ Log log.LogFull → 2 ^ 56 < size_of (log_of a) + length (spelling (Revised (length x) set m)))
+    → (store_refusal e ≡ refusal.OutOfMemory) ⊎ BareUnkept b x set moment (store_refusal e) ⊎ LongDue x set moment (store_refusal e)
+refused_long a b x base set moment m (Log f) bare k h (inl d) ends works failed full = inr (inl (λ path same. failed_before (ap log_refusal d) (works.1 (failed (ap Log d)))))
+refused_long a b x base set moment m (Log f) bare k h (inr (inl d)) ends works failed full =
+    inr (inl (λ path same. no_room (ap log_refusal d)
+    (subst (λ (v : Entry). 2 ^ 56 < size_of (log_of b) + length (spelling v)) (ap (λ t. Revised (length x) t m) same ∙ ap (λ p. Revised (length x) (directory_set path) p) bare)
+    (subst (λ l. 2 ^ 56 < last_end 0 l + length (spelling (Revised (length x) set m))) (sym ends) (full (ap Log d))))))
+refused_long a b x base set moment m (Log f) bare k h (inr (inr d)) ends works failed full = inl (ap log_refusal d)
+refused_long a b x base set moment m (Repo f) bare k h s ends works failed full =
     elim (is_due f _ (h f refl)) [
-      | inl o ↦ inl (inl (ap repo_refusal o))
-      | inr d ↦ inr (λ path message same long. ap (option_map repo_refusal) (long_due x path message moment m f long
-          (subst (λ t. due_with x (head_of x) t m ≡ Some f) same (subst (λ k. due_with x k set m ≡ Some f) b d))))
+      | inl o ↦ inl (ap repo_refusal o)
+      | inr d ↦ inr (inr (λ path message same long. ap (option_map repo_refusal) (long_due x path message moment m f long
+          (subst (λ t. due_with x (head_of x) t m ≡ Some f) same (subst (λ v. due_with x v set m ≡ Some f) k d)))))
     ]
 
 -- with another message it would be taken
@@ -155,34 +166,36 @@ fault_is x bytes message moment path m r =
     ap (λ b. if b then Some refusal.ReadOnly else fault_there x message moment (path_read bytes)) m ∙ ap (fault_there x message moment) r
 
 -- a mirror
-pub mirror_refused : (x : Repository) (bytes message : List ℕ) (moment : DateTime) (before : Option (List ℕ)) (failed : Bool) (e : Refusal) → (e ≡ refusal.ReadOnly) × (is_mirror x.revisions ≡ true) → NotCommitted x bytes message moment x before before failed e
+pub mirror_refused : {D : Type 0} {G : Ghosts D} (x : RepoStore D G) (bytes message : List ℕ) (moment : DateTime) (before : Option (List ℕ)) (failed : Bool) (e : Refusal) → (e ≡ refusal.ReadOnly) × (is_mirror (revisions_of x) ≡ true) → NotCommitted (repository_of x) bytes message moment x before before failed e
 mirror_refused x bytes message moment before failed e (d, m) =
-    commit_refused (ap (λ b. if b then Some refusal.ReadOnly else fault_there x.revisions message moment (path_read bytes)) m ∙ ap Some (sym d)) refl refl
+    commit_refused (ap (λ b. if b then Some refusal.ReadOnly else fault_there (revisions_of x) message moment (path_read bytes)) m ∙ ap Some (sym d)) refl refl
 
 -- bytes that are no path
-pub path_refused : (x : Repository) (bytes message : List ℕ) (moment : DateTime) (before : Option (List ℕ)) (failed : Bool) (e : Refusal) → is_mirror x.revisions ≡ false → (e ≡ refusal.OutOfMemory) ⊎ ((f : PathFault) × (path_read bytes ≡ Err f) × (e ≡ path_refusal f))
-    → NotCommitted x bytes message moment x before before failed e
-path_refused x bytes message moment before failed e m (inl d) = commit_stops (inl d) refl refl
+pub path_refused : {D : Type 0} {G : Ghosts D} (x : RepoStore D G) (bytes message : List ℕ) (moment : DateTime) (before : Option (List ℕ)) (failed : Bool) (e : Refusal) → is_mirror (revisions_of x) ≡ false → (e ≡ refusal.OutOfMemory) ⊎ ((f : PathFault) × (path_read bytes ≡ Err f) × (e ≡ path_refusal f))
+    → NotCommitted (repository_of x) bytes message moment x before before failed e
+path_refused x bytes message moment before failed e m (inl d) = commit_stops d refl refl
 path_refused x bytes message moment before failed e m (inr (f, r, d)) =
     commit_refused
-    (ap (λ b. if b then Some refusal.ReadOnly else fault_there x.revisions message moment (path_read bytes)) m ∙ ap (fault_there x.revisions message moment) r ∙ ap Some (sym d))
+    (ap (λ b. if b then Some refusal.ReadOnly else fault_there (revisions_of x) message moment (path_read bytes)) m ∙ ap (fault_there (revisions_of x) message moment) r ∙ ap Some (sym d))
     refl refl
 
 -- a message past its limit
-pub message_refused : (x y : Repository) (bytes message : List ℕ) (moment : DateTime) (path : Path) (set : List Change) (before : Option (List ℕ)) (failed : Bool) (e : Refusal) → y ≡ x → set ≡ directory_set path → 65536 < length message
-    → IsStop e ⊎ LongDue x.revisions set moment e → is_mirror x.revisions ≡ false → path_read bytes ≡ Ok path → NotCommitted x bytes message moment y before before failed e
+pub message_refused : {D : Type 0} {G : Ghosts D} (x : Repository) (y : RepoStore D G) (bytes message : List ℕ) (moment : DateTime) (path : Path) (set : List Change) (before : Option (List ℕ)) (failed : Bool) (e : Refusal) → repository_of y ≡ x → set ≡ directory_set path → 65536 < length message
+    → (e ≡ refusal.OutOfMemory) ⊎ BareUnkept y x.revisions set moment e ⊎ LongDue x.revisions set moment e → is_mirror x.revisions ≡ false → path_read bytes ≡ Ok path → NotCommitted x bytes message moment y before before failed e
 message_refused x y bytes message moment path set before failed e same is long (inl s) m r = commit_stops s same refl
-message_refused x y bytes message moment path set before failed e same is long (inr d) m r =
+message_refused x y bytes message moment path set before failed e same is long (inr (inl k)) m r = commit_not_kept path (bare_entry x.revisions path moment) r (inr (long, refl)) (k path is) same refl
+message_refused x y bytes message moment path set before failed e same is long (inr (inr d)) m r =
     commit_refused (fault_is x.revisions bytes message moment path m r ∙ d path message is long) same refl
 
 -- what a commit of the entry answers, and what is said then
-pub not_committed : (x y : Repository) (bytes message : List ℕ) (moment : DateTime) (path : Path) (before : Option (List ℕ)) (failed : Bool) (e : Refusal) → y ≡ x
-    → IsStop e ⊎ ((f : RepoFault) × IsDue f (entry_fault x.revisions (directory_entry x.revisions path message moment)) × (e ≡ repo_refusal f)) → is_mirror x.revisions ≡ false → path_read bytes ≡ Ok path
+pub not_committed : {D : Type 0} {G : Ghosts D} (x : Repository) (y : RepoStore D G) (bytes message : List ℕ) (moment : DateTime) (path : Path) (before : Option (List ℕ)) (failed : Bool) (e : Refusal) → repository_of y ≡ x
+    → (e ≡ refusal.OutOfMemory) ⊎ CantKeep y (directory_entry x.revisions path message moment) e ⊎ ((f : RepoFault) × IsDue f (entry_fault x.revisions (directory_entry x.revisions path message moment)) × (e ≡ repo_refusal f)) → is_mirror x.revisions ≡ false → path_read bytes ≡ Ok path
     → NotCommitted x bytes message moment y before before failed e
 not_committed x y bytes message moment path before failed e same (inl s) m r = commit_stops s same refl
-not_committed x y bytes message moment path before failed e same (inr (f, due, d)) m r =
+not_committed x y bytes message moment path before failed e same (inr (inl k)) m r = commit_not_kept path (directory_entry x.revisions path message moment) r (inl refl) k same refl
+not_committed x y bytes message moment path before failed e same (inr (inr (f, due, d))) m r =
     elim (is_due f _ due) [
-      | inl o ↦ commit_stops (inl (d ∙ ap repo_refusal o)) same refl
+      | inl o ↦ commit_stops (d ∙ ap repo_refusal o) same refl
       | inr k ↦ commit_refused (fault_is x.revisions bytes message moment path m r ∙ ap (option_map repo_refusal) k ∙ ap Some (sym d)) same refl
     ]
 
@@ -198,12 +211,12 @@ committed x y message moment path before now line (Ok u) none made is w = λ byt
 }
 committed x y message moment path before now line (Err e) none made is w = tt
 
-pub unsaid : (x y : Repository) (message : List ℕ) (moment : DateTime) (path : Path) (before now : Option (List ℕ)) (failed : Bool) (answer : Result (Unit {0}) Refusal) → entry_fault x.revisions (directory_entry x.revisions path message moment) ≡ None
-    → y ≡ with_entry_in x (directory_entry x.revisions path message moment) → OnErr answer (failed ≡ true)
+pub unsaid : {D : Type 0} {G : Ghosts D} (x : Repository) (y : RepoStore D G) (message : List ℕ) (moment : DateTime) (path : Path) (before now : Option (List ℕ)) (failed : Bool) (answer : Result (Unit {0}) Refusal) → entry_fault x.revisions (directory_entry x.revisions path message moment) ≡ None
+    → repository_of y ≡ with_entry_in x (directory_entry x.revisions path message moment) → OnErr answer (failed ≡ true) → IfErr answer (λ e. e ≡ refusal.PeerFailed)
     → IfErr answer (λ e. (bytes : List ℕ) → is_mirror x.revisions ≡ false → path_read bytes ≡ Ok path → NotCommitted x bytes message moment y before now failed e)
-unsaid x y message moment path before now failed (Ok u) none made f = tt
-unsaid x y message moment path before now failed (Err e) none made f =
-    λ bytes m r. commit_unsaid path r (fault_is x.revisions bytes message moment path m r ∙ ap (option_map repo_refusal) none) made f
+unsaid x y message moment path before now failed (Ok u) none made f p = tt
+unsaid x y message moment path before now failed (Err e) none made f p =
+    λ bytes m r. commit_unsaid path r (fault_is x.revisions bytes message moment path m r ∙ ap (option_map repo_refusal) none) made f p
 
 -- the entry that is committed
 pub entry_is : (x : List Revision) (path : Path) (message : List ℕ) (moment : DateTime) (set : List Change) (props : PropMap) → set ≡ directory_set path → props ≡ logged message → Revised (length x) set (dated props (Some moment)) ≡ directory_entry x path message moment

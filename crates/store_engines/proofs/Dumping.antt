@@ -1,6 +1,6 @@
 -- Revisions written one after another.
-use Rattle.std.proofs.Common.{◌≡◌, ℕ, zero, suc, ◌<◌, ◌≤◌, ◌+◌, ◌-◌, ◌⊎◌, Bool, true, List, [], ◌∷◌, ◌++◌, length, Option, Some, None, Result, Ok, Err, refl, sym, ap, subst, ◌∙◌, append_assoc, append-nil, arith, slice_get, inl, inr}
-use Rattle.std.proofs.KnownBytes.{Appends-nil, Appends-trans}
+use Rattle.std.proofs.Common.{◌≡◌, ℕ, zero, suc, ◌<◌, ◌≤◌, ◌+◌, ◌-◌, ◌⊎◌, Bool, true, List, [], ◌∷◌, ◌++◌, length, Option, Some, Result, Ok, Err, sym, ap, subst, ◌∙◌, append-nil, arith, inl, inr}
+use Rattle.std.proofs.KnownBytes.{Appends-trans}
 use Rattle.std.specs.List.{flat_map, range_with_len}
 use Rattle.std.specs.Io.KnownBytes.{Appends}
 use Rattle.std.specs.Result.{OnOk, IfErr}
@@ -14,7 +14,7 @@ use Rattle.repo_store.specs.declared.fault.StoreFault.{StoreFault}
 use Rattle.repo_store.specs.declared.fault.StoreFault.TheVariants.{Repo, Log}
 use Rattle.gate_log.specs.declared.fault.LogFault.TheVariants as log
 use Rattle.std.proofs.lemmas.Grind.{flat_map-append}
-use Rattle.store_engines.specs.Dumps.{dump_text, revision_now, revisions_text, DumpStops, no_memory, writer_fails}
+use Rattle.store_engines.specs.Dumps.{dump_of, revision_now, revisions_text, DumpStops, no_memory, writer_fails}
 use Rattle.store_engines.specs.Ranges.{first_wanted, last_wanted, count_wanted}
 use Rattle.store_engines.specs.declared.range.RevRange.{RevRange}
 use Rattle.store_engines.specs.Refusals.{store_refusal}
@@ -50,22 +50,22 @@ unexported e n count h (inr p) = ap store_refusal p
 
 -- a head, and the revisions behind it
 whole : (r : Repository) (range : Option RevRange) (id : List ℕ) (first written : ℕ) (a b d : Option (List ℕ)) → id ≡ r.identity → first ≡ first_wanted range → Appends a b (canon_head (Some id)) → Appends b d (revisions_text r first written)
-    → Appends a d (dump_text r (first_wanted range) written)
+    → Appends a d (dump_of r (first_wanted range) written)
 whole r range id first written a b d same from p q =
     subst (Appends a d)
     (ap (λ i. canon_head (Some i) ++ revisions_text r first written) same ∙ ap (λ k. canon_head (Some r.identity) ++ revisions_text r k written) from)
     (Appends-trans a b d (canon_head (Some id)) (revisions_text r first written) p q)
 
 pub dumped : (r : Repository) (range : Option RevRange) (id : List ℕ) (first last : ℕ) (a b d : Option (List ℕ)) (answer : Result (Unit {0}) Refusal) → id ≡ r.identity → first ≡ first_wanted range → last ≡ last_wanted r range → Appends a b (canon_head (Some id))
-    → OnOk answer (Appends b d (revisions_text r first (last + 1 - first))) → OnOk answer (Appends a d (dump_text r (first_wanted range) (count_wanted r range)))
+    → OnOk answer (Appends b d (revisions_text r first (last + 1 - first))) → OnOk answer (Appends a d (dump_of r (first_wanted range) (count_wanted r range)))
 dumped r range id first last a b d (Ok u) same from to p q =
-    subst (λ n. Appends a d (dump_text r (first_wanted range) n)) (ap (λ k. last + 1 - k) from ∙ ap (λ k. k + 1 - first_wanted range) to)
+    subst (λ n. Appends a d (dump_of r (first_wanted range) n)) (ap (λ k. last + 1 - k) from ∙ ap (λ k. k + 1 - first_wanted range) to)
     (whole r range id first (last + 1 - first) a b d same from p q)
 dumped r range id first last a b d (Err e) same from to p q = tt
 
 pub dump_stops : (r : Repository) (range : Option RevRange) (id : List ℕ) (first last : ℕ) (a b d : Option (List ℕ)) (failed : Bool) (answer : Result (Unit {0}) Refusal) → id ≡ r.identity → first ≡ first_wanted range → last ≡ last_wanted r range → last_wanted r range < length r.revisions → Appends a b (canon_head (Some id))
-    → IfErr answer (λ e. ((e ≡ refusal.OutOfMemory) × (written : ℕ) × (written < last + 1 - first) × Appends b d (revisions_text r first written)) ⊎ (failed ≡ true)) → IfErr answer (DumpStops r range a d failed)
+    → IfErr answer (λ e. ((e ≡ refusal.OutOfMemory) × (written : ℕ) × (written < last + 1 - first) × Appends b d (revisions_text r first written)) ⊎ ((e ≡ refusal.PeerFailed) × (failed ≡ true))) → IfErr answer (DumpStops r range a d failed)
 dump_stops r range id first last a b d failed (Ok u) same from to there p q = tt
 dump_stops r range id first last a b d failed (Err e) same from to there p (inl (m, written, less, w)) =
     no_memory written there (subst (λ n. written < n) (ap (λ k. last + 1 - k) from ∙ ap (λ k. k + 1 - first_wanted range) to) less) m (whole r range id first written a b d same from p w)
-dump_stops r range id first last a b d failed (Err e) same from to there p (inr f) = writer_fails there f
+dump_stops r range id first last a b d failed (Err e) same from to there p (inr f) = writer_fails there f.1 f.0

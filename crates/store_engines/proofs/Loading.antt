@@ -25,13 +25,17 @@ use Rattle.repo_core.specs.Entries.{with_entry_in}
 use Rattle.repo_core.specs.declared.entry.Entry.{Entry}
 use Rattle.fleet_engines.specs.Revisions.{Rev, Makes, is_lone, is_zero, is_past_zero}
 use Rattle.fleet_engines.specs.Grouping.{records_of_rev, is_no_identity}
-use Rattle.store_engines.specs.Loads.{IsLoaded, Loads, IsStop, IsBare, Stands, Gathered, Moves, CantClose, CantTake, NotLoaded, Stops, load_refused, load_stops, load_unsaid, close_refused, close_stops, close_unsaid, not_closed, no_revision, take_stops, entry_refused, revision_0, a_revision, loaded_line, entry_fault}
+use Rattle.fleet_disk.specs.declared.disk.Disk.{Ghosts}
+use Rattle.repo_store.specs.Words.{repository_of}
+use Rattle.repo_store.specs.declared.store.RepoStore.{RepoStore}
+use Rattle.store_engines.specs.Devices.{CantKeep}
+use Rattle.store_engines.specs.Loads.{IsLoaded, Loads, IsBare, Stands, Gathered, Moves, CantLoad, CantClose, CantTake, NotLoaded, Stops, load_refused, load_stops, load_not_kept, load_unsaid, close_refused, close_stops, close_not_kept, close_unsaid, not_closed, no_revision, take_stops, entry_refused, revision_0, a_revision, loaded_line, entry_fault}
 
-loads_more : (x : Repository) (rs : List Rev) (y : Repository) (said : List ℕ) (r : Rev) (e : Entry) (line : List ℕ) → Loads x rs y said → IsLoaded y.revisions r e line → Loads x (rs ++ r ∷ []) (with_entry_in y e) (said ++ line)
-loads_more x [] y said r e line p k =
-    (e, line, [], subst (λ z. IsLoaded z.revisions r e line) p.0 k, (ap (λ z. with_entry_in z e) p.0, refl), ap (λ s. s ++ line) p.1 ∙ sym (append-nil line))
-loads_more x (r0 ∷ rs) y said r e line p k =
-    (p.0, p.1, p.2 ++ line, p.3, loads_more (with_entry_in x p.0) rs y p.2 r e line p.4 k, ap (λ s. s ++ line) p.5 ∙ append_assoc p.1 p.2 line)
+loads_more : (x : Repository) (rs : List Rev) (y : Repository) (said : List ℕ) (r : Rev) (e : Entry) (line : List ℕ) → Loads x rs y said → IsLoaded y.revisions r e line → entry_fault y.revisions e ≡ None → Loads x (rs ++ r ∷ []) (with_entry_in y e) (said ++ line)
+loads_more x [] y said r e line p k t =
+    (e, line, [], subst (λ z. IsLoaded z.revisions r e line) p.0 k, subst (λ z. entry_fault z.revisions e ≡ None) p.0 t, (ap (λ z. with_entry_in z e) p.0, refl), ap (λ s. s ++ line) p.1 ∙ sym (append-nil line))
+loads_more x (r0 ∷ rs) y said r e line p k t =
+    (p.0, p.1, p.2 ++ line, p.3, p.4, loads_more (with_entry_in x p.0) rs y p.2 r e line p.5 k t, ap (λ s. s ++ line) p.6 ∙ append_assoc p.1 p.2 line)
 
 flat_more : (rs : List Rev) (r : Rev) → flat_map records_of_rev (rs ++ r ∷ []) ≡ flat_map records_of_rev rs ++ records_of_rev r
 flat_more rs r = flat_map-append records_of_rev rs (r ∷ []) ∙ ap (λ l. flat_map records_of_rev rs ++ l) (append-nil (records_of_rev r))
@@ -44,12 +48,12 @@ pub first_stands : (x : Repository) (start : Option (List ℕ)) → Stands x [] 
 first_stands x start = record { whole = []; said = []; records = refl; begun = λ _. refl; bare = tt; loads = (refl, refl); written = Appends-nil start }
 
 -- the revision that is read is loaded and said
-pub closes : (x : Repository) (rs : List DumpRecord) (y z : Repository) (r : Rev) (e : Entry) (line : List ℕ) (start before now : Option (List ℕ)) → Stands x rs y (Some r) start before → IsLoaded y.revisions r e line → z ≡ with_entry_in y e → Appends before now line → Gathered x rs z start now
-closes x rs y z r e line start before now s k d w = record {
+pub closes : (x : Repository) (rs : List DumpRecord) (y z : Repository) (r : Rev) (e : Entry) (line : List ℕ) (start before now : Option (List ℕ)) → Stands x rs y (Some r) start before → IsLoaded y.revisions r e line → entry_fault y.revisions e ≡ None → z ≡ with_entry_in y e → Appends before now line → Gathered x rs z start now
+closes x rs y z r e line start before now s k t d w = record {
   whole = s.whole ++ r ∷ [];
   said = s.said ++ line;
   records = s.records ∙ sym (flat_more s.whole r);
-  loads = subst (λ v. Loads x (s.whole ++ r ∷ []) v (s.said ++ line)) (sym d) (loads_more x s.whole y s.said r e line s.loads k);
+  loads = subst (λ v. Loads x (s.whole ++ r ∷ []) v (s.said ++ line)) (sym d) (loads_more x s.whole y s.said r e line s.loads k t);
   written = Appends-trans start before now s.said line s.written w;
 }
 
@@ -101,12 +105,14 @@ one_identity x rs y last start now id s = record {
 }
 
 -- the revision that is read isn't loaded
-pub cant_close : (x : Repository) (rs : List DumpRecord) (y z : Repository) (r : Rev) (start before now : Option (List ℕ)) (failed : Bool) (e : Refusal) → Stands x rs y (Some r) start before → NotLoaded y r z before now failed e → CantClose x rs z start now failed e
+pub cant_close : {D : Type 0} {G : Ghosts D} (x : Repository) (rs : List DumpRecord) (y : Repository) (z : RepoStore D G) (r : Rev) (start before now : Option (List ℕ)) (failed : Bool) (e : Refusal) → Stands x rs y (Some r) start before → NotLoaded y r z before now failed e → CantClose x rs z start now failed e
 cant_close x rs y z r start before now failed e s (load_refused k d w) =
-    rw (d, w) (close_refused r s k)
+    rw w (close_refused r (subst (λ (v : Repository). Stands x rs v (Some r) start before) (sym d) s) (subst (λ (v : Repository). CantLoad v.revisions r e) (sym d) k))
 cant_close x rs y z r start before now failed e s (load_stops k d w) =
-    rw (d, w) (close_stops (Some r) s k)
-cant_close x rs y z r start before now failed e s (load_unsaid entry line k d f) = close_unsaid y r entry line before s k d f
+    rw w (close_stops (Some r) (subst (λ (v : Repository). Stands x rs v (Some r) start before) (sym d) s) k)
+cant_close x rs y z r start before now failed e s (load_not_kept entry line l k d w) =
+    rw w (close_not_kept r entry line (subst (λ (v : Repository). Stands x rs v (Some r) start before) (sym d) s) (subst (λ (v : Repository). IsLoaded v.revisions r entry line) (sym d) l) k)
+cant_close x rs y z r start before now failed e s (load_unsaid entry line k t d f p) = close_unsaid y r entry line before s k t d f p
 
 pub moves_none : (y : Repository) (last : Option Rev) (a : Option (List ℕ)) → Moves y last a [] y last a
 moves_none y last a x rs start s = subst (λ l. Stands x l y last start a) (sym (append-nil rs)) s
@@ -115,7 +121,7 @@ pub moves_more : (y m z : Repository) (last mid later : Option Rev) (a b d : Opt
 moves_more y m z last mid later a b d ys next p q x rs start s =
     subst (λ l. Stands x l z later start d) (append_assoc rs ys (next ∷ [])) (q x (rs ++ ys) start (p x rs start s))
 
-pub stops_here : (y m z : Repository) (last mid : Option Rev) (a b now : Option (List ℕ)) (all ys rest : List DumpRecord) (next : DumpRecord) (failed : Bool) (e : Refusal) → Moves y last a ys m mid b → all ≡ ys ++ next ∷ rest
+pub stops_here : {D : Type 0} {G : Ghosts D} (y m : Repository) (z : RepoStore D G) (last mid : Option Rev) (a b now : Option (List ℕ)) (all ys rest : List DumpRecord) (next : DumpRecord) (failed : Bool) (e : Refusal) → Moves y last a ys m mid b → all ≡ ys ++ next ∷ rest
     → ((x : Repository) (rs : List DumpRecord) (start : Option (List ℕ)) → Stands x rs m mid start b → CantTake x rs next z start now failed e)
     → (x : Repository) (rs : List DumpRecord) (start : Option (List ℕ)) → Stands x rs y last start a → Stops x rs all z start now failed e
 stops_here y m z last mid a b now all ys rest next failed e p d w x rs start s = record {
@@ -127,24 +133,32 @@ stops_here y m z last mid a b now all ys rest next failed e p d w x rs start s =
 }
 
 -- a record can't be taken because the revision before it can't be closed
-pub cant_take : (x : Repository) (rs : List DumpRecord) (next : DumpRecord) (z : Repository) (start now : Option (List ℕ)) (failed : Bool) (e : Refusal) (n : ℕ) (props : PropMap) → next ≡ Begins n props → CantClose x rs z start now failed e → CantTake x rs next z start now failed e
+pub cant_take : {D : Type 0} {G : Ghosts D} (x : Repository) (rs : List DumpRecord) (next : DumpRecord) (z : RepoStore D G) (start now : Option (List ℕ)) (failed : Bool) (e : Refusal) (n : ℕ) (props : PropMap) → next ≡ Begins n props → CantClose x rs z start now failed e → CantTake x rs next z start now failed e
 cant_take x rs next z start now failed e n props d k = not_closed n props d k
 
 -- a node can't be taken
-pub node_refused : (x : Repository) (rs : List DumpRecord) (next : DumpRecord) (node : NodeRecord) (y : Repository) (last : Option Rev) (start now : Option (List ℕ)) (failed : Bool) (e : Refusal) → next ≡ Node node → (e ≡ refusal.OutOfMemory) ⊎ ((e ≡ refusal.WrongNumber) × (is_past_zero last ≡ false)) → Stands x rs y last start now → CantTake x rs next y start now failed e
-node_refused x rs next node y last start now failed e d (inl m) s = take_stops last s (inl m)
+pub node_refused : {D : Type 0} {G : Ghosts D} (x : Repository) (rs : List DumpRecord) (next : DumpRecord) (node : NodeRecord) (y : RepoStore D G) (last : Option Rev) (start now : Option (List ℕ)) (failed : Bool) (e : Refusal) → next ≡ Node node → (e ≡ refusal.OutOfMemory) ⊎ ((e ≡ refusal.WrongNumber) × (is_past_zero last ≡ false)) → Stands x rs (repository_of y) last start now → CantTake x rs next y start now failed e
+node_refused x rs next node y last start now failed e d (inl m) s = take_stops last s m
 node_refused x rs next node y last start now failed e d (inr w) s = no_revision node last d s w.1 w.0
 
 pub zero_number : (lone : Bool) (n : ℕ) → (lone && n == 0) ≡ true → n ≡ 0
 zero_number true n e = eqb-true n 0 e
 zero_number false n e = absurd (false≢true e)
 
+-- revision 0's properties are put
+pub zero_said : (y z : Repository) (rev : Rev) (a : Option (List ℕ)) (r : Result (Unit {0}) Refusal) → is_zero (trees_of y.revisions) rev ≡ true → OnOk r (entry_fault y.revisions (Mapped 0 rev.props) ≡ None) → OnOk r (z ≡ with_entry_in y (Mapped 0 rev.props))
+    → OnOk r (IsBare rev → (entry : Entry) × (said : List ℕ) × IsLoaded y.revisions rev entry said × (entry_fault y.revisions entry ≡ None) × (z ≡ with_entry_in y entry) × Appends a a said)
+zero_said y z rev a (Ok u) q t k = λ b. (Mapped 0 rev.props, [], revision_0 q (b (zero_number (is_lone (trees_of y.revisions)) rev.number q)) refl refl, t, k, Appends-nil a)
+zero_said y z rev a (Err e) q t k = tt
+
 -- revision 0's properties can't be put
-pub zero_err : (y z : Repository) (rev : Rev) (a : Option (List ℕ)) (failed : Bool) (r : Result (Unit {0}) Refusal) → is_zero (trees_of y.revisions) rev ≡ true → OnErr r (z ≡ y)
-    → IfErr r (λ e. IsStop e ⊎ ((f : RepoFault) × IsDue f (entry_fault y.revisions (Mapped 0 rev.props)) × (e ≡ repo_refusal f))) → IfErr r (λ e. IsBare rev → NotLoaded y rev z a a failed e)
+pub zero_err : {D : Type 0} {G : Ghosts D} (y : Repository) (z : RepoStore D G) (rev : Rev) (a : Option (List ℕ)) (failed : Bool) (r : Result (Unit {0}) Refusal) → is_zero (trees_of y.revisions) rev ≡ true → OnErr r (repository_of z ≡ y)
+    → IfErr r (λ e. (e ≡ refusal.OutOfMemory) ⊎ CantKeep z (Mapped 0 rev.props) e ⊎ ((f : RepoFault) × IsDue f (entry_fault y.revisions (Mapped 0 rev.props)) × (e ≡ repo_refusal f))) → IfErr r (λ e. IsBare rev → NotLoaded y rev z a a failed e)
 zero_err y z rev a failed (Ok u) q s h = tt
 zero_err y z rev a failed (Err e) q s (inl k) = λ b. load_stops k s refl
-zero_err y z rev a failed (Err e) q s (inr k) =
+zero_err y z rev a failed (Err e) q s (inr (inl k)) =
+    λ b. load_not_kept (Mapped 0 rev.props) [] (revision_0 q (b (zero_number (is_lone (trees_of y.revisions)) rev.number q)) refl refl) k s refl
+zero_err y z rev a failed (Err e) q s (inr (inr k)) =
     λ b. load_refused (entry_refused (Mapped 0 rev.props) [] k.0 (revision_0 q (b (zero_number (is_lone (trees_of y.revisions)) rev.number q)) refl refl) k.1 k.2) s refl
 
 -- the entry of the next revision, over trees that are the repository's
@@ -155,20 +169,22 @@ pub next_loaded : (x : List Revision) (rev : Rev) (set : List Change) (trees : L
 next_loaded x rev set trees e later m =
     a_revision set m.0 later (subst (λ ts. Makes ts rev set m.0) e m.1) (ap (λ n. Revised n set rev.props) (sym (next_number x trees rev set m.0 e m.1))) refl
 
-pub next_err : (y z : Repository) (rev : Rev) (set : List Change) (trees : List PathMap) → trees ≡ trees_of y.revisions → (a : Option (List ℕ)) (failed : Bool) (e : Refusal) → is_zero (trees_of y.revisions) rev ≡ false → (tree : PathMap) × Makes trees rev set tree → z ≡ y
-    → IsStop e ⊎ ((f : RepoFault) × IsDue f (entry_fault y.revisions (Revised (length y.revisions) set rev.props)) × (e ≡ repo_refusal f)) → NotLoaded y rev z a a failed e
+pub next_err : {D : Type 0} {G : Ghosts D} (y : Repository) (z : RepoStore D G) (rev : Rev) (set : List Change) (trees : List PathMap) → trees ≡ trees_of y.revisions → (a : Option (List ℕ)) (failed : Bool) (e : Refusal) → is_zero (trees_of y.revisions) rev ≡ false → (tree : PathMap) × Makes trees rev set tree → repository_of z ≡ y
+    → (e ≡ refusal.OutOfMemory) ⊎ CantKeep z (Revised (length y.revisions) set rev.props) e ⊎ ((f : RepoFault) × IsDue f (entry_fault y.revisions (Revised (length y.revisions) set rev.props)) × (e ≡ repo_refusal f)) → NotLoaded y rev z a a failed e
 next_err y z rev set trees t a failed e later m s (inl k) = load_stops k s refl
-next_err y z rev set trees t a failed e later m s (inr k) =
+next_err y z rev set trees t a failed e later m s (inr (inl k)) =
+    load_not_kept (Revised (length y.revisions) set rev.props) (loaded_line rev.number) (next_loaded y.revisions rev set trees t later m) k s refl
+next_err y z rev set trees t a failed e later m s (inr (inr k)) =
     load_refused (entry_refused (Revised (length y.revisions) set rev.props) (loaded_line rev.number) k.0 (next_loaded y.revisions rev set trees t later m) k.1 k.2) s refl
 
 pub next_said : (y z : Repository) (rev : Rev) (set : List Change) (trees : List PathMap) → trees ≡ trees_of y.revisions → (a b : Option (List ℕ)) (line : List ℕ) (r : Result (Unit {0}) Refusal) → is_zero (trees_of y.revisions) rev ≡ false → (tree : PathMap) × Makes trees rev set tree
-    → z ≡ with_entry_in y (Revised (length y.revisions) set rev.props) → line ≡ loaded_line rev.number → OnOk r (Appends a b line)
-    → OnOk r ((entry : Entry) × (said : List ℕ) × IsLoaded y.revisions rev entry said × (z ≡ with_entry_in y entry) × Appends a b said)
-next_said y z rev set trees t a b line (Ok u) later m k d w =
-    (Revised (length y.revisions) set rev.props, loaded_line rev.number, next_loaded y.revisions rev set trees t later m, k, subst (Appends a b) d w)
-next_said y z rev set trees t a b line (Err e) later m k d w = tt
+    → entry_fault y.revisions (Revised (length y.revisions) set rev.props) ≡ None → z ≡ with_entry_in y (Revised (length y.revisions) set rev.props) → line ≡ loaded_line rev.number → OnOk r (Appends a b line)
+    → OnOk r ((entry : Entry) × (said : List ℕ) × IsLoaded y.revisions rev entry said × (entry_fault y.revisions entry ≡ None) × (z ≡ with_entry_in y entry) × Appends a b said)
+next_said y z rev set trees t a b line (Ok u) later m n k d w =
+    (Revised (length y.revisions) set rev.props, loaded_line rev.number, next_loaded y.revisions rev set trees t later m, n, k, subst (Appends a b) d w)
+next_said y z rev set trees t a b line (Err e) later m n k d w = tt
 
-pub next_unsaid : (y z : Repository) (rev : Rev) (set : List Change) (trees : List PathMap) → trees ≡ trees_of y.revisions → (a b : Option (List ℕ)) (failed : Bool) (r : Result (Unit {0}) Refusal) → is_zero (trees_of y.revisions) rev ≡ false → (tree : PathMap) × Makes trees rev set tree
-    → z ≡ with_entry_in y (Revised (length y.revisions) set rev.props) → OnErr r (failed ≡ true) → IfErr r (λ e. NotLoaded y rev z a b failed e)
-next_unsaid y z rev set trees t a b failed (Ok u) later m k f = tt
-next_unsaid y z rev set trees t a b failed (Err e) later m k f = load_unsaid (Revised (length y.revisions) set rev.props) (loaded_line rev.number) (next_loaded y.revisions rev set trees t later m) k f
+pub next_unsaid : {D : Type 0} {G : Ghosts D} (y : Repository) (z : RepoStore D G) (rev : Rev) (set : List Change) (trees : List PathMap) → trees ≡ trees_of y.revisions → (a b : Option (List ℕ)) (failed : Bool) (r : Result (Unit {0}) Refusal) → is_zero (trees_of y.revisions) rev ≡ false → (tree : PathMap) × Makes trees rev set tree
+    → entry_fault y.revisions (Revised (length y.revisions) set rev.props) ≡ None → repository_of z ≡ with_entry_in y (Revised (length y.revisions) set rev.props) → OnErr r (failed ≡ true) → IfErr r (λ e. e ≡ refusal.PeerFailed) → IfErr r (λ e. NotLoaded y rev z a b failed e)
+next_unsaid y z rev set trees t a b failed (Ok u) later m n k f p = tt
+next_unsaid y z rev set trees t a b failed (Err e) later m n k f p = load_unsaid (Revised (length y.revisions) set rev.props) (loaded_line rev.number) (next_loaded y.revisions rev set trees t later m) n k f p

@@ -1,5 +1,5 @@
 -- The commit of a directory.
-use Rattle.std.specs.Prelude.{◌≡◌, ℕ, Bool, true, List, [], ◌∷◌, ◌++◌, length, Option, Some, None, Result, Ok, Err, codes, if◌then◌else◌}
+use Rattle.std.specs.Prelude.{◌≡◌, ◌<◌, ◌⊎◌, ℕ, Bool, true, List, [], ◌∷◌, ◌++◌, length, Option, Some, None, Result, Ok, Err, codes, if◌then◌else◌}
 use Rattle.std.specs.Option.{option_map}
 use Rattle.std.specs.FinMap as finite
 use Rattle.std.specs.Fmt.{decimal}
@@ -19,7 +19,11 @@ use Rattle.repo_core.specs.Repository.{Repository, Revision}
 use Rattle.repo_core.specs.Entries.{with_entry_in}
 use Rattle.repo_core.specs.declared.entry.Entry.{Entry}
 use Rattle.repo_core.specs.declared.entry.Entry.TheVariants.{Revised}
-use Rattle.store_engines.specs.Loads.{entry_fault, IsStop}
+use Rattle.fleet_disk.specs.declared.disk.Disk.{Ghosts}
+use Rattle.repo_store.specs.Words.{repository_of}
+use Rattle.repo_store.specs.declared.store.RepoStore.{RepoStore}
+use Rattle.store_engines.specs.Devices.{CantKeep}
+use Rattle.store_engines.specs.Loads.{entry_fault}
 use Rattle.store_engines.specs.Mirrors.{is_mirror}
 use Rattle.store_engines.specs.Refusals.{path_refusal, repo_refusal}
 
@@ -39,6 +43,10 @@ logged message = finite.insert finite.empty (codes "svn:log") message
 abbrev pub directory_entry : List Revision → Path → List ℕ → DateTime → Entry
 directory_entry x path message moment = Revised (length x) (directory_set path) (dated (logged message) (Some moment))
 
+-- the same without a message
+abbrev pub bare_entry : List Revision → Path → DateTime → Entry
+bare_entry x path moment = Revised (length x) (directory_set path) (dated finite.empty (Some moment))
+
 -- of what was read as a path: it is none, or the repository refuses the directory there
 abbrev pub fault_there : List Revision → List ℕ → DateTime → Result Path PathFault → Option Refusal
 fault_there x message moment (Err f) = Some (path_refusal f)
@@ -56,8 +64,9 @@ pub record IsCommitted (x : Repository) (bytes message : List ℕ) (moment : Dat
   pub made : y ≡ with_entry_in x (directory_entry x.revisions path message moment)
   pub written : Appends before now (committed_line (length x.revisions))
 
--- the directory isn't committed: the refusal is the one that is due; or memory, the device or the journal ends it; in both nothing is done; or it is committed, and can't be said
-pub data NotCommitted (x : Repository) (bytes message : List ℕ) (moment : DateTime) (y : Repository) (before now : Option (List ℕ)) (failed : Bool) (e : Refusal) : Type 0 where
-  commit_refused : directory_fault x.revisions bytes message moment ≡ Some e → y ≡ x → now ≡ before → NotCommitted x bytes message moment y before now failed e
-  commit_stops : IsStop e → y ≡ x → now ≡ before → NotCommitted x bytes message moment y before now failed e
-  commit_unsaid : (path : Path) → path_read bytes ≡ Ok path → directory_fault x.revisions bytes message moment ≡ None → y ≡ with_entry_in x (directory_entry x.revisions path message moment) → failed ≡ true → NotCommitted x bytes message moment y before now failed e
+-- the directory isn't committed: the refusal is the one that is due; or memory runs out; or the store can't keep the entry (of a message past its limit the entry without it); in all of these nothing is done; or it is committed, and can't be said
+pub data NotCommitted {D : Type 0} {G : Ghosts D} (x : Repository) (bytes message : List ℕ) (moment : DateTime) (store : RepoStore D G) (before now : Option (List ℕ)) (failed : Bool) (e : Refusal) : Type 0 where
+  commit_refused : directory_fault x.revisions bytes message moment ≡ Some e → repository_of store ≡ x → now ≡ before → NotCommitted x bytes message moment store before now failed e
+  commit_stops : e ≡ refusal.OutOfMemory → repository_of store ≡ x → now ≡ before → NotCommitted x bytes message moment store before now failed e
+  commit_not_kept : (path : Path) (entry : Entry) → path_read bytes ≡ Ok path → (entry ≡ directory_entry x.revisions path message moment) ⊎ ((65536 < length message) × (entry ≡ bare_entry x.revisions path moment)) → CantKeep store entry e → repository_of store ≡ x → now ≡ before → NotCommitted x bytes message moment store before now failed e
+  commit_unsaid : (path : Path) → path_read bytes ≡ Ok path → directory_fault x.revisions bytes message moment ≡ None → repository_of store ≡ with_entry_in x (directory_entry x.revisions path message moment) → failed ≡ true → e ≡ refusal.PeerFailed → NotCommitted x bytes message moment store before now failed e

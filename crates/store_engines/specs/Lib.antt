@@ -1,4 +1,5 @@
 pub mod Commits
+pub mod Devices
 pub mod Dumps
 pub mod Loaders
 pub mod Loads

@@ -20,11 +20,15 @@ use Rattle.repo_core.specs.declared.entry.Entry.{Entry}
 use Rattle.repo_core.specs.declared.entry.Entry.TheVariants.{Revised, Mapped}
 use Rattle.repo_core.specs.Refusals.{by_repository, commit_fault, IsDue}
 use Rattle.repo_core.specs.declared.fault.RepoFault.{RepoFault}
+use Rattle.fleet_disk.specs.declared.disk.Disk.{Ghosts}
 use Rattle.repo_store.specs.Forms.{form_fault}
+use Rattle.repo_store.specs.Words.{repository_of, revisions_of}
+use Rattle.repo_store.specs.declared.store.RepoStore.{RepoStore}
 use Rattle.dump_load.specs.Faults.{first_of}
 use Rattle.fleet_engines.specs.Refusals.{dump_refusal}
 use Rattle.fleet_engines.specs.Revisions.{Rev, Makes, IsUnfit, is_zero, is_past_zero}
 use Rattle.fleet_engines.specs.Grouping.{records_of_rev, is_no_identity}
+use Rattle.store_engines.specs.Devices.{CantKeep}
 use Rattle.store_engines.specs.Refusals.{repo_refusal}
 
 -- what is said of a revision that was loaded
@@ -36,30 +40,27 @@ pub data IsLoaded (x : List Revision) (r : Rev) (e : Entry) (said : List ℕ) : 
   revision_0 : is_zero (trees_of x) r ≡ true → r.nodes ≡ [] → e ≡ Mapped 0 r.props → said ≡ [] → IsLoaded x r e said
   a_revision : (set : List Change) (tree : PathMap) → is_zero (trees_of x) r ≡ false → Makes (trees_of x) r set tree → e ≡ Revised r.number set r.props → said ≡ loaded_line r.number → IsLoaded x r e said
 
--- whole revisions one after another, and all that is said of them
-abbrev pub Loads : Repository → List Rev → Repository → List ℕ → Type 0
-Loads x [] y said = (y ≡ x) × (said ≡ [])
-Loads x (r ∷ rs) y said = (e : Entry) × (line rest : List ℕ) × IsLoaded x.revisions r e line × Loads (with_entry_in x e) rs y rest × (said ≡ line ++ rest)
-
 -- what the repository refuses of an entry as it is committed
 abbrev pub entry_fault : List Revision → Entry → Option RepoFault
 entry_fault x (Revised n set props) = first_of (commit_fault x (head_of x) (Revised n set props) ∷ form_fault set ∷ [])
 entry_fault x (Mapped n props) = by_repository x (Mapped n props)
+
+-- whole revisions one after another, each of which the repository takes, and all that is said of them
+abbrev pub Loads : Repository → List Rev → Repository → List ℕ → Type 0
+Loads x [] y said = (y ≡ x) × (said ≡ [])
+Loads x (r ∷ rs) y said = (e : Entry) × (line rest : List ℕ) × IsLoaded x.revisions r e line × (entry_fault x.revisions e ≡ None) × Loads (with_entry_in x e) rs y rest × (said ≡ line ++ rest)
 
 -- a whole revision is refused: it makes no tree, or the repository refuses its entry
 pub data CantLoad (x : List Revision) (r : Rev) (e : Refusal) : Type 0 where
   unfit : is_zero (trees_of x) r ≡ false → IsUnfit (trees_of x) r e → CantLoad x r e
   entry_refused : (entry : Entry) (said : List ℕ) (f : RepoFault) → IsLoaded x r entry said → IsDue f (entry_fault x entry) → e ≡ repo_refusal f → CantLoad x r e
 
--- what ends a load whatever is read: memory, a device that fails or has failed before, a full journal
-abbrev pub IsStop : Refusal → Type 0
-IsStop e = (e ≡ refusal.OutOfMemory) ⊎ (e ≡ refusal.DeviceFailed) ⊎ (e ≡ refusal.Failed) ⊎ (e ≡ refusal.LogFull)
-
--- a whole revision isn't loaded: it is refused, or the load stops, and nothing is done; or it is loaded and can't be said
-pub data NotLoaded (x : Repository) (r : Rev) (y : Repository) (before now : Option (List ℕ)) (failed : Bool) (e : Refusal) : Type 0 where
-  load_refused : CantLoad x.revisions r e → y ≡ x → now ≡ before → NotLoaded x r y before now failed e
-  load_stops : IsStop e → y ≡ x → now ≡ before → NotLoaded x r y before now failed e
-  load_unsaid : (entry : Entry) (line : List ℕ) → IsLoaded x.revisions r entry line → y ≡ with_entry_in x entry → failed ≡ true → NotLoaded x r y before now failed e
+-- a whole revision isn't loaded: it is refused, or memory runs out, or the store can't keep its entry, and nothing is done; or it is loaded and can't be said
+pub data NotLoaded {D : Type 0} {G : Ghosts D} (x : Repository) (r : Rev) (store : RepoStore D G) (before now : Option (List ℕ)) (failed : Bool) (e : Refusal) : Type 0 where
+  load_refused : CantLoad x.revisions r e → repository_of store ≡ x → now ≡ before → NotLoaded x r store before now failed e
+  load_stops : e ≡ refusal.OutOfMemory → repository_of store ≡ x → now ≡ before → NotLoaded x r store before now failed e
+  load_not_kept : (entry : Entry) (line : List ℕ) → IsLoaded x.revisions r entry line → CantKeep store entry e → repository_of store ≡ x → now ≡ before → NotLoaded x r store before now failed e
+  load_unsaid : (entry : Entry) (line : List ℕ) → IsLoaded x.revisions r entry line → entry_fault x.revisions entry ≡ None → repository_of store ≡ with_entry_in x entry → failed ≡ true → e ≡ refusal.PeerFailed → NotLoaded x r store before now failed e
 
 -- the records of a revision that is still read
 abbrev pub read_of : Option Rev → List DumpRecord
@@ -88,29 +89,30 @@ pub record Gathered (x : Repository) (rs : List DumpRecord) (y : Repository) (st
   pub loads : Loads x whole y said
   pub written : Appends start now said
 
--- the revision that is read, and is whole now, is refused; or the load stops before it; or it is loaded and can't be said
-pub data CantClose (x : Repository) (rs : List DumpRecord) (y : Repository) (start now : Option (List ℕ)) (failed : Bool) (e : Refusal) : Type 0 where
-  close_refused : (r : Rev) → Stands x rs y (Some r) start now → CantLoad y.revisions r e → CantClose x rs y start now failed e
-  close_stops : (last : Option Rev) → Stands x rs y last start now → IsStop e → CantClose x rs y start now failed e
-  close_unsaid : (z : Repository) (r : Rev) (entry : Entry) (line : List ℕ) (before : Option (List ℕ)) → Stands x rs z (Some r) start before → IsLoaded z.revisions r entry line → y ≡ with_entry_in z entry → failed ≡ true → CantClose x rs y start now failed e
+-- the revision that is read, and is whole now, is refused; or memory runs out before it; or the store can't keep its entry; or it is loaded and can't be said
+pub data CantClose {D : Type 0} {G : Ghosts D} (x : Repository) (rs : List DumpRecord) (store : RepoStore D G) (start now : Option (List ℕ)) (failed : Bool) (e : Refusal) : Type 0 where
+  close_refused : (r : Rev) → Stands x rs (repository_of store) (Some r) start now → CantLoad (revisions_of store) r e → CantClose x rs store start now failed e
+  close_stops : (last : Option Rev) → Stands x rs (repository_of store) last start now → e ≡ refusal.OutOfMemory → CantClose x rs store start now failed e
+  close_not_kept : (r : Rev) (entry : Entry) (line : List ℕ) → Stands x rs (repository_of store) (Some r) start now → IsLoaded (revisions_of store) r entry line → CantKeep store entry e → CantClose x rs store start now failed e
+  close_unsaid : (z : Repository) (r : Rev) (entry : Entry) (line : List ℕ) (before : Option (List ℕ)) → Stands x rs z (Some r) start before → IsLoaded z.revisions r entry line → entry_fault z.revisions entry ≡ None → repository_of store ≡ with_entry_in z entry → failed ≡ true → e ≡ refusal.PeerFailed → CantClose x rs store start now failed e
 
--- the next record isn't taken: the revision before it can't be closed; or it is a node, and no revision other than 0 is read; or the load stops
-pub data CantTake (x : Repository) (rs : List DumpRecord) (next : DumpRecord) (y : Repository) (start now : Option (List ℕ)) (failed : Bool) (e : Refusal) : Type 0 where
-  not_closed : (n : ℕ) (props : PropMap) → next ≡ Begins n props → CantClose x rs y start now failed e → CantTake x rs next y start now failed e
-  no_revision : (node : NodeRecord) (last : Option Rev) → next ≡ Node node → Stands x rs y last start now → is_past_zero last ≡ false → e ≡ refusal.WrongNumber → CantTake x rs next y start now failed e
-  take_stops : (last : Option Rev) → Stands x rs y last start now → IsStop e → CantTake x rs next y start now failed e
+-- the next record isn't taken: the revision before it can't be closed; or it is a node, and no revision other than 0 is read; or memory runs out
+pub data CantTake {D : Type 0} {G : Ghosts D} (x : Repository) (rs : List DumpRecord) (next : DumpRecord) (store : RepoStore D G) (start now : Option (List ℕ)) (failed : Bool) (e : Refusal) : Type 0 where
+  not_closed : (n : ℕ) (props : PropMap) → next ≡ Begins n props → CantClose x rs store start now failed e → CantTake x rs next store start now failed e
+  no_revision : (node : NodeRecord) (last : Option Rev) → next ≡ Node node → Stands x rs (repository_of store) last start now → is_past_zero last ≡ false → e ≡ refusal.WrongNumber → CantTake x rs next store start now failed e
+  take_stops : (last : Option Rev) → Stands x rs (repository_of store) last start now → e ≡ refusal.OutOfMemory → CantTake x rs next store start now failed e
 
 -- some records more lead from what stood so to what stands so
 abbrev pub Moves : Repository → Option Rev → Option (List ℕ) → List DumpRecord → Repository → Option Rev → Option (List ℕ) → Type 0
 Moves y last before new z later now = (x : Repository) (rs : List DumpRecord) (start : Option (List ℕ)) → Stands x rs y last start before → Stands x (rs ++ new) z later start now
 
 -- some records were taken, and what stopped the others
-pub record Stops (x : Repository) (rs new : List DumpRecord) (y : Repository) (start now : Option (List ℕ)) (failed : Bool) (e : Refusal) : Type 0 where
+pub record Stops {D : Type 0} {G : Ghosts D} (x : Repository) (rs new : List DumpRecord) (store : RepoStore D G) (start now : Option (List ℕ)) (failed : Bool) (e : Refusal) : Type 0 where
   pub taken : List DumpRecord
   pub first : DumpRecord
   pub rest : List DumpRecord
   pub split : new ≡ taken ++ first ∷ rest
-  pub why : CantTake x (rs ++ taken) first y start now failed e
+  pub why : CantTake x (rs ++ taken) first store start now failed e
 
 -- bytes were read as records, and these stand so
 pub record Reached (x : Repository) (bytes : List ℕ) (reader : ReadState) (y : Repository) (last : Option Rev) (start now : Option (List ℕ)) : Type 0 where
@@ -127,12 +129,12 @@ pub record Loaded (x : Repository) (bytes : List ℕ) (y : Repository) (start no
   pub gathered : Gathered x records y start now
 
 -- a load is refused, and what was loaded before stays: at the next record; or by the byte behind some records; or as the stream ends, in a record or behind the last one; or memory or a stream fails
-pub data Refused (x : Repository) (bytes : List ℕ) (y : Repository) (start now : Option (List ℕ)) (failed : Bool) (e : Refusal) : Type 0 where
-  at_record : (rs : List DumpRecord) (next : DumpRecord) (more : List DumpRecord) → records_of (dump bytes) ≡ rs ++ next ∷ more → CantTake x rs next y start now failed e → Refused x bytes y start now failed e
-  at_byte : (rs : List DumpRecord) (f : DumpFault) (last : Option Rev) → dump bytes ≡ Refuses rs f → Stands x rs y last start now → e ≡ dump_refusal f → Refused x bytes y start now failed e
-  cut_short : (rs : List DumpRecord) (reader : ReadState) (last : Option Rev) → dump bytes ≡ Reads rs reader → is_between reader ≡ false → Stands x rs y last start now → e ≡ refusal.Truncated → Refused x bytes y start now failed e
-  at_end : (rs : List DumpRecord) (reader : ReadState) → dump bytes ≡ Reads rs reader → is_between reader ≡ true → CantClose x rs y start now failed e → Refused x bytes y start now failed e
-  stopped : (rs more : List DumpRecord) (last : Option Rev) → records_of (dump bytes) ≡ rs ++ more → Stands x rs y last start now → (e ≡ refusal.OutOfMemory) ⊎ (e ≡ refusal.PeerFailed) → Refused x bytes y start now failed e
+pub data Refused {D : Type 0} {G : Ghosts D} (x : Repository) (bytes : List ℕ) (store : RepoStore D G) (start now : Option (List ℕ)) (failed : Bool) (e : Refusal) : Type 0 where
+  at_record : (rs : List DumpRecord) (next : DumpRecord) (more : List DumpRecord) → records_of (dump bytes) ≡ rs ++ next ∷ more → CantTake x rs next store start now failed e → Refused x bytes store start now failed e
+  at_byte : (rs : List DumpRecord) (f : DumpFault) (last : Option Rev) → dump bytes ≡ Refuses rs f → Stands x rs (repository_of store) last start now → e ≡ dump_refusal f → Refused x bytes store start now failed e
+  cut_short : (rs : List DumpRecord) (reader : ReadState) (last : Option Rev) → dump bytes ≡ Reads rs reader → is_between reader ≡ false → Stands x rs (repository_of store) last start now → e ≡ refusal.Truncated → Refused x bytes store start now failed e
+  at_end : (rs : List DumpRecord) (reader : ReadState) → dump bytes ≡ Reads rs reader → is_between reader ≡ true → CantClose x rs store start now failed e → Refused x bytes store start now failed e
+  stopped : (rs more : List DumpRecord) (last : Option Rev) → records_of (dump bytes) ≡ rs ++ more → Stands x rs (repository_of store) last start now → (e ≡ refusal.OutOfMemory) ⊎ (e ≡ refusal.PeerFailed) → Refused x bytes store start now failed e
 
 -- bytes lead from what stood so before them to what stands so behind them
 abbrev pub Leads : ReadState → Repository → Option Rev → Option (List ℕ) → List ℕ → ReadState → Repository → Option Rev → Option (List ℕ) → Type 0

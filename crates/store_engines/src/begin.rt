@@ -1,9 +1,10 @@
 //! Stores begun and opened.
-ghost use Rattle.std.specs.Prelude.{◌≡◌, ◌≢◌, ◌↔◌, ◌⊎◌, ℕ, List, IfOk, IfErr, IsErr, OnOk};
+ghost use Rattle.std.specs.Prelude.{◌≡◌, ◌≢◌, ◌≤◌, ◌↔◌, ◌⊎◌, ℕ, List, IfOk, IfErr, IsErr, OnOk};
 ghost use Rattle.fleet_disk.specs.Image.{Image, no_bytes};
+ghost use Rattle.fleet_disk.specs.Rules.{LeavesOnly, Rose};
 ghost use Rattle.gate_log.specs.Standing.{HasNoEntry};
 ghost use Rattle.repo_core.specs.Repository.{Revision, fresh};
-ghost use Rattle.repo_store.specs.Journal.{IsDamaged, ReopensTo};
+ghost use Rattle.repo_store.specs.Journal.{IsDamaged, ReopensAlike, ReopensTo};
 ghost use Rattle.repo_store.specs.Words.{disk_of, identity_of, repository_of, revisions_of, HasFailed};
 ghost use Rattle.store_engines.specs.Refusals.{IsCreateRefusal, IsOpenRefusal};
 
@@ -27,6 +28,8 @@ pub fn create_store<D: Disk + Drop>(
     ensures empty { D.honest disk → OnOk result (D.reads disk ≡ no_bytes) }
     ensures there { D.honest disk → IfErr result (λ e. e ≡ Refusal.ThereAlready → D.reads disk ≢ no_bytes) }
     ensures no_other { IfErr result IsCreateRefusal }
+    ensures later { IfOk result (λ store. D.failures disk ≤ D.failures (disk_of store)) }
+    ensures device { IfErr result (λ e. (left : D) × (D.honest disk ↔ D.honest left) × (D.failures disk ≤ D.failures left) × (e ≡ Refusal.DeviceFailed → Rose (D.failures disk) (D.failures left))) }
     ensures honest { IfOk result (λ store. D.honest disk ↔ D.honest (disk_of store)) }
     ensures no_peer { IfErr result (λ e. e ≡ Refusal.PeerFailed → ⊥) }
 {
@@ -52,6 +55,11 @@ pub fn open_store<D: Disk + Drop>(alloc: Global, disk: D) -> Result<RepoStore<D>
         → IfErr result (λ e. (e ≡ Refusal.Damaged entry) ⊎ (e ≡ Refusal.DeviceFailed) ⊎ (e ≡ Refusal.OutOfMemory)) }
     ensures missing { D.honest disk → IfErr result (λ e. e ≡ Refusal.NoRepository → HasNoEntry (D.reads disk)) }
     ensures no_other { IfErr result IsOpenRefusal }
+    ensures later { IfOk result (λ store. D.failures disk ≤ D.failures (disk_of store)) }
+    ensures any_moment { D.honest disk → IfOk result (λ store. LeavesOnly D.clock D.left_since disk (disk_of store)
+        (λ c. D.may_leave disk c ⊎ ReopensAlike (D.reads disk) c)) }
+    ensures device { IfErr result (λ e. (left : D) × (D.honest disk ↔ D.honest left) × (D.failures disk ≤ D.failures left) × (e ≡ Refusal.DeviceFailed → Rose (D.failures disk) (D.failures left))
+        × (D.honest disk → LeavesOnly D.clock D.left_since disk left (λ c. D.may_leave disk c ⊎ ReopensAlike (D.reads disk) c))) }
     ensures honest { IfOk result (λ store. D.honest disk ↔ D.honest (disk_of store)) }
     ensures no_peer { IfErr result (λ e. e ≡ Refusal.PeerFailed → ⊥) }
 {

@@ -6,7 +6,8 @@ ghost use Rattle.repo_core.specs.Refusals.{IsDue};
 ghost use Rattle.repo_core.specs.declared.entry.Entry.TheVariants.{Revised};
 ghost use Rattle.repo_core.specs.declared.fault.RepoFault.{RepoFault as RepoFaultOf};
 ghost use Rattle.repo_store.specs.Words.{repository_of, revisions_of};
-ghost use Rattle.store_engines.specs.Loads.{entry_fault, IsStop};
+ghost use Rattle.store_engines.specs.Devices.{CantKeep, IsSafe, Serves};
+ghost use Rattle.store_engines.specs.Loads.{entry_fault};
 ghost use Rattle.store_engines.specs.Refusals.{repo_refusal};
 
 use crate::refusals::store_refusal;
@@ -28,7 +29,8 @@ pub fn commit<D: Disk + Drop>(
     ensures ok { OnOk result (repository_of store.new ≡ with_entry_in (repository_of store.old) (Revised (length (revisions_of store.old)) set (dated props moment))) }
     ensures taken { OnOk result (entry_fault (revisions_of store.old) (Revised (length (revisions_of store.old)) set (dated props moment)) ≡ None) }
     ensures same { OnErr result (repository_of store.new ≡ repository_of store.old) }
-    ensures refused { IfErr result (λ e. IsStop e ⊎ ((f : RepoFaultOf) × IsDue f (entry_fault (revisions_of store.old) (Revised (length (revisions_of store.old)) set (dated props moment))) × (e ≡ repo_refusal f))) }
+    ensures refused { IfErr result (λ e. (e ≡ Refusal.OutOfMemory) ⊎ CantKeep store.new (Revised (length (revisions_of store.old)) set (dated props moment)) e ⊎ ((f : RepoFaultOf) × IsDue f (entry_fault (revisions_of store.old) (Revised (length (revisions_of store.old)) set (dated props moment))) × (e ≡ repo_refusal f))) }
+    ensures device { IsSafe store.old → Serves store.old store.new result }
     ensures no_peer { IfErr result (λ e. e ≡ Refusal.PeerFailed → ⊥) }
 {
     let head = store.repo().head();

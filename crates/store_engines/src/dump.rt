@@ -1,10 +1,11 @@
 //! `dump` over any disk and writer.
-ghost use Rattle.std.specs.Prelude.{◌≡◌, ◌<◌, ◌≤◌, ◌⊎◌, ◌+◌, ◌-◌, ℕ, length, true, IfOk, IfErr, OnOk};
+ghost use Rattle.std.specs.Prelude.{◌≡◌, ◌<◌, ◌≤◌, ◌⊎◌, ◌+◌, ◌-◌, ℕ, length, true, Some, IfOk, IfErr, OnOk};
 ghost use Rattle.std.specs.Io.KnownBytes.{Appends};
+ghost use Rattle.dump_text.specs.Canon.{canon_head};
 ghost use Rattle.fleet_engines.specs.Runs.{Flagged};
 ghost use Rattle.repo_store.specs.Journal.{spelling};
 ghost use Rattle.repo_store.specs.Words.{repository_of, revisions_of};
-ghost use Rattle.store_engines.specs.Dumps.{dump_text, revision_now, revisions_text, DumpStops};
+ghost use Rattle.store_engines.specs.Dumps.{dump_of, revision_now, revisions_text, DumpStops};
 ghost use Rattle.store_engines.specs.Ranges.{count_wanted, first_wanted, last_wanted};
 
 use crate::RevRange;
@@ -16,6 +17,7 @@ use repo_core::Repo;
 use repo_store::RepoStore;
 use std::alloc::Global;
 use std::io::Write;
+use uuid::Uuid;
 
 // The revisions to be written: those that are asked for, and else all. NoSuchRevision (21) above the head.
 fn wanted(repo: &Repo, range: &Option<RevRange>) -> Result<(RevNo, RevNo), Refusal>
@@ -36,6 +38,30 @@ fn wanted(repo: &Repo, range: &Option<RevRange>) -> Result<(RevNo, RevNo), Refus
     }
 }
 
+// Writes a text.
+fn write_text<W: Write + Drop>(text: &[u8], output: &mut Sink<W>) -> Result<(), Refusal>
+    ensures ok { OnOk result (Appends (W.contents output.old.inner) (W.contents output.new.inner) text.now) }
+    ensures refused { IfErr result (λ e. (e ≡ Refusal.PeerFailed) × (output.new.failed ≡ true)) }
+    ensures peer { Flagged result output.old.failed output.new.failed }
+{
+    if output.bytes(text).is_err() {
+        return Err(Refusal::PeerFailed);
+    }
+    Ok(())
+}
+
+// Writes the head with the identity.
+fn write_head<W: Write + Drop>(identity: &Uuid, output: &mut Sink<W>) -> Result<(), Refusal>
+    ensures ok { OnOk result (Appends (W.contents output.old.inner) (W.contents output.new.inner) (canon_head (Some identity.now))) }
+    ensures refused { IfErr result (λ e. (e ≡ Refusal.PeerFailed) × (output.new.failed ≡ true)) }
+    ensures peer { Flagged result output.old.failed output.new.failed }
+{
+    if output.head(Some(identity)).is_err() {
+        return Err(Refusal::PeerFailed);
+    }
+    Ok(())
+}
+
 // Writes one revision as it is now.
 fn write_one<D: Disk + Drop, W: Write + Drop>(
     alloc: Global,
@@ -45,11 +71,11 @@ fn write_one<D: Disk + Drop, W: Write + Drop>(
 ) -> Result<(), Refusal>
     requires there { number < length (revisions_of store.now) }
     ensures ok { OnOk result (Appends (W.contents output.old.inner) (W.contents output.new.inner) (spelling (revision_now (repository_of store.now) number))) }
-    ensures refused { IfErr result (λ e. ((e ≡ Refusal.OutOfMemory) × (W.contents output.new.inner ≡ W.contents output.old.inner)) ⊎ (output.new.failed ≡ true)) }
+    ensures refused { IfErr result (λ e. ((e ≡ Refusal.OutOfMemory) × (W.contents output.new.inner ≡ W.contents output.old.inner)) ⊎ ((e ≡ Refusal.PeerFailed) × (output.new.failed ≡ true))) }
     ensures peer { Flagged result output.old.failed output.new.failed }
 {
     match store.export(alloc, number) {
-        Ok(text) => output.bytes(&text),
+        Ok(text) => write_text(&text, output),
         Err(fault) => Err(store_refusal(fault)),
     }
 }
@@ -64,7 +90,7 @@ fn write_all<D: Disk + Drop, W: Write + Drop>(
 ) -> Result<(), Refusal>
     requires there { last < length (revisions_of store.now) }
     ensures ok { OnOk result (Appends (W.contents output.old.inner) (W.contents output.new.inner) (revisions_text (repository_of store.now) first (last + 1 - first))) }
-    ensures refused { IfErr result (λ e. ((e ≡ Refusal.OutOfMemory) × (written : ℕ) × (written < last + 1 - first) × Appends (W.contents output.old.inner) (W.contents output.new.inner) (revisions_text (repository_of store.now) first written)) ⊎ (output.new.failed ≡ true)) }
+    ensures refused { IfErr result (λ e. ((e ≡ Refusal.OutOfMemory) × (written : ℕ) × (written < last + 1 - first) × Appends (W.contents output.old.inner) (W.contents output.new.inner) (revisions_text (repository_of store.now) first written)) ⊎ ((e ≡ Refusal.PeerFailed) × (output.new.failed ≡ true))) }
     ensures peer { Flagged result output.old.failed output.new.failed }
 {
     for number in first.index()..last.index() + 1 {
@@ -83,12 +109,12 @@ pub fn run_dump<D: Disk + Drop, W: Write + Drop>(
     range: Option<RevRange>,
     output: &mut Sink<W>,
 ) -> Result<(), Refusal>
-    ensures ok { OnOk result (Appends (W.contents output.old.inner) (W.contents output.new.inner) (dump_text (repository_of store.now) (first_wanted range) (count_wanted (repository_of store.now) range))) }
+    ensures ok { OnOk result (Appends (W.contents output.old.inner) (W.contents output.new.inner) (dump_of (repository_of store.now) (first_wanted range) (count_wanted (repository_of store.now) range))) }
     ensures there { OnOk result (last_wanted (repository_of store.now) range < length (revisions_of store.now)) }
     ensures refused { IfErr result (DumpStops (repository_of store.now) range (W.contents output.old.inner) (W.contents output.new.inner) output.new.failed) }
     ensures peer { Flagged result output.old.failed output.new.failed }
 {
     let (first, last) = wanted(store.repo(), &range)?;
-    output.head(Some(&store.repo().identity()))?;
+    write_head(&store.repo().identity(), output)?;
     write_all(alloc, store, first, last, output)
 }

@@ -1,5 +1,5 @@
 //! Lines that tell what was done.
-ghost use Rattle.std.specs.Prelude.{◌≡◌, true, IfOk, OnOk, OnErr, string_bytes};
+ghost use Rattle.std.specs.Prelude.{◌≡◌, true, IfOk, IfErr, OnOk, OnErr, string_bytes};
 ghost use Rattle.std.specs.Io.KnownBytes.{Appends};
 ghost use Rattle.fleet_engines.specs.Runs.{Flagged};
 ghost use Rattle.store_engines.specs.Loads.{loaded_line};
@@ -28,8 +28,14 @@ pub fn committed_line(alloc: Global, number: usize) -> Result<String, AllocError
 pub fn say<W: Write + Drop>(output: &mut Sink<W>, line: &String) -> Result<(), Refusal>
     ensures ok { OnOk result (Appends (W.contents output.old.inner) (W.contents output.new.inner) (string_bytes line.now)) }
     ensures peer { Flagged result output.old.failed output.new.failed }
-    ensures only_peer { OnErr result (output.new.failed ≡ true) }
+    ensures failed { OnErr result (output.new.failed ≡ true) }
+    ensures only_peer { IfErr result (λ e. e ≡ Refusal.PeerFailed) }
 {
-    output.bytes(line.as_str().as_bytes())?;
-    output.flush()
+    if output.bytes(line.as_str().as_bytes()).is_err() {
+        return Err(Refusal::PeerFailed);
+    }
+    if output.flush().is_err() {
+        return Err(Refusal::PeerFailed);
+    }
+    Ok(())
 }

@@ -4,6 +4,7 @@ ghost use Rattle.std.specs.Io.KnownBytes.{Appends, Consumes, IsAtEnd};
 ghost use Rattle.node_base.specs.Props.{PropMap};
 ghost use Rattle.node_base.specs.Tree.{PathMap};
 ghost use Rattle.dump_load.specs.declared.change.Change.{Change as ChangeOf};
+ghost use Rattle.dump_text.specs.Streams.{has_failed};
 ghost use Rattle.dump_text.specs.declared.record.DumpRecord.{DumpRecord as RecordOf};
 ghost use Rattle.repo_core.specs.Repository.{Repository, trees_of};
 ghost use Rattle.repo_core.specs.Entries.{with_entry_in};
@@ -11,12 +12,15 @@ ghost use Rattle.repo_core.specs.declared.entry.Entry.{Entry};
 ghost use Rattle.repo_core.specs.declared.entry.Entry.TheVariants.{Mapped};
 ghost use Rattle.repo_core.specs.Refusals.{IsDue};
 ghost use Rattle.repo_core.specs.declared.fault.RepoFault.{RepoFault as RepoFaultOf};
-ghost use Rattle.repo_store.specs.Words.{repository_of, revisions_of};
+ghost use Rattle.fleet_disk.specs.Image.{Image};
+ghost use Rattle.repo_store.specs.Journal.{ReopensTo};
+ghost use Rattle.repo_store.specs.Words.{disk_of, identity_of, repository_of, revisions_of, HasFailed};
 ghost use Rattle.fleet_engines.specs.Histories.{rev_of};
 ghost use Rattle.fleet_engines.specs.Revisions.{Rev, Makes, IsUnfit, is_zero, is_past_zero};
 ghost use Rattle.fleet_engines.specs.Runs.{Flagged, BothFlagged};
 ghost use Rattle.store_engines.specs.Loaders.{last_of};
-ghost use Rattle.store_engines.specs.Loads.{entry_fault, loaded_line, CantTake, CantClose, Gathered, IsBare, IsLoaded, IsStop, Leads, Loaded, Moves, NotLoaded, Reached, Refused, Stands, Stops};
+ghost use Rattle.store_engines.specs.Devices.{is_device, CantKeep, IsSafe, Serves};
+ghost use Rattle.store_engines.specs.Loads.{entry_fault, loaded_line, CantTake, CantClose, Gathered, IsBare, IsLoaded, Leads, Loaded, Moves, NotLoaded, Reached, Refused, Stands, Stops};
 ghost use Rattle.store_engines.specs.Mirrors.{is_mirror};
 ghost use Rattle.store_engines.specs.Refusals.{repo_refusal};
 
@@ -58,6 +62,7 @@ fn judge(
 ) -> Result<ChangeSet, Refusal>
     ensures set { IfOk result (λ s. (props : PropMap) → (tree : PathMap) × Makes trees.now (record { number = number; props = props; nodes = nodes.items }) s tree) }
     ensures refused { IfErr result (λ e. (e ≡ Refusal.OutOfMemory) ⊎ ((props : PropMap) → IsUnfit trees.now (record { number = number; props = props; nodes = nodes.items }) e)) }
+    ensures no_device { IfErr result (λ e. is_device e ≡ false) }
     ensures no_peer { IfErr result (λ e. e ≡ Refusal.PeerFailed → ⊥) }
 {
     if number.index() != trees.len() {
@@ -77,7 +82,9 @@ fn put_zero<D: Disk + Drop>(
 ) -> Result<(), Refusal>
     ensures ok { OnOk result (repository_of store.new ≡ with_entry_in (repository_of store.old) (Mapped 0 props)) }
     ensures same { OnErr result (repository_of store.new ≡ repository_of store.old) }
-    ensures refused { IfErr result (λ e. IsStop e ⊎ ((f : RepoFaultOf) × IsDue f (entry_fault (revisions_of store.old) (Mapped 0 props)) × (e ≡ repo_refusal f))) }
+    ensures taken { OnOk result (entry_fault (revisions_of store.old) (Mapped 0 props) ≡ None) }
+    ensures refused { IfErr result (λ e. (e ≡ Refusal.OutOfMemory) ⊎ CantKeep store.new (Mapped 0 props) e ⊎ ((f : RepoFaultOf) × IsDue f (entry_fault (revisions_of store.old) (Mapped 0 props)) × (e ≡ repo_refusal f))) }
+    ensures device { IsSafe store.old → Serves store.old store.new result }
     ensures no_peer { IfErr result (λ e. e ≡ Refusal.PeerFailed → ⊥) }
 {
     match store.put_props(alloc, RevNo::ZERO, props) {
@@ -94,8 +101,9 @@ fn load_next<D: Disk + Drop, W: Write + Drop>(
     output: &mut Sink<W>,
 ) -> Result<(), Refusal>
     requires later { is_zero (trees_of (revisions_of store.old)) (rev_of revision) ≡ false }
-    ensures ok { OnOk result ((entry : Entry) × (line : List ℕ) × IsLoaded (revisions_of store.old) (rev_of revision) entry line × (repository_of store.new ≡ with_entry_in (repository_of store.old) entry) × Appends (W.contents output.old.inner) (W.contents output.new.inner) line) }
-    ensures refused { IfErr result (λ e. NotLoaded (repository_of store.old) (rev_of revision) (repository_of store.new) (W.contents output.old.inner) (W.contents output.new.inner) output.new.failed e) }
+    ensures ok { OnOk result ((entry : Entry) × (line : List ℕ) × IsLoaded (revisions_of store.old) (rev_of revision) entry line × (entry_fault (revisions_of store.old) entry ≡ None) × (repository_of store.new ≡ with_entry_in (repository_of store.old) entry) × Appends (W.contents output.old.inner) (W.contents output.new.inner) line) }
+    ensures refused { IfErr result (λ e. NotLoaded (repository_of store.old) (rev_of revision) store.new (W.contents output.old.inner) (W.contents output.new.inner) output.new.failed e) }
+    ensures device { IsSafe store.old → Serves store.old store.new result }
     ensures peer { Flagged result output.old.failed output.new.failed }
 {
     let RevRecord {
@@ -118,8 +126,9 @@ fn load_one<D: Disk + Drop, W: Write + Drop>(
     store: &mut RepoStore<D>,
     output: &mut Sink<W>,
 ) -> Result<(), Refusal>
-    ensures ok { OnOk result (IsBare (rev_of revision) → (entry : Entry) × (line : List ℕ) × IsLoaded (revisions_of store.old) (rev_of revision) entry line × (repository_of store.new ≡ with_entry_in (repository_of store.old) entry) × Appends (W.contents output.old.inner) (W.contents output.new.inner) line) }
-    ensures refused { IfErr result (λ e. IsBare (rev_of revision) → NotLoaded (repository_of store.old) (rev_of revision) (repository_of store.new) (W.contents output.old.inner) (W.contents output.new.inner) output.new.failed e) }
+    ensures ok { OnOk result (IsBare (rev_of revision) → (entry : Entry) × (line : List ℕ) × IsLoaded (revisions_of store.old) (rev_of revision) entry line × (entry_fault (revisions_of store.old) entry ≡ None) × (repository_of store.new ≡ with_entry_in (repository_of store.old) entry) × Appends (W.contents output.old.inner) (W.contents output.new.inner) line) }
+    ensures refused { IfErr result (λ e. IsBare (rev_of revision) → NotLoaded (repository_of store.old) (rev_of revision) store.new (W.contents output.old.inner) (W.contents output.new.inner) output.new.failed e) }
+    ensures device { IsSafe store.old → Serves store.old store.new result }
     ensures peer { Flagged result output.old.failed output.new.failed }
 {
     if is_zero(store.repo(), &revision) {
@@ -151,7 +160,8 @@ impl Loader {
         output: &mut Sink<W>,
     ) -> Result<(), Refusal>
         ensures ok { OnOk result (Moves (repository_of store.old) (last_of self.old) (W.contents output.old.inner) (next ∷ []) (repository_of store.new) (last_of self.new) (W.contents output.new.inner)) }
-        ensures refused { IfErr result (λ e. (x : Repository) (rs : List RecordOf) (start : Option (List ℕ)) → Stands x rs (repository_of store.old) (last_of self.old) start (W.contents output.old.inner) → CantTake x rs next (repository_of store.new) start (W.contents output.new.inner) output.new.failed e) }
+        ensures refused { IfErr result (λ e. (x : Repository) (rs : List RecordOf) (start : Option (List ℕ)) → Stands x rs (repository_of store.old) (last_of self.old) start (W.contents output.old.inner) → CantTake x rs next store.new start (W.contents output.new.inner) output.new.failed e) }
+        ensures device { IsSafe store.old → Serves store.old store.new result }
         ensures peer { Flagged result output.old.failed output.new.failed }
     {
         match next {
@@ -180,6 +190,7 @@ impl Loader {
     fn add_node(&mut self, node: NodeRecord) -> Result<(), Refusal>
         ensures ok { OnOk result ((r : Rev) × (last_of self.old ≡ Some r) × (is_past_zero (last_of self.old) ≡ true) × (last_of self.new ≡ Some (record r { nodes = r.nodes ++ node ∷ [] }))) }
         ensures refused { IfErr result (λ e. ((e ≡ Refusal.OutOfMemory) ⊎ ((e ≡ Refusal.WrongNumber) × (is_past_zero (last_of self.old) ≡ false)))) }
+        ensures no_device { IfErr result (λ e. is_device e ≡ false) }
         ensures no_peer { IfErr result (λ e. e ≡ Refusal.PeerFailed → ⊥) }
     {
         if !self.is_past_zero() {
@@ -215,7 +226,8 @@ impl Loader {
     ) -> Result<(), Refusal>
         ensures ok { OnOk result ((x : Repository) (rs : List RecordOf) (start : Option (List ℕ)) → Stands x rs (repository_of store.old) (last_of self.old) start (W.contents output.old.inner) → Gathered x rs (repository_of store.new) start (W.contents output.new.inner)) }
         ensures last { last_of self.new ≡ None }
-        ensures refused { IfErr result (λ e. (x : Repository) (rs : List RecordOf) (start : Option (List ℕ)) → Stands x rs (repository_of store.old) (last_of self.old) start (W.contents output.old.inner) → CantClose x rs (repository_of store.new) start (W.contents output.new.inner) output.new.failed e) }
+        ensures refused { IfErr result (λ e. (x : Repository) (rs : List RecordOf) (start : Option (List ℕ)) → Stands x rs (repository_of store.old) (last_of self.old) start (W.contents output.old.inner) → CantClose x rs store.new start (W.contents output.new.inner) output.new.failed e) }
+        ensures device { IsSafe store.old → Serves store.old store.new result }
         ensures peer { Flagged result output.old.failed output.new.failed }
     {
         match self.last.take() {
@@ -232,7 +244,8 @@ impl Loader {
         output: &mut Sink<W>,
     ) -> Result<(), Refusal>
         ensures ok { OnOk result (Moves (repository_of store.old) (last_of self.old) (W.contents output.old.inner) records.items (repository_of store.new) (last_of self.new) (W.contents output.new.inner)) }
-        ensures refused { IfErr result (λ e. (x : Repository) (rs : List RecordOf) (start : Option (List ℕ)) → Stands x rs (repository_of store.old) (last_of self.old) start (W.contents output.old.inner) → Stops x rs records.items (repository_of store.new) start (W.contents output.new.inner) output.new.failed e) }
+        ensures refused { IfErr result (λ e. (x : Repository) (rs : List RecordOf) (start : Option (List ℕ)) → Stands x rs (repository_of store.old) (last_of self.old) start (W.contents output.old.inner) → Stops x rs records.items store.new start (W.contents output.new.inner) output.new.failed e) }
+        ensures device { IsSafe store.old → Serves store.old store.new result }
         ensures peer { Flagged result output.old.failed output.new.failed }
     {
         for next in records {
@@ -250,7 +263,9 @@ impl Loader {
         output: &mut Sink<W>,
     ) -> Result<(), Refusal>
         ensures ok { OnOk result ((x : Repository) (bytes : List ℕ) (start : Option (List ℕ)) → Reached x bytes reader.old (repository_of store.old) (last_of self.old) start (W.contents output.old.inner) → Reached x (bytes ++ piece.now) reader.new (repository_of store.new) (last_of self.new) start (W.contents output.new.inner)) }
-        ensures refused { IfErr result (λ e. (rest : List ℕ) (x : Repository) (bytes : List ℕ) (start : Option (List ℕ)) → Reached x bytes reader.old (repository_of store.old) (last_of self.old) start (W.contents output.old.inner) → Refused x ((bytes ++ piece.now) ++ rest) (repository_of store.new) start (W.contents output.new.inner) output.new.failed e) }
+        ensures refused { IfErr result (λ e. (rest : List ℕ) (x : Repository) (bytes : List ℕ) (start : Option (List ℕ)) → Reached x bytes reader.old (repository_of store.old) (last_of self.old) start (W.contents output.old.inner) → Refused x ((bytes ++ piece.now) ++ rest) store.new start (W.contents output.new.inner) output.new.failed e) }
+        ensures reading { OnOk result (has_failed reader.old ≡ false → has_failed reader.new ≡ false) }
+        ensures device { has_failed reader.old ≡ false → IsSafe store.old → Serves store.old store.new result }
         ensures peer { Flagged result output.old.failed output.new.failed }
     {
         let mut records = Vec::new(self.alloc);
@@ -270,7 +285,8 @@ impl Loader {
         output: &mut Sink<W>,
     ) -> Result<(), Refusal>
         ensures ok { OnOk result ((x : Repository) (bytes : List ℕ) (start : Option (List ℕ)) → Reached x bytes reader (repository_of store.old) (last_of self.old) start (W.contents output.old.inner) → Loaded x bytes (repository_of store.new) start (W.contents output.new.inner)) }
-        ensures refused { IfErr result (λ e. (x : Repository) (bytes : List ℕ) (start : Option (List ℕ)) → Reached x bytes reader (repository_of store.old) (last_of self.old) start (W.contents output.old.inner) → Refused x bytes (repository_of store.new) start (W.contents output.new.inner) output.new.failed e) }
+        ensures refused { IfErr result (λ e. (x : Repository) (bytes : List ℕ) (start : Option (List ℕ)) → Reached x bytes reader (repository_of store.old) (last_of self.old) start (W.contents output.old.inner) → Refused x bytes store.new start (W.contents output.new.inner) output.new.failed e) }
+        ensures device { has_failed reader ≡ false → IsSafe store.old → Serves store.old store.new result }
         ensures peer { Flagged result output.old.failed output.new.failed }
     {
         if let Err(fault) = reader.finish() {
@@ -290,7 +306,9 @@ fn read_all<D: Disk + Drop, R: Read + Drop, W: Write + Drop>(
     output: &mut Sink<W>,
 ) -> Result<(), Refusal>
     ensures ok { OnOk result (0 < length piece.old → (bytes : List ℕ) × Consumes (R.remaining input.old.inner) (R.remaining input.new.inner) bytes × IsAtEnd (R.remaining input.new.inner) × Leads reader.old (repository_of store.old) (last_of loader.old) (W.contents output.old.inner) bytes reader.new (repository_of store.new) (last_of loader.new) (W.contents output.new.inner)) }
-    ensures refused { IfErr result (λ e. (x : Repository) (start : Option (List ℕ)) → Reached x [] reader.old (repository_of store.old) (last_of loader.old) start (W.contents output.old.inner) → IfSome (R.remaining input.old.inner) (λ bytes. Refused x bytes (repository_of store.new) start (W.contents output.new.inner) output.new.failed e)) }
+    ensures refused { IfErr result (λ e. (x : Repository) (start : Option (List ℕ)) → Reached x [] reader.old (repository_of store.old) (last_of loader.old) start (W.contents output.old.inner) → IfSome (R.remaining input.old.inner) (λ bytes. Refused x bytes store.new start (W.contents output.new.inner) output.new.failed e)) }
+    ensures reading { OnOk result (has_failed reader.old ≡ false → has_failed reader.new ≡ false) }
+    ensures device { has_failed reader.old ≡ false → IsSafe store.old → Serves store.old store.new result }
     ensures peer { BothFlagged result input.old.failed input.new.failed output.old.failed output.new.failed }
 {
     for _ in 0..READS {
@@ -311,7 +329,8 @@ fn load_stream<D: Disk + Drop, R: Read + Drop, W: Write + Drop>(
     output: &mut Sink<W>,
 ) -> Result<(), Refusal>
     ensures ok { OnOk result (IfSome (R.remaining input.old.inner) (λ bytes. Loaded (repository_of store.old) bytes (repository_of store.new) (W.contents output.old.inner) (W.contents output.new.inner))) }
-    ensures refused { IfErr result (λ e. IfSome (R.remaining input.old.inner) (λ bytes. Refused (repository_of store.old) bytes (repository_of store.new) (W.contents output.old.inner) (W.contents output.new.inner) output.new.failed e)) }
+    ensures refused { IfErr result (λ e. IfSome (R.remaining input.old.inner) (λ bytes. Refused (repository_of store.old) bytes store.new (W.contents output.old.inner) (W.contents output.new.inner) output.new.failed e)) }
+    ensures device { IsSafe store.old → Serves store.old store.new result }
     ensures peer { BothFlagged result input.old.failed input.new.failed output.old.failed output.new.failed }
 {
     let mut loader = Loader::new(alloc);
@@ -343,9 +362,12 @@ pub fn run_load<D: Disk + Drop, R: Read + Drop, W: Write + Drop>(
     output: &mut Sink<W>,
 ) -> Result<(), Refusal>
     ensures ok { OnOk result (IfSome (R.remaining input.old.inner) (λ bytes. Loaded (repository_of store.old) bytes (repository_of store.new) (W.contents output.old.inner) (W.contents output.new.inner))) }
-    ensures refused { IfErr result (λ e. is_mirror (revisions_of store.old) ≡ false → IfSome (R.remaining input.old.inner) (λ bytes. Refused (repository_of store.old) bytes (repository_of store.new) (W.contents output.old.inner) (W.contents output.new.inner) output.new.failed e)) }
+    ensures refused { IfErr result (λ e. is_mirror (revisions_of store.old) ≡ false → IfSome (R.remaining input.old.inner) (λ bytes. Refused (repository_of store.old) bytes store.new (W.contents output.old.inner) (W.contents output.new.inner) output.new.failed e)) }
     ensures mirror { is_mirror (revisions_of store.old) ≡ true → IfErr result (λ e. (e ≡ Refusal.ReadOnly) × (repository_of store.new ≡ repository_of store.old) × (R.remaining input.new.inner ≡ R.remaining input.old.inner) × (W.contents output.new.inner ≡ W.contents output.old.inner)) }
     ensures no_mirror { OnOk result (is_mirror (revisions_of store.old) ≡ false) }
+    ensures device { Serves store.old store.new result }
+    ensures durable { D.honest (disk_of store.new) → ¬ HasFailed store.new → (image : Image) → D.may_leave (disk_of store.new) image
+        → ReopensTo (identity_of store.new) (revisions_of store.new) image }
     ensures peer { BothFlagged result input.old.failed input.new.failed output.old.failed output.new.failed }
 {
     refuse_mirror(store.repo())?;

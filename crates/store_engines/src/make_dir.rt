@@ -5,9 +5,12 @@ ghost use Rattle.fleet_engines.specs.Runs.{Flagged};
 ghost use Rattle.node_base.specs.Path.{Path};
 ghost use Rattle.node_base.specs.PathText.{path_read};
 ghost use Rattle.node_base.specs.declared.fault.PathFault.{PathFault as PathFaultOf};
-ghost use Rattle.repo_store.specs.Words.{repository_of, revisions_of};
-ghost use Rattle.store_engines.specs.Commits.{directory_entry, directory_set, logged, IsCommitted, NotCommitted};
-ghost use Rattle.store_engines.specs.Loads.{entry_fault, IsStop};
+ghost use Rattle.fleet_disk.specs.Image.{Image};
+ghost use Rattle.repo_store.specs.Journal.{ReopensTo};
+ghost use Rattle.repo_store.specs.Words.{disk_of, identity_of, repository_of, revisions_of, HasFailed};
+ghost use Rattle.store_engines.specs.Commits.{bare_entry, directory_entry, directory_set, logged, IsCommitted, NotCommitted};
+ghost use Rattle.store_engines.specs.Devices.{is_device, CantKeep, IsSafe, Serves};
+ghost use Rattle.store_engines.specs.Loads.{entry_fault};
 ghost use Rattle.store_engines.specs.Mirrors.{is_mirror};
 ghost use Rattle.store_engines.specs.Refusals.{path_refusal, repo_refusal};
 
@@ -29,6 +32,7 @@ use std::io::Write;
 fn path_of(alloc: Global, word: &str) -> Result<NodePath, Refusal>
     ensures path { IfOk result (λ p. path_read word.now ≡ Ok p) }
     ensures refused { IfErr result (λ e. (e ≡ Refusal.OutOfMemory) ⊎ ((f : PathFaultOf) × (path_read word.now ≡ Err f) × (e ≡ path_refusal f))) }
+    ensures no_device { IfErr result (λ e. is_device e ≡ false) }
 {
     match NodePath::parse(alloc, word.as_bytes()) {
         Ok(path) => Ok(path),
@@ -92,9 +96,10 @@ fn refused_message<D: Disk + Drop>(
     set: ChangeSet,
     moment: Moment,
 ) -> Refusal
-    ensures due { IsStop result ⊎ ((path : Path) (message : List ℕ) → set ≡ directory_set path → 65536 < length message
-        → option_map repo_refusal (entry_fault (revisions_of store.old) (directory_entry (revisions_of store.old) path message moment)) ≡ Some result) }
+    ensures due { (result ≡ Refusal.OutOfMemory) ⊎ ((path : Path) → set ≡ directory_set path → CantKeep store.new (bare_entry (revisions_of store.old) path moment) result)
+        ⊎ ((path : Path) (message : List ℕ) → set ≡ directory_set path → 65536 < length message → option_map repo_refusal (entry_fault (revisions_of store.old) (directory_entry (revisions_of store.old) path message moment)) ≡ Some result) }
     ensures same { repository_of store.new ≡ repository_of store.old }
+    ensures device { IsSafe store.old → Serves store.old store.new (Err result) }
     ensures no_peer { result ≡ Refusal.PeerFailed → ⊥ }
 {
     let head = store.repo().head();
@@ -114,7 +119,8 @@ fn commit_directory<D: Disk + Drop, W: Write + Drop>(
     output: &mut Sink<W>,
 ) -> Result<(), Refusal>
     ensures ok { OnOk result ((bytes : List ℕ) → is_mirror (revisions_of store.old) ≡ false → path_read bytes ≡ Ok path → IsCommitted (repository_of store.old) bytes message.now moment (repository_of store.new) (W.contents output.old.inner) (W.contents output.new.inner)) }
-    ensures refused { IfErr result (λ e. (bytes : List ℕ) → is_mirror (revisions_of store.old) ≡ false → path_read bytes ≡ Ok path → NotCommitted (repository_of store.old) bytes message.now moment (repository_of store.new) (W.contents output.old.inner) (W.contents output.new.inner) output.new.failed e) }
+    ensures refused { IfErr result (λ e. (bytes : List ℕ) → is_mirror (revisions_of store.old) ≡ false → path_read bytes ≡ Ok path → NotCommitted (repository_of store.old) bytes message.now moment store.new (W.contents output.old.inner) (W.contents output.new.inner) output.new.failed e) }
+    ensures device { IsSafe store.old → Serves store.old store.new result }
     ensures peer { Flagged result output.old.failed output.new.failed }
 {
     let set = one_directory(alloc, path)?;
@@ -146,8 +152,11 @@ pub fn run_mkdir<D: Disk + Drop, W: Write + Drop>(
     output: &mut Sink<W>,
 ) -> Result<(), Refusal>
     ensures ok { OnOk result (IsCommitted (repository_of store.old) path.now message.now moment (repository_of store.new) (W.contents output.old.inner) (W.contents output.new.inner)) }
-    ensures refused { IfErr result (NotCommitted (repository_of store.old) path.now message.now moment (repository_of store.new) (W.contents output.old.inner) (W.contents output.new.inner) output.new.failed) }
+    ensures refused { IfErr result (NotCommitted (repository_of store.old) path.now message.now moment store.new (W.contents output.old.inner) (W.contents output.new.inner) output.new.failed) }
     ensures mirror { is_mirror (revisions_of store.old) ≡ true → IsErrOf result Refusal.ReadOnly }
+    ensures device { Serves store.old store.new result }
+    ensures durable { D.honest (disk_of store.new) → ¬ HasFailed store.new → (image : Image) → D.may_leave (disk_of store.new) image
+        → ReopensTo (identity_of store.new) (revisions_of store.new) image }
     ensures peer { Flagged result output.old.failed output.new.failed }
 {
     refuse_mirror(store.repo())?;

@@ -1,6 +1,8 @@
-use Rattle.std.proofs.Common.{◌∙◌, refl, inr}
+use Rattle.std.proofs.Common.{◌∙◌, ap, refl, inr}
 use Rattle.dump_load.specs.declared.fault.ChangeFault.TheVariants as change
 use Rattle.dump_load.specs.Records.{out_of_turn}
+use Rattle.store_engines.specs.Devices.{is_device}
+use Rattle.store_engines.proofs.Devices.{change_no_device}
 use Rattle.store_engines.proofs.load.judge.Goals as goal
 
 pub returns-then-index-trees-clause-refused : goal.returns-then-index-trees-clause-refused
@@ -13,3 +15,6 @@ returns-in-Ok-clause-set c =
 
 pub returns-in-Err-clause-refused : goal.returns-in-Err-clause-refused
 returns-in-Err-clause-refused c = inr (λ props. (c.in-Err.fault, c.change_refusal.ensures.value, c.in-Err.ensures.refused))
+
+pub returns-in-Err-clause-no_device : goal.returns-in-Err-clause-no_device
+returns-in-Err-clause-no_device c = ap is_device c.change_refusal.ensures.value ∙ change_no_device c.in-Err.fault

@@ -1,25 +1,19 @@
-use Rattle.std.proofs.Common.{[], ◌∙◌, ap, sym, refl}
-use Rattle.std.proofs.KnownBytes.{Appends-nil}
-use Rattle.std.proofs.lemmas.Result.{on_ok_weaker}
+use Rattle.std.proofs.Common.{◌∙◌, ap, sym}
 use Rattle.fleet_engines.specs.Histories.{rev_of}
-use Rattle.fleet_engines.specs.Revisions.{is_lone, is_zero}
+use Rattle.fleet_engines.specs.Revisions.{is_zero}
 use Rattle.repo_core.specs.Repository.{trees_of}
-use Rattle.repo_core.specs.declared.entry.Entry.TheVariants.{Mapped}
-use Rattle.repo_store.specs.Words.{repository_of, revisions_of}
-use Rattle.store_engines.specs.Loads.{revision_0}
-use Rattle.store_engines.proofs.Loading.{zero_number, zero_err}
+use Rattle.repo_store.specs.Words.{repository_of}
+use Rattle.store_engines.proofs.Loading.{zero_said, zero_err}
 use Rattle.store_engines.proofs.load.load_one.Goals as goal
 
 pub returns-then-is_zero-clause-ok : goal.returns-then-is_zero-clause-ok
 returns-then-is_zero-clause-ok g c =
     let r = rev_of c.args.revision in
     let zero = ap (λ v. is_zero (trees_of v.revisions) r) (sym c.repo.ensures.value) ∙ sym c.is_zero.ensures ∙ c.if-is_zero.true in
-    on_ok_weaker c.put_zero.result
-    (λ k b. (Mapped 0 c.args.revision.props, [], revision_0 zero (b (zero_number (is_lone (trees_of (revisions_of c.args.store.now))) r.number zero)) refl refl, k, Appends-nil (g.W.Write.contents c.args.output.now.inner)))
-    c.put_zero.ensures.ok
+    zero_said (repository_of c.args.store.now) (repository_of c.put_zero.new.store) r (g.W.Write.contents c.args.output.now.inner) c.put_zero.result zero c.put_zero.ensures.taken c.put_zero.ensures.ok
 
 pub returns-then-is_zero-clause-refused : goal.returns-then-is_zero-clause-refused
 returns-then-is_zero-clause-refused g c =
     let r = rev_of c.args.revision in
     let zero = ap (λ v. is_zero (trees_of v.revisions) r) (sym c.repo.ensures.value) ∙ sym c.is_zero.ensures ∙ c.if-is_zero.true in
-    zero_err (repository_of c.args.store.now) (repository_of c.put_zero.new.store) r (g.W.Write.contents c.args.output.now.inner) c.args.output.now.failed c.put_zero.result zero c.put_zero.ensures.same c.put_zero.ensures.refused
+    zero_err (repository_of c.args.store.now) c.put_zero.new.store r (g.W.Write.contents c.args.output.now.inner) c.args.output.now.failed c.put_zero.result zero c.put_zero.ensures.same c.put_zero.ensures.refused

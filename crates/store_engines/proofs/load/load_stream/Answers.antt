@@ -1,14 +1,16 @@
-use Rattle.std.proofs.Common.{◌<◌, length, arith}
+use Rattle.std.proofs.Common.{◌<◌, ap, length, arith, refl}
 use Rattle.std.proofs.lemmas.Result.{err_from_is_err_and, on_ok_weaker, IfErr-weaker}
 use Rattle.fleet_engines.proofs.Streaming.{later_flagged}
 use Rattle.repo_store.specs.Words.{repository_of}
 use Rattle.store_engines.specs.Loaders.{last_of}
 use Rattle.store_engines.specs.Loads.{Loaded, Refused}
 use Rattle.store_engines.proofs.Feeding.{first_refused, first_reached, run_ended}
+use Rattle.dump_text.specs.Streams.{has_failed}
+use Rattle.store_engines.proofs.Devices.{serves_on, unserved}
 use Rattle.store_engines.proofs.load.load_stream.Goals as goal
 
 pub returns-in_default-clause-refused : goal.returns-in_default-clause-refused
-returns-in_default-clause-refused g c = first_refused (repository_of c.args.store.now) (g.W.Write.contents c.args.output.now.inner) (g.R.Read.remaining c.args.input.now.inner) c.args.output.now.failed
+returns-in_default-clause-refused g c = first_refused c.args.store.now (g.W.Write.contents c.args.output.now.inner) (g.R.Read.remaining c.args.input.now.inner) c.args.output.now.failed
 
 pub returns-in_err-read_all-clause-refused : goal.returns-in_err-read_all-clause-refused
 returns-in_err-read_all-clause-refused g c =
@@ -44,10 +46,24 @@ returns-clause-refused g c =
     let r = c.in_ok-read_all.ensures.ok some in
     IfErr-weaker c.finish.result _ _
     (λ e k. run_ended (repository_of c.args.store.now) y c.new-reader.result c.read_all.new.reader (last_of c.new-loader.result) (last_of c.read_all.new.loader) (g.W.Write.contents c.args.output.now.inner) now (g.R.Read.remaining c.args.input.now.inner) (g.R.Read.remaining c.read_all.new.input.inner) r.0
-    (λ bytes. Refused (repository_of c.args.store.now) bytes z (g.W.Write.contents c.args.output.now.inner) later c.finish.new.output.failed e) c.new-reader.ensures c.new-loader.ensures r.1 r.2 r.3 (λ bs w. k (repository_of c.args.store.now) bs (g.W.Write.contents c.args.output.now.inner) w))
+    (λ bytes. Refused (repository_of c.args.store.now) bytes c.finish.new.store (g.W.Write.contents c.args.output.now.inner) later c.finish.new.output.failed e) c.new-reader.ensures c.new-loader.ensures r.1 r.2 r.3 (λ bs w. k (repository_of c.args.store.now) bs (g.W.Write.contents c.args.output.now.inner) w))
     c.finish.ensures.refused
 
 pub returns-clause-peer : goal.returns-clause-peer
 returns-clause-peer g c =
     let f = c.in_ok-read_all.ensures.peer in
     later_flagged c.finish.result c.args.input.now.failed c.read_all.new.input.failed c.args.output.now.failed c.read_all.new.output.failed c.finish.new.output.failed f.0 f.1 c.finish.ensures.peer
+
+pub returns-in_default-clause-device : goal.returns-in_default-clause-device
+returns-in_default-clause-device g c safe = unserved c.args.store.now _ refl safe
+
+pub returns-in_err-read_all-clause-device : goal.returns-in_err-read_all-clause-device
+returns-in_err-read_all-clause-device g c safe =
+    let p = err_from_is_err_and c.from_residual.result c.from_residual.ensures.1 in
+    rw (p.1, p.2) (c.in_err-read_all.ensures.device (ap has_failed c.new-reader.ensures) safe)
+
+pub returns-clause-device : goal.returns-clause-device
+returns-clause-device g c safe =
+    let fresh = ap has_failed c.new-reader.ensures in
+    let so_far = c.in_ok-read_all.ensures.device fresh safe in
+    serves_on c.args.store.now c.read_all.new.store c.finish.new.store _ c.finish.result so_far (c.finish.ensures.device (c.in_ok-read_all.ensures.reading fresh) so_far.safe)

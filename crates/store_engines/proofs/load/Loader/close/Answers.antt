@@ -1,4 +1,4 @@
-use Rattle.std.proofs.Common.{◌≡◌, ◌∙◌, Some, ap, sym, subst}
+use Rattle.std.proofs.Common.{◌≡◌, Ok, ◌∙◌, Some, ap, sym, subst}
 use Rattle.std.proofs.lemmas.Result.{on_ok_weaker, IfErr-weaker}
 use Rattle.std.specs.Option.{option_map}
 use Rattle.fleet_engines.specs.Histories.{rev_of}
@@ -6,6 +6,7 @@ use Rattle.repo_store.specs.Words.{repository_of}
 use Rattle.store_engines.specs.Loaders.{last_of}
 use Rattle.store_engines.specs.Loads.{Stands}
 use Rattle.store_engines.proofs.Loading.{closes, cant_close}
+use Rattle.store_engines.proofs.Devices.{unserved}
 use Rattle.store_engines.proofs.load.Loader.close.Goals as goal
 
 pub returns-in-Some-clause-ok : goal.returns-in-Some-clause-ok
@@ -20,19 +21,21 @@ returns-in-Some-clause-ok g c =
     (λ k x rs start s.
     let t = subst (λ l. Stands x rs y l start a) there s in
     let q = k t.bare in
-    closes x rs y z r q.0 q.1 start a now t q.2 q.3 q.4)
+    closes x rs y z r q.0 q.1 start a now t q.2 q.3 q.4 q.5)
     c.load_one.ensures.ok
 
 pub returns-in-Some-clause-refused : goal.returns-in-Some-clause-refused
 returns-in-Some-clause-refused g c =
     let r = rev_of c.in-Some.revision in
     let y = repository_of c.args.store.now in
-    let z = repository_of c.load_one.new.store in
     let a = g.W.Write.contents c.args.output.now.inner in
     let now = g.W.Write.contents c.load_one.new.output.inner in
     let there : last_of c.args.self.now ≡ Some r = ap (option_map rev_of) (sym c.take.ensures.value ∙ c.in-Some.is) in
     IfErr-weaker c.load_one.result _ _
     (λ e k x rs start s.
     let t = subst (λ l. Stands x rs y l start a) there s in
-    cant_close x rs y z r start a now c.load_one.new.output.failed e t (k t.bare))
+    cant_close x rs y c.load_one.new.store r start a now c.load_one.new.output.failed e t (k t.bare))
     c.load_one.ensures.refused
+
+pub returns-in-None-clause-device : goal.returns-in-None-clause-device
+returns-in-None-clause-device g c safe = unserved c.args.store.now (Ok tt) tt safe

@@ -5,6 +5,9 @@ use Rattle.std.specs.Result.{OnErr}
 use Rattle.repo_store.specs.Words.{repository_of}
 use Rattle.store_engines.specs.Loaders.{last_of}
 use Rattle.store_engines.proofs.Feeding.{fed_ok, fed_err, fed_stops}
+use Rattle.fleet_engines.specs.Refusals.{dump_refusal}
+use Rattle.store_engines.proofs.Devices.{serves_then}
+use Rattle.store_engines.proofs.Faults.{reads_on, shows_no_device}
 use Rattle.store_engines.proofs.load.Loader.feed.Goals as goal
 
 pub returns-in-Ok-clause-ok : goal.returns-in-Ok-clause-ok
@@ -24,7 +27,7 @@ returns-in-Err-clause-refused g c =
     let piece = c.args.piece.now in
     let none = c.new-records.ensures.items in
     rw c.dump_refusal.ensures.value
-    (λ rest x bytes start. fed_err x bytes piece rest old new out (repository_of c.args.store.now) (repository_of c.take_all.new.store) (last_of c.args.self.now) (last_of c.take_all.new.self) start (g.W.Write.contents c.args.output.now.inner) (g.W.Write.contents c.take_all.new.output.inner) c.take_all.new.output.failed c.in-Err.fault
+    (λ rest x bytes start. fed_err x bytes piece rest old new out (repository_of c.args.store.now) c.take_all.new.store (last_of c.args.self.now) (last_of c.take_all.new.self) start (g.W.Write.contents c.args.output.now.inner) (g.W.Write.contents c.take_all.new.output.inner) c.take_all.new.output.failed c.in-Err.fault
     (λ e. subst (λ l. StreamIs (Err c.in-Err.fault) new out (reading (Reads l old) piece)) none (c.in-Err.ensures.reads e))
     (λ e. subst (λ l. IsFront out (reading (Reads l old) piece)) none (c.in-Err.ensures.front e))
     c.in_ok-take_all.ensures.ok)
@@ -38,7 +41,27 @@ returns-in_err-take_all-clause-refused g c =
     let piece = c.args.piece.now in
     let none = c.new-records.ensures.items in
     rw (p.1, p.2)
-    (λ rest x bytes start. fed_stops x bytes piece rest old new out (repository_of c.args.store.now) (repository_of c.take_all.new.store) (last_of c.args.self.now) start (g.W.Write.contents c.args.output.now.inner) (g.W.Write.contents c.take_all.new.output.inner) c.take_all.new.output.failed c.feed-fed.result c.in_err-take_all.field-0.0
+    (λ rest x bytes start. fed_stops x bytes piece rest old new out (repository_of c.args.store.now) c.take_all.new.store (last_of c.args.self.now) start (g.W.Write.contents c.args.output.now.inner) (g.W.Write.contents c.take_all.new.output.inner) c.take_all.new.output.failed c.feed-fed.result c.in_err-take_all.field-0.0
     (λ e. subst (λ l. StreamIs c.feed-fed.result new out (reading (Reads l old) piece)) none (c.feed-fed.ensures.reads e))
     (λ e. subst (λ l. OnErr c.feed-fed.result (IsFront out (reading (Reads l old) piece))) none (c.feed-fed.ensures.front e))
     c.in_err-take_all.ensures.refused)
+
+pub returns-in-Ok-clause-reading : goal.returns-in-Ok-clause-reading
+returns-in-Ok-clause-reading g c h =
+    reads_on c.args.reader.now c.feed-fed.new.self c.feed-fed.new.out.items c.args.piece.now (λ e. subst (λ l. reading (Reads l c.args.reader.now) c.args.piece.now ≡ Reads c.feed-fed.new.out.items c.feed-fed.new.self) c.new-records.ensures.items (c.in-Ok.ensures.reads e)) h
+
+pub returns-in-Err-clause-device : goal.returns-in-Err-clause-device
+returns-in-Err-clause-device g c h safe =
+    let old = c.args.reader.now in
+    let new = c.feed-fed.new.self in
+    let out = c.feed-fed.new.out.items in
+    let piece = c.args.piece.now in
+    rw c.dump_refusal.ensures.value
+    (serves_then c.args.store.now c.take_all.new.store _ (Err (dump_refusal c.in-Err.fault))
+    (shows_no_device old new out piece c.in-Err.fault (λ e. subst (λ l. StreamIs (Err c.in-Err.fault) new out (reading (Reads l old) piece)) c.new-records.ensures.items (c.in-Err.ensures.reads e)) h)
+    (c.in_ok-take_all.ensures.device safe))
+
+pub returns-in_err-take_all-clause-device : goal.returns-in_err-take_all-clause-device
+returns-in_err-take_all-clause-device g c h safe =
+    let p = err_from_is_err_and c.from_residual.result c.from_residual.ensures.1 in
+    rw (p.1, p.2) (c.in_err-take_all.ensures.device safe)

@@ -2,13 +2,19 @@ use Rattle.std.proofs.lemmas.Result.{on_ok_weaker, IfErr-weaker}
 use Rattle.repo_store.specs.Words.{repository_of}
 use Rattle.store_engines.specs.Loaders.{last_of}
 use Rattle.store_engines.proofs.Feeding.{is_cut, is_ended, ended_ok, ended_err}
+use Rattle.std.proofs.Common.{◌∙◌, Err, ap, sym}
+use Rattle.dump_text.specs.Streams.{is_between}
+use Rattle.fleet_engines.specs.Refusals.{dump_refusal}
+use Rattle.fleet_engines.proofs.Ending.{no_end}
+use Rattle.store_engines.specs.Devices.{is_device}
+use Rattle.store_engines.proofs.Devices.{unserved}
 use Rattle.store_engines.proofs.load.Loader.finish.Goals as goal
 
 pub returns-in-Err-clause-refused : goal.returns-in-Err-clause-refused
 returns-in-Err-clause-refused g c =
     let now = g.W.Write.contents c.args.output.now.inner in
     rw c.dump_refusal.ensures.value
-    (λ x bytes start. is_cut x bytes c.args.reader (repository_of c.args.store.now) (last_of c.args.self.now) start now c.args.output.now.failed c.finish.result c.in-Err.fault c.finish.ensures.ended c.in-Err.is)
+    (λ x bytes start. is_cut x bytes c.args.reader c.args.store.now (last_of c.args.self.now) start now c.args.output.now.failed c.finish.result c.in-Err.fault c.finish.ensures.ended c.in-Err.is)
 
 pub returns-clause-ok : goal.returns-clause-ok
 returns-clause-ok g c =
@@ -25,5 +31,10 @@ returns-clause-refused g c =
     let last = last_of c.args.self.now in
     let now = g.W.Write.contents c.args.output.now.inner in
     IfErr-weaker c.close.result _ _
-    (λ e k x bytes start. ended_err x bytes c.args.reader y (repository_of c.close.new.store) last start now (g.W.Write.contents c.close.new.output.inner) c.close.new.output.failed e (is_ended x bytes c.args.reader y last start now c.finish.result c.in_default.field-0 c.finish.ensures.ended c.in_default.is) k)
+    (λ e k x bytes start. ended_err x bytes c.args.reader y c.close.new.store last start now (g.W.Write.contents c.close.new.output.inner) c.close.new.output.failed e (is_ended x bytes c.args.reader y last start now c.finish.result c.in_default.field-0 c.finish.ensures.ended c.in_default.is) k)
     c.close.ensures.refused
+
+pub returns-in-Err-clause-device : goal.returns-in-Err-clause-device
+returns-in-Err-clause-device g c h safe =
+    let n = no_end (is_between c.args.reader) c.in-Err.fault (sym c.in-Err.is ∙ c.finish.ensures.ended h) in
+    rw c.dump_refusal.ensures.value (unserved c.args.store.now (Err (dump_refusal c.in-Err.fault)) (ap (λ f. is_device (dump_refusal f)) n.1) safe)

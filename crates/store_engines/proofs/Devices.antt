@@ -1,0 +1,281 @@
+-- What calls do to a store's device, one after another.
+use Rattle.std.proofs.Common.{◌≡◌, ℕ, ◌<◌, ◌≤◌, ◌+◌, ◌^◌, ◌⊎◌, ◌↔◌, true, false, List, [], ◌∷◌, ◌++◌, length, Result, Ok, Err, IsErrOf, IfErr, Option, is_ok, refl, sym, ap, subst, ◌∙◌, append_assoc, append-nil, arith, inl, inr, ⊎_elim}
+use Rattle.std.proofs.lemmas.Bool.{true≢false}
+use Rattle.node_base.specs.Refusals.{refusal_number}
+use Rattle.node_base.specs.declared.refusal.Refusal.{Refusal}
+use Rattle.node_base.specs.declared.refusal.Refusal.TheVariants as refusal
+use Rattle.node_base.specs.declared.fault.PathFault.{PathFault}
+use Rattle.node_base.specs.declared.fault.PathFault.TheVariants as path
+use Rattle.dump_load.specs.declared.fault.ChangeFault.{ChangeFault}
+use Rattle.dump_load.specs.declared.fault.ChangeFault.TheVariants as change
+use Rattle.fleet_disk.specs.Image.{Image}
+use Rattle.fleet_disk.specs.Rules.{LeavesOnly, Rose}
+use Rattle.fleet_disk.specs.declared.disk.Disk.{Ghosts}
+use Rattle.fleet_disk.proofs.Moments.{started, joined, weaker}
+use Rattle.gate_log.specs.Log.{size_of, ends_of}
+use Rattle.gate_log.specs.Standing.{last_end}
+use Rattle.gate_log.specs.declared.fault.LogFault.TheVariants as log
+use Rattle.repo_core.specs.Entries.{revisions_after, with_entry, with_entry_in}
+use Rattle.repo_core.specs.declared.entry.Entry.{Entry}
+use Rattle.repo_core.specs.Refusals.{IsDue}
+use Rattle.repo_core.specs.Repository.{Repository, Revision}
+use Rattle.repo_core.specs.declared.fault.RepoFault.{RepoFault}
+use Rattle.repo_core.specs.declared.fault.RepoFault.TheVariants as core
+use Rattle.repo_core.proofs.LawsOf.{entries_join}
+use Rattle.repo_store.specs.Journal.{spelling, ReopensTo, IsBeforeOrAfter}
+use Rattle.repo_store.specs.Refusals.{IsReserveFault, IsStageFault, IsStoreFault}
+use Rattle.repo_store.specs.Words.{disk_of, log_of, identity_of, revisions_of, repository_of, HasFailed}
+use Rattle.repo_store.specs.declared.store.RepoStore.{RepoStore}
+use Rattle.repo_store.specs.declared.fault.StoreFault.{StoreFault}
+use Rattle.repo_store.specs.declared.fault.StoreFault.TheVariants.{Repo, Log}
+use Rattle.repo_store.proofs.Going.{rose_on}
+use Rattle.fleet_engines.specs.Refusals.{change_refusal}
+use Rattle.store_engines.specs.Devices.{is_device, IsSafe, CantKeep, IsOnTheWay, Serves, failed_before, no_room, device_fails}
+use Rattle.store_engines.specs.Refusals.{log_refusal, path_refusal, repo_refusal, store_refusal}
+
+-- ---- which refusals tell of the device
+
+pub change_no_device : (f : ChangeFault) → is_device (change_refusal f) ≡ false
+change_no_device change.BadHeader = refl
+change_no_device change.TooLong = refl
+change_no_device change.BadPath = refl
+change_no_device change.NoSuchPath = refl
+change_no_device change.PathThere = refl
+change_no_device change.NotDir = refl
+change_no_device change.NoSource = refl
+change_no_device change.OutOfOrder = refl
+change_no_device change.WrongNumber = refl
+change_no_device change.KindMismatch = refl
+change_no_device change.OutOfMemory = refl
+
+pub path_no_device : (f : PathFault) → is_device (path_refusal f) ≡ false
+path_no_device path.TooLong = refl
+path_no_device path.BadPath = refl
+path_no_device path.OutOfMemory = refl
+
+repo_no_device : (f : RepoFault) → is_device (repo_refusal f) ≡ false
+repo_no_device core.NoSuchRevision = refl
+repo_no_device (core.BaseMismatch found) = refl
+repo_no_device core.Full = refl
+repo_no_device (core.Behind head) = refl
+repo_no_device (core.Change f) = change_no_device f
+repo_no_device core.TooLong = refl
+repo_no_device core.OutOfMemory = refl
+
+abbrev refusal_in : Result (Unit {0}) Refusal → Refusal
+refusal_in (Ok u) = refusal.OutOfMemory
+refusal_in (Err e) = e
+
+ok_is_none : (u : Unit {0}) (e : Refusal) → IsErrOf (Ok u) e → ⊥
+ok_is_none u e h = true≢false (ap is_ok h)
+
+pub is_none_of : (r : Result (Unit {0}) Refusal) (k : Refusal) → is_device k ≡ true → IfErr r (λ e. is_device e ≡ false) → IsErrOf r k → ⊥
+is_none_of (Ok u) k d h e = ok_is_none u k e
+is_none_of (Err x) k d h e = true≢false (sym d ∙ ap is_device (sym (ap refusal_in e)) ∙ h)
+
+-- the fault that a refusal of the device was
+abbrev device_fault : Refusal → StoreFault
+device_fault refusal.DeviceFailed = Log log.DeviceFailed
+device_fault refusal.Failed = Log log.Failed
+device_fault e = Log log.OutOfMemory
+
+was_fault : (f : StoreFault) → is_device (store_refusal f) ≡ true → device_fault (store_refusal f) ≡ f
+was_fault (Repo f) h = absurd (true≢false (sym h ∙ repo_no_device f))
+was_fault (Log log.DeviceFailed) h = refl
+was_fault (Log log.Failed) h = refl
+was_fault (Log (log.Damaged entry)) h = absurd (true≢false (sym h))
+was_fault (Log log.NoRepository) h = absurd (true≢false (sym h))
+was_fault (Log log.ThereAlready) h = absurd (true≢false (sym h))
+was_fault (Log log.LogFull) h = absurd (true≢false (sym h))
+was_fault (Log log.OutOfMemory) h = absurd (true≢false (sym h))
+
+pub device_was : (f : StoreFault) → store_refusal f ≡ refusal.DeviceFailed → f ≡ Log log.DeviceFailed
+device_was f e = sym (was_fault f (ap is_device e)) ∙ ap device_fault e
+
+pub failed_was : (f : StoreFault) → store_refusal f ≡ refusal.Failed → f ≡ Log log.Failed
+failed_was f e = sym (was_fault f (ap is_device e)) ∙ ap device_fault e
+
+abbrev of_result : {T : Type 0} → Result T StoreFault → StoreFault
+of_result (Ok v) = Log log.OutOfMemory
+of_result (Err f) = f
+
+fault_in : {T : Type 0} (f g : StoreFault) → IsErrOf {T = T} (Err f) g → f ≡ g
+fault_in f g e = ap of_result e
+
+stage_no_device : IsReserveFault log.DeviceFailed → ⊥
+stage_no_device (inl e) = let n : ◌≡◌ {A = ℕ} 31 32 = ap (λ f. refusal_number (log_refusal f)) e in let no : ⊥ = omega (arith, n) in no
+stage_no_device (inr (inl e)) = let n : ◌≡◌ {A = ℕ} 31 36 = ap (λ f. refusal_number (log_refusal f)) e in let no : ⊥ = omega (arith, n) in no
+stage_no_device (inr (inr e)) = let n : ◌≡◌ {A = ℕ} 31 70 = ap (λ f. refusal_number (log_refusal f)) e in let no : ⊥ = omega (arith, n) in no
+
+-- nothing that is staged is refused for a device that fails
+never_device : (f : StoreFault) → IsStageFault f → f ≡ Log log.DeviceFailed → ⊥
+never_device f k e = stage_no_device (subst IsStageFault e k)
+
+-- ---- on the way
+
+here : (identity : List ℕ) (x : List Revision) (entries : List Entry) (image : Image) → ReopensTo identity x image → IsOnTheWay identity x entries image
+here identity x entries image r = ([], entries, refl, r)
+
+either : (identity : List ℕ) (x : List Revision) (entry : Entry) (image : Image) → IsBeforeOrAfter identity x entry image → IsOnTheWay identity x (entry ∷ []) image
+either identity x entry image (inl r) = ([], entry ∷ [], refl, r)
+either identity x entry image (inr r) = (entry ∷ [], [], refl, r)
+
+on_before : (identity : List ℕ) (x : List Revision) (taken begun more all : List Entry) (image : Image) → begun ≡ [] → all ≡ taken ++ more → IsOnTheWay identity x (taken ++ begun) image → IsOnTheWay identity x all image
+on_before identity x taken begun more all image none is (done, rest, e, r) =
+    (done, rest ++ more, is ∙ ap (λ l. l ++ more) (sym (append-nil taken) ∙ ap (λ l. taken ++ l) (sym none) ∙ e) ∙ append_assoc done rest more, r)
+
+on_after : (identity other : List ℕ) (x y : List Revision) (taken more all : List Entry) (image : Image) → other ≡ identity → y ≡ revisions_after x taken → all ≡ taken ++ more → IsOnTheWay other y more image → IsOnTheWay identity x all image
+on_after identity other x y taken more all image same made is (done, rest, e, r) = (
+  taken ++ done,
+  rest,
+  is ∙ ap (λ l. taken ++ l) e ∙ sym (append_assoc taken done rest),
+  subst (λ i. ReopensTo i (revisions_after x (taken ++ done)) image) same (subst (λ v. ReopensTo other v image) (ap (λ v. revisions_after v done) made ∙ sym (entries_join x taken done)) r),
+)
+
+-- what a stop at a moment leaves is what it may leave
+abbrev pub OnlyNow : {D : Type 0} → Ghosts D → Type 0
+OnlyNow {D} G = (disk : D) (image : Image) → G.honest disk → G.left_since disk (G.clock disk) image → G.may_leave disk image
+
+-- ---- calls
+
+module _ {D : Type 0} {G : Ghosts D} where
+  -- the store stays as it is
+  pub unmoved : (a b : RepoStore D G) (r : Result (Unit {0}) Refusal) → disk_of b ≡ disk_of a → repository_of b ≡ repository_of a → HasFailed b ↔ HasFailed a → (IsErrOf r refusal.DeviceFailed → ⊥) → (IsErrOf r refusal.Failed → HasFailed a) → IsSafe a → Serves a b r
+  unmoved a b r disk repository works device failed safe = record {
+    honest = (λ h. subst (λ d. G.honest d) (sym disk) h, λ h. subst (λ d. G.honest d) disk h);
+    later = subst (λ d. G.failures (disk_of a) ≤ G.failures d) (sym disk) (omega arith);
+    device = λ e. absurd (device e);
+    failed = failed;
+    working = (λ f. inl (works.0 f), λ f. ⊎_elim (λ h. works.1 h) (λ e. absurd (device e)) f);
+    taken = [];
+    begun = [];
+    made = ap (λ (v : Repository). v.revisions) repository;
+    same = ap (λ (v : Repository). v.identity) repository;
+    one = inl refl;
+    any_moment = λ h w. subst (λ d. LeavesOnly G.clock G.left_since (disk_of a) d (IsOnTheWay (identity_of a) (revisions_of a) [])) (sym disk) (started G.clock G.left_since (disk_of a) (IsOnTheWay (identity_of a) (revisions_of a) []) (λ image left. here (identity_of a) (revisions_of a) [] image (safe h w image left)));
+    safe = λ h w image left.
+        subst (λ (v : Repository). ReopensTo v.identity v.revisions image) (sym repository)
+        (safe (subst (λ d. G.honest d) disk h) (λ f. w (works.1 f)) image (subst (λ d. G.left_since d (G.clock d) image) disk left));
+  }
+
+  -- nothing is done
+  pub unserved : (a : RepoStore D G) (r : Result (Unit {0}) Refusal) → IfErr r (λ e. is_device e ≡ false) → IsSafe a → Serves a a r
+  unserved a r n safe = unmoved a a r refl refl (λ f. f, λ f. f) (is_none_of r refusal.DeviceFailed refl n) (λ e. absurd (is_none_of r refusal.Failed refl n e)) safe
+
+  fell : (a b : RepoStore D G) (u : Unit {0}) → Serves a b (Ok u) → HasFailed b → HasFailed a
+  fell a b u p f = ⊎_elim (λ h. h) (λ e. absurd (ok_is_none u refusal.DeviceFailed e)) (p.working.0 f)
+
+  none_begun : (a b : RepoStore D G) (u : Unit {0}) (p : Serves a b (Ok u)) → p.begun ≡ []
+  none_begun a b u p = ⊎_elim (λ e. e) (λ k. absurd (ok_is_none u refusal.DeviceFailed k.1)) p.one
+
+  -- one call behind another
+  pub serves_on : (a b c : RepoStore D G) (u : Unit {0}) (r : Result (Unit {0}) Refusal) → Serves a b (Ok u) → Serves b c r → Serves a c r
+  serves_on a b c u r p q =
+      let all : (p.taken ++ q.taken) ++ q.begun ≡ p.taken ++ (q.taken ++ q.begun) = append_assoc p.taken q.taken q.begun in
+      record {
+        honest = (λ h. q.honest.0 (p.honest.0 h), λ h. p.honest.1 (q.honest.1 h));
+        later = omega (arith, p.later, q.later);
+        device = λ e. rose_on (G.failures (disk_of a)) (G.failures (disk_of b)) (G.failures (disk_of c)) p.later (q.device e);
+        failed = λ e. fell a b u p (q.failed e);
+        working = (λ f. ⊎_elim (λ h. inl (fell a b u p h)) (λ e. inr e) (q.working.0 f), λ f. q.working.1 (⊎_elim (λ h. inl (p.working.1 (inl h))) (λ e. inr e) f));
+        taken = p.taken ++ q.taken;
+        begun = q.begun;
+        made = q.made ∙ ap (λ v. revisions_after v q.taken) p.made ∙ sym (entries_join (revisions_of a) p.taken q.taken);
+        same = q.same ∙ p.same;
+        one = q.one;
+        any_moment = λ h w.
+            joined G.clock G.left_since (disk_of a) (disk_of b) (disk_of c) (IsOnTheWay (identity_of a) (revisions_of a) ((p.taken ++ q.taken) ++ q.begun)) (IsOnTheWay (identity_of b) (revisions_of b) (q.taken ++ q.begun))
+            (weaker G.clock G.left_since (disk_of a) (disk_of b) (IsOnTheWay (identity_of a) (revisions_of a) (p.taken ++ p.begun)) (IsOnTheWay (identity_of a) (revisions_of a) ((p.taken ++ q.taken) ++ q.begun)) (p.any_moment h w)
+            (λ image k. on_before (identity_of a) (revisions_of a) p.taken p.begun (q.taken ++ q.begun) ((p.taken ++ q.taken) ++ q.begun) image (none_begun a b u p) all k))
+            (q.any_moment (p.honest.0 h) (λ f. w (fell a b u p f)))
+            (λ image k. on_after (identity_of a) (identity_of b) (revisions_of a) (revisions_of b) p.taken (q.taken ++ q.begun) ((p.taken ++ q.taken) ++ q.begun) image p.same p.made all k);
+        safe = q.safe;
+      }
+
+  -- what is refused behind a call, for another reason
+  pub serves_then : (a b : RepoStore D G) (u : Unit {0}) (r : Result (Unit {0}) Refusal) → IfErr r (λ e. is_device e ≡ false) → Serves a b (Ok u) → Serves a b r
+  serves_then a b u r n p = serves_on a b b u r p (unserved b r n p.safe)
+
+  -- an entry is taken
+  pub took : {T : Type 0} (a b : RepoStore D G) (entry : Entry) (answer : T) → OnlyNow G → repository_of b ≡ with_entry_in (repository_of a) entry
+      → (G.honest (disk_of a) → (image : Image) → G.may_leave (disk_of b) image → ReopensTo (identity_of a) (with_entry (revisions_of a) entry) image)
+      → (G.honest (disk_of a) → ¬ HasFailed a → LeavesOnly G.clock G.left_since (disk_of a) (disk_of b) (IsBeforeOrAfter (identity_of a) (revisions_of a) entry))
+      → HasFailed b ↔ (HasFailed a ⊎ IsErrOf {T = T} (Ok answer) (Log log.DeviceFailed)) → G.honest (disk_of a) ↔ G.honest (disk_of b) → G.failures (disk_of a) ≤ G.failures (disk_of b) → Serves a b (Ok tt)
+  took {T} a b entry answer only made durable moments works honest later = record {
+    honest = honest;
+    later = later;
+    device = λ e. absurd (ok_is_none tt refusal.DeviceFailed e);
+    failed = λ e. absurd (ok_is_none tt refusal.Failed e);
+    working = (λ f. ⊎_elim (λ h. inl h) (λ e. absurd (true≢false (ap is_ok e))) (works.0 f), λ f. ⊎_elim (λ h. works.1 (inl h)) (λ e. absurd (ok_is_none tt refusal.DeviceFailed e)) f);
+    taken = entry ∷ [];
+    begun = [];
+    made = ap (λ (v : Repository). v.revisions) made;
+    same = ap (λ (v : Repository). v.identity) made;
+    one = inl refl;
+    any_moment = λ h w. weaker G.clock G.left_since (disk_of a) (disk_of b) (IsBeforeOrAfter (identity_of a) (revisions_of a) entry) (IsOnTheWay (identity_of a) (revisions_of a) (entry ∷ [])) (moments h w) (λ image k. either (identity_of a) (revisions_of a) entry image k);
+    safe = λ h w image left. subst (λ (v : Repository). ReopensTo v.identity v.revisions image) (sym made) (durable (honest.1 h) image (only (disk_of b) image h left));
+  }
+
+  -- an entry is refused
+  pub didnt_take : {T : Type 0} (a b : RepoStore D G) (entry : Entry) (fault : StoreFault) → repository_of b ≡ repository_of a
+      → (fault ≡ Log log.DeviceFailed) ⊎ ((disk_of b ≡ disk_of a) × (ends_of (log_of b) ≡ ends_of (log_of a)))
+      → (G.honest (disk_of a) → ¬ HasFailed a → LeavesOnly G.clock G.left_since (disk_of a) (disk_of b) (IsBeforeOrAfter (identity_of a) (revisions_of a) entry))
+      → (IsErrOf {T = T} (Err fault) (Log log.DeviceFailed) → Rose (G.failures (disk_of a)) (G.failures (disk_of b)))
+      → IsErrOf {T = T} (Err fault) (Log log.Failed) ↔ HasFailed a → HasFailed b ↔ (HasFailed a ⊎ IsErrOf {T = T} (Err fault) (Log log.DeviceFailed))
+      → G.honest (disk_of a) ↔ G.honest (disk_of b) → G.failures (disk_of a) ≤ G.failures (disk_of b) → IsSafe a → Serves a b (Err (store_refusal fault))
+  didnt_take {T} a b entry fault same (inl d) moments device failed works honest later safe = record {
+    honest = honest;
+    later = later;
+    device = λ e. device (ap Err d);
+    failed = λ e. failed.0 (ap Err (failed_was fault (ap refusal_in e)));
+    working = (λ f. ⊎_elim (λ h. inl h) (λ e. inr (ap (λ k. Err (store_refusal k)) d)) (works.0 f), λ f. works.1 (inr (ap Err d)));
+    taken = [];
+    begun = entry ∷ [];
+    made = ap (λ (v : Repository). v.revisions) same;
+    same = ap (λ (v : Repository). v.identity) same;
+    one = inr (refl, ap (λ k. Err (store_refusal k)) d);
+    any_moment = λ h w. weaker G.clock G.left_since (disk_of a) (disk_of b) (IsBeforeOrAfter (identity_of a) (revisions_of a) entry) (IsOnTheWay (identity_of a) (revisions_of a) (entry ∷ [])) (moments h w) (λ image k. either (identity_of a) (revisions_of a) entry image k);
+    safe = λ h w. absurd (w (works.1 (inr (ap Err d))));
+  }
+  didnt_take {T} a b entry fault same (inr u) moments device failed works honest later safe = record {
+    honest = honest;
+    later = later;
+    device = λ e. device (ap Err (device_was fault (ap refusal_in e)));
+    failed = λ e. failed.0 (ap Err (failed_was fault (ap refusal_in e)));
+    working = (λ f. ⊎_elim (λ h. inl h) (λ e. inr (ap Err (ap store_refusal (fault_in {T = T} fault (Log log.DeviceFailed) e)))) (works.0 f), λ f. works.1 (⊎_elim (λ h. inl h) (λ e. inr (ap Err (device_was fault (ap refusal_in e)))) f));
+    taken = [];
+    begun = [];
+    made = ap (λ (v : Repository). v.revisions) same;
+    same = ap (λ (v : Repository). v.identity) same;
+    one = inl refl;
+    any_moment = λ h w. subst (λ d. LeavesOnly G.clock G.left_since (disk_of a) d (IsOnTheWay (identity_of a) (revisions_of a) [])) (sym u.0) (started G.clock G.left_since (disk_of a) (IsOnTheWay (identity_of a) (revisions_of a) []) (λ image left. here (identity_of a) (revisions_of a) [] image (safe h w image left)));
+    safe = λ h w image left.
+        subst (λ (v : Repository). ReopensTo v.identity v.revisions image) (sym same)
+        (safe (honest.1 h) (λ f. w (works.1 (inl f))) image (subst (λ d. G.left_since d (G.clock d) image) u.0 left));
+  }
+
+  -- what is staged, or refused before, is for another reason
+  pub staged_none : (a b : RepoStore D G) (e : Refusal) → is_device e ≡ false → disk_of b ≡ disk_of a → repository_of b ≡ repository_of a → HasFailed b ↔ HasFailed a → IsSafe a → Serves a b (Err e)
+  staged_none a b e n disk repository works safe = unmoved a b (Err e) disk repository works (is_none_of (Err e) refusal.DeviceFailed refl n) (λ k. absurd (is_none_of (Err e) refusal.Failed refl n k)) safe
+
+  pub staged_err : (a b : RepoStore D G) (fault : StoreFault) → IsStageFault fault → disk_of b ≡ disk_of a → repository_of b ≡ repository_of a → HasFailed b ↔ HasFailed a → (fault ≡ Log log.Failed → HasFailed a) → IsSafe a → Serves a b (Err (store_refusal fault))
+  staged_err a b fault k disk repository works failed safe =
+      unmoved a b (Err (store_refusal fault)) disk repository works (λ e. never_device fault k (device_was fault (ap refusal_in e))) (λ e. failed (failed_was fault (ap refusal_in e))) safe
+
+  -- a fault of the store is want of memory, or is why it can't keep the entry, or is the one that is due
+  pub stop_or_due : {T : Type 0} (a b : RepoStore D G) (entry : Entry) (due : Option RepoFault) (fault : StoreFault) → repository_of b ≡ repository_of a
+      → (fault ≡ Log log.DeviceFailed) ⊎ ((disk_of b ≡ disk_of a) × (ends_of (log_of b) ≡ ends_of (log_of a)))
+      → (G.honest (disk_of a) → IsErrOf {T = T} (Err fault) (Log log.DeviceFailed) → (image : Image) → G.may_leave (disk_of b) image → IsBeforeOrAfter (identity_of a) (revisions_of a) entry image)
+      → IsErrOf {T = T} (Err fault) (Log log.Failed) ↔ HasFailed a → HasFailed b ↔ (HasFailed a ⊎ IsErrOf {T = T} (Err fault) (Log log.DeviceFailed))
+      → (IsErrOf {T = T} (Err fault) (Log log.LogFull) → 2 ^ 56 < size_of (log_of a) + length (spelling entry))
+      → G.honest (disk_of a) ↔ G.honest (disk_of b) → ((f : RepoFault) → fault ≡ Repo f → IsDue f due) → IsStoreFault fault
+      → (store_refusal fault ≡ refusal.OutOfMemory) ⊎ CantKeep b entry (store_refusal fault) ⊎ ((f : RepoFault) × IsDue f due × (store_refusal fault ≡ repo_refusal f))
+  stop_or_due a b entry due (Repo f) same touched left failed works full honest h k = inr (inr (f, h f refl, refl))
+  stop_or_due a b entry due (Log f) same touched left failed works full honest h (inl d) =
+      inr (inl (device_fails (ap log_refusal d) (λ o image l. subst (λ (v : Repository). IsBeforeOrAfter v.identity v.revisions entry image) (sym same) (left (honest.1 o) (ap (λ k. Err (Log k)) d) image l))))
+  stop_or_due a b entry due (Log f) same touched left failed works full honest h (inr (inl d)) = inr (inl (failed_before (ap log_refusal d) (works.1 (inl (failed.0 (ap (λ k. Err (Log k)) d))))))
+  stop_or_due a b entry due (Log f) same (inl t) left failed works full honest h (inr (inr (inl d))) =
+      let n : ◌≡◌ {A = ℕ} 31 36 = ap (λ k. refusal_number (store_refusal k)) (sym t ∙ ap Log d) in let no : ⊥ = omega (arith, n) in absurd no
+  stop_or_due a b entry due (Log f) same (inr t) left failed works full honest h (inr (inr (inl d))) =
+      inr (inl (no_room (ap log_refusal d) (subst (λ ends. 2 ^ 56 < last_end 0 ends + length (spelling entry)) (sym t.1) (full (ap (λ k. Err (Log k)) d)))))
+  stop_or_due a b entry due (Log f) same touched left failed works full honest h (inr (inr (inr d))) = inl (ap log_refusal d)
