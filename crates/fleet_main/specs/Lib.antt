@@ -1,2 +1,3 @@
 pub mod Usages
+pub mod Values
 pub mod Words

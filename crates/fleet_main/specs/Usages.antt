@@ -1,8 +1,11 @@
 -- What the program tells where the words name no command.
-use Rattle.std.specs.Prelude.{◌≡◌, ◌≢◌, ◌⊎◌, ℕ, List, Option, Some, codes}
+use Rattle.std.specs.Prelude.{◌≡◌, ◌≢◌, ◌⊎◌, ℕ, List, [], ◌++◌, Option, Some, None, IfSome, string_bytes, codes}
+use Rattle.std.specs.Fmt.{debug_str}
 use Rattle.clap.specs.Kinds.{Kinds, IsAmong}
+use Rattle.clap.specs.Words.{Row}
 use Rattle.clap.specs.declared.error.kind.ErrorKind.{ErrorKind}
 use Rattle.clap.specs.declared.error.kind.ErrorKind.TheVariants as kind
+use Rattle.fleet_main.specs.Values.{HasValue, SpellsMicros, SpellsRange, identity_read}
 use Rattle.fleet_main.specs.declared.command_line.Usage.{Usage}
 use Rattle.fleet_main.specs.declared.command_line.Usage.TheVariants.{Shown, Wrong, OutOfMemory}
 
@@ -10,24 +13,44 @@ use Rattle.fleet_main.specs.declared.command_line.Usage.TheVariants.{Shown, Wron
 abbrev pub IsMistake : ErrorKind → Type 0
 IsMistake k = (k ≢ kind.DisplayHelp) × (k ≢ kind.DisplayVersion)
 
--- of an error of that kind: its text where help or the version was asked for, and what is wrong where another mistake was found; else memory ran out
+-- the one line that is told of what is wrong
+abbrev pub IsLineOf : List ℕ → List ℕ → Type 0
+IsLineOf wrong line = line ≡ codes "svnfleet: " ++ (wrong ++ codes " (svnfleet --help tells more)")
+
+-- of an error of that kind: its text where help or the version was asked for, and a line on what is wrong where another mistake was found; else memory ran out
 abbrev pub IsUsageOf : ErrorKind → Usage → Type 0
 IsUsageOf k (Shown text) = (k ≢ kind.OutOfMemory) × (IsMistake k → ⊥)
-IsUsageOf k (Wrong text) = (k ≢ kind.OutOfMemory) × IsMistake k
+IsUsageOf k (Wrong text) = (k ≢ kind.OutOfMemory) × IsMistake k × ((wrong : List ℕ) × IsLineOf wrong (string_bytes text))
 IsUsageOf k OutOfMemory = Unit {0}
 
--- the commands with a value that may be refused: an identity, a range, a moment
-abbrev pub TakesValue : Option (List ℕ) → Type 0
-TakesValue name = (name ≡ Some (codes "create")) ⊎ (name ≡ Some (codes "dump")) ⊎ (name ≡ Some (codes "mkdir"))
+-- a line that a value isn't what is wanted, the value between quotes; of a value beyond ASCII nothing is said of how it is shown
+abbrev pub IsValueLine : List ℕ → List ℕ → List ℕ → Type 0
+IsValueLine value wanted line = IfSome (debug_str value) (λ shown. IsLineOf (shown ++ (codes " is not " ++ wanted)) line)
 
--- of words that name a command: a value of it is refused; else memory ran out
-abbrev pub IsValueRefused : Option (List ℕ) → Usage → Type 0
-IsValueRefused name (Shown text) = ⊥
-IsValueRefused name (Wrong text) = TakesValue name
-IsValueRefused name OutOfMemory = Unit {0}
+-- of a value that isn't what is wanted: its line; else memory ran out
+abbrev pub IsTold : List ℕ → List ℕ → Usage → Type 0
+IsTold value wanted (Shown text) = ⊥
+IsTold value wanted (Wrong text) = IsValueLine value wanted (string_bytes text)
+IsTold value wanted OutOfMemory = Unit {0}
 
--- of words, by the kinds of error that they have and the command that they name
-abbrev pub IsUsageAt : Kinds → Option (List ℕ) → Usage → Type 0
-IsUsageAt kinds name (Shown text) = (k : ErrorKind) × IsAmong k kinds × (IsMistake k → ⊥)
-IsUsageAt kinds name (Wrong text) = ((k : ErrorKind) × IsAmong k kinds × IsMistake k) ⊎ TakesValue name
-IsUsageAt kinds name OutOfMemory = Unit {0}
+-- the value of a subcommand that spells nothing: no identity, no range, no moment
+pub data IsValueRefused (name : List ℕ) (rows : List Row) (line : List ℕ) : Type 0 where
+  no_identity : (value : List ℕ) → name ≡ codes "create" → HasValue rows (codes "uuid") value → identity_read value ≡ None
+      → IsValueLine value (codes "a UUID of the form 8-4-4-4-12 in hexadecimal digits") line → IsValueRefused name rows line
+  no_range : (value : List ℕ) → name ≡ codes "dump" → HasValue rows (codes "revisions") value → ((lo hi : ℕ) → SpellsRange value lo hi → ⊥)
+      → IsValueLine value (codes "a range LO:HI of revisions from 0 to 65535, LO not above HI") line → IsValueRefused name rows line
+  no_moment : (value : List ℕ) → name ≡ codes "mkdir" → HasValue rows (codes "moment") value → ((micros : ℕ) → SpellsMicros value micros → ⊥)
+      → IsValueLine value (codes "a number of microseconds from 0 to 4102444799999999") line → IsValueRefused name rows line
+
+-- of a subcommand with its values: a value is refused; else memory ran out
+abbrev pub IsRefusedAt : Option (List ℕ × List Row) → Usage → Type 0
+IsRefusedAt named (Shown text) = ⊥
+IsRefusedAt named (Wrong text) = (name : List ℕ) × (rows : List Row) × (named ≡ Some (name, rows)) × IsValueRefused name rows (string_bytes text)
+IsRefusedAt named OutOfMemory = Unit {0}
+
+-- of words, by the kinds of error that clap may find in them and the subcommand that they name: help or the version was asked for; or they have another mistake; or they have none, and a value is refused
+abbrev pub IsUsageAt : Kinds → Option (List ℕ × List Row) → Usage → Type 0
+IsUsageAt kinds named (Shown text) = (k : ErrorKind) × IsAmong k kinds × (IsMistake k → ⊥)
+IsUsageAt kinds named (Wrong text) =
+    ((k : ErrorKind) × IsAmong k kinds × IsMistake k × ((wrong : List ℕ) × IsLineOf wrong (string_bytes text))) ⊎ ((kinds ≡ []) × IsRefusedAt named (Wrong text))
+IsUsageAt kinds named OutOfMemory = Unit {0}

@@ -1,13 +1,17 @@
 //! The command line.
-ghost use Rattle.std.specs.Prelude.{◌≡◌, ◌++◌, ℕ, List, Option, IfOk, IfErr, IfSome, Some, map, false, string_bytes, codes};
+ghost use Rattle.std.specs.Prelude.{◌≡◌, ◌≤◌, ◌++◌, ℕ, List, [], Option, IfNone, IfOk, IfErr, IfSome, Some, None, map, false, string_bytes, codes};
 ghost use Rattle.std.specs.Option.{option_map};
 ghost use Rattle.clap.specs.Faults.{fault_of};
 ghost use Rattle.clap.specs.Kinds.{FailsBy};
 ghost use Rattle.clap.specs.Values.{kind_of};
-ghost use Rattle.clap.specs.Words.{app_of, rule_of, subcommand_of, subcommand_rows_of};
+ghost use Rattle.clap.specs.Words.{Row, app_of, first_of, found_of, rows_of, rule_of, subcommand_of, subcommand_rows_of};
 ghost use Rattle.clap.specs.declared.builder.command.Command.TheViews.{out-Command as fields_of};
-ghost use Rattle.fleet_main.specs.Usages.{IsUsageAt, IsUsageOf, IsValueRefused, TakesValue};
-ghost use Rattle.fleet_main.specs.Words.{canon_app, create_app, dump_app, folders_app, list_app, load_app, mkdir_app, mkdir_place_app, named_rule, range_rule, streams_app, svnfleet_app, word_of, word_rule};
+ghost use Rattle.fleet_main.specs.Usages.{IsLineOf, IsRefusedAt, IsTold, IsUsageAt, IsUsageOf};
+ghost use Rattle.fleet_main.specs.Values.{HasValue, IsCommandOf, SpellsMicros, SpellsRange, identity_read};
+ghost use Rattle.fleet_main.specs.Words.{canon_app, create_app, dump_app, folders_app, list_app, load_app, mkdir_app, mkdir_place_app, named_rule, range_rule, streams_app, svnfleet_app, word_rule};
+ghost use Rattle.node_base.specs.Numbers.{rev_read};
+ghost use Rattle.repo_core.specs.Dates.{IsMoment};
+ghost use Rattle.store_engines.specs.Ranges.{first_in, last_in};
 
 use clap::error::ErrorKind;
 use clap::{Arg, ArgAction, ArgMatches, Error};
@@ -243,11 +247,13 @@ fn svnfleet<'a>(alloc: Global) -> Result<clap::Command<'a>, AllocError>
     Ok(whole)
 }
 
-/// The command that the words name, the program's name first. Usage where they name none: help or the version only where it was
-/// asked for, and else what is wrong, in the words or in the value of an identity, a range or a moment.
+/// The command that the words name, the program's name first, with the values that they give it. Usage where they name none: help
+/// or the version only where it was asked for, and else what is wrong, in the words or in the value of an identity, a range or a
+/// moment.
 pub fn plan(alloc: Global, words: &[String]) -> Result<Command, Usage>
-    ensures usage { IfErr result (IsUsageAt (fault_of svnfleet_app (map string_bytes words.now)) (option_map (λ p. p.0) (subcommand_of svnfleet_app (map string_bytes words.now)))) }
-    ensures named { IfOk result (λ c. option_map (λ p. p.0) (subcommand_of svnfleet_app (map string_bytes words.now)) ≡ Some (word_of c)) }
+    ensures named { IfOk result (IsCommandOf (subcommand_of svnfleet_app (map string_bytes words.now))) }
+    ensures faultless { IfOk result (λ _. fault_of svnfleet_app (map string_bytes words.now) ≡ []) }
+    ensures usage { IfErr result (IsUsageAt (fault_of svnfleet_app (map string_bytes words.now)) (subcommand_of svnfleet_app (map string_bytes words.now))) }
 {
     match matches_of(alloc, words) {
         Ok(matches) => named(alloc, &matches),
@@ -264,11 +270,12 @@ fn matches_of<'a>(alloc: Global, words: &'a [String]) -> Result<ArgMatches<'a>, 
     top.try_get_matches_from(words)
 }
 
+// The command that a subcommand's name and its values say.
 fn named(alloc: Global, matches: &ArgMatches<'_>) -> Result<Command, Usage>
-    ensures named { IfOk result (λ c. option_map (λ p. p.0) (subcommand_rows_of matches.now) ≡ Some (word_of c)) }
-    ensures usage { IfErr result (IsValueRefused (option_map (λ p. p.0) (subcommand_rows_of matches.now))) }
+    ensures named { IfOk result (IsCommandOf (subcommand_rows_of matches.now)) }
+    ensures usage { IfErr result (IsRefusedAt (subcommand_rows_of matches.now)) }
 {
-    match matches.subcommand() {
+    match entered(matches) {
         Some(("list", _)) => Ok(Command::List),
         Some(("canon", _)) => Ok(Command::Canon),
         Some(("create", given)) => create_named(alloc, given),
@@ -279,19 +286,34 @@ fn named(alloc: Global, matches: &ArgMatches<'_>) -> Result<Command, Usage>
     }
 }
 
+// The subcommand's name and its values.
+fn entered<'a, 'b>(matches: &'b ArgMatches<'a>) -> Option<(&'a str, &'b ArgMatches<'a>)>
+    ensures { option_map (λ p. (p.0.now, rows_of (found_of p.1.now))) result ≡ subcommand_rows_of matches.now }
+{
+    matches.subcommand()
+}
+
 // A copy of the value of that name, which clap has seen to be there.
 fn text(alloc: Global, given: &ArgMatches<'_>, name: &str) -> Result<String, Usage>
-    ensures { IfErr result (λ u. u ≡ Usage.OutOfMemory) }
+    ensures value { IfOk result (λ s. HasValue (rows_of (found_of given.now)) name.now (string_bytes s)) }
+    ensures memory { IfErr result (λ u. u ≡ Usage.OutOfMemory) }
 {
-    match given.get_str(name) {
+    match value(given, name) {
         Some(text) => Ok(String::from_str(alloc, text)?),
         None => Err(Usage::OutOfMemory),
     }
 }
 
+// The value of that name, where there is one.
+fn value<'a>(given: &ArgMatches<'a>, name: &str) -> Option<&'a str>
+    ensures { option_map (λ s. s.now) result ≡ first_of name.now (rows_of (found_of given.now)) }
+{
+    given.get_str(name)
+}
+
 // What is wrong with a value, in a line.
 fn wrong(alloc: Global, value: &str, wanted: &str) -> Usage
-    ensures { (name : Option (List ℕ)) → TakesValue name → IsValueRefused name result }
+    ensures { IsTold value.now wanted.now result }
 {
     match format!(in alloc; "svnfleet: {value:?} is not {wanted} (svnfleet --help tells more)") {
         Ok(line) => Usage::Wrong(line),
@@ -300,8 +322,8 @@ fn wrong(alloc: Global, value: &str, wanted: &str) -> Usage
 }
 
 fn create_named(alloc: Global, given: &ArgMatches<'_>) -> Result<Command, Usage>
-    ensures word { IfOk result (λ c. word_of c ≡ codes "create") }
-    ensures refused { IfErr result (IsValueRefused (Some (codes "create"))) }
+    ensures named { IfOk result (IsCommandOf (Some (codes "create", rows_of (found_of given.now)))) }
+    ensures usage { IfErr result (IsRefusedAt (Some (codes "create", rows_of (found_of given.now)))) }
 {
     let value = text(alloc, given, "uuid")?;
     match identity_of(value.as_str()) {
@@ -318,8 +340,8 @@ fn create_named(alloc: Global, given: &ArgMatches<'_>) -> Result<Command, Usage>
 }
 
 fn load_named(alloc: Global, given: &ArgMatches<'_>) -> Result<Command, Usage>
-    ensures word { IfOk result (λ c. word_of c ≡ codes "load") }
-    ensures refused { IfErr result (IsValueRefused (Some (codes "load"))) }
+    ensures named { IfOk result (IsCommandOf (Some (codes "load", rows_of (found_of given.now)))) }
+    ensures usage { IfErr result (IsRefusedAt (Some (codes "load", rows_of (found_of given.now)))) }
 {
     Ok(Command::Load {
         folder: text(alloc, given, "DIR")?,
@@ -327,11 +349,11 @@ fn load_named(alloc: Global, given: &ArgMatches<'_>) -> Result<Command, Usage>
 }
 
 fn dump_named(alloc: Global, given: &ArgMatches<'_>) -> Result<Command, Usage>
-    ensures word { IfOk result (λ c. word_of c ≡ codes "dump") }
-    ensures refused { IfErr result (IsValueRefused (Some (codes "dump"))) }
+    ensures named { IfOk result (IsCommandOf (Some (codes "dump", rows_of (found_of given.now)))) }
+    ensures usage { IfErr result (IsRefusedAt (Some (codes "dump", rows_of (found_of given.now)))) }
 {
     let folder = text(alloc, given, "DIR")?;
-    let Some(value) = given.get_str("revisions") else {
+    let Some(value) = value(given, "revisions") else {
         return Ok(Command::Dump {
             folder,
             range: None,
@@ -351,8 +373,8 @@ fn dump_named(alloc: Global, given: &ArgMatches<'_>) -> Result<Command, Usage>
 }
 
 fn mkdir_named(alloc: Global, given: &ArgMatches<'_>) -> Result<Command, Usage>
-    ensures word { IfOk result (λ c. word_of c ≡ codes "mkdir") }
-    ensures refused { IfErr result (IsValueRefused (Some (codes "mkdir"))) }
+    ensures named { IfOk result (IsCommandOf (Some (codes "mkdir", rows_of (found_of given.now)))) }
+    ensures usage { IfErr result (IsRefusedAt (Some (codes "mkdir", rows_of (found_of given.now)))) }
 {
     let value = text(alloc, given, "moment")?;
     match moment_of(value.as_str()) {
@@ -371,26 +393,40 @@ fn mkdir_named(alloc: Global, given: &ArgMatches<'_>) -> Result<Command, Usage>
 }
 
 // The identity that 36 bytes spell: 8-4-4-4-12 hexadecimal digits.
-fn identity_of(value: &str) -> Option<Uuid> {
+fn identity_of(value: &str) -> Option<Uuid>
+    ensures { result ≡ identity_read value.now }
+{
     if value.len() != 36 {
         return None;
     }
-    match Uuid::try_parse_ascii(value.as_bytes()) {
-        Ok(identity) => Some(identity),
-        Err(_) => None,
-    }
+    Uuid::try_parse_ascii(value.as_bytes()).ok()
 }
 
 // The range that two numbers with a colon between them say.
-fn range_of(value: &str) -> Option<RevRange> {
-    let (first, last) = value.split_once(':')?;
-    let first = RevNo::parse(first.as_bytes())?;
-    let last = RevNo::parse(last.as_bytes())?;
+fn range_of(value: &str) -> Option<RevRange>
+    ensures some { IfSome result (λ r. SpellsRange value.now (first_in r) (last_in r)) }
+    ensures none { IfNone result ((lo hi : ℕ) → SpellsRange value.now lo hi → ⊥) }
+{
+    match value.split_once(':') {
+        Some((low, high)) => range_between(low, high),
+        None => None,
+    }
+}
+
+fn range_between(low: &str, high: &str) -> Option<RevRange>
+    ensures some { IfSome result (λ r. (rev_read low.now ≡ Some (first_in r)) × (rev_read high.now ≡ Some (last_in r)) × (first_in r ≤ last_in r)) }
+    ensures none { IfNone result ((lo hi : ℕ) → rev_read low.now ≡ Some lo → rev_read high.now ≡ Some hi → lo ≤ hi → ⊥) }
+{
+    let first = RevNo::parse(low.as_bytes())?;
+    let last = RevNo::parse(high.as_bytes())?;
     RevRange::new(first, last)
 }
 
 // The moment that so many microseconds are after 1970 began.
-fn moment_of(value: &str) -> Option<Moment> {
+fn moment_of(value: &str) -> Option<Moment>
+    ensures some { IfSome result (λ at. (micros : ℕ) × SpellsMicros value.now micros × IsMoment micros at) }
+    ensures none { IfNone result ((micros : ℕ) → SpellsMicros value.now micros → ⊥) }
+{
     Moment::from_micros(read_decimal(value.as_bytes())?)
 }
 
@@ -415,7 +451,7 @@ fn usage_of(alloc: Global, error: &Error) -> Usage
 
 // What clap finds wrong, in a line: its first lines up to an empty one, which name what is missing.
 fn one_line(alloc: Global, text: &str) -> Result<String, AllocError>
-    ensures { IfOk result (λ line. (wrong : List ℕ) × (string_bytes line ≡ codes "svnfleet: " ++ (wrong ++ codes " (svnfleet --help tells more)"))) }
+    ensures { IfOk result (λ line. (wrong : List ℕ) × IsLineOf wrong (string_bytes line)) }
 {
     let joined = joined_lines(alloc, text)?;
     let wrong = without_label(joined.as_str());

@@ -1,0 +1,55 @@
+-- What the values of a command's words spell.
+use Rattle.std.specs.Prelude.{◌≡◌, ◌≤◌, ℕ, List, ◌∷◌, ◌++◌, Option, Some, None, string_bytes, codes}
+use Rattle.uuid.specs.Text.{parsed_hyphenated}
+use Rattle.clap.specs.Words.{Row, first_of}
+use Rattle.node_base.specs.Numbers.{decimal, rev_read}
+use Rattle.repo_core.specs.Dates.{IsMoment}
+use Rattle.store_engines.specs.Ranges.{first_in, last_in}
+use Rattle.store_engines.specs.declared.range.RevRange.{RevRange}
+use Rattle.fleet_main.specs.Words.{word_of}
+use Rattle.fleet_main.specs.declared.command_line.Command.{Command}
+use Rattle.fleet_main.specs.declared.command_line.Command.TheVariants.{List as ListIt, Canon, Create, Load, Dump, MakeDir}
+
+-- the identity that 8-4-4-4-12 hexadecimal digits spell, in any case, with hyphens between them
+abbrev pub identity_read : List ℕ → Option (List ℕ)
+identity_read = parsed_hyphenated
+
+-- LO:HI, two revision numbers in decimal digits with a colon between them, the first not above the last
+pub record SpellsRange (value : List ℕ) (lo hi : ℕ) : Type 0 where
+  pub low : List ℕ
+  pub high : List ℕ
+  pub split : value ≡ low ++ 58 ∷ high
+  pub first : rev_read low ≡ Some lo
+  pub last : rev_read high ≡ Some hi
+  pub ordered : lo ≤ hi
+
+-- microseconds after 1970 began, in decimal digits, up to the end of 2099
+abbrev pub SpellsMicros : List ℕ → ℕ → Type 0
+SpellsMicros value micros = (decimal value ≡ Some micros) × (micros ≤ 4102444799999999)
+
+-- what a value says, where there is one: a range, or all where it is left out
+abbrev pub IsRangeOf : Option (List ℕ) → Option RevRange → Type 0
+IsRangeOf None None = Unit {0}
+IsRangeOf None (Some range) = ⊥
+IsRangeOf (Some value) None = ⊥
+IsRangeOf (Some value) (Some range) = SpellsRange value (first_in range) (last_in range)
+
+-- among the values of a subcommand, the first of that name is this one
+abbrev pub HasValue : List Row → List ℕ → List ℕ → Type 0
+HasValue rows name value = first_of name rows ≡ Some value
+
+-- a command's folder, identity, range, path, message and moment are those of the values under their names
+abbrev pub HasValuesOf : List Row → Command → Type 0
+HasValuesOf rows ListIt = Unit {0}
+HasValuesOf rows Canon = Unit {0}
+HasValuesOf rows (Create folder identity) =
+    HasValue rows (codes "DIR") (string_bytes folder) × ((value : List ℕ) × HasValue rows (codes "uuid") value × (identity_read value ≡ Some identity))
+HasValuesOf rows (Load folder) = HasValue rows (codes "DIR") (string_bytes folder)
+HasValuesOf rows (Dump folder range) = HasValue rows (codes "DIR") (string_bytes folder) × IsRangeOf (first_of (codes "revisions") rows) range
+HasValuesOf rows (MakeDir folder path message moment) =
+    HasValue rows (codes "DIR") (string_bytes folder) × HasValue rows (codes "PATH") (string_bytes path) × HasValue rows (codes "message") (string_bytes message)
+    × ((value : List ℕ) × HasValue rows (codes "moment") value × ((micros : ℕ) × SpellsMicros value micros × IsMoment micros moment))
+
+-- of a subcommand with its values: the command has its name and its values
+abbrev pub IsCommandOf : Option (List ℕ × List Row) → Command → Type 0
+IsCommandOf named command = (rows : List Row) × (named ≡ Some (word_of command, rows)) × HasValuesOf rows command
