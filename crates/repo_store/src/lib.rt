@@ -13,8 +13,9 @@
 //! ```
 //!
 //! At each moment since a call began, a stop leaves an image that reopens to the repository before the call or after it;
-//! once the call has answered Ok, to the one after it. An image reopens to one repository at most. Opening gives that one;
-//! it answers 33 for the first entry that is damaged, and only there.
+//! once the call has answered Ok, to the one after it. An image reopens to one repository at most. Opening gives that one,
+//! with the sets of changes that its entries tell, so that each revision is exported as it was before; it answers 33 for the
+//! first entry that is damaged, and only there.
 #![tactic(auto)]
 
 pub use committed::Committed;
