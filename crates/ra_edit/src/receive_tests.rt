@@ -186,18 +186,17 @@ fn fronts_agree(alloc: Global, bytes: &[u8]) -> bool {
     true
 }
 
-// Whether each change of a byte gives the same, whole and one byte at a time.
+// Whether each change of a byte, to any value, gives the same, whole and one byte at a time.
 fn changes_agree(alloc: Global, bytes: &[u8]) -> Result<bool, Fail> {
-    for at in 0..bytes.len() {
-        for b in [0u8, 32, 40, 41, 48, 50, 58, 97, 128, 255] {
-            let mut changed = bytes.to_vec(alloc)?;
-            if let Some(place) = changed.get_mut(at) {
-                *place = b;
-            }
+    let mut changed = bytes.to_vec(alloc)?;
+    for (at, was) in bytes.iter().enumerate() {
+        for b in 0..=u8::MAX {
+            changed[at] = b;
             if outcome(alloc, &changed, changed.len()) != outcome(alloc, &changed, 1) {
                 return Ok(false);
             }
         }
+        changed[at] = *was;
     }
     Ok(true)
 }
