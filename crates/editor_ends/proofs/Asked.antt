@@ -18,8 +18,8 @@ use Rattle.delta_editor.specs.declared.call.Call.{Call}
 use Rattle.delta_editor.specs.declared.call.Call.TheVariants as call
 use Rattle.editor_ends.specs.Asked.{removes, deletes, adds, kind_at, source_at, tells_props, tells_text, last_of, IsAsked}
 use Rattle.editor_ends.specs.BuildFaults.{begun}
-use Rattle.editor_ends.specs.Built.{filled, is_taken, BeginsAt, First, Again, AskedAt, AreBare, IsBlank, AreBlank, IsFilledOf}
-use Rattle.editor_ends.proofs.Filled.{Nodes, or_no, or_yes}
+use Rattle.editor_ends.specs.Built.{is_taken, BeginsAt, First, Again, AskedAt, AreBare, IsBlank, AreBlank, IsFilledOf}
+use Rattle.editor_ends.proofs.Filled.{Nodes, or_no}
 
 pub or_none : {A : Type 0} (o : Option A) → option_or o None ≡ o
 or_none None = refl

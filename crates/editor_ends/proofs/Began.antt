@@ -1,8 +1,7 @@
 -- A change that begins among others.
-use Rattle.std.proofs.Common.{◌≡◌, ℕ, Bool, true, false, cond, not, ◌&&◌, ◌||◌, List, [], ◌∷◌, ◌++◌, length, map, Option, Some, None, IsSome, is_some, refl, sym, ap, subst, ◌∙◌}
-use Rattle.std.specs.Prelude.{is_none}
+use Rattle.std.proofs.Common.{◌≡◌, Bool, true, false, cond, not, ◌&&◌, ◌||◌, List, [], ◌∷◌, ◌++◌, length, map, Option, Some, None, IsSome, is_some, refl, sym, ap, subst, ◌∙◌}
 use Rattle.std.specs.Option.{option_map, option_map_or, option_or}
-use Rattle.std.specs.List.{AllByRecursion, list_any}
+use Rattle.std.specs.List.{AllByRecursion}
 use Rattle.std.proofs.lemmas.List.{map-append}
 use Rattle.std.proofs.lemmas.List.Folds.{list_any-append}
 use Rattle.std.specs.FinMap.{get}
@@ -30,7 +29,7 @@ use Rattle.delta_editor.specs.declared.fault.EditorFault.{EditorFault}
 use Rattle.delta_editor.specs.declared.fault.EditorFault.TheVariants as refusal
 use Rattle.editor_ends.specs.BuildFaults.{is_below, begun, begin_fault}
 use Rattle.editor_ends.specs.Built.{filled, is_taken, is_above, is_given, is_full, is_late_in, Made, Begins, First, Again}
-use Rattle.editor_ends.proofs.Filled.{Nodes, Gap, or_no, or_yes, or_swap, and_split, rest_itself, parts_stay, some_stays, none_in_gap, clear_in_gap, clear_of_deleted, all_of, all_two, all_append, all_front, all_rest, deleted_gone, there_above, not_both, above_through, not_below}
+use Rattle.editor_ends.proofs.Filled.{Nodes, Gap, or_no, or_yes, or_swap, rest_itself, parts_stay, some_stays, none_in_gap, clear_in_gap, clear_of_deleted, all_of, all_two, all_append, all_front, all_rest, deleted_gone, there_above, not_both, above_through, not_below}
 
 -- ---- what is fresh
 

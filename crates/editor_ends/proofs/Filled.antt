@@ -7,13 +7,13 @@ use Rattle.std.proofs.lemmas.List.{map-append}
 use Rattle.std.specs.FinMap.{get}
 use Rattle.std.specs.declared.cmp.Ordering.TheVariants.{Less}
 use Rattle.node_base.specs.Path.{Path, Name, path_cmp, same_path, is_front, rest_after}
-use Rattle.node_base.proofs.PathLemmas.{same_path_itself, path_of_same, rest_after-append, append_of_rest, later_is_no_front, same_path-append, rest_after-longer}
+use Rattle.node_base.proofs.PathLemmas.{rest_after-append, append_of_rest, later_is_no_front, same_path-append}
 use Rattle.node_base.specs.Tree.{PathMap, with_number, marked, changed_at, grafted, blocked}
 use Rattle.node_base.specs.declared.node.Node.{Node}
 use Rattle.node_base.specs.declared.fault.TreeFault.TheVariants.{NoSuchPath, NotDir}
 use Rattle.dump_load.specs.declared.change.Change.{Change}
 use Rattle.dump_load.specs.Changes.{settles, is_delete, change_at, IsClear, IsWhole, IsNormal, Precedes}
-use Rattle.dump_load.specs.Effect.{effect, stepped, arrives, brought, with_parts}
+use Rattle.dump_load.specs.Effect.{effect, stepped, arrives, with_parts}
 use Rattle.dump_load.proofs.PathOrder.{no_front_none, less_differs, greater_differs}
 use Rattle.dump_load.proofs.OneMore.{clear_of_follows}
 use Rattle.dump_load.proofs.Permuted.{effect_one_more}

@@ -27,7 +27,7 @@ use Rattle.delta_editor.specs.declared.fault.EditorFault.TheVariants as refusal
 use Rattle.editor_ends.specs.Fronts.{above, fronts}
 use Rattle.editor_ends.specs.Parts.{removals, settings, prop_calls, pieces, text_calls, parts}
 use Rattle.editor_ends.specs.Drive.{base_number, opening, opens, closes, calls_with, of_file, old_props, change_calls, rests_at, walk, drive}
-use Rattle.editor_ends.specs.BuildFaults.{is_below, takes, acts_below, gives, is_changed, call_fault, refusal_after, first_refusal, IsTooLarge, IsCallRefusal, RefusesWithin}
+use Rattle.editor_ends.specs.BuildFaults.{is_below, takes, acts_below, gives, is_changed, call_fault, refusal_after, IsCallRefusal, RefusesWithin}
 use Rattle.editor_ends.specs.BuildFaults as faults
 use Rattle.editor_ends.specs.Refusals.{IsDriveRefusal, OfMemory, OfSet, OfEditor}
 use Rattle.editor_ends.specs.Laws.{IsWithin}

@@ -1,5 +1,5 @@
 -- A change that a call begins, where a search has found its place.
-use Rattle.std.proofs.Common.{◌≡◌, ℕ, ◌<◌, ◌≤◌, ◌+◌, Bool, true, false, cond, not, ◌&&◌, ◌||◌, List, [], ◌∷◌, ◌++◌, length, take, drop, map, get_or, Option, Some, None, IsSome, is_some, Ok, Err, refl, sym, ap, subst, ◌∙◌, suc, zero}
+use Rattle.std.proofs.Common.{◌≡◌, ℕ, ◌<◌, ◌+◌, Bool, true, false, not, ◌&&◌, ◌||◌, List, [], ◌∷◌, ◌++◌, length, take, drop, get_or, Option, Some, None, IsSome, is_some, Ok, Err, refl, sym, ap, subst, ◌∙◌, suc, zero}
 use Rattle.std.specs.Prelude.{slice_set}
 use Rattle.std.specs.Option.{option_map, option_map_or}
 use Rattle.std.specs.List.{AllByRecursion, slice_get}
@@ -25,7 +25,7 @@ use Rattle.delta_editor.specs.declared.fault.EditorFault.{EditorFault}
 use Rattle.delta_editor.specs.declared.fault.EditorFault.TheVariants as refusal
 use Rattle.editor_ends.specs.BuildFaults.{is_below, begin_fault}
 use Rattle.editor_ends.specs.Built.{filled, is_taken, is_above, is_late_in, Made, Begins, IsFresh, IsFaultOr, Placed}
-use Rattle.editor_ends.proofs.Filled.{Nodes, Gap, none_in_gap, deleted_gone, and_split, or_yes}
+use Rattle.editor_ends.proofs.Filled.{Nodes, none_in_gap, deleted_gone, or_yes}
 use Rattle.editor_ends.proofs.Began.{fresh_begun, begin_late, begin_faulty, begins_new, begins_again}
 use Rattle.editor_ends.proofs.Places.{split_at, set_at, taken_at}
 use Rattle.editor_ends.proofs.Shows.{either, fault_or}

@@ -8,7 +8,6 @@ use Rattle.std.specs.FinMap as finite
 use Rattle.std.specs.FinMap.{get}
 use Rattle.node_base.specs.Path.{Path, Name, path_cmp, same_path}
 use Rattle.node_base.specs.Props.{PropMap}
-use Rattle.node_base.proofs.PathLemmas.{same_path_back}
 use Rattle.node_base.specs.Tree.{PathMap, changed_at, with_given}
 use Rattle.node_base.specs.NodeEdits.{prop_put, with_prop, with_piece}
 use Rattle.node_base.specs.declared.node.Node.{Node}
@@ -30,7 +29,7 @@ use Rattle.path_tree.specs.NodeCalls.{piece_fault}
 use Rattle.path_tree.proofs.Faults.{first_none, second_none, test_fails}
 use Rattle.editor_ends.proofs.Places.{split_at, set_at}
 use Rattle.editor_ends.proofs.Given.{changed_alike}
-use Rattle.editor_ends.proofs.Filled.{Nodes, or_yes, SameParts, same_all, none_in_gap, all_of, all_append}
+use Rattle.editor_ends.proofs.Filled.{Nodes, or_yes, SameParts, same_all, none_in_gap, all_of}
 use Rattle.editor_ends.proofs.Began.{gap_of, normal_without, normal_amid, later_than, change_at-amid, taken-amid, given-amid, above-amid}
 
 module _ (trees : List PathMap) (tree new_tree : PathMap) (front rest : List Change) (c e : Change) (m : Made trees tree (front ++ c ∷ rest)) (k : Change → Change) (becomes : e ≡ k c) (full : is_full e ≡ true) (same : e.path ≡ c.path) (does : e.action ≡ c.action) (whole : IsWhole c → IsWhole e) (g : Node → Node) (step : (q : Path) → get new_tree q ≡ changed_at (get tree) c.path g q) (text : Option (List ℕ)) (props : Option PropMap) (is : filled (get new_tree) e ≡ regiven text props (filled (get tree) c)) (gives : (x : Node) → get tree c.path ≡ Some x → with_given text props x ≡ g x) where

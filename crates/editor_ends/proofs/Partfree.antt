@@ -1,5 +1,5 @@
 -- The properties and the text that a change gives are never refused, where they are within the limits.
-use Rattle.std.proofs.Common.{◌≡◌, ℕ, ◌+◌, ◌≤◌, ◌<◌, Bool, true, false, cond, not, ◌&&◌, ◌||◌, List, [], ◌∷◌, ◌++◌, length, length-append, map, filter, Option, Some, None, is_some, refl, sym, ap, subst, ◌∙◌, arith, nat_lt}
+use Rattle.std.proofs.Common.{◌≡◌, ℕ, ◌+◌, ◌≤◌, Bool, true, false, cond, not, ◌&&◌, ◌||◌, List, [], ◌∷◌, ◌++◌, length, length-append, map, filter, Option, Some, None, is_some, refl, sym, ap, subst, ◌∙◌, arith, nat_lt}
 use Rattle.std.proofs.lemmas.Bool.Decides.{nat_tests}
 use Rattle.std.specs.Prelude.{IfSome, is_none}
 use Rattle.std.specs.Option.{option_map, option_map_or, option_or}
@@ -14,7 +14,7 @@ use Rattle.node_base.proofs.EntryLemmas.{both_true, find_absent}
 use Rattle.node_base.specs.declared.node.Node.{Node}
 use Rattle.node_base.specs.Tree.{PathMap, base, blocked, changed_at, kind_of}
 use Rattle.node_base.specs.declared.fault.TreeFault.TheVariants.{TooLong, NoSuchPath, KindMismatch}
-use Rattle.path_tree.specs.Calls.{fault_if, text_fault}
+use Rattle.path_tree.specs.Calls.{fault_if}
 use Rattle.path_tree.specs.NodeCalls.{is_one_too_many, is_too_long_with}
 use Rattle.dump_load.specs.declared.change.Change.{Change}
 use Rattle.dump_load.specs.Faults as load

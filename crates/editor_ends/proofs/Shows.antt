@@ -16,22 +16,21 @@ use Rattle.node_base.specs.declared.node.Action.TheVariants.{Modify, Add, Delete
 use Rattle.node_base.specs.declared.node.Source.{Source}
 use Rattle.node_base.specs.declared.fault.TreeFault.TheVariants.{NoSuchPath, KindMismatch}
 use Rattle.dump_load.specs.declared.change.Change.{Change}
-use Rattle.dump_load.specs.Changes.{is_delete, brings, change_at, IsNormal}
-use Rattle.dump_load.specs.Effect.{effect, stepped, with_parts}
-use Rattle.dump_load.specs.Faults.{fault_of, fault_if, first_of}
+use Rattle.dump_load.specs.Changes.{is_delete, change_at, IsNormal}
+use Rattle.dump_load.specs.Effect.{effect, stepped}
+use Rattle.dump_load.specs.Faults.{fault_if}
 use Rattle.dump_load.proofs.Walk.{effect_none}
 use Rattle.delta_editor.specs.declared.call.Call.{Call}
 use Rattle.delta_editor.specs.declared.call.Call.TheVariants as call
-use Rattle.delta_editor.specs.CallEffect.{called, all_called, call_effect}
+use Rattle.delta_editor.specs.CallEffect.{called, call_effect}
 use Rattle.delta_editor.specs.Nesting.{Stage, Before, Within, After, Opened, OpenDir, OpenFile, OpenText, TextDone, run, next, begun, within, innermost, is_dir, is_fresh, is_in_text, is_told}
 use Rattle.delta_editor.specs.declared.fault.EditorFault.{EditorFault}
 use Rattle.delta_editor.specs.declared.fault.EditorFault.TheVariants as refusal
 use Rattle.delta_editor.proofs.CallLemmas.{all_called-append}
-use Rattle.editor_ends.specs.BuildFaults.{is_below, takes, acts_below, gives, is_changed, begin_fault, is_late, beginning, call_fault, refusal_after, first_refusal, IsTooLarge, IsCallRefusal, OfMemory, OfCall, OfSize, RefusesWithin}
+use Rattle.editor_ends.specs.BuildFaults.{is_below, takes, acts_below, gives, is_changed, begin_fault, beginning, call_fault, refusal_after, first_refusal, IsCallRefusal, OfMemory, OfCall, OfSize, RefusesWithin}
 use Rattle.editor_ends.specs.BuildFaults as faults
-use Rattle.editor_ends.specs.Built.{is_taken, is_above, is_given, is_full, is_needed, is_late_in, Made, Begins, Gives, IsFaultOr, IsSetOver, IsFinishRefusal, seen, giving_props, giving_text, AreBare, IsBlank, AreBlank, AskedAt, Builds, BuildsWithin, IsSetOf, IsSetWithin}
+use Rattle.editor_ends.specs.Built.{is_taken, is_above, is_given, is_full, is_needed, is_late_in, Made, Begins, Gives, IsFaultOr, IsSetOver, IsFinishRefusal, seen, giving_props, giving_text, AreBare, AreBlank, Builds, BuildsWithin, IsSetWithin}
 use Rattle.editor_ends.specs.Built as built
-use Rattle.editor_ends.specs.Asked.{removes, tells_props, tells_text}
 use Rattle.editor_ends.proofs.Asked.{or_none, or_assoc, AskedStep, AsksNothing, AsksFor, Tells, one_more, stays, begun_step, begun_bare, begun_blank, given_step, given_bare, given_blank, asked_end}
 use Rattle.editor_ends.proofs.Filled.{Nodes, or_no, or_yes, all_of}
 

@@ -8,7 +8,7 @@ use Rattle.std.proofs.lemmas.List.Folds.{list_any-append}
 use Rattle.std.specs.declared.cmp.Ordering.TheVariants.{Less}
 use Rattle.node_base.specs.Path.{Name, Path, path_cmp, paths_total, same_path, is_front, rest_after}
 use Rattle.node_base.specs.Props.{PropMap}
-use Rattle.node_base.proofs.PathLemmas.{same_path_itself, path_of_same, before_below, later_is_no_front, rest_after-append}
+use Rattle.node_base.proofs.PathLemmas.{same_path_itself, path_of_same, before_below, later_is_no_front}
 use Rattle.node_base.specs.declared.node.Node.{Node}
 use Rattle.node_base.specs.declared.node.NodeKind.{NodeKind}
 use Rattle.node_base.specs.declared.node.NodeKind.TheVariants.{File, Dir}
@@ -33,7 +33,7 @@ use Rattle.editor_ends.specs.Fronts.{above, fronts_from, fronts}
 use Rattle.md5.specs.Md5.{md5}
 use Rattle.editor_ends.specs.Parts.{removals, settings, prop_calls, pieces, text_calls, dir_parts, parts}
 use Rattle.editor_ends.specs.Drive.{base_number, opening, opens, closes, calls_with, change_calls, of_file, old_props, rests_with, rests_at, walk, drive}
-use Rattle.editor_ends.specs.BuildFaults.{is_below, takes, acts_below, call_fault, first_refusal}
+use Rattle.editor_ends.specs.BuildFaults.{takes, acts_below, call_fault, first_refusal}
 use Rattle.editor_ends.specs.Laws.{IsWithin}
 use Rattle.editor_ends.proofs.Fronts.{all_map, fronts_are, above_is, above_rest, strict, front_end}
 use Rattle.editor_ends.proofs.Filled.{Nodes, or_no, rest_itself, stepped_away}

@@ -1,4 +1,4 @@
-use Rattle.std.proofs.Common.{◌≡◌, ◌<◌, length, sym, ◌∙◌, subst, Ok, Err}
+use Rattle.std.proofs.Common.{◌<◌, length, sym, ◌∙◌, subst, Ok, Err}
 use Rattle.std.proofs.lemmas.Result.{err_from_is_err_and}
 use Rattle.dump_load.specs.Changes.{IsNormal}
 use Rattle.editor_ends.specs.Built.{Placed}

@@ -1,4 +1,4 @@
-use Rattle.std.proofs.Common.{rules, [], ◌≡◌, ◌≤◌, ◌<◌, ◌++◌, ◌∷◌, map, length, List, sym, subst, ◌∙◌, arith}
+use Rattle.std.proofs.Common.{[], ◌≡◌, ◌≤◌, ◌<◌, ◌++◌, ◌∷◌, map, length, List, sym, subst, ◌∙◌, arith}
 use Rattle.node_base.specs.Tree.{PathMap}
 use Rattle.dump_load.specs.declared.change.Change.{Change}
 use Rattle.std.proofs.lemmas.List.{nil_from_length}
