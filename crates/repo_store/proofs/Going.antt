@@ -1,17 +1,14 @@
 -- How the reading of a log's entries goes on.
-use Rattle.std.proofs.Common.{◌≡◌, ◌≤◌, ◌+◌, ◌↔◌, ℕ, List, [], ◌∷◌, ◌++◌, take, slice_get, Some, sym, ◌∙◌, ap, subst, inl, inr, arith}
+use Rattle.std.proofs.Common.{◌≡◌, ◌≤◌, ◌+◌, ◌↔◌, ℕ, List, [], ◌∷◌, ◌++◌, take, slice_get, Some, ◌∙◌, ap, subst, inl, inr, arith}
 use Rattle.std.proofs.lemmas.List.{take_more}
 use Rattle.std.proofs.lemmas.Option.{slice_get_within, get_or_from_slice_get}
 use Rattle.fleet_disk.specs.Image.{Image}
 use Rattle.fleet_disk.specs.Rules.{LeavesOnly, Rose, Within}
 use Rattle.fleet_disk.proofs.Moments.{joined}
-use Rattle.node_base.specs.Props.{PropMap}
-use Rattle.repo_core.specs.Repository.{Repository, fresh}
+use Rattle.repo_core.specs.Repository.{Repository}
 use Rattle.repo_core.specs.Entries.{with_entry_in}
 use Rattle.repo_core.specs.declared.entry.Entry.{Entry}
-use Rattle.repo_core.specs.declared.entry.Entry.TheVariants.{Mapped}
-use Rattle.repo_store.specs.Journal.{IsBeginning, Spells, Takes, StandsFor}
-use Rattle.repo_store.proofs.Images.{stands_more}
+use Rattle.repo_store.specs.Journal.{Spells, Takes}
 
 -- a disk is looked at
 pub record Goes {D : Type 0} (honest : D → Type 0) (may_leave : D → Image → Type 0) (clock : D → ℕ) (left_since : D → ℕ → Image → Type 0) (failures : D → ℕ) (old new : D) : Type 0 where
@@ -38,22 +35,6 @@ rose_on a b c le (inr h) = inr h
 -- an element more at the front
 pub take_got : {X : Type 0} (xs : List X) (i : ℕ) (x : X) → slice_get xs i ≡ Some x → take (i + 1) xs ≡ take i xs ++ x ∷ []
 take_got xs i x h = take_more xs i x (slice_get_within xs i x h) ∙ ap (λ (z : _). take i xs ++ z ∷ []) (get_or_from_slice_get xs i x x h)
-
--- the first entry stands
-pub first_stands : (entries : List (List ℕ)) (r : Repository)
-    → (bytes : List ℕ) × (ps : PropMap) × (slice_get entries 0 ≡ Some bytes) × IsBeginning bytes r.identity ps × (r ≡ with_entry_in (fresh r.identity) (Mapped 0 ps))
-    → StandsFor (take 1 entries) r.identity r.revisions
-first_stands entries r (bytes, ps, there, begins, is) =
-    subst (λ (l : List (List ℕ)). StandsFor l r.identity r.revisions) (sym (take_got entries 0 bytes there)) (ps, begins, ap (λ (q : Repository). q.revisions) is)
-
--- one more
-pub next_stands : (entries : List (List ℕ)) (i : ℕ) (old new : Repository) → StandsFor (take i entries) old.identity old.revisions
-    → (bytes : List ℕ) × (e : Entry) × (slice_get entries i ≡ Some bytes) × Spells bytes e × Takes old.revisions e × (new ≡ with_entry_in old e)
-    → StandsFor (take (i + 1) entries) new.identity new.revisions
-next_stands entries i old new stands (bytes, e, there, spells, takes, is) =
-    let more = stands_more (take i entries) old.identity old.revisions bytes e stands spells takes in
-    let all = subst (λ (l : List (List ℕ)). StandsFor l old.identity (with_entry_in old e).revisions) (sym (take_got entries i bytes there)) more in
-    subst (λ (q : Repository). StandsFor (take (i + 1) entries) q.identity q.revisions) (sym is) all
 
 -- an entry of the same list
 pub next_in : (there entries : List (List ℕ)) (i : ℕ) (old new : Repository) → there ≡ entries

@@ -9,4 +9,5 @@ pub mod Reading
 pub mod Replaying
 pub mod Spelling
 pub mod Taking
+pub mod Telling
 pub mod Told

@@ -29,7 +29,7 @@ use Rattle.repo_store.proofs.Taking.{set_told}
 -- ---- one repository
 
 -- entries that are spelled alike have the same number, properties and nodes
-one_spelled : (law : DumpsAreRead) (bytes : List ℕ) (e f : Entry) → Spells bytes e → Spells bytes f → (number_in e ≡ number_in f) × (props_in e ≡ props_in f) × (nodes_in e ≡ nodes_in f)
+pub one_spelled : (law : DumpsAreRead) (bytes : List ℕ) (e f : Entry) → Spells bytes e → Spells bytes f → (number_in e ≡ number_in f) × (props_in e ≡ props_in f) × (nodes_in e ≡ nodes_in f)
 one_spelled law bytes e f s t =
     one_told (number_in e) (number_in f) (props_in e) (props_in f) (nodes_in e) (nodes_in f)
     (sym (one_revision e) ∙ one_read bytes _ _ (spelled_read law bytes e s) (spelled_read law bytes f t) ∙ one_revision f)
@@ -42,7 +42,7 @@ one_tree x set other n m props others same =
     ∙ tree_told (trees_of x) other
 
 -- revisions go on with an entry's bytes in one way
-one_entry : (law : DumpsAreRead) (x : List Revision) (bytes : List ℕ) (e f : Entry) → Spells bytes e → Spells bytes f → Takes x e → Takes x f → with_entry x e ≡ with_entry x f
+pub one_entry : (law : DumpsAreRead) (x : List Revision) (bytes : List ℕ) (e f : Entry) → Spells bytes e → Spells bytes f → Takes x e → Takes x f → with_entry x e ≡ with_entry x f
 one_entry law x bytes (Revised n set props) (Revised m other others) s t u v =
     let (number, same, nodes) = one_spelled law bytes (Revised n set props) (Revised m other others) s t in
     let tree = one_tree x set other n m props others nodes in

@@ -16,7 +16,7 @@ use Rattle.gate_log.specs.Standing.{Stands, IsDamagedAt}
 use Rattle.repo_core.specs.Repository.{Revision, Repository, fresh}
 use Rattle.repo_core.specs.declared.entry.Entry.{Entry}
 use Rattle.repo_core.specs.declared.entry.Entry.TheVariants.{Revised, Mapped}
-use Rattle.repo_core.specs.Entries.{with_entry}
+use Rattle.repo_core.specs.Entries.{with_entry, with_entry_in}
 use Rattle.repo_core.specs.Refusals.{by_repository}
 use Rattle.repo_core.specs.Staging.{IsNext}
 
@@ -68,6 +68,20 @@ Continues x (bytes ∷ rest) y = (e : Entry) × Spells bytes e × Takes x e × C
 abbrev pub StandsFor : List (List ℕ) → List ℕ → List Revision → Type 0
 StandsFor [] identity x = ⊥
 StandsFor (first ∷ rest) identity x = (props : PropMap) × IsBeginning first identity props × Continues (begun identity props) rest x
+
+-- from the repository r on, each of the entries is taken, and leaves s in the end
+abbrev pub Leads : Repository → List (List ℕ) → Repository → Type 0
+Leads r [] s = s ≡ r
+Leads r (bytes ∷ rest) s = (e : Entry) × Spells bytes e × Takes r.revisions e × Leads (with_entry_in r e) rest s
+
+-- a journal's entries tell a repository: its identity, its revisions, and the set of each
+abbrev pub Tell : List (List ℕ) → Repository → Type 0
+Tell [] r = ⊥
+Tell (first ∷ rest) r = (props : PropMap) × IsBeginning first r.identity props × Leads (with_entry_in (fresh r.identity) (Mapped 0 props)) rest r
+
+-- an image keeps a repository: entries stand in it that tell it
+abbrev pub Keeps : Repository → Image → Type 0
+Keeps r image = ∥ ((entries : List (List ℕ)) × Stands image entries × Tell entries r) ∥₁
 
 -- an image reopens to a repository: entries stand in it that stand for that repository
 abbrev pub ReopensTo : List ℕ → List Revision → Image → Type 0

@@ -2,8 +2,8 @@
 use Rattle.std.specs.Prelude.{◌≡◌, ℕ, List}
 use Rattle.fleet_disk.specs.Image.{Image}
 use Rattle.gate_log.specs.Standing.{HasNoEntry}
-use Rattle.repo_core.specs.Repository.{Revision}
-use Rattle.repo_store.specs.Journal.{StandsFor, ReopensTo, IsDamaged}
+use Rattle.repo_core.specs.Repository.{Repository, Revision}
+use Rattle.repo_store.specs.Journal.{StandsFor, ReopensTo, Keeps, IsDamaged, IsExport}
 
 -- a journal's entries stand for one repository at most
 abbrev pub OneJournal : Type 0
@@ -12,6 +12,14 @@ OneJournal = (entries : List (List ℕ)) (identity other : List ℕ) (x y : List
 -- an image reopens to one repository at most
 abbrev pub OneRepository : Type 0
 OneRepository = (image : Image) (identity other : List ℕ) (x y : List Revision) → ReopensTo identity x image → ReopensTo other y image → (identity ≡ other) × (x ≡ y)
+
+-- an image reopens to a repository that it keeps
+abbrev pub KeptReopens : Type 0
+KeptReopens = (image : Image) (r : Repository) → Keeps r image → ReopensTo r.identity r.revisions image
+
+-- a revision of what an image keeps has one text: that of an export before a stop and of one after it
+abbrev pub OneText : Type 0
+OneText = (image : Image) (r s : Repository) (n : ℕ) (a b : List ℕ) → Keeps r image → Keeps s image → IsExport r n a → IsExport s n b → a ≡ b
 
 -- an image that reopens has no damaged entry
 abbrev pub NotDamaged : Type 0

@@ -14,7 +14,7 @@ ghost use Rattle.repo_core.specs.declared.entry.Entry.{Entry as EntryOf};
 ghost use Rattle.repo_core.specs.declared.entry.Entry.TheVariants.{Revised, Mapped};
 ghost use Rattle.repo_store.specs.Forms.{form_fault};
 ghost use Rattle.repo_store.specs.Refusals.{IsReplayFault};
-ghost use Rattle.repo_store.specs.Journal.{IsBeginning, Spells, Takes, StandsFor, IsFirstBad};
+ghost use Rattle.repo_store.specs.Journal.{IsBeginning, Spells, Takes, Tell, IsFirstBad};
 
 use crate::form::judge_form;
 use crate::read::{ReadFault, read_beginning, read_revision};
@@ -72,6 +72,7 @@ fn take_map(repo: &mut Repo, number: RevNo, props: Props) -> Result<(), ReadFaul
     ensures taken { OnOk result (repo.new ≡ with_entry_in repo.old (Mapped number props)) }
     ensures accepted { OnOk result (by_repository repo.old.revisions (Mapped number props) ≡ None) }
     ensures bad { IsErrOf result ReadFault.Bad → by_repository repo.old.revisions (Mapped number props) ≡ None → ⊥ }
+    ensures no_other { IfErr result (λ e. e ≡ ReadFault.Bad) }
 {
     match repo.put_props(number, props) {
         Ok(()) => Ok(()),
@@ -188,7 +189,7 @@ fn read_first<D: Disk>(alloc: Global, log: &mut GateLog<D>) -> Result<Repo, LogF
 pub fn replay<D: Disk>(alloc: Global, log: &mut GateLog<D>) -> Result<Repo, LogFault>
     requires there { 0 < length (ends_of log.old) }
     requires working { ¬ HasFailed log.old }
-    ensures stands { D.honest (disk_of log.old) → IfOk result (λ r. StandsFor (entries_of log.old) r.identity r.revisions) }
+    ensures told { D.honest (disk_of log.old) → IfOk result (λ r. Tell (entries_of log.old) r) }
     ensures damaged { D.honest (disk_of log.old) → (k : ℕ) → IsErrOf result (log_fault.Damaged k) → IsFirstBad k (entries_of log.old) }
     ensures same { D.honest (disk_of log.old) → entries_of log.new ≡ entries_of log.old }
     ensures ends { ends_of log.new ≡ ends_of log.old }

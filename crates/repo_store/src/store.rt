@@ -15,7 +15,7 @@ ghost use Rattle.repo_core.specs.Entries.{with_entry, with_entry_in};
 ghost use Rattle.repo_core.specs.Staging.{IsReady};
 ghost use Rattle.repo_core.specs.Refusals.{commit_fault, change_fault, by_repository, with_value, IsDue};
 ghost use Rattle.repo_store.specs.Forms.{form_fault, HasForm};
-ghost use Rattle.repo_store.specs.Journal.{spelling, beginning_of, HasSet, StandsFor, ReopensTo, IsBeforeOrAfter, IsDamaged, IsExport, IsBeginning, ReopensAlike};
+ghost use Rattle.repo_store.specs.Journal.{spelling, beginning_of, HasSet, Tell, Keeps, ReopensTo, IsBeforeOrAfter, IsDamaged, IsExport, IsBeginning, ReopensAlike};
 ghost use Rattle.repo_store.specs.Refusals.{IsStageFault, IsStoreFault, IsCreateFault, IsOpenFault};
 ghost use Rattle.repo_store.specs.declared.fault.StoreFault.TheVariants as refusal;
 ghost use Rattle.gate_log.specs.declared.log.Receipt.{Receipt as ReceiptOf};
@@ -41,7 +41,7 @@ use uuid::Uuid;
 pub struct RepoStore<D: Disk> {
     log: GateLog<D>,
     repo: Repo,
-    ghost stands: { ∥ (D.honest (log_disk log) → ¬ LogFailed log → StandsFor (entries_of log) repo.identity repo.revisions) ∥₁ },
+    ghost told: { ∥ (D.honest (log_disk log) → ¬ LogFailed log → Tell (entries_of log) repo) ∥₁ },
 }
 
 impl<D: Disk> RepoStore<D> {
@@ -77,11 +77,13 @@ impl<D: Disk> RepoStore<D> {
         }
     }
 
-    /// Opens the repository that a disk holds, the one to which what a read gives reopens. NoRepository (34), Damaged (33)
-    /// with the first entry that breaks the journal's format or isn't an entry that the repository before it takes, and
-    /// only there, DeviceFailed (31), OutOfMemory (70); a refusal hands the disk back.
+    /// Opens the repository that a disk holds, the one to which what a read gives reopens, with the sets of changes that its
+    /// entries tell: what is exported is what was exported before (`one_verdict`). NoRepository (34), Damaged (33) with the
+    /// first entry that breaks the journal's format or isn't an entry that the repository before it takes, and only there,
+    /// DeviceFailed (31), OutOfMemory (70); a refusal hands the disk back.
     pub fn open(alloc: Global, disk: D) -> Result<RepoStore<D>, (StoreFault, D)>
         ensures stands { D.honest disk → IfOk result (λ store. ReopensTo (identity_of store) (revisions_of store) (D.reads disk)) }
+        ensures keeps { D.honest disk → IfOk result (λ store. Keeps (repository_of store) (D.reads disk)) }
         ensures working { IfOk result (λ store. ¬ HasFailed store) }
         ensures durable { D.honest disk → IfOk result (λ store. (image : Image) → D.may_leave (disk_of store) image → ReopensTo (identity_of store) (revisions_of store) image) }
         ensures found { D.honest disk → (identity : List ℕ) (x : List Revision) → ReopensTo identity x (D.reads disk)
@@ -120,6 +122,8 @@ impl<D: Disk> RepoStore<D> {
         ensures value { result.now ≡ repository_of self.now }
         ensures stands { D.honest (disk_of self.now) → ¬ HasFailed self.now → (image : Image) → D.may_leave (disk_of self.now) image
             → ReopensTo (identity_of self.now) (revisions_of self.now) image }
+        ensures keeps { D.honest (disk_of self.now) → ¬ HasFailed self.now → (image : Image) → D.may_leave (disk_of self.now) image
+            → Keeps (repository_of self.now) image }
     {
         let _count = self.log.len();
         &self.repo

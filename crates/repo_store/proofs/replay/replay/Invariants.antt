@@ -1,6 +1,6 @@
 use Rattle.std.proofs.Common.{◌≡◌, ◌≤◌, length, take}
 use Rattle.gate_log.specs.Log.{disk_of, ends_of, entries_of, HasFailed}
-use Rattle.repo_store.specs.Journal.{StandsFor}
+use Rattle.repo_store.specs.Journal.{Tell}
 use Rattle.repo_store.proofs.Going.{Goes}
 use Rattle.repo_store.proofs.replay.replay.Given as goal
 
@@ -12,6 +12,6 @@ invariant-loop-entry g l = record {
   ends : ends_of l.log ≡ ends_of l.fn.log;
   working : ¬ HasFailed l.log;
   same : g.D.Disk.honest (disk_of l.fn.log) → entries_of l.log ≡ entries_of l.fn.log;
-  stands : g.D.Disk.honest (disk_of l.fn.log) → StandsFor (take l.entry (entries_of l.fn.log)) l.repo.identity l.repo.revisions;
+  told : g.D.Disk.honest (disk_of l.fn.log) → Tell (take l.entry (entries_of l.fn.log)) l.repo;
   goes : Goes g.D.Disk.honest g.D.Disk.may_leave g.D.Disk.clock g.D.Disk.left_since g.D.Disk.failures (disk_of l.fn.log) (disk_of l.log);
 }

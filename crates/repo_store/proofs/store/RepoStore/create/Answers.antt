@@ -6,6 +6,7 @@ use Rattle.repo_core.specs.Repository.{fresh}
 use Rattle.repo_store.specs.Journal.{IsBeginning}
 use Rattle.repo_store.proofs.Beginnings.{begins_fresh}
 use Rattle.repo_store.proofs.Images.{reopened}
+use Rattle.repo_store.proofs.Telling.{told_fresh}
 use Rattle.repo_store.proofs.store.RepoStore.create.Goals as goal
 
 pub invariant_of-result : goal.invariant_of-result
@@ -13,10 +14,10 @@ invariant_of-result g c =
     let begins = subst (λ (b : List ℕ). IsBeginning b c.args.identity finite.empty) (sym c.deref.ensures.value) c.in-Ok.ensures.bytes in
     let none : entries_of c.in-Ok-create.log ≡ [] = ap (λ (l : List ℕ). parts 0 l (g.D.Disk.reads c.in-Ok-create.log.disk).journal) c.in-Ok-create.ensures.entries.0 in
     record {
-      stands = ∣ (λ h w.
+      told = ∣ (λ h w.
           let honest = c.append.ensures.honest.1 h in
           let added = c.in-Ok-append.ensures.added honest ∙ ap (λ (l : List (List ℕ)). l ++ c.deref.result.now ∷ []) none in
-          begins_fresh c.deref.result.now c.args.identity (entries_of c.append.new.self) c.in-Ok.prepared.0 begins added c.in-Ok.ensures.repository) ∣₁;
+          told_fresh c.deref.result.now c.args.identity (entries_of c.append.new.self) c.in-Ok.prepared.0 begins added c.in-Ok.ensures.repository) ∣₁;
     }
 
 pub returns-in-Ok-append-clause-durable : goal.returns-in-Ok-append-clause-durable

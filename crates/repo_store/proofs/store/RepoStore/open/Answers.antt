@@ -8,6 +8,7 @@ use Rattle.gate_log.specs.declared.fault.LogFault.{LogFault}
 use Rattle.repo_store.specs.Journal.{ReopensAlike}
 use Rattle.repo_store.proofs.Images.{reopened}
 use Rattle.repo_store.proofs.Opening.{alike, alike_or, same_fault, only_device, only_first, replayed_fault, never_missing}
+use Rattle.repo_store.proofs.Telling.{told_stands, kept}
 use Rattle.repo_store.proofs.store.RepoStore.open.Goals as goal
 
 pub returns-in-Err-clause-any_moment_err : goal.returns-in-Err-clause-any_moment_err
@@ -19,12 +20,16 @@ returns-in-Err-clause-any_moment_err g c h =
 pub returns-in-Ok-replay-clause-stands : goal.returns-in-Ok-replay-clause-stands
 returns-in-Ok-replay-clause-stands g c h =
     let honest = c.in-Ok.ensures.honest.0 h in
-    reopened (entries_of c.in-Ok.log) c.in-Ok-replay.repo.identity c.in-Ok-replay.repo.revisions (g.D.Disk.reads c.args.disk) (∣ c.in-Ok-replay.ensures.stands honest ∣₁) (c.in-Ok.ensures.stands h)
+    reopened (entries_of c.in-Ok.log) c.in-Ok-replay.repo.identity c.in-Ok-replay.repo.revisions (g.D.Disk.reads c.args.disk) (∣ told_stands _ _ (c.in-Ok-replay.ensures.told honest) ∣₁) (c.in-Ok.ensures.stands h)
+
+pub returns-in-Ok-replay-clause-keeps : goal.returns-in-Ok-replay-clause-keeps
+returns-in-Ok-replay-clause-keeps g c h =
+    kept (entries_of c.in-Ok.log) c.in-Ok-replay.repo (g.D.Disk.reads c.args.disk) (∣ c.in-Ok-replay.ensures.told (c.in-Ok.ensures.honest.0 h) ∣₁) (c.in-Ok.ensures.stands h)
 
 pub returns-in-Ok-replay-clause-durable : goal.returns-in-Ok-replay-clause-durable
 returns-in-Ok-replay-clause-durable g c h image left =
     let honest = c.in-Ok.ensures.honest.0 h in
-    reopened (entries_of c.in-Ok.log) c.in-Ok-replay.repo.identity c.in-Ok-replay.repo.revisions image (∣ c.in-Ok-replay.ensures.stands honest ∣₁) (c.in-Ok.ensures.durable h image (c.replay.ensures.inside honest image left))
+    reopened (entries_of c.in-Ok.log) c.in-Ok-replay.repo.identity c.in-Ok-replay.repo.revisions image (∣ told_stands _ _ (c.in-Ok-replay.ensures.told honest) ∣₁) (c.in-Ok.ensures.durable h image (c.replay.ensures.inside honest image left))
 
 pub returns-in-Ok-replay-clause-any_moment : goal.returns-in-Ok-replay-clause-any_moment
 returns-in-Ok-replay-clause-any_moment g c h =
@@ -53,7 +58,7 @@ returns-in-Err-replay-clause-damaged g c h entry is =
 pub returns-in-Ok-replay-clause-found : goal.returns-in-Ok-replay-clause-found
 returns-in-Ok-replay-clause-found g c h identity x known =
     let honest = c.in-Ok.ensures.honest.0 h in
-    let stands = reopened (entries_of c.in-Ok.log) c.in-Ok-replay.repo.identity c.in-Ok-replay.repo.revisions (g.D.Disk.reads c.args.disk) (∣ c.in-Ok-replay.ensures.stands honest ∣₁) (c.in-Ok.ensures.stands h) in
+    let stands = reopened (entries_of c.in-Ok.log) c.in-Ok-replay.repo.identity c.in-Ok-replay.repo.revisions (g.D.Disk.reads c.args.disk) (∣ told_stands _ _ (c.in-Ok-replay.ensures.told honest) ∣₁) (c.in-Ok.ensures.stands h) in
     c.one_verdict.ensures.one_repository (g.D.Disk.reads c.args.disk) c.in-Ok-replay.repo.identity identity c.in-Ok-replay.repo.revisions x stands known
 
 pub returns-in-Err-clause-refused : goal.returns-in-Err-clause-refused
@@ -71,7 +76,7 @@ returns-in-Err-replay-clause-refused g c h identity x known =
 pub returns-in-Ok-replay-clause-stopped : goal.returns-in-Ok-replay-clause-stopped
 returns-in-Ok-replay-clause-stopped g c h entry damage =
     let honest = c.in-Ok.ensures.honest.0 h in
-    let stands = reopened (entries_of c.in-Ok.log) c.in-Ok-replay.repo.identity c.in-Ok-replay.repo.revisions (g.D.Disk.reads c.args.disk) (∣ c.in-Ok-replay.ensures.stands honest ∣₁) (c.in-Ok.ensures.stands h) in
+    let stands = reopened (entries_of c.in-Ok.log) c.in-Ok-replay.repo.identity c.in-Ok-replay.repo.revisions (g.D.Disk.reads c.args.disk) (∣ told_stands _ _ (c.in-Ok-replay.ensures.told honest) ∣₁) (c.in-Ok.ensures.stands h) in
     absurd (c.one_verdict.ensures.not_damaged (g.D.Disk.reads c.args.disk) c.in-Ok-replay.repo.identity c.in-Ok-replay.repo.revisions entry stands damage)
 
 pub returns-in-Err-clause-first : goal.returns-in-Err-clause-first
