@@ -4,7 +4,7 @@ ghost use Rattle.fleet_disk.specs.Image.{Image, no_bytes};
 ghost use Rattle.fleet_disk.specs.Rules.{LeavesOnly, Rose};
 ghost use Rattle.gate_log.specs.Standing.{HasNoEntry};
 ghost use Rattle.repo_core.specs.Repository.{Revision, fresh};
-ghost use Rattle.repo_store.specs.Journal.{IsDamaged, ReopensAlike, ReopensTo};
+ghost use Rattle.repo_store.specs.Journal.{IsDamaged, Keeps, ReopensAlike, ReopensTo};
 ghost use Rattle.repo_store.specs.Words.{disk_of, identity_of, repository_of, revisions_of, HasFailed};
 ghost use Rattle.store_engines.specs.Refusals.{IsCreateRefusal, IsOpenRefusal};
 
@@ -39,10 +39,11 @@ pub fn create_store<D: Disk + Drop>(
     }
 }
 
-/// Opens the repository that a disk holds. NoRepository (34) where it holds none, Damaged (33) with the first entry that is,
+/// Opens the repository that a disk holds, with the sets of changes that its entries tell. NoRepository (34) where it holds none, Damaged (33) with the first entry that is,
 /// and only there, DeviceFailed (31), OutOfMemory (70).
 pub fn open_store<D: Disk + Drop>(alloc: Global, disk: D) -> Result<RepoStore<D>, Refusal>
     ensures stands { D.honest disk → IfOk result (λ store. ReopensTo (identity_of store) (revisions_of store) (D.reads disk)) }
+    ensures keeps { D.honest disk → IfOk result (λ store. Keeps (repository_of store) (D.reads disk)) }
     ensures working { IfOk result (λ store. ¬ HasFailed store) }
     ensures durable { D.honest disk → IfOk result (λ store. (image : Image) → D.may_leave (disk_of store) image → ReopensTo (identity_of store) (revisions_of store) image) }
     ensures found { D.honest disk → (identity : List ℕ) (x : List Revision) → ReopensTo identity x (D.reads disk)
