@@ -1,2 +1,4 @@
+pub mod Doing
+pub mod Opening
 pub mod Refusing
 pub mod Spelled

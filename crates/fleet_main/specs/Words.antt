@@ -3,8 +3,6 @@ use Rattle.std.specs.Prelude.{ℕ, List, true, Option, Some, None, codes}
 use Rattle.clap.specs.Words.{App, Rule, new_app, new_rule, with_rule, with_subcommand}
 use Rattle.clap.specs.Simple.{on_top}
 use Rattle.clap.specs.declared.builder.action.ArgAction.TheVariants.{Set}
-use Rattle.fleet_engines.specs.declared.product.Product.{Product}
-use Rattle.fleet_engines.specs.declared.product.Product.TheVariants as product
 use Rattle.fleet_main.specs.declared.command_line.Command.{Command}
 use Rattle.fleet_main.specs.declared.command_line.Command.TheVariants.{List as ListIt, Canon, Create, Load, Dump, MakeDir}
 
@@ -65,12 +63,3 @@ word_of (Create folder identity) = codes "create"
 word_of (Load folder) = codes "load"
 word_of (Dump folder range) = codes "dump"
 word_of (MakeDir folder path message moment) = codes "mkdir"
-
--- what a command makes of the dump that it reads, where it makes something
-abbrev pub product_of : Command → Option Product
-product_of ListIt = Some product.List
-product_of Canon = Some product.Canon
-product_of (Create folder identity) = None
-product_of (Load folder) = None
-product_of (Dump folder range) = None
-product_of (MakeDir folder path message moment) = None

@@ -1,7 +1,13 @@
-//! Repositories in folders of the host.
-ghost use Rattle.std.specs.Prelude.{◌≡◌, IfErr};
+//! Folders, each the place of a repository.
+ghost use Rattle.std.specs.Prelude.{◌≡◌, ◌≢◌, ◌↔◌, ℕ, List, Some, None, Ok, Err, IfOk, IfErr, OnErr};
+ghost use Rattle.fleet_disk.specs.Image.{Image, no_bytes};
+ghost use Rattle.fleet_disk.specs.Rules.{Rose};
+ghost use Rattle.repo_core.specs.Repository.{fresh};
+ghost use Rattle.repo_store.specs.Journal.{ReopensTo};
+ghost use Rattle.repo_store.specs.Words.{disk_of, identity_of, repository_of, revisions_of};
+ghost use Rattle.fleet_main.specs.Opening.{DiskFails, NotBegun, NotOpened, folder_refusal};
 
-use fleet_disk::HostDisk;
+use fleet_disk::{Disk, HostDisk};
 use node_base::Refusal;
 use repo_store::RepoStore;
 use std::alloc::Global;
@@ -9,22 +15,100 @@ use std::fs::{OpenFile, OpenOptions};
 use std::io::ErrorKind;
 use std::rt::Files;
 use std::{fs, io};
-use store_engines::{create_store, open_store};
+use store_engines::store_refusal;
 use uuid::Uuid;
 
-// What an answer of the host is: DeviceFailed (31) where it is an error, OutOfMemory (70) where memory ran out.
-fn answered<T: Drop>(answer: io::Result<T>) -> Result<T, Refusal>
-    ensures no_peer { IfErr result (λ e. e ≡ Refusal.PeerFailed → ⊥) }
-{
-    match answer {
-        Ok(value) => Ok(value),
-        Err(error) => {
-            if error.kind() == ErrorKind::OutOfMemory {
-                Err(Refusal::OutOfMemory)
-            } else {
-                Err(Refusal::DeviceFailed)
+/// Why a folder gives no disk.
+#[derive(Clone, Copy, Debug, PartialEq, Eq)]
+pub enum FolderFault {
+    /// The host failed (31).
+    DeviceFailed,
+    /// Memory ran out (70).
+    OutOfMemory,
+}
+
+/// Where folders are, each of them the place of a disk.
+///
+/// What the clauses say of bytes holds of honest folders. A folder gives no disk only where the count of failures rose, or
+/// where memory ran out, honest or not.
+pub trait Folders {
+    /// The disk of a folder.
+    type Place: Disk + Drop;
+
+    /// The disks that it gives keep the rules.
+    ghost honest: { Self → Type 0 };
+
+    /// What a read of a folder's files gives; of those that aren't there nothing.
+    ghost holds: { Self → List ℕ → Image };
+
+    /// How often the host has failed.
+    ghost failures: { Self → ℕ };
+
+    /// The disk of a folder as it stands; nothing is made.
+    fn open(&mut self, alloc: Global, folder: &str) -> Result<Self::Place, FolderFault>
+        ensures honest { honest self.old → IfOk result (λ disk. Self.Place.honest disk) }
+        ensures reads { honest self.old → IfOk result (λ disk. Self.Place.reads disk ≡ holds self.old folder.now) }
+        ensures cause { IfErr result (λ e. e ≡ FolderFault.DeviceFailed → Rose (failures self.old) (failures self.new)) };
+
+    /// The same of a folder that is made, with its files, where it is missing; the folder above has to be there.
+    fn create(&mut self, alloc: Global, folder: &str) -> Result<Self::Place, FolderFault>
+        ensures honest { honest self.old → IfOk result (λ disk. Self.Place.honest disk) }
+        ensures reads { honest self.old → IfOk result (λ disk. Self.Place.reads disk ≡ holds self.old folder.now) }
+        ensures cause { IfErr result (λ e. e ≡ FolderFault.DeviceFailed → Rose (failures self.old) (failures self.new)) };
+}
+
+/// The folders of the host.
+///
+/// That their disks keep the rules is a premise that no contract shows, so what is said of honest folders is said of these
+/// under that premise alone.
+#[derive(Drop)]
+pub struct HostFolders<'a, R> {
+    rt: &'a R,
+    failures: u64,
+}
+
+impl<'a, R: Files> HostFolders<'a, R> {
+    /// The host's folders, of which none has failed yet.
+    pub fn new(rt: &'a R) -> HostFolders<'a, R> {
+        HostFolders { rt, failures: 0 }
+    }
+
+    // What an answer of the host is: a failure is counted, but for want of memory.
+    fn answered<T: Drop>(&mut self, answer: io::Result<T>) -> Result<T, FolderFault>
+        ensures ok { IfOk result (λ value. answer ≡ Ok value) }
+        ensures cause { IfErr result (λ e. e ≡ FolderFault.DeviceFailed → Rose self.old.failures self.new.failures) }
+    {
+        match answer {
+            Ok(value) => Ok(value),
+            Err(error) => {
+                if error.kind() == ErrorKind::OutOfMemory {
+                    return Err(FolderFault::OutOfMemory);
+                }
+                self.failures = self.failures.saturating_add(1);
+                Err(FolderFault::DeviceFailed)
             }
         }
+    }
+}
+
+impl<'a, R: Files> Folders for HostFolders<'a, R> {
+    type Place = HostDisk<R::File>;
+
+    // Nothing shows it of the host.
+    ghost honest = { λ folders. ⊥ };
+
+    ghost holds = { λ folders folder. no_bytes };
+
+    ghost failures = { λ folders. folders.failures };
+
+    fn open(&mut self, alloc: Global, folder: &str) -> Result<HostDisk<R::File>, FolderFault> {
+        let rt = self.rt;
+        self.answered(HostDisk::open(rt, alloc, folder))
+    }
+
+    fn create(&mut self, alloc: Global, folder: &str) -> Result<HostDisk<R::File>, FolderFault> {
+        let rt = self.rt;
+        self.answered(made(rt, alloc, folder))
     }
 }
 
@@ -55,33 +139,84 @@ fn make_folder<R: Files>(rt: &R, folder: &str) -> io::Result<()> {
     }
 }
 
-/// Begins a repository in a folder, which is made where it is missing. ThereAlready (35) where the folder has one,
-/// DeviceFailed (31) where the host fails, also where the folder above is missing or the folder is a file.
-pub fn created<R: Files>(
-    rt: &R,
-    alloc: Global,
-    folder: &str,
-    identity: Uuid,
-) -> Result<RepoStore<HostDisk<R::File>>, Refusal>
-    ensures no_peer { IfErr result (λ e. e ≡ Refusal.PeerFailed → ⊥) }
-{
-    answered(make_folder(rt, folder))?;
-    let disk = answered(HostDisk::create(rt, alloc, folder))?;
-    create_store(alloc, disk, identity)
+// The files of a folder, both of which are made where they are missing.
+fn made<R: Files>(rt: &R, alloc: Global, folder: &str) -> io::Result<HostDisk<R::File>> {
+    make_folder(rt, folder)?;
+    HostDisk::create(rt, alloc, folder)
 }
 
-/// Opens the repository of a folder. NoRepository (34) where the folder is missing or holds none, Damaged (33) with the first
-/// entry that is, DeviceFailed (31) where the host fails, also where the folder is a file.
-pub fn opened<R: Files>(
-    rt: &R,
+// The refusal that a folder's fault is.
+fn folder_refusal(fault: FolderFault) -> Refusal
+    ensures value { result ≡ folder_refusal fault }
+    ensures no_peer { result ≡ Refusal.PeerFailed → ⊥ }
+{
+    match fault {
+        FolderFault::DeviceFailed => Refusal::DeviceFailed,
+        FolderFault::OutOfMemory => Refusal::OutOfMemory,
+    }
+}
+
+/// Begins a repository in a folder, which is made where it is missing. ThereAlready (35) where the folder has one,
+/// DeviceFailed (31) where the host or the folder's disk fails, OutOfMemory (70).
+pub fn created<F: Folders>(
     alloc: Global,
+    folders: &mut F,
     folder: &str,
-) -> Result<RepoStore<HostDisk<R::File>>, Refusal>
+    identity: Uuid,
+) -> Result<RepoStore<F::Place>, Refusal>
+    ensures made { IfOk result (λ store. repository_of store ≡ fresh identity) }
+    ensures empty { F.honest folders.old → IfOk result (λ _. F.holds folders.old folder.now ≡ no_bytes) }
+    ensures durable { F.honest folders.old → IfOk result (λ store. (left : Image) → F.Place.may_leave (disk_of store) left → ReopensTo identity (fresh identity).revisions left) }
+    ensures refused { IfErr result (NotBegun (DiskFails F.Place.failures (F.failures folders.old) (F.failures folders.new)) (F.honest folders.old) (F.holds folders.old folder.now)) }
+    ensures no_peer { IfErr result (λ e. e ≡ Refusal.PeerFailed → ⊥) }
+{
+    match folders.create(alloc, folder) {
+        Ok(disk) => begun_on(alloc, disk, identity),
+        Err(fault) => Err(folder_refusal(fault)),
+    }
+}
+
+/// Opens the repository of a folder. NoRepository (34) where the folder has no name or no entry is in its files, Damaged (33)
+/// with the first entry that is, DeviceFailed (31) where the host or the folder's disk fails, OutOfMemory (70).
+pub fn opened<F: Folders>(
+    alloc: Global,
+    folders: &mut F,
+    folder: &str,
+) -> Result<RepoStore<F::Place>, Refusal>
+    ensures stands { F.honest folders.old → IfOk result (λ store. ReopensTo (identity_of store) (revisions_of store) (F.holds folders.old folder.now)) }
+    ensures refused { IfErr result (NotOpened (DiskFails F.Place.failures (F.failures folders.old) (F.failures folders.new)) (F.honest folders.old) folder.now (F.holds folders.old folder.now)) }
     ensures no_peer { IfErr result (λ e. e ≡ Refusal.PeerFailed → ⊥) }
 {
     if folder.is_empty() {
         return Err(Refusal::NoRepository);
     }
-    let disk = answered(HostDisk::open(rt, alloc, folder))?;
-    open_store(alloc, disk)
+    match folders.open(alloc, folder) {
+        Ok(disk) => opened_on(alloc, disk),
+        Err(fault) => Err(folder_refusal(fault)),
+    }
+}
+
+// The same of a disk.
+fn begun_on<D: Disk + Drop>(alloc: Global, disk: D, identity: Uuid) -> Result<RepoStore<D>, Refusal>
+    ensures made { IfOk result (λ store. repository_of store ≡ fresh identity) }
+    ensures empty { D.honest disk → IfOk result (λ _. D.reads disk ≡ no_bytes) }
+    ensures durable { D.honest disk → IfOk result (λ store. (left : Image) → D.may_leave (disk_of store) left → ReopensTo identity (fresh identity).revisions left) }
+    ensures refused { (before now : ℕ) → IfErr result (NotBegun (DiskFails D.failures before now) (D.honest disk) (D.reads disk)) }
+    ensures no_peer { IfErr result (λ e. e ≡ Refusal.PeerFailed → ⊥) }
+{
+    match RepoStore::create(alloc, disk, identity) {
+        Ok(store) => Ok(store),
+        Err((fault, _disk)) => Err(store_refusal(fault)),
+    }
+}
+
+fn opened_on<D: Disk + Drop>(alloc: Global, disk: D) -> Result<RepoStore<D>, Refusal>
+    ensures stands { D.honest disk → IfOk result (λ store. ReopensTo (identity_of store) (revisions_of store) (D.reads disk)) }
+    ensures refused { (before now : ℕ) (folder : List ℕ) → IfErr result (NotOpened (DiskFails D.failures before now) (D.honest disk) folder (D.reads disk)) }
+    ensures no_peer { IfErr result (λ e. e ≡ Refusal.PeerFailed → ⊥) }
+{
+    match RepoStore::open(alloc, disk) {
+        Ok(store) => Ok(store),
+        Err((fault, _disk)) => Err(store_refusal(fault)),
+    }
 }

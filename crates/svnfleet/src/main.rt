@@ -1,7 +1,7 @@
 //! svnfleet: lists and rewrites the dumps of Subversion repositories, and keeps repositories in folders.
 #![tactic(auto)]
 
-use fleet_main::{Sink, Source, Usage, plan, run};
+use fleet_main::{HostFolders, Sink, Source, Usage, plan, run};
 use std::io::{BufWriter, ErrorKind};
 use std::process::ExitCode;
 use std::{env, io};
@@ -50,7 +50,14 @@ fn planned(rt: &HostRuntime, words: &[String]) -> u8 {
             let mut input = Source::new(rt.stdin());
             let mut output = Sink::new(buffer);
             let mut errors = Sink::new(rt.stderr());
-            run(rt, command, &mut input, &mut output, &mut errors)
+            run(
+                rt.alloc(),
+                &mut HostFolders::new(rt),
+                command,
+                &mut input,
+                &mut output,
+                &mut errors,
+            )
         }
         Err(Usage::Shown(text)) => match rt.print(text) {
             Ok(()) => 0,
