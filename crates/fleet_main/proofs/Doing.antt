@@ -3,6 +3,9 @@ use Rattle.std.proofs.Common.{◌≡◌, ℕ, Bool, true, false, List, Option, R
 use Rattle.std.specs.Result.{OnOk, OnErr}
 use Rattle.std.specs.Io.KnownBytes.{Appends, Keeps}
 use Rattle.fleet_disk.specs.Image.{Image}
+use Rattle.fleet_disk.specs.declared.disk.Disk.{Ghosts}
+use Rattle.repo_store.specs.Words.{repository_of}
+use Rattle.repo_store.specs.declared.store.RepoStore.{RepoStore}
 use Rattle.node_base.specs.declared.refusal.Refusal.{Refusal}
 use Rattle.node_base.specs.declared.refusal.Refusal.TheVariants as refusal
 use Rattle.repo_core.specs.Repository.{Repository}
@@ -19,7 +22,7 @@ pub standing_ok : {T : Type 0} (r : Result T Refusal) (honest : Type 0) (held : 
 standing_ok (Ok t) honest held x y P s p = (x, y, s, p)
 standing_ok (Err e) honest held x y P s p = tt
 
-pub standing_err : {T : Type 0} (r : Result T Refusal) (fails honest : Type 0) (folder : List ℕ) (held : Image) (before now : Option (List ℕ)) (x y : Repository) (N : Refusal → Repository → Repository → Type 0)
+pub standing_err : {T S : Type 0} (r : Result T Refusal) (fails honest : Type 0) (folder : List ℕ) (held : Image) (before now : Option (List ℕ)) (x : Repository) (y : S) (N : Refusal → Repository → S → Type 0)
     → StandsIn honest held x → IfErr r (λ e. N e x y) → IfErr r (λ e. UnopenedOr fails honest folder held before now e (N e))
 standing_err (Ok t) fails honest folder held before now x y N s p = tt
 standing_err (Err e) fails honest folder held before now x y N s p = inr (x, y, s, p)
@@ -30,12 +33,12 @@ pub loaded_from : {T : Type 0} (r : Result T Refusal) (bytes before now : Option
 loaded_from (Ok t) bytes before now x y l m = (m, l)
 loaded_from (Err e) bytes before now x y l m = tt
 
-pub not_loaded_from : {T : Type 0} (r : Result T Refusal) (bytes left rest before now : Option (List ℕ)) (failed : Bool) (x y : Repository)
-    → IfErr r (λ e. is_mirror x.revisions ≡ false → IfSome bytes (λ read. LoadRefused x read y before now failed e))
-    → (is_mirror x.revisions ≡ true → IfErr r (λ e. (e ≡ refusal.ReadOnly) × (y ≡ x) × (left ≡ rest) × (now ≡ before)))
-    → IfErr r (λ e. NotLoadedFrom bytes before now failed e x y)
-not_loaded_from (Ok t) bytes left rest before now failed x y h m = tt
-not_loaded_from (Err e) bytes left rest before now failed x y h m = (h, λ is. let k = m is in (k.0, k.1, k.3))
+pub not_loaded_from : {T D : Type 0} {G : Ghosts D} (r : Result T Refusal) (bytes left rest before now : Option (List ℕ)) (failed : Bool) (x : Repository) (store : RepoStore D G)
+    → IfErr r (λ e. is_mirror x.revisions ≡ false → IfSome bytes (λ read. LoadRefused x read store before now failed e))
+    → (is_mirror x.revisions ≡ true → IfErr r (λ e. (e ≡ refusal.ReadOnly) × (repository_of store ≡ x) × (left ≡ rest) × (now ≡ before)))
+    → IfErr r (λ e. NotLoadedFrom G bytes before now failed e x store)
+not_loaded_from (Ok t) bytes left rest before now failed x store h m = tt
+not_loaded_from (Err e) bytes left rest before now failed x store h m = (h, λ is. let k = m is in (k.0, k.1, k.3))
 
 -- what is done is handed on
 pub handed_on : {T : Type 0} (r : Result T Refusal) (P : Option (List ℕ) → Type 0) (written now : Option (List ℕ)) → P written → Keeps written now → OnOk r (HandsOn P now)
@@ -61,7 +64,7 @@ pub done_at : {T : Type 0} (r : Result T Refusal) (honest : Type 0) (holds : Lis
     → OnOk r (OfStanding honest (holds a) P) → OnOk r (OfStanding honest (holds b) P)
 done_at r honest holds P a b same h = subst (λ t. OnOk r (OfStanding honest (holds t) P)) same h
 
-pub refused_at : {T : Type 0} (r : Result T Refusal) (fails honest : Type 0) (holds : List ℕ → Image) (before now : Option (List ℕ)) (N : Refusal → Repository → Repository → Type 0) (a b : List ℕ) → a ≡ b
+pub refused_at : {T S : Type 0} (r : Result T Refusal) (fails honest : Type 0) (holds : List ℕ → Image) (before now : Option (List ℕ)) (N : Refusal → Repository → S → Type 0) (a b : List ℕ) → a ≡ b
     → IfErr r (λ e. UnopenedOr fails honest a (holds a) before now e (N e)) → IfErr r (λ e. UnopenedOr fails honest b (holds b) before now e (N e))
 refused_at r fails honest holds before now N a b same h = subst (λ t. IfErr r (λ e. UnopenedOr fails honest t (holds t) before now e (N e))) same h
 
@@ -71,7 +74,7 @@ pub committed_at : {T : Type 0} (r : Result T Refusal) (honest : Type 0) (holds 
 committed_at r honest holds P a b c d i j folder path message h =
     done_at r honest holds (P d j) a b folder (subst (λ m. OnOk r (OfStanding honest (holds a) (P d m))) message (subst (λ p. OnOk r (OfStanding honest (holds a) (P p i))) path h))
 
-pub not_committed_at : {T : Type 0} (r : Result T Refusal) (fails honest : Type 0) (holds : List ℕ → Image) (before now : Option (List ℕ)) (N : List ℕ → List ℕ → Refusal → Repository → Repository → Type 0) (a b c d i j : List ℕ)
+pub not_committed_at : {T S : Type 0} (r : Result T Refusal) (fails honest : Type 0) (holds : List ℕ → Image) (before now : Option (List ℕ)) (N : List ℕ → List ℕ → Refusal → Repository → S → Type 0) (a b c d i j : List ℕ)
     → a ≡ b → c ≡ d → i ≡ j → IfErr r (λ e. UnopenedOr fails honest a (holds a) before now e (N c i e)) → IfErr r (λ e. UnopenedOr fails honest b (holds b) before now e (N d j e))
 not_committed_at r fails honest holds before now N a b c d i j folder path message h =
     refused_at r fails honest holds before now (N d j) a b folder

@@ -7,9 +7,9 @@ ghost use Rattle.node_base.specs.Refusals.{fault_line};
 ghost use Rattle.repo_core.specs.Repository.{fresh};
 ghost use Rattle.repo_store.specs.Journal.{ReopensTo};
 ghost use Rattle.fleet_engines.specs.Runs.{BothFlagged, Flagged};
-ghost use Rattle.fleet_main.specs.Doing.{EndsWith, HandsOn, IsBegun, IsDone, IsDumped, IsLoadedFrom, IsNotDone, NotDumped, NotLoadedFrom, OfStanding, UnopenedOr};
+ghost use Rattle.fleet_main.specs.Doing.{EndsWith, HandsOn, IsBegun, IsDone, IsDumped, IsLoadedFrom, IsNotDone, NotDumped, NotCommittedTo, NotLoadedFrom, OfStanding, UnopenedOr};
 ghost use Rattle.fleet_main.specs.Opening.{DiskFails, NotBegun};
-ghost use Rattle.store_engines.specs.Commits.{IsCommitted, NotCommitted};
+ghost use Rattle.store_engines.specs.Commits.{IsCommitted};
 
 use crate::command_line::Command;
 use crate::folders::{Folders, created, opened};
@@ -49,7 +49,7 @@ fn load<F: Folders, R: Read + Drop, W: Write + Drop>(
     output: &mut Sink<W>,
 ) -> Result<(), Refusal>
     ensures done { OnOk result (OfStanding (F.honest folders.old) (F.holds folders.old folder.now) (IsLoadedFrom (R.remaining input.old.inner) (W.contents output.old.inner) (W.contents output.new.inner))) }
-    ensures refused { IfErr result (λ e. UnopenedOr (DiskFails F.Place.failures (F.failures folders.old) (F.failures folders.new)) (F.honest folders.old) folder.now (F.holds folders.old folder.now) (W.contents output.old.inner) (W.contents output.new.inner) e (NotLoadedFrom (R.remaining input.old.inner) (W.contents output.old.inner) (W.contents output.new.inner) output.new.failed e)) }
+    ensures refused { IfErr result (λ e. UnopenedOr (DiskFails F.Place.failures (F.failures folders.old) (F.failures folders.new)) (F.honest folders.old) folder.now (F.holds folders.old folder.now) (W.contents output.old.inner) (W.contents output.new.inner) e (NotLoadedFrom F.Place.Disk (R.remaining input.old.inner) (W.contents output.old.inner) (W.contents output.new.inner) output.new.failed e)) }
     ensures peer { BothFlagged result input.old.failed input.new.failed output.old.failed output.new.failed }
 {
     match opened(alloc, folders, folder) {
@@ -88,7 +88,7 @@ fn make_dir<F: Folders, W: Write + Drop>(
     output: &mut Sink<W>,
 ) -> Result<(), Refusal>
     ensures done { OnOk result (OfStanding (F.honest folders.old) (F.holds folders.old folder.now) (λ x y. IsCommitted x path.now message.now moment y (W.contents output.old.inner) (W.contents output.new.inner))) }
-    ensures refused { IfErr result (λ e. UnopenedOr (DiskFails F.Place.failures (F.failures folders.old) (F.failures folders.new)) (F.honest folders.old) folder.now (F.holds folders.old folder.now) (W.contents output.old.inner) (W.contents output.new.inner) e (λ x y. NotCommitted x path.now message.now moment y (W.contents output.old.inner) (W.contents output.new.inner) output.new.failed e)) }
+    ensures refused { IfErr result (λ e. UnopenedOr (DiskFails F.Place.failures (F.failures folders.old) (F.failures folders.new)) (F.honest folders.old) folder.now (F.holds folders.old folder.now) (W.contents output.old.inner) (W.contents output.new.inner) e (NotCommittedTo F.Place.Disk path.now message.now moment (W.contents output.old.inner) (W.contents output.new.inner) output.new.failed e)) }
     ensures peer { Flagged result output.old.failed output.new.failed }
 {
     match opened(alloc, folders, folder) {
@@ -109,7 +109,7 @@ fn run_one<F: Folders, R: Read + Drop, W: Write + Drop>(
     output: &mut Sink<W>,
 ) -> Result<(), Refusal>
     ensures done { OnOk result (IsDone F.Place.may_leave (F.honest folders.old) (F.holds folders.old) command (R.remaining input.old.inner) (W.contents output.old.inner) (W.contents output.new.inner)) }
-    ensures refused { IfErr result (IsNotDone (DiskFails F.Place.failures (F.failures folders.old) (F.failures folders.new)) (F.honest folders.old) (F.holds folders.old) command (R.remaining input.old.inner) (W.contents output.old.inner) (W.contents output.new.inner) output.new.failed) }
+    ensures refused { IfErr result (IsNotDone F.Place.Disk (DiskFails F.Place.failures (F.failures folders.old) (F.failures folders.new)) (F.honest folders.old) (F.holds folders.old) command (R.remaining input.old.inner) (W.contents output.old.inner) (W.contents output.new.inner) output.new.failed) }
     ensures peer { BothFlagged result input.old.failed input.new.failed output.old.failed output.new.failed }
 {
     match command {
@@ -144,7 +144,7 @@ fn run_flushed<F: Folders, R: Read + Drop, W: Write + Drop>(
     output: &mut Sink<W>,
 ) -> Result<(), Refusal>
     ensures done { OnOk result (HandsOn (IsDone F.Place.may_leave (F.honest folders.old) (F.holds folders.old) command (R.remaining input.old.inner) (W.contents output.old.inner)) (W.contents output.new.inner)) }
-    ensures refused { IfErr result (EndsWith (IsDone F.Place.may_leave (F.honest folders.old) (F.holds folders.old) command (R.remaining input.old.inner) (W.contents output.old.inner)) (IsNotDone (DiskFails F.Place.failures (F.failures folders.old) (F.failures folders.new)) (F.honest folders.old) (F.holds folders.old) command (R.remaining input.old.inner) (W.contents output.old.inner)) (W.contents output.new.inner) output.new.failed) }
+    ensures refused { IfErr result (EndsWith (IsDone F.Place.may_leave (F.honest folders.old) (F.holds folders.old) command (R.remaining input.old.inner) (W.contents output.old.inner)) (IsNotDone F.Place.Disk (DiskFails F.Place.failures (F.failures folders.old) (F.failures folders.new)) (F.honest folders.old) (F.holds folders.old) command (R.remaining input.old.inner) (W.contents output.old.inner)) (W.contents output.new.inner) output.new.failed) }
     ensures unfailed { OnOk result ((input.new.failed ≡ input.old.failed) × (output.new.failed ≡ output.old.failed)) }
     ensures peer { IfErr result (λ e. e ≡ Refusal.PeerFailed → (input.new.failed || output.new.failed) ≡ true) }
 {
@@ -170,7 +170,7 @@ pub fn run<F: Folders, R: Read + Drop, W: Write + Drop, E: Write + Drop>(
     ensures done { result ≡ 0 → HandsOn (IsDone F.Place.may_leave (F.honest folders.old) (F.holds folders.old) command (R.remaining input.old.inner) (W.contents output.old.inner)) (W.contents output.new.inner) }
     ensures unfailed { result ≡ 0 → (input.new.failed ≡ input.old.failed) × (output.new.failed ≡ output.old.failed) }
     ensures silent { result ≡ 0 → E.contents errors.new.inner ≡ E.contents errors.old.inner }
-    ensures refused { result ≡ 1 → (e : RefusalOf) × EndsWith (IsDone F.Place.may_leave (F.honest folders.old) (F.holds folders.old) command (R.remaining input.old.inner) (W.contents output.old.inner)) (IsNotDone (DiskFails F.Place.failures (F.failures folders.old) (F.failures folders.new)) (F.honest folders.old) (F.holds folders.old) command (R.remaining input.old.inner) (W.contents output.old.inner)) (W.contents output.new.inner) output.new.failed e × (e ≡ Refusal.PeerFailed → (input.new.failed || output.new.failed) ≡ true) × ((errors.new.failed ≡ true) ⊎ Appends (E.contents errors.old.inner) (E.contents errors.new.inner) (fault_line e)) }
+    ensures refused { result ≡ 1 → (e : RefusalOf) × EndsWith (IsDone F.Place.may_leave (F.honest folders.old) (F.holds folders.old) command (R.remaining input.old.inner) (W.contents output.old.inner)) (IsNotDone F.Place.Disk (DiskFails F.Place.failures (F.failures folders.old) (F.failures folders.new)) (F.honest folders.old) (F.holds folders.old) command (R.remaining input.old.inner) (W.contents output.old.inner)) (W.contents output.new.inner) output.new.failed e × (e ≡ Refusal.PeerFailed → (input.new.failed || output.new.failed) ≡ true) × ((errors.new.failed ≡ true) ⊎ Appends (E.contents errors.old.inner) (E.contents errors.new.inner) (fault_line e)) }
 {
     match run_flushed(alloc, folders, command, input, output) {
         Ok(()) => 0,

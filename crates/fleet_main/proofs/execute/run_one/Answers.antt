@@ -1,7 +1,7 @@
 use Rattle.std.proofs.Common.{string_bytes, subst, sym, IfErr}
 use Rattle.std.specs.Result.{OnOk}
-use Rattle.store_engines.specs.Commits.{IsCommitted, NotCommitted}
-use Rattle.fleet_main.specs.Doing.{IsDone, IsDumped, IsLoadedFrom, IsNotDone, NotDumped, NotLoadedFrom}
+use Rattle.store_engines.specs.Commits.{IsCommitted}
+use Rattle.fleet_main.specs.Doing.{IsDone, IsDumped, IsLoadedFrom, IsNotDone, NotCommittedTo, NotDumped, NotLoadedFrom}
 use Rattle.fleet_main.specs.Opening.{DiskFails}
 use Rattle.fleet_main.proofs.Doing.{committed_at, done_at, not_committed_at, refused_at}
 use Rattle.fleet_main.proofs.execute.run_one.Goals as goal
@@ -14,8 +14,8 @@ returns-in-Load-clause-done g c =
 
 pub returns-in-Load-clause-refused : goal.returns-in-Load-clause-refused
 returns-in-Load-clause-refused g c =
-    subst (λ k. IfErr c.load.result (IsNotDone (DiskFails g.F.Place.Disk.failures (g.F.Folders.failures c.args.folders.now) (g.F.Folders.failures c.load.new.folders)) (g.F.Folders.honest c.args.folders.now) (g.F.Folders.holds c.args.folders.now) k (g.R.Read.remaining c.args.input.now.inner) (g.W.Write.contents c.args.output.now.inner) (g.W.Write.contents c.load.new.output.inner) c.load.new.output.failed)) (sym c.in-Load.is)
-    (refused_at c.load.result (DiskFails g.F.Place.Disk.failures (g.F.Folders.failures c.args.folders.now) (g.F.Folders.failures c.load.new.folders)) (g.F.Folders.honest c.args.folders.now) (g.F.Folders.holds c.args.folders.now) (g.W.Write.contents c.args.output.now.inner) (g.W.Write.contents c.load.new.output.inner) (NotLoadedFrom (g.R.Read.remaining c.args.input.now.inner) (g.W.Write.contents c.args.output.now.inner) (g.W.Write.contents c.load.new.output.inner) c.load.new.output.failed)
+    subst (λ k. IfErr c.load.result (IsNotDone g.F.Place.Disk (DiskFails g.F.Place.Disk.failures (g.F.Folders.failures c.args.folders.now) (g.F.Folders.failures c.load.new.folders)) (g.F.Folders.honest c.args.folders.now) (g.F.Folders.holds c.args.folders.now) k (g.R.Read.remaining c.args.input.now.inner) (g.W.Write.contents c.args.output.now.inner) (g.W.Write.contents c.load.new.output.inner) c.load.new.output.failed)) (sym c.in-Load.is)
+    (refused_at c.load.result (DiskFails g.F.Place.Disk.failures (g.F.Folders.failures c.args.folders.now) (g.F.Folders.failures c.load.new.folders)) (g.F.Folders.honest c.args.folders.now) (g.F.Folders.holds c.args.folders.now) (g.W.Write.contents c.args.output.now.inner) (g.W.Write.contents c.load.new.output.inner) (NotLoadedFrom g.F.Place.Disk (g.R.Read.remaining c.args.input.now.inner) (g.W.Write.contents c.args.output.now.inner) (g.W.Write.contents c.load.new.output.inner) c.load.new.output.failed)
     c.as_str-in-Load.result.now (string_bytes c.in-Load.folder) c.as_str-in-Load.ensures.value c.load.ensures.refused)
 
 pub returns-in-Dump-clause-done : goal.returns-in-Dump-clause-done
@@ -26,7 +26,7 @@ returns-in-Dump-clause-done g c =
 
 pub returns-in-Dump-clause-refused : goal.returns-in-Dump-clause-refused
 returns-in-Dump-clause-refused g c =
-    subst (λ k. IfErr c.dump.result (IsNotDone (DiskFails g.F.Place.Disk.failures (g.F.Folders.failures c.args.folders.now) (g.F.Folders.failures c.dump.new.folders)) (g.F.Folders.honest c.args.folders.now) (g.F.Folders.holds c.args.folders.now) k (g.R.Read.remaining c.args.input.now.inner) (g.W.Write.contents c.args.output.now.inner) (g.W.Write.contents c.dump.new.output.inner) c.dump.new.output.failed)) (sym c.in-Dump.is)
+    subst (λ k. IfErr c.dump.result (IsNotDone g.F.Place.Disk (DiskFails g.F.Place.Disk.failures (g.F.Folders.failures c.args.folders.now) (g.F.Folders.failures c.dump.new.folders)) (g.F.Folders.honest c.args.folders.now) (g.F.Folders.holds c.args.folders.now) k (g.R.Read.remaining c.args.input.now.inner) (g.W.Write.contents c.args.output.now.inner) (g.W.Write.contents c.dump.new.output.inner) c.dump.new.output.failed)) (sym c.in-Dump.is)
     (refused_at c.dump.result (DiskFails g.F.Place.Disk.failures (g.F.Folders.failures c.args.folders.now) (g.F.Folders.failures c.dump.new.folders)) (g.F.Folders.honest c.args.folders.now) (g.F.Folders.holds c.args.folders.now) (g.W.Write.contents c.args.output.now.inner) (g.W.Write.contents c.dump.new.output.inner) (NotDumped c.in-Dump.range (g.W.Write.contents c.args.output.now.inner) (g.W.Write.contents c.dump.new.output.inner) c.dump.new.output.failed)
     c.as_str-in-Dump.result.now (string_bytes c.in-Dump.folder) c.as_str-in-Dump.ensures.value c.dump.ensures.refused)
 
@@ -38,6 +38,6 @@ returns-in-MakeDir-clause-done g c =
 
 pub returns-in-MakeDir-clause-refused : goal.returns-in-MakeDir-clause-refused
 returns-in-MakeDir-clause-refused g c =
-    subst (λ k. IfErr c.make_dir.result (IsNotDone (DiskFails g.F.Place.Disk.failures (g.F.Folders.failures c.args.folders.now) (g.F.Folders.failures c.make_dir.new.folders)) (g.F.Folders.honest c.args.folders.now) (g.F.Folders.holds c.args.folders.now) k (g.R.Read.remaining c.args.input.now.inner) (g.W.Write.contents c.args.output.now.inner) (g.W.Write.contents c.make_dir.new.output.inner) c.make_dir.new.output.failed)) (sym c.in-MakeDir.is)
-    (not_committed_at c.make_dir.result (DiskFails g.F.Place.Disk.failures (g.F.Folders.failures c.args.folders.now) (g.F.Folders.failures c.make_dir.new.folders)) (g.F.Folders.honest c.args.folders.now) (g.F.Folders.holds c.args.folders.now) (g.W.Write.contents c.args.output.now.inner) (g.W.Write.contents c.make_dir.new.output.inner) (λ p m e x y. NotCommitted x p m c.in-MakeDir.moment y (g.W.Write.contents c.args.output.now.inner) (g.W.Write.contents c.make_dir.new.output.inner) c.make_dir.new.output.failed e)
+    subst (λ k. IfErr c.make_dir.result (IsNotDone g.F.Place.Disk (DiskFails g.F.Place.Disk.failures (g.F.Folders.failures c.args.folders.now) (g.F.Folders.failures c.make_dir.new.folders)) (g.F.Folders.honest c.args.folders.now) (g.F.Folders.holds c.args.folders.now) k (g.R.Read.remaining c.args.input.now.inner) (g.W.Write.contents c.args.output.now.inner) (g.W.Write.contents c.make_dir.new.output.inner) c.make_dir.new.output.failed)) (sym c.in-MakeDir.is)
+    (not_committed_at c.make_dir.result (DiskFails g.F.Place.Disk.failures (g.F.Folders.failures c.args.folders.now) (g.F.Folders.failures c.make_dir.new.folders)) (g.F.Folders.honest c.args.folders.now) (g.F.Folders.holds c.args.folders.now) (g.W.Write.contents c.args.output.now.inner) (g.W.Write.contents c.make_dir.new.output.inner) (λ p m e. NotCommittedTo g.F.Place.Disk p m c.in-MakeDir.moment (g.W.Write.contents c.args.output.now.inner) (g.W.Write.contents c.make_dir.new.output.inner) c.make_dir.new.output.failed e)
     c.as_str-in-MakeDir.result.now (string_bytes c.in-MakeDir.folder) c.as_str-in-MakeDir-2.result.now (string_bytes c.in-MakeDir.path) c.as_str-in-MakeDir-3.result.now (string_bytes c.in-MakeDir.message) c.as_str-in-MakeDir.ensures.value c.as_str-in-MakeDir-2.ensures.value c.as_str-in-MakeDir-3.ensures.value c.make_dir.ensures.refused)
