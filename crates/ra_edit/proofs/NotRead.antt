@@ -1,5 +1,5 @@
 -- What can't be read.
-use Rattle.std.proofs.Common.{◌≡◌, ℕ, Bool, true, false, List, [], ◌∷◌, ◌++◌, Option, Some, None, Result, Ok, Err, IfErr, refl, sym, ap, subst, ◌∙◌, inl, inr, cond, if◌then◌else◌}
+use Rattle.std.proofs.Common.{◌≡◌, ℕ, List, [], ◌∷◌, Option, Some, None, Result, Ok, Err, IfErr, refl, sym, ap, subst, ◌∙◌, inl, inr, if◌then◌else◌}
 use Rattle.std.specs.Prelude.{◌⊎◌, codes}
 use Rattle.ra_item.specs.Items.{Item, Items, End, Then, Word, Number, Text, Nested, row}
 use Rattle.node_base.specs.Path.{Path, same_name}
@@ -7,7 +7,7 @@ use Rattle.node_base.specs.PathText.{path_read}
 use Rattle.node_base.specs.declared.node.Source.{Source}
 use Rattle.ra_edit.specs.Commands.{list}
 use Rattle.ra_edit.specs.Edits.{IsRevision, IsString, IsSum, IsSource}
-use Rattle.ra_edit.specs.Receiving.{Param, AWord, AText, AList, ARevision, APath, APropName, ABase, AValue, ASum, ASource, IsA, BeginWith, NotRead, params_of, word_of, Forms, IsNoCommand}
+use Rattle.ra_edit.specs.Receiving.{Param, AList, ABase, AValue, ASum, ASource, IsA, BeginWith, NotRead, params_of, word_of, Forms, IsNoCommand}
 use Rattle.ra_edit.specs.declared.receive_command.Command.{Command}
 use Rattle.ra_edit.specs.declared.receive_command.Command.TheVariants as command
 use Rattle.ra_edit.specs.declared.receive_command.Name.{Name}

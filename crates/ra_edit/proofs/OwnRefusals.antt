@@ -1,5 +1,5 @@
 -- What an editor itself refuses.
-use Rattle.std.proofs.Common.{◌≡◌, ℕ, Bool, true, false, List, [], ◌∷◌, ◌++◌, map, Option, Some, None, Result, Ok, Err, IfErr, refl, sym, ap, subst, ◌∙◌, append_assoc, append-nil}
+use Rattle.std.proofs.Common.{◌≡◌, ℕ, Bool, List, [], ◌∷◌, ◌++◌, map, Option, Some, None, Result, IfErr, refl, sym, ap, subst, ◌∙◌, append_assoc, append-nil}
 use Rattle.std.specs.List.{concat}
 use Rattle.std.proofs.lemmas.List.{map-append}
 use Rattle.node_base.specs.Path.{Path}
@@ -8,7 +8,7 @@ use Rattle.delta_editor.specs.Calls.{Adds, Refused}
 use Rattle.delta_editor.specs.declared.call.Call.{Call}
 use Rattle.delta_editor.specs.declared.call.Call.TheVariants as call
 use Rattle.delta_editor.specs.declared.fault.EditorFault.{EditorFault}
-use Rattle.ra_edit.specs.Edits.{Held, Within, At, Inside, Begun, Targeted, Announced, last_calls, IsOpenDir, named}
+use Rattle.ra_edit.specs.Edits.{Held, Within, At, last_calls, IsOpenDir, named}
 use Rattle.ra_edit.specs.Edit.{dirs_named, Stands, GivenIs, has_root}
 use Rattle.ra_edit.specs.EditFaults.{of_window}
 use Rattle.ra_edit.specs.Received.{ShownBefore}
@@ -21,8 +21,6 @@ use Rattle.ra_edit.specs.declared.fault.WindowFault.TheVariants as window
 use Rattle.ra_edit.specs.declared.reading.Reading.{Reading}
 use Rattle.ra_edit.specs.declared.receive_command.Command.{Command}
 use Rattle.ra_edit.specs.declared.receive_command.Command.TheVariants as command
-use Rattle.ra_edit.specs.declared.receive_edit.Given.{Given}
-use Rattle.ra_edit.specs.declared.receive_edit.Given.TheVariants as given
 use Rattle.ra_edit.specs.declared.receive_edit.OpenDir.{OpenDir}
 use Rattle.ra_edit.specs.declared.receive_edit.OpenFile.{OpenFile}
 use Rattle.ra_edit.specs.declared.receive_edit.Stage.{Stage}

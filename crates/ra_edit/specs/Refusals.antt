@@ -1,5 +1,5 @@
 -- What a command is refused for, where the commands so far stand.
-use Rattle.std.specs.Prelude.{◌≡◌, ℕ, Bool, true, false, ◌&&◌, ◌||◌, if◌then◌else◌, List, [], ◌∷◌, ◌++◌, map, Option, Some, None, Result, Ok, Err}
+use Rattle.std.specs.Prelude.{◌≡◌, ℕ, Bool, true, false, ◌&&◌, ◌||◌, if◌then◌else◌, List, [], ◌∷◌, ◌++◌, map, Option, Some, None}
 use Rattle.std.specs.List.{concat}
 use Rattle.std.specs.Option.{option_map}
 use Rattle.md5.specs.Md5.{md5}
@@ -10,7 +10,7 @@ use Rattle.ra_item.specs.Items.{Item}
 use Rattle.delta_editor.specs.declared.call.Call.{Call}
 use Rattle.delta_editor.specs.declared.call.Call.TheVariants as call
 use Rattle.delta_editor.specs.declared.fault.EditorFault.{EditorFault}
-use Rattle.ra_edit.specs.Edits.{Held, Dir, Fresh, Within, Told, Named, is_free, IsOpenDir, At, Begun, Targeted, Inside, Announced, Ended, Says, last_calls}
+use Rattle.ra_edit.specs.Edits.{Held, Dir, Fresh, Within, Told, Named, is_free, IsOpenDir, At, Begun, Inside, Announced, Says, last_calls}
 use Rattle.ra_edit.specs.Receiving.{Forms}
 use Rattle.ra_edit.specs.Reading.{is_between, is_failed}
 use Rattle.ra_edit.specs.declared.reading.Reading.{Reading}
