@@ -3,7 +3,7 @@
 use fleet_engines::{
     Sink, Source, records_dont_matter, revisions_are_grouped, run_canon, run_list,
 };
-use fleet_main::{Command, Usage, plan, run};
+use fleet_main::{Command, HostFolders, Usage, plan, run};
 use std::alloc::{AllocError, Global};
 use std::io;
 use std::io::{Read, Write};
@@ -49,7 +49,15 @@ fn outcome_of(rt: &HostRuntime, command: Command, parts: &[&str]) -> Result<Ran,
     let mut input = Source::new(bytes.as_slice());
     let mut output = Sink::new(Vec::new(rt.alloc()));
     let mut errors = Sink::new(Vec::new(rt.alloc()));
-    let status = run(rt, command, &mut input, &mut output, &mut errors);
+    let mut folders = HostFolders::new(rt);
+    let status = run(
+        rt.alloc(),
+        &mut folders,
+        command,
+        &mut input,
+        &mut output,
+        &mut errors,
+    );
     Ok(Ran {
         status,
         output: output.into_inner(),
@@ -470,7 +478,15 @@ fn failed_reader_is_told(rt: HostRuntime) -> Result<(), Fail> {
     let mut broken = Source::new(Broken {
         bytes: whole.as_slice(),
     });
-    let status = run(&rt, Command::Canon, &mut broken, &mut output, &mut errors);
+    let mut folders = HostFolders::new(&rt);
+    let status = run(
+        rt.alloc(),
+        &mut folders,
+        Command::Canon,
+        &mut broken,
+        &mut output,
+        &mut errors,
+    );
     assert!(rt; status == 1 && broken.failed);
     assert!(rt; errors.into_inner().as_slice() == b"svnfleet: 49 stream failed\n".as_slice());
     let written = joined(rt.alloc(), &[HEAD, ZERO])?;
@@ -484,7 +500,15 @@ fn failed_writer_is_told(rt: HostRuntime) -> Result<(), Fail> {
     let mut input = Source::new(whole.as_slice());
     let mut output = Sink::new(Closed);
     let mut errors = Sink::new(Vec::new(rt.alloc()));
-    let status = run(&rt, Command::Canon, &mut input, &mut output, &mut errors);
+    let mut folders = HostFolders::new(&rt);
+    let status = run(
+        rt.alloc(),
+        &mut folders,
+        Command::Canon,
+        &mut input,
+        &mut output,
+        &mut errors,
+    );
     assert!(rt; status == 1 && output.failed && !input.failed);
     assert!(rt; errors.into_inner().as_slice() == b"svnfleet: 49 stream failed\n".as_slice());
     Ok(())
