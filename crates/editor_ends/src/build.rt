@@ -18,6 +18,11 @@ use path_tree::Tree;
 use std::alloc::{AllocError, Global};
 
 /// Makes the set of changes that it is shown as calls, for the revision that comes after some trees.
+///
+/// A target that is named has to be the number of the trees (16). Bases aren't read, and the sum of a closed file isn't compared.
+/// Refused at the call that brings it: an add or a deletion of the root (10); a path that is opened or added twice, or deleted
+/// after it or something below it was touched (15); the fault of the change that the call begins (8, 11 to 14, 17); a property or
+/// a text past its limit (8). Refused at the end: more than 4,096 changes (8). Each call may be refused for want of memory (70).
 #[derive(Drop)]
 pub struct BuildEditor<'a> {
     alloc: Global,
@@ -65,7 +70,7 @@ impl<'a> Built<'a> {
 }
 
 impl<'a> BuildEditor<'a> {
-    /// Nothing was shown yet.
+    /// An editor that was shown nothing yet, over the trees of the revisions so far, 65,535 at most, the newest last.
     pub fn new(alloc: Global, trees: &'a [Tree]) -> Result<BuildEditor<'a>, AllocError>
         requires { length trees.now ≤ 65535 }
         ensures new { IfOk result (λ e. has_shown e []) }

@@ -7,6 +7,14 @@
 //! ```
 //!
 //! Contract: where it answers Ok, the editor was shown exactly the calls that the set is driven as, whatever editor it is.
+//!
+//! [`BuildEditor`] makes a set of changes of the calls that it is shown:
+//!
+//! ```text
+//! let again = drive(alloc, &trees, &set, BuildEditor::new(alloc, &trees)?)?.into_set();
+//! ```
+//!
+//! Contract: where the calls keep the nesting, the set has their effect. By [`law`] they come to no other.
 #![tactic(auto)]
 
 pub use build::{BuildEditor, Built, BuiltDir, BuiltFile};

@@ -16,7 +16,7 @@ use dump_load::Change;
 use node_base::{Action, Props, RevNo, Source};
 use path_tree::Tree;
 
-// The revision before the one that is shown.
+/// The revision before the one that is shown.
 pub fn base_of(trees: &[Tree]) -> Option<RevNo>
     requires { length trees.now ≤ 65535 }
     ensures { result ≡ base_number trees.now }

@@ -115,7 +115,7 @@ fn reset_file<E: Editor>(
     set_file(editor, file, new)
 }
 
-// What a change gives an open directory, whose properties so far are the old ones.
+/// Shows what a change gives an open directory, whose properties so far are the old ones.
 pub fn give_dir<E: Editor>(
     editor: &mut E,
     dir: &mut E::Dir,
@@ -134,7 +134,7 @@ pub fn give_dir<E: Editor>(
     }
 }
 
-// The properties that a change gives an open file, whose properties so far are the old ones.
+/// Shows the properties that a change gives an open file, whose properties so far are the old ones.
 pub fn give_file_props<E: Editor>(
     editor: &mut E,
     file: &mut E::File,

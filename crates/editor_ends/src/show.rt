@@ -184,6 +184,7 @@ fn show_root<E: Editor>(
     if !change.path.is_root() {
         return Ok(());
     }
+    // For the proof: the root of a tree is a directory.
     progress.tree.is_tree();
     let plan = advance(revision, progress)?;
     give_dir(editor, root, change, &plan.old)

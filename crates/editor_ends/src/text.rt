@@ -46,7 +46,7 @@ fn send_text<E: Editor>(editor: &mut E, file: &mut E::File, text: &Text) -> Resu
     editor.text_end(file)
 }
 
-// The text that a change gives an open file.
+/// Shows the text that a change gives an open file.
 pub fn give_text<E: Editor>(
     editor: &mut E,
     file: &mut E::File,
@@ -64,7 +64,7 @@ pub fn give_text<E: Editor>(
     }
 }
 
-// The MD5 of a text, where there is one.
+/// The MD5 of a text, where there is one.
 pub fn sum_of(text: &Option<Text>) -> Option<[u8; 16]>
     ensures { result ≡ option_map md5 text.now }
 {
