@@ -7,7 +7,6 @@ use Rattle.sync_core.specs.declared.init_job.InitJob.{InitJob}
 use Rattle.sync_core.specs.declared.state.JobState.TheVariants as state
 use Rattle.sync_core.specs.declared.answer.Answer.{Answer}
 use Rattle.sync_core.specs.declared.answer.Answer.TheVariants as answer
-use Rattle.sync_core.specs.Mirror.{Init}
 use Rattle.sync_core.specs.Jobs.{Job}
 use Rattle.sync_core.specs.Deeds.{heard, IsLawfulDeed}
 use Rattle.sync_core.specs.States.{IsAskedFor}

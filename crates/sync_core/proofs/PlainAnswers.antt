@@ -1,5 +1,5 @@
 -- Refusals of a mirror in memory are steps.
-use Rattle.std.proofs.Common.{◌≡◌, ℕ, [], ◌∷◌, Option, Some, None, is_some, if◌then◌else◌, refl, sym, ap, ◌∙◌, subst}
+use Rattle.std.proofs.Common.{◌≡◌, ℕ, true, [], ◌∷◌, Option, Some, None, is_some, if◌then◌else◌, refl, sym, ap, ◌∙◌, subst}
 use Rattle.std.specs.Option.{option_map, option_map_or, option_and_then}
 use Rattle.std.specs.FinMap as finite
 use Rattle.node_base.specs.Props.{PropMap}
@@ -15,9 +15,9 @@ use Rattle.sync_core.specs.declared.fault.SyncFault.{SyncFault}
 use Rattle.sync_core.specs.declared.fault.SyncFault.TheVariants as fault
 use Rattle.sync_core.specs.Names.{lock_name}
 use Rattle.sync_core.specs.Faults.{of_repository}
-use Rattle.sync_core.specs.Dues.{IsDue, IsNeedAnswer}
+use Rattle.sync_core.specs.Dues.{IsDue, IsNeedAnswer, tells_lock}
 use Rattle.sync_core.specs.Mirror.{Mirror, Call, Need, Refused, Refusal, Missed, OfRepository, standing_in, standing_of, unmet, entry_of, refusal, granted, accepted}
-use Rattle.sync_core.specs.Plain.{IsTold, IsRefused, AnswersErr}
+use Rattle.sync_core.specs.Plain.{IsTold, IsRefused, LacksMemory, AnswersErr}
 
 refuses : (old : Mirror) (seat : ℕ) (call : Call) (why : Refusal) (f : SyncFault) → refusal old seat call ≡ Some why → IsTold (finite.get (props_at old.revisions 0) lock_name) why f → IsRefused old seat call f old
 refuses old seat call why f e t =
@@ -30,27 +30,34 @@ refuses old seat call why f e t =
       };
     }
 
--- what the answer to an unmet need says, apart from want of memory
-missed : (old : Mirror) (seat : ℕ) (call : Call) (need : Need) (f : SyncFault) → refusal old seat call ≡ Some (Missed need) → IsNeedAnswer need (finite.get (props_at old.revisions 0) lock_name) f → AnswersErr old seat call f old
-missed old seat call need fault.NotInitialised e h = refuses old seat call (Missed need) fault.NotInitialised e h
-missed old seat call need fault.AlreadyInitialised e h = refuses old seat call (Missed need) fault.AlreadyInitialised e h
-missed old seat call need fault.NotEmpty e h = refuses old seat call (Missed need) fault.NotEmpty e h
-missed old seat call need (fault.LockHeld t) e h = refuses old seat call (Missed need) (fault.LockHeld t) e h
-missed old seat call need (fault.HolderRunning t) e h = refuses old seat call (Missed need) (fault.HolderRunning t) e h
-missed old seat call need fault.WrongMaster e h = refuses old seat call (Missed need) fault.WrongMaster e h
-missed old seat call need (fault.Inconsistent a b c) e h = refuses old seat call (Missed need) (fault.Inconsistent a b c) e h
-missed old seat call need (fault.NotYetCopied n) e h = refuses old seat call (Missed need) (fault.NotYetCopied n) e h
-missed old seat call need fault.NotHolder e h = refuses old seat call (Missed need) fault.NotHolder e h
-missed old seat call need (fault.MasterFailed t) e h = refuses old seat call (Missed need) (fault.MasterFailed t) e h
-missed old seat call need fault.OutOfTurn e h = refuses old seat call (Missed need) fault.OutOfTurn e h
-missed old seat call need (fault.Other x) e h = refuses old seat call (Missed need) (fault.Other x) e h
-missed old seat call need fault.OutOfMemory e h = refl
-
 abbrev by_entry : Mirror → Call → Option RepoFault
 by_entry old call = option_and_then (by_repository old.revisions) (entry_of old.revisions call)
 
 abbrev needs : Mirror → ℕ → Call → Option Need
 needs old seat call = unmet (standing_of old.revisions) old.holder seat call
+
+same_need : (a b : Need) (x : Option Need) → x ≡ Some a → x ≡ Some b → a ≡ b
+same_need a b None p q = cc
+same_need a b (Some c) p q = cc
+
+-- what the answer to an unmet need says
+missed_as : (old : Mirror) (seat : ℕ) (call : Call) (need : Need) (f : SyncFault) → needs old seat call ≡ Some need → refusal old seat call ≡ Some (Missed need) → IsNeedAnswer need (finite.get (props_at old.revisions 0) lock_name) f → AnswersErr old seat call f old
+missed_as old seat call need fault.NotInitialised n e h = refuses old seat call (Missed need) fault.NotInitialised e h
+missed_as old seat call need fault.AlreadyInitialised n e h = refuses old seat call (Missed need) fault.AlreadyInitialised e h
+missed_as old seat call need fault.NotEmpty n e h = refuses old seat call (Missed need) fault.NotEmpty e h
+missed_as old seat call need (fault.LockHeld t) n e h = refuses old seat call (Missed need) (fault.LockHeld t) e h
+missed_as old seat call need (fault.HolderRunning t) n e h = refuses old seat call (Missed need) (fault.HolderRunning t) e h
+missed_as old seat call need fault.WrongMaster n e h = refuses old seat call (Missed need) fault.WrongMaster e h
+missed_as old seat call need (fault.Inconsistent a b c) n e h = refuses old seat call (Missed need) (fault.Inconsistent a b c) e h
+missed_as old seat call need (fault.NotYetCopied k) n e h = refuses old seat call (Missed need) (fault.NotYetCopied k) e h
+missed_as old seat call need fault.NotHolder n e h = refuses old seat call (Missed need) fault.NotHolder e h
+missed_as old seat call need (fault.MasterFailed t) n e h = refuses old seat call (Missed need) (fault.MasterFailed t) e h
+missed_as old seat call need fault.OutOfTurn n e h = refuses old seat call (Missed need) fault.OutOfTurn e h
+missed_as old seat call need (fault.Other x) n e h = refuses old seat call (Missed need) (fault.Other x) e h
+missed_as old seat call need fault.OutOfMemory n e h = record { kept = refl; told = λ other u. subst (λ k. tells_lock k ≡ true) (same_need need other (needs old seat call) n u) h }
+
+missed : (old : Mirror) (seat : ℕ) (call : Call) (need : Need) (f : SyncFault) → needs old seat call ≡ Some need → IsNeedAnswer need (finite.get (props_at old.revisions 0) lock_name) f → AnswersErr old seat call f old
+missed old seat call need f n h = missed_as old seat call need f n (ap (λ (x : Option Need). first_of (option_map Missed x ∷ option_map OfRepository (by_entry old call) ∷ [])) n) h
 
 -- the needs by revision 0's map and the head, as the code has them
 same_needs : (old : Mirror) (seat : ℕ) (call : Call) (own : PropMap) (head : ℕ) → own ≡ props_at old.revisions 0 → head ≡ head_of old.revisions → unmet (standing_in own head) old.holder seat call ≡ needs old seat call
@@ -61,8 +68,7 @@ pub need_answer : (old : Mirror) (seat : ℕ) (call : Call) (own : PropMap) (hea
     → own ≡ props_at old.revisions 0 → head ≡ head_of old.revisions → Some need ≡ unmet (standing_in own head) old.holder seat call → IsNeedAnswer need (finite.get own lock_name) f → AnswersErr old seat call f old
 need_answer old seat call own head need f o h u t =
     let n : needs old seat call ≡ Some need = sym (u ∙ same_needs old seat call own head o h) in
-    missed old seat call need f
-    (ap (λ (x : Option Need). first_of (option_map Missed x ∷ option_map OfRepository (by_entry old call) ∷ [])) n)
+    missed old seat call need f n
     (subst (λ p. IsNeedAnswer need (finite.get p lock_name) f) o t)
 
 told : (old : Mirror) (seat : ℕ) (call : Call) (f : SyncFault) (due : Option RepoFault) → needs old seat call ≡ None → by_entry old call ≡ due → option_map of_repository due ≡ Some f → IsRefused old seat call f old
@@ -73,6 +79,10 @@ told old seat call f (Some e) n d h =
     (ap (λ (x : Option Need). first_of (option_map Missed x ∷ option_map OfRepository (by_entry old call) ∷ [])) n
     ∙ ap (λ (x : Option RepoFault). first_of (None ∷ option_map OfRepository x ∷ [])) d)
     same
+
+-- where no need is missed, memory may be short
+lacks : (old : Mirror) (seat : ℕ) (call : Call) → needs old seat call ≡ None → LacksMemory old seat call old
+lacks old seat call n = record { kept = refl; told = λ need u. absurd (cc) }
 
 due_answer : (old : Mirror) (seat : ℕ) (call : Call) (f : SyncFault) → needs old seat call ≡ None → IsDue f (by_entry old call) → AnswersErr old seat call f old
 due_answer old seat call fault.NotInitialised n h = told old seat call fault.NotInitialised (by_entry old call) n refl h
@@ -87,7 +97,7 @@ due_answer old seat call fault.NotHolder n h = told old seat call fault.NotHolde
 due_answer old seat call (fault.MasterFailed t) n h = told old seat call (fault.MasterFailed t) (by_entry old call) n refl h
 due_answer old seat call fault.OutOfTurn n h = told old seat call fault.OutOfTurn (by_entry old call) n refl h
 due_answer old seat call (fault.Other x) n h = told old seat call (fault.Other x) (by_entry old call) n refl h
-due_answer old seat call fault.OutOfMemory n h = refl
+due_answer old seat call fault.OutOfMemory n h = lacks old seat call n
 
 pub entry_answer : (old : Mirror) (seat : ℕ) (call : Call) (own : PropMap) (head : ℕ) (f : SyncFault)
     → own ≡ props_at old.revisions 0 → head ≡ head_of old.revisions → None ≡ unmet (standing_in own head) old.holder seat call → IsDue f (by_entry old call) → AnswersErr old seat call f old

@@ -1,5 +1,5 @@
 -- Which refusal is due.
-use Rattle.std.specs.Prelude.{◌≡◌, ℕ, List, [], Option, Some, unwrap_or}
+use Rattle.std.specs.Prelude.{◌≡◌, ℕ, Bool, true, false, List, [], Option, Some, unwrap_or}
 use Rattle.std.specs.Option.{option_map}
 use Rattle.repo_core.specs.declared.fault.RepoFault.{RepoFault}
 use Rattle.sync_core.specs.declared.fault.SyncFault.{SyncFault}
@@ -24,7 +24,17 @@ IsNeedFault need.HolderRunning text f = (token : LockToken) × (f ≡ fault.Hold
 IsNeedFault need.NotHolder text f = f ≡ fault.NotHolder
 IsNeedFault need.OutOfTurn text f = f ≡ fault.OutOfTurn
 
--- the same, or want of memory
+-- the needs that are told with the lock's text, for which memory is taken
+abbrev pub tells_lock : Need → Bool
+tells_lock need.NotInitialised = false
+tells_lock need.AlreadyInitialised = false
+tells_lock need.NotEmpty = false
+tells_lock need.LockHeld = true
+tells_lock need.HolderRunning = true
+tells_lock need.NotHolder = false
+tells_lock need.OutOfTurn = false
+
+-- the same, or want of memory for the lock's text
 abbrev pub IsNeedAnswer : Need → Option (List ℕ) → SyncFault → Type 0
-IsNeedAnswer n text fault.OutOfMemory = Unit {0}
+IsNeedAnswer n text fault.OutOfMemory = tells_lock n ≡ true
 IsNeedAnswer n text f = IsNeedFault n text f

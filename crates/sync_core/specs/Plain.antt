@@ -1,5 +1,5 @@
 -- A mirror in memory, and the answers to its calls.
-use Rattle.std.specs.Prelude.{◌≡◌, ℕ, List, length, Option, Result, Ok, Err}
+use Rattle.std.specs.Prelude.{◌≡◌, ℕ, ◌<◌, true, List, length, Option, Some, Result, Ok, Err}
 use Rattle.std.specs.FinMap as finite
 use Rattle.repo_core.specs.declared.entry.Entry.{Entry}
 use Rattle.repo_core.specs.declared.entry.Entry.TheVariants.{Revised, Mapped}
@@ -11,8 +11,8 @@ use Rattle.sync_core.specs.declared.reply.Reply.TheVariants as given
 use Rattle.sync_core.specs.declared.mirror.PlainMirror.{PlainMirror}
 use Rattle.sync_core.specs.Names.{lock_name}
 use Rattle.sync_core.specs.Faults.{of_repository}
-use Rattle.sync_core.specs.Dues.{IsNeedFault}
-use Rattle.sync_core.specs.Mirror.{Mirror, Call, Reply, Done, Seen, Refused, Refusal, Missed, OfRepository, IsStep}
+use Rattle.sync_core.specs.Dues.{IsNeedFault, tells_lock}
+use Rattle.sync_core.specs.Mirror.{Mirror, Need, standing_of, unmet, Call, PutProps, Reply, Done, Seen, Refused, Refusal, Missed, OfRepository, IsStep}
 
 abbrev pub mirror_of : PlainMirror → Mirror
 mirror_of m = record { revisions = m.repo.revisions; holder = m.holder }
@@ -21,6 +21,11 @@ mirror_of m = record { revisions = m.repo.revisions; holder = m.holder }
 abbrev pub IsNumbered : List Revision → Entry → Type 0
 IsNumbered x (Revised n set props) = n ≡ length x
 IsNumbered x (Mapped n props) = Unit {0}
+
+-- a revision whose properties are put is there
+abbrev pub IsThere : List Revision → Call → Type 0
+IsThere x (PutProps n props) = n < length x
+IsThere x _ = Unit {0}
 
 abbrev pub reply_of : Given → Reply
 reply_of given.Done = Done
@@ -37,9 +42,14 @@ pub record IsRefused (old : Mirror) (seat : ℕ) (call : Call) (f : SyncFault) (
   pub told : IsTold (finite.get (props_at old.revisions 0) lock_name) why f
   pub step : IsStep old seat call (Refused why) new
 
--- a step of the mirror; want of memory changes nothing
+-- want of memory changes nothing, and no need is missed, but for one that is told with the lock's text
+pub record LacksMemory (old : Mirror) (seat : ℕ) (call : Call) (new : Mirror) : Type 0 where
+  pub kept : new ≡ old
+  pub told : (need : Need) → unmet (standing_of old.revisions) old.holder seat call ≡ Some need → tells_lock need ≡ true
+
+-- a step of the mirror, or want of memory
 abbrev pub AnswersErr : Mirror → ℕ → Call → SyncFault → Mirror → Type 0
-AnswersErr old seat call fault.OutOfMemory new = new ≡ old
+AnswersErr old seat call fault.OutOfMemory new = LacksMemory old seat call new
 AnswersErr old seat call f new = IsRefused old seat call f new
 
 abbrev pub Answers : Mirror → ℕ → Call → Result Given SyncFault → Mirror → Type 0

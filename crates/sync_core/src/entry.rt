@@ -1,5 +1,5 @@
 //! The entry that a call writes.
-ghost use Rattle.std.specs.Prelude.{◌≡◌, ◌<◌, length, Option, Some, IfOk, IfErr};
+ghost use Rattle.std.specs.Prelude.{◌≡◌, ◌<◌, length, Option, Some, IfOk, IfErr, OnOk, IsOk};
 ghost use Rattle.std.specs.Option.{option_and_then};
 ghost use Rattle.std.specs.FinMap as finite;
 ghost use Rattle.std.specs.Fmt as fmt;
@@ -13,6 +13,7 @@ ghost use Rattle.sync_core.specs.Names.{url_name, uuid_name, merged_name, copyin
 ghost use Rattle.sync_core.specs.Mirror.{entry_of, first_map};
 ghost use Rattle.sync_core.specs.Calls.{call_of};
 ghost use Rattle.sync_core.specs.Dues.{IsDue};
+ghost use Rattle.sync_core.specs.Plain.{IsThere};
 ghost use Rattle.sync_core.specs.declared.fault.SyncFault.TheVariants.{OutOfMemory};
 
 use crate::call::MirrorCall;
@@ -36,6 +37,7 @@ pub fn entry_of(
 ) -> Result<Option<Entry>, SyncFault>
     ensures entry { IfOk result (λ e. e ≡ entry_of repo.now.revisions (call_of call.now)) }
     ensures refused { IfErr result (λ f. IsDue f (option_and_then (by_repository repo.now.revisions) (entry_of repo.now.revisions (call_of call.now)))) }
+    ensures there { OnOk result (IsThere repo.now.revisions (call_of call.now)) }
 {
     match call {
         MirrorCall::Init { url, uuid, props } => written(init_entry(alloc, url, uuid, props)),
@@ -57,6 +59,7 @@ pub fn entry_of(
 fn written(entry: Result<Entry, SyncFault>) -> Result<Option<Entry>, SyncFault>
     ensures entry { (due : Entry) → IfOk entry (λ e. e ≡ due) → IfOk result (λ e. e ≡ Some due) }
     ensures refused { (due : Option RepoFault) → IfErr entry (λ f. IsDue f due) → IfErr result (λ f. IsDue f due) }
+    ensures ok { OnOk result (IsOk entry) }
 {
     match entry {
         Ok(entry) => Ok(Some(entry)),
@@ -181,6 +184,7 @@ fn with_none_merged(alloc: Global, props: Props) -> Result<Props, SyncFault>
 fn props_entry(alloc: Global, repo: &Repo, number: RevNo, props: &Props) -> Result<Entry, SyncFault>
     ensures entry { IfOk result (λ e. e ≡ Mapped number (copied_beside (props_at repo.now.revisions number) props.now)) }
     ensures refused { IfErr result (λ f. IsDue f (by_repository repo.now.revisions (Mapped number (copied_beside (props_at repo.now.revisions number) props.now)))) }
+    ensures there { OnOk result (number < length repo.now.revisions) }
 {
     match repo.props(number) {
         Some(own) => Ok(Entry::Mapped {

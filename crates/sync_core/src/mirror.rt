@@ -42,6 +42,8 @@ impl PlainMirror {
 
     /// One call of a seat. A need that isn't met refuses it, or else what the repository refuses of the call's entry; a refused
     /// call changes nothing.
+    ///
+    /// Want of memory changes nothing either. Of a need that isn't met it is the answer only where the lock's text is told.
     pub fn step(
         &mut self,
         alloc: Global,
@@ -75,7 +77,8 @@ impl PlainMirror {
     }
 }
 
-/// The refusal that an unmet need is. A lock that is held, or a holder, is told with the lock's text, for which memory is taken.
+/// The refusal that an unmet need is. A lock that is held, or a holder, is told with the lock's text, for which memory is taken:
+/// only there can memory be short.
 pub fn need_fault(alloc: Global, need: Need, own: &Props) -> SyncFault
     ensures { IsNeedAnswer need (finite.get own.now lock_name) result }
 {

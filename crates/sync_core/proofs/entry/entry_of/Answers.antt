@@ -1,4 +1,4 @@
-use Rattle.sync_core.proofs.Entries.{due_by, entry_so, due_so, memory_due}
+use Rattle.sync_core.proofs.Entries.{due_by, entry_so, due_so, memory_due, there_so, no_number, ok_of}
 use Rattle.sync_core.proofs.entry.entry_of.Goals as goal
 
 pub returns-in-Init-clause-entry : goal.returns-in-Init-clause-entry
@@ -54,3 +54,30 @@ returns-in-ClearCopying-clause-entry c = entry_so c.args.repo.now.revisions c.ar
 
 pub returns-in-ClearCopying-clause-refused : goal.returns-in-ClearCopying-clause-refused
 returns-in-ClearCopying-clause-refused c = c.written-in-ClearCopying.ensures.refused (due_by c.args.repo.now.revisions c.args.call.now) (memory_due _ c.clear_entry.result c.clear_entry.ensures.refused)
+
+pub returns-in-Init-clause-there : goal.returns-in-Init-clause-there
+returns-in-Init-clause-there c = no_number c.args.repo.now.revisions c.args.call.now _ c.written.result c.in-Init.is tt
+
+pub returns-in-TakeLock-clause-there : goal.returns-in-TakeLock-clause-there
+returns-in-TakeLock-clause-there c = no_number c.args.repo.now.revisions c.args.call.now _ c.written-in-TakeLock.result c.in-TakeLock.is tt
+
+pub returns-in-StealLock-clause-there : goal.returns-in-StealLock-clause-there
+returns-in-StealLock-clause-there c = no_number c.args.repo.now.revisions c.args.call.now _ c.written-in-StealLock.result c.in-StealLock.is tt
+
+pub returns-in-ReleaseLock-clause-there : goal.returns-in-ReleaseLock-clause-there
+returns-in-ReleaseLock-clause-there c = no_number c.args.repo.now.revisions c.args.call.now _ c.written-in-ReleaseLock.result c.in-ReleaseLock.is tt
+
+pub returns-in-SetCopying-clause-there : goal.returns-in-SetCopying-clause-there
+returns-in-SetCopying-clause-there c = no_number c.args.repo.now.revisions c.args.call.now _ c.written-in-SetCopying.result c.in-SetCopying.is tt
+
+pub returns-in-Commit-clause-there : goal.returns-in-Commit-clause-there
+returns-in-Commit-clause-there c = no_number c.args.repo.now.revisions c.args.call.now _ c.written-in-Commit.result c.in-Commit.is tt
+
+pub returns-in-PutProps-clause-there : goal.returns-in-PutProps-clause-there
+returns-in-PutProps-clause-there c = there_so c.args.repo.now.revisions c.args.call.now _ c.written-in-PutProps.result c.in-PutProps.is (ok_of c.written-in-PutProps.result c.props_entry.result _ _ c.written-in-PutProps.ensures.ok c.props_entry.ensures.there)
+
+pub returns-in-SetMerged-clause-there : goal.returns-in-SetMerged-clause-there
+returns-in-SetMerged-clause-there c = no_number c.args.repo.now.revisions c.args.call.now _ c.written-in-SetMerged.result c.in-SetMerged.is tt
+
+pub returns-in-ClearCopying-clause-there : goal.returns-in-ClearCopying-clause-there
+returns-in-ClearCopying-clause-there c = no_number c.args.repo.now.revisions c.args.call.now _ c.written-in-ClearCopying.result c.in-ClearCopying.is tt
