@@ -33,7 +33,7 @@ returns-clause-refused g c =
 
 pub returns-clause-device : goal.returns-clause-device
 returns-clause-device g c safe =
-    serves_then c.args.store.now c.commit.new.store _ c.say.result (IfErr-weaker c.say.result _ _ (λ e k. ap is_device k) c.say.ensures.only_peer) (c.in_ok-commit.ensures.device safe)
+    serves_then c.args.store.now c.commit.new.store _ c.say.result (IfErr-weaker c.say.result _ _ (λ e k. ap is_device k) c.say.ensures.only_peer) (c.in_ok-commit.ensures.device safe).serves
 
 pub returns-in_err-set-clause-device : goal.returns-in_err-set-clause-device
 returns-in_err-set-clause-device g c safe =
@@ -64,4 +64,4 @@ returns-in_err-commit-clause-refused g c =
 pub returns-in_err-commit-clause-device : goal.returns-in_err-commit-clause-device
 returns-in_err-commit-clause-device g c safe =
     let p = err_from_is_err_and c.from_residual-in_err-commit.result c.from_residual-in_err-commit.ensures.1 in
-    rw (p.1, p.2) (c.in_err-commit.ensures.device safe)
+    rw (p.1, p.2) (c.in_err-commit.ensures.device safe).serves
