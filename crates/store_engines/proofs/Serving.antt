@@ -1,7 +1,7 @@
 -- What a load does to a store's device, and whose entries it takes.
-use Rattle.std.proofs.Common.{◌≡◌, ℕ, ◌⊎◌, ◌↔◌, ◌≤◌, ◌&&◌, ◌==◌, Bool, true, false, List, [], ◌∷◌, ◌++◌, length, Result, Ok, Err, IsErrOf, IfErr, Option, Some, None, IfSome, refl, sym, ap, subst, ◌∙◌, append_assoc, append-nil, inl, inr}
+use Rattle.std.proofs.Common.{◌≡◌, ℕ, ◌⊎◌, ◌↔◌, ◌≤◌, true, false, List, [], ◌∷◌, ◌++◌, length, Result, Ok, Err, IsErrOf, IfErr, Option, Some, None, IfSome, refl, sym, ap, subst, ◌∙◌, append_assoc, append-nil, inl, inr}
 use Rattle.std.specs.List.{filter, flat_map}
-use Rattle.std.specs.Result.{OnOk, OnErr, IsErr}
+use Rattle.std.specs.Result.{OnOk, IsErr}
 use Rattle.std.proofs.lemmas.Bool.{false≢true}
 use Rattle.std.proofs.lemmas.Grind.{flat_map-append}
 use Rattle.std.proofs.lemmas.List.{map-append, length-map}
@@ -10,7 +10,6 @@ use Rattle.std.proofs.lemmas.Result.{on_ok_weaker}
 use Rattle.node_base.specs.Props.{PropMap}
 use Rattle.node_base.specs.Tree.{PathMap}
 use Rattle.node_base.specs.declared.refusal.Refusal.{Refusal}
-use Rattle.dump_text.specs.declared.fault.DumpFault.{DumpFault}
 use Rattle.dump_text.specs.declared.record.NodeRecord.{NodeRecord}
 use Rattle.dump_text.specs.declared.record.DumpRecord.{DumpRecord}
 use Rattle.dump_text.specs.declared.record.DumpRecord.TheVariants.{Identity, Revision as Begins, Node}
@@ -28,7 +27,7 @@ use Rattle.fleet_engines.proofs.Feeding.{joins, stays}
 use Rattle.gate_log.specs.Log.{ends_of}
 use Rattle.gate_log.specs.declared.fault.LogFault.TheVariants as log
 use Rattle.repo_core.specs.Entries.{revisions_after, with_entry, with_entry_in}
-use Rattle.repo_core.specs.Repository.{Repository, Revision, trees_of}
+use Rattle.repo_core.specs.Repository.{Revision, trees_of}
 use Rattle.repo_core.specs.declared.entry.Entry.{Entry}
 use Rattle.repo_core.specs.declared.entry.Entry.TheVariants.{Revised}
 use Rattle.repo_store.specs.Journal.{ReopensTo, IsBeforeOrAfter}
