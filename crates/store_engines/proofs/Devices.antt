@@ -108,7 +108,7 @@ stage_no_device (inr (inl e)) = let n : ◌≡◌ {A = ℕ} 31 36 = ap (λ f. re
 stage_no_device (inr (inr e)) = let n : ◌≡◌ {A = ℕ} 31 70 = ap (λ f. refusal_number (log_refusal f)) e in let no : ⊥ = omega (arith, n) in no
 
 -- nothing that is staged is refused for a device that fails
-never_device : (f : StoreFault) → IsStageFault f → f ≡ Log log.DeviceFailed → ⊥
+pub never_device : (f : StoreFault) → IsStageFault f → f ≡ Log log.DeviceFailed → ⊥
 never_device f k e = stage_no_device (subst IsStageFault e k)
 
 -- ---- on the way
@@ -255,10 +255,10 @@ module _ {D : Type 0} {G : Ghosts D} where
   }
 
   -- what is staged, or refused before, is for another reason
-  pub staged_none : (a b : RepoStore D G) (e : Refusal) → is_device e ≡ false → disk_of b ≡ disk_of a → repository_of b ≡ repository_of a → HasFailed b ↔ HasFailed a → IsSafe a → Serves a b (Err e)
+  abbrev pub staged_none : (a b : RepoStore D G) (e : Refusal) → is_device e ≡ false → disk_of b ≡ disk_of a → repository_of b ≡ repository_of a → HasFailed b ↔ HasFailed a → IsSafe a → Serves a b (Err e)
   staged_none a b e n disk repository works safe = unmoved a b (Err e) disk repository works (is_none_of (Err e) refusal.DeviceFailed refl n) (λ k. absurd (is_none_of (Err e) refusal.Failed refl n k)) safe
 
-  pub staged_err : (a b : RepoStore D G) (fault : StoreFault) → IsStageFault fault → disk_of b ≡ disk_of a → repository_of b ≡ repository_of a → HasFailed b ↔ HasFailed a → (fault ≡ Log log.Failed → HasFailed a) → IsSafe a → Serves a b (Err (store_refusal fault))
+  abbrev pub staged_err : (a b : RepoStore D G) (fault : StoreFault) → IsStageFault fault → disk_of b ≡ disk_of a → repository_of b ≡ repository_of a → HasFailed b ↔ HasFailed a → (fault ≡ Log log.Failed → HasFailed a) → IsSafe a → Serves a b (Err (store_refusal fault))
   staged_err a b fault k disk repository works failed safe =
       unmoved a b (Err (store_refusal fault)) disk repository works (λ e. never_device fault k (device_was fault (ap refusal_in e))) (λ e. failed (failed_was fault (ap refusal_in e))) safe
 

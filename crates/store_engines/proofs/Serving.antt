@@ -30,7 +30,10 @@ use Rattle.repo_core.specs.Entries.{revisions_after, with_entry, with_entry_in}
 use Rattle.repo_core.specs.Repository.{Revision, trees_of}
 use Rattle.repo_core.specs.declared.entry.Entry.{Entry}
 use Rattle.repo_core.specs.declared.entry.Entry.TheVariants.{Revised}
+use Rattle.node_base.specs.Path.{Path}
+use Rattle.node_base.specs.declared.fault.PathFault.{PathFault}
 use Rattle.repo_store.specs.Journal.{ReopensTo, IsBeforeOrAfter}
+use Rattle.repo_store.specs.Refusals.{IsStageFault}
 use Rattle.repo_store.specs.Words.{disk_of, log_of, identity_of, revisions_of, repository_of, HasFailed}
 use Rattle.repo_store.specs.declared.store.RepoStore.{RepoStore}
 use Rattle.repo_store.specs.declared.fault.StoreFault.{StoreFault}
@@ -38,7 +41,7 @@ use Rattle.repo_store.specs.declared.fault.StoreFault.TheVariants.{Log}
 use Rattle.store_engines.specs.Devices.{is_device, IsSafe, Serves}
 use Rattle.store_engines.specs.Loads.{AreEntriesOf, IsEntryOf, ServesOne, ServesRecords, coming, of_next, read_of}
 use Rattle.store_engines.specs.Refusals.{store_refusal}
-use Rattle.store_engines.proofs.Devices.{OnlyNow, didnt_take, none_begun, serves_on, took, unserved}
+use Rattle.store_engines.proofs.Devices.{OnlyNow, didnt_take, none_begun, serves_on, serves_then, staged_err, staged_none, took, unserved}
 
 -- ---- entries one after another
 
@@ -123,6 +126,28 @@ module _ {D : Type 0} {G : Ghosts D} where
       record { serves = didnt_take {T = T} a b entry fault same (inl d) moments device failed works honest later safe; one = inl refl }
   didnt_take_one {T} a b entry fault same (inr u) moments device failed works honest later safe =
       record { serves = didnt_take {T = T} a b entry fault same (inr u) moments device failed works honest later safe; one = inr (refl, refl) }
+
+  -- nothing is done, and it is refused
+  pub none_done : (entry : Entry) (a : RepoStore D G) (e : Refusal) → is_device e ≡ false → IsSafe a → ServesOne entry a a (Err e)
+  none_done entry a e n safe = record { serves = unserved a (Err e) n safe; one = inr (refl, refl) }
+
+  -- what is staged, or refused before
+  pub staged_one : (entry : Entry) (a b : RepoStore D G) (e : Refusal) → is_device e ≡ false → disk_of b ≡ disk_of a → repository_of b ≡ repository_of a → HasFailed b ↔ HasFailed a → IsSafe a → ServesOne entry a b (Err e)
+  staged_one entry a b e n disk repository works safe = record { serves = staged_none a b e n disk repository works safe; one = inr (refl, refl) }
+
+  pub staged_fault : (entry : Entry) (a b : RepoStore D G) (fault : StoreFault) → IsStageFault fault → disk_of b ≡ disk_of a → repository_of b ≡ repository_of a → HasFailed b ↔ HasFailed a → (fault ≡ Log log.Failed → HasFailed a) → IsSafe a → ServesOne entry a b (Err (store_refusal fault))
+  staged_fault entry a b fault k disk repository works failed safe = record { serves = staged_err a b fault k disk repository works failed safe; one = inr (refl, refl) }
+
+  -- an entry is taken, and what comes then is refused for another reason
+  pub one_then : (entry : Entry) (a b : RepoStore D G) (u : Unit {0}) (r : Result (Unit {0}) Refusal) → IfErr r (λ e. is_device e ≡ false) → ServesOne entry a b (Ok u) → ServesOne entry a b r
+  one_then entry a b u r n s = record {
+    serves = serves_then a b u r n s.serves;
+    one =
+        elim s.one [
+          | inl d ↦ inl (append-nil (s.serves.taken ++ []) ∙ ap (λ l. s.serves.taken ++ l) (sym (none_begun a b u s.serves)) ∙ d)
+          | inr k ↦ absurd (false≢true k.0)
+        ];
+  }
 
   -- a whole revision's entry
   one_of : (rev : Rev) (entry : Entry) (a b : RepoStore D G) (r : Result (Unit {0}) Refusal) → IsEntryOf (revisions_of a) rev entry → (s : Serves a b r) → s.taken ++ s.begun ≡ entry ∷ [] → ServesRecords (records_of_rev rev) a b r []
@@ -253,3 +278,12 @@ node_left last later next node e k =
     ∙ ap (λ l. read_of l ++ Node node ∷ []) k.1
     ∙ ap (λ l. Begins k.0.number k.0.props ∷ l) (sym (map-append Node k.0.nodes (node ∷ [])))
     ∙ sym (ap read_of k.3)
+
+-- ---- a path
+
+abbrev path_in : Result Path PathFault → Path
+path_in (Ok path) = path
+path_in (Err f) = []
+
+pub same_path : (r : Result Path PathFault) (path place : Path) → r ≡ Ok path → r ≡ Ok place → path ≡ place
+same_path r path place e d = ap path_in (sym e ∙ d)
