@@ -66,7 +66,7 @@ abbrev refusal_in : Result (Unit {0}) Refusal → Refusal
 refusal_in (Ok u) = refusal.OutOfMemory
 refusal_in (Err e) = e
 
-ok_is_none : (u : Unit {0}) (e : Refusal) → IsErrOf (Ok u) e → ⊥
+pub ok_is_none : (u : Unit {0}) (e : Refusal) → IsErrOf (Ok u) e → ⊥
 ok_is_none u e h = true≢false (ap is_ok h)
 
 pub is_none_of : (r : Result (Unit {0}) Refusal) (k : Refusal) → is_device k ≡ true → IfErr r (λ e. is_device e ≡ false) → IsErrOf r k → ⊥
@@ -99,7 +99,7 @@ abbrev of_result : {T : Type 0} → Result T StoreFault → StoreFault
 of_result (Ok v) = Log log.OutOfMemory
 of_result (Err f) = f
 
-fault_in : {T : Type 0} (f g : StoreFault) → IsErrOf {T = T} (Err f) g → f ≡ g
+pub fault_in : {T : Type 0} (f g : StoreFault) → IsErrOf {T = T} (Err f) g → f ≡ g
 fault_in f g e = ap of_result e
 
 stage_no_device : IsReserveFault log.DeviceFailed → ⊥
@@ -108,23 +108,23 @@ stage_no_device (inr (inl e)) = let n : ◌≡◌ {A = ℕ} 31 36 = ap (λ f. re
 stage_no_device (inr (inr e)) = let n : ◌≡◌ {A = ℕ} 31 70 = ap (λ f. refusal_number (log_refusal f)) e in let no : ⊥ = omega (arith, n) in no
 
 -- nothing that is staged is refused for a device that fails
-never_device : (f : StoreFault) → IsStageFault f → f ≡ Log log.DeviceFailed → ⊥
+pub never_device : (f : StoreFault) → IsStageFault f → f ≡ Log log.DeviceFailed → ⊥
 never_device f k e = stage_no_device (subst IsStageFault e k)
 
 -- ---- on the way
 
-here : (identity : List ℕ) (x : List Revision) (entries : List Entry) (image : Image) → ReopensTo identity x image → IsOnTheWay identity x entries image
+pub here : (identity : List ℕ) (x : List Revision) (entries : List Entry) (image : Image) → ReopensTo identity x image → IsOnTheWay identity x entries image
 here identity x entries image r = ([], entries, refl, r)
 
-either : (identity : List ℕ) (x : List Revision) (entry : Entry) (image : Image) → IsBeforeOrAfter identity x entry image → IsOnTheWay identity x (entry ∷ []) image
+pub either : (identity : List ℕ) (x : List Revision) (entry : Entry) (image : Image) → IsBeforeOrAfter identity x entry image → IsOnTheWay identity x (entry ∷ []) image
 either identity x entry image (inl r) = ([], entry ∷ [], refl, r)
 either identity x entry image (inr r) = (entry ∷ [], [], refl, r)
 
-on_before : (identity : List ℕ) (x : List Revision) (taken begun more all : List Entry) (image : Image) → begun ≡ [] → all ≡ taken ++ more → IsOnTheWay identity x (taken ++ begun) image → IsOnTheWay identity x all image
+pub on_before : (identity : List ℕ) (x : List Revision) (taken begun more all : List Entry) (image : Image) → begun ≡ [] → all ≡ taken ++ more → IsOnTheWay identity x (taken ++ begun) image → IsOnTheWay identity x all image
 on_before identity x taken begun more all image none is (done, rest, e, r) =
     (done, rest ++ more, is ∙ ap (λ l. l ++ more) (sym (append-nil taken) ∙ ap (λ l. taken ++ l) (sym none) ∙ e) ∙ append_assoc done rest more, r)
 
-on_after : (identity other : List ℕ) (x y : List Revision) (taken more all : List Entry) (image : Image) → other ≡ identity → y ≡ revisions_after x taken → all ≡ taken ++ more → IsOnTheWay other y more image → IsOnTheWay identity x all image
+pub on_after : (identity other : List ℕ) (x y : List Revision) (taken more all : List Entry) (image : Image) → other ≡ identity → y ≡ revisions_after x taken → all ≡ taken ++ more → IsOnTheWay other y more image → IsOnTheWay identity x all image
 on_after identity other x y taken more all image same made is (done, rest, e, r) = (
   taken ++ done,
   rest,
@@ -140,7 +140,7 @@ OnlyNow {D} G = (disk : D) (image : Image) → G.honest disk → G.left_since di
 
 module _ {D : Type 0} {G : Ghosts D} where
   -- the store stays as it is
-  pub unmoved : (a b : RepoStore D G) (r : Result (Unit {0}) Refusal) → disk_of b ≡ disk_of a → repository_of b ≡ repository_of a → HasFailed b ↔ HasFailed a → (IsErrOf r refusal.DeviceFailed → ⊥) → (IsErrOf r refusal.Failed → HasFailed a) → IsSafe a → Serves a b r
+  abbrev pub unmoved : (a b : RepoStore D G) (r : Result (Unit {0}) Refusal) → disk_of b ≡ disk_of a → repository_of b ≡ repository_of a → HasFailed b ↔ HasFailed a → (IsErrOf r refusal.DeviceFailed → ⊥) → (IsErrOf r refusal.Failed → HasFailed a) → IsSafe a → Serves a b r
   unmoved a b r disk repository works device failed safe = record {
     honest = (λ h. subst (λ d. G.honest d) (sym disk) h, λ h. subst (λ d. G.honest d) disk h);
     later = subst (λ d. G.failures (disk_of a) ≤ G.failures d) (sym disk) (omega arith);
@@ -159,17 +159,17 @@ module _ {D : Type 0} {G : Ghosts D} where
   }
 
   -- nothing is done
-  pub unserved : (a : RepoStore D G) (r : Result (Unit {0}) Refusal) → IfErr r (λ e. is_device e ≡ false) → IsSafe a → Serves a a r
+  abbrev pub unserved : (a : RepoStore D G) (r : Result (Unit {0}) Refusal) → IfErr r (λ e. is_device e ≡ false) → IsSafe a → Serves a a r
   unserved a r n safe = unmoved a a r refl refl (λ f. f, λ f. f) (is_none_of r refusal.DeviceFailed refl n) (λ e. absurd (is_none_of r refusal.Failed refl n e)) safe
 
-  fell : (a b : RepoStore D G) (u : Unit {0}) → Serves a b (Ok u) → HasFailed b → HasFailed a
+  pub fell : (a b : RepoStore D G) (u : Unit {0}) → Serves a b (Ok u) → HasFailed b → HasFailed a
   fell a b u p f = ⊎_elim (λ h. h) (λ e. absurd (ok_is_none u refusal.DeviceFailed e)) (p.working.0 f)
 
-  none_begun : (a b : RepoStore D G) (u : Unit {0}) (p : Serves a b (Ok u)) → p.begun ≡ []
+  pub none_begun : (a b : RepoStore D G) (u : Unit {0}) (p : Serves a b (Ok u)) → p.begun ≡ []
   none_begun a b u p = ⊎_elim (λ e. e) (λ k. absurd (ok_is_none u refusal.DeviceFailed k.1)) p.one
 
   -- one call behind another
-  pub serves_on : (a b c : RepoStore D G) (u : Unit {0}) (r : Result (Unit {0}) Refusal) → Serves a b (Ok u) → Serves b c r → Serves a c r
+  abbrev pub serves_on : (a b c : RepoStore D G) (u : Unit {0}) (r : Result (Unit {0}) Refusal) → Serves a b (Ok u) → Serves b c r → Serves a c r
   serves_on a b c u r p q =
       let all : (p.taken ++ q.taken) ++ q.begun ≡ p.taken ++ (q.taken ++ q.begun) = append_assoc p.taken q.taken q.begun in
       record {
@@ -193,11 +193,11 @@ module _ {D : Type 0} {G : Ghosts D} where
       }
 
   -- what is refused behind a call, for another reason
-  pub serves_then : (a b : RepoStore D G) (u : Unit {0}) (r : Result (Unit {0}) Refusal) → IfErr r (λ e. is_device e ≡ false) → Serves a b (Ok u) → Serves a b r
+  abbrev pub serves_then : (a b : RepoStore D G) (u : Unit {0}) (r : Result (Unit {0}) Refusal) → IfErr r (λ e. is_device e ≡ false) → Serves a b (Ok u) → Serves a b r
   serves_then a b u r n p = serves_on a b b u r p (unserved b r n p.safe)
 
   -- an entry is taken
-  pub took : {T : Type 0} (a b : RepoStore D G) (entry : Entry) (answer : T) → OnlyNow G → repository_of b ≡ with_entry_in (repository_of a) entry
+  abbrev pub took : {T : Type 0} (a b : RepoStore D G) (entry : Entry) (answer : T) → OnlyNow G → repository_of b ≡ with_entry_in (repository_of a) entry
       → (G.honest (disk_of a) → (image : Image) → G.may_leave (disk_of b) image → ReopensTo (identity_of a) (with_entry (revisions_of a) entry) image)
       → (G.honest (disk_of a) → ¬ HasFailed a → LeavesOnly G.clock G.left_since (disk_of a) (disk_of b) (IsBeforeOrAfter (identity_of a) (revisions_of a) entry))
       → HasFailed b ↔ (HasFailed a ⊎ IsErrOf {T = T} (Ok answer) (Log log.DeviceFailed)) → G.honest (disk_of a) ↔ G.honest (disk_of b) → G.failures (disk_of a) ≤ G.failures (disk_of b) → Serves a b (Ok tt)
@@ -217,7 +217,7 @@ module _ {D : Type 0} {G : Ghosts D} where
   }
 
   -- an entry is refused
-  pub didnt_take : {T : Type 0} (a b : RepoStore D G) (entry : Entry) (fault : StoreFault) → repository_of b ≡ repository_of a
+  abbrev pub didnt_take : {T : Type 0} (a b : RepoStore D G) (entry : Entry) (fault : StoreFault) → repository_of b ≡ repository_of a
       → (fault ≡ Log log.DeviceFailed) ⊎ ((disk_of b ≡ disk_of a) × (ends_of (log_of b) ≡ ends_of (log_of a)))
       → (G.honest (disk_of a) → ¬ HasFailed a → LeavesOnly G.clock G.left_since (disk_of a) (disk_of b) (IsBeforeOrAfter (identity_of a) (revisions_of a) entry))
       → (IsErrOf {T = T} (Err fault) (Log log.DeviceFailed) → Rose (G.failures (disk_of a)) (G.failures (disk_of b)))
@@ -255,10 +255,10 @@ module _ {D : Type 0} {G : Ghosts D} where
   }
 
   -- what is staged, or refused before, is for another reason
-  pub staged_none : (a b : RepoStore D G) (e : Refusal) → is_device e ≡ false → disk_of b ≡ disk_of a → repository_of b ≡ repository_of a → HasFailed b ↔ HasFailed a → IsSafe a → Serves a b (Err e)
+  abbrev pub staged_none : (a b : RepoStore D G) (e : Refusal) → is_device e ≡ false → disk_of b ≡ disk_of a → repository_of b ≡ repository_of a → HasFailed b ↔ HasFailed a → IsSafe a → Serves a b (Err e)
   staged_none a b e n disk repository works safe = unmoved a b (Err e) disk repository works (is_none_of (Err e) refusal.DeviceFailed refl n) (λ k. absurd (is_none_of (Err e) refusal.Failed refl n k)) safe
 
-  pub staged_err : (a b : RepoStore D G) (fault : StoreFault) → IsStageFault fault → disk_of b ≡ disk_of a → repository_of b ≡ repository_of a → HasFailed b ↔ HasFailed a → (fault ≡ Log log.Failed → HasFailed a) → IsSafe a → Serves a b (Err (store_refusal fault))
+  abbrev pub staged_err : (a b : RepoStore D G) (fault : StoreFault) → IsStageFault fault → disk_of b ≡ disk_of a → repository_of b ≡ repository_of a → HasFailed b ↔ HasFailed a → (fault ≡ Log log.Failed → HasFailed a) → IsSafe a → Serves a b (Err (store_refusal fault))
   staged_err a b fault k disk repository works failed safe =
       unmoved a b (Err (store_refusal fault)) disk repository works (λ e. never_device fault k (device_was fault (ap refusal_in e))) (λ e. failed (failed_was fault (ap refusal_in e))) safe
 

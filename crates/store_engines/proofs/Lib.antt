@@ -5,4 +5,5 @@ pub mod Dumping
 pub mod Faults
 pub mod Feeding
 pub mod Loading
+pub mod Serving
 pub mod Stopping

@@ -1,5 +1,5 @@
 -- What a load makes of a repository, revision by revision.
-use Rattle.std.specs.Prelude.{◌≡◌, ℕ, ◌⊎◌, Bool, true, false, List, [], ◌∷◌, ◌++◌, Option, Some, None, IfSome, codes}
+use Rattle.std.specs.Prelude.{◌≡◌, ℕ, ◌⊎◌, Bool, true, false, List, [], ◌∷◌, ◌++◌, Option, Some, None, Result, IfSome, IsErr, OnOk, codes}
 use Rattle.std.specs.List.{filter, flat_map}
 use Rattle.std.specs.Fmt.{decimal}
 use Rattle.std.specs.Io.KnownBytes.{Appends}
@@ -12,10 +12,10 @@ use Rattle.dump_text.specs.declared.record.DumpRecord.{DumpRecord}
 use Rattle.dump_text.specs.declared.record.DumpRecord.TheVariants.{Revision as Begins, Node}
 use Rattle.dump_text.specs.declared.fault.DumpFault.{DumpFault}
 use Rattle.dump_text.specs.declared.state.ReadState.{ReadState}
-use Rattle.dump_text.specs.Streams.{Reads, Refuses, dump, records_of, is_between}
+use Rattle.dump_text.specs.Streams.{Reads, Refuses, dump, reading, records_of, is_between}
 use Rattle.dump_load.specs.declared.change.Change.{Change}
 use Rattle.repo_core.specs.Repository.{Repository, Revision, trees_of, head_of}
-use Rattle.repo_core.specs.Entries.{with_entry_in}
+use Rattle.repo_core.specs.Entries.{with_entry, with_entry_in}
 use Rattle.repo_core.specs.declared.entry.Entry.{Entry}
 use Rattle.repo_core.specs.declared.entry.Entry.TheVariants.{Revised, Mapped}
 use Rattle.repo_core.specs.Refusals.{by_repository, commit_fault, IsDue}
@@ -28,7 +28,7 @@ use Rattle.dump_load.specs.Faults.{first_of}
 use Rattle.fleet_engines.specs.Refusals.{dump_refusal}
 use Rattle.fleet_engines.specs.Revisions.{Rev, Makes, IsUnfit, is_zero, is_past_zero}
 use Rattle.fleet_engines.specs.Grouping.{records_of_rev, is_no_identity}
-use Rattle.store_engines.specs.Devices.{CantKeep}
+use Rattle.store_engines.specs.Devices.{CantKeep, Serves}
 use Rattle.store_engines.specs.Refusals.{repo_refusal}
 
 -- what is said of a revision that was loaded
@@ -139,3 +139,31 @@ pub data Refused {D : Type 0} {G : Ghosts D} (x : Repository) (bytes : List ℕ)
 -- bytes lead from what stood so before them to what stands so behind them
 abbrev pub Leads : ReadState → Repository → Option Rev → Option (List ℕ) → List ℕ → ReadState → Repository → Option Rev → Option (List ℕ) → Type 0
 Leads old y last before bytes new z later now = (x : Repository) (start : Option (List ℕ)) → Reached x [] old y last start before → Reached x bytes new z later start now
+
+-- over a repository's revisions a whole revision is this entry: revision 0 without others gives its properties, and another one is the next, with the set that it makes
+pub data IsEntryOf (x : List Revision) (r : Rev) (e : Entry) : Type 0 where
+  of_zero : is_zero (trees_of x) r ≡ true → e ≡ Mapped 0 r.props → IsEntryOf x r e
+  of_next : (set : List Change) (tree : PathMap) → is_zero (trees_of x) r ≡ false → Makes (trees_of x) r set tree → e ≡ Revised r.number set r.props → IsEntryOf x r e
+
+-- entries, one after another, are those of these whole revisions
+abbrev pub AreEntriesOf : List Revision → List Rev → List Entry → Type 0
+AreEntriesOf x [] es = es ≡ []
+AreEntriesOf x (r ∷ rs) es = (e : Entry) × (rest : List Entry) × (es ≡ e ∷ rest) × IsEntryOf x r e × AreEntriesOf (with_entry x e) rs rest
+
+-- what a call that had one entry to commit did to a store and its device: the entry was taken or begun, or neither, and it is refused
+pub record ServesOne {D : Type 0} {G : Ghosts D} (entry : Entry) (old new : RepoStore D G) (result : Result (Unit {0}) Refusal) : Type 0 where
+  pub serves : Serves old new result
+  pub one : (serves.taken ++ serves.begun ≡ entry ∷ []) ⊎ (IsErr result × (serves.taken ++ serves.begun ≡ []))
+
+-- what a call that had these records ahead did to a store and its device: the entries that were taken, and then the one that was begun, are those of the first whole revisions of them; and where it is Ok, of all but what is left
+pub record ServesRecords {D : Type 0} {G : Ghosts D} (ahead : List DumpRecord) (old new : RepoStore D G) (result : Result (Unit {0}) Refusal) (left : List DumpRecord) : Type 0 where
+  pub serves : Serves old new result
+  pub whole : List Rev
+  pub more : List DumpRecord
+  pub records : ahead ≡ flat_map records_of_rev whole ++ more
+  pub entries : AreEntriesOf (revisions_of old) whole (serves.taken ++ serves.begun)
+  pub all : OnOk result (more ≡ left)
+
+-- the records, identities apart, that are still to be loaded: those of the revision that is still read, and those that further bytes say
+abbrev pub coming : Option Rev → ReadState → List ℕ → List DumpRecord
+coming last reader bytes = read_of last ++ filter is_no_identity (records_of (reading (Reads [] reader) bytes))

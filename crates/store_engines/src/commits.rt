@@ -6,8 +6,8 @@ ghost use Rattle.repo_core.specs.Refusals.{IsDue};
 ghost use Rattle.repo_core.specs.declared.entry.Entry.TheVariants.{Revised};
 ghost use Rattle.repo_core.specs.declared.fault.RepoFault.{RepoFault as RepoFaultOf};
 ghost use Rattle.repo_store.specs.Words.{repository_of, revisions_of};
-ghost use Rattle.store_engines.specs.Devices.{CantKeep, IsSafe, Serves};
-ghost use Rattle.store_engines.specs.Loads.{entry_fault};
+ghost use Rattle.store_engines.specs.Devices.{CantKeep, IsSafe};
+ghost use Rattle.store_engines.specs.Loads.{entry_fault, ServesOne};
 ghost use Rattle.store_engines.specs.Refusals.{repo_refusal};
 
 use crate::refusals::store_refusal;
@@ -30,7 +30,7 @@ pub fn commit<D: Disk + Drop>(
     ensures taken { OnOk result (entry_fault (revisions_of store.old) (Revised (length (revisions_of store.old)) set (dated props moment)) ≡ None) }
     ensures same { OnErr result (repository_of store.new ≡ repository_of store.old) }
     ensures refused { IfErr result (λ e. (e ≡ Refusal.OutOfMemory) ⊎ CantKeep store.new (Revised (length (revisions_of store.old)) set (dated props moment)) e ⊎ ((f : RepoFaultOf) × IsDue f (entry_fault (revisions_of store.old) (Revised (length (revisions_of store.old)) set (dated props moment))) × (e ≡ repo_refusal f))) }
-    ensures device { IsSafe store.old → Serves store.old store.new result }
+    ensures device { IsSafe store.old → ServesOne (Revised (length (revisions_of store.old)) set (dated props moment)) store.old store.new result }
     ensures no_peer { IfErr result (λ e. e ≡ Refusal.PeerFailed → ⊥) }
 {
     let head = store.repo().head();

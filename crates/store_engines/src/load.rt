@@ -1,10 +1,11 @@
 //! `load` over any disk, reader and writer.
+ghost use Rattle.std.specs.List.{filter};
 ghost use Rattle.std.specs.Prelude.{◌≡◌, ◌≢◌, ◌⊎◌, ◌<◌, ◌∷◌, ◌++◌, [], ℕ, List, Option, Some, None, length, true, false, IfOk, IfErr, IfSome, OnOk, OnErr};
 ghost use Rattle.std.specs.Io.KnownBytes.{Appends, Consumes, IsAtEnd};
 ghost use Rattle.node_base.specs.Props.{PropMap};
 ghost use Rattle.node_base.specs.Tree.{PathMap};
 ghost use Rattle.dump_load.specs.declared.change.Change.{Change as ChangeOf};
-ghost use Rattle.dump_text.specs.Streams.{has_failed};
+ghost use Rattle.dump_text.specs.Streams.{dump, has_failed, records_of};
 ghost use Rattle.dump_text.specs.declared.record.DumpRecord.{DumpRecord as RecordOf};
 ghost use Rattle.repo_core.specs.Repository.{Repository, trees_of};
 ghost use Rattle.repo_core.specs.Entries.{with_entry_in};
@@ -15,12 +16,13 @@ ghost use Rattle.repo_core.specs.declared.fault.RepoFault.{RepoFault as RepoFaul
 ghost use Rattle.fleet_disk.specs.Image.{Image};
 ghost use Rattle.repo_store.specs.Journal.{ReopensTo};
 ghost use Rattle.repo_store.specs.Words.{disk_of, identity_of, repository_of, revisions_of, HasFailed};
+ghost use Rattle.fleet_engines.specs.Grouping.{is_no_identity, records_of_rev};
 ghost use Rattle.fleet_engines.specs.Histories.{rev_of};
 ghost use Rattle.fleet_engines.specs.Revisions.{Rev, Makes, IsUnfit, is_zero, is_past_zero};
 ghost use Rattle.fleet_engines.specs.Runs.{Flagged, BothFlagged};
 ghost use Rattle.store_engines.specs.Loaders.{last_of};
 ghost use Rattle.store_engines.specs.Devices.{is_device, CantKeep, IsSafe, Serves};
-ghost use Rattle.store_engines.specs.Loads.{entry_fault, loaded_line, CantTake, CantClose, Gathered, IsBare, IsLoaded, Leads, Loaded, Moves, NotLoaded, Reached, Refused, Stands, Stops};
+ghost use Rattle.store_engines.specs.Loads.{coming, entry_fault, loaded_line, read_of, CantTake, CantClose, Gathered, IsBare, IsLoaded, Leads, Loaded, Moves, NotLoaded, Reached, Refused, ServesOne, ServesRecords, Stands, Stops};
 ghost use Rattle.store_engines.specs.Mirrors.{is_mirror};
 ghost use Rattle.store_engines.specs.Refusals.{repo_refusal};
 
@@ -84,7 +86,7 @@ fn put_zero<D: Disk + Drop>(
     ensures same { OnErr result (repository_of store.new ≡ repository_of store.old) }
     ensures taken { OnOk result (entry_fault (revisions_of store.old) (Mapped 0 props) ≡ None) }
     ensures refused { IfErr result (λ e. (e ≡ Refusal.OutOfMemory) ⊎ CantKeep store.new (Mapped 0 props) e ⊎ ((f : RepoFaultOf) × IsDue f (entry_fault (revisions_of store.old) (Mapped 0 props)) × (e ≡ repo_refusal f))) }
-    ensures device { IsSafe store.old → Serves store.old store.new result }
+    ensures device { IsSafe store.old → ServesOne (Mapped 0 props) store.old store.new result }
     ensures no_peer { IfErr result (λ e. e ≡ Refusal.PeerFailed → ⊥) }
 {
     match store.put_props(alloc, RevNo::ZERO, props) {
@@ -103,7 +105,7 @@ fn load_next<D: Disk + Drop, W: Write + Drop>(
     requires later { is_zero (trees_of (revisions_of store.old)) (rev_of revision) ≡ false }
     ensures ok { OnOk result ((entry : Entry) × (line : List ℕ) × IsLoaded (revisions_of store.old) (rev_of revision) entry line × (entry_fault (revisions_of store.old) entry ≡ None) × (repository_of store.new ≡ with_entry_in (repository_of store.old) entry) × Appends (W.contents output.old.inner) (W.contents output.new.inner) line) }
     ensures refused { IfErr result (λ e. NotLoaded (repository_of store.old) (rev_of revision) store.new (W.contents output.old.inner) (W.contents output.new.inner) output.new.failed e) }
-    ensures device { IsSafe store.old → Serves store.old store.new result }
+    ensures device { IsSafe store.old → ServesRecords (records_of_rev (rev_of revision)) store.old store.new result [] }
     ensures peer { Flagged result output.old.failed output.new.failed }
 {
     let RevRecord {
@@ -128,7 +130,7 @@ fn load_one<D: Disk + Drop, W: Write + Drop>(
 ) -> Result<(), Refusal>
     ensures ok { OnOk result (IsBare (rev_of revision) → (entry : Entry) × (line : List ℕ) × IsLoaded (revisions_of store.old) (rev_of revision) entry line × (entry_fault (revisions_of store.old) entry ≡ None) × (repository_of store.new ≡ with_entry_in (repository_of store.old) entry) × Appends (W.contents output.old.inner) (W.contents output.new.inner) line) }
     ensures refused { IfErr result (λ e. IsBare (rev_of revision) → NotLoaded (repository_of store.old) (rev_of revision) store.new (W.contents output.old.inner) (W.contents output.new.inner) output.new.failed e) }
-    ensures device { IsSafe store.old → Serves store.old store.new result }
+    ensures device { IsSafe store.old → ServesRecords (records_of_rev (rev_of revision)) store.old store.new result [] }
     ensures peer { Flagged result output.old.failed output.new.failed }
 {
     if is_zero(store.repo(), &revision) {
@@ -161,7 +163,7 @@ impl Loader {
     ) -> Result<(), Refusal>
         ensures ok { OnOk result (Moves (repository_of store.old) (last_of self.old) (W.contents output.old.inner) (next ∷ []) (repository_of store.new) (last_of self.new) (W.contents output.new.inner)) }
         ensures refused { IfErr result (λ e. (x : Repository) (rs : List RecordOf) (start : Option (List ℕ)) → Stands x rs (repository_of store.old) (last_of self.old) start (W.contents output.old.inner) → CantTake x rs next store.new start (W.contents output.new.inner) output.new.failed e) }
-        ensures device { IsSafe store.old → Serves store.old store.new result }
+        ensures device { IsSafe store.old → ServesRecords (read_of (last_of self.old) ++ filter is_no_identity (next ∷ [])) store.old store.new result (read_of (last_of self.new)) }
         ensures peer { Flagged result output.old.failed output.new.failed }
     {
         match next {
@@ -227,7 +229,7 @@ impl Loader {
         ensures ok { OnOk result ((x : Repository) (rs : List RecordOf) (start : Option (List ℕ)) → Stands x rs (repository_of store.old) (last_of self.old) start (W.contents output.old.inner) → Gathered x rs (repository_of store.new) start (W.contents output.new.inner)) }
         ensures last { last_of self.new ≡ None }
         ensures refused { IfErr result (λ e. (x : Repository) (rs : List RecordOf) (start : Option (List ℕ)) → Stands x rs (repository_of store.old) (last_of self.old) start (W.contents output.old.inner) → CantClose x rs store.new start (W.contents output.new.inner) output.new.failed e) }
-        ensures device { IsSafe store.old → Serves store.old store.new result }
+        ensures device { IsSafe store.old → ServesRecords (read_of (last_of self.old)) store.old store.new result [] }
         ensures peer { Flagged result output.old.failed output.new.failed }
     {
         match self.last.take() {
@@ -245,7 +247,7 @@ impl Loader {
     ) -> Result<(), Refusal>
         ensures ok { OnOk result (Moves (repository_of store.old) (last_of self.old) (W.contents output.old.inner) records.items (repository_of store.new) (last_of self.new) (W.contents output.new.inner)) }
         ensures refused { IfErr result (λ e. (x : Repository) (rs : List RecordOf) (start : Option (List ℕ)) → Stands x rs (repository_of store.old) (last_of self.old) start (W.contents output.old.inner) → Stops x rs records.items store.new start (W.contents output.new.inner) output.new.failed e) }
-        ensures device { IsSafe store.old → Serves store.old store.new result }
+        ensures device { IsSafe store.old → ServesRecords (read_of (last_of self.old) ++ filter is_no_identity records.items) store.old store.new result (read_of (last_of self.new)) }
         ensures peer { Flagged result output.old.failed output.new.failed }
     {
         for next in records {
@@ -265,7 +267,7 @@ impl Loader {
         ensures ok { OnOk result ((x : Repository) (bytes : List ℕ) (start : Option (List ℕ)) → Reached x bytes reader.old (repository_of store.old) (last_of self.old) start (W.contents output.old.inner) → Reached x (bytes ++ piece.now) reader.new (repository_of store.new) (last_of self.new) start (W.contents output.new.inner)) }
         ensures refused { IfErr result (λ e. (rest : List ℕ) (x : Repository) (bytes : List ℕ) (start : Option (List ℕ)) → Reached x bytes reader.old (repository_of store.old) (last_of self.old) start (W.contents output.old.inner) → Refused x ((bytes ++ piece.now) ++ rest) store.new start (W.contents output.new.inner) output.new.failed e) }
         ensures reading { OnOk result (has_failed reader.old ≡ false → has_failed reader.new ≡ false) }
-        ensures device { has_failed reader.old ≡ false → IsSafe store.old → Serves store.old store.new result }
+        ensures device { (rest : List ℕ) → has_failed reader.old ≡ false → IsSafe store.old → ServesRecords (coming (last_of self.old) reader.old (piece.now ++ rest)) store.old store.new result (coming (last_of self.new) reader.new rest) }
         ensures peer { Flagged result output.old.failed output.new.failed }
     {
         let mut records = Vec::new(self.alloc);
@@ -286,7 +288,7 @@ impl Loader {
     ) -> Result<(), Refusal>
         ensures ok { OnOk result ((x : Repository) (bytes : List ℕ) (start : Option (List ℕ)) → Reached x bytes reader (repository_of store.old) (last_of self.old) start (W.contents output.old.inner) → Loaded x bytes (repository_of store.new) start (W.contents output.new.inner)) }
         ensures refused { IfErr result (λ e. (x : Repository) (bytes : List ℕ) (start : Option (List ℕ)) → Reached x bytes reader (repository_of store.old) (last_of self.old) start (W.contents output.old.inner) → Refused x bytes store.new start (W.contents output.new.inner) output.new.failed e) }
-        ensures device { has_failed reader ≡ false → IsSafe store.old → Serves store.old store.new result }
+        ensures device { has_failed reader ≡ false → IsSafe store.old → ServesRecords (read_of (last_of self.old)) store.old store.new result [] }
         ensures peer { Flagged result output.old.failed output.new.failed }
     {
         if let Err(fault) = reader.finish() {
@@ -309,6 +311,7 @@ fn read_all<D: Disk + Drop, R: Read + Drop, W: Write + Drop>(
     ensures refused { IfErr result (λ e. (x : Repository) (start : Option (List ℕ)) → Reached x [] reader.old (repository_of store.old) (last_of loader.old) start (W.contents output.old.inner) → IfSome (R.remaining input.old.inner) (λ bytes. Refused x bytes store.new start (W.contents output.new.inner) output.new.failed e)) }
     ensures reading { OnOk result (has_failed reader.old ≡ false → has_failed reader.new ≡ false) }
     ensures device { has_failed reader.old ≡ false → IsSafe store.old → Serves store.old store.new result }
+    ensures entries { 0 < length piece.old → has_failed reader.old ≡ false → IsSafe store.old → IfSome (R.remaining input.old.inner) (λ bytes. ServesRecords (coming (last_of loader.old) reader.old bytes) store.old store.new result (read_of (last_of loader.new))) }
     ensures peer { BothFlagged result input.old.failed input.new.failed output.old.failed output.new.failed }
 {
     for _ in 0..READS {
@@ -331,6 +334,7 @@ fn load_stream<D: Disk + Drop, R: Read + Drop, W: Write + Drop>(
     ensures ok { OnOk result (IfSome (R.remaining input.old.inner) (λ bytes. Loaded (repository_of store.old) bytes (repository_of store.new) (W.contents output.old.inner) (W.contents output.new.inner))) }
     ensures refused { IfErr result (λ e. IfSome (R.remaining input.old.inner) (λ bytes. Refused (repository_of store.old) bytes store.new (W.contents output.old.inner) (W.contents output.new.inner) output.new.failed e)) }
     ensures device { IsSafe store.old → Serves store.old store.new result }
+    ensures entries { IsSafe store.old → IfSome (R.remaining input.old.inner) (λ bytes. ServesRecords (filter is_no_identity (records_of (dump bytes))) store.old store.new result []) }
     ensures peer { BothFlagged result input.old.failed input.new.failed output.old.failed output.new.failed }
 {
     let mut loader = Loader::new(alloc);
@@ -366,6 +370,7 @@ pub fn run_load<D: Disk + Drop, R: Read + Drop, W: Write + Drop>(
     ensures mirror { is_mirror (revisions_of store.old) ≡ true → IfErr result (λ e. (e ≡ Refusal.ReadOnly) × (repository_of store.new ≡ repository_of store.old) × (R.remaining input.new.inner ≡ R.remaining input.old.inner) × (W.contents output.new.inner ≡ W.contents output.old.inner)) }
     ensures no_mirror { OnOk result (is_mirror (revisions_of store.old) ≡ false) }
     ensures device { Serves store.old store.new result }
+    ensures entries { IfSome (R.remaining input.old.inner) (λ bytes. ServesRecords (filter is_no_identity (records_of (dump bytes))) store.old store.new result []) }
     ensures durable { D.honest (disk_of store.new) → ¬ HasFailed store.new → (image : Image) → D.may_leave (disk_of store.new) image
         → ReopensTo (identity_of store.new) (revisions_of store.new) image }
     ensures peer { BothFlagged result input.old.failed input.new.failed output.old.failed output.new.failed }

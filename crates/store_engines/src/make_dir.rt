@@ -6,11 +6,12 @@ ghost use Rattle.node_base.specs.Path.{Path};
 ghost use Rattle.node_base.specs.PathText.{path_read};
 ghost use Rattle.node_base.specs.declared.fault.PathFault.{PathFault as PathFaultOf};
 ghost use Rattle.fleet_disk.specs.Image.{Image};
+ghost use Rattle.repo_core.specs.declared.entry.Entry.{Entry as EntryOf};
 ghost use Rattle.repo_store.specs.Journal.{ReopensTo};
 ghost use Rattle.repo_store.specs.Words.{disk_of, identity_of, repository_of, revisions_of, HasFailed};
 ghost use Rattle.store_engines.specs.Commits.{bare_entry, directory_entry, directory_set, logged, IsCommitted, NotCommitted};
 ghost use Rattle.store_engines.specs.Devices.{is_device, CantKeep, IsSafe, Serves};
-ghost use Rattle.store_engines.specs.Loads.{entry_fault};
+ghost use Rattle.store_engines.specs.Loads.{entry_fault, ServesOne};
 ghost use Rattle.store_engines.specs.Mirrors.{is_mirror};
 ghost use Rattle.store_engines.specs.Refusals.{path_refusal, repo_refusal};
 
@@ -99,7 +100,7 @@ fn refused_message<D: Disk + Drop>(
     ensures due { (result ≡ Refusal.OutOfMemory) ⊎ ((path : Path) → set ≡ directory_set path → CantKeep store.new (bare_entry (revisions_of store.old) path moment) result)
         ⊎ ((path : Path) (message : List ℕ) → set ≡ directory_set path → 65536 < length message → option_map repo_refusal (entry_fault (revisions_of store.old) (directory_entry (revisions_of store.old) path message moment)) ≡ Some result) }
     ensures same { repository_of store.new ≡ repository_of store.old }
-    ensures device { IsSafe store.old → Serves store.old store.new (Err result) }
+    ensures device { (entry : EntryOf) → IsSafe store.old → ServesOne entry store.old store.new (Err result) }
     ensures no_peer { result ≡ Refusal.PeerFailed → ⊥ }
 {
     let head = store.repo().head();
@@ -120,7 +121,7 @@ fn commit_directory<D: Disk + Drop, W: Write + Drop>(
 ) -> Result<(), Refusal>
     ensures ok { OnOk result ((bytes : List ℕ) → is_mirror (revisions_of store.old) ≡ false → path_read bytes ≡ Ok path → IsCommitted (repository_of store.old) bytes message.now moment (repository_of store.new) (W.contents output.old.inner) (W.contents output.new.inner)) }
     ensures refused { IfErr result (λ e. (bytes : List ℕ) → is_mirror (revisions_of store.old) ≡ false → path_read bytes ≡ Ok path → NotCommitted (repository_of store.old) bytes message.now moment store.new (W.contents output.old.inner) (W.contents output.new.inner) output.new.failed e) }
-    ensures device { IsSafe store.old → Serves store.old store.new result }
+    ensures device { IsSafe store.old → ServesOne (directory_entry (revisions_of store.old) path message.now moment) store.old store.new result }
     ensures peer { Flagged result output.old.failed output.new.failed }
 {
     let set = one_directory(alloc, path)?;
@@ -155,6 +156,7 @@ pub fn run_mkdir<D: Disk + Drop, W: Write + Drop>(
     ensures refused { IfErr result (NotCommitted (repository_of store.old) path.now message.now moment store.new (W.contents output.old.inner) (W.contents output.new.inner) output.new.failed) }
     ensures mirror { is_mirror (revisions_of store.old) ≡ true → IsErrOf result Refusal.ReadOnly }
     ensures device { Serves store.old store.new result }
+    ensures entry { (place : Path) → path_read path.now ≡ Ok place → ServesOne (directory_entry (revisions_of store.old) place message.now moment) store.old store.new result }
     ensures durable { D.honest (disk_of store.new) → ¬ HasFailed store.new → (image : Image) → D.may_leave (disk_of store.new) image
         → ReopensTo (identity_of store.new) (revisions_of store.new) image }
     ensures peer { Flagged result output.old.failed output.new.failed }

@@ -1,9 +1,12 @@
-use Rattle.std.proofs.Common.{◌∙◌, ap, sym}
+use Rattle.std.proofs.Common.{◌∙◌, ap, refl, sym}
 use Rattle.fleet_engines.specs.Histories.{rev_of}
 use Rattle.fleet_engines.specs.Revisions.{is_zero}
 use Rattle.repo_core.specs.Repository.{trees_of}
 use Rattle.repo_store.specs.Words.{repository_of}
+use Rattle.repo_core.specs.declared.entry.Entry.TheVariants.{Mapped}
+use Rattle.store_engines.specs.Loads.{of_zero}
 use Rattle.store_engines.proofs.Loading.{zero_said, zero_err}
+use Rattle.store_engines.proofs.Serving.{of_entry}
 use Rattle.store_engines.proofs.load.load_one.Goals as goal
 
 pub returns-then-is_zero-clause-ok : goal.returns-then-is_zero-clause-ok
@@ -17,3 +20,9 @@ returns-then-is_zero-clause-refused g c =
     let r = rev_of c.args.revision in
     let zero = ap (λ v. is_zero (trees_of v.revisions) r) (sym c.repo.ensures.value) ∙ sym c.is_zero.ensures ∙ c.if-is_zero.true in
     zero_err (repository_of c.args.store.now) c.put_zero.new.store r (g.W.Write.contents c.args.output.now.inner) c.args.output.now.failed c.put_zero.result zero c.put_zero.ensures.same c.put_zero.ensures.refused
+
+pub returns-then-is_zero-clause-device : goal.returns-then-is_zero-clause-device
+returns-then-is_zero-clause-device g c safe =
+    let r = rev_of c.args.revision in
+    let zero = ap (λ v. is_zero (trees_of v.revisions) r) (sym c.repo.ensures.value) ∙ sym c.is_zero.ensures ∙ c.if-is_zero.true in
+    of_entry r (Mapped 0 c.args.revision.props) c.args.store.now c.put_zero.new.store c.put_zero.result (of_zero zero refl) (c.put_zero.ensures.device safe)

@@ -1,11 +1,15 @@
-use Rattle.std.proofs.Common.{◌<◌, ap, length, arith, refl}
+use Rattle.std.proofs.Common.{◌<◌, [], Ok, Err, ap, length, arith, refl, subst}
 use Rattle.std.proofs.lemmas.Result.{err_from_is_err_and, on_ok_weaker, IfErr-weaker}
 use Rattle.fleet_engines.proofs.Streaming.{later_flagged}
 use Rattle.repo_store.specs.Words.{repository_of}
 use Rattle.store_engines.specs.Loaders.{last_of}
-use Rattle.store_engines.specs.Loads.{Loaded, Refused}
+use Rattle.store_engines.specs.Loads.{coming, read_of, Loaded, Refused, ServesRecords}
 use Rattle.store_engines.proofs.Feeding.{first_refused, first_reached, run_ended}
-use Rattle.dump_text.specs.Streams.{has_failed}
+use Rattle.dump_text.specs.Streams.{dump, has_failed, records_of}
+use Rattle.std.specs.List.{filter}
+use Rattle.node_base.specs.declared.refusal.Refusal.TheVariants as refusal
+use Rattle.fleet_engines.specs.Grouping.{is_no_identity}
+use Rattle.store_engines.proofs.Serving.{from_start, nothing, records_on, refused_left, some_all, some_weaker}
 use Rattle.store_engines.proofs.Devices.{serves_on, unserved}
 use Rattle.store_engines.proofs.load.load_stream.Goals as goal
 
@@ -66,4 +70,38 @@ pub returns-clause-device : goal.returns-clause-device
 returns-clause-device g c safe =
     let fresh = ap has_failed c.new-reader.ensures in
     let so_far = c.in_ok-read_all.ensures.device fresh safe in
-    serves_on c.args.store.now c.read_all.new.store c.finish.new.store _ c.finish.result so_far (c.finish.ensures.device (c.in_ok-read_all.ensures.reading fresh) so_far.safe)
+    serves_on c.args.store.now c.read_all.new.store c.finish.new.store _ c.finish.result so_far (c.finish.ensures.device (c.in_ok-read_all.ensures.reading fresh) so_far.safe).serves
+
+pub returns-in_default-clause-entries : goal.returns-in_default-clause-entries
+returns-in_default-clause-entries g c safe =
+    let first = c.args.store.now in
+    some_all (g.R.Read.remaining c.args.input.now.inner) (λ bytes. ServesRecords (filter is_no_identity (records_of (dump bytes))) first first (Err refusal.OutOfMemory) [])
+    (λ bytes. nothing (filter is_no_identity (records_of (dump bytes))) [] first (Err refusal.OutOfMemory) refl tt safe)
+
+pub returns-in_err-read_all-clause-entries : goal.returns-in_err-read_all-clause-entries
+returns-in_err-read_all-clause-entries g c safe =
+    let p = err_from_is_err_and c.from_residual.result c.from_residual.ensures.1 in
+    let some : 0 < length c.as_mut_slice.result.now = omega (arith, c.as_mut_slice.ensures.len, c.in-Ok.ensures.len) in
+    let first = c.args.store.now in
+    let store = c.read_all.new.store in
+    let e = c.in_err-read_all.field-0.0 in
+    let last = last_of c.new-loader.result in
+    let later = read_of (last_of c.read_all.new.loader) in
+    rw (p.1, p.2)
+    (some_weaker (g.R.Read.remaining c.args.input.now.inner) (λ bytes. ServesRecords (coming last c.new-reader.result bytes) first store (Err e) later) (λ bytes. ServesRecords (filter is_no_identity (records_of (dump bytes))) first store (Err e) [])
+    (λ bytes k. refused_left (filter is_no_identity (records_of (dump bytes))) later [] first store e (subst (λ l. ServesRecords l first store (Err e) later) (from_start last c.new-reader.result bytes c.new-loader.ensures c.new-reader.ensures) k))
+    (c.in_err-read_all.ensures.entries some (ap has_failed c.new-reader.ensures) safe))
+
+pub returns-clause-entries : goal.returns-clause-entries
+returns-clause-entries g c safe =
+    let some : 0 < length c.as_mut_slice.result.now = omega (arith, c.as_mut_slice.ensures.len, c.in-Ok.ensures.len) in
+    let fresh = ap has_failed c.new-reader.ensures in
+    let first = c.args.store.now in
+    let mid = c.read_all.new.store in
+    let end = c.finish.new.store in
+    let last = last_of c.new-loader.result in
+    let later = read_of (last_of c.read_all.new.loader) in
+    let served = c.finish.ensures.device (c.in_ok-read_all.ensures.reading fresh) (c.in_ok-read_all.ensures.device fresh safe).safe in
+    some_weaker (g.R.Read.remaining c.args.input.now.inner) (λ bytes. ServesRecords (coming last c.new-reader.result bytes) first mid (Ok _) later) (λ bytes. ServesRecords (filter is_no_identity (records_of (dump bytes))) first end c.finish.result [])
+    (λ bytes k. subst (λ l. ServesRecords l first end c.finish.result []) (from_start last c.new-reader.result bytes c.new-loader.ensures c.new-reader.ensures) (records_on (coming last c.new-reader.result bytes) later [] first mid end _ c.finish.result k served))
+    (c.in_ok-read_all.ensures.entries some fresh safe)

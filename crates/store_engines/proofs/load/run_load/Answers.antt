@@ -1,4 +1,9 @@
-use Rattle.std.proofs.Common.{Err, ap, arith}
+use Rattle.std.proofs.Common.{[], Err, ap, arith}
+use Rattle.std.specs.List.{filter}
+use Rattle.dump_text.specs.Streams.{dump, records_of}
+use Rattle.fleet_engines.specs.Grouping.{is_no_identity}
+use Rattle.store_engines.specs.Loads.{ServesRecords}
+use Rattle.store_engines.proofs.Serving.{nothing, some_all}
 use Rattle.std.proofs.lemmas.Result.{err_from_is_err_and}
 use Rattle.repo_store.specs.Words.{disk_of}
 use Rattle.store_engines.specs.Devices.{is_device}
@@ -18,3 +23,16 @@ returns-clause-durable g c h w image left =
     let served = c.load_stream.ensures.device (λ h w image left. c.repo.ensures.stands h w image (g.met.D.Disk.only_now (disk_of c.args.store.now) image h left)) in
     let disk = disk_of c.load_stream.new.store in
     served.safe h w image (g.met.D.Disk.counts_now disk (g.D.Disk.clock disk) image h (omega arith) left)
+
+pub returns-in_err-refuse_mirror-clause-entries : goal.returns-in_err-refuse_mirror-clause-entries
+returns-in_err-refuse_mirror-clause-entries g c =
+    let p = err_from_is_err_and c.from_residual.result c.from_residual.ensures.1 in
+    let first = c.args.store.now in
+    let e = c.in_err-refuse_mirror.field-0.0 in
+    let other = ap is_device c.in_err-refuse_mirror.ensures.refused.0 in
+    rw (p.1, p.2)
+    (some_all (g.R.Read.remaining c.args.input.now.inner) (λ bytes. ServesRecords (filter is_no_identity (records_of (dump bytes))) first first (Err e) [])
+    (λ bytes. nothing (filter is_no_identity (records_of (dump bytes))) [] first (Err e) other tt (λ h w image left. c.repo.ensures.stands h w image (g.met.D.Disk.only_now (disk_of first) image h left))))
+
+pub returns-clause-entries : goal.returns-clause-entries
+returns-clause-entries g c = c.load_stream.ensures.entries (λ h w image left. c.repo.ensures.stands h w image (g.met.D.Disk.only_now (disk_of c.args.store.now) image h left))

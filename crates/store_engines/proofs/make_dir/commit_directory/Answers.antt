@@ -1,10 +1,10 @@
-use Rattle.std.proofs.Common.{◌≡◌, ◌<◌, ◌⊎◌, None, Err, ◌∙◌, ap, refl, subst, length, arith}
+use Rattle.std.proofs.Common.{◌≡◌, ◌<◌, ◌⊎◌, None, Ok, Err, ◌∙◌, ap, refl, subst, length, arith}
 use Rattle.repo_core.specs.Entries.{with_entry_in}
 use Rattle.repo_core.specs.declared.entry.Entry.{Entry}
 use Rattle.repo_core.specs.Repository.{Repository}
-use Rattle.repo_store.specs.Words.{repository_of}
-use Rattle.store_engines.specs.Commits.{committed_line}
-use Rattle.store_engines.specs.Loads.{entry_fault}
+use Rattle.repo_store.specs.Words.{repository_of, revisions_of}
+use Rattle.store_engines.specs.Commits.{committed_line, directory_entry}
+use Rattle.store_engines.specs.Loads.{entry_fault, ServesOne}
 use Rattle.store_engines.proofs.Committing.{committed, entry_is, message_refused, not_committed, unsaid}
 use Rattle.std.proofs.lemmas.Result.{err_from_is_err_and, IfErr-weaker}
 use Rattle.node_base.specs.declared.refusal.Refusal.TheVariants as refusal
@@ -12,7 +12,7 @@ use Rattle.repo_core.specs.Refusals.{IsDue}
 use Rattle.repo_core.specs.declared.fault.RepoFault.{RepoFault}
 use Rattle.store_engines.specs.Refusals.{repo_refusal}
 use Rattle.store_engines.specs.Devices.{is_device, CantKeep}
-use Rattle.store_engines.proofs.Devices.{serves_then, unserved}
+use Rattle.store_engines.proofs.Serving.{none_done, one_then}
 use Rattle.store_engines.proofs.make_dir.commit_directory.Goals as goal
 
 pub returns-clause-ok : goal.returns-clause-ok
@@ -33,12 +33,15 @@ returns-clause-refused g c =
 
 pub returns-clause-device : goal.returns-clause-device
 returns-clause-device g c safe =
-    serves_then c.args.store.now c.commit.new.store _ c.say.result (IfErr-weaker c.say.result _ _ (λ e k. ap is_device k) c.say.ensures.only_peer) (c.in_ok-commit.ensures.device safe)
+    let x = revisions_of c.args.store.now in
+    let entry = entry_is x c.args.path c.args.message.now c.args.moment c.in_ok-set.set c.in-Ok.props c.in_ok-set.ensures.set c.in-Ok.ensures in
+    one_then (directory_entry x c.args.path c.args.message.now c.args.moment) c.args.store.now c.commit.new.store _ c.say.result (IfErr-weaker c.say.result _ _ (λ e k. ap is_device k) c.say.ensures.only_peer)
+    (subst (λ (e : Entry). ServesOne e c.args.store.now c.commit.new.store (Ok _)) entry (c.in_ok-commit.ensures.device safe))
 
 pub returns-in_err-set-clause-device : goal.returns-in_err-set-clause-device
 returns-in_err-set-clause-device g c safe =
     let p = err_from_is_err_and c.from_residual.result c.from_residual.ensures.1 in
-    rw (p.1, p.2) (unserved c.args.store.now (Err c.in_err-set.field-0.0) (ap is_device c.in_err-set.ensures.refused) safe)
+    rw (p.1, p.2) (none_done (directory_entry (revisions_of c.args.store.now) c.args.path c.args.message.now c.args.moment) c.args.store.now c.in_err-set.field-0.0 (ap is_device c.in_err-set.ensures.refused) safe)
 
 pub returns-then-message-gt-PROP_VALUE_BYTES-clause-refused : goal.returns-then-message-gt-PROP_VALUE_BYTES-clause-refused
 returns-then-message-gt-PROP_VALUE_BYTES-clause-refused g c =
@@ -46,10 +49,10 @@ returns-then-message-gt-PROP_VALUE_BYTES-clause-refused g c =
     λ bytes m r. message_refused (repository_of c.args.store.now) c.refused_message.new.store bytes c.args.message.now c.args.moment c.args.path c.in_ok-set.set (g.W.Write.contents c.args.output.now.inner) c.args.output.now.failed c.refused_message.result c.refused_message.ensures.same c.in_ok-set.ensures.set long c.refused_message.ensures.due m r
 
 pub returns-in_default-clause-device : goal.returns-in_default-clause-device
-returns-in_default-clause-device g c safe = unserved c.args.store.now _ refl safe
+returns-in_default-clause-device g c safe = none_done (directory_entry (revisions_of c.args.store.now) c.args.path c.args.message.now c.args.moment) c.args.store.now _ refl safe
 
 pub returns-in_default-committed_line-clause-device : goal.returns-in_default-committed_line-clause-device
-returns-in_default-committed_line-clause-device g c safe = unserved c.args.store.now _ refl safe
+returns-in_default-committed_line-clause-device g c safe = none_done (directory_entry (revisions_of c.args.store.now) c.args.path c.args.message.now c.args.moment) c.args.store.now _ refl safe
 
 pub returns-in_err-commit-clause-refused : goal.returns-in_err-commit-clause-refused
 returns-in_err-commit-clause-refused g c =
@@ -64,4 +67,10 @@ returns-in_err-commit-clause-refused g c =
 pub returns-in_err-commit-clause-device : goal.returns-in_err-commit-clause-device
 returns-in_err-commit-clause-device g c safe =
     let p = err_from_is_err_and c.from_residual-in_err-commit.result c.from_residual-in_err-commit.ensures.1 in
-    rw (p.1, p.2) (c.in_err-commit.ensures.device safe)
+    let x = revisions_of c.args.store.now in
+    let k = c.in_err-commit.field-0.0 in
+    let entry = entry_is x c.args.path c.args.message.now c.args.moment c.in_ok-set.set c.in-Ok.props c.in_ok-set.ensures.set c.in-Ok.ensures in
+    rw (p.1, p.2) (subst (λ (e : Entry). ServesOne e c.args.store.now c.commit.new.store (Err k)) entry (c.in_err-commit.ensures.device safe))
+
+pub returns-then-message-gt-PROP_VALUE_BYTES-clause-device : goal.returns-then-message-gt-PROP_VALUE_BYTES-clause-device
+returns-then-message-gt-PROP_VALUE_BYTES-clause-device g c safe = c.refused_message.ensures.device (directory_entry (revisions_of c.args.store.now) c.args.path c.args.message.now c.args.moment) safe

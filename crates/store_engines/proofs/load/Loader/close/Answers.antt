@@ -1,12 +1,12 @@
-use Rattle.std.proofs.Common.{◌≡◌, Ok, ◌∙◌, Some, ap, sym, subst}
+use Rattle.std.proofs.Common.{◌≡◌, [], Ok, ◌∙◌, None, Some, ap, sym, subst}
 use Rattle.std.proofs.lemmas.Result.{on_ok_weaker, IfErr-weaker}
 use Rattle.std.specs.Option.{option_map}
 use Rattle.fleet_engines.specs.Histories.{rev_of}
 use Rattle.repo_store.specs.Words.{repository_of}
 use Rattle.store_engines.specs.Loaders.{last_of}
-use Rattle.store_engines.specs.Loads.{Stands}
+use Rattle.store_engines.specs.Loads.{read_of, ServesRecords, Stands}
 use Rattle.store_engines.proofs.Loading.{closes, cant_close}
-use Rattle.store_engines.proofs.Devices.{unserved}
+use Rattle.store_engines.proofs.Serving.{nothing}
 use Rattle.store_engines.proofs.load.Loader.close.Goals as goal
 
 pub returns-in-Some-clause-ok : goal.returns-in-Some-clause-ok
@@ -37,5 +37,12 @@ returns-in-Some-clause-refused g c =
     cant_close x rs y c.load_one.new.store r start a now c.load_one.new.output.failed e t (k t.bare))
     c.load_one.ensures.refused
 
+pub returns-in-Some-clause-device : goal.returns-in-Some-clause-device
+returns-in-Some-clause-device g c safe =
+    let there : last_of c.args.self.now ≡ Some (rev_of c.in-Some.revision) = ap (option_map rev_of) (sym c.take.ensures.value ∙ c.in-Some.is) in
+    subst (λ l. ServesRecords (read_of l) c.args.store.now c.load_one.new.store c.load_one.result []) (sym there) (c.load_one.ensures.device safe)
+
 pub returns-in-None-clause-device : goal.returns-in-None-clause-device
-returns-in-None-clause-device g c safe = unserved c.args.store.now (Ok tt) tt safe
+returns-in-None-clause-device g c safe =
+    let none : last_of c.args.self.now ≡ None = ap (option_map rev_of) (sym c.take.ensures.value ∙ c.in-None.is) in
+    nothing (read_of (last_of c.args.self.now)) [] c.args.store.now (Ok tt) tt (ap read_of none) safe

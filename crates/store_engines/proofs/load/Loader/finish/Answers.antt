@@ -2,12 +2,13 @@ use Rattle.std.proofs.lemmas.Result.{on_ok_weaker, IfErr-weaker}
 use Rattle.repo_store.specs.Words.{repository_of}
 use Rattle.store_engines.specs.Loaders.{last_of}
 use Rattle.store_engines.proofs.Feeding.{is_cut, is_ended, ended_ok, ended_err}
-use Rattle.std.proofs.Common.{◌∙◌, Err, ap, sym}
+use Rattle.std.proofs.Common.{◌∙◌, [], Err, ap, sym}
+use Rattle.store_engines.specs.Loads.{read_of}
 use Rattle.dump_text.specs.Streams.{is_between}
 use Rattle.fleet_engines.specs.Refusals.{dump_refusal}
 use Rattle.fleet_engines.proofs.Ending.{no_end}
 use Rattle.store_engines.specs.Devices.{is_device}
-use Rattle.store_engines.proofs.Devices.{unserved}
+use Rattle.store_engines.proofs.Serving.{nothing}
 use Rattle.store_engines.proofs.load.Loader.finish.Goals as goal
 
 pub returns-in-Err-clause-refused : goal.returns-in-Err-clause-refused
@@ -37,4 +38,4 @@ returns-clause-refused g c =
 pub returns-in-Err-clause-device : goal.returns-in-Err-clause-device
 returns-in-Err-clause-device g c h safe =
     let n = no_end (is_between c.args.reader) c.in-Err.fault (sym c.in-Err.is ∙ c.finish.ensures.ended h) in
-    rw c.dump_refusal.ensures.value (unserved c.args.store.now (Err (dump_refusal c.in-Err.fault)) (ap (λ f. is_device (dump_refusal f)) n.1) safe)
+    rw c.dump_refusal.ensures.value (nothing (read_of (last_of c.args.self.now)) [] c.args.store.now (Err (dump_refusal c.in-Err.fault)) (ap (λ f. is_device (dump_refusal f)) n.1) tt safe)

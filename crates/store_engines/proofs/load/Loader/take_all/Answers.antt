@@ -1,17 +1,18 @@
-use Rattle.std.proofs.Common.{◌≡◌, [], ◌∷◌, ◌++◌, ◌∙◌, Ok, Err, ap, sym, refl, subst, append_assoc}
+use Rattle.std.proofs.Common.{◌≡◌, [], ◌∷◌, ◌++◌, ◌∙◌, Ok, Err, ap, sym, refl, subst, append_assoc, append-nil}
 use Rattle.std.proofs.lemmas.Result.{err_from_is_err_and}
 use Rattle.fleet_engines.specs.Runs.{Flagged}
 use Rattle.repo_store.specs.Words.{repository_of}
 use Rattle.store_engines.specs.Loaders.{last_of}
+use Rattle.store_engines.specs.Loads.{read_of}
 use Rattle.store_engines.proofs.Loading.{moves_none, moves_more, stops_here}
-use Rattle.store_engines.proofs.Devices.{serves_on, unserved}
+use Rattle.store_engines.proofs.Serving.{nothing, records_more, records_stop}
 use Rattle.store_engines.proofs.load.Loader.take_all.Goals as goal
 
 pub loop-next-init : goal.loop-next-init
 loop-next-init g c = record {
   moved = moves_none (repository_of c.args.store.now) (last_of c.args.self.now) (g.W.Write.contents c.args.output.now.inner);
   split = c.into_iter-next-iterator.ensures.into_iter_gives.0;
-  served = λ safe. unserved c.args.store.now (Ok tt) tt safe;
+  served = λ safe. let last = read_of (last_of c.args.self.now) in nothing (last ++ []) last c.args.store.now (Ok tt) tt (append-nil last) safe;
   failed = refl;
 }
 
@@ -21,7 +22,7 @@ loop-next-preserved g c =
     record {
       moved = moves_more (repository_of c.args.store.now) (repository_of c.loop-next.store) (repository_of c.take.new.store) (last_of c.args.self.now) (last_of c.loop-next.self) (last_of c.take.new.self) (g.W.Write.contents c.args.output.now.inner) (g.W.Write.contents c.loop-next.output.inner) (g.W.Write.contents c.take.new.output.inner) c.loop-next.yielded c.in-Some.next i.moved c.in_ok-take.ensures.ok;
       split = append_assoc c.loop-next.yielded (c.in-Some.next ∷ []) c.next.new.self.rest.items ∙ ap (λ l. c.loop-next.yielded ++ l) (sym c.in-Some.ensures.steps.0) ∙ i.split;
-      served = λ safe. serves_on c.args.store.now c.loop-next.store c.take.new.store tt (Ok tt) (i.served safe) (c.in_ok-take.ensures.device (i.served safe).safe);
+      served = λ safe. records_more (last_of c.args.self.now) (last_of c.loop-next.self) (last_of c.take.new.self) c.args.store.now c.loop-next.store c.take.new.store c.loop-next.yielded c.in-Some.next (Ok tt) (i.served safe) (c.in_ok-take.ensures.device (i.served safe).serves.safe);
       failed = c.in_ok-take.ensures.peer ∙ i.failed;
     }
 
@@ -42,4 +43,6 @@ pub returns-in_err-take-clause-device : goal.returns-in_err-take-clause-device
 returns-in_err-take-clause-device g c safe =
     let p = err_from_is_err_and c.from_residual.result c.from_residual.ensures.1 in
     let i = c.loop-next.invariant in
-    rw (p.1, p.2) (serves_on c.args.store.now c.loop-next.store c.take.new.store tt (Err c.in_err-take.field-0.0) (i.served safe) (c.in_err-take.ensures.device (i.served safe).safe))
+    let whole : c.args.records.items ≡ c.loop-next.yielded ++ (c.in-Some.next ∷ c.next.new.self.rest.items) = sym i.split ∙ ap (λ l. c.loop-next.yielded ++ l) c.in-Some.ensures.steps.0 in
+    rw (p.1, p.2)
+    (records_stop (last_of c.args.self.now) (last_of c.loop-next.self) (last_of c.take.new.self) c.args.store.now c.loop-next.store c.take.new.store c.args.records.items c.loop-next.yielded c.next.new.self.rest.items c.in-Some.next c.in_err-take.field-0.0 whole (i.served safe) (c.in_err-take.ensures.device (i.served safe).serves.safe))
