@@ -1,7 +1,7 @@
 -- What a command does over the repository that stands in a folder, step by step.
-use Rattle.std.proofs.Common.{◌≡◌, ℕ, Bool, true, false, List, Option, Result, Ok, Err, IfSome, inl, inr, refl, subst, IfErr}
+use Rattle.std.proofs.Common.{◌≡◌, ℕ, Bool, true, false, List, Option, Result, Ok, Err, IfSome, inr, refl, subst, IfErr}
 use Rattle.std.specs.Result.{OnOk, OnErr}
-use Rattle.std.specs.Io.KnownBytes.{Appends, Keeps}
+use Rattle.std.specs.Io.KnownBytes.{Keeps}
 use Rattle.fleet_disk.specs.Image.{Image}
 use Rattle.fleet_disk.specs.declared.disk.Disk.{Ghosts}
 use Rattle.repo_store.specs.Words.{repository_of}

@@ -1,4 +1,6 @@
+pub mod Above
 pub mod Doing
+pub mod Lines
 pub mod Opening
 pub mod Refusing
 pub mod Spelled

@@ -1,12 +1,11 @@
 -- Why no repository is begun or opened: by the fault of a folder, and by that of a store.
-use Rattle.std.proofs.Common.{◌≡◌, ◌≢◌, ℕ, List, Result, Ok, Err, inl, inr, refl, sym, ap, ◌∙◌, subst, IfErr}
+use Rattle.std.proofs.Common.{◌≡◌, ◌≢◌, ℕ, List, Result, Ok, Err, inl, inr, refl, ap, ◌∙◌, subst, IfErr}
 use Rattle.fleet_disk.specs.Image.{Image, no_bytes}
 use Rattle.fleet_disk.specs.Rules.{Rose}
 use Rattle.gate_log.specs.Standing.{HasNoEntry}
 use Rattle.gate_log.specs.declared.fault.LogFault.{LogFault}
 use Rattle.gate_log.specs.declared.fault.LogFault.TheVariants as log
 use Rattle.node_base.specs.declared.refusal.Refusal.{Refusal}
-use Rattle.node_base.specs.declared.refusal.Refusal.TheVariants as refusal
 use Rattle.repo_store.specs.Journal.{IsDamaged}
 use Rattle.repo_store.specs.Refusals.{IsCreateFault, IsOpenFault}
 use Rattle.repo_store.specs.declared.fault.StoreFault.{StoreFault}

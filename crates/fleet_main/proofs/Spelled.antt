@@ -1,5 +1,5 @@
 -- Values as they are spelled.
-use Rattle.std.proofs.Common.{◌≡◌, ◌≢◌, ◌<◌, ◌≤◌, ℕ, zero, suc, Bool, true, false, List, [], ◌∷◌, ◌++◌, Option, Some, None, arith, refl, length, sym, ap, ◌∙◌, subst, true≢false, IfNone, IfSome, IfOk, IsOk, ◌↔◌, Result, Ok, Err}
+use Rattle.std.proofs.Common.{◌≡◌, ◌≢◌, ◌<◌, ◌≤◌, ℕ, zero, suc, Bool, true, false, List, [], ◌∷◌, Option, Some, None, arith, refl, length, sym, ap, ◌∙◌, true≢false, IfNone, IfSome, IfOk, IsOk, ◌↔◌, Result, Ok, Err}
 use Rattle.std.specs.Result.{result_ok}
 use Rattle.uuid.specs.Text.{parsed}
 use Rattle.uuid.specs.declared.error.Error.{Error}

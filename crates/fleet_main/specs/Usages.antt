@@ -5,6 +5,7 @@ use Rattle.clap.specs.Kinds.{Kinds, IsAmong}
 use Rattle.clap.specs.Words.{Row}
 use Rattle.clap.specs.declared.error.kind.ErrorKind.{ErrorKind}
 use Rattle.clap.specs.declared.error.kind.ErrorKind.TheVariants as kind
+use Rattle.fleet_main.specs.Lines.{HasNoLineFeed, IsLineOf}
 use Rattle.fleet_main.specs.Values.{HasValue, SpellsMicros, SpellsRange, identity_read}
 use Rattle.fleet_main.specs.declared.command_line.Usage.{Usage}
 use Rattle.fleet_main.specs.declared.command_line.Usage.TheVariants.{Shown, Wrong, OutOfMemory}
@@ -13,14 +14,14 @@ use Rattle.fleet_main.specs.declared.command_line.Usage.TheVariants.{Shown, Wron
 abbrev pub IsMistake : ErrorKind → Type 0
 IsMistake k = (k ≢ kind.DisplayHelp) × (k ≢ kind.DisplayVersion)
 
--- the one line that is told of what is wrong
-abbrev pub IsLineOf : List ℕ → List ℕ → Type 0
-IsLineOf wrong line = line ≡ codes "svnfleet: " ++ (wrong ++ codes " (svnfleet --help tells more)")
+-- one line that says what is wrong
+abbrev pub IsTextOfMistake : List ℕ → Type 0
+IsTextOfMistake line = HasNoLineFeed line × ((wrong : List ℕ) × IsLineOf wrong line)
 
 -- of an error of that kind: its text where help or the version was asked for, and a line on what is wrong where another mistake was found; else memory ran out
 abbrev pub IsUsageOf : ErrorKind → Usage → Type 0
 IsUsageOf k (Shown text) = (k ≢ kind.OutOfMemory) × (IsMistake k → ⊥)
-IsUsageOf k (Wrong text) = (k ≢ kind.OutOfMemory) × IsMistake k × ((wrong : List ℕ) × IsLineOf wrong (string_bytes text))
+IsUsageOf k (Wrong text) = (k ≢ kind.OutOfMemory) × IsMistake k × IsTextOfMistake (string_bytes text)
 IsUsageOf k OutOfMemory = Unit {0}
 
 -- a line that a value isn't what is wanted, the value between quotes; of a value beyond ASCII nothing is said of how it is shown
@@ -52,5 +53,5 @@ IsRefusedAt named OutOfMemory = Unit {0}
 abbrev pub IsUsageAt : Kinds → Option (List ℕ × List Row) → Usage → Type 0
 IsUsageAt kinds named (Shown text) = (k : ErrorKind) × IsAmong k kinds × (IsMistake k → ⊥)
 IsUsageAt kinds named (Wrong text) =
-    ((k : ErrorKind) × IsAmong k kinds × IsMistake k × ((wrong : List ℕ) × IsLineOf wrong (string_bytes text))) ⊎ ((kinds ≡ []) × IsRefusedAt named (Wrong text))
+    ((k : ErrorKind) × IsAmong k kinds × IsMistake k × IsTextOfMistake (string_bytes text)) ⊎ ((kinds ≡ []) × IsRefusedAt named (Wrong text))
 IsUsageAt kinds named OutOfMemory = Unit {0}

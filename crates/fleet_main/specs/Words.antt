@@ -1,5 +1,5 @@
 -- The command line of the program.
-use Rattle.std.specs.Prelude.{ℕ, List, true, Option, Some, None, codes}
+use Rattle.std.specs.Prelude.{ℕ, List, true, Some, codes}
 use Rattle.clap.specs.Words.{App, Rule, new_app, new_rule, with_rule, with_subcommand}
 use Rattle.clap.specs.Simple.{on_top}
 use Rattle.clap.specs.declared.builder.action.ArgAction.TheVariants.{Set}

@@ -6,7 +6,8 @@ ghost use Rattle.clap.specs.Kinds.{FailsBy};
 ghost use Rattle.clap.specs.Values.{kind_of};
 ghost use Rattle.clap.specs.Words.{Row, app_of, first_of, found_of, rows_of, rule_of, subcommand_of, subcommand_rows_of};
 ghost use Rattle.clap.specs.declared.builder.command.Command.TheViews.{out-Command as fields_of};
-ghost use Rattle.fleet_main.specs.Usages.{IsLineOf, IsRefusedAt, IsTold, IsUsageAt, IsUsageOf};
+ghost use Rattle.fleet_main.specs.Lines.{HasNoLineFeed, IsLineOf, first_lines, without_label};
+ghost use Rattle.fleet_main.specs.Usages.{IsRefusedAt, IsTold, IsUsageAt, IsUsageOf};
 ghost use Rattle.fleet_main.specs.Values.{HasValue, IsCommandOf, SpellsMicros, SpellsRange, identity_read};
 ghost use Rattle.fleet_main.specs.Words.{canon_app, create_app, dump_app, folders_app, list_app, load_app, mkdir_app, mkdir_place_app, named_rule, range_rule, streams_app, svnfleet_app, word_rule};
 ghost use Rattle.node_base.specs.Numbers.{rev_read};
@@ -451,7 +452,8 @@ fn usage_of(alloc: Global, error: &Error) -> Usage
 
 // What clap finds wrong, in a line: its first lines up to an empty one, which name what is missing.
 fn one_line(alloc: Global, text: &str) -> Result<String, AllocError>
-    ensures { IfOk result (λ line. (wrong : List ℕ) × IsLineOf wrong (string_bytes line)) }
+    ensures told { IfOk result (λ line. IsLineOf (without_label (first_lines text.now)) (string_bytes line)) }
+    ensures one { IfOk result (λ line. HasNoLineFeed (string_bytes line)) }
 {
     let joined = joined_lines(alloc, text)?;
     let wrong = without_label(joined.as_str());
@@ -459,7 +461,9 @@ fn one_line(alloc: Global, text: &str) -> Result<String, AllocError>
 }
 
 // What stands behind the label `error: `, where there is one.
-fn without_label(text: &str) -> &str {
+fn without_label(text: &str) -> &str
+    ensures { result.now ≡ without_label text.now }
+{
     match text.strip_prefix("error: ") {
         Some(rest) => rest,
         None => text,
@@ -467,7 +471,10 @@ fn without_label(text: &str) -> &str {
 }
 
 // The lines up to an empty one, with blanks between them.
-fn joined_lines(alloc: Global, text: &str) -> Result<String, AllocError> {
+fn joined_lines(alloc: Global, text: &str) -> Result<String, AllocError>
+    ensures joined { IfOk result (λ s. string_bytes s ≡ first_lines text.now) }
+    ensures one { IfOk result (λ s. HasNoLineFeed (string_bytes s)) }
+{
     let mut joined = String::new(alloc);
     for line in text.lines() {
         let line = line.trim();

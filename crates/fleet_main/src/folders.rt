@@ -1,10 +1,13 @@
 //! Folders, each the place of a repository.
-ghost use Rattle.std.specs.Prelude.{◌≡◌, ◌≢◌, ◌↔◌, ℕ, List, Some, None, Ok, Err, IfOk, IfErr, OnErr};
+ghost use Rattle.std.specs.Prelude.{◌≡◌, ◌≢◌, ◌↔◌, ℕ, List, Some, None, Ok, Err, IfOk, IfErr, IsErrAnd, OnErr, OnOk};
+ghost use Rattle.fleet_disk.specs.Host.{failures_of, HasFiles};
 ghost use Rattle.fleet_disk.specs.Image.{Image, no_bytes};
 ghost use Rattle.fleet_disk.specs.Rules.{Rose};
 ghost use Rattle.repo_core.specs.Repository.{fresh};
 ghost use Rattle.repo_store.specs.Journal.{ReopensTo};
 ghost use Rattle.repo_store.specs.Words.{disk_of, identity_of, repository_of, revisions_of};
+ghost use Rattle.fleet_main.specs.Above.{IsAbove};
+ghost use Rattle.fleet_main.specs.Host.{IsFaultOf, host_failures};
 ghost use Rattle.fleet_main.specs.Opening.{DiskFails, NotBegun, NotOpened, folder_refusal};
 
 use fleet_disk::{Disk, HostDisk};
@@ -69,14 +72,19 @@ pub struct HostFolders<'a, R> {
 
 impl<'a, R: Files> HostFolders<'a, R> {
     /// The host's folders, of which none has failed yet.
-    pub fn new(rt: &'a R) -> HostFolders<'a, R> {
+    pub fn new(rt: &'a R) -> HostFolders<'a, R>
+        ensures { host_failures result ≡ 0 }
+    {
         HostFolders { rt, failures: 0 }
     }
 
     // What an answer of the host is: a failure is counted, but for want of memory.
     fn answered<T: Drop>(&mut self, answer: io::Result<T>) -> Result<T, FolderFault>
         ensures ok { IfOk result (λ value. answer ≡ Ok value) }
+        ensures err { IfErr result (λ e. IsErrAnd answer (IsFaultOf e)) }
         ensures cause { IfErr result (λ e. e ≡ FolderFault.DeviceFailed → Rose self.old.failures self.new.failures) }
+        ensures uncounted { IfErr result (λ e. e ≡ FolderFault.OutOfMemory → self.new.failures ≡ self.old.failures) }
+        ensures unfailed { OnOk result (self.new.failures ≡ self.old.failures) }
     {
         match answer {
             Ok(value) => Ok(value),
@@ -113,11 +121,12 @@ impl<'a, R: Files> Folders for HostFolders<'a, R> {
 }
 
 // The folder that a folder is in, as its words say it.
-fn above(folder: &str) -> &str {
+fn above(folder: &str) -> &str
+    ensures { IsAbove folder.now result.now }
+{
     let folder = folder.trim_end_matches('/');
     match folder.rsplit_once('/') {
-        Some(("", _)) => "/",
-        Some((above, _)) => above,
+        Some((above, _)) => { if above.is_empty() { "/" } else { above } }
         None => ".",
     }
 }
@@ -140,7 +149,10 @@ fn make_folder<R: Files>(rt: &R, folder: &str) -> io::Result<()> {
 }
 
 // The files of a folder, both of which are made where they are missing.
-fn made<R: Files>(rt: &R, alloc: Global, folder: &str) -> io::Result<HostDisk<R::File>> {
+fn made<R: Files>(rt: &R, alloc: Global, folder: &str) -> io::Result<HostDisk<R::File>>
+    ensures unfailed { IfOk result (λ disk. failures_of disk ≡ 0) }
+    ensures files { IfOk result HasFiles }
+{
     make_folder(rt, folder)?;
     HostDisk::create(rt, alloc, folder)
 }
