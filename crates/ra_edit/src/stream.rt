@@ -1,6 +1,6 @@
 //! The items of a stream, one at a time.
 
-ghost use Rattle.std.specs.Prelude.{◌≡◌, ◌≢◌, reverse, ◌≤◌, ◌<◌, ◌+◌, ◌||◌, ℕ, List, [], ◌++◌, length, take, OnOk, OnErr, IfOk, IfErr, Err, true, false};
+ghost use Rattle.std.specs.Prelude.{◌≡◌, ◌≢◌, reverse, ◌≤◌, ◌<◌, ◌+◌, ◌||◌, ℕ, List, [], ◌++◌, length, take, OnOk, OnErr, IfOk, IfErr, Err, None, true, false};
 ghost use Rattle.std.specs.Io.KnownBytes.{Consumes, IsAtEnd, Keeps};
 ghost use Rattle.ra_item.specs.Streams.{is_failed, Refuses};
 ghost use Rattle.ra_item.specs.declared.fault.ItemFault.TheVariants as item;
@@ -109,7 +109,7 @@ impl<R: Read + Drop> ItemStream<R> {
         }
     }
 
-    /// The next whole top-level item, or none where the input ends between items.
+    /// The next whole top-level item, or none where the input ends between items; then the stream stands as before its first item.
     ///
     /// `Truncated` (7) where it ends inside one; `BadItem` (41), `TooDeep` (42) and `TooLong` (8) at a byte that no item has,
     /// behind the items before it; `PeerFailed` (49) where a read failed, and only there; `OutOfMemory` (70) where a growth
@@ -119,6 +119,7 @@ impl<R: Read + Drop> ItemStream<R> {
         ensures spent { is_spent self.old ≡ true → result ≡ Err edit.Failed }
         ensures later { OnErr result (is_spent self.new ≡ true) }
         ensures goes_on { OnOk result (is_spent self.new ≡ false) }
+        ensures ended { IfOk result (λ x. x ≡ None → Fresh self.new) }
         ensures failed { has_failed self.new ≡ (has_failed self.old || is_peer result) }
     {
         match self.fill() {
@@ -157,6 +158,7 @@ impl<R: Read + Drop> ItemStream<R> {
         ensures ready { IfOk result (λ b. b ≡ true → 0 < length self.new.ready.items) }
         ensures spent { is_spent self.old ≡ true → result ≡ Err edit.Failed }
         ensures goes_on { OnOk result (is_spent self.new ≡ false) }
+        ensures ended { IfOk result (λ b. b ≡ false → Fresh self.new) }
         ensures failed { has_failed self.new ≡ (has_failed self.old || is_peer result) }
     {
         if let Rest::Spent = self.rest {
@@ -180,6 +182,7 @@ impl<R: Read + Drop> ItemStream<R> {
         ensures fills { Fills R.remaining self.old self.new result }
         ensures count { OnOk result ((self.new.source.reads ≡ self.old.source.reads + 1) × (self.old.source.reads < 1099511627775)) }
         ensures goes_on { OnOk result (is_spent self.new ≡ false) }
+        ensures ended { IfOk result (λ b. b ≡ false → Fresh self.new) }
         ensures failed { has_failed self.new ≡ (has_failed self.old || is_peer result) }
     {
         let mut piece = [0u8; PIECE];
@@ -200,6 +203,7 @@ impl<R: Read + Drop> ItemStream<R> {
         ensures cut { IfErr result (λ e. (e ≡ edit.Truncated) × (is_between self.old.items ≡ false)) }
         ensures source { self.new.source ≡ self.old.source }
         ensures goes_on { is_spent self.new ≡ false }
+        ensures fresh { Fresh self.new }
     {
         let ended = mem::replace(&mut self.items, ItemReader::new(self.alloc));
         match ended.finish() {

@@ -58,7 +58,7 @@ impl Tokens {
 
     /// Gives out the next number, for what is opened at a place. Nothing where there is none left.
     pub fn give(&mut self, place: &Place) -> Option<u64>
-        ensures { MatchOption result (self.new ≡ self.old) (λ n. (n ≡ self.old.next) × (self.new.next ≡ n + 1) × ((d : ℕ) → newest self.new d ≡ (if d == length place.now.path.value then n else newest self.old d))) }
+        ensures { MatchOption result ((self.new ≡ self.old) × (18446744073709551615 ≤ self.old.next)) (λ n. (n ≡ self.old.next) × (self.new.next ≡ n + 1) × ((d : ℕ) → newest self.new d ≡ (if d == length place.now.path.value then n else newest self.old d))) }
     {
         let number = self.next;
         self.next = number.checked_add(1)?;
