@@ -111,8 +111,10 @@ fn tokens_are_refused(rt: HostRuntime) {
 
 #[test]
 fn shapes_are_refused(rt: HostRuntime) {
-    let cases: [(&[u8], usize); 14] = [
+    let cases: [(&[u8], usize); 16] = [
         (b"", 48),
+        (b"( target-rev ( 1 ) ) ( open-root ", 7),
+        (b"( target-rev ( 1 ) ) ) ", 41),
         (b"( target-rev ( 1 ) ) ", 48),
         (b"( target-rev ( 1 ) ) ( target-rev ( 1 ) ) ", 48),
         (b"( target-rev ( 65536 ) ) ", 48),

@@ -1,4 +1,4 @@
-//! Drives that are passed on, readers that fail, and a text of the greatest length.
+//! Drives that are passed on, readers and writers that fail, and a text of the greatest length.
 
 use crate::receive::receive;
 use crate::stream::ItemStream;
@@ -6,7 +6,7 @@ use crate::wire::WireEditor;
 use delta_editor::{Call, Recorder};
 use std::alloc::Global;
 use std::io;
-use std::io::{ErrorKind, Read};
+use std::io::{ErrorKind, Read, Write};
 use std::process::Abort;
 use std::rt::HostRuntime;
 use std::test::Fail;
@@ -94,6 +94,65 @@ fn a_reader_that_fails_is_told(rt: HostRuntime) {
     let alloc = rt.alloc();
     assert!(rt; all_break(alloc, FULL));
     assert!(rt; broken(alloc, FULL) == (None, Some(49)));
+}
+
+// A writer that takes so many writes and fails from then on.
+#[derive(Drop)]
+struct Failing<'a> {
+    bytes: &'a mut Vec<u8>,
+    left: usize,
+}
+
+impl<'a> Write for Failing<'a> {
+    fn write(&mut self, buf: &[u8]) -> io::Result<usize> {
+        if self.left == 0 {
+            return Err(io::Error::from(ErrorKind::BrokenPipe));
+        }
+        self.left -= 1;
+        self.bytes.extend_from_slice(buf)?;
+        Ok(buf.len())
+    }
+
+    fn flush(&mut self) -> io::Result<()> {
+        Ok(())
+    }
+}
+
+// What a drive is refused for where the writer behind its editor fails behind so many calls, and where its stream is read from
+// again. The writer has a beginning of the drive.
+fn unwritten(
+    rt: &impl Abort,
+    alloc: Global,
+    left: usize,
+) -> Result<(Option<u8>, Option<u8>), Fail> {
+    let mut bytes = Vec::new(alloc);
+    let out = Failing {
+        bytes: &mut bytes,
+        left,
+    };
+    let editor = WireEditor::new(alloc, out).expect(rt, "room");
+    let mut items = items_from(alloc, FULL, 7, false);
+    let first = receive(alloc, &mut items, editor).err();
+    let second = receive(alloc, &mut items, Recorder::new(alloc)).err();
+    if !FULL.starts_with(bytes.as_slice()) {
+        return Ok((None, None));
+    }
+    Ok((
+        first.map(|fault| fault.number()),
+        second.map(|fault| fault.number()),
+    ))
+}
+
+#[test]
+fn a_writer_that_fails_is_told(rt: HostRuntime) -> Result<(), Fail> {
+    let alloc = rt.alloc();
+    let mut fine = true;
+    for left in 0..20 {
+        fine = fine && unwritten(&rt, alloc, left)? == (Some(49), Some(32));
+    }
+    assert!(rt; fine);
+    assert!(rt; unwritten(&rt, alloc, 20)? == (None, Some(48)));
+    Ok(())
 }
 
 const FRONT: &[u8] =
