@@ -23,7 +23,7 @@ use Rattle.ra_edit.specs.Spelling.{window}
 use Rattle.ra_edit.specs.Streams.{reading, Reads}
 use Rattle.ra_edit.specs.declared.reading.Place.TheVariants as at
 use Rattle.ra_edit.specs.declared.reading.Reading.{Reading}
-use Rattle.ra_edit.proofs.Read.{window_read}
+use Rattle.ra_edit.proofs.Read.{window_read, window_pieces}
 use Rattle.ra_edit.proofs.Spelled.{window_is}
 use Rattle.ra_edit.proofs.Told.{both, not_true_false, shorter_other}
 
@@ -189,7 +189,7 @@ pieces_say t f os text r (part ∷ ps) items rest a w h then_say =
     let reads : reading (Reads text r) (window part) ≡ Reads (text ++ (part ++ [])) run.0 = ap (reading (Reads text r)) (sym (append-nil (window part))) ∙ run.3 ∙ ap (λ x. Reads (text ++ x) run.0) (sym (append-nil part)) in
     let behind_it : Awaits (text ++ (part ++ [])) run.0 = (run.1, omega (arith, run.2, w.1, l3, l4)) in
     Then (in_text t f text r os) (in_text t f (text ++ (part ++ [])) run.0 os) Ended (chunk (Text t) (window part)) (map (λ part. chunk (Text t) (window part)) ps ++ items) (call.TextPiece f part ∷ []) (map (call.TextPiece f) ps ++ rest)
-    (edits.Chunk t f os text (window part) r run.0 (part ∷ []) (chunk (Text t) (window part)) reads ([], [], refl))
+    (edits.Chunk t f os text (window part) r run.0 (part ∷ []) (chunk (Text t) (window part)) reads (sym (window_pieces (window part) part r w.0 (window_is part a.0 a.1) a.0 (omega (arith, w.1, h, l1, l2)))) ([], [], refl))
     (pieces_say t f os (text ++ (part ++ [])) run.0 ps items rest a.2 behind_it (subst (λ x. length x ≤ 1048576) (sym join) h) (λ new aw. subst (λ x. AllSay (in_text t f x new os) items rest Ended) (sym join) (then_say new (subst (λ x. Awaits x new) join aw))))
 
 -- ---- calls one after another

@@ -111,7 +111,7 @@ mutual
       Then (Inside os) (in_text t p [] begin (dirs opened ds)) Ended item (chunk (Text t) head ∷ spelled_after opened cs) (call.TextStart p ∷ []) (cut_all cs)
       (edits.TextStart t p (dirs opened ds) End item ([], [], refl))
       (Then (in_text t p [] begin (dirs opened ds)) (in_text t p [] ready (dirs opened ds)) Ended (chunk (Text t) head) (spelled_after opened cs) [] (cut_all cs)
-      (edits.Chunk t p (dirs opened ds) [] head begin ready [] (chunk (Text t) head) refl ([], [], refl))
+      (edits.Chunk t p (dirs opened ds) [] head begin ready [] (chunk (Text t) head) refl refl ([], [], refl))
       (text_say opened ds p [] ready cs f (subst (λ v. run (Within (OpenText v ∷ open_dirs ds)) cs ≡ Some After) (path_of_same q p r.0) r.1) d w.1 n x (omega (arith, k)) (refl, refl))))
   fresh_say opened ds p (call.CloseFile q sum ∷ cs) f e d w n x k =
       let os = named (token (number_of opened p)) p Fresh ∷ dirs opened ds in

@@ -333,7 +333,7 @@ says_free at to item calls (edits.DirProp t p os text name value v i is n s c) =
 says_free at to item calls (edits.FileProp t p held os text name value v i k n s c) =
     ap (by (Inside (named t p held ∷ os))) c.2 ∙ ap (λ b. if b then Some fault.BadToken else for_token t t None) (no_dir held k) ∙ by_token t None
 says_free at to item calls (edits.TextStart t p os sum i c) = ap (by (Inside (named t p Fresh ∷ os))) c.2 ∙ by_token t None
-says_free at to item calls (edits.Chunk t p os text bytes r after pieces i read c) =
+says_free at to item calls (edits.Chunk t p os text bytes r after pieces i read cut c) =
     ap (by (Inside (named t p (Within text r) ∷ os))) c.2 ∙ by_token t (of_stream (reading (Reads text r) bytes)) ∙ ap of_stream read
 says_free at to item calls (edits.TextEnd t p os text r i is c) = ap (by (Inside (named t p (Within text r) ∷ os))) c.2 ∙ by_token t (at_end (Within text r)) ∙ ends text r is
 says_free at to item calls (edits.CloseFresh t p os sum s i is c) = ap (by (Inside (named t p Fresh ∷ os))) c.2 ∙ by_token t None

@@ -1,10 +1,9 @@
 -- What items say is a function of them, and of where the commands stand.
-use Rattle.std.proofs.Common.{◌≡◌, ℕ, ◌==◌, Bool, true, false, not, ◌&&◌, List, [], ◌∷◌, ◌++◌, drop, length, Option, Some, None, Result, Ok, Err, refl, sym, ap, subst, ◌∙◌, append_assoc, inl, inr, codes, cond, arith}
+use Rattle.std.proofs.Common.{◌≡◌, ℕ, ◌==◌, Bool, true, false, not, ◌&&◌, List, [], ◌∷◌, ◌++◌, Option, Some, None, Result, Ok, Err, refl, sym, ap, subst, ◌∙◌, append_assoc, inl, inr, codes, cond, arith}
 use Rattle.std.proofs.lemmas.Bool.Decides.{nat_tests}
 use Rattle.std.specs.Prelude.{map, ⊤}
 use Rattle.std.specs.List.{concat, list_all, slice_split}
 use Rattle.std.specs.Option.{option_and_then}
-use Rattle.std.proofs.lemmas.List.{map-append}
 use Rattle.hex.specs.Hex.{decode_sized}
 use Rattle.ra_item.specs.Items.{Item, Items, Word, Number, Text, Nested, Then}
 use Rattle.node_base.specs.Path.{Path, Name, same_name}
@@ -17,9 +16,9 @@ use Rattle.delta_editor.specs.declared.call.Call.{Call}
 use Rattle.delta_editor.specs.declared.call.Call.TheVariants as call
 use Rattle.ra_edit.specs.Edits.{IsRevision, IsString, IsSum, IsSource, IsCommand, Held, Dir, Fresh, Within, Told, Named, named, is_free, At, Begun, Targeted, Inside, Announced, Ended, IsUnopened, last_calls, Says, AllSay, SpellsEdit}
 use Rattle.ra_edit.specs.Edits as edits
-use Rattle.ra_edit.specs.EditLaws.{each_byte, byte_by_byte, OneEdit, EndsOnce}
+use Rattle.ra_edit.specs.EditLaws.{OneEdit, EndsOnce}
 use Rattle.ra_edit.specs.Reading.{begin}
-use Rattle.ra_edit.specs.Streams.{Stream, Reads, Refuses, reading}
+use Rattle.ra_edit.specs.Streams.{Stream, Reads, Refuses, reading, pieces_in}
 use Rattle.node_base.proofs.ReadBack.{name_of_test}
 use Rattle.node_base.proofs.PathLemmas.{same_name_itself, name_of_same}
 use Rattle.ra_edit.proofs.Told.{both}
@@ -165,15 +164,12 @@ abbrev text_start : At → Items → Said
 text_start (Inside (o ∷ os)) ps = said (call.TextStart o.path ∷ []) (Inside (named o.token o.path (Within [] begin) ∷ os))
 text_start _ _ = None
 
-abbrev pub one : Path → ℕ → Call
-one p b = call.TextPiece p (b ∷ [])
-
-abbrev grown : Named → List Named → List ℕ → Stream → Said
-grown o os text (Reads all r) = said (map (one o.path) (drop (length text) all)) (Inside (named o.token o.path (Within all r) ∷ os))
-grown o os text (Refuses all f) = None
+abbrev grown : Named → List Named → List (List ℕ) → Stream → Said
+grown o os pieces (Reads all r) = said (map (call.TextPiece o.path) pieces) (Inside (named o.token o.path (Within all r) ∷ os))
+grown o os pieces (Refuses all f) = None
 
 abbrev taken : Named → List Named → List ℕ → Held → Said
-taken o os bytes (Within text r) = grown o os text (reading (Reads text r) bytes)
+taken o os bytes (Within text r) = grown o os (pieces_in r bytes) (reading (Reads text r) bytes)
 taken o os bytes _ = None
 
 abbrev chunk : At → Items → Said
@@ -267,27 +263,13 @@ here t p outer (o ∷ front) h =
 found : (t : List ℕ) (p : Path) (inner outer os : List Named) → os ≡ inner ++ named t p Dir ∷ outer → distinct os ≡ true → path_at t os ≡ Some p
 found t p inner outer os e d = subst (λ l. path_at t l ≡ Some p) (sym e) (here t p outer inner (ap distinct (sym e) ∙ d))
 
--- ---- pieces of a text
-
-pub bytes_join : (xs ys : List Call) → byte_by_byte (xs ++ ys) ≡ byte_by_byte xs ++ byte_by_byte ys
-bytes_join [] ys = refl
-bytes_join (x ∷ xs) ys = ap (λ l. each_byte x ++ l) (bytes_join xs ys) ∙ sym (append_assoc (each_byte x) (byte_by_byte xs) (byte_by_byte ys))
-
-pub pieces_bytes : (p : Path) (pieces : List (List ℕ)) → byte_by_byte (map (call.TextPiece p) pieces) ≡ map (one p) (concat pieces)
-pieces_bytes p [] = refl
-pieces_bytes p (x ∷ pieces) = ap (λ l. map (one p) x ++ l) (pieces_bytes p pieces) ∙ sym (map-append (one p) x (concat pieces))
-
-behind_text : (text more : List ℕ) → drop (length text) (text ++ more) ≡ more
-behind_text [] more = refl
-behind_text (b ∷ text) more = behind_text text more
-
 -- ---- an item says this and nothing else
 
 unopened : (P : At → Type 0) → P Begun → P Targeted → (at : At) → IsUnopened at → P at
 unopened P b t at (inl e) = subst P (sym e) b
 unopened P b t at (inr e) = subst P (sym e) t
 
-says_this : (at to : At) (item : Item) (calls : List Call) → Distinct at → Says at item calls to → by at item ≡ Some (byte_by_byte calls, to)
+says_this : (at to : At) (item : Item) (calls : List Call) → Distinct at → Says at item calls to → by at item ≡ Some (calls, to)
 says_this at to item calls d (edits.Target n i small c) = ap (by Begun) c.2
 says_this at to item calls d (edits.OpenRoot where_at base t b i un rev c) =
     let now = Inside (named t [] Dir ∷ []) in
@@ -323,10 +305,10 @@ says_this at to item calls d (edits.FileProp t p held os text name value v i fil
     ∙ name_said text name (λ n. said (call.FileProp p n (string_of v) ∷ []) (Inside (named t p held ∷ os))) read
     ∙ ap (λ x. said (call.FileProp p name x ∷ []) (Inside (named t p held ∷ os))) (string_says value v str)
 says_this at to item calls d (edits.TextStart t p os sum i c) = ap (by (Inside (named t p Fresh ∷ os))) c.2
-says_this at to item calls d (edits.Chunk t p os text bytes r new pieces i read c) =
+says_this at to item calls d (edits.Chunk t p os text bytes r new pieces i read cut c) =
     ap (by (Inside (named t p (Within text r) ∷ os))) c.2
-    ∙ ap (grown (named t p (Within text r)) os text) read
-    ∙ ap (λ l. said l (Inside (named t p (Within (text ++ concat pieces) new) ∷ os))) (ap (map (one p)) (behind_text text (concat pieces)) ∙ sym (pieces_bytes p pieces))
+    ∙ ap (grown (named t p (Within text r)) os (pieces_in r bytes)) read
+    ∙ ap (λ l. said (map (call.TextPiece p) l) (Inside (named t p (Within (text ++ concat pieces) new) ∷ os))) (sym cut)
 says_this at to item calls d (edits.TextEnd t p os text r i between c) = ap (by (Inside (named t p (Within text r) ∷ os))) c.2
 says_this at to item calls d (edits.CloseFresh t p os sum s i is c) =
     ap (by (Inside (named t p Fresh ∷ os))) c.2 ∙ ap (λ x. said (call.CloseFile p x ∷ []) (Inside os)) (sum_says sum s is)
@@ -337,11 +319,7 @@ says_this at to item calls d (edits.CloseEdit i c) = ap (by (Inside [])) c.2
 says_this at to item calls d (edits.CloseNone where_at i un c) = unopened (λ a. by a i ≡ said [] (Announced false)) (ap (by Begun) c.2) (ap (by Targeted) c.2) where_at un
 says_this at to item calls d (edits.Finish i c) = ap (by (Inside [])) c.2
 says_this at to item calls d (edits.FinishNone where_at i un c) = unopened (λ a. by a i ≡ said (last_calls false) Ended) (ap (by Begun) c.2) (ap (by Targeted) c.2) where_at un
-says_this at to item calls d (edits.FinishAnnounced root i c) = ap (by (Announced root)) c.2 ∙ ap (λ l. said l Ended) (last_bytes root)
-  where
-    last_bytes : (b : Bool) → last_calls b ≡ byte_by_byte (last_calls b)
-    last_bytes true = refl
-    last_bytes false = refl
+says_this at to item calls d (edits.FinishAnnounced root i c) = ap (by (Announced root)) c.2
 
 -- and tokens stay apart
 stays : (at to : At) (item : Item) (calls : List Call) → Distinct at → Says at item calls to → Distinct to
@@ -355,7 +333,7 @@ stays at to item calls d (edits.OpenFile u up os text t p base b i read free rev
 stays at to item calls d (edits.DirProp t p os text name value v i is read str c) = d
 stays at to item calls d (edits.FileProp t p held os text name value v i file read str c) = d
 stays at to item calls d (edits.TextStart t p os sum i c) = d
-stays at to item calls d (edits.Chunk t p os text bytes r new pieces i read c) = d
+stays at to item calls d (edits.Chunk t p os text bytes r new pieces i read cut c) = d
 stays at to item calls d (edits.TextEnd t p os text r i between c) = d
 stays at to item calls d (edits.CloseFresh t p os sum s i is c) = (both (is_free t os) (distinct os) d).1
 stays at to item calls d (edits.CloseTold t p os text sum s i sums is c) = (both (is_free t os) (distinct os) d).1
@@ -376,12 +354,11 @@ abbrev all_by : At → List Item → Said
 all_by at [] = Some ([], at)
 all_by at (x ∷ xs) = option_and_then (λ p. in_front p.0 (all_by p.1 xs)) (by at x)
 
-all_say_this : (at end : At) (items : List Item) (calls : List Call) → Distinct at → AllSay at items calls end → all_by at items ≡ Some (byte_by_byte calls, end)
+all_say_this : (at end : At) (items : List Item) (calls : List Call) → Distinct at → AllSay at items calls end → all_by at items ≡ Some (calls, end)
 all_say_this at end [] [] d (edits.Nothing x) = refl
 all_say_this at end all both_calls d (edits.Then from next last item items first rest said_first behind) =
     ap (option_and_then (λ p. in_front p.0 (all_by p.1 items))) (says_this from next item first d said_first)
-    ∙ ap (in_front (byte_by_byte first)) (all_say_this next last items rest (stays from next item first d said_first) behind)
-    ∙ ap (λ l. said l last) (sym (bytes_join first rest))
+    ∙ ap (in_front first) (all_say_this next last items rest (stays from next item first d said_first) behind)
 
 abbrev calls_of : Said → List Call
 calls_of None = []
@@ -419,5 +396,5 @@ none_behind calls (y ∷ ys) p e = cc
 
 pub ends_once : EndsOnce
 ends_once items more a b p q =
-    none_behind (byte_by_byte a) more (byte_by_byte b, Ended)
+    none_behind a more (b, Ended)
     (ap (then_all more) (sym (all_say_this Begun Ended items a tt p)) ∙ sym (all_append Begun items more) ∙ all_say_this Begun Ended (items ++ more) b tt q)

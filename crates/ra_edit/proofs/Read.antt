@@ -13,8 +13,8 @@ use Rattle.ra_edit.specs.declared.reading.Place.{Place}
 use Rattle.ra_edit.specs.declared.reading.Place.TheVariants as at
 use Rattle.ra_edit.specs.declared.reading.Reading.{Reading}
 use Rattle.ra_edit.specs.Reading.{Next, begin, is_between, digit, filled, head_digit, length_digit, more_data, instructed, judged, summed, within, instruction, one_less, given}
-use Rattle.ra_edit.specs.Streams.{Stream, Reads, Refuses, of_step, reading}
-use Rattle.ra_edit.proofs.Runs.{lt_true, lt_false, state, data_run}
+use Rattle.ra_edit.specs.Streams.{Stream, Reads, Refuses, of_step, reading, pieces_in}
+use Rattle.ra_edit.proofs.Runs.{lt_true, lt_false, state, data_run, data_pieces, no_pieces}
 
 both : (a b : Bool) → (a && b) ≡ true → (a ≡ true) × (b ≡ true)
 both true b e = (refl, e)
@@ -165,13 +165,14 @@ same_number a = grind (arith, nat_tests)
 judged_fits : (p : Place) (n size sum room : ℕ) (t : Bool) → (size == 0) ≡ t → n ≤ 102400 → n ≤ room → judged (state p 0 n size n sum room) ≡ (if t then summed (state p 0 n size n 0 room) else Next (state at.Instruction 0 n size n 0 room))
 judged_fits p n size sum room t e h k = rw (lt_false 102400 n h, lt_false room n k, e) refl
 
--- the instructions and the new data of a window
-behind_head : (text instructions new more : List ℕ) (n sum room : ℕ) (p : Place) → AreNew instructions n → length new ≡ n → n ≤ 102400 → n ≤ room → Behind (reading (of_step text (judged (state p 0 n (length instructions) n sum room))) (instructions ++ (new ++ more))) (text ++ new) (room - n) more
-behind_head text [] new more zero sum room p None e h k =
-    let none : new ≡ [] = nil_from_length new e in
-    let judgement : judged (state p 0 0 0 0 sum room) ≡ Next (state at.Between 0 0 0 0 0 room) = judged_fits p 0 0 sum room true refl h k in
-    (state at.Between 0 0 0 0 0 room, refl, omega arith, rw (none, judgement, append-nil) refl)
-behind_head text both_bytes new more both_sums sum room p (More bytes first m n before one) e h k =
+-- a reader in front of so much new data, and room for so much of the text
+abbrev pub IsReady : Reading → ℕ → ℕ → Type 0
+IsReady ready n room = (ready.place ≡ at.NewData) × (ready.fresh ≡ n) × (ready.room ≡ room)
+
+-- the instructions of a window that has new data
+before_data : (text instructions more : List ℕ) (n sum room : ℕ) (p : Place) → AreNew instructions n → 0 < n → n ≤ 102400 → n ≤ room → (ready : Reading) × IsReady ready n room × (reading (of_step text (judged (state p 0 n (length instructions) n sum room))) (instructions ++ more) ≡ reading (Reads text ready) more)
+before_data text [] more zero sum room p None some h k = absurd (omega (arith, some))
+before_data text both_bytes more both_sums sum room p (More bytes first m n before one) any h k =
     let size = length (bytes ++ first) in
     let s : size ≡ length bytes + length first = length-append bytes first in
     let q : 0 < length first = new_some first n one in
@@ -179,26 +180,36 @@ behind_head text both_bytes new more both_sums sum room p (More bytes first m n 
     let total = m + n in
     let judgement : judged (state p 0 total size total sum room) ≡ Next (state at.Instruction 0 total size total 0 room) = judged_fits p total size sum room false some h k in
     let begins = state at.Instruction 0 total size total 0 room in
-    let news = news_read text bytes m begins (first ++ (new ++ more)) before refl (omega (arith, h)) (omega (arith, s, q)) in
+    let news = news_read text bytes m begins (first ++ more) before refl (omega (arith, h)) (omega (arith, s, q)) in
     let mid = state at.Instruction 0 total (size - length bytes) total m room in
-    let last = new_read text mid first (new ++ more) n one (omega (arith, s)) in
+    let last = new_read text mid first more n one (omega (arith, s)) in
     let left : size - length bytes - length first ≡ 0 = omega (arith, s) in
     let some_new : (n == 0) ≡ false = nonzero n one.0 in
     let some_text : (total == 0) ≡ false = nonzero total (omega (arith, one.0)) in
     let ready = state at.NewData 0 total 0 total total room in
-    let goes : instructed (less (length first) mid) n ≡ Next ready = rw (left, some_new, more_within m n h, same_number total, some_text) refl in
-    let run = data_run text ready new more refl (omega (arith, e, one.0)) (λ _. omega (arith, e)) in
-    let end : (given (length new) ready).place ≡ at.Between = rw (lt_false (length new) total (omega (arith, e))) refl in (
-      given (length new) ready,
-      end,
-      omega (arith, e),
-      ap (λ s. reading (of_step text s) ((bytes ++ first) ++ (new ++ more))) judgement
-          ∙ ap (reading (Reads text begins)) (append_assoc bytes first (new ++ more))
+    let goes : instructed (less (length first) mid) n ≡ Next ready = rw (left, some_new, more_within m n h, same_number total, some_text) refl in (
+      ready,
+      (refl, refl, refl),
+      ap (λ s. reading (of_step text s) ((bytes ++ first) ++ more)) judgement
+          ∙ ap (reading (Reads text begins)) (append_assoc bytes first more)
           ∙ news
           ∙ last
-          ∙ ap (λ s. reading (of_step text s) (new ++ more)) goes
-          ∙ run,
+          ∙ ap (λ s. reading (of_step text s) more) goes,
     )
+
+-- the instructions and the new data of a window
+behind_head : (text instructions new more : List ℕ) (n sum room : ℕ) (p : Place) → AreNew instructions n → length new ≡ n → n ≤ 102400 → n ≤ room → Behind (reading (of_step text (judged (state p 0 n (length instructions) n sum room))) (instructions ++ (new ++ more))) (text ++ new) (room - n) more
+behind_head text [] new more zero sum room p None e h k =
+    let none : new ≡ [] = nil_from_length new e in
+    let judgement : judged (state p 0 0 0 0 sum room) ≡ Next (state at.Between 0 0 0 0 0 room) = judged_fits p 0 0 sum room true refl h k in
+    (state at.Between 0 0 0 0 0 room, refl, omega arith, rw (none, judgement, append-nil) refl)
+behind_head text instructions new more n sum room p (More bytes first m k before one) e h l =
+    let some : 0 < n = omega (arith, one.0) in
+    let front = before_data text instructions (new ++ more) n sum room p (More bytes first m k before one) some h l in
+    let ready = front.0 in
+    let run = data_run text ready new more front.1.0 (omega (arith, e, some)) (λ _. omega (arith, e, front.1.1)) in
+    let end : (given (length new) ready).place ≡ at.Between = rw (lt_false (length new) ready.fresh (omega (arith, e, front.1.1))) refl in
+    (given (length new) ready, end, omega (arith, e, front.1.2), front.2 ∙ run)
 
 regroup : (a b c d e f g more : List ℕ) → (a ++ (b ++ (c ++ (d ++ (e ++ (f ++ g)))))) ++ more ≡ a ++ (b ++ (c ++ (d ++ (e ++ (f ++ (g ++ more))))))
 regroup a b c d e f g more =
@@ -209,22 +220,39 @@ regroup a b c d e f g more =
     ∙ ap (λ t. d ++ t) (append_assoc e (f ++ g) more
     ∙ ap (λ t. e ++ t) (append_assoc f g more)))))
 
--- a window
-pub window_read : (text bytes new more : List ℕ) (r : Reading) → r.place ≡ at.Between → IsWindow bytes new → length new ≤ r.room → Behind (reading (Reads text r) (bytes ++ more)) (text ++ new) (r.room - length new) more
-window_read text bytes new more r e w h =
+-- the numbers in front of a window
+numbers_read : (text bytes new rest : List ℕ) (r : Reading) → r.place ≡ at.Between → (w : IsWindow bytes new) → reading (Reads text r) (w.offset ++ (w.source ++ (w.target ++ (w.size ++ (w.news ++ rest))))) ≡ reading (of_step text (judged (state (at.Head field.NewLength 0 0) 0 (length new) (length w.instructions) (length new) r.sum r.room))) rest
+numbers_read text bytes new rest r e w =
     let n = length new in
-    let rest = w.instructions ++ (new ++ more) in
-    let behind = behind_head text w.instructions new more n r.sum r.room (at.Head field.NewLength 0 0) w.make refl w.short h in
-    let numbers : reading (Reads text r) (bytes ++ more) ≡ reading (of_step text (judged (state (at.Head field.NewLength 0 0) 0 n (length w.instructions) n r.sum r.room))) rest =
-    ap (λ b. reading (Reads text r) (b ++ more)) w.joined
-    ∙ ap (reading (Reads text r)) (regroup w.offset w.source w.target w.size w.news w.instructions new more)
-    ∙ first_read text r w.offset (w.source ++ (w.target ++ (w.size ++ (w.news ++ rest)))) w.anywhere e w.is_offset
+    first_read text r w.offset (w.source ++ (w.target ++ (w.size ++ (w.news ++ rest)))) w.anywhere e w.is_offset
     ∙ number_read text r field.SourceLength w.source (w.target ++ (w.size ++ (w.news ++ rest))) 0 w.no_source
     ∙ number_read text (record r { source = 0 }) field.TargetLength w.target (w.size ++ (w.news ++ rest)) n w.is_target
     ∙ number_read text (record r { source = 0; target = n }) field.InstructionLength w.size (w.news ++ rest) (length w.instructions) w.is_size
     ∙ number_read text (record r { source = 0; target = n; instructions = length w.instructions }) field.NewLength w.news rest n w.is_news
-    ∙ refl in
+
+-- a window
+pub window_read : (text bytes new more : List ℕ) (r : Reading) → r.place ≡ at.Between → IsWindow bytes new → length new ≤ r.room → Behind (reading (Reads text r) (bytes ++ more)) (text ++ new) (r.room - length new) more
+window_read text bytes new more r e w h =
+    let rest = w.instructions ++ (new ++ more) in
+    let behind = behind_head text w.instructions new more (length new) r.sum r.room (at.Head field.NewLength 0 0) w.make refl w.short h in
+    let numbers : reading (Reads text r) (bytes ++ more) ≡ reading (of_step text (judged (state (at.Head field.NewLength 0 0) 0 (length new) (length w.instructions) (length new) r.sum r.room))) rest =
+    ap (λ b. reading (Reads text r) (b ++ more)) w.joined
+    ∙ ap (reading (Reads text r)) (regroup w.offset w.source w.target w.size w.news w.instructions new more)
+    ∙ numbers_read text bytes new rest r e w in
     (behind.0, behind.1, behind.2, numbers ∙ behind.3)
+
+-- a window's new data is one piece
+pub window_pieces : (bytes new : List ℕ) (r : Reading) → r.place ≡ at.Between → IsWindow bytes new → 0 < length new → length new ≤ r.room → pieces_in r bytes ≡ new ∷ []
+window_pieces bytes new r e w some h =
+    let front = before_data [] w.instructions [] (length new) r.sum r.room (at.Head field.NewLength 0 0) w.make some w.short h in
+    let ready = front.0 in
+    let head = w.offset ++ (w.source ++ (w.target ++ (w.size ++ (w.news ++ (w.instructions ++ []))))) in
+    let quiet : reading (Reads [] r) head ≡ Reads [] ready = numbers_read [] bytes new (w.instructions ++ []) r e w ∙ front.2 in
+    let run = data_pieces ready new [] front.1.0 some (λ _. omega (arith, front.1.1)) (λ z. absurd (omega (arith, z))) in
+    ap (pieces_in r) (w.joined ∙ sym (regroup w.offset w.source w.target w.size w.news w.instructions [] new))
+    ∙ no_pieces [] r ready head new quiet
+    ∙ ap (pieces_in ready) (sym (append-nil new))
+    ∙ run
 
 -- windows, one after another
 windows_read : (text bytes all more : List ℕ) (r : Reading) → r.place ≡ at.Between → AreWindows bytes all → length all ≤ r.room → Behind (reading (Reads text r) (bytes ++ more)) (text ++ all) (r.room - length all) more

@@ -16,7 +16,7 @@ use Rattle.ra_edit.specs.Edits as edits
 use Rattle.ra_edit.specs.Edits.{Held, Dir, Fresh, Within, Told, Named, named, At, Begun, Targeted, Inside, Announced, Ended, last_calls, Says, is_free, IsCommand, IsRevision, IsSource, IsString, IsUnopened, IsOpenDir}
 use Rattle.std.specs.List.{concat}
 use Rattle.ra_edit.specs.Reading.{begin}
-use Rattle.ra_edit.specs.Streams.{reading, Reads}
+use Rattle.ra_edit.specs.Streams.{reading, pieces_in, Reads}
 use Rattle.ra_edit.specs.Edits.{IsSum, SumsTo}
 use Rattle.ra_edit.specs.declared.reading.Reading.{Reading}
 use Rattle.ra_edit.specs.Receiving.{IsPath, IsPropName, Forms}
@@ -278,15 +278,15 @@ says_text_start fp f f' t r sum xs item none eg er hs tok cmd held os g =
     )
 
 pub says_chunk : {F : Type 0} (fp : F → Path) (f f' : OpenFile F) (t bytes : List ℕ) (r r' : Reading) (sum sum' : _) (pieces : List (List ℕ)) (item : Item) → f.given ≡ given.Begun r sum → f'.given ≡ given.Begun r' sum'
-    → ((text : List ℕ) → reading (Reads text r) bytes ≡ Reads (text ++ concat pieces) r') → ((text : List ℕ) → Holds sum text → Holds sum' (text ++ concat pieces)) → f.token.items ≡ t → IsCommand (codes "textdelta-chunk") (Text t ∷ Text bytes ∷ []) item
+    → ((text : List ℕ) → reading (Reads text r) bytes ≡ Reads (text ++ concat pieces) r') → ((text : List ℕ) → Holds sum text → Holds sum' (text ++ concat pieces)) → pieces ≡ pieces_in r bytes → f.token.items ≡ t → IsCommand (codes "textdelta-chunk") (Text t ∷ Text bytes ∷ []) item
     → (held : Held) (os : List Named) → GivenIs f.given held → (held' : Held) × GivenIs f'.given held' × Says (Inside (named f.token.items (fp f.baton) held ∷ os)) item (map (call.TextPiece (fp f.baton)) pieces) (Inside (named f.token.items (fp f.baton) held' ∷ os))
-says_chunk fp f f' t bytes r r' sum sum' pieces item eg eg' read hold tok cmd held os g =
+says_chunk fp f f' t bytes r r' sum sum' pieces item eg eg' read hold cut tok cmd held os g =
     let k = subst (λ x. GivenIs x held) eg g in
     let text = k.0 in
     let now = Within (text ++ concat pieces) r' in (
       now,
       subst (λ x. GivenIs x now) (sym eg') (text ++ concat pieces, refl, hold text k.2),
-      subst (λ x. Says (Inside (named f.token.items (fp f.baton) x ∷ os)) item (map (call.TextPiece (fp f.baton)) pieces) (Inside (named f.token.items (fp f.baton) now ∷ os))) (sym k.1) (edits.Chunk f.token.items (fp f.baton) os text bytes r r' pieces item (read text) (token_is (codes "textdelta-chunk") f.token.items t (Text bytes ∷ []) item tok cmd)),
+      subst (λ x. Says (Inside (named f.token.items (fp f.baton) x ∷ os)) item (map (call.TextPiece (fp f.baton)) pieces) (Inside (named f.token.items (fp f.baton) now ∷ os))) (sym k.1) (edits.Chunk f.token.items (fp f.baton) os text bytes r r' pieces item (read text) cut (token_is (codes "textdelta-chunk") f.token.items t (Text bytes ∷ []) item tok cmd)),
     )
 
 pub says_text_end : {F : Type 0} (fp : F → Path) (f f' : OpenFile F) (t sum : List ℕ) (item : Item) → TextEnds f.given sum → f'.given ≡ given.Whole sum → f.token.items ≡ t → IsCommand (codes "textdelta-end") (Text t ∷ []) item

@@ -1,7 +1,9 @@
 -- What was written is received as the same calls.
 use Rattle.std.proofs.Common.{◌≡◌, ◌⊎◌, ℕ, List, [], ◌∷◌, ◌++◌, length, Option, Some, None, refl, sym, ap, subst, ◌∙◌, append_assoc, append-nil, inl, inr, arith}
 use Rattle.std.specs.Prelude.{map}
-use Rattle.std.specs.List.{AllByRecursion}
+use Rattle.std.specs.List.{AllByRecursion, concat}
+use Rattle.std.proofs.lemmas.List.{map-append}
+use Rattle.node_base.specs.Path.{Path}
 use Rattle.ra_item.specs.Items.{Item, Within, row, spell, spell_all}
 use Rattle.ra_item.specs.Laws.{WrittenIsRead}
 use Rattle.ra_item.specs.Reading.{begin}
@@ -14,10 +16,21 @@ use Rattle.ra_edit.specs.EditLaws.{cut, cut_all, each_byte, byte_by_byte, Writte
 use Rattle.ra_edit.specs.ItemStreams.{behind, Takes}
 use Rattle.ra_edit.proofs.EditRead.{parts_join}
 use Rattle.ra_edit.proofs.EditSays.{written_is_edit}
-use Rattle.ra_edit.proofs.OneEdit.{one, bytes_join, pieces_bytes, one_edit, ends_once}
+use Rattle.ra_edit.proofs.OneEdit.{one_edit, ends_once}
 use Rattle.ra_edit.proofs.Streaming.{behind_reading}
 
 -- ---- pieces that were cut
+
+abbrev one : Path → ℕ → Call
+one p b = call.TextPiece p (b ∷ [])
+
+bytes_join : (xs ys : List Call) → byte_by_byte (xs ++ ys) ≡ byte_by_byte xs ++ byte_by_byte ys
+bytes_join [] ys = refl
+bytes_join (x ∷ xs) ys = ap (λ l. each_byte x ++ l) (bytes_join xs ys) ∙ sym (append_assoc (each_byte x) (byte_by_byte xs) (byte_by_byte ys))
+
+pieces_bytes : (p : Path) (pieces : List (List ℕ)) → byte_by_byte (map (call.TextPiece p) pieces) ≡ map (one p) (concat pieces)
+pieces_bytes p [] = refl
+pieces_bytes p (x ∷ pieces) = ap (λ l. map (one p) x ++ l) (pieces_bytes p pieces) ∙ sym (map-append (one p) x (concat pieces))
 
 one_cut : (c : Call) → byte_by_byte (cut c) ≡ each_byte c
 one_cut (call.TextPiece p piece) = pieces_bytes p (parts piece) ∙ ap (map (one p)) (parts_join (length piece) piece (omega arith))
@@ -99,4 +112,5 @@ written_is_received law n base body more after is items calls w t s =
     let streams : behind items (is f.0) ≡ behind whole (stream_of more) = sym f.1 ∙ items_read law [] whole more w.items ∙ ap (λ l. reading (Reads l begin) more) (sym (append-nil whole)) ∙ behind_reading whole (Reads [] begin) more in
     let fronts : items ++ items_of (is f.0) ≡ whole ++ items_of (stream_of more) = sym (items_behind items (is f.0)) ∙ ap items_of streams ∙ items_behind whole (stream_of more) in
     let same : items ≡ whole = alike items whole calls read s written (same_front items whole (items_of (is f.0)) (items_of (stream_of more)) fronts) in
-    one_edit whole calls read (subst (λ l. SpellsEdit l calls) same s) written ∙ ap (λ l. call.Target n ∷ call.OpenRoot base ∷ l) (cut_bytes body)
+    let exact : calls ≡ read = one_edit whole calls read (subst (λ l. SpellsEdit l calls) same s) written in
+    (exact, ap byte_by_byte exact ∙ ap (λ l. call.Target n ∷ call.OpenRoot base ∷ l) (cut_bytes body))

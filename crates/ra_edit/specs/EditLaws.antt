@@ -87,7 +87,7 @@ AreSameCalls one other = byte_by_byte one ≡ byte_by_byte other
 
 -- items are the calls of one edit at most
 abbrev pub OneEdit : Type 0
-OneEdit = (items : List Item) (one other : List Call) → SpellsEdit items one → SpellsEdit items other → AreSameCalls one other
+OneEdit = (items : List Item) (one other : List Call) → SpellsEdit items one → SpellsEdit items other → one ≡ other
 
 -- no edit begins with another
 abbrev pub EndsOnce : Type 0
@@ -105,6 +105,6 @@ pub record IsWritten (n : ℕ) (base : Option ℕ) (body : List Call) : Type 0 w
   pub count : length body < 2 ^ 64
   pub items : AllByRecursion Within (edit_items (call.Target n ∷ call.OpenRoot base ∷ body))
 
--- what was written is received as the same calls, however its bytes and texts are cut and whatever follows it
+-- what was written is received as the same calls, each piece of a text in its parts, however the bytes are cut and whatever follows them
 abbrev pub WrittenIsReceived : Type 0
-WrittenIsReceived = (n : ℕ) (base : Option ℕ) (body : List Call) (more : List ℕ) (after : Option (List ℕ)) (is : List ℕ → Stream) (items : List Item) (calls : List Call) → IsWritten n base body → Takes items (Some (edit_bytes (call.Target n ∷ call.OpenRoot base ∷ body) ++ more)) after stream_of is → SpellsEdit items calls → AreSameCalls calls (call.Target n ∷ call.OpenRoot base ∷ body)
+WrittenIsReceived = (n : ℕ) (base : Option ℕ) (body : List Call) (more : List ℕ) (after : Option (List ℕ)) (is : List ℕ → Stream) (items : List Item) (calls : List Call) → IsWritten n base body → Takes items (Some (edit_bytes (call.Target n ∷ call.OpenRoot base ∷ body) ++ more)) after stream_of is → SpellsEdit items calls → (calls ≡ call.Target n ∷ call.OpenRoot base ∷ cut_all body) × AreSameCalls calls (call.Target n ∷ call.OpenRoot base ∷ body)

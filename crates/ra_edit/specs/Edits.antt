@@ -11,7 +11,7 @@ use Rattle.node_base.specs.declared.node.Source.{Source}
 use Rattle.delta_editor.specs.declared.call.Call.{Call}
 use Rattle.delta_editor.specs.declared.call.Call.TheVariants as call
 use Rattle.ra_edit.specs.Commands.{list}
-use Rattle.ra_edit.specs.Streams.{reading, Reads}
+use Rattle.ra_edit.specs.Streams.{reading, pieces_in, Reads}
 use Rattle.ra_edit.specs.Reading.{begin, is_between}
 use Rattle.ra_edit.specs.declared.reading.Reading.{Reading}
 
@@ -87,7 +87,7 @@ last_calls false = call.OpenRoot None ∷ call.CloseDir [] ∷ call.CloseEdit �
 abbrev pub SumsTo : Option (List ℕ) → List ℕ → Type 0
 SumsTo sum text = IfSome sum (λ s. s ≡ md5 text)
 
--- what one item is behind others, and where the commands then stand: a chunk is pieces of a text, however they are cut
+-- what one item is behind others, and where the commands then stand: a chunk is pieces of a text, one for each window that has new data in it
 pub data Says : At → Item → List Call → At → Type 0 where
   Target : (n : ℕ) (item : Item) → n ≤ 65535 → IsCommand (codes "target-rev") (Number n ∷ []) item → Says Begun item (call.Target n ∷ []) Targeted
   OpenRoot : (at : At) (base : Option ℕ) (t : List ℕ) (b item : Item) → IsUnopened at → IsRevision base b → IsCommand (codes "open-root") (b ∷ Text t ∷ []) item → Says at item (call.OpenRoot base ∷ []) (Inside (named t [] Dir ∷ []))
@@ -99,7 +99,7 @@ pub data Says : At → Item → List Call → At → Type 0 where
   DirProp : (t : List ℕ) (p : Path) (os : List Named) (text : List ℕ) (name : Name) (value : Option (List ℕ)) (v item : Item) → IsOpenDir t p os → prop_name_read text ≡ Ok name → IsString value v → IsCommand (codes "change-dir-prop") (Text t ∷ Text text ∷ v ∷ []) item → Says (Inside os) item (call.DirProp p name value ∷ []) (Inside os)
   FileProp : (t : List ℕ) (p : Path) (held : Held) (os : List Named) (text : List ℕ) (name : Name) (value : Option (List ℕ)) (v item : Item) → (held ≡ Dir → ⊥) → prop_name_read text ≡ Ok name → IsString value v → IsCommand (codes "change-file-prop") (Text t ∷ Text text ∷ v ∷ []) item → Says (Inside (named t p held ∷ os)) item (call.FileProp p name value ∷ []) (Inside (named t p held ∷ os))
   TextStart : (t : List ℕ) (p : Path) (os : List Named) (sum : Items) (item : Item) → IsCommand (codes "apply-textdelta") (Text t ∷ Nested sum ∷ []) item → Says (Inside (named t p Fresh ∷ os)) item (call.TextStart p ∷ []) (Inside (named t p (Within [] begin) ∷ os))
-  Chunk : (t : List ℕ) (p : Path) (os : List Named) (text bytes : List ℕ) (r new : Reading) (pieces : List (List ℕ)) (item : Item) → reading (Reads text r) bytes ≡ Reads (text ++ concat pieces) new → IsCommand (codes "textdelta-chunk") (Text t ∷ Text bytes ∷ []) item → Says (Inside (named t p (Within text r) ∷ os)) item (map (call.TextPiece p) pieces) (Inside (named t p (Within (text ++ concat pieces) new) ∷ os))
+  Chunk : (t : List ℕ) (p : Path) (os : List Named) (text bytes : List ℕ) (r new : Reading) (pieces : List (List ℕ)) (item : Item) → reading (Reads text r) bytes ≡ Reads (text ++ concat pieces) new → pieces ≡ pieces_in r bytes → IsCommand (codes "textdelta-chunk") (Text t ∷ Text bytes ∷ []) item → Says (Inside (named t p (Within text r) ∷ os)) item (map (call.TextPiece p) pieces) (Inside (named t p (Within (text ++ concat pieces) new) ∷ os))
   TextEnd : (t : List ℕ) (p : Path) (os : List Named) (text : List ℕ) (r : Reading) (item : Item) → is_between r ≡ true → IsCommand (codes "textdelta-end") (Text t ∷ []) item → Says (Inside (named t p (Within text r) ∷ os)) item (call.TextEnd p ∷ []) (Inside (named t p (Told text) ∷ os))
   CloseFresh : (t : List ℕ) (p : Path) (os : List Named) (sum : Option (List ℕ)) (s item : Item) → IsSum sum s → IsCommand (codes "close-file") (Text t ∷ s ∷ []) item → Says (Inside (named t p Fresh ∷ os)) item (call.CloseFile p sum ∷ []) (Inside os)
   CloseTold : (t : List ℕ) (p : Path) (os : List Named) (text : List ℕ) (sum : Option (List ℕ)) (s item : Item) → SumsTo sum text → IsSum sum s → IsCommand (codes "close-file") (Text t ∷ s ∷ []) item → Says (Inside (named t p (Told text) ∷ os)) item (call.CloseFile p sum ∷ []) (Inside os)

@@ -39,7 +39,7 @@ pub fn written_is_edit()
     ensures { WrittenIsEdit }
 {}
 
-/// Items are the calls of one edit at most, but for where the pieces of texts are cut.
+/// Items are the calls of one edit at most.
 pub fn one_edit()
     ensures { OneEdit }
 {}
@@ -54,7 +54,8 @@ pub fn nothing_due()
     ensures { NothingDue }
 {}
 
-/// What was written is received as the same calls, however its bytes and its texts are cut and whatever follows it.
+/// What was written is received as the same calls, each piece of a text in its parts, however the bytes are cut and whatever
+/// follows them.
 pub fn written_is_received()
     ensures { WrittenIsReceived }
 {

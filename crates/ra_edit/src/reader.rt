@@ -2,7 +2,7 @@
 
 ghost use Rattle.std.specs.Prelude.{◌≡◌, ◌≤◌, ◌<◌, ◌++◌, ℕ, List, length, Ok, Err, IfOk, IfErr, OnErr, true, false, if◌then◌else◌};
 ghost use Rattle.ra_edit.specs.Reading.{begin, spent, is_between, is_failed};
-ghost use Rattle.ra_edit.specs.Streams.{reading, Reads, Refuses};
+ghost use Rattle.ra_edit.specs.Streams.{reading, pieces_in, with_piece, Reads, Refuses};
 ghost use Rattle.ra_edit.specs.declared.reading.Place.TheVariants as at;
 ghost use Rattle.ra_edit.specs.declared.fault.WindowFault.TheVariants.{BadWindow, Failed};
 
@@ -55,6 +55,7 @@ impl WindowReader {
     /// `Err` each later call answers `Failed` (32).
     pub fn next<'a>(&mut self, piece: &'a [u8]) -> Result<Stretch<'a>, WindowFault>
         ensures reads { is_failed self.old ≡ false → IfOk result (λ s. (text : List ℕ) → reading (Reads text self.old) piece.now ≡ reading (Reads (text ++ s.bytes.now) self.new) s.rest.now) }
+        ensures pieces { is_failed self.old ≡ false → IfOk result (λ s. pieces_in self.old piece.now ≡ with_piece s.bytes.now (pieces_in self.new s.rest.now)) }
         ensures on { IfOk result (λ s. (length s.rest.now ≤ length piece.now) × (0 < length piece.now → length s.rest.now < length piece.now)) }
         ensures refuses { is_failed self.old ≡ false → IfErr result (λ f. (text : List ℕ) → reading (Reads text self.old) piece.now ≡ Refuses text f) }
         ensures failed { is_failed self.old ≡ true → result ≡ Err Failed }
@@ -102,6 +103,7 @@ impl WindowReader {
         requires place { self.old.place ≡ at.NewData }
         requires some { 0 < length piece.now }
         ensures reads { (text : List ℕ) → reading (Reads text self.old) piece.now ≡ reading (Reads (text ++ result.0.now) self.new) result.1.now }
+        ensures pieces { pieces_in self.old piece.now ≡ with_piece result.0.now (pieces_in self.new result.1.now) }
         ensures on { length result.1.now < length piece.now }
     {
         let left = self.reading.fresh.max(1);

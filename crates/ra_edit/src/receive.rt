@@ -16,7 +16,7 @@ use std::alloc::Global;
 use std::io::Read;
 
 /// Receives one edit: shows its editor the calls that the next items spell, up to `finish-replay`, and gives what the edit
-/// comes to. The new data of each window is handed on as it comes, and summed.
+/// comes to. The new data of each window is handed on as it comes, what one chunk has of it as one piece, and summed.
 ///
 /// Refused: what the stream's `next` refuses; `BadShape` (48) for no command, one out of its place, and the end of the input
 /// between items; `BadToken` (46); `BadWindow` (44), `CopyWindow` (45) and `TooLong` (8) in a text; `BadSum` (6) at a

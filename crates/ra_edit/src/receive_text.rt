@@ -1,11 +1,11 @@
 //! New data of a text that is received, handed on as it comes.
 
-ghost use Rattle.std.specs.Prelude.{◌≡◌, ◌++◌, ℕ, List, map, IfErr, OnOk};
+ghost use Rattle.std.specs.Prelude.{◌≡◌, ◌++◌, [], ℕ, List, map, IfErr, OnOk};
 ghost use Rattle.std.specs.List.{concat};
 ghost use Rattle.md5.specs.Md5.{Holds};
 ghost use Rattle.delta_editor.specs.Calls.{Adds, Refused};
 ghost use Rattle.delta_editor.specs.declared.call.Call.TheVariants as call;
-ghost use Rattle.ra_edit.specs.Streams.{reading, Reads};
+ghost use Rattle.ra_edit.specs.Streams.{reading, pieces_in, with_piece, Reads};
 ghost use Rattle.ra_edit.specs.Refusals.{of_stream, RefusedFor, RefusesOne, IfOwn};
 ghost use Rattle.ra_edit.specs.declared.reading.Reading.{Reading};
 
@@ -21,7 +21,7 @@ fn take_stretch<E: Editor>(
     sum: &mut Md5,
     bytes: &[u8],
 ) -> Result<(), EditorFault>
-    ensures pieces { OnOk result ((pieces : List (List ℕ)) × (concat pieces ≡ bytes.now) × Adds E.shows editor.old editor.new (map (call.TextPiece (E.file_path file.old)) pieces)) }
+    ensures pieces { OnOk result ((pieces : List (List ℕ)) × (concat pieces ≡ bytes.now) × Adds E.shows editor.old editor.new (map (call.TextPiece (E.file_path file.old)) pieces) × (pieces ≡ with_piece bytes.now [])) }
     ensures sum { OnOk result ((text : List ℕ) → Holds sum.old text → Holds sum.new (text ++ bytes.now)) }
     ensures file { OnOk result (E.file_path file.new ≡ E.file_path file.old) }
     ensures refused { IfErr result (Refused E.shows E.over E.refuses editor.old (call.TextPiece (E.file_path file.old) bytes.now)) }
@@ -44,7 +44,7 @@ pub fn take_chunk<E: Editor>(
     bytes: &[u8],
 ) -> Result<(), CommandFault>
     ensures file { OnOk result (E.file_path file.new ≡ E.file_path file.old) }
-    ensures taken { OnOk result ((pieces : List (List ℕ)) × Adds E.shows editor.old editor.new (map (call.TextPiece (E.file_path file.old)) pieces) × ((text : List ℕ) → reading (Reads text reader.old) bytes.now ≡ Reads (text ++ concat pieces) reader.new) × ((text : List ℕ) → Holds sum.old text → Holds sum.new (text ++ concat pieces))) }
+    ensures taken { OnOk result ((pieces : List (List ℕ)) × Adds E.shows editor.old editor.new (map (call.TextPiece (E.file_path file.old)) pieces) × ((text : List ℕ) → reading (Reads text reader.old) bytes.now ≡ Reads (text ++ concat pieces) reader.new) × ((text : List ℕ) → Holds sum.old text → Holds sum.new (text ++ concat pieces)) × (pieces ≡ pieces_in reader.old bytes.now)) }
     ensures refused { IfErr result (λ f. (text : List ℕ) → RefusedFor f (of_stream (reading (Reads text reader.old) bytes.now))) }
     ensures own { IfErr result (IfOwn (λ f. (pieces : List (List ℕ)) × (rest : List ℕ) × (new : Reading) × ((text : List ℕ) → reading (Reads text reader.old) bytes.now ≡ reading (Reads (text ++ concat pieces) new) rest) × RefusesOne E.shows E.over E.refuses editor.old (map (call.TextPiece (E.file_path file.old)) pieces) f)) }
     ensures over { E.over editor.new ≡ E.over editor.old }

@@ -17,6 +17,6 @@ returns-clause-moved g c =
       calls = map (call.TextPiece (fp f.baton)) t.0;
       token = refl;
       path = c.in_ok-take_chunk.ensures.file;
-      says = says_chunk fp f f' c.args.token.items c.as_slice-3.result.now c.in-Begun.reader c.take_chunk.new.reader c.in-Begun.sum c.take_chunk.new.sum t.0 item c.in-Begun.is refl t.2 t.3 (sym c.as_slice.ensures.value ∙ c.is_same.ensures.is c.if-not-is_same.false ∙ c.as_slice-2.ensures.value) (subst (λ b. IsCommand (codes "textdelta-chunk") (Text c.args.token.items ∷ Text b ∷ []) item) (sym c.as_slice-3.ensures.value) k);
+      says = says_chunk fp f f' c.args.token.items c.as_slice-3.result.now c.in-Begun.reader c.take_chunk.new.reader c.in-Begun.sum c.take_chunk.new.sum t.0 item c.in-Begun.is refl t.2 t.3 t.4 (sym c.as_slice.ensures.value ∙ c.is_same.ensures.is c.if-not-is_same.false ∙ c.as_slice-2.ensures.value) (subst (λ b. IsCommand (codes "textdelta-chunk") (Text c.args.token.items ∷ Text b ∷ []) item) (sym c.as_slice-3.ensures.value) k);
       shown = t.1;
     }

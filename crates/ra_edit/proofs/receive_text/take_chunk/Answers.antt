@@ -7,8 +7,9 @@ use Rattle.ra_edit.proofs.OwnRefusals.{window_own, piece_later}
 use Rattle.std.specs.List.{concat}
 use Rattle.md5.specs.Md5.{Holds}
 use Rattle.ra_edit.specs.Reading.{is_failed}
-use Rattle.ra_edit.specs.Streams.{reading, Reads}
+use Rattle.ra_edit.specs.Streams.{reading, pieces_in, Reads}
 use Rattle.ra_edit.proofs.Steps.{pieces_join, pieces_added, not_failed}
+use Rattle.ra_edit.proofs.Runs.{pieces_more}
 use Rattle.ra_edit.proofs.receive_text.take_chunk.Goals as goal
 
 pub loop-rest-preserved : goal.loop-rest-preserved
@@ -24,6 +25,7 @@ loop-rest-preserved g c =
       λ text h. subst (λ t. Holds c.take_stretch.new.sum t) (pieces_join text i.0 q.0 s.bytes.now q.1) (c.in_ok-take_stretch.ensures.sum (text ++ concat i.0) (i.3 text h)),
       c.in_ok-take_stretch.ensures.file ∙ i.4,
       c.in_ok-take_stretch.ensures.over ∙ i.5,
+      i.6 ∙ pieces_more i.0 q.0 s.bytes.now _ (pieces_in c.next.new.self s.rest.now) (c.in_ok-stretch.ensures.pieces (not_failed (is_failed l.reader) c.next.result _ _ c.in_ok-stretch.was c.next.ensures.failed)) q.3,
     )
 
 pub returns-in_err-stretch-clause-refused : goal.returns-in_err-stretch-clause-refused

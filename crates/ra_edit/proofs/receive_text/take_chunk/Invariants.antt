@@ -3,7 +3,7 @@ use Rattle.std.specs.List.{concat}
 use Rattle.md5.specs.Md5.{Holds}
 use Rattle.delta_editor.specs.Calls.{Adds}
 use Rattle.delta_editor.specs.declared.call.Call.TheVariants as call
-use Rattle.ra_edit.specs.Streams.{reading, Reads}
+use Rattle.ra_edit.specs.Streams.{reading, pieces_in, Reads}
 use Rattle.ra_edit.proofs.receive_text.take_chunk.Given as goal
 
 abbrev pub invariant-loop-rest : goal.invariant-loop-rest
@@ -14,6 +14,7 @@ invariant-loop-rest g l =
     × ((text : List ℕ) → Holds l.fn.sum text → Holds l.sum (text ++ concat pieces))
     × (g.E.Editor.file_path l.file ≡ g.E.Editor.file_path l.fn.file)
     × (g.E.Editor.over l.editor ≡ g.E.Editor.over l.fn.editor)
+    × (pieces_in l.fn.reader l.fn.bytes ≡ pieces ++ pieces_in l.reader l.rest)
 
 abbrev pub decreases-loop-rest : goal.decreases-loop-rest
 decreases-loop-rest g l = length l.rest
