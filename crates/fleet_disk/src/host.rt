@@ -15,12 +15,20 @@ use std::rt::Files;
 ///
 /// A file that isn't there counts as empty until it is made. That such a disk keeps the rules is a premise that no
 /// contract shows, so what is said of an honest disk is said of it under that premise alone; that a refusal comes
-/// only where the count of failures rose holds of it as it is.
+/// only where the count of failures rose holds of it as it is. A sync syncs the files that were written or cut since the
+/// last one, and at first both, for what an earlier process left.
 #[derive(Drop)]
 pub struct HostDisk<F: Read + Write + Seek + OpenFile> {
-    journal: Option<F>,
-    gate: Option<F>,
+    journal: Option<HostFile<F>>,
+    gate: Option<HostFile<F>>,
     failures: u64,
+}
+
+// An open file, and whether nothing was written to it since a sync of it.
+#[derive(Drop)]
+struct HostFile<F> {
+    file: F,
+    is_synced: bool,
 }
 
 impl<F: Read + Write + Seek + OpenFile + Drop> HostDisk<F> {
@@ -50,8 +58,8 @@ impl<F: Read + Write + Seek + OpenFile + Drop> HostDisk<F> {
         // The names of new files last once the folder is synced.
         OpenOptions::new().read(true).open(rt, folder)?.sync_all()?;
         Ok(HostDisk {
-            journal: Some(journal),
-            gate: Some(gate),
+            journal: Some(opened(journal)),
+            gate: Some(opened(gate)),
             failures: 0,
         })
     }
@@ -121,8 +129,8 @@ impl<F: Read + Write + Seek + OpenFile + Drop> Disk for HostDisk<F> {
 
     fn cut(&mut self, file: DiskFile, len: u64) -> Result<(), DiskFault> {
         let cut = match file {
-            DiskFile::Journal => cut_to(&self.journal, len),
-            DiskFile::Gate => cut_to(&self.gate, len),
+            DiskFile::Journal => cut_to(&mut self.journal, len),
+            DiskFile::Gate => cut_to(&mut self.gate, len),
         };
         match cut {
             Ok(()) => Ok(()),
@@ -131,7 +139,7 @@ impl<F: Read + Write + Seek + OpenFile + Drop> Disk for HostDisk<F> {
     }
 
     fn sync(&mut self) -> Result<(), DiskFault> {
-        match sync_both(&self.journal, &self.gate) {
+        match sync_both(&mut self.journal, &mut self.gate) {
             Ok(()) => Ok(()),
             Err(_) => Err(self.fail()),
         }
@@ -139,11 +147,15 @@ impl<F: Read + Write + Seek + OpenFile + Drop> Disk for HostDisk<F> {
 }
 
 // Some bytes from an offset on; of a file that isn't there none.
-fn read_from<F: Read + Seek>(file: &mut Option<F>, at: u64, buf: &mut [u8]) -> io::Result<usize>
+fn read_from<F: Read + Seek>(
+    file: &mut Option<HostFile<F>>,
+    at: u64,
+    buf: &mut [u8],
+) -> io::Result<usize>
     ensures { IfOk result (λ n. n ≤ length buf.old) }
 {
     match file {
-        Some(file) => {
+        Some(HostFile { file, .. }) => {
             file.seek(SeekFrom::Start(at))?;
             file.read(buf)
         }
@@ -151,16 +163,21 @@ fn read_from<F: Read + Seek>(file: &mut Option<F>, at: u64, buf: &mut [u8]) -> i
     }
 }
 
-fn length_of<F: Seek>(file: &mut Option<F>) -> io::Result<u64> {
+fn length_of<F: Seek>(file: &mut Option<HostFile<F>>) -> io::Result<u64> {
     match file {
-        Some(file) => file.seek(SeekFrom::End(0)),
+        Some(HostFile { file, .. }) => file.seek(SeekFrom::End(0)),
         None => Ok(0),
     }
 }
 
-fn write_to<F: Write + Seek>(file: &mut Option<F>, at: u64, bytes: &[u8]) -> io::Result<()> {
+fn write_to<F: Write + Seek>(
+    file: &mut Option<HostFile<F>>,
+    at: u64,
+    bytes: &[u8],
+) -> io::Result<()> {
     match file {
-        Some(file) => {
+        Some(HostFile { file, is_synced }) => {
+            *is_synced = false;
             file.seek(SeekFrom::Start(at))?;
             file.write_all(bytes)
         }
@@ -169,26 +186,46 @@ fn write_to<F: Write + Seek>(file: &mut Option<F>, at: u64, bytes: &[u8]) -> io:
 }
 
 // A file that isn't there has nothing to cut.
-fn cut_to<F: OpenFile>(file: &Option<F>, len: u64) -> io::Result<()> {
+fn cut_to<F: OpenFile>(file: &mut Option<HostFile<F>>, len: u64) -> io::Result<()> {
     match file {
-        Some(file) => file.set_len(len),
+        Some(HostFile { file, is_synced }) => {
+            *is_synced = false;
+            file.set_len(len)
+        }
         None => Ok(()),
     }
 }
 
-fn sync_both<F: OpenFile>(journal: &Option<F>, gate: &Option<F>) -> io::Result<()> {
-    if let Some(file) = journal {
-        file.sync_data()?;
-    }
-    if let Some(file) = gate {
-        file.sync_data()?;
+// A file in which nothing changed since it was synced stands as it is.
+fn sync_file<F: OpenFile>(file: &mut Option<HostFile<F>>) -> io::Result<()> {
+    if let Some(HostFile { file, is_synced }) = file {
+        if !*is_synced {
+            file.sync_data()?;
+            *is_synced = true;
+        }
     }
     Ok(())
 }
 
-fn existing<R: Files>(rt: &R, path: &str) -> io::Result<Option<R::File>> {
+fn sync_both<F: OpenFile>(
+    journal: &mut Option<HostFile<F>>,
+    gate: &mut Option<HostFile<F>>,
+) -> io::Result<()> {
+    sync_file(journal)?;
+    sync_file(gate)
+}
+
+// What an earlier process wrote to it may not be synced.
+fn opened<F>(file: F) -> HostFile<F> {
+    HostFile {
+        file,
+        is_synced: false,
+    }
+}
+
+fn existing<R: Files>(rt: &R, path: &str) -> io::Result<Option<HostFile<R::File>>> {
     match OpenOptions::new().read(true).write(true).open(rt, path) {
-        Ok(file) => Ok(Some(file)),
+        Ok(file) => Ok(Some(opened(file))),
         Err(error) => {
             if error.kind() == ErrorKind::NotFound {
                 Ok(None)

@@ -155,7 +155,7 @@ fn nothing_asked() -> Asked {
     }
 }
 
-// A sync reaches both files, and making them the folder.
+// A first sync reaches both files, a later one those that were changed since, and making them the folder.
 #[test]
 fn what_a_folder_is_asked(rt: HostRuntime) -> Result<(), Fail> {
     let asked = nothing_asked();
@@ -163,10 +163,17 @@ fn what_a_folder_is_asked(rt: HostRuntime) -> Result<(), Fail> {
     assert_eq!(rt; asked.folder_syncs.get(), 1);
     disk.sync()?;
     assert_eq!(rt; asked.syncs.get(), 2);
+    disk.sync()?;
+    assert_eq!(rt; asked.syncs.get(), 2);
     disk.cut(DiskFile::Gate, 5)?;
     assert_eq!(rt; asked.cut_to.get(), 5);
+    disk.sync()?;
+    assert_eq!(rt; asked.syncs.get(), 3);
     disk.write_at(DiskFile::Journal, 9, b"abc")?;
     assert_eq!(rt; asked.sought.get(), 9);
+    disk.write_at(DiskFile::Gate, 9, b"abc")?;
+    disk.sync()?;
+    assert_eq!(rt; asked.syncs.get(), 5);
     assert_eq!(rt; disk.len(DiskFile::Journal)?, 7);
     Ok(())
 }
