@@ -6,16 +6,17 @@
 //! An entry is acknowledged once its gate is synced (`gate_log`).
 //!
 //! ```text
-//! let mut store = RepoStore::create(alloc, HostDisk::create(&rt, alloc, "folder")?, identity)?;
+//! let disk = HostDisk::create(&rt, alloc, "folder")?;
+//! let mut store = RepoStore::create(alloc, disk, identity).map_err(|(fault, _disk)| fault)?;
 //! let committed = store.commit(alloc, store.repo().head(), set, props, Moment::from_micros(now))?;
-//! let store = RepoStore::open(alloc, store.into_disk())?;
+//! let store = RepoStore::open(alloc, store.into_disk()).map_err(|(fault, _disk)| fault)?;
 //! let text = store.export(alloc, committed.number)?;
 //! ```
 //!
 //! At each moment since a call began, a stop leaves an image that reopens to the repository before the call or after it;
 //! once the call has answered Ok, to the one after it. An image reopens to one repository at most. Opening gives that one,
-//! with the sets of changes that its entries tell, so that each revision is exported as it was before; it answers 33 for the
-//! first entry that is damaged, and only there.
+//! with the sets of changes that its entries tell, so that after a stop between two calls each revision is exported as it was
+//! before; it answers 33 for the first entry that is damaged, and only there.
 #![tactic(auto)]
 
 pub use committed::Committed;

@@ -39,8 +39,8 @@ pub fn create_store<D: Disk + Drop>(
     }
 }
 
-/// Opens the repository that a disk holds, with the sets of changes that its entries tell. NoRepository (34) where it holds none, Damaged (33) with the first entry that is,
-/// and only there, DeviceFailed (31), OutOfMemory (70).
+/// Opens the repository that a disk holds, with the sets of changes that its entries tell. NoRepository (34) where it holds
+/// none, Damaged (33) with the first entry that is, and only there, DeviceFailed (31), OutOfMemory (70).
 pub fn open_store<D: Disk + Drop>(alloc: Global, disk: D) -> Result<RepoStore<D>, Refusal>
     ensures stands { D.honest disk → IfOk result (λ store. ReopensTo (identity_of store) (revisions_of store) (D.reads disk)) }
     ensures keeps { D.honest disk → IfOk result (λ store. Keeps (repository_of store) (D.reads disk)) }

@@ -358,7 +358,7 @@ fn load_stream<D: Disk + Drop, R: Read + Drop, W: Write + Drop>(
 ///
 /// A record of revision 0 gives its properties while there is no other revision; each other revision is the one after the
 /// head, else WrongNumber (16). A mirror is refused (24) before anything is read. A fault of the text (1 to 10), of a
-/// revision (2, 8, 10 to 17), of the store (31, 36, 70) or of a stream (49) ends the load, and what was loaded before it stays.
+/// revision (2, 8, 10 to 17), of the store (31, 32, 36, 70) or of a stream (49) ends the load, and what was loaded before it stays.
 pub fn run_load<D: Disk + Drop, R: Read + Drop, W: Write + Drop>(
     alloc: Global,
     store: &mut RepoStore<D>,
