@@ -15,8 +15,8 @@ use Rattle.sync_core.specs.declared.resting.Resting.{Resting}
 use Rattle.sync_core.specs.declared.resting.Resting.TheVariants as resting
 use Rattle.sync_core.specs.Names.{Number, Spelt, reaches}
 use Rattle.sync_core.specs.Mirror.{Standing, HasShape, TakeLock, ReleaseLock, PutProps, Look}
-use Rattle.sync_core.specs.Jobs.{Job, Locked, MayPutNumber, locks_with}
-use Rattle.sync_core.specs.Deeds.{heard, called, IsLawfulDeed, with_fetched}
+use Rattle.sync_core.specs.Jobs.{Job, Locked, MayPutNumber, locks_with, with_fetched}
+use Rattle.sync_core.specs.Deeds.{heard, called, IsLawfulDeed}
 use Rattle.sync_core.specs.Shapes.{shape_in}
 use Rattle.sync_core.specs.Identities.{is_identity}
 use Rattle.sync_core.specs.Endings.{released}

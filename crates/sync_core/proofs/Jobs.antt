@@ -6,7 +6,7 @@ use Rattle.node_base.specs.Props.{PropMap}
 use Rattle.dump_load.specs.declared.change.Change.{Change}
 use Rattle.sync_core.specs.declared.need.Need.TheVariants as need
 use Rattle.sync_core.specs.Mirror.{Mirror, standing_of, Need, Call, Init, TakeLock, StealLock, ReleaseLock, SetCopying, Commit, PutProps, SetMerged, ClearCopying, Look, holds, refusal, holder_after, granted}
-use Rattle.sync_core.specs.Jobs.{Fetched, Job, last_fetch, GivesSet, GivesMap, Lawful, done_by, refused_to, answered}
+use Rattle.sync_core.specs.Jobs.{Fetched, Job, last_fetch, GivesSet, GivesMap, Lawful, with_fetched, done_by, refused_to, answered}
 use Rattle.sync_core.specs.World.{Origin, moment_of, map_at, Question, Identity, Latest, Fetch, FetchProps, job_at, Makes, IsTrueAnswer, told, moment_for, stamped, copied_after}
 use Rattle.sync_core.proofs.Lists.{some_is, none_isnt, slice_get-push, slice_get-stored}
 use Rattle.sync_core.proofs.Kept.{refuse_if, JobsKept, IsFetched, has_url, is_equal, passes, no_need, not_false, holder_is}
@@ -82,7 +82,7 @@ jobs-hear o jobs holder copied seat job k own = jobs-set o jobs holder holder co
 pub fetched-now :
     (o : Origin) (holds_it : Type 0) (copied : ℕ → ℕ) (job : Job) (n : ℕ) (set : Option (List Change)) (p : PropMap)
     → JobKept o holds_it copied job → ((m : ℕ) → copied m ≤ moment_of o) → map_at o (moment_of o) n ≡ Some p → ((s : (List Change)) → set ≡ Some s → Makes o n s)
-    → JobKept o holds_it copied (record job { fetched = record { number = n; set = set; props = p; moment = moment_of o } ∷ job.fetched })
+    → JobKept o holds_it copied (with_fetched job n set p (moment_of o))
 fetched-now o holds_it copied job n set p k past there makes =
     record {
       fetched = λ m f. elim (n == m) as (λ b. (n == m) ≡ b → (if b then Some new else last_fetch job.fetched m) ≡ Some f → IsFetched o m f) [
@@ -103,12 +103,12 @@ pub kept-told : (o : Origin) (holds_it : Type 0) (copied : ℕ → ℕ) (job : J
 kept-told o holds_it copied job Identity k past t = record { fetched = k.fetched; later = k.later; identity = λ u e. sym (some_is o.identity u e) }
 kept-told o holds_it copied job Latest k past t = record { fetched = k.fetched; later = k.later; identity = k.identity }
 kept-told o holds_it copied job (Fetch n set) k past t =
-    elim (map_at o (moment_of o) n) as (λ s. map_at o (moment_of o) n ≡ s → JobKept o holds_it copied (option_map_or (λ p. record job { fetched = record { number = n; set = Some set; props = p; moment = moment_of o } ∷ job.fetched }) s job)) [
+    elim (map_at o (moment_of o) n) as (λ s. map_at o (moment_of o) n ≡ s → JobKept o holds_it copied (option_map_or (λ p. with_fetched job n (Some set) p (moment_of o)) s job)) [
       | None ↦ λ e. k
       | Some p ↦ λ e. fetched-now o holds_it copied job n (Some set) p k past e (λ s same. subst (λ q. Makes o n q) (some_is set s same) t)
     ] refl
 kept-told o holds_it copied job (FetchProps n) k past t =
-    elim (map_at o (moment_of o) n) as (λ s. map_at o (moment_of o) n ≡ s → JobKept o holds_it copied (option_map_or (λ p. record job { fetched = record { number = n; set = None; props = p; moment = moment_of o } ∷ job.fetched }) s job)) [
+    elim (map_at o (moment_of o) n) as (λ s. map_at o (moment_of o) n ≡ s → JobKept o holds_it copied (option_map_or (λ p. with_fetched job n None p (moment_of o)) s job)) [
       | None ↦ λ e. k
       | Some p ↦ λ e. fetched-now o holds_it copied job n None p k past e (λ s same. none_isnt s same)
     ] refl

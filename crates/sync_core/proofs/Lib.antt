@@ -2,6 +2,7 @@ pub mod Calls
 pub mod CopyLemmas
 pub mod Entries
 pub mod Gives
+pub mod Hearing
 pub mod Holder
 pub mod HolderCalls
 pub mod HolderRuns

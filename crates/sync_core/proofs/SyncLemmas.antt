@@ -18,8 +18,8 @@ use Rattle.sync_core.specs.declared.resting.Resting.{Resting}
 use Rattle.sync_core.specs.declared.resting.Resting.TheVariants as resting
 use Rattle.sync_core.specs.Names.{Number, Absent, Spelt, is_absent}
 use Rattle.sync_core.specs.Mirror.{Standing, HasShape, ReleaseLock, SetCopying, Commit, PutProps, SetMerged, ClearCopying, Look}
-use Rattle.sync_core.specs.Jobs.{Job, Locked, KnowsShape, MayPutNumber, is_sync_order, locks_with}
-use Rattle.sync_core.specs.Deeds.{heard, called, IsLawfulDeed, with_fetched}
+use Rattle.sync_core.specs.Jobs.{Job, Locked, KnowsShape, MayPutNumber, is_sync_order, locks_with, with_fetched}
+use Rattle.sync_core.specs.Deeds.{heard, called, IsLawfulDeed}
 use Rattle.sync_core.specs.Shapes.{shape_in}
 use Rattle.sync_core.specs.Identities.{is_identity}
 use Rattle.sync_core.specs.Endings.{released}

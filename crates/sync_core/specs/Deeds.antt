@@ -1,7 +1,5 @@
 -- What a job does, and what it has when it is answered.
-use Rattle.std.specs.Prelude.{ℕ, List, ◌∷◌, Option, Some, None}
-use Rattle.node_base.specs.Props.{PropMap}
-use Rattle.dump_load.specs.declared.change.Change.{Change}
+use Rattle.std.specs.Prelude.{ℕ, Some, None}
 use Rattle.sync_core.specs.declared.fault.SyncFault.{SyncFault}
 use Rattle.sync_core.specs.declared.fault.SyncFault.TheVariants as fault
 use Rattle.sync_core.specs.declared.action.Action.{Action}
@@ -10,7 +8,7 @@ use Rattle.sync_core.specs.declared.answer.Answer.{Answer}
 use Rattle.sync_core.specs.declared.answer.Answer.TheVariants as answer
 use Rattle.sync_core.specs.Mirror.{Call, Done, Seen}
 use Rattle.sync_core.specs.Calls.{call_of}
-use Rattle.sync_core.specs.Jobs.{Job, Lawful, answered, refused_to}
+use Rattle.sync_core.specs.Jobs.{Job, Lawful, with_identity, with_latest, with_fetched, answered, refused_to}
 
 -- a call of the mirror, a question to the master, or nothing more
 pub data Deed : Type 0 where
@@ -44,17 +42,14 @@ called job call (answer.Refused f) = refused_to job call
 called job call _ = job
 
 abbrev pub told_identity : Job → Answer → Job
-told_identity job (answer.Identity u) = record job { identity = Some u }
+told_identity job (answer.Identity u) = with_identity job u
 told_identity job _ = job
 
 abbrev pub told_latest : Job → Answer → Job
-told_latest job (answer.Latest n) = record job { latest = Some n }
+told_latest job (answer.Latest n) = with_latest job n
 told_latest job _ = job
 
--- what was fetched of a number, at that moment of the master
-abbrev pub with_fetched : Job → ℕ → Option (List Change) → PropMap → ℕ → Job
-with_fetched job n set props moment = record job { fetched = record { number = n; set = set; props = props; moment = moment } ∷ job.fetched }
-
+-- what is given of a number counts as the master has it at that moment
 abbrev pub given_revision : Job → ℕ → ℕ → Answer → Job
 given_revision job moment n (answer.Revision set props) = with_fetched job n (Some set) props moment
 given_revision job moment n _ = job

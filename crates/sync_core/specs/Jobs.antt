@@ -142,6 +142,16 @@ Lawful job (SetMerged n) = MayMerge job n
 Lawful job ClearCopying = MayClear job
 Lawful job Look = job.stage ≡ Locked
 
+-- what a job has once the master told its identity or its newest revision, or gave what it has of a number at that moment of it
+abbrev pub with_identity : Job → List ℕ → Job
+with_identity job u = record job { identity = Some u }
+
+abbrev pub with_latest : Job → ℕ → Job
+with_latest job n = record job { latest = Some n }
+
+abbrev pub with_fetched : Job → ℕ → Option (List Change) → PropMap → ℕ → Job
+with_fetched job n set props moment = record job { fetched = record { number = n; set = set; props = props; moment = moment } ∷ job.fetched }
+
 -- once its lock is answered, what it fetched and saw before counts no more
 abbrev pub locked : Job → Job
 locked job = record job { stage = Locked; fetched = []; looked = false }

@@ -5,6 +5,7 @@ pub mod Deeds
 pub mod Dues
 pub mod Endings
 pub mod Faults
+pub mod Hearing
 pub mod Identities
 pub mod InitFollows
 pub mod InitTable

@@ -9,7 +9,7 @@ use Rattle.dump_load.specs.Trees.{effect_tree}
 use Rattle.repo_core.specs.Repository.{head_of, root_alone}
 use Rattle.repo_core.specs.declared.entry.Entry.{Entry}
 use Rattle.sync_core.specs.Mirror.{Mirror, fresh, Call, Init, Commit, PutProps, refusal, entry_of, accepted, granted}
-use Rattle.sync_core.specs.Jobs.{Order, Job, begun, last_fetch, Lawful, answered, refused_to}
+use Rattle.sync_core.specs.Jobs.{Order, Job, begun, last_fetch, Lawful, with_identity, with_latest, with_fetched, answered, refused_to}
 
 -- the master so far: its identity, the trees of its revisions, and the maps of all revisions at each count of its steps
 pub record Origin : Type 0 where
@@ -127,10 +127,10 @@ MayBe w (At i what) = (room : Room) → slice_get w.rooms i ≡ Some room → Ma
 
 -- what a job has after the master's answer; a revision that the master hasn't is refused
 abbrev pub told : Origin → Job → Question → Job
-told o job Identity = record job { identity = Some o.identity }
-told o job Latest = record job { latest = Some (length o.trees - 1) }
-told o job (Fetch n set) = option_map_or (λ p. record job { fetched = record { number = n; set = Some set; props = p; moment = moment_of o } ∷ job.fetched }) (map_at o (moment_of o) n) job
-told o job (FetchProps n) = option_map_or (λ p. record job { fetched = record { number = n; set = None; props = p; moment = moment_of o } ∷ job.fetched }) (map_at o (moment_of o) n) job
+told o job Identity = with_identity job o.identity
+told o job Latest = with_latest job (length o.trees - 1)
+told o job (Fetch n set) = option_map_or (λ p. with_fetched job n (Some set) p (moment_of o)) (map_at o (moment_of o) n) job
+told o job (FetchProps n) = option_map_or (λ p. with_fetched job n None p (moment_of o)) (map_at o (moment_of o) n) job
 
 -- when the job fetched that number last
 abbrev pub moment_for : Job → ℕ → ℕ

@@ -1,15 +1,17 @@
 //! What holds of every mirror, whatever happens: any list of commits and property edits of the master, jobs that begin, ask,
 //! call, run out of memory and leave, readers, and stops of mirrors with the entry of a call in flight kept or not. Each
 //! function does nothing: its contract is the law.
+ghost use Rattle.sync_core.specs.Hearing.{MasterIsHeard, RefusalTellsNothing, MirrorIsHeard, WantIsHeard};
 ghost use Rattle.sync_core.specs.Law.{FreshStarts, EveryRun, EveryFreshRun, MomentsRise, StaysBlank, HolderGoesOn};
 ghost use Rattle.sync_core.specs.Replay.{CallsAreJournalled, CallsJoin};
 ghost use Rattle.sync_core.specs.Table.{NeedsAreMet, ShapesTurn};
 
-/// After every list of events each initialised mirror is a mirror of the master: its identity, a front of its trees, and each
-/// map as it was when its last copying was fetched. It rests in one of four shapes, nothing that was acknowledged or shown is
-/// missing, and its journal commits 1 to its head in order, each once. The moment of a revision's last copying never falls. A
-/// mirror that isn't initialized is as it was. A job whose lock was answered is never refused a lawful call for its turn or
-/// its lock, and its looks answer what its own accepted calls left.
+/// After every list of events, from mirrors as they were opened, each initialised mirror is a mirror of the master: its
+/// identity, a front of its trees, and each map as it was when its last copying was fetched. It rests in one of four shapes
+/// where it began in one or uninitialised. Nothing that was acknowledged or shown is missing, and its journal commits 1 to its
+/// head in order, each once. The moment of a revision's last copying never falls. A mirror that isn't initialised is as it was.
+/// A job whose lock was answered is never refused a lawful call for its turn or its lock, and its looks answer what its own
+/// accepted calls left.
 pub fn every_run()
     ensures mirrors { EveryRun }
     ensures fresh { EveryFreshRun }
@@ -17,6 +19,15 @@ pub fn every_run()
     ensures moments { MomentsRise }
     ensures blank { StaysBlank }
     ensures holder { HolderGoesOn }
+{}
+
+/// What an event leaves a job with is what a job hears that absorbs the answer: the master's as it is at that moment, the
+/// mirror's reply, or that memory is short. A question that is refused tells nothing, and is no event.
+pub fn answers_are_heard()
+    ensures master { MasterIsHeard }
+    ensures refused { RefusalTellsNothing }
+    ensures mirror { MirrorIsHeard }
+    ensures want { WantIsHeard }
 {}
 
 /// A call misses no need just where the table of the calls says so in words.
