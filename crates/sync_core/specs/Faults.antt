@@ -10,7 +10,7 @@ use Rattle.sync_core.specs.Names.{Number, Absent, Misspelt, Spelt, Huge}
 use Rattle.sync_core.specs.declared.fault.SyncFault.{SyncFault}
 use Rattle.sync_core.specs.declared.fault.SyncFault.TheVariants as fault
 
--- the number that is told of a property: none where it is absent or misspelt, or too large to be a revision's
+-- the number that is told of a property: none where it is absent or misspelt, or from 2^64 on
 abbrev pub spelt_in : Number → Option ℕ
 spelt_in Absent = None
 spelt_in Misspelt = None

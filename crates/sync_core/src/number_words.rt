@@ -52,7 +52,7 @@ impl Number {
 }
 
 impl Number {
-    /// The number that is spelt, where it can be a revision's by its size in bits; else there is none to tell.
+    /// The number that is spelt; None where there is none, or one from 2^64 on.
     pub fn spelt(self) -> Option<u64>
         ensures { result ≡ spelt_in self }
     {
@@ -70,7 +70,7 @@ impl fmt::Display for Number {
 
     ghost output = { λ n. Some (number_or_dash (spelt_in n)) };
 
-    /// The number that is spelt, and `-` where none is.
+    /// The number that is spelt, and `-` where none is, or one from 2^64 on.
     fn fmt<W: fmt::Write>(&self, f: &mut fmt::Formatter<W>) -> fmt::Result {
         match self.spelt() {
             Some(number) => write!(f, "{number}"),
