@@ -4,8 +4,10 @@ use crate::answer::Answer;
 use crate::call::MirrorCall;
 use crate::ending::Ending;
 use crate::fault::SyncFault;
+use crate::lock_token::LockToken;
 use crate::looking::look;
 use crate::mirror::PlainMirror;
+use crate::number::Number;
 use crate::reply::Reply;
 use crate::seat::Seat;
 use crate::state::{JobState, absorb, decide};
@@ -297,14 +299,14 @@ fn calls_in_and_out_of_turn(rt: HostRuntime) -> Result<(), Fail> {
     Ok(())
 }
 
-// What a sync job tells of a mirror whose properties say so.
+// The number and the text of the refusal with which a sync job ends whose mirror's properties say so; 0 where it goes on.
 fn told_of(
     rt: &impl Abort,
     alloc: Global,
     merged: &[u8],
     copying: Option<&[u8]>,
     head: u16,
-) -> Result<String, Fail> {
+) -> Result<(u8, String), Fail> {
     let mut own = one_prop(rt, alloc, b"svn:sync-from-url", b"/master");
     set(rt, alloc, &mut own, b"svn:sync-last-merged-rev", merged);
     if let Some(copying) = copying {
@@ -316,13 +318,10 @@ fn told_of(
     let job = absorb(job, Answer::Done);
     match job.ending() {
         Some(Ending::Refused(fault)) => {
-            let own = format!(in alloc; "{fault}")?;
-            let refusal = Refusal::from(fault);
-            let text = format!(in alloc; "{refusal}")?;
-            assert_eq!(rt; own.as_str(), text.as_str());
-            Ok(text)
+            let number = fault.number();
+            Ok((number, format!(in alloc; "{fault}")?))
         }
-        _ => Ok(format!(in alloc; "goes on")?),
+        _ => Ok((0, format!(in alloc; "goes on")?)),
     }
 }
 
@@ -330,17 +329,136 @@ fn told_of(
 fn numbers_that_fit_no_shape(rt: HostRuntime) -> Result<(), Fail> {
     let alloc = rt.alloc();
     let apart = told_of(&rt, alloc, b"3", Some(b"5"), 3)?;
-    assert_eq!(rt; apart.as_str(), "inconsistent: merged 3, copying 5, head 3");
+    assert!(rt; apart.0 == 57 && apart.1.as_str() == "inconsistent: merged 3, copying 5, head 3");
     let misspelt = told_of(&rt, alloc, b"07", None, 7)?;
-    assert_eq!(rt;
-        misspelt.as_str(),
-        "inconsistent: merged -, copying -, head 7"
+    assert!(rt;
+        misspelt.0 == 57 && misspelt.1.as_str() == "inconsistent: merged -, copying -, head 7"
     );
     let far = told_of(&rt, alloc, b"99999", None, 7)?;
-    assert_eq!(rt;
-        far.as_str(),
-        "inconsistent: merged 99999, copying -, head 7"
-    );
+    assert!(rt; far.0 == 57 && far.1.as_str() == "inconsistent: merged 99999, copying -, head 7");
+    Ok(())
+}
+
+// Whether a refusal has that number and that text, and so has the line of the program that it becomes.
+fn is_told(rt: &impl Abort, alloc: Global, fault: SyncFault, number: u8, text: &str) -> bool {
+    let own = format!(in alloc; "{fault}").expect(rt, "memory");
+    let numbered = fault.number() == number;
+    let refusal = Refusal::from(fault);
+    let told = format!(in alloc; "{refusal}").expect(rt, "memory");
+    numbered && refusal.number() == number && own.as_str() == text && told.as_str() == text
+}
+
+// A refusal of a call whose need isn't met.
+fn needs_are_told(rt: &impl Abort, alloc: Global) -> bool {
+    is_told(rt, alloc, SyncFault::NotInitialised, 51, "not initialized")
+        && is_told(
+            rt,
+            alloc,
+            SyncFault::AlreadyInitialised,
+            52,
+            "already initialized",
+        )
+        && is_told(
+            rt,
+            alloc,
+            SyncFault::NotEmpty,
+            53,
+            "the mirror has revisions",
+        )
+        && is_told(
+            rt,
+            alloc,
+            SyncFault::NotHolder,
+            59,
+            "the sync lock is not held",
+        )
+        && is_told(rt, alloc, SyncFault::OutOfTurn, 61, "call out of turn")
+}
+
+// One that names a token.
+fn tokens_are_told(rt: &impl Abort, alloc: Global) -> bool {
+    let held = LockToken {
+        bytes: Vec::from_slice(alloc, b"job").expect(rt, "memory"),
+    };
+    let running = LockToken {
+        bytes: Vec::from_slice(alloc, b"a").expect(rt, "memory"),
+    };
+    is_told(
+        rt,
+        alloc,
+        SyncFault::LockHeld(held),
+        54,
+        "the sync lock is held by job",
+    ) && is_told(
+        rt,
+        alloc,
+        SyncFault::HolderRunning(running),
+        55,
+        "the holder a is running",
+    )
+}
+
+// One with which a job ends.
+fn ends_are_told(rt: &impl Abort, alloc: Global) -> bool {
+    let text = format!(in alloc; "refused").expect(rt, "memory");
+    is_told(
+        rt,
+        alloc,
+        SyncFault::WrongMaster,
+        56,
+        "the source is another repository",
+    ) && is_told(
+        rt,
+        alloc,
+        SyncFault::NotYetCopied(RevNo::new(5)),
+        58,
+        "revision 5 is not copied yet",
+    ) && is_told(
+        rt,
+        alloc,
+        SyncFault::MasterFailed(text),
+        60,
+        "master: refused",
+    ) && is_told(
+        rt,
+        alloc,
+        SyncFault::Other(Refusal::Full),
+        23,
+        "no more revisions",
+    ) && is_told(rt, alloc, SyncFault::OutOfMemory, 70, "out of memory")
+}
+
+fn numbers_are_told(rt: &impl Abort, alloc: Global) -> bool {
+    let apart = SyncFault::Inconsistent {
+        merged: Number::Spelt(3),
+        copying: Number::Spelt(5),
+        head: RevNo::new(3),
+    };
+    let none = SyncFault::Inconsistent {
+        merged: Number::Misspelt,
+        copying: Number::Absent,
+        head: RevNo::new(7),
+    };
+    is_told(
+        rt,
+        alloc,
+        apart,
+        57,
+        "inconsistent: merged 3, copying 5, head 3",
+    ) && is_told(
+        rt,
+        alloc,
+        none,
+        57,
+        "inconsistent: merged -, copying -, head 7",
+    )
+}
+
+#[test]
+fn refusals_are_told_as_the_table_has_them(rt: HostRuntime) -> Result<(), Fail> {
+    let alloc = rt.alloc();
+    assert!(rt; needs_are_told(&rt, alloc) && tokens_are_told(&rt, alloc));
+    assert!(rt; ends_are_told(&rt, alloc) && numbers_are_told(&rt, alloc));
     Ok(())
 }
 
@@ -455,6 +573,36 @@ fn a_lock_is_told_with_its_token(rt: HostRuntime) -> Result<(), Fail> {
     assert_eq!(rt; plain.as_str(), "the sync lock is held by job");
     let odd = told_of_lock(&rt, alloc, b"a b\x01\xFFc\n")?;
     assert_eq!(rt; odd.as_str(), "the sync lock is held by a b??c?");
+    Ok(())
+}
+
+// What a seat is told that wants to steal the lock of a mirror while its holder runs: the lock has the holder's token, or was
+// taken away.
+fn told_of_holder(rt: &impl Abort, alloc: Global, is_there: bool) -> Result<(u8, String), Fail> {
+    let mut mirror = begun(rt, alloc, &master(rt, alloc, 0)?)?;
+    let own = token(rt, alloc, b"a");
+    let _ = say(alloc, &mut mirror, 1, &MirrorCall::TakeLock(&own));
+    if !is_there {
+        let url = one_prop(rt, alloc, b"svn:sync-from-url", b"/master");
+        mirror.repo.put_props(RevNo::ZERO, url)?;
+    }
+    let other = token(rt, alloc, b"b");
+    match mirror.step(alloc, Seat::new(2), &MirrorCall::StealLock(&other)) {
+        Ok(_) => Ok((0, format!(in alloc; "stolen")?)),
+        Err(fault) => {
+            let number = fault.number();
+            Ok((number, format!(in alloc; "{fault}")?))
+        }
+    }
+}
+
+#[test]
+fn a_running_holder_is_told_with_its_token(rt: HostRuntime) -> Result<(), Fail> {
+    let alloc = rt.alloc();
+    let held = told_of_holder(&rt, alloc, true)?;
+    assert!(rt; held.0 == 55 && held.1.as_str() == "the holder a is running");
+    let gone = told_of_holder(&rt, alloc, false)?;
+    assert!(rt; gone.0 == 55 && gone.1.as_str() == "the holder  is running");
     Ok(())
 }
 
