@@ -55,7 +55,7 @@ pub(crate) struct PlainMaster {
 }
 
 // The mirror: its numbers, its lock, for each revision the moment at which its properties were written at the master, and
-// what was acknowledged.
+// the greatest that was acknowledged and that a reader was given.
 #[derive(Drop)]
 pub(crate) struct PlainRoom {
     pub(crate) begun: bool,
@@ -65,6 +65,7 @@ pub(crate) struct PlainRoom {
     pub(crate) holder: Option<u64>,
     pub(crate) copies: Vec<u64>,
     pub(crate) acknowledged: u16,
+    pub(crate) shown: u16,
 }
 
 pub(crate) fn short(n: usize) -> u16 {

@@ -1,5 +1,6 @@
-//! A walk of random events over a master, a mirror and its jobs in memory, beside their plain re-computation: the master commits
-//! and is edited, jobs begin, ask, call, are refused and leave, readers come, and the mirror stops before or within a call.
+//! A walk of random events over a master, two mirrors and their jobs in memory, beside their plain re-computation: the master
+//! commits, is edited and fails, jobs begin, ask, call, are refused and leave, a reader is given a revision, and a mirror stops
+//! before or within a call.
 use crate::action::Action;
 use crate::answer::Answer;
 use crate::call::MirrorCall;
@@ -16,6 +17,7 @@ use dump_load::{Change, ChangeSet};
 use node_base::{Action as What, NodeKind, NodePath, PropName, PropValue, Props, RevNo, Text};
 use repo_core::Repo;
 use std::alloc::Global;
+use std::mem::swap;
 use std::process::Abort;
 use std::test::Fail;
 use uuid::Uuid;
@@ -33,17 +35,36 @@ struct Counts {
     wrong: bool,
     fine: u64,
     refused: u64,
+    failed: u64,
+    read: u64,
     within: u64,
     stolen: u64,
     copied: u64,
 }
 
+// What keeps a job from its answer: nothing, want of memory, or a master that fails where it is asked.
+#[derive(Clone, Copy, PartialEq, Eq)]
+enum Mishap {
+    None,
+    Memory,
+    Master,
+}
+
+// A mirror, and its re-computation.
+#[derive(Drop)]
+struct Place {
+    mirror: PlainMirror,
+    room: PlainRoom,
+}
+
+// The master, the mirror at which the present event happens, and the other one.
 #[derive(Drop)]
 struct World {
     master: Repo,
     mirror: PlainMirror,
     origin: PlainMaster,
     room: PlainRoom,
+    other: Place,
     counts: Counts,
 }
 
@@ -108,6 +129,12 @@ fn change(rt: &impl Abort, alloc: Global, action: What, moment: u64) -> ChangeSe
 }
 
 impl World {
+    // What happens next happens at the other mirror.
+    fn turns(&mut self) {
+        swap(&mut self.mirror, &mut self.other.mirror);
+        swap(&mut self.room, &mut self.other.room);
+    }
+
     fn master_commits(&mut self, rt: &impl Abort, alloc: Global) -> Result<(), Fail> {
         let moment = self.origin.moment.saturating_add(1);
         let head = self.master.head();
@@ -166,25 +193,36 @@ impl World {
         alloc: Global,
         seat: u64,
         job: &JobState,
-        starve: bool,
+        mishap: Mishap,
     ) -> Result<Answer, Fail> {
         let action = decide(job);
-        if starve {
+        if mishap == Mishap::Memory {
             return Ok(Answer::Refused(SyncFault::OutOfMemory));
         }
         match &action {
             Action::Call(call) => Ok(of_step(self.mirror.step(alloc, Seat::new(seat), call))),
-            other => self.master_answers(rt, alloc, other),
+            other => {
+                if mishap == Mishap::Master {
+                    return Ok(Answer::Failed(format!(in alloc; "refused")?));
+                }
+                self.master_answers(rt, alloc, other)
+            }
         }
     }
 
     // What the answer should be, with what it makes of the mirror.
-    fn expected(&mut self, seat: u64, heard: &Heard, deed: Deed, starve: bool) -> Result<u8, Fail> {
-        if starve {
+    fn expected(
+        &mut self,
+        seat: u64,
+        heard: &Heard,
+        deed: Deed,
+        mishap: Mishap,
+    ) -> Result<u8, Fail> {
+        if mishap == Mishap::Memory {
             return Ok(70);
         }
         if !is_call(deed) {
-            return Ok(0);
+            return Ok(if mishap == Mishap::Master { 60 } else { 0 });
         }
         let number = self.room.answer(deed);
         if number == 0 {
@@ -222,7 +260,7 @@ impl World {
         alloc: Global,
         seat: u64,
         runner: Runner,
-        starve: bool,
+        mishap: Mishap,
     ) -> Result<Runner, Fail> {
         let Runner { job, mut heard } = runner;
         let deed = {
@@ -231,10 +269,13 @@ impl World {
         };
         let as_wanted = deed == wanted(&heard, &self.room);
         self.check(as_wanted);
-        let answer = self.answer(rt, alloc, seat, &job, starve)?;
+        let answer = self.answer(rt, alloc, seat, &job, mishap)?;
         let number = number_of(&answer);
-        let expected = self.expected(seat, &heard, deed, starve)?;
+        let expected = self.expected(seat, &heard, deed, mishap)?;
         self.check(number == expected);
+        if number == 60 {
+            self.counts.failed = self.counts.failed.saturating_add(1);
+        }
         if number == 0 {
             heard.answered(deed, &self.origin, &self.room);
             self.acknowledges(deed);
@@ -265,7 +306,7 @@ impl World {
         }
     }
 
-    // A call that stands, though nobody is answered.
+    // A call that stands, though nobody is answered; a question makes nothing.
     fn calls_unheard(
         &mut self,
         rt: &impl Abort,
@@ -277,10 +318,25 @@ impl World {
             let action = decide(&runner.job);
             deed_of(&action)
         };
-        let _ = self.answer(rt, alloc, seat, &runner.job, false)?;
-        let _ = self.expected(seat, &runner.heard, deed, false)?;
+        if !is_call(deed) {
+            return Ok(());
+        }
+        let answer = self.answer(rt, alloc, seat, &runner.job, Mishap::None)?;
+        let number = number_of(&answer);
+        let expected = self.expected(seat, &runner.heard, deed, Mishap::None)?;
+        self.check(number == expected);
         self.counts.within = self.counts.within.saturating_add(1);
         Ok(())
+    }
+
+    // A reader is given a revision: the master's tree, and properties as they were copied.
+    fn is_read(&mut self, rt: &impl Abort, alloc: Global, n: u16) {
+        let given = self.mirror.repo.tree(RevNo::new(n)).is_some() && self.shows(rt, alloc, n);
+        self.check(given);
+        if self.room.shown < n {
+            self.room.shown = n;
+        }
+        self.counts.read = self.counts.read.saturating_add(1);
     }
 
     // The mirror stops and is opened again. A call that is in flight may stand, though nobody is answered.
@@ -302,8 +358,8 @@ impl World {
         Ok(())
     }
 
-    // Whether the mirror stands as the re-computation says, and a reader gets of a revision the master's tree, and properties
-    // as they were copied.
+    // Whether the mirror stands as the re-computation says, with all that was acknowledged or shown, and a revision has the
+    // master's tree, and properties as they were copied.
     fn agrees(&self, rt: &impl Abort, alloc: Global, n: u16) -> Result<bool, Fail> {
         let Some(own) = self.mirror.repo.props(RevNo::ZERO) else {
             return Ok(false);
@@ -322,7 +378,8 @@ impl World {
                 && standing.merged.spelt() == merged
                 && standing.copying.spelt() == room.copying.map(u64::from)
                 && self.mirror.holder == room.holder.map(Seat::new)
-                && room.acknowledged <= room.head()
+                && room.acknowledged <= standing.head.get()
+                && room.shown <= standing.head.get()
                 && self.shows(rt, alloc, n),
         )
     }
@@ -437,25 +494,20 @@ fn at_seat(
         world.leaves(seat, runner);
         return Ok(None);
     }
-    Ok(Some(world.step(rt, alloc, seat, runner, bits % 64 == 1)?))
+    let mishap = match bits % 64 {
+        1 => Mishap::Memory,
+        2 => Mishap::Master,
+        _ => Mishap::None,
+    };
+    Ok(Some(world.step(rt, alloc, seat, runner, mishap)?))
 }
 
-fn new_world(alloc: Global) -> Result<World, Fail> {
+fn new_place(alloc: Global) -> Result<Place, Fail> {
     let identity = Uuid::parse_str("6a1f0c3e-0000-4000-8000-000000000001")?;
-    let mut texts = Vec::new(alloc);
-    texts.push(0)?;
-    let mut marks = Vec::new(alloc);
-    marks.push(0)?;
     let mut copies = Vec::new(alloc);
     copies.push(0)?;
-    Ok(World {
-        master: Repo::new(alloc, identity)?,
+    Ok(Place {
         mirror: PlainMirror::new(Repo::new(alloc, identity)?),
-        origin: PlainMaster {
-            moment: 0,
-            texts,
-            marks,
-        },
         room: PlainRoom {
             begun: false,
             merged: 0,
@@ -464,11 +516,34 @@ fn new_world(alloc: Global) -> Result<World, Fail> {
             holder: None,
             copies,
             acknowledged: 0,
+            shown: 0,
         },
+    })
+}
+
+fn new_world(alloc: Global) -> Result<World, Fail> {
+    let identity = Uuid::parse_str("6a1f0c3e-0000-4000-8000-000000000001")?;
+    let mut texts = Vec::new(alloc);
+    texts.push(0)?;
+    let mut marks = Vec::new(alloc);
+    marks.push(0)?;
+    let Place { mirror, room } = new_place(alloc)?;
+    Ok(World {
+        master: Repo::new(alloc, identity)?,
+        mirror,
+        origin: PlainMaster {
+            moment: 0,
+            texts,
+            marks,
+        },
+        room,
+        other: new_place(alloc)?,
         counts: Counts {
             wrong: false,
             fine: 0,
             refused: 0,
+            failed: 0,
+            read: 0,
             within: 0,
             stolen: 0,
             copied: 0,
@@ -481,18 +556,29 @@ fn at_most(bits: u64, head: u16) -> u16 {
     ((bits % (u64::from(head) + 1)) & 0xFFFF) as u16
 }
 
-// What two seats' jobs do in a walk of so many events.
+// What two seats' jobs do at each of two mirrors in a walk of so many events.
 fn walk(rt: &impl Abort, alloc: Global, events: u64) -> Result<World, Fail> {
     let mut world = new_world(alloc)?;
     world.master_is_edited(rt, alloc, 0)?;
     let mut one = None;
     let mut two = None;
+    let mut three = None;
+    let mut four = None;
     let mut state = 7u64;
     for _ in 0..events {
         state = shuffled(state);
         let bits = state >> 40;
+        if bits & 0x10000 != 0 {
+            world.turns();
+            swap(&mut one, &mut three);
+            swap(&mut two, &mut four);
+        }
         match (state >> 33) % 64 {
-            0 => world.master_commits(rt, alloc)?,
+            0 => {
+                if bits & 1 == 0 {
+                    world.master_commits(rt, alloc)?;
+                }
+            }
             1 | 2 | 3 => {
                 let n = at_most(bits, world.origin.head());
                 world.master_is_edited(rt, alloc, n)?;
@@ -506,6 +592,10 @@ fn walk(rt: &impl Abort, alloc: Global, events: u64) -> Result<World, Fail> {
                 world.stops(rt, alloc, 2, &two, bits & 1 == 1)?;
                 one = None;
                 two = None;
+            }
+            6 => {
+                let n = at_most(bits, world.room.head());
+                world.is_read(rt, alloc, n);
             }
             n => {
                 if n % 2 == 0 {
@@ -525,10 +615,11 @@ fn walk(rt: &impl Abort, alloc: Global, events: u64) -> Result<World, Fail> {
 #[test]
 fn random_events_go_as_the_protocol_says(rt: HostRuntime) -> Result<(), Fail> {
     let alloc = rt.alloc();
-    let world = walk(&rt, alloc, 6000)?;
+    let world = walk(&rt, alloc, 8000)?;
     assert!(rt; !world.counts.wrong);
     let counts = &world.counts;
-    assert!(rt; world.room.head() > 50 && counts.fine > 50 && counts.refused > 50);
+    assert!(rt; world.room.head() > 50 && world.other.room.head() > 50 && counts.fine > 50);
+    assert!(rt; counts.refused > 50 && counts.failed > 10 && counts.read > 50);
     assert!(rt; counts.within > 10 && counts.stolen > 10 && counts.copied > 10);
     Ok(())
 }
