@@ -1,48 +1,49 @@
 -- Why no repository is begun or opened: by the fault of a folder, and by that of a store.
-use Rattle.std.proofs.Common.{◌≡◌, ◌≢◌, ℕ, List, Result, Ok, Err, inl, inr, refl, ap, ◌∙◌, subst, IfErr}
+use Rattle.std.proofs.Common.{◌≡◌, ◌≢◌, ◌≤◌, ◌↔◌, ◌⊎◌, ℕ, List, Result, Ok, Err, inl, inr, refl, ◌∙◌, subst, IfErr, IfOk}
 use Rattle.fleet_disk.specs.Image.{Image, no_bytes}
-use Rattle.fleet_disk.specs.Rules.{Rose}
+use Rattle.fleet_disk.specs.Rules.{LeavesOnly, Rose}
+use Rattle.fleet_disk.specs.declared.disk.Disk.{Ghosts}
 use Rattle.gate_log.specs.Standing.{HasNoEntry}
-use Rattle.gate_log.specs.declared.fault.LogFault.{LogFault}
-use Rattle.gate_log.specs.declared.fault.LogFault.TheVariants as log
 use Rattle.node_base.specs.declared.refusal.Refusal.{Refusal}
-use Rattle.repo_store.specs.Journal.{IsDamaged}
-use Rattle.repo_store.specs.Refusals.{IsCreateFault, IsOpenFault}
-use Rattle.repo_store.specs.declared.fault.StoreFault.{StoreFault}
-use Rattle.repo_store.specs.declared.fault.StoreFault.TheVariants.{Repo, Log}
-use Rattle.store_engines.specs.Refusals.{store_refusal}
+use Rattle.node_base.specs.declared.refusal.Refusal.TheVariants as refusal
+use Rattle.repo_store.specs.Journal.{IsDamaged, Keeps, ReopensAlike}
+use Rattle.repo_store.specs.Words.{disk_of, repository_of, HasFailed}
+use Rattle.repo_store.specs.declared.store.RepoStore.{RepoStore}
+use Rattle.store_engines.specs.Refusals.{IsCreateRefusal, IsOpenRefusal}
+use Rattle.fleet_main.specs.Doing.{IsOpenedIn}
 use Rattle.fleet_main.specs.Opening.{DiskFails, NotBegun, NotOpened, folder_refusal, begin_fails, begin_no_memory, there_already, open_fails, open_no_memory, nameless, no_entry, damaged}
 use Rattle.fleet_main.specs.declared.folders.FolderFault.{FolderFault}
 use Rattle.fleet_main.specs.declared.folders.FolderFault.TheVariants as fault
 
-pub store_not_begun : {D : Type 0} (failures : D → ℕ) (honest : Type 0) (held : Image) (given later : D) (f : StoreFault) (e : Refusal) → e ≡ store_refusal f → IsCreateFault f
-    → (f ≡ Log log.DeviceFailed → Rose (failures given) (failures later)) → (honest → f ≡ Log log.ThereAlready → held ≢ no_bytes)
-    → (before now : ℕ) → NotBegun (DiskFails failures before now) honest held e
-store_not_begun failures honest held given later (Repo f) e same may device there before now = absurd may
-store_not_begun failures honest held given later (Log f) e same (inl h) device there before now =
-    begin_fails (same ∙ ap (λ x. store_refusal (Log x)) h) (inr (given, later, device (ap (λ x. Log x) h)))
-store_not_begun failures honest held given later (Log f) e same (inr (inl h)) device there before now =
-    there_already (same ∙ ap (λ x. store_refusal (Log x)) h) (λ o. there o (ap (λ x. Log x) h))
-store_not_begun failures honest held given later (Log f) e same (inr (inr h)) device there before now =
-    begin_no_memory (same ∙ ap (λ x. store_refusal (Log x)) h)
+-- by the refusal of a beginning or an opening
+begin_refused : {D : Type 0} (failures : D → ℕ) (honest : Type 0) (held : Image) (given later : D) (e : Refusal) → IsCreateRefusal e → (e ≡ refusal.DeviceFailed → Rose (failures given) (failures later))
+    → (honest → e ≡ refusal.ThereAlready → held ≢ no_bytes) → (before now : ℕ) → NotBegun (DiskFails failures before now) honest held e
+begin_refused failures honest held given later e (inl h) device there before now = begin_fails h (inr (given, later, device h))
+begin_refused failures honest held given later e (inr (inl h)) device there before now = there_already h (λ o. there o h)
+begin_refused failures honest held given later e (inr (inr h)) device there before now = begin_no_memory h
 
-log_not_opened : {D : Type 0} (failures : D → ℕ) (honest : Type 0) (folder : List ℕ) (held : Image) (given later : D) (f : LogFault) (e : Refusal) → e ≡ store_refusal (Log f) → IsOpenFault (Log f)
-    → (Log f ≡ Log log.DeviceFailed → Rose (failures given) (failures later)) → (honest → (entry : ℕ) → Log f ≡ Log (log.Damaged entry) → IsDamaged entry held)
-    → (honest → Log f ≡ Log log.NoRepository → HasNoEntry held) → (before now : ℕ) → NotOpened (DiskFails failures before now) honest folder held e
-log_not_opened failures honest folder held given later log.DeviceFailed e same may device bad missing before now = open_fails same (inr (given, later, device refl))
-log_not_opened failures honest folder held given later log.Failed e same may device bad missing before now = absurd may
-log_not_opened failures honest folder held given later (log.Damaged entry) e same may device bad missing before now = damaged entry same (λ o. bad o entry refl)
-log_not_opened failures honest folder held given later log.NoRepository e same may device bad missing before now = no_entry same (λ o. missing o refl)
-log_not_opened failures honest folder held given later log.ThereAlready e same may device bad missing before now = absurd may
-log_not_opened failures honest folder held given later log.LogFull e same may device bad missing before now = absurd may
-log_not_opened failures honest folder held given later log.OutOfMemory e same may device bad missing before now = open_no_memory same
+open_refused : {D : Type 0} (failures : D → ℕ) (honest : Type 0) (folder : List ℕ) (held : Image) (given later : D) (e : Refusal) → IsOpenRefusal e → (e ≡ refusal.DeviceFailed → Rose (failures given) (failures later))
+    → (honest → (entry : ℕ) → e ≡ refusal.Damaged entry → IsDamaged entry held) → (honest → e ≡ refusal.NoRepository → HasNoEntry held)
+    → (before now : ℕ) → NotOpened (DiskFails failures before now) honest folder held e
+open_refused failures honest folder held given later e (inl h) device bad missing before now = open_fails h (inr (given, later, device h))
+open_refused failures honest folder held given later e (inr (inl (entry, h))) device bad missing before now = damaged entry h (λ o. bad o entry h)
+open_refused failures honest folder held given later e (inr (inr (inl h))) device bad missing before now = no_entry h (λ o. missing o h)
+open_refused failures honest folder held given later e (inr (inr (inr h))) device bad missing before now = open_no_memory h
 
-pub store_not_opened : {D : Type 0} (failures : D → ℕ) (honest : Type 0) (folder : List ℕ) (held : Image) (given later : D) (f : StoreFault) (e : Refusal) → e ≡ store_refusal f → IsOpenFault f
-    → (f ≡ Log log.DeviceFailed → Rose (failures given) (failures later)) → (honest → (entry : ℕ) → f ≡ Log (log.Damaged entry) → IsDamaged entry held)
-    → (honest → f ≡ Log log.NoRepository → HasNoEntry held) → (before now : ℕ) → NotOpened (DiskFails failures before now) honest folder held e
-store_not_opened failures honest folder held given later (Repo f) e same may device bad missing before now = absurd may
-store_not_opened failures honest folder held given later (Log f) e same may device bad missing before now =
-    log_not_opened failures honest folder held given later f e same may device bad missing before now
+pub store_not_begun : {T D : Type 0} (r : Result T Refusal) (G : Ghosts D) (disk : D) → IfErr r IsCreateRefusal
+    → IfErr r (λ e. (left : D) × (G.honest disk ↔ G.honest left) × (G.failures disk ≤ G.failures left) × (e ≡ refusal.DeviceFailed → Rose (G.failures disk) (G.failures left)))
+    → (G.honest disk → IfErr r (λ e. e ≡ refusal.ThereAlready → G.reads disk ≢ no_bytes))
+    → (before now : ℕ) → IfErr r (NotBegun (DiskFails G.failures before now) (G.honest disk) (G.reads disk))
+store_not_begun (Ok x) G disk may device there before now = tt
+store_not_begun (Err e) G disk may device there before now = begin_refused G.failures (G.honest disk) (G.reads disk) disk device.0 e may device.3 there before now
+
+pub store_not_opened : {T D : Type 0} (r : Result T Refusal) (G : Ghosts D) (disk : D) (folder : List ℕ) → IfErr r IsOpenRefusal
+    → IfErr r (λ e. (left : D) × (G.honest disk ↔ G.honest left) × (G.failures disk ≤ G.failures left) × (e ≡ refusal.DeviceFailed → Rose (G.failures disk) (G.failures left))
+    × (G.honest disk → LeavesOnly G.clock G.left_since disk left (λ image. G.may_leave disk image ⊎ ReopensAlike (G.reads disk) image)))
+    → (G.honest disk → (entry : ℕ) → IfErr r (λ e. e ≡ refusal.Damaged entry → IsDamaged entry (G.reads disk))) → (G.honest disk → IfErr r (λ e. e ≡ refusal.NoRepository → HasNoEntry (G.reads disk)))
+    → (before now : ℕ) → IfErr r (NotOpened (DiskFails G.failures before now) (G.honest disk) folder (G.reads disk))
+store_not_opened (Ok x) G disk folder may device bad missing before now = tt
+store_not_opened (Err e) G disk folder may device bad missing before now = open_refused G.failures (G.honest disk) folder (G.reads disk) disk device.0 e may device.3 bad missing before now
 
 -- the folder gives no disk
 pub folder_not_begun : {D : Type 0} (failures : D → ℕ) (honest : Type 0) (held : Image) (f : FolderFault) (e : Refusal) (before now : ℕ) → e ≡ folder_refusal f
@@ -77,3 +78,22 @@ pub all_opened_over : {T : Type 0} (r : Result T Refusal) (fails honest given : 
     → IfErr r (NotOpened fails given folder read) → IfErr r (NotOpened fails honest folder held)
 all_opened_over (Ok x) fails honest given folder held read o s h = tt
 all_opened_over (Err e) fails honest given folder held read o s h = opened_over fails honest given folder held read e o s h
+
+-- a store that is opened on the disk that a folder gives
+pub opened_in : {D : Type 0} (G : Ghosts D) (r : Result (RepoStore D G) Refusal) (honest : Type 0) (held : Image) (disk : D) → (honest → G.honest disk) → (honest → G.reads disk ≡ held)
+    → (G.honest disk → IfOk r (λ store. Keeps (repository_of store) (G.reads disk))) → IfOk r (λ store. ¬ HasFailed store) → IfOk r (λ store. G.honest disk ↔ G.honest (disk_of store))
+    → (G.honest disk → IfOk r (λ store. LeavesOnly G.clock G.left_since disk (disk_of store) (λ image. G.may_leave disk image ⊎ ReopensAlike (G.reads disk) image)))
+    → IfOk r (IsOpenedIn G honest held)
+opened_in G (Ok store) honest held disk o s keeps working rules moment = record {
+  given = disk;
+  reads = λ h. (o h, s h);
+  keeps = λ h. subst (Keeps (repository_of store)) (s h) (keeps (o h));
+  rules = λ h. rules.0 (o h);
+  working = working;
+  any_moment = λ h. subst (λ read. LeavesOnly G.clock G.left_since disk (disk_of store) (λ image. G.may_leave disk image ⊎ ReopensAlike read image)) (s h) (moment (o h));
+}
+opened_in G (Err e) honest held disk o s keeps working rules moment = tt
+
+pub honest_ok : {T : Type 0} (r : Result T Refusal) (honest given : Type 0) (P : T → Type 0) → (honest → given) → IfOk r (λ x. given ↔ P x) → honest → IfOk r P
+honest_ok (Ok x) honest given P o h k = h.0 (o k)
+honest_ok (Err e) honest given P o h k = tt

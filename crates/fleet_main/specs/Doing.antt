@@ -1,20 +1,27 @@
 -- What a command does, and why it doesn't.
-use Rattle.std.specs.Prelude.{◌≡◌, ◌⊎◌, ◌<◌, ℕ, Bool, true, false, List, length, Option, IfSome, string_bytes}
-use Rattle.std.specs.Io.KnownBytes.{Appends, Keeps}
+use Rattle.std.specs.Prelude.{◌≡◌, ◌≢◌, ◌⊎◌, ◌<◌, ℕ, Bool, true, false, List, [], length, Option, IfSome, Result, Ok, Err, string_bytes}
+use Rattle.std.specs.List.{filter}
+use Rattle.std.specs.Io.KnownBytes.{Appends, Keeps as HandedOn}
 use Rattle.jiff.specs.Types.{DateTime}
+use Rattle.dump_text.specs.Streams.{dump, records_of}
 use Rattle.fleet_disk.specs.Image.{Image, no_bytes}
+use Rattle.fleet_disk.specs.Rules.{LeavesOnly}
 use Rattle.fleet_disk.specs.declared.disk.Disk.{Ghosts}
+use Rattle.node_base.specs.Path.{Path}
+use Rattle.node_base.specs.PathText.{path_read}
 use Rattle.node_base.specs.declared.refusal.Refusal.{Refusal}
 use Rattle.node_base.specs.declared.refusal.Refusal.TheVariants as refusal
-use Rattle.repo_core.specs.Repository.{Repository, fresh}
-use Rattle.repo_store.specs.Journal.{ReopensTo}
-use Rattle.repo_store.specs.Words.{repository_of}
+use Rattle.repo_core.specs.Repository.{fresh}
+use Rattle.repo_store.specs.Journal.{Keeps, ReopensAlike}
+use Rattle.repo_store.specs.Words.{disk_of, repository_of, revisions_of, HasFailed}
 use Rattle.repo_store.specs.declared.store.RepoStore.{RepoStore}
 use Rattle.fleet_engines.specs.declared.product.Product.TheVariants as product
+use Rattle.fleet_engines.specs.Grouping.{is_no_identity}
 use Rattle.fleet_engines.specs.Runs.{Accepted, Refused}
-use Rattle.store_engines.specs.Commits.{IsCommitted, NotCommitted}
+use Rattle.store_engines.specs.Commits.{directory_entry, IsCommitted, NotCommitted}
+use Rattle.store_engines.specs.Devices.{Serves}
 use Rattle.store_engines.specs.Dumps.{dump_of, DumpStops}
-use Rattle.store_engines.specs.Loads.{Loaded, Refused as LoadRefused}
+use Rattle.store_engines.specs.Loads.{Loaded, ServesOne, ServesRecords, Refused as LoadRefused}
 use Rattle.store_engines.specs.Mirrors.{is_mirror}
 use Rattle.store_engines.specs.Ranges.{count_wanted, first_wanted, last_wanted}
 use Rattle.store_engines.specs.declared.range.RevRange.{RevRange}
@@ -22,54 +29,84 @@ use Rattle.fleet_main.specs.Opening.{NotBegun, NotOpened}
 use Rattle.fleet_main.specs.declared.command_line.Command.{Command}
 use Rattle.fleet_main.specs.declared.command_line.Command.TheVariants.{List as ListIt, Canon, Create, Load, Dump, MakeDir}
 
--- the files of a folder hold that repository, if its disk is honest
-abbrev pub StandsIn : Type 0 → Image → Repository → Type 0
-StandsIn honest held x = honest → ReopensTo x.identity x.revisions held
+-- a store is opened over what a folder's files held: on a disk that the folder gave, whose bytes these were, and that keeps the rules if the folders do
+pub record IsOpenedIn {D : Type 0} (G : Ghosts D) (honest : Type 0) (held : Image) (store : RepoStore D G) : Type 0 where
+  pub given : D
+  pub reads : honest → G.honest given × (G.reads given ≡ held)
+  -- the store has the repository that those bytes keep, with the sets of changes that they tell
+  pub keeps : honest → Keeps (repository_of store) held
+  pub rules : honest → G.honest (disk_of store)
+  pub working : ¬ HasFailed store
+  -- a stop at any moment of the opening leaves what it could leave before, or what reopens to all that the bytes reopen to
+  pub any_moment : honest → LeavesOnly G.clock G.left_since given (disk_of store) (λ image. G.may_leave given image ⊎ ReopensAlike held image)
 
--- some repository that stands there has P, and what it is later, or its store then
-abbrev pub OfStanding : {S : Type 0} → Type 0 → Image → (Repository → S → Type 0) → Type 0
-OfStanding {S} honest held P = (x : Repository) × (y : S) × StandsIn honest held x × P x y
+-- a stop leaves what keeps the store's repository
+abbrev pub IsKept : {D : Type 0} {G : Ghosts D} → Type 0 → RepoStore D G → Type 0
+IsKept {G} honest store = honest → G.honest (disk_of store) × ((left : Image) → G.may_leave (disk_of store) left → Keeps (repository_of store) left)
 
--- a repository is begun: the files held nothing, what a stop may leave of the disk reopens to revision 0 alone with the identity, and nothing is written
-abbrev pub IsBegun : {D : Type 0} → (D → Image → Type 0) → Type 0 → Image → List ℕ → Option (List ℕ) → Option (List ℕ) → Type 0
-IsBegun {D} may_leave honest held identity before now =
-    (honest → held ≡ no_bytes) × ((disk : D) × (honest → (left : Image) → may_leave disk left → ReopensTo identity (fresh identity).revisions left)) × (now ≡ before)
+-- the store that is opened there, and what it is later, have P
+abbrev pub OfStanding : {D : Type 0} (G : Ghosts D) → Type 0 → Image → (RepoStore D G → RepoStore D G → Type 0) → Type 0
+OfStanding {D} G honest held P = (old : RepoStore D G) × (new : RepoStore D G) × IsOpenedIn G honest held old × P old new
 
--- the repository that stands there, which is no mirror, is loaded with the whole dump that was read
-abbrev pub IsLoadedFrom : Option (List ℕ) → Option (List ℕ) → Option (List ℕ) → Repository → Repository → Type 0
-IsLoadedFrom bytes before now x y = (is_mirror x.revisions ≡ false) × IfSome bytes (λ read. Loaded x read y before now)
+-- a repository is begun: the files held nothing, and a store has revision 0 alone with the identity, which a stop leaves
+abbrev pub IsBegun : {D : Type 0} → Ghosts D → Type 0 → Image → List ℕ → Type 0
+IsBegun {D} G honest held identity = (honest → held ≡ no_bytes) × ((store : RepoStore D G) × (repository_of store ≡ fresh identity) × IsKept honest store)
 
--- it is dumped, the revisions that are wanted
-abbrev pub IsDumped : Option RevRange → Option (List ℕ) → Option (List ℕ) → Repository → Repository → Type 0
-IsDumped range before now x y =
-    (y ≡ x) × (last_wanted x range < length x.revisions) × Appends before now (dump_of x (first_wanted range) (count_wanted x range))
+-- what a load of these bytes did to a store and its device
+abbrev pub ServesLoad : {D : Type 0} {G : Ghosts D} → Option (List ℕ) → RepoStore D G → RepoStore D G → Result (Unit {0}) Refusal → Type 0
+ServesLoad bytes old new result = Serves old new result × IfSome bytes (λ read. ServesRecords (filter is_no_identity (records_of (dump read))) old new result [])
 
--- a mirror isn't loaded; and of another one what was read is refused
-abbrev pub NotLoadedFrom : {D : Type 0} (G : Ghosts D) → Option (List ℕ) → Option (List ℕ) → Option (List ℕ) → Bool → Refusal → Repository → RepoStore D G → Type 0
-NotLoadedFrom G bytes before now failed e x store =
-    (is_mirror x.revisions ≡ false → IfSome bytes (λ read. LoadRefused x read store before now failed e))
-    × (is_mirror x.revisions ≡ true → (e ≡ refusal.ReadOnly) × (repository_of store ≡ x) × (now ≡ before))
+-- the store, whose repository is no mirror, is loaded with the whole dump that was read, and a stop leaves that
+abbrev pub IsLoadedFrom : {D : Type 0} {G : Ghosts D} → Type 0 → Option (List ℕ) → Option (List ℕ) → Option (List ℕ) → RepoStore D G → RepoStore D G → Type 0
+IsLoadedFrom honest bytes before now old new =
+    (is_mirror (revisions_of old) ≡ false) × IfSome bytes (λ read. Loaded (repository_of old) read (repository_of new) before now)
+    × ServesLoad bytes old new (Ok tt) × IsKept honest new
 
--- the directory isn't committed to it
-abbrev pub NotCommittedTo : {D : Type 0} (G : Ghosts D) → List ℕ → List ℕ → DateTime → Option (List ℕ) → Option (List ℕ) → Bool → Refusal → Repository → RepoStore D G → Type 0
-NotCommittedTo G bytes message moment before now failed e x store = NotCommitted x bytes message moment store before now failed e
+-- what a commit of a directory did to a store and its device
+abbrev pub ServesDirectory : {D : Type 0} {G : Ghosts D} → List ℕ → List ℕ → DateTime → RepoStore D G → RepoStore D G → Result (Unit {0}) Refusal → Type 0
+ServesDirectory bytes message moment old new result =
+    Serves old new result × ((place : Path) → path_read bytes ≡ Ok place → ServesOne (directory_entry (revisions_of old) place message moment) old new result)
 
-abbrev pub NotDumped : Option RevRange → Option (List ℕ) → Option (List ℕ) → Bool → Refusal → Repository → Repository → Type 0
-NotDumped range before now failed e x y = (y ≡ x) × DumpStops x range before now failed e
+-- the directory is committed to it, and a stop leaves that
+abbrev pub IsCommittedTo : {D : Type 0} {G : Ghosts D} → Type 0 → List ℕ → List ℕ → DateTime → Option (List ℕ) → Option (List ℕ) → RepoStore D G → RepoStore D G → Type 0
+IsCommittedTo honest bytes message moment before now old new =
+    IsCommitted (repository_of old) bytes message moment (repository_of new) before now × ServesDirectory bytes message moment old new (Ok tt) × IsKept honest new
+
+-- the revisions that are wanted are dumped, and the store stays, which a stop leaves
+abbrev pub IsDumped : {D : Type 0} {G : Ghosts D} → Type 0 → Option RevRange → Option (List ℕ) → Option (List ℕ) → RepoStore D G → RepoStore D G → Type 0
+IsDumped honest range before now old new =
+    (new ≡ old) × (last_wanted (repository_of old) range < length (revisions_of old))
+    × Appends before now (dump_of (repository_of old) (first_wanted range) (count_wanted (repository_of old) range)) × IsKept honest old
+
+-- a mirror isn't loaded; and of another one what was read is refused; unless the device failed, a stop leaves what is loaded
+abbrev pub NotLoadedFrom : {D : Type 0} {G : Ghosts D} → Type 0 → Option (List ℕ) → Option (List ℕ) → Option (List ℕ) → Bool → Refusal → RepoStore D G → RepoStore D G → Type 0
+NotLoadedFrom honest bytes before now failed e old new =
+    (is_mirror (revisions_of old) ≡ false → IfSome bytes (λ read. LoadRefused (repository_of old) read new before now failed e))
+    × (is_mirror (revisions_of old) ≡ true → (e ≡ refusal.ReadOnly) × (repository_of new ≡ repository_of old) × (now ≡ before))
+    × ServesLoad bytes old new (Err e) × (e ≢ refusal.DeviceFailed → IsKept honest new)
+
+-- the directory isn't committed to it; unless the device failed, a stop leaves what the store has
+abbrev pub NotCommittedTo : {D : Type 0} {G : Ghosts D} → Type 0 → List ℕ → List ℕ → DateTime → Option (List ℕ) → Option (List ℕ) → Bool → Refusal → RepoStore D G → RepoStore D G → Type 0
+NotCommittedTo honest bytes message moment before now failed e old new =
+    NotCommitted (repository_of old) bytes message moment new before now failed e × ServesDirectory bytes message moment old new (Err e)
+    × (e ≢ refusal.DeviceFailed → IsKept honest new)
+
+abbrev pub NotDumped : {D : Type 0} {G : Ghosts D} → Type 0 → Option RevRange → Option (List ℕ) → Option (List ℕ) → Bool → Refusal → RepoStore D G → RepoStore D G → Type 0
+NotDumped honest range before now failed e old new = (new ≡ old) × DumpStops (repository_of old) range before now failed e × IsKept honest old
 
 -- a command is done over what folders hold, with these bytes to read: of a writer that held `before`, what it holds now
-abbrev pub IsDone : {D : Type 0} → (D → Image → Type 0) → Type 0 → (List ℕ → Image) → Command → Option (List ℕ) → Option (List ℕ) → Option (List ℕ) → Type 0
-IsDone may_leave honest holds ListIt bytes before now = IfSome bytes (λ read. Accepted product.List read before now)
-IsDone may_leave honest holds Canon bytes before now = IfSome bytes (λ read. Accepted product.Canon read before now)
-IsDone may_leave honest holds (Create folder identity) bytes before now = IsBegun may_leave honest (holds (string_bytes folder)) identity before now
-IsDone may_leave honest holds (Load folder) bytes before now = OfStanding honest (holds (string_bytes folder)) (IsLoadedFrom bytes before now)
-IsDone may_leave honest holds (Dump folder range) bytes before now = OfStanding honest (holds (string_bytes folder)) (IsDumped range before now)
-IsDone may_leave honest holds (MakeDir folder path message moment) bytes before now =
-    OfStanding honest (holds (string_bytes folder)) (λ x y. IsCommitted x (string_bytes path) (string_bytes message) moment y before now)
+abbrev pub IsDone : {D : Type 0} → Ghosts D → Type 0 → (List ℕ → Image) → Command → Option (List ℕ) → Option (List ℕ) → Option (List ℕ) → Type 0
+IsDone G honest holds ListIt bytes before now = IfSome bytes (λ read. Accepted product.List read before now)
+IsDone G honest holds Canon bytes before now = IfSome bytes (λ read. Accepted product.Canon read before now)
+IsDone G honest holds (Create folder identity) bytes before now = IsBegun G honest (holds (string_bytes folder)) identity × (now ≡ before)
+IsDone G honest holds (Load folder) bytes before now = OfStanding G honest (holds (string_bytes folder)) (IsLoadedFrom honest bytes before now)
+IsDone G honest holds (Dump folder range) bytes before now = OfStanding G honest (holds (string_bytes folder)) (IsDumped honest range before now)
+IsDone G honest holds (MakeDir folder path message moment) bytes before now =
+    OfStanding G honest (holds (string_bytes folder)) (IsCommittedTo honest (string_bytes path) (string_bytes message) moment before now)
 
 -- the repository isn't opened, and nothing is written; or of the one that stands there P is so
-abbrev pub UnopenedOr : {S : Type 0} → Type 0 → Type 0 → List ℕ → Image → Option (List ℕ) → Option (List ℕ) → Refusal → (Repository → S → Type 0) → Type 0
-UnopenedOr fails honest folder held before now e P = (NotOpened fails honest folder held e × (now ≡ before)) ⊎ OfStanding honest held P
+abbrev pub UnopenedOr : {D : Type 0} (G : Ghosts D) → Type 0 → Type 0 → List ℕ → Image → Option (List ℕ) → Option (List ℕ) → Refusal → (RepoStore D G → RepoStore D G → Type 0) → Type 0
+UnopenedOr G fails honest folder held before now e P = (NotOpened fails honest folder held e × (now ≡ before)) ⊎ OfStanding G honest held P
 
 -- a command isn't done: why, and what is written then
 abbrev pub IsNotDone : {D : Type 0} → Ghosts D → Type 0 → Type 0 → (List ℕ → Image) → Command → Option (List ℕ) → Option (List ℕ) → Option (List ℕ) → Bool → Refusal → Type 0
@@ -77,20 +114,20 @@ IsNotDone G fails honest holds ListIt bytes before now failed e = (failed ≡ tr
 IsNotDone G fails honest holds Canon bytes before now failed e = (failed ≡ true) ⊎ IfSome bytes (λ read. Refused product.Canon read before now e)
 IsNotDone G fails honest holds (Create folder identity) bytes before now failed e = NotBegun fails honest (holds (string_bytes folder)) e × (now ≡ before)
 IsNotDone G fails honest holds (Load folder) bytes before now failed e =
-    UnopenedOr fails honest (string_bytes folder) (holds (string_bytes folder)) before now e (NotLoadedFrom G bytes before now failed e)
+    UnopenedOr G fails honest (string_bytes folder) (holds (string_bytes folder)) before now e (NotLoadedFrom honest bytes before now failed e)
 IsNotDone G fails honest holds (Dump folder range) bytes before now failed e =
-    UnopenedOr fails honest (string_bytes folder) (holds (string_bytes folder)) before now e (NotDumped range before now failed e)
+    UnopenedOr G fails honest (string_bytes folder) (holds (string_bytes folder)) before now e (NotDumped honest range before now failed e)
 IsNotDone G fails honest holds (MakeDir folder path message moment) bytes before now failed e =
-    UnopenedOr fails honest (string_bytes folder) (holds (string_bytes folder)) before now e
-    (NotCommittedTo G (string_bytes path) (string_bytes message) moment before now failed e)
+    UnopenedOr G fails honest (string_bytes folder) (holds (string_bytes folder)) before now e
+    (NotCommittedTo honest (string_bytes path) (string_bytes message) moment before now failed e)
 
 -- what was written is handed on
 pub record HandsOn (P : Option (List ℕ) → Type 0) (now : Option (List ℕ)) : Type 0 where
   pub written : Option (List ℕ)
   pub done : P written
-  pub kept : Keeps written now
+  pub kept : HandedOn written now
 
 -- a command ends with a refusal: it isn't done, and what was written is handed on as far as the writer takes it; or it is done, and that can't be handed on
 pub data EndsWith (P : Option (List ℕ) → Type 0) (N : Option (List ℕ) → Bool → Refusal → Type 0) (now : Option (List ℕ)) (failed : Bool) (e : Refusal) : Type 0 where
-  not_done : (written : Option (List ℕ)) (before : Bool) → N written before e → Keeps written now → (before ≡ true → failed ≡ true) → EndsWith P N now failed e
+  not_done : (written : Option (List ℕ)) (before : Bool) → N written before e → HandedOn written now → (before ≡ true → failed ≡ true) → EndsWith P N now failed e
   not_handed_on : HandsOn P now → failed ≡ true → EndsWith P N now failed e

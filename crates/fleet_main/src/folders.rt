@@ -5,8 +5,9 @@ ghost use Rattle.fleet_disk.specs.Image.{Image, no_bytes};
 ghost use Rattle.fleet_disk.specs.Rules.{Rose};
 ghost use Rattle.repo_core.specs.Repository.{fresh};
 ghost use Rattle.repo_store.specs.Journal.{ReopensTo};
-ghost use Rattle.repo_store.specs.Words.{disk_of, identity_of, repository_of, revisions_of};
+ghost use Rattle.repo_store.specs.Words.{disk_of, identity_of, repository_of, revisions_of, HasFailed};
 ghost use Rattle.fleet_main.specs.Above.{IsAbove};
+ghost use Rattle.fleet_main.specs.Doing.{IsOpenedIn};
 ghost use Rattle.fleet_main.specs.Host.{IsFaultOf, host_failures};
 ghost use Rattle.fleet_main.specs.Opening.{DiskFails, NotBegun, NotOpened, folder_refusal};
 
@@ -18,7 +19,7 @@ use std::fs::{OpenFile, OpenOptions};
 use std::io::ErrorKind;
 use std::rt::Files;
 use std::{fs, io};
-use store_engines::store_refusal;
+use store_engines::{create_store, open_store};
 use uuid::Uuid;
 
 /// Why a folder gives no disk.
@@ -177,25 +178,29 @@ pub fn created<F: Folders>(
     identity: Uuid,
 ) -> Result<RepoStore<F::Place>, Refusal>
     ensures made { IfOk result (λ store. repository_of store ≡ fresh identity) }
+    ensures working { IfOk result (λ store. ¬ HasFailed store) }
+    ensures honest { F.honest folders.old → IfOk result (λ store. F.Place.honest (disk_of store)) }
     ensures empty { F.honest folders.old → IfOk result (λ _. F.holds folders.old folder.now ≡ no_bytes) }
     ensures durable { F.honest folders.old → IfOk result (λ store. (left : Image) → F.Place.may_leave (disk_of store) left → ReopensTo identity (fresh identity).revisions left) }
     ensures refused { IfErr result (NotBegun (DiskFails F.Place.failures (F.failures folders.old) (F.failures folders.new)) (F.honest folders.old) (F.holds folders.old folder.now)) }
     ensures no_peer { IfErr result (λ e. e ≡ Refusal.PeerFailed → ⊥) }
 {
     match folders.create(alloc, folder) {
-        Ok(disk) => begun_on(alloc, disk, identity),
+        Ok(disk) => create_store(alloc, disk, identity),
         Err(fault) => Err(folder_refusal(fault)),
     }
 }
 
-/// Opens the repository of a folder. NoRepository (34) where the folder has no name or no entry is in its files, Damaged (33)
-/// with the first entry that is, DeviceFailed (31) where the host or the folder's disk fails, OutOfMemory (70).
+/// Opens the repository of a folder, with the sets of changes that its entries tell. NoRepository (34) where the folder has no
+/// name or no entry is in its files, Damaged (33) with the first entry that is, DeviceFailed (31) where the host or the
+/// folder's disk fails, OutOfMemory (70).
 pub fn opened<F: Folders>(
     alloc: Global,
     folders: &mut F,
     folder: &str,
 ) -> Result<RepoStore<F::Place>, Refusal>
     ensures stands { F.honest folders.old → IfOk result (λ store. ReopensTo (identity_of store) (revisions_of store) (F.holds folders.old folder.now)) }
+    ensures opened { IfOk result (IsOpenedIn F.Place.Disk (F.honest folders.old) (F.holds folders.old folder.now)) }
     ensures refused { IfErr result (NotOpened (DiskFails F.Place.failures (F.failures folders.old) (F.failures folders.new)) (F.honest folders.old) folder.now (F.holds folders.old folder.now)) }
     ensures no_peer { IfErr result (λ e. e ≡ Refusal.PeerFailed → ⊥) }
 {
@@ -203,32 +208,7 @@ pub fn opened<F: Folders>(
         return Err(Refusal::NoRepository);
     }
     match folders.open(alloc, folder) {
-        Ok(disk) => opened_on(alloc, disk),
+        Ok(disk) => open_store(alloc, disk),
         Err(fault) => Err(folder_refusal(fault)),
-    }
-}
-
-// The same of a disk.
-fn begun_on<D: Disk + Drop>(alloc: Global, disk: D, identity: Uuid) -> Result<RepoStore<D>, Refusal>
-    ensures made { IfOk result (λ store. repository_of store ≡ fresh identity) }
-    ensures empty { D.honest disk → IfOk result (λ _. D.reads disk ≡ no_bytes) }
-    ensures durable { D.honest disk → IfOk result (λ store. (left : Image) → D.may_leave (disk_of store) left → ReopensTo identity (fresh identity).revisions left) }
-    ensures refused { (before now : ℕ) → IfErr result (NotBegun (DiskFails D.failures before now) (D.honest disk) (D.reads disk)) }
-    ensures no_peer { IfErr result (λ e. e ≡ Refusal.PeerFailed → ⊥) }
-{
-    match RepoStore::create(alloc, disk, identity) {
-        Ok(store) => Ok(store),
-        Err((fault, _disk)) => Err(store_refusal(fault)),
-    }
-}
-
-fn opened_on<D: Disk + Drop>(alloc: Global, disk: D) -> Result<RepoStore<D>, Refusal>
-    ensures stands { D.honest disk → IfOk result (λ store. ReopensTo (identity_of store) (revisions_of store) (D.reads disk)) }
-    ensures refused { (before now : ℕ) (folder : List ℕ) → IfErr result (NotOpened (DiskFails D.failures before now) (D.honest disk) folder (D.reads disk)) }
-    ensures no_peer { IfErr result (λ e. e ≡ Refusal.PeerFailed → ⊥) }
-{
-    match RepoStore::open(alloc, disk) {
-        Ok(store) => Ok(store),
-        Err((fault, _disk)) => Err(store_refusal(fault)),
     }
 }

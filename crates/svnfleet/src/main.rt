@@ -69,6 +69,8 @@ fn planned(rt: &HostRuntime, words: &[String]) -> u8 {
 }
 
 #[cfg(test)]
+mod memory;
+#[cfg(test)]
 mod store_tests;
 #[cfg(test)]
 mod tests;

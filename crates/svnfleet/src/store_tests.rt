@@ -1,16 +1,16 @@
-//! Commands over stores in memory: what is written to the disk, what is printed, and what is refused.
+//! Commands over a folder in memory, from their words to their status: what is left on its disk, what is printed, and what is
+//! refused.
 
+use crate::memory::MemFolders;
 use fleet_disk::{Disk, DiskFile, Fuse, FuseDisk, MemDisk, Pick};
-use fleet_main::{Sink, Source};
-use node_base::{Refusal, RevNo};
-use repo_core::Moment;
-use repo_store::RepoStore;
+use fleet_main::{Command, Folders, Sink, Source, plan, run};
+use node_base::{PropName, RevNo};
+use repo_core::Expected;
 use std::alloc::{AllocError, Global};
 use std::io;
 use std::io::Read;
 use std::test::Fail;
-use store_engines::{RevRange, create_store, open_store, run_dump, run_load, run_mkdir};
-use uuid::Uuid;
+use store_engines::open_store;
 
 // The version block, 31 bytes.
 const HEAD: &str = "SVN-fs-dump-format-version: 2\n\n";
@@ -34,6 +34,25 @@ const NO_FILE: &str =
 const MIRROR: &str =
     "Revision-number: 0\nProp-content-length: 51\nContent-length: 51\n\nK 17\nsvn:sync-from-url\nV 12\nfile:///a/b/\nPROPS-END\n\n";
 
+// Revision 1 adds directory `a`: its properties have 75 bytes.
+const DIRECTORY: &str =
+    "Revision-number: 1\nProp-content-length: 75\nContent-length: 75\n\nK 8\nsvn:date\nV 27\n2001-09-09T01:46:40.123456Z\nK 7\nsvn:log\nV 2\nhi\nPROPS-END\n\nNode-path: a\nNode-kind: dir\nNode-action: add\nProp-content-length: 10\nContent-length: 10\n\nPROPS-END\n\n\n";
+
+// What is printed of a first and a second revision.
+const LOADED: &str = "Loaded revision 1.\n";
+const LOADED_TWO: &str = "Loaded revision 2.\n";
+
+// The words of commands.
+const CREATE: [&str; 4] = [
+    "create",
+    "repo",
+    "--uuid",
+    "6A1F0C3E-0000-4000-8000-000000000001",
+];
+const LOAD: [&str; 2] = ["load", "repo"];
+const DUMP: [&str; 2] = ["dump", "repo"];
+const DUMP_ONE: [&str; 4] = ["dump", "repo", "-r", "1:1"];
+
 fn joined(alloc: Global, parts: &[&str]) -> Result<Vec<u8>, AllocError> {
     let mut all = Vec::new(alloc);
     for part in parts {
@@ -42,181 +61,277 @@ fn joined(alloc: Global, parts: &[&str]) -> Result<Vec<u8>, AllocError> {
     Ok(all)
 }
 
-// What a run gave: the refusal's number, 0 for none, and what was printed.
-#[derive(Drop)]
-struct Ran {
-    number: u8,
-    printed: Vec<u8>,
-}
-
-fn number_of(answer: Result<(), Refusal>) -> u8 {
-    match answer {
-        Ok(()) => 0,
-        Err(refusal) => refusal.number(),
-    }
-}
-
-fn fresh(alloc: Global) -> Result<RepoStore<MemDisk>, Fail> {
-    created(alloc, MemDisk::new(alloc))
-}
-
-fn created<D: Disk + Drop>(alloc: Global, disk: D) -> Result<RepoStore<D>, Fail> {
-    let identity = Uuid::parse_str("6a1f0c3e-0000-4000-8000-000000000001")?;
-    match create_store(alloc, disk, identity) {
-        Ok(store) => Ok(store),
-        Err(refusal) => Err(Fail::new(refusal)),
-    }
-}
-
-fn opened<D: Disk + Drop>(alloc: Global, disk: D) -> Result<RepoStore<D>, Fail> {
-    match open_store(alloc, disk) {
-        Ok(store) => Ok(store),
-        Err(refusal) => Err(Fail::new(refusal)),
-    }
-}
-
-fn load<D: Disk + Drop>(
-    alloc: Global,
-    store: &mut RepoStore<D>,
-    parts: &[&str],
-) -> Result<Ran, Fail> {
-    let bytes = joined(alloc, parts)?;
-    let mut output = Sink::new(Vec::new(alloc));
-    let answer = run_load(
-        alloc,
-        store,
-        &mut Source::new(bytes.as_slice()),
-        &mut output,
-    );
-    Ok(Ran {
-        number: number_of(answer),
-        printed: output.into_inner(),
-    })
-}
-
-fn dump<D: Disk + Drop>(alloc: Global, store: &RepoStore<D>, range: Option<RevRange>) -> Ran {
-    let mut output = Sink::new(Vec::new(alloc));
-    let answer = run_dump(alloc, store, range, &mut output);
-    Ran {
-        number: number_of(answer),
-        printed: output.into_inner(),
-    }
-}
-
-fn mkdir<D: Disk + Drop>(
-    alloc: Global,
-    store: &mut RepoStore<D>,
-    path: &str,
-    message: &str,
-) -> Result<Ran, Fail> {
-    let Some(moment) = Moment::from_micros(1_000_000_000_123_456) else {
-        return Err(Fail::new("no moment"));
-    };
-    let mut output = Sink::new(Vec::new(alloc));
-    let answer = run_mkdir(alloc, store, path, message, moment, &mut output);
-    Ok(Ran {
-        number: number_of(answer),
-        printed: output.into_inner(),
-    })
-}
-
-// Whether a run gave that number and printed that.
-fn gave(ran: &Ran, number: u8, printed: &str) -> bool {
-    ran.number == number && ran.printed.as_slice() == printed.as_bytes()
-}
-
-// Whether the journal holds these parts, and the gate has that many bytes.
-fn holds(disk: &MemDisk, parts: &[&str], gate: usize) -> bool {
-    let mut rest = disk.bytes(DiskFile::Journal);
+// Whether the bytes are these parts, one behind another.
+fn are(bytes: &[u8], parts: &[&str]) -> bool {
+    let mut rest = bytes;
     for part in parts {
         match rest.strip_prefix(part.as_bytes()) {
             Some(behind) => rest = behind,
             None => return false,
         }
     }
-    rest.is_empty() && disk.bytes(DiskFile::Gate).len() == gate
+    rest.is_empty()
+}
+
+// Whether a disk's journal is these parts, and its gate these bytes.
+fn holds(disk: &MemDisk, parts: &[&str], gate: &[u8]) -> bool {
+    are(disk.bytes(DiskFile::Journal), parts) && disk.bytes(DiskFile::Gate) == gate
+}
+
+// The command that words name.
+fn named(alloc: Global, words: &[&str]) -> Result<Command, Fail> {
+    let mut all = Vec::new(alloc);
+    all.push(String::from_str(alloc, "svnfleet")?)?;
+    for word in words {
+        all.push(String::from_str(alloc, *word)?)?;
+    }
+    match plan(alloc, &all) {
+        Ok(command) => Ok(command),
+        Err(_) => Err(Fail::new("no command")),
+    }
+}
+
+// What a run gave.
+#[derive(Drop)]
+struct Ran {
+    status: u8,
+    output: Vec<u8>,
+    errors: Vec<u8>,
+}
+
+// Runs a command over folders that keep the rules.
+fn ran<F: Folders, R: Read + Drop>(
+    alloc: Global,
+    folders: &mut F,
+    command: Command,
+    input: &mut Source<R>,
+) -> Ran
+    requires { F.honest folders.old }
+{
+    let mut output = Sink::new(Vec::new(alloc));
+    let mut errors = Sink::new(Vec::new(alloc));
+    let status = run(
+        alloc,
+        folders,
+        command,
+        input,
+        &mut output,
+        &mut errors,
+    );
+    Ran {
+        status,
+        output: output.into_inner(),
+        errors: errors.into_inner(),
+    }
+}
+
+// A command by its words, what there is to read, and what comes of it: what is printed, and the line of a refusal, where it is
+// refused.
+struct Step<'a> {
+    words: &'a [&'a str],
+    input: &'a [&'a str],
+    output: &'a [&'a str],
+    errors: &'a str,
+}
+
+// Whether a run came to what a step says.
+fn came_to(ran: &Ran, step: &Step<'_>) -> bool {
+    let status = if step.errors.is_empty() { 0 } else { 1 };
+    ran.status == status
+        && are(&ran.output, step.output)
+        && ran.errors.as_slice() == step.errors.as_bytes()
+}
+
+// Whether a step over the folder `repo` on this disk comes to what it says.
+fn comes<D: Disk + Drop>(alloc: Global, disk: &mut D, step: &Step<'_>) -> Result<bool, Fail>
+    requires { D.honest disk.old }
+{
+    let bytes = joined(alloc, step.input)?;
+    let command = named(alloc, step.words)?;
+    let mut folders = MemFolders {
+        name: "repo",
+        named: Some(disk),
+        other: None,
+        failures: 0,
+    };
+    let ran = ran(
+        alloc,
+        &mut folders,
+        command,
+        &mut Source::new(bytes.as_slice()),
+    );
+    Ok(came_to(&ran, step))
+}
+
+// The first step that doesn't come to what it says. Behind each step the machine stops, and all that isn't synced is lost.
+fn first_wrong(
+    alloc: Global,
+    disk: &mut MemDisk,
+    steps: &[Step<'_>],
+) -> Result<Option<usize>, Fail> {
+    for (number, step) in steps.iter().enumerate() {
+        if !comes(alloc, disk, step)? {
+            return Ok(Some(number));
+        }
+        *disk = disk.crash(Pick::Old)?;
+    }
+    Ok(None)
+}
+
+// A step that is done.
+fn done<'a>(words: &'a [&'a str], input: &'a [&'a str], output: &'a [&'a str]) -> Step<'a> {
+    Step {
+        words,
+        input,
+        output,
+        errors: "",
+    }
+}
+
+// A step that is refused before anything is printed.
+fn refused<'a>(words: &'a [&'a str], input: &'a [&'a str], errors: &'a str) -> Step<'a> {
+    Step {
+        words,
+        input,
+        output: &[],
+        errors,
+    }
+}
+
+// A disk with revision 0 alone.
+fn begun(alloc: Global) -> Result<MemDisk, Fail> {
+    let mut disk = MemDisk::new(alloc);
+    if !comes(alloc, &mut disk, &done(&CREATE, &[], &[]))? {
+        return Err(Fail::new("no repository"));
+    }
+    Ok(disk)
+}
+
+// A disk with the file's revision, all of it synced.
+fn with_one_file(alloc: Global) -> Result<MemDisk, Fail> {
+    let mut disk = begun(alloc)?;
+    if !comes(alloc, &mut disk, &done(&LOAD, &[HEAD, ONE_FILE], &[LOADED]))? {
+        return Err(Fail::new("no revision"));
+    }
+    Ok(disk.crash(Pick::Old)?)
 }
 
 #[test]
-fn create_writes_the_first_entry(rt: HostRuntime) -> Result<(), Fail> {
-    let disk = fresh(rt.alloc())?.into_disk();
-    assert!(rt; holds(&disk, &[HEAD, IDENTITY, ZERO], 10));
-    let again = create_store(rt.alloc(), disk, Uuid::nil());
-    assert!(rt; matches!(again, Err(Refusal::ThereAlready)));
+fn create_begins_a_repository(rt: HostRuntime) -> Result<(), Fail> {
+    let alloc = rt.alloc();
+    let mut disk = MemDisk::new(alloc);
+    let steps = [
+        refused(&DUMP, &[], "svnfleet: 34 no repository\n"),
+        refused(&LOAD, &[HEAD, ONE_FILE], "svnfleet: 34 no repository\n"),
+        done(&CREATE, &[], &[]),
+        refused(&CREATE, &[], "svnfleet: 35 repository already there\n"),
+        done(&DUMP, &[], &[HEAD, IDENTITY, ZERO]),
+    ];
+    assert_eq!(rt; first_wrong(alloc, &mut disk, &steps)?, None);
+    let gate = [1, 0, 0, 0, 0, 0, 0, 0, 0x95, 0];
+    assert!(rt; holds(&disk, &[HEAD, IDENTITY, ZERO], &gate));
     Ok(())
 }
 
 #[test]
 fn load_commits_each_revision(rt: HostRuntime) -> Result<(), Fail> {
     let alloc = rt.alloc();
-    let mut store = fresh(alloc)?;
-    let ran = load(alloc, &mut store, &[HEAD, ONE_FILE, NO_FILE])?;
-    assert!(rt; gave(&ran, 0, "Loaded revision 1.\nLoaded revision 2.\n"));
-    let again = load(alloc, &mut store, &[HEAD, ONE_FILE])?;
-    assert!(rt; gave(&again, 16, ""));
-    let disk = store.into_disk();
-    assert!(rt; holds(&disk, &[HEAD, IDENTITY, ZERO, ONE_FILE, NO_FILE], 28));
-    Ok(())
-}
-
-#[test]
-fn the_gate_has_the_journal_s_lengths(rt: HostRuntime) -> Result<(), Fail> {
-    let alloc = rt.alloc();
-    let mut store = fresh(alloc)?;
-    load(alloc, &mut store, &[HEAD, ONE_FILE])?;
-    let disk = store.into_disk();
+    let mut disk = begun(alloc)?;
+    let steps = [
+        done(&LOAD, &[HEAD, ONE_FILE], &[LOADED]),
+        done(&DUMP, &[], &[HEAD, IDENTITY, ZERO, ONE_FILE]),
+        done(&DUMP_ONE, &[], &[HEAD, IDENTITY, ONE_FILE]),
+        refused(
+            &["dump", "repo", "-r", "0:2"],
+            &[],
+            "svnfleet: 21 no such revision\n",
+        ),
+    ];
+    assert_eq!(rt; first_wrong(alloc, &mut disk, &steps)?, None);
     // 149 bytes, and 424 with the next entry
     let gate = [
         1, 0, 0, 0, 0, 0, 0, 0, 0x95, 1, 0, 0, 0, 0, 0, 0, 1, 0xA8, 0,
     ];
-    assert!(rt; disk.bytes(DiskFile::Gate) == gate.as_slice());
+    assert!(rt; holds(&disk, &[HEAD, IDENTITY, ZERO, ONE_FILE], &gate));
     Ok(())
 }
 
 #[test]
-fn load_takes_revision_0_while_it_is_alone(rt: HostRuntime) -> Result<(), Fail> {
+fn load_goes_on_from_the_head(rt: HostRuntime) -> Result<(), Fail> {
     let alloc = rt.alloc();
-    let mut store = fresh(alloc)?;
-    let ran = load(alloc, &mut store, &[HEAD, IDENTITY, ZERO, ONE_FILE])?;
-    assert!(rt; gave(&ran, 0, "Loaded revision 1.\n"));
-    let late = load(alloc, &mut store, &[HEAD, ZERO])?;
-    assert!(rt; gave(&late, 16, ""));
-    let disk = store.into_disk();
-    assert!(rt; holds(&disk, &[HEAD, IDENTITY, ZERO, ZERO, ONE_FILE], 28));
+    let mut disk = begun(alloc)?;
+    let late = "svnfleet: 16 revision out of sequence\n";
+    let steps = [
+        done(&LOAD, &[HEAD, IDENTITY, ZERO, ONE_FILE], &[LOADED]),
+        refused(&LOAD, &[HEAD, ZERO], late),
+        refused(&LOAD, &[HEAD, ONE_FILE], late),
+        done(&LOAD, &[HEAD, NO_FILE], &[LOADED_TWO]),
+        done(&DUMP, &[], &[HEAD, IDENTITY, ZERO, ONE_FILE, NO_FILE]),
+    ];
+    assert_eq!(rt; first_wrong(alloc, &mut disk, &steps)?, None);
+    // revision 0's properties were given once more
+    let journal = disk.bytes(DiskFile::Journal);
+    assert!(rt; are(journal, &[HEAD, IDENTITY, ZERO, ZERO, ONE_FILE, NO_FILE]));
     Ok(())
 }
 
-// The number that a load of these parts ends with, over a new store of which revision 1 alone stays where `kept` says so.
-fn refused(alloc: Global, parts: &[&str], number: u8, kept: u16) -> Result<bool, Fail> {
-    let mut store = fresh(alloc)?;
-    let ran = load(alloc, &mut store, parts)?;
-    let printed = match kept {
-        0 => "",
-        _ => "Loaded revision 1.\n",
+// Whether a load of these parts into a new repository prints that and is refused with this line, where the journal has these
+// entries then.
+fn ends(
+    alloc: Global,
+    parts: &[&str],
+    output: &[&str],
+    errors: &str,
+    journal: &[&str],
+) -> Result<bool, Fail> {
+    let mut disk = begun(alloc)?;
+    let step = Step {
+        words: &LOAD,
+        input: parts,
+        output,
+        errors,
     };
-    Ok(gave(&ran, number, printed) && store.repo().head() == RevNo::new(kept))
+    let same = comes(alloc, &mut disk, &step)?;
+    let left = disk.crash(Pick::Old)?;
+    Ok(same && are(left.bytes(DiskFile::Journal), journal))
 }
 
 #[test]
 fn load_commits_no_half_revision(rt: HostRuntime) -> Result<(), Fail> {
     let alloc = rt.alloc();
-    let cut = ONE_FILE.strip_suffix("lo\n\n\n").ok_or("end")?;
-    assert!(rt; refused(alloc, &[HEAD, cut], 7, 0)?);
     let other = ONE_FILE.replace(alloc, "hello", "hellp")?;
-    assert!(rt; refused(alloc, &[HEAD, other.as_str()], 6, 0)?);
+    let cut = ONE_FILE.strip_suffix("lo\n\n\n").ok_or("end")?;
     let longer = ONE_FILE.replace(alloc, "Content-length: 16", "Content-length: 17")?;
-    assert!(rt; refused(alloc, &[HEAD, longer.as_str()], 4, 0)?);
+    let faulty = [
+        (other.as_str(), "svnfleet: 6 checksum mismatch\n"),
+        (cut, "svnfleet: 7 unexpected end of input\n"),
+        (longer.as_str(), "svnfleet: 4 lengths do not agree\n"),
+    ];
+    for (revision, line) in faulty {
+        let kept = [HEAD, IDENTITY, ZERO];
+        assert!(rt; ends(alloc, &[HEAD, revision], &[], line, &kept)?, "{line}");
+    }
     Ok(())
 }
 
 #[test]
 fn load_keeps_what_was_committed(rt: HostRuntime) -> Result<(), Fail> {
     let alloc = rt.alloc();
-    let cut = NO_FILE.strip_suffix("delete\n\n\n\n").ok_or("end")?;
-    assert!(rt; refused(alloc, &[HEAD, ONE_FILE, cut], 7, 1)?);
     let absent = NO_FILE.replace(alloc, "Node-path: a", "Node-path: b")?;
-    assert!(rt; refused(alloc, &[HEAD, ONE_FILE, absent.as_str()], 11, 1)?);
-    assert!(rt; refused(alloc, &[HEAD, ONE_FILE, "Node"], 7, 0)?);
+    let cut = NO_FILE.strip_suffix("delete\n\n\n\n").ok_or("end")?;
+    let faulty = [
+        (absent.as_str(), "svnfleet: 11 no such path\n"),
+        (cut, "svnfleet: 7 unexpected end of input\n"),
+    ];
+    for (revision, line) in faulty {
+        let kept = [HEAD, IDENTITY, ZERO, ONE_FILE];
+        let parts = [HEAD, ONE_FILE, revision];
+        assert!(rt; ends(alloc, &parts, &[LOADED], line, &kept)?, "{line}");
+    }
+    // the end of revision 1 isn't known yet
+    let line = "svnfleet: 7 unexpected end of input\n";
+    let parts = [HEAD, ONE_FILE, "Node"];
+    assert!(rt; ends(alloc, &parts, &[], line, &[HEAD, IDENTITY, ZERO])?);
     Ok(())
 }
 
@@ -233,108 +348,231 @@ impl Read for Unread {
 #[test]
 fn mirrors_take_no_change(rt: HostRuntime) -> Result<(), Fail> {
     let alloc = rt.alloc();
-    let mut store = fresh(alloc)?;
-    let made = load(alloc, &mut store, &[HEAD, MIRROR, ONE_FILE])?;
-    assert!(rt; gave(&made, 0, "Loaded revision 1.\n"));
+    let mut disk = begun(alloc)?;
+    let line = "svnfleet: 24 the mirror is read-only\n";
+    let words = ["mkdir", "repo", "/", "--message", "hi", "--moment", "1"];
+    let steps = [
+        done(&LOAD, &[HEAD, MIRROR, ONE_FILE], &[LOADED]),
+        refused(&words, &[], line),
+    ];
+    assert_eq!(rt; first_wrong(alloc, &mut disk, &steps)?, None);
+    let mut folders = MemFolders {
+        name: "repo",
+        named: Some(&mut disk),
+        other: None,
+        failures: 0,
+    };
     let mut unread = Source::new(Unread);
-    let answer = run_load(
-        alloc,
-        &mut store,
-        &mut unread,
-        &mut Sink::new(Vec::new(alloc)),
-    );
-    assert!(rt; number_of(answer) == 24 && !unread.failed);
-    assert!(rt; gave(&mkdir(alloc, &mut store, "/", "hi")?, 24, ""));
+    let ran = ran(alloc, &mut folders, named(alloc, &LOAD)?, &mut unread);
+    assert!(rt; came_to(&ran, &refused(&LOAD, &[], line)) && !unread.failed);
     Ok(())
 }
 
 #[test]
-fn dump_is_the_journal(rt: HostRuntime) -> Result<(), Fail> {
+fn folders_are_told_apart(rt: HostRuntime) -> Result<(), Fail> {
     let alloc = rt.alloc();
-    let mut store = fresh(alloc)?;
-    load(alloc, &mut store, &[HEAD, ONE_FILE])?;
-    let all = joined(alloc, &[HEAD, IDENTITY, ZERO, ONE_FILE])?;
-    let ran = dump(alloc, &store, None);
-    assert!(rt; ran.number == 0 && ran.printed.as_slice() == all.as_slice());
-    let one = joined(alloc, &[HEAD, IDENTITY, ONE_FILE])?;
-    let ran = dump(alloc, &store, RevRange::new(RevNo::new(1), RevNo::new(1)));
-    assert!(rt; ran.number == 0 && ran.printed.as_slice() == one.as_slice());
-    let above = RevRange::new(RevNo::new(0), RevNo::new(2));
-    assert!(rt; gave(&dump(alloc, &store, above), 21, ""));
+    let mut disk = with_one_file(alloc)?;
+    let mut empty = MemDisk::new(alloc);
+    let mut folders = MemFolders {
+        name: "repo",
+        named: Some(&mut disk),
+        other: Some(&mut empty),
+        failures: 0,
+    };
+    let nothing = [];
+    let mut input = Source::new(nothing.as_slice());
+    let elsewhere = refused(&["dump", "repo2"], &[], "svnfleet: 34 no repository\n");
+    let ran_there = ran(
+        alloc,
+        &mut folders,
+        named(alloc, elsewhere.words)?,
+        &mut input,
+    );
+    assert!(rt; came_to(&ran_there, &elsewhere));
+    let here = done(&DUMP_ONE, &[], &[HEAD, IDENTITY, ONE_FILE]);
+    let ran_here = ran(alloc, &mut folders, named(alloc, here.words)?, &mut input);
+    assert!(rt; came_to(&ran_here, &here));
     Ok(())
 }
 
 #[test]
 fn mkdir_commits_one_directory(rt: HostRuntime) -> Result<(), Fail> {
     let alloc = rt.alloc();
-    let mut store = fresh(alloc)?;
-    assert!(rt;
-        gave(
-            &mkdir(alloc, &mut store, "a", "hi")?,
-            0,
-            "Committed revision 1.\n"
-        )
-    );
-    let ran = dump(alloc, &store, RevRange::new(RevNo::new(1), RevNo::new(1)));
-    let wanted = joined(
-        alloc,
-        &[
-            HEAD,
-            IDENTITY,
-            "Revision-number: 1\nProp-content-length: 75\nContent-length: 75\n\nK 8\nsvn:date\nV 27\n2001-09-09T01:46:40.123456Z\nK 7\nsvn:log\nV 2\nhi\nPROPS-END\n\nNode-path: a\nNode-kind: dir\nNode-action: add\nProp-content-length: 10\nContent-length: 10\n\nPROPS-END\n\n\n",
-        ],
-    )?;
-    assert!(rt; ran.printed.as_slice() == wanted.as_slice());
-    assert!(rt; gave(&mkdir(alloc, &mut store, "a", "hi")?, 12, ""));
+    let mut disk = begun(alloc)?;
+    let words = [
+        "mkdir",
+        "repo",
+        "a",
+        "--message",
+        "hi",
+        "--moment",
+        "1000000000123456",
+    ];
+    let steps = [
+        done(&words, &[], &["Committed revision 1.\n"]),
+        done(&DUMP_ONE, &[], &[HEAD, IDENTITY, DIRECTORY]),
+        refused(&words, &[], "svnfleet: 12 path already exists\n"),
+        done(&DUMP, &[], &[HEAD, IDENTITY, ZERO, DIRECTORY]),
+    ];
+    assert_eq!(rt; first_wrong(alloc, &mut disk, &steps)?, None);
     Ok(())
 }
 
 #[test]
 fn mkdir_judges_its_path(rt: HostRuntime) -> Result<(), Fail> {
     let alloc = rt.alloc();
-    let mut store = fresh(alloc)?;
-    load(alloc, &mut store, &[HEAD, ONE_FILE])?;
-    let mut all = true;
-    for (path, number) in [
-        ("", 10),
-        ("/b", 10),
-        ("b/", 10),
-        ("b/../c", 10),
-        ("b/c", 11),
-        ("a/c", 13),
-        ("a", 12),
+    let mut disk = with_one_file(alloc)?;
+    for (path, line) in [
+        ("", "svnfleet: 10 bad path\n"),
+        ("/b", "svnfleet: 10 bad path\n"),
+        ("b/", "svnfleet: 10 bad path\n"),
+        ("b/../c", "svnfleet: 10 bad path\n"),
+        ("b/c", "svnfleet: 11 no such path\n"),
+        ("a/c", "svnfleet: 13 not a directory\n"),
+        ("a", "svnfleet: 12 path already exists\n"),
     ] {
-        all = all && gave(&mkdir(alloc, &mut store, path, "hi")?, number, "");
+        let words = ["mkdir", "repo", path, "--message", "hi", "--moment", "1"];
+        assert!(rt; comes(alloc, &mut disk, &refused(&words, &[], line))?, "{path}");
     }
-    assert!(rt; all && store.repo().head() == RevNo::new(1));
+    assert!(rt; are(disk.bytes(DiskFile::Journal), &[HEAD, IDENTITY, ZERO, ONE_FILE]));
     Ok(())
 }
 
 #[test]
 fn mkdir_judges_its_message_last(rt: HostRuntime) -> Result<(), Fail> {
     let alloc = rt.alloc();
-    let mut store = fresh(alloc)?;
+    let mut disk = begun(alloc)?;
     let long = "x".repeat(alloc, 65_537)?;
     let most = "x".repeat(alloc, 65_536)?;
-    assert!(rt; gave(&mkdir(alloc, &mut store, "b/c", long.as_str())?, 11, ""));
-    assert!(rt; gave(&mkdir(alloc, &mut store, "b", long.as_str())?, 8, ""));
-    let made = mkdir(alloc, &mut store, "b", most.as_str())?;
-    assert!(rt; gave(&made, 0, "Committed revision 1.\n"));
+    let (long, most) = (long.as_str(), most.as_str());
+    let below = ["mkdir", "repo", "b/c", "--message", long, "--moment", "1"];
+    let past = ["mkdir", "repo", "b", "--message", long, "--moment", "1"];
+    let words = ["mkdir", "repo", "b", "--message", most, "--moment", "1"];
+    let steps = [
+        refused(&below, &[], "svnfleet: 11 no such path\n"),
+        refused(&past, &[], "svnfleet: 8 limit exceeded\n"),
+        done(&words, &[], &["Committed revision 1.\n"]),
+    ];
+    assert_eq!(rt; first_wrong(alloc, &mut disk, &steps)?, None);
+    Ok(())
+}
+
+#[test]
+fn dump_has_the_changed_property(rt: HostRuntime) -> Result<(), Fail> {
+    let alloc = rt.alloc();
+    let mut store = match open_store(alloc, with_one_file(alloc)?) {
+        Ok(store) => store,
+        Err(refusal) => return Err(Fail::new(refusal)),
+    };
+    let name = PropName::parse(alloc, b"svn:log")?;
+    store.change_prop(alloc, RevNo::new(1), &name, Some(b"ho"), &Expected::DontCare)?;
+    let mut disk = store.into_disk();
+    assert_eq!(rt; disk.bytes(DiskFile::Journal).len(), 517);
+    assert_eq!(rt; disk.bytes(DiskFile::Gate).len(), 28);
+    let changed = ONE_FILE.replace(alloc, "hi", "ho")?;
+    let steps = [
+        done(&DUMP_ONE, &[], &[HEAD, IDENTITY, changed.as_str()]),
+        done(&DUMP, &[], &[HEAD, IDENTITY, ZERO, changed.as_str()]),
+    ];
+    assert_eq!(rt; first_wrong(alloc, &mut disk, &steps)?, None);
+    Ok(())
+}
+
+#[test]
+fn damaged_entry_is_told(rt: HostRuntime) -> Result<(), Fail> {
+    let alloc = rt.alloc();
+    let disk = with_one_file(alloc)?;
+    let other = ONE_FILE.replace(alloc, "hello", "hellp")?;
+    let journal = joined(alloc, &[HEAD, IDENTITY, ZERO, other.as_str()])?;
+    let mut damaged = MemDisk::with_bytes(alloc, &journal, disk.bytes(DiskFile::Gate))?;
+    let line = "svnfleet: 33 entry 1 is damaged\n";
+    let steps = [
+        refused(&DUMP, &[], line),
+        refused(&LOAD, &[HEAD, NO_FILE], line),
+    ];
+    assert_eq!(rt; first_wrong(alloc, &mut damaged, &steps)?, None);
+    Ok(())
+}
+
+// How many calls the opening of a disk makes: a dump makes no others.
+fn opening_calls(alloc: Global, disk: &MemDisk) -> Result<u64, Fail> {
+    let mut copy = disk.crash(Pick::New)?;
+    if !comes(alloc, &mut copy, &done(&DUMP_ONE, &[], &[HEAD, IDENTITY, ONE_FILE]))? {
+        return Err(Fail::new("no dump"));
+    }
+    Ok(copy.calls().len() as u64)
+}
+
+// The disk after this many calls of the load of one more revision, stopped; None where the load came to something else.
+fn stopped(alloc: Global, calls: u64, pick: Pick) -> Result<Option<MemDisk>, Fail> {
+    let disk = with_one_file(alloc)?;
+    let before = opening_calls(alloc, &disk)?;
+    let mut fused = FuseDisk::new(disk, before.saturating_add(calls), Fuse::ForGood);
+    let step = if calls < 5 {
+        refused(&LOAD, &[HEAD, NO_FILE], "svnfleet: 31 device failed\n")
+    } else {
+        done(&LOAD, &[HEAD, NO_FILE], &[LOADED_TWO])
+    };
+    if !comes(alloc, &mut fused, &step)? {
+        return Ok(None);
+    }
+    Ok(Some(fused.into_inner().crash(pick)?))
+}
+
+// Whether a disk opens at revision 1, or at revision 2 where there is a second.
+fn opens_at(alloc: Global, disk: &mut MemDisk, second: bool) -> Result<bool, Fail> {
+    if second {
+        let all = [HEAD, IDENTITY, ZERO, ONE_FILE, NO_FILE];
+        return comes(alloc, disk, &done(&DUMP, &[], &all));
+    }
+    let all = [HEAD, IDENTITY, ZERO, ONE_FILE];
+    Ok(comes(alloc, disk, &done(&DUMP, &[], &all))?
+        && comes(alloc, disk, &done(&LOAD, &[HEAD, NO_FILE], &[LOADED_TWO]))?)
+}
+
+const PICKS: [Pick; 4] = [Pick::Old, Pick::New, Pick::Fill(1), Pick::Fill(0x37)];
+
+// Whether the second revision stands after so many calls of its load, for each pick: the gate's write decides.
+const STANDING: [[bool; 4]; 6] = [
+    [false, false, false, false],
+    [false, false, false, false],
+    [false, false, false, false],
+    [false, false, false, false],
+    [false, true, true, false],
+    [true, true, true, true],
+];
+
+#[test]
+fn load_is_stopped_after_each_call(rt: HostRuntime) -> Result<(), Fail> {
+    let alloc = rt.alloc();
+    for (calls, row) in STANDING.iter().enumerate() {
+        for (pick, second) in PICKS.iter().zip(row.iter()) {
+            let Some(mut left) = stopped(alloc, calls as u64, *pick)? else {
+                return Err(Fail::new("the load came to something else"));
+            };
+            assert!(rt; opens_at(alloc, &mut left, *second)?, "after {calls} calls");
+        }
+    }
     Ok(())
 }
 
 #[test]
 fn failed_device_ends_a_load(rt: HostRuntime) -> Result<(), Fail> {
     let alloc = rt.alloc();
-    let disk = fresh(alloc)?.into_disk();
-    // opening makes some calls; a commit makes five: the write of the second revision fails
-    let mut store = opened(alloc, FuseDisk::new(disk, 13 + 5, Fuse::ForGood))?;
-    let ran = load(alloc, &mut store, &[HEAD, ONE_FILE, NO_FILE])?;
-    assert_eq!(rt; ran.number, 31);
-    assert!(rt; ran.printed.as_slice() == b"Loaded revision 1.\n".as_slice());
-    let left = store.into_disk().into_inner().crash(Pick::Old)?;
-    let mut store = opened(alloc, left)?;
-    let more = load(alloc, &mut store, &[HEAD, NO_FILE])?;
-    assert!(rt; gave(&more, 0, "Loaded revision 2.\n"));
+    let disk = with_one_file(alloc)?;
+    let before = opening_calls(alloc, &disk)?;
+    // a commit makes five calls: the write of the second revision fails
+    let mut fused = FuseDisk::new(disk, before.saturating_add(5), Fuse::ForGood);
+    let again = ONE_FILE
+        .replace(alloc, "Revision-number: 1", "Revision-number: 3")?;
+    let step = Step {
+        words: &LOAD,
+        input: &[HEAD, NO_FILE, again.as_str()],
+        output: &[LOADED_TWO],
+        errors: "svnfleet: 31 device failed\n",
+    };
+    assert!(rt; comes(alloc, &mut fused, &step)?);
+    let mut left = fused.into_inner().crash(Pick::Old)?;
+    assert!(rt; opens_at(alloc, &mut left, true)?);
     Ok(())
 }

@@ -3,11 +3,14 @@
 use fleet_engines::{
     Sink, Source, records_dont_matter, revisions_are_grouped, run_canon, run_list,
 };
-use fleet_main::{Command, HostFolders, Usage, plan, run};
+use fleet_main::{Command, HostFolders, RevRange, Usage, plan, run};
+use node_base::RevNo;
+use repo_core::Moment;
 use std::alloc::{AllocError, Global};
 use std::io;
 use std::io::{Read, Write};
 use std::test::Fail;
+use uuid::Uuid;
 
 // The version block, 31 bytes.
 const HEAD: &str = "SVN-fs-dump-format-version: 2\n\n";
@@ -438,6 +441,83 @@ fn words_name_a_command(rt: HostRuntime) -> Result<(), Fail> {
             Err(Usage::Shown(_))
         )
     );
+    Ok(())
+}
+
+// Whether words are answered by a creation in the folder `repo` with this identity.
+fn creates(words: &Result<Command, Usage>, wanted: Uuid) -> bool {
+    match words {
+        Ok(Command::Create { folder, identity }) => {
+            folder.as_str() == "repo" && *identity == wanted
+        }
+        _ => false,
+    }
+}
+
+// By a load into the folder `repo`.
+fn loads(words: &Result<Command, Usage>) -> bool {
+    match words {
+        Ok(Command::Load { folder }) => folder.as_str() == "repo",
+        _ => false,
+    }
+}
+
+// By a dump of the folder `repo`, of this range.
+fn dumps(words: &Result<Command, Usage>, wanted: Option<RevRange>) -> bool {
+    match words {
+        Ok(Command::Dump { folder, range }) => folder.as_str() == "repo" && *range == wanted,
+        _ => false,
+    }
+}
+
+// By a directory `a/b` in the folder `repo`, with the message `hi` and this moment.
+fn makes_directory(words: &Result<Command, Usage>, wanted: Option<Moment>) -> bool {
+    match words {
+        Ok(Command::MakeDir {
+            folder,
+            path,
+            message,
+            moment,
+        }) => {
+            folder.as_str() == "repo"
+                && path.as_str() == "a/b"
+                && message.as_str() == "hi"
+                && Some(*moment) == wanted
+        }
+        _ => false,
+    }
+}
+
+#[test]
+fn words_give_a_command_its_values(rt: HostRuntime) -> Result<(), Fail> {
+    let identity = Uuid::parse_str("6a1f0c3e-0000-4000-8000-00000000abcd")?;
+    for spelled in [
+        "6a1f0c3e-0000-4000-8000-00000000abcd",
+        "6A1F0C3E-0000-4000-8000-00000000ABCD",
+    ] {
+        let words = planned(&rt, &["svnfleet", "create", "repo", "--uuid", spelled])?;
+        assert!(rt; creates(&words, identity), "{spelled}");
+    }
+    assert!(rt; loads(&planned(&rt, &["svnfleet", "load", "repo"])?));
+    assert!(rt; dumps(&planned(&rt, &["svnfleet", "dump", "repo"])?, None));
+    let words = planned(&rt, &["svnfleet", "dump", "-r", "3:65535", "repo"])?;
+    let range = RevRange::new(RevNo::new(3), RevNo::new(65_535));
+    assert!(rt; range.is_some() && dumps(&words, range));
+    let words = planned(
+        &rt,
+        &[
+            "svnfleet",
+            "mkdir",
+            "repo",
+            "a/b",
+            "--moment",
+            "1000000000123456",
+            "--message",
+            "hi",
+        ],
+    )?;
+    let moment = Moment::from_micros(1_000_000_000_123_456);
+    assert!(rt; moment.is_some() && makes_directory(&words, moment));
     Ok(())
 }
 

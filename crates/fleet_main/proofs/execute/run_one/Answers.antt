@@ -1,43 +1,42 @@
 use Rattle.std.proofs.Common.{string_bytes, subst, sym, IfErr}
 use Rattle.std.specs.Result.{OnOk}
-use Rattle.store_engines.specs.Commits.{IsCommitted}
-use Rattle.fleet_main.specs.Doing.{IsDone, IsDumped, IsLoadedFrom, IsNotDone, NotCommittedTo, NotDumped, NotLoadedFrom}
+use Rattle.fleet_main.specs.Doing.{IsCommittedTo, IsDone, IsDumped, IsLoadedFrom, IsNotDone, NotCommittedTo, NotDumped, NotLoadedFrom}
 use Rattle.fleet_main.specs.Opening.{DiskFails}
 use Rattle.fleet_main.proofs.Doing.{committed_at, done_at, not_committed_at, refused_at}
 use Rattle.fleet_main.proofs.execute.run_one.Goals as goal
 
 pub returns-in-Load-clause-done : goal.returns-in-Load-clause-done
 returns-in-Load-clause-done g c =
-    subst (λ k. OnOk c.load.result (IsDone g.F.Place.Disk.may_leave (g.F.Folders.honest c.args.folders.now) (g.F.Folders.holds c.args.folders.now) k (g.R.Read.remaining c.args.input.now.inner) (g.W.Write.contents c.args.output.now.inner) (g.W.Write.contents c.load.new.output.inner))) (sym c.in-Load.is)
-    (done_at c.load.result (g.F.Folders.honest c.args.folders.now) (g.F.Folders.holds c.args.folders.now) (IsLoadedFrom (g.R.Read.remaining c.args.input.now.inner) (g.W.Write.contents c.args.output.now.inner) (g.W.Write.contents c.load.new.output.inner))
+    subst (λ k. OnOk c.load.result (IsDone g.F.Place.Disk (g.F.Folders.honest c.args.folders.now) (g.F.Folders.holds c.args.folders.now) k (g.R.Read.remaining c.args.input.now.inner) (g.W.Write.contents c.args.output.now.inner) (g.W.Write.contents c.load.new.output.inner))) (sym c.in-Load.is)
+    (done_at g.F.Place.Disk c.load.result (g.F.Folders.honest c.args.folders.now) (g.F.Folders.holds c.args.folders.now) (IsLoadedFrom (g.F.Folders.honest c.args.folders.now) (g.R.Read.remaining c.args.input.now.inner) (g.W.Write.contents c.args.output.now.inner) (g.W.Write.contents c.load.new.output.inner))
     c.as_str-in-Load.result.now (string_bytes c.in-Load.folder) c.as_str-in-Load.ensures.value c.load.ensures.done)
 
 pub returns-in-Load-clause-refused : goal.returns-in-Load-clause-refused
 returns-in-Load-clause-refused g c =
     subst (λ k. IfErr c.load.result (IsNotDone g.F.Place.Disk (DiskFails g.F.Place.Disk.failures (g.F.Folders.failures c.args.folders.now) (g.F.Folders.failures c.load.new.folders)) (g.F.Folders.honest c.args.folders.now) (g.F.Folders.holds c.args.folders.now) k (g.R.Read.remaining c.args.input.now.inner) (g.W.Write.contents c.args.output.now.inner) (g.W.Write.contents c.load.new.output.inner) c.load.new.output.failed)) (sym c.in-Load.is)
-    (refused_at c.load.result (DiskFails g.F.Place.Disk.failures (g.F.Folders.failures c.args.folders.now) (g.F.Folders.failures c.load.new.folders)) (g.F.Folders.honest c.args.folders.now) (g.F.Folders.holds c.args.folders.now) (g.W.Write.contents c.args.output.now.inner) (g.W.Write.contents c.load.new.output.inner) (NotLoadedFrom g.F.Place.Disk (g.R.Read.remaining c.args.input.now.inner) (g.W.Write.contents c.args.output.now.inner) (g.W.Write.contents c.load.new.output.inner) c.load.new.output.failed)
+    (refused_at g.F.Place.Disk c.load.result (DiskFails g.F.Place.Disk.failures (g.F.Folders.failures c.args.folders.now) (g.F.Folders.failures c.load.new.folders)) (g.F.Folders.honest c.args.folders.now) (g.F.Folders.holds c.args.folders.now) (g.W.Write.contents c.args.output.now.inner) (g.W.Write.contents c.load.new.output.inner) (NotLoadedFrom (g.F.Folders.honest c.args.folders.now) (g.R.Read.remaining c.args.input.now.inner) (g.W.Write.contents c.args.output.now.inner) (g.W.Write.contents c.load.new.output.inner) c.load.new.output.failed)
     c.as_str-in-Load.result.now (string_bytes c.in-Load.folder) c.as_str-in-Load.ensures.value c.load.ensures.refused)
 
 pub returns-in-Dump-clause-done : goal.returns-in-Dump-clause-done
 returns-in-Dump-clause-done g c =
-    subst (λ k. OnOk c.dump.result (IsDone g.F.Place.Disk.may_leave (g.F.Folders.honest c.args.folders.now) (g.F.Folders.holds c.args.folders.now) k (g.R.Read.remaining c.args.input.now.inner) (g.W.Write.contents c.args.output.now.inner) (g.W.Write.contents c.dump.new.output.inner))) (sym c.in-Dump.is)
-    (done_at c.dump.result (g.F.Folders.honest c.args.folders.now) (g.F.Folders.holds c.args.folders.now) (IsDumped c.in-Dump.range (g.W.Write.contents c.args.output.now.inner) (g.W.Write.contents c.dump.new.output.inner))
+    subst (λ k. OnOk c.dump.result (IsDone g.F.Place.Disk (g.F.Folders.honest c.args.folders.now) (g.F.Folders.holds c.args.folders.now) k (g.R.Read.remaining c.args.input.now.inner) (g.W.Write.contents c.args.output.now.inner) (g.W.Write.contents c.dump.new.output.inner))) (sym c.in-Dump.is)
+    (done_at g.F.Place.Disk c.dump.result (g.F.Folders.honest c.args.folders.now) (g.F.Folders.holds c.args.folders.now) (IsDumped (g.F.Folders.honest c.args.folders.now) c.in-Dump.range (g.W.Write.contents c.args.output.now.inner) (g.W.Write.contents c.dump.new.output.inner))
     c.as_str-in-Dump.result.now (string_bytes c.in-Dump.folder) c.as_str-in-Dump.ensures.value c.dump.ensures.done)
 
 pub returns-in-Dump-clause-refused : goal.returns-in-Dump-clause-refused
 returns-in-Dump-clause-refused g c =
     subst (λ k. IfErr c.dump.result (IsNotDone g.F.Place.Disk (DiskFails g.F.Place.Disk.failures (g.F.Folders.failures c.args.folders.now) (g.F.Folders.failures c.dump.new.folders)) (g.F.Folders.honest c.args.folders.now) (g.F.Folders.holds c.args.folders.now) k (g.R.Read.remaining c.args.input.now.inner) (g.W.Write.contents c.args.output.now.inner) (g.W.Write.contents c.dump.new.output.inner) c.dump.new.output.failed)) (sym c.in-Dump.is)
-    (refused_at c.dump.result (DiskFails g.F.Place.Disk.failures (g.F.Folders.failures c.args.folders.now) (g.F.Folders.failures c.dump.new.folders)) (g.F.Folders.honest c.args.folders.now) (g.F.Folders.holds c.args.folders.now) (g.W.Write.contents c.args.output.now.inner) (g.W.Write.contents c.dump.new.output.inner) (NotDumped c.in-Dump.range (g.W.Write.contents c.args.output.now.inner) (g.W.Write.contents c.dump.new.output.inner) c.dump.new.output.failed)
+    (refused_at g.F.Place.Disk c.dump.result (DiskFails g.F.Place.Disk.failures (g.F.Folders.failures c.args.folders.now) (g.F.Folders.failures c.dump.new.folders)) (g.F.Folders.honest c.args.folders.now) (g.F.Folders.holds c.args.folders.now) (g.W.Write.contents c.args.output.now.inner) (g.W.Write.contents c.dump.new.output.inner) (NotDumped (g.F.Folders.honest c.args.folders.now) c.in-Dump.range (g.W.Write.contents c.args.output.now.inner) (g.W.Write.contents c.dump.new.output.inner) c.dump.new.output.failed)
     c.as_str-in-Dump.result.now (string_bytes c.in-Dump.folder) c.as_str-in-Dump.ensures.value c.dump.ensures.refused)
 
 pub returns-in-MakeDir-clause-done : goal.returns-in-MakeDir-clause-done
 returns-in-MakeDir-clause-done g c =
-    subst (λ k. OnOk c.make_dir.result (IsDone g.F.Place.Disk.may_leave (g.F.Folders.honest c.args.folders.now) (g.F.Folders.holds c.args.folders.now) k (g.R.Read.remaining c.args.input.now.inner) (g.W.Write.contents c.args.output.now.inner) (g.W.Write.contents c.make_dir.new.output.inner))) (sym c.in-MakeDir.is)
-    (committed_at c.make_dir.result (g.F.Folders.honest c.args.folders.now) (g.F.Folders.holds c.args.folders.now) (λ p m x y. IsCommitted x p m c.in-MakeDir.moment y (g.W.Write.contents c.args.output.now.inner) (g.W.Write.contents c.make_dir.new.output.inner))
+    subst (λ k. OnOk c.make_dir.result (IsDone g.F.Place.Disk (g.F.Folders.honest c.args.folders.now) (g.F.Folders.holds c.args.folders.now) k (g.R.Read.remaining c.args.input.now.inner) (g.W.Write.contents c.args.output.now.inner) (g.W.Write.contents c.make_dir.new.output.inner))) (sym c.in-MakeDir.is)
+    (committed_at g.F.Place.Disk c.make_dir.result (g.F.Folders.honest c.args.folders.now) (g.F.Folders.holds c.args.folders.now) (λ p m. IsCommittedTo (g.F.Folders.honest c.args.folders.now) p m c.in-MakeDir.moment (g.W.Write.contents c.args.output.now.inner) (g.W.Write.contents c.make_dir.new.output.inner))
     c.as_str-in-MakeDir.result.now (string_bytes c.in-MakeDir.folder) c.as_str-in-MakeDir-2.result.now (string_bytes c.in-MakeDir.path) c.as_str-in-MakeDir-3.result.now (string_bytes c.in-MakeDir.message) c.as_str-in-MakeDir.ensures.value c.as_str-in-MakeDir-2.ensures.value c.as_str-in-MakeDir-3.ensures.value c.make_dir.ensures.done)
 
 pub returns-in-MakeDir-clause-refused : goal.returns-in-MakeDir-clause-refused
 returns-in-MakeDir-clause-refused g c =
     subst (λ k. IfErr c.make_dir.result (IsNotDone g.F.Place.Disk (DiskFails g.F.Place.Disk.failures (g.F.Folders.failures c.args.folders.now) (g.F.Folders.failures c.make_dir.new.folders)) (g.F.Folders.honest c.args.folders.now) (g.F.Folders.holds c.args.folders.now) k (g.R.Read.remaining c.args.input.now.inner) (g.W.Write.contents c.args.output.now.inner) (g.W.Write.contents c.make_dir.new.output.inner) c.make_dir.new.output.failed)) (sym c.in-MakeDir.is)
-    (not_committed_at c.make_dir.result (DiskFails g.F.Place.Disk.failures (g.F.Folders.failures c.args.folders.now) (g.F.Folders.failures c.make_dir.new.folders)) (g.F.Folders.honest c.args.folders.now) (g.F.Folders.holds c.args.folders.now) (g.W.Write.contents c.args.output.now.inner) (g.W.Write.contents c.make_dir.new.output.inner) (λ p m e. NotCommittedTo g.F.Place.Disk p m c.in-MakeDir.moment (g.W.Write.contents c.args.output.now.inner) (g.W.Write.contents c.make_dir.new.output.inner) c.make_dir.new.output.failed e)
+    (not_committed_at g.F.Place.Disk c.make_dir.result (DiskFails g.F.Place.Disk.failures (g.F.Folders.failures c.args.folders.now) (g.F.Folders.failures c.make_dir.new.folders)) (g.F.Folders.honest c.args.folders.now) (g.F.Folders.holds c.args.folders.now) (g.W.Write.contents c.args.output.now.inner) (g.W.Write.contents c.make_dir.new.output.inner) (λ p m e. NotCommittedTo (g.F.Folders.honest c.args.folders.now) p m c.in-MakeDir.moment (g.W.Write.contents c.args.output.now.inner) (g.W.Write.contents c.make_dir.new.output.inner) c.make_dir.new.output.failed e)
     c.as_str-in-MakeDir.result.now (string_bytes c.in-MakeDir.folder) c.as_str-in-MakeDir-2.result.now (string_bytes c.in-MakeDir.path) c.as_str-in-MakeDir-3.result.now (string_bytes c.in-MakeDir.message) c.as_str-in-MakeDir.ensures.value c.as_str-in-MakeDir-2.ensures.value c.as_str-in-MakeDir-3.ensures.value c.make_dir.ensures.refused)
