@@ -154,9 +154,11 @@ fn load<'a>(alloc: Global) -> Result<clap::Command<'a>, AllocError>
     ensures local { IfOk result (λ c. (fields_of c).has_globals ≡ false) }
 {
     let folder = word(alloc, "DIR", "The folder of the repository");
-    let top = clap::Command::new(alloc, "load").about(
-        "Loads a dump on standard input into a folder's repository",
-    );
+    let top = clap::Command::new(alloc, "load")
+        .about("Loads a dump on standard input into a folder's repository")
+        .after_help(
+            "Prints `Loaded revision N.` for each revision that is committed, nothing for revision 0, whose properties are\ntaken while there is no other. What was committed before a refusal stays.\nThe status is 0; 1 with a line where the dump is refused or the device fails; 2 where the words are wrong.",
+        );
     let whole = top.arg(folder)?;
     Ok(whole)
 }
@@ -167,9 +169,11 @@ fn dump<'a>(alloc: Global) -> Result<clap::Command<'a>, AllocError>
 {
     let folder = word(alloc, "DIR", "The folder of the repository");
     let range = range(alloc);
-    let top = clap::Command::new(alloc, "dump").about(
-        "Writes a folder's repository as a dump, each revision by its changes",
-    );
+    let top = clap::Command::new(alloc, "dump")
+        .about("Writes a folder's repository as a dump, each revision by its changes")
+        .after_help(
+            "Prints the dump: its head with the identity, and the revisions with the properties that they have now,\nrevision 0 too where the range has it.\nThe status is 0; 1 with a line where HI is above the head or the device fails; 2 where the words are wrong.",
+        );
     let placed = top.arg(folder)?;
     let whole = placed.arg(range)?;
     Ok(whole)

@@ -1,4 +1,18 @@
 //! The program's command line, and each command from its words to its status.
+//!
+//! ```text
+//! match plan(alloc, &words) {
+//!     Ok(command) => run(alloc, &mut HostFolders::new(&rt), command, &mut input, &mut output, &mut errors),
+//!     Err(Usage::Shown(text)) => show(text),
+//!     Err(Usage::Wrong(line)) => tell(line, 2),
+//!     Err(Usage::OutOfMemory) => tell("svnfleet: 70 out of memory", 1),
+//! }
+//! ```
+//!
+//! `plan` gives the command that the words name, with the values that they spell, or else says what is wrong with them; it
+//! shows a text only where help or the version was asked for. The status of `run` is 0 only where the command is done and
+//! what it wrote is handed on, and 1 with the refusal's line; of a folder whose disk keeps the rules it says what was there
+//! before, what the command made of it, and what a stop leaves.
 #![tactic(auto)]
 
 pub use command_line::{Command, Usage, plan};
