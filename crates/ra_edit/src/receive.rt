@@ -28,6 +28,7 @@ pub fn receive<R: Read + Drop, E: Editor>(
     editor: E,
 ) -> Result<E::Done, EditFault>
     ensures received { IfOk result (λ done. Received E.shows E.done_shows editor done (R.remaining (reader_of items.old)) (R.remaining (reader_of items.new)) (ahead items.old) (ahead items.new)) }
+    ensures over { IfOk result (λ done. E.done_over done ≡ E.over editor) }
     ensures refused { IfErr result (RefusesDrive E.shows E.over E.refuses editor (R.remaining (reader_of items.old)) (R.remaining (reader_of items.new)) (ahead items.old) (is_spent items.old) (has_failed items.new)) }
     ensures failed { has_failed items.new ≡ (has_failed items.old || is_peer result) }
     ensures goes_on { OnOk result (is_spent items.new ≡ false) }

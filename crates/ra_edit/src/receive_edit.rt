@@ -551,6 +551,7 @@ impl<E: Editor> Edit<E> {
     /// `BadToken` (46) where something is open; then it is discarded, and the edit is aborted.
     pub fn finish(self) -> Result<E::Done, CommandFault>
         ensures done { IfOk result (λ d. (at : At) (item : Item) → IsCommand (codes "finish-replay") [] item → Stands E.dir_path E.file_path self.stage self.dirs.items self.file at → Finishes E.shows E.done_shows self.editor d item at) }
+        ensures over { IfOk result (λ d. E.done_over d ≡ E.over self.editor) }
         ensures refused { IfErr result (λ f. (at : At) → Stands E.dir_path E.file_path self.stage self.dirs.items self.file at → RefusedFor f (refusal at command.Finish)) }
         ensures own { IfErr result (IfOwn (λ f. (at : At) → Stands E.dir_path E.file_path self.stage self.dirs.items self.file at → Meets E.shows E.over E.refuses self.editor at command.Finish f)) }
     {
