@@ -2,7 +2,6 @@
 ghost use Rattle.std.specs.Prelude.{◌≡◌, List, [], ◌∷◌, ◌++◌, IfOk, IfErr, OnOk};
 ghost use Rattle.std.specs.Option.{option_copied, option_map};
 ghost use Rattle.node_base.specs.Path.{Path};
-ghost use Rattle.node_base.specs.Tree.{PathMap};
 ghost use Rattle.delta_editor.specs.Calls.{Call, Adds, Refused};
 ghost use Rattle.delta_editor.specs.declared.call.Call.TheVariants as call;
 ghost use Rattle.delta_editor.specs.declared.fault.EditorFault.{EditorFault};
@@ -30,33 +29,36 @@ pub trait Editor {
     ghost done_shows: { Self.Done → List Call → Type 0  -- the same of what `close_edit` answers
     };
 
-    ghost over: { Self → List PathMap  -- the trees before the revision that is shown, or none where it needs none
+    ghost Began: { Type 0  -- the type of what an editor began with
     };
 
-    ghost done_over: { Self.Done → List PathMap  -- the same of what `close_edit` answers
+    ghost began: { Self → Began  -- what it began with, which no call changes: the trees that a builder builds over, or what a writer held
     };
 
-    ghost refuses: { List PathMap → List Call → Call → EditorFault → Type 0  -- over such trees and after such calls, the refusals that the next call may meet
+    ghost done_began: { Self.Done → Began  -- the same of what `close_edit` answers
+    };
+
+    ghost refuses: { Began → List Call → Call → EditorFault → Type 0  -- where it began with that, after such calls, the refusals that the next call may meet
     };
 
     /// Names the revision that is shown.
     fn target(&mut self, rev: RevNo) -> Result<(), EditorFault>
         ensures shown { OnOk result (Adds shows self.old self.new (call.Target rev ∷ [])) }
-        ensures refused { IfErr result (Refused shows over refuses self.old (call.Target rev)) }
-        ensures over { over self.new ≡ over self.old };
+        ensures refused { IfErr result (Refused shows began refuses self.old (call.Target rev)) }
+        ensures began { began self.new ≡ began self.old };
 
     /// Opens the root. `base` is the revision that it is known at, here and in the calls below: the one before the revision that is shown.
     fn open_root(&mut self, base: Option<RevNo>) -> Result<Self::Dir, EditorFault>
         ensures shown { OnOk result (Adds shows self.old self.new (call.OpenRoot base ∷ [])) }
         ensures baton { IfOk result (λ d. dir_path d ≡ []) }
-        ensures refused { IfErr result (Refused shows over refuses self.old (call.OpenRoot base)) }
-        ensures over { over self.new ≡ over self.old };
+        ensures refused { IfErr result (Refused shows began refuses self.old (call.OpenRoot base)) }
+        ensures began { began self.new ≡ began self.old };
 
     /// Ends the edit, and gives what it came to.
     fn close_edit(self) -> Result<Self::Done, EditorFault>
         ensures shown { IfOk result (λ d. (calls : List Call) → shows self calls → done_shows d (calls ++ call.CloseEdit ∷ [])) }
-        ensures over { IfOk result (λ d. done_over d ≡ over self) }
-        ensures refused { IfErr result (Refused shows over refuses self call.CloseEdit) };
+        ensures began { IfOk result (λ d. done_began d ≡ began self) }
+        ensures refused { IfErr result (Refused shows began refuses self call.CloseEdit) };
 
     /// Gives the edit up after a refusal.
     fn abort_edit(self);
@@ -77,8 +79,8 @@ pub trait Editor {
         ensures shown { OnOk result (Adds shows self.old self.new (call.AddDir (dir_path up.old) path.now (option_copied from.entry) ∷ [])) }
         ensures baton { IfOk result (λ d. dir_path d ≡ path.now) }
         ensures up { dir_path up.new ≡ dir_path up.old }
-        ensures refused { IfErr result (Refused shows over refuses self.old (call.AddDir (dir_path up.old) path.now (option_copied from.entry))) }
-        ensures over { over self.new ≡ over self.old };
+        ensures refused { IfErr result (Refused shows began refuses self.old (call.AddDir (dir_path up.old) path.now (option_copied from.entry))) }
+        ensures began { began self.new ≡ began self.old };
 
     /// Opens a directory in `up`.
     fn open_dir(
@@ -90,8 +92,8 @@ pub trait Editor {
         ensures shown { OnOk result (Adds shows self.old self.new (call.OpenDir (dir_path up.old) path.now base ∷ [])) }
         ensures baton { IfOk result (λ d. dir_path d ≡ path.now) }
         ensures up { dir_path up.new ≡ dir_path up.old }
-        ensures refused { IfErr result (Refused shows over refuses self.old (call.OpenDir (dir_path up.old) path.now base)) }
-        ensures over { over self.new ≡ over self.old };
+        ensures refused { IfErr result (Refused shows began refuses self.old (call.OpenDir (dir_path up.old) path.now base)) }
+        ensures began { began self.new ≡ began self.old };
 
     /// Deletes an entry of `up`, a file or a directory with all that is in it.
     fn delete_entry(
@@ -102,8 +104,8 @@ pub trait Editor {
     ) -> Result<(), EditorFault>
         ensures shown { OnOk result (Adds shows self.old self.new (call.DeleteEntry (dir_path up.old) path.now base ∷ [])) }
         ensures up { dir_path up.new ≡ dir_path up.old }
-        ensures refused { IfErr result (Refused shows over refuses self.old (call.DeleteEntry (dir_path up.old) path.now base)) }
-        ensures over { over self.new ≡ over self.old };
+        ensures refused { IfErr result (Refused shows began refuses self.old (call.DeleteEntry (dir_path up.old) path.now base)) }
+        ensures began { began self.new ≡ began self.old };
 
     /// Gives a directory's property a value, or with none removes it.
     fn dir_prop(
@@ -114,18 +116,18 @@ pub trait Editor {
     ) -> Result<(), EditorFault>
         ensures shown { OnOk result (Adds shows self.old self.new (call.DirProp (dir_path dir.old) name.now (option_map (λ v. v.now) value.entry) ∷ [])) }
         ensures baton { dir_path dir.new ≡ dir_path dir.old }
-        ensures refused { IfErr result (Refused shows over refuses self.old (call.DirProp (dir_path dir.old) name.now (option_map (λ v. v.now) value.entry))) }
-        ensures over { over self.new ≡ over self.old };
+        ensures refused { IfErr result (Refused shows began refuses self.old (call.DirProp (dir_path dir.old) name.now (option_map (λ v. v.now) value.entry))) }
+        ensures began { began self.new ≡ began self.old };
 
     /// Closes a directory.
     fn close_dir(&mut self, dir: Self::Dir) -> Result<(), EditorFault>
         ensures shown { OnOk result (Adds shows self.old self.new (call.CloseDir (dir_path dir) ∷ [])) }
-        ensures refused { IfErr result (Refused shows over refuses self.old (call.CloseDir (dir_path dir))) }
-        ensures over { over self.new ≡ over self.old };
+        ensures refused { IfErr result (Refused shows began refuses self.old (call.CloseDir (dir_path dir))) }
+        ensures began { began self.new ≡ began self.old };
 
     /// Lets go of an open directory after a refusal.
     fn discard_dir(&mut self, dir: Self::Dir)
-        ensures { over self.new ≡ over self.old };
+        ensures { began self.new ≡ began self.old };
 
     /// A file that is open.
     type File;
@@ -143,8 +145,8 @@ pub trait Editor {
         ensures shown { OnOk result (Adds shows self.old self.new (call.AddFile (dir_path up.old) path.now (option_copied from.entry) ∷ [])) }
         ensures baton { IfOk result (λ d. file_path d ≡ path.now) }
         ensures up { dir_path up.new ≡ dir_path up.old }
-        ensures refused { IfErr result (Refused shows over refuses self.old (call.AddFile (dir_path up.old) path.now (option_copied from.entry))) }
-        ensures over { over self.new ≡ over self.old };
+        ensures refused { IfErr result (Refused shows began refuses self.old (call.AddFile (dir_path up.old) path.now (option_copied from.entry))) }
+        ensures began { began self.new ≡ began self.old };
 
     /// Opens a file in `up`.
     fn open_file(
@@ -156,8 +158,8 @@ pub trait Editor {
         ensures shown { OnOk result (Adds shows self.old self.new (call.OpenFile (dir_path up.old) path.now base ∷ [])) }
         ensures baton { IfOk result (λ d. file_path d ≡ path.now) }
         ensures up { dir_path up.new ≡ dir_path up.old }
-        ensures refused { IfErr result (Refused shows over refuses self.old (call.OpenFile (dir_path up.old) path.now base)) }
-        ensures over { over self.new ≡ over self.old };
+        ensures refused { IfErr result (Refused shows began refuses self.old (call.OpenFile (dir_path up.old) path.now base)) }
+        ensures began { began self.new ≡ began self.old };
 
     /// Gives a file's property a value, or with none removes it.
     fn file_prop(
@@ -168,37 +170,37 @@ pub trait Editor {
     ) -> Result<(), EditorFault>
         ensures shown { OnOk result (Adds shows self.old self.new (call.FileProp (file_path file.old) name.now (option_map (λ v. v.now) value.entry) ∷ [])) }
         ensures baton { file_path file.new ≡ file_path file.old }
-        ensures refused { IfErr result (Refused shows over refuses self.old (call.FileProp (file_path file.old) name.now (option_map (λ v. v.now) value.entry))) }
-        ensures over { over self.new ≡ over self.old };
+        ensures refused { IfErr result (Refused shows began refuses self.old (call.FileProp (file_path file.old) name.now (option_map (λ v. v.now) value.entry))) }
+        ensures began { began self.new ≡ began self.old };
 
     /// Begins a file's new text, which takes the place of the one before.
     fn text_start(&mut self, file: &mut Self::File) -> Result<(), EditorFault>
         ensures shown { OnOk result (Adds shows self.old self.new (call.TextStart (file_path file.old) ∷ [])) }
         ensures baton { file_path file.new ≡ file_path file.old }
-        ensures refused { IfErr result (Refused shows over refuses self.old (call.TextStart (file_path file.old))) }
-        ensures over { over self.new ≡ over self.old };
+        ensures refused { IfErr result (Refused shows began refuses self.old (call.TextStart (file_path file.old))) }
+        ensures began { began self.new ≡ began self.old };
 
     /// Adds a piece to the text that has begun.
     fn text_piece(&mut self, file: &mut Self::File, piece: &[u8]) -> Result<(), EditorFault>
         ensures shown { OnOk result (Adds shows self.old self.new (call.TextPiece (file_path file.old) piece.now ∷ [])) }
         ensures baton { file_path file.new ≡ file_path file.old }
-        ensures refused { IfErr result (Refused shows over refuses self.old (call.TextPiece (file_path file.old) piece.now)) }
-        ensures over { over self.new ≡ over self.old };
+        ensures refused { IfErr result (Refused shows began refuses self.old (call.TextPiece (file_path file.old) piece.now)) }
+        ensures began { began self.new ≡ began self.old };
 
     /// Ends the text that has begun.
     fn text_end(&mut self, file: &mut Self::File) -> Result<(), EditorFault>
         ensures shown { OnOk result (Adds shows self.old self.new (call.TextEnd (file_path file.old) ∷ [])) }
         ensures baton { file_path file.new ≡ file_path file.old }
-        ensures refused { IfErr result (Refused shows over refuses self.old (call.TextEnd (file_path file.old))) }
-        ensures over { over self.new ≡ over self.old };
+        ensures refused { IfErr result (Refused shows began refuses self.old (call.TextEnd (file_path file.old))) }
+        ensures began { began self.new ≡ began self.old };
 
     /// Closes a file. `sum` is the MD5 of its text (RFC 1321) where it was given one.
     fn close_file(&mut self, file: Self::File, sum: Option<[u8; 16]>) -> Result<(), EditorFault>
         ensures shown { OnOk result (Adds shows self.old self.new (call.CloseFile (file_path file) sum ∷ [])) }
-        ensures refused { IfErr result (Refused shows over refuses self.old (call.CloseFile (file_path file) sum)) }
-        ensures over { over self.new ≡ over self.old };
+        ensures refused { IfErr result (Refused shows began refuses self.old (call.CloseFile (file_path file) sum)) }
+        ensures began { began self.new ≡ began self.old };
 
     /// Lets go of an open file after a refusal.
     fn discard_file(&mut self, file: Self::File)
-        ensures { over self.new ≡ over self.old };
+        ensures { began self.new ≡ began self.old };
 }

@@ -113,11 +113,13 @@ impl Editor for Recorder {
 
     ghost file_path = { λ f. f };
 
-    ghost over = { λ r. [] };
+    ghost Began = { Unit {0} };
 
-    ghost done_over = { λ d. [] };
+    ghost began = { λ r. tt };
 
-    ghost refuses = { λ trees calls c e. e ≡ OutOfMemory };
+    ghost done_began = { λ d. tt };
+
+    ghost refuses = { λ nothing calls c e. e ≡ OutOfMemory };
 
     fn target(&mut self, rev: RevNo) -> Result<(), EditorFault> {
         self.keep(Call::Target(rev))?;

@@ -31,10 +31,10 @@ pub end_shown : {A F E : Type 0} (r : Result A F) (shows : E → List Call → T
 end_shown (Ok u) shows trees set k a b c x y s t h = shown_all shows a c x (left trees set k []) (shown_twice shows a b c x y (left trees set k []) s t) (left-end trees set k h)
 end_shown (Err f) shows trees set k a b c x y s t h = tt
 
-module _ {E : Type 0} (shows : E → List Call → Type 0) (over : E → List PathMap) (refuses : List PathMap → List Call → Call → EditorFault → Type 0) (trees : List PathMap) (set : List Change) where
-  pub halt_behind : {A : Type 0} (r : Result A EditorFault) (a b : E) (x y : List Call) → Shown shows a b x y → over b ≡ over a → IfErr r (Halts shows over refuses trees set b y) → IfErr r (Halts shows over refuses trees set a x)
+module _ {E O : Type 0} (shows : E → List Call → Type 0) (began : E → O) (refuses : O → List Call → Call → EditorFault → Type 0) (trees : List PathMap) (set : List Change) where
+  pub halt_behind : {A : Type 0} (r : Result A EditorFault) (a b : E) (x y : List Call) → Shown shows a b x y → began b ≡ began a → IfErr r (Halts shows began refuses trees set b y) → IfErr r (Halts shows began refuses trees set a x)
   halt_behind (Ok u) a b x y s same h = tt
-  halt_behind (Err f) a b x y s same h = halts_behind shows over refuses trees set a b x y f s same h
+  halt_behind (Err f) a b x y s same h = halts_behind shows began refuses trees set a b x y f s same h
 
   -- ---- the edit round them
 
@@ -50,33 +50,33 @@ module _ {E : Type 0} (shows : E → List Call → Type 0) (over : E → List Pa
   abbrev ending : List Call
   ending = call.CloseDir [] ∷ call.CloseEdit ∷ []
 
-  module _ (a b : E) (one : Adds shows a b (target ∷ [])) (over1 : over b ≡ over a) where
-    pub halts_at_root : (f : EditorFault) → Refused shows over refuses b root f → Halts shows over refuses trees set a (drive trees set) f
-    halts_at_root f h = Refusal (stops_later shows over refuses a b (target ∷ []) (root ∷ (changes ++ ending)) (drive trees set) f one over1 (stops_first shows over refuses b root (changes ++ ending) (root ∷ (changes ++ ending)) f h refl) refl)
+  module _ (a b : E) (one : Adds shows a b (target ∷ [])) (over1 : began b ≡ began a) where
+    pub halts_at_root : (f : EditorFault) → Refused shows began refuses b root f → Halts shows began refuses trees set a (drive trees set) f
+    halts_at_root f h = Refusal (stops_later shows began refuses a b (target ∷ []) (root ∷ (changes ++ ending)) (drive trees set) f one over1 (stops_first shows began refuses b root (changes ++ ending) (root ∷ (changes ++ ending)) f h refl) refl)
 
-    module _ (e : E) (two : Adds shows b e (root ∷ [])) (over2 : over e ≡ over b) where
+    module _ (e : E) (two : Adds shows b e (root ∷ [])) (over2 : began e ≡ began b) where
       begun : Adds shows a e (target ∷ root ∷ [])
       begun calls h = subst (shows e) (append_assoc calls (target ∷ []) (root ∷ [])) (two (calls ++ target ∷ []) (one calls h))
 
-      pub halts_inside : (f : EditorFault) → Halts shows over refuses trees set e changes f → Halts shows over refuses trees set a (drive trees set) f
-      halts_inside f h = halts_behind shows over refuses trees set a e (drive trees set) (changes ++ ending) f (shown_adds shows a e (target ∷ root ∷ []) (drive trees set) (changes ++ ending) begun refl) (over2 ∙ over1) (halts_before shows over refuses trees set e changes ending (changes ++ ending) f h refl)
+      pub halts_inside : (f : EditorFault) → Halts shows began refuses trees set e changes f → Halts shows began refuses trees set a (drive trees set) f
+      halts_inside f h = halts_behind shows began refuses trees set a e (drive trees set) (changes ++ ending) f (shown_adds shows a e (target ∷ root ∷ []) (drive trees set) (changes ++ ending) begun refl) (over2 ∙ over1) (halts_before shows began refuses trees set e changes ending (changes ++ ending) f h refl)
 
-      pub halts_at_close : {A : Type 0} (d : E) (r : Result A EditorFault) → Adds shows e d changes → over d ≡ over e → IfErr r (Refused shows over refuses d (call.CloseDir [])) → IfErr r (Halts shows over refuses trees set a (drive trees set))
+      pub halts_at_close : {A : Type 0} (d : E) (r : Result A EditorFault) → Adds shows e d changes → began d ≡ began e → IfErr r (Refused shows began refuses d (call.CloseDir [])) → IfErr r (Halts shows began refuses trees set a (drive trees set))
       halts_at_close d (Ok u) three over3 h = tt
       halts_at_close d (Err f) three over3 h =
-          halts_inside2 f (Refusal (stops_later shows over refuses e d changes ending (changes ++ ending) f three over3 (stops_first shows over refuses d (call.CloseDir []) (call.CloseEdit ∷ []) ending f h refl) refl))
+          halts_inside2 f (Refusal (stops_later shows began refuses e d changes ending (changes ++ ending) f three over3 (stops_first shows began refuses d (call.CloseDir []) (call.CloseEdit ∷ []) ending f h refl) refl))
         where
-          halts_inside2 : (f : EditorFault) → Halts shows over refuses trees set e (changes ++ ending) f → Halts shows over refuses trees set a (drive trees set) f
-          halts_inside2 f h = halts_behind shows over refuses trees set a e (drive trees set) (changes ++ ending) f (shown_adds shows a e (target ∷ root ∷ []) (drive trees set) (changes ++ ending) begun refl) (over2 ∙ over1) h
+          halts_inside2 : (f : EditorFault) → Halts shows began refuses trees set e (changes ++ ending) f → Halts shows began refuses trees set a (drive trees set) f
+          halts_inside2 f h = halts_behind shows began refuses trees set a e (drive trees set) (changes ++ ending) f (shown_adds shows a e (target ∷ root ∷ []) (drive trees set) (changes ++ ending) begun refl) (over2 ∙ over1) h
 
   -- ---- the refusal of a drive
 
-  pub refused_inside : (a : E) (f : EditorFault) → shows a [] → Halts shows over refuses trees set a (drive trees set) f → IsDriveRefusal refuses (over a) trees set f
+  pub refused_inside : (a : E) (f : EditorFault) → shows a [] → Halts shows began refuses trees set a (drive trees set) f → IsDriveRefusal refuses (began a) trees set f
   refused_inside a f new (Memory h) = OfMemory h
   refused_inside a f new (Faulty h) = OfSet h
   refused_inside a f new (Refusal s) = OfEditor s.front s.refused s.rest s.is (s.cause [] new)
 
-  pub refused_at_end : {A : Type 0} (a d : E) (r : Result A EditorFault) → shows a [] → Adds shows a d (target ∷ root ∷ (changes ++ call.CloseDir [] ∷ [])) → over d ≡ over a → IfErr r (Refused shows over refuses d call.CloseEdit) → IfErr r (IsDriveRefusal refuses (over a) trees set)
+  pub refused_at_end : {A : Type 0} (a d : E) (r : Result A EditorFault) → shows a [] → Adds shows a d (target ∷ root ∷ (changes ++ call.CloseDir [] ∷ [])) → began d ≡ began a → IfErr r (Refused shows began refuses d call.CloseEdit) → IfErr r (IsDriveRefusal refuses (began a) trees set)
   refused_at_end a d (Ok u) new adds same h = tt
   refused_at_end a d (Err f) new adds same h =
       OfEditor (target ∷ root ∷ (changes ++ call.CloseDir [] ∷ [])) call.CloseEdit [] (ap (λ l. target ∷ root ∷ l) (sym (append_assoc changes (call.CloseDir [] ∷ []) (call.CloseEdit ∷ []))))

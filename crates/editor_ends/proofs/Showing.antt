@@ -44,27 +44,27 @@ shown_same shows a b x y z s e = subst (λ l. Shown shows a b x l) e s
 
 -- ---- where an editor stops
 
-module _ {E : Type 0} (shows : E → List Call → Type 0) (over : E → List PathMap) (refuses : List PathMap → List Call → Call → EditorFault → Type 0) where
+module _ {E O : Type 0} (shows : E → List Call → Type 0) (began : E → O) (refuses : O → List Call → Call → EditorFault → Type 0) where
   -- at the first call that is left
-  pub stops_first : (e : E) (c : Call) (rest left : List Call) (f : EditorFault) → Refused shows over refuses e c f → left ≡ c ∷ rest → Stops shows over refuses e left f
-  stops_first e c rest left f h is = record { front = []; refused = c; rest = rest; is = is; cause = λ calls s. subst (λ l. refuses (over e) l c f) (sym (append-nil calls)) (h calls s) }
+  pub stops_first : (e : E) (c : Call) (rest left : List Call) (f : EditorFault) → Refused shows began refuses e c f → left ≡ c ∷ rest → Stops shows began refuses e left f
+  stops_first e c rest left f h is = record { front = []; refused = c; rest = rest; is = is; cause = λ calls s. subst (λ l. refuses (began e) l c f) (sym (append-nil calls)) (h calls s) }
 
   -- behind what was shown
-  pub stops_later : (a b : E) (more tail left : List Call) (f : EditorFault) → Adds shows a b more → over b ≡ over a → Stops shows over refuses b tail f → left ≡ more ++ tail → Stops shows over refuses a left f
+  pub stops_later : (a b : E) (more tail left : List Call) (f : EditorFault) → Adds shows a b more → began b ≡ began a → Stops shows began refuses b tail f → left ≡ more ++ tail → Stops shows began refuses a left f
   stops_later a b more tail left f adds same s is =
       record {
         front = more ++ s.front;
         refused = s.refused;
         rest = s.rest;
         is = is ∙ ap (λ l. more ++ l) s.is ∙ sym (append_assoc more s.front (s.refused ∷ s.rest));
-        cause = λ calls h. subst (λ l. refuses (over a) l s.refused f) (append_assoc calls more s.front) (subst (λ o. refuses o ((calls ++ more) ++ s.front) s.refused f) same (s.cause (calls ++ more) (adds calls h)));
+        cause = λ calls h. subst (λ l. refuses (began a) l s.refused f) (append_assoc calls more s.front) (subst (λ o. refuses o ((calls ++ more) ++ s.front) s.refused f) same (s.cause (calls ++ more) (adds calls h)));
       }
 
-  pub stops_behind : (a b : E) (x y : List Call) (f : EditorFault) → Shown shows a b x y → over b ≡ over a → Stops shows over refuses b y f → Stops shows over refuses a x f
+  pub stops_behind : (a b : E) (x y : List Call) (f : EditorFault) → Shown shows a b x y → began b ≡ began a → Stops shows began refuses b y f → Stops shows began refuses a x f
   stops_behind a b x y f s same t = stops_later a b s.more y x f s.adds same t s.is
 
   -- with more that is left behind it
-  pub stops_before : (e : E) (front rest left : List Call) (f : EditorFault) → Stops shows over refuses e front f → left ≡ front ++ rest → Stops shows over refuses e left f
+  pub stops_before : (e : E) (front rest left : List Call) (f : EditorFault) → Stops shows began refuses e front f → left ≡ front ++ rest → Stops shows began refuses e left f
   stops_before e front rest left f s is =
       record {
         front = s.front;
@@ -77,42 +77,42 @@ module _ {E : Type 0} (shows : E → List Call → Type 0) (over : E → List Pa
   -- ---- for a result
 
   -- at the first call that is left
-  pub stop_here : {A : Type 0} (e : E) (c : Call) (rest : List Call) (r : Result A EditorFault) → IfErr r (Refused shows over refuses e c) → IfErr r (Stops shows over refuses e (c ∷ rest))
+  pub stop_here : {A : Type 0} (e : E) (c : Call) (rest : List Call) (r : Result A EditorFault) → IfErr r (Refused shows began refuses e c) → IfErr r (Stops shows began refuses e (c ∷ rest))
   stop_here e c rest (Ok x) h = tt
   stop_here e c rest (Err f) h = stops_first e c rest (c ∷ rest) f h refl
 
   -- in what comes first
-  pub stop_before : {A : Type 0} (e : E) (front rest : List Call) (r : Result A EditorFault) → IfErr r (Stops shows over refuses e front) → IfErr r (Stops shows over refuses e (front ++ rest))
+  pub stop_before : {A : Type 0} (e : E) (front rest : List Call) (r : Result A EditorFault) → IfErr r (Stops shows began refuses e front) → IfErr r (Stops shows began refuses e (front ++ rest))
   stop_before e front rest (Ok x) h = tt
   stop_before e front rest (Err f) h = stops_before e front rest (front ++ rest) f h refl
 
   -- in what comes behind what was shown
-  pub stop_later : {A : Type 0} (a b : E) (more tail : List Call) (r : Result A EditorFault) → Adds shows a b more → over b ≡ over a → IfErr r (Stops shows over refuses b tail) → IfErr r (Stops shows over refuses a (more ++ tail))
+  pub stop_later : {A : Type 0} (a b : E) (more tail : List Call) (r : Result A EditorFault) → Adds shows a b more → began b ≡ began a → IfErr r (Stops shows began refuses b tail) → IfErr r (Stops shows began refuses a (more ++ tail))
   stop_later a b more tail (Ok x) adds same h = tt
   stop_later a b more tail (Err f) adds same h = stops_later a b more tail (more ++ tail) f adds same h refl
 
   -- behind one call that was shown
-  pub stop_next : {A : Type 0} (a b : E) (c : Call) (tail : List Call) (r : Result A EditorFault) → Adds shows a b (c ∷ []) → over b ≡ over a → IfErr r (Stops shows over refuses b tail) → IfErr r (Stops shows over refuses a (c ∷ tail))
+  pub stop_next : {A : Type 0} (a b : E) (c : Call) (tail : List Call) (r : Result A EditorFault) → Adds shows a b (c ∷ []) → began b ≡ began a → IfErr r (Stops shows began refuses b tail) → IfErr r (Stops shows began refuses a (c ∷ tail))
   stop_next a b c tail = stop_later a b (c ∷ []) tail
 
   -- the same for a fault
-  pub stopped_before : (e : E) (front rest : List Call) (f : EditorFault) → Stops shows over refuses e front f → Stops shows over refuses e (front ++ rest) f
+  pub stopped_before : (e : E) (front rest : List Call) (f : EditorFault) → Stops shows began refuses e front f → Stops shows began refuses e (front ++ rest) f
   stopped_before e front rest f h = stops_before e front rest (front ++ rest) f h refl
 
-  pub stopped_later : (a b : E) (more tail : List Call) (f : EditorFault) → Adds shows a b more → over b ≡ over a → Stops shows over refuses b tail f → Stops shows over refuses a (more ++ tail) f
+  pub stopped_later : (a b : E) (more tail : List Call) (f : EditorFault) → Adds shows a b more → began b ≡ began a → Stops shows began refuses b tail f → Stops shows began refuses a (more ++ tail) f
   stopped_later a b more tail f adds same h = stops_later a b more tail (more ++ tail) f adds same h refl
 
   -- at the last call of a file, and before it
-  pub stop_last : {A : Type 0} (a b e : E) (opening props text : List Call) (last : Call) (r : Result A EditorFault) → Adds shows a b opening → over b ≡ over a → Adds shows b e (props ++ text) → over e ≡ over b → IfErr r (Refused shows over refuses e last)
-      → IfErr r (Stops shows over refuses a (opening ++ (props ++ (text ++ last ∷ []))))
+  pub stop_last : {A : Type 0} (a b e : E) (opening props text : List Call) (last : Call) (r : Result A EditorFault) → Adds shows a b opening → began b ≡ began a → Adds shows b e (props ++ text) → began e ≡ began b → IfErr r (Refused shows began refuses e last)
+      → IfErr r (Stops shows began refuses a (opening ++ (props ++ (text ++ last ∷ []))))
   stop_last a b e opening props text last r one over1 two over2 h =
       stop_later a b opening (props ++ (text ++ last ∷ [])) r one over1
-      (subst (λ l. IfErr r (Stops shows over refuses b l)) (append_assoc props text (last ∷ [])) (stop_later b e (props ++ text) (last ∷ []) r two over2 (stop_here e last [] r h)))
+      (subst (λ l. IfErr r (Stops shows began refuses b l)) (append_assoc props text (last ∷ [])) (stop_later b e (props ++ text) (last ∷ []) r two over2 (stop_here e last [] r h)))
 
-  pub stopped_middle : (a b : E) (opening props text : List Call) (last : Call) (f : EditorFault) → Adds shows a b opening → over b ≡ over a → Stops shows over refuses b (props ++ text) f
-      → Stops shows over refuses a (opening ++ (props ++ (text ++ last ∷ []))) f
+  pub stopped_middle : (a b : E) (opening props text : List Call) (last : Call) (f : EditorFault) → Adds shows a b opening → began b ≡ began a → Stops shows began refuses b (props ++ text) f
+      → Stops shows began refuses a (opening ++ (props ++ (text ++ last ∷ []))) f
   stopped_middle a b opening props text last f one over1 s =
-      stopped_later a b opening (props ++ (text ++ last ∷ [])) f one over1 (subst (λ l. Stops shows over refuses b l f) (append_assoc props text (last ∷ [])) (stopped_before b (props ++ text) (last ∷ []) f s))
+      stopped_later a b opening (props ++ (text ++ last ∷ [])) f one over1 (subst (λ l. Stops shows began refuses b l f) (append_assoc props text (last ∷ [])) (stopped_before b (props ++ text) (last ∷ []) f s))
 
 -- ---- properties
 

@@ -345,9 +345,9 @@ own_is trees set e f is at = subst (IsOwn trees set) (sym is) (by f (ap (option_
     by NoSource h = h
     by KindMismatch h = h
 
-module _ {E : Type 0} (shows : E → List Call → Type 0) (over : E → List PathMap) (refuses : List PathMap → List Call → Call → EditorFault → Type 0) (trees : List PathMap) (set : List Change) where
+module _ {E O : Type 0} (shows : E → List Call → Type 0) (began : E → O) (refuses : O → List Call → Call → EditorFault → Type 0) (trees : List PathMap) (set : List Change) where
   -- the walk's own refusals halt it at any place
-  pub halts_own : (e : E) (left : List Call) (f : EditorFault) → IsOwn trees set f → Halts shows over refuses trees set e left f
+  pub halts_own : (e : E) (left : List Call) (f : EditorFault) → IsOwn trees set f → Halts shows began refuses trees set e left f
   halts_own e left refusal.OutOfMemory h = Memory refl
   halts_own e left refusal.TooLong h = Faulty h
   halts_own e left refusal.BadPath h = Faulty h
@@ -361,20 +361,20 @@ module _ {E : Type 0} (shows : E → List Call → Type 0) (over : E → List Pa
   halts_own e left refusal.PeerFailed h = Faulty h
 
   -- behind what was shown
-  pub halts_behind : (a b : E) (x y : List Call) (f : EditorFault) → Shown shows a b x y → over b ≡ over a → Halts shows over refuses trees set b y f → Halts shows over refuses trees set a x f
+  pub halts_behind : (a b : E) (x y : List Call) (f : EditorFault) → Shown shows a b x y → began b ≡ began a → Halts shows began refuses trees set b y f → Halts shows began refuses trees set a x f
   halts_behind a b x y f s same (Memory h) = Memory h
   halts_behind a b x y f s same (Faulty h) = Faulty h
-  halts_behind a b x y f s same (Refusal h) = Refusal (stops_behind shows over refuses a b x y f s same h)
+  halts_behind a b x y f s same (Refusal h) = Refusal (stops_behind shows began refuses a b x y f s same h)
 
   -- with more that is left behind it
-  pub halts_before : (e : E) (front rest left : List Call) (f : EditorFault) → Halts shows over refuses trees set e front f → left ≡ front ++ rest → Halts shows over refuses trees set e left f
+  pub halts_before : (e : E) (front rest left : List Call) (f : EditorFault) → Halts shows began refuses trees set e front f → left ≡ front ++ rest → Halts shows began refuses trees set e left f
   halts_before e front rest left f (Memory h) is = Memory h
   halts_before e front rest left f (Faulty h) is = Faulty h
-  halts_before e front rest left f (Refusal h) is = Refusal (stops_before shows over refuses e front rest left f h is)
+  halts_before e front rest left f (Refusal h) is = Refusal (stops_before shows began refuses e front rest left f h is)
 
-  pub halt_before : {A : Type 0} (e : E) (front rest left : List Call) (r : Result A EditorFault) → IfErr r (Stops shows over refuses e front) → left ≡ front ++ rest → IfErr r (Halts shows over refuses trees set e left)
+  pub halt_before : {A : Type 0} (e : E) (front rest left : List Call) (r : Result A EditorFault) → IfErr r (Stops shows began refuses e front) → left ≡ front ++ rest → IfErr r (Halts shows began refuses trees set e left)
   halt_before e front rest left (Ok x) h is = tt
-  halt_before e front rest left (Err f) h is = Refusal (stops_before shows over refuses e front rest left f h is)
+  halt_before e front rest left (Err f) h is = Refusal (stops_before shows began refuses e front rest left f h is)
 
 -- ---- the child on the way
 

@@ -11,7 +11,7 @@ use Rattle.delta_editor.specs.Faults.{refused}
 use Rattle.editor_ends.specs.Drive.{drive}
 
 -- memory ran out, or it is the set's first fault, or it is one that the editor may answer at one of the calls, after those before it
-pub data IsDriveRefusal (refuses : List PathMap → List Call → Call → EditorFault → Type 0) (over : List PathMap) (trees : List PathMap) (set : List Change) (f : EditorFault) : Type 0 where
-  OfMemory : f ≡ OutOfMemory → IsDriveRefusal refuses over trees set f
-  OfSet : option_map refused (fault trees set) ≡ Some f → IsDriveRefusal refuses over trees set f
-  OfEditor : (shown : List Call) (next : Call) (rest : List Call) → drive trees set ≡ shown ++ next ∷ rest → refuses over shown next f → IsDriveRefusal refuses over trees set f
+pub data IsDriveRefusal {O : Type 0} (refuses : O → List Call → Call → EditorFault → Type 0) (began : O) (trees : List PathMap) (set : List Change) (f : EditorFault) : Type 0 where
+  OfMemory : f ≡ OutOfMemory → IsDriveRefusal refuses began trees set f
+  OfSet : option_map refused (fault trees set) ≡ Some f → IsDriveRefusal refuses began trees set f
+  OfEditor : (shown : List Call) (next : Call) (rest : List Call) → drive trees set ≡ shown ++ next ∷ rest → refuses began shown next f → IsDriveRefusal refuses began trees set f

@@ -21,12 +21,12 @@ pub record Shown {E : Type 0} (shows : E → List Call → Type 0) (old new : E)
   pub is : before ≡ more ++ after
 
 -- of the calls that are left to show, one is refused after those before it
-pub record Stops {E : Type 0} (shows : E → List Call → Type 0) (over : E → List PathMap) (refuses : List PathMap → List Call → Call → EditorFault → Type 0) (e : E) (left : List Call) (fault : EditorFault) : Type 0 where
+pub record Stops {E O : Type 0} (shows : E → List Call → Type 0) (began : E → O) (refuses : O → List Call → Call → EditorFault → Type 0) (e : E) (left : List Call) (fault : EditorFault) : Type 0 where
   pub front : List Call
   pub refused : Call
   pub rest : List Call
   pub is : left ≡ front ++ refused ∷ rest
-  pub cause : (calls : List Call) → shows e calls → refuses (over e) (calls ++ front) refused fault
+  pub cause : (calls : List Call) → shows e calls → refuses (began e) (calls ++ front) refused fault
 
 -- the calls for the changes from the i-th on, where `at` is the innermost open directory
 abbrev pub left : List PathMap → List Change → ℕ → Path → List Call
@@ -54,10 +54,10 @@ Entered shows dir_path old new before after at path None = Shown shows old new b
 Entered shows dir_path old new before after at path (Some d) = (dir_path d ≡ path) × Shown shows old new before (after path)
 
 -- memory ran out, or it is the first fault of the changes, or it is a refusal of one of the calls that are left to show
-pub data Halts {E : Type 0} (shows : E → List Call → Type 0) (over : E → List PathMap) (refuses : List PathMap → List Call → Call → EditorFault → Type 0) (trees : List PathMap) (set : List Change) (e : E) (left : List Call) (f : EditorFault) : Type 0 where
-  Memory : f ≡ OutOfMemory → Halts shows over refuses trees set e left f
-  Faulty : option_map refused (fault trees set) ≡ Some f → Halts shows over refuses trees set e left f
-  Refusal : Stops shows over refuses e left f → Halts shows over refuses trees set e left f
+pub data Halts {E O : Type 0} (shows : E → List Call → Type 0) (began : E → O) (refuses : O → List Call → Call → EditorFault → Type 0) (trees : List PathMap) (set : List Change) (e : E) (left : List Call) (f : EditorFault) : Type 0 where
+  Memory : f ≡ OutOfMemory → Halts shows began refuses trees set e left f
+  Faulty : option_map refused (fault trees set) ≡ Some f → Halts shows began refuses trees set e left f
+  Refusal : Stops shows began refuses e left f → Halts shows began refuses trees set e left f
 
 -- memory ran out, or it is the first fault of the changes
 abbrev pub IsOwn : List PathMap → List Change → EditorFault → Type 0

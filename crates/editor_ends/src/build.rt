@@ -2,6 +2,7 @@
 ghost use Rattle.std.specs.Prelude.{◌≡◌, ◌≤◌, ◌||◌, length, not, true, false, Some, None, [], List, IsSome, IfOk, IfErr, OnOk};
 ghost use Rattle.std.specs.Option.{option_copied};
 ghost use Rattle.std.specs.FinMap as map;
+ghost use Rattle.node_base.specs.Tree.{PathMap};
 ghost use Rattle.delta_editor.specs.Nesting.{IsNested};
 ghost use Rattle.delta_editor.specs.declared.call.Call.{Call};
 ghost use Rattle.dump_load.specs.Changes.{is_add, is_delete, settles, IsNormal};
@@ -129,9 +130,11 @@ impl<'a> Editor for BuildEditor<'a> {
 
     ghost file_path = { λ f. f.path };
 
-    ghost over = { λ e. e.trees.now };
+    ghost Began = { List PathMap };
 
-    ghost done_over = { λ d. d.trees.now };
+    ghost began = { λ e. e.trees.now };
+
+    ghost done_began = { λ d. d.trees.now };
 
     ghost refuses = { RefusesWithin };
 

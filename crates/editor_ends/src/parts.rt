@@ -44,10 +44,10 @@ fn open_file<E: Editor>(
     requires up { E.dir_path up.old ≡ above change.now.path }
     requires stays { is_delete change.now.action ≡ false }
     ensures shown { OnOk result (Adds E.shows editor.old editor.new (opening trees.now true change.now)) }
-    ensures stops { IfErr result (Stops E.shows E.over E.refuses editor.old (opening trees.now true change.now)) }
+    ensures stops { IfErr result (Stops E.shows E.began E.refuses editor.old (opening trees.now true change.now)) }
     ensures baton { IfOk result (λ f. E.file_path f ≡ change.now.path) }
     ensures up { E.dir_path up.new ≡ E.dir_path up.old }
-    ensures over { E.over editor.new ≡ E.over editor.old }
+    ensures began { E.began editor.new ≡ E.began editor.old }
 {
     let base = base_of(trees);
     let source = source_of(&change.source);
@@ -73,10 +73,10 @@ fn open_dir<E: Editor>(
     requires up { E.dir_path up.old ≡ above change.now.path }
     requires stays { is_delete change.now.action ≡ false }
     ensures shown { OnOk result (Adds E.shows editor.old editor.new (opening trees.now false change.now)) }
-    ensures stops { IfErr result (Stops E.shows E.over E.refuses editor.old (opening trees.now false change.now)) }
+    ensures stops { IfErr result (Stops E.shows E.began E.refuses editor.old (opening trees.now false change.now)) }
     ensures baton { IfOk result (λ d. E.dir_path d ≡ change.now.path) }
     ensures up { E.dir_path up.new ≡ E.dir_path up.old }
-    ensures over { E.over editor.new ≡ E.over editor.old }
+    ensures began { E.began editor.new ≡ E.began editor.old }
 {
     let base = base_of(trees);
     let source = source_of(&change.source);
@@ -100,9 +100,9 @@ fn give_file<E: Editor>(
 ) -> Result<(), EditorFault>
     requires { E.file_path file.old ≡ change.now.path }
     ensures shown { OnOk result (Adds E.shows editor.old editor.new (option_map_or (prop_calls (call.FileProp change.now.path) old.now) change.now.props [] ++ option_map_or (text_calls change.now.path) change.now.text [])) }
-    ensures stops { IfErr result (Stops E.shows E.over E.refuses editor.old (option_map_or (prop_calls (call.FileProp change.now.path) old.now) change.now.props [] ++ option_map_or (text_calls change.now.path) change.now.text [])) }
+    ensures stops { IfErr result (Stops E.shows E.began E.refuses editor.old (option_map_or (prop_calls (call.FileProp change.now.path) old.now) change.now.props [] ++ option_map_or (text_calls change.now.path) change.now.text [])) }
     ensures baton { E.file_path file.new ≡ E.file_path file.old }
-    ensures over { E.over editor.new ≡ E.over editor.old }
+    ensures began { E.began editor.new ≡ E.began editor.old }
 {
     give_file_props(editor, file, change, old)?;
     give_text(editor, file, change)
@@ -120,9 +120,9 @@ pub fn show_file<E: Editor>(
     requires up { E.dir_path up.old ≡ above change.now.path }
     requires stays { is_delete change.now.action ≡ false }
     ensures shown { OnOk result (Adds E.shows editor.old editor.new (opening trees.now true change.now ++ file_parts change.now old.now)) }
-    ensures stops { IfErr result (Stops E.shows E.over E.refuses editor.old (opening trees.now true change.now ++ file_parts change.now old.now)) }
+    ensures stops { IfErr result (Stops E.shows E.began E.refuses editor.old (opening trees.now true change.now ++ file_parts change.now old.now)) }
     ensures up { E.dir_path up.new ≡ E.dir_path up.old }
-    ensures over { E.over editor.new ≡ E.over editor.old }
+    ensures began { E.began editor.new ≡ E.began editor.old }
 {
     let mut file = open_file(editor, up, trees, change)?;
     match give_file(editor, &mut file, change, old) {
@@ -146,10 +146,10 @@ pub fn show_dir<E: Editor>(
     requires up { E.dir_path up.old ≡ above change.now.path }
     requires stays { is_delete change.now.action ≡ false }
     ensures shown { OnOk result (Adds E.shows editor.old editor.new (opening trees.now false change.now ++ dir_parts change.now old.now)) }
-    ensures stops { IfErr result (Stops E.shows E.over E.refuses editor.old (opening trees.now false change.now ++ dir_parts change.now old.now)) }
+    ensures stops { IfErr result (Stops E.shows E.began E.refuses editor.old (opening trees.now false change.now ++ dir_parts change.now old.now)) }
     ensures baton { IfOk result (λ d. E.dir_path d ≡ change.now.path) }
     ensures up { E.dir_path up.new ≡ E.dir_path up.old }
-    ensures over { E.over editor.new ≡ E.over editor.old }
+    ensures began { E.began editor.new ≡ E.began editor.old }
 {
     let mut dir = open_dir(editor, up, trees, change)?;
     match give_dir(editor, &mut dir, change, old) {

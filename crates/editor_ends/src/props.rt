@@ -19,9 +19,9 @@ fn unset_dir<E: Editor>(
     new: &Props,
 ) -> Result<(), EditorFault>
     ensures shown { OnOk result (Adds E.shows editor.old editor.new (removals (call.DirProp (E.dir_path dir.old)) new.now (map.entries old.now))) }
-    ensures stops { IfErr result (Stops E.shows E.over E.refuses editor.old (removals (call.DirProp (E.dir_path dir.old)) new.now (map.entries old.now))) }
+    ensures stops { IfErr result (Stops E.shows E.began E.refuses editor.old (removals (call.DirProp (E.dir_path dir.old)) new.now (map.entries old.now))) }
     ensures baton { E.dir_path dir.new ≡ E.dir_path dir.old }
-    ensures over { E.over editor.new ≡ E.over editor.old }
+    ensures began { E.began editor.new ≡ E.began editor.old }
 {
     let entries = old.entries();
     for (name, _) in entries {
@@ -36,9 +36,9 @@ fn unset_dir<E: Editor>(
 // Gives a directory each of the new properties.
 fn set_dir<E: Editor>(editor: &mut E, dir: &mut E::Dir, new: &Props) -> Result<(), EditorFault>
     ensures shown { OnOk result (Adds E.shows editor.old editor.new (settings (call.DirProp (E.dir_path dir.old)) (map.entries new.now))) }
-    ensures stops { IfErr result (Stops E.shows E.over E.refuses editor.old (settings (call.DirProp (E.dir_path dir.old)) (map.entries new.now))) }
+    ensures stops { IfErr result (Stops E.shows E.began E.refuses editor.old (settings (call.DirProp (E.dir_path dir.old)) (map.entries new.now))) }
     ensures baton { E.dir_path dir.new ≡ E.dir_path dir.old }
-    ensures over { E.over editor.new ≡ E.over editor.old }
+    ensures began { E.began editor.new ≡ E.began editor.old }
 {
     let entries = new.entries();
     for (name, value) in entries {
@@ -55,9 +55,9 @@ fn unset_file<E: Editor>(
     new: &Props,
 ) -> Result<(), EditorFault>
     ensures shown { OnOk result (Adds E.shows editor.old editor.new (removals (call.FileProp (E.file_path file.old)) new.now (map.entries old.now))) }
-    ensures stops { IfErr result (Stops E.shows E.over E.refuses editor.old (removals (call.FileProp (E.file_path file.old)) new.now (map.entries old.now))) }
+    ensures stops { IfErr result (Stops E.shows E.began E.refuses editor.old (removals (call.FileProp (E.file_path file.old)) new.now (map.entries old.now))) }
     ensures baton { E.file_path file.new ≡ E.file_path file.old }
-    ensures over { E.over editor.new ≡ E.over editor.old }
+    ensures began { E.began editor.new ≡ E.began editor.old }
 {
     let entries = old.entries();
     for (name, _) in entries {
@@ -72,9 +72,9 @@ fn unset_file<E: Editor>(
 // Gives a file each of the new properties.
 fn set_file<E: Editor>(editor: &mut E, file: &mut E::File, new: &Props) -> Result<(), EditorFault>
     ensures shown { OnOk result (Adds E.shows editor.old editor.new (settings (call.FileProp (E.file_path file.old)) (map.entries new.now))) }
-    ensures stops { IfErr result (Stops E.shows E.over E.refuses editor.old (settings (call.FileProp (E.file_path file.old)) (map.entries new.now))) }
+    ensures stops { IfErr result (Stops E.shows E.began E.refuses editor.old (settings (call.FileProp (E.file_path file.old)) (map.entries new.now))) }
     ensures baton { E.file_path file.new ≡ E.file_path file.old }
-    ensures over { E.over editor.new ≡ E.over editor.old }
+    ensures began { E.began editor.new ≡ E.began editor.old }
 {
     let entries = new.entries();
     for (name, value) in entries {
@@ -91,9 +91,9 @@ fn reset_dir<E: Editor>(
     new: &Props,
 ) -> Result<(), EditorFault>
     ensures shown { OnOk result (Adds E.shows editor.old editor.new (prop_calls (call.DirProp (E.dir_path dir.old)) old.now new.now)) }
-    ensures stops { IfErr result (Stops E.shows E.over E.refuses editor.old (prop_calls (call.DirProp (E.dir_path dir.old)) old.now new.now)) }
+    ensures stops { IfErr result (Stops E.shows E.began E.refuses editor.old (prop_calls (call.DirProp (E.dir_path dir.old)) old.now new.now)) }
     ensures baton { E.dir_path dir.new ≡ E.dir_path dir.old }
-    ensures over { E.over editor.new ≡ E.over editor.old }
+    ensures began { E.began editor.new ≡ E.began editor.old }
 {
     unset_dir(editor, dir, old, new)?;
     set_dir(editor, dir, new)
@@ -107,9 +107,9 @@ fn reset_file<E: Editor>(
     new: &Props,
 ) -> Result<(), EditorFault>
     ensures shown { OnOk result (Adds E.shows editor.old editor.new (prop_calls (call.FileProp (E.file_path file.old)) old.now new.now)) }
-    ensures stops { IfErr result (Stops E.shows E.over E.refuses editor.old (prop_calls (call.FileProp (E.file_path file.old)) old.now new.now)) }
+    ensures stops { IfErr result (Stops E.shows E.began E.refuses editor.old (prop_calls (call.FileProp (E.file_path file.old)) old.now new.now)) }
     ensures baton { E.file_path file.new ≡ E.file_path file.old }
-    ensures over { E.over editor.new ≡ E.over editor.old }
+    ensures began { E.began editor.new ≡ E.began editor.old }
 {
     unset_file(editor, file, old, new)?;
     set_file(editor, file, new)
@@ -124,9 +124,9 @@ pub fn give_dir<E: Editor>(
 ) -> Result<(), EditorFault>
     requires { E.dir_path dir.old ≡ change.now.path }
     ensures shown { OnOk result (Adds E.shows editor.old editor.new (dir_parts change.now old.now)) }
-    ensures stops { IfErr result (Stops E.shows E.over E.refuses editor.old (dir_parts change.now old.now)) }
+    ensures stops { IfErr result (Stops E.shows E.began E.refuses editor.old (dir_parts change.now old.now)) }
     ensures baton { E.dir_path dir.new ≡ E.dir_path dir.old }
-    ensures over { E.over editor.new ≡ E.over editor.old }
+    ensures began { E.began editor.new ≡ E.began editor.old }
 {
     match &change.props {
         None => Ok(()),
@@ -143,9 +143,9 @@ pub fn give_file_props<E: Editor>(
 ) -> Result<(), EditorFault>
     requires { E.file_path file.old ≡ change.now.path }
     ensures shown { OnOk result (Adds E.shows editor.old editor.new (option_map_or (prop_calls (call.FileProp change.now.path) old.now) change.now.props [])) }
-    ensures stops { IfErr result (Stops E.shows E.over E.refuses editor.old (option_map_or (prop_calls (call.FileProp change.now.path) old.now) change.now.props [])) }
+    ensures stops { IfErr result (Stops E.shows E.began E.refuses editor.old (option_map_or (prop_calls (call.FileProp change.now.path) old.now) change.now.props [])) }
     ensures baton { E.file_path file.new ≡ E.file_path file.old }
-    ensures over { E.over editor.new ≡ E.over editor.old }
+    ensures began { E.began editor.new ≡ E.began editor.old }
 {
     match &change.props {
         None => Ok(()),

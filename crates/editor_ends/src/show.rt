@@ -38,10 +38,10 @@ fn show_change<E: Editor>(
     requires up { E.dir_path up.old ≡ above change.now.path }
     requires below_root { is_front change.now.path [] ≡ false }
     ensures shown { OnOk result (Adds E.shows editor.old editor.new (calls_with trees.now plan.now.file plan.now.old change.now)) }
-    ensures stops { IfErr result (Stops E.shows E.over E.refuses editor.old (calls_with trees.now plan.now.file plan.now.old change.now)) }
+    ensures stops { IfErr result (Stops E.shows E.began E.refuses editor.old (calls_with trees.now plan.now.file plan.now.old change.now)) }
     ensures rests { IfOk result (λ o. MatchOption o (rests_with plan.now.file change.now ≡ above change.now.path) (λ d. (E.dir_path d ≡ change.now.path) × (rests_with plan.now.file change.now ≡ change.now.path))) }
     ensures up { E.dir_path up.new ≡ E.dir_path up.old }
-    ensures over { E.over editor.new ≡ E.over editor.old }
+    ensures began { E.began editor.new ≡ E.began editor.old }
 {
     if let Action::Delete = change.action {
         editor.delete_entry(up, &change.path, base_of(trees))?;
@@ -74,8 +74,8 @@ fn enter<E: Editor>(
     ensures later { IfOk result (λ o. MatchOption o (E.dir_path up.old ≡ E.dir_path up.old) (λ _. IsLater revision.now.set.now progress.new.next path.now)) }
     ensures up { E.dir_path up.new ≡ E.dir_path up.old }
     ensures shown { IfOk result (Entered E.shows E.dir_path editor.old editor.new (left revision.now.trees.now revision.now.set.now progress.old.next (E.dir_path up.old)) (left revision.now.trees.now revision.now.set.now progress.new.next) (E.dir_path up.old) path.now) }
-    ensures halts { IfErr result (Halts E.shows E.over E.refuses revision.now.trees.now revision.now.set.now editor.old (left revision.now.trees.now revision.now.set.now progress.old.next (E.dir_path up.old))) }
-    ensures over { E.over editor.new ≡ E.over editor.old }
+    ensures halts { IfErr result (Halts E.shows E.began E.refuses revision.now.trees.now revision.now.set.now editor.old (left revision.now.trees.now revision.now.set.now progress.old.next (E.dir_path up.old))) }
+    ensures began { E.began editor.new ≡ E.began editor.old }
 {
     let set = revision.set;
     let change = &set[progress.next];
@@ -134,8 +134,8 @@ fn show_below<E: Editor>(
     ensures baton { E.dir_path dir.new ≡ E.dir_path dir.old }
     ensures past { OnOk result (is_under revision.now.set.now progress.new.next at.now ≡ false) }
     ensures shown { OnOk result (Shown E.shows editor.old editor.new (left revision.now.trees.now revision.now.set.now progress.old.next at.now) (left revision.now.trees.now revision.now.set.now progress.new.next at.now)) }
-    ensures halts { IfErr result (Halts E.shows E.over E.refuses revision.now.trees.now revision.now.set.now editor.old (left revision.now.trees.now revision.now.set.now progress.old.next at.now)) }
-    ensures over { E.over editor.new ≡ E.over editor.old }
+    ensures halts { IfErr result (Halts E.shows E.began E.refuses revision.now.trees.now revision.now.set.now editor.old (left revision.now.trees.now revision.now.set.now progress.old.next at.now)) }
+    ensures began { E.began editor.new ≡ E.began editor.old }
 {
     loop {
         let path = match child_of(revision.alloc, revision.set, progress.next, at)? {
@@ -173,8 +173,8 @@ fn show_root<E: Editor>(
     ensures later { OnOk result (IsLater revision.now.set.now progress.new.next []) }
     ensures baton { E.dir_path root.new ≡ E.dir_path root.old }
     ensures shown { OnOk result (Shown E.shows editor.old editor.new (left revision.now.trees.now revision.now.set.now progress.old.next []) (left revision.now.trees.now revision.now.set.now progress.new.next [])) }
-    ensures halts { IfErr result (Halts E.shows E.over E.refuses revision.now.trees.now revision.now.set.now editor.old (left revision.now.trees.now revision.now.set.now progress.old.next [])) }
-    ensures over { E.over editor.new ≡ E.over editor.old }
+    ensures halts { IfErr result (Halts E.shows E.began E.refuses revision.now.trees.now revision.now.set.now editor.old (left revision.now.trees.now revision.now.set.now progress.old.next [])) }
+    ensures began { E.began editor.new ≡ E.began editor.old }
 {
     let set = revision.set;
     if progress.next >= set.len() {
@@ -202,8 +202,8 @@ fn show_all<E: Editor>(
     ensures faultless { OnOk result (fault revision.now.trees.now revision.now.set.now ≡ None) }
     ensures baton { E.dir_path root.new ≡ E.dir_path root.old }
     ensures shown { OnOk result (Adds E.shows editor.old editor.new (walk revision.now.trees.now [] [] revision.now.set.now)) }
-    ensures halts { IfErr result (Halts E.shows E.over E.refuses revision.now.trees.now revision.now.set.now editor.old (walk revision.now.trees.now [] [] revision.now.set.now)) }
-    ensures over { E.over editor.new ≡ E.over editor.old }
+    ensures halts { IfErr result (Halts E.shows E.began E.refuses revision.now.trees.now revision.now.set.now editor.old (walk revision.now.trees.now [] [] revision.now.set.now)) }
+    ensures began { E.began editor.new ≡ E.began editor.old }
 {
     let mut progress = Progress {
         next: 0,
@@ -220,8 +220,8 @@ fn show_edit<E: Editor>(revision: &Revision<'_>, editor: &mut E) -> Result<(), E
     requires normal { IsNormal revision.now.set.now }
     ensures faultless { OnOk result (fault revision.now.trees.now revision.now.set.now ≡ None) }
     ensures shown { OnOk result (Adds E.shows editor.old editor.new (call.Target (length revision.now.trees.now) ∷ call.OpenRoot (base_number revision.now.trees.now) ∷ (walk revision.now.trees.now [] [] revision.now.set.now ++ call.CloseDir [] ∷ []))) }
-    ensures halts { IfErr result (Halts E.shows E.over E.refuses revision.now.trees.now revision.now.set.now editor.old (calls.drive revision.now.trees.now revision.now.set.now)) }
-    ensures over { E.over editor.new ≡ E.over editor.old }
+    ensures halts { IfErr result (Halts E.shows E.began E.refuses revision.now.trees.now revision.now.set.now editor.old (calls.drive revision.now.trees.now revision.now.set.now)) }
+    ensures began { E.began editor.new ≡ E.began editor.old }
 {
     editor.target(next_number(revision.trees))?;
     let mut root = editor.open_root(base_of(revision.trees))?;
@@ -252,11 +252,11 @@ pub fn drive<E: Editor>(
 ) -> Result<E::Done, EditorFault>
     requires few { length trees.now ≤ 65535 }
     requires new { E.shows editor [] }
-    ensures over { IfOk result (λ d. E.done_over d ≡ E.over editor) }
+    ensures began { IfOk result (λ d. E.done_began d ≡ E.began editor) }
     ensures shown { IfOk result (λ d. E.done_shows d (calls.drive trees.now set.now)) }
     ensures faultless { OnOk result (fault trees.now set.now ≡ None) }
     ensures effect { OnOk result ((q : Path) → call_effect trees.now (calls.drive trees.now set.now) q ≡ effect trees.now set.now q) }
-    ensures refused { IfErr result (IsDriveRefusal E.refuses (E.over editor) trees.now set.now) }
+    ensures refused { IfErr result (IsDriveRefusal E.refuses (E.began editor) trees.now set.now) }
 {
     let revision = Revision {
         alloc,

@@ -10,7 +10,6 @@ use Rattle.ra_edit.specs.ItemStreams.{Takes, Ends, Stops}
 use Rattle.ra_edit.specs.Received.{Goes, Comes, Received, IsRefused, StopsBehind, ShownBefore, RefusesDrive}
 use Rattle.ra_edit.specs.Refusals.{refusal, RefusedFor, Meets, IfOwn}
 use Rattle.ra_edit.specs.declared.receive_command.Command.{Command}
-use Rattle.node_base.specs.Tree.{PathMap}
 use Rattle.delta_editor.specs.declared.fault.EditorFault.{EditorFault}
 use Rattle.ra_edit.specs.declared.receive_command.Command.TheVariants as command
 use Rattle.ra_edit.specs.declared.command_fault.CommandFault.{CommandFault}
@@ -88,15 +87,15 @@ stops_behind own met xs at stood f a b d s t before spent failed lift here p g (
 stops_behind own met xs at stood f a b d s t before spent failed lift here p g (inr (inl q)) = inr (inl (q.0, subst (λ l. Ends l true a d s) (append-nil xs) (takes_end xs [] true a b d s t p q.1)))
 stops_behind own met xs at stood f a b d s t before spent failed lift here p g (inr (inr q)) = inr (inr (record { item = q.item; why = q.why; is = q.is; taken = takes_more xs (q.item ∷ []) a b d s t q.is p q.taken; same = q.same; due = λ x e. subst (λ y. IsRefused met y q.item q.why) (sym e) (lifted own met at q.item q.why lift (q.due at here)) }))
 
-pub drive_refused : {E : Type 0} (shows : E → List Call → Type 0) (over : E → List PathMap) (refuses : List PathMap → List Call → Call → EditorFault → Type 0) (old mid : E) (a b d : Option (List ℕ)) (s t : List ℕ → Stream) (before spent failed : Bool) (stood : At → Type 0) (f : EditFault) → over mid ≡ over old → Goes shows old mid a b s t stood → (spent ≡ true → before ≡ true) → StopsBehind (Meets shows over refuses mid) [] stood b d t spent failed f → RefusesDrive shows over refuses old a d s before failed f
-drive_refused shows over refuses old mid a b d s t before spent failed stood f same k g q = record { items = k.items; calls = k.calls; at = k.at; say = k.say; stops = stops_behind (Meets shows over refuses mid) (Meets (ShownBefore shows k.calls) over refuses old) k.items k.at stood f a b d s t before spent failed (λ c e. met_before shows over refuses old mid k.calls k.at c e k.shown same) k.here k.taken g q }
+pub drive_refused : {E O : Type 0} (shows : E → List Call → Type 0) (began : E → O) (refuses : O → List Call → Call → EditorFault → Type 0) (old mid : E) (a b d : Option (List ℕ)) (s t : List ℕ → Stream) (before spent failed : Bool) (stood : At → Type 0) (f : EditFault) → began mid ≡ began old → Goes shows old mid a b s t stood → (spent ≡ true → before ≡ true) → StopsBehind (Meets shows began refuses mid) [] stood b d t spent failed f → RefusesDrive shows began refuses old a d s before failed f
+drive_refused shows began refuses old mid a b d s t before spent failed stood f same k g q = record { items = k.items; calls = k.calls; at = k.at; say = k.say; stops = stops_behind (Meets shows began refuses mid) (Meets (ShownBefore shows k.calls) began refuses old) k.items k.at stood f a b d s t before spent failed (λ c e. met_before shows began refuses old mid k.calls k.at c e k.shown same) k.here k.taken g q }
 
 -- at the end of a drive
-pub end_refused : {E : Type 0} (shows : E → List Call → Type 0) (over : E → List PathMap) (refuses : List PathMap → List Call → Call → EditorFault → Type 0) (start old new : E) (a b : Option (List ℕ)) (s t : List ℕ → Stream) (before failed : Bool) (stands : At → Type 0) (f : CommandFault) → old ≡ start → over new ≡ over old → ((at : At) → stands at → RefusedFor f (refusal at command.Finish)) → IfOwn (λ e. (at : At) → stands at → Meets shows over refuses new at command.Finish e) f → Comes shows old new a b s t stands → RefusesDrive shows over refuses start a b s before failed (of_command f)
-end_refused shows over refuses start old new a b s t before failed stands f is same why own k = subst (λ x. RefusesDrive shows over refuses x a b s before failed (of_command f)) is (record {
+pub end_refused : {E O : Type 0} (shows : E → List Call → Type 0) (began : E → O) (refuses : O → List Call → Call → EditorFault → Type 0) (start old new : E) (a b : Option (List ℕ)) (s t : List ℕ → Stream) (before failed : Bool) (stands : At → Type 0) (f : CommandFault) → old ≡ start → began new ≡ began old → ((at : At) → stands at → RefusedFor f (refusal at command.Finish)) → IfOwn (λ e. (at : At) → stands at → Meets shows began refuses new at command.Finish e) f → Comes shows old new a b s t stands → RefusesDrive shows began refuses start a b s before failed (of_command f)
+end_refused shows began refuses start old new a b s t before failed stands f is same why own k = subst (λ x. RefusesDrive shows began refuses x a b s before failed (of_command f)) is (record {
   items = k.items;
   calls = k.calls;
   at = k.at;
   say = k.say;
-  stops = inr (inr (record { item = k.last; why = f; is = t; taken = k.taken; same = refl; due = λ x e. subst (λ y. IsRefused (Meets (ShownBefore shows k.calls) over refuses old) y k.last f) (sym e) (inr (command.Finish, k.end, why k.at k.here, own_map f (λ g m. met_before shows over refuses old new k.calls k.at command.Finish g k.shown same (m k.at k.here)) own)) }));
+  stops = inr (inr (record { item = k.last; why = f; is = t; taken = k.taken; same = refl; due = λ x e. subst (λ y. IsRefused (Meets (ShownBefore shows k.calls) began refuses old) y k.last f) (sym e) (inr (command.Finish, k.end, why k.at k.here, own_map f (λ g m. met_before shows began refuses old new k.calls k.at command.Finish g k.shown same (m k.at k.here)) own)) }));
 })

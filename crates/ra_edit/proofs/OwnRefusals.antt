@@ -3,7 +3,6 @@ use Rattle.std.proofs.Common.{◌≡◌, ℕ, Bool, List, [], ◌∷◌, ◌++�
 use Rattle.std.specs.List.{concat}
 use Rattle.std.proofs.lemmas.List.{map-append}
 use Rattle.node_base.specs.Path.{Path}
-use Rattle.node_base.specs.Tree.{PathMap}
 use Rattle.delta_editor.specs.Calls.{Adds, Refused}
 use Rattle.delta_editor.specs.declared.call.Call.{Call}
 use Rattle.delta_editor.specs.declared.call.Call.TheVariants as call
@@ -28,8 +27,8 @@ use Rattle.ra_edit.specs.declared.receive_edit.Stage.TheVariants as stage
 use Rattle.ra_edit.proofs.EditRead.{behind}
 use Rattle.ra_edit.proofs.Steps.{inner, with_file, not_here}
 
-abbrev Refusing : Type 1
-Refusing = List PathMap → List Call → Call → EditorFault → Type 0
+abbrev Refusing : Type 0 → Type 1
+Refusing O = O → List Call → Call → EditorFault → Type 0
 
 -- ---- faults
 
@@ -56,17 +55,17 @@ window_own Q window.CopyWindow = tt
 
 -- ---- one call
 
-pub at_once : {S : Type 0} (shows : S → List Call → Type 0) (over : S → List PathMap) (refuses : Refusing) (old mid : S) (c d : Call) (f : EditorFault) → mid ≡ old → d ≡ c → Refused shows over refuses mid d f → RefusesOne shows over refuses old (c ∷ []) f
-at_once shows over refuses old mid c d f e same h = record {
+pub at_once : {S O : Type 0} (shows : S → List Call → Type 0) (began : S → O) (refuses : Refusing O) (old mid : S) (c d : Call) (f : EditorFault) → mid ≡ old → d ≡ c → Refused shows began refuses mid d f → RefusesOne shows began refuses old (c ∷ []) f
+at_once shows began refuses old mid c d f e same h = record {
   before = [];
   next = c;
   rest = [];
   among = refl;
-  met = λ shown s. subst (λ l. refuses (over old) l c f) (sym (append-nil shown)) (subst (λ x. refuses (over old) shown x f) same (subst (λ x. Refused shows over refuses x d f) e h shown s));
+  met = λ shown s. subst (λ l. refuses (began old) l c f) (sym (append-nil shown)) (subst (λ x. refuses (began old) shown x f) same (subst (λ x. Refused shows began refuses x d f) e h shown s));
 }
 
-pub met : {S : Type 0} (shows : S → List Call → Type 0) (over : S → List PathMap) (refuses : Refusing) (old mid : S) (at : At) (k d : Call) (c : Command) (f : EditorFault) → mid ≡ old → d ≡ k → Asks at c (k ∷ []) → Refused shows over refuses mid d f → Meets shows over refuses old at c f
-met shows over refuses old mid at k d c f e same asked h = record { calls = k ∷ []; asked = asked; one = at_once shows over refuses old mid k d f e same h }
+pub met : {S O : Type 0} (shows : S → List Call → Type 0) (began : S → O) (refuses : Refusing O) (old mid : S) (at : At) (k d : Call) (c : Command) (f : EditorFault) → mid ≡ old → d ≡ k → Asks at c (k ∷ []) → Refused shows began refuses mid d f → Meets shows began refuses old at c f
+met shows began refuses old mid at k d c f e same asked h = record { calls = k ∷ []; asked = asked; one = at_once shows began refuses old mid k d f e same h }
 
 -- a directory is open where it is one of those that are
 pub open_in : {D F : Type 0} (dp : D → Path) (fp : F → Path) (st : Stage) (dirs : List (OpenDir D)) (file : Option (OpenFile F)) (at : At) (t : List ℕ) (p : Path) → Stands dp fp st dirs file at → IsOpenDir t p (dirs_named dp dirs) → IsOpenDir t p (open_of at)
@@ -77,19 +76,19 @@ open_in dp fp stage.Inside dirs None at t p h is = subst (λ a. IsOpenDir t p (o
 open_in dp fp stage.Inside dirs (Some f) at t p h is = subst (λ a. IsOpenDir t p (open_of a)) (sym h.1) (subst (λ o. IsOpenDir t p o) (sym h.2.2) (behind (named f.token.items (fp f.baton) h.2.0) t p (dirs_named dp dirs) is))
 
 -- where the innermost open thing is a directory
-pub dir_met : {D F S : Type 0} (dp : D → Path) (fp : F → Path) (shows : S → List Call → Type 0) (over : S → List PathMap) (refuses : Refusing) (old mid : S) (st : Stage) (dirs outer : List (OpenDir D)) (d : OpenDir D) (file : Option (OpenFile F)) (at : At) (k : Path → Call) (c' : Call) (c : Command) (f : EditorFault)
+pub dir_met : {D F S O : Type 0} (dp : D → Path) (fp : F → Path) (shows : S → List Call → Type 0) (began : S → O) (refuses : Refusing O) (old mid : S) (st : Stage) (dirs outer : List (OpenDir D)) (d : OpenDir D) (file : Option (OpenFile F)) (at : At) (k : Path → Call) (c' : Call) (c : Command) (f : EditorFault)
     → dirs ≡ outer ++ d ∷ [] → file ≡ None → mid ≡ old → c' ≡ k (dp d.baton)
     → ((p : Path) → p ≡ path_at at → Asks at c (k p ∷ []))
-    → Stands dp fp st dirs file at → Refused shows over refuses mid c' f → Meets shows over refuses old at c f
-dir_met dp fp shows over refuses old mid st dirs outer d file at k c' c f was none em ec asks h r =
-    record { calls = k (dp d.baton) ∷ []; asked = asks (dp d.baton) (sym (ap path_at (inner dp fp st dirs outer d file at was none h).1)); one = at_once shows over refuses old mid (k (dp d.baton)) c' f em ec r }
+    → Stands dp fp st dirs file at → Refused shows began refuses mid c' f → Meets shows began refuses old at c f
+dir_met dp fp shows began refuses old mid st dirs outer d file at k c' c f was none em ec asks h r =
+    record { calls = k (dp d.baton) ∷ []; asked = asks (dp d.baton) (sym (ap path_at (inner dp fp st dirs outer d file at was none h).1)); one = at_once shows began refuses old mid (k (dp d.baton)) c' f em ec r }
 
 -- where it is a file
-pub file_met : {D F S : Type 0} (dp : D → Path) (fp : F → Path) (shows : S → List Call → Type 0) (over : S → List PathMap) (refuses : Refusing) (old : S) (st : Stage) (dirs : List (OpenDir D)) (x : OpenFile F) (file : Option (OpenFile F)) (at : At) (k : Path → Call) (c : Command) (f : EditorFault)
+pub file_met : {D F S O : Type 0} (dp : D → Path) (fp : F → Path) (shows : S → List Call → Type 0) (began : S → O) (refuses : Refusing O) (old : S) (st : Stage) (dirs : List (OpenDir D)) (x : OpenFile F) (file : Option (OpenFile F)) (at : At) (k : Path → Call) (c : Command) (f : EditorFault)
     → file ≡ Some x
     → ((p : Path) → p ≡ path_at at → Asks at c (k p ∷ []))
-    → Stands dp fp st dirs file at → RefusesOne shows over refuses old (k (fp x.baton) ∷ []) f → Meets shows over refuses old at c f
-file_met dp fp shows over refuses old st dirs x file at k c f is asks h r =
+    → Stands dp fp st dirs file at → RefusesOne shows began refuses old (k (fp x.baton) ∷ []) f → Meets shows began refuses old at c f
+file_met dp fp shows began refuses old st dirs x file at k c f is asks h r =
     record { calls = k (fp x.baton) ∷ []; asked = asks (fp x.baton) (sym (ap path_at (with_file dp fp st dirs file x at is h).3)); one = r }
 
 -- ---- pieces of a text
@@ -97,12 +96,12 @@ file_met dp fp shows over refuses old st dirs x file at k c f is asks h r =
 pub first_read : (held : Held) (r : Reading) (bytes rest : List ℕ) (new : Reading) (pieces : List (List ℕ)) (text : List ℕ) → held ≡ Within text r → reading (Reads text r) bytes ≡ reading (Reads (text ++ concat pieces) new) rest → ReadFirst held bytes pieces
 first_read held r bytes rest new pieces text e h = subst (λ x. ReadFirst x bytes pieces) (sym e) (rest, new, h)
 
-pub chunk_met : {D F S : Type 0} (dp : D → Path) (fp : F → Path) (shows : S → List Call → Type 0) (over : S → List PathMap) (refuses : Refusing) (old : S) (st : Stage) (dirs : List (OpenDir D)) (x : OpenFile F) (file : Option (OpenFile F)) (at : At) (bytes : List ℕ) (c : Command) (f : EditorFault)
+pub chunk_met : {D F S O : Type 0} (dp : D → Path) (fp : F → Path) (shows : S → List Call → Type 0) (began : S → O) (refuses : Refusing O) (old : S) (st : Stage) (dirs : List (OpenDir D)) (x : OpenFile F) (file : Option (OpenFile F)) (at : At) (bytes : List ℕ) (c : Command) (f : EditorFault)
     → file ≡ Some x
     → ((pieces : List (List ℕ)) (p : Path) → ReadFirst (held_at at) bytes pieces → p ≡ path_at at → Asks at c (map (call.TextPiece p) pieces))
-    → ((held : Held) → GivenIs x.given held → (pieces : List (List ℕ)) × ReadFirst held bytes pieces × RefusesOne shows over refuses old (map (call.TextPiece (fp x.baton)) pieces) f)
-    → Stands dp fp st dirs file at → Meets shows over refuses old at c f
-chunk_met dp fp shows over refuses old st dirs x file at bytes c f is asks k h =
+    → ((held : Held) → GivenIs x.given held → (pieces : List (List ℕ)) × ReadFirst held bytes pieces × RefusesOne shows began refuses old (map (call.TextPiece (fp x.baton)) pieces) f)
+    → Stands dp fp st dirs file at → Meets shows began refuses old at c f
+chunk_met dp fp shows began refuses old st dirs x file at bytes c f is asks k h =
     let w = with_file dp fp st dirs file x at is h in
     let r = k w.0 w.1 in
     record {
@@ -120,40 +119,40 @@ rooted dp fp stage.Inside dirs file at h = ap is_rooted h.1
 rooted dp fp (stage.Announced b) dirs file at h = ap is_rooted h.0
 
 -- after these calls were shown
-pub one_later : {S : Type 0} (shows : S → List Call → Type 0) (over : S → List PathMap) (refuses : Refusing) (old mid : S) (front : List Call) (c d : Call) (rest : List Call) (f : EditorFault) → Adds shows old mid front → over mid ≡ over old → d ≡ c → Refused shows over refuses mid d f → RefusesOne shows over refuses old (front ++ c ∷ rest) f
-one_later shows over refuses old mid front c d rest f adds same e h = record {
+pub one_later : {S O : Type 0} (shows : S → List Call → Type 0) (began : S → O) (refuses : Refusing O) (old mid : S) (front : List Call) (c d : Call) (rest : List Call) (f : EditorFault) → Adds shows old mid front → began mid ≡ began old → d ≡ c → Refused shows began refuses mid d f → RefusesOne shows began refuses old (front ++ c ∷ rest) f
+one_later shows began refuses old mid front c d rest f adds same e h = record {
   before = front;
   next = c;
   rest = rest;
   among = refl;
-  met = λ shown s. subst (λ t. refuses t (shown ++ front) c f) same (subst (λ x. refuses (over mid) (shown ++ front) x f) e (h (shown ++ front) (adds shown s)));
+  met = λ shown s. subst (λ t. refuses t (shown ++ front) c f) same (subst (λ x. refuses (began mid) (shown ++ front) x f) e (h (shown ++ front) (adds shown s)));
 }
 
 -- after pieces of a text
-pub piece_later : {S : Type 0} (shows : S → List Call → Type 0) (over : S → List PathMap) (refuses : Refusing) (old mid : S) (p q : Path) (pieces : List (List ℕ)) (piece : List ℕ) (f : EditorFault) → q ≡ p → Adds shows old mid (map (call.TextPiece p) pieces) → over mid ≡ over old → Refused shows over refuses mid (call.TextPiece q piece) f → RefusesOne shows over refuses old (map (call.TextPiece p) (pieces ++ piece ∷ [])) f
-piece_later shows over refuses old mid p q pieces piece f e adds same h =
-    subst (λ l. RefusesOne shows over refuses old l f) (sym (map-append (call.TextPiece p) pieces (piece ∷ [])))
-    (one_later shows over refuses old mid (map (call.TextPiece p) pieces) (call.TextPiece p piece) (call.TextPiece q piece) [] f adds same (ap (λ x. call.TextPiece x piece) e) h)
+pub piece_later : {S O : Type 0} (shows : S → List Call → Type 0) (began : S → O) (refuses : Refusing O) (old mid : S) (p q : Path) (pieces : List (List ℕ)) (piece : List ℕ) (f : EditorFault) → q ≡ p → Adds shows old mid (map (call.TextPiece p) pieces) → began mid ≡ began old → Refused shows began refuses mid (call.TextPiece q piece) f → RefusesOne shows began refuses old (map (call.TextPiece p) (pieces ++ piece ∷ [])) f
+piece_later shows began refuses old mid p q pieces piece f e adds same h =
+    subst (λ l. RefusesOne shows began refuses old l f) (sym (map-append (call.TextPiece p) pieces (piece ∷ [])))
+    (one_later shows began refuses old mid (map (call.TextPiece p) pieces) (call.TextPiece p piece) (call.TextPiece q piece) [] f adds same (ap (λ x. call.TextPiece x piece) e) h)
 
 -- more calls were asked for
-pub one_more : {S : Type 0} (shows : S → List Call → Type 0) (over : S → List PathMap) (refuses : Refusing) (old new : S) (calls more : List Call) (f : EditorFault) → new ≡ old → RefusesOne shows over refuses new calls f → RefusesOne shows over refuses old (calls ++ more) f
-one_more shows over refuses old new calls more f e r = record {
+pub one_more : {S O : Type 0} (shows : S → List Call → Type 0) (began : S → O) (refuses : Refusing O) (old new : S) (calls more : List Call) (f : EditorFault) → new ≡ old → RefusesOne shows began refuses new calls f → RefusesOne shows began refuses old (calls ++ more) f
+one_more shows began refuses old new calls more f e r = record {
   before = r.before;
   next = r.next;
   rest = r.rest ++ more;
   among = sym (append_assoc r.before (r.next ∷ r.rest) more) ∙ ap (λ l. l ++ more) r.among;
-  met = subst (λ x. (shown : List Call) → shows x shown → refuses (over x) (shown ++ r.before) r.next f) e r.met;
+  met = subst (λ x. (shown : List Call) → shows x shown → refuses (began x) (shown ++ r.before) r.next f) e r.met;
 }
 
-pub end_met : {D F S : Type 0} (dp : D → Path) (fp : F → Path) (shows : S → List Call → Type 0) (over : S → List PathMap) (refuses : Refusing) (old : S) (st : Stage) (dirs : List (OpenDir D)) (file : Option (OpenFile F)) (at : At) (root : Bool) (f : EditorFault)
-    → root ≡ has_root st → Stands dp fp st dirs file at → RefusesOne shows over refuses old (last_calls root) f → Meets shows over refuses old at command.Finish f
-end_met dp fp shows over refuses old st dirs file at root f e h r =
+pub end_met : {D F S O : Type 0} (dp : D → Path) (fp : F → Path) (shows : S → List Call → Type 0) (began : S → O) (refuses : Refusing O) (old : S) (st : Stage) (dirs : List (OpenDir D)) (file : Option (OpenFile F)) (at : At) (root : Bool) (f : EditorFault)
+    → root ≡ has_root st → Stands dp fp st dirs file at → RefusesOne shows began refuses old (last_calls root) f → Meets shows began refuses old at command.Finish f
+end_met dp fp shows began refuses old st dirs file at root f e h r =
     record { calls = last_calls root; asked = ap last_calls (e ∙ sym (rooted dp fp st dirs file at h)); one = r }
 
 -- ---- behind the calls before
 
-pub met_before : {S : Type 0} (shows : S → List Call → Type 0) (over : S → List PathMap) (refuses : Refusing) (old mid : S) (calls : List Call) (at : At) (c : Command) (f : EditorFault) → Adds shows old mid calls → over mid ≡ over old → Meets shows over refuses mid at c f → Meets (ShownBefore shows calls) over refuses old at c f
-met_before shows over refuses old mid calls at c f adds same m = record {
+pub met_before : {S O : Type 0} (shows : S → List Call → Type 0) (began : S → O) (refuses : Refusing O) (old mid : S) (calls : List Call) (at : At) (c : Command) (f : EditorFault) → Adds shows old mid calls → began mid ≡ began old → Meets shows began refuses mid at c f → Meets (ShownBefore shows calls) began refuses old at c f
+met_before shows began refuses old mid calls at c f adds same m = record {
   calls = m.calls;
   asked = m.asked;
   one = record {
@@ -161,10 +160,10 @@ met_before shows over refuses old mid calls at c f adds same m = record {
     next = m.one.next;
     rest = m.one.rest;
     among = m.one.among;
-    met = λ all k. subst (λ t. refuses t (all ++ m.one.before) m.one.next f) same (subst (λ l. refuses (over mid) (l ++ m.one.before) m.one.next f) (sym k.2) (m.one.met (k.0 ++ calls) (adds k.0 k.1)));
+    met = λ all k. subst (λ t. refuses t (all ++ m.one.before) m.one.next f) same (subst (λ l. refuses (began mid) (l ++ m.one.before) m.one.next f) (sym k.2) (m.one.met (k.0 ++ calls) (adds k.0 k.1)));
   };
 }
 
 -- what holds of one command holds of the command that is it
-pub as_own : {S : Type 0} (shows : S → List Call → Type 0) (over : S → List PathMap) (refuses : Refusing) (e : S) (r : Result (Unit {0}) CommandFault) (c d : Command) (P : At → Type 0) → c ≡ d → IfErr r (IfOwn (λ f. (at : At) → P at → Meets shows over refuses e at d f)) → IfErr r (IfOwn (λ f. (at : At) → P at → Meets shows over refuses e at c f))
-as_own shows over refuses e r c d P is h = subst (λ x. IfErr r (IfOwn (λ f. (at : At) → P at → Meets shows over refuses e at x f))) (sym is) h
+pub as_own : {S O : Type 0} (shows : S → List Call → Type 0) (began : S → O) (refuses : Refusing O) (e : S) (r : Result (Unit {0}) CommandFault) (c d : Command) (P : At → Type 0) → c ≡ d → IfErr r (IfOwn (λ f. (at : At) → P at → Meets shows began refuses e at d f)) → IfErr r (IfOwn (λ f. (at : At) → P at → Meets shows began refuses e at c f))
+as_own shows began refuses e r c d P is h = subst (λ x. IfErr r (IfOwn (λ f. (at : At) → P at → Meets shows began refuses e at x f))) (sym is) h

@@ -5,7 +5,6 @@ use Rattle.ra_item.specs.Streams.{Stream}
 use Rattle.delta_editor.specs.Calls.{Adds}
 use Rattle.delta_editor.specs.declared.call.Call.{Call}
 use Rattle.delta_editor.specs.declared.fault.EditorFault.{EditorFault}
-use Rattle.node_base.specs.Tree.{PathMap}
 use Rattle.ra_edit.specs.Edits.{At, Begun, AllSay, SpellsEdit, IsCommand}
 use Rattle.ra_edit.specs.Edit.{Stepped}
 use Rattle.ra_edit.specs.EditFaults.{of_command, of_shape}
@@ -77,9 +76,9 @@ abbrev pub ShownBefore : {E : Type 0} → (E → List Call → Type 0) → List 
 ShownBefore shows calls e all = (shown : List Call) × shows e shown × (all ≡ shown ++ calls)
 
 -- a drive was refused behind items that are calls of an edit; by the editor, where it may refuse a call behind these
-pub record RefusesDrive {E : Type 0} (shows : E → List Call → Type 0) (over : E → List PathMap) (refuses : List PathMap → List Call → Call → EditorFault → Type 0) (editor : E) (before after : Option (List ℕ)) (was : List ℕ → Stream) (spent failed : Bool) (f : EditFault) : Type 0 where
+pub record RefusesDrive {E O : Type 0} (shows : E → List Call → Type 0) (began : E → O) (refuses : O → List Call → Call → EditorFault → Type 0) (editor : E) (before after : Option (List ℕ)) (was : List ℕ → Stream) (spent failed : Bool) (f : EditFault) : Type 0 where
   pub items : List Item
   pub calls : List Call
   pub at : At
   pub say : AllSay Begun items calls at
-  pub stops : StopsBehind (Meets (ShownBefore shows calls) over refuses editor) items (λ a. a ≡ at) before after was spent failed f
+  pub stops : StopsBehind (Meets (ShownBefore shows calls) began refuses editor) items (λ a. a ≡ at) before after was spent failed f

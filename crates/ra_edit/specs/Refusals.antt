@@ -4,7 +4,6 @@ use Rattle.std.specs.List.{concat}
 use Rattle.std.specs.Option.{option_map}
 use Rattle.md5.specs.Md5.{md5}
 use Rattle.node_base.specs.Path.{Path, same_name}
-use Rattle.node_base.specs.Tree.{PathMap}
 use Rattle.ra_edit.specs.EditFaults.{of_window}
 use Rattle.ra_item.specs.Items.{Item}
 use Rattle.delta_editor.specs.declared.call.Call.{Call}
@@ -129,12 +128,12 @@ NothingDue = (at to : At) (item : Item) (calls : List Call) (c : Command) → Sa
 -- ---- the editor's own refusals
 
 -- some of these calls were shown, and the next one may be refused so
-pub record RefusesOne {E : Type 0} (shows : E → List Call → Type 0) (over : E → List PathMap) (refuses : List PathMap → List Call → Call → EditorFault → Type 0) (e : E) (calls : List Call) (f : EditorFault) : Type 0 where
+pub record RefusesOne {E O : Type 0} (shows : E → List Call → Type 0) (began : E → O) (refuses : O → List Call → Call → EditorFault → Type 0) (e : E) (calls : List Call) (f : EditorFault) : Type 0 where
   pub before : List Call
   pub next : Call
   pub rest : List Call
   pub among : before ++ next ∷ rest ≡ calls
-  pub met : (shown : List Call) → shows e shown → refuses (over e) (shown ++ before) next f
+  pub met : (shown : List Call) → shows e shown → refuses (began e) (shown ++ before) next f
 
 -- the innermost open thing: its path, and what was given of it
 abbrev pub path_at : At → Path
@@ -177,10 +176,10 @@ Asks at command.Finish calls = calls ≡ last_calls (is_rooted at)
 Asks at command.Abort calls = ⊥
 
 -- a command asks for calls that the editor may refuse so
-pub record Meets {E : Type 0} (shows : E → List Call → Type 0) (over : E → List PathMap) (refuses : List PathMap → List Call → Call → EditorFault → Type 0) (e : E) (at : At) (c : Command) (f : EditorFault) : Type 0 where
+pub record Meets {E O : Type 0} (shows : E → List Call → Type 0) (began : E → O) (refuses : O → List Call → Call → EditorFault → Type 0) (e : E) (at : At) (c : Command) (f : EditorFault) : Type 0 where
   pub calls : List Call
   pub asked : Asks at c calls
-  pub one : RefusesOne shows over refuses e calls f
+  pub one : RefusesOne shows began refuses e calls f
 
 -- this holds of the editor's refusal, where it is one
 abbrev pub IfOwn : (EditorFault → Type 0) → CommandFault → Type 0

@@ -2,7 +2,7 @@
 use Rattle.std.specs.Prelude.{◌≡◌, ℕ, nat_lt, Bool, true, List, [], ◌∷◌, length, Option, Some, ⊤}
 use Rattle.std.specs.List.{list_all}
 use Rattle.std.specs.Io.KnownBytes.{Appends}
-use Rattle.std.specs.Io.Buffered.{writer_inner, writer_buffer}
+use Rattle.std.specs.Io.Buffered.{writer_inner, writer_buffer, writer_capacity}
 use Rattle.node_base.specs.Path.{Path}
 use Rattle.delta_editor.specs.declared.call.Call.{Call}
 use Rattle.delta_editor.specs.declared.call.Call.TheVariants as call
@@ -40,10 +40,26 @@ abbrev pub Numbered : (ℕ → ℕ) → List Path → List Opened → Type 0
 Numbered at opened [] = ⊤
 Numbered at opened (o ∷ os) = (at (length (path_of o)) ≡ number_of opened (path_of o)) × (list_all (λ q. nat_lt (length (path_of q)) (length (path_of o))) os ≡ true) × Numbered at opened os
 
--- behind the bytes that it had when the editor was made, the writer holds those of the calls, and no byte waits; the numbers are
+-- what the writer held when the editor was made
+abbrev pub held_before : {T : Type 0} → (T → Option (List ℕ)) → WireEditor T → Option (List ℕ)
+held_before contents e = contents e.start.value
+
+-- and what it held then, of the writer behind an edit
+abbrev pub done_held_before : {T : Type 0} → (T → Option (List ℕ)) → Written T → Option (List ℕ)
+done_held_before contents d = contents d.start.value
+
+-- the writer behind an edit
+abbrev pub writer_of : {T : Type 0} → Written T → T
+writer_of d = d.out
+
+-- how many bytes the editor has room to keep back
+abbrev pub room_of : {T : Type 0} → WireEditor T → ℕ
+room_of e = writer_capacity e.out
+
+-- behind the bytes that it held when the editor was made, the writer holds those of the calls, and no byte waits; the numbers are
 -- those of the tokens
 pub record Stands {T : Type 0} (contents : T → Option (List ℕ)) (e : WireEditor T) (calls : List Call) (s : Stage) : Type 0 where
-  pub bytes : Appends (contents e.start.value) (contents (writer_inner e.out)) (edit_bytes calls)
+  pub bytes : Appends (held_before contents e) (contents (writer_inner e.out)) (edit_bytes calls)
   pub none_waits : writer_buffer e.out ≡ []
   pub next : e.tokens.next ≡ length (opened_after [] calls)
   pub numbers : Numbered (newest e.tokens) (opened_after [] calls) (open_at s)
@@ -54,4 +70,4 @@ Shows contents e calls = (s : Stage) → run Before calls ≡ Some s → AllDeep
 
 -- and so it is at the end
 abbrev pub Holds : {T : Type 0} → (T → Option (List ℕ)) → Written T → List Call → Type 0
-Holds contents d calls = IsNested calls → AllDeeper calls → Appends (contents d.start.value) (contents d.out) (edit_bytes calls)
+Holds contents d calls = IsNested calls → AllDeeper calls → Appends (done_held_before contents d) (contents (writer_of d)) (edit_bytes calls)

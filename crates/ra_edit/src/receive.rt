@@ -28,8 +28,8 @@ pub fn receive<R: Read + Drop, E: Editor>(
     editor: E,
 ) -> Result<E::Done, EditFault>
     ensures received { IfOk result (λ done. Received E.shows E.done_shows editor done (R.remaining (reader_of items.old)) (R.remaining (reader_of items.new)) (ahead items.old) (ahead items.new)) }
-    ensures over { IfOk result (λ done. E.done_over done ≡ E.over editor) }
-    ensures refused { IfErr result (RefusesDrive E.shows E.over E.refuses editor (R.remaining (reader_of items.old)) (R.remaining (reader_of items.new)) (ahead items.old) (is_spent items.old) (has_failed items.new)) }
+    ensures began { IfOk result (λ done. E.done_began done ≡ E.began editor) }
+    ensures refused { IfErr result (RefusesDrive E.shows E.began E.refuses editor (R.remaining (reader_of items.old)) (R.remaining (reader_of items.new)) (ahead items.old) (is_spent items.old) (has_failed items.new)) }
     ensures failed { has_failed items.new ≡ (has_failed items.old || is_peer result) }
     ensures goes_on { OnOk result (is_spent items.new ≡ false) }
     ensures spent { OnErr result (is_spent items.new ≡ true) }
@@ -56,9 +56,9 @@ fn take_commands<R: Read + Drop, E: Editor>(
     edit: &mut Edit<E>,
 ) -> Result<(), EditFault>
     requires begun { Stands E.dir_path E.file_path edit.old.stage edit.old.dirs.items edit.old.file Begun }
-    ensures over { E.over edit.new.editor ≡ E.over edit.old.editor }
+    ensures began { E.began edit.new.editor ≡ E.began edit.old.editor }
     ensures comes { OnOk result (Comes E.shows edit.old.editor edit.new.editor (R.remaining (reader_of items.old)) (R.remaining (reader_of items.new)) (ahead items.old) (ahead items.new) (Stands E.dir_path E.file_path edit.new.stage edit.new.dirs.items edit.new.file)) }
-    ensures refused { IfErr result (RefusesDrive E.shows E.over E.refuses edit.old.editor (R.remaining (reader_of items.old)) (R.remaining (reader_of items.new)) (ahead items.old) (is_spent items.old) (has_failed items.new)) }
+    ensures refused { IfErr result (RefusesDrive E.shows E.began E.refuses edit.old.editor (R.remaining (reader_of items.old)) (R.remaining (reader_of items.new)) (ahead items.old) (is_spent items.old) (has_failed items.new)) }
     ensures failed { has_failed items.new ≡ (has_failed items.old || is_peer result) }
     ensures goes_on { OnOk result (is_spent items.new ≡ false) }
 {
@@ -76,9 +76,9 @@ fn take_command<R: Read + Drop, E: Editor>(
     items: &mut ItemStream<R>,
     edit: &mut Edit<E>,
 ) -> Result<bool, EditFault>
-    ensures over { E.over edit.new.editor ≡ E.over edit.old.editor }
+    ensures began { E.began edit.new.editor ≡ E.began edit.old.editor }
     ensures taken { IfOk result (TakesOne E.shows edit.old.editor edit.new.editor (R.remaining (reader_of items.old)) (R.remaining (reader_of items.new)) (ahead items.old) (ahead items.new) (Stands E.dir_path E.file_path edit.old.stage edit.old.dirs.items edit.old.file) (Stands E.dir_path E.file_path edit.new.stage edit.new.dirs.items edit.new.file)) }
-    ensures refused { IfErr result (StopsBehind (Meets E.shows E.over E.refuses edit.old.editor) [] (Stands E.dir_path E.file_path edit.old.stage edit.old.dirs.items edit.old.file) (R.remaining (reader_of items.old)) (R.remaining (reader_of items.new)) (ahead items.old) (is_spent items.old) (has_failed items.new)) }
+    ensures refused { IfErr result (StopsBehind (Meets E.shows E.began E.refuses edit.old.editor) [] (Stands E.dir_path E.file_path edit.old.stage edit.old.dirs.items edit.old.file) (R.remaining (reader_of items.old)) (R.remaining (reader_of items.new)) (ahead items.old) (is_spent items.old) (has_failed items.new)) }
     ensures failed { has_failed items.new ≡ (has_failed items.old || is_peer result) }
     ensures goes_on { OnOk result (is_spent items.new ≡ false) }
 {

@@ -103,8 +103,8 @@ impl<E: Editor> Edit<E> {
     pub fn step(&mut self, command: Command) -> Result<bool, CommandFault>
         ensures moved { IfOk result (λ done. (at : At) (item : Item) → Forms command item → Stands E.dir_path E.file_path self.old.stage self.old.dirs.items self.old.file at → Stepped E.shows self.old.editor self.new.editor item at (Stands E.dir_path E.file_path self.new.stage self.new.dirs.items self.new.file) done) }
         ensures refused { IfErr result (λ f. (at : At) → Stands E.dir_path E.file_path self.old.stage self.old.dirs.items self.old.file at → RefusedFor f (refusal at command)) }
-        ensures own { IfErr result (IfOwn (λ f. (at : At) → Stands E.dir_path E.file_path self.old.stage self.old.dirs.items self.old.file at → Meets E.shows E.over E.refuses self.old.editor at command f)) }
-        ensures over { E.over self.new.editor ≡ E.over self.old.editor }
+        ensures own { IfErr result (IfOwn (λ f. (at : At) → Stands E.dir_path E.file_path self.old.stage self.old.dirs.items self.old.file at → Meets E.shows E.began E.refuses self.old.editor at command f)) }
+        ensures began { E.began self.new.editor ≡ E.began self.old.editor }
     {
         match &command {
             Command::Finish => return Ok(true),
@@ -122,8 +122,8 @@ impl<E: Editor> Edit<E> {
     fn perform(&mut self, command: Command) -> Result<(), CommandFault>
         ensures moved { OnOk result ((at : At) (item : Item) → Forms command item → Stands E.dir_path E.file_path self.old.stage self.old.dirs.items self.old.file at → Moves E.shows self.old.editor self.new.editor item at (Stands E.dir_path E.file_path self.new.stage self.new.dirs.items self.new.file)) }
         ensures refused { IfErr result (λ f. (at : At) → is_finish command ≡ false → Stands E.dir_path E.file_path self.old.stage self.old.dirs.items self.old.file at → RefusedFor f (due at command)) }
-        ensures own { IfErr result (IfOwn (λ f. (at : At) → Stands E.dir_path E.file_path self.old.stage self.old.dirs.items self.old.file at → Meets E.shows E.over E.refuses self.old.editor at command f)) }
-        ensures over { E.over self.new.editor ≡ E.over self.old.editor }
+        ensures own { IfErr result (IfOwn (λ f. (at : At) → Stands E.dir_path E.file_path self.old.stage self.old.dirs.items self.old.file at → Meets E.shows E.began E.refuses self.old.editor at command f)) }
+        ensures began { E.began self.new.editor ≡ E.began self.old.editor }
     {
         match command {
             Command::Target(rev) => self.target(rev),
@@ -149,8 +149,8 @@ impl<E: Editor> Edit<E> {
     fn target(&mut self, rev: RevNo) -> Result<(), CommandFault>
         ensures moved { OnOk result ((at : At) (item : Item) → Forms (command.Target rev) item → Stands E.dir_path E.file_path self.old.stage self.old.dirs.items self.old.file at → Moves E.shows self.old.editor self.new.editor item at (Stands E.dir_path E.file_path self.new.stage self.new.dirs.items self.new.file)) }
         ensures refused { IfErr result (λ f. (at : At) → Stands E.dir_path E.file_path self.old.stage self.old.dirs.items self.old.file at → RefusedFor f (due at (command.Target rev))) }
-        ensures own { IfErr result (IfOwn (λ f. (at : At) → Stands E.dir_path E.file_path self.old.stage self.old.dirs.items self.old.file at → Meets E.shows E.over E.refuses self.old.editor at (command.Target rev) f)) }
-        ensures over { E.over self.new.editor ≡ E.over self.old.editor }
+        ensures own { IfErr result (IfOwn (λ f. (at : At) → Stands E.dir_path E.file_path self.old.stage self.old.dirs.items self.old.file at → Meets E.shows E.began E.refuses self.old.editor at (command.Target rev) f)) }
+        ensures began { E.began self.new.editor ≡ E.began self.old.editor }
     {
         let Stage::Begun = self.stage else {
             return Err(CommandFault::BadShape);
@@ -183,8 +183,8 @@ impl<E: Editor> Edit<E> {
     fn open_root(&mut self, base: Option<RevNo>, token: Vec<u8>) -> Result<(), CommandFault>
         ensures moved { OnOk result ((at : At) (item : Item) → Forms (command.OpenRoot base token) item → Stands E.dir_path E.file_path self.old.stage self.old.dirs.items self.old.file at → Moves E.shows self.old.editor self.new.editor item at (Stands E.dir_path E.file_path self.new.stage self.new.dirs.items self.new.file)) }
         ensures refused { IfErr result (λ f. (at : At) → Stands E.dir_path E.file_path self.old.stage self.old.dirs.items self.old.file at → RefusedFor f (due at (command.OpenRoot base token))) }
-        ensures own { IfErr result (IfOwn (λ f. (at : At) → Stands E.dir_path E.file_path self.old.stage self.old.dirs.items self.old.file at → Meets E.shows E.over E.refuses self.old.editor at (command.OpenRoot base token) f)) }
-        ensures over { E.over self.new.editor ≡ E.over self.old.editor }
+        ensures own { IfErr result (IfOwn (λ f. (at : At) → Stands E.dir_path E.file_path self.old.stage self.old.dirs.items self.old.file at → Meets E.shows E.began E.refuses self.old.editor at (command.OpenRoot base token) f)) }
+        ensures began { E.began self.new.editor ≡ E.began self.old.editor }
     {
         if !self.is_unopened() {
             return Err(CommandFault::BadShape);
@@ -260,8 +260,8 @@ impl<E: Editor> Edit<E> {
     ) -> Result<(), CommandFault>
         ensures moved { OnOk result ((at : At) (item : Item) → Forms (command.DeleteEntry path base up) item → Stands E.dir_path E.file_path self.old.stage self.old.dirs.items self.old.file at → Moves E.shows self.old.editor self.new.editor item at (Stands E.dir_path E.file_path self.new.stage self.new.dirs.items self.new.file)) }
         ensures refused { IfErr result (λ f. (at : At) → Stands E.dir_path E.file_path self.old.stage self.old.dirs.items self.old.file at → RefusedFor f (due at (command.DeleteEntry path base up))) }
-        ensures own { IfErr result (IfOwn (λ f. (at : At) → Stands E.dir_path E.file_path self.old.stage self.old.dirs.items self.old.file at → Meets E.shows E.over E.refuses self.old.editor at (command.DeleteEntry path base up) f)) }
-        ensures over { E.over self.new.editor ≡ E.over self.old.editor }
+        ensures own { IfErr result (IfOwn (λ f. (at : At) → Stands E.dir_path E.file_path self.old.stage self.old.dirs.items self.old.file at → Meets E.shows E.began E.refuses self.old.editor at (command.DeleteEntry path base up) f)) }
+        ensures began { E.began self.new.editor ≡ E.began self.old.editor }
     {
         let mut dir = self.take_innermost(up.as_slice())?;
         let done = self.editor.delete_entry(&mut dir.baton, &path, base);
@@ -279,8 +279,8 @@ impl<E: Editor> Edit<E> {
     ) -> Result<(), CommandFault>
         ensures moved { OnOk result ((at : At) (item : Item) → Forms (command.AddDir path up token from) item → Stands E.dir_path E.file_path self.old.stage self.old.dirs.items self.old.file at → Moves E.shows self.old.editor self.new.editor item at (Stands E.dir_path E.file_path self.new.stage self.new.dirs.items self.new.file)) }
         ensures refused { IfErr result (λ f. (at : At) → Stands E.dir_path E.file_path self.old.stage self.old.dirs.items self.old.file at → RefusedFor f (due at (command.AddDir path up token from))) }
-        ensures own { IfErr result (IfOwn (λ f. (at : At) → Stands E.dir_path E.file_path self.old.stage self.old.dirs.items self.old.file at → Meets E.shows E.over E.refuses self.old.editor at (command.AddDir path up token from) f)) }
-        ensures over { E.over self.new.editor ≡ E.over self.old.editor }
+        ensures own { IfErr result (IfOwn (λ f. (at : At) → Stands E.dir_path E.file_path self.old.stage self.old.dirs.items self.old.file at → Meets E.shows E.began E.refuses self.old.editor at (command.AddDir path up token from) f)) }
+        ensures began { E.began self.new.editor ≡ E.began self.old.editor }
     {
         let mut dir = self.take_parent(up.as_slice(), token.as_slice())?;
         let done = self.editor.add_dir(&mut dir.baton, &path, from.as_ref());
@@ -299,8 +299,8 @@ impl<E: Editor> Edit<E> {
     ) -> Result<(), CommandFault>
         ensures moved { OnOk result ((at : At) (item : Item) → Forms (command.OpenDir path up token base) item → Stands E.dir_path E.file_path self.old.stage self.old.dirs.items self.old.file at → Moves E.shows self.old.editor self.new.editor item at (Stands E.dir_path E.file_path self.new.stage self.new.dirs.items self.new.file)) }
         ensures refused { IfErr result (λ f. (at : At) → Stands E.dir_path E.file_path self.old.stage self.old.dirs.items self.old.file at → RefusedFor f (due at (command.OpenDir path up token base))) }
-        ensures own { IfErr result (IfOwn (λ f. (at : At) → Stands E.dir_path E.file_path self.old.stage self.old.dirs.items self.old.file at → Meets E.shows E.over E.refuses self.old.editor at (command.OpenDir path up token base) f)) }
-        ensures over { E.over self.new.editor ≡ E.over self.old.editor }
+        ensures own { IfErr result (IfOwn (λ f. (at : At) → Stands E.dir_path E.file_path self.old.stage self.old.dirs.items self.old.file at → Meets E.shows E.began E.refuses self.old.editor at (command.OpenDir path up token base) f)) }
+        ensures began { E.began self.new.editor ≡ E.began self.old.editor }
     {
         let mut dir = self.take_parent(up.as_slice(), token.as_slice())?;
         let done = self.editor.open_dir(&mut dir.baton, &path, base);
@@ -332,8 +332,8 @@ impl<E: Editor> Edit<E> {
     ) -> Result<(), CommandFault>
         ensures moved { OnOk result ((at : At) (item : Item) → Forms (command.DirProp token name value) item → Stands E.dir_path E.file_path self.old.stage self.old.dirs.items self.old.file at → Moves E.shows self.old.editor self.new.editor item at (Stands E.dir_path E.file_path self.new.stage self.new.dirs.items self.new.file)) }
         ensures refused { IfErr result (λ f. (at : At) → Stands E.dir_path E.file_path self.old.stage self.old.dirs.items self.old.file at → RefusedFor f (due at (command.DirProp token name value))) }
-        ensures own { IfErr result (IfOwn (λ f. (at : At) → Stands E.dir_path E.file_path self.old.stage self.old.dirs.items self.old.file at → Meets E.shows E.over E.refuses self.old.editor at (command.DirProp token name value) f)) }
-        ensures over { E.over self.new.editor ≡ E.over self.old.editor }
+        ensures own { IfErr result (IfOwn (λ f. (at : At) → Stands E.dir_path E.file_path self.old.stage self.old.dirs.items self.old.file at → Meets E.shows E.began E.refuses self.old.editor at (command.DirProp token name value) f)) }
+        ensures began { E.began self.new.editor ≡ E.began self.old.editor }
     {
         let at = self.find(token.as_slice())?;
         let dir = &mut self.dirs[at];
@@ -345,8 +345,8 @@ impl<E: Editor> Edit<E> {
     fn close_dir(&mut self, token: Vec<u8>) -> Result<(), CommandFault>
         ensures moved { OnOk result ((at : At) (item : Item) → Forms (command.CloseDir token) item → Stands E.dir_path E.file_path self.old.stage self.old.dirs.items self.old.file at → Moves E.shows self.old.editor self.new.editor item at (Stands E.dir_path E.file_path self.new.stage self.new.dirs.items self.new.file)) }
         ensures refused { IfErr result (λ f. (at : At) → Stands E.dir_path E.file_path self.old.stage self.old.dirs.items self.old.file at → RefusedFor f (due at (command.CloseDir token))) }
-        ensures own { IfErr result (IfOwn (λ f. (at : At) → Stands E.dir_path E.file_path self.old.stage self.old.dirs.items self.old.file at → Meets E.shows E.over E.refuses self.old.editor at (command.CloseDir token) f)) }
-        ensures over { E.over self.new.editor ≡ E.over self.old.editor }
+        ensures own { IfErr result (IfOwn (λ f. (at : At) → Stands E.dir_path E.file_path self.old.stage self.old.dirs.items self.old.file at → Meets E.shows E.began E.refuses self.old.editor at (command.CloseDir token) f)) }
+        ensures began { E.began self.new.editor ≡ E.began self.old.editor }
     {
         let OpenDir { token: _, baton } = self.take_innermost(token.as_slice())?;
         self.editor.close_dir(baton)?;
@@ -362,8 +362,8 @@ impl<E: Editor> Edit<E> {
     ) -> Result<(), CommandFault>
         ensures moved { OnOk result ((at : At) (item : Item) → Forms (command.AddFile path up token from) item → Stands E.dir_path E.file_path self.old.stage self.old.dirs.items self.old.file at → Moves E.shows self.old.editor self.new.editor item at (Stands E.dir_path E.file_path self.new.stage self.new.dirs.items self.new.file)) }
         ensures refused { IfErr result (λ f. (at : At) → Stands E.dir_path E.file_path self.old.stage self.old.dirs.items self.old.file at → RefusedFor f (due at (command.AddFile path up token from))) }
-        ensures own { IfErr result (IfOwn (λ f. (at : At) → Stands E.dir_path E.file_path self.old.stage self.old.dirs.items self.old.file at → Meets E.shows E.over E.refuses self.old.editor at (command.AddFile path up token from) f)) }
-        ensures over { E.over self.new.editor ≡ E.over self.old.editor }
+        ensures own { IfErr result (IfOwn (λ f. (at : At) → Stands E.dir_path E.file_path self.old.stage self.old.dirs.items self.old.file at → Meets E.shows E.began E.refuses self.old.editor at (command.AddFile path up token from) f)) }
+        ensures began { E.began self.new.editor ≡ E.began self.old.editor }
     {
         let mut dir = self.take_parent(up.as_slice(), token.as_slice())?;
         let done = self.editor.add_file(&mut dir.baton, &path, from.as_ref());
@@ -382,8 +382,8 @@ impl<E: Editor> Edit<E> {
     ) -> Result<(), CommandFault>
         ensures moved { OnOk result ((at : At) (item : Item) → Forms (command.OpenFile path up token base) item → Stands E.dir_path E.file_path self.old.stage self.old.dirs.items self.old.file at → Moves E.shows self.old.editor self.new.editor item at (Stands E.dir_path E.file_path self.new.stage self.new.dirs.items self.new.file)) }
         ensures refused { IfErr result (λ f. (at : At) → Stands E.dir_path E.file_path self.old.stage self.old.dirs.items self.old.file at → RefusedFor f (due at (command.OpenFile path up token base))) }
-        ensures own { IfErr result (IfOwn (λ f. (at : At) → Stands E.dir_path E.file_path self.old.stage self.old.dirs.items self.old.file at → Meets E.shows E.over E.refuses self.old.editor at (command.OpenFile path up token base) f)) }
-        ensures over { E.over self.new.editor ≡ E.over self.old.editor }
+        ensures own { IfErr result (IfOwn (λ f. (at : At) → Stands E.dir_path E.file_path self.old.stage self.old.dirs.items self.old.file at → Meets E.shows E.began E.refuses self.old.editor at (command.OpenFile path up token base) f)) }
+        ensures began { E.began self.new.editor ≡ E.began self.old.editor }
     {
         let mut dir = self.take_parent(up.as_slice(), token.as_slice())?;
         let done = self.editor.open_file(&mut dir.baton, &path, base);
@@ -420,8 +420,8 @@ impl<E: Editor> Edit<E> {
     ) -> Result<(), CommandFault>
         ensures moved { OnOk result ((at : At) (item : Item) → Forms (command.FileProp token name value) item → Stands E.dir_path E.file_path self.old.stage self.old.dirs.items self.old.file at → Moves E.shows self.old.editor self.new.editor item at (Stands E.dir_path E.file_path self.new.stage self.new.dirs.items self.new.file)) }
         ensures refused { IfErr result (λ f. (at : At) → Stands E.dir_path E.file_path self.old.stage self.old.dirs.items self.old.file at → RefusedFor f (due at (command.FileProp token name value))) }
-        ensures own { IfErr result (IfOwn (λ f. (at : At) → Stands E.dir_path E.file_path self.old.stage self.old.dirs.items self.old.file at → Meets E.shows E.over E.refuses self.old.editor at (command.FileProp token name value) f)) }
-        ensures over { E.over self.new.editor ≡ E.over self.old.editor }
+        ensures own { IfErr result (IfOwn (λ f. (at : At) → Stands E.dir_path E.file_path self.old.stage self.old.dirs.items self.old.file at → Meets E.shows E.began E.refuses self.old.editor at (command.FileProp token name value) f)) }
+        ensures began { E.began self.new.editor ≡ E.began self.old.editor }
     {
         let Some(file) = &mut self.file else {
             return Err(CommandFault::BadToken);
@@ -433,8 +433,8 @@ impl<E: Editor> Edit<E> {
     fn text_start(&mut self, token: Vec<u8>) -> Result<(), CommandFault>
         ensures moved { OnOk result ((at : At) (item : Item) → Forms (command.TextStart token) item → Stands E.dir_path E.file_path self.old.stage self.old.dirs.items self.old.file at → Moves E.shows self.old.editor self.new.editor item at (Stands E.dir_path E.file_path self.new.stage self.new.dirs.items self.new.file)) }
         ensures refused { IfErr result (λ f. (at : At) → Stands E.dir_path E.file_path self.old.stage self.old.dirs.items self.old.file at → RefusedFor f (due at (command.TextStart token))) }
-        ensures own { IfErr result (IfOwn (λ f. (at : At) → Stands E.dir_path E.file_path self.old.stage self.old.dirs.items self.old.file at → Meets E.shows E.over E.refuses self.old.editor at (command.TextStart token) f)) }
-        ensures over { E.over self.new.editor ≡ E.over self.old.editor }
+        ensures own { IfErr result (IfOwn (λ f. (at : At) → Stands E.dir_path E.file_path self.old.stage self.old.dirs.items self.old.file at → Meets E.shows E.began E.refuses self.old.editor at (command.TextStart token) f)) }
+        ensures began { E.began self.new.editor ≡ E.began self.old.editor }
     {
         let Some(file) = &mut self.file else {
             return Err(CommandFault::BadToken);
@@ -446,8 +446,8 @@ impl<E: Editor> Edit<E> {
     fn chunk(&mut self, token: Vec<u8>, bytes: Vec<u8>) -> Result<(), CommandFault>
         ensures moved { OnOk result ((at : At) (item : Item) → Forms (command.Chunk token bytes) item → Stands E.dir_path E.file_path self.old.stage self.old.dirs.items self.old.file at → Moves E.shows self.old.editor self.new.editor item at (Stands E.dir_path E.file_path self.new.stage self.new.dirs.items self.new.file)) }
         ensures refused { IfErr result (λ f. (at : At) → Stands E.dir_path E.file_path self.old.stage self.old.dirs.items self.old.file at → RefusedFor f (due at (command.Chunk token bytes))) }
-        ensures own { IfErr result (IfOwn (λ f. (at : At) → Stands E.dir_path E.file_path self.old.stage self.old.dirs.items self.old.file at → Meets E.shows E.over E.refuses self.old.editor at (command.Chunk token bytes) f)) }
-        ensures over { E.over self.new.editor ≡ E.over self.old.editor }
+        ensures own { IfErr result (IfOwn (λ f. (at : At) → Stands E.dir_path E.file_path self.old.stage self.old.dirs.items self.old.file at → Meets E.shows E.began E.refuses self.old.editor at (command.Chunk token bytes) f)) }
+        ensures began { E.began self.new.editor ≡ E.began self.old.editor }
     {
         let Some(file) = &mut self.file else {
             return Err(CommandFault::BadToken);
@@ -459,8 +459,8 @@ impl<E: Editor> Edit<E> {
     fn text_end(&mut self, token: Vec<u8>) -> Result<(), CommandFault>
         ensures moved { OnOk result ((at : At) (item : Item) → Forms (command.TextEnd token) item → Stands E.dir_path E.file_path self.old.stage self.old.dirs.items self.old.file at → Moves E.shows self.old.editor self.new.editor item at (Stands E.dir_path E.file_path self.new.stage self.new.dirs.items self.new.file)) }
         ensures refused { IfErr result (λ f. (at : At) → Stands E.dir_path E.file_path self.old.stage self.old.dirs.items self.old.file at → RefusedFor f (due at (command.TextEnd token))) }
-        ensures own { IfErr result (IfOwn (λ f. (at : At) → Stands E.dir_path E.file_path self.old.stage self.old.dirs.items self.old.file at → Meets E.shows E.over E.refuses self.old.editor at (command.TextEnd token) f)) }
-        ensures over { E.over self.new.editor ≡ E.over self.old.editor }
+        ensures own { IfErr result (IfOwn (λ f. (at : At) → Stands E.dir_path E.file_path self.old.stage self.old.dirs.items self.old.file at → Meets E.shows E.began E.refuses self.old.editor at (command.TextEnd token) f)) }
+        ensures began { E.began self.new.editor ≡ E.began self.old.editor }
     {
         let Some(file) = &mut self.file else {
             return Err(CommandFault::BadToken);
@@ -472,8 +472,8 @@ impl<E: Editor> Edit<E> {
     fn close_file(&mut self, token: Vec<u8>, sum: Option<[u8; 16]>) -> Result<(), CommandFault>
         ensures moved { OnOk result ((at : At) (item : Item) → Forms (command.CloseFile token sum) item → Stands E.dir_path E.file_path self.old.stage self.old.dirs.items self.old.file at → Moves E.shows self.old.editor self.new.editor item at (Stands E.dir_path E.file_path self.new.stage self.new.dirs.items self.new.file)) }
         ensures refused { IfErr result (λ f. (at : At) → Stands E.dir_path E.file_path self.old.stage self.old.dirs.items self.old.file at → RefusedFor f (due at (command.CloseFile token sum))) }
-        ensures own { IfErr result (IfOwn (λ f. (at : At) → Stands E.dir_path E.file_path self.old.stage self.old.dirs.items self.old.file at → Meets E.shows E.over E.refuses self.old.editor at (command.CloseFile token sum) f)) }
-        ensures over { E.over self.new.editor ≡ E.over self.old.editor }
+        ensures own { IfErr result (IfOwn (λ f. (at : At) → Stands E.dir_path E.file_path self.old.stage self.old.dirs.items self.old.file at → Meets E.shows E.began E.refuses self.old.editor at (command.CloseFile token sum) f)) }
+        ensures began { E.began self.new.editor ≡ E.began self.old.editor }
     {
         let OpenFile {
             token: _,
@@ -522,8 +522,8 @@ impl<E: Editor> Edit<E> {
     fn close_edit(&mut self) -> Result<(), CommandFault>
         ensures moved { OnOk result ((at : At) (item : Item) → Forms (command.CloseEdit) item → Stands E.dir_path E.file_path self.old.stage self.old.dirs.items self.old.file at → Moves E.shows self.old.editor self.new.editor item at (Stands E.dir_path E.file_path self.new.stage self.new.dirs.items self.new.file)) }
         ensures refused { IfErr result (λ f. (at : At) → Stands E.dir_path E.file_path self.old.stage self.old.dirs.items self.old.file at → RefusedFor f (due at (command.CloseEdit))) }
-        ensures own { IfErr result (IfOwn (λ f. (at : At) → Stands E.dir_path E.file_path self.old.stage self.old.dirs.items self.old.file at → Meets E.shows E.over E.refuses self.old.editor at (command.CloseEdit) f)) }
-        ensures over { E.over self.new.editor ≡ E.over self.old.editor }
+        ensures own { IfErr result (IfOwn (λ f. (at : At) → Stands E.dir_path E.file_path self.old.stage self.old.dirs.items self.old.file at → Meets E.shows E.began E.refuses self.old.editor at (command.CloseEdit) f)) }
+        ensures began { E.began self.new.editor ≡ E.began self.old.editor }
     {
         if self.is_announced() {
             return Err(CommandFault::BadShape);
@@ -551,9 +551,9 @@ impl<E: Editor> Edit<E> {
     /// `BadToken` (46) where something is open; then it is discarded, and the edit is aborted.
     pub fn finish(self) -> Result<E::Done, CommandFault>
         ensures done { IfOk result (λ d. (at : At) (item : Item) → IsCommand (codes "finish-replay") [] item → Stands E.dir_path E.file_path self.stage self.dirs.items self.file at → Finishes E.shows E.done_shows self.editor d item at) }
-        ensures over { IfOk result (λ d. E.done_over d ≡ E.over self.editor) }
+        ensures began { IfOk result (λ d. E.done_began d ≡ E.began self.editor) }
         ensures refused { IfErr result (λ f. (at : At) → Stands E.dir_path E.file_path self.stage self.dirs.items self.file at → RefusedFor f (refusal at command.Finish)) }
-        ensures own { IfErr result (IfOwn (λ f. (at : At) → Stands E.dir_path E.file_path self.stage self.dirs.items self.file at → Meets E.shows E.over E.refuses self.editor at command.Finish f)) }
+        ensures own { IfErr result (IfOwn (λ f. (at : At) → Stands E.dir_path E.file_path self.stage self.dirs.items self.file at → Meets E.shows E.began E.refuses self.editor at command.Finish f)) }
     {
         if !self.is_closed() {
             self.abort();
@@ -637,8 +637,8 @@ fn slice_of(value: &Option<Vec<u8>>) -> Option<&[u8]>
 // The root, opened without a base and closed.
 fn show_root<E: Editor>(editor: &mut E) -> Result<(), EditorFault>
     ensures shown { OnOk result (Adds E.shows editor.old editor.new (call.OpenRoot None ∷ call.CloseDir [] ∷ [])) }
-    ensures refused { IfErr result (RefusesOne E.shows E.over E.refuses editor.old (call.OpenRoot None ∷ call.CloseDir [] ∷ [])) }
-    ensures over { E.over editor.new ≡ E.over editor.old }
+    ensures refused { IfErr result (RefusesOne E.shows E.began E.refuses editor.old (call.OpenRoot None ∷ call.CloseDir [] ∷ [])) }
+    ensures began { E.began editor.new ≡ E.began editor.old }
 {
     let root = editor.open_root(None)?;
     editor.close_dir(root)?;
@@ -655,8 +655,8 @@ fn give_prop<E: Editor>(
 ) -> Result<(), CommandFault>
     ensures moved { OnOk result ((item : Item) → Forms (command.FileProp token name value) item → FileMoves E.file_path E.shows editor.old editor.new item file.old file.new) }
     ensures refused { IfErr result (λ f. RefusedFor f (for_token token.items file.old.token.items None)) }
-    ensures own { IfErr result (IfOwn (RefusesOne E.shows E.over E.refuses editor.old (call.FileProp (E.file_path file.old.baton) name (option_map (λ s. s.items) value) ∷ []))) }
-    ensures over { E.over editor.new ≡ E.over editor.old }
+    ensures own { IfErr result (IfOwn (RefusesOne E.shows E.began E.refuses editor.old (call.FileProp (E.file_path file.old.baton) name (option_map (λ s. s.items) value) ∷ []))) }
+    ensures began { E.began editor.new ≡ E.began editor.old }
 {
     if !is_same(file.token.as_slice(), token.as_slice()) {
         return Err(CommandFault::BadToken);
@@ -673,8 +673,8 @@ fn begin_text<E: Editor>(
 ) -> Result<(), CommandFault>
     ensures moved { OnOk result ((item : Item) → Forms (command.TextStart token) item → FileMoves E.file_path E.shows editor.old editor.new item file.old file.new) }
     ensures refused { IfErr result (λ f. (held : Held) → GivenIs file.old.given held → RefusedFor f (for_token token.items file.old.token.items (at_start held))) }
-    ensures own { IfErr result (IfOwn (RefusesOne E.shows E.over E.refuses editor.old (call.TextStart (E.file_path file.old.baton) ∷ []))) }
-    ensures over { E.over editor.new ≡ E.over editor.old }
+    ensures own { IfErr result (IfOwn (RefusesOne E.shows E.began E.refuses editor.old (call.TextStart (E.file_path file.old.baton) ∷ []))) }
+    ensures began { E.began editor.new ≡ E.began editor.old }
 {
     if !is_same(file.token.as_slice(), token.as_slice()) {
         return Err(CommandFault::BadToken);
@@ -696,8 +696,8 @@ fn give_bytes<E: Editor>(
 ) -> Result<(), CommandFault>
     ensures moved { OnOk result ((item : Item) → Forms (command.Chunk token bytes) item → FileMoves E.file_path E.shows editor.old editor.new item file.old file.new) }
     ensures refused { IfErr result (λ f. (held : Held) → GivenIs file.old.given held → RefusedFor f (for_token token.items file.old.token.items (at_chunk bytes.items held))) }
-    ensures own { IfErr result (IfOwn (λ f. (held : Held) → GivenIs file.old.given held → (pieces : List (List ℕ)) × ReadFirst held bytes.items pieces × RefusesOne E.shows E.over E.refuses editor.old (map (call.TextPiece (E.file_path file.old.baton)) pieces) f)) }
-    ensures over { E.over editor.new ≡ E.over editor.old }
+    ensures own { IfErr result (IfOwn (λ f. (held : Held) → GivenIs file.old.given held → (pieces : List (List ℕ)) × ReadFirst held bytes.items pieces × RefusesOne E.shows E.began E.refuses editor.old (map (call.TextPiece (E.file_path file.old.baton)) pieces) f)) }
+    ensures began { E.began editor.new ≡ E.began editor.old }
 {
     if !is_same(file.token.as_slice(), token.as_slice()) {
         return Err(CommandFault::BadToken);
@@ -717,8 +717,8 @@ fn close_text<E: Editor>(
 ) -> Result<(), CommandFault>
     ensures moved { OnOk result ((item : Item) → Forms (command.TextEnd token) item → FileMoves E.file_path E.shows editor.old editor.new item file.old file.new) }
     ensures refused { IfErr result (λ f. (held : Held) → GivenIs file.old.given held → RefusedFor f (for_token token.items file.old.token.items (at_end held))) }
-    ensures own { IfErr result (IfOwn (RefusesOne E.shows E.over E.refuses editor.old (call.TextEnd (E.file_path file.old.baton) ∷ []))) }
-    ensures over { E.over editor.new ≡ E.over editor.old }
+    ensures own { IfErr result (IfOwn (RefusesOne E.shows E.began E.refuses editor.old (call.TextEnd (E.file_path file.old.baton) ∷ []))) }
+    ensures began { E.began editor.new ≡ E.began editor.old }
 {
     if !is_same(file.token.as_slice(), token.as_slice()) {
         return Err(CommandFault::BadToken);

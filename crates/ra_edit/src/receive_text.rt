@@ -24,8 +24,8 @@ fn take_stretch<E: Editor>(
     ensures pieces { OnOk result ((pieces : List (List ℕ)) × (concat pieces ≡ bytes.now) × Adds E.shows editor.old editor.new (map (call.TextPiece (E.file_path file.old)) pieces) × (pieces ≡ with_piece bytes.now [])) }
     ensures sum { OnOk result ((text : List ℕ) → Holds sum.old text → Holds sum.new (text ++ bytes.now)) }
     ensures file { OnOk result (E.file_path file.new ≡ E.file_path file.old) }
-    ensures refused { IfErr result (Refused E.shows E.over E.refuses editor.old (call.TextPiece (E.file_path file.old) bytes.now)) }
-    ensures over { E.over editor.new ≡ E.over editor.old }
+    ensures refused { IfErr result (Refused E.shows E.began E.refuses editor.old (call.TextPiece (E.file_path file.old) bytes.now)) }
+    ensures began { E.began editor.new ≡ E.began editor.old }
 {
     if bytes.is_empty() {
         return Ok(());
@@ -46,8 +46,8 @@ pub fn take_chunk<E: Editor>(
     ensures file { OnOk result (E.file_path file.new ≡ E.file_path file.old) }
     ensures taken { OnOk result ((pieces : List (List ℕ)) × Adds E.shows editor.old editor.new (map (call.TextPiece (E.file_path file.old)) pieces) × ((text : List ℕ) → reading (Reads text reader.old) bytes.now ≡ Reads (text ++ concat pieces) reader.new) × ((text : List ℕ) → Holds sum.old text → Holds sum.new (text ++ concat pieces)) × (pieces ≡ pieces_in reader.old bytes.now)) }
     ensures refused { IfErr result (λ f. (text : List ℕ) → RefusedFor f (of_stream (reading (Reads text reader.old) bytes.now))) }
-    ensures own { IfErr result (IfOwn (λ f. (pieces : List (List ℕ)) × (rest : List ℕ) × (new : Reading) × ((text : List ℕ) → reading (Reads text reader.old) bytes.now ≡ reading (Reads (text ++ concat pieces) new) rest) × RefusesOne E.shows E.over E.refuses editor.old (map (call.TextPiece (E.file_path file.old)) pieces) f)) }
-    ensures over { E.over editor.new ≡ E.over editor.old }
+    ensures own { IfErr result (IfOwn (λ f. (pieces : List (List ℕ)) × (rest : List ℕ) × (new : Reading) × ((text : List ℕ) → reading (Reads text reader.old) bytes.now ≡ reading (Reads (text ++ concat pieces) new) rest) × RefusesOne E.shows E.began E.refuses editor.old (map (call.TextPiece (E.file_path file.old)) pieces) f)) }
+    ensures began { E.began editor.new ≡ E.began editor.old }
 {
     let mut rest = bytes;
     while !rest.is_empty() {

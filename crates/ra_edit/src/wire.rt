@@ -2,10 +2,10 @@
 
 ghost use Rattle.std.specs.Prelude.{◌≡◌, ◌+◌, ℕ, List, [], ◌∷◌, ◌++◌, Option, Some, None, IfOk, IfErr, IsOk, OnOk};
 ghost use Rattle.std.specs.Io.KnownBytes.{Keeps};
-ghost use Rattle.std.specs.Io.Buffered.{writer_buffer, writer_capacity, writer_contents};
+ghost use Rattle.std.specs.Io.Buffered.{writer_buffer, writer_contents};
 ghost use Rattle.delta_editor.specs.declared.fault.EditorFault.TheVariants.{OutOfMemory, PeerFailed};
 ghost use Rattle.ra_edit.specs.Tokens.{newest};
-ghost use Rattle.ra_edit.specs.Wire.{Shows, Holds};
+ghost use Rattle.ra_edit.specs.Wire.{Shows, Holds, held_before, done_held_before, writer_of, room_of};
 
 use crate::command;
 use crate::token::{Place, Tokens};
@@ -53,7 +53,7 @@ pub struct Written<W> {
 impl<W> Written<W> {
     /// The writer. It holds what it had when the editor was made and the commands of the edit.
     pub fn into_inner(self) -> W
-        ensures { result ≡ self.out }
+        ensures { result ≡ writer_of self }
     {
         self.out
     }
@@ -64,8 +64,8 @@ impl<W: Write + Drop> WireEditor<W> {
     /// go of then.
     pub fn new(alloc: Global, out: W) -> Result<WireEditor<W>, EditorFault>
         ensures begins { IfOk result (λ e. Shows W.contents e []) }
-        ensures start { IfOk result (λ e. e.start.value ≡ out) }
-        ensures room { IfOk result (λ e. writer_capacity e.out ≡ 66560) }
+        ensures began { IfOk result (λ e. held_before W.contents e ≡ W.contents out) }
+        ensures room { IfOk result (λ e. room_of e ≡ 66560) }
         ensures memory { IfErr result (λ e. e ≡ OutOfMemory) }
     {
         let start = Snapshot::of(&out);
@@ -98,8 +98,6 @@ fn sent<W: Write + Drop>(out: &mut BufWriter<W>, written: io::Result<()>) -> Res
 }
 
 impl<W: Write + Drop> Editor for WireEditor<W> {
-    ghost use Rattle.ra_edit.specs.Wire.{Shows, Holds};
-
     type Dir = WireDir;
 
     type File = WireFile;
@@ -114,11 +112,13 @@ impl<W: Write + Drop> Editor for WireEditor<W> {
 
     ghost file_path = { λ f. f.place.path.value };
 
-    ghost over = { λ e. [] };
+    ghost Began = { Option (List ℕ) };
 
-    ghost done_over = { λ d. [] };
+    ghost began = { held_before W.contents };
 
-    ghost refuses = { λ trees calls c e. e ≡ PeerFailed };
+    ghost done_began = { done_held_before W.contents };
+
+    ghost refuses = { λ held calls c e. e ≡ PeerFailed };
 
     fn target(&mut self, rev: RevNo) -> Result<(), EditorFault> {
         let written = command::write_numbered(&mut self.out, b"target-rev", rev.get());

@@ -21,11 +21,11 @@ returns-in_ok-delete_entry-in-Replace-clause-stops g c =
     let x = c.args.change.now in
     let r = c.add_file-in-Replace.result in
     let refused =
-    subst (λ u. IfErr r (Refused g.E.Editor.shows g.E.Editor.over g.E.Editor.refuses c.delete_entry.new.self (call.AddFile u x.path x.source))) (c.in_ok-delete_entry-in-Replace.ensures.up ∙ c.requires.up)
-    (subst (λ s. IfErr r (Refused g.E.Editor.shows g.E.Editor.over g.E.Editor.refuses c.delete_entry.new.self (call.AddFile (g.E.Editor.dir_path c.delete_entry.new.up) x.path s))) c.source_of-source.ensures c.add_file-in-Replace.ensures.refused) in
+    subst (λ u. IfErr r (Refused g.E.Editor.shows g.E.Editor.began g.E.Editor.refuses c.delete_entry.new.self (call.AddFile u x.path x.source))) (c.in_ok-delete_entry-in-Replace.ensures.up ∙ c.requires.up)
+    (subst (λ s. IfErr r (Refused g.E.Editor.shows g.E.Editor.began g.E.Editor.refuses c.delete_entry.new.self (call.AddFile (g.E.Editor.dir_path c.delete_entry.new.up) x.path s))) c.source_of-source.ensures c.add_file-in-Replace.ensures.refused) in
     let deleted =
     subst (λ u. Adds g.E.Editor.shows c.args.editor.now c.delete_entry.new.self (call.DeleteEntry u x.path (base_number c.args.trees.now) ∷ [])) c.requires.up
     (subst (λ b. Adds g.E.Editor.shows c.args.editor.now c.delete_entry.new.self (call.DeleteEntry (g.E.Editor.dir_path c.args.up.now) x.path b ∷ [])) c.base_of-base.ensures c.in_ok-delete_entry-in-Replace.ensures.shown) in
     rw c.in-Replace.is
-    (stop_next g.E.Editor.shows g.E.Editor.over g.E.Editor.refuses c.args.editor.now c.delete_entry.new.self (call.DeleteEntry (above x.path) x.path (base_number c.args.trees.now)) (call.AddFile (above x.path) x.path x.source ∷ []) r deleted c.in_ok-delete_entry-in-Replace.ensures.over
-    (stop_here g.E.Editor.shows g.E.Editor.over g.E.Editor.refuses c.delete_entry.new.self (call.AddFile (above x.path) x.path x.source) [] r refused))
+    (stop_next g.E.Editor.shows g.E.Editor.began g.E.Editor.refuses c.args.editor.now c.delete_entry.new.self (call.DeleteEntry (above x.path) x.path (base_number c.args.trees.now)) (call.AddFile (above x.path) x.path x.source ∷ []) r deleted c.in_ok-delete_entry-in-Replace.ensures.began
+    (stop_here g.E.Editor.shows g.E.Editor.began g.E.Editor.refuses c.delete_entry.new.self (call.AddFile (above x.path) x.path x.source) [] r refused))

@@ -12,5 +12,5 @@ loop-name-preserved g c =
           (λ calls h. subst (λ d. g.E.Editor.shows c.file_prop.new.self (calls ++ call.FileProp d c.loop-name-item.result.0 (Some c.loop-name-item.result.1) ∷ [])) c.loop-name.invariant.1 (subst (λ v. g.E.Editor.shows c.file_prop.new.self (calls ++ call.FileProp (g.E.Editor.file_path c.loop-name.file) c.loop-name-item.result.0 (Some v) ∷ [])) c.as_slice.ensures (c.in_ok-file_prop.ensures.shown calls h)))
           (settings_step p es c.loop-name.name-index c.loop-name-item.result (omega (arith, c.loop-name-test.true)) c.loop-name-item.is),
       c.in_ok-file_prop.ensures.baton ∙ c.loop-name.invariant.1,
-      c.in_ok-file_prop.ensures.over ∙ c.loop-name.invariant.2,
+      c.in_ok-file_prop.ensures.began ∙ c.loop-name.invariant.2,
     )

@@ -8,4 +8,4 @@ abbrev pub invariant-loop-name : goal.invariant-loop-name
 invariant-loop-name g l =
     Shown g.E.Editor.shows l.fn.editor l.editor (settings (call.FileProp (g.E.Editor.file_path l.fn.file)) l.entries) (settings (call.FileProp (g.E.Editor.file_path l.fn.file)) (drop l.name-index l.entries))
     × (g.E.Editor.file_path l.file ≡ g.E.Editor.file_path l.fn.file)
-    × (g.E.Editor.over l.editor ≡ g.E.Editor.over l.fn.editor)
+    × (g.E.Editor.began l.editor ≡ g.E.Editor.began l.fn.editor)

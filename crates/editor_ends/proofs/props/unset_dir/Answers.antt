@@ -14,5 +14,5 @@ loop-name-preserved g c =
           (subst (λ d. Adds g.E.Editor.shows c.loop-name.editor c.dir_prop.new.self (call.DirProp d c.loop-name-item.result.0 None ∷ [])) c.loop-name.invariant.1 c.in_ok-dir_prop.ensures.shown)
           (removals_step p es c.loop-name.name-index c.loop-name-item.result (omega (arith, c.loop-name-test.true)) c.loop-name-item.is c.args.new.now (ap (finite.contains_key c.args.new.now) (sym c.as_bytes.ensures) ∙ sym c.contains.ensures ∙ c.if-contains.false)),
       c.in_ok-dir_prop.ensures.baton ∙ c.loop-name.invariant.1,
-      c.in_ok-dir_prop.ensures.over ∙ c.loop-name.invariant.2,
+      c.in_ok-dir_prop.ensures.began ∙ c.loop-name.invariant.2,
     )

@@ -8,4 +8,4 @@ abbrev pub invariant-loop-name : goal.invariant-loop-name
 invariant-loop-name g l =
     Shown g.E.Editor.shows l.fn.editor l.editor (removals (call.DirProp (g.E.Editor.dir_path l.fn.dir)) l.new l.entries) (removals (call.DirProp (g.E.Editor.dir_path l.fn.dir)) l.new (drop l.name-index l.entries))
     × (g.E.Editor.dir_path l.dir ≡ g.E.Editor.dir_path l.fn.dir)
-    × (g.E.Editor.over l.editor ≡ g.E.Editor.over l.fn.editor)
+    × (g.E.Editor.began l.editor ≡ g.E.Editor.began l.fn.editor)

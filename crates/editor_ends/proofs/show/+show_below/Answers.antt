@@ -14,8 +14,8 @@ returns-in_err-enter-clause-halts g _ c =
     let failed = err_from_is_err_and c.from_residual-in_err-enter.result c.from_residual-in_err-enter.ensures.1 in
     let inv = c.loop-path.invariant in
     rw (failed.1, failed.2)
-    (halts_behind g.E.Editor.shows g.E.Editor.over g.E.Editor.refuses c.args.revision.now.trees.now c.args.revision.now.set.now c.args.editor.now c.loop-path.editor (left c.args.revision.now.trees.now c.args.revision.now.set.now c.args.progress.now.next c.args.at.now) (left c.args.revision.now.trees.now c.args.revision.now.set.now c.loop-path.progress.next c.args.at.now) c.in_err-enter.field-0.0 inv.6 inv.5
-    (subst (λ d. Halts g.E.Editor.shows g.E.Editor.over g.E.Editor.refuses c.args.revision.now.trees.now c.args.revision.now.set.now c.loop-path.editor (left c.args.revision.now.trees.now c.args.revision.now.set.now c.loop-path.progress.next d) c.in_err-enter.field-0.0) inv.3 c.in_err-enter.ensures.halts))
+    (halts_behind g.E.Editor.shows g.E.Editor.began g.E.Editor.refuses c.args.revision.now.trees.now c.args.revision.now.set.now c.args.editor.now c.loop-path.editor (left c.args.revision.now.trees.now c.args.revision.now.set.now c.args.progress.now.next c.args.at.now) (left c.args.revision.now.trees.now c.args.revision.now.set.now c.loop-path.progress.next c.args.at.now) c.in_err-enter.field-0.0 inv.6 inv.5
+    (subst (λ d. Halts g.E.Editor.shows g.E.Editor.began g.E.Editor.refuses c.args.revision.now.trees.now c.args.revision.now.set.now c.loop-path.editor (left c.args.revision.now.trees.now c.args.revision.now.set.now c.loop-path.progress.next d) c.in_err-enter.field-0.0) inv.3 c.in_err-enter.ensures.halts))
 
 pub loop-path-preserved-in-None-2 : goal.loop-path-preserved-in-None-2
 loop-path-preserved-in-None-2 g _ c =
@@ -28,7 +28,7 @@ loop-path-preserved-in-None-2 g _ c =
       omega (arith, moved, inv.2),
       c.in_ok-enter.ensures.up ∙ inv.3,
       later_more c.args.revision.now.set.now c.loop-path.progress.next c.enter.new.progress.next c.args.at.now (omega (arith, moved)) inv.4,
-      c.in_ok-enter.ensures.over ∙ inv.5,
+      c.in_ok-enter.ensures.began ∙ inv.5,
       shown_twice g.E.Editor.shows c.args.editor.now c.loop-path.editor c.enter.new.editor (left c.args.revision.now.trees.now c.args.revision.now.set.now c.args.progress.now.next c.args.at.now) (left c.args.revision.now.trees.now c.args.revision.now.set.now c.loop-path.progress.next c.args.at.now) (left c.args.revision.now.trees.now c.args.revision.now.set.now c.enter.new.progress.next c.args.at.now) inv.6
           (subst (λ z. Shown g.E.Editor.shows c.loop-path.editor c.enter.new.editor (left c.args.revision.now.trees.now c.args.revision.now.set.now c.loop-path.progress.next z) (left c.args.revision.now.trees.now c.args.revision.now.set.now c.enter.new.progress.next z)) inv.3 entered),
     )
@@ -57,13 +57,13 @@ returns-in_err-close_dir-in-Ok-clause-halts g _ c =
     let inside = left c.args.revision.now.trees.now c.args.revision.now.set.now c.enter.new.progress.next c.in-Some.path in
     let past = left c.args.revision.now.trees.now c.args.revision.now.set.now c.show_below.new.progress.next c.in-Some.path in
     let f = c.in_err-close_dir-in-Ok.field-0.0 in
-    let refused = subst (λ p. Refused g.E.Editor.shows g.E.Editor.over g.E.Editor.refuses c.show_below.new.editor (call.CloseDir p) f) (c.in-Ok.ensures.baton ∙ entered.0) c.in_err-close_dir-in-Ok.ensures.refused in
+    let refused = subst (λ p. Refused g.E.Editor.shows g.E.Editor.began g.E.Editor.refuses c.show_below.new.editor (call.CloseDir p) f) (c.in-Ok.ensures.baton ∙ entered.0) c.in_err-close_dir-in-Ok.ensures.refused in
     let one = shown_twice g.E.Editor.shows c.args.editor.now c.loop-path.editor c.enter.new.editor first here inside inv.6 (subst (λ z. Shown g.E.Editor.shows c.loop-path.editor c.enter.new.editor (left c.args.revision.now.trees.now c.args.revision.now.set.now c.loop-path.progress.next z) inside) inv.3 entered.1) in
     let two = shown_twice g.E.Editor.shows c.args.editor.now c.enter.new.editor c.show_below.new.editor first inside past one c.in-Ok.ensures.shown in
     rw (failed.1, failed.2)
     (Refusal
-    (stops_behind g.E.Editor.shows g.E.Editor.over g.E.Editor.refuses c.args.editor.now c.show_below.new.editor first past f two (c.in-Ok.ensures.over ∙ c.in_ok-enter.ensures.over ∙ inv.5)
-    (stops_first g.E.Editor.shows g.E.Editor.over g.E.Editor.refuses c.show_below.new.editor (call.CloseDir c.in-Some.path) (left c.args.revision.now.trees.now c.args.revision.now.set.now c.show_below.new.progress.next c.args.at.now) past f refused
+    (stops_behind g.E.Editor.shows g.E.Editor.began g.E.Editor.refuses c.args.editor.now c.show_below.new.editor first past f two (c.in-Ok.ensures.began ∙ c.in_ok-enter.ensures.began ∙ inv.5)
+    (stops_first g.E.Editor.shows g.E.Editor.began g.E.Editor.refuses c.show_below.new.editor (call.CloseDir c.in-Some.path) (left c.args.revision.now.trees.now c.args.revision.now.set.now c.show_below.new.progress.next c.args.at.now) past f refused
     (closes_child c.args.revision.now.trees.now c.args.revision.now.set.now c.loop-path.progress.next c.show_below.new.progress.next c.args.at.now c.in-Some.path next c.in-Ok.ensures.past))))
 
 pub returns-in-Err-clause-halts : goal.returns-in-Err-clause-halts
@@ -75,7 +75,7 @@ returns-in-Err-clause-halts g _ c =
     let here = left c.args.revision.now.trees.now c.args.revision.now.set.now c.loop-path.progress.next c.args.at.now in
     let inside = left c.args.revision.now.trees.now c.args.revision.now.set.now c.enter.new.progress.next c.in-Some.path in
     let one = shown_twice g.E.Editor.shows c.args.editor.now c.loop-path.editor c.enter.new.editor first here inside inv.6 (subst (λ z. Shown g.E.Editor.shows c.loop-path.editor c.enter.new.editor (left c.args.revision.now.trees.now c.args.revision.now.set.now c.loop-path.progress.next z) inside) inv.3 entered.1) in
-    halts_behind g.E.Editor.shows g.E.Editor.over g.E.Editor.refuses c.args.revision.now.trees.now c.args.revision.now.set.now c.args.editor.now c.enter.new.editor first inside c.in-Err.fault one (c.in_ok-enter.ensures.over ∙ inv.5) c.in-Err.ensures.halts
+    halts_behind g.E.Editor.shows g.E.Editor.began g.E.Editor.refuses c.args.revision.now.trees.now c.args.revision.now.set.now c.args.editor.now c.enter.new.editor first inside c.in-Err.fault one (c.in_ok-enter.ensures.began ∙ inv.5) c.in-Err.ensures.halts
 
 pub loop-path-preserved : goal.loop-path-preserved
 loop-path-preserved g _ c =
@@ -89,7 +89,7 @@ loop-path-preserved g _ c =
       omega (arith, moved, inv.2, c.in-Ok.ensures.moved),
       c.in_ok-enter.ensures.up ∙ inv.3,
       later_more c.args.revision.now.set.now c.loop-path.progress.next c.show_below.new.progress.next c.args.at.now (omega (arith, moved, c.in-Ok.ensures.moved)) inv.4,
-      c.in_ok-close_dir-in-Ok.ensures.over ∙ c.in-Ok.ensures.over ∙ c.in_ok-enter.ensures.over ∙ inv.5,
+      c.in_ok-close_dir-in-Ok.ensures.began ∙ c.in-Ok.ensures.began ∙ c.in_ok-enter.ensures.began ∙ inv.5,
       shown_twice g.E.Editor.shows c.args.editor.now c.loop-path.editor c.close_dir.new.self (left c.args.revision.now.trees.now c.args.revision.now.set.now c.args.progress.now.next c.args.at.now) (left c.args.revision.now.trees.now c.args.revision.now.set.now c.loop-path.progress.next c.args.at.now) (left c.args.revision.now.trees.now c.args.revision.now.set.now c.show_below.new.progress.next c.args.at.now) inv.6
           (shown_child c.args.revision.now.trees.now c.args.revision.now.set.now c.loop-path.progress.next c.enter.new.progress.next c.show_below.new.progress.next c.args.at.now c.in-Some.path _ next c.in-Ok.ensures.past (c.in-Ok.ensures.baton ∙ entered.0)
           g.E.Editor.shows c.loop-path.editor c.enter.new.editor c.show_below.new.editor c.close_dir.new.self

@@ -16,5 +16,5 @@ invariant-loop-path g l =
     × (l.fn.progress.next ≤ l.progress.next)
     × (g.E.Editor.dir_path l.dir ≡ l.at)
     × IsLater l.revision.set.now l.progress.next l.at
-    × (g.E.Editor.over l.editor ≡ g.E.Editor.over l.fn.editor)
+    × (g.E.Editor.began l.editor ≡ g.E.Editor.began l.fn.editor)
     × Shown g.E.Editor.shows l.fn.editor l.editor (left l.revision.trees.now l.revision.set.now l.fn.progress.next l.at) (left l.revision.trees.now l.revision.set.now l.progress.next l.at)

@@ -28,7 +28,7 @@ returns-in_err-open_dir-clause-halts g c =
     let failed = err_from_is_err_and c.from_residual.result c.from_residual.ensures.1 in
     let n = c.requires.child in
     let opens = next-opens c.args.revision.now.trees.now c.args.revision.now.set.now c.args.progress.now.next (g.E.Editor.dir_path c.args.up.now) c.args.path.now n c.base_of.result c.base_of.ensures (omega (arith, c.if-names.true, ap (λ x. length x.path) (c.index-set-progress.is ∙ get_or_from_slice_get c.args.revision.now.set.now c.args.progress.now.next n.change c.index-set-progress.result n.is), ap length c.names.ensures.names, ap length c.names-2.ensures.names)) in
-    rw (failed.1, failed.2) (Refusal (stops_first g.E.Editor.shows g.E.Editor.over g.E.Editor.refuses c.args.editor.now (call.OpenDir (g.E.Editor.dir_path c.args.up.now) c.args.path.now c.base_of.result) (left c.args.revision.now.trees.now c.args.revision.now.set.now c.args.progress.now.next c.args.path.now) (left c.args.revision.now.trees.now c.args.revision.now.set.now c.args.progress.now.next (g.E.Editor.dir_path c.args.up.now)) c.in_err-open_dir.field-0.0 c.in_err-open_dir.ensures.refused opens))
+    rw (failed.1, failed.2) (Refusal (stops_first g.E.Editor.shows g.E.Editor.began g.E.Editor.refuses c.args.editor.now (call.OpenDir (g.E.Editor.dir_path c.args.up.now) c.args.path.now c.base_of.result) (left c.args.revision.now.trees.now c.args.revision.now.set.now c.args.progress.now.next c.args.path.now) (left c.args.revision.now.trees.now c.args.revision.now.set.now c.args.progress.now.next (g.E.Editor.dir_path c.args.up.now)) c.in_err-open_dir.field-0.0 c.in_err-open_dir.ensures.refused opens))
 
 pub show_change-requires-clause-up : goal.show_change-requires-clause-up
 show_change-requires-clause-up g c =
@@ -46,8 +46,8 @@ returns-clause-halts g c =
     let here = c.index-set-progress.is ∙ get_or_from_slice_get c.args.revision.now.set.now c.args.progress.now.next n.change c.index-set-progress.result n.is in
     let plan = c.in_ok-plan.ensures.plan n.change n.is in
     let x = n.change in
-    halt_before g.E.Editor.shows g.E.Editor.over g.E.Editor.refuses c.args.revision.now.trees.now c.args.revision.now.set.now c.args.editor.now (calls_with c.args.revision.now.trees.now c.in_ok-plan.plan.file c.in_ok-plan.plan.old x) _ (left c.args.revision.now.trees.now c.args.revision.now.set.now c.args.progress.now.next (g.E.Editor.dir_path c.args.up.now)) c.show_change.result
-    (subst (λ x. IfErr c.show_change.result (Stops g.E.Editor.shows g.E.Editor.over g.E.Editor.refuses c.args.editor.now (calls_with c.args.revision.now.trees.now c.in_ok-plan.plan.file c.in_ok-plan.plan.old x))) here c.show_change.ensures.stops)
+    halt_before g.E.Editor.shows g.E.Editor.began g.E.Editor.refuses c.args.revision.now.trees.now c.args.revision.now.set.now c.args.editor.now (calls_with c.args.revision.now.trees.now c.in_ok-plan.plan.file c.in_ok-plan.plan.old x) _ (left c.args.revision.now.trees.now c.args.revision.now.set.now c.args.progress.now.next (g.E.Editor.dir_path c.args.up.now)) c.show_change.result
+    (subst (λ x. IfErr c.show_change.result (Stops g.E.Editor.shows g.E.Editor.began g.E.Editor.refuses c.args.editor.now (calls_with c.args.revision.now.trees.now c.in_ok-plan.plan.file c.in_ok-plan.plan.old x))) here c.show_change.ensures.stops)
     (next-shown c.args.revision.now.trees.now c.args.revision.now.set.now c.args.progress.now.next (g.E.Editor.dir_path c.args.up.now) c.args.path.now n (omega (arith, c.if-names.false, ap (λ x. length x.path) (c.index-set-progress.is ∙ get_or_from_slice_get c.args.revision.now.set.now c.args.progress.now.next n.change c.index-set-progress.result n.is), ap length c.names.ensures.names, ap length c.names-2.ensures.names)) (map.get c.args.progress.now.tree) (λ k q. c.requires.walked.is q k) c.in_ok-plan.plan.file plan.0 c.in_ok-plan.plan.old plan.1)
 
 pub returns-clause-later : goal.returns-clause-later

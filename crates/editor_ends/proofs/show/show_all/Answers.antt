@@ -17,5 +17,5 @@ returns-clause-shown g c =
 
 pub returns-clause-halts : goal.returns-clause-halts
 returns-clause-halts g c =
-    halt_behind g.E.Editor.shows g.E.Editor.over g.E.Editor.refuses c.args.revision.now.trees.now c.args.revision.now.set.now c.show_below.result c.args.editor.now c.show_root.new.editor (left c.args.revision.now.trees.now c.args.revision.now.set.now 0 []) (left c.args.revision.now.trees.now c.args.revision.now.set.now c.show_root.new.progress.next []) c.in_ok-show_root.ensures.shown c.in_ok-show_root.ensures.over
-    (subst (λ z. IfErr c.show_below.result (Halts g.E.Editor.shows g.E.Editor.over g.E.Editor.refuses c.args.revision.now.trees.now c.args.revision.now.set.now c.show_root.new.editor (left c.args.revision.now.trees.now c.args.revision.now.set.now c.show_root.new.progress.next z))) c.root-at.ensures c.show_below.ensures.halts)
+    halt_behind g.E.Editor.shows g.E.Editor.began g.E.Editor.refuses c.args.revision.now.trees.now c.args.revision.now.set.now c.show_below.result c.args.editor.now c.show_root.new.editor (left c.args.revision.now.trees.now c.args.revision.now.set.now 0 []) (left c.args.revision.now.trees.now c.args.revision.now.set.now c.show_root.new.progress.next []) c.in_ok-show_root.ensures.shown c.in_ok-show_root.ensures.began
+    (subst (λ z. IfErr c.show_below.result (Halts g.E.Editor.shows g.E.Editor.began g.E.Editor.refuses c.args.revision.now.trees.now c.args.revision.now.set.now c.show_root.new.editor (left c.args.revision.now.trees.now c.args.revision.now.set.now c.show_root.new.progress.next z))) c.root-at.ensures c.show_below.ensures.halts)

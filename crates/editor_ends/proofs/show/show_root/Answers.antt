@@ -41,5 +41,5 @@ returns-clause-halts g c =
     let at = path_of_same x.path [] (sym c.if-not-is_root.ensures) in
     let root = of_root c.args.revision.now.trees.now (map.get c.args.progress.now.tree) x at (c.in_ok-plan.ensures.faultless x here) c.is_tree.ensures.root in
     let plan = c.in_ok-plan.ensures.plan x here in
-    halt_before g.E.Editor.shows g.E.Editor.over g.E.Editor.refuses c.args.revision.now.trees.now c.args.revision.now.set.now c.args.editor.now (dir_parts x c.in_ok-plan.plan.old) (left c.args.revision.now.trees.now c.args.revision.now.set.now c.advance.new.progress.next []) (left c.args.revision.now.trees.now c.args.revision.now.set.now c.args.progress.now.next []) c.give_dir.result c.give_dir.ensures.stops
+    halt_before g.E.Editor.shows g.E.Editor.began g.E.Editor.refuses c.args.revision.now.trees.now c.args.revision.now.set.now c.args.editor.now (dir_parts x c.in_ok-plan.plan.old) (left c.args.revision.now.trees.now c.args.revision.now.set.now c.advance.new.progress.next []) (left c.args.revision.now.trees.now c.args.revision.now.set.now c.args.progress.now.next []) c.give_dir.result c.give_dir.ensures.stops
     (left-root c.args.revision.now.trees.now c.args.revision.now.set.now c.args.progress.now.next x here at root.stays (map.get c.args.progress.now.tree) (λ k q. c.requires.walked.is q k) root.dir c.in_ok-plan.plan.old plan.1 c.advance.new.progress.next c.in_ok-plan.ensures.next)

@@ -8,7 +8,7 @@ abbrev pub invariant-loop-left : goal.invariant-loop-left
 invariant-loop-left g l =
     Shown g.E.Editor.shows l.fn.editor l.editor (map (call.TextPiece (g.E.Editor.file_path l.fn.file)) (pieces l.fn.text)) (map (call.TextPiece (g.E.Editor.file_path l.fn.file)) (pieces l.left))
     × (g.E.Editor.file_path l.file ≡ g.E.Editor.file_path l.fn.file)
-    × (g.E.Editor.over l.editor ≡ g.E.Editor.over l.fn.editor)
+    × (g.E.Editor.began l.editor ≡ g.E.Editor.began l.fn.editor)
 
 abbrev pub decreases-loop-left : goal.decreases-loop-left
 decreases-loop-left g l = length l.left

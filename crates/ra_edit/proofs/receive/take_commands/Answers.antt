@@ -27,7 +27,7 @@ loop-preserved g c =
           (λ at h. rw c.if-branch.false at (t.stepped at h)),
       spent_not (is_spent c.take_command.new.items) (is_spent c.args.items.now) c.in_ok-take_command.ensures.goes_on,
       quiet (has_failed c.args.items.now) (has_failed c.loop.items) (has_failed c.take_command.new.items) c.loop.invariant.2 c.in_ok-take_command.ensures.failed,
-      c.in_ok-take_command.ensures.over ∙ c.loop.invariant.3,
+      c.in_ok-take_command.ensures.began ∙ c.loop.invariant.3,
     )
 
 pub returns-then-branch-clause-comes : goal.returns-then-branch-clause-comes
@@ -47,4 +47,4 @@ returns-in_err-take_command-clause-refused g c =
     let rem = g.R.Read.remaining in
     let mid = c.loop.edit in
     rw (p.1, p.2)
-    (drive_refused g.E.Editor.shows g.E.Editor.over g.E.Editor.refuses c.args.edit.now.editor mid.editor (rem (reader_of c.args.items.now)) (rem (reader_of c.loop.items)) (rem (reader_of c.take_command.new.items)) (ahead c.args.items.now) (ahead c.loop.items) (is_spent c.args.items.now) (is_spent c.loop.items) (has_failed c.take_command.new.items) (Stands g.E.Editor.dir_path g.E.Editor.file_path mid.stage mid.dirs.items mid.file) c.in_err-take_command.field-0.0 c.loop.invariant.3 c.loop.invariant.0 c.loop.invariant.1 c.in_err-take_command.ensures.refused)
+    (drive_refused g.E.Editor.shows g.E.Editor.began g.E.Editor.refuses c.args.edit.now.editor mid.editor (rem (reader_of c.args.items.now)) (rem (reader_of c.loop.items)) (rem (reader_of c.take_command.new.items)) (ahead c.args.items.now) (ahead c.loop.items) (is_spent c.args.items.now) (is_spent c.loop.items) (has_failed c.take_command.new.items) (Stands g.E.Editor.dir_path g.E.Editor.file_path mid.stage mid.dirs.items mid.file) c.in_err-take_command.field-0.0 c.loop.invariant.3 c.loop.invariant.0 c.loop.invariant.1 c.in_err-take_command.ensures.refused)

@@ -9,4 +9,4 @@ invariant-loop g l =
     Goes g.E.Editor.shows l.fn.edit.editor l.edit.editor (g.R.Read.remaining (reader_of l.fn.items)) (g.R.Read.remaining (reader_of l.items)) (ahead l.fn.items) (ahead l.items) (Stands g.E.Editor.dir_path g.E.Editor.file_path l.edit.stage l.edit.dirs.items l.edit.file)
     × (is_spent l.items ≡ true → is_spent l.fn.items ≡ true)
     × (has_failed l.items ≡ has_failed l.fn.items)
-    × (g.E.Editor.over l.edit.editor ≡ g.E.Editor.over l.fn.edit.editor)
+    × (g.E.Editor.began l.edit.editor ≡ g.E.Editor.began l.fn.edit.editor)

@@ -24,4 +24,4 @@ returns-in_err-text_end-clause-own g c =
     let p = err_from_is_err_and c.from_residual-in_err-text_end.result c.from_residual-in_err-text_end.ensures.1 in
     let e = c.args.editor.now in
     let k = call.TextEnd (g.E.Editor.file_path c.args.file.now.baton) in
-    rw (p.1, p.2) (at_once g.E.Editor.shows g.E.Editor.over g.E.Editor.refuses e e k k c.in_err-text_end.field-0.0 refl refl c.in_err-text_end.ensures.refused)
+    rw (p.1, p.2) (at_once g.E.Editor.shows g.E.Editor.began g.E.Editor.refuses e e k k c.in_err-text_end.field-0.0 refl refl c.in_err-text_end.ensures.refused)

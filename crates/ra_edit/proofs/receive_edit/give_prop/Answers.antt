@@ -26,4 +26,4 @@ returns-in_err-file_prop-clause-own g c =
     let p = err_from_is_err_and c.from_residual.result c.from_residual.ensures.1 in
     let e = c.args.editor.now in
     let k = call.FileProp (g.E.Editor.file_path c.args.file.now.baton) c.args.name in
-    rw (p.1, p.2) (at_once g.E.Editor.shows g.E.Editor.over g.E.Editor.refuses e e (k (option_map (λ s. s.items) c.args.value)) (k (option_map (λ v. v.now) c.slice_of.result)) c.in_err-file_prop.field-0.0 refl (ap k c.slice_of.ensures) c.in_err-file_prop.ensures.refused)
+    rw (p.1, p.2) (at_once g.E.Editor.shows g.E.Editor.began g.E.Editor.refuses e e (k (option_map (λ s. s.items) c.args.value)) (k (option_map (λ v. v.now) c.slice_of.result)) c.in_err-file_prop.field-0.0 refl (ap k c.slice_of.ensures) c.in_err-file_prop.ensures.refused)

@@ -24,7 +24,7 @@ loop-rest-preserved g c =
       λ text. i.2 text ∙ c.in_ok-stretch.ensures.reads (not_failed (is_failed l.reader) c.next.result _ _ c.in_ok-stretch.was c.next.ensures.failed) (text ++ concat i.0) ∙ ap (λ t. reading (Reads t c.next.new.self) s.rest.now) (pieces_join text i.0 q.0 s.bytes.now q.1),
       λ text h. subst (λ t. Holds c.take_stretch.new.sum t) (pieces_join text i.0 q.0 s.bytes.now q.1) (c.in_ok-take_stretch.ensures.sum (text ++ concat i.0) (i.3 text h)),
       c.in_ok-take_stretch.ensures.file ∙ i.4,
-      c.in_ok-take_stretch.ensures.over ∙ i.5,
+      c.in_ok-take_stretch.ensures.began ∙ i.5,
       i.6 ∙ pieces_more i.0 q.0 s.bytes.now _ (pieces_in c.next.new.self s.rest.now) (c.in_ok-stretch.ensures.pieces (not_failed (is_failed l.reader) c.next.result _ _ c.in_ok-stretch.was c.next.ensures.failed)) q.3,
     )
 
@@ -53,5 +53,5 @@ returns-in_err-take_stretch-clause-own g c =
       s.rest.now,
       c.next.new.self,
       λ text. i.2 text ∙ c.in_ok-stretch.ensures.reads (not_failed (is_failed l.reader) c.next.result _ _ c.in_ok-stretch.was c.next.ensures.failed) (text ++ concat i.0) ∙ ap (λ t. reading (Reads t c.next.new.self) s.rest.now) (pieces_join text i.0 (b ∷ []) b (append-nil b)),
-      piece_later g.E.Editor.shows g.E.Editor.over g.E.Editor.refuses c.args.editor.now l.editor (fp c.args.file.now) (fp l.file) i.0 b c.in_err-take_stretch.field-0.0 i.4 i.1 i.5 c.in_err-take_stretch.ensures.refused,
+      piece_later g.E.Editor.shows g.E.Editor.began g.E.Editor.refuses c.args.editor.now l.editor (fp c.args.file.now) (fp l.file) i.0 b c.in_err-take_stretch.field-0.0 i.4 i.1 i.5 c.in_err-take_stretch.ensures.refused,
     )

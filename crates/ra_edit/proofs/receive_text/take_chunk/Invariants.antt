@@ -13,7 +13,7 @@ invariant-loop-rest g l =
     × ((text : List ℕ) → reading (Reads text l.fn.reader) l.fn.bytes ≡ reading (Reads (text ++ concat pieces) l.reader) l.rest)
     × ((text : List ℕ) → Holds l.fn.sum text → Holds l.sum (text ++ concat pieces))
     × (g.E.Editor.file_path l.file ≡ g.E.Editor.file_path l.fn.file)
-    × (g.E.Editor.over l.editor ≡ g.E.Editor.over l.fn.editor)
+    × (g.E.Editor.began l.editor ≡ g.E.Editor.began l.fn.editor)
     × (pieces_in l.fn.reader l.fn.bytes ≡ pieces ++ pieces_in l.reader l.rest)
 
 abbrev pub decreases-loop-rest : goal.decreases-loop-rest

@@ -23,4 +23,4 @@ returns-in_err-close_file-clause-own g c =
     let fp = g.E.Editor.file_path in
     let k = call.CloseFile (fp x.baton) c.args.sum in
     let f = c.in_err-close_file.field-0.0 in
-    rw (p.1, p.2) (λ at h. file_met g.E.Editor.dir_path fp g.E.Editor.shows g.E.Editor.over g.E.Editor.refuses old.editor old.stage old.dirs.items x old.file at (λ q. call.CloseFile q c.args.sum) _ f t.taken.0 (λ q e. ap (λ r. call.CloseFile r c.args.sum ∷ []) e) h (at_once g.E.Editor.shows g.E.Editor.over g.E.Editor.refuses old.editor mid.editor k k f t.editor refl c.in_err-close_file.ensures.refused))
+    rw (p.1, p.2) (λ at h. file_met g.E.Editor.dir_path fp g.E.Editor.shows g.E.Editor.began g.E.Editor.refuses old.editor old.stage old.dirs.items x old.file at (λ q. call.CloseFile q c.args.sum) _ f t.taken.0 (λ q e. ap (λ r. call.CloseFile r c.args.sum ∷ []) e) h (at_once g.E.Editor.shows g.E.Editor.began g.E.Editor.refuses old.editor mid.editor k k f t.editor refl c.in_err-close_file.ensures.refused))

@@ -27,4 +27,4 @@ returns-in_err-dir_prop-clause-own g c =
     let t = c.args.token.items in
     let q = dir_at dp old.dirs.items c.in_ok-at.at r r c.as_slice.result.now t c.in_ok-at.ensures.found c.as_slice.ensures.value c.index_mut-dir.ensures.value refl in
     let k = call.DirProp (dp r.baton) c.args.name in
-    rw (p.1, p.2) (λ at h. met g.E.Editor.shows g.E.Editor.over g.E.Editor.refuses old.editor old.editor at (k (option_map (λ s. s.items) c.args.value)) (k (option_map (λ v. v.now) c.slice_of.result)) _ c.in_err-dir_prop.field-0.0 refl (ap k c.slice_of.ensures) (dp r.baton, open_in dp g.E.Editor.file_path old.stage old.dirs.items old.file at t (dp r.baton) h (open_at _ q.0 q.1 t (dp r.baton) q.2), refl) c.in_err-dir_prop.ensures.refused)
+    rw (p.1, p.2) (λ at h. met g.E.Editor.shows g.E.Editor.began g.E.Editor.refuses old.editor old.editor at (k (option_map (λ s. s.items) c.args.value)) (k (option_map (λ v. v.now) c.slice_of.result)) _ c.in_err-dir_prop.field-0.0 refl (ap k c.slice_of.ensures) (dp r.baton, open_in dp g.E.Editor.file_path old.stage old.dirs.items old.file at t (dp r.baton) h (open_at _ q.0 q.1 t (dp r.baton) q.2), refl) c.in_err-dir_prop.ensures.refused)

@@ -27,4 +27,4 @@ returns-in_err-baton-clause-own g c =
     let d = c.in_ok-dir.dir in
     let t = c.in_ok-dir.ensures in
     let dp = g.E.Editor.dir_path in
-    rw (p.1, p.2) (λ at h. dir_met dp g.E.Editor.file_path g.E.Editor.shows g.E.Editor.over g.E.Editor.refuses old.editor mid.editor old.stage old.dirs.items mid.dirs.items d old.file at (λ q. call.OpenDir q c.args.path c.args.base) (call.OpenDir (dp d.baton) c.args.path c.args.base) _ c.in_err-baton.field-0.0 t.taken.0 t.taken.2 t.editor refl (λ q e. ap (λ r. call.OpenDir r c.args.path c.args.base ∷ []) e) h c.in_err-baton.ensures.refused)
+    rw (p.1, p.2) (λ at h. dir_met dp g.E.Editor.file_path g.E.Editor.shows g.E.Editor.began g.E.Editor.refuses old.editor mid.editor old.stage old.dirs.items mid.dirs.items d old.file at (λ q. call.OpenDir q c.args.path c.args.base) (call.OpenDir (dp d.baton) c.args.path c.args.base) _ c.in_err-baton.field-0.0 t.taken.0 t.taken.2 t.editor refl (λ q e. ap (λ r. call.OpenDir r c.args.path c.args.base ∷ []) e) h c.in_err-baton.ensures.refused)

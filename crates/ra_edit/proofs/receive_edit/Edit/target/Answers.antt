@@ -15,4 +15,4 @@ returns-in_err-target-clause-own g c =
     let p = err_from_is_err_and c.from_residual.result c.from_residual.ensures.1 in
     let old = c.args.self.now in
     let k = call.Target c.args.rev in
-    rw (p.1, p.2) (λ at h. met g.E.Editor.shows g.E.Editor.over g.E.Editor.refuses old.editor old.editor at k k _ c.in_err-target.field-0.0 refl refl refl c.in_err-target.ensures.refused)
+    rw (p.1, p.2) (λ at h. met g.E.Editor.shows g.E.Editor.began g.E.Editor.refuses old.editor old.editor at k k _ c.in_err-target.field-0.0 refl refl refl c.in_err-target.ensures.refused)
