@@ -7,7 +7,6 @@ use Rattle.std.specs.FinMap as finite
 use Rattle.node_base.specs.Path.{Name}
 use Rattle.node_base.specs.Entries.{Entries}
 use Rattle.node_base.specs.Props.{PropMap}
-use Rattle.node_base.specs.Tree.{PathMap}
 use Rattle.delta_editor.specs.declared.call.Call.{Call}
 use Rattle.delta_editor.specs.Calls.{Adds, Refused}
 use Rattle.delta_editor.specs.declared.fault.EditorFault.{EditorFault}
