@@ -101,7 +101,7 @@ by_name w at ps =
     (cond (same_name w (codes "close-dir")) (close_dir at ps)
     (cond (same_name w (codes "close-edit")) (close_edit at)
     (cond (same_name w (codes "finish-replay")) (finish at)
-    (Some fault.Refused))))))))))))))))
+    (within at (Some fault.Refused)))))))))))))))))
 
 abbrev by : At → Item → Due
 by at (Nested (Then (Word w) (Then (Nested ps) rest))) = by_name w at ps
@@ -237,7 +237,7 @@ finish_due (Inside (o ∷ os)) = refl
 finish_due (Announced r) = refl
 finish_due Ended = refl
 
-abort_due : (at : At) → Some fault.Refused ≡ refusal at command.Abort
+abort_due : (at : At) → within at (Some fault.Refused) ≡ refusal at command.Abort
 abort_due Begun = refl
 abort_due Targeted = refl
 abort_due (Inside []) = refl

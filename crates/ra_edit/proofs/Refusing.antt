@@ -149,14 +149,6 @@ abort_due (Inside (o ∷ os)) = refl
 abort_due (Announced b) = refl
 abort_due Ended = refl
 
-pub abort_refused : (at : At) → refusal at command.Abort ≡ Some fault.Refused
-abort_refused Begun = refl
-abort_refused Targeted = refl
-abort_refused (Inside []) = refl
-abort_refused (Inside (o ∷ os)) = refl
-abort_refused (Announced b) = refl
-abort_refused Ended = refl
-
 -- before an end was announced
 pub refusal_due : {D F : Type 0} (dp : D → Path) (fp : F → Path) (st : Stage) (dirs : List (OpenDir D)) (file : Option (OpenFile F)) (at : At) (c : Command) → is_announced st ≡ false → Stands dp fp st dirs file at → refusal at c ≡ due at c
 refusal_due dp fp stage.Begun dirs file at c e h = ap (λ a. refusal a c) h.0 ∙ sym (ap (λ a. due a c) h.0)
@@ -183,28 +175,28 @@ not_finish command.CloseEdit k = refl
 not_finish command.Abort k = refl
 not_finish command.Finish k = absurd (k refl)
 
-after_end : (r : Bool) (c : Command) → (c ≡ command.Finish → ⊥) → (c ≡ command.Abort → ⊥) → refusal (Announced r) c ≡ Some fault.BadShape
-after_end r (command.Target n) k l = refl
-after_end r (command.OpenRoot b t) k l = refl
-after_end r (command.DeleteEntry p b u) k l = refl
-after_end r (command.AddDir p u t f) k l = refl
-after_end r (command.OpenDir p u t b) k l = refl
-after_end r (command.DirProp t n v) k l = refl
-after_end r (command.CloseDir t) k l = refl
-after_end r (command.AddFile p u t f) k l = refl
-after_end r (command.OpenFile p u t b) k l = refl
-after_end r (command.FileProp t n v) k l = refl
-after_end r (command.TextStart t) k l = refl
-after_end r (command.Chunk t b) k l = refl
-after_end r (command.TextEnd t) k l = refl
-after_end r (command.CloseFile t s) k l = refl
-after_end r command.CloseEdit k l = refl
-after_end r command.Finish k l = absurd (k refl)
-after_end r command.Abort k l = absurd (l refl)
+after_end : (r : Bool) (c : Command) → (c ≡ command.Finish → ⊥) → refusal (Announced r) c ≡ Some fault.BadShape
+after_end r (command.Target n) k = refl
+after_end r (command.OpenRoot b t) k = refl
+after_end r (command.DeleteEntry p b u) k = refl
+after_end r (command.AddDir p u t f) k = refl
+after_end r (command.OpenDir p u t b) k = refl
+after_end r (command.DirProp t n v) k = refl
+after_end r (command.CloseDir t) k = refl
+after_end r (command.AddFile p u t f) k = refl
+after_end r (command.OpenFile p u t b) k = refl
+after_end r (command.FileProp t n v) k = refl
+after_end r (command.TextStart t) k = refl
+after_end r (command.Chunk t b) k = refl
+after_end r (command.TextEnd t) k = refl
+after_end r (command.CloseFile t s) k = refl
+after_end r command.CloseEdit k = refl
+after_end r command.Finish k = absurd (k refl)
+after_end r command.Abort k = refl
 
 -- behind an end that was announced
-pub announced_refused : {D F : Type 0} (dp : D → Path) (fp : F → Path) (st : Stage) (dirs : List (OpenDir D)) (file : Option (OpenFile F)) (at : At) (c : Command) → is_announced st ≡ true → (c ≡ command.Finish → ⊥) → (c ≡ command.Abort → ⊥) → Stands dp fp st dirs file at → refusal at c ≡ Some fault.BadShape
-announced_refused dp fp stage.Begun dirs file at c e k l h = cc
-announced_refused dp fp stage.Targeted dirs file at c e k l h = cc
-announced_refused dp fp stage.Inside dirs file at c e k l h = cc
-announced_refused dp fp (stage.Announced b) dirs file at c e k l h = ap (λ a. refusal a c) h.0 ∙ after_end b c k l
+pub announced_refused : {D F : Type 0} (dp : D → Path) (fp : F → Path) (st : Stage) (dirs : List (OpenDir D)) (file : Option (OpenFile F)) (at : At) (c : Command) → is_announced st ≡ true → (c ≡ command.Finish → ⊥) → Stands dp fp st dirs file at → refusal at c ≡ Some fault.BadShape
+announced_refused dp fp stage.Begun dirs file at c e k h = cc
+announced_refused dp fp stage.Targeted dirs file at c e k h = cc
+announced_refused dp fp stage.Inside dirs file at c e k h = cc
+announced_refused dp fp (stage.Announced b) dirs file at c e k h = ap (λ a. refusal a c) h.0 ∙ after_end b c k

@@ -111,7 +111,6 @@ due at command.Abort = Some fault.Refused
 -- behind `close-edit` nothing but the end comes
 abbrev pub refusal : At → Command → Option CommandFault
 refusal (Announced root) command.Finish = None
-refusal (Announced root) command.Abort = Some fault.Refused
 refusal (Announced root) c = Some fault.BadShape
 refusal at c = due at c
 

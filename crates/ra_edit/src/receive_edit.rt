@@ -106,10 +106,8 @@ impl<E: Editor> Edit<E> {
         ensures own { IfErr result (IfOwn (λ f. (at : At) → Stands E.dir_path E.file_path self.old.stage self.old.dirs.items self.old.file at → Meets E.shows E.began E.refuses self.old.editor at command f)) }
         ensures began { E.began self.new.editor ≡ E.began self.old.editor }
     {
-        match &command {
-            Command::Finish => return Ok(true),
-            Command::Abort => return Err(CommandFault::Refused),
-            _ => {}
+        if let Command::Finish = &command {
+            return Ok(true);
         }
         if self.is_announced() {
             return Err(CommandFault::BadShape);

@@ -143,8 +143,8 @@ impl<R: Read + Drop> ItemStream<R> {
         self.rest = Rest::Spent;
     }
 
-    /// Makes no further read, and counts that as a failed one.
-    pub fn give_up(&mut self) -> EditFault
+    // Makes no further read, and counts that as a failed one.
+    pub(crate) fn give_up(&mut self) -> EditFault
         ensures failed { has_failed self.new ≡ true }
         ensures peer { result ≡ edit.PeerFailed }
     {

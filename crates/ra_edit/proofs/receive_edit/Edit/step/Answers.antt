@@ -7,7 +7,7 @@ use Rattle.ra_edit.proofs.receive_edit.Edit.step.Goals as goal
 pub returns-then-is_announced-clause-refused : goal.returns-then-is_announced-clause-refused
 returns-then-is_announced-clause-refused g c =
     let old = c.args.self.now in
-    λ at h. announced_refused g.E.Editor.dir_path g.E.Editor.file_path old.stage old.dirs.items old.file at c.args.command (sym c.is_announced.ensures ∙ c.if-is_announced.true) c.in_default.not-Finish c.in_default.not-Abort h
+    λ at h. announced_refused g.E.Editor.dir_path g.E.Editor.file_path old.stage old.dirs.items old.file at c.args.command (sym c.is_announced.ensures ∙ c.if-is_announced.true) c.in_default.not-Finish h
 
 pub returns-in_err-perform-clause-refused : goal.returns-in_err-perform-clause-refused
 returns-in_err-perform-clause-refused g c =
