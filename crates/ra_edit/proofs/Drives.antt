@@ -1,18 +1,23 @@
 -- Items of a drive, one after another.
-use Rattle.std.proofs.Common.{◌≡◌, ℕ, Bool, true, false, inl, inr, List, [], ◌∷◌, ◌++◌, Option, refl, sym, subst, append_assoc, append-nil, codes}
+use Rattle.std.proofs.Common.{◌≡◌, ℕ, Bool, true, false, inl, inr, List, [], ◌∷◌, ◌++◌, Option, refl, sym, subst, ◌∙◌, append_assoc, append-nil, codes}
 use Rattle.ra_item.specs.Items.{Item}
 use Rattle.ra_item.specs.Streams.{Stream}
 use Rattle.delta_editor.specs.declared.call.Call.{Call}
-use Rattle.ra_edit.specs.Edits.{At, Begun, Ended, Says, AllSay, Nothing, Then, IsCommand}
-use Rattle.ra_edit.specs.Edit.{Moves, Finishes}
+use Rattle.ra_edit.specs.Edits.{Named, At, Begun, Targeted, Inside, Announced, Ended, Says, AllSay, Nothing, Then, IsCommand}
+use Rattle.ra_edit.specs.Edit.{Stands, Moves, Finishes}
 use Rattle.ra_edit.specs.EditFaults.{of_command}
 use Rattle.ra_edit.specs.ItemStreams.{Takes, Ends, Stops}
 use Rattle.ra_edit.specs.Received.{Goes, Comes, Received, IsRefused, StopsBehind, ShownBefore, RefusesDrive}
 use Rattle.ra_edit.specs.Refusals.{refusal, RefusedFor, Meets, IfOwn}
 use Rattle.ra_edit.specs.declared.receive_command.Command.{Command}
+use Rattle.node_base.specs.Path.{Path}
 use Rattle.delta_editor.specs.declared.fault.EditorFault.{EditorFault}
 use Rattle.ra_edit.specs.declared.receive_command.Command.TheVariants as command
 use Rattle.ra_edit.specs.declared.command_fault.CommandFault.{CommandFault}
+use Rattle.ra_edit.specs.declared.receive_edit.OpenDir.{OpenDir}
+use Rattle.ra_edit.specs.declared.receive_edit.OpenFile.{OpenFile}
+use Rattle.ra_edit.specs.declared.receive_edit.Stage.{Stage}
+use Rattle.ra_edit.specs.declared.receive_edit.Stage.TheVariants as stage
 use Rattle.ra_edit.specs.declared.edit_fault.EditFault.{EditFault}
 use Rattle.ra_edit.proofs.Streaming.{takes_none, takes_more, takes_end, takes_stop}
 use Rattle.ra_edit.proofs.OwnRefusals.{own_map, met_before}
@@ -25,11 +30,11 @@ say_more at mid end all both more item (Then from next last z rest first others 
     subst (λ l. AllSay from (z ∷ (rest ++ item ∷ [])) l end) (sym (append_assoc first others more)) (Then from next end z (rest ++ item ∷ []) first (others ++ more) one (say_more next mid end rest others more item behind s))
 
 -- nothing was read
-pub goes_none : {E : Type 0} (shows : E → List Call → Type 0) (e : E) (a : Option (List ℕ)) (s : List ℕ → Stream) (stands : At → Type 0) → stands Begun → Goes shows e e a a s s stands
+pub goes_none : {E O : Type 0} (shows : E → List Call → Type 0) (e : E) (a : Option (List ℕ)) (s : List ℕ → Stream) (stands : At → Type 0) → stands Begun → Goes shows e e a a s s stands
 goes_none shows e a s stands h = record { items = []; calls = []; at = Begun; taken = takes_none a s; say = Nothing Begun; shown = λ calls k. subst (shows e) (sym (append-nil calls)) k; here = h }
 
 -- one item more was read
-pub goes_more : {E : Type 0} (shows : E → List Call → Type 0) (old mid new : E) (a b d : Option (List ℕ)) (s t u : List ℕ → Stream) (stood stands : At → Type 0) (item : Item) → Goes shows old mid a b s t stood → Takes (item ∷ []) b d t u → ((at : At) → stood at → Moves shows mid new item at stands) → Goes shows old new a d s u stands
+pub goes_more : {E O : Type 0} (shows : E → List Call → Type 0) (old mid new : E) (a b d : Option (List ℕ)) (s t u : List ℕ → Stream) (stood stands : At → Type 0) (item : Item) → Goes shows old mid a b s t stood → Takes (item ∷ []) b d t u → ((at : At) → stood at → Moves shows mid new item at stands) → Goes shows old new a d s u stands
 goes_more shows old mid new a b d s t u stood stands item k took step =
     let m = step k.at k.here in
     record {
@@ -43,7 +48,7 @@ goes_more shows old mid new a b d s t u stood stands item k took step =
     }
 
 -- `finish-replay` was read
-pub comes : {E : Type 0} (shows : E → List Call → Type 0) (old mid new : E) (a b d : Option (List ℕ)) (s t u : List ℕ → Stream) (stood stands : At → Type 0) (item : Item) → Goes shows old mid a b s t stood → Takes (item ∷ []) b d t u → ((at : At) → stood at → IsCommand (codes "finish-replay") [] item × (new ≡ mid) × stands at) → Comes shows old new a d s u stands
+pub comes : {E O : Type 0} (shows : E → List Call → Type 0) (old mid new : E) (a b d : Option (List ℕ)) (s t u : List ℕ → Stream) (stood stands : At → Type 0) (item : Item) → Goes shows old mid a b s t stood → Takes (item ∷ []) b d t u → ((at : At) → stood at → IsCommand (codes "finish-replay") [] item × (new ≡ mid) × stands at) → Comes shows old new a d s u stands
 comes shows old mid new a b d s t u stood stands item k took step =
     let m = step k.at k.here in
     record {
@@ -72,6 +77,25 @@ received shows done_shows start old new done a b s t stands e k finish =
 
 -- ---- refusals
 
+-- where an edit's commands stand, it hasn't ended
+begun_not : Begun ≡ Ended → ⊥
+begun_not e = cc
+
+targeted_not : Targeted ≡ Ended → ⊥
+targeted_not e = cc
+
+inside_not : (os : List Named) → Inside os ≡ Ended → ⊥
+inside_not os e = cc
+
+announced_not : (root : Bool) → Announced root ≡ Ended → ⊥
+announced_not root e = cc
+
+pub not_ended : {D F : Type 0} (dp : D → Path) (fp : F → Path) (st : Stage) (dirs : List (OpenDir D)) (file : Option (OpenFile F)) (at : At) → Stands dp fp st dirs file at → at ≡ Ended → ⊥
+not_ended dp fp stage.Begun dirs file at h e = begun_not (sym h.0 ∙ e)
+not_ended dp fp stage.Targeted dirs file at h e = targeted_not (sym h.0 ∙ e)
+not_ended dp fp stage.Inside dirs file at h e = inside_not h.0 (sym h.1 ∙ e)
+not_ended dp fp (stage.Announced root) dirs file at h e = announced_not root (sym h.0 ∙ e)
+
 pub spent_not : (new old : Bool) → new ≡ false → new ≡ true → old ≡ true
 spent_not true old e h = cc
 spent_not false old e h = cc
@@ -87,15 +111,16 @@ stops_behind own met xs at stood f a b d s t before spent failed lift here p g (
 stops_behind own met xs at stood f a b d s t before spent failed lift here p g (inr (inl q)) = inr (inl (q.0, subst (λ l. Ends l true a d s) (append-nil xs) (takes_end xs [] true a b d s t p q.1)))
 stops_behind own met xs at stood f a b d s t before spent failed lift here p g (inr (inr q)) = inr (inr (record { item = q.item; why = q.why; is = q.is; taken = takes_more xs (q.item ∷ []) a b d s t q.is p q.taken; same = q.same; due = λ x e. subst (λ y. IsRefused met y q.item q.why) (sym e) (lifted own met at q.item q.why lift (q.due at here)) }))
 
-pub drive_refused : {E O : Type 0} (shows : E → List Call → Type 0) (began : E → O) (refuses : O → List Call → Call → EditorFault → Type 0) (old mid : E) (a b d : Option (List ℕ)) (s t : List ℕ → Stream) (before spent failed : Bool) (stood : At → Type 0) (f : EditFault) → began mid ≡ began old → Goes shows old mid a b s t stood → (spent ≡ true → before ≡ true) → StopsBehind (Meets shows began refuses mid) [] stood b d t spent failed f → RefusesDrive shows began refuses old a d s before failed f
-drive_refused shows began refuses old mid a b d s t before spent failed stood f same k g q = record { items = k.items; calls = k.calls; at = k.at; say = k.say; stops = stops_behind (Meets shows began refuses mid) (Meets (ShownBefore shows k.calls) began refuses old) k.items k.at stood f a b d s t before spent failed (λ c e. met_before shows began refuses old mid k.calls k.at c e k.shown same) k.here k.taken g q }
+pub drive_refused : {E O : Type 0} (shows : E → List Call → Type 0) (began : E → O) (refuses : O → List Call → Call → EditorFault → Type 0) (old mid : E) (a b d : Option (List ℕ)) (s t : List ℕ → Stream) (before spent failed : Bool) (stood : At → Type 0) (f : EditFault) → began mid ≡ began old → ((x : At) → stood x → x ≡ Ended → ⊥) → Goes shows old mid a b s t stood → (spent ≡ true → before ≡ true) → StopsBehind (Meets shows began refuses mid) [] stood b d t spent failed f → RefusesDrive shows began refuses old a d s before failed f
+drive_refused shows began refuses old mid a b d s t before spent failed stood f same stay k g q = record { items = k.items; calls = k.calls; at = k.at; say = k.say; unended = stay k.at k.here; stops = stops_behind (Meets shows began refuses mid) (Meets (ShownBefore shows k.calls) began refuses old) k.items k.at stood f a b d s t before spent failed (λ c e. met_before shows began refuses old mid k.calls k.at c e k.shown same) k.here k.taken g q }
 
 -- at the end of a drive
-pub end_refused : {E O : Type 0} (shows : E → List Call → Type 0) (began : E → O) (refuses : O → List Call → Call → EditorFault → Type 0) (start old new : E) (a b : Option (List ℕ)) (s t : List ℕ → Stream) (before failed : Bool) (stands : At → Type 0) (f : CommandFault) → old ≡ start → began new ≡ began old → ((at : At) → stands at → RefusedFor f (refusal at command.Finish)) → IfOwn (λ e. (at : At) → stands at → Meets shows began refuses new at command.Finish e) f → Comes shows old new a b s t stands → RefusesDrive shows began refuses start a b s before failed (of_command f)
-end_refused shows began refuses start old new a b s t before failed stands f is same why own k = subst (λ x. RefusesDrive shows began refuses x a b s before failed (of_command f)) is (record {
+pub end_refused : {E O : Type 0} (shows : E → List Call → Type 0) (began : E → O) (refuses : O → List Call → Call → EditorFault → Type 0) (start old new : E) (a b : Option (List ℕ)) (s t : List ℕ → Stream) (before failed : Bool) (stands : At → Type 0) (f : CommandFault) → old ≡ start → began new ≡ began old → ((at : At) → stands at → RefusedFor f (refusal at command.Finish)) → IfOwn (λ e. (at : At) → stands at → Meets shows began refuses new at command.Finish e) f → ((x : At) → stands x → x ≡ Ended → ⊥) → Comes shows old new a b s t stands → RefusesDrive shows began refuses start a b s before failed (of_command f)
+end_refused shows began refuses start old new a b s t before failed stands f is same why own stay k = subst (λ x. RefusesDrive shows began refuses x a b s before failed (of_command f)) is (record {
   items = k.items;
   calls = k.calls;
   at = k.at;
   say = k.say;
+  unended = stay k.at k.here;
   stops = inr (inr (record { item = k.last; why = f; is = t; taken = k.taken; same = refl; due = λ x e. subst (λ y. IsRefused (Meets (ShownBefore shows k.calls) began refuses old) y k.last f) (sym e) (inr (command.Finish, k.end, why k.at k.here, own_map f (λ g m. met_before shows began refuses old new k.calls k.at command.Finish g k.shown same (m k.at k.here)) own)) }));
 })

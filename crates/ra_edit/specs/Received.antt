@@ -5,7 +5,7 @@ use Rattle.ra_item.specs.Streams.{Stream}
 use Rattle.delta_editor.specs.Calls.{Adds}
 use Rattle.delta_editor.specs.declared.call.Call.{Call}
 use Rattle.delta_editor.specs.declared.fault.EditorFault.{EditorFault}
-use Rattle.ra_edit.specs.Edits.{At, Begun, AllSay, SpellsEdit, IsCommand}
+use Rattle.ra_edit.specs.Edits.{At, Begun, Ended, AllSay, SpellsEdit, IsCommand}
 use Rattle.ra_edit.specs.Edit.{Stepped}
 use Rattle.ra_edit.specs.EditFaults.{of_command, of_shape}
 use Rattle.ra_edit.specs.Receiving.{Forms, IsNoCommand}
@@ -18,7 +18,7 @@ use Rattle.ra_edit.specs.declared.edit_fault.EditFault.{EditFault}
 use Rattle.ra_edit.specs.declared.edit_fault.EditFault.TheVariants as fault
 
 -- these items were read and are these calls, which an editor was shown, and so the commands stand
-pub record Goes {E : Type 0} (shows : E → List Call → Type 0) (old new : E) (before after : Option (List ℕ)) (was is : List ℕ → Stream) (stands : At → Type 0) : Type 0 where
+pub record Goes {E O : Type 0} (shows : E → List Call → Type 0) (old new : E) (before after : Option (List ℕ)) (was is : List ℕ → Stream) (stands : At → Type 0) : Type 0 where
   pub items : List Item
   pub calls : List Call
   pub at : At
@@ -28,7 +28,7 @@ pub record Goes {E : Type 0} (shows : E → List Call → Type 0) (old new : E) 
   pub here : stands at
 
 -- and behind them `finish-replay`
-pub record Comes {E : Type 0} (shows : E → List Call → Type 0) (old new : E) (before after : Option (List ℕ)) (was is : List ℕ → Stream) (stands : At → Type 0) : Type 0 where
+pub record Comes {E O : Type 0} (shows : E → List Call → Type 0) (old new : E) (before after : Option (List ℕ)) (was is : List ℕ → Stream) (stands : At → Type 0) : Type 0 where
   pub items : List Item
   pub last : Item
   pub calls : List Call
@@ -40,7 +40,7 @@ pub record Comes {E : Type 0} (shows : E → List Call → Type 0) (old new : E)
   pub here : stands at
 
 -- one item was read, and what it says was done
-pub record TakesOne {E : Type 0} (shows : E → List Call → Type 0) (old new : E) (before after : Option (List ℕ)) (was is : List ℕ → Stream) (stood stands : At → Type 0) (done : Bool) : Type 0 where
+pub record TakesOne {E O : Type 0} (shows : E → List Call → Type 0) (old new : E) (before after : Option (List ℕ)) (was is : List ℕ → Stream) (stood stands : At → Type 0) (done : Bool) : Type 0 where
   pub item : Item
   pub taken : Takes (item ∷ []) before after was is
   pub stepped : (at : At) → stood at → Stepped shows old new item at stands done
@@ -75,10 +75,11 @@ StopsBehind met items stood before after was spent failed f = Stops items before
 abbrev pub ShownBefore : {E : Type 0} → (E → List Call → Type 0) → List Call → E → List Call → Type 0
 ShownBefore shows calls e all = (shown : List Call) × shows e shown × (all ≡ shown ++ calls)
 
--- a drive was refused behind items that are calls of an edit; by the editor, where it may refuse a call behind these
+-- a drive was refused behind items that are calls of an edit up to some place before its end; by the editor, where it may refuse a call behind these
 pub record RefusesDrive {E O : Type 0} (shows : E → List Call → Type 0) (began : E → O) (refuses : O → List Call → Call → EditorFault → Type 0) (editor : E) (before after : Option (List ℕ)) (was : List ℕ → Stream) (spent failed : Bool) (f : EditFault) : Type 0 where
   pub items : List Item
   pub calls : List Call
   pub at : At
   pub say : AllSay Begun items calls at
+  pub unended : at ≡ Ended → ⊥
   pub stops : StopsBehind (Meets (ShownBefore shows calls) began refuses editor) items (λ a. a ≡ at) before after was spent failed f

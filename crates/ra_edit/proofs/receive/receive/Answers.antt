@@ -1,6 +1,6 @@
 use Rattle.ra_edit.specs.Edit.{Stands}
 use Rattle.ra_edit.specs.ItemStreams.{reader_of, has_failed, is_spent, ahead}
-use Rattle.ra_edit.proofs.Drives.{received, end_refused}
+use Rattle.ra_edit.proofs.Drives.{received, end_refused, not_ended}
 use Rattle.ra_edit.proofs.receive.receive.Goals as goal
 
 pub returns-in-Ok-clause-received : goal.returns-in-Ok-clause-received
@@ -17,4 +17,4 @@ returns-in-Err-finish-clause-refused g c =
     let is = c.take_commands.new.items in
     let e = c.in-Err-finish.ensures in
     let s = c.spend-in-Err-finish.ensures in
-    rw (c.into.ensures, s.reader, s.failed) (end_refused g.E.Editor.shows g.E.Editor.began g.E.Editor.refuses c.args.editor c.new-edit.result.editor edit.editor (rem (reader_of was)) (rem (reader_of is)) (ahead was) (ahead is) (is_spent was) (has_failed is) (Stands g.E.Editor.dir_path g.E.Editor.file_path edit.stage edit.dirs.items edit.file) c.in-Err-finish.fault c.new-edit.ensures.editor c.take_commands.ensures.began e.refused e.own c.in_default.ensures.comes)
+    rw (c.into.ensures, s.reader, s.failed) (end_refused g.E.Editor.shows g.E.Editor.began g.E.Editor.refuses c.args.editor c.new-edit.result.editor edit.editor (rem (reader_of was)) (rem (reader_of is)) (ahead was) (ahead is) (is_spent was) (has_failed is) (Stands g.E.Editor.dir_path g.E.Editor.file_path edit.stage edit.dirs.items edit.file) c.in-Err-finish.fault c.new-edit.ensures.editor c.take_commands.ensures.began e.refused e.own (not_ended g.E.Editor.dir_path g.E.Editor.file_path edit.stage edit.dirs.items edit.file) c.in_default.ensures.comes)

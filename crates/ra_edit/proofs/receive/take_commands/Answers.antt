@@ -2,7 +2,7 @@ use Rattle.std.proofs.Common.{◌∙◌, refl}
 use Rattle.std.proofs.lemmas.Result.{err_from_is_err_and}
 use Rattle.ra_edit.specs.Edit.{Stands}
 use Rattle.ra_edit.specs.ItemStreams.{reader_of, has_failed, is_spent, ahead}
-use Rattle.ra_edit.proofs.Drives.{goes_none, goes_more, comes, drive_refused, spent_not}
+use Rattle.ra_edit.proofs.Drives.{goes_none, goes_more, comes, drive_refused, not_ended, spent_not}
 use Rattle.ra_edit.proofs.Streaming.{quiet}
 use Rattle.ra_edit.proofs.receive.take_commands.Goals as goal
 
@@ -47,4 +47,4 @@ returns-in_err-take_command-clause-refused g c =
     let rem = g.R.Read.remaining in
     let mid = c.loop.edit in
     rw (p.1, p.2)
-    (drive_refused g.E.Editor.shows g.E.Editor.began g.E.Editor.refuses c.args.edit.now.editor mid.editor (rem (reader_of c.args.items.now)) (rem (reader_of c.loop.items)) (rem (reader_of c.take_command.new.items)) (ahead c.args.items.now) (ahead c.loop.items) (is_spent c.args.items.now) (is_spent c.loop.items) (has_failed c.take_command.new.items) (Stands g.E.Editor.dir_path g.E.Editor.file_path mid.stage mid.dirs.items mid.file) c.in_err-take_command.field-0.0 c.loop.invariant.3 c.loop.invariant.0 c.loop.invariant.1 c.in_err-take_command.ensures.refused)
+    (drive_refused g.E.Editor.shows g.E.Editor.began g.E.Editor.refuses c.args.edit.now.editor mid.editor (rem (reader_of c.args.items.now)) (rem (reader_of c.loop.items)) (rem (reader_of c.take_command.new.items)) (ahead c.args.items.now) (ahead c.loop.items) (is_spent c.args.items.now) (is_spent c.loop.items) (has_failed c.take_command.new.items) (Stands g.E.Editor.dir_path g.E.Editor.file_path mid.stage mid.dirs.items mid.file) c.in_err-take_command.field-0.0 c.loop.invariant.3 (not_ended g.E.Editor.dir_path g.E.Editor.file_path mid.stage mid.dirs.items mid.file) c.loop.invariant.0 c.loop.invariant.1 c.in_err-take_command.ensures.refused)
