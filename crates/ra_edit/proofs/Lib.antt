@@ -16,5 +16,6 @@ pub mod Drives
 pub mod NothingDue
 pub mod OneEdit
 pub mod WrittenReceived
+pub mod NotRefused
 pub mod NotRead
 pub mod OwnRefusals

@@ -1,5 +1,5 @@
 -- What items say is a function of them, and of where the commands stand.
-use Rattle.std.proofs.Common.{◌≡◌, ℕ, ◌==◌, Bool, true, false, not, ◌&&◌, List, [], ◌∷◌, ◌++◌, Option, Some, None, Result, Ok, Err, refl, sym, ap, subst, ◌∙◌, append_assoc, inl, inr, codes, cond, arith}
+use Rattle.std.proofs.Common.{◌≡◌, ℕ, ◌==◌, Bool, true, false, not, ◌&&◌, List, [], ◌∷◌, ◌++◌, Option, Some, None, Result, Ok, Err, refl, sym, ap, subst, ◌∙◌, append_assoc, append-nil, inl, inr, codes, cond, arith}
 use Rattle.std.proofs.lemmas.Bool.Decides.{nat_tests}
 use Rattle.std.specs.Prelude.{map, ⊤}
 use Rattle.std.specs.List.{concat, list_all, slice_split}
@@ -398,3 +398,63 @@ pub ends_once : EndsOnce
 ends_once items more a b p q =
     none_behind a more (b, Ended)
     (ap (then_all more) (sym (all_say_this Begun Ended items a tt p)) ∙ sym (all_append Begun items more) ∙ all_say_this Begun Ended (items ++ more) b tt q)
+
+-- ---- a part of an edit
+
+abbrev at_of : Said → At
+at_of None = Begun
+at_of (Some p) = p.1
+
+-- items lead to one place
+pub same_place : (items : List Item) (a b : List Call) (here there : At) → AllSay Begun items a here → AllSay Begun items b there → here ≡ there
+same_place items a b here there p q = ap at_of (sym (all_say_this Begun here items a tt p) ∙ all_say_this Begun there items b tt q)
+
+-- and are one list of calls
+pub same_calls : (items : List Item) (a b : List Call) (here there : At) → AllSay Begun items a here → AllSay Begun items b there → a ≡ b
+same_calls items a b here there p q = ap calls_of (sym (all_say_this Begun here items a tt p) ∙ all_say_this Begun there items b tt q)
+
+-- what begins with an edit has ended
+pub ends_any : (items more : List Item) (a b : List Call) (at : At) → SpellsEdit items a → AllSay Begun (items ++ more) b at → at ≡ Ended
+ends_any items more a b at p q =
+    let none : more ≡ [] =
+    none_behind a more (b, at)
+    (ap (then_all more) (sym (all_say_this Begun Ended items a tt p)) ∙ sym (all_append Begun items more) ∙ all_say_this Begun at (items ++ more) b tt q)
+    in
+    same_place items b a at Ended (subst (λ l. AllSay Begun l b at) (ap (λ m. items ++ m) none ∙ append-nil items) q) p
+
+-- the calls of items, of one more, and of those behind it
+pub record Split (items : List Item) (x : Item) (from : At) (all : List Call) : Type 0 where
+  pub before : List Call
+  pub mid : At
+  pub calls : List Call
+  pub to : At
+  pub later : List Call
+  pub first : AllSay from items before mid
+  pub one : Says mid x calls to
+  pub joined : all ≡ before ++ (calls ++ later)
+
+abbrev head_or : Item → List Item → Item
+head_or x [] = x
+head_or x (y ∷ ys) = y
+
+abbrev behind_head : List Item → List Item
+behind_head [] = []
+behind_head (y ∷ ys) = ys
+
+pub split : (items : List Item) (x : Item) (rest whole : List Item) (from end : At) (all : List Call) → whole ≡ items ++ x ∷ rest → AllSay from whole all end → Split items x from all
+split [] x rest whole from end all e (edits.Nothing at) = cc
+split (y ∷ items) x rest whole from end all e (edits.Nothing at) = cc
+split [] x rest whole from end all e (edits.Then at next last z zs first others one behind) =
+    record { before = []; mid = at; calls = first; to = next; later = others; first = edits.Nothing at; one = subst (λ w. Says at w first next) (ap (head_or z) e) one; joined = refl }
+split (y ∷ items) x rest whole from end all e (edits.Then at next last z zs first others one behind) =
+    let k = split items x rest zs next last others (ap behind_head e) behind in
+    record {
+      before = first ++ k.before;
+      mid = k.mid;
+      calls = k.calls;
+      to = k.to;
+      later = k.later;
+      first = edits.Then at next k.mid y items first k.before (subst (λ w. Says at w first next) (ap (head_or z) e) one) k.first;
+      one = k.one;
+      joined = ap (λ l. first ++ l) k.joined ∙ sym (append_assoc first k.before (k.calls ++ k.later));
+    }

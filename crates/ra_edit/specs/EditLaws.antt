@@ -2,19 +2,27 @@
 use Rattle.std.specs.Prelude.{◌≡◌, ℕ, ◌≤◌, ◌<◌, ◌^◌, Bool, true, false, List, [], ◌∷◌, ◌++◌, map, length, Option, Some, None, Ok, IfSome, ⊤}
 use Rattle.std.specs.List.{list_all, AllByRecursion}
 use Rattle.hex.specs.Hex.{IsBytes}
-use Rattle.ra_item.specs.Items.{Item, Within}
+use Rattle.ra_item.specs.Items.{Item, Within, row, spell_all}
 use Rattle.ra_item.specs.Streams.{Stream, stream_of}
 use Rattle.node_base.specs.Path.{Path}
 use Rattle.node_base.specs.PathText.{path_text, path_read}
 use Rattle.node_base.specs.Props.{prop_name_read}
+use Rattle.node_base.specs.Tree.{PathMap}
 use Rattle.node_base.specs.declared.node.Source.{Source}
 use Rattle.delta_editor.specs.declared.call.Call.{Call}
 use Rattle.delta_editor.specs.declared.call.Call.TheVariants as call
 use Rattle.delta_editor.specs.Nesting.{IsNested}
+use Rattle.delta_editor.specs.declared.fault.EditorFault.{EditorFault}
 use Rattle.ra_edit.specs.Commands.{parts, edit_items, edit_bytes}
-use Rattle.ra_edit.specs.Edits.{SumsTo, SpellsEdit}
+use Rattle.ra_edit.specs.Edits.{At, Says, SumsTo, SpellsEdit}
 use Rattle.ra_edit.specs.ItemStreams.{Takes}
+use Rattle.ra_edit.specs.Received.{ShownBefore, RefusesDrive}
+use Rattle.ra_edit.specs.Receiving.{Forms}
+use Rattle.ra_edit.specs.Refusals.{Meets}
 use Rattle.ra_edit.specs.Wire.{AllDeeper}
+use Rattle.ra_edit.specs.declared.edit_fault.EditFault.{EditFault}
+use Rattle.ra_edit.specs.declared.edit_fault.EditFault.TheVariants as fault
+use Rattle.ra_edit.specs.declared.receive_command.Command.{Command}
 
 -- a path within the rules and limits, which is read again
 abbrev pub IsPathText : Path → Type 0
@@ -105,6 +113,39 @@ pub record IsWritten (n : ℕ) (base : Option ℕ) (body : List Call) : Type 0 w
   pub count : length body < 2 ^ 64
   pub items : AllByRecursion Within (edit_items (call.Target n ∷ call.OpenRoot base ∷ body))
 
--- what was written is received as the same calls, each piece of a text in its parts, however the bytes are cut and whatever follows them
+-- the stream stands before these bytes: with what the reader has left, their items are to come
+abbrev pub IsBefore : List ℕ → Option (List ℕ) → (List ℕ → Stream) → Type 0
+IsBefore bytes remaining ahead = (left : List ℕ) × (remaining ≡ Some left) × (ahead left ≡ stream_of bytes)
+
+-- where items that were written are to come, as many as are taken are these, and then the stream stands before what follows them
+abbrev pub WrittenIsTaken : Type 0
+WrittenIsTaken = (xs ys : List Item) (more : List ℕ) (before after : Option (List ℕ)) (was is : List ℕ → Stream) → AllByRecursion Within xs → length ys ≡ length xs → IsBefore (spell_all (row xs) ++ more) before was → Takes ys before after was is → (ys ≡ xs) × IsBefore more after is
+
+-- where an edit that was written is to come, it is received as the same calls, each piece of a text in its parts, however the bytes
+-- are cut and whatever follows them, and then the stream stands before what follows
 abbrev pub WrittenIsReceived : Type 0
-WrittenIsReceived = (n : ℕ) (base : Option ℕ) (body : List Call) (more : List ℕ) (after : Option (List ℕ)) (is : List ℕ → Stream) (items : List Item) (calls : List Call) → IsWritten n base body → Takes items (Some (edit_bytes (call.Target n ∷ call.OpenRoot base ∷ body) ++ more)) after stream_of is → SpellsEdit items calls → (calls ≡ call.Target n ∷ call.OpenRoot base ∷ cut_all body) × AreSameCalls calls (call.Target n ∷ call.OpenRoot base ∷ body)
+WrittenIsReceived = (n : ℕ) (base : Option ℕ) (body : List Call) (more : List ℕ) (before after : Option (List ℕ)) (was is : List ℕ → Stream) (items : List Item) (calls : List Call) → IsWritten n base body → IsBefore (edit_bytes (call.Target n ∷ call.OpenRoot base ∷ body) ++ more) before was → Takes items before after was is → SpellsEdit items calls → (calls ≡ call.Target n ∷ call.OpenRoot base ∷ cut_all body) × AreSameCalls calls (call.Target n ∷ call.OpenRoot base ∷ body) × IsBefore more after is
+
+-- an item that is an edit's next has the form of a command
+abbrev pub SaysSomeCommand : Type 0
+SaysSomeCommand = (at to : At) (item : Item) (calls : List Call) → Within item → Says at item calls to → (c : Command) × Forms c item
+
+-- a refusal for want of memory, by a read that failed, or the editor's own, of which this is known
+abbrev pub IsOnlyFor : (EditorFault → Type 0) → Bool → EditFault → Type 0
+IsOnlyFor own failed fault.OutOfMemory = ⊤
+IsOnlyFor own failed fault.PeerFailed = failed ≡ true
+IsOnlyFor own failed (fault.Editor e) = own e
+IsOnlyFor own failed f = ⊥
+
+-- the editor was shown the first of an edit's calls, and may refuse so a call for which the next command asks
+pub record MeetsInEdit {E : Type 0} (shows : E → List Call → Type 0) (over : E → List PathMap) (refuses : List PathMap → List Call → Call → EditorFault → Type 0) (editor : E) (calls : List Call) (e : EditorFault) : Type 0 where
+  pub first : List Call
+  pub rest : List Call
+  pub joined : calls ≡ first ++ rest
+  pub at : At
+  pub command : Command
+  pub met : Meets (ShownBefore shows first) over refuses editor at command e
+
+-- where an edit that was written is to come, it is refused only for want of memory, by a read that failed, or by the editor
+abbrev pub WrittenIsNotRefused : {E : Type 0} → (E → List Call → Type 0) → (E → List PathMap) → (List PathMap → List Call → Call → EditorFault → Type 0) → Type 0
+WrittenIsNotRefused shows over refuses = (editor : _) (n : ℕ) (base : Option ℕ) (body : List Call) (more : List ℕ) (before after : Option (List ℕ)) (was : List ℕ → Stream) (spent failed : Bool) (f : EditFault) → IsWritten n base body → IsBefore (edit_bytes (call.Target n ∷ call.OpenRoot base ∷ body) ++ more) before was → spent ≡ false → RefusesDrive shows over refuses editor before after was spent failed f → IsOnlyFor (MeetsInEdit shows over refuses editor (call.Target n ∷ call.OpenRoot base ∷ cut_all body)) failed f

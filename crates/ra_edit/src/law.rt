@@ -1,8 +1,10 @@
 //! Laws of texts in windows, over all bytes, and of edits in items. Each is proved as the contract of a function that does nothing.
 
-ghost use Rattle.ra_edit.specs.EditLaws.{WrittenIsEdit, OneEdit, EndsOnce, WrittenIsReceived};
+ghost use Rattle.ra_edit.specs.EditLaws.{WrittenIsEdit, OneEdit, EndsOnce, WrittenIsTaken, WrittenIsReceived, SaysSomeCommand, WrittenIsNotRefused};
 ghost use Rattle.ra_edit.specs.Refusals.{NothingDue};
 ghost use Rattle.ra_edit.specs.Laws.{PiecesJoin, TextsAreRead, OneText, WrittenIsText, WrittenIsRead, ReadIsText};
+
+use delta_editor::Editor;
 
 /// It doesn't matter how bytes are cut into pieces.
 pub fn pieces_join()
@@ -54,10 +56,31 @@ pub fn nothing_due()
     ensures { NothingDue }
 {}
 
-/// What was written is received as the same calls, each piece of a text in its parts, however the bytes are cut and whatever
+/// Items that were written are taken as these items, wherever in a stream they stand, and then the stream stands before what
 /// follows them.
+pub fn written_is_taken()
+    ensures { WrittenIsTaken }
+{
+    ra_item::law::written_is_read();
+}
+
+/// An edit that was written is received as the same calls, each piece of a text in its parts, wherever in a stream it stands,
+/// however the bytes are cut and whatever follows them; and then the stream stands before what follows.
 pub fn written_is_received()
     ensures { WrittenIsReceived }
+{
+    ra_item::law::written_is_read();
+}
+
+/// An item that is an edit's next, where the commands stand, has the form of a command.
+pub fn says_some_command()
+    ensures { SaysSomeCommand }
+{}
+
+/// An edit that was written is refused only for want of memory, by a read that failed, or by the editor at one of its calls,
+/// wherever in a stream it stands, however the bytes are cut and whatever follows them.
+pub fn written_is_not_refused<E: Editor>()
+    ensures { WrittenIsNotRefused E.shows E.over E.refuses }
 {
     ra_item::law::written_is_read();
 }
