@@ -16,6 +16,7 @@ pub mod Drives
 pub mod NothingDue
 pub mod OneEdit
 pub mod WrittenReceived
+pub mod Asked
 pub mod NotRefused
 pub mod NotRead
 pub mod OwnRefusals

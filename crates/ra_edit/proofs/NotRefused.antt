@@ -10,7 +10,6 @@ use Rattle.ra_item.specs.Laws.{WrittenIsRead}
 use Rattle.ra_item.specs.Streams.{Stream, stream_of, items_of}
 use Rattle.ra_item.specs.declared.fault.ItemFault.{ItemFault}
 use Rattle.ra_item.specs.declared.fault.ItemFault.TheVariants as item
-use Rattle.node_base.specs.Tree.{PathMap}
 use Rattle.delta_editor.specs.declared.call.Call.{Call}
 use Rattle.delta_editor.specs.declared.call.Call.TheVariants as call
 use Rattle.delta_editor.specs.declared.fault.EditorFault.{EditorFault}
@@ -18,11 +17,11 @@ use Rattle.ra_edit.specs.Commands.{list, edit_items, edit_bytes}
 use Rattle.ra_edit.specs.Edits.{IsCommand, IsString, At, Begun, Ended, Says, AllSay, SpellsEdit}
 use Rattle.ra_edit.specs.Edits as edits
 use Rattle.ra_edit.specs.EditFaults.{of_command, of_shape}
-use Rattle.ra_edit.specs.EditLaws.{cut_all, IsBefore, IsWritten, SaysSomeCommand, IsOnlyFor, MeetsInEdit, WrittenIsNotRefused}
+use Rattle.ra_edit.specs.EditLaws.{cut_all, IsBefore, IsWritten, SaysSomeCommand, IsOnlyFor, WrittenIsNotRefused}
 use Rattle.ra_edit.specs.ItemStreams.{behind, Ends, Breaks, Stops}
 use Rattle.ra_edit.specs.Received.{IsRefused, RefusesItem, StopsBehind, ShownBefore}
 use Rattle.ra_edit.specs.Receiving.{Forms, IsNoCommand}
-use Rattle.ra_edit.specs.Refusals.{refusal, RefusedFor, IfOwn, Meets}
+use Rattle.ra_edit.specs.Refusals.{refusal, RefusedFor, IfOwn, RefusesOne, Meets}
 use Rattle.ra_edit.specs.declared.command_fault.CommandFault.{CommandFault}
 use Rattle.ra_edit.specs.declared.command_fault.CommandFault.TheVariants as why
 use Rattle.ra_edit.specs.declared.edit_fault.EditFault.{EditFault}
@@ -31,9 +30,10 @@ use Rattle.ra_edit.specs.declared.receive_command.Command.{Command}
 use Rattle.ra_edit.specs.declared.receive_command.Command.TheVariants as command
 use Rattle.ra_edit.specs.declared.shape_fault.ShapeFault.{ShapeFault}
 use Rattle.ra_edit.specs.declared.shape_fault.ShapeFault.TheVariants as shape
+use Rattle.ra_edit.proofs.Asked.{asked}
 use Rattle.ra_edit.proofs.EditSays.{written_is_edit}
 use Rattle.ra_edit.proofs.NothingDue.{nothing_due}
-use Rattle.ra_edit.proofs.OneEdit.{same_place, same_calls, ends_any, split}
+use Rattle.ra_edit.proofs.OneEdit.{Distinct, distinct_at, same_place, same_calls, ends_any, split}
 use Rattle.ra_edit.proofs.OwnRefusals.{own_map}
 use Rattle.ra_edit.proofs.WrittenReceived.{first_or, same_front, items_behind, taken_from, written_stream}
 
@@ -178,9 +178,25 @@ refused_for own failed at to x calls f w s (inl q) =
     subst (λ y. IsOnlyFor own failed (of_command y)) (sym q.1) (no_shape own failed x q.0 c.0 c.1 q.2)
 refused_for own failed at to x calls f w s (inr q) = none_due own failed f (refusal at q.0) (nothing_due at to x calls q.0 s q.1) q.2 q.3
 
--- what the editor may meet, at a place in an edit
-abbrev InEdit : (List Call → At → Command → EditorFault → Type 0) → List Call → EditorFault → Type 0
-InEdit met calls e = (first rest : List Call) × (at : At) × (c : Command) × (calls ≡ first ++ rest) × met first at c e
+-- what the editor may meet at a command of an edit
+pub record InEdit (met : List Call → At → Command → EditorFault → Type 0) (all : List Call) (e : EditorFault) : Type 0 where
+  pub first : List Call
+  pub calls : List Call
+  pub later : List Call
+  pub at : At
+  pub to : At
+  pub item : Item
+  pub command : Command
+  pub joined : all ≡ first ++ (calls ++ later)
+  pub apart : Distinct at
+  pub says : Says at item calls to
+  pub forms : Forms command item
+  pub met_there : met first at command e
+
+noted : (met : List Call → At → Command → EditorFault → Type 0) (first calls later all : List Call) (at to : At) (x : Item) (why : CommandFault) → all ≡ first ++ (calls ++ later) → Distinct at → Says at x calls to → IsRefused (met first) at x why → IsRefused (λ a c e. InEdit met all e) at x why
+noted met first calls later all at to x why j d s (inl q) = inl q
+noted met first calls later all at to x why j d s (inr q) =
+    inr (q.0, q.1, q.2, own_map why (λ e m. record { first = first; calls = calls; later = later; at = at; to = to; item = x; command = q.0; joined = j; apart = d; says = s; forms = q.1; met_there = m }) q.3)
 
 item_refused : (met : List Call → At → Command → EditorFault → Type 0) (failed : Bool) (f : EditFault) (before after : Option (List ℕ)) (was : List ℕ → Stream) (items : List Item) (calls : List Call) (at : At) (bytes : List ℕ) (whole vs : List Item) (read : List Call) → AllSay Begun items calls at → ((d : List Item) → items ≡ whole ++ d → ⊥) → SpellsEdit whole read → AllByRecursion Within whole → IsBefore bytes before was → items_of (stream_of bytes) ≡ whole ++ vs → RefusesItem (met calls) items (λ a. a ≡ at) before after was f → IsOnlyFor (InEdit met read) failed f
 item_refused met failed f before after was items calls at bytes whole vs read say never written within stands is q =
@@ -193,14 +209,10 @@ item_refused met failed f before after was items calls at bytes whole vs read sa
     let here : k.mid ≡ at = same_place items k.before calls k.mid at k.first say in
     let first : k.before ≡ calls = same_calls items k.before calls k.mid at k.first say in
     let one : Says at q.item k.calls k.to = subst (λ a. Says a q.item k.calls k.to) here k.one in
-    let joined : read ≡ calls ++ (k.calls ++ k.later) = k.joined ∙ ap (λ l. l ++ (k.calls ++ k.later)) first in
+    let joined : read ≡ calls ++ (k.calls ++ k.later) = subst (λ l. read ≡ l ++ (k.calls ++ k.later)) first k.joined in
     subst (λ y. IsOnlyFor (InEdit met read) failed y) (sym q.same)
     (refused_for (InEdit met read) failed at k.to q.item k.calls q.why (within_at items q.item n.0 (subst (λ l. AllByRecursion Within l) n.1 within)) one
-    (noted met calls at q.item q.why read (k.calls ++ k.later) joined (q.due at refl)))
-  where
-    noted : (met : List Call → At → Command → EditorFault → Type 0) (calls : List Call) (at : At) (x : Item) (why : CommandFault) (read later : List Call) → read ≡ calls ++ later → IsRefused (met calls) at x why → IsRefused (λ a c e. InEdit met read e) at x why
-    noted met calls at x why read later j (inl q) = inl q
-    noted met calls at x why read later j (inr q) = inr (q.0, q.1, q.2, own_map why (λ e m. (calls, later, at, q.0, j, m)) q.3)
+    (noted met calls k.calls k.later read at k.to q.item q.why joined (distinct_at Begun at items calls tt say) one (q.due at refl)))
 
 pub not_refused : WrittenIsRead → (met : List Call → At → Command → EditorFault → Type 0) (n : ℕ) (base : Option ℕ) (body : List Call) (more : List ℕ) (before after : Option (List ℕ)) (was : List ℕ → Stream) (spent failed : Bool) (f : EditFault) (items : List Item) (calls : List Call) (at : At) → IsWritten n base body → IsBefore (edit_bytes (call.Target n ∷ call.OpenRoot base ∷ body) ++ more) before was → spent ≡ false → AllSay Begun items calls at → (at ≡ Ended → ⊥) → StopsBehind (met calls) items (λ a. a ≡ at) before after was spent failed f → IsOnlyFor (InEdit met (call.Target n ∷ call.OpenRoot base ∷ cut_all body)) failed f
 not_refused law met n base body more before after was spent failed f items calls at w s fresh say unended stops =
@@ -224,26 +236,46 @@ not_refused law met n base body more before after was spent failed f items calls
       ]
     ]
 
--- so it is of any editor
-first_met : (shows_met : List Call → At → Command → EditorFault → Type 0) (into : List Call → EditorFault → Type 0) (read : List Call) (failed : Bool) (f : EditFault) → ((e : EditorFault) → InEdit shows_met read e → into read e) → IsOnlyFor (InEdit shows_met read) failed f → IsOnlyFor (into read) failed f
-first_met met into read failed fault.OutOfMemory g h = h
-first_met met into read failed fault.PeerFailed g h = h
-first_met met into read failed (fault.Editor e) g h = g e h
-first_met met into read failed fault.Truncated g h = h
-first_met met into read failed fault.TooLong g h = h
-first_met met into read failed fault.BadItem g h = h
-first_met met into read failed fault.TooDeep g h = h
-first_met met into read failed fault.Failed g h = h
-first_met met into read failed fault.BadSum g h = h
-first_met met into read failed fault.BadWindow g h = h
-first_met met into read failed fault.CopyWindow g h = h
-first_met met into read failed fault.BadToken g h = h
-first_met met into read failed fault.BadShape g h = h
-first_met met into read failed fault.Refused g h = h
+-- a call that a command of an edit asks for is the edit's
+one_of : {E O : Type 0} (shows : E → List Call → Type 0) (began : E → O) (refuses : O → List Call → Call → EditorFault → Type 0) (editor : E) (all : List Call) (e : EditorFault) → InEdit (λ first. Meets (ShownBefore shows first) began refuses editor) all e → RefusesOne shows began refuses editor all e
+one_of shows began refuses editor all e k =
+    let m = k.met_there in
+    let r = m.one in
+    let a = asked k.at k.to k.item k.calls m.calls k.command k.apart k.says k.forms m.asked in
+    record {
+      before = k.first ++ r.before;
+      next = r.next;
+      rest = r.rest ++ (a.0 ++ k.later);
+      among = placed k.first r.before r.next r.rest a.0 k.later k.calls m.calls all r.among a.1 k.joined;
+      met = λ shown h. subst (λ l. refuses (began editor) l r.next e) (append_assoc shown k.first r.before) (r.met (shown ++ k.first) (shown, h, refl));
+    }
+  where
+    placed : (first before : List Call) (next : Call) (rest more later calls asks all : List Call) → before ++ next ∷ rest ≡ asks → calls ≡ asks ++ more → all ≡ first ++ (calls ++ later) → (first ++ before) ++ next ∷ (rest ++ (more ++ later)) ≡ all
+    placed first before next rest more later calls asks all e f g =
+        append_assoc first before (next ∷ (rest ++ (more ++ later)))
+        ∙ ap (λ l. first ++ l) (sym (append_assoc before (next ∷ rest) (more ++ later)) ∙ ap (λ l. l ++ (more ++ later)) e ∙ sym (append_assoc asks more later) ∙ ap (λ l. l ++ later) (sym f))
+        ∙ sym g
 
-pub written_is_not_refused : {E : Type 0} (shows : E → List Call → Type 0) (over : E → List PathMap) (refuses : List PathMap → List Call → Call → EditorFault → Type 0) → WrittenIsRead → WrittenIsNotRefused shows over refuses
-written_is_not_refused shows over refuses law editor n base body more before after was spent failed f w s fresh k =
-    let met : List Call → At → Command → EditorFault → Type 0 = λ first. Meets (ShownBefore shows first) over refuses editor in
+-- what is known of the editor's own refusal
+known : (own is : EditorFault → Type 0) (failed : Bool) (f : EditFault) → ((e : EditorFault) → own e → is e) → IsOnlyFor own failed f → IsOnlyFor is failed f
+known own is failed fault.OutOfMemory g h = h
+known own is failed fault.PeerFailed g h = h
+known own is failed (fault.Editor e) g h = g e h
+known own is failed fault.Truncated g h = h
+known own is failed fault.TooLong g h = h
+known own is failed fault.BadItem g h = h
+known own is failed fault.TooDeep g h = h
+known own is failed fault.Failed g h = h
+known own is failed fault.BadSum g h = h
+known own is failed fault.BadWindow g h = h
+known own is failed fault.CopyWindow g h = h
+known own is failed fault.BadToken g h = h
+known own is failed fault.BadShape g h = h
+known own is failed fault.Refused g h = h
+
+pub written_is_not_refused : {E O : Type 0} (shows : E → List Call → Type 0) (began : E → O) (refuses : O → List Call → Call → EditorFault → Type 0) → WrittenIsRead → WrittenIsNotRefused shows began refuses
+written_is_not_refused shows began refuses law editor n base body more before after was spent failed f w s fresh k =
+    let met : List Call → At → Command → EditorFault → Type 0 = λ first. Meets (ShownBefore shows first) began refuses editor in
     let read = call.Target n ∷ call.OpenRoot base ∷ cut_all body in
-    first_met met (MeetsInEdit shows over refuses editor) read failed f (λ e m. record { first = m.0; rest = m.1; joined = m.4; at = m.2; command = m.3; met = m.5 })
+    known (InEdit met read) (RefusesOne shows began refuses editor read) failed f (one_of shows began refuses editor read)
     (not_refused law met n base body more before after was spent failed f k.items k.calls k.at w s fresh k.say k.unended k.stops)

@@ -23,10 +23,10 @@ use Rattle.node_base.proofs.ReadBack.{name_of_test}
 use Rattle.node_base.proofs.PathLemmas.{same_name_itself, name_of_same}
 use Rattle.ra_edit.proofs.Told.{both}
 
-abbrev Said : Type 0
+abbrev pub Said : Type 0
 Said = Option (List Call × At)
 
-abbrev said : List Call → At → Said
+abbrev pub said : List Call → At → Said
 said calls to = Some (calls, to)
 
 -- ---- parameters
@@ -39,7 +39,7 @@ abbrev text_of : Item → List ℕ
 text_of (Text t) = t
 text_of _ = []
 
-abbrev base_of : Item → Option ℕ
+abbrev pub base_of : Item → Option ℕ
 base_of (Nested (Then (Number n) more)) = Some n
 base_of _ = None
 
@@ -59,15 +59,15 @@ abbrev from_read : ℕ → Option Path → Option Source
 from_read n None = None
 from_read n (Some p) = Some (record { path = p; revision = n })
 
-abbrev source_of : Item → Option Source
+abbrev pub source_of : Item → Option Source
 source_of (Nested (Then (Text t) (Then (Number n) more))) = from_read n (ok_of (path_read (behind_slash t)))
 source_of _ = None
 
-revision_says : (base : Option ℕ) (x : Item) → IsRevision base x → base_of x ≡ base
+pub revision_says : (base : Option ℕ) (x : Item) → IsRevision base x → base_of x ≡ base
 revision_says None x h = ap base_of h
 revision_says (Some n) x h = ap base_of h.2
 
-string_says : (s : Option (List ℕ)) (x : Item) → IsString s x → string_of x ≡ s
+pub string_says : (s : Option (List ℕ)) (x : Item) → IsString s x → string_of x ≡ s
 string_says None x h = ap string_of h
 string_says (Some s) x h = ap string_of h.1
 
@@ -96,7 +96,7 @@ without (b ∷ text) p e = tested (b == 47) refl
     tested true h = absurd (no_slash text p (subst (λ x. path_read (x ∷ text) ≡ Ok p) (eq_from b 47 h) e))
     tested false h = refl
 
-source_says : (from : Option Source) (x : Item) → IsSource from x → source_of x ≡ from
+pub source_says : (from : Option Source) (x : Item) → IsSource from x → source_of x ≡ from
 source_says None x h = ap source_of h
 source_says (Some s) x h =
     let read : from_read s.revision (ok_of (path_read h.0)) ≡ Some s = ap (λ r. from_read s.revision (ok_of r)) h.2 in
@@ -107,16 +107,16 @@ source_says (Some s) x h =
 
 -- ---- commands
 
-abbrev then_path : Item → (Path → Said) → Said
+abbrev pub then_path : Item → (Path → Said) → Said
 then_path x f = option_and_then f (ok_of (path_read (text_of x)))
 
-path_said : (text : List ℕ) (p : Path) (f : Path → Said) → path_read text ≡ Ok p → then_path (Text text) f ≡ f p
+pub path_said : (text : List ℕ) (p : Path) (f : Path → Said) → path_read text ≡ Ok p → then_path (Text text) f ≡ f p
 path_said text p f e = ap (λ r. option_and_then f (ok_of r)) e
 
-abbrev then_name : Item → (Name → Said) → Said
+abbrev pub then_name : Item → (Name → Said) → Said
 then_name x f = option_and_then f (ok_of (prop_name_read (text_of x)))
 
-name_said : (text : List ℕ) (n : Name) (f : Name → Said) → prop_name_read text ≡ Ok n → then_name (Text text) f ≡ f n
+pub name_said : (text : List ℕ) (n : Name) (f : Name → Said) → prop_name_read text ≡ Ok n → then_name (Text text) f ≡ f n
 name_said text n f e = ap (λ r. option_and_then f (ok_of r)) e
 
 -- the path of what is open by a token
@@ -124,71 +124,71 @@ abbrev path_at : List ℕ → List Named → Option Path
 path_at t [] = None
 path_at t (o ∷ os) = cond (same_name o.token t) (Some o.path) (path_at t os)
 
-abbrev target : At → Items → Said
+abbrev pub target : At → Items → Said
 target Begun (Then (Number n) ps) = said (call.Target n ∷ []) Targeted
 target _ _ = None
 
-abbrev open_root : At → Items → Said
+abbrev pub open_root : At → Items → Said
 open_root at (Then b (Then t ps)) = said (call.OpenRoot (base_of b) ∷ []) (Inside (named (text_of t) [] Dir ∷ []))
 open_root _ _ = None
 
-abbrev add_dir : At → Items → Said
+abbrev pub add_dir : At → Items → Said
 add_dir (Inside (o ∷ os)) (Then q (Then u (Then t (Then s ps)))) = then_path q (λ p. said (call.AddDir o.path p (source_of s) ∷ []) (Inside (named (text_of t) p Dir ∷ o ∷ os)))
 add_dir _ _ = None
 
-abbrev open_dir : At → Items → Said
+abbrev pub open_dir : At → Items → Said
 open_dir (Inside (o ∷ os)) (Then q (Then u (Then t (Then b ps)))) = then_path q (λ p. said (call.OpenDir o.path p (base_of b) ∷ []) (Inside (named (text_of t) p Dir ∷ o ∷ os)))
 open_dir _ _ = None
 
-abbrev delete_entry : At → Items → Said
+abbrev pub delete_entry : At → Items → Said
 delete_entry (Inside (o ∷ os)) (Then q (Then b ps)) = then_path q (λ p. said (call.DeleteEntry o.path p (base_of b) ∷ []) (Inside (o ∷ os)))
 delete_entry _ _ = None
 
-abbrev add_file : At → Items → Said
+abbrev pub add_file : At → Items → Said
 add_file (Inside (o ∷ os)) (Then q (Then u (Then t (Then s ps)))) = then_path q (λ p. said (call.AddFile o.path p (source_of s) ∷ []) (Inside (named (text_of t) p Fresh ∷ o ∷ os)))
 add_file _ _ = None
 
-abbrev open_file : At → Items → Said
+abbrev pub open_file : At → Items → Said
 open_file (Inside (o ∷ os)) (Then q (Then u (Then t (Then b ps)))) = then_path q (λ p. said (call.OpenFile o.path p (base_of b) ∷ []) (Inside (named (text_of t) p Fresh ∷ o ∷ os)))
 open_file _ _ = None
 
-abbrev dir_prop : At → Items → Said
+abbrev pub dir_prop : At → Items → Said
 dir_prop (Inside os) (Then t (Then q (Then v ps))) = option_and_then (λ p. then_name q (λ n. said (call.DirProp p n (string_of v) ∷ []) (Inside os))) (path_at (text_of t) os)
 dir_prop _ _ = None
 
-abbrev file_prop : At → Items → Said
+abbrev pub file_prop : At → Items → Said
 file_prop (Inside (o ∷ os)) (Then t (Then q (Then v ps))) = then_name q (λ n. said (call.FileProp o.path n (string_of v) ∷ []) (Inside (o ∷ os)))
 file_prop _ _ = None
 
-abbrev text_start : At → Items → Said
+abbrev pub text_start : At → Items → Said
 text_start (Inside (o ∷ os)) ps = said (call.TextStart o.path ∷ []) (Inside (named o.token o.path (Within [] begin) ∷ os))
 text_start _ _ = None
 
-abbrev grown : Named → List Named → List (List ℕ) → Stream → Said
+abbrev pub grown : Named → List Named → List (List ℕ) → Stream → Said
 grown o os pieces (Reads all r) = said (map (call.TextPiece o.path) pieces) (Inside (named o.token o.path (Within all r) ∷ os))
 grown o os pieces (Refuses all f) = None
 
-abbrev taken : Named → List Named → List ℕ → Held → Said
+abbrev pub taken : Named → List Named → List ℕ → Held → Said
 taken o os bytes (Within text r) = grown o os (pieces_in r bytes) (reading (Reads text r) bytes)
 taken o os bytes _ = None
 
-abbrev chunk : At → Items → Said
+abbrev pub chunk : At → Items → Said
 chunk (Inside (o ∷ os)) (Then t (Then b ps)) = taken o os (text_of b) o.held
 chunk _ _ = None
 
-abbrev ended : Named → List Named → Held → Said
+abbrev pub ended : Named → List Named → Held → Said
 ended o os (Within text r) = said (call.TextEnd o.path ∷ []) (Inside (named o.token o.path (Told text) ∷ os))
 ended o os _ = None
 
-abbrev text_end : At → Items → Said
+abbrev pub text_end : At → Items → Said
 text_end (Inside (o ∷ os)) ps = ended o os o.held
 text_end _ _ = None
 
-abbrev close_file : At → Items → Said
+abbrev pub close_file : At → Items → Said
 close_file (Inside (o ∷ os)) (Then t (Then s ps)) = said (call.CloseFile o.path (sum_of s) ∷ []) (Inside os)
 close_file _ _ = None
 
-abbrev close_dir : At → Items → Said
+abbrev pub close_dir : At → Items → Said
 close_dir (Inside (o ∷ os)) ps = said (call.CloseDir o.path ∷ []) (Inside os)
 close_dir _ _ = None
 
@@ -196,7 +196,7 @@ abbrev close_edit : At → Said
 close_edit (Inside os) = said [] (Announced true)
 close_edit _ = said [] (Announced false)
 
-abbrev finish : At → Said
+abbrev pub finish : At → Said
 finish (Inside os) = said (last_calls true) Ended
 finish (Announced root) = said (last_calls root) Ended
 finish _ = said (last_calls false) Ended
@@ -220,12 +220,12 @@ by_name w at ps =
     (cond (same_name w (codes "close-edit")) (close_edit at)
     (finish at)))))))))))))))
 
-abbrev by_item : At → Item → Said
+abbrev pub by_item : At → Item → Said
 by_item at (Nested (Then (Word w) (Then (Nested ps) rest))) = by_name w at ps
 by_item at _ = None
 
 -- nothing is said behind the end
-abbrev by : At → Item → Said
+abbrev pub by : At → Item → Said
 by Ended x = None
 by Begun x = by_item Begun x
 by Targeted x = by_item Targeted x
@@ -238,7 +238,7 @@ abbrev distinct : List Named → Bool
 distinct [] = true
 distinct (o ∷ os) = is_free o.token os && distinct os
 
-abbrev Distinct : At → Type 0
+abbrev pub Distinct : At → Type 0
 Distinct (Inside os) = distinct os ≡ true
 Distinct _ = ⊤
 
@@ -260,7 +260,7 @@ here t p outer (o ∷ front) h =
     ap (λ b. cond b (Some o.path) (path_at t (front ++ named t p Dir ∷ outer))) (other t p outer front o.token (same_name o.token t) refl k.0) ∙ here t p outer front k.1
 
 -- what is open by a token is what the token names
-found : (t : List ℕ) (p : Path) (inner outer os : List Named) → os ≡ inner ++ named t p Dir ∷ outer → distinct os ≡ true → path_at t os ≡ Some p
+pub found : (t : List ℕ) (p : Path) (inner outer os : List Named) → os ≡ inner ++ named t p Dir ∷ outer → distinct os ≡ true → path_at t os ≡ Some p
 found t p inner outer os e d = subst (λ l. path_at t l ≡ Some p) (sym e) (here t p outer inner (ap distinct (sym e) ∙ d))
 
 -- ---- an item says this and nothing else
@@ -269,7 +269,7 @@ unopened : (P : At → Type 0) → P Begun → P Targeted → (at : At) → IsUn
 unopened P b t at (inl e) = subst P (sym e) b
 unopened P b t at (inr e) = subst P (sym e) t
 
-says_this : (at to : At) (item : Item) (calls : List Call) → Distinct at → Says at item calls to → by at item ≡ Some (calls, to)
+pub says_this : (at to : At) (item : Item) (calls : List Call) → Distinct at → Says at item calls to → by at item ≡ Some (calls, to)
 says_this at to item calls d (edits.Target n i small c) = ap (by Begun) c.2
 says_this at to item calls d (edits.OpenRoot where_at base t b i un rev c) =
     let now = Inside (named t [] Dir ∷ []) in
@@ -360,7 +360,7 @@ all_say_this at end all both_calls d (edits.Then from next last item items first
     ap (option_and_then (λ p. in_front p.0 (all_by p.1 items))) (says_this from next item first d said_first)
     ∙ ap (in_front first) (all_say_this next last items rest (stays from next item first d said_first) behind)
 
-abbrev calls_of : Said → List Call
+abbrev pub calls_of : Said → List Call
 calls_of None = []
 calls_of (Some p) = p.0
 
@@ -421,6 +421,11 @@ ends_any items more a b at p q =
     (ap (then_all more) (sym (all_say_this Begun Ended items a tt p)) ∙ sym (all_append Begun items more) ∙ all_say_this Begun at (items ++ more) b tt q)
     in
     same_place items b a at Ended (subst (λ l. AllSay Begun l b at) (ap (λ m. items ++ m) none ∙ append-nil items) q) p
+
+-- and tokens stay apart on the way
+pub distinct_at : (from at : At) (items : List Item) (calls : List Call) → Distinct from → AllSay from items calls at → Distinct at
+distinct_at from at [] [] d (edits.Nothing x) = d
+distinct_at from at all both_calls d (edits.Then here next last item items first rest one behind) = distinct_at next last items rest (stays here next item first d one) behind
 
 -- the calls of items, of one more, and of those behind it
 pub record Split (items : List Item) (x : Item) (from : At) (all : List Call) : Type 0 where

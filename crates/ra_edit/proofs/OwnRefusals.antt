@@ -12,7 +12,7 @@ use Rattle.ra_edit.specs.Edit.{dirs_named, Stands, GivenIs, has_root}
 use Rattle.ra_edit.specs.EditFaults.{of_window}
 use Rattle.ra_edit.specs.Received.{ShownBefore}
 use Rattle.ra_edit.specs.Refusals.{open_of, RefusesOne, path_at, held_at, is_rooted, ReadFirst, Asks, Meets, IfOwn}
-use Rattle.ra_edit.specs.Streams.{reading, Reads}
+use Rattle.ra_edit.specs.Streams.{reading, pieces_in, Reads}
 use Rattle.ra_edit.specs.declared.command_fault.CommandFault.{CommandFault}
 use Rattle.ra_edit.specs.declared.command_fault.CommandFault.TheVariants as fault
 use Rattle.ra_edit.specs.declared.fault.WindowFault.{WindowFault}
@@ -93,8 +93,8 @@ file_met dp fp shows began refuses old st dirs x file at k c f is asks h r =
 
 -- ---- pieces of a text
 
-pub first_read : (held : Held) (r : Reading) (bytes rest : List ℕ) (new : Reading) (pieces : List (List ℕ)) (text : List ℕ) → held ≡ Within text r → reading (Reads text r) bytes ≡ reading (Reads (text ++ concat pieces) new) rest → ReadFirst held bytes pieces
-first_read held r bytes rest new pieces text e h = subst (λ x. ReadFirst x bytes pieces) (sym e) (rest, new, h)
+pub first_read : (held : Held) (r : Reading) (bytes rest : List ℕ) (new : Reading) (pieces : List (List ℕ)) (text : List ℕ) → held ≡ Within text r → reading (Reads text r) bytes ≡ reading (Reads (text ++ concat pieces) new) rest → pieces_in r bytes ≡ pieces ++ pieces_in new rest → ReadFirst held bytes pieces
+first_read held r bytes rest new pieces text e h k = subst (λ x. ReadFirst x bytes pieces) (sym e) (rest, new, h, k)
 
 pub chunk_met : {D F S O : Type 0} (dp : D → Path) (fp : F → Path) (shows : S → List Call → Type 0) (began : S → O) (refuses : Refusing O) (old : S) (st : Stage) (dirs : List (OpenDir D)) (x : OpenFile F) (file : Option (OpenFile F)) (at : At) (bytes : List ℕ) (c : Command) (f : EditorFault)
     → file ≡ Some x

@@ -7,7 +7,6 @@ use Rattle.ra_item.specs.Streams.{Stream, stream_of}
 use Rattle.node_base.specs.Path.{Path}
 use Rattle.node_base.specs.PathText.{path_text, path_read}
 use Rattle.node_base.specs.Props.{prop_name_read}
-use Rattle.node_base.specs.Tree.{PathMap}
 use Rattle.node_base.specs.declared.node.Source.{Source}
 use Rattle.delta_editor.specs.declared.call.Call.{Call}
 use Rattle.delta_editor.specs.declared.call.Call.TheVariants as call
@@ -16,9 +15,9 @@ use Rattle.delta_editor.specs.declared.fault.EditorFault.{EditorFault}
 use Rattle.ra_edit.specs.Commands.{parts, edit_items, edit_bytes}
 use Rattle.ra_edit.specs.Edits.{At, Says, SumsTo, SpellsEdit}
 use Rattle.ra_edit.specs.ItemStreams.{Takes}
-use Rattle.ra_edit.specs.Received.{ShownBefore, RefusesDrive}
+use Rattle.ra_edit.specs.Received.{RefusesDrive}
 use Rattle.ra_edit.specs.Receiving.{Forms}
-use Rattle.ra_edit.specs.Refusals.{Meets}
+use Rattle.ra_edit.specs.Refusals.{RefusesOne}
 use Rattle.ra_edit.specs.Wire.{AllDeeper}
 use Rattle.ra_edit.specs.declared.edit_fault.EditFault.{EditFault}
 use Rattle.ra_edit.specs.declared.edit_fault.EditFault.TheVariants as fault
@@ -137,15 +136,7 @@ IsOnlyFor own failed fault.PeerFailed = failed ≡ true
 IsOnlyFor own failed (fault.Editor e) = own e
 IsOnlyFor own failed f = ⊥
 
--- the editor was shown the first of an edit's calls, and may refuse so a call for which the next command asks
-pub record MeetsInEdit {E : Type 0} (shows : E → List Call → Type 0) (over : E → List PathMap) (refuses : List PathMap → List Call → Call → EditorFault → Type 0) (editor : E) (calls : List Call) (e : EditorFault) : Type 0 where
-  pub first : List Call
-  pub rest : List Call
-  pub joined : calls ≡ first ++ rest
-  pub at : At
-  pub command : Command
-  pub met : Meets (ShownBefore shows first) over refuses editor at command e
-
--- where an edit that was written is to come, it is refused only for want of memory, by a read that failed, or by the editor
+-- where an edit that was written is to come, it is refused only for want of memory, by a read that failed, or by the editor, which
+-- was shown the first of the edit's calls, each piece of a text in its parts, and may refuse the next one so
 abbrev pub WrittenIsNotRefused : {E : Type 0} → (E → List Call → Type 0) → (E → List PathMap) → (List PathMap → List Call → Call → EditorFault → Type 0) → Type 0
-WrittenIsNotRefused shows over refuses = (editor : _) (n : ℕ) (base : Option ℕ) (body : List Call) (more : List ℕ) (before after : Option (List ℕ)) (was : List ℕ → Stream) (spent failed : Bool) (f : EditFault) → IsWritten n base body → IsBefore (edit_bytes (call.Target n ∷ call.OpenRoot base ∷ body) ++ more) before was → spent ≡ false → RefusesDrive shows over refuses editor before after was spent failed f → IsOnlyFor (MeetsInEdit shows over refuses editor (call.Target n ∷ call.OpenRoot base ∷ cut_all body)) failed f
+WrittenIsNotRefused shows began refuses = (editor : _) (n : ℕ) (base : Option ℕ) (body : List Call) (more : List ℕ) (before after : Option (List ℕ)) (was : List ℕ → Stream) (spent failed : Bool) (f : EditFault) → IsWritten n base body → IsBefore (edit_bytes (call.Target n ∷ call.OpenRoot base ∷ body) ++ more) before was → spent ≡ false → RefusesDrive shows began refuses editor before after was spent failed f → IsOnlyFor (RefusesOne shows began refuses editor (call.Target n ∷ call.OpenRoot base ∷ cut_all body)) failed f

@@ -13,7 +13,7 @@ use Rattle.ra_edit.specs.Edits.{Held, Dir, Fresh, Within, Told, Named, is_free, 
 use Rattle.ra_edit.specs.Receiving.{Forms}
 use Rattle.ra_edit.specs.Reading.{is_between, is_failed}
 use Rattle.ra_edit.specs.declared.reading.Reading.{Reading}
-use Rattle.ra_edit.specs.Streams.{Stream, Reads, Refuses, reading}
+use Rattle.ra_edit.specs.Streams.{Stream, Reads, Refuses, reading, pieces_in}
 use Rattle.ra_edit.specs.declared.command_fault.CommandFault.{CommandFault}
 use Rattle.ra_edit.specs.declared.command_fault.CommandFault.TheVariants as fault
 use Rattle.ra_edit.specs.declared.receive_command.Command.{Command}
@@ -149,9 +149,9 @@ is_rooted (Inside os) = true
 is_rooted (Announced root) = root
 is_rooted _ = false
 
--- the first of the bytes read as these pieces of a text
+-- the first of the bytes read as these pieces of a text, which are the first of the pieces that the bytes have
 abbrev pub ReadFirst : Held → List ℕ → List (List ℕ) → Type 0
-ReadFirst (Within text r) bytes pieces = (rest : List ℕ) × (new : Reading) × (reading (Reads text r) bytes ≡ reading (Reads (text ++ concat pieces) new) rest)
+ReadFirst (Within text r) bytes pieces = (rest : List ℕ) × (new : Reading) × (reading (Reads text r) bytes ≡ reading (Reads (text ++ concat pieces) new) rest) × (pieces_in r bytes ≡ pieces ++ pieces_in new rest)
 ReadFirst _ bytes pieces = ⊥
 
 -- the calls of the editor that a command asks for, where the commands stand so

@@ -80,7 +80,7 @@ pub fn says_some_command()
 /// An edit that was written is refused only for want of memory, by a read that failed, or by the editor at one of its calls,
 /// wherever in a stream it stands, however the bytes are cut and whatever follows them.
 pub fn written_is_not_refused<E: Editor>()
-    ensures { WrittenIsNotRefused E.shows E.over E.refuses }
+    ensures { WrittenIsNotRefused E.shows E.began E.refuses }
 {
     ra_item::law::written_is_read();
 }

@@ -1,6 +1,6 @@
 //! New data of a text that is received, handed on as it comes.
 
-ghost use Rattle.std.specs.Prelude.{◌≡◌, ◌++◌, [], ℕ, List, map, IfErr, OnOk};
+ghost use Rattle.std.specs.Prelude.{◌≡◌, ◌<◌, ◌++◌, [], ℕ, List, map, length, IfErr, OnOk, OnErr};
 ghost use Rattle.std.specs.List.{concat};
 ghost use Rattle.md5.specs.Md5.{Holds};
 ghost use Rattle.delta_editor.specs.Calls.{Adds, Refused};
@@ -25,6 +25,7 @@ fn take_stretch<E: Editor>(
     ensures sum { OnOk result ((text : List ℕ) → Holds sum.old text → Holds sum.new (text ++ bytes.now)) }
     ensures file { OnOk result (E.file_path file.new ≡ E.file_path file.old) }
     ensures refused { IfErr result (Refused E.shows E.began E.refuses editor.old (call.TextPiece (E.file_path file.old) bytes.now)) }
+    ensures some { OnErr result (0 < length bytes.now) }
     ensures began { E.began editor.new ≡ E.began editor.old }
 {
     if bytes.is_empty() {
@@ -46,7 +47,7 @@ pub fn take_chunk<E: Editor>(
     ensures file { OnOk result (E.file_path file.new ≡ E.file_path file.old) }
     ensures taken { OnOk result ((pieces : List (List ℕ)) × Adds E.shows editor.old editor.new (map (call.TextPiece (E.file_path file.old)) pieces) × ((text : List ℕ) → reading (Reads text reader.old) bytes.now ≡ Reads (text ++ concat pieces) reader.new) × ((text : List ℕ) → Holds sum.old text → Holds sum.new (text ++ concat pieces)) × (pieces ≡ pieces_in reader.old bytes.now)) }
     ensures refused { IfErr result (λ f. (text : List ℕ) → RefusedFor f (of_stream (reading (Reads text reader.old) bytes.now))) }
-    ensures own { IfErr result (IfOwn (λ f. (pieces : List (List ℕ)) × (rest : List ℕ) × (new : Reading) × ((text : List ℕ) → reading (Reads text reader.old) bytes.now ≡ reading (Reads (text ++ concat pieces) new) rest) × RefusesOne E.shows E.began E.refuses editor.old (map (call.TextPiece (E.file_path file.old)) pieces) f)) }
+    ensures own { IfErr result (IfOwn (λ f. (pieces : List (List ℕ)) × (rest : List ℕ) × (new : Reading) × ((text : List ℕ) → reading (Reads text reader.old) bytes.now ≡ reading (Reads (text ++ concat pieces) new) rest) × (pieces_in reader.old bytes.now ≡ pieces ++ pieces_in new rest) × RefusesOne E.shows E.began E.refuses editor.old (map (call.TextPiece (E.file_path file.old)) pieces) f)) }
     ensures began { E.began editor.new ≡ E.began editor.old }
 {
     let mut rest = bytes;

@@ -9,7 +9,7 @@ use Rattle.md5.specs.Md5.{Holds}
 use Rattle.ra_edit.specs.Reading.{is_failed}
 use Rattle.ra_edit.specs.Streams.{reading, pieces_in, Reads}
 use Rattle.ra_edit.proofs.Steps.{pieces_join, pieces_added, not_failed}
-use Rattle.ra_edit.proofs.Runs.{pieces_more}
+use Rattle.ra_edit.proofs.Runs.{pieces_more, piece_alone}
 use Rattle.ra_edit.proofs.receive_text.take_chunk.Goals as goal
 
 pub loop-rest-preserved : goal.loop-rest-preserved
@@ -53,5 +53,6 @@ returns-in_err-take_stretch-clause-own g c =
       s.rest.now,
       c.next.new.self,
       λ text. i.2 text ∙ c.in_ok-stretch.ensures.reads (not_failed (is_failed l.reader) c.next.result _ _ c.in_ok-stretch.was c.next.ensures.failed) (text ++ concat i.0) ∙ ap (λ t. reading (Reads t c.next.new.self) s.rest.now) (pieces_join text i.0 (b ∷ []) b (append-nil b)),
+      i.6 ∙ pieces_more i.0 (b ∷ []) b _ (pieces_in c.next.new.self s.rest.now) (c.in_ok-stretch.ensures.pieces (not_failed (is_failed l.reader) c.next.result _ _ c.in_ok-stretch.was c.next.ensures.failed)) (piece_alone b c.in_err-take_stretch.ensures.some),
       piece_later g.E.Editor.shows g.E.Editor.began g.E.Editor.refuses c.args.editor.now l.editor (fp c.args.file.now) (fp l.file) i.0 b c.in_err-take_stretch.field-0.0 i.4 i.1 i.5 c.in_err-take_stretch.ensures.refused,
     )
