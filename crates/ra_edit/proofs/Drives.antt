@@ -30,11 +30,11 @@ say_more at mid end all both more item (Then from next last z rest first others 
     subst (λ l. AllSay from (z ∷ (rest ++ item ∷ [])) l end) (sym (append_assoc first others more)) (Then from next end z (rest ++ item ∷ []) first (others ++ more) one (say_more next mid end rest others more item behind s))
 
 -- nothing was read
-pub goes_none : {E O : Type 0} (shows : E → List Call → Type 0) (e : E) (a : Option (List ℕ)) (s : List ℕ → Stream) (stands : At → Type 0) → stands Begun → Goes shows e e a a s s stands
+pub goes_none : {E : Type 0} (shows : E → List Call → Type 0) (e : E) (a : Option (List ℕ)) (s : List ℕ → Stream) (stands : At → Type 0) → stands Begun → Goes shows e e a a s s stands
 goes_none shows e a s stands h = record { items = []; calls = []; at = Begun; taken = takes_none a s; say = Nothing Begun; shown = λ calls k. subst (shows e) (sym (append-nil calls)) k; here = h }
 
 -- one item more was read
-pub goes_more : {E O : Type 0} (shows : E → List Call → Type 0) (old mid new : E) (a b d : Option (List ℕ)) (s t u : List ℕ → Stream) (stood stands : At → Type 0) (item : Item) → Goes shows old mid a b s t stood → Takes (item ∷ []) b d t u → ((at : At) → stood at → Moves shows mid new item at stands) → Goes shows old new a d s u stands
+pub goes_more : {E : Type 0} (shows : E → List Call → Type 0) (old mid new : E) (a b d : Option (List ℕ)) (s t u : List ℕ → Stream) (stood stands : At → Type 0) (item : Item) → Goes shows old mid a b s t stood → Takes (item ∷ []) b d t u → ((at : At) → stood at → Moves shows mid new item at stands) → Goes shows old new a d s u stands
 goes_more shows old mid new a b d s t u stood stands item k took step =
     let m = step k.at k.here in
     record {
@@ -48,7 +48,7 @@ goes_more shows old mid new a b d s t u stood stands item k took step =
     }
 
 -- `finish-replay` was read
-pub comes : {E O : Type 0} (shows : E → List Call → Type 0) (old mid new : E) (a b d : Option (List ℕ)) (s t u : List ℕ → Stream) (stood stands : At → Type 0) (item : Item) → Goes shows old mid a b s t stood → Takes (item ∷ []) b d t u → ((at : At) → stood at → IsCommand (codes "finish-replay") [] item × (new ≡ mid) × stands at) → Comes shows old new a d s u stands
+pub comes : {E : Type 0} (shows : E → List Call → Type 0) (old mid new : E) (a b d : Option (List ℕ)) (s t u : List ℕ → Stream) (stood stands : At → Type 0) (item : Item) → Goes shows old mid a b s t stood → Takes (item ∷ []) b d t u → ((at : At) → stood at → IsCommand (codes "finish-replay") [] item × (new ≡ mid) × stands at) → Comes shows old new a d s u stands
 comes shows old mid new a b d s t u stood stands item k took step =
     let m = step k.at k.here in
     record {

@@ -42,7 +42,7 @@ Stands dir_path file_path stage.Inside dirs file at = (os : List Named) × (at �
 Stands dir_path file_path (stage.Announced root) dirs file at = (at ≡ Announced root) × (dirs ≡ []) × (file ≡ None)
 
 -- an item moves an editor from one place to another by the calls that it says
-pub record Moves {E O : Type 0} (shows : E → List Call → Type 0) (old new : E) (item : Item) (at : At) (stands : At → Type 0) : Type 0 where
+pub record Moves {E : Type 0} (shows : E → List Call → Type 0) (old new : E) (item : Item) (at : At) (stands : At → Type 0) : Type 0 where
   pub calls : List Call
   pub to : At
   pub says : Says at item calls to

@@ -138,5 +138,5 @@ IsOnlyFor own failed f = ⊥
 
 -- where an edit that was written is to come, it is refused only for want of memory, by a read that failed, or by the editor, which
 -- was shown the first of the edit's calls, each piece of a text in its parts, and may refuse the next one so
-abbrev pub WrittenIsNotRefused : {E : Type 0} → (E → List Call → Type 0) → (E → List PathMap) → (List PathMap → List Call → Call → EditorFault → Type 0) → Type 0
+abbrev pub WrittenIsNotRefused : {E O : Type 0} → (E → List Call → Type 0) → (E → O) → (O → List Call → Call → EditorFault → Type 0) → Type 0
 WrittenIsNotRefused shows began refuses = (editor : _) (n : ℕ) (base : Option ℕ) (body : List Call) (more : List ℕ) (before after : Option (List ℕ)) (was : List ℕ → Stream) (spent failed : Bool) (f : EditFault) → IsWritten n base body → IsBefore (edit_bytes (call.Target n ∷ call.OpenRoot base ∷ body) ++ more) before was → spent ≡ false → RefusesDrive shows began refuses editor before after was spent failed f → IsOnlyFor (RefusesOne shows began refuses editor (call.Target n ∷ call.OpenRoot base ∷ cut_all body)) failed f

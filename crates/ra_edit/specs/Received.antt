@@ -18,7 +18,7 @@ use Rattle.ra_edit.specs.declared.edit_fault.EditFault.{EditFault}
 use Rattle.ra_edit.specs.declared.edit_fault.EditFault.TheVariants as fault
 
 -- these items were read and are these calls, which an editor was shown, and so the commands stand
-pub record Goes {E O : Type 0} (shows : E → List Call → Type 0) (old new : E) (before after : Option (List ℕ)) (was is : List ℕ → Stream) (stands : At → Type 0) : Type 0 where
+pub record Goes {E : Type 0} (shows : E → List Call → Type 0) (old new : E) (before after : Option (List ℕ)) (was is : List ℕ → Stream) (stands : At → Type 0) : Type 0 where
   pub items : List Item
   pub calls : List Call
   pub at : At
@@ -28,7 +28,7 @@ pub record Goes {E O : Type 0} (shows : E → List Call → Type 0) (old new : E
   pub here : stands at
 
 -- and behind them `finish-replay`
-pub record Comes {E O : Type 0} (shows : E → List Call → Type 0) (old new : E) (before after : Option (List ℕ)) (was is : List ℕ → Stream) (stands : At → Type 0) : Type 0 where
+pub record Comes {E : Type 0} (shows : E → List Call → Type 0) (old new : E) (before after : Option (List ℕ)) (was is : List ℕ → Stream) (stands : At → Type 0) : Type 0 where
   pub items : List Item
   pub last : Item
   pub calls : List Call
@@ -40,7 +40,7 @@ pub record Comes {E O : Type 0} (shows : E → List Call → Type 0) (old new : 
   pub here : stands at
 
 -- one item was read, and what it says was done
-pub record TakesOne {E O : Type 0} (shows : E → List Call → Type 0) (old new : E) (before after : Option (List ℕ)) (was is : List ℕ → Stream) (stood stands : At → Type 0) (done : Bool) : Type 0 where
+pub record TakesOne {E : Type 0} (shows : E → List Call → Type 0) (old new : E) (before after : Option (List ℕ)) (was is : List ℕ → Stream) (stood stands : At → Type 0) (done : Bool) : Type 0 where
   pub item : Item
   pub taken : Takes (item ∷ []) before after was is
   pub stepped : (at : At) → stood at → Stepped shows old new item at stands done
