@@ -1,13 +1,15 @@
--- A job of a run and a job that absorbs answers hear the same.
+-- Jobs of a run are those of the code: they hear the answers that the code's jobs absorb.
 use Rattle.std.specs.Prelude.{◌≡◌, ℕ, ◌-◌, length, slice_set, Option, Some, None}
 use Rattle.node_base.specs.Props.{PropMap}
 use Rattle.sync_core.specs.declared.fault.SyncFault.{SyncFault}
 use Rattle.sync_core.specs.declared.answer.Answer.{Answer}
 use Rattle.sync_core.specs.declared.answer.Answer.TheVariants as answer
-use Rattle.sync_core.specs.Mirror.{Call, Reply, Done, Seen, Refused, reply_to}
+use Rattle.sync_core.specs.declared.state.JobState.{JobState}
+use Rattle.sync_core.specs.Mirror.{Call, Reply, Done, Seen, Refused, refusal, reply_to}
 use Rattle.sync_core.specs.Jobs.{Job}
 use Rattle.sync_core.specs.Deeds.{Deed, Calls, AsksIdentity, AsksLatest, Fetches, FetchesProps, heard}
-use Rattle.sync_core.specs.World.{Origin, moment_of, map_at, Question, Identity, Latest, Fetch, FetchProps, Room, Ask, Make, Starve, job_at, room_after}
+use Rattle.sync_core.specs.States.{deed_in, after, Follows}
+use Rattle.sync_core.specs.World.{Origin, moment_of, map_at, Question, Identity, Latest, Fetch, FetchProps, Room, Happening, Ask, Make, Starve, StopAfter, job_at, IsTrueAnswer, MayHappen, room_after}
 
 -- a question as a deed
 abbrev pub asked : Question → Deed
@@ -40,24 +42,32 @@ IsAnswerFor Done a = a ≡ answer.Done
 IsAnswerFor (Seen s) a = a ≡ answer.Seen s
 IsAnswerFor (Refused why) a = (f : SyncFault) × (a ≡ answer.Refused f)
 
--- after a question, with the master's answer
-abbrev pub MasterIsHeard : Type 0
-MasterIsHeard =
-    (o : Origin) (room : Room) (seat : ℕ) (job : Job) (question : Question) (a : Answer) → job_at room.jobs seat ≡ Some job → IsAnswerOf o question a
-    → (room_after o room (Ask seat question)).jobs ≡ slice_set room.jobs seat (Some (heard job (moment_of o) (asked question) a))
+-- what happens is a seat's deed, and its answer is the master's, the mirror's, or that memory or room in the journal is short
+abbrev pub IsDone : Origin → Room → ℕ → Deed → Answer → Happening → Type 0
+IsDone o room seat d a (Ask k question) = (k ≡ seat) × (asked question ≡ d) × IsTrueAnswer o question × IsAnswerOf o question a
+IsDone o room seat d a (Make k call) = (k ≡ seat) × (Calls call ≡ d) × IsAnswerFor (reply_to room.mirror seat call) a
+IsDone o room seat d a (Starve k call) = (k ≡ seat) × (Calls call ≡ d) × ((f : SyncFault) × (a ≡ answer.Refused f))
+IsDone o room seat d a _ = ⊥
+
+-- the seat's job has heard the answer then, and nothing else has changed among the jobs
+abbrev pub AnswersAreHeard : Type 0
+AnswersAreHeard =
+    (o : Origin) (room : Room) (seat : ℕ) (job : Job) (d : Deed) (a : Answer) (what : Happening) → job_at room.jobs seat ≡ Some job → IsDone o room seat d a what
+    → (room_after o room what).jobs ≡ slice_set room.jobs seat (Some (heard job (moment_of o) d a))
 
 -- a question that is refused is no event: it leaves the job as it was
 abbrev pub RefusalTellsNothing : Type 0
 RefusalTellsNothing = (job : Job) (moment : ℕ) (question : Question) (a : Answer) → IsRefusal a → heard job moment (asked question) a ≡ job
 
--- after a call, with the mirror's answer
-abbrev pub MirrorIsHeard : Type 0
-MirrorIsHeard =
-    (o : Origin) (room : Room) (seat : ℕ) (job : Job) (call : Call) (a : Answer) → job_at room.jobs seat ≡ Some job → IsAnswerFor (reply_to room.mirror seat call) a
-    → (room_after o room (Make seat call)).jobs ≡ slice_set room.jobs seat (Some (heard job (moment_of o) (Calls call) a))
+-- what a job does by the code's tables may happen, and leads to the state that the tables give
+abbrev pub JobsGoOn : Type 0
+JobsGoOn =
+    (o : Origin) (room : Room) (seat : ℕ) (job : Job) (s : JobState) (a : Answer) (what : Happening)
+    → job_at room.jobs seat ≡ Some job → Follows job s → IsDone o room seat (deed_in s) a what
+    → MayHappen o room what × Follows (heard job (moment_of o) (deed_in s) a) (after s a)
 
--- after a call that is refused for want of memory or of room in the journal
-abbrev pub WantIsHeard : Type 0
-WantIsHeard =
-    (o : Origin) (room : Room) (seat : ℕ) (job : Job) (call : Call) (f : SyncFault) → job_at room.jobs seat ≡ Some job
-    → (room_after o room (Starve seat call)).jobs ≡ slice_set room.jobs seat (Some (heard job (moment_of o) (Calls call) (answer.Refused f)))
+-- the mirror may stop while the job's call is in flight, and keep its entry
+abbrev pub StopsInFlight : Type 0
+StopsInFlight =
+    (o : Origin) (room : Room) (seat : ℕ) (job : Job) (s : JobState) (call : Call)
+    → job_at room.jobs seat ≡ Some job → Follows job s → Calls call ≡ deed_in s → refusal room.mirror seat call ≡ None → MayHappen o room (StopAfter seat call)

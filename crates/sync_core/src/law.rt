@@ -1,7 +1,7 @@
 //! What holds of every mirror, whatever happens: any list of commits and property edits of the master, jobs that begin, ask,
 //! call, run out of memory and leave, readers, and stops of mirrors with the entry of a call in flight kept or not. Each
 //! function does nothing: its contract is the law.
-ghost use Rattle.sync_core.specs.Hearing.{MasterIsHeard, RefusalTellsNothing, MirrorIsHeard, WantIsHeard};
+ghost use Rattle.sync_core.specs.Hearing.{AnswersAreHeard, RefusalTellsNothing, JobsGoOn, StopsInFlight};
 ghost use Rattle.sync_core.specs.Law.{FreshStarts, EveryRun, EveryFreshRun, MomentsRise, StaysBlank, HolderGoesOn};
 ghost use Rattle.sync_core.specs.Replay.{CallsAreJournalled, CallsJoin};
 ghost use Rattle.sync_core.specs.Table.{NeedsAreMet, ShapesTurn};
@@ -21,13 +21,14 @@ pub fn every_run()
     ensures holder { HolderGoesOn }
 {}
 
-/// What an event leaves a job with is what a job hears that absorbs the answer: the master's as it is at that moment, the
-/// mirror's reply, or that memory is short. A question that is refused tells nothing, and is no event.
+/// The law speaks of the code's jobs: what a job does by its table may happen, at a stop within its call too, and leaves it
+/// with what it is said to hear where it absorbs the answer, the master's as it is at that moment or the mirror's. A question
+/// that is refused tells nothing, and is no event.
 pub fn answers_are_heard()
-    ensures master { MasterIsHeard }
+    ensures heard { AnswersAreHeard }
     ensures refused { RefusalTellsNothing }
-    ensures mirror { MirrorIsHeard }
-    ensures want { WantIsHeard }
+    ensures jobs { JobsGoOn }
+    ensures stops { StopsInFlight }
 {}
 
 /// A call misses no need just where the table of the calls says so in words.
