@@ -8,8 +8,8 @@
 //! - [`receive::receive`] shows an editor the calls that items spell, in any of the forms that are read.
 //! - [`reader::WindowReader`] takes windows cut anyhow, and [`writer`] writes the one spelling of a text.
 //!
-//! What is written for an edit is one of the forms that `specs/Edits.antt` takes, and is received as the same calls; what is
-//! written for a text is read again.
+//! What is written for an edit is one of the forms that `specs/Edits.antt` takes, and is received as the same calls,
+//! wherever in a stream it stands; what is written for a text is read again.
 #![tactic(auto)]
 
 mod command;
