@@ -5,7 +5,7 @@ use Rattle.std.specs.List.{AllByRecursion}
 use Rattle.std.specs.Option.{option_map}
 use Rattle.std.proofs.lemmas.List.{append_cancel_left}
 use denote.RawPtr.{null_ptr}
-use Rattle.ra_item.specs.Items.{Item, Within, Text, Nested, Fits}
+use Rattle.ra_item.specs.Items.{Item, Within, row, spell_all, Text, Nested, Fits}
 use Rattle.ra_item.specs.Laws.{WrittenIsRead}
 use Rattle.ra_item.specs.Streams.{Stream, stream_of, items_of}
 use Rattle.ra_item.specs.declared.fault.ItemFault.{ItemFault}
@@ -17,7 +17,7 @@ use Rattle.ra_edit.specs.Commands.{list, edit_items, edit_bytes}
 use Rattle.ra_edit.specs.Edits.{IsCommand, IsString, At, Begun, Ended, Says, AllSay, SpellsEdit}
 use Rattle.ra_edit.specs.Edits as edits
 use Rattle.ra_edit.specs.EditFaults.{of_command, of_shape}
-use Rattle.ra_edit.specs.EditLaws.{cut_all, IsBefore, IsWritten, SaysSomeCommand, IsOnlyFor, WrittenIsNotRefused}
+use Rattle.ra_edit.specs.EditLaws.{cut_all, IsBefore, IsWritten, SaysSomeCommand, IsOnlyFor, WrittenComes, WrittenIsNotRefused}
 use Rattle.ra_edit.specs.ItemStreams.{behind, Ends, Breaks, Stops}
 use Rattle.ra_edit.specs.Received.{IsRefused, RefusesItem, StopsBehind, ShownBefore}
 use Rattle.ra_edit.specs.Receiving.{Forms, IsNoCommand}
@@ -132,6 +132,20 @@ stopped own xs before after was spent failed fault.BadToken e b n q = absurd q
 stopped own xs before after was spent failed fault.BadShape e b n q = absurd q
 stopped own xs before after was spent failed fault.Refused e b n q = absurd q
 stopped own xs before after was spent failed (fault.Editor k) e b n q = absurd q
+
+-- nor before an item that was written
+begins : (xs : List Item) (x : Item) (vs : List Item) → xs ≡ x ∷ vs → xs ≡ [] → ⊥
+begins [] x vs e n = cc
+begins (y ∷ ys) x vs e n = cc
+
+pub written_comes : WrittenIsRead → WrittenComes
+written_comes law x more before after was w s =
+    let bytes = spell_all (row (x ∷ [])) ++ more in
+    let vs = items_of (stream_of more) in
+    let first : items_of (was s.0) ≡ x ∷ vs = ap items_of (s.2 ∙ written_stream law (x ∷ []) more (w, tt)) ∙ items_behind (x ∷ []) (stream_of more) in
+    let no_end : (k : Bool) → Ends [] k before after was → ⊥ = λ k e. begins (items_of (was s.0)) x vs first (ended_at s.0 after was [] k (subst (λ b. Ends [] k b after was) s.1 e)) in
+    let no_break : (i : ItemFault) → Breaks [] i before after was → ⊥ = λ i e. begins (items_of (was s.0)) x vs first (broken_at s.0 after was [] i (subst (λ b. Breaks [] i b after was) s.1 e)) in
+    (no_end, λ spent failed f fresh q. stopped (λ e. ⊥) [] before after was spent failed f no_end no_break fresh q)
 
 -- ---- where an item is refused
 

@@ -14,7 +14,7 @@ use Rattle.delta_editor.specs.Nesting.{IsNested}
 use Rattle.delta_editor.specs.declared.fault.EditorFault.{EditorFault}
 use Rattle.ra_edit.specs.Commands.{parts, edit_items, edit_bytes}
 use Rattle.ra_edit.specs.Edits.{At, Says, SumsTo, SpellsEdit}
-use Rattle.ra_edit.specs.ItemStreams.{Takes}
+use Rattle.ra_edit.specs.ItemStreams.{Takes, Ends, Stops}
 use Rattle.ra_edit.specs.Received.{RefusesDrive}
 use Rattle.ra_edit.specs.Receiving.{Forms}
 use Rattle.ra_edit.specs.Refusals.{RefusesOne}
@@ -135,6 +135,11 @@ IsOnlyFor own failed fault.OutOfMemory = ⊤
 IsOnlyFor own failed fault.PeerFailed = failed ≡ true
 IsOnlyFor own failed (fault.Editor e) = own e
 IsOnlyFor own failed f = ⊥
+
+-- where an item that was written is to come, the bytes don't end before it, nor is the stream refused but for want of memory or by a
+-- read that failed
+abbrev pub WrittenComes : Type 0
+WrittenComes = (x : Item) (more : List ℕ) (before after : Option (List ℕ)) (was : List ℕ → Stream) → Within x → IsBefore (spell_all (row (x ∷ [])) ++ more) before was → ((whole : Bool) → Ends [] whole before after was → ⊥) × ((spent failed : Bool) (f : EditFault) → spent ≡ false → Stops [] before after was spent failed f → IsOnlyFor (λ e. ⊥) failed f)
 
 -- where an edit that was written is to come, it is refused only for want of memory, by a read that failed, or by the editor, which
 -- was shown the first of the edit's calls, each piece of a text in its parts, and may refuse the next one so

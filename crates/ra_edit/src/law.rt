@@ -1,6 +1,6 @@
 //! Laws of texts in windows, over all bytes, and of edits in items. Each is proved as the contract of a function that does nothing.
 
-ghost use Rattle.ra_edit.specs.EditLaws.{WrittenIsEdit, OneEdit, EndsOnce, WrittenIsTaken, WrittenIsReceived, SaysSomeCommand, WrittenIsNotRefused};
+ghost use Rattle.ra_edit.specs.EditLaws.{WrittenIsEdit, OneEdit, EndsOnce, WrittenIsTaken, WrittenIsReceived, WrittenComes, SaysSomeCommand, WrittenIsNotRefused};
 ghost use Rattle.ra_edit.specs.Refusals.{NothingDue};
 ghost use Rattle.ra_edit.specs.Laws.{PiecesJoin, TextsAreRead, OneText, WrittenIsText, WrittenIsRead, ReadIsText};
 
@@ -55,6 +55,14 @@ pub fn ends_once()
 pub fn nothing_due()
     ensures { NothingDue }
 {}
+
+/// Where an item that was written is to come, the bytes don't end before it, nor is the stream refused but for want of memory or by
+/// a read that failed.
+pub fn written_comes()
+    ensures { WrittenComes }
+{
+    ra_item::law::written_is_read();
+}
 
 /// Items that were written are taken as these items, wherever in a stream they stand, and then the stream stands before what
 /// follows them.
