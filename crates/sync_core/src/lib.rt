@@ -26,7 +26,8 @@
 //!
 //! Contract: a step of a mirror is the one that the table of its calls fixes, with the first need that isn't met or else what
 //! the repository refuses, and a job follows its table of phases and makes only calls that it may make. Of such steps, whatever
-//! else happens between them, [`law::every_run`] says what holds of every mirror.
+//! else happens between them, [`law::every_run`] says what holds of every mirror, as long as nobody else writes it and each
+//! answer is the master's as it is at that moment; that the jobs' steps are such, [`law::answers_are_heard`].
 #![tactic(auto)]
 
 pub use action::Action;

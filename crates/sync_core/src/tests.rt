@@ -576,33 +576,28 @@ fn a_lock_is_told_with_its_token(rt: HostRuntime) -> Result<(), Fail> {
     Ok(())
 }
 
-// What a seat is told that wants to steal the lock of a mirror while its holder runs: the lock has the holder's token, or was
-// taken away.
-fn told_of_holder(rt: &impl Abort, alloc: Global, is_there: bool) -> Result<(u8, String), Fail> {
-    let mut mirror = begun(rt, alloc, &master(rt, alloc, 0)?)?;
-    let own = token(rt, alloc, b"a");
-    let _ = say(alloc, &mut mirror, 1, &MirrorCall::TakeLock(&own));
-    if !is_there {
-        let url = one_prop(rt, alloc, b"svn:sync-from-url", b"/master");
-        mirror.repo.put_props(RevNo::ZERO, url)?;
-    }
-    let other = token(rt, alloc, b"b");
-    match mirror.step(alloc, Seat::new(2), &MirrorCall::StealLock(&other)) {
-        Ok(_) => Ok((0, format!(in alloc; "stolen")?)),
-        Err(fault) => {
-            let number = fault.number();
-            Ok((number, format!(in alloc; "{fault}")?))
-        }
+// What a seat is told that wants to steal the lock.
+fn told_of_steal(rt: &impl Abort, alloc: Global, mirror: &mut PlainMirror) -> String {
+    let own = token(rt, alloc, b"b");
+    match mirror.step(alloc, Seat::new(2), &MirrorCall::StealLock(&own)) {
+        Ok(_) => format!(in alloc; "stolen").expect(rt, "memory"),
+        Err(fault) => format!(in alloc; "{fault}").expect(rt, "memory"),
     }
 }
 
+// The lock has the running holder's token, and then is taken away.
 #[test]
 fn a_running_holder_is_told_with_its_token(rt: HostRuntime) -> Result<(), Fail> {
     let alloc = rt.alloc();
-    let held = told_of_holder(&rt, alloc, true)?;
-    assert!(rt; held.0 == 55 && held.1.as_str() == "the holder a is running");
-    let gone = told_of_holder(&rt, alloc, false)?;
-    assert!(rt; gone.0 == 55 && gone.1.as_str() == "the holder  is running");
+    let mut mirror = begun(&rt, alloc, &master(&rt, alloc, 0)?)?;
+    let own = token(&rt, alloc, b"a");
+    let taken = say(alloc, &mut mirror, 1, &MirrorCall::TakeLock(&own));
+    let held = told_of_steal(&rt, alloc, &mut mirror);
+    assert!(rt; taken == 0 && held.as_str() == "the holder a is running");
+    let url = one_prop(&rt, alloc, b"svn:sync-from-url", b"/master");
+    mirror.repo.put_props(RevNo::ZERO, url)?;
+    let gone = told_of_steal(&rt, alloc, &mut mirror);
+    assert_eq!(rt; gone.as_str(), "the holder  is running");
     Ok(())
 }
 
