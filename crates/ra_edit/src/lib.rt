@@ -14,8 +14,12 @@
 
 mod command;
 pub mod command_fault;
+#[cfg(test)]
+mod counting_tests;
 pub mod edit_fault;
 pub mod fault;
+#[cfg(test)]
+mod growth_tests;
 pub mod law;
 pub mod reader;
 mod reading;
@@ -29,6 +33,8 @@ mod receive_text;
 mod received_tests;
 pub mod shape_fault;
 pub mod stream;
+#[cfg(test)]
+mod streams_for_tests;
 #[cfg(test)]
 mod tests;
 mod token;

@@ -1,49 +1,16 @@
 //! Drives that are passed on, readers and writers that fail, and a text of the greatest length.
 
 use crate::receive::receive;
-use crate::stream::ItemStream;
+use crate::streams_for_tests::{Failing, items_from};
 use crate::wire::WireEditor;
 use delta_editor::{Call, Recorder};
 use std::alloc::Global;
-use std::io;
-use std::io::{ErrorKind, Read, Write};
 use std::process::Abort;
 use std::rt::HostRuntime;
 use std::test::Fail;
 
-// A reader that gives so many bytes at a time, and at their end the end of input or an error.
-#[derive(Drop)]
-struct Lent<'a> {
-    bytes: &'a [u8],
-    size: usize,
-    breaks: bool,
-}
-
-impl Read for Lent<'_> {
-    fn read(&mut self, buf: &mut [u8]) -> io::Result<usize> {
-        if self.breaks && self.bytes.is_empty() {
-            return Err(io::Error::from(ErrorKind::ConnectionReset));
-        }
-        let n = self.size.min(self.bytes.len()).min(buf.len());
-        buf[..n].copy_from_slice(&self.bytes[..n]);
-        self.bytes = &self.bytes[n..];
-        Ok(n)
-    }
-}
-
-fn items_from(alloc: Global, bytes: &[u8], size: usize, breaks: bool) -> ItemStream<Lent<'_>> {
-    ItemStream::new(
-        alloc,
-        Lent {
-            bytes,
-            size,
-            breaks,
-        },
-    )
-}
-
-// Every command, as it is written.
-const FULL: &[u8] =
+/// Every command, as it is written.
+pub const FULL: &[u8] =
     b"( target-rev ( 7 ) ) ( open-root ( ( 6 ) 2:t0 ) ) ( change-dir-prop ( 2:t0 1:p ( 3:one ) ) ) ( open-dir ( 1:d 2:t0 2:t1 ( 6 ) ) ) ( change-dir-prop ( 2:t1 1:q ( ) ) ) ( add-file ( 3:d/f 2:t1 2:t2 ( 2:/g 3 ) ) ) ( change-file-prop ( 2:t2 1:r ( 2:\x00\n ) ) ) ( apply-textdelta ( 2:t2 ( ) ) ) ( textdelta-chunk ( 2:t2 4:SVN\x00 ) ) ( textdelta-chunk ( 2:t2 12:\x00\x00\x06\x01\x06\x86hello\n ) ) ( textdelta-end ( 2:t2 ) ) ( close-file ( 2:t2 ( 32:b1946ac92492d2347c6235b4d2611184 ) ) ) ( delete-entry ( 3:d/x ( 6 ) 2:t1 ) ) ( add-dir ( 3:d/y 2:t1 2:t3 ( ) ) ) ( close-dir ( 2:t3 ) ) ( close-dir ( 2:t1 ) ) ( open-file ( 1:e 2:t0 2:t4 ( 6 ) ) ) ( change-file-prop ( 2:t4 1:s ( ) ) ) ( close-file ( 2:t4 ( ) ) ) ( close-dir ( 2:t0 ) ) ( finish-replay ( ) ) ";
 
 // The same calls in other forms: other tokens and white space, zeros in front, more behind the parameters, a source without its
@@ -60,12 +27,22 @@ fn passed_on(rt: &impl Abort, alloc: Global, bytes: &[u8], size: usize) -> Vec<u
     }
 }
 
+// A text in two chunks: a window that is cut between them, an empty one, and two more.
+const CUT: &[u8] =
+    b"( open-root ( ( ) 1:r ) ) ( add-file ( 1:a 1:r 1:a ( ) ) ) ( apply-textdelta ( 1:a ( ) ) ) ( textdelta-chunk ( 1:a 12:SVN\x00\x00\x00\x04\x01\x04\x84ab ) ) ( textdelta-chunk ( 1:a 21:cd\x00\x00\x00\x00\x00\x00\x00\x01\x01\x01\x81e\x00\x00\x01\x01\x01\x81f ) ) ( textdelta-end ( 1:a ) ) ( close-file ( 1:a ( 32:e80b5017098950fc58aad83c8c14978e ) ) ) ( close-dir ( 1:r ) ) ( finish-replay ( ) ) ";
+
+// The same with each piece in a chunk of its own: what a chunk has of a window's new data is one piece.
+const IN_PIECES: &[u8] =
+    b"( open-root ( ( ) 2:t0 ) ) ( add-file ( 1:a 2:t0 2:t1 ( ) ) ) ( apply-textdelta ( 2:t1 ( ) ) ) ( textdelta-chunk ( 2:t1 4:SVN\x00 ) ) ( textdelta-chunk ( 2:t1 8:\x00\x00\x02\x01\x02\x82ab ) ) ( textdelta-chunk ( 2:t1 8:\x00\x00\x02\x01\x02\x82cd ) ) ( textdelta-chunk ( 2:t1 7:\x00\x00\x01\x01\x01\x81e ) ) ( textdelta-chunk ( 2:t1 7:\x00\x00\x01\x01\x01\x81f ) ) ( textdelta-end ( 2:t1 ) ) ( close-file ( 2:t1 ( 32:e80b5017098950fc58aad83c8c14978e ) ) ) ( close-dir ( 2:t0 ) ) ( finish-replay ( ) ) ";
+
 #[test]
 fn contents_are_as_they_were_written(rt: HostRuntime) {
     let alloc = rt.alloc();
     assert!(rt; passed_on(&rt, alloc, FULL, FULL.len()).as_slice() == FULL);
     assert!(rt; passed_on(&rt, alloc, OTHER, OTHER.len()).as_slice() == FULL);
     assert!(rt; passed_on(&rt, alloc, OTHER, 1).as_slice() == FULL);
+    assert!(rt; passed_on(&rt, alloc, CUT, CUT.len()).as_slice() == IN_PIECES);
+    assert!(rt; passed_on(&rt, alloc, CUT, 1).as_slice() == IN_PIECES);
 }
 
 // What a drive is refused for where its reader fails behind it, and where it is read from again.
@@ -96,28 +73,6 @@ fn a_reader_that_fails_is_told(rt: HostRuntime) {
     assert!(rt; broken(alloc, FULL) == (None, Some(49)));
 }
 
-// A writer that takes so many writes and fails from then on.
-#[derive(Drop)]
-struct Failing<'a> {
-    bytes: &'a mut Vec<u8>,
-    left: usize,
-}
-
-impl<'a> Write for Failing<'a> {
-    fn write(&mut self, buf: &[u8]) -> io::Result<usize> {
-        if self.left == 0 {
-            return Err(io::Error::from(ErrorKind::BrokenPipe));
-        }
-        self.left -= 1;
-        self.bytes.extend_from_slice(buf)?;
-        Ok(buf.len())
-    }
-
-    fn flush(&mut self) -> io::Result<()> {
-        Ok(())
-    }
-}
-
 // What a drive is refused for where the writer behind its editor fails behind so many calls, and where its stream is read from
 // again. The writer has a beginning of the drive.
 fn unwritten(
@@ -129,6 +84,7 @@ fn unwritten(
     let out = Failing {
         bytes: &mut bytes,
         left,
+        size: usize::MAX,
     };
     let editor = WireEditor::new(alloc, out).expect(rt, "room");
     let mut items = items_from(alloc, FULL, 7, false);
@@ -196,7 +152,7 @@ fn pieces(calls: &[Call]) -> (usize, usize) {
 fn a_mebibyte_is_sixteen_pieces(rt: HostRuntime) -> Result<(), Fail> {
     let alloc = rt.alloc();
     let bytes = mebibyte(alloc)?;
-    for size in [bytes.len(), 4_099] {
+    for size in [bytes.len(), 4_099, 1] {
         let mut items = items_from(alloc, bytes.as_slice(), size, false);
         let found = match receive(alloc, &mut items, Recorder::new(alloc)) {
             Ok(calls) => pieces(&calls),

@@ -1,22 +1,17 @@
 //! Revisions written as commands.
 
+use crate::streams_for_tests::Failing;
 use crate::wire::WireEditor;
 use delta_editor::{Editor, EditorFault, Source};
 use md5::{Digest, Md5};
-use node_base::{NodePath, PropName, RevNo};
+use node_base::{NodePath, PathFault, RevNo};
 use std::alloc::Global;
-use std::io;
-use std::io::{ErrorKind, Write};
 use std::process::Abort;
 use std::rt::HostRuntime;
 use std::test::Fail;
 
 fn path(rt: &impl Abort, alloc: Global, text: &str) -> NodePath {
     NodePath::parse(alloc, text.as_bytes()).expect(rt, "a path")
-}
-
-fn prop(rt: &impl Abort, alloc: Global, text: &str) -> PropName {
-    PropName::parse(alloc, text.as_bytes()).expect(rt, "a property's name")
 }
 
 fn base(number: u16) -> Option<RevNo> {
@@ -103,10 +98,31 @@ fn a_mebibyte_is_seventeen_chunks(rt: HostRuntime) -> Result<(), Fail> {
     Ok(())
 }
 
-// The directory `t` of revision 1 is copied to `b`, less the file `x`.
-fn show_copy<E: Editor>(rt: &impl Abort, alloc: Global, editor: E) -> Result<E::Done, EditorFault> {
+/// Where a directory is copied from and to, and the file that is deleted in the copy.
+#[derive(Drop)]
+pub struct CopyPaths {
+    from: Source,
+    copy: NodePath,
+    file: NodePath,
+}
+
+impl CopyPaths {
+    /// From `t` of revision 1 to `b`, less the file `x`.
+    pub fn new(alloc: Global) -> Result<CopyPaths, PathFault> {
+        let from = Source {
+            path: NodePath::parse(alloc, b"t")?,
+            revision: RevNo::new(1),
+        };
+        let copy = NodePath::parse(alloc, b"b")?;
+        let file = NodePath::parse(alloc, b"b/x")?;
+        Ok(CopyPaths { from, copy, file })
+    }
+}
+
+/// A directory is copied less one file.
+pub fn show_copy<E: Editor>(editor: E, paths: &CopyPaths) -> Result<E::Done, EditorFault> {
     let mut editor = editor;
-    match copy_root(rt, alloc, &mut editor) {
+    match copy_root(&mut editor, paths) {
         Ok(()) => editor.close_edit(),
         Err(fault) => {
             editor.abort_edit();
@@ -115,10 +131,10 @@ fn show_copy<E: Editor>(rt: &impl Abort, alloc: Global, editor: E) -> Result<E::
     }
 }
 
-fn copy_root<E: Editor>(rt: &impl Abort, alloc: Global, editor: &mut E) -> Result<(), EditorFault> {
+fn copy_root<E: Editor>(editor: &mut E, paths: &CopyPaths) -> Result<(), EditorFault> {
     editor.target(RevNo::new(2))?;
     let mut root = editor.open_root(base(1))?;
-    match copy_below(rt, alloc, editor, &mut root) {
+    match copy_below(editor, &mut root, paths) {
         Ok(()) => editor.close_dir(root),
         Err(fault) => {
             editor.discard_dir(root);
@@ -128,17 +144,12 @@ fn copy_root<E: Editor>(rt: &impl Abort, alloc: Global, editor: &mut E) -> Resul
 }
 
 fn copy_below<E: Editor>(
-    rt: &impl Abort,
-    alloc: Global,
     editor: &mut E,
     root: &mut E::Dir,
+    paths: &CopyPaths,
 ) -> Result<(), EditorFault> {
-    let from = Source {
-        path: path(rt, alloc, "t"),
-        revision: RevNo::new(1),
-    };
-    let mut copy = editor.add_dir(root, &path(rt, alloc, "b"), Some(&from))?;
-    match editor.delete_entry(&mut copy, &path(rt, alloc, "b/x"), base(1)) {
+    let mut copy = editor.add_dir(root, &paths.copy, Some(&paths.from))?;
+    match editor.delete_entry(&mut copy, &paths.file, base(1)) {
         Ok(()) => editor.close_dir(copy),
         Err(fault) => {
             editor.discard_dir(copy);
@@ -147,49 +158,23 @@ fn copy_below<E: Editor>(
     }
 }
 
-const COPY: &[u8] =
+/// The bytes of that edit.
+pub const COPY: &[u8] =
     b"( target-rev ( 2 ) ) ( open-root ( ( 1 ) 2:t0 ) ) ( add-dir ( 1:b 2:t0 2:t1 ( 2:/t 1 ) ) ) ( delete-entry ( 3:b/x ( 1 ) 2:t1 ) ) ( close-dir ( 2:t1 ) ) ( close-dir ( 2:t0 ) ) ( finish-replay ( ) ) ";
 
 #[test]
 fn a_copy_less_one_file(rt: HostRuntime) -> Result<(), Fail> {
     let alloc = rt.alloc();
     let editor = WireEditor::new(alloc, Vec::new(alloc)).expect(&rt, "room");
-    let written = show_copy(&rt, alloc, editor).expect(&rt, "written");
+    let paths = CopyPaths::new(alloc).expect(&rt, "paths");
+    let written = show_copy(editor, &paths).expect(&rt, "written");
     assert!(rt; written.into_inner().as_slice() == COPY);
     Ok(())
 }
 
-// A writer that takes so many writes, each of so many bytes at most, and fails from then on.
-#[derive(Drop)]
-struct Failing<'a> {
-    bytes: &'a mut Vec<u8>,
-    left: usize,
-    size: usize,
-}
-
-impl<'a> Write for Failing<'a> {
-    fn write(&mut self, buf: &[u8]) -> io::Result<usize> {
-        if self.left == 0 {
-            return Err(io::Error::from(ErrorKind::BrokenPipe));
-        }
-        self.left -= 1;
-        let n = buf.len().min(self.size);
-        self.bytes.extend_from_slice(&buf[..n])?;
-        Ok(n)
-    }
-
-    fn flush(&mut self) -> io::Result<()> {
-        Ok(())
-    }
-}
-
 // Whether a writer that fails behind so many writes of such a size leaves a beginning of the bytes, and 49 is answered.
-fn leaves_a_beginning(
-    rt: &impl Abort,
-    alloc: Global,
-    left: usize,
-    size: usize,
-) -> Result<bool, Fail> {
+fn leaves_a_beginning(rt: &impl Abort, alloc: Global, left: usize, size: usize) -> bool {
+    let paths = CopyPaths::new(alloc).expect(rt, "paths");
     let mut bytes = Vec::new(alloc);
     let out = Failing {
         bytes: &mut bytes,
@@ -197,24 +182,21 @@ fn leaves_a_beginning(
         size,
     };
     let editor = WireEditor::new(alloc, out).expect(rt, "room");
-    let fault = show_copy(rt, alloc, editor).err();
-    Ok(
-        COPY.starts_with(bytes.as_slice())
-            && bytes.len() < COPY.len()
-            && fault == Some(EditorFault::PeerFailed),
-    )
+    let fault = show_copy(editor, &paths).err();
+    COPY.starts_with(bytes.as_slice())
+        && bytes.len() < COPY.len()
+        && fault == Some(EditorFault::PeerFailed)
 }
 
 #[test]
-fn a_failing_writer_has_a_beginning(rt: HostRuntime) -> Result<(), Fail> {
+fn a_failing_writer_has_a_beginning(rt: HostRuntime) {
     let alloc = rt.alloc();
     let mut fine = true;
     for left in 0..7 {
-        fine = fine && leaves_a_beginning(&rt, alloc, left, 1_000)?;
+        fine = fine && leaves_a_beginning(&rt, alloc, left, 1_000);
     }
     for left in 0..COPY.len() {
-        fine = fine && leaves_a_beginning(&rt, alloc, left, 1)?;
+        fine = fine && leaves_a_beginning(&rt, alloc, left, 1);
     }
     assert!(rt; fine);
-    Ok(())
 }
