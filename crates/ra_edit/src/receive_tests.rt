@@ -4,6 +4,7 @@ use crate::edit_fault::EditFault;
 use crate::receive::receive;
 use crate::streams_for_tests::{Failing, items_from};
 use crate::wire::WireEditor;
+use crate::wire_tests::COPY;
 use delta_editor::{Call, Recorder};
 use std::alloc::Global;
 use std::rt::HostRuntime;
@@ -19,10 +20,6 @@ const UNENDED: usize = ADDED.len() - 22;
 // The same with an empty text.
 const EMPTY: &[u8] =
     b"( target-rev ( 1 ) ) ( open-root ( ( 0 ) 2:t0 ) ) ( add-file ( 1:a 2:t0 2:t1 ( ) ) ) ( apply-textdelta ( 2:t1 ( ) ) ) ( textdelta-chunk ( 2:t1 4:SVN\x00 ) ) ( textdelta-end ( 2:t1 ) ) ( close-file ( 2:t1 ( 32:d41d8cd98f00b204e9800998ecf8427e ) ) ) ( close-dir ( 2:t0 ) ) ( finish-replay ( ) ) ";
-
-// A directory that is added as a copy, with a deletion in it.
-const COPIED: &[u8] =
-    b"( target-rev ( 2 ) ) ( open-root ( ( 1 ) 2:t0 ) ) ( add-dir ( 1:b 2:t0 2:t1 ( 2:/t 1 ) ) ) ( delete-entry ( 3:b/x ( 1 ) 2:t1 ) ) ( close-dir ( 2:t1 ) ) ( close-dir ( 2:t0 ) ) ( finish-replay ( ) ) ";
 
 // Revision 2 without changes, and the same with its root opened and closed.
 const NOTHING: &[u8] = b"( target-rev ( 2 ) ) ( finish-replay ( ) ) ";
@@ -92,7 +89,7 @@ fn drives_are_received(rt: HostRuntime) {
     let cases: [(&[u8], &[u8]); 6] = [
         (ADDED, ADDED),
         (EMPTY, EMPTY),
-        (COPIED, COPIED),
+        (COPY, COPY),
         (NOTHING, UNCHANGED),
         (
             b"( close-edit ( ) ) ( finish-replay ( ) ) ",
@@ -168,7 +165,7 @@ fn calls_come_in_their_order(rt: HostRuntime) {
     let unchanged: [&str; 4] = ["target", "open_root", "close_dir", "close_edit"];
     let cases: [(&[u8], &[&str]); 3] = [
         (ADDED, added.as_slice()),
-        (COPIED, copied.as_slice()),
+        (COPY, copied.as_slice()),
         (NOTHING, unchanged.as_slice()),
     ];
     for (bytes, names) in cases {
@@ -321,7 +318,7 @@ fn fronts_agree(alloc: Global, bytes: &[u8]) -> bool {
 
 #[test]
 fn a_drive_that_is_cut_is_refused(rt: HostRuntime) {
-    assert!(rt; fronts_agree(rt.alloc(), ADDED) && fronts_agree(rt.alloc(), COPIED));
+    assert!(rt; fronts_agree(rt.alloc(), ADDED) && fronts_agree(rt.alloc(), COPY));
 }
 
 // Whether each change of a byte, to any value, gives the same and is passed on the same, whole and one byte at a time.
@@ -347,7 +344,7 @@ fn the_cutting_of_a_text_does_not_matter(rt: HostRuntime) -> Result<(), Fail> {
 
 #[test]
 fn the_cutting_of_a_copy_does_not_matter(rt: HostRuntime) -> Result<(), Fail> {
-    assert!(rt; changes_agree(rt.alloc(), COPIED)?);
+    assert!(rt; changes_agree(rt.alloc(), COPY)?);
     Ok(())
 }
 

@@ -3,6 +3,7 @@
 use crate::receive::receive;
 use crate::streams_for_tests::{Failing, items_from};
 use crate::wire::WireEditor;
+use crate::wire_tests::{CHUNK, CLOSED, FRONT};
 use delta_editor::{Call, Recorder};
 use std::alloc::Global;
 use std::process::Abort;
@@ -110,16 +111,6 @@ fn a_writer_that_fails_is_told(rt: HostRuntime) -> Result<(), Fail> {
     assert!(rt; unwritten(&rt, alloc, 20)? == (None, Some(48)));
     Ok(())
 }
-
-const FRONT: &[u8] =
-    b"( target-rev ( 1 ) ) ( open-root ( ( 0 ) 2:t0 ) ) ( add-file ( 1:a 2:t0 2:t1 ( ) ) ) ( apply-textdelta ( 2:t1 ( ) ) ) ( textdelta-chunk ( 2:t1 4:SVN\x00 ) ) ";
-
-// What stands in front of a window's new data in its chunk.
-const CHUNK: &[u8] =
-    b"( textdelta-chunk ( 2:t1 65549:\x00\x00\x84\x80\x00\x04\x84\x80\x00\x80\x84\x80\x00";
-
-const CLOSED: &[u8] =
-    b"( textdelta-end ( 2:t1 ) ) ( close-file ( 2:t1 ( 32:b561f87202d04959e37588ee05cf5b10 ) ) ) ( close-dir ( 2:t0 ) ) ( finish-replay ( ) ) ";
 
 // A text of 1,048,576 bytes `x` in 17 chunks.
 fn mebibyte(alloc: Global) -> Result<Vec<u8>, Fail> {

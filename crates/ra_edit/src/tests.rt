@@ -166,30 +166,42 @@ fn agrees(alloc: Global, bytes: &[u8]) -> Result<bool, Fail> {
     Ok(whole.0 == single.0 && whole.1 == single.1)
 }
 
+// Whether bytes that are cut anywhere give the same whole and one byte at a time.
+fn fronts_agree(alloc: Global, bytes: &[u8]) -> Result<bool, Fail> {
+    for n in 0..bytes.len() {
+        if !agrees(alloc, &bytes[..n])? {
+            return Ok(false);
+        }
+    }
+    Ok(true)
+}
+
 #[test]
 fn truncations_agree(rt: HostRuntime) -> Result<(), Fail> {
-    let alloc = rt.alloc();
-    let mut fine = true;
-    for n in 0..TWO.len() {
-        fine = fine && agrees(alloc, &TWO[..n])?;
-    }
-    assert!(rt; fine);
+    assert!(rt; fronts_agree(rt.alloc(), &HELLO)?);
+    assert!(rt; fronts_agree(rt.alloc(), &TWO)?);
     Ok(())
+}
+
+// Whether bytes with any one of them changed give the same whole and one byte at a time.
+fn changes_agree(alloc: Global, bytes: &[u8]) -> Result<bool, Fail> {
+    let mut changed = bytes.to_vec(alloc)?;
+    for (at, was) in bytes.iter().enumerate() {
+        for b in 0..=u8::MAX {
+            changed[at] = b;
+            if !agrees(alloc, &changed)? {
+                return Ok(false);
+            }
+        }
+        changed[at] = *was;
+    }
+    Ok(true)
 }
 
 #[test]
 fn changed_bytes_agree(rt: HostRuntime) -> Result<(), Fail> {
-    let alloc = rt.alloc();
-    let mut fine = true;
-    let mut bytes = TWO.to_vec(alloc)?;
-    for n in 0..TWO.len() {
-        for b in 0..=255 {
-            bytes[n] = b;
-            fine = fine && agrees(alloc, bytes.as_slice())?;
-        }
-        bytes[n] = TWO[n];
-    }
-    assert!(rt; fine);
+    assert!(rt; changes_agree(rt.alloc(), &HELLO)?);
+    assert!(rt; changes_agree(rt.alloc(), &TWO)?);
     Ok(())
 }
 

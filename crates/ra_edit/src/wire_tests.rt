@@ -44,10 +44,11 @@ fn show_text<E: Editor>(rt: &impl Abort, alloc: Global, editor: E, text: &[u8]) 
     editor.close_edit().expect(rt, "close_edit")
 }
 
-// What stands in front of the chunks of such a file, and behind them.
-const FRONT: &[u8] =
+/// What stands in front of the chunks of such a file.
+pub const FRONT: &[u8] =
     b"( target-rev ( 1 ) ) ( open-root ( ( 0 ) 2:t0 ) ) ( add-file ( 1:a 2:t0 2:t1 ( ) ) ) ( apply-textdelta ( 2:t1 ( ) ) ) ( textdelta-chunk ( 2:t1 4:SVN\x00 ) ) ";
 
+// What stands behind that.
 const HELLO: &[u8] =
     b"( textdelta-chunk ( 2:t1 12:\x00\x00\x06\x01\x06\x86hello\n ) ) ( textdelta-end ( 2:t1 ) ) ( close-file ( 2:t1 ( 32:b1946ac92492d2347c6235b4d2611184 ) ) ) ( close-dir ( 2:t0 ) ) ( finish-replay ( ) ) ";
 
@@ -76,11 +77,12 @@ fn a_file_is_added(rt: HostRuntime) -> Result<(), Fail> {
     Ok(())
 }
 
-// What stands in front of a window's new data in its chunk.
-const CHUNK: &[u8] =
+/// What stands in front of a window's new data in its chunk.
+pub const CHUNK: &[u8] =
     b"( textdelta-chunk ( 2:t1 65549:\x00\x00\x84\x80\x00\x04\x84\x80\x00\x80\x84\x80\x00";
 
-const CLOSED: &[u8] =
+/// What stands behind the chunks of a file of 1,048,576 bytes `x`.
+pub const CLOSED: &[u8] =
     b"( textdelta-end ( 2:t1 ) ) ( close-file ( 2:t1 ( 32:b561f87202d04959e37588ee05cf5b10 ) ) ) ( close-dir ( 2:t0 ) ) ( finish-replay ( ) ) ";
 
 #[test]
