@@ -1,5 +1,6 @@
 pub mod Above
 pub mod Doing
+pub mod Dumping
 pub mod Lines
 pub mod Opening
 pub mod Refusing

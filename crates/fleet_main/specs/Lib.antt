@@ -1,6 +1,7 @@
 pub mod Above
 pub mod Doing
 pub mod Host
+pub mod Laws
 pub mod Lines
 pub mod Opening
 pub mod Usages

@@ -175,6 +175,9 @@ fn run_flushed<F: Folders, R: Read + Drop, W: Write + Drop>(
 
 /// Runs a command over folders. The status is 0 where it is done and what it wrote is handed on, or 1 where it was refused, and
 /// then the refusal's line is on `errors`. What was written before a refusal is flushed before its line.
+///
+/// Of honest folders it says besides what repository the folder's files kept, what the command made of it, and what a stop
+/// leaves: after a `create` that is done, and at each moment of the others.
 pub fn run<F: Folders, R: Read + Drop, W: Write + Drop, E: Write + Drop>(
     alloc: Global,
     folders: &mut F,

@@ -24,3 +24,4 @@ pub use store_engines::RevRange;
 mod command_line;
 mod execute;
 mod folders;
+pub mod law;
