@@ -1,6 +1,6 @@
 //! Folders in memory, for tests: the disk of a folder is lent, so that it is there when a command has ended.
 ghost use Rattle.std.specs.Option.{option_map_or};
-ghost use Rattle.std.specs.Prelude.{IfSome, cond};
+ghost use Rattle.std.specs.Prelude.{◌≡◌, IfSome, None, cond};
 ghost use Rattle.std.specs.Str.{bytes_eq};
 ghost use Rattle.fleet_disk.specs.Image.{no_bytes};
 
@@ -66,6 +66,34 @@ pub struct MemFolders<'a, D: Disk> {
     pub other: Option<&'a mut D>,
     /// How often a disk was asked for that isn't there.
     pub failures: u64,
+}
+
+impl<'a, D: Disk> MemFolders<'a, D> {
+    /// A folder of that name over a disk, and no other.
+    pub fn new(name: &'a str, disk: &'a mut D) -> MemFolders<'a, D>
+        ensures named { IfSome result.named (λ lent. lent.now ≡ disk.old) }
+        ensures other { result.other ≡ None }
+    {
+        MemFolders {
+            name,
+            named: Some(disk),
+            other: None,
+            failures: 0,
+        }
+    }
+
+    /// A folder of that name over a disk, and over another disk one that has every other name.
+    pub fn with_other(name: &'a str, disk: &'a mut D, other: &'a mut D) -> MemFolders<'a, D>
+        ensures named { IfSome result.named (λ lent. lent.now ≡ disk.old) }
+        ensures other { IfSome result.other (λ lent. lent.now ≡ other.old) }
+    {
+        MemFolders {
+            name,
+            named: Some(disk),
+            other: Some(other),
+            failures: 0,
+        }
+    }
 }
 
 impl<'a, D: Disk + Drop> Folders for MemFolders<'a, D> {

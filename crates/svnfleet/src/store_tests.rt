@@ -40,6 +40,7 @@ const DIRECTORY: &str =
 
 // What is printed of a first and a second revision.
 const LOADED: &str = "Loaded revision 1.\n";
+
 const LOADED_TWO: &str = "Loaded revision 2.\n";
 
 // The words of commands.
@@ -49,8 +50,11 @@ const CREATE: [&str; 4] = [
     "--uuid",
     "6A1F0C3E-0000-4000-8000-000000000001",
 ];
+
 const LOAD: [&str; 2] = ["load", "repo"];
+
 const DUMP: [&str; 2] = ["dump", "repo"];
+
 const DUMP_ONE: [&str; 4] = ["dump", "repo", "-r", "1:1"];
 
 fn joined(alloc: Global, parts: &[&str]) -> Result<Vec<u8>, AllocError> {
@@ -100,7 +104,7 @@ struct Ran {
 }
 
 // Runs a command over folders that keep the rules.
-fn ran<F: Folders, R: Read + Drop>(
+fn run_over<F: Folders, R: Read + Drop>(
     alloc: Global,
     folders: &mut F,
     command: Command,
@@ -110,14 +114,7 @@ fn ran<F: Folders, R: Read + Drop>(
 {
     let mut output = Sink::new(Vec::new(alloc));
     let mut errors = Sink::new(Vec::new(alloc));
-    let status = run(
-        alloc,
-        folders,
-        command,
-        input,
-        &mut output,
-        &mut errors,
-    );
+    let status = run(alloc, folders, command, input, &mut output, &mut errors);
     Ran {
         status,
         output: output.into_inner(),
@@ -127,6 +124,7 @@ fn ran<F: Folders, R: Read + Drop>(
 
 // A command by its words, what there is to read, and what comes of it: what is printed, and the line of a refusal, where it is
 // refused.
+#[derive(Clone, Copy)]
 struct Step<'a> {
     words: &'a [&'a str],
     input: &'a [&'a str],
@@ -148,13 +146,8 @@ fn comes<D: Disk + Drop>(alloc: Global, disk: &mut D, step: &Step<'_>) -> Result
 {
     let bytes = joined(alloc, step.input)?;
     let command = named(alloc, step.words)?;
-    let mut folders = MemFolders {
-        name: "repo",
-        named: Some(disk),
-        other: None,
-        failures: 0,
-    };
-    let ran = ran(
+    let mut folders = MemFolders::new("repo", disk);
+    let ran = run_over(
         alloc,
         &mut folders,
         command,
@@ -296,40 +289,43 @@ fn ends(
     Ok(same && are(left.bytes(DiskFile::Journal), journal))
 }
 
+// Whether a load of this revision 1 is refused with this line, and commits nothing.
+fn commits_nothing(alloc: Global, revision: &str, line: &str) -> Result<bool, Fail> {
+    ends(alloc, &[HEAD, revision], &[], line, &[HEAD, IDENTITY, ZERO])
+}
+
 #[test]
 fn load_commits_no_half_revision(rt: HostRuntime) -> Result<(), Fail> {
     let alloc = rt.alloc();
     let other = ONE_FILE.replace(alloc, "hello", "hellp")?;
+    assert!(rt; commits_nothing(alloc, other.as_str(), "svnfleet: 6 checksum mismatch\n")?);
     let cut = ONE_FILE.strip_suffix("lo\n\n\n").ok_or("end")?;
+    assert!(rt; commits_nothing(alloc, cut, "svnfleet: 7 unexpected end of input\n")?);
     let longer = ONE_FILE.replace(alloc, "Content-length: 16", "Content-length: 17")?;
-    let faulty = [
-        (other.as_str(), "svnfleet: 6 checksum mismatch\n"),
-        (cut, "svnfleet: 7 unexpected end of input\n"),
-        (longer.as_str(), "svnfleet: 4 lengths do not agree\n"),
-    ];
-    for (revision, line) in faulty {
-        let kept = [HEAD, IDENTITY, ZERO];
-        assert!(rt; ends(alloc, &[HEAD, revision], &[], line, &kept)?, "{line}");
-    }
+    assert!(rt; commits_nothing(alloc, longer.as_str(), "svnfleet: 4 lengths do not agree\n")?);
     Ok(())
+}
+
+// Whether a load of the file's revision and this one is refused with this line, and keeps the first.
+fn keeps_the_first(alloc: Global, revision: &str, line: &str) -> Result<bool, Fail> {
+    ends(
+        alloc,
+        &[HEAD, ONE_FILE, revision],
+        &[LOADED],
+        line,
+        &[HEAD, IDENTITY, ZERO, ONE_FILE],
+    )
 }
 
 #[test]
 fn load_keeps_what_was_committed(rt: HostRuntime) -> Result<(), Fail> {
     let alloc = rt.alloc();
     let absent = NO_FILE.replace(alloc, "Node-path: a", "Node-path: b")?;
-    let cut = NO_FILE.strip_suffix("delete\n\n\n\n").ok_or("end")?;
-    let faulty = [
-        (absent.as_str(), "svnfleet: 11 no such path\n"),
-        (cut, "svnfleet: 7 unexpected end of input\n"),
-    ];
-    for (revision, line) in faulty {
-        let kept = [HEAD, IDENTITY, ZERO, ONE_FILE];
-        let parts = [HEAD, ONE_FILE, revision];
-        assert!(rt; ends(alloc, &parts, &[LOADED], line, &kept)?, "{line}");
-    }
-    // the end of revision 1 isn't known yet
+    assert!(rt; keeps_the_first(alloc, absent.as_str(), "svnfleet: 11 no such path\n")?);
     let line = "svnfleet: 7 unexpected end of input\n";
+    let cut = NO_FILE.strip_suffix("delete\n\n\n\n").ok_or("end")?;
+    assert!(rt; keeps_the_first(alloc, cut, line)?);
+    // the end of revision 1 isn't known yet
     let parts = [HEAD, ONE_FILE, "Node"];
     assert!(rt; ends(alloc, &parts, &[], line, &[HEAD, IDENTITY, ZERO])?);
     Ok(())
@@ -356,14 +352,9 @@ fn mirrors_take_no_change(rt: HostRuntime) -> Result<(), Fail> {
         refused(&words, &[], line),
     ];
     assert_eq!(rt; first_wrong(alloc, &mut disk, &steps)?, None);
-    let mut folders = MemFolders {
-        name: "repo",
-        named: Some(&mut disk),
-        other: None,
-        failures: 0,
-    };
+    let mut folders = MemFolders::new("repo", &mut disk);
     let mut unread = Source::new(Unread);
-    let ran = ran(alloc, &mut folders, named(alloc, &LOAD)?, &mut unread);
+    let ran = run_over(alloc, &mut folders, named(alloc, &LOAD)?, &mut unread);
     assert!(rt; came_to(&ran, &refused(&LOAD, &[], line)) && !unread.failed);
     Ok(())
 }
@@ -373,25 +364,20 @@ fn folders_are_told_apart(rt: HostRuntime) -> Result<(), Fail> {
     let alloc = rt.alloc();
     let mut disk = with_one_file(alloc)?;
     let mut empty = MemDisk::new(alloc);
-    let mut folders = MemFolders {
-        name: "repo",
-        named: Some(&mut disk),
-        other: Some(&mut empty),
-        failures: 0,
-    };
+    let mut folders = MemFolders::with_other("repo", &mut disk, &mut empty);
     let nothing = [];
     let mut input = Source::new(nothing.as_slice());
     let elsewhere = refused(&["dump", "repo2"], &[], "svnfleet: 34 no repository\n");
-    let ran_there = ran(
+    let first = run_over(
         alloc,
         &mut folders,
         named(alloc, elsewhere.words)?,
         &mut input,
     );
-    assert!(rt; came_to(&ran_there, &elsewhere));
+    assert!(rt; came_to(&first, &elsewhere));
     let here = done(&DUMP_ONE, &[], &[HEAD, IDENTITY, ONE_FILE]);
-    let ran_here = ran(alloc, &mut folders, named(alloc, here.words)?, &mut input);
-    assert!(rt; came_to(&ran_here, &here));
+    let second = run_over(alloc, &mut folders, named(alloc, here.words)?, &mut input);
+    assert!(rt; came_to(&second, &here));
     Ok(())
 }
 
@@ -418,6 +404,18 @@ fn mkdir_commits_one_directory(rt: HostRuntime) -> Result<(), Fail> {
     Ok(())
 }
 
+// Whether a directory at this path with this message is refused with this line.
+fn is_refused(
+    alloc: Global,
+    disk: &mut MemDisk,
+    path: &str,
+    message: &str,
+    line: &str,
+) -> Result<bool, Fail> {
+    let words = ["mkdir", "repo", path, "--message", message, "--moment", "1"];
+    comes(alloc, disk, &refused(&words, &[], line))
+}
+
 #[test]
 fn mkdir_judges_its_path(rt: HostRuntime) -> Result<(), Fail> {
     let alloc = rt.alloc();
@@ -431,10 +429,14 @@ fn mkdir_judges_its_path(rt: HostRuntime) -> Result<(), Fail> {
         ("a/c", "svnfleet: 13 not a directory\n"),
         ("a", "svnfleet: 12 path already exists\n"),
     ] {
-        let words = ["mkdir", "repo", path, "--message", "hi", "--moment", "1"];
-        assert!(rt; comes(alloc, &mut disk, &refused(&words, &[], line))?, "{path}");
+        assert!(rt; is_refused(alloc, &mut disk, path, "hi", line)?, "{path}");
     }
-    assert!(rt; are(disk.bytes(DiskFile::Journal), &[HEAD, IDENTITY, ZERO, ONE_FILE]));
+    assert!(rt;
+        are(
+            disk.bytes(DiskFile::Journal),
+            &[HEAD, IDENTITY, ZERO, ONE_FILE]
+        )
+    );
     Ok(())
 }
 
@@ -443,17 +445,22 @@ fn mkdir_judges_its_message_last(rt: HostRuntime) -> Result<(), Fail> {
     let alloc = rt.alloc();
     let mut disk = begun(alloc)?;
     let long = "x".repeat(alloc, 65_537)?;
+    let line = "svnfleet: 11 no such path\n";
+    assert!(rt; is_refused(alloc, &mut disk, "b/c", long.as_str(), line)?);
+    let line = "svnfleet: 8 limit exceeded\n";
+    assert!(rt; is_refused(alloc, &mut disk, "b", long.as_str(), line)?);
     let most = "x".repeat(alloc, 65_536)?;
-    let (long, most) = (long.as_str(), most.as_str());
-    let below = ["mkdir", "repo", "b/c", "--message", long, "--moment", "1"];
-    let past = ["mkdir", "repo", "b", "--message", long, "--moment", "1"];
-    let words = ["mkdir", "repo", "b", "--message", most, "--moment", "1"];
-    let steps = [
-        refused(&below, &[], "svnfleet: 11 no such path\n"),
-        refused(&past, &[], "svnfleet: 8 limit exceeded\n"),
-        done(&words, &[], &["Committed revision 1.\n"]),
+    let words = [
+        "mkdir",
+        "repo",
+        "b",
+        "--message",
+        most.as_str(),
+        "--moment",
+        "1",
     ];
-    assert_eq!(rt; first_wrong(alloc, &mut disk, &steps)?, None);
+    let step = done(&words, &[], &["Committed revision 1.\n"]);
+    assert!(rt; comes(alloc, &mut disk, &step)?);
     Ok(())
 }
 
@@ -465,15 +472,20 @@ fn dump_has_the_changed_property(rt: HostRuntime) -> Result<(), Fail> {
         Err(refusal) => return Err(Fail::new(refusal)),
     };
     let name = PropName::parse(alloc, b"svn:log")?;
-    store.change_prop(alloc, RevNo::new(1), &name, Some(b"ho"), &Expected::DontCare)?;
+    store.change_prop(
+        alloc,
+        RevNo::new(1),
+        &name,
+        Some(b"ho"),
+        &Expected::DontCare,
+    )?;
     let mut disk = store.into_disk();
     assert_eq!(rt; disk.bytes(DiskFile::Journal).len(), 517);
     assert_eq!(rt; disk.bytes(DiskFile::Gate).len(), 28);
     let changed = ONE_FILE.replace(alloc, "hi", "ho")?;
-    let steps = [
-        done(&DUMP_ONE, &[], &[HEAD, IDENTITY, changed.as_str()]),
-        done(&DUMP, &[], &[HEAD, IDENTITY, ZERO, changed.as_str()]),
-    ];
+    let one = [HEAD, IDENTITY, changed.as_str()];
+    let all = [HEAD, IDENTITY, ZERO, changed.as_str()];
+    let steps = [done(&DUMP_ONE, &[], &one), done(&DUMP, &[], &all)];
     assert_eq!(rt; first_wrong(alloc, &mut disk, &steps)?, None);
     Ok(())
 }
@@ -497,7 +509,11 @@ fn damaged_entry_is_told(rt: HostRuntime) -> Result<(), Fail> {
 // How many calls the opening of a disk makes: a dump makes no others.
 fn opening_calls(alloc: Global, disk: &MemDisk) -> Result<u64, Fail> {
     let mut copy = disk.crash(Pick::New)?;
-    if !comes(alloc, &mut copy, &done(&DUMP_ONE, &[], &[HEAD, IDENTITY, ONE_FILE]))? {
+    if !comes(
+        alloc,
+        &mut copy,
+        &done(&DUMP_ONE, &[], &[HEAD, IDENTITY, ONE_FILE]),
+    )? {
         return Err(Fail::new("no dump"));
     }
     Ok(copy.calls().len() as u64)
@@ -526,8 +542,10 @@ fn opens_at(alloc: Global, disk: &mut MemDisk, second: bool) -> Result<bool, Fai
         return comes(alloc, disk, &done(&DUMP, &[], &all));
     }
     let all = [HEAD, IDENTITY, ZERO, ONE_FILE];
-    Ok(comes(alloc, disk, &done(&DUMP, &[], &all))?
-        && comes(alloc, disk, &done(&LOAD, &[HEAD, NO_FILE], &[LOADED_TWO]))?)
+    Ok(
+        comes(alloc, disk, &done(&DUMP, &[], &all))?
+            && comes(alloc, disk, &done(&LOAD, &[HEAD, NO_FILE], &[LOADED_TWO]))?,
+    )
 }
 
 const PICKS: [Pick; 4] = [Pick::Old, Pick::New, Pick::Fill(1), Pick::Fill(0x37)];
@@ -563,8 +581,7 @@ fn failed_device_ends_a_load(rt: HostRuntime) -> Result<(), Fail> {
     let before = opening_calls(alloc, &disk)?;
     // a commit makes five calls: the write of the second revision fails
     let mut fused = FuseDisk::new(disk, before.saturating_add(5), Fuse::ForGood);
-    let again = ONE_FILE
-        .replace(alloc, "Revision-number: 1", "Revision-number: 3")?;
+    let again = ONE_FILE.replace(alloc, "Revision-number: 1", "Revision-number: 3")?;
     let step = Step {
         words: &LOAD,
         input: &[HEAD, NO_FILE, again.as_str()],

@@ -3,9 +3,9 @@
 use fleet_engines::{
     Sink, Source, records_dont_matter, revisions_are_grouped, run_canon, run_list,
 };
+use fleet_main::law::one_dump;
 use fleet_main::{Command, HostFolders, RevRange, Usage, plan, run};
 use node_base::RevNo;
-use repo_core::Moment;
 use std::alloc::{AllocError, Global};
 use std::io;
 use std::io::{Read, Write};
@@ -470,21 +470,26 @@ fn dumps(words: &Result<Command, Usage>, wanted: Option<RevRange>) -> bool {
     }
 }
 
-// By a directory `a/b` in the folder `repo`, with the message `hi` and this moment.
-fn makes_directory(words: &Result<Command, Usage>, wanted: Option<Moment>) -> bool {
+// By a directory `a/b` in the folder `repo`, with the message `hi` and a moment of this date.
+fn makes_directory(
+    alloc: Global,
+    words: &Result<Command, Usage>,
+    date: &str,
+) -> Result<bool, AllocError> {
     match words {
-        Ok(Command::MakeDir {
-            folder,
-            path,
-            message,
-            moment,
-        }) => {
-            folder.as_str() == "repo"
-                && path.as_str() == "a/b"
-                && message.as_str() == "hi"
-                && Some(*moment) == wanted
+        Ok(
+            Command::MakeDir {
+                folder,
+                path,
+                message,
+                moment,
+            },
+        ) => {
+            let dated = moment.date_text(alloc)?;
+            let named = folder.as_str() == "repo" && path.as_str() == "a/b";
+            Ok(named && message.as_str() == "hi" && dated.as_str() == date)
         }
-        _ => false,
+        _ => Ok(false),
     }
 }
 
@@ -516,8 +521,7 @@ fn words_give_a_command_its_values(rt: HostRuntime) -> Result<(), Fail> {
             "hi",
         ],
     )?;
-    let moment = Moment::from_micros(1_000_000_000_123_456);
-    assert!(rt; moment.is_some() && makes_directory(&words, moment));
+    assert!(rt; makes_directory(rt.alloc(), &words, "2001-09-09T01:46:40.123456Z")?);
     Ok(())
 }
 
@@ -606,5 +610,6 @@ fn commands_answer_without_a_status(rt: HostRuntime) -> Result<(), Fail> {
     assert!(rt; copied.into_inner().as_slice() == whole.as_slice());
     records_dont_matter();
     revisions_are_grouped();
+    one_dump();
     Ok(())
 }
