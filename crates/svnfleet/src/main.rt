@@ -74,3 +74,5 @@ mod memory;
 mod store_tests;
 #[cfg(test)]
 mod tests;
+#[cfg(test)]
+mod wire_tests;

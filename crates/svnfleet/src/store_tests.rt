@@ -13,17 +13,17 @@ use std::test::Fail;
 use store_engines::open_store;
 
 // The version block, 31 bytes.
-const HEAD: &str = "SVN-fs-dump-format-version: 2\n\n";
+pub(crate) const HEAD: &str = "SVN-fs-dump-format-version: 2\n\n";
 
 // The identity block, 44 bytes.
-const IDENTITY: &str = "UUID: 6a1f0c3e-0000-4000-8000-000000000001\n\n";
+pub(crate) const IDENTITY: &str = "UUID: 6a1f0c3e-0000-4000-8000-000000000001\n\n";
 
 // Revision 0 without properties, 74 bytes.
 const ZERO: &str =
     "Revision-number: 0\nProp-content-length: 10\nContent-length: 10\n\nPROPS-END\n\n";
 
 // Revision 1 adds file `a` with a text of six bytes: 275 bytes.
-const ONE_FILE: &str =
+pub(crate) const ONE_FILE: &str =
     "Revision-number: 1\nProp-content-length: 29\nContent-length: 29\n\nK 7\nsvn:log\nV 2\nhi\nPROPS-END\n\nNode-path: a\nNode-kind: file\nNode-action: add\nProp-content-length: 10\nText-content-length: 6\nText-content-md5: b1946ac92492d2347c6235b4d2611184\nContent-length: 16\n\nPROPS-END\nhello\n\n\n";
 
 // Revision 2 deletes it: 130 bytes.
@@ -39,7 +39,7 @@ const DIRECTORY: &str =
     "Revision-number: 1\nProp-content-length: 75\nContent-length: 75\n\nK 8\nsvn:date\nV 27\n2001-09-09T01:46:40.123456Z\nK 7\nsvn:log\nV 2\nhi\nPROPS-END\n\nNode-path: a\nNode-kind: dir\nNode-action: add\nProp-content-length: 10\nContent-length: 10\n\nPROPS-END\n\n\n";
 
 // What is printed of a first and a second revision.
-const LOADED: &str = "Loaded revision 1.\n";
+pub(crate) const LOADED: &str = "Loaded revision 1.\n";
 
 const LOADED_TWO: &str = "Loaded revision 2.\n";
 
@@ -51,7 +51,7 @@ const CREATE: [&str; 4] = [
     "6A1F0C3E-0000-4000-8000-000000000001",
 ];
 
-const LOAD: [&str; 2] = ["load", "repo"];
+pub(crate) const LOAD: [&str; 2] = ["load", "repo"];
 
 const DUMP: [&str; 2] = ["dump", "repo"];
 
@@ -125,7 +125,7 @@ fn run_over<F: Folders, R: Read + Drop>(
 // A command by its words, what there is to read, and what comes of it: what is printed, and the line of a refusal, where it is
 // refused.
 #[derive(Clone, Copy)]
-struct Step<'a> {
+pub(crate) struct Step<'a> {
     words: &'a [&'a str],
     input: &'a [&'a str],
     output: &'a [&'a str],
@@ -141,7 +141,11 @@ fn came_to(ran: &Ran, step: &Step<'_>) -> bool {
 }
 
 // Whether a step over the folder `repo` on this disk comes to what it says.
-fn comes<D: Disk + Drop>(alloc: Global, disk: &mut D, step: &Step<'_>) -> Result<bool, Fail>
+pub(crate) fn comes<D: Disk + Drop>(
+    alloc: Global,
+    disk: &mut D,
+    step: &Step<'_>,
+) -> Result<bool, Fail>
     requires { D.honest disk.old }
 {
     let bytes = joined(alloc, step.input)?;
@@ -157,7 +161,7 @@ fn comes<D: Disk + Drop>(alloc: Global, disk: &mut D, step: &Step<'_>) -> Result
 }
 
 // The first step that doesn't come to what it says. Behind each step the machine stops, and all that isn't synced is lost.
-fn first_wrong(
+pub(crate) fn first_wrong(
     alloc: Global,
     disk: &mut MemDisk,
     steps: &[Step<'_>],
@@ -172,7 +176,11 @@ fn first_wrong(
 }
 
 // A step that is done.
-fn done<'a>(words: &'a [&'a str], input: &'a [&'a str], output: &'a [&'a str]) -> Step<'a> {
+pub(crate) fn done<'a>(
+    words: &'a [&'a str],
+    input: &'a [&'a str],
+    output: &'a [&'a str],
+) -> Step<'a> {
     Step {
         words,
         input,
@@ -192,7 +200,7 @@ fn refused<'a>(words: &'a [&'a str], input: &'a [&'a str], errors: &'a str) -> S
 }
 
 // A disk with revision 0 alone.
-fn begun(alloc: Global) -> Result<MemDisk, Fail> {
+pub(crate) fn begun(alloc: Global) -> Result<MemDisk, Fail> {
     let mut disk = MemDisk::new(alloc);
     if !comes(alloc, &mut disk, &done(&CREATE, &[], &[]))? {
         return Err(Fail::new("no repository"));
@@ -201,7 +209,7 @@ fn begun(alloc: Global) -> Result<MemDisk, Fail> {
 }
 
 // A disk with the file's revision, all of it synced.
-fn with_one_file(alloc: Global) -> Result<MemDisk, Fail> {
+pub(crate) fn with_one_file(alloc: Global) -> Result<MemDisk, Fail> {
     let mut disk = begun(alloc)?;
     if !comes(alloc, &mut disk, &done(&LOAD, &[HEAD, ONE_FILE], &[LOADED]))? {
         return Err(Fail::new("no revision"));
