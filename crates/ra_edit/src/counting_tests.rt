@@ -78,7 +78,7 @@ impl<'a> Counting<'a> {
 }
 
 impl<'a> Editor for Counting<'a> {
-    ghost use Rattle.std.specs.Prelude.{[], ⊤};
+    ghost use Rattle.std.specs.Prelude.{⊤};
 
     type Dir = Open;
 
@@ -94,11 +94,13 @@ impl<'a> Editor for Counting<'a> {
 
     ghost file_path = { λ f. f.path.value };
 
-    ghost over = { λ e. [] };
+    ghost Began = { Unit {0} };
 
-    ghost done_over = { λ d. [] };
+    ghost began = { λ e. tt };
 
-    ghost refuses = { λ trees calls c e. ⊤ };
+    ghost done_began = { λ d. tt };
+
+    ghost refuses = { λ nothing calls c e. ⊤ };
 
     fn target(&mut self, rev: RevNo) -> Result<(), EditorFault> {
         self.take()

@@ -226,7 +226,11 @@ fn laws_are_called(rt: HostRuntime) {
     law::written_is_edit();
     law::one_edit();
     law::ends_once();
+    law::written_comes();
+    law::written_is_taken();
     law::written_is_received();
+    law::written_is_not_refused::<delta_editor::Recorder>();
+    law::says_some_command();
     law::nothing_due();
     assert!(rt; WindowFault::CopyWindow.number() == 45);
 }
