@@ -13,17 +13,17 @@ use std::snapshot::Snapshot;
 
 /// How often an editor opened something, refused a call, and so on.
 #[derive(Clone, Copy, PartialEq, Eq)]
-pub struct Counts {
-    pub opened: usize,
-    pub closed: usize,
-    pub discarded: usize,
-    pub refused: usize,
-    pub aborted: usize,
-    pub ended: usize,
+pub(crate) struct Counts {
+    pub(crate) opened: usize,
+    pub(crate) closed: usize,
+    pub(crate) discarded: usize,
+    pub(crate) refused: usize,
+    pub(crate) aborted: usize,
+    pub(crate) ended: usize,
 }
 
-/// Nothing is counted yet.
-pub const NOTHING: Counts = Counts {
+// Nothing is counted yet.
+const NOTHING: Counts = Counts {
     opened: 0,
     closed: 0,
     discarded: 0,
@@ -32,15 +32,15 @@ pub const NOTHING: Counts = Counts {
     ended: 0,
 };
 
-/// An editor that counts, takes so many calls and refuses each later one.
-pub struct Counting<'a> {
-    pub alloc: Global,
-    pub counts: &'a mut Counts,
-    pub left: usize,
+// An editor that counts, takes so many calls and refuses each later one.
+struct Counting<'a> {
+    alloc: Global,
+    counts: &'a mut Counts,
+    left: usize,
 }
 
-/// What is open in a counting editor. It has to be closed or discarded.
-pub struct Open {
+// What is open in a counting editor. It has to be closed or discarded.
+struct Open {
     path: Snapshot<NodePath>,
 }
 
@@ -227,7 +227,7 @@ impl<'a> Editor for Counting<'a> {
 }
 
 /// What a drive comes to for an editor that takes so many calls, 0 or the number of its refusal, and what that editor counts.
-pub fn counted(alloc: Global, bytes: &[u8], breaks: bool, left: usize) -> (u8, Counts) {
+pub(crate) fn counted(alloc: Global, bytes: &[u8], breaks: bool, left: usize) -> (u8, Counts) {
     let mut counts = NOTHING;
     let editor = Counting {
         alloc,
@@ -243,7 +243,7 @@ pub fn counted(alloc: Global, bytes: &[u8], breaks: bool, left: usize) -> (u8, C
 }
 
 /// Whether an edit was given up with all that was open let go of.
-pub fn is_given_up(counts: &Counts) -> bool {
+pub(crate) fn is_given_up(counts: &Counts) -> bool {
     counts.opened == counts.closed.saturating_add(counts.discarded)
         && counts.aborted == 1
         && counts.ended == 0

@@ -11,7 +11,7 @@ use std::rt::HostRuntime;
 use std::test::Fail;
 
 /// Every command, as it is written.
-pub const FULL: &[u8] =
+pub(crate) const FULL: &[u8] =
     b"( target-rev ( 7 ) ) ( open-root ( ( 6 ) 2:t0 ) ) ( change-dir-prop ( 2:t0 1:p ( 3:one ) ) ) ( open-dir ( 1:d 2:t0 2:t1 ( 6 ) ) ) ( change-dir-prop ( 2:t1 1:q ( ) ) ) ( add-file ( 3:d/f 2:t1 2:t2 ( 2:/g 3 ) ) ) ( change-file-prop ( 2:t2 1:r ( 2:\x00\n ) ) ) ( apply-textdelta ( 2:t2 ( ) ) ) ( textdelta-chunk ( 2:t2 4:SVN\x00 ) ) ( textdelta-chunk ( 2:t2 12:\x00\x00\x06\x01\x06\x86hello\n ) ) ( textdelta-end ( 2:t2 ) ) ( close-file ( 2:t2 ( 32:b1946ac92492d2347c6235b4d2611184 ) ) ) ( delete-entry ( 3:d/x ( 6 ) 2:t1 ) ) ( add-dir ( 3:d/y 2:t1 2:t3 ( ) ) ) ( close-dir ( 2:t3 ) ) ( close-dir ( 2:t1 ) ) ( open-file ( 1:e 2:t0 2:t4 ( 6 ) ) ) ( change-file-prop ( 2:t4 1:s ( ) ) ) ( close-file ( 2:t4 ( ) ) ) ( close-dir ( 2:t0 ) ) ( finish-replay ( ) ) ";
 
 // The same calls in other forms: other tokens and white space, zeros in front, more behind the parameters, a source without its

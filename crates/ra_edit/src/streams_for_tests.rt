@@ -7,7 +7,7 @@ use std::io::{ErrorKind, Read, Write};
 
 /// A reader that gives so many bytes at a time, and at their end the end of input or an error.
 #[derive(Drop)]
-pub struct Lent<'a> {
+pub(crate) struct Lent<'a> {
     bytes: &'a [u8],
     size: usize,
     breaks: bool,
@@ -26,7 +26,12 @@ impl Read for Lent<'_> {
 }
 
 /// The items of bytes that come so many at a time, and behind them the end of input or an error.
-pub fn items_from(alloc: Global, bytes: &[u8], size: usize, breaks: bool) -> ItemStream<Lent<'_>> {
+pub(crate) fn items_from(
+    alloc: Global,
+    bytes: &[u8],
+    size: usize,
+    breaks: bool,
+) -> ItemStream<Lent<'_>> {
     let size = size.max(1);
     ItemStream::new(
         alloc,
@@ -40,15 +45,15 @@ pub fn items_from(alloc: Global, bytes: &[u8], size: usize, breaks: bool) -> Ite
 
 /// A writer that takes so many writes, each of so many bytes at most, and fails from then on.
 #[derive(Drop)]
-pub struct Failing<'a> {
-    pub bytes: &'a mut Vec<u8>,
-    pub left: usize,
-    pub size: usize,
+pub(crate) struct Failing<'a> {
+    pub(crate) bytes: &'a mut Vec<u8>,
+    pub(crate) left: usize,
+    pub(crate) size: usize,
 }
 
 impl<'a> Failing<'a> {
     /// A writer that doesn't fail by itself.
-    pub fn never(bytes: &'a mut Vec<u8>) -> Failing<'a> {
+    pub(crate) fn never(bytes: &'a mut Vec<u8>) -> Failing<'a> {
         Failing {
             bytes,
             left: usize::MAX,

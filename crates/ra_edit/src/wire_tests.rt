@@ -45,7 +45,7 @@ fn show_text<E: Editor>(rt: &impl Abort, alloc: Global, editor: E, text: &[u8]) 
 }
 
 /// What stands in front of the chunks of such a file.
-pub const FRONT: &[u8] =
+pub(crate) const FRONT: &[u8] =
     b"( target-rev ( 1 ) ) ( open-root ( ( 0 ) 2:t0 ) ) ( add-file ( 1:a 2:t0 2:t1 ( ) ) ) ( apply-textdelta ( 2:t1 ( ) ) ) ( textdelta-chunk ( 2:t1 4:SVN\x00 ) ) ";
 
 // What stands behind that.
@@ -78,11 +78,11 @@ fn a_file_is_added(rt: HostRuntime) -> Result<(), Fail> {
 }
 
 /// What stands in front of a window's new data in its chunk.
-pub const CHUNK: &[u8] =
+pub(crate) const CHUNK: &[u8] =
     b"( textdelta-chunk ( 2:t1 65549:\x00\x00\x84\x80\x00\x04\x84\x80\x00\x80\x84\x80\x00";
 
 /// What stands behind the chunks of a file of 1,048,576 bytes `x`.
-pub const CLOSED: &[u8] =
+pub(crate) const CLOSED: &[u8] =
     b"( textdelta-end ( 2:t1 ) ) ( close-file ( 2:t1 ( 32:b561f87202d04959e37588ee05cf5b10 ) ) ) ( close-dir ( 2:t0 ) ) ( finish-replay ( ) ) ";
 
 #[test]
@@ -102,7 +102,7 @@ fn a_mebibyte_is_seventeen_chunks(rt: HostRuntime) -> Result<(), Fail> {
 
 /// Where a directory is copied from and to, and the file that is deleted in the copy.
 #[derive(Drop)]
-pub struct CopyPaths {
+pub(crate) struct CopyPaths {
     from: Source,
     copy: NodePath,
     file: NodePath,
@@ -110,7 +110,7 @@ pub struct CopyPaths {
 
 impl CopyPaths {
     /// From `t` of revision 1 to `b`, less the file `x`.
-    pub fn new(alloc: Global) -> Result<CopyPaths, PathFault> {
+    pub(crate) fn new(alloc: Global) -> Result<CopyPaths, PathFault> {
         let from = Source {
             path: NodePath::parse(alloc, b"t")?,
             revision: RevNo::new(1),
@@ -122,7 +122,7 @@ impl CopyPaths {
 }
 
 /// A directory is copied less one file.
-pub fn show_copy<E: Editor>(editor: E, paths: &CopyPaths) -> Result<E::Done, EditorFault> {
+pub(crate) fn show_copy<E: Editor>(editor: E, paths: &CopyPaths) -> Result<E::Done, EditorFault> {
     let mut editor = editor;
     match copy_root(&mut editor, paths) {
         Ok(()) => editor.close_edit(),
@@ -161,7 +161,7 @@ fn copy_below<E: Editor>(
 }
 
 /// The bytes of that edit.
-pub const COPY: &[u8] =
+pub(crate) const COPY: &[u8] =
     b"( target-rev ( 2 ) ) ( open-root ( ( 1 ) 2:t0 ) ) ( add-dir ( 1:b 2:t0 2:t1 ( 2:/t 1 ) ) ) ( delete-entry ( 3:b/x ( 1 ) 2:t1 ) ) ( close-dir ( 2:t1 ) ) ( close-dir ( 2:t0 ) ) ( finish-replay ( ) ) ";
 
 #[test]
