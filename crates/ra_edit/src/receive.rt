@@ -20,7 +20,8 @@ use std::io::Read;
 ///
 /// Refused: what the stream's `next` refuses; `BadShape` (48) for no command, one out of its place, and the end of the input
 /// between items; `BadToken` (46); `BadWindow` (44), `CopyWindow` (45) and `TooLong` (8) in a text; `BadSum` (6) at a
-/// `close-file`; `Refused` (60) at an `abort-edit` or a failure before `close-edit`; `Editor` where the editor refuses a call; `OutOfMemory` (70).
+/// `close-file`; `Refused` (60) at an `abort-edit` or a failure before `close-edit`; `Editor` where the editor refuses a call;
+/// `OutOfMemory` (70).
 /// After a refusal what is open is discarded, the edit is aborted, and the stream answers `Failed` (32) from then on.
 pub fn receive<R: Read + Drop, E: Editor>(
     alloc: Global,
