@@ -161,7 +161,7 @@ pub(crate) fn comes<D: Disk + Drop>(
 }
 
 // The first step that doesn't come to what it says. Behind each step the machine stops, and all that isn't synced is lost.
-pub(crate) fn first_wrong(
+fn first_wrong(
     alloc: Global,
     disk: &mut MemDisk,
     steps: &[Step<'_>],

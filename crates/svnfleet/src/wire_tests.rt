@@ -1,7 +1,7 @@
 //! An edit that came over the wire, built again over the trees of a repository in memory, and committed to it.
 
 use crate::store_tests::{
-    HEAD, IDENTITY, LOAD, LOADED, ONE_FILE, begun, comes, done, first_wrong, with_one_file,
+    HEAD, IDENTITY, LOAD, LOADED, ONE_FILE, begun, comes, done, with_one_file,
 };
 use dump_load::ChangeSet;
 use editor_ends::BuildEditor;
@@ -32,6 +32,16 @@ const NOTHING: &str = "( target-rev ( 2 ) ) ( finish-replay ( ) ) ";
 const BARE_ROOT: &str =
     "Revision-number: 2\nProp-content-length: 10\nContent-length: 10\n\nPROPS-END\n\nNode-path: \nNode-kind: dir\nNode-action: change\n\n\n\n";
 
+// The listings of these revisions.
+const COPY_LISTED: &str = "revision 2\nD 2 /\nD 2 b\nF 1 1 b/y\nD 1 t\nF 1 1 t/x\nF 1 1 t/y\n";
+
+const BARE_LISTED: &str = "revision 2\nD 2 /\nF 1 6 a\n";
+
+// The words of commands.
+const DUMP_TWO: [&str; 4] = ["dump", "repo", "-r", "2:2"];
+
+const LIST: [&str; 1] = ["list"];
+
 // The set that an edit's bytes are built to, over these trees.
 fn built(alloc: Global, trees: &[Tree], edit: &str) -> Result<ChangeSet, Fail> {
     if trees.len() > 65_535 {
@@ -57,25 +67,6 @@ fn with_edit(alloc: Global, disk: MemDisk, edit: &str) -> Result<MemDisk, Fail> 
     Ok(store.into_disk())
 }
 
-// Whether revision 2 of a repository is these bytes, and a listing of it these lines.
-fn holds_second(
-    alloc: Global,
-    disk: &mut MemDisk,
-    one: &str,
-    second: &str,
-    listing: &str,
-) -> Result<bool, Fail> {
-    let words = ["dump", "repo", "-r", "2:2"];
-    let dumped = [HEAD, IDENTITY, second];
-    let history = [HEAD, one, second];
-    let lines = [listing];
-    let steps = [
-        done(&words, &[], &dumped),
-        done(&["list"], &history, &lines),
-    ];
-    Ok(first_wrong(alloc, disk, &steps)?.is_none())
-}
-
 #[test]
 fn a_copied_directory_is_built_again(rt: HostRuntime) -> Result<(), Fail> {
     let alloc = rt.alloc();
@@ -89,8 +80,15 @@ fn a_copied_directory_is_built_again(rt: HostRuntime) -> Result<(), Fail> {
     );
     let mut disk = with_edit(alloc, first, COPIED)?;
     assert_eq!(rt; COPY.len(), 203);
-    let listing = "revision 2\nD 2 /\nD 2 b\nF 1 1 b/y\nD 1 t\nF 1 1 t/x\nF 1 1 t/y\n";
-    assert!(rt; holds_second(alloc, &mut disk, TWO_FILES, COPY, listing)?);
+    assert!(rt;
+        comes(
+            alloc,
+            &mut disk,
+            &done(&DUMP_TWO, &[], &[HEAD, IDENTITY, COPY])
+        )?
+    );
+    let history = [HEAD, TWO_FILES, COPY];
+    assert!(rt; comes(alloc, &mut disk, &done(&LIST, &history, &[COPY_LISTED]))?);
     Ok(())
 }
 
@@ -98,7 +96,9 @@ fn a_copied_directory_is_built_again(rt: HostRuntime) -> Result<(), Fail> {
 fn an_edit_without_a_change_changes_the_root(rt: HostRuntime) -> Result<(), Fail> {
     let alloc = rt.alloc();
     let mut disk = with_edit(alloc, with_one_file(alloc)?, NOTHING)?;
-    let listing = "revision 2\nD 2 /\nF 1 6 a\n";
-    assert!(rt; holds_second(alloc, &mut disk, ONE_FILE, BARE_ROOT, listing)?);
+    let dumped = [HEAD, IDENTITY, BARE_ROOT];
+    assert!(rt; comes(alloc, &mut disk, &done(&DUMP_TWO, &[], &dumped))?);
+    let history = [HEAD, ONE_FILE, BARE_ROOT];
+    assert!(rt; comes(alloc, &mut disk, &done(&LIST, &history, &[BARE_LISTED]))?);
     Ok(())
 }
