@@ -1,19 +1,40 @@
 //! A disk in a folder of the host.
-ghost use Rattle.std.specs.Prelude.{◌≡◌, ◌≤◌, ℕ, [], length, IfOk};
-ghost use Rattle.fleet_disk.specs.Host.{failures_of, HasFiles};
+ghost use Rattle.std.specs.Prelude.{◌≡◌, ◌≤◌, ⊤, ℕ, [], length, IfOk};
+ghost use Rattle.fleet_disk.specs.Host.{failures_of, HasFiles, IsHeld};
 ghost use Rattle.fleet_disk.specs.Image.{Image, no_bytes};
 ghost use Rattle.fleet_disk.specs.Rules.{Rose};
 
 use crate::disk::{Disk, DiskFault, DiskFile};
 use std::alloc::Global;
-use std::fs::{OpenFile, OpenOptions};
+use std::fs::{File, OpenFile, OpenOptions};
 use std::io;
 use std::io::{ErrorKind, Read, Seek, SeekFrom, Write};
 use std::rt::Files;
 
+/// A host's files, each of which one opening at a time may hold.
+pub trait HeldFiles: Files {
+    /// No other opening of the file is held, in this process or in another, until it is closed.
+    ghost is_held: { Self.File → Type 0 };
+
+    /// Holds a file. The host refuses where another opening holds it.
+    fn hold(&self, file: &Self::File) -> io::Result<()>
+        ensures { IfOk result (λ nothing. is_held file.now) };
+}
+
+/// As `flock` does it: an opening that is closed, its process killed or not, holds nothing.
+impl HeldFiles for HostRuntime {
+    // The library says nothing of what a host holds.
+    ghost is_held = { λ file. ⊤ };
+
+    fn hold(&self, file: &File) -> io::Result<()> {
+        Ok(file.try_lock()?)
+    }
+}
+
 /// The files `journal` and `gate` of a folder.
 ///
-/// A file that isn't there counts as empty until it is made. That such a disk keeps the rules is a premise that no
+/// While it is open nobody else has the folder: it holds the journal. A file that isn't there counts as empty until it is
+/// made, and isn't held. That such a disk keeps the rules is a premise that no
 /// contract shows, so what is said of an honest disk is said of it under that premise alone; that a refusal comes
 /// only where the count of failures rose holds of it as it is. A sync syncs the files that were written or cut since the
 /// last one, and at first both, for what an earlier process left.
@@ -32,28 +53,40 @@ struct HostFile<F> {
 }
 
 impl<F: Read + Write + Seek + OpenFile + Drop> HostDisk<F> {
-    /// Opens the files of a folder, and makes none. No failure is counted yet. The host or memory may refuse.
-    pub fn open<R: Files<File = F>>(rt: &R, alloc: Global, folder: &str) -> io::Result<HostDisk<F>>
+    /// Opens the files of a folder, and makes none. No failure is counted yet. The host refuses where the folder is in use;
+    /// it or memory may refuse besides.
+    pub fn open<R: HeldFiles<File = F>>(
+        rt: &R,
+        alloc: Global,
+        folder: &str,
+    ) -> io::Result<HostDisk<F>>
         ensures failures { IfOk result (λ disk. failures_of disk ≡ 0) }
+        ensures held { IfOk result (IsHeld R.is_held) }
     {
+        let journal = existing(rt, format!(in alloc; "{folder}/journal")?.as_str())?;
+        if let Some(HostFile { file, .. }) = &journal {
+            rt.hold(file)?;
+        }
         Ok(HostDisk {
-            journal: existing(rt, format!(in alloc; "{folder}/journal")?.as_str())?,
+            journal,
             gate: existing(rt, format!(in alloc; "{folder}/gate")?.as_str())?,
             failures: 0,
         })
     }
 
-    /// Opens the files of a folder, and makes those that are missing; both are open then. No failure is counted yet.
-    /// The host or memory may refuse.
-    pub fn create<R: Files<File = F>>(
+    /// Opens the files of a folder, and makes those that are missing; both are open then. No failure is counted yet. The
+    /// host refuses where the folder is in use; it or memory may refuse besides.
+    pub fn create<R: HeldFiles<File = F>>(
         rt: &R,
         alloc: Global,
         folder: &str,
     ) -> io::Result<HostDisk<F>>
         ensures failures { IfOk result (λ disk. failures_of disk ≡ 0) }
         ensures files { IfOk result HasFiles }
+        ensures held { IfOk result (IsHeld R.is_held) }
     {
         let journal = made(rt, format!(in alloc; "{folder}/journal")?.as_str())?;
+        rt.hold(&journal)?;
         let gate = made(rt, format!(in alloc; "{folder}/gate")?.as_str())?;
         // The names of new files last once the folder is synced.
         OpenOptions::new().read(true).open(rt, folder)?.sync_all()?;
@@ -216,7 +249,9 @@ fn sync_both<F: OpenFile>(
 }
 
 // What an earlier process wrote to it may not be synced.
-fn opened<F>(file: F) -> HostFile<F> {
+fn opened<F>(file: F) -> HostFile<F>
+    ensures { result.file ≡ file }
+{
     HostFile {
         file,
         is_synced: false,

@@ -26,7 +26,7 @@ mod memory;
 pub use call::{DiskCall, Pick};
 pub use disk::{Disk, DiskFault, DiskFile};
 pub use fuse::{Fuse, FuseDisk};
-pub use host::HostDisk;
+pub use host::{HeldFiles, HostDisk};
 pub use memory::MemDisk;
 
 #[cfg(test)]

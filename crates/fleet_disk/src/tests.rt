@@ -95,6 +95,23 @@ fn a_folder(rt: HostRuntime) -> Result<(), Fail> {
     Ok(())
 }
 
+// While a folder is open, nobody else has it.
+#[test]
+fn a_folder_in_use(rt: HostRuntime) -> Result<(), Fail> {
+    let folder = "fleet_disk_folder_in_use";
+    let _missing = fs::remove_dir_all(&rt, folder);
+    fs::create_dir(&rt, folder)?;
+    let mut disk = HostDisk::create(&rt, rt.alloc(), folder)?;
+    assert!(rt; HostDisk::open(&rt, rt.alloc(), folder).is_err());
+    assert!(rt; HostDisk::create(&rt, rt.alloc(), folder).is_err());
+    disk.write_at(DiskFile::Journal, 0, b"kept")?;
+    drop(disk);
+    let mut again = HostDisk::open(&rt, rt.alloc(), folder)?;
+    assert_eq!(rt; again.len(DiskFile::Journal)?, 4);
+    fs::remove_dir_all(&rt, folder)?;
+    Ok(())
+}
+
 #[test]
 fn a_fuse(rt: HostRuntime) -> Result<(), Fail> {
     round(

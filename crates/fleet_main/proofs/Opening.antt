@@ -6,7 +6,7 @@ use Rattle.fleet_disk.specs.declared.disk.Disk.{Ghosts}
 use Rattle.gate_log.specs.Standing.{HasNoEntry}
 use Rattle.node_base.specs.declared.refusal.Refusal.{Refusal}
 use Rattle.node_base.specs.declared.refusal.Refusal.TheVariants as refusal
-use Rattle.repo_store.specs.Journal.{IsDamaged, Keeps, ReopensAlike}
+use Rattle.repo_store.specs.Journal.{IsDamaged, Keeps, KeepsAlike}
 use Rattle.repo_store.specs.Words.{disk_of, repository_of, HasFailed}
 use Rattle.repo_store.specs.declared.store.RepoStore.{RepoStore}
 use Rattle.store_engines.specs.Refusals.{IsCreateRefusal, IsOpenRefusal}
@@ -39,7 +39,7 @@ store_not_begun (Err e) G disk may device there before now = begin_refused G.fai
 
 pub store_not_opened : {T D : Type 0} (r : Result T Refusal) (G : Ghosts D) (disk : D) (folder : List ℕ) → IfErr r IsOpenRefusal
     → IfErr r (λ e. (left : D) × (G.honest disk ↔ G.honest left) × (G.failures disk ≤ G.failures left) × (e ≡ refusal.DeviceFailed → Rose (G.failures disk) (G.failures left))
-    × (G.honest disk → LeavesOnly G.clock G.left_since disk left (λ image. G.may_leave disk image ⊎ ReopensAlike (G.reads disk) image)))
+    × (G.honest disk → LeavesOnly G.clock G.left_since disk left (λ image. G.may_leave disk image ⊎ KeepsAlike (G.reads disk) image)))
     → (G.honest disk → (entry : ℕ) → IfErr r (λ e. e ≡ refusal.Damaged entry → IsDamaged entry (G.reads disk))) → (G.honest disk → IfErr r (λ e. e ≡ refusal.NoRepository → HasNoEntry (G.reads disk)))
     → (before now : ℕ) → IfErr r (NotOpened (DiskFails G.failures before now) (G.honest disk) folder (G.reads disk))
 store_not_opened (Ok x) G disk folder may device bad missing before now = tt
@@ -82,7 +82,7 @@ all_opened_over (Err e) fails honest given folder held read o s h = opened_over 
 -- a store that is opened on the disk that a folder gives
 pub opened_in : {D : Type 0} (G : Ghosts D) (r : Result (RepoStore D G) Refusal) (honest : Type 0) (held : Image) (disk : D) → (honest → G.honest disk) → (honest → G.reads disk ≡ held)
     → (G.honest disk → IfOk r (λ store. Keeps (repository_of store) (G.reads disk))) → IfOk r (λ store. ¬ HasFailed store) → IfOk r (λ store. G.honest disk ↔ G.honest (disk_of store))
-    → (G.honest disk → IfOk r (λ store. LeavesOnly G.clock G.left_since disk (disk_of store) (λ image. G.may_leave disk image ⊎ ReopensAlike (G.reads disk) image)))
+    → (G.honest disk → IfOk r (λ store. LeavesOnly G.clock G.left_since disk (disk_of store) (λ image. G.may_leave disk image ⊎ KeepsAlike (G.reads disk) image)))
     → IfOk r (IsOpenedIn G honest held)
 opened_in G (Ok store) honest held disk o s keeps working rules moment = record {
   given = disk;
@@ -90,7 +90,7 @@ opened_in G (Ok store) honest held disk o s keeps working rules moment = record 
   keeps = λ h. subst (Keeps (repository_of store)) (s h) (keeps (o h));
   rules = λ h. rules.0 (o h);
   working = working;
-  any_moment = λ h. subst (λ read. LeavesOnly G.clock G.left_since disk (disk_of store) (λ image. G.may_leave disk image ⊎ ReopensAlike read image)) (s h) (moment (o h));
+  any_moment = λ h. subst (λ read. LeavesOnly G.clock G.left_since disk (disk_of store) (λ image. G.may_leave disk image ⊎ KeepsAlike read image)) (s h) (moment (o h));
 }
 opened_in G (Err e) honest held disk o s keeps working rules moment = tt
 

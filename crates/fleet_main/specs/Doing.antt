@@ -12,7 +12,7 @@ use Rattle.node_base.specs.PathText.{path_read}
 use Rattle.node_base.specs.declared.refusal.Refusal.{Refusal}
 use Rattle.node_base.specs.declared.refusal.Refusal.TheVariants as refusal
 use Rattle.repo_core.specs.Repository.{fresh}
-use Rattle.repo_store.specs.Journal.{Keeps, ReopensAlike}
+use Rattle.repo_store.specs.Journal.{Keeps, KeepsAlike}
 use Rattle.repo_store.specs.Words.{disk_of, repository_of, revisions_of, HasFailed}
 use Rattle.repo_store.specs.declared.store.RepoStore.{RepoStore}
 use Rattle.fleet_engines.specs.declared.product.Product.TheVariants as product
@@ -37,8 +37,8 @@ pub record IsOpenedIn {D : Type 0} (G : Ghosts D) (honest : Type 0) (held : Imag
   pub keeps : honest → Keeps (repository_of store) held
   pub rules : honest → G.honest (disk_of store)
   pub working : ¬ HasFailed store
-  -- a stop at any moment of the opening leaves what it could leave before, or what reopens to all that the bytes reopen to
-  pub any_moment : honest → LeavesOnly G.clock G.left_since given (disk_of store) (λ image. G.may_leave given image ⊎ ReopensAlike held image)
+  -- a stop at any moment of the opening leaves what it could leave before, or what keeps all that the bytes keep
+  pub any_moment : honest → LeavesOnly G.clock G.left_since given (disk_of store) (λ image. G.may_leave given image ⊎ KeepsAlike held image)
 
 -- a stop leaves what keeps the store's repository
 abbrev pub IsKept : {D : Type 0} {G : Ghosts D} → Type 0 → RepoStore D G → Type 0

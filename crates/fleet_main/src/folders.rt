@@ -4,14 +4,14 @@ ghost use Rattle.fleet_disk.specs.Host.{failures_of, HasFiles};
 ghost use Rattle.fleet_disk.specs.Image.{Image, no_bytes};
 ghost use Rattle.fleet_disk.specs.Rules.{Rose};
 ghost use Rattle.repo_core.specs.Repository.{fresh};
-ghost use Rattle.repo_store.specs.Journal.{ReopensTo};
+ghost use Rattle.repo_store.specs.Journal.{Keeps, ReopensTo};
 ghost use Rattle.repo_store.specs.Words.{disk_of, identity_of, repository_of, revisions_of, HasFailed};
 ghost use Rattle.fleet_main.specs.Above.{IsAbove};
 ghost use Rattle.fleet_main.specs.Doing.{IsOpenedIn};
 ghost use Rattle.fleet_main.specs.Host.{IsFaultOf, host_failures};
 ghost use Rattle.fleet_main.specs.Opening.{DiskFails, NotBegun, NotOpened, folder_refusal};
 
-use fleet_disk::{Disk, HostDisk};
+use fleet_disk::{Disk, HeldFiles, HostDisk};
 use node_base::Refusal;
 use repo_store::RepoStore;
 use std::alloc::Global;
@@ -71,7 +71,7 @@ pub struct HostFolders<'a, R> {
     failures: u64,
 }
 
-impl<'a, R: Files> HostFolders<'a, R> {
+impl<'a, R: HeldFiles> HostFolders<'a, R> {
     /// The host's folders, of which none has failed yet.
     pub fn new(rt: &'a R) -> HostFolders<'a, R>
         ensures { host_failures result ≡ 0 }
@@ -100,7 +100,7 @@ impl<'a, R: Files> HostFolders<'a, R> {
     }
 }
 
-impl<'a, R: Files> Folders for HostFolders<'a, R> {
+impl<'a, R: HeldFiles> Folders for HostFolders<'a, R> {
     type Place = HostDisk<R::File>;
 
     // Nothing shows it of the host.
@@ -150,7 +150,7 @@ fn make_folder<R: Files>(rt: &R, folder: &str) -> io::Result<()> {
 }
 
 // The files of a folder, both of which are made where they are missing.
-fn made<R: Files>(rt: &R, alloc: Global, folder: &str) -> io::Result<HostDisk<R::File>>
+fn made<R: HeldFiles>(rt: &R, alloc: Global, folder: &str) -> io::Result<HostDisk<R::File>>
     ensures unfailed { IfOk result (λ disk. failures_of disk ≡ 0) }
     ensures files { IfOk result HasFiles }
 {
@@ -181,7 +181,7 @@ pub fn created<F: Folders>(
     ensures working { IfOk result (λ store. ¬ HasFailed store) }
     ensures honest { F.honest folders.old → IfOk result (λ store. F.Place.honest (disk_of store)) }
     ensures empty { F.honest folders.old → IfOk result (λ _. F.holds folders.old folder.now ≡ no_bytes) }
-    ensures durable { F.honest folders.old → IfOk result (λ store. (left : Image) → F.Place.may_leave (disk_of store) left → ReopensTo identity (fresh identity).revisions left) }
+    ensures durable { F.honest folders.old → IfOk result (λ store. (left : Image) → F.Place.may_leave (disk_of store) left → Keeps (fresh identity) left) }
     ensures refused { IfErr result (NotBegun (DiskFails F.Place.failures (F.failures folders.old) (F.failures folders.new)) (F.honest folders.old) (F.holds folders.old folder.now)) }
     ensures no_peer { IfErr result (λ e. e ≡ Refusal.PeerFailed → ⊥) }
 {

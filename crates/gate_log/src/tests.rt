@@ -314,18 +314,19 @@ fn a_folder_of_the_host(rt: HostRuntime) -> Result<(), Fail> {
     let mut log = created(alloc, HostDisk::create(&rt, alloc, folder)?)?;
     assert_eq!(rt; log.append(b"first")?.entry(), 0);
     assert_eq!(rt; log.append(b"second")?.entry(), 1);
-    let _closed = log.into_disk();
+    drop(log.into_disk());
 
     let mut log = opened(alloc, HostDisk::open(&rt, alloc, folder)?)?;
     assert_eq!(rt; log.len(), 2);
     has_entries(&rt, alloc, &mut log)?;
+    drop(log.into_disk());
     assert_eq!(rt;
         created(alloc, HostDisk::create(&rt, alloc, folder)?).err(),
         Some(LogFault::ThereAlready)
     );
 
     // The second entry's length, 11, made 3.
-    let mut disk = log.into_disk();
+    let mut disk = HostDisk::open(&rt, alloc, folder)?;
     disk.write_at(DiskFile::Gate, 17, &[3])?;
     assert_eq!(rt; opened(alloc, disk).err(), Some(LogFault::Damaged(1)));
     fs::remove_dir_all(&rt, folder)?;

@@ -97,7 +97,8 @@ pub enum Refusal {
     HolderRunning(Vec<u8>),
     /// The source isn't the repository that the mirror was initialized from.
     WrongMaster,
-    /// The mirror's properties of its synchronisation fit no state. A number that is absent or misspelt is None.
+    /// The mirror's properties of its synchronisation fit no shape in which it rests. A number that is absent, misspelt or
+    /// 2^64 or more is None.
     Inconsistent {
         merged: Option<u64>,
         copying: Option<u64>,
@@ -109,7 +110,7 @@ pub enum Refusal {
     NotHolder,
     /// The master refused, with that text.
     MasterFailed(String),
-    /// A call of a synchronisation that isn't the next.
+    /// By the mirror's numbers it isn't this call's turn, or an answer fits no question of a job.
     OutOfTurn,
     /// Memory ran out.
     OutOfMemory,
@@ -289,7 +290,7 @@ fn write_told<T: fmt::Display, W: fmt::Write>(
     write!(f, "{before}{told}{after}")
 }
 
-/// Writes that a mirror's properties of its synchronisation fit no state.
+/// Writes that a mirror's properties of its synchronisation fit no shape in which it rests.
 fn write_inconsistent<W: fmt::Write>(
     merged: OrDash,
     copying: OrDash,

@@ -1,5 +1,5 @@
 -- What a first entry has.
-use Rattle.std.proofs.Common.{◌≡◌, ◌<◌, ◌≤◌, ◌+◌, ◌^◌, length-append, codes, length, ℕ, List, [], ◌∷◌, ◌++◌, Some, refl, sym, ap, subst, arith}
+use Rattle.std.proofs.Common.{◌≡◌, ◌<◌, ◌≤◌, ◌+◌, ◌^◌, length-append, codes, length, ℕ, List, [], ◌∷◌, ◌++◌, Some, ap, arith}
 use Rattle.std.specs.List.{flat_map}
 use Rattle.std.specs.FinMap as finite
 use Rattle.std.specs.Fmt.{decimal as printed}
@@ -10,8 +10,7 @@ use Rattle.node_base.specs.BlockCanon.{canon_block, canon_property}
 use Rattle.node_base.specs.BlockGrammar.{block_end}
 use Rattle.node_base.proofs.PropLemmas.{entries_none}
 use Rattle.dump_text.specs.Canon.{canon_head, canon_entry, header_line}
-use Rattle.repo_core.specs.Repository.{Repository, fresh}
-use Rattle.repo_store.specs.Journal.{IsBeginning, StandsFor}
+use Rattle.repo_store.specs.Journal.{IsBeginning}
 
 head_size : (id : List ℕ) → length (canon_head (Some id)) ≤ 200
 head_size id = omega (arith, length-append (hyphenated_text lower id) (10 ∷ 10 ∷ []), id_size)
@@ -56,10 +55,3 @@ beginning_size bytes id is =
     let whole = ap length is.canonical in
     let both = length-append (canon_head (Some id)) (canon_entry 0 finite.empty) in
     (omega (arith, whole, both), omega (arith, whole, both, head_size id, entry_size))
-
--- and stands for the repository as it begins
-pub begins_fresh : (bytes id : List ℕ) (entries : List (List ℕ)) (r : Repository) → IsBeginning bytes id finite.empty → entries ≡ bytes ∷ [] → r ≡ fresh id → StandsFor entries r.identity r.revisions
-begins_fresh bytes id entries r is one new =
-    let there : StandsFor (bytes ∷ []) id (fresh id).revisions = (finite.empty, is, refl) in
-    let those = subst (λ (l : List (List ℕ)). StandsFor l id (fresh id).revisions) (sym one) there in
-    subst (λ (x : Repository). StandsFor entries x.identity x.revisions) (sym new) those

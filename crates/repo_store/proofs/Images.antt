@@ -1,43 +1,17 @@
 -- What images reopen to.
-use Rattle.std.proofs.Common.{◌≡◌, ◌⊎◌, ℕ, List, [], ◌∷◌, ◌++◌, sym, ap, subst, inl, inr, arith}
+use Rattle.std.proofs.Common.{◌≡◌, ◌⊎◌, ℕ, List, sym, subst, inl, inr, arith}
 use Rattle.std.proofs.Math.Logic.{∥∥₁_map}
 use Rattle.fleet_disk.specs.Image.{Image}
 use Rattle.fleet_disk.specs.Rules.{LeavesOnly}
-use Rattle.gate_log.specs.Standing.{Stands, IsEither}
+use Rattle.gate_log.specs.Standing.{Stands}
 use Rattle.repo_core.specs.Repository.{Revision}
-use Rattle.repo_core.specs.Entries.{with_entry}
 use Rattle.repo_core.specs.Staging.{StagedEntry, IsReady}
-use Rattle.repo_core.specs.declared.entry.Entry.{Entry}
-use Rattle.repo_store.specs.Journal.{HasSet, Spells, Takes, Continues, StandsFor, ReopensTo, IsBeforeOrAfter}
-
--- one entry more behind those that are taken
-continues_more : (x y : List Revision) (entries : List (List ℕ)) (bytes : List ℕ) (e : Entry)
-    → Continues x entries y → Spells bytes e → Takes y e → Continues x (entries ++ bytes ∷ []) (with_entry y e)
-continues_more x y [] bytes e same spells takes = (e, spells, subst (λ (z : List Revision). Takes z e) same takes, ap (λ (z : List Revision). with_entry z e) same)
-continues_more x y (b ∷ rest) bytes e (f, s, t, more) spells takes = (f, s, t, continues_more (with_entry x f) y rest bytes e more spells takes)
-
--- one entry more behind those of a repository
-pub stands_more : (entries : List (List ℕ)) (identity : List ℕ) (x : List Revision) (bytes : List ℕ) (e : Entry)
-    → StandsFor entries identity x → Spells bytes e → Takes x e → StandsFor (entries ++ bytes ∷ []) identity (with_entry x e)
-stands_more [] identity x bytes e none spells takes = absurd none
-stands_more (first ∷ rest) identity x bytes e (props, begins, more) spells takes = (props, begins, continues_more _ x rest bytes e more spells takes)
+use Rattle.repo_store.specs.Journal.{HasSet, Takes, StandsFor, ReopensTo}
 
 -- an image in which the entries stand reopens
 pub reopened : (entries : List (List ℕ)) (identity : List ℕ) (x : List Revision) (image : Image)
     → ∥ StandsFor entries identity x ∥₁ → Stands image entries → ReopensTo identity x image
 reopened entries identity x image known stands = ∥∥₁_map known (λ s. (entries, stands, s))
-
--- so does one with the new entry, or without it
-pub either_reopens : (entries : List (List ℕ)) (identity : List ℕ) (x : List Revision) (bytes : List ℕ) (e : Entry) (image : Image)
-    → ∥ StandsFor entries identity x ∥₁ → Spells bytes e → Takes x e → IsEither entries bytes image → IsBeforeOrAfter identity x e image
-either_reopens entries identity x bytes e image known spells takes (inl old) = inl (reopened entries identity x image known old)
-either_reopens entries identity x bytes e image known spells takes (inr new) =
-    inr (∥∥₁_map known (λ s. (entries ++ bytes ∷ [], new, stands_more entries identity x bytes e s spells takes)))
-
-pub after_reopens : (entries : List (List ℕ)) (identity : List ℕ) (x : List Revision) (bytes : List ℕ) (e : Entry) (image : Image)
-    → ∥ StandsFor entries identity x ∥₁ → Spells bytes e → Takes x e → Stands image (entries ++ bytes ∷ []) → ReopensTo identity (with_entry x e) image
-after_reopens entries identity x bytes e image known spells takes new =
-    ∥∥₁_map known (λ s. (entries ++ bytes ∷ [], new, stands_more entries identity x bytes e s spells takes))
 
 -- what is ready is taken
 pub takes_of : (x : List Revision) (s : StagedEntry) → IsReady x s → HasSet s.entry → Takes x s.entry

@@ -5,24 +5,24 @@ use Rattle.fleet_disk.specs.Image.{Image}
 use Rattle.gate_log.specs.Faults.{IsFindFault}
 use Rattle.gate_log.specs.Standing.{Stands, StandsAlike, HasNoEntry}
 use Rattle.gate_log.proofs.Alike.{one_list}
-use Rattle.repo_core.specs.Repository.{Revision}
+use Rattle.repo_core.specs.Repository.{Repository, Revision}
 use Rattle.gate_log.specs.declared.fault.LogFault.{LogFault}
 use Rattle.gate_log.specs.declared.fault.LogFault.TheVariants.{DeviceFailed, Failed, Damaged, NoRepository, ThereAlready, LogFull, OutOfMemory}
 use Rattle.repo_store.specs.declared.fault.StoreFault.{StoreFault}
 use Rattle.repo_store.specs.declared.fault.StoreFault.TheVariants.{Repo, Log}
-use Rattle.repo_store.specs.Journal.{StandsFor, ReopensTo, ReopensAlike, IsDamaged}
+use Rattle.repo_store.specs.Journal.{Tell, ReopensTo, KeepsAlike, IsDamaged}
 use Rattle.repo_store.specs.Refusals.{IsReplayFault}
 use Rattle.repo_store.specs.Verdicts.{NotDamaged, NotMissing, OneDamage, DamageNotMissing}
 
-moved : (first image : Image) (entries : List (List ℕ)) (identity : List ℕ) (x : List Revision) → Stands first entries → Stands image entries
-    → (others : List (List ℕ)) × Stands first others × StandsFor others identity x → (others : List (List ℕ)) × Stands image others × StandsFor others identity x
-moved first image entries identity x old new (others, there, s) = (entries, new, subst (λ (l : List (List ℕ)). StandsFor l identity x) (one_list first others entries there old) s)
+moved : (first image : Image) (entries : List (List ℕ)) (r : Repository) → Stands first entries → Stands image entries
+    → (others : List (List ℕ)) × Stands first others × Tell others r → (others : List (List ℕ)) × Stands image others × Tell others r
+moved first image entries r old new (others, there, s) = (entries, new, subst (λ (l : List (List ℕ)). Tell l r) (one_list first others entries there old) s)
 
--- images of the same entries reopen alike
-pub alike : (first image : Image) (entries : List (List ℕ)) → Stands first entries → Stands image entries → ReopensAlike first image
-alike first image entries old new identity x known = ∥∥₁_map known (moved first image entries identity x old new)
+-- images of the same entries keep the same
+pub alike : (first image : Image) (entries : List (List ℕ)) → Stands first entries → Stands image entries → KeepsAlike first image
+alike first image entries old new r known = ∥∥₁_map known (moved first image entries r old new)
 
-pub alike_or : {P : Type 0} (first image : Image) → P ⊎ StandsAlike first image → P ⊎ ReopensAlike first image
+pub alike_or : {P : Type 0} (first image : Image) → P ⊎ StandsAlike first image → P ⊎ KeepsAlike first image
 alike_or first image (inl p) = inl p
 alike_or first image (inr (entries, old, new)) = inr (alike first image entries old new)
 

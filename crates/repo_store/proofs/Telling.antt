@@ -1,5 +1,5 @@
 -- The repository that a journal's entries tell.
-use Rattle.std.proofs.Common.{◌≡◌, ◌+◌, ℕ, List, [], ◌∷◌, ◌++◌, map, take, slice_get, Option, Some, refl, sym, ◌∙◌, ap, subst, arith}
+use Rattle.std.proofs.Common.{◌≡◌, ◌+◌, ℕ, List, [], ◌∷◌, ◌++◌, map, take, slice_get, Option, Some, refl, sym, ◌∙◌, ap, subst, inl, inr, arith}
 use Rattle.std.proofs.Math.Logic.{∥∥₁_map, ∥∥₁_elim}
 use Rattle.std.proofs.lemmas.List.{map-append}
 use Rattle.std.proofs.lemmas.Option.{slice_get-map}
@@ -13,7 +13,7 @@ use Rattle.node_base.specs.declared.node.Action.{Action}
 use Rattle.node_base.specs.declared.node.Action.TheVariants.{Modify, Add, Delete, Replace}
 use Rattle.node_base.specs.declared.node.NodeKind.{NodeKind}
 use Rattle.fleet_disk.specs.Image.{Image}
-use Rattle.gate_log.specs.Standing.{Stands}
+use Rattle.gate_log.specs.Standing.{Stands, IsEither}
 use Rattle.gate_log.specs.Verdicts.{OneList}
 use Rattle.dump_text.specs.Canon.{canon_entry, canon_node, told_kind}
 use Rattle.dump_text.specs.Laws.{DumpsAreRead}
@@ -24,8 +24,8 @@ use Rattle.repo_core.specs.Repository.{Repository, Revision, fresh}
 use Rattle.repo_core.specs.Entries.{with_entry, with_entry_in, with_set}
 use Rattle.repo_core.specs.declared.entry.Entry.{Entry}
 use Rattle.repo_core.specs.declared.entry.Entry.TheVariants.{Revised, Mapped}
-use Rattle.repo_store.specs.Journal.{IsBeginning, Spells, Takes, Continues, StandsFor, Leads, Tell, Keeps, IsExport, begun, spelling}
-use Rattle.repo_store.specs.Verdicts.{KeptReopens, OneText}
+use Rattle.repo_store.specs.Journal.{IsBeginning, Spells, Takes, Continues, StandsFor, Leads, Tell, Keeps, IsBeforeOrAfter, IsExport, begun, spelling}
+use Rattle.repo_store.specs.Verdicts.{KeptReopens, ReopensKept, OneText}
 use Rattle.repo_store.proofs.Going.{take_got}
 use Rattle.repo_store.proofs.OneImage.{one_spelled, one_entry, one_journal}
 use Rattle.repo_store.proofs.Reading.{beginning_read, one_dump, one_beginning}
@@ -79,8 +79,38 @@ told_stands (first ∷ rest) r (props, begins, more) = (props, begins, leads_con
 pub kept : (entries : List (List ℕ)) (r : Repository) (image : Image) → ∥ Tell entries r ∥₁ → Stands image entries → Keeps r image
 kept entries r image known stands = ∥∥₁_map known (λ s. (entries, stands, s))
 
+-- so does one with one entry more
+pub after_kept : (entries : List (List ℕ)) (r : Repository) (bytes : List ℕ) (e : Entry) (image : Image)
+    → ∥ Tell entries r ∥₁ → Spells bytes e → Takes r.revisions e → Stands image (entries ++ bytes ∷ []) → Keeps (with_entry_in r e) image
+after_kept entries r bytes e image known spells takes new = ∥∥₁_map known (λ s. (entries ++ bytes ∷ [], new, tell_more entries r bytes e s spells takes))
+
+-- or with it, or without it
+pub either_kept : (entries : List (List ℕ)) (r : Repository) (bytes : List ℕ) (e : Entry) (image : Image)
+    → ∥ Tell entries r ∥₁ → Spells bytes e → Takes r.revisions e → IsEither entries bytes image → IsBeforeOrAfter r e image
+either_kept entries r bytes e image known spells takes (inl old) = inl (kept entries r image known old)
+either_kept entries r bytes e image known spells takes (inr new) = inr (after_kept entries r bytes e image known spells takes new)
+
 pub kept_reopens : KeptReopens
 kept_reopens image r known = ∥∥₁_map known (λ s. (s.0, s.1, told_stands s.0 r s.2))
+
+leads_of : (r : Repository) (entries : List (List ℕ)) (y : List Revision) → Continues r.revisions entries y → (s : Repository) × Leads r entries s × (s.identity ≡ r.identity) × (s.revisions ≡ y)
+leads_of r [] y same = (r, refl, refl, sym same)
+leads_of r (bytes ∷ rest) y (e, spells, takes, more) =
+    let (s, leads, one, is) = leads_of (with_entry_in r e) rest y more in
+    (s, (e, spells, takes, leads), one, is)
+
+-- entries that stand for revisions tell a repository of these
+told_of : (entries : List (List ℕ)) (identity : List ℕ) (x : List Revision) → StandsFor entries identity x → (r : Repository) × Tell entries r × (r.identity ≡ identity) × (r.revisions ≡ x)
+told_of [] identity x none = absurd none
+told_of (first ∷ rest) identity x (props, begins, more) =
+    let (s, leads, one, is) = leads_of (with_entry_in (fresh identity) (Mapped 0 props)) rest x more in
+    let tell : (id : List ℕ) → id ≡ identity → (props : PropMap) × IsBeginning first id props × Leads (with_entry_in (fresh id) (Mapped 0 props)) rest s =
+        λ id same. subst (λ (i : List ℕ). (props : PropMap) × IsBeginning first i props × Leads (with_entry_in (fresh i) (Mapped 0 props)) rest s) (sym same) (props, begins, leads) in
+    (s, tell s.identity one, one, is)
+
+pub reopens_kept : ReopensKept
+reopens_kept image identity x known =
+    ∥∥₁_map known (λ s. let (r, tell, one, is) = told_of s.0 identity x s.2 in (r, one, is, ∣ (s.0, s.1, tell) ∣₁))
 
 -- ---- one text
 

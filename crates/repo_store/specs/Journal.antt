@@ -87,13 +87,13 @@ Keeps r image = ∥ ((entries : List (List ℕ)) × Stands image entries × Tell
 abbrev pub ReopensTo : List ℕ → List Revision → Image → Type 0
 ReopensTo identity x image = ∥ ((entries : List (List ℕ)) × Stands image entries × StandsFor entries identity x) ∥₁
 
--- to the one before an entry, or to the one after it
-abbrev pub IsBeforeOrAfter : List ℕ → List Revision → Entry → Image → Type 0
-IsBeforeOrAfter identity x e image = ReopensTo identity x image ⊎ ReopensTo identity (with_entry x e) image
+-- an image keeps the repository before an entry, or the one after it
+abbrev pub IsBeforeOrAfter : Repository → Entry → Image → Type 0
+IsBeforeOrAfter r e image = Keeps r image ⊎ Keeps (with_entry_in r e) image
 
--- an image reopens to whatever the first reopens to
-abbrev pub ReopensAlike : Image → Image → Type 0
-ReopensAlike first image = (identity : List ℕ) (x : List Revision) → ReopensTo identity x first → ReopensTo identity x image
+-- an image keeps whatever the first keeps
+abbrev pub KeepsAlike : Image → Image → Type 0
+KeepsAlike first image = (r : Repository) → Keeps r first → Keeps r image
 
 -- the canonical text of a revision: the set that made its tree, and the properties that it has now
 abbrev pub IsExport : Repository → ℕ → List ℕ → Type 0

@@ -17,6 +17,10 @@ OneRepository = (image : Image) (identity other : List ℕ) (x y : List Revision
 abbrev pub KeptReopens : Type 0
 KeptReopens = (image : Image) (r : Repository) → Keeps r image → ReopensTo r.identity r.revisions image
 
+-- and keeps one of those that it reopens to
+abbrev pub ReopensKept : Type 0
+ReopensKept = (image : Image) (identity : List ℕ) (x : List Revision) → ReopensTo identity x image → ∥ ((r : Repository) × (r.identity ≡ identity) × (r.revisions ≡ x) × Keeps r image) ∥₁
+
 -- a revision of what an image keeps has one text: that of an export before a stop and of one after it
 abbrev pub OneText : Type 0
 OneText = (image : Image) (r s : Repository) (n : ℕ) (a b : List ℕ) → Keeps r image → Keeps s image → IsExport r n a → IsExport s n b → a ≡ b

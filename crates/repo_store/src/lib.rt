@@ -13,10 +13,10 @@
 //! let text = store.export(alloc, committed.number)?;
 //! ```
 //!
-//! At each moment since a call began, a stop leaves an image that reopens to the repository before the call or after it;
-//! once the call has answered Ok, to the one after it. An image reopens to one repository at most. Opening gives that one,
-//! with the sets of changes that its entries tell, so that after a stop between two calls each revision is exported as it was
-//! before; it answers 33 for the first entry that is damaged, and only there.
+//! At each moment since a call began, a stop leaves an image that keeps the repository before the call or after it; once the
+//! call has answered Ok, the one after it. An image reopens to one repository at most. Opening gives that one, with the sets
+//! of changes that its entries tell, so that after a stop at any moment each revision is exported as it was before the call
+//! or is after it; it answers 33 for the first entry that is damaged, and only there.
 #![tactic(auto)]
 
 pub use committed::Committed;

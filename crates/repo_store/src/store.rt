@@ -11,11 +11,11 @@ ghost use Rattle.dump_load.specs.Faults.{first_of};
 ghost use Rattle.repo_core.specs.Repository.{Revision, fresh, props_at};
 ghost use Rattle.repo_core.specs.Dates.{dated};
 ghost use Rattle.repo_core.specs.declared.entry.Entry.TheVariants.{Revised, Mapped};
-ghost use Rattle.repo_core.specs.Entries.{with_entry, with_entry_in};
+ghost use Rattle.repo_core.specs.Entries.{with_entry_in};
 ghost use Rattle.repo_core.specs.Staging.{IsReady};
 ghost use Rattle.repo_core.specs.Refusals.{commit_fault, change_fault, by_repository, with_value, IsDue};
 ghost use Rattle.repo_store.specs.Forms.{form_fault, HasForm};
-ghost use Rattle.repo_store.specs.Journal.{spelling, beginning_of, HasSet, Tell, Keeps, ReopensTo, IsBeforeOrAfter, IsDamaged, IsExport, IsBeginning, ReopensAlike};
+ghost use Rattle.repo_store.specs.Journal.{spelling, beginning_of, HasSet, Tell, Keeps, ReopensTo, IsBeforeOrAfter, IsDamaged, IsExport, IsBeginning, KeepsAlike};
 ghost use Rattle.repo_store.specs.Refusals.{IsStageFault, IsStoreFault, IsCreateFault, IsOpenFault};
 ghost use Rattle.repo_store.specs.declared.fault.StoreFault.TheVariants as refusal;
 ghost use Rattle.gate_log.specs.declared.log.Receipt.{Receipt as ReceiptOf};
@@ -48,12 +48,12 @@ impl<D: Disk> RepoStore<D> {
     ghost use Rattle.repo_store.specs.Words.{log_of, disk_of, repository_of, revisions_of, identity_of, entry_in, HasFailed, IsReadyFor};
 
     /// Begins a repository of revision 0 alone, without properties, on a disk of two empty files; from Ok on a stop leaves
-    /// what reopens to it. ThereAlready (35) where a file isn't empty, DeviceFailed (31), OutOfMemory (70); a refusal hands
+    /// what keeps it. ThereAlready (35) where a file isn't empty, DeviceFailed (31), OutOfMemory (70); a refusal hands
     /// the disk back. What a stop leaves before Ok isn't said.
     pub fn create(alloc: Global, disk: D, identity: Uuid) -> Result<RepoStore<D>, (StoreFault, D)>
         ensures made { IfOk result (λ store. repository_of store ≡ fresh identity) }
         ensures working { IfOk result (λ store. ¬ HasFailed store) }
-        ensures durable { D.honest disk → IfOk result (λ store. (image : Image) → D.may_leave (disk_of store) image → ReopensTo identity (fresh identity).revisions image) }
+        ensures durable { D.honest disk → IfOk result (λ store. (image : Image) → D.may_leave (disk_of store) image → Keeps (fresh identity) image) }
         ensures empty { D.honest disk → OnOk result (D.reads disk ≡ no_bytes) }
         ensures there { D.honest disk → IfErr result (λ e. e.0 ≡ refusal.Log log.ThereAlready → D.reads disk ≢ no_bytes) }
         ensures device { IfErr result (λ e. e.0 ≡ refusal.Log log.DeviceFailed → Rose (D.failures disk) (D.failures e.1)) }
@@ -85,7 +85,7 @@ impl<D: Disk> RepoStore<D> {
         ensures stands { D.honest disk → IfOk result (λ store. ReopensTo (identity_of store) (revisions_of store) (D.reads disk)) }
         ensures keeps { D.honest disk → IfOk result (λ store. Keeps (repository_of store) (D.reads disk)) }
         ensures working { IfOk result (λ store. ¬ HasFailed store) }
-        ensures durable { D.honest disk → IfOk result (λ store. (image : Image) → D.may_leave (disk_of store) image → ReopensTo (identity_of store) (revisions_of store) image) }
+        ensures durable { D.honest disk → IfOk result (λ store. (image : Image) → D.may_leave (disk_of store) image → Keeps (repository_of store) image) }
         ensures found { D.honest disk → (identity : List ℕ) (x : List Revision) → ReopensTo identity x (D.reads disk)
             → IfOk result (λ store. (identity_of store ≡ identity) × (revisions_of store ≡ x)) }
         ensures refused { D.honest disk → (identity : List ℕ) (x : List Revision) → ReopensTo identity x (D.reads disk)
@@ -98,9 +98,9 @@ impl<D: Disk> RepoStore<D> {
         ensures device { IfErr result (λ e. e.0 ≡ refusal.Log log.DeviceFailed → Rose (D.failures disk) (D.failures e.1)) }
         ensures no_other { IfErr result (λ e. IsOpenFault e.0) }
         ensures any_moment { D.honest disk → IfOk result (λ store. LeavesOnly D.clock D.left_since disk (disk_of store)
-            (λ c. D.may_leave disk c ⊎ ReopensAlike (D.reads disk) c)) }
+            (λ c. D.may_leave disk c ⊎ KeepsAlike (D.reads disk) c)) }
         ensures any_moment_err { D.honest disk → IfErr result (λ e. LeavesOnly D.clock D.left_since disk e.1
-            (λ c. D.may_leave disk c ⊎ ReopensAlike (D.reads disk) c)) }
+            (λ c. D.may_leave disk c ⊎ KeepsAlike (D.reads disk) c)) }
         ensures honest { IfOk result (λ store. D.honest disk ↔ D.honest (disk_of store)) }
         ensures honest_err { IfErr result (λ e. D.honest disk ↔ D.honest e.1) }
         ensures later { IfOk result (λ store. D.failures disk ≤ D.failures (disk_of store)) }
@@ -288,11 +288,11 @@ impl<D: Disk> RepoStore<D> {
         ensures made { OnOk result (repository_of self.new ≡ with_entry_in (repository_of self.old) (entry_in staged)) }
         ensures same { OnErr result (repository_of self.new ≡ repository_of self.old) }
         ensures durable { D.honest (disk_of self.old) → OnOk result ((image : Image) → D.may_leave (disk_of self.new) image
-            → ReopensTo (identity_of self.old) (with_entry (revisions_of self.old) (entry_in staged)) image) }
+            → Keeps (with_entry_in (repository_of self.old) (entry_in staged)) image) }
         ensures any_moment { D.honest (disk_of self.old) → LeavesOnly D.clock D.left_since (disk_of self.old) (disk_of self.new)
-            (IsBeforeOrAfter (identity_of self.old) (revisions_of self.old) (entry_in staged)) }
+            (IsBeforeOrAfter (repository_of self.old) (entry_in staged)) }
         ensures either { D.honest (disk_of self.old) → IsErr result → (image : Image) → D.may_leave (disk_of self.new) image
-            → IsBeforeOrAfter (identity_of self.old) (revisions_of self.old) (entry_in staged) image }
+            → IsBeforeOrAfter (repository_of self.old) (entry_in staged) image }
         ensures device { IfErr result (λ e. (e ≡ refusal.Log log.DeviceFailed) × Rose (D.failures (disk_of self.old)) (D.failures (disk_of self.new))) }
         ensures working { HasFailed self.new ↔ IsErr result }
         ensures honest { D.honest (disk_of self.old) ↔ D.honest (disk_of self.new) }
@@ -321,11 +321,11 @@ impl<D: Disk> RepoStore<D> {
         ensures made { OnOk result (repository_of self.new ≡ with_entry_in (repository_of self.old) (Revised (length (revisions_of self.old)) set (dated props moment))) }
         ensures same { OnErr result (repository_of self.new ≡ repository_of self.old) }
         ensures durable { D.honest (disk_of self.old) → OnOk result ((image : Image) → D.may_leave (disk_of self.new) image
-            → ReopensTo (identity_of self.old) (with_entry (revisions_of self.old) (Revised (length (revisions_of self.old)) set (dated props moment))) image) }
+            → Keeps (with_entry_in (repository_of self.old) (Revised (length (revisions_of self.old)) set (dated props moment))) image) }
         ensures any_moment { D.honest (disk_of self.old) → ¬ HasFailed self.old → LeavesOnly D.clock D.left_since (disk_of self.old) (disk_of self.new)
-            (IsBeforeOrAfter (identity_of self.old) (revisions_of self.old) (Revised (length (revisions_of self.old)) set (dated props moment))) }
+            (IsBeforeOrAfter (repository_of self.old) (Revised (length (revisions_of self.old)) set (dated props moment))) }
         ensures either { D.honest (disk_of self.old) → IsErrOf result (refusal.Log log.DeviceFailed) → (image : Image) → D.may_leave (disk_of self.new) image
-            → IsBeforeOrAfter (identity_of self.old) (revisions_of self.old) (Revised (length (revisions_of self.old)) set (dated props moment)) image }
+            → IsBeforeOrAfter (repository_of self.old) (Revised (length (revisions_of self.old)) set (dated props moment)) image }
         ensures untouched { IfErr result (λ e. (e ≡ refusal.Log log.DeviceFailed) ⊎ ((disk_of self.new ≡ disk_of self.old) × (ends_of (log_of self.new) ≡ ends_of (log_of self.old)))) }
         ensures device { IsErrOf result (refusal.Log log.DeviceFailed) → Rose (D.failures (disk_of self.old)) (D.failures (disk_of self.new)) }
         ensures failed { IsErrOf result (refusal.Log log.Failed) ↔ HasFailed self.old }
@@ -358,11 +358,11 @@ impl<D: Disk> RepoStore<D> {
         ensures made { OnOk result (repository_of self.new ≡ with_entry_in (repository_of self.old) (Mapped number (with_value (props_at (revisions_of self.old) number) name.now (option_copied value.entry)))) }
         ensures same { OnErr result (repository_of self.new ≡ repository_of self.old) }
         ensures durable { D.honest (disk_of self.old) → OnOk result ((image : Image) → D.may_leave (disk_of self.new) image
-            → ReopensTo (identity_of self.old) (with_entry (revisions_of self.old) (Mapped number (with_value (props_at (revisions_of self.old) number) name.now (option_copied value.entry)))) image) }
+            → Keeps (with_entry_in (repository_of self.old) (Mapped number (with_value (props_at (revisions_of self.old) number) name.now (option_copied value.entry)))) image) }
         ensures any_moment { D.honest (disk_of self.old) → ¬ HasFailed self.old → LeavesOnly D.clock D.left_since (disk_of self.old) (disk_of self.new)
-            (IsBeforeOrAfter (identity_of self.old) (revisions_of self.old) (Mapped number (with_value (props_at (revisions_of self.old) number) name.now (option_copied value.entry)))) }
+            (IsBeforeOrAfter (repository_of self.old) (Mapped number (with_value (props_at (revisions_of self.old) number) name.now (option_copied value.entry)))) }
         ensures either { D.honest (disk_of self.old) → IsErrOf result (refusal.Log log.DeviceFailed) → (image : Image) → D.may_leave (disk_of self.new) image
-            → IsBeforeOrAfter (identity_of self.old) (revisions_of self.old) (Mapped number (with_value (props_at (revisions_of self.old) number) name.now (option_copied value.entry))) image }
+            → IsBeforeOrAfter (repository_of self.old) (Mapped number (with_value (props_at (revisions_of self.old) number) name.now (option_copied value.entry))) image }
         ensures untouched { IfErr result (λ e. (e ≡ refusal.Log log.DeviceFailed) ⊎ ((disk_of self.new ≡ disk_of self.old) × (ends_of (log_of self.new) ≡ ends_of (log_of self.old)))) }
         ensures device { IsErrOf result (refusal.Log log.DeviceFailed) → Rose (D.failures (disk_of self.old)) (D.failures (disk_of self.new)) }
         ensures failed { IsErrOf result (refusal.Log log.Failed) ↔ HasFailed self.old }
@@ -391,11 +391,11 @@ impl<D: Disk> RepoStore<D> {
         ensures made { OnOk result (repository_of self.new ≡ with_entry_in (repository_of self.old) (Mapped number props)) }
         ensures same { OnErr result (repository_of self.new ≡ repository_of self.old) }
         ensures durable { D.honest (disk_of self.old) → OnOk result ((image : Image) → D.may_leave (disk_of self.new) image
-            → ReopensTo (identity_of self.old) (with_entry (revisions_of self.old) (Mapped number props)) image) }
+            → Keeps (with_entry_in (repository_of self.old) (Mapped number props)) image) }
         ensures any_moment { D.honest (disk_of self.old) → ¬ HasFailed self.old → LeavesOnly D.clock D.left_since (disk_of self.old) (disk_of self.new)
-            (IsBeforeOrAfter (identity_of self.old) (revisions_of self.old) (Mapped number props)) }
+            (IsBeforeOrAfter (repository_of self.old) (Mapped number props)) }
         ensures either { D.honest (disk_of self.old) → IsErrOf result (refusal.Log log.DeviceFailed) → (image : Image) → D.may_leave (disk_of self.new) image
-            → IsBeforeOrAfter (identity_of self.old) (revisions_of self.old) (Mapped number props) image }
+            → IsBeforeOrAfter (repository_of self.old) (Mapped number props) image }
         ensures untouched { IfErr result (λ e. (e ≡ refusal.Log log.DeviceFailed) ⊎ ((disk_of self.new ≡ disk_of self.old) × (ends_of (log_of self.new) ≡ ends_of (log_of self.old)))) }
         ensures device { IsErrOf result (refusal.Log log.DeviceFailed) → Rose (D.failures (disk_of self.old)) (D.failures (disk_of self.new)) }
         ensures failed { IsErrOf result (refusal.Log log.Failed) ↔ HasFailed self.old }

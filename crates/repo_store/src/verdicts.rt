@@ -1,5 +1,5 @@
 //! The law that an opening finds one thing in each image.
-ghost use Rattle.repo_store.specs.Verdicts.{OneJournal, OneRepository, KeptReopens, OneText, NotDamaged, NotMissing, OneDamage, DamageNotMissing};
+ghost use Rattle.repo_store.specs.Verdicts.{OneJournal, OneRepository, KeptReopens, ReopensKept, OneText, NotDamaged, NotMissing, OneDamage, DamageNotMissing};
 
 use dump_text::law::dumps_are_read;
 
@@ -11,6 +11,7 @@ pub fn one_verdict()
     ensures one_journal { OneJournal }
     ensures one_repository { OneRepository }
     ensures kept_reopens { KeptReopens }
+    ensures reopens_kept { ReopensKept }
     ensures one_text { OneText }
     ensures not_damaged { NotDamaged }
     ensures not_missing { NotMissing }

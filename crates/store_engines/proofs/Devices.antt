@@ -15,22 +15,21 @@ use Rattle.fleet_disk.proofs.Moments.{started, joined, weaker}
 use Rattle.gate_log.specs.Log.{size_of, ends_of}
 use Rattle.gate_log.specs.Standing.{last_end}
 use Rattle.gate_log.specs.declared.fault.LogFault.TheVariants as log
-use Rattle.repo_core.specs.Entries.{revisions_after, with_entry, with_entry_in}
+use Rattle.repo_core.specs.Entries.{revisions_after, with_entry_in}
 use Rattle.repo_core.specs.declared.entry.Entry.{Entry}
 use Rattle.repo_core.specs.Refusals.{IsDue}
-use Rattle.repo_core.specs.Repository.{Repository, Revision}
+use Rattle.repo_core.specs.Repository.{Repository}
 use Rattle.repo_core.specs.declared.fault.RepoFault.{RepoFault}
 use Rattle.repo_core.specs.declared.fault.RepoFault.TheVariants as core
-use Rattle.repo_core.proofs.LawsOf.{entries_join}
-use Rattle.repo_store.specs.Journal.{spelling, ReopensTo, IsBeforeOrAfter}
+use Rattle.repo_store.specs.Journal.{spelling, Keeps, IsBeforeOrAfter}
 use Rattle.repo_store.specs.Refusals.{IsReserveFault, IsStageFault, IsStoreFault}
-use Rattle.repo_store.specs.Words.{disk_of, log_of, identity_of, revisions_of, repository_of, HasFailed}
+use Rattle.repo_store.specs.Words.{disk_of, log_of, repository_of, HasFailed}
 use Rattle.repo_store.specs.declared.store.RepoStore.{RepoStore}
 use Rattle.repo_store.specs.declared.fault.StoreFault.{StoreFault}
 use Rattle.repo_store.specs.declared.fault.StoreFault.TheVariants.{Repo, Log}
 use Rattle.repo_store.proofs.Going.{rose_on}
 use Rattle.fleet_engines.specs.Refusals.{change_refusal}
-use Rattle.store_engines.specs.Devices.{is_device, IsSafe, CantKeep, IsOnTheWay, Serves, failed_before, no_room, device_fails}
+use Rattle.store_engines.specs.Devices.{is_device, repository_after, IsSafe, CantKeep, IsOnTheWay, Serves, failed_before, no_room, device_fails}
 use Rattle.store_engines.specs.Refusals.{log_refusal, path_refusal, repo_refusal, store_refusal}
 
 -- ---- which refusals tell of the device
@@ -113,23 +112,33 @@ never_device f k e = stage_no_device (subst IsStageFault e k)
 
 -- ---- on the way
 
-pub here : (identity : List ℕ) (x : List Revision) (entries : List Entry) (image : Image) → ReopensTo identity x image → IsOnTheWay identity x entries image
-here identity x entries image r = ([], entries, refl, r)
+pub here : (r : Repository) (entries : List Entry) (image : Image) → Keeps r image → IsOnTheWay r entries image
+here r entries image k = ([], entries, refl, k)
 
-pub either : (identity : List ℕ) (x : List Revision) (entry : Entry) (image : Image) → IsBeforeOrAfter identity x entry image → IsOnTheWay identity x (entry ∷ []) image
-either identity x entry image (inl r) = ([], entry ∷ [], refl, r)
-either identity x entry image (inr r) = (entry ∷ [], [], refl, r)
+pub either : (r : Repository) (entry : Entry) (image : Image) → IsBeforeOrAfter r entry image → IsOnTheWay r (entry ∷ []) image
+either r entry image (inl k) = ([], entry ∷ [], refl, k)
+either r entry image (inr k) = (entry ∷ [], [], refl, k)
 
-pub on_before : (identity : List ℕ) (x : List Revision) (taken begun more all : List Entry) (image : Image) → begun ≡ [] → all ≡ taken ++ more → IsOnTheWay identity x (taken ++ begun) image → IsOnTheWay identity x all image
-on_before identity x taken begun more all image none is (done, rest, e, r) =
-    (done, rest ++ more, is ∙ ap (λ l. l ++ more) (sym (append-nil taken) ∙ ap (λ l. taken ++ l) (sym none) ∙ e) ∙ append_assoc done rest more, r)
+-- entries one after another
+pub after_join : (r : Repository) (es fs : List Entry) → repository_after r (es ++ fs) ≡ repository_after (repository_after r es) fs
+after_join r [] fs = refl
+after_join r (e ∷ es) fs = after_join (with_entry_in r e) es fs
 
-pub on_after : (identity other : List ℕ) (x y : List Revision) (taken more all : List Entry) (image : Image) → other ≡ identity → y ≡ revisions_after x taken → all ≡ taken ++ more → IsOnTheWay other y more image → IsOnTheWay identity x all image
-on_after identity other x y taken more all image same made is (done, rest, e, r) = (
+-- the revisions of it
+pub after_revisions : (r : Repository) (es : List Entry) → (repository_after r es).revisions ≡ revisions_after r.revisions es
+after_revisions r [] = refl
+after_revisions r (e ∷ es) = after_revisions (with_entry_in r e) es
+
+pub on_before : (r : Repository) (taken begun more all : List Entry) (image : Image) → begun ≡ [] → all ≡ taken ++ more → IsOnTheWay r (taken ++ begun) image → IsOnTheWay r all image
+on_before r taken begun more all image none is (done, rest, e, k) =
+    (done, rest ++ more, is ∙ ap (λ l. l ++ more) (sym (append-nil taken) ∙ ap (λ l. taken ++ l) (sym none) ∙ e) ∙ append_assoc done rest more, k)
+
+pub on_after : (r s : Repository) (taken more all : List Entry) (image : Image) → s ≡ repository_after r taken → all ≡ taken ++ more → IsOnTheWay s more image → IsOnTheWay r all image
+on_after r s taken more all image made is (done, rest, e, k) = (
   taken ++ done,
   rest,
   is ∙ ap (λ l. taken ++ l) e ∙ sym (append_assoc taken done rest),
-  subst (λ i. ReopensTo i (revisions_after x (taken ++ done)) image) same (subst (λ v. ReopensTo other v image) (ap (λ v. revisions_after v done) made ∙ sym (entries_join x taken done)) r),
+  subst (λ v. Keeps v image) (ap (λ v. repository_after v done) made ∙ sym (after_join r taken done)) k,
 )
 
 -- what a stop at a moment leaves is what it may leave
@@ -149,12 +158,11 @@ module _ {D : Type 0} {G : Ghosts D} where
     working = (λ f. inl (works.0 f), λ f. ⊎_elim (λ h. works.1 h) (λ e. absurd (device e)) f);
     taken = [];
     begun = [];
-    made = ap (λ (v : Repository). v.revisions) repository;
-    same = ap (λ (v : Repository). v.identity) repository;
+    made = repository;
     one = inl refl;
-    any_moment = λ h w. subst (λ d. LeavesOnly G.clock G.left_since (disk_of a) d (IsOnTheWay (identity_of a) (revisions_of a) [])) (sym disk) (started G.clock G.left_since (disk_of a) (IsOnTheWay (identity_of a) (revisions_of a) []) (λ image left. here (identity_of a) (revisions_of a) [] image (safe h w image left)));
+    any_moment = λ h w. subst (λ d. LeavesOnly G.clock G.left_since (disk_of a) d (IsOnTheWay (repository_of a) [])) (sym disk) (started G.clock G.left_since (disk_of a) (IsOnTheWay (repository_of a) []) (λ image left. here (repository_of a) [] image (safe h w image left)));
     safe = λ h w image left.
-        subst (λ (v : Repository). ReopensTo v.identity v.revisions image) (sym repository)
+        subst (λ (v : Repository). Keeps v image) (sym repository)
         (safe (subst (λ d. G.honest d) disk h) (λ f. w (works.1 f)) image (subst (λ d. G.left_since d (G.clock d) image) disk left));
   }
 
@@ -180,15 +188,14 @@ module _ {D : Type 0} {G : Ghosts D} where
         working = (λ f. ⊎_elim (λ h. inl (fell a b u p h)) (λ e. inr e) (q.working.0 f), λ f. q.working.1 (⊎_elim (λ h. inl (p.working.1 (inl h))) (λ e. inr e) f));
         taken = p.taken ++ q.taken;
         begun = q.begun;
-        made = q.made ∙ ap (λ v. revisions_after v q.taken) p.made ∙ sym (entries_join (revisions_of a) p.taken q.taken);
-        same = q.same ∙ p.same;
+        made = q.made ∙ ap (λ v. repository_after v q.taken) p.made ∙ sym (after_join (repository_of a) p.taken q.taken);
         one = q.one;
         any_moment = λ h w.
-            joined G.clock G.left_since (disk_of a) (disk_of b) (disk_of c) (IsOnTheWay (identity_of a) (revisions_of a) ((p.taken ++ q.taken) ++ q.begun)) (IsOnTheWay (identity_of b) (revisions_of b) (q.taken ++ q.begun))
-            (weaker G.clock G.left_since (disk_of a) (disk_of b) (IsOnTheWay (identity_of a) (revisions_of a) (p.taken ++ p.begun)) (IsOnTheWay (identity_of a) (revisions_of a) ((p.taken ++ q.taken) ++ q.begun)) (p.any_moment h w)
-            (λ image k. on_before (identity_of a) (revisions_of a) p.taken p.begun (q.taken ++ q.begun) ((p.taken ++ q.taken) ++ q.begun) image (none_begun a b u p) all k))
+            joined G.clock G.left_since (disk_of a) (disk_of b) (disk_of c) (IsOnTheWay (repository_of a) ((p.taken ++ q.taken) ++ q.begun)) (IsOnTheWay (repository_of b) (q.taken ++ q.begun))
+            (weaker G.clock G.left_since (disk_of a) (disk_of b) (IsOnTheWay (repository_of a) (p.taken ++ p.begun)) (IsOnTheWay (repository_of a) ((p.taken ++ q.taken) ++ q.begun)) (p.any_moment h w)
+            (λ image k. on_before (repository_of a) p.taken p.begun (q.taken ++ q.begun) ((p.taken ++ q.taken) ++ q.begun) image (none_begun a b u p) all k))
             (q.any_moment (p.honest.0 h) (λ f. w (fell a b u p f)))
-            (λ image k. on_after (identity_of a) (identity_of b) (revisions_of a) (revisions_of b) p.taken (q.taken ++ q.begun) ((p.taken ++ q.taken) ++ q.begun) image p.same p.made all k);
+            (λ image k. on_after (repository_of a) (repository_of b) p.taken (q.taken ++ q.begun) ((p.taken ++ q.taken) ++ q.begun) image p.made all k);
         safe = q.safe;
       }
 
@@ -198,8 +205,8 @@ module _ {D : Type 0} {G : Ghosts D} where
 
   -- an entry is taken
   abbrev pub took : {T : Type 0} (a b : RepoStore D G) (entry : Entry) (answer : T) → OnlyNow G → repository_of b ≡ with_entry_in (repository_of a) entry
-      → (G.honest (disk_of a) → (image : Image) → G.may_leave (disk_of b) image → ReopensTo (identity_of a) (with_entry (revisions_of a) entry) image)
-      → (G.honest (disk_of a) → ¬ HasFailed a → LeavesOnly G.clock G.left_since (disk_of a) (disk_of b) (IsBeforeOrAfter (identity_of a) (revisions_of a) entry))
+      → (G.honest (disk_of a) → (image : Image) → G.may_leave (disk_of b) image → Keeps (with_entry_in (repository_of a) entry) image)
+      → (G.honest (disk_of a) → ¬ HasFailed a → LeavesOnly G.clock G.left_since (disk_of a) (disk_of b) (IsBeforeOrAfter (repository_of a) entry))
       → HasFailed b ↔ (HasFailed a ⊎ IsErrOf {T = T} (Ok answer) (Log log.DeviceFailed)) → G.honest (disk_of a) ↔ G.honest (disk_of b) → G.failures (disk_of a) ≤ G.failures (disk_of b) → Serves a b (Ok tt)
   took {T} a b entry answer only made durable moments works honest later = record {
     honest = honest;
@@ -209,17 +216,16 @@ module _ {D : Type 0} {G : Ghosts D} where
     working = (λ f. ⊎_elim (λ h. inl h) (λ e. absurd (true≢false (ap is_ok e))) (works.0 f), λ f. ⊎_elim (λ h. works.1 (inl h)) (λ e. absurd (ok_is_none tt refusal.DeviceFailed e)) f);
     taken = entry ∷ [];
     begun = [];
-    made = ap (λ (v : Repository). v.revisions) made;
-    same = ap (λ (v : Repository). v.identity) made;
+    made = made;
     one = inl refl;
-    any_moment = λ h w. weaker G.clock G.left_since (disk_of a) (disk_of b) (IsBeforeOrAfter (identity_of a) (revisions_of a) entry) (IsOnTheWay (identity_of a) (revisions_of a) (entry ∷ [])) (moments h w) (λ image k. either (identity_of a) (revisions_of a) entry image k);
-    safe = λ h w image left. subst (λ (v : Repository). ReopensTo v.identity v.revisions image) (sym made) (durable (honest.1 h) image (only (disk_of b) image h left));
+    any_moment = λ h w. weaker G.clock G.left_since (disk_of a) (disk_of b) (IsBeforeOrAfter (repository_of a) entry) (IsOnTheWay (repository_of a) (entry ∷ [])) (moments h w) (λ image k. either (repository_of a) entry image k);
+    safe = λ h w image left. subst (λ (v : Repository). Keeps v image) (sym made) (durable (honest.1 h) image (only (disk_of b) image h left));
   }
 
   -- an entry is refused
   abbrev pub didnt_take : {T : Type 0} (a b : RepoStore D G) (entry : Entry) (fault : StoreFault) → repository_of b ≡ repository_of a
       → (fault ≡ Log log.DeviceFailed) ⊎ ((disk_of b ≡ disk_of a) × (ends_of (log_of b) ≡ ends_of (log_of a)))
-      → (G.honest (disk_of a) → ¬ HasFailed a → LeavesOnly G.clock G.left_since (disk_of a) (disk_of b) (IsBeforeOrAfter (identity_of a) (revisions_of a) entry))
+      → (G.honest (disk_of a) → ¬ HasFailed a → LeavesOnly G.clock G.left_since (disk_of a) (disk_of b) (IsBeforeOrAfter (repository_of a) entry))
       → (IsErrOf {T = T} (Err fault) (Log log.DeviceFailed) → Rose (G.failures (disk_of a)) (G.failures (disk_of b)))
       → IsErrOf {T = T} (Err fault) (Log log.Failed) ↔ HasFailed a → HasFailed b ↔ (HasFailed a ⊎ IsErrOf {T = T} (Err fault) (Log log.DeviceFailed))
       → G.honest (disk_of a) ↔ G.honest (disk_of b) → G.failures (disk_of a) ≤ G.failures (disk_of b) → IsSafe a → Serves a b (Err (store_refusal fault))
@@ -231,10 +237,9 @@ module _ {D : Type 0} {G : Ghosts D} where
     working = (λ f. ⊎_elim (λ h. inl h) (λ e. inr (ap (λ k. Err (store_refusal k)) d)) (works.0 f), λ f. works.1 (inr (ap Err d)));
     taken = [];
     begun = entry ∷ [];
-    made = ap (λ (v : Repository). v.revisions) same;
-    same = ap (λ (v : Repository). v.identity) same;
+    made = same;
     one = inr (refl, ap (λ k. Err (store_refusal k)) d);
-    any_moment = λ h w. weaker G.clock G.left_since (disk_of a) (disk_of b) (IsBeforeOrAfter (identity_of a) (revisions_of a) entry) (IsOnTheWay (identity_of a) (revisions_of a) (entry ∷ [])) (moments h w) (λ image k. either (identity_of a) (revisions_of a) entry image k);
+    any_moment = λ h w. weaker G.clock G.left_since (disk_of a) (disk_of b) (IsBeforeOrAfter (repository_of a) entry) (IsOnTheWay (repository_of a) (entry ∷ [])) (moments h w) (λ image k. either (repository_of a) entry image k);
     safe = λ h w. absurd (w (works.1 (inr (ap Err d))));
   }
   didnt_take {T} a b entry fault same (inr u) moments device failed works honest later safe = record {
@@ -245,12 +250,11 @@ module _ {D : Type 0} {G : Ghosts D} where
     working = (λ f. ⊎_elim (λ h. inl h) (λ e. inr (ap Err (ap store_refusal (fault_in {T = T} fault (Log log.DeviceFailed) e)))) (works.0 f), λ f. works.1 (⊎_elim (λ h. inl h) (λ e. inr (ap Err (device_was fault (ap refusal_in e)))) f));
     taken = [];
     begun = [];
-    made = ap (λ (v : Repository). v.revisions) same;
-    same = ap (λ (v : Repository). v.identity) same;
+    made = same;
     one = inl refl;
-    any_moment = λ h w. subst (λ d. LeavesOnly G.clock G.left_since (disk_of a) d (IsOnTheWay (identity_of a) (revisions_of a) [])) (sym u.0) (started G.clock G.left_since (disk_of a) (IsOnTheWay (identity_of a) (revisions_of a) []) (λ image left. here (identity_of a) (revisions_of a) [] image (safe h w image left)));
+    any_moment = λ h w. subst (λ d. LeavesOnly G.clock G.left_since (disk_of a) d (IsOnTheWay (repository_of a) [])) (sym u.0) (started G.clock G.left_since (disk_of a) (IsOnTheWay (repository_of a) []) (λ image left. here (repository_of a) [] image (safe h w image left)));
     safe = λ h w image left.
-        subst (λ (v : Repository). ReopensTo v.identity v.revisions image) (sym same)
+        subst (λ (v : Repository). Keeps v image) (sym same)
         (safe (honest.1 h) (λ f. w (works.1 (inl f))) image (subst (λ d. G.left_since d (G.clock d) image) u.0 left));
   }
 
@@ -265,14 +269,14 @@ module _ {D : Type 0} {G : Ghosts D} where
   -- a fault of the store is want of memory, or is why it can't keep the entry, or is the one that is due
   pub stop_or_due : {T : Type 0} (a b : RepoStore D G) (entry : Entry) (due : Option RepoFault) (fault : StoreFault) → repository_of b ≡ repository_of a
       → (fault ≡ Log log.DeviceFailed) ⊎ ((disk_of b ≡ disk_of a) × (ends_of (log_of b) ≡ ends_of (log_of a)))
-      → (G.honest (disk_of a) → IsErrOf {T = T} (Err fault) (Log log.DeviceFailed) → (image : Image) → G.may_leave (disk_of b) image → IsBeforeOrAfter (identity_of a) (revisions_of a) entry image)
+      → (G.honest (disk_of a) → IsErrOf {T = T} (Err fault) (Log log.DeviceFailed) → (image : Image) → G.may_leave (disk_of b) image → IsBeforeOrAfter (repository_of a) entry image)
       → IsErrOf {T = T} (Err fault) (Log log.Failed) ↔ HasFailed a → HasFailed b ↔ (HasFailed a ⊎ IsErrOf {T = T} (Err fault) (Log log.DeviceFailed))
       → (IsErrOf {T = T} (Err fault) (Log log.LogFull) → 2 ^ 56 < size_of (log_of a) + length (spelling entry))
       → G.honest (disk_of a) ↔ G.honest (disk_of b) → ((f : RepoFault) → fault ≡ Repo f → IsDue f due) → IsStoreFault fault
       → (store_refusal fault ≡ refusal.OutOfMemory) ⊎ CantKeep b entry (store_refusal fault) ⊎ ((f : RepoFault) × IsDue f due × (store_refusal fault ≡ repo_refusal f))
   stop_or_due a b entry due (Repo f) same touched left failed works full honest h k = inr (inr (f, h f refl, refl))
   stop_or_due a b entry due (Log f) same touched left failed works full honest h (inl d) =
-      inr (inl (device_fails (ap log_refusal d) (λ o image l. subst (λ (v : Repository). IsBeforeOrAfter v.identity v.revisions entry image) (sym same) (left (honest.1 o) (ap (λ k. Err (Log k)) d) image l))))
+      inr (inl (device_fails (ap log_refusal d) (λ o image l. subst (λ (v : Repository). IsBeforeOrAfter v entry image) (sym same) (left (honest.1 o) (ap (λ k. Err (Log k)) d) image l))))
   stop_or_due a b entry due (Log f) same touched left failed works full honest h (inr (inl d)) = inr (inl (failed_before (ap log_refusal d) (works.1 (inl (failed.0 (ap (λ k. Err (Log k)) d))))))
   stop_or_due a b entry due (Log f) same (inl t) left failed works full honest h (inr (inr (inl d))) =
       let n : ◌≡◌ {A = ℕ} 31 36 = ap (λ k. refusal_number (store_refusal k)) (sym t ∙ ap Log d) in let no : ⊥ = omega (arith, n) in absurd no

@@ -27,21 +27,21 @@ use Rattle.fleet_engines.proofs.Feeding.{joins, stays}
 use Rattle.gate_log.specs.Log.{ends_of}
 use Rattle.gate_log.specs.declared.fault.LogFault.TheVariants as log
 use Rattle.repo_core.specs.Entries.{revisions_after, with_entry, with_entry_in}
-use Rattle.repo_core.specs.Repository.{Revision, trees_of}
+use Rattle.repo_core.specs.Repository.{Repository, Revision, trees_of}
 use Rattle.repo_core.specs.declared.entry.Entry.{Entry}
 use Rattle.repo_core.specs.declared.entry.Entry.TheVariants.{Revised}
 use Rattle.node_base.specs.Path.{Path}
 use Rattle.node_base.specs.declared.fault.PathFault.{PathFault}
-use Rattle.repo_store.specs.Journal.{ReopensTo, IsBeforeOrAfter}
+use Rattle.repo_store.specs.Journal.{Keeps, IsBeforeOrAfter}
 use Rattle.repo_store.specs.Refusals.{IsStageFault}
-use Rattle.repo_store.specs.Words.{disk_of, log_of, identity_of, revisions_of, repository_of, HasFailed}
+use Rattle.repo_store.specs.Words.{disk_of, log_of, revisions_of, repository_of, HasFailed}
 use Rattle.repo_store.specs.declared.store.RepoStore.{RepoStore}
 use Rattle.repo_store.specs.declared.fault.StoreFault.{StoreFault}
 use Rattle.repo_store.specs.declared.fault.StoreFault.TheVariants.{Log}
 use Rattle.store_engines.specs.Devices.{is_device, IsSafe, Serves}
 use Rattle.store_engines.specs.Loads.{AreEntriesOf, IsEntryOf, ServesOne, ServesRecords, coming, of_next, read_of}
 use Rattle.store_engines.specs.Refusals.{store_refusal}
-use Rattle.store_engines.proofs.Devices.{OnlyNow, didnt_take, none_begun, serves_on, serves_then, staged_err, staged_none, took, unserved}
+use Rattle.store_engines.proofs.Devices.{OnlyNow, after_revisions, didnt_take, none_begun, serves_on, serves_then, staged_err, staged_none, took, unserved}
 
 -- ---- entries one after another
 
@@ -82,7 +82,7 @@ module _ {D : Type 0} {G : Ghosts D} where
         ∙ ap (λ l. l ++ q.more) (sym (flat_map-append records_of_rev p.whole q.whole));
     entries =
         subst (AreEntriesOf (revisions_of a) (p.whole ++ q.whole)) (sym (append_assoc p.serves.taken q.serves.taken q.serves.begun))
-        (entries_on (revisions_of a) p.whole q.whole p.serves.taken (q.serves.taken ++ q.serves.begun) (whole_taken a b u p.serves p.whole p.entries) (subst (λ v. AreEntriesOf v q.whole (q.serves.taken ++ q.serves.begun)) p.serves.made q.entries));
+        (entries_on (revisions_of a) p.whole q.whole p.serves.taken (q.serves.taken ++ q.serves.begun) (whole_taken a b u p.serves p.whole p.entries) (subst (λ v. AreEntriesOf v q.whole (q.serves.taken ++ q.serves.begun)) (ap (λ (v : Repository). v.revisions) p.serves.made ∙ after_revisions (repository_of a) p.serves.taken) q.entries));
     all = q.all;
   }
 
@@ -110,15 +110,15 @@ module _ {D : Type 0} {G : Ghosts D} where
 
   -- an entry is taken
   pub took_one : {T : Type 0} (a b : RepoStore D G) (entry : Entry) (answer : T) → OnlyNow G → repository_of b ≡ with_entry_in (repository_of a) entry
-      → (G.honest (disk_of a) → (image : Image) → G.may_leave (disk_of b) image → ReopensTo (identity_of a) (with_entry (revisions_of a) entry) image)
-      → (G.honest (disk_of a) → ¬ HasFailed a → LeavesOnly G.clock G.left_since (disk_of a) (disk_of b) (IsBeforeOrAfter (identity_of a) (revisions_of a) entry))
+      → (G.honest (disk_of a) → (image : Image) → G.may_leave (disk_of b) image → Keeps (with_entry_in (repository_of a) entry) image)
+      → (G.honest (disk_of a) → ¬ HasFailed a → LeavesOnly G.clock G.left_since (disk_of a) (disk_of b) (IsBeforeOrAfter (repository_of a) entry))
       → HasFailed b ↔ (HasFailed a ⊎ IsErrOf {T = T} (Ok answer) (Log log.DeviceFailed)) → G.honest (disk_of a) ↔ G.honest (disk_of b) → G.failures (disk_of a) ≤ G.failures (disk_of b) → ServesOne entry a b (Ok tt)
   took_one {T} a b entry answer only made durable moments works honest later = record { serves = took {T = T} a b entry answer only made durable moments works honest later; one = inl refl }
 
   -- an entry is refused
   pub didnt_take_one : {T : Type 0} (a b : RepoStore D G) (entry : Entry) (fault : StoreFault) → repository_of b ≡ repository_of a
       → (fault ≡ Log log.DeviceFailed) ⊎ ((disk_of b ≡ disk_of a) × (ends_of (log_of b) ≡ ends_of (log_of a)))
-      → (G.honest (disk_of a) → ¬ HasFailed a → LeavesOnly G.clock G.left_since (disk_of a) (disk_of b) (IsBeforeOrAfter (identity_of a) (revisions_of a) entry))
+      → (G.honest (disk_of a) → ¬ HasFailed a → LeavesOnly G.clock G.left_since (disk_of a) (disk_of b) (IsBeforeOrAfter (repository_of a) entry))
       → (IsErrOf {T = T} (Err fault) (Log log.DeviceFailed) → Rose (G.failures (disk_of a)) (G.failures (disk_of b)))
       → IsErrOf {T = T} (Err fault) (Log log.Failed) ↔ HasFailed a → HasFailed b ↔ (HasFailed a ⊎ IsErrOf {T = T} (Err fault) (Log log.DeviceFailed))
       → G.honest (disk_of a) ↔ G.honest (disk_of b) → G.failures (disk_of a) ≤ G.failures (disk_of b) → IsSafe a → ServesOne entry a b (Err (store_refusal fault))

@@ -4,7 +4,7 @@ ghost use Rattle.fleet_disk.specs.Image.{Image, no_bytes};
 ghost use Rattle.fleet_disk.specs.Rules.{LeavesOnly, Rose};
 ghost use Rattle.gate_log.specs.Standing.{HasNoEntry};
 ghost use Rattle.repo_core.specs.Repository.{Revision, fresh};
-ghost use Rattle.repo_store.specs.Journal.{IsDamaged, Keeps, ReopensAlike, ReopensTo};
+ghost use Rattle.repo_store.specs.Journal.{IsDamaged, Keeps, KeepsAlike, ReopensTo};
 ghost use Rattle.repo_store.specs.Words.{disk_of, identity_of, repository_of, revisions_of, HasFailed};
 ghost use Rattle.store_engines.specs.Refusals.{IsCreateRefusal, IsOpenRefusal};
 
@@ -16,7 +16,7 @@ use std::alloc::Global;
 use uuid::Uuid;
 
 /// Begins a repository of revision 0 alone, without properties, on a disk of two empty files; from Ok on a stop leaves what
-/// reopens to it. ThereAlready (35) where a file isn't empty, DeviceFailed (31), OutOfMemory (70).
+/// keeps it. ThereAlready (35) where a file isn't empty, DeviceFailed (31), OutOfMemory (70).
 pub fn create_store<D: Disk + Drop>(
     alloc: Global,
     disk: D,
@@ -24,7 +24,7 @@ pub fn create_store<D: Disk + Drop>(
 ) -> Result<RepoStore<D>, Refusal>
     ensures made { IfOk result (λ store. repository_of store ≡ fresh identity) }
     ensures working { IfOk result (λ store. ¬ HasFailed store) }
-    ensures durable { D.honest disk → IfOk result (λ store. (image : Image) → D.may_leave (disk_of store) image → ReopensTo identity (fresh identity).revisions image) }
+    ensures durable { D.honest disk → IfOk result (λ store. (image : Image) → D.may_leave (disk_of store) image → Keeps (fresh identity) image) }
     ensures empty { D.honest disk → OnOk result (D.reads disk ≡ no_bytes) }
     ensures there { D.honest disk → IfErr result (λ e. e ≡ Refusal.ThereAlready → D.reads disk ≢ no_bytes) }
     ensures no_other { IfErr result IsCreateRefusal }
@@ -45,7 +45,7 @@ pub fn open_store<D: Disk + Drop>(alloc: Global, disk: D) -> Result<RepoStore<D>
     ensures stands { D.honest disk → IfOk result (λ store. ReopensTo (identity_of store) (revisions_of store) (D.reads disk)) }
     ensures keeps { D.honest disk → IfOk result (λ store. Keeps (repository_of store) (D.reads disk)) }
     ensures working { IfOk result (λ store. ¬ HasFailed store) }
-    ensures durable { D.honest disk → IfOk result (λ store. (image : Image) → D.may_leave (disk_of store) image → ReopensTo (identity_of store) (revisions_of store) image) }
+    ensures durable { D.honest disk → IfOk result (λ store. (image : Image) → D.may_leave (disk_of store) image → Keeps (repository_of store) image) }
     ensures found { D.honest disk → (identity : List ℕ) (x : List Revision) → ReopensTo identity x (D.reads disk)
         → IfOk result (λ store. (identity_of store ≡ identity) × (revisions_of store ≡ x)) }
     ensures refused { D.honest disk → (identity : List ℕ) (x : List Revision) → ReopensTo identity x (D.reads disk)
@@ -58,9 +58,9 @@ pub fn open_store<D: Disk + Drop>(alloc: Global, disk: D) -> Result<RepoStore<D>
     ensures no_other { IfErr result IsOpenRefusal }
     ensures later { IfOk result (λ store. D.failures disk ≤ D.failures (disk_of store)) }
     ensures any_moment { D.honest disk → IfOk result (λ store. LeavesOnly D.clock D.left_since disk (disk_of store)
-        (λ c. D.may_leave disk c ⊎ ReopensAlike (D.reads disk) c)) }
+        (λ c. D.may_leave disk c ⊎ KeepsAlike (D.reads disk) c)) }
     ensures device { IfErr result (λ e. (left : D) × (D.honest disk ↔ D.honest left) × (D.failures disk ≤ D.failures left) × (e ≡ Refusal.DeviceFailed → Rose (D.failures disk) (D.failures left))
-        × (D.honest disk → LeavesOnly D.clock D.left_since disk left (λ c. D.may_leave disk c ⊎ ReopensAlike (D.reads disk) c))) }
+        × (D.honest disk → LeavesOnly D.clock D.left_since disk left (λ c. D.may_leave disk c ⊎ KeepsAlike (D.reads disk) c))) }
     ensures honest { IfOk result (λ store. D.honest disk ↔ D.honest (disk_of store)) }
     ensures no_peer { IfErr result (λ e. e ≡ Refusal.PeerFailed → ⊥) }
 {

@@ -14,8 +14,8 @@ ghost use Rattle.repo_core.specs.declared.entry.Entry.TheVariants.{Mapped};
 ghost use Rattle.repo_core.specs.Refusals.{IsDue};
 ghost use Rattle.repo_core.specs.declared.fault.RepoFault.{RepoFault as RepoFaultOf};
 ghost use Rattle.fleet_disk.specs.Image.{Image};
-ghost use Rattle.repo_store.specs.Journal.{ReopensTo};
-ghost use Rattle.repo_store.specs.Words.{disk_of, identity_of, repository_of, revisions_of, HasFailed};
+ghost use Rattle.repo_store.specs.Journal.{Keeps};
+ghost use Rattle.repo_store.specs.Words.{disk_of, repository_of, revisions_of, HasFailed};
 ghost use Rattle.fleet_engines.specs.Grouping.{is_no_identity, records_of_rev};
 ghost use Rattle.fleet_engines.specs.Histories.{rev_of};
 ghost use Rattle.fleet_engines.specs.Revisions.{Rev, Makes, IsUnfit, is_zero, is_past_zero};
@@ -372,7 +372,7 @@ pub fn run_load<D: Disk + Drop, R: Read + Drop, W: Write + Drop>(
     ensures device { Serves store.old store.new result }
     ensures entries { IfSome (R.remaining input.old.inner) (λ bytes. ServesRecords (filter is_no_identity (records_of (dump bytes))) store.old store.new result []) }
     ensures durable { D.honest (disk_of store.new) → ¬ HasFailed store.new → (image : Image) → D.may_leave (disk_of store.new) image
-        → ReopensTo (identity_of store.new) (revisions_of store.new) image }
+        → Keeps (repository_of store.new) image }
     ensures peer { BothFlagged result input.old.failed input.new.failed output.old.failed output.new.failed }
 {
     refuse_mirror(store.repo())?;

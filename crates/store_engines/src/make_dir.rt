@@ -7,8 +7,8 @@ ghost use Rattle.node_base.specs.PathText.{path_read};
 ghost use Rattle.node_base.specs.declared.fault.PathFault.{PathFault as PathFaultOf};
 ghost use Rattle.fleet_disk.specs.Image.{Image};
 ghost use Rattle.repo_core.specs.declared.entry.Entry.{Entry as EntryOf};
-ghost use Rattle.repo_store.specs.Journal.{ReopensTo};
-ghost use Rattle.repo_store.specs.Words.{disk_of, identity_of, repository_of, revisions_of, HasFailed};
+ghost use Rattle.repo_store.specs.Journal.{Keeps};
+ghost use Rattle.repo_store.specs.Words.{disk_of, repository_of, revisions_of, HasFailed};
 ghost use Rattle.store_engines.specs.Commits.{bare_entry, directory_entry, directory_set, logged, IsCommitted, NotCommitted};
 ghost use Rattle.store_engines.specs.Devices.{is_device, CantKeep, IsSafe, Serves};
 ghost use Rattle.store_engines.specs.Loads.{entry_fault, ServesOne};
@@ -158,7 +158,7 @@ pub fn run_mkdir<D: Disk + Drop, W: Write + Drop>(
     ensures device { Serves store.old store.new result }
     ensures entry { (place : Path) → path_read path.now ≡ Ok place → ServesOne (directory_entry (revisions_of store.old) place message.now moment) store.old store.new result }
     ensures durable { D.honest (disk_of store.new) → ¬ HasFailed store.new → (image : Image) → D.may_leave (disk_of store.new) image
-        → ReopensTo (identity_of store.new) (revisions_of store.new) image }
+        → Keeps (repository_of store.new) image }
     ensures peer { Flagged result output.old.failed output.new.failed }
 {
     refuse_mirror(store.repo())?;

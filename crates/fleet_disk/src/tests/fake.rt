@@ -1,5 +1,5 @@
 //! A disk over a host that remembers what was asked of it, and that may fail.
-ghost use Rattle.std.specs.Prelude.{◌≡◌, IfOk};
+ghost use Rattle.std.specs.Prelude.{◌≡◌, ⊤, IfOk};
 
 use super::*;
 use std::alloc::Allocator;
@@ -13,6 +13,7 @@ use std::rt::Files;
 #[derive(Drop)]
 struct Asked {
     fails: Cell<bool>,
+    holds: Cell<u32>,
     syncs: Cell<u32>,
     folder_syncs: Cell<u32>,
     cut_to: Cell<u64>,
@@ -145,9 +146,21 @@ impl<'a> Files for FakeHost<'a> {
     }
 }
 
+impl<'a> HeldFiles for FakeHost<'a> {
+    ghost is_held = { λ file. ⊤ };
+
+    fn hold(&self, file: &FakeFile<'a>) -> io::Result<()> {
+        file.asked
+            .holds
+            .set(file.asked.holds.get().saturating_add(1));
+        file.asked.answer(())
+    }
+}
+
 fn nothing_asked() -> Asked {
     Asked {
         fails: Cell::new(false),
+        holds: Cell::new(0),
         syncs: Cell::new(0),
         folder_syncs: Cell::new(0),
         cut_to: Cell::new(0),
@@ -155,12 +168,13 @@ fn nothing_asked() -> Asked {
     }
 }
 
-// A first sync reaches both files, a later one those that were changed since, and making them the folder.
+// A first sync reaches both files, a later one those that were changed since, and making them the folder. One file is held.
 #[test]
 fn what_a_folder_is_asked(rt: HostRuntime) -> Result<(), Fail> {
     let asked = nothing_asked();
     let mut disk = HostDisk::create(&FakeHost { asked: &asked }, rt.alloc(), "folder")?;
     assert_eq!(rt; asked.folder_syncs.get(), 1);
+    assert_eq!(rt; asked.holds.get(), 1);
     disk.sync()?;
     assert_eq!(rt; asked.syncs.get(), 2);
     disk.sync()?;
@@ -175,6 +189,19 @@ fn what_a_folder_is_asked(rt: HostRuntime) -> Result<(), Fail> {
     disk.sync()?;
     assert_eq!(rt; asked.syncs.get(), 5);
     assert_eq!(rt; disk.len(DiskFile::Journal)?, 7);
+    Ok(())
+}
+
+// A folder whose journal is held by another is neither made nor opened.
+#[test]
+fn a_folder_that_is_held(rt: HostRuntime) -> Result<(), Fail> {
+    let asked = nothing_asked();
+    asked.fails.set(true);
+    let host = FakeHost { asked: &asked };
+    assert!(rt; HostDisk::create(&host, rt.alloc(), "folder").is_err());
+    assert!(rt; HostDisk::open(&host, rt.alloc(), "folder").is_err());
+    assert_eq!(rt; asked.holds.get(), 2);
+    assert_eq!(rt; asked.folder_syncs.get(), 0);
     Ok(())
 }
 

@@ -1,5 +1,5 @@
 use Rattle.repo_store.proofs.OneImage.{one_journal, one_repository, not_damaged, not_missing, one_damage, damage_not_missing}
-use Rattle.repo_store.proofs.Telling.{kept_reopens, one_text}
+use Rattle.repo_store.proofs.Telling.{kept_reopens, reopens_kept, one_text}
 use Rattle.repo_store.proofs.verdicts.one_verdict.Goals as goal
 
 pub returns-clause-one_journal : goal.returns-clause-one_journal
@@ -22,6 +22,9 @@ returns-clause-damage_not_missing c = damage_not_missing c.one_verdict.ensures.d
 
 pub returns-clause-kept_reopens : goal.returns-clause-kept_reopens
 returns-clause-kept_reopens c = kept_reopens
+
+pub returns-clause-reopens_kept : goal.returns-clause-reopens_kept
+returns-clause-reopens_kept c = reopens_kept
 
 pub returns-clause-one_text : goal.returns-clause-one_text
 returns-clause-one_text c = one_text c.one_verdict.ensures.one_list c.dumps_are_read.ensures

@@ -20,19 +20,19 @@ returns-clause-refused g c =
 pub returns-in_err-refuse_mirror-clause-device : goal.returns-in_err-refuse_mirror-clause-device
 returns-in_err-refuse_mirror-clause-device g c =
     let p = err_from_is_err_and c.from_residual.result c.from_residual.ensures.1 in
-    rw (p.1, p.2) (unserved c.args.store.now (Err c.in_err-refuse_mirror.field-0.0) (ap is_device c.in_err-refuse_mirror.ensures.refused.0) (λ h w image left. c.repo.ensures.stands h w image (g.met.D.Disk.only_now (disk_of c.args.store.now) image h left)))
+    rw (p.1, p.2) (unserved c.args.store.now (Err c.in_err-refuse_mirror.field-0.0) (ap is_device c.in_err-refuse_mirror.ensures.refused.0) (λ h w image left. c.repo.ensures.keeps h w image (g.met.D.Disk.only_now (disk_of c.args.store.now) image h left)))
 
 pub returns-in_err-place-clause-device : goal.returns-in_err-place-clause-device
 returns-in_err-place-clause-device g c =
     let p = err_from_is_err_and c.from_residual-in_err-place.result c.from_residual-in_err-place.ensures.1 in
-    rw (p.1, p.2) (unserved c.args.store.now (Err c.in_err-place.field-0.0) c.in_err-place.ensures.no_device (λ h w image left. c.repo.ensures.stands h w image (g.met.D.Disk.only_now (disk_of c.args.store.now) image h left)))
+    rw (p.1, p.2) (unserved c.args.store.now (Err c.in_err-place.field-0.0) c.in_err-place.ensures.no_device (λ h w image left. c.repo.ensures.keeps h w image (g.met.D.Disk.only_now (disk_of c.args.store.now) image h left)))
 
 pub returns-clause-device : goal.returns-clause-device
-returns-clause-device g c = (c.commit_directory.ensures.device (λ h w image left. c.repo.ensures.stands h w image (g.met.D.Disk.only_now (disk_of c.args.store.now) image h left))).serves
+returns-clause-device g c = (c.commit_directory.ensures.device (λ h w image left. c.repo.ensures.keeps h w image (g.met.D.Disk.only_now (disk_of c.args.store.now) image h left))).serves
 
 pub returns-clause-durable : goal.returns-clause-durable
 returns-clause-durable g c h w image left =
-    let served = (c.commit_directory.ensures.device (λ h w image left. c.repo.ensures.stands h w image (g.met.D.Disk.only_now (disk_of c.args.store.now) image h left))).serves in
+    let served = (c.commit_directory.ensures.device (λ h w image left. c.repo.ensures.keeps h w image (g.met.D.Disk.only_now (disk_of c.args.store.now) image h left))).serves in
     let disk = disk_of c.commit_directory.new.store in
     served.safe h w image (g.met.D.Disk.counts_now disk (g.D.Disk.clock disk) image h (omega arith) left)
 
@@ -40,17 +40,17 @@ pub returns-in_err-refuse_mirror-clause-entry : goal.returns-in_err-refuse_mirro
 returns-in_err-refuse_mirror-clause-entry g c place read =
     let p = err_from_is_err_and c.from_residual.result c.from_residual.ensures.1 in
     rw (p.1, p.2)
-    (none_done (directory_entry (revisions_of c.args.store.now) place c.args.message.now c.args.moment) c.args.store.now c.in_err-refuse_mirror.field-0.0 (ap is_device c.in_err-refuse_mirror.ensures.refused.0) (λ h w image left. c.repo.ensures.stands h w image (g.met.D.Disk.only_now (disk_of c.args.store.now) image h left)))
+    (none_done (directory_entry (revisions_of c.args.store.now) place c.args.message.now c.args.moment) c.args.store.now c.in_err-refuse_mirror.field-0.0 (ap is_device c.in_err-refuse_mirror.ensures.refused.0) (λ h w image left. c.repo.ensures.keeps h w image (g.met.D.Disk.only_now (disk_of c.args.store.now) image h left)))
 
 pub returns-in_err-place-clause-entry : goal.returns-in_err-place-clause-entry
 returns-in_err-place-clause-entry g c place read =
     let p = err_from_is_err_and c.from_residual-in_err-place.result c.from_residual-in_err-place.ensures.1 in
     rw (p.1, p.2)
-    (none_done (directory_entry (revisions_of c.args.store.now) place c.args.message.now c.args.moment) c.args.store.now c.in_err-place.field-0.0 c.in_err-place.ensures.no_device (λ h w image left. c.repo.ensures.stands h w image (g.met.D.Disk.only_now (disk_of c.args.store.now) image h left)))
+    (none_done (directory_entry (revisions_of c.args.store.now) place c.args.message.now c.args.moment) c.args.store.now c.in_err-place.field-0.0 c.in_err-place.ensures.no_device (λ h w image left. c.repo.ensures.keeps h w image (g.met.D.Disk.only_now (disk_of c.args.store.now) image h left)))
 
 pub returns-clause-entry : goal.returns-clause-entry
 returns-clause-entry g c place read =
     let x = revisions_of c.args.store.now in
     subst (λ (v : Path). ServesOne (directory_entry x v c.args.message.now c.args.moment) c.args.store.now c.commit_directory.new.store c.commit_directory.result)
     (same_path (path_read c.args.path.now) c.in_ok-place.place place c.in_ok-place.ensures.path read)
-    (c.commit_directory.ensures.device (λ h w image left. c.repo.ensures.stands h w image (g.met.D.Disk.only_now (disk_of c.args.store.now) image h left)))
+    (c.commit_directory.ensures.device (λ h w image left. c.repo.ensures.keeps h w image (g.met.D.Disk.only_now (disk_of c.args.store.now) image h left)))

@@ -4,9 +4,7 @@ use Rattle.gate_log.specs.Log.{entries_of}
 use Rattle.gate_log.specs.Standing.{Stands, parts}
 use Rattle.repo_core.specs.Repository.{fresh}
 use Rattle.repo_store.specs.Journal.{IsBeginning}
-use Rattle.repo_store.proofs.Beginnings.{begins_fresh}
-use Rattle.repo_store.proofs.Images.{reopened}
-use Rattle.repo_store.proofs.Telling.{told_fresh}
+use Rattle.repo_store.proofs.Telling.{kept, told_fresh}
 use Rattle.repo_store.proofs.store.RepoStore.create.Goals as goal
 
 pub invariant_of-result : goal.invariant_of-result
@@ -27,5 +25,5 @@ returns-in-Ok-append-clause-durable g c h image left =
     let honest = c.in-Ok-create.ensures.honest.0 h in
     let raw = c.in-Ok-append.ensures.durable honest image left in
     let stands = subst (λ (l : List (List ℕ)). Stands image (l ++ c.deref.result.now ∷ [])) none raw in
-    reopened (c.deref.result.now ∷ []) c.args.identity (fresh c.args.identity).revisions image
-    (∣ begins_fresh c.deref.result.now c.args.identity (c.deref.result.now ∷ []) (fresh c.args.identity) begins refl refl ∣₁) stands
+    kept (c.deref.result.now ∷ []) (fresh c.args.identity) image
+    (∣ told_fresh c.deref.result.now c.args.identity (c.deref.result.now ∷ []) (fresh c.args.identity) begins refl refl ∣₁) stands

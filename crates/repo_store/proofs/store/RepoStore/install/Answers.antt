@@ -4,23 +4,23 @@ use Rattle.gate_log.specs.Log.{entries_of}
 use Rattle.repo_core.specs.Repository.{Repository}
 use Rattle.repo_core.specs.Entries.{with_entry_in}
 use Rattle.repo_store.specs.Journal.{Spells, Tell}
-use Rattle.repo_store.proofs.Images.{either_reopens, after_reopens, leaves_map, takes_of}
-use Rattle.repo_store.proofs.Telling.{tell_more, told_stands}
+use Rattle.repo_store.proofs.Images.{leaves_map, takes_of}
+use Rattle.repo_store.proofs.Telling.{after_kept, either_kept, tell_more}
 use Rattle.repo_store.proofs.store.RepoStore.install.Goals as goal
 
 pub returns-in_err-receipt-clause-any_moment : goal.returns-in_err-receipt-clause-any_moment
 returns-in_err-receipt-clause-any_moment g c h =
-    let known = ∥∥₁_map c.args.self.now.told (λ f. told_stands _ _ (f h c.requires.working)) in
+    let known = ∥∥₁_map c.args.self.now.told (λ f. f h c.requires.working) in
     let spells = subst (λ (b : List ℕ). Spells b c.args.staged.change.entry) (sym c.deref.ensures.value) c.requires.bytes in
     let takes = takes_of _ _ c.requires.change c.requires.set in
-    leaves_map _ _ _ _ _ _ (λ image e. either_reopens _ _ _ _ _ image known spells takes e) (c.append.ensures.any_moment h c.requires.working)
+    leaves_map _ _ _ _ _ _ (λ image e. either_kept _ _ _ _ image known spells takes e) (c.append.ensures.any_moment h c.requires.working)
 
 pub returns-in_err-receipt-clause-either : goal.returns-in_err-receipt-clause-either
 returns-in_err-receipt-clause-either g c h is image left =
-    let known = ∥∥₁_map c.args.self.now.told (λ f. told_stands _ _ (f h c.requires.working)) in
+    let known = ∥∥₁_map c.args.self.now.told (λ f. f h c.requires.working) in
     let spells = subst (λ (b : List ℕ). Spells b c.args.staged.change.entry) (sym c.deref.ensures.value) c.requires.bytes in
     let takes = takes_of _ _ c.requires.change c.requires.set in
-    either_reopens _ _ _ _ _ image known spells takes (c.append.ensures.either h (search rules) image left)
+    either_kept _ _ _ _ image known spells takes (c.append.ensures.either h (search rules) image left)
 
 pub invariant_of-self-2 : goal.invariant_of-self-2
 invariant_of-self-2 g c =
@@ -38,14 +38,14 @@ invariant_of-self-2 g c =
 
 pub returns-clause-durable : goal.returns-clause-durable
 returns-clause-durable g c h image left =
-    let known = ∥∥₁_map c.args.self.now.told (λ f. told_stands _ _ (f h c.requires.working)) in
+    let known = ∥∥₁_map c.args.self.now.told (λ f. f h c.requires.working) in
     let spells = subst (λ (b : List ℕ). Spells b c.args.staged.change.entry) (sym c.deref.ensures.value) c.requires.bytes in
     let takes = takes_of _ _ c.requires.change c.requires.set in
-    after_reopens _ _ _ _ _ image known spells takes (c.in_ok-receipt.ensures.durable h image left)
+    after_kept _ _ _ _ image known spells takes (c.in_ok-receipt.ensures.durable h image left)
 
 pub returns-clause-any_moment : goal.returns-clause-any_moment
 returns-clause-any_moment g c h =
-    let known = ∥∥₁_map c.args.self.now.told (λ f. told_stands _ _ (f h c.requires.working)) in
+    let known = ∥∥₁_map c.args.self.now.told (λ f. f h c.requires.working) in
     let spells = subst (λ (b : List ℕ). Spells b c.args.staged.change.entry) (sym c.deref.ensures.value) c.requires.bytes in
     let takes = takes_of _ _ c.requires.change c.requires.set in
-    leaves_map _ _ _ _ _ _ (λ image e. either_reopens _ _ _ _ _ image known spells takes e) (c.append.ensures.any_moment h c.requires.working)
+    leaves_map _ _ _ _ _ _ (λ image e. either_kept _ _ _ _ image known spells takes e) (c.append.ensures.any_moment h c.requires.working)
