@@ -17,7 +17,7 @@ OneRepository = (image : Image) (identity other : List ℕ) (x y : List Revision
 abbrev pub KeptReopens : Type 0
 KeptReopens = (image : Image) (r : Repository) → Keeps r image → ReopensTo r.identity r.revisions image
 
--- and keeps one of those that it reopens to
+-- and where it reopens to revisions, it keeps a repository of these
 abbrev pub ReopensKept : Type 0
 ReopensKept = (image : Image) (identity : List ℕ) (x : List Revision) → ReopensTo identity x image → ∥ ((r : Repository) × (r.identity ≡ identity) × (r.revisions ≡ x) × Keeps r image) ∥₁
 
