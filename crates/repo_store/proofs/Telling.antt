@@ -105,7 +105,7 @@ told_of [] identity x none = absurd none
 told_of (first ∷ rest) identity x (props, begins, more) =
     let (s, leads, one, is) = leads_of (with_entry_in (fresh identity) (Mapped 0 props)) rest x more in
     let tell : (id : List ℕ) → id ≡ identity → (props : PropMap) × IsBeginning first id props × Leads (with_entry_in (fresh id) (Mapped 0 props)) rest s =
-        λ id same. subst (λ (i : List ℕ). (props : PropMap) × IsBeginning first i props × Leads (with_entry_in (fresh i) (Mapped 0 props)) rest s) (sym same) (props, begins, leads) in
+    λ id same. subst (λ (i : List ℕ). (props : PropMap) × IsBeginning first i props × Leads (with_entry_in (fresh i) (Mapped 0 props)) rest s) (sym same) (props, begins, leads) in
     (s, tell s.identity one, one, is)
 
 pub reopens_kept : ReopensKept
