@@ -1,0 +1,10 @@
+pub mod Answers
+pub mod Commands
+pub mod Faults
+pub mod Laws
+pub mod Openings
+pub mod Params
+pub mod ReadAgain
+pub mod Reading
+pub mod Replies
+pub mod Requests

@@ -1,0 +1,65 @@
+//! What stands in an answer: a number, a kind, a value.
+
+ghost use Rattle.std.specs.Prelude.{◌≡◌, IfOk, IfErr, Some, None};
+ghost use Rattle.std.specs.Option.{option_map};
+ghost use Rattle.ra_wire.specs.Params.{left_of, number_in, text_in, bracketed, NotRead};
+ghost use Rattle.ra_wire.specs.Answers.{kind_in, kind_said, node_kind_in};
+
+use crate::fault::WireFault;
+use crate::params::Params;
+use node_base::NodeKind;
+
+/// The number that an answer to `get-latest-rev` holds. `BadShape` (48) for another form.
+pub fn latest(content: Params) -> Result<u64, WireFault>
+    ensures read { IfOk result (λ n. option_map (λ r. r.0) (number_in (left_of content)) ≡ Some n) }
+    ensures none { IfErr result (NotRead (number_in (left_of content))) }
+{
+    let mut content = content;
+    content.number()
+}
+
+/// What an answer to `check-path` says of the path: nothing, a file or a directory. `BadShape` (48) for another form.
+pub fn kind(content: Params) -> Result<Option<NodeKind>, WireFault>
+    ensures read { IfOk result (λ k. option_map (λ r. r.0) (kind_in (left_of content)) ≡ Some k) }
+    ensures none { IfErr result (NotRead (kind_in (left_of content))) }
+{
+    let mut content = content;
+    next_kind(&mut content)
+}
+
+/// The value that an answer to `rev-prop` holds, or none. `BadShape` (48) for another form.
+pub fn value(content: Params) -> Result<Option<Vec<u8>>, WireFault>
+    ensures read { IfOk result (λ v. option_map (λ r. r.0) (bracketed text_in (left_of content)) ≡ Some (option_map (λ t. t.items) v)) }
+    ensures none { IfErr result (NotRead (bracketed text_in (left_of content))) }
+{
+    let mut content = content;
+    content.maybe_text()
+}
+
+/// The next item, which is one of the words none, file and dir. `BadShape` (48) where it isn't.
+pub fn next_kind(params: &mut Params) -> Result<Option<NodeKind>, WireFault>
+    ensures read { IfOk result (λ k. kind_in (left_of params.old) ≡ Some (k, left_of params.new)) }
+    ensures none { IfErr result (NotRead (kind_in (left_of params.old))) }
+{
+    let word = params.word()?;
+    if word.as_slice() == b"none".as_slice() {
+        Ok(None)
+    } else if word.as_slice() == b"file".as_slice() {
+        Ok(Some(NodeKind::File))
+    } else if word.as_slice() == b"dir".as_slice() {
+        Ok(Some(NodeKind::Dir))
+    } else {
+        Err(WireFault::BadShape)
+    }
+}
+
+/// The next item, which is one of the words file and dir. `BadShape` (48) where it isn't.
+pub fn next_node_kind(params: &mut Params) -> Result<NodeKind, WireFault>
+    ensures read { IfOk result (λ k. node_kind_in (left_of params.old) ≡ Some (k, left_of params.new)) }
+    ensures none { IfErr result (NotRead (node_kind_in (left_of params.old))) }
+{
+    match next_kind(params)? {
+        Some(kind) => Ok(kind),
+        None => Err(WireFault::BadShape),
+    }
+}

@@ -1,0 +1,152 @@
+//! Pieces of what is written: names with brackets, words, strings that may be missing, properties.
+//!
+//! Each `Err` is the writer's own; then some of the bytes may have been written.
+
+ghost use Rattle.std.specs.Prelude.{◌≡◌, ◌++◌, ◌∷◌, [], ℕ, map, OnOk, Some, None};
+ghost use Rattle.std.specs.Option.{option_map};
+ghost use Rattle.std.specs.FinMap as finite;
+ghost use Rattle.std.specs.Io.KnownBytes.{Appends};
+ghost use Rattle.ra_item.specs.Items.{spell, spell_all, row, Word, Number, Text};
+ghost use Rattle.node_base.specs.PathText.{path_text};
+ghost use Rattle.ra_wire.specs.Commands.{truth_word};
+ghost use Rattle.ra_wire.specs.Replies.{before, behind, list, number_or_none, property, properties, string};
+
+use node_base::{NodePath, PropName, PropValue, Props};
+use ra_item::writer::{write_close, write_number, write_open, write_text, write_word};
+use std::io;
+use std::io::Write;
+
+/// What stands in front of an answer's content.
+pub fn write_name<W: Write>(out: &mut W, name: &[u8]) -> io::Result<()>
+    ensures { OnOk result (Appends (W.contents out.old) (W.contents out.new) (before name.now)) }
+{
+    write_open(out)?;
+    write_word(out, name)?;
+    write_open(out)
+}
+
+/// What stands behind it.
+pub fn write_end<W: Write>(out: &mut W) -> io::Result<()>
+    ensures { OnOk result (Appends (W.contents out.old) (W.contents out.new) behind) }
+{
+    write_close(out)?;
+    write_close(out)
+}
+
+/// Brackets without anything.
+pub fn write_none<W: Write>(out: &mut W) -> io::Result<()>
+    ensures { OnOk result (Appends (W.contents out.old) (W.contents out.new) (spell (list []))) }
+{
+    write_open(out)?;
+    write_close(out)
+}
+
+/// One word in brackets.
+pub fn write_one<W: Write>(out: &mut W, word: &[u8]) -> io::Result<()>
+    ensures { OnOk result (Appends (W.contents out.old) (W.contents out.new) (spell (list (Word word.now ∷ [])))) }
+{
+    write_open(out)?;
+    write_word(out, word)?;
+    write_close(out)
+}
+
+/// Two words in brackets.
+pub fn write_two<W: Write>(out: &mut W, first: &[u8], second: &[u8]) -> io::Result<()>
+    ensures { OnOk result (Appends (W.contents out.old) (W.contents out.new) (spell (list (Word first.now ∷ Word second.now ∷ [])))) }
+{
+    write_open(out)?;
+    write_word(out, first)?;
+    write_word(out, second)?;
+    write_close(out)
+}
+
+/// Brackets with a string or nothing.
+pub fn write_string<W: Write>(out: &mut W, found: Option<&[u8]>) -> io::Result<()>
+    ensures { OnOk result (Appends (W.contents out.old) (W.contents out.new) (spell (string (option_map (λ v. v.now) found.entry)))) }
+{
+    match found {
+        None => write_none(out),
+        Some(found) => {
+            write_open(out)?;
+            write_text(out, found)?;
+            write_close(out)
+        }
+    }
+}
+
+/// A property.
+pub fn write_property<W: Write>(out: &mut W, name: &[u8], found: &[u8]) -> io::Result<()>
+    ensures { OnOk result (Appends (W.contents out.old) (W.contents out.new) (spell (property (name.now, found.now)))) }
+{
+    write_open(out)?;
+    write_text(out, name)?;
+    write_text(out, found)?;
+    write_close(out)
+}
+
+/// Properties one after another.
+pub fn write_entries<W: Write>(out: &mut W, entries: &[(PropName, PropValue)]) -> io::Result<()>
+    ensures { OnOk result (Appends (W.contents out.old) (W.contents out.new) (spell_all (row (map property entries.now)))) }
+{
+    let Some((first, others)) = entries.split_first() else {
+        return Ok(());
+    };
+    write_property(out, first.0.as_bytes(), first.1.as_slice())?;
+    write_entries(out, others)
+}
+
+/// Properties in brackets.
+pub fn write_properties<W: Write>(out: &mut W, props: &Props) -> io::Result<()>
+    ensures { OnOk result (Appends (W.contents out.old) (W.contents out.new) (spell (properties (finite.entries props.now)))) }
+{
+    write_open(out)?;
+    write_entries(out, props.entries())?;
+    write_close(out)
+}
+
+/// A number in brackets, or empty brackets.
+pub fn write_number_or_none<W: Write>(out: &mut W, n: Option<u64>) -> io::Result<()>
+    ensures { OnOk result (Appends (W.contents out.old) (W.contents out.new) (spell (number_or_none n))) }
+{
+    match n {
+        None => write_none(out),
+        Some(n) => {
+            write_open(out)?;
+            write_number(out, n)?;
+            write_close(out)
+        }
+    }
+}
+
+/// A word that is true or false.
+pub fn write_truth<W: Write>(out: &mut W, b: bool) -> io::Result<()>
+    ensures { OnOk result (Appends (W.contents out.old) (W.contents out.new) (spell (Word (truth_word b)))) }
+{
+    if b {
+        write_word(out, b"true")
+    } else {
+        write_word(out, b"false")
+    }
+}
+
+/// A path.
+pub fn write_path<W: Write>(out: &mut W, path: &NodePath) -> io::Result<()>
+    ensures { OnOk result (Appends (W.contents out.old) (W.contents out.new) (spell (Text (path_text path.now)))) }
+{
+    let len = path.text_len();
+    write!(out, "{len}:{path} ")
+}
+
+/// Brackets that are empty or hold a value.
+pub fn write_text_or_none<W: Write>(out: &mut W, value: &Option<Vec<u8>>) -> io::Result<()>
+    ensures { OnOk result (Appends (W.contents out.old) (W.contents out.new) (spell (string (option_map (λ v. v.items) value.now)))) }
+{
+    match value {
+        None => write_none(out),
+        Some(value) => {
+            write_open(out)?;
+            write_text(out, value.as_slice())?;
+            write_close(out)
+        }
+    }
+}

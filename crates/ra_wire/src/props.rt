@@ -1,0 +1,100 @@
+//! Lists of properties.
+
+ghost use Rattle.std.specs.Prelude.{◌≡◌, IfOk, IfErr, Some, None};
+ghost use Rattle.std.specs.Option.{option_map};
+ghost use Rattle.std.specs.FinMap as finite;
+ghost use Rattle.ra_item.specs.Items.{row};
+ghost use Rattle.ra_wire.specs.Params.{left_of, NotRead};
+ghost use Rattle.ra_wire.specs.Answers.{short_value, property_in, with_property, one_more, properties_of, props_in, revprops_in};
+
+use crate::fault::WireFault;
+use crate::params::Params;
+use node_base::{PropFault, PropName, PropValue, Props};
+use ra_item::item::Item;
+use std::alloc::Global;
+
+// A value within the limit.
+fn short_value(text: Vec<u8>) -> Result<PropValue, WireFault>
+    ensures read { IfOk result (λ v. short_value text.items ≡ Some v) }
+    ensures none { IfErr result (NotRead (short_value text.items)) }
+{
+    match PropValue::new(text) {
+        Ok(value) => Ok(value),
+        Err(_) => Err(WireFault::BadShape),
+    }
+}
+
+// The property that an item is: `( name value )`.
+fn property_of(item: Item) -> Result<(PropName, PropValue), WireFault>
+    ensures read { IfOk result (λ e. property_in item ≡ Some (e.0, e.1)) }
+    ensures none { IfErr result (NotRead (property_in item)) }
+{
+    let mut parts = Params::of(item)?;
+    let name = parts.prop_name()?;
+    let value = short_value(parts.text()?)?;
+    Ok((name, value))
+}
+
+// Puts a property among others.
+fn put(alloc: Global, props: &mut Props, name: PropName, value: PropValue) -> Result<(), WireFault>
+    ensures read { IfOk result (λ _. with_property props.old (name, value) ≡ Some props.new) }
+    ensures none { IfErr result (NotRead (with_property props.old (name, value))) }
+{
+    match props.set(alloc, name, value) {
+        Ok(()) => Ok(()),
+        Err(PropFault::OutOfMemory) => Err(WireFault::OutOfMemory),
+        Err(_) => Err(WireFault::BadShape),
+    }
+}
+
+// Puts the property that an item is among others.
+fn put_next(alloc: Global, props: &mut Props, item: Item) -> Result<(), WireFault>
+    ensures read { IfOk result (λ _. one_more props.old item ≡ Some props.new) }
+    ensures none { IfErr result (NotRead (one_more props.old item)) }
+{
+    let (name, value) = property_of(item)?;
+    put(alloc, props, name, value)
+}
+
+// The properties that items are.
+fn all_props(alloc: Global, items: Vec<Item>) -> Result<Props, WireFault>
+    ensures read { IfOk result (λ m. properties_of finite.empty (row items.items) ≡ Some m) }
+    ensures none { IfErr result (NotRead (properties_of finite.empty (row items.items))) }
+{
+    let mut props = Props::empty();
+    for item in items {
+        put_next(alloc, &mut props, item)?;
+    }
+    Ok(props)
+}
+
+/// The next item, which is a list of properties in any order; of two with one name the later counts. `BadShape` (48) where it isn't,
+/// and for a name, a value or a number of properties past the limits; `OutOfMemory` (70).
+pub fn next_props(alloc: Global, params: &mut Params) -> Result<Props, WireFault>
+    ensures read { IfOk result (λ m. props_in (left_of params.old) ≡ Some (m, left_of params.new)) }
+    ensures none { IfErr result (NotRead (props_in (left_of params.old))) }
+{
+    all_props(alloc, params.items()?)
+}
+
+/// The properties that an answer to `rev-proplist` holds. As [`next_props`].
+pub fn proplist(alloc: Global, content: Params) -> Result<Props, WireFault>
+    ensures read { IfOk result (λ m. option_map (λ r. r.0) (props_in (left_of content)) ≡ Some m) }
+    ensures none { IfErr result (NotRead (props_in (left_of content))) }
+{
+    let mut content = content;
+    next_props(alloc, &mut content)
+}
+
+/// The properties in front of a revision's edit: `( revprops ( .. ) )`. `BadShape` (48) for another form, and as [`next_props`].
+pub fn revprops(alloc: Global, item: Item) -> Result<Props, WireFault>
+    ensures read { IfOk result (λ m. revprops_in item ≡ Some m) }
+    ensures none { IfErr result (NotRead (revprops_in item)) }
+{
+    let mut parts = Params::of(item)?;
+    if parts.word()?.as_slice() == b"revprops".as_slice() {
+        next_props(alloc, &mut parts)
+    } else {
+        Err(WireFault::BadShape)
+    }
+}

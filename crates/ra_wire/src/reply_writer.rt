@@ -1,0 +1,377 @@
+//! What a server writes, in the one spelling that is written: one space behind each item and each bracket.
+//!
+//! Each `Err` is the writer's own; then some of the bytes may have been written.
+
+ghost use Rattle.std.specs.Prelude.{◌≡◌, ◌++◌, ◌∷◌, [], codes, map, OnOk, Some, None, if◌then◌else◌};
+ghost use Rattle.std.specs.Option.{option_map};
+ghost use Rattle.std.specs.FinMap as finite;
+ghost use Rattle.std.specs.Io.KnownBytes.{Appends};
+ghost use Rattle.ra_item.specs.Items.{spell, spell_all, row, Word, Number, Text};
+ghost use Rattle.ra_wire.specs.Replies.{answer_of, list, greeting, mechanisms, only_anonymous, welcome, authorised, done, number, failure, properties, proplist, revprops, string, value, kind_is, node_kind_word, dirent, wanted_props, file_found, dir_found};
+ghost use Rattle.ra_wire.specs.Answers.{dirent_as};
+ghost use Rattle.ra_wire.specs.Commands.{truth_word};
+ghost use Rattle.std.specs.List.{flat_map};
+
+use crate::dirent::Dirent;
+use crate::pieces::{
+    write_end, write_name, write_none, write_one, write_properties, write_string,
+    write_text_or_none, write_truth, write_two,
+};
+use node_base::{NodeKind, NodeName, Props, RevNo};
+use ra_item::writer::{write_close, write_number, write_open, write_text, write_word};
+use std::io;
+use std::io::Write;
+
+// The greeting, with its name and two capabilities.
+fn write_versions<W: Write>(out: &mut W, name: &[u8], first: &[u8], second: &[u8]) -> io::Result<()>
+    ensures { OnOk result (Appends (W.contents out.old) (W.contents out.new) (spell (answer_of name.now (Number 2 ∷ Number 2 ∷ list [] ∷ list (Word first.now ∷ Word second.now ∷ []) ∷ [])))) }
+{
+    write_name(out, name)?;
+    write_number(out, 2)?;
+    write_number(out, 2)?;
+    write_none(out)?;
+    write_two(out, first, second)?;
+    write_end(out)
+}
+
+/// The server's greeting: version 2 and its capabilities.
+pub fn write_greeting<W: Write>(out: &mut W) -> io::Result<()>
+    ensures { OnOk result (Appends (W.contents out.old) (W.contents out.new) (spell (greeting))) }
+{
+    write_versions(out, b"success", b"edit-pipeline", b"atomic-revprops")
+}
+
+// A way and a realm.
+fn write_way<W: Write>(out: &mut W, name: &[u8], way: &[u8], realm: &[u8]) -> io::Result<()>
+    ensures { OnOk result (Appends (W.contents out.old) (W.contents out.new) (spell (answer_of name.now (list (Word way.now ∷ []) ∷ Text realm.now ∷ [])))) }
+{
+    write_name(out, name)?;
+    write_one(out, way)?;
+    write_text(out, realm)?;
+    write_end(out)
+}
+
+/// The way in which a client may say who it is, and the realm.
+pub fn write_mechanisms<W: Write>(out: &mut W, realm: &[u8]) -> io::Result<()>
+    ensures { OnOk result (Appends (W.contents out.old) (W.contents out.new) (spell (mechanisms realm.now))) }
+{
+    write_way(out, b"success", b"ANONYMOUS", realm)
+}
+
+// A text as an answer.
+fn write_texted<W: Write>(out: &mut W, name: &[u8], text: &[u8]) -> io::Result<()>
+    ensures { OnOk result (Appends (W.contents out.old) (W.contents out.new) (spell (answer_of name.now (Text text.now ∷ [])))) }
+{
+    write_name(out, name)?;
+    write_text(out, text)?;
+    write_end(out)
+}
+
+/// The answer to another way.
+pub fn write_only_anonymous<W: Write>(out: &mut W) -> io::Result<()>
+    ensures { OnOk result (Appends (W.contents out.old) (W.contents out.new) (spell (only_anonymous))) }
+{
+    write_texted(out, b"failure", b"only ANONYMOUS")
+}
+
+// Two texts and empty brackets.
+fn write_texts<W: Write>(out: &mut W, name: &[u8], first: &[u8], second: &[u8]) -> io::Result<()>
+    ensures { OnOk result (Appends (W.contents out.old) (W.contents out.new) (spell (answer_of name.now (Text first.now ∷ Text second.now ∷ list [] ∷ [])))) }
+{
+    write_name(out, name)?;
+    write_text(out, first)?;
+    write_text(out, second)?;
+    write_none(out)?;
+    write_end(out)
+}
+
+/// The end of an opening: the repository's identity and URL.
+pub fn write_welcome<W: Write>(out: &mut W, identity: &[u8], url: &[u8]) -> io::Result<()>
+    ensures { OnOk result (Appends (W.contents out.old) (W.contents out.new) (spell (welcome identity.now url.now))) }
+{
+    write_texts(out, b"success", identity, url)
+}
+
+// Empty brackets and a text.
+fn write_asking<W: Write>(out: &mut W, name: &[u8], text: &[u8]) -> io::Result<()>
+    ensures { OnOk result (Appends (W.contents out.old) (W.contents out.new) (spell (answer_of name.now (list [] ∷ Text text.now ∷ [])))) }
+{
+    write_name(out, name)?;
+    write_none(out)?;
+    write_text(out, text)?;
+    write_end(out)
+}
+
+/// What stands before the answer to a command.
+pub fn write_authorised<W: Write>(out: &mut W) -> io::Result<()>
+    ensures { OnOk result (Appends (W.contents out.old) (W.contents out.new) (spell (authorised))) }
+{
+    write_asking(out, b"success", b"")
+}
+
+/// An answer without content.
+pub fn write_done<W: Write>(out: &mut W) -> io::Result<()>
+    ensures { OnOk result (Appends (W.contents out.old) (W.contents out.new) (spell done)) }
+{
+    write_name(out, b"success")?;
+    write_end(out)
+}
+
+// One refusal.
+fn write_fault<W: Write>(out: &mut W, n: u8, text: &[u8]) -> io::Result<()>
+    ensures { OnOk result (Appends (W.contents out.old) (W.contents out.new) (spell (list (Number n ∷ Text text.now ∷ Text [] ∷ Number 0 ∷ [])))) }
+{
+    write_open(out)?;
+    write_number(out, u64::from(n))?;
+    write_text(out, text)?;
+    write_text(out, b"")?;
+    write_number(out, 0)?;
+    write_close(out)
+}
+
+// The same with the answer's name.
+fn write_refused<W: Write>(out: &mut W, name: &[u8], n: u8, text: &[u8]) -> io::Result<()>
+    ensures { OnOk result (Appends (W.contents out.old) (W.contents out.new) (spell (answer_of name.now (list (Number n ∷ Text text.now ∷ Text [] ∷ Number 0 ∷ []) ∷ [])))) }
+{
+    write_name(out, name)?;
+    write_fault(out, n, text)?;
+    write_end(out)
+}
+
+/// A refusal, by its number and text.
+pub fn write_failure<W: Write>(out: &mut W, n: u8, text: &[u8]) -> io::Result<()>
+    ensures { OnOk result (Appends (W.contents out.old) (W.contents out.new) (spell (failure n text.now))) }
+{
+    write_refused(out, b"failure", n, text)
+}
+
+// A number with the answer's name.
+fn write_numbered<W: Write>(out: &mut W, name: &[u8], n: u64) -> io::Result<()>
+    ensures { OnOk result (Appends (W.contents out.old) (W.contents out.new) (spell (answer_of name.now (Number n ∷ [])))) }
+{
+    write_name(out, name)?;
+    write_number(out, n)?;
+    write_end(out)
+}
+
+/// A number as an answer.
+pub fn write_latest<W: Write>(out: &mut W, n: RevNo) -> io::Result<()>
+    ensures { OnOk result (Appends (W.contents out.old) (W.contents out.new) (spell (number n))) }
+{
+    write_numbered(out, b"success", u64::from(n.get()))
+}
+
+// A word with the answer's name.
+fn write_worded<W: Write>(out: &mut W, name: &[u8], word: &[u8]) -> io::Result<()>
+    ensures { OnOk result (Appends (W.contents out.old) (W.contents out.new) (spell (answer_of name.now (Word word.now ∷ [])))) }
+{
+    write_name(out, name)?;
+    write_word(out, word)?;
+    write_end(out)
+}
+
+/// What stands at a path.
+pub fn write_kind<W: Write>(out: &mut W, kind: Option<NodeKind>) -> io::Result<()>
+    ensures { OnOk result (Appends (W.contents out.old) (W.contents out.new) (spell (kind_is kind))) }
+{
+    match kind {
+        None => write_worded(out, b"success", b"none"),
+        Some(NodeKind::File) => write_worded(out, b"success", b"file"),
+        Some(NodeKind::Dir) => write_worded(out, b"success", b"dir"),
+    }
+}
+
+// The same with the answer's name.
+fn write_found<W: Write>(out: &mut W, name: &[u8], found: Option<&[u8]>) -> io::Result<()>
+    ensures { OnOk result (Appends (W.contents out.old) (W.contents out.new) (spell (answer_of name.now (string (option_map (λ v. v.now) found.entry) ∷ [])))) }
+{
+    write_name(out, name)?;
+    write_string(out, found)?;
+    write_end(out)
+}
+
+/// The value of one property, or none.
+pub fn write_value<W: Write>(out: &mut W, found: Option<&[u8]>) -> io::Result<()>
+    ensures { OnOk result (Appends (W.contents out.old) (W.contents out.new) (spell (value (option_map (λ v. v.now) found.entry)))) }
+{
+    write_found(out, b"success", found)
+}
+
+// The same with the answer's name.
+fn write_all_named<W: Write>(out: &mut W, name: &[u8], props: &Props) -> io::Result<()>
+    ensures { OnOk result (Appends (W.contents out.old) (W.contents out.new) (spell (answer_of name.now (properties (finite.entries props.now) ∷ [])))) }
+{
+    write_name(out, name)?;
+    write_properties(out, props)?;
+    write_end(out)
+}
+
+/// All properties of a revision as an answer.
+pub fn write_proplist<W: Write>(out: &mut W, props: &Props) -> io::Result<()>
+    ensures { OnOk result (Appends (W.contents out.old) (W.contents out.new) (spell (proplist props.now))) }
+{
+    write_all_named(out, b"success", props)
+}
+
+// Properties behind a name.
+fn write_behind<W: Write>(out: &mut W, name: &[u8], props: &Props) -> io::Result<()>
+    ensures { OnOk result (Appends (W.contents out.old) (W.contents out.new) (spell (list (Word name.now ∷ properties (finite.entries props.now) ∷ [])))) }
+{
+    write_open(out)?;
+    write_word(out, name)?;
+    write_properties(out, props)?;
+    write_close(out)
+}
+
+/// All properties of a revision in front of its edit.
+pub fn write_revprops<W: Write>(out: &mut W, props: &Props) -> io::Result<()>
+    ensures { OnOk result (Appends (W.contents out.old) (W.contents out.new) (spell (revprops props.now))) }
+{
+    write_behind(out, b"revprops", props)
+}
+
+/// Properties where they are wanted, and empty brackets where they aren't.
+pub fn write_wanted<W: Write>(out: &mut W, props: &Props, wanted: bool) -> io::Result<()>
+    ensures { OnOk result (Appends (W.contents out.old) (W.contents out.new) (spell (wanted_props wanted props.now))) }
+{
+    if wanted {
+        write_properties(out, props)
+    } else {
+        write_none(out)
+    }
+}
+
+// A kind of a node.
+fn write_node_kind<W: Write>(out: &mut W, kind: NodeKind) -> io::Result<()>
+    ensures { OnOk result (Appends (W.contents out.old) (W.contents out.new) (spell (Word (node_kind_word kind)))) }
+{
+    match kind {
+        NodeKind::File => write_word(out, b"file"),
+        NodeKind::Dir => write_word(out, b"dir"),
+    }
+}
+
+// A name of a file or a directory.
+fn write_node_name<W: Write>(out: &mut W, name: &NodeName) -> io::Result<()>
+    ensures { OnOk result (Appends (W.contents out.old) (W.contents out.new) (spell (Text name.now))) }
+{
+    let text = name.as_str();
+    write_text(out, text.as_bytes())
+}
+
+// What follows an entry's name, kind and size.
+fn write_rest<W: Write>(
+    out: &mut W,
+    has_props: bool,
+    created: u64,
+    date: &Option<Vec<u8>>,
+    author: &Option<Vec<u8>>,
+) -> io::Result<()>
+    ensures { OnOk result (Appends (W.contents out.old) (W.contents out.new) (spell_all (row (Word (truth_word has_props) ∷ Number created ∷ string (option_map (λ t. t.items) date.now) ∷ string (option_map (λ t. t.items) author.now) ∷ [])))) }
+{
+    write_truth(out, has_props)?;
+    write_number(out, created)?;
+    write_text_or_none(out, date)?;
+    write_text_or_none(out, author)
+}
+
+/// An entry of a directory.
+pub fn write_dirent<W: Write>(out: &mut W, entry: &Dirent) -> io::Result<()>
+    ensures { OnOk result (Appends (W.contents out.old) (W.contents out.new) (spell (dirent (dirent_as entry.now)))) }
+{
+    write_open(out)?;
+    write_node_name(out, &entry.name)?;
+    write_node_kind(out, entry.kind)?;
+    write_number(out, entry.size)?;
+    write_rest(
+        out,
+        entry.has_props,
+        entry.created,
+        &entry.date,
+        &entry.author,
+    )?;
+    write_close(out)
+}
+
+// Entries one after another.
+fn write_dirents<W: Write>(out: &mut W, entries: &[Dirent]) -> io::Result<()>
+    ensures { OnOk result (Appends (W.contents out.old) (W.contents out.new) (spell_all (row (map dirent (map dirent_as entries.now))))) }
+{
+    for entry in entries {
+        write_dirent(out, entry)?;
+    }
+    Ok(())
+}
+
+// Entries in brackets.
+fn write_entries<W: Write>(out: &mut W, entries: &[Dirent]) -> io::Result<()>
+    ensures { OnOk result (Appends (W.contents out.old) (W.contents out.new) (spell (list (map dirent (map dirent_as entries.now))))) }
+{
+    write_open(out)?;
+    write_dirents(out, entries)?;
+    write_close(out)
+}
+
+// A file's sum, revision and properties behind an answer's name.
+fn write_file_named<W: Write>(
+    out: &mut W,
+    name: &[u8],
+    sum: &[u8],
+    n: RevNo,
+    props: &Props,
+    wanted: bool,
+) -> io::Result<()>
+    ensures { OnOk result (Appends (W.contents out.old) (W.contents out.new) (spell (answer_of name.now (list (Text sum.now ∷ []) ∷ Number n ∷ wanted_props wanted props.now ∷ [])))) }
+{
+    write_name(out, name)?;
+    write_open(out)?;
+    write_text(out, sum)?;
+    write_close(out)?;
+    write_number(out, u64::from(n.get()))?;
+    write_wanted(out, props, wanted)?;
+    write_end(out)
+}
+
+/// What a client is told of a file: the digits of its text's MD5, the revision, and its properties where they are wanted.
+pub fn write_file<W: Write>(
+    out: &mut W,
+    sum: &[u8],
+    n: RevNo,
+    props: &Props,
+    wanted: bool,
+) -> io::Result<()>
+    ensures { OnOk result (Appends (W.contents out.old) (W.contents out.new) (spell (file_found sum.now n wanted props.now))) }
+{
+    write_file_named(out, b"success", sum, n, props, wanted)
+}
+
+// A directory's revision, properties and entries behind an answer's name.
+fn write_dir_named<W: Write>(
+    out: &mut W,
+    name: &[u8],
+    n: RevNo,
+    props: &Props,
+    wanted: bool,
+    entries: &[Dirent],
+) -> io::Result<()>
+    ensures { OnOk result (Appends (W.contents out.old) (W.contents out.new) (spell (answer_of name.now (Number n ∷ wanted_props wanted props.now ∷ list (map dirent (map dirent_as entries.now)) ∷ [])))) }
+{
+    write_name(out, name)?;
+    write_number(out, u64::from(n.get()))?;
+    write_wanted(out, props, wanted)?;
+    write_entries(out, entries)?;
+    write_end(out)
+}
+
+/// What a client is told of a directory: the revision, its properties where they are wanted, and its entries.
+pub fn write_dir<W: Write>(
+    out: &mut W,
+    n: RevNo,
+    props: &Props,
+    wanted: bool,
+    entries: &[Dirent],
+) -> io::Result<()>
+    ensures { OnOk result (Appends (W.contents out.old) (W.contents out.new) (spell (dir_found n wanted props.now (map dirent_as entries.now)))) }
+{
+    write_dir_named(out, b"success", n, props, wanted, entries)
+}
