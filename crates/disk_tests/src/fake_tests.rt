@@ -1,0 +1,261 @@
+//! A disk over a host that remembers what was asked of it, and that may fail.
+ghost use Rattle.std.specs.Prelude.{◌≡◌, ⊤, IfOk};
+
+use fleet_disk::{Disk, DiskFile, HeldFiles, HostDisk};
+use std::alloc::Allocator;
+use std::cell::Cell;
+use std::fs::{Metadata, OpenFile, OpenOptions};
+use std::io;
+use std::io::{ErrorKind, Read, Seek, SeekFrom, Write};
+use std::rt::Files;
+use std::test::Fail;
+
+// What was asked of the files of a host.
+#[derive(Drop)]
+struct Asked {
+    fails: Cell<bool>,
+    holds: Cell<u32>,
+    syncs: Cell<u32>,
+    folder_syncs: Cell<u32>,
+    cut_to: Cell<u64>,
+    sought: Cell<u64>,
+}
+
+impl Asked {
+    fn answer<T>(&self, value: T) -> io::Result<T>
+    where
+        T: Drop,
+        ensures { IfOk result (λ given. given ≡ value) }
+    {
+        if self.fails.get() {
+            return Err(unsupported());
+        }
+        Ok(value)
+    }
+}
+
+fn unsupported() -> io::Error {
+    io::Error::from(ErrorKind::Unsupported)
+}
+
+// A file that takes and gives one byte a call.
+#[derive(Drop)]
+struct FakeFile<'a> {
+    asked: &'a Asked,
+}
+
+impl<'a> Read for FakeFile<'a> {
+    fn read(&mut self, buf: &mut [u8]) -> io::Result<usize> {
+        self.asked.answer(buf.len().min(1))
+    }
+}
+
+impl<'a> Write for FakeFile<'a> {
+    fn write(&mut self, buf: &[u8]) -> io::Result<usize> {
+        self.asked.answer(buf.len().min(1))
+    }
+
+    fn flush(&mut self) -> io::Result<()> {
+        self.asked.answer(())
+    }
+}
+
+impl<'a> Seek for FakeFile<'a> {
+    fn seek(&mut self, to: SeekFrom) -> io::Result<u64> {
+        let at = match to {
+            SeekFrom::Start(at) => at,
+            _ => 7,
+        };
+        self.asked.sought.set(at);
+        self.asked.answer(at)
+    }
+}
+
+impl<'a> OpenFile for FakeFile<'a> {
+    fn metadata(&self) -> io::Result<Metadata> {
+        Err(unsupported())
+    }
+
+    fn set_len(&self, size: u64) -> io::Result<()> {
+        self.asked.cut_to.set(size);
+        self.asked.answer(())
+    }
+
+    fn sync_all(&self) -> io::Result<()> {
+        self.asked
+            .folder_syncs
+            .set(self.asked.folder_syncs.get().saturating_add(1));
+        self.asked.answer(())
+    }
+
+    fn sync_data(&self) -> io::Result<()> {
+        self.asked
+            .syncs
+            .set(self.asked.syncs.get().saturating_add(1));
+        self.asked.answer(())
+    }
+}
+
+#[derive(Drop)]
+struct FakeHost<'a> {
+    asked: &'a Asked,
+}
+
+impl<'a> Files for FakeHost<'a> {
+    type File = FakeFile<'a>;
+
+    type Dir = FakeFile<'a>;
+
+    fn open_file(&self, _how: &OpenOptions, _path: &str) -> io::Result<FakeFile<'a>> {
+        Ok(FakeFile { asked: self.asked })
+    }
+
+    fn open_dir(&self, _path: &str) -> io::Result<FakeFile<'a>> {
+        Err(unsupported())
+    }
+
+    fn metadata(&self, _path: &str) -> io::Result<Metadata> {
+        Err(unsupported())
+    }
+
+    fn symlink_metadata(&self, _path: &str) -> io::Result<Metadata> {
+        Err(unsupported())
+    }
+
+    fn copy(&self, _from: &str, _to: &str) -> io::Result<u64> {
+        Err(unsupported())
+    }
+
+    fn rename(&self, _from: &str, _to: &str) -> io::Result<()> {
+        Err(unsupported())
+    }
+
+    fn remove_file(&self, _path: &str) -> io::Result<()> {
+        Err(unsupported())
+    }
+
+    fn create_dir(&self, _path: &str) -> io::Result<()> {
+        Err(unsupported())
+    }
+
+    fn remove_dir(&self, _path: &str) -> io::Result<()> {
+        Err(unsupported())
+    }
+
+    fn remove_dir_all<B: Allocator>(&self, _alloc: B, _path: &str) -> io::Result<()> {
+        Err(unsupported())
+    }
+}
+
+impl<'a> HeldFiles for FakeHost<'a> {
+    ghost is_held = { λ file. ⊤ };
+
+    ghost has_bytes = { λ file. ⊤ };
+
+    fn is_empty(&self, file: &FakeFile<'a>) -> io::Result<bool> {
+        file.asked.answer(true)
+    }
+
+    fn hold(&self, file: &FakeFile<'a>) -> io::Result<()> {
+        file.asked
+            .holds
+            .set(file.asked.holds.get().saturating_add(1));
+        file.asked.answer(())
+    }
+}
+
+fn nothing_asked() -> Asked {
+    Asked {
+        fails: Cell::new(false),
+        holds: Cell::new(0),
+        syncs: Cell::new(0),
+        folder_syncs: Cell::new(0),
+        cut_to: Cell::new(0),
+        sought: Cell::new(0),
+    }
+}
+
+// Whether so many files were held, and so many syncs made of a file and of the folder.
+fn was_asked(asked: &Asked, holds: u32, syncs: u32, folder_syncs: u32) -> bool {
+    asked.holds.get() == holds
+        && asked.syncs.get() == syncs
+        && asked.folder_syncs.get() == folder_syncs
+}
+
+// Whether a first sync reaches both files, and a second none.
+fn syncs_both<'a>(disk: &mut HostDisk<FakeFile<'a>>, asked: &Asked) -> bool {
+    was_asked(asked, 1, 0, 1)
+        && disk.sync().is_ok()
+        && was_asked(asked, 1, 2, 1)
+        && disk.sync().is_ok()
+        && was_asked(asked, 1, 2, 1)
+}
+
+// A first sync reaches both files, a later one those that were changed since, and making them the folder. One file is
+// held.
+#[test]
+fn what_a_folder_is_asked(rt: HostRuntime) -> Result<(), Fail> {
+    let asked = nothing_asked();
+    let mut disk = HostDisk::create(&FakeHost { asked: &asked }, rt.alloc(), "folder")?;
+    assert!(rt; syncs_both(&mut disk, &asked));
+    Ok(())
+}
+
+// Whether a cut of the gate and the sync behind it ask for that of one file.
+fn cuts_one<'a>(disk: &mut HostDisk<FakeFile<'a>>, asked: &Asked) -> bool {
+    disk.sync().is_ok()
+        && disk.cut(DiskFile::Gate, 5).is_ok()
+        && disk.sync().is_ok()
+        && asked.cut_to.get() == 5
+        && was_asked(asked, 1, 3, 1)
+}
+
+// Whether writes of both files and the sync behind them ask for that, at the place that is given.
+fn writes_both<'a>(disk: &mut HostDisk<FakeFile<'a>>, asked: &Asked) -> bool {
+    disk.write_at(DiskFile::Journal, 9, b"abc").is_ok()
+        && asked.sought.get() == 9
+        && disk.write_at(DiskFile::Gate, 9, b"abc").is_ok()
+        && disk.sync().is_ok()
+        && was_asked(asked, 1, 5, 1)
+        && disk.len(DiskFile::Journal) == Ok(7)
+}
+
+// A sync reaches the file that was changed since the last, at the place that was given.
+#[test]
+fn what_a_change_is_asked(rt: HostRuntime) -> Result<(), Fail> {
+    let asked = nothing_asked();
+    let mut disk = HostDisk::create(&FakeHost { asked: &asked }, rt.alloc(), "folder")?;
+    assert!(rt; cuts_one(&mut disk, &asked));
+    assert!(rt; writes_both(&mut disk, &asked));
+    Ok(())
+}
+
+// A folder whose journal is held by another is neither made nor opened.
+#[test]
+fn a_folder_that_is_held(rt: HostRuntime) {
+    let asked = nothing_asked();
+    asked.fails.set(true);
+    let host = FakeHost { asked: &asked };
+    assert!(rt; HostDisk::create(&host, rt.alloc(), "folder").is_err());
+    assert!(rt; HostDisk::open(&host, rt.alloc(), "folder").is_err());
+    assert!(rt; was_asked(&asked, 2, 0, 0));
+}
+
+// Whether each call of a disk is refused.
+fn refuses_all<'a>(disk: &mut HostDisk<FakeFile<'a>>) -> bool {
+    disk.sync().is_err()
+        && disk.len(DiskFile::Gate).is_err()
+        && disk.cut(DiskFile::Gate, 0).is_err()
+        && disk.write_at(DiskFile::Gate, 0, b"x").is_err()
+        && disk.read(DiskFile::Gate, 0, &mut [0u8; 1]).is_err()
+}
+
+// A host that fails is a device that does.
+#[test]
+fn a_folder_that_fails(rt: HostRuntime) -> Result<(), Fail> {
+    let asked = nothing_asked();
+    let mut disk = HostDisk::create(&FakeHost { asked: &asked }, rt.alloc(), "folder")?;
+    asked.fails.set(true);
+    assert!(rt; refuses_all(&mut disk));
+    Ok(())
+}

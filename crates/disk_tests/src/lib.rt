@@ -1,0 +1,13 @@
+//! Tests of disks and of the logs on them, by their public items.
+#![tactic(auto)]
+
+#[cfg(test)]
+mod disk_tests;
+#[cfg(test)]
+mod fake_tests;
+#[cfg(test)]
+mod folder_tests;
+#[cfg(test)]
+mod growth_tests;
+#[cfg(test)]
+mod log_tests;

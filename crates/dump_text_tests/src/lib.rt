@@ -1,0 +1,7 @@
+//! Tests of dump text that is read and written, by the public items of `dump_text`.
+#![tactic(auto)]
+
+#[cfg(test)]
+mod line_tests;
+#[cfg(test)]
+mod piece_tests;

@@ -1,0 +1,603 @@
+//! Commands over a folder in memory, from their words to their status: what is left on its disk, what is printed, and what is
+//! refused.
+
+use crate::memory::MemFolders;
+use fleet_disk::{Disk, DiskFile, Fuse, FuseDisk, MemDisk, Pick};
+use fleet_main::{Command, Folders, Sink, Source, plan, run};
+use node_base::{PropName, RevNo};
+use repo_core::Expected;
+use std::alloc::{AllocError, Global};
+use std::io;
+use std::io::Read;
+use std::test::Fail;
+use store_engines::open_store;
+
+// The version block, 31 bytes.
+pub(crate) const HEAD: &str = "SVN-fs-dump-format-version: 2\n\n";
+
+// The identity block, 44 bytes.
+pub(crate) const IDENTITY: &str = "UUID: 6a1f0c3e-0000-4000-8000-000000000001\n\n";
+
+// Revision 0 without properties, 74 bytes.
+const ZERO: &str =
+    "Revision-number: 0\nProp-content-length: 10\nContent-length: 10\n\nPROPS-END\n\n";
+
+// Revision 1 adds file `a` with a text of six bytes: 275 bytes.
+pub(crate) const ONE_FILE: &str =
+    "Revision-number: 1\nProp-content-length: 29\nContent-length: 29\n\nK 7\nsvn:log\nV 2\nhi\nPROPS-END\n\nNode-path: a\nNode-kind: file\nNode-action: add\nProp-content-length: 10\nText-content-length: 6\nText-content-md5: b1946ac92492d2347c6235b4d2611184\nContent-length: 16\n\nPROPS-END\nhello\n\n\n";
+
+// Revision 2 deletes it: 130 bytes.
+const NO_FILE: &str =
+    "Revision-number: 2\nProp-content-length: 10\nContent-length: 10\n\nPROPS-END\n\nNode-path: a\nNode-action: delete\n\n\n\n";
+
+// Revision 0 of a mirror.
+const MIRROR: &str =
+    "Revision-number: 0\nProp-content-length: 51\nContent-length: 51\n\nK 17\nsvn:sync-from-url\nV 12\nfile:///a/b/\nPROPS-END\n\n";
+
+// Revision 1 adds directory `a`: its properties have 75 bytes.
+const DIRECTORY: &str =
+    "Revision-number: 1\nProp-content-length: 75\nContent-length: 75\n\nK 8\nsvn:date\nV 27\n2001-09-09T01:46:40.123456Z\nK 7\nsvn:log\nV 2\nhi\nPROPS-END\n\nNode-path: a\nNode-kind: dir\nNode-action: add\nProp-content-length: 10\nContent-length: 10\n\nPROPS-END\n\n\n";
+
+// What is printed of a first and a second revision.
+pub(crate) const LOADED: &str = "Loaded revision 1.\n";
+
+const LOADED_TWO: &str = "Loaded revision 2.\n";
+
+// The words of commands.
+const CREATE: [&str; 4] = [
+    "create",
+    "repo",
+    "--uuid",
+    "6A1F0C3E-0000-4000-8000-000000000001",
+];
+
+pub(crate) const LOAD: [&str; 2] = ["load", "repo"];
+
+const DUMP: [&str; 2] = ["dump", "repo"];
+
+const DUMP_ONE: [&str; 4] = ["dump", "repo", "-r", "1:1"];
+
+fn joined(alloc: Global, parts: &[&str]) -> Result<Vec<u8>, AllocError> {
+    let mut all = Vec::new(alloc);
+    for part in parts {
+        all.extend_from_slice(part.as_bytes())?;
+    }
+    Ok(all)
+}
+
+// Whether the bytes are these parts, one behind another.
+fn are(bytes: &[u8], parts: &[&str]) -> bool {
+    let mut rest = bytes;
+    for part in parts {
+        match rest.strip_prefix(part.as_bytes()) {
+            Some(behind) => rest = behind,
+            None => return false,
+        }
+    }
+    rest.is_empty()
+}
+
+// Whether a disk's journal is these parts, and its gate these bytes.
+fn holds(disk: &MemDisk, parts: &[&str], gate: &[u8]) -> bool {
+    are(disk.bytes(DiskFile::Journal), parts) && disk.bytes(DiskFile::Gate) == gate
+}
+
+// The command that words name.
+fn named(alloc: Global, words: &[&str]) -> Result<Command, Fail> {
+    let mut all = Vec::new(alloc);
+    all.push(String::from_str(alloc, "svnfleet")?)?;
+    for word in words {
+        all.push(String::from_str(alloc, *word)?)?;
+    }
+    match plan(alloc, &all) {
+        Ok(command) => Ok(command),
+        Err(_) => Err(Fail::new("no command")),
+    }
+}
+
+// What a run gave.
+#[derive(Drop)]
+struct Ran {
+    status: u8,
+    output: Vec<u8>,
+    errors: Vec<u8>,
+}
+
+// Runs a command over folders that keep the rules.
+fn run_over<F: Folders, R: Read + Drop>(
+    alloc: Global,
+    folders: &mut F,
+    command: Command,
+    input: &mut Source<R>,
+) -> Ran
+    requires { F.honest folders.old }
+{
+    let mut output = Sink::new(Vec::new(alloc));
+    let mut errors = Sink::new(Vec::new(alloc));
+    let status = run(alloc, folders, command, input, &mut output, &mut errors);
+    Ran {
+        status,
+        output: output.into_inner(),
+        errors: errors.into_inner(),
+    }
+}
+
+// A command by its words, what there is to read, and what comes of it: what is printed, and the line of a refusal, where it is
+// refused.
+#[derive(Clone, Copy)]
+pub(crate) struct Step<'a> {
+    words: &'a [&'a str],
+    input: &'a [&'a str],
+    output: &'a [&'a str],
+    errors: &'a str,
+}
+
+// Whether a run came to what a step says.
+fn came_to(ran: &Ran, step: &Step<'_>) -> bool {
+    let status = if step.errors.is_empty() { 0 } else { 1 };
+    ran.status == status
+        && are(&ran.output, step.output)
+        && ran.errors.as_slice() == step.errors.as_bytes()
+}
+
+// Whether a step over the folder `repo` on this disk comes to what it says.
+pub(crate) fn comes<D: Disk + Drop>(
+    alloc: Global,
+    disk: &mut D,
+    step: &Step<'_>,
+) -> Result<bool, Fail>
+    requires { D.honest disk.old }
+{
+    let bytes = joined(alloc, step.input)?;
+    let command = named(alloc, step.words)?;
+    let mut folders = MemFolders::new("repo", disk);
+    let ran = run_over(
+        alloc,
+        &mut folders,
+        command,
+        &mut Source::new(bytes.as_slice()),
+    );
+    Ok(came_to(&ran, step))
+}
+
+// The first step that doesn't come to what it says. Behind each step the machine stops, and all that isn't synced is lost.
+fn first_wrong(
+    alloc: Global,
+    disk: &mut MemDisk,
+    steps: &[Step<'_>],
+) -> Result<Option<usize>, Fail> {
+    for (number, step) in steps.iter().enumerate() {
+        if !comes(alloc, disk, step)? {
+            return Ok(Some(number));
+        }
+        *disk = disk.crash(Pick::Old)?;
+    }
+    Ok(None)
+}
+
+// A step that is done.
+pub(crate) fn done<'a>(
+    words: &'a [&'a str],
+    input: &'a [&'a str],
+    output: &'a [&'a str],
+) -> Step<'a> {
+    Step {
+        words,
+        input,
+        output,
+        errors: "",
+    }
+}
+
+// A step that is refused before anything is printed.
+fn refused<'a>(words: &'a [&'a str], input: &'a [&'a str], errors: &'a str) -> Step<'a> {
+    Step {
+        words,
+        input,
+        output: &[],
+        errors,
+    }
+}
+
+// A disk with revision 0 alone.
+pub(crate) fn begun(alloc: Global) -> Result<MemDisk, Fail> {
+    let mut disk = MemDisk::new(alloc);
+    if !comes(alloc, &mut disk, &done(&CREATE, &[], &[]))? {
+        return Err(Fail::new("no repository"));
+    }
+    Ok(disk)
+}
+
+// A disk with the file's revision, all of it synced.
+pub(crate) fn with_one_file(alloc: Global) -> Result<MemDisk, Fail> {
+    let mut disk = begun(alloc)?;
+    if !comes(alloc, &mut disk, &done(&LOAD, &[HEAD, ONE_FILE], &[LOADED]))? {
+        return Err(Fail::new("no revision"));
+    }
+    Ok(disk.crash(Pick::Old)?)
+}
+
+#[test]
+fn create_begins_a_repository(rt: HostRuntime) -> Result<(), Fail> {
+    let alloc = rt.alloc();
+    let mut disk = MemDisk::new(alloc);
+    let steps = [
+        refused(&DUMP, &[], "svnfleet: 34 no repository\n"),
+        refused(&LOAD, &[HEAD, ONE_FILE], "svnfleet: 34 no repository\n"),
+        done(&CREATE, &[], &[]),
+        refused(&CREATE, &[], "svnfleet: 35 repository already there\n"),
+        done(&DUMP, &[], &[HEAD, IDENTITY, ZERO]),
+    ];
+    assert_eq!(rt; first_wrong(alloc, &mut disk, &steps)?, None);
+    let gate = [1, 0, 0, 0, 0, 0, 0, 0, 0x95, 0];
+    assert!(rt; holds(&disk, &[HEAD, IDENTITY, ZERO], &gate));
+    Ok(())
+}
+
+#[test]
+fn load_commits_each_revision(rt: HostRuntime) -> Result<(), Fail> {
+    let alloc = rt.alloc();
+    let mut disk = begun(alloc)?;
+    let steps = [
+        done(&LOAD, &[HEAD, ONE_FILE], &[LOADED]),
+        done(&DUMP, &[], &[HEAD, IDENTITY, ZERO, ONE_FILE]),
+        done(&DUMP_ONE, &[], &[HEAD, IDENTITY, ONE_FILE]),
+        refused(
+            &["dump", "repo", "-r", "0:2"],
+            &[],
+            "svnfleet: 21 no such revision\n",
+        ),
+    ];
+    assert_eq!(rt; first_wrong(alloc, &mut disk, &steps)?, None);
+    // 149 bytes, and 424 with the next entry
+    let gate = [
+        1, 0, 0, 0, 0, 0, 0, 0, 0x95, 1, 0, 0, 0, 0, 0, 0, 1, 0xA8, 0,
+    ];
+    assert!(rt; holds(&disk, &[HEAD, IDENTITY, ZERO, ONE_FILE], &gate));
+    Ok(())
+}
+
+#[test]
+fn load_goes_on_from_the_head(rt: HostRuntime) -> Result<(), Fail> {
+    let alloc = rt.alloc();
+    let mut disk = begun(alloc)?;
+    let late = "svnfleet: 16 revision out of sequence\n";
+    let steps = [
+        done(&LOAD, &[HEAD, IDENTITY, ZERO, ONE_FILE], &[LOADED]),
+        refused(&LOAD, &[HEAD, ZERO], late),
+        refused(&LOAD, &[HEAD, ONE_FILE], late),
+        done(&LOAD, &[HEAD, NO_FILE], &[LOADED_TWO]),
+        done(&DUMP, &[], &[HEAD, IDENTITY, ZERO, ONE_FILE, NO_FILE]),
+    ];
+    assert_eq!(rt; first_wrong(alloc, &mut disk, &steps)?, None);
+    // revision 0's properties were given once more
+    let journal = disk.bytes(DiskFile::Journal);
+    assert!(rt; are(journal, &[HEAD, IDENTITY, ZERO, ZERO, ONE_FILE, NO_FILE]));
+    Ok(())
+}
+
+// Whether a load of these parts into a new repository prints that and is refused with this line, where the journal has these
+// entries then.
+fn ends(
+    alloc: Global,
+    parts: &[&str],
+    output: &[&str],
+    errors: &str,
+    journal: &[&str],
+) -> Result<bool, Fail> {
+    let mut disk = begun(alloc)?;
+    let step = Step {
+        words: &LOAD,
+        input: parts,
+        output,
+        errors,
+    };
+    let same = comes(alloc, &mut disk, &step)?;
+    let left = disk.crash(Pick::Old)?;
+    Ok(same && are(left.bytes(DiskFile::Journal), journal))
+}
+
+// Whether a load of this revision 1 is refused with this line, and commits nothing.
+fn commits_nothing(alloc: Global, revision: &str, line: &str) -> Result<bool, Fail> {
+    ends(alloc, &[HEAD, revision], &[], line, &[HEAD, IDENTITY, ZERO])
+}
+
+#[test]
+fn load_commits_no_half_revision(rt: HostRuntime) -> Result<(), Fail> {
+    let alloc = rt.alloc();
+    let other = ONE_FILE.replace(alloc, "hello", "hellp")?;
+    assert!(rt; commits_nothing(alloc, other.as_str(), "svnfleet: 6 checksum mismatch\n")?);
+    let cut = ONE_FILE.strip_suffix("lo\n\n\n").ok_or("end")?;
+    assert!(rt; commits_nothing(alloc, cut, "svnfleet: 7 unexpected end of input\n")?);
+    let longer = ONE_FILE.replace(alloc, "Content-length: 16", "Content-length: 17")?;
+    assert!(rt; commits_nothing(alloc, longer.as_str(), "svnfleet: 4 lengths do not agree\n")?);
+    Ok(())
+}
+
+// Whether a load of the file's revision and this one is refused with this line, and keeps the first.
+fn keeps_the_first(alloc: Global, revision: &str, line: &str) -> Result<bool, Fail> {
+    ends(
+        alloc,
+        &[HEAD, ONE_FILE, revision],
+        &[LOADED],
+        line,
+        &[HEAD, IDENTITY, ZERO, ONE_FILE],
+    )
+}
+
+#[test]
+fn load_keeps_what_was_committed(rt: HostRuntime) -> Result<(), Fail> {
+    let alloc = rt.alloc();
+    let absent = NO_FILE.replace(alloc, "Node-path: a", "Node-path: b")?;
+    assert!(rt; keeps_the_first(alloc, absent.as_str(), "svnfleet: 11 no such path\n")?);
+    let line = "svnfleet: 7 unexpected end of input\n";
+    let cut = NO_FILE.strip_suffix("delete\n\n\n\n").ok_or("end")?;
+    assert!(rt; keeps_the_first(alloc, cut, line)?);
+    // the end of revision 1 isn't known yet
+    let parts = [HEAD, ONE_FILE, "Node"];
+    assert!(rt; ends(alloc, &parts, &[], line, &[HEAD, IDENTITY, ZERO])?);
+    Ok(())
+}
+
+// A reader that mustn't be asked.
+#[derive(Drop)]
+struct Unread;
+
+impl Read for Unread {
+    fn read(&mut self, _buf: &mut [u8]) -> io::Result<usize> {
+        Err(io::Error::from(io::ErrorKind::ConnectionReset))
+    }
+}
+
+#[test]
+fn mirrors_take_no_change(rt: HostRuntime) -> Result<(), Fail> {
+    let alloc = rt.alloc();
+    let mut disk = begun(alloc)?;
+    let line = "svnfleet: 24 the mirror is read-only\n";
+    let words = ["mkdir", "repo", "/", "--message", "hi", "--moment", "1"];
+    let steps = [
+        done(&LOAD, &[HEAD, MIRROR, ONE_FILE], &[LOADED]),
+        refused(&words, &[], line),
+    ];
+    assert_eq!(rt; first_wrong(alloc, &mut disk, &steps)?, None);
+    let mut folders = MemFolders::new("repo", &mut disk);
+    let mut unread = Source::new(Unread);
+    let ran = run_over(alloc, &mut folders, named(alloc, &LOAD)?, &mut unread);
+    assert!(rt; came_to(&ran, &refused(&LOAD, &[], line)) && !unread.failed);
+    Ok(())
+}
+
+#[test]
+fn folders_are_told_apart(rt: HostRuntime) -> Result<(), Fail> {
+    let alloc = rt.alloc();
+    let mut disk = with_one_file(alloc)?;
+    let mut empty = MemDisk::new(alloc);
+    let mut folders = MemFolders::with_other("repo", &mut disk, &mut empty);
+    let nothing = [];
+    let mut input = Source::new(nothing.as_slice());
+    let elsewhere = refused(&["dump", "repo2"], &[], "svnfleet: 34 no repository\n");
+    let first = run_over(
+        alloc,
+        &mut folders,
+        named(alloc, elsewhere.words)?,
+        &mut input,
+    );
+    assert!(rt; came_to(&first, &elsewhere));
+    let here = done(&DUMP_ONE, &[], &[HEAD, IDENTITY, ONE_FILE]);
+    let second = run_over(alloc, &mut folders, named(alloc, here.words)?, &mut input);
+    assert!(rt; came_to(&second, &here));
+    Ok(())
+}
+
+#[test]
+fn mkdir_commits_one_directory(rt: HostRuntime) -> Result<(), Fail> {
+    let alloc = rt.alloc();
+    let mut disk = begun(alloc)?;
+    let words = [
+        "mkdir",
+        "repo",
+        "a",
+        "--message",
+        "hi",
+        "--moment",
+        "1000000000123456",
+    ];
+    let steps = [
+        done(&words, &[], &["Committed revision 1.\n"]),
+        done(&DUMP_ONE, &[], &[HEAD, IDENTITY, DIRECTORY]),
+        refused(&words, &[], "svnfleet: 12 path already exists\n"),
+        done(&DUMP, &[], &[HEAD, IDENTITY, ZERO, DIRECTORY]),
+    ];
+    assert_eq!(rt; first_wrong(alloc, &mut disk, &steps)?, None);
+    Ok(())
+}
+
+// Whether a directory at this path with this message is refused with this line.
+fn is_refused(
+    alloc: Global,
+    disk: &mut MemDisk,
+    path: &str,
+    message: &str,
+    line: &str,
+) -> Result<bool, Fail> {
+    let words = ["mkdir", "repo", path, "--message", message, "--moment", "1"];
+    comes(alloc, disk, &refused(&words, &[], line))
+}
+
+#[test]
+fn mkdir_judges_its_path(rt: HostRuntime) -> Result<(), Fail> {
+    let alloc = rt.alloc();
+    let mut disk = with_one_file(alloc)?;
+    for (path, line) in [
+        ("", "svnfleet: 10 bad path\n"),
+        ("/b", "svnfleet: 10 bad path\n"),
+        ("b/", "svnfleet: 10 bad path\n"),
+        ("b/../c", "svnfleet: 10 bad path\n"),
+        ("b/c", "svnfleet: 11 no such path\n"),
+        ("a/c", "svnfleet: 13 not a directory\n"),
+        ("a", "svnfleet: 12 path already exists\n"),
+    ] {
+        assert!(rt; is_refused(alloc, &mut disk, path, "hi", line)?, "{path}");
+    }
+    assert!(rt;
+        are(
+            disk.bytes(DiskFile::Journal),
+            &[HEAD, IDENTITY, ZERO, ONE_FILE]
+        )
+    );
+    Ok(())
+}
+
+#[test]
+fn mkdir_judges_its_message_last(rt: HostRuntime) -> Result<(), Fail> {
+    let alloc = rt.alloc();
+    let mut disk = begun(alloc)?;
+    let long = "x".repeat(alloc, 65_537)?;
+    let line = "svnfleet: 11 no such path\n";
+    assert!(rt; is_refused(alloc, &mut disk, "b/c", long.as_str(), line)?);
+    let line = "svnfleet: 8 limit exceeded\n";
+    assert!(rt; is_refused(alloc, &mut disk, "b", long.as_str(), line)?);
+    let most = "x".repeat(alloc, 65_536)?;
+    let words = [
+        "mkdir",
+        "repo",
+        "b",
+        "--message",
+        most.as_str(),
+        "--moment",
+        "1",
+    ];
+    let step = done(&words, &[], &["Committed revision 1.\n"]);
+    assert!(rt; comes(alloc, &mut disk, &step)?);
+    Ok(())
+}
+
+#[test]
+fn dump_has_the_changed_property(rt: HostRuntime) -> Result<(), Fail> {
+    let alloc = rt.alloc();
+    let mut store = match open_store(alloc, with_one_file(alloc)?) {
+        Ok(store) => store,
+        Err(refusal) => return Err(Fail::new(refusal)),
+    };
+    let name = PropName::parse(alloc, b"svn:log")?;
+    store.change_prop(
+        alloc,
+        RevNo::new(1),
+        &name,
+        Some(b"ho"),
+        &Expected::DontCare,
+    )?;
+    let mut disk = store.into_disk();
+    assert_eq!(rt; disk.bytes(DiskFile::Journal).len(), 517);
+    assert_eq!(rt; disk.bytes(DiskFile::Gate).len(), 28);
+    let changed = ONE_FILE.replace(alloc, "hi", "ho")?;
+    let one = [HEAD, IDENTITY, changed.as_str()];
+    let all = [HEAD, IDENTITY, ZERO, changed.as_str()];
+    let steps = [done(&DUMP_ONE, &[], &one), done(&DUMP, &[], &all)];
+    assert_eq!(rt; first_wrong(alloc, &mut disk, &steps)?, None);
+    Ok(())
+}
+
+#[test]
+fn damaged_entry_is_told(rt: HostRuntime) -> Result<(), Fail> {
+    let alloc = rt.alloc();
+    let disk = with_one_file(alloc)?;
+    let other = ONE_FILE.replace(alloc, "hello", "hellp")?;
+    let journal = joined(alloc, &[HEAD, IDENTITY, ZERO, other.as_str()])?;
+    let mut damaged = MemDisk::with_bytes(alloc, &journal, disk.bytes(DiskFile::Gate))?;
+    let line = "svnfleet: 33 entry 1 is damaged\n";
+    let steps = [
+        refused(&DUMP, &[], line),
+        refused(&LOAD, &[HEAD, NO_FILE], line),
+    ];
+    assert_eq!(rt; first_wrong(alloc, &mut damaged, &steps)?, None);
+    Ok(())
+}
+
+// How many calls the opening of a disk makes: a dump makes no others.
+fn opening_calls(alloc: Global, disk: &MemDisk) -> Result<u64, Fail> {
+    let mut copy = disk.crash(Pick::New)?;
+    if !comes(
+        alloc,
+        &mut copy,
+        &done(&DUMP_ONE, &[], &[HEAD, IDENTITY, ONE_FILE]),
+    )? {
+        return Err(Fail::new("no dump"));
+    }
+    Ok(copy.calls().len() as u64)
+}
+
+// The disk after this many calls of the load of one more revision, stopped; None where the load came to something else.
+fn stopped(alloc: Global, calls: u64, pick: Pick) -> Result<Option<MemDisk>, Fail> {
+    let disk = with_one_file(alloc)?;
+    let before = opening_calls(alloc, &disk)?;
+    let mut fused = FuseDisk::new(disk, before.saturating_add(calls), Fuse::ForGood);
+    let step = if calls < 5 {
+        refused(&LOAD, &[HEAD, NO_FILE], "svnfleet: 31 device failed\n")
+    } else {
+        done(&LOAD, &[HEAD, NO_FILE], &[LOADED_TWO])
+    };
+    if !comes(alloc, &mut fused, &step)? {
+        return Ok(None);
+    }
+    Ok(Some(fused.into_inner().crash(pick)?))
+}
+
+// Whether a disk opens at revision 1, or at revision 2 where there is a second.
+fn opens_at(alloc: Global, disk: &mut MemDisk, second: bool) -> Result<bool, Fail> {
+    if second {
+        let all = [HEAD, IDENTITY, ZERO, ONE_FILE, NO_FILE];
+        return comes(alloc, disk, &done(&DUMP, &[], &all));
+    }
+    let all = [HEAD, IDENTITY, ZERO, ONE_FILE];
+    Ok(
+        comes(alloc, disk, &done(&DUMP, &[], &all))?
+            && comes(alloc, disk, &done(&LOAD, &[HEAD, NO_FILE], &[LOADED_TWO]))?,
+    )
+}
+
+const PICKS: [Pick; 4] = [Pick::Old, Pick::New, Pick::Fill(1), Pick::Fill(0x37)];
+
+// Whether the second revision stands after so many calls of its load, for each pick: the gate's write decides.
+const STANDING: [[bool; 4]; 6] = [
+    [false, false, false, false],
+    [false, false, false, false],
+    [false, false, false, false],
+    [false, false, false, false],
+    [false, true, true, false],
+    [true, true, true, true],
+];
+
+#[test]
+fn load_is_stopped_after_each_call(rt: HostRuntime) -> Result<(), Fail> {
+    let alloc = rt.alloc();
+    for (calls, row) in STANDING.iter().enumerate() {
+        for (pick, second) in PICKS.iter().zip(row.iter()) {
+            let Some(mut left) = stopped(alloc, calls as u64, *pick)? else {
+                return Err(Fail::new("the load came to something else"));
+            };
+            assert!(rt; opens_at(alloc, &mut left, *second)?, "after {calls} calls");
+        }
+    }
+    Ok(())
+}
+
+#[test]
+fn failed_device_ends_a_load(rt: HostRuntime) -> Result<(), Fail> {
+    let alloc = rt.alloc();
+    let disk = with_one_file(alloc)?;
+    let before = opening_calls(alloc, &disk)?;
+    // a commit makes five calls: the write of the second revision fails
+    let mut fused = FuseDisk::new(disk, before.saturating_add(5), Fuse::ForGood);
+    let again = ONE_FILE.replace(alloc, "Revision-number: 1", "Revision-number: 3")?;
+    let step = Step {
+        words: &LOAD,
+        input: &[HEAD, NO_FILE, again.as_str()],
+        output: &[LOADED_TWO],
+        errors: "svnfleet: 31 device failed\n",
+    };
+    assert!(rt; comes(alloc, &mut fused, &step)?);
+    let mut left = fused.into_inner().crash(Pick::Old)?;
+    assert!(rt; opens_at(alloc, &mut left, true)?);
+    Ok(())
+}

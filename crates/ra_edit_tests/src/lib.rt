@@ -1,0 +1,18 @@
+//! Tests of `ra_edit` through its public items: windows and drives spelled out by hand, cut and changed anyhow, readers, writers
+//! and editors that fail, and growths that are refused.
+#![tactic(auto)]
+
+#[cfg(test)]
+mod counting_tests;
+#[cfg(test)]
+mod growth_tests;
+#[cfg(test)]
+mod receive_tests;
+#[cfg(test)]
+mod received_tests;
+#[cfg(test)]
+mod streams_for_tests;
+#[cfg(test)]
+mod tests;
+#[cfg(test)]
+mod wire_tests;

@@ -1,0 +1,360 @@
+//! Drives spelled out by hand, whole and cut anyhow.
+
+use crate::streams_for_tests::{Failing, items_from};
+use crate::wire_tests::COPY;
+use delta_editor::{Call, Recorder};
+use ra_edit::edit_fault::EditFault;
+use ra_edit::receive::receive;
+use ra_edit::wire::WireEditor;
+use std::alloc::Global;
+use std::rt::HostRuntime;
+use std::test::Fail;
+
+// A file that is added, with its text.
+const ADDED: &[u8] =
+    b"( target-rev ( 1 ) ) ( open-root ( ( 0 ) 2:t0 ) ) ( add-file ( 1:a 2:t0 2:t1 ( ) ) ) ( apply-textdelta ( 2:t1 ( ) ) ) ( textdelta-chunk ( 2:t1 4:SVN\x00 ) ) ( textdelta-chunk ( 2:t1 12:\x00\x00\x06\x01\x06\x86hello\n ) ) ( textdelta-end ( 2:t1 ) ) ( close-file ( 2:t1 ( 32:b1946ac92492d2347c6235b4d2611184 ) ) ) ( close-dir ( 2:t0 ) ) ( finish-replay ( ) ) ";
+
+// How many bytes of it stand in front of its end, which has 22.
+const UNENDED: usize = ADDED.len() - 22;
+
+// The same with an empty text.
+const EMPTY: &[u8] =
+    b"( target-rev ( 1 ) ) ( open-root ( ( 0 ) 2:t0 ) ) ( add-file ( 1:a 2:t0 2:t1 ( ) ) ) ( apply-textdelta ( 2:t1 ( ) ) ) ( textdelta-chunk ( 2:t1 4:SVN\x00 ) ) ( textdelta-end ( 2:t1 ) ) ( close-file ( 2:t1 ( 32:d41d8cd98f00b204e9800998ecf8427e ) ) ) ( close-dir ( 2:t0 ) ) ( finish-replay ( ) ) ";
+
+// Revision 2 without changes, and the same with its root opened and closed.
+const NOTHING: &[u8] = b"( target-rev ( 2 ) ) ( finish-replay ( ) ) ";
+
+const UNCHANGED: &[u8] =
+    b"( target-rev ( 2 ) ) ( open-root ( ( ) 2:t0 ) ) ( close-dir ( 2:t0 ) ) ( finish-replay ( ) ) ";
+
+// What a drive comes to: 0 or the number of its refusal, and the commands that it was passed on as up to there.
+#[derive(Drop)]
+struct Outcome {
+    number: u8,
+    written: Vec<u8>,
+}
+
+// What a drive in pieces of a size comes to.
+fn received(alloc: Global, bytes: &[u8], size: usize) -> Outcome {
+    let mut written = Vec::new(alloc);
+    let number = match WireEditor::new(alloc, Failing::never(&mut written)) {
+        Ok(editor) => match receive(alloc, &mut items_from(alloc, bytes, size, false), editor) {
+            Ok(_) => 0,
+            Err(fault) => fault.number(),
+        },
+        Err(fault) => fault.number(),
+    };
+    Outcome { number, written }
+}
+
+// What a drive comes to, where it is the same whole and one byte at a time.
+fn either_way(alloc: Global, bytes: &[u8]) -> Option<Outcome> {
+    let whole = received(alloc, bytes, bytes.len());
+    let single = received(alloc, bytes, 1);
+    if whole.number == single.number && whole.written == single.written {
+        Some(whole)
+    } else {
+        None
+    }
+}
+
+// Whether bytes give this, whole and one byte at a time.
+fn gives(alloc: Global, bytes: &[u8], number: u8) -> bool {
+    match either_way(alloc, bytes) {
+        Some(found) => found.number == number,
+        None => false,
+    }
+}
+
+// Whether a drive is passed on as these commands, whole and one byte at a time.
+fn passes_on(alloc: Global, bytes: &[u8], wanted: &[u8]) -> bool {
+    match either_way(alloc, bytes) {
+        Some(found) => found.number == 0 && found.written.as_slice() == wanted,
+        None => false,
+    }
+}
+
+// Whether each of these gives what stands beside it.
+fn all_give(alloc: Global, cases: &[(&[u8], u8)]) -> bool {
+    for (bytes, number) in cases {
+        if !gives(alloc, bytes, *number) {
+            return false;
+        }
+    }
+    true
+}
+
+#[test]
+fn drives_are_received(rt: HostRuntime) {
+    let cases: [(&[u8], &[u8]); 6] = [
+        (ADDED, ADDED),
+        (EMPTY, EMPTY),
+        (COPY, COPY),
+        (NOTHING, UNCHANGED),
+        (
+            b"( close-edit ( ) ) ( finish-replay ( ) ) ",
+            b"( open-root ( ( ) 2:t0 ) ) ( close-dir ( 2:t0 ) ) ( finish-replay ( ) ) ",
+        ),
+        (
+            b"( open-root ( ( ) 1:r ) ) ( open-file ( 1:f 1:r 1:f ( ) x ) ) ( change-dir-prop ( 1:r 1:p ( 1:v ) ) ) ( close-file ( 1:f ( ) ) ) ( close-dir ( 1:r ) ) ( close-edit ( ) ) ( finish-replay ( ) y ) z) ",
+            b"( open-root ( ( ) 2:t0 ) ) ( open-file ( 1:f 2:t0 2:t1 ( ) ) ) ( change-dir-prop ( 2:t0 1:p ( 1:v ) ) ) ( close-file ( 2:t1 ( ) ) ) ( close-dir ( 2:t0 ) ) ( finish-replay ( ) ) ",
+        ),
+    ];
+    for (bytes, wanted) in cases {
+        assert!(rt; passes_on(rt.alloc(), bytes, wanted));
+    }
+}
+
+// The name of a call.
+fn name_of(call: &Call) -> &'static str {
+    match call {
+        Call::Target(_) => "target",
+        Call::OpenRoot(_) => "open_root",
+        Call::AddDir(..) => "add_dir",
+        Call::OpenDir(..) => "open_dir",
+        Call::DeleteEntry(..) => "delete_entry",
+        Call::AddFile(..) => "add_file",
+        Call::OpenFile(..) => "open_file",
+        Call::DirProp(..) => "dir_prop",
+        Call::FileProp(..) => "file_prop",
+        Call::TextStart(_) => "text_start",
+        Call::TextPiece(..) => "text_piece",
+        Call::TextEnd(_) => "text_end",
+        Call::CloseFile(..) => "close_file",
+        Call::CloseDir(_) => "close_dir",
+        Call::CloseEdit => "close_edit",
+    }
+}
+
+// Whether a drive in pieces of a size is received as calls of these names.
+fn calls_are(alloc: Global, bytes: &[u8], size: usize, names: &[&str]) -> bool {
+    let mut items = items_from(alloc, bytes, size, false);
+    let Ok(calls) = receive(alloc, &mut items, Recorder::new(alloc)) else {
+        return false;
+    };
+    for (call, name) in calls.iter().zip(names.iter()) {
+        if name_of(call) != *name {
+            return false;
+        }
+    }
+    calls.len() == names.len()
+}
+
+#[test]
+fn calls_come_in_their_order(rt: HostRuntime) {
+    let added: [&str; 9] = [
+        "target",
+        "open_root",
+        "add_file",
+        "text_start",
+        "text_piece",
+        "text_end",
+        "close_file",
+        "close_dir",
+        "close_edit",
+    ];
+    let copied: [&str; 7] = [
+        "target",
+        "open_root",
+        "add_dir",
+        "delete_entry",
+        "close_dir",
+        "close_dir",
+        "close_edit",
+    ];
+    let unchanged: [&str; 4] = ["target", "open_root", "close_dir", "close_edit"];
+    let cases: [(&[u8], &[&str]); 3] = [
+        (ADDED, added.as_slice()),
+        (COPY, copied.as_slice()),
+        (NOTHING, unchanged.as_slice()),
+    ];
+    for (bytes, names) in cases {
+        assert!(rt; calls_are(rt.alloc(), bytes, bytes.len(), names));
+        assert!(rt; calls_are(rt.alloc(), bytes, 1, names));
+    }
+}
+
+#[test]
+fn tokens_are_refused(rt: HostRuntime) {
+    let cases: [(&[u8], u8); 8] = [
+        (
+            b"( open-root ( ( ) 1:r ) ) ( add-dir ( 1:a 1:r 1:r ( ) ) ) ",
+            46,
+        ),
+        (
+            b"( open-root ( ( ) 1:r ) ) ( add-dir ( 1:a 1:r 1:a ( ) ) ) ( close-dir ( 1:r ) ) ",
+            46,
+        ),
+        (b"( open-root ( ( ) 1:r ) ) ( finish-replay ( ) ) ", 46),
+        (b"( open-root ( ( ) 1:r ) ) ( close-edit ( ) ) ", 46),
+        (b"( close-dir ( 1:r ) ) ", 46),
+        (
+            b"( open-root ( ( ) 1:r ) ) ( change-dir-prop ( 1:s 1:p ( ) ) ) ",
+            46,
+        ),
+        (
+            b"( open-root ( ( ) 1:r ) ) ( textdelta-chunk ( 1:r 0: ) ) ",
+            46,
+        ),
+        (
+            b"( open-root ( ( ) 1:r ) ) ( open-file ( 1:f 1:r 1:f ( ) ) ) ( close-dir ( 1:r ) ) ",
+            46,
+        ),
+    ];
+    assert!(rt; all_give(rt.alloc(), &cases));
+}
+
+#[test]
+fn shapes_are_refused(rt: HostRuntime) {
+    let cases: [(&[u8], u8); 21] = [
+        (b"", 48),
+        (b"( target-rev ( 1 ) ) ( open-root ", 7),
+        (b"( target-rev ( 1 ) ) ) ", 41),
+        (b"( target-rev ( 1 ) ) ", 48),
+        (b"( target-rev ( 1 ) ) ( target-rev ( 1 ) ) ", 48),
+        (b"( target-rev ( 65536 ) ) ", 48),
+        (b"( open-root ( ( ) 1:r ) ) ( open-root ( ( ) 1:s ) ) ", 48),
+        (b"( frob ( ) ) ", 48),
+        (b"( finish-replay ) ", 48),
+        (b"word ", 48),
+        (
+            b"( open-root ( ( ) 1:r ) ) ( delete-entry ( 2:/a ( ) 1:r ) ) ",
+            48,
+        ),
+        (
+            b"( open-root ( ( ) 1:r ) ) ( open-file ( 1:f 1:r 1:f ( ) ) ) ( textdelta-chunk ( 1:f 0: ) ) ",
+            48,
+        ),
+        (
+            b"( open-root ( ( ) 1:r ) ) ( open-file ( 1:f 1:r 1:f ( ) ) ) ( close-file ( 1:f ( 2:00 ) ) ) ",
+            48,
+        ),
+        (b"( close-edit ( ) ) ( close-edit ( ) ) ", 48),
+        (b"( close-edit ( ) ) ( abort-edit ( ) ) ", 48),
+        (b"( open-root ( ( ) 1:r ) ) ( target-rev ( 1 ) ) ", 48),
+        (
+            b"( open-root ( ( ) 1:r ) ) ( open-file ( 1:f 1:r 1:f ( ) ) ) ( textdelta-end ( 1:f ) ) ",
+            48,
+        ),
+        (ADDED.get(..UNENDED).unwrap_or(b""), 48),
+        (ADDED.get(..ADDED.len().saturating_sub(1)).unwrap_or(b""), 7),
+        (b"( abort-edit ( ) ) ", 60),
+        (b"( failure ( ( 21 1:x 0: 0 ) ) ) ", 60),
+    ];
+    assert!(rt; all_give(rt.alloc(), &cases));
+}
+
+// What is given of a file's text, behind its opening.
+fn text_gives(alloc: Global, text: &[u8], number: u8) -> Result<bool, Fail> {
+    let mut bytes =
+        b"( open-root ( ( ) 1:r ) ) ( open-file ( 1:f 1:r 1:f ( ) ) ) ( apply-textdelta ( 1:f ( ) ) ) ".to_vec(
+            alloc,
+        )?;
+    bytes.extend_from_slice(text)?;
+    Ok(gives(alloc, bytes.as_slice(), number))
+}
+
+#[test]
+fn texts_are_refused(rt: HostRuntime) -> Result<(), Fail> {
+    let cases: [(&[u8], u8); 9] = [
+        (b"( textdelta-chunk ( 1:f 4:SVN\x01 ) ) ", 44),
+        (b"( textdelta-end ( 1:f ) ) ", 44),
+        (
+            b"( textdelta-chunk ( 1:f 6:SVN\x00\x00\x01 ) ) ( textdelta-chunk ( 1:f 3:\x01\x01\x01 ) ) ",
+            45,
+        ),
+        (
+            b"( textdelta-chunk ( 1:f 9:SVN\x00\x00\x00\x86\xa0\x01 ) ) ( textdelta-chunk ( 1:f 2:\x01\x01 ) ) ",
+            8,
+        ),
+        (b"( close-file ( 1:f ( ) ) ) ", 48),
+        (b"( apply-textdelta ( 1:f ( ) ) ) ", 48),
+        (
+            b"( textdelta-chunk ( 1:f 4:SVN\x00 ) ) ( textdelta-end ( 1:f ) ) ( apply-textdelta ( 1:f ( ) ) ) ",
+            48,
+        ),
+        (
+            b"( textdelta-chunk ( 1:f 4:SVN\x00 ) ) ( textdelta-end ( 1:f ) ) ( textdelta-chunk ( 1:f 0: ) ) ",
+            48,
+        ),
+        (
+            b"( textdelta-chunk ( 1:f 4:SVN\x00 ) ) ( textdelta-end ( 1:f ) ) ( close-file ( 1:f ( 32:b1946ac92492d2347c6235b4d2611184 ) ) ) ",
+            6,
+        ),
+    ];
+    for (text, number) in cases {
+        assert!(rt; text_gives(rt.alloc(), text, number)?);
+    }
+    Ok(())
+}
+
+// Whether a beginning of a drive ends between two items. No string of the drives that are cut has a bracket in it.
+fn is_between(front: &[u8]) -> bool {
+    let mut open = 0usize;
+    for b in front {
+        match b {
+            b'(' => open = open.saturating_add(1),
+            b')' => open = open.saturating_sub(1),
+            _ => {}
+        }
+    }
+    open == 0 && (front.is_empty() || front.ends_with(b" "))
+}
+
+// Whether each beginning of a drive is refused for its end, behind a beginning of what it is passed on as.
+fn fronts_agree(alloc: Global, bytes: &[u8]) -> bool {
+    for end in 0..bytes.len() {
+        let front = bytes.get(..end).unwrap_or(b"");
+        let number = if is_between(front) { 48 } else { 7 };
+        let Some(found) = either_way(alloc, front) else {
+            return false;
+        };
+        if found.number != number || !bytes.starts_with(found.written.as_slice()) {
+            return false;
+        }
+    }
+    true
+}
+
+#[test]
+fn a_drive_that_is_cut_is_refused(rt: HostRuntime) {
+    assert!(rt; fronts_agree(rt.alloc(), ADDED) && fronts_agree(rt.alloc(), COPY));
+}
+
+// Whether each change of a byte, to any value, gives the same and is passed on the same, whole and one byte at a time.
+fn changes_agree(alloc: Global, bytes: &[u8]) -> Result<bool, Fail> {
+    let mut changed = bytes.to_vec(alloc)?;
+    for (at, was) in bytes.iter().enumerate() {
+        for b in 0..=u8::MAX {
+            changed[at] = b;
+            if either_way(alloc, &changed).is_none() {
+                return Ok(false);
+            }
+        }
+        changed[at] = *was;
+    }
+    Ok(true)
+}
+
+#[test]
+fn the_cutting_of_a_text_does_not_matter(rt: HostRuntime) -> Result<(), Fail> {
+    assert!(rt; changes_agree(rt.alloc(), ADDED)?);
+    Ok(())
+}
+
+#[test]
+fn the_cutting_of_a_copy_does_not_matter(rt: HostRuntime) -> Result<(), Fail> {
+    assert!(rt; changes_agree(rt.alloc(), COPY)?);
+    Ok(())
+}
+
+#[test]
+fn a_refused_stream_stays_so(rt: HostRuntime) {
+    let alloc = rt.alloc();
+    let bytes = b"( close-dir ( 1:r ) ) ( finish-replay ( ) ) ";
+    let mut items = items_from(alloc, bytes.as_slice(), 5, false);
+    let first = receive(alloc, &mut items, Recorder::new(alloc)).err();
+    assert!(rt; first == Some(EditFault::BadToken));
+    let second = receive(alloc, &mut items, Recorder::new(alloc)).err();
+    assert!(rt; second == Some(EditFault::Failed));
+}

@@ -1,0 +1,204 @@
+//! Revisions written as commands.
+
+use crate::streams_for_tests::Failing;
+use delta_editor::{Editor, EditorFault, Source};
+use md5::{Digest, Md5};
+use node_base::{NodePath, PathFault, RevNo};
+use ra_edit::wire::WireEditor;
+use std::alloc::Global;
+use std::process::Abort;
+use std::rt::HostRuntime;
+use std::test::Fail;
+
+fn path(rt: &impl Abort, alloc: Global, text: &str) -> NodePath {
+    NodePath::parse(alloc, text.as_bytes()).expect(rt, "a path")
+}
+
+fn base(number: u16) -> Option<RevNo> {
+    Some(RevNo::new(number))
+}
+
+fn sum_of(text: &[u8]) -> [u8; 16] {
+    let mut hasher = Md5::new();
+    hasher.update(text);
+    hasher.finalize()
+}
+
+// A file `a` is added with this text.
+fn show_text<E: Editor>(rt: &impl Abort, alloc: Global, editor: E, text: &[u8]) -> E::Done {
+    let mut editor = editor;
+    editor.target(RevNo::new(1)).expect(rt, "target");
+    let mut root = editor.open_root(base(0)).expect(rt, "open_root");
+    let mut file = editor
+        .add_file(&mut root, &path(rt, alloc, "a"), None)
+        .expect(rt, "add_file");
+    editor.text_start(&mut file).expect(rt, "text_start");
+    for piece in text.chunks(65_536) {
+        editor.text_piece(&mut file, piece).expect(rt, "text_piece");
+    }
+    editor.text_end(&mut file).expect(rt, "text_end");
+    editor
+        .close_file(file, Some(sum_of(text)))
+        .expect(rt, "close_file");
+    editor.close_dir(root).expect(rt, "close_dir");
+    editor.close_edit().expect(rt, "close_edit")
+}
+
+/// What stands in front of the chunks of such a file.
+pub(crate) const FRONT: &[u8] =
+    b"( target-rev ( 1 ) ) ( open-root ( ( 0 ) 2:t0 ) ) ( add-file ( 1:a 2:t0 2:t1 ( ) ) ) ( apply-textdelta ( 2:t1 ( ) ) ) ( textdelta-chunk ( 2:t1 4:SVN\x00 ) ) ";
+
+// What stands behind that.
+const HELLO: &[u8] =
+    b"( textdelta-chunk ( 2:t1 12:\x00\x00\x06\x01\x06\x86hello\n ) ) ( textdelta-end ( 2:t1 ) ) ( close-file ( 2:t1 ( 32:b1946ac92492d2347c6235b4d2611184 ) ) ) ( close-dir ( 2:t0 ) ) ( finish-replay ( ) ) ";
+
+const EMPTY: &[u8] =
+    b"( textdelta-end ( 2:t1 ) ) ( close-file ( 2:t1 ( 32:d41d8cd98f00b204e9800998ecf8427e ) ) ) ( close-dir ( 2:t0 ) ) ( finish-replay ( ) ) ";
+
+// The bytes of a file's text, behind bytes that were there before.
+fn written(rt: &impl Abort, alloc: Global, text: &[u8]) -> Result<Vec<u8>, Fail> {
+    let before = b"x ".to_vec(alloc)?;
+    let editor = WireEditor::new(alloc, before).expect(rt, "room");
+    Ok(show_text(rt, alloc, editor, text).into_inner())
+}
+
+fn is_written(rt: &impl Abort, alloc: Global, text: &[u8], behind: &[u8]) -> Result<bool, Fail> {
+    let mut wanted = b"x ".to_vec(alloc)?;
+    wanted.extend_from_slice(FRONT)?;
+    wanted.extend_from_slice(behind)?;
+    Ok(written(rt, alloc, text)? == wanted)
+}
+
+#[test]
+fn a_file_is_added(rt: HostRuntime) -> Result<(), Fail> {
+    let alloc = rt.alloc();
+    assert!(rt; is_written(&rt, alloc, b"hello\n", HELLO)?);
+    assert!(rt; is_written(&rt, alloc, b"", EMPTY)?);
+    Ok(())
+}
+
+/// What stands in front of a window's new data in its chunk.
+pub(crate) const CHUNK: &[u8] =
+    b"( textdelta-chunk ( 2:t1 65549:\x00\x00\x84\x80\x00\x04\x84\x80\x00\x80\x84\x80\x00";
+
+/// What stands behind the chunks of a file of 1,048,576 bytes `x`.
+pub(crate) const CLOSED: &[u8] =
+    b"( textdelta-end ( 2:t1 ) ) ( close-file ( 2:t1 ( 32:b561f87202d04959e37588ee05cf5b10 ) ) ) ( close-dir ( 2:t0 ) ) ( finish-replay ( ) ) ";
+
+#[test]
+fn a_mebibyte_is_seventeen_chunks(rt: HostRuntime) -> Result<(), Fail> {
+    let alloc = rt.alloc();
+    let text = Vec::from_elem(alloc, b'x', 1_048_576)?;
+    let mut behind = Vec::new(alloc);
+    for piece in text.chunks(65_536) {
+        behind.extend_from_slice(CHUNK)?;
+        behind.extend_from_slice(piece)?;
+        behind.extend_from_slice(b" ) ) ")?;
+    }
+    behind.extend_from_slice(CLOSED)?;
+    assert!(rt; is_written(&rt, alloc, text.as_slice(), behind.as_slice())?);
+    Ok(())
+}
+
+/// Where a directory is copied from and to, and the file that is deleted in the copy.
+#[derive(Drop)]
+pub(crate) struct CopyPaths {
+    from: Source,
+    copy: NodePath,
+    file: NodePath,
+}
+
+impl CopyPaths {
+    /// From `t` of revision 1 to `b`, less the file `x`.
+    pub(crate) fn new(alloc: Global) -> Result<CopyPaths, PathFault> {
+        let from = Source {
+            path: NodePath::parse(alloc, b"t")?,
+            revision: RevNo::new(1),
+        };
+        let copy = NodePath::parse(alloc, b"b")?;
+        let file = NodePath::parse(alloc, b"b/x")?;
+        Ok(CopyPaths { from, copy, file })
+    }
+}
+
+/// A directory is copied less one file.
+pub(crate) fn show_copy<E: Editor>(editor: E, paths: &CopyPaths) -> Result<E::Done, EditorFault> {
+    let mut editor = editor;
+    match copy_root(&mut editor, paths) {
+        Ok(()) => editor.close_edit(),
+        Err(fault) => {
+            editor.abort_edit();
+            Err(fault)
+        }
+    }
+}
+
+fn copy_root<E: Editor>(editor: &mut E, paths: &CopyPaths) -> Result<(), EditorFault> {
+    editor.target(RevNo::new(2))?;
+    let mut root = editor.open_root(base(1))?;
+    match copy_below(editor, &mut root, paths) {
+        Ok(()) => editor.close_dir(root),
+        Err(fault) => {
+            editor.discard_dir(root);
+            Err(fault)
+        }
+    }
+}
+
+fn copy_below<E: Editor>(
+    editor: &mut E,
+    root: &mut E::Dir,
+    paths: &CopyPaths,
+) -> Result<(), EditorFault> {
+    let mut copy = editor.add_dir(root, &paths.copy, Some(&paths.from))?;
+    match editor.delete_entry(&mut copy, &paths.file, base(1)) {
+        Ok(()) => editor.close_dir(copy),
+        Err(fault) => {
+            editor.discard_dir(copy);
+            Err(fault)
+        }
+    }
+}
+
+/// The bytes of that edit.
+pub(crate) const COPY: &[u8] =
+    b"( target-rev ( 2 ) ) ( open-root ( ( 1 ) 2:t0 ) ) ( add-dir ( 1:b 2:t0 2:t1 ( 2:/t 1 ) ) ) ( delete-entry ( 3:b/x ( 1 ) 2:t1 ) ) ( close-dir ( 2:t1 ) ) ( close-dir ( 2:t0 ) ) ( finish-replay ( ) ) ";
+
+#[test]
+fn a_copy_less_one_file(rt: HostRuntime) -> Result<(), Fail> {
+    let alloc = rt.alloc();
+    let editor = WireEditor::new(alloc, Vec::new(alloc)).expect(&rt, "room");
+    let paths = CopyPaths::new(alloc).expect(&rt, "paths");
+    let written = show_copy(editor, &paths).expect(&rt, "written");
+    assert!(rt; written.into_inner().as_slice() == COPY);
+    Ok(())
+}
+
+// Whether a writer that fails behind so many writes of such a size leaves a beginning of the bytes, and 49 is answered.
+fn leaves_a_beginning(rt: &impl Abort, alloc: Global, left: usize, size: usize) -> bool {
+    let paths = CopyPaths::new(alloc).expect(rt, "paths");
+    let mut bytes = Vec::new(alloc);
+    let out = Failing {
+        bytes: &mut bytes,
+        left,
+        size,
+    };
+    let editor = WireEditor::new(alloc, out).expect(rt, "room");
+    let fault = show_copy(editor, &paths).err();
+    COPY.starts_with(bytes.as_slice())
+        && bytes.len() < COPY.len()
+        && fault == Some(EditorFault::PeerFailed)
+}
+
+#[test]
+fn a_failing_writer_has_a_beginning(rt: HostRuntime) {
+    let alloc = rt.alloc();
+    let mut fine = true;
+    for left in 0..7 {
+        fine = fine && leaves_a_beginning(&rt, alloc, left, 1_000);
+    }
+    for left in 0..COPY.len() {
+        fine = fine && leaves_a_beginning(&rt, alloc, left, 1);
+    }
+    assert!(rt; fine);
+}

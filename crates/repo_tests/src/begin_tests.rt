@@ -1,0 +1,29 @@
+//! A repository that is begun while a growth is refused. `rt try --test --fail-alloc 1..` refuses each growth in turn: what was
+//! refused for it leaves nothing for which the next call would be refused.
+use fleet_disk::HostDisk;
+use repo_store::RepoStore;
+use std::fs;
+use std::test::Fail;
+use uuid::Uuid;
+
+// Begins a repository in a folder of the host.
+fn begins(rt: &HostRuntime, folder: &str) -> bool {
+    let Ok(identity) = Uuid::parse_str("6a1f0c3e-0000-4000-8000-000000000001") else {
+        return false;
+    };
+    match HostDisk::create(rt, rt.alloc(), folder) {
+        Ok(disk) => RepoStore::create(rt.alloc(), disk, identity).is_ok(),
+        Err(_) => false,
+    }
+}
+
+#[test]
+fn a_folder_is_begun_behind_a_refused_growth(rt: HostRuntime) -> Result<(), Fail> {
+    let folder = "repo_store_begin";
+    let _missing = fs::remove_dir_all(&rt, folder);
+    fs::create_dir(&rt, folder)?;
+    assert!(rt; begins(&rt, folder) || begins(&rt, folder));
+    assert!(rt; !begins(&rt, folder));
+    fs::remove_dir_all(&rt, folder)?;
+    Ok(())
+}

@@ -1,0 +1,299 @@
+//! A store's journals and gates, byte by byte, and what its stops leave.
+
+use crate::made::{log_of, set_of_file};
+use fleet_disk::{Disk, DiskFile, Fuse, FuseDisk, MemDisk, Pick};
+use node_base::{PropName, RevNo};
+use repo_core::Expected;
+use repo_store::{RepoStore, StoreFault};
+use std::alloc::Global;
+use std::process::Abort;
+use std::test::Fail;
+use uuid::Uuid;
+
+const PICKS: [Pick; 4] = [Pick::Old, Pick::New, Pick::Fill(1), Pick::Fill(0x37)];
+
+// The first entry: 149 bytes.
+pub(crate) const FIRST: &[u8] =
+    b"SVN-fs-dump-format-version: 2\n\nUUID: 6a1f0c3e-0000-4000-8000-000000000001\n\nRevision-number: 0\nProp-content-length: 10\nContent-length: 10\n\nPROPS-END\n\n";
+
+// Revision 1, which adds a file: 275 bytes.
+pub(crate) const SECOND: &[u8] =
+    b"Revision-number: 1\nProp-content-length: 29\nContent-length: 29\n\nK 7\nsvn:log\nV 2\nhi\nPROPS-END\n\nNode-path: a\nNode-kind: file\nNode-action: add\nProp-content-length: 10\nText-content-length: 6\nText-content-md5: b1946ac92492d2347c6235b4d2611184\nContent-length: 16\n\nPROPS-END\nhello\n\n\n";
+
+// Other properties of revision 1: 93 bytes.
+const THIRD: &[u8] =
+    b"Revision-number: 1\nProp-content-length: 29\nContent-length: 29\n\nK 7\nsvn:log\nV 2\nho\nPROPS-END\n\n";
+
+// The gate with both entries, and the one with the first alone.
+const TWO_GATES: &[u8] = b"\x01\0\0\0\0\0\0\0\x95\x01\0\0\0\0\0\0\x01\xA8\0";
+
+const ONE_GATE: &[u8] = b"\x01\0\0\0\0\0\0\0\x95\0";
+
+pub(crate) fn identity() -> Result<Uuid, Fail> {
+    Ok(Uuid::parse_str("6a1f0c3e-0000-4000-8000-000000000001")?)
+}
+
+fn created<D: Disk + Drop>(alloc: Global, disk: D) -> Result<RepoStore<D>, Fail> {
+    let made = RepoStore::create(alloc, disk, identity()?);
+    Ok(made.map_err(|refused| refused.0)?)
+}
+
+pub(crate) fn opened<D: Disk + Drop>(alloc: Global, disk: D) -> Result<RepoStore<D>, StoreFault> {
+    RepoStore::open(alloc, disk).map_err(|refused| refused.0)
+}
+
+// Why a disk isn't opened, or 0.
+pub(crate) fn refusal<D: Disk + Drop>(alloc: Global, disk: D) -> u8 {
+    match opened(alloc, disk) {
+        Ok(_) => 0,
+        Err(fault) => fault.number(),
+    }
+}
+
+// Commits a file of six bytes against the head, with a log: the number of the refusal, or 0.
+pub(crate) fn commit<D: Disk>(
+    rt: &impl Abort,
+    alloc: Global,
+    store: &mut RepoStore<D>,
+    at: &str,
+) -> u8 {
+    let set = set_of_file(rt, alloc, at, b"hello\n");
+    let props = log_of(rt, alloc, b"hi");
+    match store.commit(alloc, store.repo().head(), set, props, None) {
+        Ok(_) => 0,
+        Err(fault) => fault.number(),
+    }
+}
+
+// The first two entries, all synced.
+pub(crate) fn second_disk(rt: &impl Abort, alloc: Global) -> Result<MemDisk, Fail> {
+    let mut store = created(alloc, MemDisk::new(alloc))?;
+    assert_eq!(rt; commit(rt, alloc, &mut store, "a"), 0);
+    Ok(store.into_disk().crash(Pick::New)?)
+}
+
+// Whether this is the head of a store.
+pub(crate) fn has_head<D: Disk>(store: &RepoStore<D>, revision: u16) -> bool {
+    store.repo().head().get() == revision
+}
+
+// Whether a disk opens at this head.
+fn opens_at<D: Disk + Drop>(alloc: Global, disk: D, revision: u16) -> bool {
+    match opened(alloc, disk) {
+        Ok(store) => has_head(&store, revision),
+        Err(_) => false,
+    }
+}
+
+// The journal's bytes are these entries, one behind another.
+pub(crate) fn is_journal(disk: &MemDisk, entries: &[&[u8]]) -> bool {
+    let mut rest = disk.bytes(DiskFile::Journal);
+    for entry in entries {
+        match rest.strip_prefix(*entry) {
+            Some(behind) => rest = behind,
+            None => return false,
+        }
+    }
+    rest.is_empty()
+}
+
+// Whether a disk has these entries and this gate.
+fn holds(disk: &MemDisk, entries: &[&[u8]], gate: &[u8]) -> bool {
+    is_journal(disk, entries) && disk.bytes(DiskFile::Gate) == gate
+}
+
+#[test]
+fn a_new_repository(rt: HostRuntime) -> Result<(), Fail> {
+    let store = created(rt.alloc(), MemDisk::new(rt.alloc()))?;
+    assert!(rt; has_head(&store, 0));
+    let disk = store.into_disk();
+    assert!(rt; holds(&disk, &[FIRST], ONE_GATE));
+    assert!(rt; opens_at(rt.alloc(), disk, 0));
+    Ok(())
+}
+
+// Whether this is the text of revision 1.
+fn exports<D: Disk>(alloc: Global, store: &RepoStore<D>, text: &[u8]) -> bool {
+    match store.export(alloc, RevNo::new(1)) {
+        Ok(exported) => exported.as_slice() == text,
+        Err(_) => false,
+    }
+}
+
+// Whether a disk opens at this head, and its first revision is the file's.
+fn opens_with_file<D: Disk + Drop>(alloc: Global, disk: D, revision: u16) -> bool {
+    match opened(alloc, disk) {
+        Ok(store) => has_head(&store, revision) && exports(alloc, &store, SECOND),
+        Err(_) => false,
+    }
+}
+
+#[test]
+fn a_commit_is_an_entry(rt: HostRuntime) -> Result<(), Fail> {
+    let disk = second_disk(&rt, rt.alloc())?;
+    assert!(rt; holds(&disk, &[FIRST, SECOND], TWO_GATES));
+    assert!(rt; opens_with_file(rt.alloc(), disk, 1));
+    Ok(())
+}
+
+// Whether the text of revision 1 has as many bytes as before, and begins with the other properties.
+fn exports_other(alloc: Global, store: &RepoStore<MemDisk>) -> bool {
+    match store.export(alloc, RevNo::new(1)) {
+        Ok(text) => text.len() == 275 && text.starts_with(THIRD),
+        Err(_) => false,
+    }
+}
+
+// A store whose log of revision 1 was changed.
+fn relogged(rt: &impl Abort, alloc: Global) -> Result<RepoStore<MemDisk>, Fail> {
+    let mut store = opened(alloc, second_disk(rt, alloc)?)?;
+    let name = PropName::parse(alloc, b"svn:log")?;
+    let one = RevNo::new(1);
+    store.change_prop(alloc, one, &name, Some(b"ho"), &Expected::DontCare)?;
+    Ok(store)
+}
+
+#[test]
+fn a_property_is_an_entry(rt: HostRuntime) -> Result<(), Fail> {
+    let store = relogged(&rt, rt.alloc())?;
+    assert!(rt; exports_other(rt.alloc(), &store));
+    let disk = store.into_disk();
+    assert!(rt;
+        is_journal(&disk, &[FIRST, SECOND, THIRD]) && disk.bytes(DiskFile::Gate).len() == 28
+    );
+    let again = opened(rt.alloc(), disk)?;
+    assert!(rt; exports_other(rt.alloc(), &again));
+    Ok(())
+}
+
+// The refusal of a disk with these entries and the gate of both.
+fn damage(alloc: Global, journal: &[u8]) -> Result<StoreFault, Fail> {
+    match opened(alloc, MemDisk::with_bytes(alloc, journal, TWO_GATES)?) {
+        Ok(_) => Err(Fail::new("a damaged entry is opened")),
+        Err(fault) => Ok(fault),
+    }
+}
+
+#[test]
+fn a_damaged_entry(rt: HostRuntime) -> Result<(), Fail> {
+    let mut journal = Vec::from_slice(rt.alloc(), FIRST)?;
+    journal.extend_from_slice(SECOND)?;
+    // The o of hello.
+    if let Some(byte) = journal.as_mut_slice().get_mut(149 + 271) {
+        *byte = b'p';
+    }
+    let fault = damage(rt.alloc(), journal.as_slice())?;
+    assert_eq!(rt; fault.number(), 33);
+    assert_eq!(rt;
+        format!(in rt.alloc(); "{fault}")?.as_str(),
+        "entry 1 is damaged"
+    );
+    Ok(())
+}
+
+// What stands after so many calls of a commit, for each pick: the gate's write decides.
+const STANDING: [[u16; 4]; 6] = [
+    [1, 1, 1, 1],
+    [1, 1, 1, 1],
+    [1, 1, 1, 1],
+    [1, 1, 1, 1],
+    [1, 2, 2, 1],
+    [2, 2, 2, 2],
+];
+
+// How many calls the opening of a disk makes.
+fn opening_calls(alloc: Global, disk: &MemDisk) -> Result<u64, Fail> {
+    let store = opened(alloc, disk.crash(Pick::New)?)?;
+    Ok(store.into_disk().calls().len() as u64)
+}
+
+// A store over a disk with two entries, of which so many calls pass behind its opening.
+fn fused(
+    rt: &impl Abort,
+    alloc: Global,
+    calls: u64,
+    fuse: Fuse,
+) -> Result<RepoStore<FuseDisk<MemDisk>>, Fail> {
+    let disk = second_disk(rt, alloc)?;
+    let before = opening_calls(alloc, &disk)?;
+    let fused = FuseDisk::new(disk, before.saturating_add(calls), fuse);
+    Ok(opened(alloc, fused)?)
+}
+
+// The disk after this many calls of the commits of b and c, stopped.
+fn stopped(rt: &impl Abort, alloc: Global, calls: u64, pick: Pick) -> Result<MemDisk, Fail> {
+    let mut store = fused(rt, alloc, calls, Fuse::ForGood)?;
+    let _both = commit(rt, alloc, &mut store, "b") == 0 && commit(rt, alloc, &mut store, "c") == 0;
+    Ok(store.into_disk().into_inner().crash(pick)?)
+}
+
+// The heads after so many calls of the two commits: the second begins behind the fifth.
+fn heads(calls: u64) -> ([u16; 4], u16) {
+    if calls < 6 {
+        (STANDING[calls as usize], 0)
+    } else {
+        (STANDING[(calls - 5).min(5) as usize], 1)
+    }
+}
+
+#[test]
+fn a_commit_stopped_after_each_call(rt: HostRuntime) -> Result<(), Fail> {
+    for calls in 0u64..11 {
+        let (row, more) = heads(calls);
+        for (pick, wanted) in PICKS.iter().zip(row.iter()) {
+            let disk = stopped(&rt, rt.alloc(), calls, *pick)?;
+            let head = wanted.saturating_add(more);
+            assert!(rt;
+                opens_with_file(rt.alloc(), disk, head),
+                "after {calls} calls"
+            );
+        }
+    }
+    Ok(())
+}
+
+#[test]
+fn the_third_call_fails(rt: HostRuntime) -> Result<(), Fail> {
+    let mut store = fused(&rt, rt.alloc(), 2, Fuse::Once)?;
+    assert_eq!(rt; commit(&rt, rt.alloc(), &mut store, "b"), 31);
+    assert_eq!(rt; commit(&rt, rt.alloc(), &mut store, "b"), 32);
+    assert!(rt; store.has_failed() && has_head(&store, 1));
+    let mut store = opened(rt.alloc(), store.into_disk())?;
+    assert!(rt; has_head(&store, 1) && commit(&rt, rt.alloc(), &mut store, "b") == 0);
+    Ok(())
+}
+
+// How a creation over another repository is refused, and whether that stays.
+fn created_over(alloc: Global, disk: MemDisk) -> Result<(u8, bool), Fail> {
+    match RepoStore::create(alloc, disk, identity()?) {
+        Ok(_) => Ok((0, false)),
+        Err((fault, disk)) => Ok((fault.number(), is_journal(&disk, &[FIRST, SECOND]))),
+    }
+}
+
+#[test]
+fn a_store_where_one_is(rt: HostRuntime) -> Result<(), Fail> {
+    let over = created_over(rt.alloc(), second_disk(&rt, rt.alloc())?)?;
+    assert!(rt; over == (35, true));
+    assert_eq!(rt; refusal(rt.alloc(), MemDisk::new(rt.alloc())), 34);
+    Ok(())
+}
+
+// The number of the refusal of a creation whose calls after the first ones fail once, and 0 where it isn't refused.
+fn creation(alloc: Global, calls: u64) -> Result<u8, Fail> {
+    let disk = FuseDisk::new(MemDisk::new(alloc), calls, Fuse::Once);
+    let made = RepoStore::create(alloc, disk, identity()?);
+    match made.map_err(|refused| refused.0) {
+        Ok(_) => Ok(0),
+        Err(fault) => Ok(fault.number()),
+    }
+}
+
+#[test]
+fn a_create_whose_call_fails(rt: HostRuntime) -> Result<(), Fail> {
+    // Four calls begin the log, and five append the first entry.
+    for calls in 0u64..9 {
+        assert_eq!(rt; creation(rt.alloc(), calls)?, 31);
+    }
+    Ok(())
+}

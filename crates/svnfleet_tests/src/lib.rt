@@ -1,0 +1,9 @@
+//! Tests of the command line and of whole runs of `list` and `canon` over memory.
+#![tactic(auto)]
+
+#[cfg(test)]
+mod dump_tests;
+#[cfg(test)]
+mod stream_tests;
+#[cfg(test)]
+mod word_tests;

@@ -1,0 +1,288 @@
+//! A walk of random calls over a mirror in memory, beside a plain re-computation.
+use dump_load::ChangeSet;
+use node_base::{PropName, PropValue, Props, RevNo};
+use repo_core::Repo;
+use std::alloc::Global;
+use std::process::Abort;
+use std::test::Fail;
+use sync_core::{MirrorCall, Number, PlainMirror, Seat, Token, look};
+use uuid::Uuid;
+
+// A mirror as five numbers and a map: what is merged, what is being copied, who holds the lock, whether a lock is there, and for
+// each revision the letter in its copied property. None before it is initialised.
+#[derive(Drop)]
+struct Plain {
+    begun: bool,
+    merged: u16,
+    copying: Option<u16>,
+    locked: bool,
+    holder: Option<u64>,
+    letters: Vec<u8>,
+}
+
+// A call with its number and its letter.
+#[derive(Clone, Copy, PartialEq, Eq)]
+enum Kind {
+    Init,
+    Take,
+    Steal,
+    Release,
+    SetCopying,
+    Commit,
+    Put,
+    Merge,
+    Clear,
+    Leave,
+}
+
+fn kind_of(n: u64) -> Kind {
+    match n {
+        0 => Kind::Init,
+        1 => Kind::Take,
+        2 => Kind::Steal,
+        3 => Kind::Release,
+        4 => Kind::SetCopying,
+        5 => Kind::Commit,
+        6 => Kind::Put,
+        7 => Kind::Merge,
+        8 => Kind::Clear,
+        _ => Kind::Leave,
+    }
+}
+
+impl Plain {
+    fn head(&self) -> u16 {
+        (self.letters.len().saturating_sub(1) & 0xFFFF) as u16
+    }
+
+    // The answer that the protocol gives, and the state after it.
+    fn say(&mut self, seat: u64, kind: Kind, n: u16, letter: u8) -> Result<u8, Fail> {
+        let head = self.head();
+        let merged = self.merged;
+        let copying = self.copying;
+        let holder = self.holder;
+        let after = head.saturating_add(1);
+        let idle = merged == head && copying.is_none();
+        let noted = merged == head && copying == Some(n) && n == after;
+        let committed = copying == Some(n) && n == head;
+        let own = holder == Some(seat);
+        match kind {
+            Kind::Init => return self.init(letter),
+            Kind::Take => {
+                let locked = self.locked;
+                return Ok(self.lock(seat, locked, 54));
+            }
+            Kind::Steal => return Ok(self.lock(seat, holder.is_some(), 55)),
+            Kind::Leave => {
+                if own {
+                    self.holder = None;
+                }
+                return Ok(0);
+            }
+            _ => {}
+        }
+        if !own {
+            return Ok(59);
+        }
+        let met = match kind {
+            Kind::Release => true,
+            Kind::SetCopying => idle && n == after,
+            Kind::Commit => noted,
+            Kind::Put => n <= merged || committed,
+            Kind::Merge => committed && merged < n,
+            _ => merged == head && copying == Some(merged),
+        };
+        if !met {
+            return Ok(61);
+        }
+        match kind {
+            Kind::Release => {
+                self.locked = false;
+                self.holder = None;
+            }
+            Kind::SetCopying => self.copying = Some(n),
+            Kind::Commit => self.letters.push(letter)?,
+            Kind::Put => {
+                if let Some(old) = self.letters.get_mut(usize::from(n)) {
+                    *old = letter;
+                }
+            }
+            Kind::Merge => self.merged = n,
+            _ => self.copying = None,
+        }
+        Ok(0)
+    }
+
+    fn init(&mut self, letter: u8) -> Result<u8, Fail> {
+        if self.begun {
+            return Ok(52);
+        }
+        self.begun = true;
+        self.letters.clear();
+        self.letters.push(letter)?;
+        Ok(0)
+    }
+
+    fn lock(&mut self, seat: u64, against: bool, number: u8) -> u8 {
+        if !self.begun {
+            return 51;
+        }
+        if against {
+            return number;
+        }
+        self.locked = true;
+        self.holder = Some(seat);
+        0
+    }
+}
+
+pub(crate) fn value(rt: &impl Abort, alloc: Global, text: &[u8]) -> PropValue {
+    let bytes = Vec::from_slice(alloc, text).expect(rt, "memory");
+    PropValue::new(bytes).expect(rt, "a value")
+}
+
+pub(crate) fn token(rt: &impl Abort, alloc: Global, text: &[u8]) -> Token {
+    Token::new(Vec::from_slice(alloc, text).expect(rt, "memory")).expect(rt, "a token")
+}
+
+// A map with one letter.
+fn letter_map(rt: &impl Abort, alloc: Global, letter: u8) -> Props {
+    let mut props = Props::empty();
+    let mut bytes = Vec::new(alloc);
+    bytes.push(letter).expect(rt, "memory");
+    let value = PropValue::new(bytes).expect(rt, "a value");
+    let name = PropName::parse(alloc, b"p").expect(rt, "a name");
+    props.set(alloc, name, value).expect(rt, "a property");
+    props
+}
+
+// The same call of the mirror. A leaving seat is no call.
+fn say(
+    rt: &impl Abort,
+    alloc: Global,
+    mirror: &mut PlainMirror,
+    seat: Seat,
+    kind: Kind,
+    n: u16,
+    letter: u8,
+) -> u8 {
+    let number = RevNo::new(n);
+    let url = value(rt, alloc, b"/master");
+    let token = token(rt, alloc, b"job");
+    let props = letter_map(rt, alloc, letter);
+    let set = ChangeSet::empty(alloc);
+    let call = match kind {
+        Kind::Init => MirrorCall::Init {
+            url: &url,
+            uuid: &url,
+            props: &props,
+        },
+        Kind::Take => MirrorCall::TakeLock(&token),
+        Kind::Steal => MirrorCall::StealLock(&token),
+        Kind::Release => MirrorCall::ReleaseLock,
+        Kind::SetCopying => MirrorCall::SetCopying(number),
+        Kind::Commit => MirrorCall::Commit {
+            number,
+            set: &set,
+            props: &props,
+        },
+        Kind::Put => MirrorCall::PutProps {
+            number,
+            props: &props,
+        },
+        Kind::Merge => MirrorCall::SetMerged(number),
+        Kind::Clear => MirrorCall::ClearCopying,
+        Kind::Leave => {
+            mirror.leave(seat);
+            return 0;
+        }
+    };
+    match mirror.step(alloc, seat, &call) {
+        Ok(_) => 0,
+        Err(fault) => fault.number(),
+    }
+}
+
+fn spelt(number: Number) -> Option<u64> {
+    number.spelt()
+}
+
+// Whether the mirror stands as the re-computation says.
+fn agree(alloc: Global, mirror: &PlainMirror, plain: &Plain, n: u16) -> Result<bool, Fail> {
+    let Some(own) = mirror.repo.props(RevNo::ZERO) else {
+        return Ok(false);
+    };
+    let standing = look(alloc, own, mirror.repo.head())?;
+    let letter = match mirror.repo.props(RevNo::new(n)) {
+        Some(props) => match props.get(b"p") {
+            Some(value) => value.first().copied(),
+            None => None,
+        },
+        None => None,
+    };
+    let merged = if plain.begun {
+        Some(u64::from(plain.merged))
+    } else {
+        None
+    };
+    Ok(
+        standing.url.is_some() == plain.begun
+            && standing.head.get() == plain.head()
+            && standing.lock.is_some() == plain.locked
+            && spelt(standing.merged) == merged
+            && spelt(standing.copying) == plain.copying.map(u64::from)
+            && mirror.holder == plain.holder.map(Seat::new)
+            && (!plain.begun || letter == plain.letters.get(usize::from(n)).copied()),
+    )
+}
+
+// The next of a row of numbers that look random.
+pub(crate) fn shuffled(state: u64) -> u64 {
+    state
+        .wrapping_mul(6_364_136_223_846_793_005)
+        .wrapping_add(1_442_695_040_888_963_407)
+}
+
+// The head after so many random calls; None where the mirror and the re-computation differ.
+fn walk(rt: &impl Abort, alloc: Global, calls: u64) -> Result<Option<u16>, Fail> {
+    let identity = Uuid::parse_str("6a1f0c3e-0000-4000-8000-000000000001")?;
+    let mut mirror = PlainMirror::new(Repo::new(alloc, identity)?);
+    let mut letters = Vec::new(alloc);
+    letters.push(0)?;
+    let mut plain = Plain {
+        begun: false,
+        merged: 0,
+        copying: None,
+        locked: false,
+        holder: None,
+        letters,
+    };
+    let mut state = 1u64;
+    for _ in 0..calls {
+        state = shuffled(state);
+        let bits = state >> 33;
+        let kind = kind_of((bits >> 9) % 10);
+        let seat = bits & 1;
+        let n = plain
+            .head()
+            .saturating_add(((bits >> 1) % 3) as u16)
+            .saturating_sub(1);
+        let letter = ((bits >> 3) & 0x3F) as u8;
+        let wanted = plain.say(seat, kind, n, letter)?;
+        let got = say(rt, alloc, &mut mirror, Seat::new(seat), kind, n, letter);
+        if wanted != got || !agree(alloc, &mirror, &plain, n)? {
+            return Ok(None);
+        }
+    }
+    Ok(Some(plain.head()))
+}
+
+#[test]
+fn random_calls_are_answered_as_the_protocol_says(rt: HostRuntime) -> Result<(), Fail> {
+    let alloc = rt.alloc();
+    match walk(&rt, alloc, 8000)? {
+        None => assert!(rt; false),
+        Some(head) => assert!(rt; head > 10),
+    }
+    Ok(())
+}
