@@ -29,5 +29,3 @@ mod editor;
 mod fault;
 pub mod law;
 mod recorder;
-#[cfg(test)]
-mod tests;

@@ -14,17 +14,9 @@ mod fault;
 mod fill;
 mod judge;
 pub mod laws;
-#[cfg(test)]
-mod limit_tests;
 mod load;
 mod normal;
 mod order;
-#[cfg(test)]
-mod part_tests;
 mod records;
 mod set;
 mod steps;
-#[cfg(test)]
-mod table_tests;
-#[cfg(test)]
-mod tests;

@@ -16,6 +16,4 @@ mod limits;
 mod reader;
 mod record;
 mod state;
-#[cfg(test)]
-mod tests;
 mod writer;

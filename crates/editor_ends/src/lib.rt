@@ -21,18 +21,12 @@ pub use build::{BuildEditor, Built, BuiltDir, BuiltFile};
 pub use show::drive;
 
 mod build;
-#[cfg(test)]
-mod build_tests;
 mod building;
 mod finish;
-#[cfg(test)]
-mod generated_tests;
 pub mod law;
 mod parts;
 mod plan;
 mod progress;
 mod props;
 mod show;
-#[cfg(test)]
-mod tests;
 mod text;

@@ -1,6 +1,6 @@
 //! A disk in a folder of the host.
-ghost use Rattle.std.specs.Prelude.{◌≡◌, ◌≤◌, ⊤, ℕ, [], length, IfOk};
-ghost use Rattle.fleet_disk.specs.Host.{failures_of, HasFiles, IsHeld};
+ghost use Rattle.std.specs.Prelude.{◌≡◌, ◌≤◌, ◌⊎◌, ⊤, ℕ, [], length, false, IfOk, IsTrue};
+ghost use Rattle.fleet_disk.specs.Host.{failures_of, HasBytes, HasFiles, IsHeld};
 ghost use Rattle.fleet_disk.specs.Image.{Image, no_bytes};
 ghost use Rattle.fleet_disk.specs.Rules.{Rose};
 
@@ -16,18 +16,31 @@ pub trait HeldFiles: Files {
     /// No other opening of the file is held, in this process or in another, until it is closed.
     ghost is_held: { Self.File → Type 0 };
 
+    /// The host answered that the file isn't empty.
+    ghost has_bytes: { Self.File → Type 0 };
+
     /// Holds a file. The host refuses where another opening holds it.
     fn hold(&self, file: &Self::File) -> io::Result<()>
         ensures { IfOk result (λ nothing. is_held file.now) };
+
+    /// Whether a file has no byte.
+    fn is_empty(&self, file: &Self::File) -> io::Result<bool>
+        ensures { IfOk result (λ empty. empty ≡ false → has_bytes file.now) };
 }
 
 /// As `flock` does it: an opening that is closed, its process killed or not, holds nothing.
 impl HeldFiles for HostRuntime {
-    // The library says nothing of what a host holds.
+    // The library says nothing of what a host holds, nor of what its files have.
     ghost is_held = { λ file. ⊤ };
+
+    ghost has_bytes = { λ file. ⊤ };
 
     fn hold(&self, file: &File) -> io::Result<()> {
         Ok(file.try_lock()?)
+    }
+
+    fn is_empty(&self, file: &File) -> io::Result<bool> {
+        Ok(file.metadata()?.len() == 0)
     }
 }
 
@@ -63,33 +76,73 @@ impl<F: Read + Write + Seek + OpenFile + Drop> HostDisk<F> {
         ensures failures { IfOk result (λ disk. failures_of disk ≡ 0) }
         ensures held { IfOk result (IsHeld R.is_held) }
     {
-        let journal = existing(rt, format!(in alloc; "{folder}/journal")?.as_str())?;
-        if let Some(HostFile { file, .. }) = &journal {
-            rt.hold(file)?;
-        }
-        Ok(HostDisk {
-            journal,
-            gate: existing(rt, format!(in alloc; "{folder}/gate")?.as_str())?,
-            failures: 0,
-        })
+        let journal = format!(in alloc; "{folder}/journal")?;
+        let gate = format!(in alloc; "{folder}/gate")?;
+        HostDisk::found(rt, journal.as_str(), gate.as_str())
     }
 
-    /// Opens the files of a folder, and makes those that are missing; both are open then. No failure is counted yet. The
-    /// host refuses where the folder is in use; it or memory may refuse besides.
+    /// Opens the files of a folder, and makes those that are missing, so that both are open; but where one of them is there
+    /// already and isn't empty, nothing is made. No failure is counted yet. The host refuses where the folder is in use; it or
+    /// memory may refuse besides.
     pub fn create<R: HeldFiles<File = F>>(
         rt: &R,
         alloc: Global,
         folder: &str,
     ) -> io::Result<HostDisk<F>>
         ensures failures { IfOk result (λ disk. failures_of disk ≡ 0) }
+        ensures files { IfOk result (λ disk. HasFiles disk ⊎ HasBytes R.has_bytes disk) }
+        ensures held { IfOk result (IsHeld R.is_held) }
+    {
+        let journal = format!(in alloc; "{folder}/journal")?;
+        let gate = format!(in alloc; "{folder}/gate")?;
+        let disk = HostDisk::found(rt, journal.as_str(), gate.as_str())?;
+        if has_bytes(rt, &disk)? {
+            return Ok(disk);
+        }
+        let disk = disk.completed(rt, journal.as_str(), gate.as_str())?;
+        // The names of new files last once the folder is synced.
+        OpenOptions::new().read(true).open(rt, folder)?.sync_all()?;
+        Ok(disk)
+    }
+
+    // The files that are there, of which the journal is held.
+    fn found<R: HeldFiles<File = F>>(rt: &R, journal: &str, gate: &str) -> io::Result<HostDisk<F>>
+        ensures failures { IfOk result (λ disk. failures_of disk ≡ 0) }
+        ensures held { IfOk result (IsHeld R.is_held) }
+    {
+        let journal = existing(rt, journal)?;
+        if let Some(HostFile { file, .. }) = &journal {
+            rt.hold(file)?;
+        }
+        Ok(HostDisk {
+            journal,
+            gate: existing(rt, gate)?,
+            failures: 0,
+        })
+    }
+
+    // The same files, with those made that are missing. The journal is held before the gate is made, so that of two processes
+    // that begin at once one alone goes on.
+    fn completed<R: HeldFiles<File = F>>(
+        self,
+        rt: &R,
+        journal_path: &str,
+        gate_path: &str,
+    ) -> io::Result<HostDisk<F>>
+        requires held { IsHeld R.is_held self }
+        ensures failures { IfOk result (λ disk. failures_of disk ≡ 0) }
         ensures files { IfOk result HasFiles }
         ensures held { IfOk result (IsHeld R.is_held) }
     {
-        let journal = made(rt, format!(in alloc; "{folder}/journal")?.as_str())?;
-        rt.hold(&journal)?;
-        let gate = made(rt, format!(in alloc; "{folder}/gate")?.as_str())?;
-        // The names of new files last once the folder is synced.
-        OpenOptions::new().read(true).open(rt, folder)?.sync_all()?;
+        let HostDisk { journal, gate, .. } = self;
+        let journal = match journal {
+            Some(HostFile { file, .. }) => file,
+            None => made_and_held(rt, journal_path)?,
+        };
+        let gate = match gate {
+            Some(HostFile { file, .. }) => file,
+            None => made(rt, gate_path)?,
+        };
         Ok(HostDisk {
             journal: Some(opened(journal)),
             gate: Some(opened(gate)),
@@ -256,6 +309,29 @@ fn opened<F>(file: F) -> HostFile<F>
         file,
         is_synced: false,
     }
+}
+
+// Whether a file is there that isn't empty.
+fn has_bytes<R: HeldFiles>(rt: &R, disk: &HostDisk<R::File>) -> io::Result<bool>
+    ensures some { IfOk result (λ some. IsTrue some → HasBytes R.has_bytes disk.now) }
+{
+    if let Some(HostFile { file, .. }) = &disk.journal {
+        if !rt.is_empty(file)? {
+            return Ok(true);
+        }
+    }
+    match &disk.gate {
+        Some(HostFile { file, .. }) => Ok(!rt.is_empty(file)?),
+        None => Ok(false),
+    }
+}
+
+fn made_and_held<R: HeldFiles>(rt: &R, path: &str) -> io::Result<R::File>
+    ensures { IfOk result (λ file. R.is_held file) }
+{
+    let file = made(rt, path)?;
+    rt.hold(&file)?;
+    Ok(file)
 }
 
 fn existing<R: Files>(rt: &R, path: &str) -> io::Result<Option<HostFile<R::File>>> {

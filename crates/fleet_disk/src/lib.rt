@@ -28,6 +28,3 @@ pub use disk::{Disk, DiskFault, DiskFile};
 pub use fuse::{Fuse, FuseDisk};
 pub use host::{HeldFiles, HostDisk};
 pub use memory::MemDisk;
-
-#[cfg(test)]
-mod tests;

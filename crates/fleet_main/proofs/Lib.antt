@@ -4,4 +4,5 @@ pub mod Dumping
 pub mod Lines
 pub mod Opening
 pub mod Refusing
+pub mod Showing
 pub mod Spelled

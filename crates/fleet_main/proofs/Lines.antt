@@ -10,7 +10,7 @@ use Rattle.std.proofs.lemmas.Str.Pattern.{NoCharPasses-char}
 use Rattle.std.proofs.Math.ListN.{get_or-append}
 use Rattle.std.proofs.lemmas.Bool.Decides.{nat_tests}
 use Rattle.std.proofs.lemmas.List.Sums.{AllPass-from_list_all, take_while-cons}
-use Rattle.fleet_main.specs.Lines.{HasNoLineFeed, IsLineOf, is_some_text, without_label}
+use Rattle.fleet_main.specs.Lines.{HasNoLineFeed, is_some_text}
 
 -- one more line behind what there is
 abbrev pub spaced : List ℕ → List ℕ → List ℕ
@@ -95,7 +95,7 @@ spaced_lacks done line d l = by_test (is_some_text done)
     by_test true = All-append (λ b. b ≢ 10) (done ++ 32 ∷ []) line (All-append (λ b. b ≢ 10) done (32 ∷ []) d blank_only) l
     by_test false = All-append (λ b. b ≢ 10) done line d l
 
-lacks_at : (bs : List ℕ) → NoCharPasses is_newline bs → HasNoLineFeed bs
+pub lacks_at : (bs : List ℕ) → NoCharPasses is_newline bs → HasNoLineFeed bs
 lacks_at bs none k d l e = NoCharPasses-char 10 bs k none (omega arith) l (get_or_default bs k 0 d l ∙ e)
 
 stripped_lacks : (l x : List ℕ) → HasNoLineFeed l → StripsCarriageReturn l x → HasNoLineFeed x
@@ -119,19 +119,3 @@ line_lacks w x rest h = up_to w x h.0 h.1 h.4 h.5 (below_or_at h.0 (length w) (o
 
 pub trim_lacks : (s r : List ℕ) → IsTrim s r → HasNoLineFeed s → HasNoLineFeed r
 trim_lacks s r t h = subst HasNoLineFeed (sym t.2) (All-take (λ b. b ≢ 10) t.1 (drop t.0 s) (All-drop (λ b. b ≢ 10) t.0 s h))
-
-of_test : (bs : List ℕ) → list_all (λ b. not (b == 10)) bs ≡ true → HasNoLineFeed bs
-of_test bs t k d l e = true≢false (sym (AllPass-from_list_all (λ b. not (b == 10)) bs t k d l) ∙ ap (λ b. not (b == 10)) e)
-
--- round a text without one there is a line without one
-pub line_of_lacks : (wrong line : List ℕ) → HasNoLineFeed wrong → IsLineOf wrong line → HasNoLineFeed line
-line_of_lacks wrong line h is =
-    subst HasNoLineFeed (sym is) (All-append (λ b. b ≢ 10) (codes "svnfleet: ") (wrong ++ codes " (svnfleet --help tells more)") (of_test (codes "svnfleet: ") refl)
-    (All-append (λ b. b ≢ 10) wrong (codes " (svnfleet --help tells more)") h (of_test (codes " (svnfleet --help tells more)") refl)))
-
-pub label_lacks : (text rest : List ℕ) → rest ≡ without_label text → HasNoLineFeed text → HasNoLineFeed rest
-label_lacks text rest is h = subst HasNoLineFeed (sym is) (by_test (starts_with nat_eq text (codes "error: ")))
-  where
-    by_test : (t : Bool) → HasNoLineFeed (cond t (drop 7 text) text)
-    by_test true = All-drop (λ b. b ≢ 10) 7 text h
-    by_test false = h

@@ -1,12 +1,21 @@
 -- The lines that the program tells of a mistake.
-use Rattle.std.specs.Prelude.{◌≡◌, ℕ, Bool, true, false, List, [], ◌∷◌, ◌++◌, map, drop, nat_eq, All, ◌≢◌, codes, if◌then◌else◌}
-use Rattle.std.specs.List.{join_with_byte, take_while, starts_with}
+use Rattle.std.specs.Prelude.{◌≡◌, ℕ, Bool, true, false, List, [], ◌∷◌, ◌++◌, map, drop, get_or, nat_eq, bytes_eq, All, ◌≢◌, codes, if◌then◌else◌}
+use Rattle.std.specs.List.{join_with_byte, list_any, take_while, starts_with}
 use Rattle.std.specs.Str.{trim}
 use Rattle.std.specs.Str.Lines.{lines}
+use Rattle.fleet_main.specs.Terminal.{shown}
 
--- the one line that is told of what is wrong
-abbrev pub IsLineOf : List ℕ → List ℕ → Type 0
-IsLineOf wrong line = line ≡ codes "svnfleet: " ++ (wrong ++ codes " (svnfleet --help tells more)")
+-- the words that name a command
+abbrev pub commands : List (List ℕ)
+commands = codes "list" ∷ codes "canon" ∷ codes "create" ∷ codes "load" ∷ codes "dump" ∷ codes "mkdir" ∷ []
+
+-- the words whose help tells more: of the command that the first word behind the program's name is, or else of the program
+abbrev pub help_of : List (List ℕ) → List ℕ
+help_of words = if list_any (bytes_eq (get_or words 1 [])) commands then codes "svnfleet " ++ get_or words 1 [] else codes "svnfleet"
+
+-- the one line that is told of what is wrong, as a terminal is given it
+abbrev pub IsLineOf : List ℕ → List ℕ → List ℕ → Type 0
+IsLineOf help wrong line = line ≡ shown (codes "svnfleet: " ++ (wrong ++ (codes " (" ++ (help ++ codes " --help tells more)"))))
 
 -- it is one line at most
 abbrev pub HasNoLineFeed : List ℕ → Type 0

@@ -6,7 +6,8 @@ use Rattle.clap.specs.Words.{Row}
 use Rattle.clap.specs.declared.error.kind.ErrorKind.{ErrorKind}
 use Rattle.clap.specs.declared.error.kind.ErrorKind.TheVariants as kind
 use Rattle.fleet_main.specs.Lines.{HasNoLineFeed, IsLineOf}
-use Rattle.fleet_main.specs.Values.{HasValue, SpellsMicros, SpellsRange, identity_read}
+use Rattle.fleet_main.specs.Terminal.{HasNoControl}
+use Rattle.fleet_main.specs.Values.{HasReturn, HasValue, SpellsMicros, SpellsRange, identity_read}
 use Rattle.fleet_main.specs.declared.command_line.Usage.{Usage}
 use Rattle.fleet_main.specs.declared.command_line.Usage.TheVariants.{Shown, Wrong, OutOfMemory}
 
@@ -14,34 +15,37 @@ use Rattle.fleet_main.specs.declared.command_line.Usage.TheVariants.{Shown, Wron
 abbrev pub IsMistake : ErrorKind → Type 0
 IsMistake k = (k ≢ kind.DisplayHelp) × (k ≢ kind.DisplayVersion)
 
--- one line that says what is wrong
-abbrev pub IsTextOfMistake : List ℕ → Type 0
-IsTextOfMistake line = HasNoLineFeed line × ((wrong : List ℕ) × IsLineOf wrong line)
+-- one line that says what is wrong, and whose help tells more
+abbrev pub IsTextOfMistake : List ℕ → List ℕ → Type 0
+IsTextOfMistake help line = HasNoControl line × HasNoLineFeed line × ((wrong : List ℕ) × IsLineOf help wrong line)
 
 -- of an error of that kind: its text where help or the version was asked for, and a line on what is wrong where another mistake was found; else memory ran out
-abbrev pub IsUsageOf : ErrorKind → Usage → Type 0
-IsUsageOf k (Shown text) = (k ≢ kind.OutOfMemory) × (IsMistake k → ⊥)
-IsUsageOf k (Wrong text) = (k ≢ kind.OutOfMemory) × IsMistake k × IsTextOfMistake (string_bytes text)
-IsUsageOf k OutOfMemory = Unit {0}
+abbrev pub IsUsageOf : List ℕ → ErrorKind → Usage → Type 0
+IsUsageOf help k (Shown text) = (k ≢ kind.OutOfMemory) × (IsMistake k → ⊥)
+IsUsageOf help k (Wrong text) = (k ≢ kind.OutOfMemory) × IsMistake k × IsTextOfMistake help (string_bytes text)
+IsUsageOf help k OutOfMemory = Unit {0}
 
--- a line that a value isn't what is wanted, the value between quotes; of a value beyond ASCII nothing is said of how it is shown
-abbrev pub IsValueLine : List ℕ → List ℕ → List ℕ → Type 0
-IsValueLine value wanted line = IfSome (debug_str value) (λ shown. IsLineOf (shown ++ (codes " is not " ++ wanted)) line)
+-- one line that a value isn't what is wanted, the value between quotes; of a value beyond ASCII nothing more is said of how it is shown
+abbrev pub IsValueLine : List ℕ → List ℕ → List ℕ → List ℕ → Type 0
+IsValueLine help value wanted line =
+    HasNoControl line × HasNoLineFeed line × IfSome (debug_str value) (λ quoted. IsLineOf help (quoted ++ (codes " is not " ++ wanted)) line)
 
--- of a value that isn't what is wanted: its line; else memory ran out
-abbrev pub IsTold : List ℕ → List ℕ → Usage → Type 0
-IsTold value wanted (Shown text) = ⊥
-IsTold value wanted (Wrong text) = IsValueLine value wanted (string_bytes text)
-IsTold value wanted OutOfMemory = Unit {0}
+-- of a value that isn't what is wanted: its line, with the help that tells more; else memory ran out
+abbrev pub IsTold : List ℕ → List ℕ → List ℕ → Usage → Type 0
+IsTold help value wanted (Shown text) = ⊥
+IsTold help value wanted (Wrong text) = IsValueLine help value wanted (string_bytes text)
+IsTold help value wanted OutOfMemory = Unit {0}
 
--- the value of a subcommand that spells nothing: no identity, no range, no moment
+-- the value of a subcommand that isn't taken: it spells no identity, no range or no moment, or is a message with a carriage return
 pub data IsValueRefused (name : List ℕ) (rows : List Row) (line : List ℕ) : Type 0 where
   no_identity : (value : List ℕ) → name ≡ codes "create" → HasValue rows (codes "uuid") value → identity_read value ≡ None
-      → IsValueLine value (codes "a UUID of the form 8-4-4-4-12 in hexadecimal digits") line → IsValueRefused name rows line
+      → IsValueLine (codes "svnfleet create") value (codes "a UUID of the form 8-4-4-4-12 in hexadecimal digits") line → IsValueRefused name rows line
   no_range : (value : List ℕ) → name ≡ codes "dump" → HasValue rows (codes "revisions") value → ((lo hi : ℕ) → SpellsRange value lo hi → ⊥)
-      → IsValueLine value (codes "a range LO:HI of revisions from 0 to 65535, LO not above HI") line → IsValueRefused name rows line
+      → IsValueLine (codes "svnfleet dump") value (codes "a range LO:HI of revisions from 0 to 65535, LO not above HI") line → IsValueRefused name rows line
   no_moment : (value : List ℕ) → name ≡ codes "mkdir" → HasValue rows (codes "moment") value → ((micros : ℕ) → SpellsMicros value micros → ⊥)
-      → IsValueLine value (codes "a number of microseconds from 0 to 4102444799999999") line → IsValueRefused name rows line
+      → IsValueLine (codes "svnfleet mkdir") value (codes "a number of microseconds from 0 to 4102444799999999") line → IsValueRefused name rows line
+  no_message : (value : List ℕ) → name ≡ codes "mkdir" → HasValue rows (codes "message") value → HasReturn value
+      → IsValueLine (codes "svnfleet mkdir") value (codes "a message without carriage returns") line → IsValueRefused name rows line
 
 -- of a subcommand with its values: a value is refused; else memory ran out
 abbrev pub IsRefusedAt : Option (List ℕ × List Row) → Usage → Type 0
@@ -49,9 +53,9 @@ IsRefusedAt named (Shown text) = ⊥
 IsRefusedAt named (Wrong text) = (name : List ℕ) × (rows : List Row) × (named ≡ Some (name, rows)) × IsValueRefused name rows (string_bytes text)
 IsRefusedAt named OutOfMemory = Unit {0}
 
--- of words, by the kinds of error that clap may find in them and the subcommand that they name: help or the version was asked for; or they have another mistake; or they have none, and a value is refused
-abbrev pub IsUsageAt : Kinds → Option (List ℕ × List Row) → Usage → Type 0
-IsUsageAt kinds named (Shown text) = (k : ErrorKind) × IsAmong k kinds × (IsMistake k → ⊥)
-IsUsageAt kinds named (Wrong text) =
-    ((k : ErrorKind) × IsAmong k kinds × IsMistake k × IsTextOfMistake (string_bytes text)) ⊎ ((kinds ≡ []) × IsRefusedAt named (Wrong text))
-IsUsageAt kinds named OutOfMemory = Unit {0}
+-- of words, by their help, the kinds of error that clap may find in them and the subcommand that they name: help or the version was asked for; or they have another mistake; or they have none, and a value is refused
+abbrev pub IsUsageAt : List ℕ → Kinds → Option (List ℕ × List Row) → Usage → Type 0
+IsUsageAt help kinds named (Shown text) = (k : ErrorKind) × IsAmong k kinds × (IsMistake k → ⊥)
+IsUsageAt help kinds named (Wrong text) =
+    ((k : ErrorKind) × IsAmong k kinds × IsMistake k × IsTextOfMistake help (string_bytes text)) ⊎ ((kinds ≡ []) × IsRefusedAt named (Wrong text))
+IsUsageAt help kinds named OutOfMemory = Unit {0}

@@ -1,5 +1,6 @@
 -- What the values of a command's words spell.
-use Rattle.std.specs.Prelude.{◌≡◌, ◌≤◌, ℕ, List, ◌∷◌, ◌++◌, Option, Some, None, string_bytes, codes}
+use Rattle.std.specs.Prelude.{◌≡◌, ◌≤◌, ℕ, List, ◌∷◌, ◌++◌, ◌==◌, Option, true, Some, None, string_bytes, codes}
+use Rattle.std.specs.List.{list_any}
 use Rattle.uuid.specs.Text.{parsed_hyphenated}
 use Rattle.clap.specs.Words.{Row, first_of}
 use Rattle.node_base.specs.Numbers.{decimal, rev_read}
@@ -34,6 +35,10 @@ IsRangeOf None (Some range) = ⊥
 IsRangeOf (Some value) None = ⊥
 IsRangeOf (Some value) (Some range) = SpellsRange value (first_in range) (last_in range)
 
+-- it has a carriage return, which Subversion takes in no log message
+abbrev pub HasReturn : List ℕ → Type 0
+HasReturn text = list_any (λ b. b == 13) text ≡ true
+
 -- among the values of a subcommand, the first of that name is this one
 abbrev pub HasValue : List Row → List ℕ → List ℕ → Type 0
 HasValue rows name value = first_of name rows ≡ Some value
@@ -47,7 +52,7 @@ HasValuesOf rows (Create folder identity) =
 HasValuesOf rows (Load folder) = HasValue rows (codes "DIR") (string_bytes folder)
 HasValuesOf rows (Dump folder range) = HasValue rows (codes "DIR") (string_bytes folder) × IsRangeOf (first_of (codes "revisions") rows) range
 HasValuesOf rows (MakeDir folder path message moment) =
-    HasValue rows (codes "DIR") (string_bytes folder) × HasValue rows (codes "PATH") (string_bytes path) × HasValue rows (codes "message") (string_bytes message)
+    HasValue rows (codes "DIR") (string_bytes folder) × HasValue rows (codes "PATH") (string_bytes path) × HasValue rows (codes "message") (string_bytes message) × ¬ HasReturn (string_bytes message)
     × ((value : List ℕ) × HasValue rows (codes "moment") value × ((micros : ℕ) × SpellsMicros value micros × IsMoment micros moment))
 
 -- of a subcommand with its values: the command has its name and its values

@@ -1,19 +1,23 @@
 //! The command line.
-ghost use Rattle.std.specs.Prelude.{◌≡◌, ◌≤◌, ◌++◌, ℕ, List, [], Option, IfNone, IfOk, IfErr, IfSome, Some, None, map, false, string_bytes, codes};
+ghost use Rattle.std.specs.Prelude.{◌≡◌, ◌≤◌, ◌++◌, ℕ, List, [], Option, IfNone, IfOk, IfErr, IfSome, Some, None, map, false, IsTrue, ◌↔◌, string_bytes, codes};
 ghost use Rattle.std.specs.Option.{option_map};
 ghost use Rattle.clap.specs.Faults.{fault_of};
 ghost use Rattle.clap.specs.Kinds.{FailsBy};
 ghost use Rattle.clap.specs.Values.{kind_of};
 ghost use Rattle.clap.specs.Words.{Row, app_of, first_of, found_of, rows_of, rule_of, subcommand_of, subcommand_rows_of};
 ghost use Rattle.clap.specs.declared.builder.command.Command.TheViews.{out-Command as fields_of};
-ghost use Rattle.fleet_main.specs.Lines.{HasNoLineFeed, IsLineOf, first_lines, without_label};
+ghost use Rattle.fleet_main.specs.Lines.{HasNoLineFeed, IsLineOf, first_lines, help_of, without_label};
+ghost use Rattle.fleet_main.specs.Terminal.{HasNoControl};
 ghost use Rattle.fleet_main.specs.Usages.{IsRefusedAt, IsTold, IsUsageAt, IsUsageOf};
-ghost use Rattle.fleet_main.specs.Values.{HasValue, IsCommandOf, SpellsMicros, SpellsRange, identity_read};
+ghost use Rattle.fleet_main.specs.Values.{HasReturn, HasValue, IsCommandOf, SpellsMicros, SpellsRange, identity_read};
 ghost use Rattle.fleet_main.specs.Words.{canon_app, create_app, dump_app, folders_app, list_app, load_app, mkdir_app, mkdir_place_app, named_rule, range_rule, streams_app, svnfleet_app, word_rule};
 ghost use Rattle.node_base.specs.Numbers.{rev_read};
 ghost use Rattle.repo_core.specs.Dates.{IsMoment};
 ghost use Rattle.store_engines.specs.Ranges.{first_in, last_in};
 
+use crate::help::help_of;
+use crate::terminal::line_of;
+use crate::texts;
 use clap::error::ErrorKind;
 use clap::{Arg, ArgAction, ArgMatches, Error};
 use node_base::{RevNo, read_decimal};
@@ -143,7 +147,9 @@ fn create<'a>(alloc: Global) -> Result<clap::Command<'a>, AllocError>
         "UUID",
         "The identity, as 8-4-4-4-12 hexadecimal digits",
     );
-    let top = clap::Command::new(alloc, "create").about("Begins an empty repository in a folder");
+    let top = clap::Command::new(alloc, "create")
+        .about("Begins an empty repository in a folder")
+        .after_help(texts::CREATE);
     let placed = top.arg(folder)?;
     let whole = placed.arg(identity)?;
     Ok(whole)
@@ -156,9 +162,7 @@ fn load<'a>(alloc: Global) -> Result<clap::Command<'a>, AllocError>
     let folder = word(alloc, "DIR", "The folder of the repository");
     let top = clap::Command::new(alloc, "load")
         .about("Loads a dump on standard input into a folder's repository")
-        .after_help(
-            "Prints `Loaded revision N.` for each revision that is committed, nothing for revision 0, whose properties are\ntaken while there is no other. What was committed before a refusal stays.\nThe status is 0; 1 with a line where the dump is refused or the device fails; 2 where the words are wrong.",
-        );
+        .after_help(texts::LOAD);
     let whole = top.arg(folder)?;
     Ok(whole)
 }
@@ -171,9 +175,7 @@ fn dump<'a>(alloc: Global) -> Result<clap::Command<'a>, AllocError>
     let range = range(alloc);
     let top = clap::Command::new(alloc, "dump")
         .about("Writes a folder's repository as a dump, each revision by its changes")
-        .after_help(
-            "Prints the dump: its head with the identity, and the revisions with the properties that they have now,\nrevision 0 too where the range has it.\nThe status is 0; 1 with a line where HI is above the head or the device fails; 2 where the words are wrong.",
-        );
+        .after_help(texts::DUMP);
     let placed = top.arg(folder)?;
     let whole = placed.arg(range)?;
     Ok(whole)
@@ -186,9 +188,9 @@ fn mkdir_place<'a>(alloc: Global) -> Result<clap::Command<'a>, AllocError>
 {
     let folder = word(alloc, "DIR", "The folder of the repository");
     let path = word(alloc, "PATH", "The directory, without a slash in front");
-    let top = clap::Command::new(alloc, "mkdir").about(
-        "Commits one directory to a folder's repository",
-    );
+    let top = clap::Command::new(alloc, "mkdir")
+        .about("Commits one directory to a folder's repository")
+        .after_help(texts::MKDIR);
     let placed = top.arg(folder)?;
     let whole = placed.arg(path)?;
     Ok(whole)
@@ -198,7 +200,12 @@ fn mkdir<'a>(alloc: Global) -> Result<clap::Command<'a>, AllocError>
     ensures app { IfOk result (λ c. app_of c ≡ mkdir_app) }
     ensures local { IfOk result (λ c. (fields_of c).has_globals ≡ false) }
 {
-    let message = valued(alloc, "message", "TEXT", "The text of svn:log");
+    let message = valued(
+        alloc,
+        "message",
+        "TEXT",
+        "The text of svn:log, without carriage returns",
+    );
     let moment = valued(
         alloc,
         "moment",
@@ -221,6 +228,7 @@ fn over_streams<'a>(alloc: Global) -> Result<clap::Command<'a>, AllocError>
         .about(
             "Keeps, lists and rewrites the histories of Subversion repositories, as dumps of format 2 say them",
         )
+        .after_help(texts::PROGRAM)
         .subcommand_required(true);
     let some = top.subcommand(list(alloc))?;
     let whole = some.subcommand(canon(alloc))?;
@@ -253,16 +261,16 @@ fn svnfleet<'a>(alloc: Global) -> Result<clap::Command<'a>, AllocError>
 }
 
 /// The command that the words name, the program's name first, with the values that they give it. Usage where they name none: help
-/// or the version only where it was asked for, and else what is wrong, in the words or in the value of an identity, a range or a
-/// moment.
+/// or the version only where it was asked for, and else what is wrong, in the words or in the value of an identity, a range, a
+/// moment or a message, in one line without control characters that names the help of the command at hand.
 pub fn plan(alloc: Global, words: &[String]) -> Result<Command, Usage>
     ensures named { IfOk result (IsCommandOf (subcommand_of svnfleet_app (map string_bytes words.now))) }
     ensures faultless { IfOk result (λ _. fault_of svnfleet_app (map string_bytes words.now) ≡ []) }
-    ensures usage { IfErr result (IsUsageAt (fault_of svnfleet_app (map string_bytes words.now)) (subcommand_of svnfleet_app (map string_bytes words.now))) }
+    ensures usage { IfErr result (IsUsageAt (help_of (map string_bytes words.now)) (fault_of svnfleet_app (map string_bytes words.now)) (subcommand_of svnfleet_app (map string_bytes words.now))) }
 {
     match matches_of(alloc, words) {
         Ok(matches) => named(alloc, &matches),
-        Err(error) => Err(usage_of(alloc, &error)),
+        Err(error) => Err(usage_of(alloc, words, &error)),
     }
 }
 
@@ -317,10 +325,13 @@ fn value<'a>(given: &ArgMatches<'a>, name: &str) -> Option<&'a str>
 }
 
 // What is wrong with a value, in a line.
-fn wrong(alloc: Global, value: &str, wanted: &str) -> Usage
-    ensures { IsTold value.now wanted.now result }
+fn wrong(alloc: Global, help: &str, value: &str, wanted: &str) -> Usage
+    ensures { IsTold help.now value.now wanted.now result }
 {
-    match format!(in alloc; "svnfleet: {value:?} is not {wanted} (svnfleet --help tells more)") {
+    let Ok(wrong) = format!(in alloc; "{value:?} is not {wanted}") else {
+        return Usage::OutOfMemory;
+    };
+    match line_of(alloc, help, wrong.as_str()) {
         Ok(line) => Usage::Wrong(line),
         Err(_) => Usage::OutOfMemory,
     }
@@ -338,6 +349,7 @@ fn create_named(alloc: Global, given: &ArgMatches<'_>) -> Result<Command, Usage>
         }),
         None => Err(wrong(
             alloc,
+            "svnfleet create",
             value.as_str(),
             "a UUID of the form 8-4-4-4-12 in hexadecimal digits",
         )),
@@ -371,6 +383,7 @@ fn dump_named(alloc: Global, given: &ArgMatches<'_>) -> Result<Command, Usage>
         }),
         None => Err(wrong(
             alloc,
+            "svnfleet dump",
             value,
             "a range LO:HI of revisions from 0 to 65535, LO not above HI",
         )),
@@ -386,15 +399,40 @@ fn mkdir_named(alloc: Global, given: &ArgMatches<'_>) -> Result<Command, Usage>
         Some(moment) => Ok(Command::MakeDir {
             folder: text(alloc, given, "DIR")?,
             path: text(alloc, given, "PATH")?,
-            message: text(alloc, given, "message")?,
+            message: message(alloc, given)?,
             moment,
         }),
         None => Err(wrong(
             alloc,
+            "svnfleet mkdir",
             value.as_str(),
             "a number of microseconds from 0 to 4102444799999999",
         )),
     }
+}
+
+// The message that a directory is committed with. Subversion takes none with a carriage return.
+fn message(alloc: Global, given: &ArgMatches<'_>) -> Result<String, Usage>
+    ensures value { IfOk result (λ s. HasValue (rows_of (found_of given.now)) (codes "message") (string_bytes s)) }
+    ensures taken { IfOk result (λ s. ¬ HasReturn (string_bytes s)) }
+    ensures usage { IfErr result (IsRefusedAt (Some (codes "mkdir", rows_of (found_of given.now)))) }
+{
+    let message = text(alloc, given, "message")?;
+    if has_return(message.as_str()) {
+        return Err(wrong(
+            alloc,
+            "svnfleet mkdir",
+            message.as_str(),
+            "a message without carriage returns",
+        ));
+    }
+    Ok(message)
+}
+
+fn has_return(text: &str) -> bool
+    ensures { IsTrue result ↔ HasReturn text.now }
+{
+    text.as_bytes().contains(&b'\r')
 }
 
 // The identity that 36 bytes spell: 8-4-4-4-12 hexadecimal digits.
@@ -435,9 +473,9 @@ fn moment_of(value: &str) -> Option<Moment>
     Moment::from_micros(read_decimal(value.as_bytes())?)
 }
 
-// What the program tells of an error.
-fn usage_of(alloc: Global, error: &Error) -> Usage
-    ensures { IsUsageOf (kind_of error.now) result }
+// What the program tells of an error that clap found in the words.
+fn usage_of(alloc: Global, words: &[String], error: &Error) -> Usage
+    ensures { IsUsageOf (help_of (map string_bytes words.now)) (kind_of error.now) result }
 {
     if error.kind() == ErrorKind::OutOfMemory {
         return Usage::OutOfMemory;
@@ -448,20 +486,24 @@ fn usage_of(alloc: Global, error: &Error) -> Usage
     if !error.use_stderr() {
         return Usage::Shown(text);
     }
-    match one_line(alloc, text.as_str()) {
+    let Ok(help) = help_of(alloc, words) else {
+        return Usage::OutOfMemory;
+    };
+    match one_line(alloc, help.as_str(), text.as_str()) {
         Ok(line) => Usage::Wrong(line),
         Err(_) => Usage::OutOfMemory,
     }
 }
 
 // What clap finds wrong, in a line: its first lines up to an empty one, which name what is missing.
-fn one_line(alloc: Global, text: &str) -> Result<String, AllocError>
-    ensures told { IfOk result (λ line. IsLineOf (without_label (first_lines text.now)) (string_bytes line)) }
+fn one_line(alloc: Global, help: &str, text: &str) -> Result<String, AllocError>
+    ensures told { IfOk result (λ line. IsLineOf help.now (without_label (first_lines text.now)) (string_bytes line)) }
+    ensures clean { IfOk result (λ line. HasNoControl (string_bytes line)) }
     ensures one { IfOk result (λ line. HasNoLineFeed (string_bytes line)) }
 {
     let joined = joined_lines(alloc, text)?;
     let wrong = without_label(joined.as_str());
-    format!(in alloc; "svnfleet: {wrong} (svnfleet --help tells more)")
+    line_of(alloc, help, wrong)
 }
 
 // What stands behind the label `error: `, where there is one.

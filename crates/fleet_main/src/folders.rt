@@ -1,6 +1,6 @@
 //! Folders, each the place of a repository.
-ghost use Rattle.std.specs.Prelude.{◌≡◌, ◌≢◌, ◌↔◌, ℕ, List, Some, None, Ok, Err, IfOk, IfErr, IsErrAnd, OnErr, OnOk};
-ghost use Rattle.fleet_disk.specs.Host.{failures_of, HasFiles};
+ghost use Rattle.std.specs.Prelude.{◌≡◌, ◌≢◌, ◌↔◌, ◌⊎◌, ℕ, List, Some, None, Ok, Err, IfOk, IfErr, IsErrAnd, OnErr, OnOk};
+ghost use Rattle.fleet_disk.specs.Host.{failures_of, HasBytes, HasFiles};
 ghost use Rattle.fleet_disk.specs.Image.{Image, no_bytes};
 ghost use Rattle.fleet_disk.specs.Rules.{Rose};
 ghost use Rattle.repo_core.specs.Repository.{fresh};
@@ -54,7 +54,8 @@ pub trait Folders {
         ensures reads { honest self.old → IfOk result (λ disk. Self.Place.reads disk ≡ holds self.old folder.now) }
         ensures cause { IfErr result (λ e. e ≡ FolderFault.DeviceFailed → Rose (failures self.old) (failures self.new)) };
 
-    /// The same of a folder that is made, with its files, where it is missing; the folder above has to be there.
+    /// The same of a folder that is made where it is missing, as its files are where they are empty; the folder above has to be
+    /// there.
     fn create(&mut self, alloc: Global, folder: &str) -> Result<Self::Place, FolderFault>
         ensures honest { honest self.old → IfOk result (λ disk. Self.Place.honest disk) }
         ensures reads { honest self.old → IfOk result (λ disk. Self.Place.reads disk ≡ holds self.old folder.now) }
@@ -149,10 +150,10 @@ fn make_folder<R: Files>(rt: &R, folder: &str) -> io::Result<()> {
     }
 }
 
-// The files of a folder, both of which are made where they are missing.
+// The files of a folder, both of which are made where they are missing, but where one of them isn't empty.
 fn made<R: HeldFiles>(rt: &R, alloc: Global, folder: &str) -> io::Result<HostDisk<R::File>>
     ensures unfailed { IfOk result (λ disk. failures_of disk ≡ 0) }
-    ensures files { IfOk result HasFiles }
+    ensures files { IfOk result (λ disk. HasFiles disk ⊎ HasBytes R.has_bytes disk) }
 {
     make_folder(rt, folder)?;
     HostDisk::create(rt, alloc, folder)

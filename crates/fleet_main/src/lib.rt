@@ -1,6 +1,7 @@
 //! The program's command line, and each command from its words to its status.
 //!
 //! ```text
+//! fill_streams(&mut HostDescriptors::new(&rt))?;
 //! match plan(alloc, &words) {
 //!     Ok(command) => run(alloc, &mut HostFolders::new(&rt), command, &mut input, &mut output, &mut errors),
 //!     Err(Usage::Shown(text)) => show(text),
@@ -20,8 +21,13 @@ pub use execute::run;
 pub use fleet_engines::{Sink, Source};
 pub use folders::{FolderFault, Folders, HostFolders};
 pub use store_engines::RevRange;
+pub use streams::{Descriptors, HostDescriptors, fill_streams};
 
 mod command_line;
 mod execute;
 mod folders;
+mod help;
 pub mod law;
+mod streams;
+mod terminal;
+mod texts;

@@ -32,6 +32,3 @@ mod verdicts;
 pub use fault::LogFault;
 pub use log::{GateLog, MOST_BYTES, Receipt};
 pub use verdicts::one_verdict;
-
-#[cfg(test)]
-mod tests;

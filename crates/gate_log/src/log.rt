@@ -55,8 +55,9 @@ impl<D: Disk> GateLog<D> {
     ghost use Rattle.gate_log.specs.Log.{disk_of, ends_of, size_of, entries_of, entry_of, HasFailed, HasRoom};
 
     /// Begins a log without entries on a disk of two empty files. Until it has answered Ok a stop leaves no entry and
-    /// one gate at most, of any value, so that an opening answers NoRepository (34) or Damaged (33). It answers
-    /// ThereAlready (35) where a file isn't empty, and DeviceFailed (31); a refusal hands the disk back.
+    /// one gate at most, of any value, so that an opening answers NoRepository (34) or Damaged (33). The first append
+    /// takes no memory. It answers OutOfMemory (70) before it asks the disk for anything, ThereAlready (35) where a
+    /// file isn't empty, and DeviceFailed (31); a refusal hands the disk back.
     pub fn create(alloc: Global, disk: D) -> Result<GateLog<D>, (LogFault, D)>
         ensures empty { D.honest disk → OnOk result (D.reads disk ≡ no_bytes) }
         ensures entries { IfOk result (λ log. (ends_of log ≡ []) × ¬ HasFailed log) }
@@ -64,7 +65,9 @@ impl<D: Disk> GateLog<D> {
         ensures durable { D.honest disk → IfOk result (λ log. (image : Image) → D.may_leave (disk_of log) image → Stands image []) }
         ensures there { D.honest disk → IfErr result (λ e. e.0 ≡ LogFault.ThereAlready → D.reads disk ≢ no_bytes) }
         ensures device { IfErr result (λ e. e.0 ≡ LogFault.DeviceFailed → Rose (D.failures disk) (D.failures e.1)) }
-        ensures no_other { IfErr result (λ e. (e.0 ≡ LogFault.DeviceFailed) ⊎ (e.0 ≡ LogFault.ThereAlready)) }
+        ensures memory { IfErr result (λ e. e.0 ≡ LogFault.OutOfMemory → e.1 ≡ disk) }
+        ensures room { IfOk result HasRoom }
+        ensures no_other { IfErr result (λ e. (e.0 ≡ LogFault.DeviceFailed) ⊎ (e.0 ≡ LogFault.ThereAlready) ⊎ (e.0 ≡ LogFault.OutOfMemory)) }
         ensures any_moment { D.honest disk → Only no_bytes (D.may_leave disk) → IfOk result (λ log. LeavesOnly D.clock D.left_since disk (disk_of log) IsBlank) }
         ensures any_moment_err { D.honest disk → Only no_bytes (D.may_leave disk) → IfErr result (λ e. LeavesOnly D.clock D.left_since disk e.1 IsBlank) }
         ensures honest { IfOk result (λ log. D.honest disk ↔ D.honest (disk_of log)) }
@@ -72,11 +75,14 @@ impl<D: Disk> GateLog<D> {
         ensures later { IfOk result (λ log. D.failures disk ≤ D.failures (disk_of log)) }
         ensures later_err { IfErr result (λ e. D.failures disk ≤ D.failures e.1) }
     {
+        let Ok(ends) = Vec::with_capacity(alloc, 1) else {
+            return Err((LogFault::OutOfMemory, disk));
+        };
         let mut disk = disk;
         match begin(&mut disk) {
             Ok(()) => Ok(GateLog {
                 disk,
-                ends: Vec::new(alloc),
+                ends,
                 failed: false,
             }),
             Err(fault) => Err((fault, disk)),

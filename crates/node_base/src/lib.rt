@@ -19,8 +19,6 @@ pub use text::Text;
 mod block;
 pub mod block_law;
 mod block_part;
-#[cfg(test)]
-mod block_tests;
 mod block_writer;
 mod bytes;
 mod fault;
@@ -38,6 +36,4 @@ mod props;
 mod refusal;
 mod refused;
 mod revision;
-#[cfg(test)]
-mod tests;
 mod text;

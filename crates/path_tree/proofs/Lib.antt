@@ -2,10 +2,12 @@ pub mod Altered
 pub mod Copies
 pub mod Edits
 pub mod Faults
+pub mod Exchanges
 pub mod Fronts
 pub mod Lengths
 pub mod Entries
 pub mod Marks
 pub mod Place
 pub mod Pointers
+pub mod Reaches
 pub mod Search

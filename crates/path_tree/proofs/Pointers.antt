@@ -14,12 +14,12 @@ use Rattle.path_tree.specs.Shared.{pointed}
 use Rattle.path_tree.proofs.Place.{Swaps, swaps_put, child_found, swaps_set_found, swaps_insert_absent, swaps_remove_found, replace_at_place}
 
 module _ {A X : Type 0} where
-  pointed-insert : (cs : List (Arc X A)) (i : ℕ) (a : Arc X A) → pointed (insert cs i a) ≡ insert (pointed cs) i (arc_value a)
+  pub pointed-insert : (cs : List (Arc X A)) (i : ℕ) (a : Arc X A) → pointed (insert cs i a) ≡ insert (pointed cs) i (arc_value a)
   pointed-insert cs zero a = refl
   pointed-insert [] (suc i) a = refl
   pointed-insert (c ∷ cs) (suc i) a = ap (λ s. arc_value c ∷ s) (pointed-insert cs i a)
 
-  pointed-remove : (cs : List (Arc X A)) (i : ℕ) → pointed (remove cs i) ≡ remove (pointed cs) i
+  pub pointed-remove : (cs : List (Arc X A)) (i : ℕ) → pointed (remove cs i) ≡ remove (pointed cs) i
   pointed-remove [] zero = refl
   pointed-remove [] (suc i) = refl
   pointed-remove (c ∷ cs) zero = refl

@@ -5,5 +5,6 @@ pub mod Joined
 pub mod JoinedLemmas
 pub mod Listed
 pub mod NodeCalls
+pub mod Reach
 pub mod Shape
 pub mod Shared

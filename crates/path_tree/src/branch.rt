@@ -11,9 +11,11 @@ ghost use Rattle.path_tree.specs.Joined.{AreChildren, place, under};
 ghost use Rattle.path_tree.specs.Listed.{shown, shown_names};
 ghost use Rattle.path_tree.specs.Shared.{pointed};
 ghost use Rattle.path_tree.specs.Edits.{edit_here, edit_at};
+ghost use Rattle.path_tree.specs.Reach.{reach_of, reach_to, either, Exchanged};
 
 use crate::Entry;
 use crate::edit::Edit;
+use crate::reach::Reach;
 use node_base::{Node, NodeName, PropName, PropValue, RevNo, TreeFault};
 use std::alloc::{AllocError, Global};
 use std::marker::Model;
@@ -23,6 +25,8 @@ use std::sync::Arc;
 pub struct Branch {
     node: Node,
     children: Vec<Arc<(NodeName, Branch)>>,
+    // How far the paths below reach, so that no question about limits goes down.
+    reach: Reach,
 }
 
 impl Model for Branch {
@@ -33,18 +37,19 @@ impl Model for Branch {
     ghost coded = { coded_tree };
 
     ghost use Rattle.std.specs.FinMap as map;
-    ghost use Rattle.path_tree.specs.Joined.{joined, AreChildren};
+    ghost use Rattle.path_tree.specs.Joined.{joined};
     ghost use Rattle.path_tree.specs.Shared.{pointed};
+    ghost use Rattle.path_tree.specs.Reach.{IsBranch};
 
     ghost view = { λ a. joined a.node (pointed a.children.items) };
 
-    ghost invariant = { λ a. AreChildren (pointed a.children.items) };
+    ghost invariant = { λ a. IsBranch (pointed a.children.items) a.reach };
 
     ghost size = { map.len };
 
     ghost use Rattle.path_tree.specs.Shared.{most_lt-pointed};
 
-    ghost size_decreases = { λ a h. most_lt-pointed a.node a.children.items h };
+    ghost size_decreases = { λ a h. most_lt-pointed a.node a.children.items h.rising };
 }
 
 // Where the name is, or where it would go.
@@ -67,6 +72,42 @@ fn copy_of(alloc: Global, child: &(NodeName, Branch)) -> Result<(NodeName, Branc
     Ok((child.0.copy(alloc)?, child.1.again(alloc)?))
 }
 
+// How far the paths to a child and below it reach.
+fn reach_to(child: &(NodeName, Branch)) -> Reach
+    ensures { result ≡ reach_to child.now }
+{
+    child.1.reach_behind(&child.0)
+}
+
+// How far the paths to these children and below them reach, which is known to be no further than `most`: the look ends where
+// it is reached.
+fn look(children: &[Arc<(NodeName, Branch)>], most: Reach) -> Reach
+    requires { either most (reach_of (pointed children.now)) ≡ most }
+    ensures { result ≡ reach_of (pointed children.now) }
+{
+    let mut reach = Reach::nowhere();
+    for child in children {
+        reach = reach.either(reach_to(child));
+        if reach.is(most) {
+            return reach;
+        }
+    }
+    reach
+}
+
+// How far the paths to these children and below them reach, where it was `old` before one that reached `gone` became one
+// that reaches `come`.
+fn reach_after(children: &[Arc<(NodeName, Branch)>], old: Reach, gone: Reach, come: Reach) -> Reach
+    requires { Exchanged old gone come (reach_of (pointed children.now)) }
+    ensures { result ≡ reach_of (pointed children.now) }
+{
+    let most = old.either(come);
+    if old.tells(gone, come) {
+        return most;
+    }
+    look(children, most)
+}
+
 impl Branch {
     /// One node with nothing below it.
     pub fn leaf(alloc: Global, node: Node) -> Branch
@@ -75,6 +116,7 @@ impl Branch {
         Branch {
             node,
             children: Vec::new(alloc),
+            reach: Reach::nowhere(),
         }
     }
 
@@ -87,7 +129,12 @@ impl Branch {
         for child in &self.children {
             children.push(Arc::try_clone(child)?)?;
         }
-        Ok(Branch { node, children })
+        let reach = self.reach;
+        Ok(Branch {
+            node,
+            children,
+            reach,
+        })
     }
 
     /// The node at its top.
@@ -140,20 +187,18 @@ impl Branch {
         }
     }
 
+    // How far its paths reach behind a name.
+    fn reach_behind(&self, name: &NodeName) -> Reach
+        ensures { result ≡ reach_to (name.now, self.now) }
+    {
+        self.reach.behind(name)
+    }
+
     /// Whether some path here is too long behind so many names of such a weight.
     pub fn exceeds(&self, names: usize, bytes: usize) -> bool
         ensures { result ≡ list_any (λ k. not (fits_after names bytes k)) (map.keys self.now) }
     {
-        let _ = &self.node;
-        if names > 64 || bytes > 1025 {
-            return true;
-        }
-        for child in &self.children {
-            if child.1.exceeds(names + 1, bytes + child.0.len() + 1) {
-                return true;
-            }
-        }
-        false
+        self.reach.exceeds(names, bytes)
     }
 
     /// Whether some path here is too long behind a path that follows so many names of such a weight.
@@ -214,12 +259,18 @@ impl Branch {
             [first, rest @ ..] => match place_of(&self.children, first) {
                 Ok(i) => {
                     let slot = &mut self.children[i];
+                    let gone = reach_to(slot);
                     if let Some(child) = Arc::get_mut(slot) {
-                        return child.1.alter(alloc, rest, edit);
+                        child.1.alter(alloc, rest, edit)?;
+                        let come = reach_to(child);
+                        self.reach = reach_after(&self.children, self.reach, gone, come);
+                        return Ok(());
                     }
                     let mut child = copy_of(alloc, slot)?;
                     child.1.alter(alloc, rest, edit)?;
+                    let come = reach_to(&child);
                     *slot = Arc::new(alloc, child)?;
+                    self.reach = reach_after(&self.children, self.reach, gone, come);
                     Ok(())
                 }
                 Err(_) => unreachable!(),
@@ -264,16 +315,27 @@ impl Branch {
             }
             Edit::Prop(name, value) => self.put_prop(alloc, name, value),
             Edit::Piece(piece) => self.append_text(alloc, piece.as_slice()),
-            Edit::Graft(child) => match place_of(&self.children, &child.0) {
-                Ok(i) => {
-                    self.children[i] = child;
-                    Ok(())
+            Edit::Graft(child) => {
+                let come = reach_to(&child);
+                match place_of(&self.children, &child.0) {
+                    Ok(i) => {
+                        let gone = reach_to(&self.children[i]);
+                        self.children[i] = child;
+                        self.reach = reach_after(&self.children, self.reach, gone, come);
+                        Ok(())
+                    }
+                    Err(i) => {
+                        self.children.insert(i, child)?;
+                        self.reach = self.reach.either(come);
+                        Ok(())
+                    }
                 }
-                Err(i) => Ok(self.children.insert(i, child)?),
-            },
+            }
             Edit::Prune(name) => match place_of(&self.children, &name) {
                 Ok(i) => {
-                    let _ = self.children.remove(i);
+                    let gone = reach_to(&self.children.remove(i));
+                    let come = Reach::nowhere();
+                    self.reach = reach_after(&self.children, self.reach, gone, come);
                     Ok(())
                 }
                 Err(_) => Ok(()),

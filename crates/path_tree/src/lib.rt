@@ -11,9 +11,6 @@ mod edit;
 mod error;
 mod listing;
 mod node_calls;
-#[cfg(test)]
-mod node_tests;
 pub mod plain;
-#[cfg(test)]
-mod tests;
+mod reach;
 mod tree;

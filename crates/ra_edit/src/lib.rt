@@ -14,31 +14,17 @@
 
 mod command;
 pub mod command_fault;
-#[cfg(test)]
-mod counting_tests;
 pub mod edit_fault;
 pub mod fault;
-#[cfg(test)]
-mod growth_tests;
 pub mod law;
 pub mod reader;
 mod reading;
 pub mod receive;
 pub mod receive_command;
 mod receive_edit;
-#[cfg(test)]
-mod receive_tests;
 mod receive_text;
-#[cfg(test)]
-mod received_tests;
 pub mod shape_fault;
 pub mod stream;
-#[cfg(test)]
-mod streams_for_tests;
-#[cfg(test)]
-mod tests;
 mod token;
 pub mod wire;
-#[cfg(test)]
-mod wire_tests;
 pub mod writer;

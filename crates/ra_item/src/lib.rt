@@ -21,14 +21,10 @@
 #![tactic(auto)]
 
 pub mod fault;
-#[cfg(test)]
-mod growth_tests;
 pub mod item;
 pub mod law;
 pub mod limits;
 mod parts;
 pub mod reader;
 mod reading;
-#[cfg(test)]
-mod tests;
 pub mod writer;

@@ -35,5 +35,3 @@ mod moment;
 mod repo;
 mod stage;
 mod staged;
-#[cfg(test)]
-mod tests;

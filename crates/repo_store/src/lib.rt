@@ -33,6 +33,4 @@ mod replay;
 mod spell;
 mod staged;
 mod store;
-#[cfg(test)]
-mod tests;
 mod verdicts;

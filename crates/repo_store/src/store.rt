@@ -57,6 +57,7 @@ impl<D: Disk> RepoStore<D> {
         ensures empty { D.honest disk → OnOk result (D.reads disk ≡ no_bytes) }
         ensures there { D.honest disk → IfErr result (λ e. e.0 ≡ refusal.Log log.ThereAlready → D.reads disk ≢ no_bytes) }
         ensures device { IfErr result (λ e. e.0 ≡ refusal.Log log.DeviceFailed → Rose (D.failures disk) (D.failures e.1)) }
+        ensures memory { IfErr result (λ e. e.0 ≡ refusal.Log log.OutOfMemory → e.1 ≡ disk) }
         ensures no_other { IfErr result (λ e. IsCreateFault e.0) }
         ensures honest { IfOk result (λ store. D.honest disk ↔ D.honest (disk_of store)) }
         ensures honest_err { IfErr result (λ e. D.honest disk ↔ D.honest e.1) }

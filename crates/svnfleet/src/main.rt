@@ -1,7 +1,7 @@
 //! svnfleet: lists and rewrites the dumps of Subversion repositories, and keeps repositories in folders.
 #![tactic(auto)]
 
-use fleet_main::{HostFolders, Sink, Source, Usage, plan, run};
+use fleet_main::{HostDescriptors, HostFolders, Sink, Source, Usage, fill_streams, plan, run};
 use std::io::{BufWriter, ErrorKind};
 use std::process::ExitCode;
 use std::{env, io};
@@ -25,7 +25,20 @@ fn told(rt: &HostRuntime, line: &str, status: u8) -> u8 {
     status
 }
 
+// No file is opened before the standard streams are there.
 fn status(rt: &HostRuntime) -> u8 {
+    match fill_streams(&mut HostDescriptors::new(rt)) {
+        Ok(()) => worded(rt),
+        Err(error) => {
+            if error.kind() == ErrorKind::OutOfMemory {
+                return told(rt, "svnfleet: 70 out of memory", 1);
+            }
+            told(rt, "svnfleet: 31 device failed", 1)
+        }
+    }
+}
+
+fn worded(rt: &HostRuntime) -> u8 {
     match words(rt) {
         Ok(words) => planned(rt, &words),
         Err(error) => {
@@ -67,12 +80,3 @@ fn planned(rt: &HostRuntime, words: &[String]) -> u8 {
         Err(Usage::OutOfMemory) => told(rt, "svnfleet: 70 out of memory", 1),
     }
 }
-
-#[cfg(test)]
-mod memory;
-#[cfg(test)]
-mod store_tests;
-#[cfg(test)]
-mod tests;
-#[cfg(test)]
-mod wire_tests;

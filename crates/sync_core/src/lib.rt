@@ -67,8 +67,6 @@ mod need;
 mod needs;
 mod number;
 mod number_words;
-#[cfg(test)]
-mod plain_world;
 pub mod properties;
 mod reply;
 mod resting;
@@ -77,10 +75,4 @@ mod shape;
 mod standing;
 mod state;
 mod sync_job;
-#[cfg(test)]
-mod tests;
 mod token;
-#[cfg(test)]
-mod walk_tests;
-#[cfg(test)]
-mod world_tests;

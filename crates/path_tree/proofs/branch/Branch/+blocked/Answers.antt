@@ -21,9 +21,9 @@ returns-in-Ok t c =
     let p = take (length c.args.path.now - 1) (drop 1 c.args.path.now) in
     let cs = pointed c.self.inside.children.items in
     let k = c.deref-in-Ok.result.now.1 in
-    let found = slot_found c.self.inside.children.items c.deref.result.now x c.in-Ok.i c.deref.ensures.value c.self.invariant c.in-Ok.ensures.at c.index-child.result.now c.in-Ok.ensures.present c.index-child.ensures ∙ ap (λ z. Some z.1) (sym c.deref-in-Ok.ensures) in
+    let found = slot_found c.self.inside.children.items c.deref.result.now x c.in-Ok.i c.deref.ensures.value c.self.invariant.rising c.in-Ok.ensures.at c.index-child.result.now c.in-Ok.ensures.present c.index-child.ensures ∙ ap (λ z. Some z.1) (sym c.deref-in-Ok.ensures) in
     c.blocked.ensures
-    ∙ ap (λ (f : Path → Option Node). blocked f p) (λ i q. (get_in_child c.self.inside.node cs c.self.invariant x k found q ∙ ap (λ m. get m (x ∷ q)) c.self.view_is) i)
+    ∙ ap (λ (f : Path → Option Node). blocked f p) (λ i q. (get_in_child c.self.inside.node cs c.self.invariant.rising x k found q ∙ ap (λ m. get m (x ∷ q)) c.self.view_is) i)
     ∙ sym (blocked_step c.args.self.now c.self.inside.node cs c.self.view_is x p c.args.path.now (first_and_rest c.args.path.now x c.first-item.is (omega arith))
     ∙ ap (λ b. cond b (Some NotDir) (blocked (λ q. get c.args.self.now (x ∷ q)) p)) (sym c.is_some.ensures ∙ c.if-is_some.false))
 
@@ -45,4 +45,4 @@ returns-else-is_empty t c =
     let long : 0 < length p = grind (arith, nat_tests, c.is_empty.ensures, c.if-is_empty.false) in
     sym (blocked_step c.args.self.now c.self.inside.node cs c.self.view_is x p c.args.path.now (first_and_rest c.args.path.now x c.first-item.is (omega arith))
     ∙ ap (λ b. cond b (Some NotDir) (blocked (λ q. get c.args.self.now (x ∷ q)) p)) (sym c.is_some.ensures ∙ c.if-is_some.false)
-    ∙ blocked_absent (λ q. get c.args.self.now (x ∷ q)) (λ q. ap (λ m. get m (x ∷ q)) (sym c.self.view_is) ∙ get_no_child c.self.inside.node cs c.self.invariant x (rw (← c.deref.ensures.value) c.in-Err.ensures.absent) q) p long)
+    ∙ blocked_absent (λ q. get c.args.self.now (x ∷ q)) (λ q. ap (λ m. get m (x ∷ q)) (sym c.self.view_is) ∙ get_no_child c.self.inside.node cs c.self.invariant.rising x (rw (← c.deref.ensures.value) c.in-Err.ensures.absent) q) p long)

@@ -14,7 +14,7 @@ pub loop-child-init : goal.loop-child-init
 loop-child-init t c = record {
   listed =
       ap (λ z. shown c.push-2.new.self.items ++ under (shown_names c.args.above.now.items) (below (pointed z))) c.deref-child-items.ensures.value
-      ∙ list_begin (shown_names c.args.above.now.items) c.args.out.now.items c.self.inside.node (pointed c.self.inside.children.items) c.self.invariant c.args.self.now c.self.view_is _
+      ∙ list_begin (shown_names c.args.above.now.items) c.args.out.now.items c.self.inside.node (pointed c.self.inside.children.items) c.self.invariant.rising c.args.self.now c.self.view_is _
       (ap shown_names (c.loop-name.invariant ∙ take_all _ _ c.loop-name-test.false ∙ c.deref-name-items.ensures.value)) refl c.push-2.new.self.items c.in_ok-push-2.ensures.items;
   above = refl;
 }

@@ -1,22 +1,20 @@
-use Rattle.std.proofs.Common.{Some, sym, ap, subst, ◌∙◌, arith, set}
+use Rattle.std.proofs.Common.{Some, sym, ap, subst, ◌∙◌, arith}
 use Rattle.std.specs.Arc.{arc_with_value}
-use Rattle.node_base.specs.Tree.{PathMap}
-use Rattle.path_tree.specs.Joined.{AreChildren, joined}
+use Rattle.path_tree.specs.Joined.{joined}
+use Rattle.path_tree.specs.Reach.{IsBranch, reach_to}
 use Rattle.path_tree.specs.Shared.{pointed}
-use Rattle.path_tree.proofs.Place.{Swaps}
 use Rattle.path_tree.proofs.Pointers.{slot_found, swaps_slot, pointed_same}
 use Rattle.path_tree.proofs.Edits.{first_and_rest, no_path, always_err}
-use Rattle.path_tree.proofs.Marks.{marks_here, marks_in_child, marks_no_child}
+use Rattle.path_tree.proofs.Exchanges.{kept_set}
+use Rattle.path_tree.proofs.Marks.{reach_marked, marks_here, marks_in_child, marks_no_child}
 use Rattle.path_tree.proofs.branch.Branch.+mark.Goals as goal
-use Rattle.path_tree.proofs.branch.Branch.+mark.Goals.{In-Some, in-empty, in-len1-up+in-Ok+in-Some+in_ok-mark-in-Some, in-len1-up+in-Ok+in-None+in_ok-child-in-None+in_ok-mark-in-None+in_ok-slot-in-None, in-len1-up+in-Err}
-
-swaps_alone : (t : _) (c : In-Some t) (m : PathMap) → Swaps (pointed c.self.inside.children.items) (pointed (set c.self.inside.children.items c.in-Ok.i (arc_with_value c.index_mut-slot.result.now (c.in-Some.child.now.0, m)))) c.first-item.result (Some m)
-swaps_alone t c m =
-    swaps_slot c.self.inside.children.items c.deref.result.now c.first-item.result c.in-Ok.i c.deref.ensures.value c.self.invariant c.in-Ok.ensures.at c.index_mut-slot.result.now _ m c.in-Ok.ensures.present c.index_mut-slot.ensures.value
-    (ap (λ z. (z.0, m)) c.in-Some.ensures.value)
+use Rattle.path_tree.proofs.branch.Branch.+mark.Goals.{in-empty, in-len1-up+in-Ok+in-Some+in_ok-mark-in-Some, in-len1-up+in-Ok+in-None+in_ok-child-in-None+in_ok-mark-in-None+in_ok-slot-in-None, in-len1-up+in-Err}
 
 pub invariant_of-self : goal.invariant_of-self
-invariant_of-self t c = (swaps_alone t (goal.at.invariant_of-self t c).In-Some c.mark.new.self).rising
+invariant_of-self t c =
+    subst (λ z. IsBranch z c.self.inside.reach)
+    (sym (pointed_same c.self.inside.children.items c.in-Ok.i c.index_mut-slot.result.now _ c.index_mut-slot.ensures.value ((λ i. (c.in-Some.child.now.0, c.in_err-mark-in-Some.ensures.err i)) ∙ c.in-Some.ensures.value)))
+    c.self.invariant
 
 pub returns-in_err-mark-in-Some-clause-err : goal.returns-in_err-mark-in-Some-clause-err
 returns-in_err-mark-in-Some-clause-err t c =
@@ -25,14 +23,26 @@ returns-in_err-mark-in-Some-clause-err t c =
 
 pub invariant_of-self-2 : goal.invariant_of-self-2
 invariant_of-self-2 t c = elim c.if-path-lt1.branch [
-  | in-empty w ↦ subst (λ s. AreChildren (pointed s.children.items)) (sym w.self-inside-is) c.self.invariant
-  | in-len1-up+in-Ok+in-Some+in_ok-mark-in-Some w ↦ subst (λ s. AreChildren (pointed s.children.items)) (sym w.self-inside-is)
-      (swaps_slot c.self.inside.children.items w.deref.result.now w.first-item.result w.in-Ok.i w.deref.ensures.value c.self.invariant w.in-Ok.ensures.at w.index_mut-slot.result.now _ w.mark.new.self w.in-Ok.ensures.present w.index_mut-slot.ensures.value
-      (ap (λ z. (z.0, w.mark.new.self)) w.in-Some.ensures.value)).rising
-  | in-len1-up+in-Ok+in-None+in_ok-child-in-None+in_ok-mark-in-None+in_ok-slot-in-None w ↦ subst (λ s. AreChildren (pointed s.children.items)) (sym w.self-inside-is)
-      (swaps_slot c.self.inside.children.items w.deref.result.now w.first-item.result w.in-Ok.i w.deref.ensures.value c.self.invariant w.in-Ok.ensures.at w.index_mut-slot.result.now _ w.mark-in-None.new.self w.in-Ok.ensures.present w.index_mut-slot.ensures.value
-      (w.in_ok-slot-in-None.ensures.ok ∙ ap (λ z. (z.0, w.mark-in-None.new.self)) (w.in_ok-child-in-None.ensures ∙ w.deref-in-None.ensures))).rising
-  | in-len1-up+in-Err w ↦ subst (λ s. AreChildren (pointed s.children.items)) (sym w.self-inside-is) c.self.invariant
+  | in-empty w ↦ subst (λ s. IsBranch (pointed s.children.items) s.reach) (sym w.self-inside-is) c.self.invariant
+  | in-len1-up+in-Ok+in-Some+in_ok-mark-in-Some w ↦ subst (λ s. IsBranch (pointed s.children.items) s.reach) (sym w.self-inside-is) (record {
+    rising =
+        (swaps_slot c.self.inside.children.items w.deref.result.now w.first-item.result w.in-Ok.i w.deref.ensures.value c.self.invariant.rising w.in-Ok.ensures.at w.index_mut-slot.result.now _ w.mark.new.self w.in-Ok.ensures.present w.index_mut-slot.ensures.value
+        (ap (λ z. (z.0, w.mark.new.self)) w.in-Some.ensures.value)).rising;
+    reach =
+        c.self.invariant.reach
+        ∙ sym (kept_set c.self.inside.children.items w.deref.result.now w.deref.ensures.value w.in-Ok.i w.in-Ok.ensures.found w.index_mut-slot.result.now w.index_mut-slot.ensures.value (arc_with_value w.index_mut-slot.result.now (w.in-Some.child.now.0, w.mark.new.self))
+        (reach_marked w.in-Some.child.now.0 w.in-Some.child.now.1 w.mark.new.self _ c.args.number w.in_ok-mark-in-Some.ensures.ok ∙ ap reach_to w.in-Some.ensures.value));
+  })
+  | in-len1-up+in-Ok+in-None+in_ok-child-in-None+in_ok-mark-in-None+in_ok-slot-in-None w ↦ subst (λ s. IsBranch (pointed s.children.items) s.reach) (sym w.self-inside-is) (record {
+    rising =
+        (swaps_slot c.self.inside.children.items w.deref.result.now w.first-item.result w.in-Ok.i w.deref.ensures.value c.self.invariant.rising w.in-Ok.ensures.at w.index_mut-slot.result.now _ w.mark-in-None.new.self w.in-Ok.ensures.present w.index_mut-slot.ensures.value
+        (w.in_ok-slot-in-None.ensures.ok ∙ ap (λ z. (z.0, w.mark-in-None.new.self)) (w.in_ok-child-in-None.ensures ∙ w.deref-in-None.ensures))).rising;
+    reach =
+        c.self.invariant.reach
+        ∙ sym (kept_set c.self.inside.children.items w.deref.result.now w.deref.ensures.value w.in-Ok.i w.in-Ok.ensures.found w.index_mut-slot.result.now w.index_mut-slot.ensures.value w.in_ok-slot-in-None.field-0
+        (ap reach_to w.in_ok-slot-in-None.ensures.ok ∙ reach_marked w.in_ok-child-in-None.child.0 w.in_ok-child-in-None.child.1 w.mark-in-None.new.self _ c.args.number w.in_ok-mark-in-None.ensures.ok ∙ ap reach_to (w.in_ok-child-in-None.ensures ∙ w.deref-in-None.ensures)));
+  })
+  | in-len1-up+in-Err w ↦ subst (λ s. IsBranch (pointed s.children.items) s.reach) (sym w.self-inside-is) c.self.invariant
 ]
 
 pub returns-clause-ok : goal.returns-clause-ok
@@ -40,23 +50,23 @@ returns-clause-ok t c =
     let cs = c.self.inside.children.items in
     let n = c.self.inside.node in
     elim c.if-path-lt1.branch [
-      | in-empty w ↦ rw w.self-inside-is (marks_here n c.args.self.now c.args.number (pointed cs) c.self.invariant c.self.view_is c.args.path.now (no_path c.args.path.now (omega arith)))
+      | in-empty w ↦ rw w.self-inside-is (marks_here n c.args.self.now c.args.number (pointed cs) c.self.invariant.rising c.self.view_is c.args.path.now (no_path c.args.path.now (omega arith)))
       | in-len1-up+in-Ok+in-Some+in_ok-mark-in-Some w ↦
           let x = w.first-item.result in
           rw w.self-inside-is
-          (marks_in_child n c.args.self.now c.args.number (pointed cs) _ x w.in-Some.child.now.1 w.mark.new.self c.self.invariant
-          (swaps_slot cs w.deref.result.now x w.in-Ok.i w.deref.ensures.value c.self.invariant w.in-Ok.ensures.at w.index_mut-slot.result.now _ w.mark.new.self w.in-Ok.ensures.present w.index_mut-slot.ensures.value (ap (λ z. (z.0, w.mark.new.self)) w.in-Some.ensures.value))
-          (slot_found cs w.deref.result.now x w.in-Ok.i w.deref.ensures.value c.self.invariant w.in-Ok.ensures.at w.index_mut-slot.result.now w.in-Ok.ensures.present w.index_mut-slot.ensures.value ∙ ap (λ z. Some z.1) (sym w.in-Some.ensures.value))
+          (marks_in_child n c.args.self.now c.args.number (pointed cs) _ x w.in-Some.child.now.1 w.mark.new.self c.self.invariant.rising
+          (swaps_slot cs w.deref.result.now x w.in-Ok.i w.deref.ensures.value c.self.invariant.rising w.in-Ok.ensures.at w.index_mut-slot.result.now _ w.mark.new.self w.in-Ok.ensures.present w.index_mut-slot.ensures.value (ap (λ z. (z.0, w.mark.new.self)) w.in-Some.ensures.value))
+          (slot_found cs w.deref.result.now x w.in-Ok.i w.deref.ensures.value c.self.invariant.rising w.in-Ok.ensures.at w.index_mut-slot.result.now w.in-Ok.ensures.present w.index_mut-slot.ensures.value ∙ ap (λ z. Some z.1) (sym w.in-Some.ensures.value))
           c.self.view_is _ c.args.path.now (first_and_rest c.args.path.now x w.first-item.is (omega arith)) w.in_ok-mark-in-Some.ensures.ok)
       | in-len1-up+in-Ok+in-None+in_ok-child-in-None+in_ok-mark-in-None+in_ok-slot-in-None w ↦
           let x = w.first-item.result in
           rw w.self-inside-is
-          (marks_in_child n c.args.self.now c.args.number (pointed cs) _ x w.in_ok-child-in-None.child.1 w.mark-in-None.new.self c.self.invariant
-          (swaps_slot cs w.deref.result.now x w.in-Ok.i w.deref.ensures.value c.self.invariant w.in-Ok.ensures.at w.index_mut-slot.result.now _ w.mark-in-None.new.self w.in-Ok.ensures.present w.index_mut-slot.ensures.value
+          (marks_in_child n c.args.self.now c.args.number (pointed cs) _ x w.in_ok-child-in-None.child.1 w.mark-in-None.new.self c.self.invariant.rising
+          (swaps_slot cs w.deref.result.now x w.in-Ok.i w.deref.ensures.value c.self.invariant.rising w.in-Ok.ensures.at w.index_mut-slot.result.now _ w.mark-in-None.new.self w.in-Ok.ensures.present w.index_mut-slot.ensures.value
           (w.in_ok-slot-in-None.ensures.ok ∙ ap (λ z. (z.0, w.mark-in-None.new.self)) (w.in_ok-child-in-None.ensures ∙ w.deref-in-None.ensures)))
-          (slot_found cs w.deref.result.now x w.in-Ok.i w.deref.ensures.value c.self.invariant w.in-Ok.ensures.at w.index_mut-slot.result.now w.in-Ok.ensures.present w.index_mut-slot.ensures.value ∙ ap (λ z. Some z.1) (sym (w.in_ok-child-in-None.ensures ∙ w.deref-in-None.ensures)))
+          (slot_found cs w.deref.result.now x w.in-Ok.i w.deref.ensures.value c.self.invariant.rising w.in-Ok.ensures.at w.index_mut-slot.result.now w.in-Ok.ensures.present w.index_mut-slot.ensures.value ∙ ap (λ z. Some z.1) (sym (w.in_ok-child-in-None.ensures ∙ w.deref-in-None.ensures)))
           c.self.view_is _ c.args.path.now (first_and_rest c.args.path.now x w.first-item.is (omega arith)) w.in_ok-mark-in-None.ensures.ok)
       | in-len1-up+in-Err w ↦
           rw w.self-inside-is
-          (marks_no_child n c.args.self.now c.args.number (pointed cs) w.first-item.result c.self.invariant (rw (← w.deref.ensures.value) w.in-Err.ensures.absent) c.self.view_is _ c.args.path.now (first_and_rest c.args.path.now w.first-item.result w.first-item.is (omega arith)))
+          (marks_no_child n c.args.self.now c.args.number (pointed cs) w.first-item.result c.self.invariant.rising (rw (← w.deref.ensures.value) w.in-Err.ensures.absent) c.self.view_is _ c.args.path.now (first_and_rest c.args.path.now w.first-item.result w.first-item.is (omega arith)))
     ]

@@ -9,5 +9,5 @@ pub returns-clause-ok : goal.returns-clause-ok
 returns-clause-ok c =
     on_ok c.append_text.result _ _
     (λ e. edits_as _ _ c.args.self.now (same_path []) (same_path []) (with_piece c.args.piece.now) c.self.view_is (λ q. refl)
-    (rw e (edited_here c.self.inside.node (same_path []) (with_piece c.args.piece.now) (pointed c.self.inside.children.items) c.self.invariant (λ y q. refl))))
+    (rw e (edited_here c.self.inside.node (same_path []) (with_piece c.args.piece.now) (pointed c.self.inside.children.items) c.self.invariant.rising (λ y q. refl))))
     c.append_text.ensures.ok

@@ -8,4 +8,4 @@ use Rattle.path_tree.proofs.branch.Branch.put_prop.Goals as goal
 pub returns-clause-ok : goal.returns-clause-ok
 returns-clause-ok c =
     edits_as _ _ c.args.self.now (same_path []) (same_path []) (with_prop c.args.name c.args.value) c.self.view_is (λ q. refl)
-    (rw c.in-Ok.ensures.ok (edited_here c.self.inside.node (same_path []) (with_prop c.args.name c.args.value) (pointed c.self.inside.children.items) c.self.invariant (λ y q. refl)))
+    (rw c.in-Ok.ensures.ok (edited_here c.self.inside.node (same_path []) (with_prop c.args.name c.args.value) (pointed c.self.inside.children.items) c.self.invariant.rising (λ y q. refl)))

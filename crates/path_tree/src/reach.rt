@@ -1,0 +1,64 @@
+//! How far the paths below a node reach.
+ghost use Rattle.std.specs.Prelude.{◌≡◌, true};
+ghost use Rattle.path_tree.specs.Reach.{behind_name, either, nowhere, past, tells};
+
+use node_base::NodeName;
+
+/// The most names of a path, and the most bytes with one more for each name. A count past the greatest `usize` stands there.
+#[derive(Clone, Copy)]
+pub struct Reach {
+    pub names: usize,
+    pub bytes: usize,
+}
+
+impl Reach {
+    /// That of the empty path.
+    pub fn nowhere() -> Reach
+        ensures { result ≡ nowhere }
+    {
+        Reach { names: 0, bytes: 0 }
+    }
+
+    /// The greater of both, count by count.
+    pub fn either(self, other: Reach) -> Reach
+        ensures { result ≡ either self other }
+    {
+        Reach {
+            names: self.names.max(other.names),
+            bytes: self.bytes.max(other.bytes),
+        }
+    }
+
+    /// That of the same paths behind a name.
+    pub fn behind(self, name: &NodeName) -> Reach
+        ensures { result ≡ behind_name name.now self }
+    {
+        Reach {
+            names: self.names.saturating_add(1),
+            bytes: self.bytes.saturating_add(name.len() + 1),
+        }
+    }
+
+    /// Whether a path is past the limits behind so many names of such a weight.
+    pub fn exceeds(self, names: usize, bytes: usize) -> bool
+        ensures { result ≡ past names bytes self }
+    {
+        names.saturating_add(self.names) > 64 || bytes.saturating_add(self.bytes) > 1025
+    }
+
+    /// Whether both counts are the same.
+    pub fn is(self, other: Reach) -> bool
+        ensures same { result ≡ true → self ≡ other }
+    {
+        self.names == other.names && self.bytes == other.bytes
+    }
+
+    /// Whether the reach of some paths, this one, tells what it is after those of `gone` became those of `come`: count by
+    /// count, others have as much as `gone` had or `come` has it.
+    pub fn tells(self, gone: Reach, come: Reach) -> bool
+        ensures { result ≡ tells self gone come }
+    {
+        (gone.names < self.names || gone.names <= come.names)
+            && (gone.bytes < self.bytes || gone.bytes <= come.bytes)
+    }
+}
