@@ -81,7 +81,8 @@ fn what_is_staged_of_properties_is_an_entry(rt: HostRuntime) -> Result<(), Fail>
 #[test]
 fn what_was_staged_is_installed(rt: HostRuntime) -> Result<(), Fail> {
     let mut repo = first_repo(&rt, rt.alloc())?;
-    let staged = staged(&rt, rt.alloc(), &repo)?;
+    let added = set(&rt, rt.alloc(), &[("b", Action::Add, DIR, None)]);
+    let staged = repo.stage_commit(rt.alloc(), RevNo::new(1), added, Props::empty(), None)?;
     repo.install(staged);
     repo.is_repository();
     assert!(rt; there(&rt, rt.alloc(), &repo, 2, "b"));
