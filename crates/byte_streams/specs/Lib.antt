@@ -1,0 +1,4 @@
+pub mod Causes
+pub mod Counted
+pub mod Memory
+pub mod Sinks

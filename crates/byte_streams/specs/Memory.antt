@@ -1,0 +1,28 @@
+-- What is known of streams for tests.
+use Rattle.std.specs.Prelude.{ℕ, List}
+use Rattle.byte_streams.specs.declared.fuse.FuseInput.{FuseInput}
+use Rattle.byte_streams.specs.declared.memory.MemOutput.{MemOutput}
+
+-- the input that takes the reads that pass
+abbrev pub inner_of : {I : Type 0} → FuseInput I → I
+inner_of input = input.inner
+
+-- how many more reads pass
+abbrev pub passing_in : {I : Type 0} → FuseInput I → ℕ
+passing_in input = input.passing
+
+-- how often it was read
+abbrev pub reads_of : {I : Type 0} → FuseInput I → ℕ
+reads_of input = input.reads
+
+-- what was written
+abbrev pub held_of : MemOutput → List ℕ
+held_of output = output.bytes.items
+
+-- how many of these bytes are handed on
+abbrev pub handed_of : MemOutput → ℕ
+handed_of output = output.handed_on
+
+-- how often it failed
+abbrev pub failures_of : MemOutput → ℕ
+failures_of output = output.failures

@@ -1,0 +1,18 @@
+//! Bytes that are read and written, with failures that are counted: a call refuses only where its stream failed in it.
+#![tactic(auto)]
+
+mod counted;
+mod fault;
+mod fuse;
+mod input;
+mod memory;
+mod output;
+mod sink;
+
+pub use counted::{CountedReader, CountedWriter};
+pub use fault::{SinkFault, StreamFault};
+pub use fuse::FuseInput;
+pub use input::{Input, MOST_READS};
+pub use memory::MemOutput;
+pub use output::{Output, write_bytes};
+pub use sink::Sink;
