@@ -44,7 +44,7 @@ fn with_blanks(alloc: Global, change: Change) -> Result<Change, AllocError>
         None => Props::empty(),
     };
     let text = match (kind, text) {
-        (Some(NodeKind::File), None) => Some(Text::new(alloc, Vec::new(alloc))?),
+        (Some(NodeKind::File), None) => Some(Text::empty(alloc)?),
         (_, text) => text,
     };
     Ok(Change {

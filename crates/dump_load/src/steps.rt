@@ -27,7 +27,7 @@ pub fn blank(alloc: Global, kind: Option<NodeKind>) -> Result<Node, AllocError>
 {
     let text = match kind {
         None | Some(NodeKind::Dir) => None,
-        Some(NodeKind::File) => Some(Text::new(alloc, Vec::new(alloc))?),
+        Some(NodeKind::File) => Some(Text::empty(alloc)?),
     };
     Ok(Node {
         text,

@@ -35,7 +35,7 @@ fn a_deletion_and_an_add_are_one_replace(rt: HostRuntime) -> Result<(), Fail> {
 // The number of the refusal of a text for the directory t.
 fn text_for_directory(alloc: Global) -> Result<u8, Fail> {
     let mut stated = records(alloc, "change t")?;
-    let text = Text::new(alloc, Vec::new(alloc))?;
+    let text = Text::empty(alloc)?;
     if let Some(first) = stated.get_mut(0) {
         first.text = Some(text);
     }

@@ -1,5 +1,5 @@
 -- What is read is in the grammar.
-use Rattle.std.proofs.Common.{◌≡◌, ℕ, zero, suc, ◌+◌, ◌-◌, ◌≤◌, ◌<◌, ◌==◌, not, true, false, ◌⊎◌, inl, inr, List, [], ◌∷◌, ◌++◌, length, take, drop, get_or, eqb, Option, Some, None, Ok, Err, refl, sym, ap, subst, ◌∙◌, append_assoc, append-nil, length-append, arith}
+use Rattle.std.proofs.Common.{◌≡◌, ℕ, zero, suc, ◌+◌, ◌-◌, ◌≤◌, ◌<◌, ◌==◌, not, true, false, nat_lt, ◌⊎◌, inl, inr, List, [], ◌∷◌, ◌++◌, length, take, drop, get_or, eqb, Option, Some, None, Ok, Err, refl, sym, ap, subst, ◌∙◌, append_assoc, append-nil, length-append, arith}
 use Rattle.std.proofs.lemmas.Bool.{eqb-true, cases_lt}
 use Rattle.std.proofs.lemmas.Bool.Decides.{nat_tests}
 use Rattle.std.proofs.lemmas.List.{take_all, take_at, length-take}
@@ -11,7 +11,7 @@ use Rattle.node_base.proofs.BlockConverse.{read_is_block}
 use Rattle.dump_text.specs.Headers.{same}
 use Rattle.dump_text.specs.Heads.{line_says, no_head}
 use Rattle.dump_text.specs.Forms.{fits_form, lengths_agree, lengths_fit, record_of, named_of, numbered_of, node_of, stage_after, props_or_none}
-use Rattle.dump_text.specs.Streams.{Stream, one_byte, Reads, Refuses, reading, fresh, begin, given, give, text_is, after_block, content, judged, said, line_is, is_line_place, is_between, is_between_at, sum_holds, version_line, of_prop_fault, of_block, NoLf, dump}
+use Rattle.dump_text.specs.Streams.{Stream, one_byte, Reads, Refuses, reading, fresh, begin, given, give, made, text_is, after_block, content, judged, said, line_is, is_line_place, is_between, is_between_at, sum_holds, version_line, of_prop_fault, of_block, NoLf, dump}
 use Rattle.dump_text.specs.Laws.{FirstFault}
 use Rattle.dump_text.specs.Grammar.{lines_of, HeadOf, HasText, IsContent, Says, IsRecord, IsRecords, AreBlank, Dump, bytes_of}
 use Rattle.dump_text.specs.declared.fault.DumpFault.{DumpFault}
@@ -173,8 +173,12 @@ pub record Worded (rs : List DumpRecord) (v : ℕ) (i : Stage) (h : Head) (props
 
 text_from : (rs : List DumpRecord) (r : ReadState) (props : Option PropMap) (text rest : List ℕ) (out : List DumpRecord) (last : ReadState) → Ends (reading (text_is rs r props text) rest) out last → (sum_holds r.head.sum text ≡ true) × Given rs r.version r.stage r.head props (Some text) rest out last
 text_from rs r props text rest out last e =
-    elim (sum_holds r.head.sum text) as (λ t. sum_holds r.head.sum text ≡ t → Ends (reading (if t then give rs r props (Some text) else Refuses rs BadSum) rest) out last → (sum_holds r.head.sum text ≡ true) × Given rs r.version r.stage r.head props (Some text) rest out last) [
-      | true ↦ λ t e. (t, given_from rs r props (Some text) rest out last e)
+    elim (sum_holds r.head.sum text) as (λ t. sum_holds r.head.sum text ≡ t → Ends (reading (if t then made rs r props text else Refuses rs BadSum) rest) out last → (sum_holds r.head.sum text ≡ true) × Given rs r.version r.stage r.head props (Some text) rest out last) [
+      | true ↦ λ t e.
+          elim (nat_lt 1048576 (length text)) as (λ b. Ends (reading (if b then Refuses rs TooLong else give rs r props (Some text)) rest) out last → (sum_holds r.head.sum text ≡ true) × Given rs r.version r.stage r.head props (Some text) rest out last) [
+            | true ↦ λ e. never rs out TooLong last rest _ e
+            | false ↦ λ e. (t, given_from rs r props (Some text) rest out last e)
+          ] e
       | false ↦ λ t e. never rs out BadSum last rest _ e
     ] refl e
 

@@ -13,7 +13,7 @@ use Rattle.dump_text.specs.declared.state.Place.{Place}
 use Rattle.dump_text.specs.declared.state.Place.TheVariants as at
 use Rattle.dump_text.specs.declared.record.DumpRecord.{DumpRecord}
 use Rattle.dump_text.specs.declared.state.ReadState.{ReadState}
-use Rattle.dump_text.specs.Streams.{Stream, Reads, Refuses, reading, one_byte, stream_step, line_step, block_said, said, given, give, text_is, after_block, content, judged, line_is, records_of, IsFront, sum_holds, version_line}
+use Rattle.dump_text.specs.Streams.{Stream, Reads, Refuses, reading, one_byte, stream_step, line_step, block_said, said, given, give, made, text_is, after_block, content, judged, line_is, records_of, IsFront, sum_holds, version_line}
 
 here : (rs : List DumpRecord) → (more : List DumpRecord) × (rs ≡ rs ++ more)
 here rs = ([], sym (append-nil rs))
@@ -30,7 +30,7 @@ give_front : (rs : List DumpRecord) (r : ReadState) (props : Option PropMap) (te
 give_front rs r props text = given_front rs r (record_of r.head props text)
 
 text_front : (rs : List DumpRecord) (r : ReadState) (props : Option PropMap) (text : List ℕ) → IsFront rs (text_is rs r props text)
-text_front rs r props text = if_front rs (sum_holds r.head.sum text) _ _ (give_front rs r props (Some text)) (here rs)
+text_front rs r props text = if_front rs (sum_holds r.head.sum text) _ _ (if_front rs (nat_lt 1048576 (length text)) _ _ (here rs) (give_front rs r props (Some text))) (here rs)
 
 after_block_front : (rs : List DumpRecord) (r : ReadState) (props : Option PropMap) → IsFront rs (after_block rs r props)
 after_block_front rs r props =

@@ -20,7 +20,7 @@ use Rattle.dump_text.specs.declared.state.Place.{Place}
 use Rattle.dump_text.specs.declared.state.Place.TheVariants as at
 use Rattle.dump_text.specs.declared.record.DumpRecord.{DumpRecord}
 use Rattle.dump_text.specs.declared.state.ReadState.{ReadState}
-use Rattle.dump_text.specs.Streams.{Stream, Reads, Refuses, reading, one_byte, stream_step, line_step, keep_byte, block_said, said, given, give, text_is, after_block, content, judged, line_is, sum_holds, version_line, kept, kept_of}
+use Rattle.dump_text.specs.Streams.{Stream, Reads, Refuses, reading, one_byte, stream_step, line_step, keep_byte, block_said, said, given, give, made, text_is, after_block, content, judged, line_is, sum_holds, version_line, kept, kept_of}
 
 -- what a block's step keeps
 abbrev step_kept : Step → ℕ
@@ -78,7 +78,7 @@ given_kept rs r None n = omega arith
 given_kept rs r (Some rec) n = omega arith
 
 text_kept : (rs : List DumpRecord) (r : ReadState) (props : Option PropMap) (text : List ℕ) (n : ℕ) → kept_of (text_is rs r props text) ≤ n
-text_kept rs r props text n = if_kept n (sum_holds r.head.sum text) _ _ (given_kept rs r (record_of r.head props (Some text)) n) (omega arith)
+text_kept rs r props text n = if_kept n (sum_holds r.head.sum text) _ _ (if_kept n (nat_lt 1048576 (length text)) _ _ (omega arith) (given_kept rs r (record_of r.head props (Some text)) n)) (omega arith)
 
 after_block_kept : (rs : List DumpRecord) (r : ReadState) (props : Option PropMap) (n : ℕ) → length r.block.held ≤ n → kept_of (after_block rs r props) ≤ n
 after_block_kept rs r props n h =

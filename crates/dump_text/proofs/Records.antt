@@ -1,16 +1,17 @@
 -- Records of the grammar are read.
-use Rattle.std.proofs.Common.{◌≡◌, ℕ, ◌+◌, ◌<◌, ◌==◌, List, [], ◌∷◌, ◌++◌, length, take, drop, get_or, Option, Some, None, refl, sym, ap, ◌∙◌, append_assoc, append-nil, length-append, arith}
+use Rattle.std.proofs.Common.{◌≡◌, ℕ, ◌+◌, ◌<◌, ◌==◌, ◌&&◌, true, false, nat_lt, nat_le, List, [], ◌∷◌, ◌++◌, length, take, drop, get_or, Option, Some, None, refl, sym, ap, ◌∙◌, append_assoc, append-nil, length-append, arith}
 use Rattle.std.proofs.lemmas.List.{take_at, drop_at, take_more}
+use Rattle.std.proofs.lemmas.Bool.Decides.{nat_tests}
 use Rattle.std.specs.Bool.{if◌then◌else◌}
 use Rattle.node_base.specs.Props.{PropMap}
 use Rattle.node_base.specs.Blocks.{new_block, run_block, Done}
-use Rattle.node_base.proofs.BlockSpelled.{block_long, eq_false}
+use Rattle.node_base.proofs.BlockSpelled.{block_long, eq_false, both}
 use Rattle.node_base.proofs.BlockWritten.{block_is_read}
 use Rattle.dump_text.specs.Heads.{no_head}
-use Rattle.dump_text.specs.Forms.{stage_after, record_of}
-use Rattle.dump_text.specs.Streams.{Stream, Reads, Refuses, reading, given, give, text_is, after_block, content, said, line_is, begin, of_block, dump}
+use Rattle.dump_text.specs.Forms.{stage_after, record_of, length_of, lengths_fit}
+use Rattle.dump_text.specs.Streams.{Stream, Reads, Refuses, reading, given, give, made, text_is, after_block, content, said, line_is, begin, of_block, dump}
 use Rattle.dump_text.specs.Grammar.{lines_of, HeadOf, IsBlockOf, IsContent, HasText, bytes_of, Says, IsRecord, IsRecords, AreBlank, Dump, stage_behind}
-use Rattle.dump_text.specs.declared.fault.DumpFault.TheVariants.{BadSum, BadProps}
+use Rattle.dump_text.specs.declared.fault.DumpFault.TheVariants.{BadSum, BadProps, TooLong}
 use Rattle.dump_text.specs.declared.form.Stage.{Stage}
 use Rattle.dump_text.specs.declared.form.Stage.TheVariants.{First}
 use Rattle.dump_text.specs.declared.head.Head.{Head}
@@ -31,11 +32,18 @@ says_record h props text (Node node) (i, n, path, kind, action, s, p, t) = rw (i
 pub is_given : (rs : List DumpRecord) (r : ReadState) (props : Option PropMap) (text : Option (List ℕ)) (rec : DumpRecord) → Says r.head props text rec → give rs r props text ≡ follow rs r.version r.stage rec
 is_given rs r props text rec s = ap (given rs r) (says_record r.head props text rec s)
 
+small : (n k : ℕ) → (nat_le k 33554432 && nat_le n 1048576) ≡ true → nat_lt 1048576 n ≡ false
+small n k e = let fit = (both (nat_le k 33554432) (nat_le n 1048576) e).1 in grind (arith, nat_tests, fit)
+
+-- the length of a text that is announced was judged
+within_limit : (h : Head) (text : List ℕ) → lengths_fit h ≡ true → h.text_len ≡ Some (length text) → nat_lt 1048576 (length text) ≡ false
+within_limit h text fit len = small (length text) (length_of h.prop_len) (ap (λ o. nat_le (length_of h.prop_len) 33554432 && nat_le (length_of o) 1048576) (sym len) ∙ fit)
+
 -- a text that is announced
-pub text_read : (rs : List DumpRecord) (r : ReadState) (props : Option PropMap) (text : Option (List ℕ)) (rec : DumpRecord) (more : List ℕ) → HasText r.head text → Says r.head props text rec → reading (after_block rs r props) (bytes_of text ++ more) ≡ reading (follow rs r.version r.stage rec) more
-text_read rs r props None rec more h s = ap (λ t. reading t more) (rw h (is_given rs r props None rec s))
-text_read rs r props (Some []) rec more (l, sum) s = ap (λ t. reading t more) (rw (l, sum) (is_given rs r props (Some []) rec s))
-text_read rs r props (Some (b ∷ t)) rec more (l, sum) s =
+pub text_read : (rs : List DumpRecord) (r : ReadState) (props : Option PropMap) (text : Option (List ℕ)) (rec : DumpRecord) (more : List ℕ) → HasText r.head text → lengths_fit r.head ≡ true → Says r.head props text rec → reading (after_block rs r props) (bytes_of text ++ more) ≡ reading (follow rs r.version r.stage rec) more
+text_read rs r props None rec more h fit s = ap (λ t. reading t more) (rw h (is_given rs r props None rec s))
+text_read rs r props (Some []) rec more (l, sum) fit s = ap (λ t. reading t more) (rw (l, sum) (is_given rs r props (Some []) rec s))
+text_read rs r props (Some (b ∷ t)) rec more (l, sum) fit s =
     let text = b ∷ t in
     let piece = text ++ more in
     let k = length t in
@@ -49,21 +57,21 @@ text_read rs r props (Some (b ∷ t)) rec more (l, sum) s =
     ∙ whole
     ∙ ap (λ x. reading (text_is rs r-2 props x) (drop (k + 1) piece)) all
     ∙ ap (reading (text_is rs r-2 props text)) rest
-    ∙ ap (λ t. reading t more) (ap (λ b. if b then give rs r-2 props (Some text) else Refuses rs BadSum) sum ∙ is_given rs r-2 props (Some text) rec s)
+    ∙ ap (λ t. reading t more) (ap (λ b. if b then made rs r-2 props text else Refuses rs BadSum) sum ∙ ap (λ b. if b then Refuses rs TooLong else give rs r-2 props (Some text)) (within_limit r.head text fit l) ∙ is_given rs r-2 props (Some text) rec s)
 
 -- a block of the grammar, whatever follows
 pub block_read : (bytes more : List ℕ) (props : PropMap) → IsBlockOf bytes props → run_block (new_block (length bytes)) (bytes ++ more) ≡ Done props more
 block_read bytes more props (ps, spelled, within, is) = block_is_read bytes more ps spelled within ∙ ap (λ m. Done m more) (sym is)
 
 -- the content that is announced
-pub content_read : (rs : List DumpRecord) (r : ReadState) (bytes : List ℕ) (props : Option PropMap) (text : Option (List ℕ)) (rec : DumpRecord) (more : List ℕ) → IsContent r.head bytes props text → Says r.head props text rec → reading (content rs r) (bytes ++ more) ≡ reading (follow rs r.version r.stage rec) more
-content_read rs r bytes None text rec more c s =
+pub content_read : (rs : List DumpRecord) (r : ReadState) (bytes : List ℕ) (props : Option PropMap) (text : Option (List ℕ)) (rec : DumpRecord) (more : List ℕ) → IsContent r.head bytes props text → lengths_fit r.head ≡ true → Says r.head props text rec → reading (content rs r) (bytes ++ more) ≡ reading (follow rs r.version r.stage rec) more
+content_read rs r bytes None text rec more c fit s =
     let begun : content rs r ≡ after_block rs r None = ap (λ o. elim o as (λ _. Stream) [ None ↦ after_block rs r None | Some n ↦ if n == 0 then Refuses rs BadProps else Reads rs (record r { place = at.Block; block = new_block n; held = [] }) ]) c.properties.0 in
     let all : bytes ≡ bytes_of text = c.whole ∙ ap (λ x. x ++ bytes_of text) c.properties.1 in
     ap (λ t. reading t (bytes ++ more)) begun
     ∙ ap (λ x. reading (after_block rs r None) (x ++ more)) all
-    ∙ text_read rs r None text rec more c.words s
-content_read rs r bytes (Some props) text rec more c s =
+    ∙ text_read rs r None text rec more c.words fit s
+content_read rs r bytes (Some props) text rec more c fit s =
     let r-2 = record r { place = at.Block; block = new_block (length c.block); held = [] } in
     let long = block_long c.block c.properties.1.0 c.properties.1.1 in
     let begun : content rs r ≡ Reads rs r-2 = rw (c.properties.0, eq_false (length c.block) 0 (omega arith)) refl in
@@ -72,7 +80,7 @@ content_read rs r bytes (Some props) text rec more c s =
     ∙ ap (reading (Reads rs r-2)) (ap (λ x. x ++ more) c.whole ∙ append_assoc c.block (bytes_of text) more)
     ∙ block_piece rs r-2 (c.block ++ (bytes_of text ++ more)) refl
     ∙ ap (of_block rs r-2) e
-    ∙ text_read rs (record r-2 { block = new_block 0 }) (Some props) text rec more c.words s
+    ∙ text_read rs (record r-2 { block = new_block 0 }) (Some props) text rec more c.words fit s
 
 -- header lines behind a first
 pub lines_read : (rs : List DumpRecord) (v : ℕ) (i : Stage) (h last : Head) (lines : List (List ℕ)) (bs : List ℕ) → HeadOf h lines last → reading (Reads rs (reader v at.Header i h (new_block 0) None [])) (lines_of lines ++ bs) ≡ reading (Reads rs (reader v at.Header i last (new_block 0) None [])) bs
@@ -103,7 +111,7 @@ record_read rs v i bytes more rec c =
     ∙ ap (reading (Reads rs (begin v at.Between i))) (append_assoc (lines_of c.lines) (10 ∷ c.body) more)
     ∙ head_read rs v i c.head c.lines (10 ∷ c.body ++ more) c.some c.headers
     ∙ ap (λ t. reading t (c.body ++ more)) judge
-    ∙ content_read rs r c.body c.props c.text rec more c.content c.says
+    ∙ content_read rs r c.body c.props c.text rec more c.content c.fit c.says
 
 pub blanks_read : (rs : List DumpRecord) (v : ℕ) (i : Stage) (blank more : List ℕ) → AreBlank blank → reading (Reads rs (begin v at.Between i)) (blank ++ more) ≡ reading (Reads rs (begin v at.Between i)) more
 blanks_read rs v i [] more e = refl

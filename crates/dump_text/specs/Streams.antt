@@ -5,6 +5,8 @@ use Rattle.node_base.specs.Props.{PropMap}
 use Rattle.node_base.specs.Blocks.{Step, Next, Whole, Refused, block_step, new_block, Run, More, Done, Fault}
 use Rattle.node_base.specs.declared.prop_fault.PropFault.{PropFault}
 use Rattle.node_base.specs.declared.prop_fault.PropFault.TheVariants as prop_fault
+use Rattle.node_base.specs.declared.text_fault.TextFault.{TextFault}
+use Rattle.node_base.specs.declared.text_fault.TextFault.TheVariants as text_fault
 use Rattle.dump_text.specs.Headers.{same}
 use Rattle.dump_text.specs.Heads.{line_says, no_head}
 use Rattle.dump_text.specs.Forms.{fits_form, lengths_agree, lengths_fit, record_of, stage_after}
@@ -43,9 +45,13 @@ abbrev pub sum_holds : Option (List ℕ) → List ℕ → Bool
 sum_holds None text = true
 sum_holds (Some sum) text = same (md5 text) sum
 
+-- a text is within its limit, as one that was announced is
+abbrev pub made : List DumpRecord → ReadState → Option PropMap → List ℕ → Stream
+made rs r props text = if nat_lt 1048576 (length text) then Refuses rs TooLong else give rs r props (Some text)
+
 -- a text is whole
 abbrev pub text_is : List DumpRecord → ReadState → Option PropMap → List ℕ → Stream
-text_is rs r props text = if sum_holds r.head.sum text then give rs r props (Some text) else Refuses rs BadSum
+text_is rs r props text = if sum_holds r.head.sum text then made rs r props text else Refuses rs BadSum
 
 -- the block, if any, is whole
 abbrev pub after_block : List DumpRecord → ReadState → Option PropMap → Stream
@@ -99,6 +105,10 @@ abbrev pub of_prop_fault : PropFault → DumpFault
 of_prop_fault prop_fault.BadProps = BadProps
 of_prop_fault prop_fault.TooLong = TooLong
 of_prop_fault prop_fault.OutOfMemory = OutOfMemory
+
+abbrev pub of_text_fault : TextFault → DumpFault
+of_text_fault text_fault.TooLong = TooLong
+of_text_fault text_fault.OutOfMemory = OutOfMemory
 
 -- a byte of a block
 abbrev pub block_said : List DumpRecord → ReadState → Step → Stream

@@ -2,7 +2,7 @@
 
 ghost use Rattle.std.specs.Prelude.{◌≡◌, ◌≤◌, ◌<◌, ◌+◌, ◌++◌, ◌∷◌, [], length, take, drop, slice_index, Option, Some, None, Ok, Err, IfOk, IfSome, OnErr, true, false, if◌then◌else◌};
 ghost use Rattle.md5.specs.Md5.{md5};
-ghost use Rattle.dump_text.specs.Streams.{StreamIs, Reads, Refuses, begin, fresh, spent, has_failed, give, text_is, after_block, content, judged, line_is, reading, sum_holds, is_line_place, is_failed, is_between, kept, of_prop_fault, GoesOn, NoLf, IsFront};
+ghost use Rattle.dump_text.specs.Streams.{StreamIs, Reads, Refuses, begin, fresh, spent, has_failed, give, text_is, after_block, content, judged, line_is, reading, sum_holds, is_line_place, is_failed, is_between, kept, of_prop_fault, of_text_fault, GoesOn, NoLf, IsFront};
 ghost use Rattle.dump_text.specs.declared.state.Place.TheVariants as at;
 
 use crate::fault::DumpFault;
@@ -14,7 +14,7 @@ use crate::held::HeldBytes;
 use crate::record::DumpRecord;
 use md5::{Digest, Md5};
 use memchr::memchr;
-use node_base::{BlockReader, PropFault, Props, Text};
+use node_base::{BlockReader, PropFault, Props, Text, TextFault};
 use std::alloc::Global;
 use std::mem;
 
@@ -80,6 +80,16 @@ fn block_fault(fault: PropFault) -> DumpFault
         PropFault::BadProps => DumpFault::BadProps,
         PropFault::TooLong => DumpFault::TooLong,
         PropFault::OutOfMemory => DumpFault::OutOfMemory,
+    }
+}
+
+/// The refusal of a text, as a dump's.
+fn text_fault(fault: TextFault) -> DumpFault
+    ensures { result ≡ of_text_fault fault }
+{
+    match fault {
+        TextFault::TooLong => DumpFault::TooLong,
+        TextFault::OutOfMemory => DumpFault::OutOfMemory,
     }
 }
 
@@ -156,17 +166,20 @@ impl ReadState {
         ensures on { StreamIs result self.new out.new.items (text_is out.old.items self.old props bytes.items) }
         ensures out { OnErr result (out.new.items ≡ out.old.items) }
     {
-        let text = match self.head.sum {
-            None => Text::new(alloc, bytes)?,
+        let made = match self.head.sum {
+            None => Text::new(alloc, bytes),
             Some(announced) => {
                 let sum = md5_of(bytes.as_slice());
                 if sum.as_slice() != announced.as_slice() {
                     return Err(DumpFault::BadSum);
                 }
-                Text::with_sum(alloc, bytes, sum)?
+                Text::with_sum(alloc, bytes, sum)
             }
         };
-        self.give(alloc, out, props, Some(text))
+        match made {
+            Ok(text) => self.give(alloc, out, props, Some(text)),
+            Err(fault) => Err(text_fault(fault)),
+        }
     }
 
     /// The block, if any, is whole.

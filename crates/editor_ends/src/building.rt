@@ -71,7 +71,7 @@ fn blank_text(alloc: Global, kind: Option<NodeKind>) -> Result<Option<Text>, All
     ensures { IfOk result (λ t. t ≡ blank_text kind) }
 {
     match kind {
-        Some(NodeKind::File) => Ok(Some(Text::new(alloc, Vec::new(alloc))?)),
+        Some(NodeKind::File) => Ok(Some(Text::empty(alloc)?)),
         Some(NodeKind::Dir) | None => Ok(None),
     }
 }
@@ -282,7 +282,7 @@ fn give_text(alloc: Global, change: &mut Change) -> Result<(), AllocError>
     ensures { OnOk result (change.new ≡ giving_text change.old) }
 {
     if change.text.is_none() {
-        change.text = Some(Text::new(alloc, Vec::new(alloc))?);
+        change.text = Some(Text::empty(alloc)?);
     }
     Ok(())
 }

@@ -13,7 +13,7 @@ use Rattle.dump_text.specs.declared.state.Place.{Place}
 use Rattle.dump_text.specs.declared.state.Place.TheVariants as at
 use Rattle.dump_text.specs.declared.record.DumpRecord.{DumpRecord}
 use Rattle.dump_text.specs.declared.state.ReadState.{ReadState}
-use Rattle.dump_text.specs.Streams.{Stream, Reads, Refuses, reading, one_byte, stream_step, line_step, block_said, said, given, give, text_is, after_block, content, judged, line_is, sum_holds, version_line, begin}
+use Rattle.dump_text.specs.Streams.{Stream, Reads, Refuses, reading, one_byte, stream_step, line_step, block_said, said, given, give, made, text_is, after_block, content, judged, line_is, sum_holds, version_line, begin}
 use Rattle.fleet_engines.specs.Pieces.{behind, RecordsDontMatter}
 
 if_behind : (front : List DumpRecord) (b : Bool) (s t x y : Stream) → s ≡ behind front x → t ≡ behind front y → (if b then s else t) ≡ behind front (if b then x else y)
@@ -27,8 +27,11 @@ given_behind front rs r (Some rec) = ap (λ x. Reads x (begin r.version at.Betwe
 give_behind : (front rs : List DumpRecord) (r : ReadState) (props : Option PropMap) (text : Option (List ℕ)) → give (front ++ rs) r props text ≡ behind front (give rs r props text)
 give_behind front rs r props text = given_behind front rs r (record_of r.head props text)
 
+made_behind : (front rs : List DumpRecord) (r : ReadState) (props : Option PropMap) (text : List ℕ) → made (front ++ rs) r props text ≡ behind front (made rs r props text)
+made_behind front rs r props text = if_behind front (nat_lt 1048576 (length text)) _ _ _ _ refl (give_behind front rs r props (Some text))
+
 text_behind : (front rs : List DumpRecord) (r : ReadState) (props : Option PropMap) (text : List ℕ) → text_is (front ++ rs) r props text ≡ behind front (text_is rs r props text)
-text_behind front rs r props text = if_behind front (sum_holds r.head.sum text) _ _ _ _ (give_behind front rs r props (Some text)) refl
+text_behind front rs r props text = if_behind front (sum_holds r.head.sum text) _ _ _ _ (made_behind front rs r props text) refl
 
 after_block_behind : (front rs : List DumpRecord) (r : ReadState) (props : Option PropMap) → after_block (front ++ rs) r props ≡ behind front (after_block rs r props)
 after_block_behind front rs r props =

@@ -15,7 +15,7 @@ use Rattle.dump_text.specs.declared.record.DumpRecord.{DumpRecord}
 use Rattle.dump_text.specs.declared.state.Place.{Place}
 use Rattle.dump_text.specs.declared.state.Place.TheVariants as at
 use Rattle.dump_text.specs.declared.state.ReadState.{ReadState}
-use Rattle.dump_text.specs.Streams.{Stream, Reads, Refuses, reading, dump, fresh, one_byte, stream_step, line_step, line_is, block_said, said, given, give, text_is, after_block, content, judged, sum_holds, version_line, records_of, has_failed, IsFront, StreamIs}
+use Rattle.dump_text.specs.Streams.{Stream, Reads, Refuses, reading, dump, fresh, one_byte, stream_step, line_step, line_is, block_said, said, given, give, made, text_is, after_block, content, judged, sum_holds, version_line, records_of, has_failed, IsFront, StreamIs}
 use Rattle.fleet_engines.specs.declared.product.Product.{Product}
 use Rattle.fleet_engines.specs.Pieces.{behind}
 use Rattle.fleet_engines.specs.Refusals.{dump_refusal}
@@ -38,9 +38,13 @@ unfolding Sound
 given_sound rs r None = tt
 given_sound rs r (Some rec) = refl
 
+made_sound : (rs : List DumpRecord) (r : ReadState) (props : Option PropMap) (text : List ℕ) → Sound (made rs r props text)
+unfolding Sound
+made_sound rs r props text = if_sound (nat_lt 1048576 (length text)) _ _ tt (given_sound rs r (record_of r.head props (Some text)))
+
 text_sound : (rs : List DumpRecord) (r : ReadState) (props : Option PropMap) (text : List ℕ) → Sound (text_is rs r props text)
 unfolding Sound
-text_sound rs r props text = if_sound (sum_holds r.head.sum text) _ _ (given_sound rs r (record_of r.head props (Some text))) tt
+text_sound rs r props text = if_sound (sum_holds r.head.sum text) _ _ (made_sound rs r props text) tt
 
 after_block_sound : (rs : List DumpRecord) (r : ReadState) (props : Option PropMap) → Sound (after_block rs r props)
 unfolding Sound

@@ -5,6 +5,8 @@ use Rattle.node_base.specs.declared.fault.TreeFault.{TreeFault}
 use Rattle.node_base.specs.declared.fault.TreeFault.TheVariants as tree
 use Rattle.node_base.specs.declared.prop_fault.PropFault.{PropFault}
 use Rattle.node_base.specs.declared.prop_fault.PropFault.TheVariants as prop
+use Rattle.node_base.specs.declared.text_fault.TextFault.{TextFault}
+use Rattle.node_base.specs.declared.text_fault.TextFault.TheVariants as text
 use Rattle.node_base.specs.declared.refusal.Refusal.{Refusal}
 use Rattle.node_base.specs.declared.refusal.Refusal.TheVariants.{BadProps, TooLong, BadPath, NoSuchPath, PathThere, NotDir, NoSource, KindMismatch, OutOfMemory}
 
@@ -17,6 +19,10 @@ abbrev pub prop_refusal : PropFault → Refusal
 prop_refusal prop.BadProps = BadProps
 prop_refusal prop.TooLong = TooLong
 prop_refusal prop.OutOfMemory = OutOfMemory
+
+abbrev pub text_refusal : TextFault → Refusal
+text_refusal text.TooLong = TooLong
+text_refusal text.OutOfMemory = OutOfMemory
 
 abbrev pub tree_refusal : TreeFault → Refusal
 tree_refusal tree.TooLong = TooLong

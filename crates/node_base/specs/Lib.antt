@@ -13,4 +13,5 @@ pub mod Path
 pub mod PathText
 pub mod Props
 pub mod Refusals
+pub mod Texts
 pub mod Tree

@@ -15,6 +15,7 @@ pub use props::Props;
 pub use refusal::Refusal;
 pub use revision::RevNo;
 pub use text::Text;
+pub use text_fault::TextFault;
 
 mod block;
 pub mod block_law;
@@ -37,3 +38,4 @@ mod refusal;
 mod refused;
 mod revision;
 mod text;
+mod text_fault;

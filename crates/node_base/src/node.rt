@@ -1,9 +1,10 @@
 //! Nodes, their kinds, and what is done to them.
 ghost use Rattle.std.specs.Prelude.{◌≡◌, IfOk, IfErr, OnOk, OnErr};
 ghost use Rattle.node_base.specs.NodeEdits.{with_prop, with_piece, put_fault};
+ghost use Rattle.node_base.specs.Texts.{piece_fault};
 ghost use Rattle.node_base.specs.Tree.{with_given, new_dir, kind_of};
 
-use crate::{NodePath, PropFault, PropName, PropValue, Props, RevNo, Text};
+use crate::{NodePath, PropFault, PropName, PropValue, Props, RevNo, Text, TextFault};
 use std::alloc::{AllocError, Global};
 
 /// The kind of a node.
@@ -89,9 +90,11 @@ impl Node {
         }
     }
 
-    /// Puts bytes behind a file's text. A directory stays as it is, and so does the node at an error.
-    pub fn append_text(&mut self, alloc: Global, piece: &[u8]) -> Result<(), AllocError>
+    /// Puts bytes behind a file's text. TooLong where it would have more than 1,048,576. A directory stays as it is, and so does
+    /// the node at an error.
+    pub fn append_text(&mut self, alloc: Global, piece: &[u8]) -> Result<(), TextFault>
         ensures ok { OnOk result (self.new ≡ with_piece piece.now self.old) }
+        ensures fault { IfErr result (λ e. e ≡ piece_fault piece.now self.old.text) }
         ensures err { OnErr result (self.new ≡ self.old) }
     {
         match &mut self.text {

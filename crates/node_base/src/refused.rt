@@ -1,9 +1,9 @@
 //! The refusal that each fault is.
 ghost use Rattle.std.specs.Prelude.{◌≡◌, Some};
-ghost use Rattle.node_base.specs.FaultRefusals.{path_refusal, prop_refusal, tree_refusal};
+ghost use Rattle.node_base.specs.FaultRefusals.{path_refusal, prop_refusal, text_refusal, tree_refusal};
 ghost use Rattle.node_base.specs.Refusals.{refusal_number, refusal_text};
 
-use crate::{PathFault, PropFault, Refusal, TreeFault};
+use crate::{PathFault, PropFault, Refusal, TextFault, TreeFault};
 use std::error::Error;
 use std::fmt;
 
@@ -31,6 +31,17 @@ impl From<PropFault> for Refusal {
     }
 }
 
+impl From<TextFault> for Refusal {
+    ghost from_gives = { λ f r. r ≡ text_refusal f };
+
+    fn from(fault: TextFault) -> Refusal {
+        match fault {
+            TextFault::TooLong => Refusal::TooLong,
+            TextFault::OutOfMemory => Refusal::OutOfMemory,
+        }
+    }
+}
+
 impl From<TreeFault> for Refusal {
     ghost from_gives = { λ f r. r ≡ tree_refusal f };
 
@@ -51,6 +62,15 @@ impl PathFault {
     /// Its number, which is the refusal's.
     pub fn number(self) -> u8
         ensures { result ≡ refusal_number (path_refusal self) }
+    {
+        Refusal::from(self).number()
+    }
+}
+
+impl TextFault {
+    /// Its number, which is the refusal's.
+    pub fn number(self) -> u8
+        ensures { result ≡ refusal_number (text_refusal self) }
     {
         Refusal::from(self).number()
     }

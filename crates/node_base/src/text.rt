@@ -1,13 +1,16 @@
 //! Texts of files.
-ghost use Rattle.std.specs.Prelude.{◌≡◌, ◌++◌, length, IfOk, OnOk, OnErr};
+ghost use Rattle.std.specs.Prelude.{◌≡◌, ◌≤◌, ◌++◌, ◌+◌, [], nat_le, length, IfOk, IfErr, OnOk, OnErr};
 ghost use Rattle.md5.specs.Md5.{md5};
+ghost use Rattle.node_base.specs.Texts.{text_fault};
 
+use crate::TextFault;
+use crate::limits::TEXT_BYTES;
 use md5::{Digest, Md5};
 use std::alloc::{AllocError, Global};
 use std::marker::Model;
 use std::sync::Arc;
 
-/// A file's text, seen by contracts as its bytes. Its owners share the bytes.
+/// A file's text, at most 1,048,576 bytes, seen by contracts as its bytes. Its owners share the bytes.
 #[derive(Debug, Drop)]
 pub struct Text {
     body: Arc<Body>,
@@ -20,7 +23,7 @@ struct Body {
 }
 
 impl Model for Text {
-    ghost use Rattle.std.specs.Prelude.{List, ℕ, ◌≡◌, IfSome};
+    ghost use Rattle.std.specs.Prelude.{List, ℕ, ◌≡◌, ◌≤◌, length, IfSome};
     ghost use Rattle.std.specs.Coded.{coded_list, coded_ℕ};
     ghost use Rattle.std.specs.Arc.{arc_value};
     ghost use Rattle.md5.specs.Md5.{md5};
@@ -31,23 +34,42 @@ impl Model for Text {
 
     ghost view = { λ a. (arc_value a.body).bytes.items };
 
-    ghost invariant = { λ a. IfSome (arc_value a.body).sum (λ s. s ≡ md5 (arc_value a.body).bytes.items) };
+    ghost invariant = { λ a. (length (arc_value a.body).bytes.items ≤ 1048576) × IfSome (arc_value a.body).sum (λ s. s ≡ md5 (arc_value a.body).bytes.items) };
 }
 
 impl Text {
-    /// A text of these bytes.
-    pub fn new(alloc: Global, bytes: Vec<u8>) -> Result<Text, AllocError>
-        ensures { IfOk result (λ t. t ≡ bytes.items) }
+    /// The text without a byte.
+    pub fn empty(alloc: Global) -> Result<Text, AllocError>
+        ensures { IfOk result (λ t. t ≡ []) }
     {
+        let bytes = Vec::new(alloc);
         let body = Arc::new(alloc, Body { bytes, sum: None })?;
         Ok(Text { body })
     }
 
-    /// A text of these bytes, which keeps their MD5 (RFC 1321).
-    pub fn with_sum(alloc: Global, bytes: Vec<u8>, sum: [u8; 16]) -> Result<Text, AllocError>
-        requires { sum ≡ md5 bytes.items }
-        ensures { IfOk result (λ t. t ≡ bytes.items) }
+    /// A text of these bytes. TooLong past 1,048,576 bytes.
+    pub fn new(alloc: Global, bytes: Vec<u8>) -> Result<Text, TextFault>
+        ensures text { IfOk result (λ t. t ≡ bytes.items) }
+        ensures small { OnOk result (length bytes.items ≤ 1048576) }
+        ensures fault { IfErr result (λ e. e ≡ text_fault bytes.items) }
     {
+        if !is_within(bytes.len()) {
+            return Err(TextFault::TooLong);
+        }
+        let body = Arc::new(alloc, Body { bytes, sum: None })?;
+        Ok(Text { body })
+    }
+
+    /// A text of these bytes, which keeps their MD5 (RFC 1321). TooLong past 1,048,576 bytes.
+    pub fn with_sum(alloc: Global, bytes: Vec<u8>, sum: [u8; 16]) -> Result<Text, TextFault>
+        requires { sum ≡ md5 bytes.items }
+        ensures text { IfOk result (λ t. t ≡ bytes.items) }
+        ensures small { OnOk result (length bytes.items ≤ 1048576) }
+        ensures fault { IfErr result (λ e. e ≡ text_fault bytes.items) }
+    {
+        if !is_within(bytes.len()) {
+            return Err(TextFault::TooLong);
+        }
         let sum = Some(sum);
         let body = Arc::new(alloc, Body { bytes, sum })?;
         Ok(Text { body })
@@ -60,9 +82,10 @@ impl Text {
         self.body.bytes.as_slice()
     }
 
-    /// How many bytes it has.
+    /// How many bytes it has, at most 1,048,576.
     pub fn len(&self) -> usize
-        ensures { result ≡ length self.now }
+        ensures len { result ≡ length self.now }
+        ensures small { length self.now ≤ 1048576 }
     {
         self.body.bytes.len()
     }
@@ -81,8 +104,23 @@ impl Text {
         }
     }
 
-    /// Puts bytes behind it. At an error it stays. Its bytes are copied only where they have another owner.
-    pub fn append(&mut self, alloc: Global, piece: &[u8]) -> Result<(), AllocError>
+    /// Puts bytes behind it. TooLong where it would have more than 1,048,576. At an error it stays. Its bytes are copied only where
+    /// they have another owner.
+    pub fn append(&mut self, alloc: Global, piece: &[u8]) -> Result<(), TextFault>
+        ensures ok { OnOk result (self.new ≡ self.old ++ piece.now) }
+        ensures small { OnOk result (length (self.old ++ piece.now) ≤ 1048576) }
+        ensures fault { IfErr result (λ e. e ≡ text_fault (self.old ++ piece.now)) }
+        ensures err { OnErr result (self.new ≡ self.old) }
+    {
+        if !is_within(self.len().saturating_add(piece.len())) {
+            return Err(TextFault::TooLong);
+        }
+        Ok(self.grow(alloc, piece)?)
+    }
+
+    // The same where the limit isn't passed.
+    fn grow(&mut self, alloc: Global, piece: &[u8]) -> Result<(), AllocError>
+        requires { length (self.old ++ piece.now) ≤ 1048576 }
         ensures ok { OnOk result (self.new ≡ self.old ++ piece.now) }
         ensures err { OnErr result (self.new ≡ self.old) }
     {
@@ -104,6 +142,13 @@ impl Text {
             body: Arc::try_clone(&self.body)?,
         })
     }
+}
+
+// Whether so many bytes may be a text.
+fn is_within(count: usize) -> bool
+    ensures { result ≡ nat_le count 1048576 }
+{
+    count as u64 <= TEXT_BYTES
 }
 
 // Some bytes, and others behind them.

@@ -1,7 +1,7 @@
 //! Maps of properties, their names and values, and the texts and nodes that have them.
 
 use crate::block_tests::put;
-use node_base::{Node, PropFault, PropName, PropValue, Props, Text};
+use node_base::{Node, PropFault, PropName, PropValue, Props, Text, TextFault};
 use std::alloc::{AllocError, Global};
 use std::test::Fail;
 
@@ -111,7 +111,7 @@ fn values_have_limits(rt: HostRuntime) {
 }
 
 // Whether a text has these bytes, and the sum of a text of them.
-fn is_text(alloc: Global, text: &Text, bytes: &[u8]) -> Result<bool, AllocError> {
+fn is_text(alloc: Global, text: &Text, bytes: &[u8]) -> Result<bool, TextFault> {
     let fresh = Text::new(alloc, bytes.to_vec(alloc)?)?;
     Ok(text.as_slice() == bytes && text.sum() == fresh.sum())
 }
@@ -126,10 +126,30 @@ fn texts_grow_apart(rt: HostRuntime) -> Result<(), Fail> {
     Ok(())
 }
 
+// How long a text of so many bytes is, or why it isn't made.
+fn made(alloc: Global, count: usize) -> Result<usize, TextFault> {
+    Ok(Text::new(alloc, vec![in alloc; b'x'; count]?)?.len())
+}
+
+// How long it is with another byte behind it.
+fn grown(alloc: Global, count: usize) -> Result<usize, TextFault> {
+    let mut text = Text::new(alloc, vec![in alloc; b'x'; count]?)?;
+    text.append(alloc, b"y")?;
+    Ok(text.len())
+}
+
+#[test]
+fn texts_have_a_limit(rt: HostRuntime) {
+    assert_eq!(rt; made(rt.alloc(), 1_048_576), Ok(1_048_576));
+    assert_eq!(rt; made(rt.alloc(), 1_048_577), Err(TextFault::TooLong));
+    assert_eq!(rt; grown(rt.alloc(), 1_048_575), Ok(1_048_576));
+    assert_eq!(rt; grown(rt.alloc(), 1_048_576), Err(TextFault::TooLong));
+}
+
 // A node with an empty text.
 fn empty_file(alloc: Global) -> Result<Node, AllocError> {
     let mut node = Node::new_dir();
-    node.text = Some(Text::new(alloc, Vec::new(alloc))?);
+    node.text = Some(Text::empty(alloc)?);
     Ok(node)
 }
 

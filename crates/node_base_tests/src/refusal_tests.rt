@@ -1,6 +1,6 @@
 //! The refusals' numbers and texts: vectors from outside.
 
-use node_base::{PathFault, PropFault, Refusal, RevNo, TreeFault};
+use node_base::{PathFault, PropFault, Refusal, RevNo, TextFault, TreeFault};
 use std::alloc::{AllocError, Global};
 use std::test::Fail;
 
@@ -116,6 +116,11 @@ fn is_of_props(fault: PropFault, number: u8) -> bool {
     Refusal::from(fault).number() == number && fault.number() == number
 }
 
+// The same.
+fn is_of_text(fault: TextFault, number: u8) -> bool {
+    Refusal::from(fault).number() == number && fault.number() == number
+}
+
 #[test]
 fn faults_of_texts_are_refusals(rt: HostRuntime) {
     assert!(rt; is_of_path(PathFault::TooLong, 8));
@@ -124,4 +129,6 @@ fn faults_of_texts_are_refusals(rt: HostRuntime) {
     assert!(rt; is_of_props(PropFault::BadProps, 5));
     assert!(rt; is_of_props(PropFault::TooLong, 8));
     assert!(rt; is_of_props(PropFault::OutOfMemory, 70));
+    assert!(rt; is_of_text(TextFault::TooLong, 8));
+    assert!(rt; is_of_text(TextFault::OutOfMemory, 70));
 }

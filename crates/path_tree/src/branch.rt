@@ -295,12 +295,16 @@ impl Branch {
         Ok(())
     }
 
-    // Puts bytes behind the text of the node at the top.
+    // Puts bytes behind the text of the node at the top. Bytes that would take the text past its limit are no want of memory,
+    // and callers refuse them before.
     fn append_text(&mut self, alloc: Global, piece: &[u8]) -> Result<(), AllocError>
         ensures ok { OnOk result ((q : Path) → map.get self.new q ≡ changed_at (map.get self.old) [] (with_piece piece.now) q) }
         ensures err { OnErr result (self.new ≡ self.old) }
     {
-        self.node.append_text(alloc, piece)
+        let Ok(()) = self.node.append_text(alloc, piece) else {
+            return Err(AllocError);
+        };
+        Ok(())
     }
 
     // Edits the node at the top.

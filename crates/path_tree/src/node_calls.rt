@@ -43,7 +43,7 @@ impl Tree {
         if let Some(fault) = self.text_fault(path) {
             return Err(TreeError::Fault(fault));
         }
-        let text = Text::new(alloc, Vec::new(alloc))?;
+        let text = Text::empty(alloc)?;
         Ok(self.put_parts(alloc, path.names(), Some(text), None)?)
     }
 

@@ -5,3 +5,4 @@ pub mod Lookups
 pub mod MadeTrees
 pub mod Ready
 pub mod Roots
+pub mod SetsThere

@@ -2,7 +2,7 @@
 use Rattle.std.proofs.Common.{◌≡◌, suc, List, [], ◌∷◌, ◌++◌, length, refl, sym, ap, subst, append-nil, append_assoc}
 use Rattle.node_base.specs.Tree.{PathMap}
 use Rattle.dump_load.specs.declared.change.Change.{Change}
-use Rattle.repo_core.specs.Repository.{Makes, AllMade}
+use Rattle.repo_core.specs.Repository.{Revision, Makes, AllMade, trees_of}
 
 pub length-made : (before : List PathMap) (ss : List (List Change)) (ts : List PathMap) → AllMade before ss ts → length ss ≡ length ts
 length-made before [] [] m = refl
@@ -15,3 +15,7 @@ made-push before [] [] s t m n = (subst (λ b. Makes b s t) (append-nil before) 
 made-push before [] (u ∷ ts) s t m n = absurd m
 made-push before (r ∷ ss) [] s t m n = absurd m
 made-push before (r ∷ ss) (u ∷ ts) s t m n = (m.0, made-push (before ++ u ∷ []) ss ts s t m.1 (subst (λ b. Makes b s t) (sym (append_assoc before (u ∷ []) ts)) n))
+
+pub length-trees : (x : List Revision) → length (trees_of x) ≡ length x
+length-trees [] = refl
+length-trees (y ∷ x) = ap suc (length-trees x)

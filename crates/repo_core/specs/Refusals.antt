@@ -41,25 +41,45 @@ base_fault x base = first_of (fault_if (nat_lt (head_of x) base) refusal.NoSuchR
 abbrev pub commit_fault : List Revision → ℕ → Entry → Option RepoFault
 commit_fault x base e = first_of (base_fault x base ∷ by_repository x e ∷ [])
 
+-- what a change of a property wants to find, over plain values: whatever there is, no value, or this one
+pub data Wanted : Type 0 where
+  Anything : Wanted
+  Nothing : Wanted
+  This : List ℕ → Wanted
+
+-- whether the value that is found is the one that is wanted
+abbrev pub finds : Wanted → Option (List ℕ) → Bool
+finds Anything found = true
+finds Nothing found = is_none found
+finds (This v) found = option_map_or (λ w. same_name v w) found false
+
+-- what is expected, over plain values
+abbrev pub wanted : Expected → Wanted
+wanted DontCare = Anything
+wanted Absent = Nothing
+wanted (Value v) = This v.items
+
 -- whether the value that is found is the one that is expected
 abbrev pub expects : Expected → Option (List ℕ) → Bool
-expects DontCare found = true
-expects Absent found = is_none found
-expects (Value v) found = option_map_or (λ w. same_name v.items w) found false
+expects e found = finds (wanted e) found
 
 -- a map with a value at a name, or with none
 abbrev pub with_value : PropMap → Name → Option (List ℕ) → PropMap
 with_value m name value = option_map_or (map.insert m name) value (map.remove m name)
 
--- a conditional change of one property: the revision, then the value that is found, then the limits
-abbrev pub change_fault : List Revision → ℕ → Name → Option (List ℕ) → Expected → Option RepoFault
-change_fault x n name value expected =
+-- a conditional change of one property, over plain values: the revision, then the value that is found, then the limits
+abbrev pub property_fault : List Revision → ℕ → Name → Option (List ℕ) → Wanted → Option RepoFault
+property_fault x n name value previous =
     first_of
     (fault_if (nat_le (length x) n) refusal.NoSuchRevision
-    ∷ fault_if (not (expects expected (map.get (props_at x n) name))) (refusal.BaseMismatch (map.get (props_at x n) name))
+    ∷ fault_if (not (finds previous (map.get (props_at x n) name))) (refusal.BaseMismatch (map.get (props_at x n) name))
     ∷ limit_fault (with_value (props_at x n) name value)
     ∷ []
     )
+
+-- the same of what a call expects
+abbrev pub change_fault : List Revision → ℕ → Name → Option (List ℕ) → Expected → Option RepoFault
+change_fault x n name value expected = property_fault x n name value (wanted expected)
 
 -- a refusal is the one that is due, or want of memory
 abbrev pub IsDue : RepoFault → Option RepoFault → Type 0

@@ -1,5 +1,5 @@
 //! A repository in memory.
-ghost use Rattle.std.specs.Prelude.{◌≡◌, ◌<◌, ◌≤◌, length, slice_get, Some, None, OnOk, IfOk};
+ghost use Rattle.std.specs.Prelude.{◌≡◌, ◌<◌, ◌≤◌, length, slice_get, take, Some, None, IsSome, IfSome, IsSomeAnd, OnOk, IfOk};
 ghost use Rattle.std.specs.Option.{option_map, option_copied};
 ghost use Rattle.node_base.specs.Props.{PropMap};
 ghost use Rattle.node_base.specs.Tree.{PathMap};
@@ -74,6 +74,7 @@ impl Repo {
         ensures head { result ≡ head_of self.now.revisions }
         ensures begun { 0 < length self.now.revisions }
         ensures few { length self.now.revisions ≤ 65536 }
+        ensures sets { length self.now.sets ≡ length self.now.revisions }
     {
         RevNo::new((self.trees.len() - 1) as u16)
     }
@@ -107,8 +108,19 @@ impl Repo {
         self.maps.get(number.index())
     }
 
-    /// The changes that made the tree of a revision; None above the head. Revision 0 has none.
+    /// The changes that made the tree of a revision, which have no fault over the trees of the revisions before it; None above
+    /// the head. Revision 0 has none.
     pub fn set(&self, number: RevNo) -> Option<&ChangeSet>
+        ensures set { option_copied result ≡ slice_get self.now.sets number }
+        ensures there { number < length self.now.revisions → IsSome result }
+        ensures makes { IfSome result (λ s. IsSomeAnd (tree_at self.now.revisions number) (Makes (take number (trees_of self.now.revisions)) s.now)) }
+    {
+        self.is_repository();
+        self.set_at(number)
+    }
+
+    // The set in that place.
+    fn set_at(&self, number: RevNo) -> Option<&ChangeSet>
         ensures { option_copied result ≡ slice_get self.now.sets number }
     {
         self.sets.get(number.index())

@@ -1,6 +1,6 @@
 //! Entries that a store takes and writes, and those that it refuses.
 
-use crate::made::{path, set_of_file};
+use crate::made::path;
 use crate::store_tests::{FIRST, SECOND, commit, is_journal, opened, refusal, second_disk};
 use dump_load::{Change, ChangeSet};
 use fleet_disk::MemDisk;
@@ -75,12 +75,6 @@ fn commit_set(alloc: Global, store: &mut RepoStore<MemDisk>, set: ChangeSet) -> 
     }
 }
 
-// A text of a byte past its limit.
-fn long_text(rt: &impl Abort, alloc: Global) -> Result<ChangeSet, Fail> {
-    let long = vec![in alloc; b'x'; 1_048_577]?;
-    Ok(set_of_file(rt, alloc, "b", &long))
-}
-
 // A source where nothing is made.
 fn odd_source(rt: &impl Abort, alloc: Global) -> Result<ChangeSet, Fail> {
     let mut changes = Vec::new(alloc);
@@ -93,7 +87,7 @@ fn odd_source(rt: &impl Abort, alloc: Global) -> Result<ChangeSet, Fail> {
             revision: RevNo::new(1),
         }),
         props: Some(Props::empty()),
-        text: Some(Text::new(alloc, Vec::new(alloc))?),
+        text: Some(Text::empty(alloc)?),
     })?;
     Ok(ChangeSet::from_changes(changes).ok_or("no set")?)
 }
@@ -110,8 +104,6 @@ fn what_a_store_refuses(rt: HostRuntime) -> Result<(), Fail> {
 #[test]
 fn what_an_entry_cant_say(rt: HostRuntime) -> Result<(), Fail> {
     let mut store = opened(rt.alloc(), second_disk(&rt, rt.alloc())?)?;
-    let long = long_text(&rt, rt.alloc())?;
-    assert_eq!(rt; commit_set(rt.alloc(), &mut store, long), 8);
     let odd = odd_source(&rt, rt.alloc())?;
     assert_eq!(rt; commit_set(rt.alloc(), &mut store, odd), 2);
     assert!(rt; is_journal(&store.into_disk(), &[FIRST, SECOND]));

@@ -49,7 +49,7 @@ pub(crate) fn change(rt: &impl Abort, alloc: Global, stated: &Stated<'_>) -> Cha
         source: source(rt, alloc, from),
         props: if plain { Some(Props::empty()) } else { None },
         text: if empty {
-            Some(Text::new(alloc, Vec::new(alloc)).expect(rt, "memory"))
+            Some(Text::empty(alloc).expect(rt, "memory"))
         } else {
             None
         },

@@ -22,7 +22,7 @@ use Rattle.dump_text.specs.declared.record.DumpRecord.{DumpRecord}
 use Rattle.dump_text.specs.declared.state.Place.{Place}
 use Rattle.dump_text.specs.declared.state.Place.TheVariants as at
 use Rattle.dump_text.specs.declared.state.ReadState.{ReadState}
-use Rattle.dump_text.specs.Streams.{Stream, Reads, Refuses, reading, stream_step, line_step, line_is, block_said, said, given, give, text_is, after_block, content, judged, sum_holds, version_line, has_failed, StreamIs}
+use Rattle.dump_text.specs.Streams.{Stream, Reads, Refuses, reading, stream_step, line_step, line_is, block_said, said, given, give, made, text_is, after_block, content, judged, sum_holds, version_line, has_failed, StreamIs}
 use Rattle.fleet_engines.specs.Refusals.{dump_refusal}
 use Rattle.fleet_engines.proofs.Feeding.{refuses_or_lacks}
 use Rattle.store_engines.specs.Devices.{is_device}
@@ -116,9 +116,13 @@ unfolding Fine
 given_fine rs r None = refl
 given_fine rs r (Some rec) = refl
 
+made_fine : (rs : List DumpRecord) (r : ReadState) (props : Option PropMap) (text : List ℕ) → Fine (made rs r props text)
+unfolding Fine
+made_fine rs r props text = if_fine (nat_lt 1048576 (length text)) _ _ refl (given_fine rs r (record_of r.head props (Some text)))
+
 text_fine : (rs : List DumpRecord) (r : ReadState) (props : Option PropMap) (text : List ℕ) → Fine (text_is rs r props text)
 unfolding Fine
-text_fine rs r props text = if_fine (sum_holds r.head.sum text) _ _ (given_fine rs r (record_of r.head props (Some text))) refl
+text_fine rs r props text = if_fine (sum_holds r.head.sum text) _ _ (made_fine rs r props text) refl
 
 after_block_fine : (rs : List DumpRecord) (r : ReadState) (props : Option PropMap) → Fine (after_block rs r props)
 unfolding Fine

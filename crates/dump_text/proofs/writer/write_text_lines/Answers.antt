@@ -15,5 +15,5 @@ returns-in_ok-write_sum g c =
     let sum = header_line (codes "Text-content-md5: ") (encode_lower (md5 c.in-Some.text)) in
     wrote_as (w c.args.out.now) (w c.write_sum.new.out) (len ++ sum) (text_lines c.args.text.now) (ap text_lines (sym c.in-Some.is))
     (join (w c.args.out.now) (w c.write.new.self) (w c.write_sum.new.out) len sum
-    (wrote_as (w c.args.out.now) (w c.write.new.self) (header_line name (printed c.len-len.result)) len (ap (λ n. header_line name (printed n)) c.len-len.ensures) c.in_ok-write.ensures.bytes)
+    (wrote_as (w c.args.out.now) (w c.write.new.self) (header_line name (printed c.len-len.result)) len (ap (λ n. header_line name (printed n)) c.len-len.ensures.len) c.in_ok-write.ensures.bytes)
     c.in_ok-write_sum.ensures)
