@@ -20,14 +20,17 @@
 #![tactic(auto)]
 
 pub use committed::Committed;
-pub use fault::StoreFault;
+pub use fault::{StoreFault, log_refusal, repo_refusal, store_refusal};
+pub use numbers::commits_in_order;
 pub use staged::Staged;
 pub use store::RepoStore;
 pub use verdicts::one_verdict;
 
+mod changes;
 mod committed;
 mod fault;
 mod form;
+mod numbers;
 mod read;
 mod replay;
 mod spell;

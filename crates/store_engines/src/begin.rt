@@ -8,10 +8,9 @@ ghost use Rattle.repo_store.specs.Journal.{IsDamaged, Keeps, KeepsAlike, Reopens
 ghost use Rattle.repo_store.specs.Words.{disk_of, identity_of, repository_of, revisions_of, HasFailed};
 ghost use Rattle.store_engines.specs.Refusals.{IsCreateRefusal, IsOpenRefusal};
 
-use crate::refusals::store_refusal;
 use fleet_disk::Disk;
 use node_base::Refusal;
-use repo_store::RepoStore;
+use repo_store::{RepoStore, store_refusal};
 use std::alloc::Global;
 use uuid::Uuid;
 

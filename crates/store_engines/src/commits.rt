@@ -10,12 +10,11 @@ ghost use Rattle.store_engines.specs.Devices.{CantKeep, IsSafe};
 ghost use Rattle.store_engines.specs.Loads.{entry_fault, ServesOne};
 ghost use Rattle.store_engines.specs.Refusals.{repo_refusal};
 
-use crate::refusals::store_refusal;
 use dump_load::ChangeSet;
 use fleet_disk::Disk;
 use node_base::{Props, Refusal};
 use repo_core::Moment;
-use repo_store::RepoStore;
+use repo_store::{RepoStore, store_refusal};
 use std::alloc::Global;
 
 /// Commits the revision after the head.

@@ -9,12 +9,11 @@ ghost use Rattle.store_engines.specs.Dumps.{dump_of, revision_now, revisions_tex
 ghost use Rattle.store_engines.specs.Ranges.{count_wanted, first_wanted, last_wanted};
 
 use crate::RevRange;
-use crate::refusals::store_refusal;
 use fleet_disk::Disk;
 use fleet_engines::Sink;
 use node_base::{Refusal, RevNo};
 use repo_core::Repo;
-use repo_store::RepoStore;
+use repo_store::{RepoStore, store_refusal};
 use std::alloc::Global;
 use std::io::Write;
 use uuid::Uuid;

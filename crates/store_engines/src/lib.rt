@@ -16,7 +16,7 @@ pub use dump::run_dump;
 pub use load::run_load;
 pub use make_dir::run_mkdir;
 pub use range::RevRange;
-pub use refusals::{log_refusal, repo_refusal, store_refusal};
+pub use repo_store::{log_refusal, repo_refusal, store_refusal};
 
 mod begin;
 mod commits;

@@ -29,7 +29,6 @@ ghost use Rattle.store_engines.specs.Refusals.{repo_refusal};
 use crate::commits::commit;
 use crate::lines::{loaded_line, say};
 use crate::mirror::refuse_mirror;
-use crate::refusals::store_refusal;
 use dump_load::{ChangeSet, load_revision};
 use dump_text::{DumpReader, DumpRecord, NodeRecord, RevRecord};
 use fleet_disk::Disk;
@@ -37,7 +36,7 @@ use fleet_engines::{Sink, Source, change_refusal, dump_refusal};
 use node_base::{Props, Refusal, RevNo};
 use path_tree::Tree;
 use repo_core::Repo;
-use repo_store::RepoStore;
+use repo_store::{RepoStore, store_refusal};
 use std::alloc::Global;
 use std::io::{Read, Write};
 

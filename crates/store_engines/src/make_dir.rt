@@ -18,14 +18,14 @@ ghost use Rattle.store_engines.specs.Refusals.{path_refusal, repo_refusal};
 use crate::commits::commit;
 use crate::lines::{committed_line, say};
 use crate::mirror::refuse_mirror;
-use crate::refusals::{path_refusal, store_refusal};
+use crate::refusals::path_refusal;
 use dump_load::{Change, ChangeSet};
 use fleet_disk::Disk;
 use fleet_engines::Sink;
 use node_base::limits::PROP_VALUE_BYTES;
 use node_base::{Action, NodeKind, NodePath, PropName, PropValue, Props, Refusal};
 use repo_core::Moment;
-use repo_store::RepoStore;
+use repo_store::{RepoStore, store_refusal};
 use std::alloc::{AllocError, Global};
 use std::io::Write;
 
