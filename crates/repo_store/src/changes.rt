@@ -25,12 +25,12 @@ use repo_core::{Entry, Expected, Moment, Repo, RepoFault};
 use std::alloc::Global;
 
 impl<D: Disk> RepoStore<D> {
-    /// Makes an entry ready, with its bytes and the journal's room for them. Nothing changes. A revision's entry has the
-    /// number after the head's.
+    /// Makes an entry ready, with its bytes and the journal's room for them. Nothing changes. A revision's entry has
+    /// the number after the head's.
     ///
-    /// Refused is any entry after a failure of the device (32); then what the repository refuses of it (21, 23, its set's
-    /// first fault, 8); then a set that no entry says (2, 8); then an entry past the journal's limit (36); and want of
-    /// memory (70).
+    /// Refused is any entry after a failure of the device (32); then what the repository refuses of it (21, 23, its
+    /// set's first fault, 8); then a set that no entry says (2, 8); then an entry past the journal's limit (36); and
+    /// want of memory (70).
     pub fn stage(&mut self, alloc: Global, entry: Entry) -> Result<Staged, StoreFault>
         requires numbered { IsNumbered (revisions_of self.old) entry }
         ensures stages { Stages entry (by_repository (revisions_of self.old) entry) self.old self.new result }
@@ -39,8 +39,8 @@ impl<D: Disk> RepoStore<D> {
         self.ready(alloc, judged)
     }
 
-    /// Makes a commit ready, as `Repo::stage_commit` does. Refused are a base above the head (21) or below it (25), and what
-    /// `stage` refuses.
+    /// Makes a commit ready, as `Repo::stage_commit` does. Refused are a base above the head (21) or below it (25), and
+    /// what `stage` refuses.
     pub fn stage_commit(
         &mut self,
         alloc: Global,
@@ -56,8 +56,8 @@ impl<D: Disk> RepoStore<D> {
         self.ready(alloc, judged)
     }
 
-    /// Makes a conditional change of one property ready, as `Repo::stage_change_prop` does. Refused are another value than
-    /// the expected one (22), and what `stage` refuses.
+    /// Makes a conditional change of one property ready, as `Repo::stage_change_prop` does. Refused are another value
+    /// than the expected one (22), and what `stage` refuses.
     pub fn stage_change_prop(
         &mut self,
         alloc: Global,
@@ -76,9 +76,9 @@ impl<D: Disk> RepoStore<D> {
         self.ready(alloc, judged)
     }
 
-    /// Writes what was staged to the disk, and takes it in; no other call of this store comes between. It needs no memory.
-    /// DeviceFailed (31) alone is answered, after which the repository in memory is as before, and on the disk it is that
-    /// or the one after the entry.
+    /// Writes what was staged to the disk, and takes it in; no other call of this store comes between. It needs no
+    /// memory. DeviceFailed (31) alone is answered, after which the repository in memory is as before, and on the disk
+    /// it is that or the one after the entry.
     pub fn install(&mut self, staged: Staged) -> Result<Receipt, StoreFault>
         requires { IsReadyFor self.old staged }
         ensures installed { Installs (entry_in staged) self.old self.new result }

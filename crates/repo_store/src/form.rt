@@ -52,8 +52,8 @@ fn all_sized(changes: &[Change]) -> bool
     true
 }
 
-/// Refused are more than 4,096 changes (8), a source where nothing is made or a part at a deletion (2), and a text past a
-/// mebibyte (8): an entry can't say them.
+/// Refused are more than 4,096 changes (8), a source where nothing is made or a part at a deletion (2), and a text past
+/// a mebibyte (8): an entry can't say them.
 pub fn judge_form(set: &ChangeSet) -> Result<(), RepoFault>
     ensures ok { OnOk result (form_fault set.now ≡ None) }
     ensures normal { OnOk result (IsNormal set.now) }

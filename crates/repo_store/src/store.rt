@@ -8,7 +8,8 @@ ghost use Rattle.fleet_disk.specs.Rules.{LeavesOnly, Rose};
 ghost use Rattle.gate_log.specs.Log.{entries_of, disk_of as log_disk, HasFailed as LogFailed};
 ghost use Rattle.gate_log.specs.Standing.{HasNoEntry};
 ghost use Rattle.repo_core.specs.Repository.{Revision, fresh};
-ghost use Rattle.repo_store.specs.Journal.{doubt_in, Tell, Keeps, KeepsOr, ReopensTo, IsDamaged, IsExport, IsBeginning, KeepsAlike};
+ghost use Rattle.repo_store.specs.Journal.{doubt_in, Tell, Keeps, KeepsOr, ReopensTo, IsDamaged, IsExport, IsBeginning};
+ghost use Rattle.repo_store.specs.Journal.{KeepsAlike};
 ghost use Rattle.repo_store.specs.Refusals.{IsCreateFault, IsOpenFault};
 ghost use Rattle.repo_store.specs.declared.fault.StoreFault.TheVariants as refusal;
 ghost use Rattle.gate_log.specs.declared.fault.LogFault.TheVariants as log;
@@ -25,8 +26,8 @@ use repo_core::{Entry, Repo, RepoFault};
 use std::alloc::{AllocError, Global};
 use uuid::Uuid;
 
-/// A repository on a disk, and in memory. Its calls that change it are `stage`, which makes an entry ready, and `install`,
-/// which writes it and takes it in; `commit`, `put_props` and `change_prop` are these two in one.
+/// A repository on a disk, and in memory. Its calls that change it are `stage`, which makes an entry ready, and
+/// `install`, which writes it and takes it in; `commit`, `put_props` and `change_prop` are these two in one.
 #[derive(Drop)]
 pub struct RepoStore<D: Disk> {
     pub(crate) log: GateLog<D>,
@@ -40,18 +41,22 @@ pub struct RepoStore<D: Disk> {
 }
 
 impl<D: Disk> RepoStore<D> {
-    ghost use Rattle.repo_store.specs.Words.{disk_of, doubt_of, repository_of, revisions_of, identity_of, HasFailed, IsKept};
+    ghost use Rattle.repo_store.specs.Words.{disk_of, doubt_of, repository_of, revisions_of, identity_of, HasFailed};
+    ghost use Rattle.repo_store.specs.Words.{IsKept};
 
-    /// Begins a repository of revision 0 alone, without properties, on a disk of two empty files; from Ok on a stop leaves
-    /// what keeps it. ThereAlready (35) where a file isn't empty, DeviceFailed (31), OutOfMemory (70); a refusal hands
-    /// the disk back. What a stop leaves before Ok isn't said.
+    /// Begins a repository of revision 0 alone, without properties, on a disk of two empty files; from Ok on a stop
+    /// leaves what keeps it. ThereAlready (35) where a file isn't empty, DeviceFailed (31), OutOfMemory (70); a refusal
+    /// hands the disk back. What a stop leaves before Ok isn't said.
     pub fn create(alloc: Global, disk: D, identity: Uuid) -> Result<RepoStore<D>, (StoreFault, D)>
         ensures made { IfOk result (λ store. repository_of store ≡ fresh identity) }
         ensures working { IfOk result (λ store. ¬ HasFailed store) }
-        ensures durable { D.honest disk → IfOk result (λ store. (image : Image) → D.may_leave (disk_of store) image → Keeps (fresh identity) image) }
+        ensures durable { D.honest disk → IfOk result (λ store. (image : Image) → D.may_leave (disk_of store) image
+            → Keeps (fresh identity) image) }
         ensures empty { D.honest disk → OnOk result (D.reads disk ≡ no_bytes) }
-        ensures there { D.honest disk → IfErr result (λ e. e.0 ≡ refusal.Log log.ThereAlready → D.reads disk ≢ no_bytes) }
-        ensures device { IfErr result (λ e. e.0 ≡ refusal.Log log.DeviceFailed → Rose (D.failures disk) (D.failures e.1)) }
+        ensures there { D.honest disk → IfErr result (λ e. e.0 ≡ refusal.Log log.ThereAlready
+            → D.reads disk ≢ no_bytes) }
+        ensures device { IfErr result (λ e. e.0 ≡ refusal.Log log.DeviceFailed
+            → Rose (D.failures disk) (D.failures e.1)) }
         ensures memory { IfErr result (λ e. e.0 ≡ refusal.Log log.OutOfMemory → e.1 ≡ disk) }
         ensures no_other { IfErr result (λ e. IsCreateFault e.0) }
         ensures honest { IfOk result (λ store. D.honest disk ↔ D.honest (disk_of store)) }
@@ -74,25 +79,31 @@ impl<D: Disk> RepoStore<D> {
         }
     }
 
-    /// Opens the repository that a disk holds, the one to which what a read gives reopens, with the sets of changes that its
-    /// entries tell: what is exported is what was exported before (`one_verdict`). NoRepository (34), Damaged (33) with the
-    /// first entry that breaks the journal's format or isn't an entry that the repository before it takes, and only there,
-    /// DeviceFailed (31), OutOfMemory (70); a refusal hands the disk back.
+    /// Opens the repository that a disk holds, the one to which what a read gives reopens, with the sets of changes
+    /// that its entries tell: what is exported is what was exported before (`one_verdict`). NoRepository (34), Damaged
+    /// (33) with the first entry that breaks the journal's format or isn't an entry that the repository before it
+    /// takes, and only there, DeviceFailed (31), OutOfMemory (70); a refusal hands the disk back.
     pub fn open(alloc: Global, disk: D) -> Result<RepoStore<D>, (StoreFault, D)>
-        ensures stands { D.honest disk → IfOk result (λ store. ReopensTo (identity_of store) (revisions_of store) (D.reads disk)) }
+        ensures stands { D.honest disk → IfOk result (λ store. ReopensTo (identity_of store) (revisions_of store)
+            (D.reads disk)) }
         ensures keeps { D.honest disk → IfOk result (λ store. Keeps (repository_of store) (D.reads disk)) }
         ensures working { IfOk result (λ store. ¬ HasFailed store) }
-        ensures durable { D.honest disk → IfOk result (λ store. (image : Image) → D.may_leave (disk_of store) image → Keeps (repository_of store) image) }
+        ensures durable { D.honest disk → IfOk result (λ store. (image : Image) → D.may_leave (disk_of store) image
+            → Keeps (repository_of store) image) }
         ensures found { D.honest disk → (identity : List ℕ) (x : List Revision) → ReopensTo identity x (D.reads disk)
             → IfOk result (λ store. (identity_of store ≡ identity) × (revisions_of store ≡ x)) }
         ensures refused { D.honest disk → (identity : List ℕ) (x : List Revision) → ReopensTo identity x (D.reads disk)
             → IfErr result (λ e. (e.0 ≡ refusal.Log log.DeviceFailed) ⊎ (e.0 ≡ refusal.Log log.OutOfMemory)) }
-        ensures damaged { D.honest disk → (entry : ℕ) → IfErr result (λ e. e.0 ≡ refusal.Log (log.Damaged entry) → IsDamaged entry (D.reads disk)) }
+        ensures damaged { D.honest disk → (entry : ℕ)
+            → IfErr result (λ e. e.0 ≡ refusal.Log (log.Damaged entry) → IsDamaged entry (D.reads disk)) }
         ensures stopped { D.honest disk → (entry : ℕ) → IsDamaged entry (D.reads disk) → IsErr result }
         ensures first { D.honest disk → (entry : ℕ) → IsDamaged entry (D.reads disk)
-            → IfErr result (λ e. (e.0 ≡ refusal.Log (log.Damaged entry)) ⊎ (e.0 ≡ refusal.Log log.DeviceFailed) ⊎ (e.0 ≡ refusal.Log log.OutOfMemory)) }
-        ensures missing { D.honest disk → IfErr result (λ e. e.0 ≡ refusal.Log log.NoRepository → HasNoEntry (D.reads disk)) }
-        ensures device { IfErr result (λ e. e.0 ≡ refusal.Log log.DeviceFailed → Rose (D.failures disk) (D.failures e.1)) }
+            → IfErr result (λ e. (e.0 ≡ refusal.Log (log.Damaged entry)) ⊎ (e.0 ≡ refusal.Log log.DeviceFailed)
+            ⊎ (e.0 ≡ refusal.Log log.OutOfMemory)) }
+        ensures missing { D.honest disk → IfErr result (λ e. e.0 ≡ refusal.Log log.NoRepository
+            → HasNoEntry (D.reads disk)) }
+        ensures device { IfErr result (λ e. e.0 ≡ refusal.Log log.DeviceFailed
+            → Rose (D.failures disk) (D.failures e.1)) }
         ensures no_other { IfErr result (λ e. IsOpenFault e.0) }
         ensures any_moment { D.honest disk → IfOk result (λ store. LeavesOnly D.clock D.left_since disk (disk_of store)
             (λ c. D.may_leave disk c ⊎ KeepsAlike (D.reads disk) c)) }
@@ -118,9 +129,11 @@ impl<D: Disk> RepoStore<D> {
     /// The repository, as its calls so far have left it.
     pub fn repo(&self) -> &Repo
         ensures value { result.now ≡ repository_of self.now }
-        ensures stands { D.honest (disk_of self.now) → ¬ HasFailed self.now → (image : Image) → D.may_leave (disk_of self.now) image
+        ensures stands { D.honest (disk_of self.now) → ¬ HasFailed self.now → (image : Image)
+            → D.may_leave (disk_of self.now) image
             → ReopensTo (identity_of self.now) (revisions_of self.now) image }
-        ensures keeps { D.honest (disk_of self.now) → ¬ HasFailed self.now → (image : Image) → D.may_leave (disk_of self.now) image
+        ensures keeps { D.honest (disk_of self.now) → ¬ HasFailed self.now → (image : Image)
+            → D.may_leave (disk_of self.now) image
             → Keeps (repository_of self.now) image }
         ensures kept { IsKept self.now }
         ensures doubted { HasFailed self.now ↔ IsTrue (is_some (doubt_of self.now)) }
@@ -129,7 +142,8 @@ impl<D: Disk> RepoStore<D> {
         &self.repo
     }
 
-    /// The device failed in a call of this store: each changing call answers Failed (32) until the disk is opened again.
+    /// The device failed in a call of this store: each changing call answers Failed (32) until the disk is opened
+    /// again.
     pub fn has_failed(&self) -> bool
         ensures { IsTrue result ↔ HasFailed self.now }
     {
@@ -158,11 +172,12 @@ impl<D: Disk> RepoStore<D> {
         log.into_disk()
     }
 
-    /// The canonical dump text of a revision, with the properties that it has now: its record, and the nodes of its set.
-    /// NoSuchRevision (21) above the head, OutOfMemory (70).
+    /// The canonical dump text of a revision, with the properties that it has now: its record, and the nodes of its
+    /// set. NoSuchRevision (21) above the head, OutOfMemory (70).
     pub fn export(&self, alloc: Global, number: RevNo) -> Result<Vec<u8>, StoreFault>
         ensures canonical { IfOk result (λ bytes. IsExport (repository_of self.now) number bytes.items) }
-        ensures refused { IfErr result (λ e. ((e ≡ refusal.Repo core.NoSuchRevision) × (length (revisions_of self.now) ≤ number)) ⊎ (e ≡ refusal.Log log.OutOfMemory)) }
+        ensures refused { IfErr result (λ e. ((e ≡ refusal.Repo core.NoSuchRevision)
+            × (length (revisions_of self.now) ≤ number)) ⊎ (e ≡ refusal.Log log.OutOfMemory)) }
     {
         self.repo.is_repository();
         let Some(props) = self.repo.props(number) else {

@@ -100,7 +100,8 @@ of_result (Err f) = f
 pub fault_in : {T : Type 0} (f g : StoreFault) → IsErrOf {T = T} (Err f) g → f ≡ g
 fault_in f g e = ap of_result e
 
-no_failure_before : Log log.DeviceFailed ≡ Log log.Failed → ⊥
+-- a device that fails hasn't failed before
+pub no_failure_before : Log log.DeviceFailed ≡ Log log.Failed → ⊥
 no_failure_before e = let n : ◌≡◌ {A = ℕ} 31 32 = ap (λ f. refusal_number (store_refusal f)) e in let no : ⊥ = omega (arith, n) in no
 
 -- ---- on the way

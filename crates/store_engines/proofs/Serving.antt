@@ -30,10 +30,11 @@ use Rattle.repo_core.specs.Entries.{revisions_after, with_entry, with_entry_in}
 use Rattle.repo_core.specs.Repository.{Repository, Revision, trees_of}
 use Rattle.repo_core.specs.declared.entry.Entry.{Entry}
 use Rattle.repo_core.specs.declared.entry.Entry.TheVariants.{Revised}
+use Rattle.repo_core.specs.declared.fault.RepoFault.{RepoFault}
 use Rattle.node_base.specs.Path.{Path}
 use Rattle.node_base.specs.declared.fault.PathFault.{PathFault}
 use Rattle.repo_store.specs.Journal.{Keeps, IsBeforeOrAfter}
-use Rattle.repo_store.specs.Changes.{IsBroken, IsRefused, IsTaken, Refuses, Stays}
+use Rattle.repo_store.specs.Changes.{IsBroken, IsRefused, IsTaken, Refuses as RefusesEntry, Stays}
 use Rattle.repo_store.specs.Words.{disk_of, log_of, revisions_of, repository_of, HasFailed}
 use Rattle.repo_store.specs.declared.store.RepoStore.{RepoStore}
 use Rattle.repo_store.specs.declared.fault.StoreFault.{StoreFault}
@@ -113,7 +114,7 @@ module _ {D : Type 0} {G : Ghosts D} where
   took_one a b entry only t = record { serves = took a b entry only t; one = inl refl }
 
   -- an entry is refused
-  pub refused_one : (one : Entry) (a b : RepoStore D G) (entry : Entry) (due : Option RepoFault) (fault : StoreFault) → Stays a b → Refuses a entry due fault → IsSafe a → ServesOne one a b (Err (store_refusal fault))
+  pub refused_one : (one : Entry) (a b : RepoStore D G) (entry : Entry) (due : Option RepoFault) (fault : StoreFault) → Stays a b → RefusesEntry a entry due fault → IsSafe a → ServesOne one a b (Err (store_refusal fault))
   refused_one one a b entry due fault s why safe = record { serves = refused a b entry due fault s why safe; one = inr (refl, refl) }
 
   -- or the device fails

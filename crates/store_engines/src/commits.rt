@@ -25,11 +25,17 @@ pub fn commit<D: Disk + Drop>(
     props: Props,
     moment: Option<Moment>,
 ) -> Result<(), Refusal>
-    ensures ok { OnOk result (repository_of store.new ≡ with_entry_in (repository_of store.old) (Revised (length (revisions_of store.old)) set (dated props moment))) }
-    ensures taken { OnOk result (entry_fault (revisions_of store.old) (Revised (length (revisions_of store.old)) set (dated props moment)) ≡ None) }
+    ensures ok { OnOk result (repository_of store.new ≡ with_entry_in (repository_of store.old)
+        (Revised (length (revisions_of store.old)) set (dated props moment))) }
+    ensures taken { OnOk result (entry_fault (revisions_of store.old)
+        (Revised (length (revisions_of store.old)) set (dated props moment)) ≡ None) }
     ensures same { OnErr result (repository_of store.new ≡ repository_of store.old) }
-    ensures refused { IfErr result (λ e. (e ≡ Refusal.OutOfMemory) ⊎ CantKeep store.new (Revised (length (revisions_of store.old)) set (dated props moment)) e ⊎ ((f : RepoFaultOf) × IsDue f (entry_fault (revisions_of store.old) (Revised (length (revisions_of store.old)) set (dated props moment))) × (e ≡ repo_refusal f))) }
-    ensures device { IsSafe store.old → ServesOne (Revised (length (revisions_of store.old)) set (dated props moment)) store.old store.new result }
+    ensures refused { IfErr result (λ e. (e ≡ Refusal.OutOfMemory)
+        ⊎ CantKeep store.new (Revised (length (revisions_of store.old)) set (dated props moment)) e
+        ⊎ ((f : RepoFaultOf) × IsDue f (entry_fault (revisions_of store.old)
+        (Revised (length (revisions_of store.old)) set (dated props moment))) × (e ≡ repo_refusal f))) }
+    ensures device { IsSafe store.old → ServesOne (Revised (length (revisions_of store.old)) set (dated props moment))
+        store.old store.new result }
     ensures no_peer { IfErr result (λ e. e ≡ Refusal.PeerFailed → ⊥) }
 {
     let head = store.repo().head();

@@ -19,7 +19,7 @@ returns-in-Ok-clause-taken g c =
     let x = revisions_of c.args.store.now in
     let entry = Revised (length x) c.args.set (dated c.args.props c.args.moment) in
     let base = c.head-head.ensures.head ∙ ap (λ (r : Repository). head_of r.revisions) c.repo.ensures.value in
-    (subst (λ b. Changes entry (commit_fault x b entry) c.args.store.now c.commit.new.self (Ok _)) base c.in-Ok.ensures.change).0
+    (subst (λ b. Changes {T = Committed} entry (commit_fault x b entry) c.args.store.now c.commit.new.self (Ok c.in-Ok._committed)) base c.in-Ok.ensures.change).0
 
 pub returns-in-Ok-clause-device : goal.returns-in-Ok-clause-device
 returns-in-Ok-clause-device g c safe =

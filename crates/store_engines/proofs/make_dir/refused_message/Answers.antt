@@ -36,5 +36,7 @@ returns-in-Err-clause-same g c = c.in-Err.ensures.stages.0.repository
 
 pub returns-in-Err-clause-device : goal.returns-in-Err-clause-device
 returns-in-Err-clause-device g c entry safe =
+    let x = revisions_of c.args.store.now in
+    let bare = Revised (length x) c.args.set (dated c.empty.result (Some c.args.moment)) in
     let s = c.in-Err.ensures.stages in
-    rw c.store_refusal.ensures.value (refused_one entry c.args.store.now c.stage_commit.new.self _ _ c.in-Err.fault s.0 s.1 safe)
+    rw c.store_refusal.ensures.value (refused_one entry c.args.store.now c.stage_commit.new.self bare _ c.in-Err.fault s.0 s.1 safe)
