@@ -1,16 +1,19 @@
 //! The command line.
-ghost use Rattle.std.specs.Prelude.{◌≡◌, ◌≤◌, ◌++◌, ℕ, List, [], Option, IfNone, IfOk, IfErr, IfSome, Some, None, map, false, IsTrue, ◌↔◌, string_bytes, codes};
+ghost use Rattle.std.specs.Prelude.{◌≡◌, ◌≤◌, ◌++◌, ℕ, List, [], Option, IfNone, IfOk, IfErr, IfSome, Some, None, map};
+ghost use Rattle.std.specs.Prelude.{false, IsTrue, ◌↔◌, string_bytes, codes};
 ghost use Rattle.std.specs.Option.{option_map};
 ghost use Rattle.clap.specs.Faults.{fault_of};
 ghost use Rattle.clap.specs.Kinds.{FailsBy};
 ghost use Rattle.clap.specs.Values.{kind_of};
-ghost use Rattle.clap.specs.Words.{Row, app_of, first_of, found_of, rows_of, rule_of, subcommand_of, subcommand_rows_of};
+ghost use Rattle.clap.specs.Words.{Row, app_of, first_of, found_of, rows_of, rule_of, subcommand_of};
+ghost use Rattle.clap.specs.Words.{subcommand_rows_of};
 ghost use Rattle.clap.specs.declared.builder.command.Command.TheViews.{out-Command as fields_of};
 ghost use Rattle.fleet_main.specs.Lines.{HasNoLineFeed, IsLineOf, first_lines, help_of, without_label};
 ghost use Rattle.fleet_main.specs.Terminal.{HasNoControl};
 ghost use Rattle.fleet_main.specs.Usages.{IsRefusedAt, IsTold, IsUsageAt, IsUsageOf};
 ghost use Rattle.fleet_main.specs.Values.{HasReturn, HasValue, IsCommandOf, SpellsMicros, SpellsRange, identity_read};
-ghost use Rattle.fleet_main.specs.Words.{canon_app, create_app, dump_app, folders_app, list_app, load_app, mkdir_app, mkdir_place_app, named_rule, range_rule, streams_app, svnfleet_app, word_rule};
+ghost use Rattle.fleet_main.specs.Words.{canon_app, create_app, dump_app, folders_app, list_app, load_app, mkdir_app};
+ghost use Rattle.fleet_main.specs.Words.{mkdir_place_app, named_rule, range_rule, streams_app, svnfleet_app, word_rule};
 ghost use Rattle.node_base.specs.Numbers.{rev_read};
 ghost use Rattle.repo_core.specs.Dates.{IsMoment};
 ghost use Rattle.store_engines.specs.Ranges.{first_in, last_in};
@@ -260,13 +263,16 @@ fn svnfleet<'a>(alloc: Global) -> Result<clap::Command<'a>, AllocError>
     Ok(whole)
 }
 
-/// The command that the words name, the program's name first, with the values that they give it. Usage where they name none: help
-/// or the version only where it was asked for, and else what is wrong, in the words or in the value of an identity, a range, a
-/// moment or a message, in one line without control characters that names the help of the command at hand.
+/// The command that the words name, the program's name first, with the values that they give it. Usage where they name
+/// none: help or the version only where it was asked for, and else what is wrong, in the words or in the value of an
+/// identity, a range, a moment or a message, in one line without control characters that names the help of the command
+/// at hand.
 pub fn plan(alloc: Global, words: &[String]) -> Result<Command, Usage>
     ensures named { IfOk result (IsCommandOf (subcommand_of svnfleet_app (map string_bytes words.now))) }
     ensures faultless { IfOk result (λ _. fault_of svnfleet_app (map string_bytes words.now) ≡ []) }
-    ensures usage { IfErr result (IsUsageAt (help_of (map string_bytes words.now)) (fault_of svnfleet_app (map string_bytes words.now)) (subcommand_of svnfleet_app (map string_bytes words.now))) }
+    ensures usage { IfErr result (IsUsageAt (help_of (map string_bytes words.now))
+        (fault_of svnfleet_app (map string_bytes words.now)) (subcommand_of svnfleet_app
+        (map string_bytes words.now))) }
 {
     match matches_of(alloc, words) {
         Ok(matches) => named(alloc, &matches),
@@ -457,8 +463,10 @@ fn range_of(value: &str) -> Option<RevRange>
 }
 
 fn range_between(low: &str, high: &str) -> Option<RevRange>
-    ensures some { IfSome result (λ r. (rev_read low.now ≡ Some (first_in r)) × (rev_read high.now ≡ Some (last_in r)) × (first_in r ≤ last_in r)) }
-    ensures none { IfNone result ((lo hi : ℕ) → rev_read low.now ≡ Some lo → rev_read high.now ≡ Some hi → lo ≤ hi → ⊥) }
+    ensures some { IfSome result (λ r. (rev_read low.now ≡ Some (first_in r)) × (rev_read high.now ≡ Some (last_in r))
+        × (first_in r ≤ last_in r)) }
+    ensures none { IfNone result ((lo hi : ℕ) → rev_read low.now ≡ Some lo → rev_read high.now ≡ Some hi → lo ≤ hi
+        → ⊥) }
 {
     let first = RevNo::parse(low.as_bytes())?;
     let last = RevNo::parse(high.as_bytes())?;

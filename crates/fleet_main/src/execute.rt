@@ -7,7 +7,8 @@ ghost use Rattle.node_base.specs.Refusals.{fault_line};
 ghost use Rattle.repo_store.specs.Journal.{Keeps};
 ghost use Rattle.repo_store.specs.Words.{disk_of, repository_of, HasFailed};
 ghost use Rattle.fleet_engines.specs.Runs.{BothFlagged, Flagged};
-ghost use Rattle.fleet_main.specs.Doing.{EndsWith, HandsOn, IsBegun, IsCommittedTo, IsDone, IsDumped, IsLoadedFrom, IsNotDone, NotCommittedTo, NotDumped, NotLoadedFrom, OfStanding, UnopenedOr};
+ghost use Rattle.fleet_main.specs.Doing.{EndsWith, HandsOn, IsBegun, IsCommittedTo, IsDone, IsDumped, IsLoadedFrom};
+ghost use Rattle.fleet_main.specs.Doing.{IsNotDone, NotCommittedTo, NotDumped, NotLoadedFrom, OfStanding, UnopenedOr};
 ghost use Rattle.fleet_main.specs.Opening.{DiskFails, NotBegun};
 
 use crate::command_line::Command;
@@ -27,7 +28,8 @@ const REFUSED: u8 = 1;
 
 // What a stop leaves now keeps the repository.
 fn kept<D: Disk + Drop>(store: &RepoStore<D>)
-    ensures { D.honest (disk_of store.now) → ¬ HasFailed store.now → (left : Image) → D.may_leave (disk_of store.now) left → Keeps (repository_of store.now) left }
+    ensures { D.honest (disk_of store.now) → ¬ HasFailed store.now → (left : Image)
+        → D.may_leave (disk_of store.now) left → Keeps (repository_of store.now) left }
 {
     let _repo = store.repo();
 }
@@ -39,7 +41,8 @@ fn create<F: Folders>(
     identity: Uuid,
 ) -> Result<(), Refusal>
     ensures done { OnOk result (IsBegun F.Place.Disk (F.honest folders.old) (F.holds folders.old folder.now) identity) }
-    ensures refused { IfErr result (NotBegun (DiskFails F.Place.failures (F.failures folders.old) (F.failures folders.new)) (F.honest folders.old) (F.holds folders.old folder.now)) }
+    ensures refused { IfErr result (NotBegun (DiskFails F.Place.failures (F.failures folders.old)
+        (F.failures folders.new)) (F.honest folders.old) (F.holds folders.old folder.now)) }
     ensures no_peer { IfErr result (λ e. e ≡ Refusal.PeerFailed → ⊥) }
 {
     match created(alloc, folders, folder, identity) {
@@ -58,8 +61,14 @@ fn load<F: Folders, R: Read + Drop, W: Write + Drop>(
     input: &mut Source<R>,
     output: &mut Sink<W>,
 ) -> Result<(), Refusal>
-    ensures done { OnOk result (OfStanding F.Place.Disk (F.honest folders.old) (F.holds folders.old folder.now) (IsLoadedFrom (F.honest folders.old) (R.remaining input.old.inner) (W.contents output.old.inner) (W.contents output.new.inner))) }
-    ensures refused { IfErr result (λ e. UnopenedOr F.Place.Disk (DiskFails F.Place.failures (F.failures folders.old) (F.failures folders.new)) (F.honest folders.old) folder.now (F.holds folders.old folder.now) (W.contents output.old.inner) (W.contents output.new.inner) e (NotLoadedFrom (F.honest folders.old) (R.remaining input.old.inner) (W.contents output.old.inner) (W.contents output.new.inner) output.new.failed e)) }
+    ensures done { OnOk result (OfStanding F.Place.Disk (F.honest folders.old) (F.holds folders.old folder.now)
+        (IsLoadedFrom (F.honest folders.old) (R.remaining input.old.inner) (W.contents output.old.inner)
+        (W.contents output.new.inner))) }
+    ensures refused { IfErr result (λ e. UnopenedOr F.Place.Disk
+        (DiskFails F.Place.failures (F.failures folders.old) (F.failures folders.new)) (F.honest folders.old) folder.now
+        (F.holds folders.old folder.now) (W.contents output.old.inner) (W.contents output.new.inner) e
+        (NotLoadedFrom (F.honest folders.old) (R.remaining input.old.inner) (W.contents output.old.inner)
+        (W.contents output.new.inner) output.new.failed e)) }
     ensures peer { BothFlagged result input.old.failed input.new.failed output.old.failed output.new.failed }
 {
     match opened(alloc, folders, folder) {
@@ -80,8 +89,13 @@ fn dump<F: Folders, W: Write + Drop>(
     range: Option<RevRange>,
     output: &mut Sink<W>,
 ) -> Result<(), Refusal>
-    ensures done { OnOk result (OfStanding F.Place.Disk (F.honest folders.old) (F.holds folders.old folder.now) (IsDumped (F.honest folders.old) range (W.contents output.old.inner) (W.contents output.new.inner))) }
-    ensures refused { IfErr result (λ e. UnopenedOr F.Place.Disk (DiskFails F.Place.failures (F.failures folders.old) (F.failures folders.new)) (F.honest folders.old) folder.now (F.holds folders.old folder.now) (W.contents output.old.inner) (W.contents output.new.inner) e (NotDumped (F.honest folders.old) range (W.contents output.old.inner) (W.contents output.new.inner) output.new.failed e)) }
+    ensures done { OnOk result (OfStanding F.Place.Disk (F.honest folders.old) (F.holds folders.old folder.now)
+        (IsDumped (F.honest folders.old) range (W.contents output.old.inner) (W.contents output.new.inner))) }
+    ensures refused { IfErr result (λ e. UnopenedOr F.Place.Disk
+        (DiskFails F.Place.failures (F.failures folders.old) (F.failures folders.new)) (F.honest folders.old) folder.now
+        (F.holds folders.old folder.now) (W.contents output.old.inner) (W.contents output.new.inner) e
+        (NotDumped (F.honest folders.old) range (W.contents output.old.inner) (W.contents output.new.inner)
+        output.new.failed e)) }
     ensures peer { Flagged result output.old.failed output.new.failed }
 {
     match opened(alloc, folders, folder) {
@@ -102,8 +116,14 @@ fn make_dir<F: Folders, W: Write + Drop>(
     moment: Moment,
     output: &mut Sink<W>,
 ) -> Result<(), Refusal>
-    ensures done { OnOk result (OfStanding F.Place.Disk (F.honest folders.old) (F.holds folders.old folder.now) (IsCommittedTo (F.honest folders.old) path.now message.now moment (W.contents output.old.inner) (W.contents output.new.inner))) }
-    ensures refused { IfErr result (λ e. UnopenedOr F.Place.Disk (DiskFails F.Place.failures (F.failures folders.old) (F.failures folders.new)) (F.honest folders.old) folder.now (F.holds folders.old folder.now) (W.contents output.old.inner) (W.contents output.new.inner) e (NotCommittedTo (F.honest folders.old) path.now message.now moment (W.contents output.old.inner) (W.contents output.new.inner) output.new.failed e)) }
+    ensures done { OnOk result (OfStanding F.Place.Disk (F.honest folders.old) (F.holds folders.old folder.now)
+        (IsCommittedTo (F.honest folders.old) path.now message.now moment (W.contents output.old.inner)
+        (W.contents output.new.inner))) }
+    ensures refused { IfErr result (λ e. UnopenedOr F.Place.Disk
+        (DiskFails F.Place.failures (F.failures folders.old) (F.failures folders.new)) (F.honest folders.old) folder.now
+        (F.holds folders.old folder.now) (W.contents output.old.inner) (W.contents output.new.inner) e
+        (NotCommittedTo (F.honest folders.old) path.now message.now moment (W.contents output.old.inner)
+        (W.contents output.new.inner) output.new.failed e)) }
     ensures peer { Flagged result output.old.failed output.new.failed }
 {
     match opened(alloc, folders, folder) {
@@ -125,8 +145,11 @@ fn run_one<F: Folders, R: Read + Drop, W: Write + Drop>(
     input: &mut Source<R>,
     output: &mut Sink<W>,
 ) -> Result<(), Refusal>
-    ensures done { OnOk result (IsDone F.Place.Disk (F.honest folders.old) (F.holds folders.old) command (R.remaining input.old.inner) (W.contents output.old.inner) (W.contents output.new.inner)) }
-    ensures refused { IfErr result (IsNotDone F.Place.Disk (DiskFails F.Place.failures (F.failures folders.old) (F.failures folders.new)) (F.honest folders.old) (F.holds folders.old) command (R.remaining input.old.inner) (W.contents output.old.inner) (W.contents output.new.inner) output.new.failed) }
+    ensures done { OnOk result (IsDone F.Place.Disk (F.honest folders.old) (F.holds folders.old) command
+        (R.remaining input.old.inner) (W.contents output.old.inner) (W.contents output.new.inner)) }
+    ensures refused { IfErr result (IsNotDone F.Place.Disk (DiskFails F.Place.failures (F.failures folders.old)
+        (F.failures folders.new)) (F.honest folders.old) (F.holds folders.old) command (R.remaining input.old.inner)
+        (W.contents output.old.inner) (W.contents output.new.inner) output.new.failed) }
     ensures peer { BothFlagged result input.old.failed input.new.failed output.old.failed output.new.failed }
 {
     match command {
@@ -160,8 +183,13 @@ fn run_flushed<F: Folders, R: Read + Drop, W: Write + Drop>(
     input: &mut Source<R>,
     output: &mut Sink<W>,
 ) -> Result<(), Refusal>
-    ensures done { OnOk result (HandsOn (IsDone F.Place.Disk (F.honest folders.old) (F.holds folders.old) command (R.remaining input.old.inner) (W.contents output.old.inner)) (W.contents output.new.inner)) }
-    ensures refused { IfErr result (EndsWith (IsDone F.Place.Disk (F.honest folders.old) (F.holds folders.old) command (R.remaining input.old.inner) (W.contents output.old.inner)) (IsNotDone F.Place.Disk (DiskFails F.Place.failures (F.failures folders.old) (F.failures folders.new)) (F.honest folders.old) (F.holds folders.old) command (R.remaining input.old.inner) (W.contents output.old.inner)) (W.contents output.new.inner) output.new.failed) }
+    ensures done { OnOk result (HandsOn (IsDone F.Place.Disk (F.honest folders.old) (F.holds folders.old) command
+        (R.remaining input.old.inner) (W.contents output.old.inner)) (W.contents output.new.inner)) }
+    ensures refused { IfErr result (EndsWith (IsDone F.Place.Disk (F.honest folders.old) (F.holds folders.old) command
+        (R.remaining input.old.inner) (W.contents output.old.inner))
+        (IsNotDone F.Place.Disk (DiskFails F.Place.failures (F.failures folders.old) (F.failures folders.new))
+        (F.honest folders.old) (F.holds folders.old) command (R.remaining input.old.inner)
+        (W.contents output.old.inner)) (W.contents output.new.inner) output.new.failed) }
     ensures unfailed { OnOk result ((input.new.failed ≡ input.old.failed) × (output.new.failed ≡ output.old.failed)) }
     ensures peer { IfErr result (λ e. e ≡ Refusal.PeerFailed → (input.new.failed || output.new.failed) ≡ true) }
 {
@@ -173,11 +201,11 @@ fn run_flushed<F: Folders, R: Read + Drop, W: Write + Drop>(
     }
 }
 
-/// Runs a command over folders. The status is 0 where it is done and what it wrote is handed on, or 1 where it was refused, and
-/// then the refusal's line is on `errors`. What was written before a refusal is flushed before its line.
+/// Runs a command over folders. The status is 0 where it is done and what it wrote is handed on, or 1 where it was
+/// refused, and then the refusal's line is on `errors`. What was written before a refusal is flushed before its line.
 ///
-/// Of honest folders it says besides what repository the folder's files kept, what the command made of it, and what a stop
-/// leaves: after a `create` that is done, and at each moment of the others.
+/// Of honest folders it says besides what repository the folder's files kept, what the command made of it, and what a
+/// stop leaves: after a `create` that is done, and at each moment of the others.
 pub fn run<F: Folders, R: Read + Drop, W: Write + Drop, E: Write + Drop>(
     alloc: Global,
     folders: &mut F,
@@ -187,10 +215,19 @@ pub fn run<F: Folders, R: Read + Drop, W: Write + Drop, E: Write + Drop>(
     errors: &mut Sink<E>,
 ) -> u8
     ensures status { (result ≡ 0) ⊎ (result ≡ 1) }
-    ensures done { result ≡ 0 → HandsOn (IsDone F.Place.Disk (F.honest folders.old) (F.holds folders.old) command (R.remaining input.old.inner) (W.contents output.old.inner)) (W.contents output.new.inner) }
+    ensures done { result ≡ 0 → HandsOn (IsDone F.Place.Disk (F.honest folders.old) (F.holds folders.old) command
+        (R.remaining input.old.inner) (W.contents output.old.inner)) (W.contents output.new.inner) }
     ensures unfailed { result ≡ 0 → (input.new.failed ≡ input.old.failed) × (output.new.failed ≡ output.old.failed) }
     ensures silent { result ≡ 0 → E.contents errors.new.inner ≡ E.contents errors.old.inner }
-    ensures refused { result ≡ 1 → (e : RefusalOf) × EndsWith (IsDone F.Place.Disk (F.honest folders.old) (F.holds folders.old) command (R.remaining input.old.inner) (W.contents output.old.inner)) (IsNotDone F.Place.Disk (DiskFails F.Place.failures (F.failures folders.old) (F.failures folders.new)) (F.honest folders.old) (F.holds folders.old) command (R.remaining input.old.inner) (W.contents output.old.inner)) (W.contents output.new.inner) output.new.failed e × (e ≡ Refusal.PeerFailed → (input.new.failed || output.new.failed) ≡ true) × ((errors.new.failed ≡ true) ⊎ Appends (E.contents errors.old.inner) (E.contents errors.new.inner) (fault_line e)) }
+    ensures refused { result ≡ 1 → (e : RefusalOf)
+        × EndsWith (IsDone F.Place.Disk (F.honest folders.old) (F.holds folders.old) command
+        (R.remaining input.old.inner) (W.contents output.old.inner))
+        (IsNotDone F.Place.Disk (DiskFails F.Place.failures (F.failures folders.old) (F.failures folders.new))
+        (F.honest folders.old) (F.holds folders.old) command (R.remaining input.old.inner)
+        (W.contents output.old.inner)) (W.contents output.new.inner) output.new.failed e
+        × (e ≡ Refusal.PeerFailed → (input.new.failed || output.new.failed) ≡ true)
+        × ((errors.new.failed ≡ true) ⊎ Appends (E.contents errors.old.inner) (E.contents errors.new.inner)
+        (fault_line e)) }
 {
     match run_flushed(alloc, folders, command, input, output) {
         Ok(()) => 0,
@@ -201,7 +238,8 @@ pub fn run<F: Folders, R: Read + Drop, W: Write + Drop, E: Write + Drop>(
 // A line that can't be written is lost: the status tells.
 fn refused<E: Write + Drop>(refusal: &Refusal, errors: &mut Sink<E>) -> u8
     ensures status { result ≡ 1 }
-    ensures line { (errors.new.failed ≡ true) ⊎ Appends (E.contents errors.old.inner) (E.contents errors.new.inner) (fault_line refusal.now) }
+    ensures line { (errors.new.failed ≡ true)
+        ⊎ Appends (E.contents errors.old.inner) (E.contents errors.new.inner) (fault_line refusal.now) }
 {
     match errors.line(refusal) {
         Ok(()) => REFUSED,

@@ -1,5 +1,6 @@
 //! Folders, each the place of a repository.
-ghost use Rattle.std.specs.Prelude.{◌≡◌, ◌≢◌, ◌↔◌, ◌⊎◌, ℕ, List, Some, None, Ok, Err, IfOk, IfErr, IsErrAnd, OnErr, OnOk};
+ghost use Rattle.std.specs.Prelude.{◌≡◌, ◌≢◌, ◌↔◌, ◌⊎◌, ℕ, List, Some, None, Ok, Err, IfOk, IfErr, IsErrAnd, OnErr};
+ghost use Rattle.std.specs.Prelude.{OnOk};
 ghost use Rattle.fleet_disk.specs.Host.{failures_of, HasBytes, HasFiles};
 ghost use Rattle.fleet_disk.specs.Image.{Image, no_bytes};
 ghost use Rattle.fleet_disk.specs.Rules.{Rose};
@@ -33,8 +34,8 @@ pub enum FolderFault {
 
 /// Where folders are, each of them the place of a disk.
 ///
-/// What the clauses say of bytes holds of honest folders. A folder gives no disk only where the count of failures rose, or
-/// where memory ran out, honest or not.
+/// What the clauses say of bytes holds of honest folders. A folder gives no disk only where the count of failures rose,
+/// or where memory ran out, honest or not.
 pub trait Folders {
     /// The disk of a folder.
     type Place: Disk + Drop;
@@ -52,20 +53,22 @@ pub trait Folders {
     fn open(&mut self, alloc: Global, folder: &str) -> Result<Self::Place, FolderFault>
         ensures honest { honest self.old → IfOk result (λ disk. Self.Place.honest disk) }
         ensures reads { honest self.old → IfOk result (λ disk. Self.Place.reads disk ≡ holds self.old folder.now) }
-        ensures cause { IfErr result (λ e. e ≡ FolderFault.DeviceFailed → Rose (failures self.old) (failures self.new)) };
+        ensures cause { IfErr result (λ e. e ≡ FolderFault.DeviceFailed
+            → Rose (failures self.old) (failures self.new)) };
 
-    /// The same of a folder that is made where it is missing, as its files are where they are empty; the folder above has to be
-    /// there.
+    /// The same of a folder that is made where it is missing, as its files are where they are empty; the folder above
+    /// has to be there.
     fn create(&mut self, alloc: Global, folder: &str) -> Result<Self::Place, FolderFault>
         ensures honest { honest self.old → IfOk result (λ disk. Self.Place.honest disk) }
         ensures reads { honest self.old → IfOk result (λ disk. Self.Place.reads disk ≡ holds self.old folder.now) }
-        ensures cause { IfErr result (λ e. e ≡ FolderFault.DeviceFailed → Rose (failures self.old) (failures self.new)) };
+        ensures cause { IfErr result (λ e. e ≡ FolderFault.DeviceFailed
+            → Rose (failures self.old) (failures self.new)) };
 }
 
 /// The folders of the host.
 ///
-/// That their disks keep the rules is a premise that no contract shows, so what is said of honest folders is said of these
-/// under that premise alone.
+/// That their disks keep the rules is a premise that no contract shows, so what is said of honest folders is said of
+/// these under that premise alone.
 #[derive(Drop)]
 pub struct HostFolders<'a, R> {
     rt: &'a R,
@@ -182,8 +185,10 @@ pub fn created<F: Folders>(
     ensures working { IfOk result (λ store. ¬ HasFailed store) }
     ensures honest { F.honest folders.old → IfOk result (λ store. F.Place.honest (disk_of store)) }
     ensures empty { F.honest folders.old → IfOk result (λ _. F.holds folders.old folder.now ≡ no_bytes) }
-    ensures durable { F.honest folders.old → IfOk result (λ store. (left : Image) → F.Place.may_leave (disk_of store) left → Keeps (fresh identity) left) }
-    ensures refused { IfErr result (NotBegun (DiskFails F.Place.failures (F.failures folders.old) (F.failures folders.new)) (F.honest folders.old) (F.holds folders.old folder.now)) }
+    ensures durable { F.honest folders.old
+        → IfOk result (λ store. (left : Image) → F.Place.may_leave (disk_of store) left → Keeps (fresh identity) left) }
+    ensures refused { IfErr result (NotBegun (DiskFails F.Place.failures (F.failures folders.old)
+        (F.failures folders.new)) (F.honest folders.old) (F.holds folders.old folder.now)) }
     ensures no_peer { IfErr result (λ e. e ≡ Refusal.PeerFailed → ⊥) }
 {
     match folders.create(alloc, folder) {
@@ -192,17 +197,19 @@ pub fn created<F: Folders>(
     }
 }
 
-/// Opens the repository of a folder, with the sets of changes that its entries tell. NoRepository (34) where the folder has no
-/// name or no entry is in its files, Damaged (33) with the first entry that is, DeviceFailed (31) where the host or the
-/// folder's disk fails, OutOfMemory (70).
+/// Opens the repository of a folder, with the sets of changes that its entries tell. NoRepository (34) where the folder
+/// has no name or no entry is in its files, Damaged (33) with the first entry that is, DeviceFailed (31) where the host
+/// or the folder's disk fails, OutOfMemory (70).
 pub fn opened<F: Folders>(
     alloc: Global,
     folders: &mut F,
     folder: &str,
 ) -> Result<RepoStore<F::Place>, Refusal>
-    ensures stands { F.honest folders.old → IfOk result (λ store. ReopensTo (identity_of store) (revisions_of store) (F.holds folders.old folder.now)) }
+    ensures stands { F.honest folders.old
+        → IfOk result (λ store. ReopensTo (identity_of store) (revisions_of store) (F.holds folders.old folder.now)) }
     ensures opened { IfOk result (IsOpenedIn F.Place.Disk (F.honest folders.old) (F.holds folders.old folder.now)) }
-    ensures refused { IfErr result (NotOpened (DiskFails F.Place.failures (F.failures folders.old) (F.failures folders.new)) (F.honest folders.old) folder.now (F.holds folders.old folder.now)) }
+    ensures refused { IfErr result (NotOpened (DiskFails F.Place.failures (F.failures folders.old)
+        (F.failures folders.new)) (F.honest folders.old) folder.now (F.holds folders.old folder.now)) }
     ensures no_peer { IfErr result (λ e. e ≡ Refusal.PeerFailed → ⊥) }
 {
     if folder.is_empty() {

@@ -5,8 +5,8 @@ ghost use Rattle.fleet_main.specs.Lines.{commands, help_of};
 
 use std::alloc::{AllocError, Global};
 
-/// The words whose help tells more: those of a command where the first word, behind the program's name, names one, else the
-/// program's name.
+/// The words whose help tells more: those of a command where the first word, behind the program's name, names one, else
+/// the program's name.
 pub fn help_of(alloc: Global, words: &[String]) -> Result<String, AllocError>
     ensures { IfOk result (λ help. string_bytes help ≡ help_of (map string_bytes words.now)) }
 {

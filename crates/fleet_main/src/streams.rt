@@ -1,9 +1,9 @@
 //! The standard streams of a process that was started without one of them.
 //!
-//! A process knows its open files by numbers, of which 0 to 2 are its standard streams, and the host gives a file that is opened
-//! the lowest number that is free. So a process that is started with one closed, as by `svnfleet load DIR <&-`, would have its
-//! next file there: a folder's file would be read as the input, or take what is printed. The null device is opened there first,
-//! and the process goes on as with `</dev/null` or `>/dev/null`.
+//! A process knows its open files by numbers, of which 0 to 2 are its standard streams, and the host gives a file that
+//! is opened the lowest number that is free. So a process that is started with one closed, as by `svnfleet load DIR
+//! <&-`, would have its next file there: a folder's file would be read as the input, or take what is printed. The null
+//! device is opened there first, and the process goes on as with `</dev/null` or `>/dev/null`.
 ghost use Rattle.std.specs.Prelude.{◌<◌, ℕ, ⊤, IfErr, OnOk};
 ghost use Rattle.std.specs.declared.io.Error.{Error as ErrorOf};
 
@@ -22,8 +22,8 @@ pub trait Descriptors {
     /// The host answered a call by this error.
     ghost has_failed_by: { Self → ErrorOf → Type 0 };
 
-    /// Opens the null device, for reading and writing: where a standard stream is closed the lowest of them is open then, and
-    /// the others are as they were.
+    /// Opens the null device, for reading and writing: where a standard stream is closed the lowest of them is open
+    /// then, and the others are as they were.
     fn open_null(&mut self) -> io::Result<()>
         ensures lowest { OnOk result ((n : ℕ) → n < 3 → ((m : ℕ) → m < n → is_open self.old m) → is_open self.new n) }
         ensures cause { IfErr result (has_failed_by self.new) };
@@ -61,8 +61,8 @@ impl<'a> Descriptors for HostDescriptors<'a> {
     }
 }
 
-/// Opens the null device in place of each standard stream that is closed. Then all three are open, and a file that is opened later
-/// is none of them. The error is the host's.
+/// Opens the null device in place of each standard stream that is closed. Then all three are open, and a file that is
+/// opened later is none of them. The error is the host's.
 pub fn fill_streams<D: Descriptors>(descriptors: &mut D) -> io::Result<()>
     ensures open { OnOk result ((n : ℕ) → n < 3 → D.is_open descriptors.new n) }
     ensures cause { IfErr result (D.has_failed_by descriptors.new) }

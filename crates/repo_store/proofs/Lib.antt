@@ -1,8 +1,11 @@
 pub mod Beginnings
+pub mod Changing
 pub mod Exports
 pub mod Formed
 pub mod Going
 pub mod Images
+pub mod Keeping
+pub mod Numbering
 pub mod OneImage
 pub mod Opening
 pub mod Reading

@@ -34,3 +34,8 @@ form_fault set =
 abbrev pub HasForm : Entry → Type 0
 HasForm (Revised n set props) = form_fault set ≡ None
 HasForm (Mapped n props) = Unit {0}
+
+-- what is refused of an entry of which a repository refuses this: that, and then what no entry can say
+abbrev pub due_of : Entry → Option RepoFault → Option RepoFault
+due_of (Revised n set props) refused = first_of (refused ∷ form_fault set ∷ [])
+due_of (Mapped n props) refused = refused

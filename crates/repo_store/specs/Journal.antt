@@ -1,6 +1,7 @@
 -- The repository that a journal's entries stand for.
-use Rattle.std.specs.Prelude.{◌≡◌, ◌<◌, ◌≤◌, ◌+◌, ◌⊎◌, ℕ, List, [], ◌∷◌, ◌++◌, map, length, take, slice_get, Some, None}
+use Rattle.std.specs.Prelude.{◌≡◌, ◌<◌, ◌≤◌, ◌+◌, ◌⊎◌, ℕ, List, [], ◌∷◌, ◌++◌, map, length, take, slice_get, Option, Some, None}
 use Rattle.std.specs.List.{flat_map}
+use Rattle.std.specs.Option.{option_map}
 use Rattle.std.specs.FinMap as finite
 use Rattle.node_base.specs.Props.{PropMap}
 use Rattle.dump_text.specs.Canon.{canon_head, canon_entry, canon_node}
@@ -18,7 +19,7 @@ use Rattle.repo_core.specs.declared.entry.Entry.{Entry}
 use Rattle.repo_core.specs.declared.entry.Entry.TheVariants.{Revised, Mapped}
 use Rattle.repo_core.specs.Entries.{with_entry, with_entry_in}
 use Rattle.repo_core.specs.Refusals.{by_repository}
-use Rattle.repo_core.specs.Staging.{IsNext}
+use Rattle.repo_core.specs.Staging.{StagedEntry, IsNext}
 
 -- the canonical spelling of an entry: a revision's record and its nodes, or the record alone
 abbrev pub spelling : Entry → List ℕ
@@ -90,6 +91,15 @@ ReopensTo identity x image = ∥ ((entries : List (List ℕ)) × Stands image en
 -- an image keeps the repository before an entry, or the one after it
 abbrev pub IsBeforeOrAfter : Repository → Entry → Image → Type 0
 IsBeforeOrAfter r e image = Keeps r image ⊎ Keeps (with_entry_in r e) image
+
+-- an image keeps a repository; or, while it is in doubt whether one entry more is there, that or the repository after the entry
+abbrev pub KeepsOr : Repository → Option Entry → Image → Type 0
+KeepsOr r None image = Keeps r image
+KeepsOr r (Some e) image = ∥ IsBeforeOrAfter r e image ∥₁
+
+-- the entry that is in doubt
+abbrev pub doubt_in : Option StagedEntry → Option Entry
+doubt_in = option_map (λ (s : StagedEntry). s.entry)
 
 -- an image keeps whatever the first keeps
 abbrev pub KeepsAlike : Image → Image → Type 0

@@ -1,5 +1,7 @@
+pub mod Changes
 pub mod Forms
 pub mod Journal
+pub mod Numbers
 pub mod Readings
 pub mod Refusals
 pub mod Verdicts

@@ -1,15 +1,16 @@
--- The numbers of refusals.
+-- The numbers of a store's faults, and the refusals that they are.
 use Rattle.std.specs.Prelude.{◌≡◌, ◌⊎◌, ℕ}
 use Rattle.gate_log.specs.Faults as log
 use Rattle.gate_log.specs.declared.fault.LogFault.{LogFault}
 use Rattle.gate_log.specs.declared.fault.LogFault.TheVariants.{DeviceFailed, Failed, Damaged, NoRepository, ThereAlready, LogFull, OutOfMemory}
 use Rattle.repo_core.specs.Refusals as core
+use Rattle.repo_core.specs.declared.fault.RepoFault.{RepoFault}
+use Rattle.repo_core.specs.declared.fault.RepoFault.TheVariants as fault
+use Rattle.node_base.specs.declared.refusal.Refusal.{Refusal}
+use Rattle.node_base.specs.declared.refusal.Refusal.TheVariants as refusal
+use Rattle.fleet_engines.specs.Refusals.{change_refusal}
 use Rattle.repo_store.specs.declared.fault.StoreFault.{StoreFault}
 use Rattle.repo_store.specs.declared.fault.StoreFault.TheVariants.{Repo, Log}
-
--- what a reserve of the log answers: 32, 36 or 70
-abbrev pub IsReserveFault : LogFault → Type 0
-IsReserveFault f = (f ≡ Failed) ⊎ (f ≡ LogFull) ⊎ (f ≡ OutOfMemory)
 
 -- what the reading of entries answers: 31, 33 or 70
 abbrev pub IsReplayFault : LogFault → Type 0
@@ -26,16 +27,6 @@ abbrev pub number_of : StoreFault → ℕ
 number_of (Repo f) = core.number_of f
 number_of (Log f) = log.number_of f
 
--- what makes a change ready: a refusal of the repository, 32, 36 or 70
-abbrev pub IsStageFault : StoreFault → Type 0
-IsStageFault (Repo f) = Unit {0}
-IsStageFault (Log f) = IsReserveFault f
-
--- what changes the store: these, and 31
-abbrev pub IsStoreFault : StoreFault → Type 0
-IsStoreFault (Repo f) = Unit {0}
-IsStoreFault (Log f) = (f ≡ DeviceFailed) ⊎ IsReserveFault f
-
 -- what creates it: 31, 35 or 70
 abbrev pub IsCreateFault : StoreFault → Type 0
 IsCreateFault (Repo f) = ⊥
@@ -45,3 +36,28 @@ IsCreateFault (Log f) = (f ≡ DeviceFailed) ⊎ (f ≡ ThereAlready) ⊎ (f ≡
 abbrev pub IsOpenFault : StoreFault → Type 0
 IsOpenFault (Repo f) = ⊥
 IsOpenFault (Log f) = log.IsFindFault f
+
+-- the refusal that a fault of the log is
+abbrev pub log_refusal : LogFault → Refusal
+log_refusal DeviceFailed = refusal.DeviceFailed
+log_refusal Failed = refusal.Failed
+log_refusal (Damaged entry) = refusal.Damaged entry
+log_refusal NoRepository = refusal.NoRepository
+log_refusal ThereAlready = refusal.ThereAlready
+log_refusal LogFull = refusal.LogFull
+log_refusal OutOfMemory = refusal.OutOfMemory
+
+-- the one that a fault of the repository is
+abbrev pub repo_refusal : RepoFault → Refusal
+repo_refusal fault.NoSuchRevision = refusal.NoSuchRevision
+repo_refusal (fault.BaseMismatch found) = refusal.BaseMismatch
+repo_refusal fault.Full = refusal.Full
+repo_refusal (fault.Behind head) = refusal.Behind head
+repo_refusal (fault.Change f) = change_refusal f
+repo_refusal fault.TooLong = refusal.TooLong
+repo_refusal fault.OutOfMemory = refusal.OutOfMemory
+
+-- the one that a fault of the store is
+abbrev pub store_refusal : StoreFault → Refusal
+store_refusal (Repo f) = repo_refusal f
+store_refusal (Log f) = log_refusal f

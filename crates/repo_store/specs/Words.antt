@@ -1,5 +1,6 @@
 -- What a store is to its caller.
 use Rattle.std.specs.Prelude.{◌<◌, ◌≤◌, ◌+◌, ◌^◌, ℕ, List, length, Option}
+use Rattle.fleet_disk.specs.Image.{Image}
 use Rattle.fleet_disk.specs.declared.disk.Disk.{Ghosts}
 use Rattle.gate_log.specs.declared.log.GateLog.{GateLog}
 use Rattle.gate_log.specs.Log as log
@@ -7,7 +8,7 @@ use Rattle.node_base.specs.Tree.{PathMap}
 use Rattle.repo_core.specs.Repository.{Repository, Revision}
 use Rattle.repo_core.specs.declared.entry.Entry.{Entry}
 use Rattle.repo_core.specs.Staging.{IsReady}
-use Rattle.repo_store.specs.Journal.{Spells, HasSet}
+use Rattle.repo_store.specs.Journal.{Spells, HasSet, KeepsOr, doubt_in}
 use Rattle.repo_store.specs.declared.store.RepoStore.{RepoStore}
 use Rattle.repo_store.specs.declared.staged.Staged.{Staged}
 
@@ -42,6 +43,14 @@ identity_of store = store.repo.identity
 -- the device failed in a call of it
 abbrev pub HasFailed : {D : Type 0} {G : Ghosts D} → RepoStore D G → Type 0
 HasFailed store = log.HasFailed store.log
+
+-- the entry of the call in which the device failed, which may stand on the disk
+abbrev pub doubt_of : {D : Type 0} {G : Ghosts D} → RepoStore D G → Option Entry
+doubt_of store = doubt_in store.doubt
+
+-- each image that a stop may leave now keeps the repository; after a failure of the device that, or the one after the entry in doubt
+abbrev pub IsKept : {D : Type 0} {G : Ghosts D} → RepoStore D G → Type 0
+IsKept {G} store = G.honest (disk_of store) → (image : Image) → G.may_leave (disk_of store) image → KeepsOr (repository_of store) (doubt_of store) image
 
 -- the store is ready for what is staged: it takes it, the bytes spell it, and the journal has room for them
 pub record IsReadyFor {D : Type 0} {G : Ghosts D} (store : RepoStore D G) (staged : Staged) : Type 0 where

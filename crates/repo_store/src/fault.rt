@@ -1,8 +1,10 @@
-//! Why a store refuses a call.
+//! Why a store refuses a call, and the refusal that this is.
 ghost use Rattle.std.specs.Prelude.{◌≡◌};
-ghost use Rattle.repo_store.specs.Refusals.{number_of};
+ghost use Rattle.repo_store.specs.Refusals.{number_of, log_refusal, repo_refusal, store_refusal};
 
+use fleet_engines::change_refusal;
 use gate_log::LogFault;
+use node_base::Refusal;
 use repo_core::RepoFault;
 use std::alloc::{AllocError, AllocFailed};
 use thiserror::Error;
@@ -73,5 +75,59 @@ impl<T: Drop> From<AllocFailed<T>> for StoreFault {
 
     fn from(_: AllocFailed<T>) -> StoreFault {
         StoreFault::Log(LogFault::OutOfMemory)
+    }
+}
+
+/// The refusal that a log's fault is.
+pub fn log_refusal(fault: LogFault) -> Refusal
+    ensures value { result ≡ log_refusal fault }
+    ensures no_peer { result ≡ Refusal.PeerFailed → ⊥ }
+{
+    match fault {
+        LogFault::DeviceFailed => Refusal::DeviceFailed,
+        LogFault::Failed => Refusal::Failed,
+        LogFault::Damaged(entry) => Refusal::Damaged(entry),
+        LogFault::NoRepository => Refusal::NoRepository,
+        LogFault::ThereAlready => Refusal::ThereAlready,
+        LogFault::LogFull => Refusal::LogFull,
+        LogFault::OutOfMemory => Refusal::OutOfMemory,
+    }
+}
+
+/// The refusal that a repository's fault is.
+pub fn repo_refusal(fault: RepoFault) -> Refusal
+    ensures value { result ≡ repo_refusal fault }
+    ensures no_peer { result ≡ Refusal.PeerFailed → ⊥ }
+{
+    match fault {
+        RepoFault::NoSuchRevision => Refusal::NoSuchRevision,
+        RepoFault::BaseMismatch(_) => Refusal::BaseMismatch,
+        RepoFault::Full => Refusal::Full,
+        RepoFault::Behind(head) => Refusal::Behind(head),
+        RepoFault::Change(fault) => change_refusal(fault),
+        RepoFault::TooLong => Refusal::TooLong,
+        RepoFault::OutOfMemory => Refusal::OutOfMemory,
+    }
+}
+
+/// The refusal that a store's fault is.
+pub fn store_refusal(fault: StoreFault) -> Refusal
+    ensures value { result ≡ store_refusal fault }
+    ensures no_peer { result ≡ Refusal.PeerFailed → ⊥ }
+{
+    match fault {
+        StoreFault::Repo(fault) => repo_refusal(fault),
+        StoreFault::Log(fault) => log_refusal(fault),
+    }
+}
+
+impl From<StoreFault> for Refusal {
+    ghost use Rattle.std.specs.Prelude.{◌≡◌};
+    ghost use Rattle.repo_store.specs.Refusals.{store_refusal};
+
+    ghost from_gives = { λ f e. e ≡ store_refusal f };
+
+    fn from(fault: StoreFault) -> Refusal {
+        store_refusal(fault)
     }
 }

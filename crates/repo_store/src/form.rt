@@ -2,11 +2,13 @@
 ghost use Rattle.std.specs.Prelude.{◌≡◌, ◌&&◌, not, nat_le, length, Some, None, is_some, is_none, IfErr, OnOk};
 ghost use Rattle.std.specs.Option.{option_map_or};
 ghost use Rattle.std.specs.List.{list_all};
-ghost use Rattle.repo_store.specs.Forms.{form_fault, has_form, has_size};
+ghost use Rattle.dump_load.specs.Changes.{IsNormal};
+ghost use Rattle.repo_store.specs.Forms.{due_of, form_fault, has_form, has_size, HasForm};
+ghost use Rattle.repo_store.specs.Journal.{HasSet};
 
 use dump_load::{Change, ChangeFault, ChangeSet, is_delete};
 use node_base::limits::{CHANGES, TEXT_BYTES};
-use repo_core::RepoFault;
+use repo_core::{Entry, RepoFault};
 
 // A source only where a node is made, and nothing at a deletion.
 fn has_form(change: &Change) -> bool
@@ -50,10 +52,11 @@ fn all_sized(changes: &[Change]) -> bool
     true
 }
 
-/// Refused are more than 4,096 changes (8), a source where nothing is made or a part at a deletion (2), and a text past a
-/// mebibyte (8): an entry can't say them.
+/// Refused are more than 4,096 changes (8), a source where nothing is made or a part at a deletion (2), and a text past
+/// a mebibyte (8): an entry can't say them.
 pub fn judge_form(set: &ChangeSet) -> Result<(), RepoFault>
     ensures ok { OnOk result (form_fault set.now ≡ None) }
+    ensures normal { OnOk result (IsNormal set.now) }
     ensures refused { IfErr result (λ e. form_fault set.now ≡ Some e) }
 {
     let changes = set.changes();
@@ -67,4 +70,19 @@ pub fn judge_form(set: &ChangeSet) -> Result<(), RepoFault>
         return Err(RepoFault::TooLong);
     }
     Ok(())
+}
+
+/// The same of a revision's entry; any other can be said.
+pub fn judge_entry(entry: &Entry) -> Result<(), RepoFault>
+    ensures ok { OnOk result (HasForm entry.now × HasSet entry.now) }
+    ensures refused { IfErr result (λ e. due_of entry.now None ≡ Some e) }
+{
+    match entry {
+        Entry::Revised {
+            number: _,
+            set,
+            props: _,
+        } => judge_form(set),
+        Entry::Mapped { .. } => Ok(()),
+    }
 }

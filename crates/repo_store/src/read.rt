@@ -1,5 +1,6 @@
 //! How entries are read.
-ghost use Rattle.std.specs.Prelude.{◌≡◌, ◌∷◌, ◌++◌, ◌↔◌, [], ℕ, List, map, false, Some, IfOk, IfErr, IfNone, IfSome, OnOk, IsErrOf, IsTrue};
+ghost use Rattle.std.specs.Prelude.{◌≡◌, ◌∷◌, ◌++◌, ◌↔◌, [], ℕ, List, map, false, Some, IfOk, IfErr, IfNone, IfSome};
+ghost use Rattle.std.specs.Prelude.{OnOk, IsErrOf, IsTrue};
 ghost use Rattle.node_base.specs.Props.{PropMap};
 ghost use Rattle.dump_text.specs.Canon.{canon_revision};
 ghost use Rattle.dump_text.specs.Streams.{dump, reading, Reads, has_failed};
@@ -57,8 +58,10 @@ fn feed(
     records: &mut Vec<DumpRecord>,
 ) -> Result<(), ReadFault>
     requires { has_failed reader.old ≡ false }
-    ensures reads { OnOk result (reading (Reads records.old.items reader.old) piece.now ≡ Reads records.new.items reader.new) }
-    ensures bad { IsErrOf result ReadFault.Bad → (rs : List RecordOf) (r : ReadState) → reading (Reads records.old.items reader.old) piece.now ≡ Reads rs r → ⊥ }
+    ensures reads { OnOk result (reading (Reads records.old.items reader.old) piece.now ≡ Reads records.new.items
+        reader.new) }
+    ensures bad { IsErrOf result ReadFault.Bad → (rs : List RecordOf) (r : ReadState)
+        → reading (Reads records.old.items reader.old) piece.now ≡ Reads rs r → ⊥ }
 {
     match reader.feed(piece, records) {
         Ok(()) => Ok(()),
@@ -172,7 +175,8 @@ fn revision_of(alloc: Global, records: Vec<DumpRecord>) -> Result<RevRecord, Rea
 // Whether bytes are the canonical spelling of a revision.
 fn is_canonical(alloc: Global, revision: &RevRecord, bytes: &[u8]) -> Result<bool, AllocError>
     ensures holds { IfOk result (λ b. IsTrue b ↔ (canon_revision revision.now ≡ bytes.now)) }
-    ensures readable { OnOk result (AreFormed revision.now.nodes.items → AreRecords (canon_revision revision.now) (read_revision revision.now)) }
+    ensures readable { OnOk result (AreFormed revision.now.nodes.items
+        → AreRecords (canon_revision revision.now) (read_revision revision.now)) }
 {
     let mut written = Vec::with_capacity(alloc, bytes.len())?;
     if write_revision(&mut written, revision).is_err() {
@@ -229,7 +233,8 @@ fn zero_in(said: DumpRecord) -> Option<Props>
 // The identity and the properties that two records say.
 fn beginning_of(records: Vec<DumpRecord>) -> Option<(Uuid, Props)>
     ensures read { IfSome result (λ p. records.items ≡ told.Identity p.0 ∷ told.Revision 0 p.1 ∷ []) }
-    ensures bad { IfNone result ((identity : List ℕ) (props : PropMap) → records.items ≡ told.Identity identity ∷ told.Revision 0 props ∷ [] → ⊥) }
+    ensures bad { IfNone result ((identity : List ℕ) (props : PropMap)
+        → records.items ≡ told.Identity identity ∷ told.Revision 0 props ∷ [] → ⊥) }
 {
     let mut records = records;
     if records.len() != 2 {
@@ -245,7 +250,8 @@ fn beginning_of(records: Vec<DumpRecord>) -> Option<(Uuid, Props)>
 #[tactic(auto, using(crate::proofs::Reading::is_beginning))]
 pub fn read_beginning(alloc: Global, bytes: &[u8]) -> Result<(Uuid, Props), ReadFault>
     ensures read { IfOk result (λ p. IsBeginning bytes.now p.0 p.1) }
-    ensures bad { IsErrOf result ReadFault.Bad → (identity : List ℕ) (props : PropMap) → IsBeginning bytes.now identity props → ⊥ }
+    ensures bad { IsErrOf result ReadFault.Bad → (identity : List ℕ) (props : PropMap)
+        → IsBeginning bytes.now identity props → ⊥ }
 {
     dumps_are_read();
     let records = records_in(alloc, bytes)?;

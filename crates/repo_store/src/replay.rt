@@ -1,5 +1,6 @@
 //! The repository that a journal's entries stand for.
-ghost use Rattle.std.specs.Prelude.{◌≡◌, ◌<◌, ◌≤◌, ◌+◌, ◌⊎◌, ◌↔◌, ℕ, List, [], map, length, slice_get, take, Some, None, IfOk, IfErr, OnOk, IsErrOf};
+ghost use Rattle.std.specs.Prelude.{◌≡◌, ◌<◌, ◌≤◌, ◌+◌, ◌⊎◌, ◌↔◌, ℕ, List, [], map, length, slice_get, take, Some};
+ghost use Rattle.std.specs.Prelude.{None, IfOk, IfErr, OnOk, IsErrOf};
 ghost use Rattle.std.specs.Option.{option_map};
 ghost use Rattle.node_base.specs.Props.{PropMap};
 ghost use Rattle.dump_load.specs.Changes.{IsNormal};
@@ -42,7 +43,8 @@ fn set_of(alloc: Global, nodes: Vec<NodeRecord>) -> Result<ChangeSet, ReadFault>
     ensures set { IfOk result (λ s. s ≡ map change_of nodes.items) }
     ensures normal { OnOk result (IsNormal (map change_of nodes.items)) }
     ensures form { OnOk result (form_fault (map change_of nodes.items) ≡ None) }
-    ensures bad { IsErrOf result ReadFault.Bad → IsNormal (map change_of nodes.items) → form_fault (map change_of nodes.items) ≡ None → ⊥ }
+    ensures bad { IsErrOf result ReadFault.Bad → IsNormal (map change_of nodes.items)
+        → form_fault (map change_of nodes.items) ≡ None → ⊥ }
 {
     let changes = changes_of(alloc, nodes)?;
     let Some(set) = ChangeSet::from_changes(changes) else {
@@ -56,8 +58,10 @@ fn set_of(alloc: Global, nodes: Vec<NodeRecord>) -> Result<ChangeSet, ReadFault>
 
 // The repository after its first entry.
 fn begin(alloc: Global, bytes: &[u8]) -> Result<Repo, ReadFault>
-    ensures begun { IfOk result (λ r. (identity : List ℕ) × (props : PropMap) × IsBeginning bytes.now identity props × (r ≡ with_entry_in (fresh identity) (Mapped 0 props))) }
-    ensures bad { IsErrOf result ReadFault.Bad → (identity : List ℕ) (props : PropMap) → IsBeginning bytes.now identity props → ⊥ }
+    ensures begun { IfOk result (λ r. (identity : List ℕ) × (props : PropMap) × IsBeginning bytes.now identity props
+        × (r ≡ with_entry_in (fresh identity) (Mapped 0 props))) }
+    ensures bad { IsErrOf result ReadFault.Bad → (identity : List ℕ) (props : PropMap)
+        → IsBeginning bytes.now identity props → ⊥ }
 {
     let (identity, props) = read_beginning(alloc, bytes)?;
     let mut repo = Repo::new(alloc, identity)?;
@@ -83,8 +87,10 @@ fn take_map(repo: &mut Repo, number: RevNo, props: Props) -> Result<(), ReadFaul
 // The revision after the head.
 fn take_set(alloc: Global, repo: &mut Repo, set: ChangeSet, props: Props) -> Result<(), ReadFault>
     ensures taken { OnOk result (repo.new ≡ with_entry_in repo.old (Revised (length repo.old.revisions) set props)) }
-    ensures accepted { OnOk result (by_repository repo.old.revisions (Revised (length repo.old.revisions) set props) ≡ None) }
-    ensures bad { IsErrOf result ReadFault.Bad → by_repository repo.old.revisions (Revised (length repo.old.revisions) set props) ≡ None → ⊥ }
+    ensures accepted { OnOk result (by_repository repo.old.revisions
+        (Revised (length repo.old.revisions) set props) ≡ None) }
+    ensures bad { IsErrOf result ReadFault.Bad
+        → by_repository repo.old.revisions (Revised (length repo.old.revisions) set props) ≡ None → ⊥ }
 {
     match repo.stage_commit(alloc, repo.head(), set, props, None) {
         Ok(staged) => {
@@ -98,7 +104,8 @@ fn take_set(alloc: Global, repo: &mut Repo, set: ChangeSet, props: Props) -> Res
 
 // One entry more.
 fn take_entry(alloc: Global, repo: &mut Repo, bytes: &[u8]) -> Result<(), ReadFault>
-    ensures taken { OnOk result ((e : EntryOf) × Spells bytes.now e × Takes repo.old.revisions e × (repo.new ≡ with_entry_in repo.old e)) }
+    ensures taken { OnOk result ((e : EntryOf) × Spells bytes.now e × Takes repo.old.revisions e
+        × (repo.new ≡ with_entry_in repo.old e)) }
     ensures bad { IsErrOf result ReadFault.Bad → (e : EntryOf) → Spells bytes.now e → Takes repo.old.revisions e → ⊥ }
 {
     dumps_are_read();
@@ -141,14 +148,21 @@ fn read_next<D: Disk>(
 ) -> Result<(), LogFault>
     requires there { entry < length (ends_of log.old) }
     requires working { ¬ HasFailed log.old }
-    ensures taken { D.honest (disk_of log.old) → OnOk result ((bytes : List ℕ) × (e : EntryOf) × (slice_get (entries_of log.old) entry ≡ Some bytes) × Spells bytes e × Takes repo.old.revisions e × (repo.new ≡ with_entry_in repo.old e)) }
+    ensures taken { D.honest (disk_of log.old)
+        → OnOk result ((bytes : List ℕ) × (e : EntryOf) × (slice_get (entries_of log.old) entry ≡ Some bytes)
+        × Spells bytes e × Takes repo.old.revisions e × (repo.new ≡ with_entry_in repo.old e)) }
     ensures damaged { D.honest (disk_of log.old) → (k : ℕ) → IsErrOf result (log_fault.Damaged k) → k ≡ entry }
-    ensures breaks { D.honest (disk_of log.old) → (k : ℕ) → IsErrOf result (log_fault.Damaged k) → (bytes : List ℕ) (e : EntryOf) → slice_get (entries_of log.old) entry ≡ Some bytes → Spells bytes e → Takes repo.old.revisions e → ⊥ }
+    ensures breaks { D.honest (disk_of log.old) → (k : ℕ) → IsErrOf result (log_fault.Damaged k)
+        → (bytes : List ℕ) (e : EntryOf) → slice_get (entries_of log.old) entry ≡ Some bytes → Spells bytes e
+        → Takes repo.old.revisions e → ⊥ }
     ensures same { D.honest (disk_of log.old) → entries_of log.new ≡ entries_of log.old }
     ensures ends { ends_of log.new ≡ ends_of log.old }
-    ensures inside { D.honest (disk_of log.old) → Within (D.may_leave (disk_of log.new)) (D.may_leave (disk_of log.old)) }
-    ensures any_moment { D.honest (disk_of log.old) → LeavesOnly D.clock D.left_since (disk_of log.old) (disk_of log.new) (D.may_leave (disk_of log.old)) }
-    ensures device { IsErrOf result log_fault.DeviceFailed → Rose (D.failures (disk_of log.old)) (D.failures (disk_of log.new)) }
+    ensures inside { D.honest (disk_of log.old)
+        → Within (D.may_leave (disk_of log.new)) (D.may_leave (disk_of log.old)) }
+    ensures any_moment { D.honest (disk_of log.old)
+        → LeavesOnly D.clock D.left_since (disk_of log.old) (disk_of log.new) (D.may_leave (disk_of log.old)) }
+    ensures device { IsErrOf result log_fault.DeviceFailed
+        → Rose (D.failures (disk_of log.old)) (D.failures (disk_of log.new)) }
     ensures working { OnOk result (¬ HasFailed log.new) }
     ensures no_other { IfErr result IsReplayFault }
     ensures honest { D.honest (disk_of log.old) ↔ D.honest (disk_of log.new) }
@@ -165,14 +179,21 @@ fn read_next<D: Disk>(
 fn read_first<D: Disk>(alloc: Global, log: &mut GateLog<D>) -> Result<Repo, LogFault>
     requires there { 0 < length (ends_of log.old) }
     requires working { ¬ HasFailed log.old }
-    ensures begun { D.honest (disk_of log.old) → IfOk result (λ r. (bytes : List ℕ) × (props : PropMap) × (slice_get (entries_of log.old) 0 ≡ Some bytes) × IsBeginning bytes r.identity props × (r ≡ with_entry_in (fresh r.identity) (Mapped 0 props))) }
+    ensures begun { D.honest (disk_of log.old)
+        → IfOk result (λ r. (bytes : List ℕ) × (props : PropMap) × (slice_get (entries_of log.old) 0 ≡ Some bytes)
+        × IsBeginning bytes r.identity props × (r ≡ with_entry_in (fresh r.identity) (Mapped 0 props))) }
     ensures damaged { D.honest (disk_of log.old) → (k : ℕ) → IsErrOf result (log_fault.Damaged k) → k ≡ 0 }
-    ensures breaks { D.honest (disk_of log.old) → (k : ℕ) → IsErrOf result (log_fault.Damaged k) → (bytes identity : List ℕ) (props : PropMap) → slice_get (entries_of log.old) 0 ≡ Some bytes → IsBeginning bytes identity props → ⊥ }
+    ensures breaks { D.honest (disk_of log.old) → (k : ℕ) → IsErrOf result (log_fault.Damaged k)
+        → (bytes identity : List ℕ) (props : PropMap) → slice_get (entries_of log.old) 0 ≡ Some bytes
+        → IsBeginning bytes identity props → ⊥ }
     ensures same { D.honest (disk_of log.old) → entries_of log.new ≡ entries_of log.old }
     ensures ends { ends_of log.new ≡ ends_of log.old }
-    ensures inside { D.honest (disk_of log.old) → Within (D.may_leave (disk_of log.new)) (D.may_leave (disk_of log.old)) }
-    ensures any_moment { D.honest (disk_of log.old) → LeavesOnly D.clock D.left_since (disk_of log.old) (disk_of log.new) (D.may_leave (disk_of log.old)) }
-    ensures device { IsErrOf result log_fault.DeviceFailed → Rose (D.failures (disk_of log.old)) (D.failures (disk_of log.new)) }
+    ensures inside { D.honest (disk_of log.old)
+        → Within (D.may_leave (disk_of log.new)) (D.may_leave (disk_of log.old)) }
+    ensures any_moment { D.honest (disk_of log.old)
+        → LeavesOnly D.clock D.left_since (disk_of log.old) (disk_of log.new) (D.may_leave (disk_of log.old)) }
+    ensures device { IsErrOf result log_fault.DeviceFailed
+        → Rose (D.failures (disk_of log.old)) (D.failures (disk_of log.new)) }
     ensures working { OnOk result (¬ HasFailed log.new) }
     ensures no_other { IfErr result IsReplayFault }
     ensures honest { D.honest (disk_of log.old) ↔ D.honest (disk_of log.new) }
@@ -190,12 +211,16 @@ pub fn replay<D: Disk>(alloc: Global, log: &mut GateLog<D>) -> Result<Repo, LogF
     requires there { 0 < length (ends_of log.old) }
     requires working { ¬ HasFailed log.old }
     ensures told { D.honest (disk_of log.old) → IfOk result (λ r. Tell (entries_of log.old) r) }
-    ensures damaged { D.honest (disk_of log.old) → (k : ℕ) → IsErrOf result (log_fault.Damaged k) → IsFirstBad k (entries_of log.old) }
+    ensures damaged { D.honest (disk_of log.old) → (k : ℕ) → IsErrOf result (log_fault.Damaged k)
+        → IsFirstBad k (entries_of log.old) }
     ensures same { D.honest (disk_of log.old) → entries_of log.new ≡ entries_of log.old }
     ensures ends { ends_of log.new ≡ ends_of log.old }
-    ensures inside { D.honest (disk_of log.old) → Within (D.may_leave (disk_of log.new)) (D.may_leave (disk_of log.old)) }
-    ensures any_moment { D.honest (disk_of log.old) → LeavesOnly D.clock D.left_since (disk_of log.old) (disk_of log.new) (D.may_leave (disk_of log.old)) }
-    ensures device { IsErrOf result log_fault.DeviceFailed → Rose (D.failures (disk_of log.old)) (D.failures (disk_of log.new)) }
+    ensures inside { D.honest (disk_of log.old)
+        → Within (D.may_leave (disk_of log.new)) (D.may_leave (disk_of log.old)) }
+    ensures any_moment { D.honest (disk_of log.old)
+        → LeavesOnly D.clock D.left_since (disk_of log.old) (disk_of log.new) (D.may_leave (disk_of log.old)) }
+    ensures device { IsErrOf result log_fault.DeviceFailed
+        → Rose (D.failures (disk_of log.old)) (D.failures (disk_of log.new)) }
     ensures working { OnOk result (¬ HasFailed log.new) }
     ensures no_other { IfErr result IsReplayFault }
     ensures honest { D.honest (disk_of log.old) ↔ D.honest (disk_of log.new) }

@@ -61,7 +61,8 @@ fn map_bytes(alloc: Global, number: RevNo, props: &Props) -> Result<Vec<u8>, All
 // The canonical spelling of a revision.
 fn text_of(alloc: Global, room: usize, revision: &RevRecord) -> Result<Vec<u8>, AllocError>
     ensures canonical { IfOk result (λ v. v.items ≡ canon_revision revision.now) }
-    ensures readable { OnOk result (AreFormed revision.now.nodes.items → AreRecords (canon_revision revision.now) (read_revision revision.now)) }
+    ensures readable { OnOk result (AreFormed revision.now.nodes.items
+        → AreRecords (canon_revision revision.now) (read_revision revision.now)) }
 {
     let mut bytes = Vec::with_capacity(alloc, room)?;
     if write_revision(&mut bytes, revision).is_err() {

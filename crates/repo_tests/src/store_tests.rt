@@ -1,9 +1,11 @@
 //! A store's journals and gates, byte by byte, and what its stops leave.
+ghost use Rattle.repo_store.specs.Changes.{IsNumbered};
+ghost use Rattle.repo_store.specs.Words.{revisions_of};
 
 use crate::made::{log_of, set_of_file};
 use fleet_disk::{Disk, DiskFile, Fuse, FuseDisk, MemDisk, Pick};
-use node_base::{PropName, RevNo};
-use repo_core::Expected;
+use node_base::{PropName, Refusal, RevNo};
+use repo_core::{Entry, Expected};
 use repo_store::{RepoStore, StoreFault};
 use std::alloc::Global;
 use std::process::Abort;
@@ -166,6 +168,56 @@ fn a_property_is_an_entry(rt: HostRuntime) -> Result<(), Fail> {
     Ok(())
 }
 
+// Makes an entry ready, and drops it or installs it. Whether that is answered well.
+fn staged(alloc: Global, store: &mut RepoStore<MemDisk>, entry: Entry, installed: bool) -> bool
+    requires { IsNumbered (revisions_of store.old) entry }
+{
+    match store.stage(alloc, entry) {
+        Ok(staged) => !installed || store.install(staged).is_ok(),
+        Err(_) => false,
+    }
+}
+
+// The next revision, which adds a file with a log.
+fn staged_file(rt: &impl Abort, alloc: Global, store: &mut RepoStore<MemDisk>) -> bool {
+    let next = store.repo().trees().len();
+    if next > 65_535 {
+        return false;
+    }
+    let entry = Entry::Revised {
+        number: RevNo::new(next as u16),
+        set: set_of_file(rt, alloc, "a", b"hello\n"),
+        props: log_of(rt, alloc, b"hi"),
+    };
+    staged(alloc, store, entry, true)
+}
+
+// Other properties of revision 1.
+fn staged_log(
+    rt: &impl Abort,
+    alloc: Global,
+    store: &mut RepoStore<MemDisk>,
+    installed: bool,
+) -> bool {
+    let entry = Entry::Mapped {
+        number: RevNo::new(1),
+        props: log_of(rt, alloc, b"ho"),
+    };
+    staged(alloc, store, entry, installed)
+}
+
+#[test]
+fn entries_are_staged_and_installed(rt: HostRuntime) -> Result<(), Fail> {
+    let mut store = created(rt.alloc(), MemDisk::new(rt.alloc()))?;
+    assert!(rt; staged_file(&rt, rt.alloc(), &mut store));
+    assert!(rt; staged_log(&rt, rt.alloc(), &mut store, false));
+    let mut store = opened(rt.alloc(), store.into_disk())?;
+    assert!(rt; exports(rt.alloc(), &store, SECOND));
+    assert!(rt; staged_log(&rt, rt.alloc(), &mut store, true));
+    assert!(rt; is_journal(&store.into_disk(), &[FIRST, SECOND, THIRD]));
+    Ok(())
+}
+
 // The refusal of a disk with these entries and the gate of both.
 fn damage(alloc: Global, journal: &[u8]) -> Result<StoreFault, Fail> {
     match opened(alloc, MemDisk::with_bytes(alloc, journal, TWO_GATES)?) {
@@ -188,6 +240,7 @@ fn a_damaged_entry(rt: HostRuntime) -> Result<(), Fail> {
         format!(in rt.alloc(); "{fault}")?.as_str(),
         "entry 1 is damaged"
     );
+    assert_eq!(rt; Refusal::from(fault).number(), 33);
     Ok(())
 }
 
@@ -252,12 +305,21 @@ fn a_commit_stopped_after_each_call(rt: HostRuntime) -> Result<(), Fail> {
     Ok(())
 }
 
+// Whether a revision of this number may stand on the disk or not.
+fn is_in_doubt<D: Disk>(store: &RepoStore<D>, revision: u16) -> bool {
+    match store.in_doubt() {
+        Some(Entry::Revised { number, .. }) => number.get() == revision,
+        _ => false,
+    }
+}
+
 #[test]
 fn the_third_call_fails(rt: HostRuntime) -> Result<(), Fail> {
     let mut store = fused(&rt, rt.alloc(), 2, Fuse::Once)?;
     assert_eq!(rt; commit(&rt, rt.alloc(), &mut store, "b"), 31);
     assert_eq!(rt; commit(&rt, rt.alloc(), &mut store, "b"), 32);
     assert!(rt; store.has_failed() && has_head(&store, 1));
+    assert!(rt; is_in_doubt(&store, 2));
     let mut store = opened(rt.alloc(), store.into_disk())?;
     assert!(rt; has_head(&store, 1) && commit(&rt, rt.alloc(), &mut store, "b") == 0);
     Ok(())

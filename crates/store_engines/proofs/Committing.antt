@@ -26,7 +26,6 @@ use Rattle.repo_core.specs.declared.entry.Entry.TheVariants.{Revised}
 use Rattle.repo_core.specs.declared.fault.RepoFault.{RepoFault}
 use Rattle.repo_core.specs.declared.fault.RepoFault.TheVariants as core
 use Rattle.repo_store.specs.Forms.{form_fault}
-use Rattle.repo_store.specs.Refusals.{IsStageFault}
 use Rattle.repo_store.specs.declared.fault.StoreFault.{StoreFault}
 use Rattle.repo_store.specs.declared.fault.StoreFault.TheVariants.{Repo, Log}
 use Rattle.store_engines.specs.Commits.{committed_line, directory_entry, directory_fault, directory_set, fault_there, logged, IsCommitted, NotCommitted, bare_entry, commit_refused, commit_stops, commit_not_kept, commit_unsaid}
@@ -137,20 +136,17 @@ abbrev BareUnkept : {D : Type 0} {G : Ghosts D} → RepoStore D G → List Revis
 BareUnkept store x set moment e = (path : Path) → set ≡ directory_set path → CantKeep store (bare_entry x path moment) e
 
 -- with another message the set is refused
-pub refused_long : {D : Type 0} {G : Ghosts D} (a b : RepoStore D G) (x : List Revision) (base : ℕ) (set : List Change) (moment : DateTime) (m : PropMap) (e : StoreFault) → m ≡ dated map.empty (Some moment) → base ≡ head_of x → ((f : RepoFault) → e ≡ Repo f → IsDue f (due_with x base set m)) → IsStageFault e
-    → ends_of (log_of b) ≡ ends_of (log_of a) → HasFailed b ↔ HasFailed a → (e ≡ Log log.Failed → HasFailed a) → (e ≡ Log log.LogFull → 2 ^ 56 < size_of (log_of a) + length (spelling (Revised (length x) set m)))
-    → (store_refusal e ≡ refusal.OutOfMemory) ⊎ BareUnkept b x set moment (store_refusal e) ⊎ LongDue x set moment (store_refusal e)
-refused_long a b x base set moment m (Log f) bare k h (inl d) ends works failed full = inr (inl (λ path same. failed_before (ap log_refusal d) (works.1 (failed (ap Log d)))))
-refused_long a b x base set moment m (Log f) bare k h (inr (inl d)) ends works failed full =
-    inr (inl (λ path same. no_room (ap log_refusal d)
-    (subst (λ (v : Entry). 2 ^ 56 < size_of (log_of b) + length (spelling v)) (ap (λ t. Revised (length x) t m) same ∙ ap (λ p. Revised (length x) (directory_set path) p) bare)
-    (subst (λ l. 2 ^ 56 < last_end 0 l + length (spelling (Revised (length x) set m))) (sym ends) (full (ap Log d))))))
-refused_long a b x base set moment m (Log f) bare k h (inr (inr d)) ends works failed full = inl (ap log_refusal d)
-refused_long a b x base set moment m (Repo f) bare k h s ends works failed full =
-    elim (is_due f _ (h f refl)) [
-      | inl o ↦ inl (ap repo_refusal o)
+pub refused_long : {D : Type 0} {G : Ghosts D} (b : RepoStore D G) (x : List Revision) (base : ℕ) (set : List Change) (moment : DateTime) (m : PropMap) (e : Refusal) → m ≡ dated map.empty (Some moment) → base ≡ head_of x
+    → (e ≡ refusal.OutOfMemory) ⊎ CantKeep b (Revised (length x) set m) e ⊎ ((f : RepoFault) × IsDue f (due_with x base set m) × (e ≡ repo_refusal f))
+    → (e ≡ refusal.OutOfMemory) ⊎ BareUnkept b x set moment e ⊎ LongDue x set moment e
+refused_long b x base set moment m e bare k (inl o) = inl o
+refused_long b x base set moment m e bare k (inr (inl c)) =
+    inr (inl (λ path same. subst (λ (v : Entry). CantKeep b v e) (ap (λ t. Revised (length x) t m) same ∙ ap (λ p. Revised (length x) (directory_set path) p) bare) c))
+refused_long b x base set moment m e bare k (inr (inr (f, h, is))) =
+    elim (is_due f _ h) [
+      | inl o ↦ inl (is ∙ ap repo_refusal o)
       | inr d ↦ inr (inr (λ path message same long. ap (option_map repo_refusal) (long_due x path message moment m f long
-          (subst (λ t. due_with x (head_of x) t m ≡ Some f) same (subst (λ v. due_with x v set m ≡ Some f) k d)))))
+          (subst (λ t. due_with x (head_of x) t m ≡ Some f) same (subst (λ v. due_with x v set m ≡ Some f) k d))) ∙ ap Some (sym is)))
     ]
 
 -- with another message it would be taken

@@ -1,5 +1,5 @@
 -- What calls do to a store's device, one after another.
-use Rattle.std.proofs.Common.{◌≡◌, ℕ, ◌<◌, ◌≤◌, ◌+◌, ◌^◌, ◌⊎◌, ◌↔◌, true, false, List, [], ◌∷◌, ◌++◌, length, Result, Ok, Err, IsErrOf, IfErr, Option, is_ok, refl, sym, ap, subst, ◌∙◌, append_assoc, append-nil, arith, inl, inr, ⊎_elim}
+use Rattle.std.proofs.Common.{◌≡◌, ℕ, ◌<◌, ◌≤◌, ◌+◌, ◌^◌, ◌⊎◌, ◌↔◌, true, false, List, [], ◌∷◌, ◌++◌, length, Result, Ok, Err, IsErrOf, IfErr, Option, None, is_ok, refl, sym, ap, subst, ◌∙◌, append_assoc, append-nil, arith, inl, inr, ⊎_elim}
 use Rattle.std.proofs.lemmas.Bool.{true≢false}
 use Rattle.node_base.specs.Refusals.{refusal_number}
 use Rattle.node_base.specs.declared.refusal.Refusal.{Refusal}
@@ -12,7 +12,6 @@ use Rattle.fleet_disk.specs.Image.{Image}
 use Rattle.fleet_disk.specs.Rules.{LeavesOnly, Rose}
 use Rattle.fleet_disk.specs.declared.disk.Disk.{Ghosts}
 use Rattle.fleet_disk.proofs.Moments.{started, joined, weaker}
-use Rattle.gate_log.specs.Log.{size_of, ends_of}
 use Rattle.gate_log.specs.Standing.{last_end}
 use Rattle.gate_log.specs.declared.fault.LogFault.TheVariants as log
 use Rattle.repo_core.specs.Entries.{revisions_after, with_entry_in}
@@ -22,7 +21,7 @@ use Rattle.repo_core.specs.Repository.{Repository}
 use Rattle.repo_core.specs.declared.fault.RepoFault.{RepoFault}
 use Rattle.repo_core.specs.declared.fault.RepoFault.TheVariants as core
 use Rattle.repo_store.specs.Journal.{spelling, Keeps, IsBeforeOrAfter}
-use Rattle.repo_store.specs.Refusals.{IsReserveFault, IsStageFault, IsStoreFault}
+use Rattle.repo_store.specs.Changes.{IsBroken, IsRefused, IsTaken, Refuses, Stays}
 use Rattle.repo_store.specs.Words.{disk_of, log_of, repository_of, HasFailed}
 use Rattle.repo_store.specs.declared.store.RepoStore.{RepoStore}
 use Rattle.repo_store.specs.declared.fault.StoreFault.{StoreFault}
@@ -101,14 +100,9 @@ of_result (Err f) = f
 pub fault_in : {T : Type 0} (f g : StoreFault) → IsErrOf {T = T} (Err f) g → f ≡ g
 fault_in f g e = ap of_result e
 
-stage_no_device : IsReserveFault log.DeviceFailed → ⊥
-stage_no_device (inl e) = let n : ◌≡◌ {A = ℕ} 31 32 = ap (λ f. refusal_number (log_refusal f)) e in let no : ⊥ = omega (arith, n) in no
-stage_no_device (inr (inl e)) = let n : ◌≡◌ {A = ℕ} 31 36 = ap (λ f. refusal_number (log_refusal f)) e in let no : ⊥ = omega (arith, n) in no
-stage_no_device (inr (inr e)) = let n : ◌≡◌ {A = ℕ} 31 70 = ap (λ f. refusal_number (log_refusal f)) e in let no : ⊥ = omega (arith, n) in no
-
--- nothing that is staged is refused for a device that fails
-pub never_device : (f : StoreFault) → IsStageFault f → f ≡ Log log.DeviceFailed → ⊥
-never_device f k e = stage_no_device (subst IsStageFault e k)
+-- a device that fails hasn't failed before
+pub no_failure_before : Log log.DeviceFailed ≡ Log log.Failed → ⊥
+no_failure_before e = let n : ◌≡◌ {A = ℕ} 31 32 = ap (λ f. refusal_number (store_refusal f)) e in let no : ⊥ = omega (arith, n) in no
 
 -- ---- on the way
 
@@ -204,82 +198,65 @@ module _ {D : Type 0} {G : Ghosts D} where
   serves_then a b u r n p = serves_on a b b u r p (unserved b r n p.safe)
 
   -- an entry is taken
-  abbrev pub took : {T : Type 0} (a b : RepoStore D G) (entry : Entry) (answer : T) → OnlyNow G → repository_of b ≡ with_entry_in (repository_of a) entry
-      → (G.honest (disk_of a) → (image : Image) → G.may_leave (disk_of b) image → Keeps (with_entry_in (repository_of a) entry) image)
-      → (G.honest (disk_of a) → ¬ HasFailed a → LeavesOnly G.clock G.left_since (disk_of a) (disk_of b) (IsBeforeOrAfter (repository_of a) entry))
-      → HasFailed b ↔ (HasFailed a ⊎ IsErrOf {T = T} (Ok answer) (Log log.DeviceFailed)) → G.honest (disk_of a) ↔ G.honest (disk_of b) → G.failures (disk_of a) ≤ G.failures (disk_of b) → Serves a b (Ok tt)
-  took {T} a b entry answer only made durable moments works honest later = record {
-    honest = honest;
-    later = later;
+  abbrev pub took : (a b : RepoStore D G) (entry : Entry) → OnlyNow G → IsTaken entry a b → Serves a b (Ok tt)
+  took a b entry only t = record {
+    honest = t.honest;
+    later = t.later;
     device = λ e. absurd (ok_is_none tt refusal.DeviceFailed e);
     failed = λ e. absurd (ok_is_none tt refusal.Failed e);
-    working = (λ f. ⊎_elim (λ h. inl h) (λ e. absurd (true≢false (ap is_ok e))) (works.0 f), λ f. ⊎_elim (λ h. works.1 (inl h)) (λ e. absurd (ok_is_none tt refusal.DeviceFailed e)) f);
+    working = (λ f. absurd (t.works f), λ f. ⊎_elim (λ h. absurd (t.worked h)) (λ e. absurd (ok_is_none tt refusal.DeviceFailed e)) f);
     taken = entry ∷ [];
     begun = [];
-    made = made;
+    made = t.made;
     one = inl refl;
-    any_moment = λ h w. weaker G.clock G.left_since (disk_of a) (disk_of b) (IsBeforeOrAfter (repository_of a) entry) (IsOnTheWay (repository_of a) (entry ∷ [])) (moments h w) (λ image k. either (repository_of a) entry image k);
-    safe = λ h w image left. subst (λ (v : Repository). Keeps v image) (sym made) (durable (honest.1 h) image (only (disk_of b) image h left));
+    any_moment = λ h w. weaker G.clock G.left_since (disk_of a) (disk_of b) (IsBeforeOrAfter (repository_of a) entry) (IsOnTheWay (repository_of a) (entry ∷ [])) (t.any_moment h) (λ image k. either (repository_of a) entry image k);
+    safe = λ h w image left. subst (λ (v : Repository). Keeps v image) (sym t.made) (t.durable (t.honest.1 h) image (only (disk_of b) image h left));
+  }
+
+  -- the device fails
+  abbrev pub broke : (a b : RepoStore D G) (entry : Entry) (fault : StoreFault) → IsBroken entry a b fault → Serves a b (Err (store_refusal fault))
+  broke a b entry fault k = record {
+    honest = k.honest;
+    later = k.later;
+    device = λ e. k.device;
+    failed = λ e. absurd (no_failure_before (sym k.fault ∙ failed_was fault (ap refusal_in e)));
+    working = (λ f. inr (ap (λ v. Err (store_refusal v)) k.fault), λ f. k.failed);
+    taken = [];
+    begun = entry ∷ [];
+    made = k.same;
+    one = inr (refl, ap (λ v. Err (store_refusal v)) k.fault);
+    any_moment = λ h w. weaker G.clock G.left_since (disk_of a) (disk_of b) (IsBeforeOrAfter (repository_of a) entry) (IsOnTheWay (repository_of a) (entry ∷ [])) (k.any_moment h) (λ image v. either (repository_of a) entry image v);
+    safe = λ h w. absurd (w k.failed);
   }
 
   -- an entry is refused
-  abbrev pub didnt_take : {T : Type 0} (a b : RepoStore D G) (entry : Entry) (fault : StoreFault) → repository_of b ≡ repository_of a
-      → (fault ≡ Log log.DeviceFailed) ⊎ ((disk_of b ≡ disk_of a) × (ends_of (log_of b) ≡ ends_of (log_of a)))
-      → (G.honest (disk_of a) → ¬ HasFailed a → LeavesOnly G.clock G.left_since (disk_of a) (disk_of b) (IsBeforeOrAfter (repository_of a) entry))
-      → (IsErrOf {T = T} (Err fault) (Log log.DeviceFailed) → Rose (G.failures (disk_of a)) (G.failures (disk_of b)))
-      → IsErrOf {T = T} (Err fault) (Log log.Failed) ↔ HasFailed a → HasFailed b ↔ (HasFailed a ⊎ IsErrOf {T = T} (Err fault) (Log log.DeviceFailed))
-      → G.honest (disk_of a) ↔ G.honest (disk_of b) → G.failures (disk_of a) ≤ G.failures (disk_of b) → IsSafe a → Serves a b (Err (store_refusal fault))
-  didnt_take {T} a b entry fault same (inl d) moments device failed works honest later safe = record {
-    honest = honest;
-    later = later;
-    device = λ e. device (ap Err d);
-    failed = λ e. failed.0 (ap Err (failed_was fault (ap refusal_in e)));
-    working = (λ f. ⊎_elim (λ h. inl h) (λ e. inr (ap (λ k. Err (store_refusal k)) d)) (works.0 f), λ f. works.1 (inr (ap Err d)));
-    taken = [];
-    begun = entry ∷ [];
-    made = same;
-    one = inr (refl, ap (λ k. Err (store_refusal k)) d);
-    any_moment = λ h w. weaker G.clock G.left_since (disk_of a) (disk_of b) (IsBeforeOrAfter (repository_of a) entry) (IsOnTheWay (repository_of a) (entry ∷ [])) (moments h w) (λ image k. either (repository_of a) entry image k);
-    safe = λ h w. absurd (w (works.1 (inr (ap Err d))));
-  }
-  didnt_take {T} a b entry fault same (inr u) moments device failed works honest later safe = record {
-    honest = honest;
-    later = later;
-    device = λ e. device (ap Err (device_was fault (ap refusal_in e)));
-    failed = λ e. failed.0 (ap Err (failed_was fault (ap refusal_in e)));
-    working = (λ f. ⊎_elim (λ h. inl h) (λ e. inr (ap Err (ap store_refusal (fault_in {T = T} fault (Log log.DeviceFailed) e)))) (works.0 f), λ f. works.1 (⊎_elim (λ h. inl h) (λ e. inr (ap Err (device_was fault (ap refusal_in e)))) f));
-    taken = [];
-    begun = [];
-    made = same;
-    one = inl refl;
-    any_moment = λ h w. subst (λ d. LeavesOnly G.clock G.left_since (disk_of a) d (IsOnTheWay (repository_of a) [])) (sym u.0) (started G.clock G.left_since (disk_of a) (IsOnTheWay (repository_of a) []) (λ image left. here (repository_of a) [] image (safe h w image left)));
-    safe = λ h w image left.
-        subst (λ (v : Repository). Keeps v image) (sym same)
-        (safe (honest.1 h) (λ f. w (works.1 (inl f))) image (subst (λ d. G.left_since d (G.clock d) image) u.0 left));
-  }
+  abbrev pub refused : (a b : RepoStore D G) (entry : Entry) (due : Option RepoFault) (fault : StoreFault) → Stays a b → Refuses a entry due fault → IsSafe a → Serves a b (Err (store_refusal fault))
+  refused a b entry due fault s why safe =
+      unmoved a b (Err (store_refusal fault)) s.disk s.repository s.working (λ e. subst (Refuses a entry due) (device_was fault (ap refusal_in e)) why) (λ e. subst (Refuses a entry due) (failed_was fault (ap refusal_in e)) why) safe
 
   -- what is staged, or refused before, is for another reason
   abbrev pub staged_none : (a b : RepoStore D G) (e : Refusal) → is_device e ≡ false → disk_of b ≡ disk_of a → repository_of b ≡ repository_of a → HasFailed b ↔ HasFailed a → IsSafe a → Serves a b (Err e)
   staged_none a b e n disk repository works safe = unmoved a b (Err e) disk repository works (is_none_of (Err e) refusal.DeviceFailed refl n) (λ k. absurd (is_none_of (Err e) refusal.Failed refl n k)) safe
 
-  abbrev pub staged_err : (a b : RepoStore D G) (fault : StoreFault) → IsStageFault fault → disk_of b ≡ disk_of a → repository_of b ≡ repository_of a → HasFailed b ↔ HasFailed a → (fault ≡ Log log.Failed → HasFailed a) → IsSafe a → Serves a b (Err (store_refusal fault))
-  staged_err a b fault k disk repository works failed safe =
-      unmoved a b (Err (store_refusal fault)) disk repository works (λ e. never_device fault k (device_was fault (ap refusal_in e))) (λ e. failed (failed_was fault (ap refusal_in e))) safe
+  -- what isn't taken leaves the repository as it was
+  pub stays_as_it_is : (a b : RepoStore D G) (entry : Entry) (due : Option RepoFault) (fault : StoreFault) → ((due ≡ None) × IsBroken entry a b fault) ⊎ IsRefused entry due a b fault → repository_of b ≡ repository_of a
+  stays_as_it_is a b entry due fault (inl k) = k.1.same
+  stays_as_it_is a b entry due fault (inr r) = r.stays.repository
 
-  -- a fault of the store is want of memory, or is why it can't keep the entry, or is the one that is due
-  pub stop_or_due : {T : Type 0} (a b : RepoStore D G) (entry : Entry) (due : Option RepoFault) (fault : StoreFault) → repository_of b ≡ repository_of a
-      → (fault ≡ Log log.DeviceFailed) ⊎ ((disk_of b ≡ disk_of a) × (ends_of (log_of b) ≡ ends_of (log_of a)))
-      → (G.honest (disk_of a) → IsErrOf {T = T} (Err fault) (Log log.DeviceFailed) → (image : Image) → G.may_leave (disk_of b) image → IsBeforeOrAfter (repository_of a) entry image)
-      → IsErrOf {T = T} (Err fault) (Log log.Failed) ↔ HasFailed a → HasFailed b ↔ (HasFailed a ⊎ IsErrOf {T = T} (Err fault) (Log log.DeviceFailed))
-      → (IsErrOf {T = T} (Err fault) (Log log.LogFull) → 2 ^ 56 < size_of (log_of a) + length (spelling entry))
-      → G.honest (disk_of a) ↔ G.honest (disk_of b) → ((f : RepoFault) → fault ≡ Repo f → IsDue f due) → IsStoreFault fault
+  -- a refusal of the store is want of memory, or is why it can't keep the entry, or is the one that is due
+  pub why_refused : (a b : RepoStore D G) (entry : Entry) (due : Option RepoFault) (fault : StoreFault) → Stays a b → Refuses a entry due fault
       → (store_refusal fault ≡ refusal.OutOfMemory) ⊎ CantKeep b entry (store_refusal fault) ⊎ ((f : RepoFault) × IsDue f due × (store_refusal fault ≡ repo_refusal f))
-  stop_or_due a b entry due (Repo f) same touched left failed works full honest h k = inr (inr (f, h f refl, refl))
-  stop_or_due a b entry due (Log f) same touched left failed works full honest h (inl d) =
-      inr (inl (device_fails (ap log_refusal d) (λ o image l. subst (λ (v : Repository). IsBeforeOrAfter v entry image) (sym same) (left (honest.1 o) (ap (λ k. Err (Log k)) d) image l))))
-  stop_or_due a b entry due (Log f) same touched left failed works full honest h (inr (inl d)) = inr (inl (failed_before (ap log_refusal d) (works.1 (inl (failed.0 (ap (λ k. Err (Log k)) d))))))
-  stop_or_due a b entry due (Log f) same (inl t) left failed works full honest h (inr (inr (inl d))) =
-      let n : ◌≡◌ {A = ℕ} 31 36 = ap (λ k. refusal_number (store_refusal k)) (sym t ∙ ap Log d) in let no : ⊥ = omega (arith, n) in absurd no
-  stop_or_due a b entry due (Log f) same (inr t) left failed works full honest h (inr (inr (inl d))) =
-      inr (inl (no_room (ap log_refusal d) (subst (λ ends. 2 ^ 56 < last_end 0 ends + length (spelling entry)) (sym t.1) (full (ap (λ k. Err (Log k)) d)))))
-  stop_or_due a b entry due (Log f) same touched left failed works full honest h (inr (inr (inr d))) = inl (ap log_refusal d)
+  why_refused a b entry due (Repo f) s why = inr (inr (f, why.1, refl))
+  why_refused a b entry due (Log log.Failed) s why = inr (inl (failed_before refl (s.working.1 why)))
+  why_refused a b entry due (Log log.LogFull) s why = inr (inl (no_room refl (subst (λ ends. 2 ^ 56 < last_end 0 ends + length (spelling entry)) (sym s.entries) why.2)))
+  why_refused a b entry due (Log log.OutOfMemory) s why = inl refl
+  why_refused a b entry due (Log log.DeviceFailed) s why = absurd why
+  why_refused a b entry due (Log (log.Damaged n)) s why = absurd why
+  why_refused a b entry due (Log log.NoRepository) s why = absurd why
+  why_refused a b entry due (Log log.ThereAlready) s why = absurd why
+
+  pub stop_or_due : (a b : RepoStore D G) (entry : Entry) (due : Option RepoFault) (fault : StoreFault) → ((due ≡ None) × IsBroken entry a b fault) ⊎ IsRefused entry due a b fault
+      → (store_refusal fault ≡ refusal.OutOfMemory) ⊎ CantKeep b entry (store_refusal fault) ⊎ ((f : RepoFault) × IsDue f due × (store_refusal fault ≡ repo_refusal f))
+  stop_or_due a b entry due fault (inl k) =
+      inr (inl (device_fails (ap store_refusal k.1.fault) (λ o image l. subst (λ (v : Repository). IsBeforeOrAfter v entry image) (sym k.1.same) (k.1.either (k.1.honest.1 o) image l))))
+  stop_or_due a b entry due fault (inr r) = why_refused a b entry due fault r.stays r.why

@@ -30,10 +30,11 @@ use Rattle.repo_core.specs.Entries.{revisions_after, with_entry, with_entry_in}
 use Rattle.repo_core.specs.Repository.{Repository, Revision, trees_of}
 use Rattle.repo_core.specs.declared.entry.Entry.{Entry}
 use Rattle.repo_core.specs.declared.entry.Entry.TheVariants.{Revised}
+use Rattle.repo_core.specs.declared.fault.RepoFault.{RepoFault}
 use Rattle.node_base.specs.Path.{Path}
 use Rattle.node_base.specs.declared.fault.PathFault.{PathFault}
 use Rattle.repo_store.specs.Journal.{Keeps, IsBeforeOrAfter}
-use Rattle.repo_store.specs.Refusals.{IsStageFault}
+use Rattle.repo_store.specs.Changes.{IsBroken, IsRefused, IsTaken, Refuses as RefusesEntry, Stays}
 use Rattle.repo_store.specs.Words.{disk_of, log_of, revisions_of, repository_of, HasFailed}
 use Rattle.repo_store.specs.declared.store.RepoStore.{RepoStore}
 use Rattle.repo_store.specs.declared.fault.StoreFault.{StoreFault}
@@ -41,7 +42,7 @@ use Rattle.repo_store.specs.declared.fault.StoreFault.TheVariants.{Log}
 use Rattle.store_engines.specs.Devices.{is_device, IsSafe, Serves}
 use Rattle.store_engines.specs.Loads.{AreEntriesOf, IsEntryOf, ServesOne, ServesRecords, coming, of_next, read_of}
 use Rattle.store_engines.specs.Refusals.{store_refusal}
-use Rattle.store_engines.proofs.Devices.{OnlyNow, after_revisions, didnt_take, none_begun, serves_on, serves_then, staged_err, staged_none, took, unserved}
+use Rattle.store_engines.proofs.Devices.{OnlyNow, after_revisions, broke, none_begun, refused, serves_on, serves_then, staged_none, took, unserved}
 
 -- ---- entries one after another
 
@@ -109,23 +110,17 @@ module _ {D : Type 0} {G : Ghosts D} where
   records_same ahead same left end a b r e d p = subst (λ l. ServesRecords l a b r end) e (subst (λ l. ServesRecords ahead a b r l) d p)
 
   -- an entry is taken
-  pub took_one : {T : Type 0} (a b : RepoStore D G) (entry : Entry) (answer : T) → OnlyNow G → repository_of b ≡ with_entry_in (repository_of a) entry
-      → (G.honest (disk_of a) → (image : Image) → G.may_leave (disk_of b) image → Keeps (with_entry_in (repository_of a) entry) image)
-      → (G.honest (disk_of a) → ¬ HasFailed a → LeavesOnly G.clock G.left_since (disk_of a) (disk_of b) (IsBeforeOrAfter (repository_of a) entry))
-      → HasFailed b ↔ (HasFailed a ⊎ IsErrOf {T = T} (Ok answer) (Log log.DeviceFailed)) → G.honest (disk_of a) ↔ G.honest (disk_of b) → G.failures (disk_of a) ≤ G.failures (disk_of b) → ServesOne entry a b (Ok tt)
-  took_one {T} a b entry answer only made durable moments works honest later = record { serves = took {T = T} a b entry answer only made durable moments works honest later; one = inl refl }
+  pub took_one : (a b : RepoStore D G) (entry : Entry) → OnlyNow G → IsTaken entry a b → ServesOne entry a b (Ok tt)
+  took_one a b entry only t = record { serves = took a b entry only t; one = inl refl }
 
   -- an entry is refused
-  pub didnt_take_one : {T : Type 0} (a b : RepoStore D G) (entry : Entry) (fault : StoreFault) → repository_of b ≡ repository_of a
-      → (fault ≡ Log log.DeviceFailed) ⊎ ((disk_of b ≡ disk_of a) × (ends_of (log_of b) ≡ ends_of (log_of a)))
-      → (G.honest (disk_of a) → ¬ HasFailed a → LeavesOnly G.clock G.left_since (disk_of a) (disk_of b) (IsBeforeOrAfter (repository_of a) entry))
-      → (IsErrOf {T = T} (Err fault) (Log log.DeviceFailed) → Rose (G.failures (disk_of a)) (G.failures (disk_of b)))
-      → IsErrOf {T = T} (Err fault) (Log log.Failed) ↔ HasFailed a → HasFailed b ↔ (HasFailed a ⊎ IsErrOf {T = T} (Err fault) (Log log.DeviceFailed))
-      → G.honest (disk_of a) ↔ G.honest (disk_of b) → G.failures (disk_of a) ≤ G.failures (disk_of b) → IsSafe a → ServesOne entry a b (Err (store_refusal fault))
-  didnt_take_one {T} a b entry fault same (inl d) moments device failed works honest later safe =
-      record { serves = didnt_take {T = T} a b entry fault same (inl d) moments device failed works honest later safe; one = inl refl }
-  didnt_take_one {T} a b entry fault same (inr u) moments device failed works honest later safe =
-      record { serves = didnt_take {T = T} a b entry fault same (inr u) moments device failed works honest later safe; one = inr (refl, refl) }
+  pub refused_one : (one : Entry) (a b : RepoStore D G) (entry : Entry) (due : Option RepoFault) (fault : StoreFault) → Stays a b → RefusesEntry a entry due fault → IsSafe a → ServesOne one a b (Err (store_refusal fault))
+  refused_one one a b entry due fault s why safe = record { serves = refused a b entry due fault s why safe; one = inr (refl, refl) }
+
+  -- or the device fails
+  pub didnt_take_one : (a b : RepoStore D G) (entry : Entry) (due : Option RepoFault) (fault : StoreFault) → ((due ≡ None) × IsBroken entry a b fault) ⊎ IsRefused entry due a b fault → IsSafe a → ServesOne entry a b (Err (store_refusal fault))
+  didnt_take_one a b entry due fault (inl k) safe = record { serves = broke a b entry fault k.1; one = inl refl }
+  didnt_take_one a b entry due fault (inr r) safe = refused_one entry a b entry due fault r.stays r.why safe
 
   -- nothing is done, and it is refused
   pub none_done : (entry : Entry) (a : RepoStore D G) (e : Refusal) → is_device e ≡ false → IsSafe a → ServesOne entry a a (Err e)
@@ -134,9 +129,6 @@ module _ {D : Type 0} {G : Ghosts D} where
   -- what is staged, or refused before
   pub staged_one : (entry : Entry) (a b : RepoStore D G) (e : Refusal) → is_device e ≡ false → disk_of b ≡ disk_of a → repository_of b ≡ repository_of a → HasFailed b ↔ HasFailed a → IsSafe a → ServesOne entry a b (Err e)
   staged_one entry a b e n disk repository works safe = record { serves = staged_none a b e n disk repository works safe; one = inr (refl, refl) }
-
-  pub staged_fault : (entry : Entry) (a b : RepoStore D G) (fault : StoreFault) → IsStageFault fault → disk_of b ≡ disk_of a → repository_of b ≡ repository_of a → HasFailed b ↔ HasFailed a → (fault ≡ Log log.Failed → HasFailed a) → IsSafe a → ServesOne entry a b (Err (store_refusal fault))
-  staged_fault entry a b fault k disk repository works failed safe = record { serves = staged_err a b fault k disk repository works failed safe; one = inr (refl, refl) }
 
   -- an entry is taken, and what comes then is refused for another reason
   pub one_then : (entry : Entry) (a b : RepoStore D G) (u : Unit {0}) (r : Result (Unit {0}) Refusal) → IfErr r (λ e. is_device e ≡ false) → ServesOne entry a b (Ok u) → ServesOne entry a b r

@@ -10,12 +10,11 @@ ghost use Rattle.store_engines.specs.Devices.{CantKeep, IsSafe};
 ghost use Rattle.store_engines.specs.Loads.{entry_fault, ServesOne};
 ghost use Rattle.store_engines.specs.Refusals.{repo_refusal};
 
-use crate::refusals::store_refusal;
 use dump_load::ChangeSet;
 use fleet_disk::Disk;
 use node_base::{Props, Refusal};
 use repo_core::Moment;
-use repo_store::RepoStore;
+use repo_store::{RepoStore, store_refusal};
 use std::alloc::Global;
 
 /// Commits the revision after the head.
@@ -26,11 +25,17 @@ pub fn commit<D: Disk + Drop>(
     props: Props,
     moment: Option<Moment>,
 ) -> Result<(), Refusal>
-    ensures ok { OnOk result (repository_of store.new ≡ with_entry_in (repository_of store.old) (Revised (length (revisions_of store.old)) set (dated props moment))) }
-    ensures taken { OnOk result (entry_fault (revisions_of store.old) (Revised (length (revisions_of store.old)) set (dated props moment)) ≡ None) }
+    ensures ok { OnOk result (repository_of store.new ≡ with_entry_in (repository_of store.old)
+        (Revised (length (revisions_of store.old)) set (dated props moment))) }
+    ensures taken { OnOk result (entry_fault (revisions_of store.old)
+        (Revised (length (revisions_of store.old)) set (dated props moment)) ≡ None) }
     ensures same { OnErr result (repository_of store.new ≡ repository_of store.old) }
-    ensures refused { IfErr result (λ e. (e ≡ Refusal.OutOfMemory) ⊎ CantKeep store.new (Revised (length (revisions_of store.old)) set (dated props moment)) e ⊎ ((f : RepoFaultOf) × IsDue f (entry_fault (revisions_of store.old) (Revised (length (revisions_of store.old)) set (dated props moment))) × (e ≡ repo_refusal f))) }
-    ensures device { IsSafe store.old → ServesOne (Revised (length (revisions_of store.old)) set (dated props moment)) store.old store.new result }
+    ensures refused { IfErr result (λ e. (e ≡ Refusal.OutOfMemory)
+        ⊎ CantKeep store.new (Revised (length (revisions_of store.old)) set (dated props moment)) e
+        ⊎ ((f : RepoFaultOf) × IsDue f (entry_fault (revisions_of store.old)
+        (Revised (length (revisions_of store.old)) set (dated props moment))) × (e ≡ repo_refusal f))) }
+    ensures device { IsSafe store.old → ServesOne (Revised (length (revisions_of store.old)) set (dated props moment))
+        store.old store.new result }
     ensures no_peer { IfErr result (λ e. e ≡ Refusal.PeerFailed → ⊥) }
 {
     let head = store.repo().head();

@@ -1,5 +1,5 @@
-//! The engines of the commands over a store, over any disk, reader and writer: they begin a repository, load a dump into it,
-//! dump it, and commit a directory.
+//! The engines of the commands over a store, over any disk, reader and writer: they begin a repository, load a dump
+//! into it, dump it, and commit a directory.
 //!
 //! ```text
 //! let mut store = open_store(alloc, HostDisk::open(&rt, alloc, "folder")?)?;
@@ -7,8 +7,8 @@
 //! run_dump(alloc, &store, None, &mut Sink::new(output))?;
 //! ```
 //!
-//! A load judges each revision whole before it commits it, and a refusal keeps what was committed before it. What is dumped
-//! is the canonical text of the revisions as they are now.
+//! A load judges each revision whole before it commits it, and a refusal keeps what was committed before it. What is
+//! dumped is the canonical text of the revisions as they are now.
 #![tactic(auto)]
 
 pub use begin::{create_store, open_store};
@@ -16,7 +16,7 @@ pub use dump::run_dump;
 pub use load::run_load;
 pub use make_dir::run_mkdir;
 pub use range::RevRange;
-pub use refusals::{log_refusal, repo_refusal, store_refusal};
+pub use repo_store::{log_refusal, repo_refusal, store_refusal};
 
 mod begin;
 mod commits;

@@ -26,7 +26,8 @@ pub fn committed_line(alloc: Global, number: usize) -> Result<String, AllocError
 
 /// Writes a line and hands it on, so that it is out before anything else is done.
 pub fn say<W: Write + Drop>(output: &mut Sink<W>, line: &String) -> Result<(), Refusal>
-    ensures ok { OnOk result (Appends (W.contents output.old.inner) (W.contents output.new.inner) (string_bytes line.now)) }
+    ensures ok { OnOk result (Appends (W.contents output.old.inner) (W.contents output.new.inner)
+        (string_bytes line.now)) }
     ensures peer { Flagged result output.old.failed output.new.failed }
     ensures failed { OnErr result (output.new.failed ≡ true) }
     ensures only_peer { IfErr result (λ e. e ≡ Refusal.PeerFailed) }

@@ -1,6 +1,7 @@
 //! `load` over any disk, reader and writer.
 ghost use Rattle.std.specs.List.{filter};
-ghost use Rattle.std.specs.Prelude.{◌≡◌, ◌≢◌, ◌⊎◌, ◌<◌, ◌∷◌, ◌++◌, [], ℕ, List, Option, Some, None, length, true, false, IfOk, IfErr, IfSome, OnOk, OnErr};
+ghost use Rattle.std.specs.Prelude.{◌≡◌, ◌≢◌, ◌⊎◌, ◌<◌, ◌∷◌, ◌++◌, [], ℕ, List, Option, Some, None, length, true};
+ghost use Rattle.std.specs.Prelude.{false, IfOk, IfErr, IfSome, OnOk, OnErr};
 ghost use Rattle.std.specs.Io.KnownBytes.{Appends, Consumes, IsAtEnd};
 ghost use Rattle.node_base.specs.Props.{PropMap};
 ghost use Rattle.node_base.specs.Tree.{PathMap};
@@ -22,14 +23,15 @@ ghost use Rattle.fleet_engines.specs.Revisions.{Rev, Makes, IsUnfit, is_zero, is
 ghost use Rattle.fleet_engines.specs.Runs.{Flagged, BothFlagged};
 ghost use Rattle.store_engines.specs.Loaders.{last_of};
 ghost use Rattle.store_engines.specs.Devices.{is_device, CantKeep, IsSafe, Serves};
-ghost use Rattle.store_engines.specs.Loads.{coming, entry_fault, loaded_line, read_of, CantTake, CantClose, Gathered, IsBare, IsLoaded, Leads, Loaded, Moves, NotLoaded, Reached, Refused, ServesOne, ServesRecords, Stands, Stops};
+ghost use Rattle.store_engines.specs.Loads.{coming, entry_fault, loaded_line, read_of, CantTake, CantClose, Gathered};
+ghost use Rattle.store_engines.specs.Loads.{IsBare, IsLoaded, Leads, Loaded, Moves, NotLoaded, Reached, Refused};
+ghost use Rattle.store_engines.specs.Loads.{ServesOne, ServesRecords, Stands, Stops};
 ghost use Rattle.store_engines.specs.Mirrors.{is_mirror};
 ghost use Rattle.store_engines.specs.Refusals.{repo_refusal};
 
 use crate::commits::commit;
 use crate::lines::{loaded_line, say};
 use crate::mirror::refuse_mirror;
-use crate::refusals::store_refusal;
 use dump_load::{ChangeSet, load_revision};
 use dump_text::{DumpReader, DumpRecord, NodeRecord, RevRecord};
 use fleet_disk::Disk;
@@ -37,7 +39,7 @@ use fleet_engines::{Sink, Source, change_refusal, dump_refusal};
 use node_base::{Props, Refusal, RevNo};
 use path_tree::Tree;
 use repo_core::Repo;
-use repo_store::RepoStore;
+use repo_store::{RepoStore, store_refusal};
 use std::alloc::Global;
 use std::io::{Read, Write};
 
@@ -54,16 +56,18 @@ fn is_zero(repo: &Repo, revision: &RevRecord) -> bool
     repo.trees().len() == 1 && revision.number == RevNo::ZERO
 }
 
-// The set of the revision after the head. WrongNumber (16) where the number isn't its, and then what makes no set or has a
-// fault over the trees so far.
+// The set of the revision after the head. WrongNumber (16) where the number isn't its, and then what makes no set or
+// has a fault over the trees so far.
 fn judge(
     alloc: Global,
     trees: &[Tree],
     number: RevNo,
     nodes: Vec<NodeRecord>,
 ) -> Result<ChangeSet, Refusal>
-    ensures set { IfOk result (λ s. (props : PropMap) → (tree : PathMap) × Makes trees.now (record { number = number; props = props; nodes = nodes.items }) s tree) }
-    ensures refused { IfErr result (λ e. (e ≡ Refusal.OutOfMemory) ⊎ ((props : PropMap) → IsUnfit trees.now (record { number = number; props = props; nodes = nodes.items }) e)) }
+    ensures set { IfOk result (λ s. (props : PropMap) → (tree : PathMap)
+        × Makes trees.now (record { number = number; props = props; nodes = nodes.items }) s tree) }
+    ensures refused { IfErr result (λ e. (e ≡ Refusal.OutOfMemory)
+        ⊎ ((props : PropMap) → IsUnfit trees.now (record { number = number; props = props; nodes = nodes.items }) e)) }
     ensures no_device { IfErr result (λ e. is_device e ≡ false) }
     ensures no_peer { IfErr result (λ e. e ≡ Refusal.PeerFailed → ⊥) }
 {
@@ -85,7 +89,9 @@ fn put_zero<D: Disk + Drop>(
     ensures ok { OnOk result (repository_of store.new ≡ with_entry_in (repository_of store.old) (Mapped 0 props)) }
     ensures same { OnErr result (repository_of store.new ≡ repository_of store.old) }
     ensures taken { OnOk result (entry_fault (revisions_of store.old) (Mapped 0 props) ≡ None) }
-    ensures refused { IfErr result (λ e. (e ≡ Refusal.OutOfMemory) ⊎ CantKeep store.new (Mapped 0 props) e ⊎ ((f : RepoFaultOf) × IsDue f (entry_fault (revisions_of store.old) (Mapped 0 props)) × (e ≡ repo_refusal f))) }
+    ensures refused { IfErr result (λ e. (e ≡ Refusal.OutOfMemory) ⊎ CantKeep store.new (Mapped 0 props) e
+        ⊎ ((f : RepoFaultOf) × IsDue f (entry_fault (revisions_of store.old) (Mapped 0 props))
+        × (e ≡ repo_refusal f))) }
     ensures device { IsSafe store.old → ServesOne (Mapped 0 props) store.old store.new result }
     ensures no_peer { IfErr result (λ e. e ≡ Refusal.PeerFailed → ⊥) }
 {
@@ -103,8 +109,13 @@ fn load_next<D: Disk + Drop, W: Write + Drop>(
     output: &mut Sink<W>,
 ) -> Result<(), Refusal>
     requires later { is_zero (trees_of (revisions_of store.old)) (rev_of revision) ≡ false }
-    ensures ok { OnOk result ((entry : Entry) × (line : List ℕ) × IsLoaded (revisions_of store.old) (rev_of revision) entry line × (entry_fault (revisions_of store.old) entry ≡ None) × (repository_of store.new ≡ with_entry_in (repository_of store.old) entry) × Appends (W.contents output.old.inner) (W.contents output.new.inner) line) }
-    ensures refused { IfErr result (λ e. NotLoaded (repository_of store.old) (rev_of revision) store.new (W.contents output.old.inner) (W.contents output.new.inner) output.new.failed e) }
+    ensures ok { OnOk result ((entry : Entry) × (line : List ℕ)
+        × IsLoaded (revisions_of store.old) (rev_of revision) entry line
+        × (entry_fault (revisions_of store.old) entry ≡ None)
+        × (repository_of store.new ≡ with_entry_in (repository_of store.old) entry)
+        × Appends (W.contents output.old.inner) (W.contents output.new.inner) line) }
+    ensures refused { IfErr result (λ e. NotLoaded (repository_of store.old) (rev_of revision) store.new
+        (W.contents output.old.inner) (W.contents output.new.inner) output.new.failed e) }
     ensures device { IsSafe store.old → ServesRecords (records_of_rev (rev_of revision)) store.old store.new result [] }
     ensures peer { Flagged result output.old.failed output.new.failed }
 {
@@ -128,8 +139,14 @@ fn load_one<D: Disk + Drop, W: Write + Drop>(
     store: &mut RepoStore<D>,
     output: &mut Sink<W>,
 ) -> Result<(), Refusal>
-    ensures ok { OnOk result (IsBare (rev_of revision) → (entry : Entry) × (line : List ℕ) × IsLoaded (revisions_of store.old) (rev_of revision) entry line × (entry_fault (revisions_of store.old) entry ≡ None) × (repository_of store.new ≡ with_entry_in (repository_of store.old) entry) × Appends (W.contents output.old.inner) (W.contents output.new.inner) line) }
-    ensures refused { IfErr result (λ e. IsBare (rev_of revision) → NotLoaded (repository_of store.old) (rev_of revision) store.new (W.contents output.old.inner) (W.contents output.new.inner) output.new.failed e) }
+    ensures ok { OnOk result (IsBare (rev_of revision) → (entry : Entry) × (line : List ℕ)
+        × IsLoaded (revisions_of store.old) (rev_of revision) entry line
+        × (entry_fault (revisions_of store.old) entry ≡ None)
+        × (repository_of store.new ≡ with_entry_in (repository_of store.old) entry)
+        × Appends (W.contents output.old.inner) (W.contents output.new.inner) line) }
+    ensures refused { IfErr result (λ e. IsBare (rev_of revision)
+        → NotLoaded (repository_of store.old) (rev_of revision) store.new (W.contents output.old.inner)
+        (W.contents output.new.inner) output.new.failed e) }
     ensures device { IsSafe store.old → ServesRecords (records_of_rev (rev_of revision)) store.old store.new result [] }
     ensures peer { Flagged result output.old.failed output.new.failed }
 {
@@ -161,9 +178,14 @@ impl Loader {
         store: &mut RepoStore<D>,
         output: &mut Sink<W>,
     ) -> Result<(), Refusal>
-        ensures ok { OnOk result (Moves (repository_of store.old) (last_of self.old) (W.contents output.old.inner) (next ∷ []) (repository_of store.new) (last_of self.new) (W.contents output.new.inner)) }
-        ensures refused { IfErr result (λ e. (x : Repository) (rs : List RecordOf) (start : Option (List ℕ)) → Stands x rs (repository_of store.old) (last_of self.old) start (W.contents output.old.inner) → CantTake x rs next store.new start (W.contents output.new.inner) output.new.failed e) }
-        ensures device { IsSafe store.old → ServesRecords (read_of (last_of self.old) ++ filter is_no_identity (next ∷ [])) store.old store.new result (read_of (last_of self.new)) }
+        ensures ok { OnOk result (Moves (repository_of store.old) (last_of self.old) (W.contents output.old.inner)
+            (next ∷ []) (repository_of store.new) (last_of self.new) (W.contents output.new.inner)) }
+        ensures refused { IfErr result (λ e. (x : Repository) (rs : List RecordOf) (start : Option (List ℕ))
+            → Stands x rs (repository_of store.old) (last_of self.old) start (W.contents output.old.inner)
+            → CantTake x rs next store.new start (W.contents output.new.inner) output.new.failed e) }
+        ensures device { IsSafe store.old
+            → ServesRecords (read_of (last_of self.old) ++ filter is_no_identity (next ∷ [])) store.old store.new result
+            (read_of (last_of self.new)) }
         ensures peer { Flagged result output.old.failed output.new.failed }
     {
         match next {
@@ -190,8 +212,10 @@ impl Loader {
 
     // A node record of no revision, or of revision 0, is WrongNumber (16).
     fn add_node(&mut self, node: NodeRecord) -> Result<(), Refusal>
-        ensures ok { OnOk result ((r : Rev) × (last_of self.old ≡ Some r) × (is_past_zero (last_of self.old) ≡ true) × (last_of self.new ≡ Some (record r { nodes = r.nodes ++ node ∷ [] }))) }
-        ensures refused { IfErr result (λ e. ((e ≡ Refusal.OutOfMemory) ⊎ ((e ≡ Refusal.WrongNumber) × (is_past_zero (last_of self.old) ≡ false)))) }
+        ensures ok { OnOk result ((r : Rev) × (last_of self.old ≡ Some r) × (is_past_zero (last_of self.old) ≡ true)
+            × (last_of self.new ≡ Some (record r { nodes = r.nodes ++ node ∷ [] }))) }
+        ensures refused { IfErr result (λ e. ((e ≡ Refusal.OutOfMemory)
+            ⊎ ((e ≡ Refusal.WrongNumber) × (is_past_zero (last_of self.old) ≡ false)))) }
         ensures no_device { IfErr result (λ e. is_device e ≡ false) }
         ensures no_peer { IfErr result (λ e. e ≡ Refusal.PeerFailed → ⊥) }
     {
@@ -226,9 +250,13 @@ impl Loader {
         store: &mut RepoStore<D>,
         output: &mut Sink<W>,
     ) -> Result<(), Refusal>
-        ensures ok { OnOk result ((x : Repository) (rs : List RecordOf) (start : Option (List ℕ)) → Stands x rs (repository_of store.old) (last_of self.old) start (W.contents output.old.inner) → Gathered x rs (repository_of store.new) start (W.contents output.new.inner)) }
+        ensures ok { OnOk result ((x : Repository) (rs : List RecordOf) (start : Option (List ℕ))
+            → Stands x rs (repository_of store.old) (last_of self.old) start (W.contents output.old.inner)
+            → Gathered x rs (repository_of store.new) start (W.contents output.new.inner)) }
         ensures last { last_of self.new ≡ None }
-        ensures refused { IfErr result (λ e. (x : Repository) (rs : List RecordOf) (start : Option (List ℕ)) → Stands x rs (repository_of store.old) (last_of self.old) start (W.contents output.old.inner) → CantClose x rs store.new start (W.contents output.new.inner) output.new.failed e) }
+        ensures refused { IfErr result (λ e. (x : Repository) (rs : List RecordOf) (start : Option (List ℕ))
+            → Stands x rs (repository_of store.old) (last_of self.old) start (W.contents output.old.inner)
+            → CantClose x rs store.new start (W.contents output.new.inner) output.new.failed e) }
         ensures device { IsSafe store.old → ServesRecords (read_of (last_of self.old)) store.old store.new result [] }
         ensures peer { Flagged result output.old.failed output.new.failed }
     {
@@ -245,9 +273,14 @@ impl Loader {
         store: &mut RepoStore<D>,
         output: &mut Sink<W>,
     ) -> Result<(), Refusal>
-        ensures ok { OnOk result (Moves (repository_of store.old) (last_of self.old) (W.contents output.old.inner) records.items (repository_of store.new) (last_of self.new) (W.contents output.new.inner)) }
-        ensures refused { IfErr result (λ e. (x : Repository) (rs : List RecordOf) (start : Option (List ℕ)) → Stands x rs (repository_of store.old) (last_of self.old) start (W.contents output.old.inner) → Stops x rs records.items store.new start (W.contents output.new.inner) output.new.failed e) }
-        ensures device { IsSafe store.old → ServesRecords (read_of (last_of self.old) ++ filter is_no_identity records.items) store.old store.new result (read_of (last_of self.new)) }
+        ensures ok { OnOk result (Moves (repository_of store.old) (last_of self.old) (W.contents output.old.inner)
+            records.items (repository_of store.new) (last_of self.new) (W.contents output.new.inner)) }
+        ensures refused { IfErr result (λ e. (x : Repository) (rs : List RecordOf) (start : Option (List ℕ))
+            → Stands x rs (repository_of store.old) (last_of self.old) start (W.contents output.old.inner)
+            → Stops x rs records.items store.new start (W.contents output.new.inner) output.new.failed e) }
+        ensures device { IsSafe store.old
+            → ServesRecords (read_of (last_of self.old) ++ filter is_no_identity records.items) store.old store.new
+            result (read_of (last_of self.new)) }
         ensures peer { Flagged result output.old.failed output.new.failed }
     {
         for next in records {
@@ -264,10 +297,20 @@ impl Loader {
         store: &mut RepoStore<D>,
         output: &mut Sink<W>,
     ) -> Result<(), Refusal>
-        ensures ok { OnOk result ((x : Repository) (bytes : List ℕ) (start : Option (List ℕ)) → Reached x bytes reader.old (repository_of store.old) (last_of self.old) start (W.contents output.old.inner) → Reached x (bytes ++ piece.now) reader.new (repository_of store.new) (last_of self.new) start (W.contents output.new.inner)) }
-        ensures refused { IfErr result (λ e. (rest : List ℕ) (x : Repository) (bytes : List ℕ) (start : Option (List ℕ)) → Reached x bytes reader.old (repository_of store.old) (last_of self.old) start (W.contents output.old.inner) → Refused x ((bytes ++ piece.now) ++ rest) store.new start (W.contents output.new.inner) output.new.failed e) }
+        ensures ok { OnOk result ((x : Repository) (bytes : List ℕ) (start : Option (List ℕ))
+            → Reached x bytes reader.old (repository_of store.old) (last_of self.old) start
+            (W.contents output.old.inner)
+            → Reached x (bytes ++ piece.now) reader.new (repository_of store.new) (last_of self.new) start
+            (W.contents output.new.inner)) }
+        ensures refused { IfErr result (λ e. (rest : List ℕ) (x : Repository) (bytes : List ℕ) (start : Option (List ℕ))
+            → Reached x bytes reader.old (repository_of store.old) (last_of self.old) start
+            (W.contents output.old.inner)
+            → Refused x ((bytes ++ piece.now) ++ rest) store.new start (W.contents output.new.inner) output.new.failed
+            e) }
         ensures reading { OnOk result (has_failed reader.old ≡ false → has_failed reader.new ≡ false) }
-        ensures device { (rest : List ℕ) → has_failed reader.old ≡ false → IsSafe store.old → ServesRecords (coming (last_of self.old) reader.old (piece.now ++ rest)) store.old store.new result (coming (last_of self.new) reader.new rest) }
+        ensures device { (rest : List ℕ) → has_failed reader.old ≡ false → IsSafe store.old
+            → ServesRecords (coming (last_of self.old) reader.old (piece.now ++ rest)) store.old store.new result
+            (coming (last_of self.new) reader.new rest) }
         ensures peer { Flagged result output.old.failed output.new.failed }
     {
         let mut records = Vec::new(self.alloc);
@@ -286,9 +329,14 @@ impl Loader {
         store: &mut RepoStore<D>,
         output: &mut Sink<W>,
     ) -> Result<(), Refusal>
-        ensures ok { OnOk result ((x : Repository) (bytes : List ℕ) (start : Option (List ℕ)) → Reached x bytes reader (repository_of store.old) (last_of self.old) start (W.contents output.old.inner) → Loaded x bytes (repository_of store.new) start (W.contents output.new.inner)) }
-        ensures refused { IfErr result (λ e. (x : Repository) (bytes : List ℕ) (start : Option (List ℕ)) → Reached x bytes reader (repository_of store.old) (last_of self.old) start (W.contents output.old.inner) → Refused x bytes store.new start (W.contents output.new.inner) output.new.failed e) }
-        ensures device { has_failed reader ≡ false → IsSafe store.old → ServesRecords (read_of (last_of self.old)) store.old store.new result [] }
+        ensures ok { OnOk result ((x : Repository) (bytes : List ℕ) (start : Option (List ℕ))
+            → Reached x bytes reader (repository_of store.old) (last_of self.old) start (W.contents output.old.inner)
+            → Loaded x bytes (repository_of store.new) start (W.contents output.new.inner)) }
+        ensures refused { IfErr result (λ e. (x : Repository) (bytes : List ℕ) (start : Option (List ℕ))
+            → Reached x bytes reader (repository_of store.old) (last_of self.old) start (W.contents output.old.inner)
+            → Refused x bytes store.new start (W.contents output.new.inner) output.new.failed e) }
+        ensures device { has_failed reader ≡ false → IsSafe store.old
+            → ServesRecords (read_of (last_of self.old)) store.old store.new result [] }
         ensures peer { Flagged result output.old.failed output.new.failed }
     {
         if let Err(fault) = reader.finish() {
@@ -307,11 +355,20 @@ fn read_all<D: Disk + Drop, R: Read + Drop, W: Write + Drop>(
     input: &mut Source<R>,
     output: &mut Sink<W>,
 ) -> Result<(), Refusal>
-    ensures ok { OnOk result (0 < length piece.old → (bytes : List ℕ) × Consumes (R.remaining input.old.inner) (R.remaining input.new.inner) bytes × IsAtEnd (R.remaining input.new.inner) × Leads reader.old (repository_of store.old) (last_of loader.old) (W.contents output.old.inner) bytes reader.new (repository_of store.new) (last_of loader.new) (W.contents output.new.inner)) }
-    ensures refused { IfErr result (λ e. (x : Repository) (start : Option (List ℕ)) → Reached x [] reader.old (repository_of store.old) (last_of loader.old) start (W.contents output.old.inner) → IfSome (R.remaining input.old.inner) (λ bytes. Refused x bytes store.new start (W.contents output.new.inner) output.new.failed e)) }
+    ensures ok { OnOk result (0 < length piece.old → (bytes : List ℕ)
+        × Consumes (R.remaining input.old.inner) (R.remaining input.new.inner) bytes
+        × IsAtEnd (R.remaining input.new.inner)
+        × Leads reader.old (repository_of store.old) (last_of loader.old) (W.contents output.old.inner) bytes reader.new
+        (repository_of store.new) (last_of loader.new) (W.contents output.new.inner)) }
+    ensures refused { IfErr result (λ e. (x : Repository) (start : Option (List ℕ))
+        → Reached x [] reader.old (repository_of store.old) (last_of loader.old) start (W.contents output.old.inner)
+        → IfSome (R.remaining input.old.inner) (λ bytes. Refused x bytes store.new start (W.contents output.new.inner)
+        output.new.failed e)) }
     ensures reading { OnOk result (has_failed reader.old ≡ false → has_failed reader.new ≡ false) }
     ensures device { has_failed reader.old ≡ false → IsSafe store.old → Serves store.old store.new result }
-    ensures entries { 0 < length piece.old → has_failed reader.old ≡ false → IsSafe store.old → IfSome (R.remaining input.old.inner) (λ bytes. ServesRecords (coming (last_of loader.old) reader.old bytes) store.old store.new result (read_of (last_of loader.new))) }
+    ensures entries { 0 < length piece.old → has_failed reader.old ≡ false → IsSafe store.old
+        → IfSome (R.remaining input.old.inner) (λ bytes. ServesRecords (coming (last_of loader.old) reader.old bytes)
+        store.old store.new result (read_of (last_of loader.new))) }
     ensures peer { BothFlagged result input.old.failed input.new.failed output.old.failed output.new.failed }
 {
     for _ in 0..READS {
@@ -331,10 +388,15 @@ fn load_stream<D: Disk + Drop, R: Read + Drop, W: Write + Drop>(
     input: &mut Source<R>,
     output: &mut Sink<W>,
 ) -> Result<(), Refusal>
-    ensures ok { OnOk result (IfSome (R.remaining input.old.inner) (λ bytes. Loaded (repository_of store.old) bytes (repository_of store.new) (W.contents output.old.inner) (W.contents output.new.inner))) }
-    ensures refused { IfErr result (λ e. IfSome (R.remaining input.old.inner) (λ bytes. Refused (repository_of store.old) bytes store.new (W.contents output.old.inner) (W.contents output.new.inner) output.new.failed e)) }
+    ensures ok { OnOk result (IfSome (R.remaining input.old.inner)
+        (λ bytes. Loaded (repository_of store.old) bytes (repository_of store.new) (W.contents output.old.inner)
+        (W.contents output.new.inner))) }
+    ensures refused { IfErr result (λ e. IfSome (R.remaining input.old.inner)
+        (λ bytes. Refused (repository_of store.old) bytes store.new (W.contents output.old.inner)
+        (W.contents output.new.inner) output.new.failed e)) }
     ensures device { IsSafe store.old → Serves store.old store.new result }
-    ensures entries { IsSafe store.old → IfSome (R.remaining input.old.inner) (λ bytes. ServesRecords (filter is_no_identity (records_of (dump bytes))) store.old store.new result []) }
+    ensures entries { IsSafe store.old → IfSome (R.remaining input.old.inner)
+        (λ bytes. ServesRecords (filter is_no_identity (records_of (dump bytes))) store.old store.new result []) }
     ensures peer { BothFlagged result input.old.failed input.new.failed output.old.failed output.new.failed }
 {
     let mut loader = Loader::new(alloc);
@@ -353,25 +415,35 @@ fn load_stream<D: Disk + Drop, R: Read + Drop, W: Write + Drop>(
     loader.finish(reader, store, output)
 }
 
-/// Loads a dump: each revision when its last record has been read, judged whole, committed, and told in a line. The identity
-/// of the dump is passed over.
+/// Loads a dump: each revision when its last record has been read, judged whole, committed, and told in a line. The
+/// identity of the dump is passed over.
 ///
-/// A record of revision 0 gives its properties while there is no other revision; each other revision is the one after the
-/// head, else WrongNumber (16). A mirror is refused (24) before anything is read. A fault of the text (1 to 10), of a
-/// revision (2, 8, 10 to 17), of the store (31, 32, 36, 70) or of a stream (49) ends the load, and what was loaded before it stays.
+/// A record of revision 0 gives its properties while there is no other revision; each other revision is the one after
+/// the head, else WrongNumber (16). A mirror is refused (24) before anything is read. A fault of the text (1 to 10), of
+/// a revision (2, 8, 10 to 17), of the store (31, 32, 36, 70) or of a stream (49) ends the load, and what was loaded
+/// before it stays.
 pub fn run_load<D: Disk + Drop, R: Read + Drop, W: Write + Drop>(
     alloc: Global,
     store: &mut RepoStore<D>,
     input: &mut Source<R>,
     output: &mut Sink<W>,
 ) -> Result<(), Refusal>
-    ensures ok { OnOk result (IfSome (R.remaining input.old.inner) (λ bytes. Loaded (repository_of store.old) bytes (repository_of store.new) (W.contents output.old.inner) (W.contents output.new.inner))) }
-    ensures refused { IfErr result (λ e. is_mirror (revisions_of store.old) ≡ false → IfSome (R.remaining input.old.inner) (λ bytes. Refused (repository_of store.old) bytes store.new (W.contents output.old.inner) (W.contents output.new.inner) output.new.failed e)) }
-    ensures mirror { is_mirror (revisions_of store.old) ≡ true → IfErr result (λ e. (e ≡ Refusal.ReadOnly) × (repository_of store.new ≡ repository_of store.old) × (R.remaining input.new.inner ≡ R.remaining input.old.inner) × (W.contents output.new.inner ≡ W.contents output.old.inner)) }
+    ensures ok { OnOk result (IfSome (R.remaining input.old.inner)
+        (λ bytes. Loaded (repository_of store.old) bytes (repository_of store.new) (W.contents output.old.inner)
+        (W.contents output.new.inner))) }
+    ensures refused { IfErr result (λ e. is_mirror (revisions_of store.old) ≡ false
+        → IfSome (R.remaining input.old.inner) (λ bytes. Refused (repository_of store.old) bytes store.new
+        (W.contents output.old.inner) (W.contents output.new.inner) output.new.failed e)) }
+    ensures mirror { is_mirror (revisions_of store.old) ≡ true
+        → IfErr result (λ e. (e ≡ Refusal.ReadOnly) × (repository_of store.new ≡ repository_of store.old)
+        × (R.remaining input.new.inner ≡ R.remaining input.old.inner)
+        × (W.contents output.new.inner ≡ W.contents output.old.inner)) }
     ensures no_mirror { OnOk result (is_mirror (revisions_of store.old) ≡ false) }
     ensures device { Serves store.old store.new result }
-    ensures entries { IfSome (R.remaining input.old.inner) (λ bytes. ServesRecords (filter is_no_identity (records_of (dump bytes))) store.old store.new result []) }
-    ensures durable { D.honest (disk_of store.new) → ¬ HasFailed store.new → (image : Image) → D.may_leave (disk_of store.new) image
+    ensures entries { IfSome (R.remaining input.old.inner) (λ bytes. ServesRecords
+        (filter is_no_identity (records_of (dump bytes))) store.old store.new result []) }
+    ensures durable { D.honest (disk_of store.new) → ¬ HasFailed store.new → (image : Image)
+        → D.may_leave (disk_of store.new) image
         → Keeps (repository_of store.new) image }
     ensures peer { BothFlagged result input.old.failed input.new.failed output.old.failed output.new.failed }
 {

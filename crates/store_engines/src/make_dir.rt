@@ -1,5 +1,6 @@
 //! `mkdir` over any disk and writer.
-ghost use Rattle.std.specs.Prelude.{◌≡◌, ◌<◌, ◌≤◌, ◌⊎◌, ℕ, List, length, true, false, Ok, Err, Some, IfOk, IfErr, OnOk, IsErrOf, codes};
+ghost use Rattle.std.specs.Prelude.{◌≡◌, ◌<◌, ◌≤◌, ◌⊎◌, ℕ, List, length, true, false, Ok, Err, Some, IfOk, IfErr, OnOk};
+ghost use Rattle.std.specs.Prelude.{IsErrOf, codes};
 ghost use Rattle.std.specs.Option.{option_map};
 ghost use Rattle.fleet_engines.specs.Runs.{Flagged};
 ghost use Rattle.node_base.specs.Path.{Path};
@@ -9,7 +10,8 @@ ghost use Rattle.fleet_disk.specs.Image.{Image};
 ghost use Rattle.repo_core.specs.declared.entry.Entry.{Entry as EntryOf};
 ghost use Rattle.repo_store.specs.Journal.{Keeps};
 ghost use Rattle.repo_store.specs.Words.{disk_of, repository_of, revisions_of, HasFailed};
-ghost use Rattle.store_engines.specs.Commits.{bare_entry, directory_entry, directory_set, logged, IsCommitted, NotCommitted};
+ghost use Rattle.store_engines.specs.Commits.{bare_entry, directory_entry, directory_set, logged, IsCommitted};
+ghost use Rattle.store_engines.specs.Commits.{NotCommitted};
 ghost use Rattle.store_engines.specs.Devices.{is_device, CantKeep, IsSafe, Serves};
 ghost use Rattle.store_engines.specs.Loads.{entry_fault, ServesOne};
 ghost use Rattle.store_engines.specs.Mirrors.{is_mirror};
@@ -18,21 +20,22 @@ ghost use Rattle.store_engines.specs.Refusals.{path_refusal, repo_refusal};
 use crate::commits::commit;
 use crate::lines::{committed_line, say};
 use crate::mirror::refuse_mirror;
-use crate::refusals::{path_refusal, store_refusal};
+use crate::refusals::path_refusal;
 use dump_load::{Change, ChangeSet};
 use fleet_disk::Disk;
 use fleet_engines::Sink;
 use node_base::limits::PROP_VALUE_BYTES;
 use node_base::{Action, NodeKind, NodePath, PropName, PropValue, Props, Refusal};
 use repo_core::Moment;
-use repo_store::RepoStore;
+use repo_store::{RepoStore, store_refusal};
 use std::alloc::{AllocError, Global};
 use std::io::Write;
 
 // The path that a word spells.
 fn path_of(alloc: Global, word: &str) -> Result<NodePath, Refusal>
     ensures path { IfOk result (λ p. path_read word.now ≡ Ok p) }
-    ensures refused { IfErr result (λ e. (e ≡ Refusal.OutOfMemory) ⊎ ((f : PathFaultOf) × (path_read word.now ≡ Err f) × (e ≡ path_refusal f))) }
+    ensures refused { IfErr result (λ e. (e ≡ Refusal.OutOfMemory)
+        ⊎ ((f : PathFaultOf) × (path_read word.now ≡ Err f) × (e ≡ path_refusal f))) }
     ensures no_device { IfErr result (λ e. is_device e ≡ false) }
 {
     match NodePath::parse(alloc, word.as_bytes()) {
@@ -97,8 +100,12 @@ fn refused_message<D: Disk + Drop>(
     set: ChangeSet,
     moment: Moment,
 ) -> Refusal
-    ensures due { (result ≡ Refusal.OutOfMemory) ⊎ ((path : Path) → set ≡ directory_set path → CantKeep store.new (bare_entry (revisions_of store.old) path moment) result)
-        ⊎ ((path : Path) (message : List ℕ) → set ≡ directory_set path → 65536 < length message → option_map repo_refusal (entry_fault (revisions_of store.old) (directory_entry (revisions_of store.old) path message moment)) ≡ Some result) }
+    ensures due { (result ≡ Refusal.OutOfMemory)
+        ⊎ ((path : Path) → set ≡ directory_set path
+        → CantKeep store.new (bare_entry (revisions_of store.old) path moment) result)
+        ⊎ ((path : Path) (message : List ℕ) → set ≡ directory_set path → 65536 < length message
+        → option_map repo_refusal (entry_fault (revisions_of store.old)
+        (directory_entry (revisions_of store.old) path message moment)) ≡ Some result) }
     ensures same { repository_of store.new ≡ repository_of store.old }
     ensures device { (entry : EntryOf) → IsSafe store.old → ServesOne entry store.old store.new (Err result) }
     ensures no_peer { result ≡ Refusal.PeerFailed → ⊥ }
@@ -119,9 +126,14 @@ fn commit_directory<D: Disk + Drop, W: Write + Drop>(
     moment: Moment,
     output: &mut Sink<W>,
 ) -> Result<(), Refusal>
-    ensures ok { OnOk result ((bytes : List ℕ) → is_mirror (revisions_of store.old) ≡ false → path_read bytes ≡ Ok path → IsCommitted (repository_of store.old) bytes message.now moment (repository_of store.new) (W.contents output.old.inner) (W.contents output.new.inner)) }
-    ensures refused { IfErr result (λ e. (bytes : List ℕ) → is_mirror (revisions_of store.old) ≡ false → path_read bytes ≡ Ok path → NotCommitted (repository_of store.old) bytes message.now moment store.new (W.contents output.old.inner) (W.contents output.new.inner) output.new.failed e) }
-    ensures device { IsSafe store.old → ServesOne (directory_entry (revisions_of store.old) path message.now moment) store.old store.new result }
+    ensures ok { OnOk result ((bytes : List ℕ) → is_mirror (revisions_of store.old) ≡ false → path_read bytes ≡ Ok path
+        → IsCommitted (repository_of store.old) bytes message.now moment (repository_of store.new)
+        (W.contents output.old.inner) (W.contents output.new.inner)) }
+    ensures refused { IfErr result (λ e. (bytes : List ℕ) → is_mirror (revisions_of store.old) ≡ false
+        → path_read bytes ≡ Ok path → NotCommitted (repository_of store.old) bytes message.now moment store.new
+        (W.contents output.old.inner) (W.contents output.new.inner) output.new.failed e) }
+    ensures device { IsSafe store.old → ServesOne (directory_entry (revisions_of store.old) path message.now moment)
+        store.old store.new result }
     ensures peer { Flagged result output.old.failed output.new.failed }
 {
     let set = one_directory(alloc, path)?;
@@ -140,10 +152,10 @@ fn commit_directory<D: Disk + Drop, W: Write + Drop>(
 
 /// Commits one directory, with a message as `svn:log` and a moment as `svn:date`, and says so in a line.
 ///
-/// Refused are a mirror (24), then a path outside the limits (8) or the rule (10), then what the repository doesn't take: a
-/// revision after the last that can be (23), the root (10), a path that the tree doesn't take (11, 12, 13), and last a message
-/// past 65,536 bytes (8). The store's own are 31, 32, 36 and 70. All these leave the repository and the writer as they were. A
-/// line that can't be written is PeerFailed (49), and the directory stays.
+/// Refused are a mirror (24), then a path outside the limits (8) or the rule (10), then what the repository doesn't
+/// take: a revision after the last that can be (23), the root (10), a path that the tree doesn't take (11, 12, 13), and
+/// last a message past 65,536 bytes (8). The store's own are 31, 32, 36 and 70. All these leave the repository and the
+/// writer as they were. A line that can't be written is PeerFailed (49), and the directory stays.
 pub fn run_mkdir<D: Disk + Drop, W: Write + Drop>(
     alloc: Global,
     store: &mut RepoStore<D>,
@@ -152,12 +164,16 @@ pub fn run_mkdir<D: Disk + Drop, W: Write + Drop>(
     moment: Moment,
     output: &mut Sink<W>,
 ) -> Result<(), Refusal>
-    ensures ok { OnOk result (IsCommitted (repository_of store.old) path.now message.now moment (repository_of store.new) (W.contents output.old.inner) (W.contents output.new.inner)) }
-    ensures refused { IfErr result (NotCommitted (repository_of store.old) path.now message.now moment store.new (W.contents output.old.inner) (W.contents output.new.inner) output.new.failed) }
+    ensures ok { OnOk result (IsCommitted (repository_of store.old) path.now message.now moment
+        (repository_of store.new) (W.contents output.old.inner) (W.contents output.new.inner)) }
+    ensures refused { IfErr result (NotCommitted (repository_of store.old) path.now message.now moment store.new
+        (W.contents output.old.inner) (W.contents output.new.inner) output.new.failed) }
     ensures mirror { is_mirror (revisions_of store.old) ≡ true → IsErrOf result Refusal.ReadOnly }
     ensures device { Serves store.old store.new result }
-    ensures entry { (place : Path) → path_read path.now ≡ Ok place → ServesOne (directory_entry (revisions_of store.old) place message.now moment) store.old store.new result }
-    ensures durable { D.honest (disk_of store.new) → ¬ HasFailed store.new → (image : Image) → D.may_leave (disk_of store.new) image
+    ensures entry { (place : Path) → path_read path.now ≡ Ok place
+        → ServesOne (directory_entry (revisions_of store.old) place message.now moment) store.old store.new result }
+    ensures durable { D.honest (disk_of store.new) → ¬ HasFailed store.new → (image : Image)
+        → D.may_leave (disk_of store.new) image
         → Keeps (repository_of store.new) image }
     ensures peer { Flagged result output.old.failed output.new.failed }
 {

@@ -1,5 +1,5 @@
 use Rattle.std.proofs.Common.{◌∙◌, Err, ap, subst, sym, arith}
-use Rattle.std.proofs.lemmas.Result.{err_from_is_err_and, IfErr-weaker}
+use Rattle.std.proofs.lemmas.Result.{err_from_is_err_and, on_ok_weaker, IfErr-weaker}
 use Rattle.node_base.specs.Path.{Path}
 use Rattle.node_base.specs.PathText.{path_read}
 use Rattle.repo_store.specs.Words.{disk_of, revisions_of}
@@ -11,6 +11,11 @@ use Rattle.store_engines.proofs.Devices.{unserved}
 use Rattle.repo_core.specs.Repository.{Repository}
 use Rattle.store_engines.specs.Mirrors.{is_mirror}
 use Rattle.store_engines.proofs.make_dir.run_mkdir.Goals as goal
+
+pub returns-clause-ok : goal.returns-clause-ok
+returns-clause-ok g c =
+    let own = ap (λ (r : Repository). is_mirror r.revisions) (sym c.repo.ensures.value) ∙ c.in_ok-refuse_mirror.ensures.ok in
+    on_ok_weaker c.commit_directory.result (λ k. k c.args.path.now own c.in_ok-place.ensures.path) c.commit_directory.ensures.ok
 
 pub returns-clause-refused : goal.returns-clause-refused
 returns-clause-refused g c =

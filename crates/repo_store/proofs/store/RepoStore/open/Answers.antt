@@ -1,15 +1,27 @@
-use Rattle.std.proofs.Common.{◌⊎◌, inl, inr, sym, subst, ap, Err}
+use Rattle.std.proofs.Common.{List, ℕ, ◌⊎◌, inl, inr, sym, subst, ap, Err}
 use Rattle.fleet_disk.specs.Image.{Image}
 use Rattle.fleet_disk.specs.Rules.{LeavesOnly}
 use Rattle.fleet_disk.proofs.Moments.{joined, weaker}
 use Rattle.gate_log.specs.Log.{disk_of, entries_of}
 use Rattle.gate_log.specs.Standing.{StandsAlike}
 use Rattle.gate_log.specs.declared.fault.LogFault.{LogFault}
-use Rattle.repo_store.specs.Journal.{KeepsAlike}
+use Rattle.repo_store.specs.Journal.{KeepsAlike, Tell}
 use Rattle.repo_store.proofs.Images.{reopened}
 use Rattle.repo_store.proofs.Opening.{alike, alike_or, same_fault, only_device, only_first, replayed_fault, never_missing}
 use Rattle.repo_store.proofs.Telling.{told_stands, kept}
+use Rattle.std.proofs.lemmas.Bool.{false≢true}
 use Rattle.repo_store.proofs.store.RepoStore.open.Goals as goal
+
+pub invariant_of-result : goal.invariant_of-result
+invariant_of-result g c = record {
+  told = ∣ (λ h w.
+      let honest = c.replay.ensures.honest.1 h in
+      subst (λ (l : List (List ℕ)). Tell l c.in-Ok-replay.repo) (sym (c.replay.ensures.same honest)) (c.in-Ok-replay.ensures.told honest)) ∣₁;
+  kept = ∣ (λ h image left.
+      let honest = c.replay.ensures.honest.1 h in
+      kept (entries_of c.in-Ok.log) c.in-Ok-replay.repo image (∣ c.in-Ok-replay.ensures.told honest ∣₁) (c.in-Ok.ensures.durable (c.in-Ok.ensures.honest.1 honest) image (c.replay.ensures.inside honest image left))) ∣₁;
+  doubted = (λ f. absurd (c.in-Ok-replay.ensures.working f), λ t. absurd (false≢true t));
+}
 
 pub returns-in-Err-clause-any_moment_err : goal.returns-in-Err-clause-any_moment_err
 returns-in-Err-clause-any_moment_err g c h =

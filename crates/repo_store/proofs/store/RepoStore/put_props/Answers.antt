@@ -1,26 +1,21 @@
-use Rattle.std.proofs.Common.{sym, subst, inl, rules}
-use Rattle.repo_core.specs.Repository.{Repository}
-use Rattle.repo_core.specs.Entries.{with_entry_in}
-use Rattle.repo_core.specs.declared.entry.Entry.{Entry}
-use Rattle.repo_store.specs.Journal.{IsBeforeOrAfter, Keeps}
-use Rattle.repo_store.specs.Words.{entry_in}
-use Rattle.repo_store.proofs.Images.{unmoved}
+use Rattle.std.proofs.lemmas.Result.{err_from_is_err_and}
+use Rattle.repo_core.specs.Refusals.{by_repository}
+use Rattle.repo_core.specs.declared.entry.Entry.TheVariants.{Mapped}
+use Rattle.gate_log.specs.declared.log.Receipt.{Receipt}
+use Rattle.repo_store.specs.Words.{revisions_of}
+use Rattle.repo_store.proofs.Changing.{changes_as, not_staged}
 use Rattle.repo_store.proofs.store.RepoStore.put_props.Goals as goal
 
-pub returns-in_err-staged-clause-any_moment : goal.returns-in_err-staged-clause-any_moment
-returns-in_err-staged-clause-any_moment g c h w =
-    unmoved g.D.Disk.clock g.D.Disk.left_since g.D.Disk.may_leave _ _ _ c.stage_put_props.ensures.disk (λ f left. g.met.D.Disk.only_now _ f h left) (λ image left. inl (c.repo-repo.ensures.keeps h w image left))
+pub returns-in_err-staged-clause-change : goal.returns-in_err-staged-clause-change
+returns-in_err-staged-clause-change g c =
+    let p = err_from_is_err_and c.from_residual.result c.from_residual.ensures.1 in
+    let x = revisions_of c.args.self.now in
+    let entry = Mapped c.args.number c.args.props in
+    rw (p.1, p.2)
+    (not_staged Receipt entry (by_repository x entry) c.args.self.now c.stage.new.self c.in_err-staged.field-0.0 c.in_err-staged.ensures.stages c.args.self.now.kept c.args.self.now.doubted.1 (λ h image left. g.met.D.Disk.only_now _ image h left))
 
-pub returns-in_err-receipt-clause-either : goal.returns-in_err-receipt-clause-either
-returns-in_err-receipt-clause-either g c h is image left =
-    let honest = subst (λ (d : g.row.D.Denot). g.D.Disk.honest d) (sym c.stage_put_props.ensures.disk) h in
-    let raw = c.install.ensures.either honest (search rules) image left in
-    let there = subst (λ (r : Repository). IsBeforeOrAfter r (entry_in c.in_ok-staged.staged) image) c.stage_put_props.ensures.repository raw in
-    subst (λ (e : Entry). IsBeforeOrAfter c.args.self.now.repo e image) c.in_ok-staged.ensures.entry there
-
-pub returns-clause-durable : goal.returns-clause-durable
-returns-clause-durable g c h image left =
-    let honest = subst (λ (d : g.row.D.Denot). g.D.Disk.honest d) (sym c.stage_put_props.ensures.disk) h in
-    let raw = c.in_ok-receipt.ensures.durable honest image left in
-    let there = subst (λ (r : Repository). Keeps (with_entry_in r (entry_in c.in_ok-staged.staged)) image) c.stage_put_props.ensures.repository raw in
-    subst (λ (e : Entry). Keeps (with_entry_in c.args.self.now.repo e) image) c.in_ok-staged.ensures.entry there
+pub returns-clause-change : goal.returns-clause-change
+returns-clause-change g c =
+    let x = revisions_of c.args.self.now in
+    let entry = Mapped c.args.number c.args.props in
+    changes_as Receipt entry (by_repository x entry) c.args.self.now c.stage.new.self c.install.new.self c.in_ok-staged.staged c.install.result c.in_ok-staged.ensures.stages c.install.ensures.installed

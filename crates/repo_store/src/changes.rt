@@ -1,0 +1,210 @@
+//! The changes of a store: an entry is made ready, and then installed.
+ghost use Rattle.std.specs.Prelude.{◌≡◌, ◌<◌, length, Option, None, IfOk, IfErr};
+ghost use Rattle.std.specs.Option.{option_copied};
+ghost use Rattle.gate_log.specs.Log.{entries_of, entry_of};
+ghost use Rattle.repo_core.specs.Repository.{Revision, props_at};
+ghost use Rattle.repo_core.specs.Dates.{dated};
+ghost use Rattle.repo_core.specs.Refusals.{by_repository, change_fault, commit_fault, with_value};
+ghost use Rattle.repo_core.specs.Staging.{IsReady};
+ghost use Rattle.repo_core.specs.declared.entry.Entry.{Entry as EntryOf};
+ghost use Rattle.repo_core.specs.declared.entry.Entry.TheVariants.{Revised, Mapped};
+ghost use Rattle.repo_core.specs.declared.fault.RepoFault.{RepoFault as RepoFaultOf};
+ghost use Rattle.repo_store.specs.Changes.{Changes, Installs, IsJudged, IsNumbered, Stages};
+ghost use Rattle.repo_store.specs.Forms.{HasForm};
+ghost use Rattle.repo_store.specs.Journal.{HasSet};
+ghost use Rattle.repo_store.specs.Words.{entry_in, log_of, revisions_of, HasFailed, IsReadyFor};
+
+use crate::form::judge_entry;
+use crate::spell::entry_bytes;
+use crate::{Committed, RepoStore, Staged, StoreFault};
+use dump_load::ChangeSet;
+use fleet_disk::Disk;
+use gate_log::{LogFault, Receipt};
+use node_base::{PropName, Props, RevNo};
+use repo_core::{Entry, Expected, Moment, Repo, RepoFault};
+use std::alloc::Global;
+
+impl<D: Disk> RepoStore<D> {
+    /// Makes an entry ready, with its bytes and the journal's room for them. Nothing changes. A revision's entry has
+    /// the number after the head's.
+    ///
+    /// Refused is any entry after a failure of the device (32); then what the repository refuses of it (21, 23, its
+    /// set's first fault, 8); then a set that no entry says (2, 8); then an entry past the journal's limit (36); and
+    /// want of memory (70).
+    pub fn stage(&mut self, alloc: Global, entry: Entry) -> Result<Staged, StoreFault>
+        requires numbered { IsNumbered (revisions_of self.old) entry }
+        ensures stages { Stages entry (by_repository (revisions_of self.old) entry) self.old self.new result }
+    {
+        let judged = judge(alloc, &self.repo, entry);
+        self.ready(alloc, judged)
+    }
+
+    /// Makes a commit ready, as `Repo::stage_commit` does. Refused are a base above the head (21) or below it (25), and
+    /// what `stage` refuses.
+    pub fn stage_commit(
+        &mut self,
+        alloc: Global,
+        base: RevNo,
+        set: ChangeSet,
+        props: Props,
+        moment: Option<Moment>,
+    ) -> Result<Staged, StoreFault>
+        ensures stages { let entry = Revised (length (revisions_of self.old)) set (dated props moment) in
+            Stages entry (commit_fault (revisions_of self.old) base entry) self.old self.new result }
+    {
+        let judged = self.repo.stage_commit(alloc, base, set, props, moment);
+        self.ready(alloc, judged)
+    }
+
+    /// Makes a conditional change of one property ready, as `Repo::stage_change_prop` does. Refused are another value
+    /// than the expected one (22), and what `stage` refuses.
+    pub fn stage_change_prop(
+        &mut self,
+        alloc: Global,
+        number: RevNo,
+        name: &PropName,
+        value: Option<&[u8]>,
+        expected: &Expected,
+    ) -> Result<Staged, StoreFault>
+        ensures stages { let value = option_copied value.entry in
+            Stages (Mapped number (with_value (props_at (revisions_of self.old) number) name.now value))
+            (change_fault (revisions_of self.old) number name.now value expected.now) self.old self.new result }
+    {
+        let judged = self
+            .repo
+            .stage_change_prop(alloc, number, name, value, expected);
+        self.ready(alloc, judged)
+    }
+
+    /// Writes what was staged to the disk, and takes it in; no other call of this store comes between. It needs no
+    /// memory. DeviceFailed (31) alone is answered, after which the repository in memory is as before, and on the disk
+    /// it is that or the one after the entry.
+    pub fn install(&mut self, staged: Staged) -> Result<Receipt, StoreFault>
+        requires { IsReadyFor self.old staged }
+        ensures installed { Installs (entry_in staged) self.old self.new result }
+        ensures receipt { IfOk result (λ r. entry_of r ≡ length (entries_of (log_of self.old))) }
+    {
+        let Staged { change, bytes } = staged;
+        match self.log.append(&bytes) {
+            Ok(receipt) => {
+                self.repo.install(change);
+                Ok(receipt)
+            }
+            Err(fault) => {
+                self.doubt = Some(change);
+                Err(StoreFault::Log(fault))
+            }
+        }
+    }
+
+    /// Commits a set of changes against the head: `stage_commit`, then `install`.
+    pub fn commit(
+        &mut self,
+        alloc: Global,
+        base: RevNo,
+        set: ChangeSet,
+        props: Props,
+        moment: Option<Moment>,
+    ) -> Result<Committed, StoreFault>
+        ensures change { let entry = Revised (length (revisions_of self.old)) set (dated props moment) in
+            Changes entry (commit_fault (revisions_of self.old) base entry) self.old self.new result }
+        ensures number { IfOk result (λ c. c.number ≡ length (revisions_of self.old)) }
+        ensures receipt { IfOk result (λ c. entry_of c.receipt ≡ length (entries_of (log_of self.old))) }
+    {
+        let staged = self.stage_commit(alloc, base, set, props, moment)?;
+        let receipt = self.install(staged)?;
+        let number = self.repo.head();
+        Ok(Committed { receipt, number })
+    }
+
+    /// Puts a value at the name of a property of a revision, or takes it away, where the present value is as expected:
+    /// `stage_change_prop`, then `install`.
+    pub fn change_prop(
+        &mut self,
+        alloc: Global,
+        number: RevNo,
+        name: &PropName,
+        value: Option<&[u8]>,
+        expected: &Expected,
+    ) -> Result<Receipt, StoreFault>
+        ensures change { let value = option_copied value.entry in
+            Changes (Mapped number (with_value (props_at (revisions_of self.old) number) name.now value))
+            (change_fault (revisions_of self.old) number name.now value expected.now) self.old self.new result }
+        ensures receipt { IfOk result (λ r. entry_of r ≡ length (entries_of (log_of self.old))) }
+    {
+        let staged = self.stage_change_prop(alloc, number, name, value, expected)?;
+        self.install(staged)
+    }
+
+    /// Puts all properties of a revision: `stage` of that entry, then `install`.
+    pub fn put_props(
+        &mut self,
+        alloc: Global,
+        number: RevNo,
+        props: Props,
+    ) -> Result<Receipt, StoreFault>
+        ensures change { let entry = Mapped number props in
+            Changes entry (by_repository (revisions_of self.old) entry) self.old self.new result }
+        ensures receipt { IfOk result (λ r. entry_of r ≡ length (entries_of (log_of self.old))) }
+    {
+        let staged = self.stage(alloc, Entry::Mapped { number, props })?;
+        self.install(staged)
+    }
+
+    // What the repository judged is made ready.
+    fn ready(
+        &mut self,
+        alloc: Global,
+        judged: Result<repo_core::Staged, RepoFault>,
+    ) -> Result<Staged, StoreFault>
+        requires ready { IfOk judged (IsReady (revisions_of self.old)) }
+        ensures stages { (entry : EntryOf) (refused : Option RepoFaultOf) → IsJudged entry refused judged
+            → Stages entry refused self.old self.new result }
+    {
+        if self.log.has_failed() {
+            return Err(StoreFault::Log(LogFault::Failed));
+        }
+        let change = match judged {
+            Ok(change) => change,
+            Err(fault) => return Err(StoreFault::Repo(fault)),
+        };
+        match judge_entry(change.entry()) {
+            Ok(()) => self.reserve(alloc, change),
+            Err(fault) => Err(StoreFault::Repo(fault)),
+        }
+    }
+
+    // The bytes of a change's entry, and the journal's room for them.
+    #[tactic(auto, using(crate::proofs::Spelling::spelled_some))]
+    fn reserve(&mut self, alloc: Global, change: repo_core::Staged) -> Result<Staged, StoreFault>
+        requires working { ¬ HasFailed self.old }
+        requires ready { IsReady (revisions_of self.old) change }
+        requires set { HasSet change.entry }
+        requires form { HasForm change.entry }
+        ensures stages { Stages change.entry None self.old self.new result }
+    {
+        let Ok(bytes) = entry_bytes(alloc, change.entry()) else {
+            return Err(StoreFault::Log(LogFault::OutOfMemory));
+        };
+        match self.log.reserve(bytes.len()) {
+            Ok(()) => Ok(Staged { change, bytes }),
+            Err(fault) => Err(StoreFault::Log(fault)),
+        }
+    }
+}
+
+// What a repository makes of an entry.
+fn judge(alloc: Global, repo: &Repo, entry: Entry) -> Result<repo_core::Staged, RepoFault>
+    requires numbered { IsNumbered repo.now.revisions entry }
+    ensures judged { IsJudged entry (by_repository repo.now.revisions entry) result }
+    ensures ready { IfOk result (IsReady repo.now.revisions) }
+{
+    match entry {
+        Entry::Revised {
+            number: _,
+            set,
+            props,
+        } => repo.stage_commit(alloc, repo.head(), set, props, None),
+        Entry::Mapped { number, props } => repo.stage_put_props(number, props),
+    }
+}
