@@ -17,6 +17,7 @@ use Rattle.sync_core.specs.Names.{Number, Spelt, reaches}
 use Rattle.sync_core.specs.Mirror.{Standing, HasShape, TakeLock, ReleaseLock, PutProps, Look}
 use Rattle.sync_core.specs.Jobs.{Job, Locked, MayPutNumber, locks_with, with_fetched}
 use Rattle.sync_core.specs.Deeds.{heard, called, IsLawfulDeed}
+use Rattle.sync_core.specs.Faults.{inconsistent_as}
 use Rattle.sync_core.specs.Shapes.{shape_in}
 use Rattle.sync_core.specs.Identities.{is_identity}
 use Rattle.sync_core.specs.Endings.{released}
@@ -44,7 +45,7 @@ merged_in (resting.Committed n) m c h f = (f.2.0, f.2.1)
 merged_in resting.Merged m c h f = (h, f.0)
 
 looks : (job : Job) (low high : ℕ) (s : Standing) → IsCopying job → job.stage ≡ Locked → job.put ≡ None → job.merged ≡ s.merged → (b : Bool) (o : Option Resting) → IfSome o (λ shape. HasShape shape s.merged s.copying s.head)
-    → FollowsIn (if b then give_up fault.NotInitialised else if is_some o then phase.Who s.merged s.uuid else give_up (fault.Inconsistent s.merged s.copying s.head)) job low high
+    → FollowsIn (if b then give_up fault.NotInitialised else if is_some o then phase.Who s.merged s.uuid else give_up (inconsistent_as s)) job low high
 looks job low high s i l p m true o h = (l, tt)
 looks job low high s i l p m false None h = (l, tt)
 looks job low high s i l p m false (Some shape) h = (i, l, p, m, merged_in shape s.merged s.copying s.head h)

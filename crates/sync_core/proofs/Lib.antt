@@ -2,14 +2,18 @@ pub mod Calls
 pub mod CopyLemmas
 pub mod Entries
 pub mod Gives
+pub mod Going
 pub mod Hearing
 pub mod Holder
 pub mod HolderCalls
 pub mod HolderRuns
+pub mod Holding
 pub mod InitLemmas
 pub mod Jobs
 pub mod Kept
 pub mod Lists
+pub mod Moves
+pub mod Nearer
 pub mod Origins
 pub mod PlainAnswers
 pub mod Replays
@@ -20,6 +24,7 @@ pub mod ShapeLemmas
 pub mod Stands
 pub mod StateLemmas
 pub mod SyncLemmas
+pub mod SyncSteps
 pub mod Table
 pub mod Turns
 pub mod Writes

@@ -12,6 +12,7 @@ use Rattle.sync_core.specs.declared.answer.Answer.TheVariants as answer
 use Rattle.sync_core.specs.Names.{Number, reaches}
 use Rattle.sync_core.specs.Mirror.{Standing, TakeLock, ReleaseLock, PutProps, Look}
 use Rattle.sync_core.specs.Deeds.{Deed, Calls, AsksIdentity, FetchesProps, Ends, fault_in}
+use Rattle.sync_core.specs.Faults.{inconsistent_as}
 use Rattle.sync_core.specs.Shapes.{shape_in}
 use Rattle.sync_core.specs.Endings.{released}
 use Rattle.sync_core.specs.Identities.{is_identity}
@@ -44,7 +45,7 @@ after_lock a = phase.End (ending.Refused (fault_in a))
 
 -- Look: a mirror that isn't initialised, or in no shape, is left
 abbrev pub looked : Standing → CopyPhase
-looked s = if is_none s.url then give_up fault.NotInitialised else if is_some (shape_in s.merged s.copying s.head) then phase.Who s.merged s.uuid else give_up (fault.Inconsistent s.merged s.copying s.head)
+looked s = if is_none s.url then give_up fault.NotInitialised else if is_some (shape_in s.merged s.copying s.head) then phase.Who s.merged s.uuid else give_up (inconsistent_as s)
 
 abbrev pub after_look : Answer → CopyPhase
 after_look (answer.Seen s) = looked s

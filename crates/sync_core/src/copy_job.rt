@@ -15,6 +15,7 @@ use crate::number::Number;
 use crate::shape::shape_of;
 use crate::standing::Standing;
 use crate::token::Token;
+use crate::told_number::ToldNumber;
 use node_base::{PropValue, Props, RevNo};
 
 /// Where a copying job is.
@@ -138,6 +139,8 @@ fn looked(standing: Standing) -> CopyPhase
         uuid,
         merged,
         copying,
+        merged_text,
+        copying_text,
         lock: _,
         head,
     } = standing;
@@ -147,8 +150,8 @@ fn looked(standing: Standing) -> CopyPhase
     match shape_of(merged, copying, head) {
         Some(_) => CopyPhase::Who { merged, uuid },
         None => give_up(SyncFault::Inconsistent {
-            merged,
-            copying,
+            merged: ToldNumber::of(merged, merged_text),
+            copying: ToldNumber::of(copying, copying_text),
             head,
         }),
     }

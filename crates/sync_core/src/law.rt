@@ -1,8 +1,12 @@
 //! What holds of every mirror, whatever happens: any list of commits and property edits of the master, jobs that begin, ask,
 //! call, run out of memory and leave, readers, and stops of mirrors with the entry of a call in flight kept or not. Each
 //! function does nothing: its contract is the law.
+ghost use Rattle.sync_core.specs.Going.{DoesWhatItMay, AsksWhatItMay, FollowsOn, StaysEnded, OnlyEndedEnds, EndsWellDone, CommitsInOrder};
 ghost use Rattle.sync_core.specs.Hearing.{AnswersAreHeard, RefusalTellsNothing, JobsGoOn, StopsInFlight};
+ghost use Rattle.sync_core.specs.Holding.{LockIsGiven, HolderIsServed, HolderStays, HolderListens, HolderIsAlone};
 ghost use Rattle.sync_core.specs.Law.{FreshStarts, EveryRun, EveryFreshRun, MomentsRise, StaysBlank, HolderGoesOn};
+ghost use Rattle.sync_core.specs.Measures.{ComesNearer};
+ghost use Rattle.sync_core.specs.Moves.{CallsMoveNumbers};
 ghost use Rattle.sync_core.specs.Replay.{CallsAreJournalled, CallsJoin};
 ghost use Rattle.sync_core.specs.Table.{NeedsAreMet, ShapesTurn};
 
@@ -47,4 +51,37 @@ pub fn shapes_turn()
 pub fn calls_are_journalled()
     ensures journal { CallsAreJournalled }
     ensures joined { CallsJoin }
+{}
+
+/// How accepted calls move what is merged, what is being copied and the head; and that a commit has the number after the head's.
+pub fn calls_move_numbers()
+    ensures moved { CallsMoveNumbers }
+    ensures commits { CommitsInOrder }
+{}
+
+/// A seat that holds the lock, whatever led there, and whose job knows how the mirror stands: it is refused no lawful call for
+/// its turn or its lock, each of its lawful calls but the release keeps it so, and nobody else's call but a look is accepted.
+pub fn the_holder_goes_on()
+    ensures begins { LockIsGiven }
+    ensures served { HolderIsServed }
+    ensures stays { HolderStays }
+    ensures listens { HolderListens }
+    ensures alone { HolderIsAlone }
+{}
+
+/// What a job does next is lawful, what it asks is allowed, the newest revision under its lock alone, and what it becomes by an
+/// answer follows what it has heard.
+pub fn jobs_follow()
+    ensures lawful { DoesWhatItMay }
+    ensures asked { AsksWhatItMay }
+    ensures follows { FollowsOn }
+{}
+
+/// A job that has ended stays so and does nothing; only such a job does nothing. It ends well only as its last call is done: of a
+/// job that takes the lock, its release. Each answer to one that goes on brings it nearer to its end.
+pub fn jobs_end()
+    ensures ended { StaysEnded }
+    ensures only { OnlyEndedEnds }
+    ensures well { EndsWellDone }
+    ensures nearer { ComesNearer }
 {}

@@ -6,8 +6,9 @@ use std::alloc::Global;
 use std::process::Abort;
 use std::test::Fail;
 use sync_core::{
-    Action, Answer, Ending, JobState, LockToken, MirrorCall, Number, PlainMirror, Reply, Seat,
-    SyncFault, Token, absorb, decide, look,
+    Action, Answer, Ending, JobState, KeptCall, LockToken, MirrorCall, Number, Numbers, PlainMirror,
+    Planned, Reply, Resting, Seat, SyncFault, ToldNumber, Token, absorb, decide, holder_left, look,
+    plan, shape_of,
 };
 use uuid::Uuid;
 
@@ -327,6 +328,18 @@ fn numbers_that_fit_no_shape(rt: HostRuntime) -> Result<(), Fail> {
     );
     let far = told_of(&rt, alloc, b"99999", None, 7)?;
     assert!(rt; far.0 == 57 && far.1.as_str() == "inconsistent: merged 99999, copying -, head 7");
+    let huge = told_of(
+        &rt,
+        alloc,
+        b"18446744073709551615",
+        Some(b"18446744073709551616"),
+        7,
+    )?;
+    assert!(rt;
+        huge.0 == 57
+            && huge.1.as_str()
+                == "inconsistent: merged 18446744073709551615, copying 18446744073709551616, head 7"
+    );
     Ok(())
 }
 
@@ -421,13 +434,13 @@ fn ends_are_told(rt: &impl Abort, alloc: Global) -> bool {
 
 fn numbers_are_told(rt: &impl Abort, alloc: Global) -> bool {
     let apart = SyncFault::Inconsistent {
-        merged: Number::Spelt(3),
-        copying: Number::Spelt(5),
+        merged: ToldNumber::Spelt(3),
+        copying: ToldNumber::Spelt(5),
         head: RevNo::new(3),
     };
     let none = SyncFault::Inconsistent {
-        merged: Number::Misspelt,
-        copying: Number::Absent,
+        merged: ToldNumber::Missing,
+        copying: ToldNumber::Missing,
         head: RevNo::new(7),
     };
     is_told(
@@ -612,5 +625,162 @@ fn a_master_that_is_behind_changes_nothing(rt: HostRuntime) -> Result<(), Fail> 
     let alloc = rt.alloc();
     let end = behind(&rt, alloc)?;
     assert!(rt; end.0 == 0 && end.1.as_slice() == b"".as_slice() && end.2 == 2);
+    Ok(())
+}
+
+// The end of a sync of a mirror whose last revision is merged and that notes the number after it, which no revision has.
+fn past_the_last(rt: &impl Abort, alloc: Global) -> Result<(u8, String, bool), Fail> {
+    let mut own = one_prop(rt, alloc, b"svn:sync-from-url", b"/master");
+    set(rt, alloc, &mut own, b"svn:sync-from-uuid", b"u");
+    set(rt, alloc, &mut own, b"svn:sync-last-merged-rev", b"65535");
+    set(rt, alloc, &mut own, b"svn:sync-currently-copying", b"65536");
+    let last = RevNo::new(65535);
+    let standing = look(alloc, &own, last)?;
+    let shaped = shape_of(standing.merged, standing.copying, last) == Some(Resting::Copying(65536));
+    let job = absorb(sync(rt, alloc, false), Answer::Done);
+    let job = absorb(job, Answer::Seen(standing));
+    let job = absorb(job, Answer::Identity(value(rt, alloc, b"u")));
+    let job = absorb(job, Answer::Latest(last));
+    let job = absorb(job, Answer::Done);
+    match job.ending() {
+        Some(Ending::Refused(fault)) => {
+            let number = fault.number();
+            Ok((number, format!(in alloc; "{fault}")?, shaped))
+        }
+        _ => Ok((0, format!(in alloc; "goes on")?, shaped)),
+    }
+}
+
+#[test]
+fn no_revision_is_copied_past_the_last(rt: HostRuntime) -> Result<(), Fail> {
+    let alloc = rt.alloc();
+    let end = past_the_last(&rt, alloc)?;
+    assert!(rt; end.2);
+    assert!(rt;
+        end.0 == 57
+            && end.1.as_str() == "inconsistent: merged 65535, copying 65536, head 65535"
+    );
+    Ok(())
+}
+
+// Whether a call that was kept and copied takes the lock with that token.
+fn locks_with(rt: &impl Abort, alloc: Global, call: &MirrorCall<'_>, token: &[u8]) -> bool {
+    let kept = KeptCall::of(alloc, call).expect(rt, "memory");
+    let copy = kept.copy(alloc).expect(rt, "memory");
+    match copy.lent() {
+        MirrorCall::TakeLock(own) => own.as_bytes() == token,
+        _ => false,
+    }
+}
+
+// Whether one that puts properties still does.
+fn puts(rt: &impl Abort, alloc: Global, number: RevNo, log: &[u8]) -> bool {
+    let props = one_prop(rt, alloc, b"svn:log", log);
+    let call = MirrorCall::PutProps {
+        number,
+        props: &props,
+    };
+    let kept = KeptCall::of(alloc, &call).expect(rt, "memory");
+    match kept.lent() {
+        MirrorCall::PutProps { number: n, props } => n == number && props.get(b"svn:log") == Some(log),
+        _ => false,
+    }
+}
+
+// Whether a refusal that was copied is told alike.
+fn is_copied(rt: &impl Abort, alloc: Global, fault: SyncFault, number: u8, text: &str) -> bool {
+    let answer = Answer::Refused(fault);
+    match answer.copy(alloc).expect(rt, "memory") {
+        Answer::Refused(copy) => is_told(rt, alloc, copy, number, text),
+        _ => false,
+    }
+}
+
+fn refusals_are_copied(rt: &impl Abort, alloc: Global) -> bool {
+    let held = LockToken {
+        bytes: Vec::from_slice(alloc, b"job").expect(rt, "memory"),
+    };
+    let text = format!(in alloc; "refused").expect(rt, "memory");
+    is_copied(
+        rt,
+        alloc,
+        SyncFault::LockHeld(held),
+        54,
+        "the sync lock is held by job",
+    ) && is_copied(
+        rt,
+        alloc,
+        SyncFault::MasterFailed(text),
+        60,
+        "master: refused",
+    ) && is_copied(
+        rt,
+        alloc,
+        SyncFault::Other(Refusal::Behind(RevNo::new(3))),
+        25,
+        "the base is not the head 3",
+    )
+}
+
+#[test]
+fn calls_and_answers_are_copied(rt: HostRuntime) -> Result<(), Fail> {
+    let alloc = rt.alloc();
+    let token = token(&rt, alloc, b"job");
+    assert!(rt; locks_with(&rt, alloc, &MirrorCall::TakeLock(&token), b"job"));
+    assert!(rt; puts(&rt, alloc, RevNo::new(4), b"four"));
+    assert!(rt; refusals_are_copied(&rt, alloc));
+    Ok(())
+}
+
+// The number of the refusal with which a call is planned: 0 where it is an entry's, and 255 where it is a look's.
+fn planned(alloc: Global, mirror: &PlainMirror, seat: u64, call: &MirrorCall<'_>) -> u8 {
+    match plan(alloc, &mirror.repo, mirror.holder, Seat::new(seat), call) {
+        Ok(Planned::Write(_)) => 0,
+        Ok(Planned::Tell(_)) => 255,
+        Err(fault) => fault.number(),
+    }
+}
+
+#[test]
+fn calls_are_planned(rt: HostRuntime) -> Result<(), Fail> {
+    let alloc = rt.alloc();
+    let mut mirror = begun(&rt, alloc, &master(&rt, alloc, 0)?)?;
+    let own = token(&rt, alloc, b"a");
+    let free = planned(alloc, &mirror, 1, &MirrorCall::TakeLock(&own));
+    let look = planned(alloc, &mirror, 1, &MirrorCall::Look);
+    assert!(rt; free == 0 && look == 255);
+    let taken = say(alloc, &mut mirror, 1, &MirrorCall::TakeLock(&own));
+    let held = planned(alloc, &mirror, 2, &MirrorCall::TakeLock(&own));
+    let others = planned(alloc, &mirror, 2, &MirrorCall::ReleaseLock);
+    assert!(rt; taken == 0 && held == 54 && others == 59);
+    Ok(())
+}
+
+// Whether the numbers after a call are these.
+fn moves(numbers: Numbers, call: &MirrorCall<'_>, merged: u64, copying: Number, head: u16) -> bool {
+    numbers.after(call)
+        == Numbers {
+            merged: Number::Spelt(merged),
+            copying,
+            head: RevNo::new(head),
+        }
+}
+
+#[test]
+fn calls_move_numbers(rt: HostRuntime) -> Result<(), Fail> {
+    let three = Numbers {
+        merged: Number::Spelt(3),
+        copying: Number::Absent,
+        head: RevNo::new(3),
+    };
+    let four = RevNo::new(4);
+    let copying = three.after(&MirrorCall::SetCopying(four));
+    assert!(rt; moves(three, &MirrorCall::SetCopying(four), 3, Number::Spelt(4), 3));
+    assert!(rt; moves(copying, &MirrorCall::SetMerged(four), 4, Number::Spelt(4), 3));
+    assert!(rt; moves(copying, &MirrorCall::ClearCopying, 3, Number::Absent, 3));
+    assert!(rt;
+        holder_left(Some(Seat::new(1)), Seat::new(2)) == Some(Seat::new(1))
+            && holder_left(Some(Seat::new(1)), Seat::new(1)) == None
+    );
     Ok(())
 }
