@@ -50,14 +50,14 @@ sync_ended (phase.Merge n) known a e h = none_isnt e h
 sync_ended phase.Clear known a e h = none_isnt e h
 sync_ended (phase.Release x) known a e h = none_isnt e h
 
-copy_ended : (p : CopyPhase) (low high : ℕ) (a : Answer) (e : Ending) → copy.ending_in p ≡ Some e → (copy.deed_in p ≡ Ends) × (copy.after_in p low high a ≡ p)
-copy_ended (copying.End x) low high a e h = (refl, refl)
-copy_ended (copying.Lock token) low high a e h = none_isnt e h
-copy_ended copying.Look low high a e h = none_isnt e h
-copy_ended (copying.Who merged uuid) low high a e h = none_isnt e h
-copy_ended (copying.FetchProps n) low high a e h = none_isnt e h
-copy_ended (copying.Put n props) low high a e h = none_isnt e h
-copy_ended (copying.Release x) low high a e h = none_isnt e h
+copy_ended : (token : List ℕ) (p : CopyPhase) (low high : ℕ) (a : Answer) (e : Ending) → copy.ending_in p ≡ Some e → (copy.deed_in token p ≡ Ends) × (copy.after_in p low high a ≡ p)
+copy_ended token (copying.End x) low high a e h = (refl, refl)
+copy_ended token copying.Lock low high a e h = none_isnt e h
+copy_ended token copying.Look low high a e h = none_isnt e h
+copy_ended token (copying.Who merged uuid) low high a e h = none_isnt e h
+copy_ended token (copying.FetchProps n) low high a e h = none_isnt e h
+copy_ended token (copying.Put n props) low high a e h = none_isnt e h
+copy_ended token (copying.Release x) low high a e h = none_isnt e h
 
 init_ended : (p : InitPhase) (url : List ℕ) (a : Answer) (e : Ending) → initial.ending_in p ≡ Some e → (initial.deed_in url p ≡ Ends) × (initial.after_in p a ≡ p)
 init_ended (init.End x) url a e h = (refl, refl)
@@ -68,7 +68,7 @@ init_ended (init.Init uuid props) url a e h = none_isnt e h
 pub stays-ended : StaysEnded
 stays-ended (state.Init s) a e h = let r = init_ended s.phase s.url a e h in (r.0, ap (λ p. state.Init (record { url = s.url; phase = p })) r.1)
 stays-ended (state.Sync s) a e h = let r = sync_ended s.phase s.known a e h in (r.0, ap state.Sync r.1)
-stays-ended (state.Copy s) a e h = let r = copy_ended s.phase s.low s.high a e h in (r.0, ap (λ p. state.Copy (record { low = s.low; high = s.high; phase = p })) r.1)
+stays-ended (state.Copy s) a e h = let r = copy_ended s.token s.phase s.low s.high a e h in (r.0, ap (λ p. state.Copy (record { token = s.token; low = s.low; high = s.high; phase = p })) r.1)
 
 sync_only : (p : SyncPhase) → sync.deed_in p ≡ Ends → (e : Ending) × (sync.ending_in p ≡ Some e)
 sync_only (phase.End x) h = (x, refl)
@@ -86,14 +86,14 @@ sync_only (phase.Merge n) h = absurd (cc)
 sync_only phase.Clear h = absurd (cc)
 sync_only (phase.Release x) h = absurd (cc)
 
-copy_only : (p : CopyPhase) → copy.deed_in p ≡ Ends → (e : Ending) × (copy.ending_in p ≡ Some e)
-copy_only (copying.End x) h = (x, refl)
-copy_only (copying.Lock token) h = absurd (cc)
-copy_only copying.Look h = absurd (cc)
-copy_only (copying.Who merged uuid) h = absurd (cc)
-copy_only (copying.FetchProps n) h = absurd (cc)
-copy_only (copying.Put n props) h = absurd (cc)
-copy_only (copying.Release x) h = absurd (cc)
+copy_only : (token : List ℕ) (p : CopyPhase) → copy.deed_in token p ≡ Ends → (e : Ending) × (copy.ending_in p ≡ Some e)
+copy_only token (copying.End x) h = (x, refl)
+copy_only token copying.Lock h = absurd (cc)
+copy_only token copying.Look h = absurd (cc)
+copy_only token (copying.Who merged uuid) h = absurd (cc)
+copy_only token (copying.FetchProps n) h = absurd (cc)
+copy_only token (copying.Put n props) h = absurd (cc)
+copy_only token (copying.Release x) h = absurd (cc)
 
 init_only : (p : InitPhase) (url : List ℕ) → initial.deed_in url p ≡ Ends → (e : Ending) × (initial.ending_in p ≡ Some e)
 init_only (init.End x) url h = (x, refl)
@@ -104,7 +104,7 @@ init_only (init.Init uuid props) url h = absurd (cc)
 pub only-ended-ends : OnlyEndedEnds
 only-ended-ends (state.Init s) h = init_only s.phase s.url h
 only-ended-ends (state.Sync s) h = sync_only s.phase h
-only-ended-ends (state.Copy s) h = copy_only s.phase h
+only-ended-ends (state.Copy s) h = copy_only s.token s.phase h
 
 -- a sync job that goes on
 abbrev GoesOn : SyncJob → Type 0
@@ -248,14 +248,14 @@ copy_put high n (answer.Map p) = refl
 copy_put high n (answer.Refused x) = refl
 copy_put high n (answer.Failed x) = refl
 
-copy_well : (p : CopyPhase) (low high : ℕ) (a : Answer) → copy.ending_in p ≡ None → copy.ending_in (copy.after_in p low high a) ≡ Some ending.Fine → IsWell (copy.deed_in p) a
-copy_well (copying.Lock token) low high a n h = absurd (copy_lock a h)
-copy_well copying.Look low high a n h = goes_not _ (copy_look a) h
-copy_well (copying.Who merged uuid) low high a n h = goes_not _ (copy_who low high merged uuid a) h
-copy_well (copying.FetchProps k) low high a n h = goes_not _ (copy_fetch k a) h
-copy_well (copying.Put k props) low high a n h = goes_not _ (copy_put high k a) h
-copy_well (copying.Release e) low high a n h = (released_done e a h, refl)
-copy_well (copying.End e) low high a n h = absurd (cc)
+copy_well : (token : List ℕ) (p : CopyPhase) (low high : ℕ) (a : Answer) → copy.ending_in p ≡ None → copy.ending_in (copy.after_in p low high a) ≡ Some ending.Fine → IsWell (copy.deed_in token p) a
+copy_well token copying.Lock low high a n h = absurd (copy_lock a h)
+copy_well token copying.Look low high a n h = goes_not _ (copy_look a) h
+copy_well token (copying.Who merged uuid) low high a n h = goes_not _ (copy_who low high merged uuid a) h
+copy_well token (copying.FetchProps k) low high a n h = goes_not _ (copy_fetch k a) h
+copy_well token (copying.Put k props) low high a n h = goes_not _ (copy_put high k a) h
+copy_well token (copying.Release e) low high a n h = (released_done e a h, refl)
+copy_well token (copying.End e) low high a n h = absurd (cc)
 
 abbrev IsInitDone : List ℕ → InitPhase → Answer → Type 0
 IsInitDone url p a = (a ≡ answer.Done) × ((uuid : List ℕ) × ((props : PropMap) × (initial.deed_in url p ≡ Calls (Init url uuid props))))
@@ -290,7 +290,7 @@ init_well (init.End x) url a n h = absurd (cc)
 pub ends-well-done : EndsWellDone
 ends-well-done (state.Init s) a n h = let w = init_well s.phase s.url a n h in (w.0, (Init s.url w.1.0 w.1.1.0, w.1.1.1, (s.url, w.1.0, (w.1.1.0, refl))))
 ends-well-done (state.Sync s) a n h = let w = sync_well s.phase s.known a n h in (w.0, (ReleaseLock, w.1, refl))
-ends-well-done (state.Copy s) a n h = let w = copy_well s.phase s.low s.high a n h in (w.0, (ReleaseLock, w.1, refl))
+ends-well-done (state.Copy s) a n h = let w = copy_well s.token s.phase s.low s.high a n h in (w.0, (ReleaseLock, w.1, refl))
 
 pub commits-in-order : CommitsInOrder
 commits-in-order m seat n set props some free =

@@ -1,5 +1,6 @@
 pub mod Calls
 pub mod CopyLemmas
+pub mod Digits
 pub mod Entries
 pub mod Gives
 pub mod Going

@@ -188,7 +188,7 @@ copy_put n high (answer.Refused x) = omega arith
 copy_put n high (answer.Failed x) = omega arith
 
 copy_nearer : (p : CopyPhase) (low high : ℕ) (a : Answer) → copy.ending_in p ≡ None → Below high (copy_left p high) (copy.after_in p low high a)
-copy_nearer (copying.Lock token) low high a e = copy_lock high a
+copy_nearer copying.Lock low high a e = copy_lock high a
 copy_nearer copying.Look low high a e = copy_look high a
 copy_nearer (copying.Who merged uuid) low high a e = copy_who low high merged uuid a
 copy_nearer (copying.FetchProps n) low high a e = copy_fetch n high a

@@ -1,5 +1,5 @@
 -- The refusal that each fault of a synchronisation is.
-use Rattle.std.specs.Prelude.{ℕ, Bool, true, false, List, ◌++◌, Option, Some, None, codes}
+use Rattle.std.specs.Prelude.{◌≡◌, ℕ, Bool, true, false, List, ◌++◌, Option, Some, None, codes}
 use Rattle.std.specs.Option.{option_map_or}
 use Rattle.std.specs.Fmt.{decimal}
 use Rattle.node_base.specs.Refusals.{refusal_text, shown_token}
@@ -9,7 +9,7 @@ use Rattle.dump_load.specs.declared.fault.ChangeFault.{ChangeFault}
 use Rattle.dump_load.specs.declared.fault.ChangeFault.TheVariants as change
 use Rattle.repo_core.specs.declared.fault.RepoFault.{RepoFault}
 use Rattle.repo_core.specs.declared.fault.RepoFault.TheVariants as repo
-use Rattle.sync_core.specs.Names.{Number, Absent, Misspelt, Spelt, Huge}
+use Rattle.sync_core.specs.Names.{Number, Absent, Misspelt, Spelt, Huge, number_of}
 use Rattle.sync_core.specs.declared.standing.Standing.{Standing}
 use Rattle.sync_core.specs.declared.told_number.ToldNumber.{ToldNumber}
 use Rattle.sync_core.specs.declared.told_number.ToldNumber.TheVariants as told
@@ -34,6 +34,10 @@ abbrev pub told_text : ToldNumber → List ℕ
 told_text told.Missing = codes "-"
 told_text (told.Spelt n) = decimal n
 told_text (told.Huge digits) = shown_token digits
+
+-- so a number from 2^64 on is told by its digits
+abbrev pub DigitsAreTold : Type 0
+DigitsAreTold = (digits : List ℕ) → number_of digits ≡ Huge → told_text (told_of (number_of digits) (Some digits)) ≡ digits
 
 abbrev pub spelt_told : ToldNumber → Option ℕ
 spelt_told told.Missing = None

@@ -44,7 +44,7 @@ sync_left (sync.End e) known = 0
 
 -- and a job that copies properties again two
 abbrev pub copy_left : CopyPhase → ℕ → ℕ
-copy_left (copy.Lock token) high = 2 * high + 7
+copy_left copy.Lock high = 2 * high + 7
 copy_left copy.Look high = 2 * high + 6
 copy_left (copy.Who merged uuid) high = 2 * high + 5
 copy_left (copy.FetchProps n) high = 2 * (high - n) + 4

@@ -22,7 +22,7 @@ use node_base::{PropValue, Props, RevNo};
 #[derive(Debug, Drop)]
 enum CopyPhase {
     /// Takes the lock.
-    Lock(Token),
+    Lock,
     /// Looks how the mirror stands.
     Look,
     /// Asks who the master is.
@@ -44,6 +44,7 @@ enum CopyPhase {
 /// stands, and fetches and puts the properties of each revision in order.
 #[derive(Debug, Drop)]
 pub struct CopyJob {
+    token: Token,
     low: RevNo,
     high: RevNo,
     phase: CopyPhase,
@@ -56,9 +57,10 @@ impl CopyJob {
         ensures begun { FollowsCopy (begun (CopyProps token)) result }
     {
         CopyJob {
+            token,
             low,
             high,
-            phase: CopyPhase::Lock(token),
+            phase: CopyPhase::Lock,
         }
     }
 
@@ -67,7 +69,7 @@ impl CopyJob {
         ensures table { deed_of result ≡ table.next_deed self.now }
     {
         match &self.phase {
-            CopyPhase::Lock(token) => Action::Call(MirrorCall::TakeLock(token)),
+            CopyPhase::Lock => Action::Call(MirrorCall::TakeLock(&self.token)),
             CopyPhase::Look => Action::Call(MirrorCall::Look),
             CopyPhase::Who { .. } => Action::AskIdentity,
             CopyPhase::FetchProps(n) => Action::FetchProps(*n),
@@ -81,9 +83,14 @@ impl CopyJob {
     pub fn absorb(self, answer: Answer) -> CopyJob
         ensures table { result ≡ table.after self answer }
     {
-        let CopyJob { low, high, phase } = self;
+        let CopyJob {
+            token,
+            low,
+            high,
+            phase,
+        } = self;
         let phase = match phase {
-            CopyPhase::Lock(_) => after_lock(answer),
+            CopyPhase::Lock => after_lock(answer),
             CopyPhase::Look => after_look(answer),
             CopyPhase::Who { merged, uuid } => after_who(low, high, merged, uuid, answer),
             CopyPhase::FetchProps(n) => after_fetch_props(n, answer),
@@ -91,14 +98,25 @@ impl CopyJob {
             CopyPhase::Release(ending) => CopyPhase::End(ending.released(answer)),
             CopyPhase::End(ending) => CopyPhase::End(ending),
         };
-        CopyJob { low, high, phase }
+        CopyJob {
+            token,
+            low,
+            high,
+            phase,
+        }
     }
 
     /// How it ended; None where it goes on.
     pub fn ending(self) -> Option<Ending>
         ensures { result ≡ table.ending_of self }
     {
-        match self.phase {
+        let CopyJob {
+            token: _,
+            low: _,
+            high: _,
+            phase,
+        } = self;
+        match phase {
             CopyPhase::End(ending) => Some(ending),
             _ => None,
         }

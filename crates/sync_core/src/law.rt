@@ -1,6 +1,7 @@
 //! What holds of every mirror, whatever happens: any list of commits and property edits of the master, jobs that begin, ask,
 //! call, run out of memory and leave, readers, and stops of mirrors with the entry of a call in flight kept or not. Each
 //! function does nothing: its contract is the law.
+ghost use Rattle.sync_core.specs.Faults.{DigitsAreTold};
 ghost use Rattle.sync_core.specs.Going.{DoesWhatItMay, AsksWhatItMay, FollowsOn, StaysEnded, OnlyEndedEnds, EndsWellDone, CommitsInOrder};
 ghost use Rattle.sync_core.specs.Hearing.{AnswersAreHeard, RefusalTellsNothing, JobsGoOn, StopsInFlight};
 ghost use Rattle.sync_core.specs.Holding.{LockIsGiven, HolderIsServed, HolderStays, HolderListens, HolderIsAlone};
@@ -84,4 +85,9 @@ pub fn jobs_end()
     ensures only { OnlyEndedEnds }
     ensures well { EndsWellDone }
     ensures nearer { ComesNearer }
+{}
+
+/// A number from 2^64 on is told by its digits.
+pub fn digits_are_told()
+    ensures { DigitsAreTold }
 {}
