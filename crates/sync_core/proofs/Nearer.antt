@@ -1,5 +1,5 @@
 -- Each answer brings a job nearer to its end.
-use Rattle.std.proofs.Common.{◌≡◌, ℕ, ◌+◌, ◌-◌, ◌*◌, ◌<◌, ◌≤◌, nat_lt, nat_le, not, Bool, true, false, List, Option, Some, None, is_none, is_some, if◌then◌else◌, refl, sym, ◌∙◌, subst, arith}
+use Rattle.std.proofs.Common.{◌≡◌, ◌≢◌, ℕ, ◌+◌, ◌-◌, ◌*◌, ◌<◌, ◌≤◌, nat_lt, nat_le, not, Bool, true, false, List, Option, Some, None, is_none, is_some, if◌then◌else◌, refl, sym, ◌∙◌, subst, arith}
 use Rattle.std.specs.Option.{option_map_or}
 use Rattle.std.proofs.lemmas.Bool.Decides.{nat_tests}
 use Rattle.sync_core.specs.declared.sync_job.Known.{Known}
@@ -23,10 +23,11 @@ use Rattle.sync_core.specs.Mirror.{Standing}
 use Rattle.sync_core.specs.Faults.{inconsistent_as}
 use Rattle.sync_core.specs.Shapes.{shape_in}
 use Rattle.sync_core.specs.Identities.{is_identity}
-use Rattle.sync_core.specs.SyncTable.{at, seen, resumed, next, after_latest, after_lock, after_in, ending_in}
+use Rattle.sync_core.specs.SyncTable.{at, seen, resumed, next, after_latest, after_lock, after_in, deed_in}
 use Rattle.sync_core.specs.CopyTable as copy
 use Rattle.sync_core.specs.InitTable as initial
-use Rattle.sync_core.specs.States.{after, ending_of}
+use Rattle.sync_core.specs.Deeds.{Ends}
+use Rattle.sync_core.specs.States as states
 use Rattle.sync_core.specs.Measures.{most, beyond, at_first, sync_left, copy_left, init_left, left, CanBe, ComesNearer}
 use Rattle.sync_core.proofs.SyncSteps.{set_copying_is, fetch_is, commit_is, fetch_props_is, put_is, merge_is, clear_is, look_is, who_is, looked_is, next_is}
 
@@ -97,7 +98,7 @@ lock known (answer.Map p) = omega arith
 lock known (answer.Refused x) = omega arith
 lock known (answer.Failed x) = omega arith
 
-sync_nearer : (p : SyncPhase) (known : Known) (a : Answer) → CanBe a → ending_in p ≡ None → Under (sync_left p known) (after_in p known a)
+sync_nearer : (p : SyncPhase) (known : Known) (a : Answer) → CanBe a → deed_in p ≢ Ends → Under (sync_left p known) (after_in p known a)
 sync_nearer (phase.Lock token steal) known a c e = lock known a
 sync_nearer phase.Look known a c e =
     look_is (Under (13 * at_first known + 11)) known a
@@ -114,7 +115,7 @@ sync_nearer (phase.Merge n) known a c e = merge_is (Under (13 * beyond known kno
 sync_nearer phase.Clear known a c e =
     clear_is (Under (13 * beyond known known.head + 6)) known a (cleared_left (record known { copying = Absent }) known.latest refl refl) (λ f. omega arith)
 sync_nearer (phase.Release x) known a c e = omega arith
-sync_nearer (phase.End x) known a c e = absurd (cc)
+sync_nearer (phase.End x) known a c e = absurd (e refl)
 
 abbrev Below : ℕ → ℕ → CopyPhase → Type 0
 Below high k p = copy_left p high < k
@@ -187,46 +188,46 @@ copy_put n high (answer.Map p) = omega arith
 copy_put n high (answer.Refused x) = omega arith
 copy_put n high (answer.Failed x) = omega arith
 
-copy_nearer : (p : CopyPhase) (low high : ℕ) (a : Answer) → copy.ending_in p ≡ None → Below high (copy_left p high) (copy.after_in p low high a)
-copy_nearer copying.Lock low high a e = copy_lock high a
-copy_nearer copying.Look low high a e = copy_look high a
-copy_nearer (copying.Who merged uuid) low high a e = copy_who low high merged uuid a
-copy_nearer (copying.FetchProps n) low high a e = copy_fetch n high a
-copy_nearer (copying.Put n props) low high a e = copy_put n high a
-copy_nearer (copying.Release x) low high a e = omega arith
-copy_nearer (copying.End x) low high a e = absurd (cc)
+copy_nearer : (token : List ℕ) (p : CopyPhase) (low high : ℕ) (a : Answer) → copy.deed_in token p ≢ Ends → Below high (copy_left p high) (copy.after_in p low high a)
+copy_nearer token copying.Lock low high a e = copy_lock high a
+copy_nearer token copying.Look low high a e = copy_look high a
+copy_nearer token (copying.Who merged uuid) low high a e = copy_who low high merged uuid a
+copy_nearer token (copying.FetchProps n) low high a e = copy_fetch n high a
+copy_nearer token (copying.Put n props) low high a e = copy_put n high a
+copy_nearer token (copying.Release x) low high a e = omega arith
+copy_nearer token (copying.End x) low high a e = absurd (e refl)
 
-init_nearer : (p : InitPhase) (a : Answer) → initial.ending_in p ≡ None → init_left (initial.after_in p a) < init_left p
-init_nearer init.Who answer.Done e = omega arith
-init_nearer init.Who (answer.Seen r) e = omega arith
-init_nearer init.Who (answer.Identity u) e = omega arith
-init_nearer init.Who (answer.Latest k) e = omega arith
-init_nearer init.Who (answer.Revision s p) e = omega arith
-init_nearer init.Who (answer.Map p) e = omega arith
-init_nearer init.Who (answer.Refused x) e = omega arith
-init_nearer init.Who (answer.Failed x) e = omega arith
-init_nearer (init.FetchProps uuid) answer.Done e = omega arith
-init_nearer (init.FetchProps uuid) (answer.Seen r) e = omega arith
-init_nearer (init.FetchProps uuid) (answer.Identity u) e = omega arith
-init_nearer (init.FetchProps uuid) (answer.Latest k) e = omega arith
-init_nearer (init.FetchProps uuid) (answer.Revision s p) e = omega arith
-init_nearer (init.FetchProps uuid) (answer.Map p) e = omega arith
-init_nearer (init.FetchProps uuid) (answer.Refused x) e = omega arith
-init_nearer (init.FetchProps uuid) (answer.Failed x) e = omega arith
-init_nearer (init.Init uuid props) answer.Done e = omega arith
-init_nearer (init.Init uuid props) (answer.Seen r) e = omega arith
-init_nearer (init.Init uuid props) (answer.Identity u) e = omega arith
-init_nearer (init.Init uuid props) (answer.Latest k) e = omega arith
-init_nearer (init.Init uuid props) (answer.Revision s p) e = omega arith
-init_nearer (init.Init uuid props) (answer.Map p) e = omega arith
-init_nearer (init.Init uuid props) (answer.Refused x) e = omega arith
-init_nearer (init.Init uuid props) (answer.Failed x) e = omega arith
-init_nearer (init.End x) a e = absurd (cc)
+init_nearer : (url : List ℕ) (p : InitPhase) (a : Answer) → initial.deed_in url p ≢ Ends → init_left (initial.after_in p a) < init_left p
+init_nearer url init.Who answer.Done e = omega arith
+init_nearer url init.Who (answer.Seen r) e = omega arith
+init_nearer url init.Who (answer.Identity u) e = omega arith
+init_nearer url init.Who (answer.Latest k) e = omega arith
+init_nearer url init.Who (answer.Revision s p) e = omega arith
+init_nearer url init.Who (answer.Map p) e = omega arith
+init_nearer url init.Who (answer.Refused x) e = omega arith
+init_nearer url init.Who (answer.Failed x) e = omega arith
+init_nearer url (init.FetchProps uuid) answer.Done e = omega arith
+init_nearer url (init.FetchProps uuid) (answer.Seen r) e = omega arith
+init_nearer url (init.FetchProps uuid) (answer.Identity u) e = omega arith
+init_nearer url (init.FetchProps uuid) (answer.Latest k) e = omega arith
+init_nearer url (init.FetchProps uuid) (answer.Revision s p) e = omega arith
+init_nearer url (init.FetchProps uuid) (answer.Map p) e = omega arith
+init_nearer url (init.FetchProps uuid) (answer.Refused x) e = omega arith
+init_nearer url (init.FetchProps uuid) (answer.Failed x) e = omega arith
+init_nearer url (init.Init uuid props) answer.Done e = omega arith
+init_nearer url (init.Init uuid props) (answer.Seen r) e = omega arith
+init_nearer url (init.Init uuid props) (answer.Identity u) e = omega arith
+init_nearer url (init.Init uuid props) (answer.Latest k) e = omega arith
+init_nearer url (init.Init uuid props) (answer.Revision s p) e = omega arith
+init_nearer url (init.Init uuid props) (answer.Map p) e = omega arith
+init_nearer url (init.Init uuid props) (answer.Refused x) e = omega arith
+init_nearer url (init.Init uuid props) (answer.Failed x) e = omega arith
+init_nearer url (init.End x) a e = absurd (e refl)
 
 pub comes-nearer : ComesNearer
-comes-nearer (state.Init s) a c e = init_nearer s.phase a e
+comes-nearer (state.Init s) a c e = init_nearer s.url s.phase a e
 comes-nearer (state.Sync s) a c e = sync_nearer s.phase s.known a c e
-comes-nearer (state.Copy s) a c e = copy_nearer s.phase s.low s.high a e
+comes-nearer (state.Copy s) a c e = copy_nearer s.token s.phase s.low s.high a e
 
-pub nearer_by : (s : JobState) (a : Answer) (r : JobState) → r ≡ after s a → CanBe a → ending_of s ≡ None → left r < left s
+pub nearer_by : (s : JobState) (a : Answer) (r : JobState) → r ≡ states.after s a → CanBe a → states.deed_in s ≢ Ends → left r < left s
 nearer_by s a r e c n = subst (λ x. left x < left s) (sym e) (comes-nearer s a c n)

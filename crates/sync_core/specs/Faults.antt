@@ -1,8 +1,8 @@
 -- The refusal that each fault of a synchronisation is.
-use Rattle.std.specs.Prelude.{◌≡◌, ℕ, Bool, true, false, List, ◌++◌, Option, Some, None, codes}
+use Rattle.std.specs.Prelude.{◌≡◌, ℕ, Bool, true, false, List, [], ◌∷◌, ◌++◌, Option, Some, None, codes}
 use Rattle.std.specs.Option.{option_map_or}
 use Rattle.std.specs.Fmt.{decimal}
-use Rattle.node_base.specs.Refusals.{refusal_text, shown_token}
+use Rattle.node_base.specs.Refusals.{refusal_number, refusal_text, shown_token}
 use Rattle.node_base.specs.declared.refusal.Refusal.{Refusal}
 use Rattle.node_base.specs.declared.refusal.Refusal.TheVariants as refusal
 use Rattle.dump_load.specs.declared.fault.ChangeFault.{ChangeFault}
@@ -68,6 +68,10 @@ refusal_of fault.OutOfMemory = refusal.OutOfMemory
 abbrev pub fault_text : SyncFault → List ℕ
 fault_text (fault.Inconsistent merged copying head) = codes "inconsistent: merged " ++ told_text merged ++ codes ", copying " ++ told_text copying ++ codes ", head " ++ decimal head
 fault_text f = refusal_text (refusal_of f)
+
+-- the line that a program prints for it
+abbrev pub fault_line : SyncFault → List ℕ
+fault_line f = codes "svnfleet: " ++ (decimal (refusal_number (refusal_of f)) ++ (codes " " ++ (fault_text f ++ 10 ∷ [])))
 
 -- whether it tells a number, a token or a text of its own
 abbrev pub tells_more : SyncFault → Bool

@@ -1,5 +1,5 @@
 -- How far a job is from its end, as a number that falls with each answer.
-use Rattle.std.specs.Prelude.{◌≡◌, ℕ, ◌+◌, ◌-◌, ◌*◌, ◌<◌, ◌≤◌, None}
+use Rattle.std.specs.Prelude.{◌≢◌, ℕ, ◌+◌, ◌-◌, ◌*◌, ◌<◌, ◌≤◌}
 use Rattle.std.specs.Option.{option_map_or}
 use Rattle.sync_core.specs.declared.answer.Answer.{Answer}
 use Rattle.sync_core.specs.declared.answer.Answer.TheVariants as answer
@@ -12,7 +12,8 @@ use Rattle.sync_core.specs.declared.copy_job.CopyPhase.{CopyPhase}
 use Rattle.sync_core.specs.declared.copy_job.CopyPhase.TheVariants as copy
 use Rattle.sync_core.specs.declared.init_job.InitPhase.{InitPhase}
 use Rattle.sync_core.specs.declared.init_job.InitPhase.TheVariants as init
-use Rattle.sync_core.specs.States.{after, ending_of}
+use Rattle.sync_core.specs.Deeds.{Ends}
+use Rattle.sync_core.specs.States.{deed_in, after}
 
 -- more revisions than a master can have after revision 0
 abbrev pub most : ℕ
@@ -68,6 +69,6 @@ abbrev pub CanBe : Answer → Type 0
 CanBe (answer.Latest n) = n ≤ 65535
 CanBe _ = Unit {0}
 
--- each answer brings a job that hasn't ended nearer to its end
+-- each answer to what a job does, unless that is nothing, brings it nearer to its end
 abbrev pub ComesNearer : Type 0
-ComesNearer = (s : JobState) (a : Answer) → CanBe a → ending_of s ≡ None → left (after s a) < left s
+ComesNearer = (s : JobState) (a : Answer) → CanBe a → deed_in s ≢ Ends → left (after s a) < left s

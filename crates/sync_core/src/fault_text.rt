@@ -1,16 +1,25 @@
 //! The texts of refusals.
-ghost use Rattle.std.specs.Prelude.{◌≡◌, ◌++◌, false, Some};
+ghost use Rattle.std.specs.Prelude.{◌≡◌, ◌++◌, false, Some, IfOk, string_bytes};
 ghost use Rattle.std.specs.Fmt.{DisplaysOnOk};
 ghost use Rattle.std.specs.Option.{option_map};
-ghost use Rattle.sync_core.specs.Faults.{fault_text, tells_more};
+ghost use Rattle.sync_core.specs.Faults.{fault_line, fault_text, tells_more};
 ghost use Rattle.sync_core.specs.declared.fault.SyncFault.TheVariants.{Inconsistent};
 
 use crate::fault::SyncFault;
 use crate::told_number::ToldNumber;
 use node_base::RevNo;
+use std::alloc::{AllocError, Global};
 use std::fmt;
 
 impl SyncFault {
+    /// The line that a program prints for it, with its line end.
+    pub fn line(&self, alloc: Global) -> Result<String, AllocError>
+        ensures { IfOk result (λ s. string_bytes s ≡ fault_line self.now) }
+    {
+        let number = self.number();
+        format!(in alloc; "svnfleet: {number} {self}\n")
+    }
+
     /// The text of a refusal that tells no more than that it is this one.
     fn fixed_text(&self) -> &'static str
         ensures { tells_more self.now ≡ false → result.now ≡ fault_text self.now }

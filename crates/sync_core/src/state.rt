@@ -1,7 +1,7 @@
 //! Jobs.
-ghost use Rattle.std.specs.Prelude.{◌≡◌, ◌<◌, ℕ, None};
+ghost use Rattle.std.specs.Prelude.{◌≡◌, ◌≢◌, ◌<◌, ℕ};
 ghost use Rattle.sync_core.specs.Jobs.{Job, Initialise, Sync, CopyProps, begun};
-ghost use Rattle.sync_core.specs.Deeds.{deed_of, heard, IsLawfulDeed};
+ghost use Rattle.sync_core.specs.Deeds.{Ends, deed_of, heard, IsLawfulDeed};
 ghost use Rattle.sync_core.specs.Measures.{left, CanBe};
 ghost use Rattle.sync_core.specs.States.{init_start, sync_start, copy_start, deed_in, after, ending_of, Follows, IsAskedFor};
 
@@ -88,13 +88,13 @@ fn tabled(state: &JobState) -> Action<'_>
 
 /// A job after the answer to what it did, by the table of its phases.
 ///
-/// Whatever a job had heard that led to the state, what it has heard with the answer leads to the result. Where the job hadn't
-/// ended, the result is nearer to its end by a number, so that a loop needs no bound of its own.
+/// Whatever a job had heard that led to the state, what it has heard with the answer leads to the result. Unless the job
+/// had nothing more to do, the result is nearer to its end by a number, so that a loop needs no bound of its own.
 #[tactic(auto, using(crate::proofs::StateLemmas::follows_by))]
 pub fn absorb(state: JobState, answer: Answer) -> JobState
     ensures table { result ≡ after state answer }
     ensures follows { (job : Job) (moment : ℕ) → Follows job state → Follows (heard job moment (deed_in state) answer) result }
-    ensures nearer { ending_of state ≡ None → left result < left state }
+    ensures nearer { deed_in state ≢ Ends → left result < left state }
 {
     can_be(&answer);
     moved(state, answer)
