@@ -326,11 +326,23 @@ fn takes_turns(rt: &impl Abort, alloc: Global, mirror: &mut PlainMirror, token: 
 }
 
 // Whether the lock may be stolen once the holder has left, and not before.
-fn is_stolen_once_left(alloc: Global, mirror: &mut PlainMirror, token: &Token) -> bool {
+fn is_stolen_once_left(
+    rt: &impl Abort,
+    alloc: Global,
+    mirror: &mut PlainMirror,
+    token: &Token,
+) -> bool {
+    let props = Props::empty();
+    let url = value(rt, alloc, b"/master");
+    let init = MirrorCall::Init {
+        url: &url,
+        uuid: &url,
+        props: &props,
+    };
     let steal = MirrorCall::StealLock(token);
     let before = say(alloc, mirror, 2, &steal);
     mirror.leave(Seat::new(1));
-    before == 55 && say(alloc, mirror, 2, &steal) == 0
+    before == 55 && say(alloc, mirror, 2, &steal) == 0 && say(alloc, mirror, 2, &init) == 52
 }
 
 #[test]
@@ -339,7 +351,7 @@ fn calls_in_and_out_of_turn(rt: HostRuntime) -> Result<(), Fail> {
     let mut mirror = at_three(&rt, alloc);
     let token = token(&rt, alloc, b"job");
     assert!(rt; takes_turns(&rt, alloc, &mut mirror, &token));
-    assert!(rt; is_stolen_once_left(alloc, &mut mirror, &token));
+    assert!(rt; is_stolen_once_left(&rt, alloc, &mut mirror, &token));
     Ok(())
 }
 
@@ -701,12 +713,13 @@ fn no_revision_is_copied_past_the_last(rt: HostRuntime) -> Result<(), Fail> {
     Ok(())
 }
 
-// Whether a call that was kept and copied takes the lock with that token.
-fn locks_with(rt: &impl Abort, alloc: Global, call: &MirrorCall<'_>, token: &[u8]) -> bool {
-    let kept = KeptCall::of(alloc, call).expect(rt, "memory");
+// Whether a call that was kept and copied still takes the lock with its token.
+fn locks_with(rt: &impl Abort, alloc: Global, text: &[u8]) -> bool {
+    let token = token(rt, alloc, text);
+    let kept = KeptCall::of(alloc, &MirrorCall::TakeLock(&token)).expect(rt, "memory");
     let copy = kept.copy(alloc).expect(rt, "memory");
     match copy.lent() {
-        MirrorCall::TakeLock(own) => own.as_bytes() == token,
+        MirrorCall::TakeLock(own) => own.as_bytes() == text,
         _ => false,
     }
 }
@@ -764,8 +777,7 @@ fn refusals_are_copied(rt: &impl Abort, alloc: Global) -> bool {
 #[test]
 fn calls_and_answers_are_copied(rt: HostRuntime) -> Result<(), Fail> {
     let alloc = rt.alloc();
-    let token = token(&rt, alloc, b"job");
-    assert!(rt; locks_with(&rt, alloc, &MirrorCall::TakeLock(&token), b"job"));
+    assert!(rt; locks_with(&rt, alloc, b"job"));
     assert!(rt; puts(&rt, alloc, RevNo::new(4), b"four"));
     assert!(rt; refusals_are_copied(&rt, alloc));
     Ok(())
@@ -781,10 +793,18 @@ fn planned(alloc: Global, mirror: &PlainMirror, seat: u64, call: &MirrorCall<'_>
 }
 
 // Whether calls are planned before and after a seat takes the lock.
-fn is_planned(alloc: Global, mirror: &mut PlainMirror, token: &Token) -> bool {
+fn is_planned(rt: &impl Abort, alloc: Global, mirror: &mut PlainMirror, token: &Token) -> bool {
+    let props = Props::empty();
+    let url = value(rt, alloc, b"/master");
+    let init = MirrorCall::Init {
+        url: &url,
+        uuid: &url,
+        props: &props,
+    };
     let take = MirrorCall::TakeLock(token);
     planned(alloc, mirror, 1, &take) == 0
         && planned(alloc, mirror, 1, &MirrorCall::Look) == 255
+        && planned(alloc, mirror, 1, &init) == 52
         && say(alloc, mirror, 1, &take) == 0
         && planned(alloc, mirror, 2, &take) == 54
         && planned(alloc, mirror, 2, &MirrorCall::ReleaseLock) == 59
@@ -795,7 +815,7 @@ fn calls_are_planned(rt: HostRuntime) -> Result<(), Fail> {
     let alloc = rt.alloc();
     let mut mirror = begun(&rt, alloc, &master(&rt, alloc, 0));
     let own = token(&rt, alloc, b"a");
-    assert!(rt; is_planned(alloc, &mut mirror, &own));
+    assert!(rt; is_planned(&rt, alloc, &mut mirror, &own));
     Ok(())
 }
 
@@ -814,12 +834,21 @@ fn at_head_three(copying: Number) -> Numbers {
     }
 }
 
-fn numbers_move() -> bool {
+fn numbers_move(rt: &impl Abort, alloc: Global) -> bool {
+    let props = Props::empty();
+    let url = value(rt, alloc, b"/master");
+    let init = MirrorCall::Init {
+        url: &url,
+        uuid: &url,
+        props: &props,
+    };
     let four = RevNo::new(4);
+    let begun = at_head_three(Number::Spelt(4)).after(&init);
     let noted = at_head_three(Number::Absent).after(&MirrorCall::SetCopying(four));
     let merged = at_head_three(Number::Spelt(4)).after(&MirrorCall::SetMerged(four));
     let cleared = at_head_three(Number::Spelt(4)).after(&MirrorCall::ClearCopying);
-    are(noted, 3, Number::Spelt(4), 3)
+    are(begun, 0, Number::Absent, 3)
+        && are(noted, 3, Number::Spelt(4), 3)
         && are(merged, 4, Number::Spelt(4), 3)
         && are(cleared, 3, Number::Absent, 3)
 }
@@ -831,7 +860,7 @@ fn holders_leave() -> bool {
 
 #[test]
 fn calls_move_numbers(rt: HostRuntime) -> Result<(), Fail> {
-    assert!(rt; numbers_move());
+    assert!(rt; numbers_move(&rt, rt.alloc()));
     assert!(rt; holders_leave());
     Ok(())
 }
