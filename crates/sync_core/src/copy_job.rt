@@ -40,8 +40,8 @@ enum CopyPhase {
     End(Ending),
 }
 
-/// A job that copies the properties of a range of merged revisions again: it takes the mirror's lock, looks how the mirror
-/// stands, and fetches and puts the properties of each revision in order.
+/// A job that copies the properties of a range of merged revisions again: it takes the mirror's lock, looks how the
+/// mirror stands, and fetches and puts the properties of each revision in order.
 #[derive(Debug, Drop)]
 pub struct CopyJob {
     token: Token,

@@ -5,8 +5,8 @@ use crate::shown_bytes::ShownBytes;
 use std::alloc::{AllocError, Global};
 use std::fmt;
 
-/// The token that a mirror's lock has: any bytes, since anybody can set a property. It is shown with `?` for each byte that
-/// isn't printable ASCII.
+/// The token that a mirror's lock has: any bytes, since anybody can set a property. It is shown with `?` for each byte
+/// that isn't printable ASCII.
 #[derive(Debug, Drop)]
 pub struct LockToken {
     pub bytes: Vec<u8>,

@@ -31,10 +31,11 @@ impl PlainMirror {
         PlainMirror { repo, holder: None }
     }
 
-    /// One call of a seat. A need that isn't met refuses it, or else what the repository refuses of the call's entry; a refused
-    /// call changes nothing.
+    /// One call of a seat. A need that isn't met refuses it, or else what the repository refuses of the call's entry; a
+    /// refused call changes nothing.
     ///
-    /// Want of memory changes nothing either. Of a need that isn't met it is the answer only where the lock's text is told.
+    /// Want of memory changes nothing either. Of a need that isn't met it is the answer only where the lock's text is
+    /// told.
     pub fn step(
         &mut self,
         alloc: Global,

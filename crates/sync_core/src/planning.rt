@@ -25,12 +25,13 @@ pub enum Planned {
     Write(Entry),
 }
 
-/// What a seat's call of a mirror comes to, over the mirror's repository and the running seat whose call took its lock. A mirror
-/// in memory goes on by installing the entry, one on a disk by writing it, and both then take [`crate::holder_after`].
+/// What a seat's call of a mirror comes to, over the mirror's repository and the running seat whose call took its lock.
+/// A mirror in memory goes on by installing the entry, one on a disk by writing it, and both then take
+/// [`crate::holder_after`].
 ///
-/// A call is refused for a need that isn't met, or else as the repository would refuse its entry (8, 21); what else the repository
-/// refuses of the entry refuses the call. Nothing changes here. Want of memory is the answer to a need that isn't met only where
-/// the lock's text is told.
+/// A call is refused for a need that isn't met, or else as the repository would refuse its entry (8, 21); what else the
+/// repository refuses of the entry refuses the call. Nothing changes here. Want of memory is the answer to a need that
+/// isn't met only where the lock's text is told.
 pub fn plan(
     alloc: Global,
     repo: &Repo,

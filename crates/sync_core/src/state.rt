@@ -64,8 +64,8 @@ impl JobState {
 
 /// What a job does next, by the table of its phases. It takes no memory.
 ///
-/// Whatever a job has heard that led to the state, a call of the mirror is one that the job may make then; and a revision or its
-/// properties are asked for only by a number that is the job's turn.
+/// Whatever a job has heard that led to the state, a call of the mirror is one that the job may make then; and a
+/// revision or its properties are asked for only by a number that is the job's turn.
 #[tactic(auto, using(crate::proofs::StateLemmas::lawful_by, crate::proofs::StateLemmas::asked_by))]
 pub fn decide(state: &JobState) -> Action<'_>
     ensures table { deed_of result ≡ deed_in state.now }
@@ -88,8 +88,8 @@ fn tabled(state: &JobState) -> Action<'_>
 
 /// A job after the answer to what it did, by the table of its phases.
 ///
-/// Whatever a job had heard that led to the state, what it has heard with the answer leads to the result. Unless the job
-/// had nothing more to do, the result is nearer to its end by a number, so that a loop needs no bound of its own.
+/// Whatever a job had heard that led to the state, what it has heard with the answer leads to the result. Unless the
+/// job had nothing more to do, the result is nearer to its end by a number, so that a loop needs no bound of its own.
 #[tactic(auto, using(crate::proofs::StateLemmas::follows_by))]
 pub fn absorb(state: JobState, answer: Answer) -> JobState
     ensures table { result ≡ after state answer }

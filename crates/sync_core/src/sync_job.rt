@@ -67,8 +67,8 @@ enum SyncPhase {
     End(Ending),
 }
 
-/// A sync job: it takes the mirror's lock, looks how the mirror stands, goes on where an earlier job stopped, and copies one
-/// revision after another until the mirror has what the master had when it was asked.
+/// A sync job: it takes the mirror's lock, looks how the mirror stands, goes on where an earlier job stopped, and
+/// copies one revision after another until the mirror has what the master had when it was asked.
 #[derive(Debug, Drop)]
 pub struct SyncJob {
     known: Known,

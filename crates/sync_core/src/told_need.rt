@@ -11,8 +11,8 @@ use crate::properties::lock;
 use node_base::Props;
 use std::alloc::{AllocError, Global};
 
-/// The refusal that an unmet need is. A lock that is held, or a holder, is told with the lock's text, for which memory is taken:
-/// only there can memory be short.
+/// The refusal that an unmet need is. A lock that is held, or a holder, is told with the lock's text, for which memory
+/// is taken: only there can memory be short.
 pub fn need_fault(alloc: Global, need: Need, own: &Props) -> SyncFault
     ensures { IsNeedAnswer need (finite.get own.now lock_name) result }
 {

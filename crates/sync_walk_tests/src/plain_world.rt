@@ -1,5 +1,5 @@
-//! A master, a mirror and its jobs re-computed as plain numbers: what each job does next, by the mirror's numbers and what was
-//! answered to the job, what each call is answered, and what it makes.
+//! A master, a mirror and its jobs re-computed as plain numbers: what each job does next, by the mirror's numbers and
+//! what was answered to the job, what each call is answered, and what it makes.
 use std::process::Abort;
 
 // What a job does, as a name and a number.
@@ -54,8 +54,8 @@ pub(crate) struct PlainMaster {
     pub(crate) marks: Vec<u64>,
 }
 
-// The mirror: its numbers, its lock, for each revision the moment at which its properties were written at the master, and
-// the greatest that was acknowledged and that a reader was given.
+// The mirror: its numbers, its lock, for each revision the moment at which its properties were written at the master,
+// and the greatest that was acknowledged and that a reader was given.
 #[derive(Drop)]
 pub(crate) struct PlainRoom {
     pub(crate) begun: bool,

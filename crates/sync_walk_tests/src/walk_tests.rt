@@ -8,8 +8,8 @@ use std::test::Fail;
 use sync_core::{MirrorCall, Number, PlainMirror, Seat, Standing, Token, look};
 use uuid::Uuid;
 
-// A mirror as five numbers and a map: what is merged, what is being copied, who holds the lock, whether a lock is there, and for
-// each revision the letter in its copied property. None before it is initialised.
+// A mirror as five numbers and a map: what is merged, what is being copied, who holds the lock, whether a lock is
+// there, and for each revision the letter in its copied property. None before it is initialised.
 #[derive(Drop)]
 struct Plain {
     begun: bool,

@@ -1,6 +1,6 @@
-//! A walk of random events over a master, two mirrors and their jobs in memory, beside their plain re-computation: the master
-//! commits, is edited and fails, jobs begin, ask, call, are refused and leave, a reader is given a revision, and a mirror stops
-//! before or within a call.
+//! A walk of random events over a master, two mirrors and their jobs in memory, beside their plain re-computation: the
+//! master commits, is edited and fails, jobs begin, ask, call, are refused and leave, a reader is given a revision, and
+//! a mirror stops before or within a call.
 use crate::plain_world::{Deed, Heard, Order, PlainMaster, PlainRoom, is_call, wanted};
 use crate::walk_tests::{shuffled, token, value};
 use dump_load::{Change, ChangeSet};
@@ -292,9 +292,9 @@ impl World {
     // A job that has ended leaves. Its end is its first refusal.
     fn leaves(&mut self, seat: u64, runner: Runner) {
         let Runner { job, heard } = runner;
+        let end = ended(job);
         if heard.over {
-            let as_wanted = ended(job) == heard.refusal;
-            self.check(as_wanted);
+            self.check(end == heard.refusal);
             if heard.refusal == 0 {
                 self.counts.fine = self.counts.fine.saturating_add(1);
             } else {
@@ -348,8 +348,8 @@ impl World {
         self.room.holder = None;
     }
 
-    // Whether the mirror stands as the re-computation says, with all that was acknowledged or shown, and a revision has the
-    // master's tree, and properties as they were copied.
+    // Whether the mirror stands as the re-computation says, with all that was acknowledged or shown, and a revision has
+    // the master's tree, and properties as they were copied.
     fn agrees(&self, rt: &impl Abort, alloc: Global, n: u16) -> bool {
         let Some(own) = self.mirror.repo.props(RevNo::ZERO) else {
             return false;
@@ -452,30 +452,53 @@ fn ended(job: JobState) -> u8 {
     }
 }
 
+// A job that is given up.
+fn gone(runner: Option<Runner>) {
+    match runner {
+        Some(Runner { job, heard: _ }) => {
+            let _ = ended(job);
+        }
+        None => {}
+    }
+}
+
+// What runs at a seat from now on.
+fn seated(place: &mut Option<Runner>, runner: Option<Runner>) {
+    let mut runner = runner;
+    swap(place, &mut runner);
+    gone(runner);
+}
+
 // A job with a random order.
 fn begun(rt: &impl Abort, alloc: Global, bits: u64, head: u16) -> Runner {
-    let low = ((bits >> 4) & 3) as u16;
-    let token = token(rt, alloc, b"job");
     match bits % 8 {
-        0 => Runner {
-            job: JobState::init(value(rt, alloc, b"/master")),
-            heard: Heard::new(Order::Init, 0),
-        },
-        1 | 2 => {
-            let high = head.saturating_sub(low).saturating_add(1);
-            Runner {
-                job: JobState::copy_props(token, RevNo::new(low), RevNo::new(high)),
-                heard: Heard::new(Order::Copy(high), low),
-            }
-        }
-        3 | 4 => Runner {
-            job: JobState::sync(token, false),
-            heard: Heard::new(Order::Sync, 0),
-        },
-        _ => Runner {
-            job: JobState::sync(token, true),
-            heard: Heard::new(Order::Steal, 0),
-        },
+        0 => init_job(rt, alloc),
+        1 | 2 => copy_job(rt, alloc, ((bits >> 4) & 3) as u16, head),
+        3 | 4 => sync_job(rt, alloc, false),
+        _ => sync_job(rt, alloc, true),
+    }
+}
+
+fn init_job(rt: &impl Abort, alloc: Global) -> Runner {
+    Runner {
+        job: JobState::init(value(rt, alloc, b"/master")),
+        heard: Heard::new(Order::Init, 0),
+    }
+}
+
+fn copy_job(rt: &impl Abort, alloc: Global, low: u16, head: u16) -> Runner {
+    let high = head.saturating_sub(low).saturating_add(1);
+    Runner {
+        job: JobState::copy_props(token(rt, alloc, b"job"), RevNo::new(low), RevNo::new(high)),
+        heard: Heard::new(Order::Copy(high), low),
+    }
+}
+
+fn sync_job(rt: &impl Abort, alloc: Global, steal: bool) -> Runner {
+    let order = if steal { Order::Steal } else { Order::Sync };
+    Runner {
+        job: JobState::sync(token(rt, alloc, b"job"), steal),
+        heard: Heard::new(order, 0),
     }
 }
 
@@ -572,11 +595,11 @@ impl Pair {
     // One thing happens at one of the seats.
     fn goes_on(&mut self, rt: &impl Abort, alloc: Global, world: &mut World, n: u64, bits: u64) {
         if n % 2 == 0 {
-            let runner = self.one.take();
-            self.one = at_seat(rt, alloc, world, 1, runner, bits);
+            let runner = at_seat(rt, alloc, world, 1, self.one.take(), bits);
+            seated(&mut self.one, runner);
         } else {
-            let runner = self.two.take();
-            self.two = at_seat(rt, alloc, world, 2, runner, bits);
+            let runner = at_seat(rt, alloc, world, 2, self.two.take(), bits);
+            seated(&mut self.two, runner);
         }
     }
 
@@ -587,8 +610,15 @@ impl Pair {
         } else {
             world.stops(rt, alloc, 2, &self.two, bits & 1 == 1);
         }
-        self.one = None;
-        self.two = None;
+        seated(&mut self.one, None);
+        seated(&mut self.two, None);
+    }
+
+    // No jobs any more.
+    fn end(self) {
+        let Pair { one, two } = self;
+        gone(one);
+        gone(two);
     }
 }
 
@@ -638,6 +668,8 @@ fn walk(rt: &impl Abort, alloc: Global, events: u64) -> World {
         let agrees = world.agrees(rt, alloc, n);
         world.check(agrees);
     }
+    pair.end();
+    other.end();
     world
 }
 
