@@ -153,7 +153,7 @@ not_none (Some x) e = refl
 held-alone : (m : Mirror) (seat other : ℕ) (rest : Option Need) (call : Call) → m.holder ≡ Some seat → other ≢ seat → refuse_if (not (holds m.holder other)) need.NotHolder rest ≡ None → call ≡ Look
 held-alone m seat other rest call h differs e = absurd (differs (some_is other seat (sym (holder_by m other rest e) ∙ h)))
 
-is-alone :
+pub is-alone :
     (m : Mirror) (seat other : ℕ) (call : Call) → m.holder ≡ Some seat → is_some (standing_of m.revisions).url ≡ true → is_some (standing_of m.revisions).lock ≡ true
     → other ≢ seat → refusal m other call ≡ None → call ≡ Look
 is-alone m seat other (Init url uuid props) h there lock differs free =

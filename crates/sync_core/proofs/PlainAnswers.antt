@@ -18,6 +18,7 @@ use Rattle.sync_core.specs.Faults.{of_repository}
 use Rattle.sync_core.specs.Dues.{IsDue, IsNeedAnswer, tells_lock}
 use Rattle.sync_core.specs.Mirror.{Mirror, Call, Need, Refused, Refusal, Missed, OfRepository, standing_in, standing_of, unmet, entry_of, refusal, granted, accepted}
 use Rattle.sync_core.specs.Plain.{IsTold, IsRefused, LacksMemory, AnswersErr}
+use Rattle.sync_core.specs.Plans.{IsToWrite}
 
 refuses : (old : Mirror) (seat : ℕ) (call : Call) (why : Refusal) (f : SyncFault) → refusal old seat call ≡ Some why → IsTold (finite.get (props_at old.revisions 0) lock_name) why f → IsRefused old seat call f old
 refuses old seat call why f e t =
@@ -122,7 +123,7 @@ due_up (repo.Change change.OutOfMemory) due h = tt
 due_up repo.TooLong due h = ap (option_map of_repository) h
 due_up repo.OutOfMemory due h = tt
 
-pub stage_answer : (old : Mirror) (seat : ℕ) (call : Call) (own : PropMap) (head : ℕ) (entry : Entry) (e : RepoFault)
-    → own ≡ props_at old.revisions 0 → head ≡ head_of old.revisions → None ≡ unmet (standing_in own head) old.holder seat call → Some entry ≡ entry_of old.revisions call → repository.IsDue e (by_repository old.revisions entry) → AnswersErr old seat call (of_repository e) old
-stage_answer old seat call own head entry e o h u n d =
-    entry_answer old seat call own head (of_repository e) o h u (subst (λ x. IsDue (of_repository e) (option_and_then (by_repository old.revisions) x)) n (due_up e (by_repository old.revisions entry) d))
+-- a planned entry that the repository refuses
+pub staged_answer : (old : Mirror) (seat : ℕ) (call : Call) (entry : Entry) (e : RepoFault) → IsToWrite old seat call entry → repository.IsDue e (by_repository old.revisions entry) → AnswersErr old seat call (of_repository e) old
+staged_answer old seat call entry e w d =
+    due_answer old seat call (of_repository e) w.met (subst (λ x. IsDue (of_repository e) (option_and_then (by_repository old.revisions) x)) (sym w.entry) (due_up e (by_repository old.revisions entry) d))

@@ -23,7 +23,7 @@ given-map o jobs holder copied seat job n p k runs g =
     let when : moment_for job n ≡ g.it.moment = ap (λ s. option_map_or (λ (h : Fetched). h.moment) s 0) g.last in
     ap (λ t. map_at o t n) when ∙ f.there ∙ ap (λ q. Some q) g.the_map
 
-few_of : (n : ℕ) → nat_lt 65535 n ≡ false → n ≤ 65535
+pub few_of : (n : ℕ) → nat_lt 65535 n ≡ false → n ≤ 65535
 few_of n h = grind (arith, nat_tests)
 
 -- a number that the repository has

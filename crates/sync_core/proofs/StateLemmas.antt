@@ -10,17 +10,17 @@ use Rattle.sync_core.proofs.InitLemmas.{follows_init, lawful_init, asked_init}
 use Rattle.sync_core.proofs.SyncLemmas.{follows_sync, lawful_sync, asked_sync}
 use Rattle.sync_core.proofs.CopyLemmas.{follows_copy, lawful_copy, asked_copy}
 
-follows : (job : Job) (t : ℕ) (s : JobState) (a : Answer) → Follows job s → Follows (heard job t (deed_in s) a) (after s a)
+pub follows : (job : Job) (t : ℕ) (s : JobState) (a : Answer) → Follows job s → Follows (heard job t (deed_in s) a) (after s a)
 follows job t (state.Init s) a f = follows_init job t s a f
 follows job t (state.Sync s) a f = follows_sync job t s a f
 follows job t (state.Copy s) a f = follows_copy job t s a f
 
-lawful : (job : Job) (s : JobState) → Follows job s → IsLawfulDeed job (deed_in s)
+pub lawful : (job : Job) (s : JobState) → Follows job s → IsLawfulDeed job (deed_in s)
 lawful job (state.Init s) f = lawful_init job s f
 lawful job (state.Sync s) f = lawful_sync job s f
 lawful job (state.Copy s) f = lawful_copy job s f
 
-asked : (job : Job) (s : JobState) → Follows job s → IsAskedFor s job (deed_in s)
+pub asked : (job : Job) (s : JobState) → Follows job s → IsAskedFor s job (deed_in s)
 asked job (state.Init s) f = asked_init job s f
 asked job (state.Sync s) f = asked_sync job s f
 asked job (state.Copy s) f = asked_copy job s f

@@ -20,6 +20,7 @@ use Rattle.sync_core.specs.Names.{Number, Absent, Spelt, is_absent}
 use Rattle.sync_core.specs.Mirror.{Standing, HasShape, ReleaseLock, SetCopying, Commit, PutProps, SetMerged, ClearCopying, Look}
 use Rattle.sync_core.specs.Jobs.{Job, Locked, KnowsShape, MayPutNumber, is_sync_order, locks_with, with_fetched}
 use Rattle.sync_core.specs.Deeds.{heard, called, IsLawfulDeed}
+use Rattle.sync_core.specs.Faults.{inconsistent_as}
 use Rattle.sync_core.specs.Shapes.{shape_in}
 use Rattle.sync_core.specs.Identities.{is_identity}
 use Rattle.sync_core.specs.Endings.{released}
@@ -45,7 +46,7 @@ lock s token job known (answer.Map props) f = tt
 lock s token job known (answer.Refused x) f = tt
 lock s token job known (answer.Failed x) f = tt
 
-looks : (job : Job) (known : Known) (s : Standing) → Knows job known → (b : Bool) (o : Option Resting) → IfSome o (IsIn known) → FollowsSync job (if b then give_up known fault.NotInitialised else option_map_or (λ shape. at known (phase.Who shape s.uuid)) o (give_up known (inconsistent known)))
+looks : (job : Job) (known : Known) (s : Standing) → Knows job known → (b : Bool) (o : Option Resting) → IfSome o (IsIn known) → FollowsSync job (if b then give_up known fault.NotInitialised else option_map_or (λ shape. at known (phase.Who shape s.uuid)) o (give_up known (inconsistent_as s)))
 looks job known s k true o h = (k.locked, tt)
 looks job known s k false None h = (k.locked, tt)
 looks job known s k false (Some shape) h = (k, h)
@@ -294,7 +295,7 @@ asked_in : (p : SyncPhase) (job : Job) (known : Known) → FollowsIn p job known
 asked_in (phase.Lock token steal) job known f = tt
 asked_in phase.Look job known f = tt
 asked_in (phase.Who shape uuid) job known f = tt
-asked_in phase.Latest job known f = tt
+asked_in phase.Latest job known f = f.0.locked
 asked_in (phase.SetCopying n) job known f = tt
 asked_in (phase.Fetch n) job known f = f.0.copying ∙ f.1.1
 asked_in (phase.Commit n set props) job known f = tt

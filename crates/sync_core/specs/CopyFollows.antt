@@ -37,15 +37,15 @@ abbrev pub EndsFrom : Ending → Job → ℕ → ℕ → Type 0
 EndsFrom ending.Fine job low high = low ≤ high → job.put ≡ Some high
 EndsFrom (ending.Refused f) job low high = Unit {0}
 
-abbrev pub FollowsIn : CopyPhase → Job → ℕ → ℕ → Type 0
-FollowsIn (phase.Lock token) job low high = (job.order ≡ CopyProps token) × (job.stage ≡ Begun) × (job.put ≡ None)
-FollowsIn phase.Look job low high = IsCopying job × (job.stage ≡ Locked) × (job.put ≡ None)
-FollowsIn (phase.Who merged uuid) job low high = IsCopying job × (job.stage ≡ Locked) × (job.put ≡ None) × (job.merged ≡ merged) × ((last : ℕ) × (merged ≡ Spelt last))
-FollowsIn (phase.FetchProps n) job low high = IsAt job low high n
-FollowsIn (phase.Put n props) job low high = IsAt job low high n × GivesMap job.fetched n props
-FollowsIn (phase.Release e) job low high = (job.stage ≡ Locked) × EndsFrom e job low high
-FollowsIn (phase.End e) job low high = EndsFrom e job low high
+abbrev pub FollowsIn : List ℕ → CopyPhase → Job → ℕ → ℕ → Type 0
+FollowsIn token phase.Lock job low high = (job.order ≡ CopyProps token) × (job.stage ≡ Begun) × (job.put ≡ None)
+FollowsIn token phase.Look job low high = IsCopying job × (job.stage ≡ Locked) × (job.put ≡ None)
+FollowsIn token (phase.Who merged uuid) job low high = IsCopying job × (job.stage ≡ Locked) × (job.put ≡ None) × (job.merged ≡ merged) × ((last : ℕ) × (merged ≡ Spelt last))
+FollowsIn token (phase.FetchProps n) job low high = IsAt job low high n
+FollowsIn token (phase.Put n props) job low high = IsAt job low high n × GivesMap job.fetched n props
+FollowsIn token (phase.Release e) job low high = (job.stage ≡ Locked) × EndsFrom e job low high
+FollowsIn token (phase.End e) job low high = EndsFrom e job low high
 
 -- the job has heard what led to the state
 abbrev pub FollowsCopy : Job → CopyJob → Type 0
-FollowsCopy job s = FollowsIn s.phase job s.low s.high
+FollowsCopy job s = FollowsIn s.token s.phase job s.low s.high

@@ -12,26 +12,27 @@ use Rattle.sync_core.specs.declared.answer.Answer.TheVariants as answer
 use Rattle.sync_core.specs.Names.{Number, reaches}
 use Rattle.sync_core.specs.Mirror.{Standing, TakeLock, ReleaseLock, PutProps, Look}
 use Rattle.sync_core.specs.Deeds.{Deed, Calls, AsksIdentity, FetchesProps, Ends, fault_in}
+use Rattle.sync_core.specs.Faults.{inconsistent_as}
 use Rattle.sync_core.specs.Shapes.{shape_in}
 use Rattle.sync_core.specs.Endings.{released}
 use Rattle.sync_core.specs.Identities.{is_identity}
 
 -- what it does in a phase
-abbrev pub deed_in : CopyPhase → Deed
-deed_in (phase.Lock token) = Calls (TakeLock token)
-deed_in phase.Look = Calls Look
-deed_in (phase.Who merged uuid) = AsksIdentity
-deed_in (phase.FetchProps n) = FetchesProps n
-deed_in (phase.Put n props) = Calls (PutProps n props)
-deed_in (phase.Release e) = Calls ReleaseLock
-deed_in (phase.End e) = Ends
+abbrev pub deed_in : List ℕ → CopyPhase → Deed
+deed_in token phase.Lock = Calls (TakeLock token)
+deed_in token phase.Look = Calls Look
+deed_in token (phase.Who merged uuid) = AsksIdentity
+deed_in token (phase.FetchProps n) = FetchesProps n
+deed_in token (phase.Put n props) = Calls (PutProps n props)
+deed_in token (phase.Release e) = Calls ReleaseLock
+deed_in token (phase.End e) = Ends
 
 abbrev pub next_deed : CopyJob → Deed
-next_deed s = deed_in s.phase
+next_deed s = deed_in s.token s.phase
 
 -- as a job begins
 abbrev pub start : List ℕ → ℕ → ℕ → CopyJob
-start token low high = record { low = low; high = high; phase = phase.Lock token }
+start token low high = record { token = token; low = low; high = high; phase = phase.Lock }
 
 -- gives the lock back, and then ends with that refusal
 abbrev pub give_up : SyncFault → CopyPhase
@@ -44,7 +45,7 @@ after_lock a = phase.End (ending.Refused (fault_in a))
 
 -- Look: a mirror that isn't initialised, or in no shape, is left
 abbrev pub looked : Standing → CopyPhase
-looked s = if is_none s.url then give_up fault.NotInitialised else if is_some (shape_in s.merged s.copying s.head) then phase.Who s.merged s.uuid else give_up (fault.Inconsistent s.merged s.copying s.head)
+looked s = if is_none s.url then give_up fault.NotInitialised else if is_some (shape_in s.merged s.copying s.head) then phase.Who s.merged s.uuid else give_up (inconsistent_as s)
 
 abbrev pub after_look : Answer → CopyPhase
 after_look (answer.Seen s) = looked s
@@ -73,7 +74,7 @@ after_put high n a = give_up (fault_in a)
 
 -- where an answer leads from a phase
 abbrev pub after_in : CopyPhase → ℕ → ℕ → Answer → CopyPhase
-after_in (phase.Lock token) low high a = after_lock a
+after_in phase.Lock low high a = after_lock a
 after_in phase.Look low high a = after_look a
 after_in (phase.Who merged uuid) low high a = after_who low high merged uuid a
 after_in (phase.FetchProps n) low high a = after_fetch_props n a
@@ -82,7 +83,7 @@ after_in (phase.Release e) low high a = phase.End (released e a)
 after_in (phase.End e) low high a = phase.End e
 
 abbrev pub after : CopyJob → Answer → CopyJob
-after s a = record { low = s.low; high = s.high; phase = after_in s.phase s.low s.high a }
+after s a = record { token = s.token; low = s.low; high = s.high; phase = after_in s.phase s.low s.high a }
 
 abbrev pub ending_in : CopyPhase → Option Ending
 ending_in (phase.End e) = Some e

@@ -24,6 +24,9 @@ pub record Mirror : Type 0 where
   pub revisions : List Revision
   pub holder : Option ℕ
 
+abbrev pub mirror_with : List Revision → Option ℕ → Mirror
+mirror_with x holder = record { revisions = x; holder = holder }
+
 -- as a repository begins
 abbrev pub fresh : Mirror
 fresh = record { revisions = record { tree = root_alone; props = finite.empty } ∷ []; holder = None }
@@ -36,6 +39,8 @@ standing_in p head =
       uuid = finite.get p uuid_name;
       merged = number_at p merged_name;
       copying = number_at p copying_name;
+      merged_text = finite.get p merged_name;
+      copying_text = finite.get p copying_name;
       lock = finite.get p lock_name;
       head = head;
     }

@@ -12,10 +12,10 @@ use Rattle.sync_core.specs.declared.mirror.PlainMirror.{PlainMirror}
 use Rattle.sync_core.specs.Names.{lock_name}
 use Rattle.sync_core.specs.Faults.{of_repository}
 use Rattle.sync_core.specs.Dues.{IsNeedFault, tells_lock}
-use Rattle.sync_core.specs.Mirror.{Mirror, Need, standing_of, unmet, Call, PutProps, Reply, Done, Seen, Refused, Refusal, Missed, OfRepository, IsStep}
+use Rattle.sync_core.specs.Mirror.{Mirror, mirror_with, Need, standing_of, unmet, Call, PutProps, Reply, Done, Seen, Refused, Refusal, Missed, OfRepository, IsStep}
 
 abbrev pub mirror_of : PlainMirror → Mirror
-mirror_of m = record { revisions = m.repo.revisions; holder = m.holder }
+mirror_of m = mirror_with m.repo.revisions m.holder
 
 -- a revision has the number after the head's
 abbrev pub IsNumbered : List Revision → Entry → Type 0

@@ -5,8 +5,8 @@ use Rattle.sync_core.specs.declared.state.JobState.TheVariants as state
 use Rattle.sync_core.specs.declared.answer.Answer.{Answer}
 use Rattle.sync_core.specs.declared.ending.Ending.{Ending}
 use Rattle.sync_core.specs.Names.{Spelt}
-use Rattle.sync_core.specs.Jobs.{Job}
-use Rattle.sync_core.specs.Deeds.{Deed, Fetches, FetchesProps}
+use Rattle.sync_core.specs.Jobs.{Job, Locked}
+use Rattle.sync_core.specs.Deeds.{Deed, AsksLatest, Fetches, FetchesProps}
 use Rattle.sync_core.specs.InitTable as init
 use Rattle.sync_core.specs.SyncTable as sync
 use Rattle.sync_core.specs.CopyTable as copy
@@ -51,7 +51,9 @@ IsNumberOf (state.Init s) job n = n ≡ 0
 IsNumberOf (state.Sync s) job n = job.copying ≡ Spelt n
 IsNumberOf (state.Copy s) job n = (s.low ≤ n) × (n ≤ s.high)
 
+-- and the newest revision under the job's lock alone
 abbrev pub IsAskedFor : JobState → Job → Deed → Type 0
 IsAskedFor s job (Fetches n) = IsNumberOf s job n
 IsAskedFor s job (FetchesProps n) = IsNumberOf s job n
+IsAskedFor s job AsksLatest = job.stage ≡ Locked
 IsAskedFor s job _ = Unit {0}

@@ -16,6 +16,7 @@ use Rattle.sync_core.specs.declared.resting.Resting.TheVariants as resting
 use Rattle.sync_core.specs.Names.{Absent, Spelt, is_absent}
 use Rattle.sync_core.specs.Mirror.{Standing, Call, TakeLock, StealLock, ReleaseLock, SetCopying, Commit, PutProps, SetMerged, ClearCopying, Look}
 use Rattle.sync_core.specs.Deeds.{Deed, Calls, AsksIdentity, AsksLatest, Fetches, FetchesProps, Ends, fault_in}
+use Rattle.sync_core.specs.Faults.{told_of, inconsistent_as}
 use Rattle.sync_core.specs.Shapes.{shape_in}
 use Rattle.sync_core.specs.Endings.{released}
 use Rattle.sync_core.specs.Identities.{is_identity}
@@ -54,8 +55,9 @@ start token steal = at (record { merged = Absent; copying = Absent; head = 0; la
 abbrev pub give_up : Known → SyncFault → SyncJob
 give_up known f = at known (phase.Release (ending.Refused f))
 
+-- what is told of a number that no revision has
 abbrev pub inconsistent : Known → SyncFault
-inconsistent known = fault.Inconsistent known.merged known.copying known.head
+inconsistent known = fault.Inconsistent (told_of known.merged None) (told_of known.copying None) known.head
 
 -- Lock: a refusal ends the job with it
 abbrev pub after_lock : Known → Answer → SyncJob
@@ -68,7 +70,7 @@ seen known s = record { merged = s.merged; copying = s.copying; head = s.head; l
 
 -- Look: a mirror that isn't initialised, or in no shape, is left
 abbrev pub looked : Known → Standing → SyncJob
-looked known s = if is_none s.url then give_up known fault.NotInitialised else option_map_or (λ shape. at known (phase.Who shape s.uuid)) (shape_in s.merged s.copying s.head) (give_up known (inconsistent known))
+looked known s = if is_none s.url then give_up known fault.NotInitialised else option_map_or (λ shape. at known (phase.Who shape s.uuid)) (shape_in s.merged s.copying s.head) (give_up known (inconsistent_as s))
 
 abbrev pub after_look : Known → Answer → SyncJob
 after_look known (answer.Seen s) = looked (seen known s) s

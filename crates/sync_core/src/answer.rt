@@ -29,7 +29,8 @@ pub enum Answer {
 }
 
 impl Answer {
-    /// The refusal that it is: the mirror's own, the master's as 60 with its text, and 61 for an answer to another question.
+    /// The refusal that it is: the mirror's own, the master's as 60 with its text, and 61 for an answer to another
+    /// question.
     pub(crate) fn fault(self) -> SyncFault
         ensures { result ≡ fault_in self }
     {

@@ -6,8 +6,8 @@ use node_base::{PropValue, Props, RevNo};
 /// A call of a mirror. What it brings is lent: an accepted call shares it with the mirror.
 #[derive(Debug, Drop)]
 pub enum MirrorCall<'a> {
-    /// The mirror begins: its revision 0 has the copied properties, where they come from, the identity there, and nothing merged
-    /// yet.
+    /// The mirror begins: its revision 0 has the copied properties, where they come from, the identity there, and
+    /// nothing merged yet.
     Init {
         url: &'a PropValue,
         uuid: &'a PropValue,

@@ -15,13 +15,14 @@ use crate::number::Number;
 use crate::shape::shape_of;
 use crate::standing::Standing;
 use crate::token::Token;
+use crate::told_number::ToldNumber;
 use node_base::{PropValue, Props, RevNo};
 
 /// Where a copying job is.
 #[derive(Debug, Drop)]
 enum CopyPhase {
     /// Takes the lock.
-    Lock(Token),
+    Lock,
     /// Looks how the mirror stands.
     Look,
     /// Asks who the master is.
@@ -39,10 +40,11 @@ enum CopyPhase {
     End(Ending),
 }
 
-/// A job that copies the properties of a range of merged revisions again: it takes the mirror's lock, looks how the mirror
-/// stands, and fetches and puts the properties of each revision in order.
+/// A job that copies the properties of a range of merged revisions again: it takes the mirror's lock, looks how the
+/// mirror stands, and fetches and puts the properties of each revision in order.
 #[derive(Debug, Drop)]
 pub struct CopyJob {
+    token: Token,
     low: RevNo,
     high: RevNo,
     phase: CopyPhase,
@@ -55,9 +57,10 @@ impl CopyJob {
         ensures begun { FollowsCopy (begun (CopyProps token)) result }
     {
         CopyJob {
+            token,
             low,
             high,
-            phase: CopyPhase::Lock(token),
+            phase: CopyPhase::Lock,
         }
     }
 
@@ -66,7 +69,7 @@ impl CopyJob {
         ensures table { deed_of result ≡ table.next_deed self.now }
     {
         match &self.phase {
-            CopyPhase::Lock(token) => Action::Call(MirrorCall::TakeLock(token)),
+            CopyPhase::Lock => Action::Call(MirrorCall::TakeLock(&self.token)),
             CopyPhase::Look => Action::Call(MirrorCall::Look),
             CopyPhase::Who { .. } => Action::AskIdentity,
             CopyPhase::FetchProps(n) => Action::FetchProps(*n),
@@ -80,9 +83,14 @@ impl CopyJob {
     pub fn absorb(self, answer: Answer) -> CopyJob
         ensures table { result ≡ table.after self answer }
     {
-        let CopyJob { low, high, phase } = self;
+        let CopyJob {
+            token,
+            low,
+            high,
+            phase,
+        } = self;
         let phase = match phase {
-            CopyPhase::Lock(_) => after_lock(answer),
+            CopyPhase::Lock => after_lock(answer),
             CopyPhase::Look => after_look(answer),
             CopyPhase::Who { merged, uuid } => after_who(low, high, merged, uuid, answer),
             CopyPhase::FetchProps(n) => after_fetch_props(n, answer),
@@ -90,14 +98,25 @@ impl CopyJob {
             CopyPhase::Release(ending) => CopyPhase::End(ending.released(answer)),
             CopyPhase::End(ending) => CopyPhase::End(ending),
         };
-        CopyJob { low, high, phase }
+        CopyJob {
+            token,
+            low,
+            high,
+            phase,
+        }
     }
 
     /// How it ended; None where it goes on.
     pub fn ending(self) -> Option<Ending>
         ensures { result ≡ table.ending_of self }
     {
-        match self.phase {
+        let CopyJob {
+            token: _,
+            low: _,
+            high: _,
+            phase,
+        } = self;
+        match phase {
             CopyPhase::End(ending) => Some(ending),
             _ => None,
         }
@@ -138,6 +157,8 @@ fn looked(standing: Standing) -> CopyPhase
         uuid,
         merged,
         copying,
+        merged_text,
+        copying_text,
         lock: _,
         head,
     } = standing;
@@ -147,8 +168,8 @@ fn looked(standing: Standing) -> CopyPhase
     match shape_of(merged, copying, head) {
         Some(_) => CopyPhase::Who { merged, uuid },
         None => give_up(SyncFault::Inconsistent {
-            merged,
-            copying,
+            merged: ToldNumber::of(merged, merged_text),
+            copying: ToldNumber::of(copying, copying_text),
             head,
         }),
     }

@@ -16,7 +16,8 @@ pub enum Ending {
 }
 
 impl Ending {
-    /// How a job ends whose release of the lock is answered so: a lock that stays is a refusal where there was none before.
+    /// How a job ends whose release of the lock is answered so: a lock that stays is a refusal where there was none
+    /// before.
     pub(crate) fn released(self, answer: Answer) -> Ending
         ensures { result ≡ released self answer }
     {

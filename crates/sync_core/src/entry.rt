@@ -25,11 +25,11 @@ use node_base::{PropFault, PropName, PropValue, Props, Refusal, RevNo};
 use repo_core::{Entry, Repo};
 use std::alloc::Global;
 
-/// The one entry that an accepted call writes into the repository's journal; None for a look. Its set and its map share what they
-/// can with the call and the repository.
+/// The one entry that an accepted call writes into the repository's journal; None for a look. Its set and its map share
+/// what they can with the call and the repository.
 ///
-/// Refused are, as the repository would refuse the entry, a revision above the head (21) and properties past the limits (8); and
-/// want of memory.
+/// Refused are, as the repository would refuse the entry, a revision above the head (21) and properties past the limits
+/// (8); and want of memory.
 pub fn entry_of(
     alloc: Global,
     repo: &Repo,
@@ -129,8 +129,8 @@ fn commit_entry(
     Ok(Entry::Revised { number, set, props })
 }
 
-// The copied properties, where they come from, and that no more is merged than revision 0. They are within the limits: of the
-// names that begin with `svn:sync-` there are three.
+// The copied properties, where they come from, and that no more is merged than revision 0. They are within the limits:
+// of the names that begin with `svn:sync-` there are three.
 fn init_entry(
     alloc: Global,
     url: &PropValue,

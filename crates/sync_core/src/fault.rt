@@ -4,60 +4,49 @@ ghost use Rattle.node_base.specs.Refusals.{refusal_number};
 ghost use Rattle.sync_core.specs.Faults.{refusal_of, of_changes};
 
 use crate::lock_token::LockToken;
-use crate::number::Number;
+use crate::told_number::ToldNumber;
 use dump_load::ChangeFault;
 use node_base::{Refusal, RevNo};
 use repo_core::RepoFault;
 use std::alloc::{AllocError, AllocFailed};
-use thiserror::Error;
+use std::error::Error;
 
 /// Why a call of a mirror was refused, or a job ended without what it was to do. Each message is the refusal's.
-#[derive(Debug, Drop, Error)]
+#[derive(Debug, Drop)]
 pub enum SyncFault {
     /// The mirror isn't initialized (51).
-    #[error("not initialized")]
     NotInitialised,
     /// The mirror is initialized already (52).
-    #[error("already initialized")]
     AlreadyInitialised,
     /// The mirror has revisions and can't be initialized (53).
-    #[error("the mirror has revisions")]
     NotEmpty,
     /// The sync lock is held, by the job of that token (54).
-    #[error("the sync lock is held by {0}")]
     LockHeld(LockToken),
     /// The holder of the sync lock, of that token, is running (55).
-    #[error("the holder {0} is running")]
     HolderRunning(LockToken),
     /// The source isn't the repository that the mirror was initialized from (56).
-    #[error("the source is another repository")]
     WrongMaster,
     /// What is merged, what is being copied and the head fit no shape in which a mirror rests (57).
-    #[error("inconsistent: merged {merged}, copying {copying}, head {head}")]
     Inconsistent {
-        merged: Number,
-        copying: Number,
+        merged: ToldNumber,
+        copying: ToldNumber,
         head: RevNo,
     },
     /// Properties are to be copied up to that revision, which isn't merged yet (58).
-    #[error("revision {0} is not copied yet")]
     NotYetCopied(RevNo),
     /// The caller doesn't hold the sync lock (59).
-    #[error("the sync lock is not held")]
     NotHolder,
     /// The master refused, with that text (60).
-    #[error("master: {0}")]
     MasterFailed(String),
     /// It isn't the call's turn, or an answer fits no question (61).
-    #[error("call out of turn")]
     OutOfTurn,
     /// What the mirror's repository refuses, or what keeps it.
-    #[error("{0}")]
     Other(Refusal),
     /// A growth was refused (70).
-    #[error("out of memory")]
     OutOfMemory,
 }
+
+impl Error for SyncFault {}
 
 impl From<SyncFault> for Refusal {
     ghost use Rattle.std.specs.Prelude.{◌≡◌};

@@ -1,14 +1,26 @@
 //! What stands in a mirror's lock, as it is told.
-ghost use Rattle.std.specs.Prelude.{◌≡◌, ◌<◌};
-ghost use Rattle.node_base.specs.Refusals.{shown_byte};
+ghost use Rattle.std.specs.Prelude.{◌≡◌, IfOk};
 
+use crate::shown_bytes::ShownBytes;
+use std::alloc::{AllocError, Global};
 use std::fmt;
 
-/// The token that a mirror's lock has: any bytes, since anybody can set a property. It is shown with `?` for each byte that
-/// isn't printable ASCII.
+/// The token that a mirror's lock has: any bytes, since anybody can set a property. It is shown with `?` for each byte
+/// that isn't printable ASCII.
 #[derive(Debug, Drop)]
 pub struct LockToken {
     pub bytes: Vec<u8>,
+}
+
+impl LockToken {
+    /// The same token once more.
+    pub fn copy(&self, alloc: Global) -> Result<LockToken, AllocError>
+        ensures { IfOk result (λ t. t.bytes.items ≡ self.now.bytes.items) }
+    {
+        Ok(LockToken {
+            bytes: Vec::from_slice(alloc, self.bytes.as_slice())?,
+        })
+    }
 }
 
 impl fmt::Display for LockToken {
@@ -18,21 +30,6 @@ impl fmt::Display for LockToken {
     ghost output = { λ t. Some (shown_token t.bytes.items) };
 
     fn fmt<W: fmt::Write>(&self, f: &mut fmt::Formatter<W>) -> fmt::Result {
-        for byte in &self.bytes {
-            f.write_char(char::from(shown_byte(*byte)))?;
-        }
-        Ok(())
-    }
-}
-
-// A byte as it is shown.
-fn shown_byte(byte: u8) -> u8
-    ensures shown { result ≡ shown_byte byte }
-    ensures ascii { result < 128 }
-{
-    if 0x20 <= byte && byte <= 0x7E {
-        byte
-    } else {
-        b'?'
+        write!(f, "{}", ShownBytes::of(self.bytes.as_slice()))
     }
 }

@@ -2,9 +2,11 @@
 ghost use Rattle.std.specs.Prelude.{◌≡◌, IfOk};
 ghost use Rattle.std.specs.FinMap as finite;
 ghost use Rattle.sync_core.specs.Mirror.{standing_in};
-ghost use Rattle.sync_core.specs.Names.{url_name, uuid_name, lock_name};
+ghost use Rattle.sync_core.specs.Names.{url_name, uuid_name, merged_name, copying_name, lock_name};
 
-use crate::properties::{copying, lock_name, merged, url_name, uuid_name};
+use crate::properties::{
+    copying, copying_name, lock_name, merged, merged_name, url_name, uuid_name,
+};
 use crate::standing::Standing;
 use node_base::{PropValue, Props, RevNo};
 use std::alloc::{AllocError, Global};
@@ -15,12 +17,16 @@ pub fn look(alloc: Global, own: &Props, head: RevNo) -> Result<Standing, AllocEr
 {
     let url = url_of(alloc, own)?;
     let uuid = uuid_of(alloc, own)?;
+    let merged_text = merged_of(alloc, own)?;
+    let copying_text = copying_of(alloc, own)?;
     let lock = lock_of(alloc, own)?;
     Ok(Standing {
         url,
         uuid,
         merged: merged(own),
         copying: copying(own),
+        merged_text,
+        copying_text,
         lock,
         head,
     })
@@ -36,6 +42,18 @@ fn uuid_of(alloc: Global, own: &Props) -> Result<Option<PropValue>, AllocError>
     ensures { IfOk result (λ v. v ≡ finite.get own.now uuid_name) }
 {
     value_at(alloc, own, uuid_name())
+}
+
+fn merged_of(alloc: Global, own: &Props) -> Result<Option<PropValue>, AllocError>
+    ensures { IfOk result (λ v. v ≡ finite.get own.now merged_name) }
+{
+    value_at(alloc, own, merged_name())
+}
+
+fn copying_of(alloc: Global, own: &Props) -> Result<Option<PropValue>, AllocError>
+    ensures { IfOk result (λ v. v ≡ finite.get own.now copying_name) }
+{
+    value_at(alloc, own, copying_name())
 }
 
 fn lock_of(alloc: Global, own: &Props) -> Result<Option<PropValue>, AllocError>

@@ -5,7 +5,6 @@ ghost use Rattle.sync_core.specs.Faults.{spelt_in};
 
 use crate::number::Number;
 use node_base::RevNo;
-use std::fmt;
 
 impl Number {
     /// Whether there is no such property.
@@ -59,22 +58,6 @@ impl Number {
         match self {
             Number::Spelt(number) => Some(number),
             Number::Absent | Number::Misspelt | Number::Huge => None,
-        }
-    }
-}
-
-impl fmt::Display for Number {
-    ghost use Rattle.std.specs.Prelude.{Some};
-    ghost use Rattle.node_base.specs.Refusals.{number_or_dash};
-    ghost use Rattle.sync_core.specs.Faults.{spelt_in};
-
-    ghost output = { λ n. Some (number_or_dash (spelt_in n)) };
-
-    /// The number that is spelt, and `-` where none is, or one from 2^64 on.
-    fn fmt<W: fmt::Write>(&self, f: &mut fmt::Formatter<W>) -> fmt::Result {
-        match self.spelt() {
-            Some(number) => write!(f, "{number}"),
-            None => f.write_str("-"),
         }
     }
 }

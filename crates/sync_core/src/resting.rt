@@ -1,7 +1,7 @@
 //! The shapes in which a mirror rests.
 
-/// Where a mirror's copying stands, by the last revision that is merged (copied whole), the one that is being copied, and the
-/// head.
+/// Where a mirror's copying stands, by the last revision that is merged (copied whole), the one that is being copied,
+/// and the head.
 #[derive(Clone, Copy, Debug, PartialEq, Eq)]
 pub enum Resting {
     /// The head is merged, and nothing is being copied.

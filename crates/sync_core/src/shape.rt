@@ -8,8 +8,8 @@ use crate::number::Number;
 use crate::resting::Resting;
 use node_base::RevNo;
 
-/// The shape of what is merged, what is being copied and the head; None where they fit none. No two shapes have the same
-/// numbers.
+/// The shape of what is merged, what is being copied and the head; None where they fit none. No two shapes have the
+/// same numbers.
 #[tactic(auto, using(crate::proofs::ShapeLemmas::shape_of_found, crate::proofs::ShapeLemmas::none_of_none))]
 pub fn shape_of(merged: Number, copying: Number, head: RevNo) -> Option<Resting>
     ensures table { result ≡ shape_in merged copying head }

@@ -14,6 +14,10 @@ pub struct Standing {
     pub merged: Number,
     /// `svn:sync-currently-copying`: the revision that is being copied.
     pub copying: Number,
+    /// `svn:sync-last-merged-rev` as it stands.
+    pub merged_text: Option<PropValue>,
+    /// `svn:sync-currently-copying` as it stands.
+    pub copying_text: Option<PropValue>,
     /// `svn:sync-lock`: the token of the job that took the lock.
     pub lock: Option<PropValue>,
     /// The number of the newest revision.

@@ -1,7 +1,8 @@
 //! Jobs.
-ghost use Rattle.std.specs.Prelude.{◌≡◌, ℕ};
+ghost use Rattle.std.specs.Prelude.{◌≡◌, ◌≢◌, ◌<◌, ℕ};
 ghost use Rattle.sync_core.specs.Jobs.{Job, Initialise, Sync, CopyProps, begun};
-ghost use Rattle.sync_core.specs.Deeds.{deed_of, heard, IsLawfulDeed};
+ghost use Rattle.sync_core.specs.Deeds.{Ends, deed_of, heard, IsLawfulDeed};
+ghost use Rattle.sync_core.specs.Measures.{left, CanBe};
 ghost use Rattle.sync_core.specs.States.{init_start, sync_start, copy_start, deed_in, after, ending_of, Follows, IsAskedFor};
 
 use crate::action::Action;
@@ -63,8 +64,8 @@ impl JobState {
 
 /// What a job does next, by the table of its phases. It takes no memory.
 ///
-/// Whatever a job has heard that led to the state, a call of the mirror is one that the job may make then; and a revision or its
-/// properties are asked for only by a number that is the job's turn.
+/// Whatever a job has heard that led to the state, a call of the mirror is one that the job may make then; and a
+/// revision or its properties are asked for only by a number that is the job's turn.
 #[tactic(auto, using(crate::proofs::StateLemmas::lawful_by, crate::proofs::StateLemmas::asked_by))]
 pub fn decide(state: &JobState) -> Action<'_>
     ensures table { deed_of result ≡ deed_in state.now }
@@ -87,13 +88,34 @@ fn tabled(state: &JobState) -> Action<'_>
 
 /// A job after the answer to what it did, by the table of its phases.
 ///
-/// Whatever a job had heard that led to the state, what it has heard with the answer leads to the result.
+/// Whatever a job had heard that led to the state, what it has heard with the answer leads to the result. Unless the
+/// job had nothing more to do, the result is nearer to its end by a number, so that a loop needs no bound of its own.
 #[tactic(auto, using(crate::proofs::StateLemmas::follows_by))]
 pub fn absorb(state: JobState, answer: Answer) -> JobState
     ensures table { result ≡ after state answer }
     ensures follows { (job : Job) (moment : ℕ) → Follows job state → Follows (heard job moment (deed_in state) answer) result }
+    ensures nearer { deed_in state ≢ Ends → left result < left state }
 {
+    can_be(&answer);
     moved(state, answer)
+}
+
+// A newest revision that is told is one that can be.
+fn can_be(answer: &Answer)
+    ensures { CanBe answer.now }
+{
+    match answer {
+        Answer::Latest(number) => {
+            let _ = number.get();
+        }
+        Answer::Done => {}
+        Answer::Seen(_) => {}
+        Answer::Identity(_) => {}
+        Answer::Revision(_, _) => {}
+        Answer::Map(_) => {}
+        Answer::Refused(_) => {}
+        Answer::Failed(_) => {}
+    }
 }
 
 // A job after the answer to what it did, by the table of its phases.

@@ -17,6 +17,7 @@ use crate::resting::Resting;
 use crate::shape::shape_of;
 use crate::standing::Standing;
 use crate::token::Token;
+use crate::told_number::ToldNumber;
 use dump_load::ChangeSet;
 use node_base::{PropValue, Props, RevNo, limits};
 
@@ -66,8 +67,8 @@ enum SyncPhase {
     End(Ending),
 }
 
-/// A sync job: it takes the mirror's lock, looks how the mirror stands, goes on where an earlier job stopped, and copies one
-/// revision after another until the mirror has what the master had when it was asked.
+/// A sync job: it takes the mirror's lock, looks how the mirror stands, goes on where an earlier job stopped, and
+/// copies one revision after another until the mirror has what the master had when it was asked.
 #[derive(Debug, Drop)]
 pub struct SyncJob {
     known: Known,
@@ -208,6 +209,8 @@ fn looked(known: Known, standing: Standing) -> SyncJob
         uuid,
         merged,
         copying,
+        merged_text,
+        copying_text,
         lock: _,
         head,
     } = standing;
@@ -216,10 +219,14 @@ fn looked(known: Known, standing: Standing) -> SyncJob
     }
     match shape_of(merged, copying, head) {
         Some(shape) => at(known, SyncPhase::Who { shape, uuid }),
-        None => {
-            let fault = inconsistent(&known);
-            give_up(known, fault)
-        }
+        None => give_up(
+            known,
+            SyncFault::Inconsistent {
+                merged: ToldNumber::of(merged, merged_text),
+                copying: ToldNumber::of(copying, copying_text),
+                head,
+            },
+        ),
     }
 }
 
@@ -293,13 +300,13 @@ fn number_after(number: RevNo, limit: RevNo) -> RevNo
     RevNo::new(number.get() + 1)
 }
 
-// What is merged, what is being copied and the head fit together in no shape.
+// The number after the head can't be copied, since no revision has it.
 fn inconsistent(known: &Known) -> SyncFault
     ensures { result ≡ table.inconsistent known.now }
 {
     SyncFault::Inconsistent {
-        merged: known.merged,
-        copying: known.copying,
+        merged: ToldNumber::of(known.merged, None),
+        copying: ToldNumber::of(known.copying, None),
         head: known.head,
     }
 }

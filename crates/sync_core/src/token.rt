@@ -50,6 +50,15 @@ impl Token {
         self.bytes.as_slice()
     }
 
+    /// The same token once more.
+    pub fn copy(&self, alloc: Global) -> Result<Token, AllocError>
+        ensures { IfOk result (λ t. t ≡ self.now) }
+    {
+        Ok(Token {
+            bytes: Vec::from_slice(alloc, self.bytes.as_slice())?,
+        })
+    }
+
     /// The value that it is of the property `svn:sync-lock`.
     pub fn value(&self, alloc: Global) -> Result<PropValue, AllocError>
         ensures { IfOk result (λ v. v ≡ self.now) }

@@ -6,14 +6,15 @@ use std::alloc::Global;
 use std::process::Abort;
 use std::test::Fail;
 use sync_core::{
-    Action, Answer, Ending, JobState, LockToken, MirrorCall, Number, PlainMirror, Reply, Seat,
-    SyncFault, Token, absorb, decide, look,
+    Action, Answer, Ending, JobState, KeptCall, LockToken, MirrorCall, Number, Numbers,
+    PlainMirror, Planned, Reply, Resting, Seat, Standing, SyncFault, Token, ToldNumber, absorb,
+    decide, holder_left, look, plan, shape_of,
 };
 use uuid::Uuid;
 
-fn repo(alloc: Global) -> Result<Repo, Fail> {
-    let identity = Uuid::parse_str("6a1f0c3e-0000-4000-8000-000000000001")?;
-    Ok(Repo::new(alloc, identity)?)
+fn repo(rt: &impl Abort, alloc: Global) -> Repo {
+    let identity = Uuid::parse_str("6a1f0c3e-0000-4000-8000-000000000001").expect(rt, "a UUID");
+    Repo::new(alloc, identity).expect(rt, "memory")
 }
 
 fn value(rt: &impl Abort, alloc: Global, text: &[u8]) -> PropValue {
@@ -38,17 +39,29 @@ fn one_prop(rt: &impl Abort, alloc: Global, name: &[u8], text: &[u8]) -> Props {
     props
 }
 
-// A master: revision 0 has a property of its own and one of a mirror, and each revision up to the head a log.
-fn master(rt: &impl Abort, alloc: Global, head: u16) -> Result<Repo, Fail> {
-    let mut master = repo(alloc)?;
+// Revision 0's properties of a master: one of its own and one of a mirror.
+fn put_first(rt: &impl Abort, alloc: Global, master: &mut Repo) {
     let mut zero = one_prop(rt, alloc, b"svn:date", b"d");
     set(rt, alloc, &mut zero, b"svn:sync-lock", b"other");
-    master.put_props(RevNo::ZERO, zero)?;
+    master.put_props(RevNo::ZERO, zero).expect(rt, "properties");
+}
+
+// One revision more, with a log.
+fn commit_one(rt: &impl Abort, alloc: Global, master: &mut Repo) {
+    let log = one_prop(rt, alloc, b"svn:log", b"one");
+    master
+        .commit(alloc, master.head(), ChangeSet::empty(alloc), log, None)
+        .expect(rt, "a commit");
+}
+
+// A master: revision 0 has a property of its own and one of a mirror, and each revision up to the head a log.
+fn master(rt: &impl Abort, alloc: Global, head: u16) -> Repo {
+    let mut master = repo(rt, alloc);
+    put_first(rt, alloc, &mut master);
     for _ in 0..head {
-        let log = one_prop(rt, alloc, b"svn:log", b"one");
-        master.commit(alloc, master.head(), ChangeSet::empty(alloc), log, None)?;
+        commit_one(rt, alloc, &mut master);
     }
-    Ok(master)
+    master
 }
 
 // The number of a refusal, and 0 where a call was taken.
@@ -78,19 +91,41 @@ fn told(call: &MirrorCall<'_>) -> Option<u8> {
 }
 
 fn of_call(
+    rt: &impl Abort,
     alloc: Global,
     mirror: &mut PlainMirror,
     seat: u64,
     call: &MirrorCall<'_>,
     lines: &mut Vec<u8>,
-) -> Result<Answer, Fail> {
+) -> Answer {
     let step = mirror.step(alloc, Seat::new(seat), call);
     if step.is_ok() {
         if let Some(line) = told(call) {
-            lines.push(line)?;
+            lines.push(line).expect(rt, "memory");
         }
     }
-    Ok(of_step(step))
+    of_step(step)
+}
+
+fn failed(rt: &impl Abort, alloc: Global) -> Answer {
+    Answer::Failed(format!(in alloc; "no such revision").expect(rt, "memory"))
+}
+
+fn revision_of(rt: &impl Abort, alloc: Global, master: &Repo, number: RevNo) -> Answer {
+    let (Some(set), Some(props)) = (master.set(number), master.props(number)) else {
+        return failed(rt, alloc);
+    };
+    Answer::Revision(
+        set.share(alloc).expect(rt, "memory"),
+        props.share().expect(rt, "memory"),
+    )
+}
+
+fn map_of(rt: &impl Abort, alloc: Global, master: &Repo, number: RevNo) -> Answer {
+    match master.props(number) {
+        Some(props) => Answer::Map(props.share().expect(rt, "memory")),
+        None => failed(rt, alloc),
+    }
 }
 
 fn of_master(
@@ -99,20 +134,31 @@ fn of_master(
     master: &Repo,
     identity: &[u8],
     action: &Action<'_>,
-) -> Result<Answer, Fail> {
+) -> Answer {
     match action {
-        Action::AskIdentity => Ok(Answer::Identity(value(rt, alloc, identity))),
-        Action::AskLatest => Ok(Answer::Latest(master.head())),
-        Action::Fetch(number) => match (master.set(*number), master.props(*number)) {
-            (Some(set), Some(props)) => { Ok(Answer::Revision(set.share(alloc)?, props.share()?)) }
-            _ => Ok(Answer::Failed(format!(in alloc; "no such revision")?)),
-        },
-        Action::FetchProps(number) => match master.props(*number) {
-            Some(props) => Ok(Answer::Map(props.share()?)),
-            None => Ok(Answer::Failed(format!(in alloc; "no such revision")?)),
-        },
-        Action::Call(_) => Ok(Answer::Done),
-        Action::End => Ok(Answer::Done),
+        Action::AskIdentity => Answer::Identity(value(rt, alloc, identity)),
+        Action::AskLatest => Answer::Latest(master.head()),
+        Action::Fetch(number) => revision_of(rt, alloc, master, *number),
+        Action::FetchProps(number) => map_of(rt, alloc, master, *number),
+        Action::Call(_) => Answer::Done,
+        Action::End => Answer::Done,
+    }
+}
+
+// The answer to what a job does next; None where that is nothing.
+fn next(
+    rt: &impl Abort,
+    alloc: Global,
+    mirror: &mut PlainMirror,
+    seat: u64,
+    master: &Repo,
+    job: &JobState,
+    lines: &mut Vec<u8>,
+) -> Option<Answer> {
+    match &decide(job) {
+        Action::End => None,
+        Action::Call(call) => Some(of_call(rt, alloc, mirror, seat, call, lines)),
+        other => Some(of_master(rt, alloc, master, b"u", other)),
     }
 }
 
@@ -126,20 +172,15 @@ fn run(
     job: JobState,
     most: u64,
     lines: &mut Vec<u8>,
-) -> Result<JobState, Fail> {
+) -> JobState {
     let mut job = job;
     for _ in 0..most {
-        let answer = {
-            let action = decide(&job);
-            match &action {
-                Action::End => break,
-                Action::Call(call) => of_call(alloc, mirror, seat, call, lines)?,
-                other => of_master(rt, alloc, master, b"u", other)?,
-            }
-        };
-        job = absorb(job, answer);
+        match next(rt, alloc, mirror, seat, master, &job, lines) {
+            Some(answer) => job = absorb(job, answer),
+            None => return job,
+        }
     }
-    Ok(job)
+    job
 }
 
 // The number of the refusal with which a job ended: 0 where it did what it was to do, and 255 where it goes on.
@@ -155,15 +196,41 @@ fn sync(rt: &impl Abort, alloc: Global, steal: bool) -> JobState {
     JobState::sync(token(rt, alloc, b"job"), steal)
 }
 
-// A mirror that is initialised.
-fn begun(rt: &impl Abort, alloc: Global, master: &Repo) -> Result<PlainMirror, Fail> {
-    let mut mirror = PlainMirror::new(repo(alloc)?);
-    let mut lines = Vec::new(alloc);
+// How a sync ends that does at most so many actions.
+fn synced(
+    rt: &impl Abort,
+    alloc: Global,
+    mirror: &mut PlainMirror,
+    seat: u64,
+    master: &Repo,
+    steal: bool,
+    most: u64,
+    lines: &mut Vec<u8>,
+) -> u8 {
+    let job = sync(rt, alloc, steal);
+    ended(run(rt, alloc, mirror, seat, master, job, most, lines))
+}
+
+// How a mirror's initialisation ends.
+fn initialised(
+    rt: &impl Abort,
+    alloc: Global,
+    mirror: &mut PlainMirror,
+    seat: u64,
+    master: &Repo,
+    lines: &mut Vec<u8>,
+) -> u8 {
     let job = JobState::init(value(rt, alloc, b"/master"));
-    let job = run(rt, alloc, &mut mirror, 0, master, job, 9, &mut lines)?;
-    assert_eq!(rt; ended(job), 0);
-    assert_eq!(rt; lines.as_slice(), b"p".as_slice());
-    Ok(mirror)
+    ended(run(rt, alloc, mirror, seat, master, job, 9, lines))
+}
+
+// A mirror that is initialised.
+fn begun(rt: &impl Abort, alloc: Global, master: &Repo) -> PlainMirror {
+    let mut mirror = PlainMirror::new(repo(rt, alloc));
+    let mut lines = Vec::new(alloc);
+    let end = initialised(rt, alloc, &mut mirror, 0, master, &mut lines);
+    assert!(rt; end == 0 && lines.as_slice() == b"p".as_slice());
+    mirror
 }
 
 // Whether a property of a mirror's revision has the value.
@@ -174,169 +241,207 @@ fn has(mirror: &PlainMirror, revision: u16, name: &[u8], value: Option<&[u8]>) -
     }
 }
 
-// A sync that stops after so many actions, and one that steals the lock after the mirror was opened again.
-fn resumed(rt: &impl Abort, alloc: Global, actions: u64) -> Result<(u8, Vec<u8>, bool), Fail> {
-    let master = master(rt, alloc, 1)?;
-    let mut mirror = begun(rt, alloc, &master)?;
+// Whether the first revision is copied whole, and nobody has the lock.
+fn is_whole(mirror: &PlainMirror) -> bool {
+    mirror.repo.head() == RevNo::new(1)
+        && has(mirror, 0, b"svn:sync-last-merged-rev", Some(b"1"))
+        && has(mirror, 0, b"svn:sync-currently-copying", None)
+        && has(mirror, 0, b"svn:sync-lock", None)
+}
+
+// Whether, after a sync that stops after so many actions, one that doesn't steal the lock is refused, and one that does says these
+// lines and leaves the mirror whole.
+fn resumes(rt: &impl Abort, alloc: Global, actions: u64, said: &[u8]) -> bool {
+    let master = master(rt, alloc, 1);
+    let mut mirror = begun(rt, alloc, &master);
     let mut lines = Vec::new(alloc);
-    let first = sync(rt, alloc, false);
-    let _ = run(
+    let _ = synced(
         rt,
         alloc,
         &mut mirror,
         1,
         &master,
-        first,
+        false,
         actions,
         &mut lines,
-    )?;
+    );
     mirror.leave(Seat::new(1));
-    let again = sync(rt, alloc, false);
-    let again = run(rt, alloc, &mut mirror, 2, &master, again, 99, &mut lines)?;
-    let held = ended(again);
+    let held = synced(rt, alloc, &mut mirror, 2, &master, false, 99, &mut lines);
     lines.clear();
-    let last = sync(rt, alloc, true);
-    let last = run(rt, alloc, &mut mirror, 3, &master, last, 99, &mut lines)?;
-    let whole = ended(last) == 0
-        && mirror.repo.head() == RevNo::new(1)
-        && has(&mirror, 0, b"svn:sync-last-merged-rev", Some(b"1"))
-        && has(&mirror, 0, b"svn:sync-currently-copying", None)
-        && has(&mirror, 0, b"svn:sync-lock", None);
-    Ok((held, lines, whole))
+    let last = synced(rt, alloc, &mut mirror, 3, &master, true, 99, &mut lines);
+    held == 54 && last == 0 && lines.as_slice() == said && is_whole(&mirror)
 }
 
 #[test]
 fn a_sync_goes_on_where_another_stopped(rt: HostRuntime) -> Result<(), Fail> {
     let alloc = rt.alloc();
-    let copying = resumed(&rt, alloc, 5)?;
-    assert!(rt; copying.0 == 54 && copying.1.as_slice() == b"cp".as_slice() && copying.2);
-    let committed = resumed(&rt, alloc, 7)?;
-    assert!(rt; committed.0 == 54 && committed.1.as_slice() == b"p".as_slice() && committed.2);
-    let merged = resumed(&rt, alloc, 10)?;
-    assert!(rt; merged.0 == 54 && merged.1.as_slice() == b"".as_slice() && merged.2);
+    assert!(rt; resumes(&rt, alloc, 5, b"cp"));
+    assert!(rt; resumes(&rt, alloc, 7, b"p"));
+    assert!(rt; resumes(&rt, alloc, 10, b""));
     Ok(())
+}
+
+// Whether an initialised mirror has the copied properties and its own, and no other.
+fn has_own_names(rt: &impl Abort, alloc: Global) -> bool {
+    let mirror = begun(rt, alloc, &master(rt, alloc, 1));
+    has(&mirror, 0, b"svn:date", Some(b"d"))
+        && has(&mirror, 0, b"svn:sync-lock", None)
+        && has(&mirror, 0, b"svn:sync-from-url", Some(b"/master"))
+        && has(&mirror, 0, b"svn:sync-from-uuid", Some(b"u"))
+        && has(&mirror, 0, b"svn:sync-last-merged-rev", Some(b"0"))
 }
 
 #[test]
 fn sync_names_are_not_copied(rt: HostRuntime) -> Result<(), Fail> {
     let alloc = rt.alloc();
-    let mirror = begun(&rt, alloc, &master(&rt, alloc, 1)?)?;
-    assert!(rt;
-        has(&mirror, 0, b"svn:date", Some(b"d")) && has(&mirror, 0, b"svn:sync-lock", None)
-    );
-    assert!(rt;
-        has(&mirror, 0, b"svn:sync-from-url", Some(b"/master"))
-            && has(&mirror, 0, b"svn:sync-from-uuid", Some(b"u"))
-            && has(&mirror, 0, b"svn:sync-last-merged-rev", Some(b"0"))
-    );
+    assert!(rt; has_own_names(&rt, alloc));
     Ok(())
 }
 
-// The answers to calls of a mirror whose head and last merged revision is 3.
-fn turns(rt: &impl Abort, alloc: Global) -> Result<Vec<u8>, Fail> {
-    let mut mirror = begun(rt, alloc, &master(rt, alloc, 0)?)?;
+// A mirror whose head and last merged revision is 3.
+fn at_three(rt: &impl Abort, alloc: Global) -> PlainMirror {
+    let mut mirror = begun(rt, alloc, &master(rt, alloc, 0));
     let mut lines = Vec::new(alloc);
-    let three = master(rt, alloc, 3)?;
-    let job = run(
-        rt,
-        alloc,
-        &mut mirror,
-        1,
-        &three,
-        sync(rt, alloc, false),
-        99,
-        &mut lines,
-    )?;
-    let mut answers = Vec::new(alloc);
-    answers.push(ended(job))?;
-    let token = token(rt, alloc, b"job");
+    let three = master(rt, alloc, 3);
+    let end = synced(rt, alloc, &mut mirror, 1, &three, false, 99, &mut lines);
+    assert!(rt; end == 0);
+    mirror
+}
+
+// Whether the calls in and out of turn of its holder, seat 1, and of another seat are answered so.
+fn takes_turns(rt: &impl Abort, alloc: Global, mirror: &mut PlainMirror, token: &Token) -> bool {
     let props = Props::empty();
     let four = RevNo::new(4);
-    answers.push(say(alloc, &mut mirror, 1, &MirrorCall::TakeLock(&token)))?;
-    answers.push(say(
-        alloc,
-        &mut mirror,
-        1,
-        &MirrorCall::SetCopying(RevNo::new(5)),
-    ))?;
-    answers.push(say(
-        alloc,
-        &mut mirror,
-        2,
-        &MirrorCall::SetCopying(RevNo::new(5)),
-    ))?;
-    answers.push(say(alloc, &mut mirror, 1, &MirrorCall::SetCopying(four)))?;
-    assert!(rt; has(&mirror, 0, b"svn:sync-currently-copying", Some(b"4")));
-    answers.push(say(
-        alloc,
-        &mut mirror,
-        1,
-        &MirrorCall::PutProps {
-            number: four,
-            props: &props,
-        },
-    ))?;
-    answers.push(say(alloc, &mut mirror, 2, &MirrorCall::StealLock(&token)))?;
+    let five = RevNo::new(5);
+    let put = MirrorCall::PutProps {
+        number: four,
+        props: &props,
+    };
+    say(alloc, mirror, 1, &MirrorCall::TakeLock(token)) == 0
+        && say(alloc, mirror, 1, &MirrorCall::SetCopying(five)) == 61
+        && say(alloc, mirror, 2, &MirrorCall::SetCopying(five)) == 59
+        && say(alloc, mirror, 1, &MirrorCall::SetCopying(four)) == 0
+        && has(mirror, 0, b"svn:sync-currently-copying", Some(b"4"))
+        && say(alloc, mirror, 1, &put) == 61
+}
+
+// Whether the lock may be stolen once the holder has left, and not before.
+fn is_stolen_once_left(
+    rt: &impl Abort,
+    alloc: Global,
+    mirror: &mut PlainMirror,
+    token: &Token,
+) -> bool {
+    let props = Props::empty();
+    let url = value(rt, alloc, b"/master");
+    let init = MirrorCall::Init {
+        url: &url,
+        uuid: &url,
+        props: &props,
+    };
+    let steal = MirrorCall::StealLock(token);
+    let before = say(alloc, mirror, 2, &steal);
     mirror.leave(Seat::new(1));
-    answers.push(say(alloc, &mut mirror, 2, &MirrorCall::StealLock(&token)))?;
-    Ok(answers)
+    before == 55 && say(alloc, mirror, 2, &steal) == 0 && say(alloc, mirror, 2, &init) == 52
 }
 
 #[test]
 fn calls_in_and_out_of_turn(rt: HostRuntime) -> Result<(), Fail> {
     let alloc = rt.alloc();
-    let answers = turns(&rt, alloc)?;
-    assert_eq!(rt; answers.as_slice(), [0, 0, 61, 59, 0, 61, 55, 0].as_slice());
+    let mut mirror = at_three(&rt, alloc);
+    let token = token(&rt, alloc, b"job");
+    assert!(rt; takes_turns(&rt, alloc, &mut mirror, &token));
+    assert!(rt; is_stolen_once_left(&rt, alloc, &mut mirror, &token));
     Ok(())
 }
 
-// The number and the text of the refusal with which a sync job ends whose mirror's properties say so; 0 where it goes on.
-fn told_of(
+// Whether the job has ended with 57 and that text.
+fn is_inconsistent(rt: &impl Abort, alloc: Global, job: JobState, text: &str) -> bool {
+    match job.ending() {
+        Some(Ending::Refused(fault)) => fault.number() == 57 && says(rt, alloc, &fault, text),
+        _ => false,
+    }
+}
+
+// Whether a refusal has that text.
+fn says(rt: &impl Abort, alloc: Global, fault: &SyncFault, text: &str) -> bool {
+    let own = format!(in alloc; "{fault}").expect(rt, "memory");
+    own.as_str() == text
+}
+
+// How a mirror stands whose properties say so.
+fn standing(
     rt: &impl Abort,
     alloc: Global,
     merged: &[u8],
     copying: Option<&[u8]>,
     head: u16,
-) -> Result<(u8, String), Fail> {
+) -> Standing {
     let mut own = one_prop(rt, alloc, b"svn:sync-from-url", b"/master");
+    set(rt, alloc, &mut own, b"svn:sync-from-uuid", b"u");
     set(rt, alloc, &mut own, b"svn:sync-last-merged-rev", merged);
     if let Some(copying) = copying {
         set(rt, alloc, &mut own, b"svn:sync-currently-copying", copying);
     }
-    let standing = look(alloc, &own, RevNo::new(head))?;
+    look(alloc, &own, RevNo::new(head)).expect(rt, "memory")
+}
+
+// Whether a sync job ends with that text as soon as it has seen such a mirror.
+fn fits_no_shape(
+    rt: &impl Abort,
+    alloc: Global,
+    merged: &[u8],
+    copying: Option<&[u8]>,
+    head: u16,
+    text: &str,
+) -> bool {
+    let standing = standing(rt, alloc, merged, copying, head);
     let job = absorb(sync(rt, alloc, false), Answer::Done);
-    let job = absorb(job, Answer::Seen(standing));
-    let job = absorb(job, Answer::Done);
-    match job.ending() {
-        Some(Ending::Refused(fault)) => {
-            let number = fault.number();
-            Ok((number, format!(in alloc; "{fault}")?))
-        }
-        _ => Ok((0, format!(in alloc; "goes on")?)),
-    }
+    let job = absorb(absorb(job, Answer::Seen(standing)), Answer::Done);
+    is_inconsistent(rt, alloc, job, text)
 }
 
 #[test]
 fn numbers_that_fit_no_shape(rt: HostRuntime) -> Result<(), Fail> {
     let alloc = rt.alloc();
-    let apart = told_of(&rt, alloc, b"3", Some(b"5"), 3)?;
-    assert!(rt; apart.0 == 57 && apart.1.as_str() == "inconsistent: merged 3, copying 5, head 3");
-    let misspelt = told_of(&rt, alloc, b"07", None, 7)?;
-    assert!(rt;
-        misspelt.0 == 57 && misspelt.1.as_str() == "inconsistent: merged -, copying -, head 7"
-    );
-    let far = told_of(&rt, alloc, b"99999", None, 7)?;
-    assert!(rt; far.0 == 57 && far.1.as_str() == "inconsistent: merged 99999, copying -, head 7");
+    let apart = "inconsistent: merged 3, copying 5, head 3";
+    assert!(rt; fits_no_shape(&rt, alloc, b"3", Some(b"5"), 3, apart));
+    let misspelt = "inconsistent: merged -, copying -, head 7";
+    assert!(rt; fits_no_shape(&rt, alloc, b"07", None, 7, misspelt));
+    let far = "inconsistent: merged 99999, copying -, head 7";
+    assert!(rt; fits_no_shape(&rt, alloc, b"99999", None, 7, far));
+    Ok(())
+}
+
+#[test]
+fn numbers_past_the_greatest(rt: HostRuntime) -> Result<(), Fail> {
+    let alloc = rt.alloc();
+    let greatest = b"18446744073709551615";
+    let next = b"18446744073709551616";
+    let text = "inconsistent: merged 18446744073709551615, copying 18446744073709551616, head 7";
+    assert!(rt; fits_no_shape(&rt, alloc, greatest, Some(next), 7, text));
     Ok(())
 }
 
 // Whether a refusal has that number and that text, and so has the line of the program that it becomes.
 fn is_told(rt: &impl Abort, alloc: Global, fault: SyncFault, number: u8, text: &str) -> bool {
-    let own = format!(in alloc; "{fault}").expect(rt, "memory");
-    let numbered = fault.number() == number;
-    let refusal = Refusal::from(fault);
+    fault.number() == number
+        && says(rt, alloc, &fault, text)
+        && is_lined(rt, alloc, &fault, number, text)
+        && is_refusal(rt, alloc, &Refusal::from(fault), number, text)
+}
+
+// Whether the line that a program prints for it says so.
+fn is_lined(rt: &impl Abort, alloc: Global, fault: &SyncFault, number: u8, text: &str) -> bool {
+    let line = fault.line(alloc).expect(rt, "memory");
+    let due = format!(in alloc; "svnfleet: {number} {text}\n").expect(rt, "memory");
+    line.as_str() == due.as_str()
+}
+
+// Whether a refusal of the table has that number and that text.
+fn is_refusal(rt: &impl Abort, alloc: Global, refusal: &Refusal, number: u8, text: &str) -> bool {
     let told = format!(in alloc; "{refusal}").expect(rt, "memory");
-    numbered && refusal.number() == number && own.as_str() == text && told.as_str() == text
+    refusal.number() == number && told.as_str() == text
 }
 
 // A refusal of a call whose need isn't met.
@@ -421,13 +526,13 @@ fn ends_are_told(rt: &impl Abort, alloc: Global) -> bool {
 
 fn numbers_are_told(rt: &impl Abort, alloc: Global) -> bool {
     let apart = SyncFault::Inconsistent {
-        merged: Number::Spelt(3),
-        copying: Number::Spelt(5),
+        merged: ToldNumber::Spelt(3),
+        copying: ToldNumber::Spelt(5),
         head: RevNo::new(3),
     };
     let none = SyncFault::Inconsistent {
-        merged: Number::Misspelt,
-        copying: Number::Absent,
+        merged: ToldNumber::Missing,
+        copying: ToldNumber::Missing,
         head: RevNo::new(7),
     };
     is_told(
@@ -453,126 +558,96 @@ fn refusals_are_told_as_the_table_has_them(rt: HostRuntime) -> Result<(), Fail> 
     Ok(())
 }
 
-// The end of a job that copies properties of a range of an edited master, and what the mirror then has of revision 2.
-fn copied(
-    rt: &impl Abort,
-    alloc: Global,
-    low: u16,
-    high: u16,
-) -> Result<(u8, Vec<u8>, bool), Fail> {
-    let mut four = master(rt, alloc, 4)?;
-    let mut mirror = begun(rt, alloc, &four)?;
+// Whether a job that copies properties of a range of an edited master ends so and says these lines, and whether the mirror has the
+// edit then.
+fn copies(rt: &impl Abort, alloc: Global, low: u16, high: u16, end: u8, said: &[u8]) -> bool {
+    let mut four = master(rt, alloc, 4);
+    let mut mirror = begun(rt, alloc, &four);
     let mut lines = Vec::new(alloc);
-    let job = run(
-        rt,
-        alloc,
-        &mut mirror,
-        1,
-        &four,
-        sync(rt, alloc, false),
-        99,
-        &mut lines,
-    )?;
-    assert_eq!(rt; ended(job), 0);
-    assert_eq!(rt; lines.as_slice(), b"cpcpcpcp".as_slice());
-    four.put_props(RevNo::new(2), one_prop(rt, alloc, b"svn:log", b"two"))?;
+    let first = synced(rt, alloc, &mut mirror, 1, &four, false, 99, &mut lines);
+    assert!(rt; first == 0 && lines.as_slice() == b"cpcpcpcp".as_slice());
+    let two = one_prop(rt, alloc, b"svn:log", b"two");
+    four.put_props(RevNo::new(2), two).expect(rt, "properties");
     lines.clear();
     let job = JobState::copy_props(token(rt, alloc, b"job"), RevNo::new(low), RevNo::new(high));
-    let job = run(rt, alloc, &mut mirror, 2, &four, job, 99, &mut lines)?;
-    Ok((ended(job), lines, has(&mirror, 2, b"svn:log", Some(b"two"))))
+    let job = run(rt, alloc, &mut mirror, 2, &four, job, 99, &mut lines);
+    ended(job) == end
+        && lines.as_slice() == said
+        && has(&mirror, 2, b"svn:log", Some(b"two")) == (end == 0)
 }
 
 #[test]
 fn properties_are_copied_again(rt: HostRuntime) -> Result<(), Fail> {
     let alloc = rt.alloc();
-    let unmerged = copied(&rt, alloc, 5, 5)?;
-    assert!(rt; unmerged.0 == 58 && unmerged.1.as_slice() == b"".as_slice() && !unmerged.2);
-    let all = copied(&rt, alloc, 0, 4)?;
-    assert!(rt; all.0 == 0 && all.1.as_slice() == b"ppppp".as_slice() && all.2);
+    assert!(rt; copies(&rt, alloc, 5, 5, 58, b""));
+    assert!(rt; copies(&rt, alloc, 0, 4, 0, b"ppppp"));
     Ok(())
 }
 
-// How a sync of another mirror's master, an init of a mirror that is one already, and one of a repository with revisions end.
-fn others(rt: &impl Abort, alloc: Global) -> Result<Vec<u8>, Fail> {
-    let master = master(rt, alloc, 1)?;
-    let mut mirror = begun(rt, alloc, &master)?;
-    let mut answers = Vec::new(alloc);
-    let job = absorb(
-        sync(rt, alloc, false),
-        of_step(mirror.step(
-            alloc,
-            Seat::new(1),
-            &MirrorCall::TakeLock(&token(rt, alloc, b"job")),
-        )),
-    );
-    let job = absorb(
-        job,
-        of_step(mirror.step(alloc, Seat::new(1), &MirrorCall::Look)),
-    );
-    let job = absorb(job, Answer::Identity(value(rt, alloc, b"U")));
-    let job = absorb(
-        job,
-        of_step(mirror.step(alloc, Seat::new(1), &MirrorCall::ReleaseLock)),
-    );
-    answers.push(ended(job))?;
+// How a sync of another mirror's master ends.
+fn wrong_master(rt: &impl Abort, alloc: Global) -> u8 {
+    let job = absorb(sync(rt, alloc, false), Answer::Done);
+    let seen = Answer::Seen(standing(rt, alloc, b"0", None, 0));
+    let job = absorb(absorb(job, seen), Answer::Identity(value(rt, alloc, b"U")));
+    ended(absorb(job, Answer::Done))
+}
+
+// How an init of a mirror that is one already ends.
+fn again(rt: &impl Abort, alloc: Global) -> u8 {
+    let master = master(rt, alloc, 1);
+    let mut mirror = begun(rt, alloc, &master);
     let mut lines = Vec::new(alloc);
-    let init = JobState::init(value(rt, alloc, b"/master"));
-    answers.push(ended(run(rt, alloc, &mut mirror, 2, &master, init, 9, &mut lines)?))?;
-    let mut full = PlainMirror::new(master);
-    let zero = repo(alloc)?;
-    let init = JobState::init(value(rt, alloc, b"/master"));
-    answers.push(ended(run(rt, alloc, &mut full, 3, &zero, init, 9, &mut lines)?))?;
-    answers.push(ended(run(
-        rt,
-        alloc,
-        &mut full,
-        4,
-        &zero,
-        sync(rt, alloc, false),
-        9,
-        &mut lines,
-    )?))?;
-    Ok(answers)
+    initialised(rt, alloc, &mut mirror, 2, &master, &mut lines)
+}
+
+// Whether an init and a sync of a repository with revisions end with 53 and 51.
+fn is_no_mirror(rt: &impl Abort, alloc: Global) -> bool {
+    let mut full = PlainMirror::new(master(rt, alloc, 1));
+    let zero = repo(rt, alloc);
+    let mut lines = Vec::new(alloc);
+    let init = initialised(rt, alloc, &mut full, 3, &zero, &mut lines);
+    let sync = synced(rt, alloc, &mut full, 4, &zero, false, 9, &mut lines);
+    init == 53 && sync == 51
 }
 
 #[test]
 fn jobs_that_are_refused(rt: HostRuntime) -> Result<(), Fail> {
     let alloc = rt.alloc();
-    let answers = others(&rt, alloc)?;
-    assert_eq!(rt; answers.as_slice(), [56, 52, 53, 51].as_slice());
+    assert!(rt; wrong_master(&rt, alloc) == 56);
+    assert!(rt; again(&rt, alloc) == 52);
+    assert!(rt; is_no_mirror(&rt, alloc));
     Ok(())
 }
 
-// What a seat is told that wants the lock of a mirror whose lock has that text.
-fn told_of_lock(rt: &impl Abort, alloc: Global, lock: &[u8]) -> Result<String, Fail> {
+// Whether a seat that wants the lock of a mirror whose lock has that text is told so.
+fn is_told_of_lock(rt: &impl Abort, alloc: Global, lock: &[u8], text: &str) -> bool {
     let mut own = one_prop(rt, alloc, b"svn:sync-from-url", b"/master");
     set(rt, alloc, &mut own, b"svn:sync-lock", lock);
-    let mut repo = repo(alloc)?;
-    repo.put_props(RevNo::ZERO, own)?;
+    let mut repo = repo(rt, alloc);
+    repo.put_props(RevNo::ZERO, own).expect(rt, "properties");
     let mut mirror = PlainMirror::new(repo);
     let token = token(rt, alloc, b"other");
     match mirror.step(alloc, Seat::new(1), &MirrorCall::TakeLock(&token)) {
-        Ok(_) => Ok(format!(in alloc; "taken")?),
-        Err(fault) => Ok(format!(in alloc; "{fault}")?),
+        Ok(_) => false,
+        Err(fault) => says(rt, alloc, &fault, text),
     }
 }
 
 #[test]
 fn a_lock_is_told_with_its_token(rt: HostRuntime) -> Result<(), Fail> {
     let alloc = rt.alloc();
-    let plain = told_of_lock(&rt, alloc, b"job")?;
-    assert_eq!(rt; plain.as_str(), "the sync lock is held by job");
-    let odd = told_of_lock(&rt, alloc, b"a b\x01\xFFc\n")?;
-    assert_eq!(rt; odd.as_str(), "the sync lock is held by a b??c?");
+    assert!(rt; is_told_of_lock(&rt, alloc, b"job", "the sync lock is held by job"));
+    let odd = "the sync lock is held by a b??c?";
+    assert!(rt; is_told_of_lock(&rt, alloc, b"a b\x01\xFFc\n", odd));
     Ok(())
 }
 
-// What a seat is told that wants to steal the lock.
-fn told_of_steal(rt: &impl Abort, alloc: Global, mirror: &mut PlainMirror) -> String {
+// Whether a seat that wants to steal the lock is told so.
+fn is_told_of_steal(rt: &impl Abort, alloc: Global, mirror: &mut PlainMirror, text: &str) -> bool {
     let own = token(rt, alloc, b"b");
     match mirror.step(alloc, Seat::new(2), &MirrorCall::StealLock(&own)) {
-        Ok(_) => format!(in alloc; "stolen").expect(rt, "memory"),
-        Err(fault) => format!(in alloc; "{fault}").expect(rt, "memory"),
+        Ok(_) => false,
+        Err(fault) => says(rt, alloc, &fault, text),
     }
 }
 
@@ -580,37 +655,212 @@ fn told_of_steal(rt: &impl Abort, alloc: Global, mirror: &mut PlainMirror) -> St
 #[test]
 fn a_running_holder_is_told_with_its_token(rt: HostRuntime) -> Result<(), Fail> {
     let alloc = rt.alloc();
-    let mut mirror = begun(&rt, alloc, &master(&rt, alloc, 0)?)?;
+    let mut mirror = begun(&rt, alloc, &master(&rt, alloc, 0));
     let own = token(&rt, alloc, b"a");
-    let taken = say(alloc, &mut mirror, 1, &MirrorCall::TakeLock(&own));
-    let held = told_of_steal(&rt, alloc, &mut mirror);
-    assert!(rt; taken == 0 && held.as_str() == "the holder a is running");
+    assert!(rt; say(alloc, &mut mirror, 1, &MirrorCall::TakeLock(&own)) == 0);
+    assert!(rt; is_told_of_steal(&rt, alloc, &mut mirror, "the holder a is running"));
     let url = one_prop(&rt, alloc, b"svn:sync-from-url", b"/master");
-    mirror.repo.put_props(RevNo::ZERO, url)?;
-    let gone = told_of_steal(&rt, alloc, &mut mirror);
-    assert_eq!(rt; gone.as_str(), "the holder  is running");
+    mirror
+        .repo
+        .put_props(RevNo::ZERO, url)
+        .expect(&rt, "properties");
+    assert!(rt; is_told_of_steal(&rt, alloc, &mut mirror, "the holder  is running"));
     Ok(())
 }
 
-// The end of a sync with a master that has fewer revisions than its mirror, what it copied, and the mirror's head.
-fn behind(rt: &impl Abort, alloc: Global) -> Result<(u8, Vec<u8>, u16), Fail> {
-    let two = master(rt, alloc, 2)?;
-    let mut mirror = begun(rt, alloc, &two)?;
+// Whether a sync with a master that has fewer revisions than its mirror ends well, and copies nothing.
+fn stays_ahead(rt: &impl Abort, alloc: Global) -> bool {
+    let two = master(rt, alloc, 2);
+    let mut mirror = begun(rt, alloc, &two);
     let mut lines = Vec::new(alloc);
-    let first = sync(rt, alloc, false);
-    let first = run(rt, alloc, &mut mirror, 1, &two, first, 99, &mut lines)?;
-    assert_eq!(rt; ended(first), 0);
+    let first = synced(rt, alloc, &mut mirror, 1, &two, false, 99, &mut lines);
     lines.clear();
-    let one = master(rt, alloc, 1)?;
-    let again = sync(rt, alloc, false);
-    let again = run(rt, alloc, &mut mirror, 2, &one, again, 99, &mut lines)?;
-    Ok((ended(again), lines, mirror.repo.head().get()))
+    let one = master(rt, alloc, 1);
+    let again = synced(rt, alloc, &mut mirror, 2, &one, false, 99, &mut lines);
+    first == 0
+        && again == 0
+        && lines.as_slice() == b"".as_slice()
+        && mirror.repo.head() == RevNo::new(2)
 }
 
 #[test]
 fn a_master_that_is_behind_changes_nothing(rt: HostRuntime) -> Result<(), Fail> {
     let alloc = rt.alloc();
-    let end = behind(&rt, alloc)?;
-    assert!(rt; end.0 == 0 && end.1.as_slice() == b"".as_slice() && end.2 == 2);
+    assert!(rt; stays_ahead(&rt, alloc));
+    Ok(())
+}
+
+// Whether a sync of a mirror whose last revision is merged, and that notes the number after it, which no revision has, is told
+// these numbers. By them the mirror is copying.
+fn ends_past_the_last(rt: &impl Abort, alloc: Global, text: &str) -> bool {
+    let last = RevNo::new(65535);
+    let standing = standing(rt, alloc, b"65535", Some(b"65536"), 65535);
+    let shape = shape_of(standing.merged, standing.copying, last);
+    let job = absorb(sync(rt, alloc, false), Answer::Done);
+    let job = absorb(
+        absorb(job, Answer::Seen(standing)),
+        Answer::Identity(value(rt, alloc, b"u")),
+    );
+    let job = absorb(absorb(job, Answer::Latest(last)), Answer::Done);
+    shape == Some(Resting::Copying(65536)) && is_inconsistent(rt, alloc, job, text)
+}
+
+#[test]
+fn no_revision_is_copied_past_the_last(rt: HostRuntime) -> Result<(), Fail> {
+    let alloc = rt.alloc();
+    let text = "inconsistent: merged 65535, copying 65536, head 65535";
+    assert!(rt; ends_past_the_last(&rt, alloc, text));
+    Ok(())
+}
+
+// Whether a call that was kept and copied still takes the lock with its token.
+fn locks_with(rt: &impl Abort, alloc: Global, text: &[u8]) -> bool {
+    let token = token(rt, alloc, text);
+    let kept = KeptCall::of(alloc, &MirrorCall::TakeLock(&token)).expect(rt, "memory");
+    let copy = kept.copy(alloc).expect(rt, "memory");
+    match copy.lent() {
+        MirrorCall::TakeLock(own) => own.as_bytes() == text,
+        _ => false,
+    }
+}
+
+// Whether one that puts properties still does.
+fn puts(rt: &impl Abort, alloc: Global, number: RevNo, log: &[u8]) -> bool {
+    let props = one_prop(rt, alloc, b"svn:log", log);
+    let call = MirrorCall::PutProps {
+        number,
+        props: &props,
+    };
+    let kept = KeptCall::of(alloc, &call).expect(rt, "memory");
+    match kept.lent() {
+        MirrorCall::PutProps { number: n, props } => n == number
+            && props.get(b"svn:log") == Some(log),
+        _ => false,
+    }
+}
+
+// Whether a refusal that was copied is told alike.
+fn is_copied(rt: &impl Abort, alloc: Global, fault: SyncFault, number: u8, text: &str) -> bool {
+    let answer = Answer::Refused(fault);
+    match answer.copy(alloc).expect(rt, "memory") {
+        Answer::Refused(copy) => is_told(rt, alloc, copy, number, text),
+        _ => false,
+    }
+}
+
+fn refusals_are_copied(rt: &impl Abort, alloc: Global) -> bool {
+    let held = LockToken {
+        bytes: Vec::from_slice(alloc, b"job").expect(rt, "memory"),
+    };
+    let text = format!(in alloc; "refused").expect(rt, "memory");
+    is_copied(
+        rt,
+        alloc,
+        SyncFault::LockHeld(held),
+        54,
+        "the sync lock is held by job",
+    ) && is_copied(
+        rt,
+        alloc,
+        SyncFault::MasterFailed(text),
+        60,
+        "master: refused",
+    ) && is_copied(
+        rt,
+        alloc,
+        SyncFault::Other(Refusal::Behind(RevNo::new(3))),
+        25,
+        "the base is not the head 3",
+    )
+}
+
+#[test]
+fn calls_and_answers_are_copied(rt: HostRuntime) -> Result<(), Fail> {
+    let alloc = rt.alloc();
+    assert!(rt; locks_with(&rt, alloc, b"job"));
+    assert!(rt; puts(&rt, alloc, RevNo::new(4), b"four"));
+    assert!(rt; refusals_are_copied(&rt, alloc));
+    Ok(())
+}
+
+// The number of the refusal with which a call is planned: 0 where it is an entry's, and 255 where it is a look's.
+fn planned(alloc: Global, mirror: &PlainMirror, seat: u64, call: &MirrorCall<'_>) -> u8 {
+    match plan(alloc, &mirror.repo, mirror.holder, Seat::new(seat), call) {
+        Ok(Planned::Write(_)) => 0,
+        Ok(Planned::Tell(_)) => 255,
+        Err(fault) => fault.number(),
+    }
+}
+
+// Whether calls are planned before and after a seat takes the lock.
+fn is_planned(rt: &impl Abort, alloc: Global, mirror: &mut PlainMirror, token: &Token) -> bool {
+    let props = Props::empty();
+    let url = value(rt, alloc, b"/master");
+    let init = MirrorCall::Init {
+        url: &url,
+        uuid: &url,
+        props: &props,
+    };
+    let take = MirrorCall::TakeLock(token);
+    planned(alloc, mirror, 1, &take) == 0
+        && planned(alloc, mirror, 1, &MirrorCall::Look) == 255
+        && planned(alloc, mirror, 1, &init) == 52
+        && say(alloc, mirror, 1, &take) == 0
+        && planned(alloc, mirror, 2, &take) == 54
+        && planned(alloc, mirror, 2, &MirrorCall::ReleaseLock) == 59
+}
+
+#[test]
+fn calls_are_planned(rt: HostRuntime) -> Result<(), Fail> {
+    let alloc = rt.alloc();
+    let mut mirror = begun(&rt, alloc, &master(&rt, alloc, 0));
+    let own = token(&rt, alloc, b"a");
+    assert!(rt; is_planned(&rt, alloc, &mut mirror, &own));
+    Ok(())
+}
+
+// Whether the numbers are these.
+fn are(numbers: Numbers, merged: u64, copying: Number, head: u16) -> bool {
+    numbers.merged == Number::Spelt(merged)
+        && numbers.copying == copying
+        && numbers.head == RevNo::new(head)
+}
+
+fn at_head_three(copying: Number) -> Numbers {
+    Numbers {
+        merged: Number::Spelt(3),
+        copying,
+        head: RevNo::new(3),
+    }
+}
+
+fn numbers_move(rt: &impl Abort, alloc: Global) -> bool {
+    let props = Props::empty();
+    let url = value(rt, alloc, b"/master");
+    let init = MirrorCall::Init {
+        url: &url,
+        uuid: &url,
+        props: &props,
+    };
+    let four = RevNo::new(4);
+    let begun = at_head_three(Number::Spelt(4)).after(&init);
+    let noted = at_head_three(Number::Absent).after(&MirrorCall::SetCopying(four));
+    let merged = at_head_three(Number::Spelt(4)).after(&MirrorCall::SetMerged(four));
+    let cleared = at_head_three(Number::Spelt(4)).after(&MirrorCall::ClearCopying);
+    are(begun, 0, Number::Absent, 3)
+        && are(noted, 3, Number::Spelt(4), 3)
+        && are(merged, 4, Number::Spelt(4), 3)
+        && are(cleared, 3, Number::Absent, 3)
+}
+
+fn holders_leave() -> bool {
+    let one = Seat::new(1);
+    holder_left(Some(one), Seat::new(2)) == Some(one) && holder_left(Some(one), one) == None
+}
+
+#[test]
+fn calls_move_numbers(rt: HostRuntime) -> Result<(), Fail> {
+    assert!(rt; numbers_move(&rt, rt.alloc()));
+    assert!(rt; holders_leave());
     Ok(())
 }

@@ -1,5 +1,5 @@
-//! Tests of `sync_core` over random walks, through its public items: calls of one mirror, and events of a master, two mirrors and
-//! their jobs, each beside a plain re-computation.
+//! Tests of `sync_core` over random walks, through its public items: calls of one mirror, and events of a master, two
+//! mirrors and their jobs, each beside a plain re-computation.
 #![tactic(auto)]
 
 #[cfg(test)]

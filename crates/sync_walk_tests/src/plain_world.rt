@@ -1,6 +1,6 @@
-//! A master, a mirror and its jobs re-computed as plain numbers: what each job does next, by the mirror's numbers and what was
-//! answered to the job, what each call is answered, and what it makes.
-use std::test::Fail;
+//! A master, a mirror and its jobs re-computed as plain numbers: what each job does next, by the mirror's numbers and
+//! what was answered to the job, what each call is answered, and what it makes.
+use std::process::Abort;
 
 // What a job does, as a name and a number.
 #[derive(Clone, Copy, PartialEq, Eq)]
@@ -54,8 +54,8 @@ pub(crate) struct PlainMaster {
     pub(crate) marks: Vec<u64>,
 }
 
-// The mirror: its numbers, its lock, for each revision the moment at which its properties were written at the master, and
-// the greatest that was acknowledged and that a reader was given.
+// The mirror: its numbers, its lock, for each revision the moment at which its properties were written at the master,
+// and the greatest that was acknowledged and that a reader was given.
 #[derive(Drop)]
 pub(crate) struct PlainRoom {
     pub(crate) begun: bool,
@@ -109,12 +109,12 @@ impl PlainRoom {
     }
 
     // What a call that is taken makes; false where properties would go back in time.
-    pub(crate) fn does(&mut self, seat: u64, deed: Deed, mark: u64) -> Result<bool, Fail> {
+    pub(crate) fn does(&mut self, rt: &impl Abort, seat: u64, deed: Deed, mark: u64) -> bool {
         match deed {
             Deed::Init => {
                 self.begun = true;
                 self.copies.clear();
-                self.copies.push(mark)?;
+                self.copies.push(mark).expect(rt, "memory");
             }
             Deed::Take | Deed::Steal => {
                 self.locked = true;
@@ -125,13 +125,13 @@ impl PlainRoom {
                 self.holder = None;
             }
             Deed::SetCopying(n) => self.copying = Some(n),
-            Deed::Commit(_) => self.copies.push(mark)?,
-            Deed::Put(n) => return Ok(self.puts(n, mark)),
+            Deed::Commit(_) => self.copies.push(mark).expect(rt, "memory"),
+            Deed::Put(n) => return self.puts(n, mark),
             Deed::Merge(n) => self.merged = n,
             Deed::Clear => self.copying = None,
             _ => {}
         }
-        Ok(true)
+        true
     }
 
     pub(crate) fn puts(&mut self, n: u16, mark: u64) -> bool {

@@ -5,11 +5,11 @@ use repo_core::Repo;
 use std::alloc::Global;
 use std::process::Abort;
 use std::test::Fail;
-use sync_core::{MirrorCall, Number, PlainMirror, Seat, Token, look};
+use sync_core::{MirrorCall, Number, PlainMirror, Seat, Standing, Token, look};
 use uuid::Uuid;
 
-// A mirror as five numbers and a map: what is merged, what is being copied, who holds the lock, whether a lock is there, and for
-// each revision the letter in its copied property. None before it is initialised.
+// A mirror as five numbers and a map: what is merged, what is being copied, who holds the lock, whether a lock is
+// there, and for each revision the letter in its copied property. None before it is initialised.
 #[derive(Drop)]
 struct Plain {
     begun: bool,
@@ -56,7 +56,7 @@ impl Plain {
     }
 
     // The answer that the protocol gives, and the state after it.
-    fn say(&mut self, seat: u64, kind: Kind, n: u16, letter: u8) -> Result<u8, Fail> {
+    fn say(&mut self, rt: &impl Abort, seat: u64, kind: Kind, n: u16, letter: u8) -> u8 {
         let head = self.head();
         let merged = self.merged;
         let copying = self.copying;
@@ -67,22 +67,22 @@ impl Plain {
         let committed = copying == Some(n) && n == head;
         let own = holder == Some(seat);
         match kind {
-            Kind::Init => return self.init(letter),
+            Kind::Init => return self.init(rt, letter),
             Kind::Take => {
                 let locked = self.locked;
-                return Ok(self.lock(seat, locked, 54));
+                return self.lock(seat, locked, 54);
             }
-            Kind::Steal => return Ok(self.lock(seat, holder.is_some(), 55)),
+            Kind::Steal => return self.lock(seat, holder.is_some(), 55),
             Kind::Leave => {
                 if own {
                     self.holder = None;
                 }
-                return Ok(0);
+                return 0;
             }
             _ => {}
         }
         if !own {
-            return Ok(59);
+            return 59;
         }
         let met = match kind {
             Kind::Release => true,
@@ -93,7 +93,7 @@ impl Plain {
             _ => merged == head && copying == Some(merged),
         };
         if !met {
-            return Ok(61);
+            return 61;
         }
         match kind {
             Kind::Release => {
@@ -101,7 +101,7 @@ impl Plain {
                 self.holder = None;
             }
             Kind::SetCopying => self.copying = Some(n),
-            Kind::Commit => self.letters.push(letter)?,
+            Kind::Commit => self.letters.push(letter).expect(rt, "memory"),
             Kind::Put => {
                 if let Some(old) = self.letters.get_mut(usize::from(n)) {
                     *old = letter;
@@ -110,17 +110,17 @@ impl Plain {
             Kind::Merge => self.merged = n,
             _ => self.copying = None,
         }
-        Ok(0)
+        0
     }
 
-    fn init(&mut self, letter: u8) -> Result<u8, Fail> {
+    fn init(&mut self, rt: &impl Abort, letter: u8) -> u8 {
         if self.begun {
-            return Ok(52);
+            return 52;
         }
         self.begun = true;
         self.letters.clear();
-        self.letters.push(letter)?;
-        Ok(0)
+        self.letters.push(letter).expect(rt, "memory");
+        0
     }
 
     fn lock(&mut self, seat: u64, against: bool, number: u8) -> u8 {
@@ -207,33 +207,35 @@ fn spelt(number: Number) -> Option<u64> {
     number.spelt()
 }
 
+// The letter in a revision's copied property.
+fn letter_of(mirror: &PlainMirror, n: u16) -> Option<u8> {
+    let value = mirror.repo.props(RevNo::new(n))?.get(b"p")?;
+    value.first().copied()
+}
+
 // Whether the mirror stands as the re-computation says.
-fn agree(alloc: Global, mirror: &PlainMirror, plain: &Plain, n: u16) -> Result<bool, Fail> {
+fn agree(rt: &impl Abort, alloc: Global, mirror: &PlainMirror, plain: &Plain, n: u16) -> bool {
     let Some(own) = mirror.repo.props(RevNo::ZERO) else {
-        return Ok(false);
+        return false;
     };
-    let standing = look(alloc, own, mirror.repo.head())?;
-    let letter = match mirror.repo.props(RevNo::new(n)) {
-        Some(props) => match props.get(b"p") {
-            Some(value) => value.first().copied(),
-            None => None,
-        },
-        None => None,
-    };
+    let standing = look(alloc, own, mirror.repo.head()).expect(rt, "memory");
+    let letter = letter_of(mirror, n);
+    stands(&standing, plain)
+        && mirror.holder == plain.holder.map(Seat::new)
+        && (!plain.begun || letter == plain.letters.get(usize::from(n)).copied())
+}
+
+fn stands(standing: &Standing, plain: &Plain) -> bool {
     let merged = if plain.begun {
         Some(u64::from(plain.merged))
     } else {
         None
     };
-    Ok(
-        standing.url.is_some() == plain.begun
-            && standing.head.get() == plain.head()
-            && standing.lock.is_some() == plain.locked
-            && spelt(standing.merged) == merged
-            && spelt(standing.copying) == plain.copying.map(u64::from)
-            && mirror.holder == plain.holder.map(Seat::new)
-            && (!plain.begun || letter == plain.letters.get(usize::from(n)).copied()),
-    )
+    standing.url.is_some() == plain.begun
+        && standing.head.get() == plain.head()
+        && standing.lock.is_some() == plain.locked
+        && spelt(standing.merged) == merged
+        && spelt(standing.copying) == plain.copying.map(u64::from)
 }
 
 // The next of a row of numbers that look random.
@@ -243,46 +245,62 @@ pub(crate) fn shuffled(state: u64) -> u64 {
         .wrapping_add(1_442_695_040_888_963_407)
 }
 
-// The head after so many random calls; None where the mirror and the re-computation differ.
-fn walk(rt: &impl Abort, alloc: Global, calls: u64) -> Result<Option<u16>, Fail> {
-    let identity = Uuid::parse_str("6a1f0c3e-0000-4000-8000-000000000001")?;
-    let mut mirror = PlainMirror::new(Repo::new(alloc, identity)?);
+fn new_mirror(rt: &impl Abort, alloc: Global) -> PlainMirror {
+    let identity = Uuid::parse_str("6a1f0c3e-0000-4000-8000-000000000001").expect(rt, "a UUID");
+    PlainMirror::new(Repo::new(alloc, identity).expect(rt, "memory"))
+}
+
+fn new_plain(rt: &impl Abort, alloc: Global) -> Plain {
     let mut letters = Vec::new(alloc);
-    letters.push(0)?;
-    let mut plain = Plain {
+    letters.push(0).expect(rt, "memory");
+    Plain {
         begun: false,
         merged: 0,
         copying: None,
         locked: false,
         holder: None,
         letters,
-    };
+    }
+}
+
+// Whether a random call is answered as the re-computation says, and leaves the mirror so.
+fn fits(
+    rt: &impl Abort,
+    alloc: Global,
+    mirror: &mut PlainMirror,
+    plain: &mut Plain,
+    bits: u64,
+) -> bool {
+    let kind = kind_of((bits >> 9) % 10);
+    let seat = bits & 1;
+    let n = plain
+        .head()
+        .saturating_add(((bits >> 1) % 3) as u16)
+        .saturating_sub(1);
+    let letter = ((bits >> 3) & 0x3F) as u8;
+    let wanted = plain.say(rt, seat, kind, n, letter);
+    let got = say(rt, alloc, mirror, Seat::new(seat), kind, n, letter);
+    wanted == got && agree(rt, alloc, mirror, plain, n)
+}
+
+// The head after so many random calls; None where the mirror and the re-computation differ.
+fn walk(rt: &impl Abort, alloc: Global, calls: u64) -> Option<u16> {
+    let mut mirror = new_mirror(rt, alloc);
+    let mut plain = new_plain(rt, alloc);
     let mut state = 1u64;
     for _ in 0..calls {
         state = shuffled(state);
-        let bits = state >> 33;
-        let kind = kind_of((bits >> 9) % 10);
-        let seat = bits & 1;
-        let n = plain
-            .head()
-            .saturating_add(((bits >> 1) % 3) as u16)
-            .saturating_sub(1);
-        let letter = ((bits >> 3) & 0x3F) as u8;
-        let wanted = plain.say(seat, kind, n, letter)?;
-        let got = say(rt, alloc, &mut mirror, Seat::new(seat), kind, n, letter);
-        if wanted != got || !agree(alloc, &mirror, &plain, n)? {
-            return Ok(None);
+        if !fits(rt, alloc, &mut mirror, &mut plain, state >> 33) {
+            return None;
         }
     }
-    Ok(Some(plain.head()))
+    Some(plain.head())
 }
 
 #[test]
 fn random_calls_are_answered_as_the_protocol_says(rt: HostRuntime) -> Result<(), Fail> {
     let alloc = rt.alloc();
-    match walk(&rt, alloc, 8000)? {
-        None => assert!(rt; false),
-        Some(head) => assert!(rt; head > 10),
-    }
+    let head = walk(&rt, alloc, 8000);
+    assert!(rt; head > Some(10));
     Ok(())
 }

@@ -1,6 +1,6 @@
-//! A walk of random events over a master, two mirrors and their jobs in memory, beside their plain re-computation: the master
-//! commits, is edited and fails, jobs begin, ask, call, are refused and leave, a reader is given a revision, and a mirror stops
-//! before or within a call.
+//! A walk of random events over a master, two mirrors and their jobs in memory, beside their plain re-computation: the
+//! master commits, is edited and fails, jobs begin, ask, call, are refused and leave, a reader is given a revision, and
+//! a mirror stops before or within a call.
 use crate::plain_world::{Deed, Heard, Order, PlainMaster, PlainRoom, is_call, wanted};
 use crate::walk_tests::{shuffled, token, value};
 use dump_load::{Change, ChangeSet};
@@ -11,8 +11,8 @@ use std::mem::swap;
 use std::process::Abort;
 use std::test::Fail;
 use sync_core::{
-    Action, Answer, Ending, JobState, MirrorCall, PlainMirror, Reply, Seat, SyncFault, absorb,
-    decide, look,
+    Action, Answer, Ending, JobState, MirrorCall, PlainMirror, Reply, Seat, Standing, SyncFault,
+    absorb, decide, look,
 };
 use uuid::Uuid;
 
@@ -129,7 +129,7 @@ impl World {
         swap(&mut self.room, &mut self.other.room);
     }
 
-    fn master_commits(&mut self, rt: &impl Abort, alloc: Global) -> Result<(), Fail> {
+    fn master_commits(&mut self, rt: &impl Abort, alloc: Global) {
         let moment = self.origin.moment.saturating_add(1);
         let head = self.master.head();
         let action = if head == RevNo::ZERO {
@@ -139,44 +139,50 @@ impl World {
         };
         let set = change(rt, alloc, action, moment);
         let props = marked(rt, alloc, moment);
-        self.master.commit(alloc, head, set, props, None)?;
+        self.master
+            .commit(alloc, head, set, props, None)
+            .expect(rt, "a commit");
         self.origin.moment = moment;
-        self.origin.texts.push(moment)?;
-        self.origin.marks.push(moment)?;
-        Ok(())
+        self.origin.texts.push(moment).expect(rt, "memory");
+        self.origin.marks.push(moment).expect(rt, "memory");
     }
 
-    fn master_is_edited(&mut self, rt: &impl Abort, alloc: Global, n: u16) -> Result<(), Fail> {
+    fn master_is_edited(&mut self, rt: &impl Abort, alloc: Global, n: u16) {
         let moment = self.origin.moment.saturating_add(1);
         let number = RevNo::new(n);
-        self.master.put_props(number, marked(rt, alloc, moment))?;
+        self.master
+            .put_props(number, marked(rt, alloc, moment))
+            .expect(rt, "properties");
         self.origin.moment = moment;
         if let Some(mark) = self.origin.marks.get_mut(usize::from(n)) {
             *mark = moment;
         }
-        Ok(())
     }
 
-    fn master_answers(
-        &self,
-        rt: &impl Abort,
-        alloc: Global,
-        action: &Action<'_>,
-    ) -> Result<Answer, Fail> {
+    fn master_answers(&self, rt: &impl Abort, alloc: Global, action: &Action<'_>) -> Answer {
         match action {
-            Action::AskIdentity => Ok(Answer::Identity(value(rt, alloc, b"u"))),
-            Action::AskLatest => Ok(Answer::Latest(self.master.head())),
-            Action::Fetch(n) => match (self.master.set(*n), self.master.props(*n)) {
-                (Some(set), Some(props)) => {
-                    Ok(Answer::Revision(set.share(alloc)?, props.share()?))
-                }
-                _ => Ok(Answer::Failed(format!(in alloc; "no such revision")?)),
-            },
-            Action::FetchProps(n) => match self.master.props(*n) {
-                Some(props) => Ok(Answer::Map(props.share()?)),
-                None => Ok(Answer::Failed(format!(in alloc; "no such revision")?)),
-            },
-            _ => Ok(Answer::Done),
+            Action::AskIdentity => Answer::Identity(value(rt, alloc, b"u")),
+            Action::AskLatest => Answer::Latest(self.master.head()),
+            Action::Fetch(n) => self.revision(rt, alloc, *n),
+            Action::FetchProps(n) => self.map(rt, alloc, *n),
+            _ => Answer::Done,
+        }
+    }
+
+    fn revision(&self, rt: &impl Abort, alloc: Global, number: RevNo) -> Answer {
+        let (Some(set), Some(props)) = (self.master.set(number), self.master.props(number)) else {
+            return failed(rt, alloc);
+        };
+        Answer::Revision(
+            set.share(alloc).expect(rt, "memory"),
+            props.share().expect(rt, "memory"),
+        )
+    }
+
+    fn map(&self, rt: &impl Abort, alloc: Global, number: RevNo) -> Answer {
+        match self.master.props(number) {
+            Some(props) => Answer::Map(props.share().expect(rt, "memory")),
+            None => failed(rt, alloc),
         }
     }
 
@@ -188,16 +194,15 @@ impl World {
         seat: u64,
         job: &JobState,
         mishap: Mishap,
-    ) -> Result<Answer, Fail> {
-        let action = decide(job);
+    ) -> Answer {
         if mishap == Mishap::Memory {
-            return Ok(Answer::Refused(SyncFault::OutOfMemory));
+            return Answer::Refused(SyncFault::OutOfMemory);
         }
-        match &action {
-            Action::Call(call) => Ok(of_step(self.mirror.step(alloc, Seat::new(seat), call))),
+        match &decide(job) {
+            Action::Call(call) => of_step(self.mirror.step(alloc, Seat::new(seat), call)),
             other => {
                 if mishap == Mishap::Master {
-                    return Ok(Answer::Failed(format!(in alloc; "refused")?));
+                    return failed(rt, alloc);
                 }
                 self.master_answers(rt, alloc, other)
             }
@@ -207,25 +212,25 @@ impl World {
     // What the answer should be, with what it makes of the mirror.
     fn expected(
         &mut self,
+        rt: &impl Abort,
         seat: u64,
         heard: &Heard,
         deed: Deed,
         mishap: Mishap,
-    ) -> Result<u8, Fail> {
+    ) -> u8 {
         if mishap == Mishap::Memory {
-            return Ok(70);
+            return 70;
         }
         if !is_call(deed) {
-            return Ok(if mishap == Mishap::Master { 60 } else { 0 });
+            return if mishap == Mishap::Master { 60 } else { 0 };
         }
         let number = self.room.answer(deed);
         if number == 0 {
             let mark = heard.fetched.unwrap_or(0);
-            if !self.room.does(seat, deed, mark)? {
-                self.counts.wrong = true;
-            }
+            let fits = self.room.does(rt, seat, deed, mark);
+            self.check(fits);
         }
-        Ok(number)
+        number
     }
 
     fn check(&mut self, as_wanted: bool) {
@@ -255,18 +260,24 @@ impl World {
         seat: u64,
         runner: Runner,
         mishap: Mishap,
-    ) -> Result<Runner, Fail> {
+    ) -> Runner {
         let Runner { job, mut heard } = runner;
-        let deed = {
-            let action = decide(&job);
-            deed_of(&action)
-        };
+        let deed = deed_next(&job);
         let as_wanted = deed == wanted(&heard, &self.room);
         self.check(as_wanted);
-        let answer = self.answer(rt, alloc, seat, &job, mishap)?;
+        let answer = self.answer(rt, alloc, seat, &job, mishap);
         let number = number_of(&answer);
-        let expected = self.expected(seat, &heard, deed, mishap)?;
+        let expected = self.expected(rt, seat, &heard, deed, mishap);
         self.check(number == expected);
+        self.hears(&mut heard, deed, number);
+        Runner {
+            job: absorb(job, answer),
+            heard,
+        }
+    }
+
+    // What is noted of an answer.
+    fn hears(&mut self, heard: &mut Heard, deed: Deed, number: u8) {
         if number == 60 {
             self.counts.failed = self.counts.failed.saturating_add(1);
         }
@@ -276,18 +287,14 @@ impl World {
         } else {
             heard.refused(deed, number);
         }
-        Ok(Runner {
-            job: absorb(job, answer),
-            heard,
-        })
     }
 
     // A job that has ended leaves. Its end is its first refusal.
     fn leaves(&mut self, seat: u64, runner: Runner) {
         let Runner { job, heard } = runner;
+        let end = ended(job);
         if heard.over {
-            let as_wanted = ended(job) == heard.refusal;
-            self.check(as_wanted);
+            self.check(end == heard.refusal);
             if heard.refusal == 0 {
                 self.counts.fine = self.counts.fine.saturating_add(1);
             } else {
@@ -301,26 +308,16 @@ impl World {
     }
 
     // A call that stands, though nobody is answered; a question makes nothing.
-    fn calls_unheard(
-        &mut self,
-        rt: &impl Abort,
-        alloc: Global,
-        seat: u64,
-        runner: &Runner,
-    ) -> Result<(), Fail> {
-        let deed = {
-            let action = decide(&runner.job);
-            deed_of(&action)
-        };
+    fn calls_unheard(&mut self, rt: &impl Abort, alloc: Global, seat: u64, runner: &Runner) {
+        let deed = deed_next(&runner.job);
         if !is_call(deed) {
-            return Ok(());
+            return;
         }
-        let answer = self.answer(rt, alloc, seat, &runner.job, Mishap::None)?;
+        let answer = self.answer(rt, alloc, seat, &runner.job, Mishap::None);
         let number = number_of(&answer);
-        let expected = self.expected(seat, &runner.heard, deed, Mishap::None)?;
+        let expected = self.expected(rt, seat, &runner.heard, deed, Mishap::None);
         self.check(number == expected);
         self.counts.within = self.counts.within.saturating_add(1);
-        Ok(())
     }
 
     // A reader is given a revision: the master's tree, and properties as they were copied.
@@ -341,41 +338,41 @@ impl World {
         seat: u64,
         runner: &Option<Runner>,
         within: bool,
-    ) -> Result<(), Fail> {
+    ) {
         if within {
             if let Some(runner) = runner {
-                self.calls_unheard(rt, alloc, seat, runner)?;
+                self.calls_unheard(rt, alloc, seat, runner);
             }
         }
         self.mirror.holder = None;
         self.room.holder = None;
-        Ok(())
     }
 
-    // Whether the mirror stands as the re-computation says, with all that was acknowledged or shown, and a revision has the
-    // master's tree, and properties as they were copied.
-    fn agrees(&self, rt: &impl Abort, alloc: Global, n: u16) -> Result<bool, Fail> {
+    // Whether the mirror stands as the re-computation says, with all that was acknowledged or shown, and a revision has
+    // the master's tree, and properties as they were copied.
+    fn agrees(&self, rt: &impl Abort, alloc: Global, n: u16) -> bool {
         let Some(own) = self.mirror.repo.props(RevNo::ZERO) else {
-            return Ok(false);
+            return false;
         };
+        let standing = look(alloc, own, self.mirror.repo.head()).expect(rt, "memory");
+        self.stands(&standing) && self.shows(rt, alloc, n)
+    }
+
+    fn stands(&self, standing: &Standing) -> bool {
         let room = &self.room;
-        let standing = look(alloc, own, self.mirror.repo.head())?;
         let merged = if room.begun {
             Some(u64::from(room.merged))
         } else {
             None
         };
-        Ok(
-            standing.url.is_some() == room.begun
-                && standing.head.get() == room.head()
-                && standing.lock.is_some() == room.locked
-                && standing.merged.spelt() == merged
-                && standing.copying.spelt() == room.copying.map(u64::from)
-                && self.mirror.holder == room.holder.map(Seat::new)
-                && room.acknowledged <= standing.head.get()
-                && room.shown <= standing.head.get()
-                && self.shows(rt, alloc, n),
-        )
+        standing.url.is_some() == room.begun
+            && standing.head.get() == room.head()
+            && standing.lock.is_some() == room.locked
+            && standing.merged.spelt() == merged
+            && standing.copying.spelt() == room.copying.map(u64::from)
+            && self.mirror.holder == room.holder.map(Seat::new)
+            && room.acknowledged <= standing.head.get()
+            && room.shown <= standing.head.get()
     }
 
     // Whether a revision of the mirror has the master's text, and properties as they were copied.
@@ -420,6 +417,16 @@ impl World {
     }
 }
 
+// The master fails.
+fn failed(rt: &impl Abort, alloc: Global) -> Answer {
+    Answer::Failed(format!(in alloc; "refused").expect(rt, "memory"))
+}
+
+// What a job does next.
+fn deed_next(job: &JobState) -> Deed {
+    deed_of(&decide(job))
+}
+
 fn of_step(step: Result<Reply, SyncFault>) -> Answer {
     match step {
         Ok(Reply::Done) => Answer::Done,
@@ -445,30 +452,53 @@ fn ended(job: JobState) -> u8 {
     }
 }
 
+// A job that is given up.
+fn gone(runner: Option<Runner>) {
+    match runner {
+        Some(Runner { job, heard: _ }) => {
+            let _ = ended(job);
+        }
+        None => {}
+    }
+}
+
+// What runs at a seat from now on.
+fn seated(place: &mut Option<Runner>, runner: Option<Runner>) {
+    let mut runner = runner;
+    swap(place, &mut runner);
+    gone(runner);
+}
+
 // A job with a random order.
 fn begun(rt: &impl Abort, alloc: Global, bits: u64, head: u16) -> Runner {
-    let low = ((bits >> 4) & 3) as u16;
-    let token = token(rt, alloc, b"job");
     match bits % 8 {
-        0 => Runner {
-            job: JobState::init(value(rt, alloc, b"/master")),
-            heard: Heard::new(Order::Init, 0),
-        },
-        1 | 2 => {
-            let high = head.saturating_sub(low).saturating_add(1);
-            Runner {
-                job: JobState::copy_props(token, RevNo::new(low), RevNo::new(high)),
-                heard: Heard::new(Order::Copy(high), low),
-            }
-        }
-        3 | 4 => Runner {
-            job: JobState::sync(token, false),
-            heard: Heard::new(Order::Sync, 0),
-        },
-        _ => Runner {
-            job: JobState::sync(token, true),
-            heard: Heard::new(Order::Steal, 0),
-        },
+        0 => init_job(rt, alloc),
+        1 | 2 => copy_job(rt, alloc, ((bits >> 4) & 3) as u16, head),
+        3 | 4 => sync_job(rt, alloc, false),
+        _ => sync_job(rt, alloc, true),
+    }
+}
+
+fn init_job(rt: &impl Abort, alloc: Global) -> Runner {
+    Runner {
+        job: JobState::init(value(rt, alloc, b"/master")),
+        heard: Heard::new(Order::Init, 0),
+    }
+}
+
+fn copy_job(rt: &impl Abort, alloc: Global, low: u16, head: u16) -> Runner {
+    let high = head.saturating_sub(low).saturating_add(1);
+    Runner {
+        job: JobState::copy_props(token(rt, alloc, b"job"), RevNo::new(low), RevNo::new(high)),
+        heard: Heard::new(Order::Copy(high), low),
+    }
+}
+
+fn sync_job(rt: &impl Abort, alloc: Global, steal: bool) -> Runner {
+    let order = if steal { Order::Steal } else { Order::Sync };
+    Runner {
+        job: JobState::sync(token(rt, alloc, b"job"), steal),
+        heard: Heard::new(order, 0),
     }
 }
 
@@ -480,58 +510,62 @@ fn at_seat(
     seat: u64,
     runner: Option<Runner>,
     bits: u64,
-) -> Result<Option<Runner>, Fail> {
+) -> Option<Runner> {
     let Some(runner) = runner else {
-        return Ok(Some(begun(rt, alloc, bits, world.room.head())));
+        return Some(begun(rt, alloc, bits, world.room.head()));
     };
     if runner.heard.over || bits % 64 == 0 {
         world.leaves(seat, runner);
-        return Ok(None);
+        return None;
     }
     let mishap = match bits % 64 {
         1 => Mishap::Memory,
         2 => Mishap::Master,
         _ => Mishap::None,
     };
-    Ok(Some(world.step(rt, alloc, seat, runner, mishap)?))
+    Some(world.step(rt, alloc, seat, runner, mishap))
 }
 
-fn new_place(alloc: Global) -> Result<Place, Fail> {
-    let identity = Uuid::parse_str("6a1f0c3e-0000-4000-8000-000000000001")?;
-    let mut copies = Vec::new(alloc);
-    copies.push(0)?;
-    Ok(Place {
-        mirror: PlainMirror::new(Repo::new(alloc, identity)?),
+fn new_repo(rt: &impl Abort, alloc: Global) -> Repo {
+    let identity = Uuid::parse_str("6a1f0c3e-0000-4000-8000-000000000001").expect(rt, "a UUID");
+    Repo::new(alloc, identity).expect(rt, "memory")
+}
+
+// A list of one zero.
+fn zero(rt: &impl Abort, alloc: Global) -> Vec<u64> {
+    let mut numbers = Vec::new(alloc);
+    numbers.push(0).expect(rt, "memory");
+    numbers
+}
+
+fn new_place(rt: &impl Abort, alloc: Global) -> Place {
+    Place {
+        mirror: PlainMirror::new(new_repo(rt, alloc)),
         room: PlainRoom {
             begun: false,
             merged: 0,
             copying: None,
             locked: false,
             holder: None,
-            copies,
+            copies: zero(rt, alloc),
             acknowledged: 0,
             shown: 0,
         },
-    })
+    }
 }
 
-fn new_world(alloc: Global) -> Result<World, Fail> {
-    let identity = Uuid::parse_str("6a1f0c3e-0000-4000-8000-000000000001")?;
-    let mut texts = Vec::new(alloc);
-    texts.push(0)?;
-    let mut marks = Vec::new(alloc);
-    marks.push(0)?;
-    let Place { mirror, room } = new_place(alloc)?;
-    Ok(World {
-        master: Repo::new(alloc, identity)?,
+fn new_world(rt: &impl Abort, alloc: Global) -> World {
+    let Place { mirror, room } = new_place(rt, alloc);
+    World {
+        master: new_repo(rt, alloc),
         mirror,
         origin: PlainMaster {
             moment: 0,
-            texts,
-            marks,
+            texts: zero(rt, alloc),
+            marks: zero(rt, alloc),
         },
         room,
-        other: new_place(alloc)?,
+        other: new_place(rt, alloc),
         counts: Counts {
             wrong: false,
             fine: 0,
@@ -542,7 +576,7 @@ fn new_world(alloc: Global) -> Result<World, Fail> {
             stolen: 0,
             copied: 0,
         },
-    })
+    }
 }
 
 // A number up to the head.
@@ -550,66 +584,99 @@ fn at_most(bits: u64, head: u16) -> u16 {
     ((bits % (u64::from(head) + 1)) & 0xFFFF) as u16
 }
 
+// The jobs at the two seats of a mirror.
+#[derive(Drop)]
+struct Pair {
+    one: Option<Runner>,
+    two: Option<Runner>,
+}
+
+impl Pair {
+    // One thing happens at one of the seats.
+    fn goes_on(&mut self, rt: &impl Abort, alloc: Global, world: &mut World, n: u64, bits: u64) {
+        if n % 2 == 0 {
+            let runner = at_seat(rt, alloc, world, 1, self.one.take(), bits);
+            seated(&mut self.one, runner);
+        } else {
+            let runner = at_seat(rt, alloc, world, 2, self.two.take(), bits);
+            seated(&mut self.two, runner);
+        }
+    }
+
+    // The mirror stops, within a call of the first or the second seat's job or between calls.
+    fn stop(&mut self, rt: &impl Abort, alloc: Global, world: &mut World, n: u64, bits: u64) {
+        if n == 4 {
+            world.stops(rt, alloc, 1, &self.one, bits & 1 == 1);
+        } else {
+            world.stops(rt, alloc, 2, &self.two, bits & 1 == 1);
+        }
+        seated(&mut self.one, None);
+        seated(&mut self.two, None);
+    }
+
+    // No jobs any more.
+    fn end(self) {
+        let Pair { one, two } = self;
+        gone(one);
+        gone(two);
+    }
+}
+
+// What happens next at the present mirror.
+fn event(rt: &impl Abort, alloc: Global, world: &mut World, pair: &mut Pair, n: u64, bits: u64) {
+    match n {
+        0 => {
+            if bits & 1 == 0 {
+                world.master_commits(rt, alloc);
+            }
+        }
+        1 | 2 | 3 => {
+            let n = at_most(bits, world.origin.head());
+            world.master_is_edited(rt, alloc, n);
+        }
+        4 | 5 => pair.stop(rt, alloc, world, n, bits),
+        6 => {
+            let n = at_most(bits, world.room.head());
+            world.is_read(rt, alloc, n);
+        }
+        n => pair.goes_on(rt, alloc, world, n, bits),
+    }
+}
+
 // What two seats' jobs do at each of two mirrors in a walk of so many events.
-fn walk(rt: &impl Abort, alloc: Global, events: u64) -> Result<World, Fail> {
-    let mut world = new_world(alloc)?;
-    world.master_is_edited(rt, alloc, 0)?;
-    let mut one = None;
-    let mut two = None;
-    let mut three = None;
-    let mut four = None;
+fn walk(rt: &impl Abort, alloc: Global, events: u64) -> World {
+    let mut world = new_world(rt, alloc);
+    world.master_is_edited(rt, alloc, 0);
+    let mut pair = Pair {
+        one: None,
+        two: None,
+    };
+    let mut other = Pair {
+        one: None,
+        two: None,
+    };
     let mut state = 7u64;
     for _ in 0..events {
         state = shuffled(state);
         let bits = state >> 40;
         if bits & 0x10000 != 0 {
             world.turns();
-            swap(&mut one, &mut three);
-            swap(&mut two, &mut four);
+            swap(&mut pair, &mut other);
         }
-        match (state >> 33) % 64 {
-            0 => {
-                if bits & 1 == 0 {
-                    world.master_commits(rt, alloc)?;
-                }
-            }
-            1 | 2 | 3 => {
-                let n = at_most(bits, world.origin.head());
-                world.master_is_edited(rt, alloc, n)?;
-            }
-            4 => {
-                world.stops(rt, alloc, 1, &one, bits & 1 == 1)?;
-                one = None;
-                two = None;
-            }
-            5 => {
-                world.stops(rt, alloc, 2, &two, bits & 1 == 1)?;
-                one = None;
-                two = None;
-            }
-            6 => {
-                let n = at_most(bits, world.room.head());
-                world.is_read(rt, alloc, n);
-            }
-            n => {
-                if n % 2 == 0 {
-                    one = at_seat(rt, alloc, &mut world, 1, one, bits)?;
-                } else {
-                    two = at_seat(rt, alloc, &mut world, 2, two, bits)?;
-                }
-            }
-        }
+        event(rt, alloc, &mut world, &mut pair, (state >> 33) % 64, bits);
         let n = at_most(bits >> 3, world.room.head());
-        let agrees = world.agrees(rt, alloc, n)?;
+        let agrees = world.agrees(rt, alloc, n);
         world.check(agrees);
     }
-    Ok(world)
+    pair.end();
+    other.end();
+    world
 }
 
 #[test]
 fn random_events_go_as_the_protocol_says(rt: HostRuntime) -> Result<(), Fail> {
     let alloc = rt.alloc();
-    let world = walk(&rt, alloc, 8000)?;
+    let world = walk(&rt, alloc, 8000);
     assert!(rt; !world.counts.wrong);
     let counts = &world.counts;
     assert!(rt; world.room.head() > 50 && world.other.room.head() > 50 && counts.fine > 50);

@@ -1,7 +1,7 @@
 use Rattle.std.proofs.Common.{take}
 use Rattle.std.specs.Fmt.{HasWritten, IsPlainFormatter}
 use Rattle.node_base.specs.Refusals.{shown_token}
-use Rattle.sync_core.proofs.lock_token.LockTokenDisplay.fmt.Given as goal
+use Rattle.sync_core.proofs.shown_bytes.ShownBytesDisplay.fmt.Given as goal
 
 abbrev pub invariant-loop-byte : goal.invariant-loop-byte
 invariant-loop-byte g l =

@@ -1,5 +1,5 @@
 use Rattle.std.proofs.Common.{refl}
-use Rattle.sync_core.proofs.mirror.need_fault.Goals as goal
+use Rattle.sync_core.proofs.told_need.need_fault.Goals as goal
 
 pub returns-in-Ok : goal.returns-in-Ok
 returns-in-Ok c = rw (c.in-LockHeld.is) (c.in-Ok.token, refl, c.in-Ok.ensures)
