@@ -5,6 +5,7 @@ ghost use Rattle.std.specs.Option.{option_map};
 ghost use Rattle.std.specs.FinMap as finite;
 ghost use Rattle.ra_item.specs.Items.{row};
 ghost use Rattle.ra_wire.specs.Params.{left_of, NotRead};
+ghost use Rattle.ra_wire.specs.Prototypes.{HasProps, AreRevprops, Judges};
 ghost use Rattle.ra_wire.specs.Answers.{short_value, property_in, with_property, one_more, properties_of, props_in, revprops_in};
 
 use crate::fault::WireFault;
@@ -81,6 +82,7 @@ pub fn next_props(alloc: Global, params: &mut Params) -> Result<Props, WireFault
 pub fn proplist(alloc: Global, content: Params) -> Result<Props, WireFault>
     ensures read { IfOk result (λ m. option_map (λ r. r.0) (props_in (left_of content)) ≡ Some m) }
     ensures none { IfErr result (NotRead (props_in (left_of content))) }
+    ensures judged { Judges HasProps (λ m. m) (left_of content) result }
 {
     let mut content = content;
     next_props(alloc, &mut content)
@@ -88,6 +90,15 @@ pub fn proplist(alloc: Global, content: Params) -> Result<Props, WireFault>
 
 /// The properties in front of a revision's edit: `( revprops ( .. ) )`. `BadShape` (48) for another form, and as [`next_props`].
 pub fn revprops(alloc: Global, item: Item) -> Result<Props, WireFault>
+    ensures read { IfOk result (λ m. revprops_in item ≡ Some m) }
+    ensures none { IfErr result (NotRead (revprops_in item)) }
+    ensures judged { Judges AreRevprops (λ m. m) item result }
+{
+    read_revprops(alloc, item)
+}
+
+// The same, by what is read alone.
+fn read_revprops(alloc: Global, item: Item) -> Result<Props, WireFault>
     ensures read { IfOk result (λ m. revprops_in item ≡ Some m) }
     ensures none { IfErr result (NotRead (revprops_in item)) }
 {
