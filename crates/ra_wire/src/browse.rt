@@ -45,7 +45,8 @@ fn all_entries(alloc: Global, items: Vec<Item>) -> Result<Vec<Dirent>, WireFault
 }
 
 impl FileFound {
-    /// What an answer says of a file. `BadShape` (48) for another form, and properties past the limits; `OutOfMemory` (70).
+    /// What an answer says of a file. `BadShape` (48) for another form, and properties past the limits;
+    /// `OutOfMemory` (70).
     pub fn parse(alloc: Global, content: Params) -> Result<FileFound, WireFault>
         ensures read { IfOk result (λ f. file_in (left_of content) ≡ Some (file_as f)) }
         ensures none { IfErr result (NotRead (file_in (left_of content))) }
@@ -72,7 +73,8 @@ impl FileFound {
 }
 
 impl DirFound {
-    /// What an answer says of a directory. `BadShape` (48) for another form, and properties past the limits; `OutOfMemory` (70).
+    /// What an answer says of a directory. `BadShape` (48) for another form, and properties past the limits;
+    /// `OutOfMemory` (70).
     pub fn parse(alloc: Global, content: Params) -> Result<DirFound, WireFault>
         ensures read { IfOk result (λ d. dir_in (left_of content) ≡ Some (dir_as d)) }
         ensures none { IfErr result (NotRead (dir_in (left_of content))) }

@@ -1,6 +1,5 @@
-//! Laws of commands and answers, over all items and all values. Each is proved as the contract of a function that does nothing.
-//!
-//! Those of a value take it: what its type keeps, as that its path is one, is then known of it.
+//! Laws of commands and answers, over all items and all values. Each is proved as the contract of a function that does
+//! nothing. One of a value takes it: what its type keeps, as that its path is one, is then known.
 
 ghost use Rattle.std.specs.Prelude.{◌≡◌, map, Ok};
 ghost use Rattle.node_base.specs.PathText.{path_read, path_text, name_read};
@@ -84,8 +83,8 @@ pub fn entries_are_read_again(entries: &[Dirent])
     entries_are_read_again(others)
 }
 
-/// Properties that are written are read again as the same ones: in an answer, in front of an edit, and of a file where they
-/// are wanted. Of a file for which they aren't none are read.
+/// Properties that are written are read again as the same ones: in an answer, in front of an edit, and of a file where
+/// they are wanted. Of a file for which they aren't none are read.
 pub fn props_are_read_again(props: &Props)
     ensures { ArePropsReadAgain props.now }
 {

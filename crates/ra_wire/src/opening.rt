@@ -1,4 +1,5 @@
-//! The beginning of a session: the server's greeting, the client's, the ways to say who one is, and the server's welcome.
+//! The beginning of a session: the server's greeting, the client's, the ways to say who one is, and the server's
+//! welcome.
 
 ghost use Rattle.std.specs.Prelude.{◌≡◌, IfOk, IfErr, Some, None};
 ghost use Rattle.ra_wire.specs.Params.{left_of, NotRead};
@@ -84,7 +85,8 @@ impl Greeting {
 }
 
 impl Hello {
-    /// The client's greeting that an item is. `BadShape` (48) for another form or another version than 2, `OutOfMemory` (70).
+    /// The client's greeting that an item is. `BadShape` (48) for another form or another version than 2,
+    /// `OutOfMemory` (70).
     pub fn parse(alloc: Global, item: Item) -> Result<Hello, WireFault>
         ensures read { IfOk result (λ h. hello_in item ≡ Some (hello_as h)) }
         ensures none { IfErr result (NotRead (hello_in item)) }

@@ -69,8 +69,8 @@ fn all_props(alloc: Global, items: Vec<Item>) -> Result<Props, WireFault>
     Ok(props)
 }
 
-/// The next item, which is a list of properties in any order; of two with one name the later counts. `BadShape` (48) where it isn't,
-/// and for a name, a value or a number of properties past the limits; `OutOfMemory` (70).
+/// The next item, which is a list of properties in any order; of two with one name the later counts. `BadShape` (48)
+/// where it isn't, and for a name, a value or a number of properties past the limits; `OutOfMemory` (70).
 pub fn next_props(alloc: Global, params: &mut Params) -> Result<Props, WireFault>
     ensures read { IfOk result (λ m. props_in (left_of params.old) ≡ Some (m, left_of params.new)) }
     ensures none { IfErr result (NotRead (props_in (left_of params.old))) }
@@ -88,7 +88,8 @@ pub fn proplist(alloc: Global, content: Params) -> Result<Props, WireFault>
     next_props(alloc, &mut content)
 }
 
-/// The properties in front of a revision's edit: `( revprops ( .. ) )`. `BadShape` (48) for another form, and as [`next_props`].
+/// The properties in front of a revision's edit: `( revprops ( .. ) )`. `BadShape` (48) for another form, and as
+/// [`next_props`].
 pub fn revprops(alloc: Global, item: Item) -> Result<Props, WireFault>
     ensures read { IfOk result (λ m. revprops_in item ≡ Some m) }
     ensures none { IfErr result (NotRead (revprops_in item)) }
