@@ -30,6 +30,7 @@ OtherReplayIsTold = (item : Item) → IsOtherReplay item → command_in item ≡
 abbrev pub Exactly : {S T : Type 0} → (T → S → Type 0) → (S → Option T) → Type 0
 Exactly {S} {T} Is reading = (t : T) (x : S) → (Is t x → reading x ≡ Some t) × (reading x ≡ Some t → Is t x)
 
+-- openings and answers are read by the table of their prototypes
 pub record PrototypesAreRead : Type 0 where
   pub of_greeting : Exactly IsGreeting greeting_in
   pub of_hello : Exactly IsHello hello_in

@@ -58,7 +58,7 @@ IsHello h = IsList (Number 2 ∷ words h.capabilities ∷ Text h.url ∷ [])
 abbrev pub AreMechanisms : Mechanisms → Items → Type 0
 AreMechanisms m = Begins (words m.names ∷ Text m.realm ∷ [])
 
--- mech ( token ) or mech ( )
+-- ( mech ( token ) ) or ( mech ( ) )
 abbrev pub IsLogin : Login → Item → Type 0
 IsLogin l item = (a : Items) × IsList (Word l.mechanism ∷ perhaps_text l.token a ∷ []) item
 
