@@ -3,7 +3,7 @@ use Rattle.std.proofs.Common.{◌≡◌, List, [], ◌∷◌, ◌++◌, ap, ◌�
 use Rattle.std.specs.Prelude.{map, Option, Some, None}
 use Rattle.std.specs.Option.{option_map, option_and_then}
 use Rattle.std.proofs.lemmas.List.{map-append}
-use Rattle.ra_item.specs.Items.{Item, Items, End, Then, row}
+use Rattle.ra_item.specs.Items.{Item, End, row}
 use Rattle.node_base.specs.Props.{PropMap}
 use Rattle.ra_wire.specs.Params.{each, NotRead}
 use Rattle.ra_wire.specs.declared.fault.WireFault.{WireFault}

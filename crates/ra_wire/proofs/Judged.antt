@@ -1,6 +1,6 @@
 -- Each item is read as the command that the table has for it, and what isn't read is none.
-use Rattle.std.proofs.Common.{◌≡◌, ℕ, Bool, true, false, List, [], ◌∷◌, ◌++◌, ap, subst, sym, ◌∙◌, refl, inl, inr, true≢false}
-use Rattle.std.specs.Prelude.{◌⊎◌, ⊤, ◌&&◌, ◌||◌, ◌==◌, Option, Some, None, Result, Ok, Err, codes, if◌then◌else◌}
+use Rattle.std.proofs.Common.{◌≡◌, ℕ, Bool, true, false, List, [], ◌∷◌, ap, subst, sym, ◌∙◌, refl, inl, inr, true≢false}
+use Rattle.std.specs.Prelude.{◌⊎◌, ◌&&◌, ◌||◌, ◌==◌, Option, Some, None, Result, Ok, Err, codes, if◌then◌else◌}
 use Rattle.std.specs.Option.{option_map, option_and_then}
 use Rattle.std.specs.List.{list_any}
 use Rattle.std.specs.Str.{bytes_eq}
@@ -13,8 +13,8 @@ use Rattle.node_base.specs.Props.{prop_name_read}
 use Rattle.ra_wire.specs.declared.fault.WireFault.{WireFault}
 use Rattle.ra_wire.specs.declared.fault.WireFault.TheVariants as fault
 use Rattle.ra_wire.specs.declared.command.Command as declared
-use Rattle.ra_wire.specs.Params.{Read, parts_in, word_in, text_in, number_in, list_in, bool_in, path_in, prop_name_in, bracketed, perhaps, right, unslashed}
-use Rattle.ra_wire.specs.Commands.{Previous, Any, Absent, Value, Command, LatestRev, CheckPath, GetFile, GetDir, RevProplist, RevProp, ChangeProp, Replay, ReplayRange, Place, ANumber, AText, APath, AName, ATruth, AList, Empty, Holding, Replacing, truth_word, Replaces, IsAt, First, Begin, Are, AndPerhaps, optional, IsNamed, Asks, perhaps_list, looked_at, Forms, names, IsUnknown, IsOtherReplay, IsBad, Judged}
+use Rattle.ra_wire.specs.Params.{Read, text_in, number_in, list_in, bool_in, path_in, prop_name_in, bracketed, perhaps, right, unslashed}
+use Rattle.ra_wire.specs.Commands.{Previous, Any, Absent, Value, Command, LatestRev, CheckPath, GetFile, GetDir, RevProplist, RevProp, ChangeProp, Replay, ReplayRange, ANumber, AText, APath, AName, ATruth, AList, Replacing, Replaces, First, Begin, Are, AndPerhaps, optional, Asks, perhaps_list, looked_at, Forms, names, IsUnknown, IsOtherReplay, Judged}
 use Rattle.ra_wire.specs.Reading.{Reading, then_read, last_read, replayed, previous_of, previous_in, check_path_in, get_file_in, get_dir_in, rev_proplist_in, rev_prop_in, change_rev_prop_in, change_rev_prop2_in, replay_in, replay_range_in, named, command_in, ReadIs}
 
 -- what was read is such a one

@@ -1,23 +1,39 @@
 -- What is written is read again.
-use Rattle.std.proofs.Common.{◌≡◌, ℕ, Bool, true, false, List, [], ◌∷◌, ◌++◌, ap, subst, sym, ◌∙◌, refl, inl, inr}
-use Rattle.std.specs.Prelude.{map, ◌==◌, Option, Some, None, Result, Ok, Err, if◌then◌else◌, codes}
+use Rattle.std.proofs.Common.{◌≡◌, ℕ, Bool, true, false, List, [], ◌∷◌, ap, ◌∙◌, refl, inl}
+use Rattle.std.specs.Prelude.{map, Option, Some, None, Result, Ok, codes}
 use Rattle.std.specs.Option.{option_map, option_and_then}
-use Rattle.ra_item.specs.Items.{Item, Items, End, Then, Word, Number, Text, Nested, row}
+use Rattle.ra_item.specs.Items.{Item, Items, End, Then, Word, Number, Text, row}
 use Rattle.node_base.specs.Path.{Path, Name}
 use Rattle.node_base.specs.PathText.{path_text, path_read, name_read}
+use Rattle.node_base.specs.Props.{prop_name_read}
 use Rattle.node_base.specs.declared.node.NodeKind.{NodeKind}
 use Rattle.node_base.specs.declared.node.NodeKind.TheVariants as kind
-use Rattle.ra_wire.specs.Params.{Read, right, each, unslashed, text_in, number_in, bracketed}
-use Rattle.ra_wire.specs.Commands.{Previous, Any, Absent, Value, Command, LatestRev, CheckPath, GetFile, GetDir, RevProplist, RevProp, ChangeProp, Replay, ReplayRange, IsAt, ANumber, AText, APath, AName, Replacing, optional, truth_word, Forms}
-use Rattle.ra_wire.specs.Reading.{command_in}
+use Rattle.ra_wire.specs.Params.{Read, right, each, text_in, number_in, bracketed}
+use Rattle.ra_wire.specs.Commands.{Previous, Any, Absent, Value, Command, LatestRev, CheckPath, GetFile, GetDir, RevProplist, RevProp, ChangeProp, Replay, ReplayRange, IsAt, ANumber, AText, APath, Replacing, optional, truth_word, Forms}
 use Rattle.ra_wire.specs.Requests.{replacing, command_item}
 use Rattle.ra_wire.specs.Replies.{number_or_none, string, node_kind_word, dirent, kind_is, value}
-use Rattle.ra_wire.specs.ReadAgain.{IsPathKept, IsKept, answered, first_in, AreNamed, OpeningsAreReadAgain, AnswersAreReadAgain}
+use Rattle.ra_wire.specs.ReadAgain.{answered, first_in, OpeningsAreReadAgain, AnswersAreReadAgain, IsReadAgain, IsEntryReadAgain, AreEntriesReadAgain}
 use Rattle.ra_wire.specs.Answers.{Dirent, dirent_with, dirent_in, kind_in, node_kind_in}
 use Rattle.ra_wire.proofs.Slashes.{unslashed_same}
 use Rattle.ra_wire.proofs.Judged.{formed}
 
 -- ---- commands
+
+-- a path that is read from its own text, and a property's name that is
+abbrev pub IsPathKept : Path → Type 0
+IsPathKept p = path_read (path_text p) ≡ Ok p
+
+abbrev pub IsNameKept : Name → Type 0
+IsNameKept name = prop_name_read name ≡ Ok name
+
+-- a command whose path and name are such
+abbrev pub IsKept : Command → Type 0
+IsKept (CheckPath p n) = IsPathKept p
+IsKept (GetFile p n props contents) = IsPathKept p
+IsKept (GetDir p n props contents) = IsPathKept p
+IsKept (RevProp n name) = IsNameKept name
+IsKept (ChangeProp n name v old) = IsNameKept name
+IsKept c = Unit {0}
 
 path_at : (p : Path) → IsPathKept p → IsAt (APath p) (Text (path_text p))
 path_at p k = (path_text p, refl, ap path_read (unslashed_same (path_text p) p k) ∙ k)
@@ -52,8 +68,8 @@ written_forms (ChangeProp n name v old) k = inl (row (Number n ∷ Text name ∷
 written_forms (Replay n) k = (_, (End, refl), (refl, (refl, (refl, tt))))
 written_forms (ReplayRange a b) k = (_, (End, refl), (refl, (refl, (refl, (refl, tt)))))
 
-pub commands_again : (c : Command) → IsKept c → command_in (command_item c) ≡ Ok c
-commands_again c k = formed c (command_item c) (written_forms c k)
+pub command_again : (c : Command) → IsKept c → IsReadAgain c
+command_again c k = formed c (command_item c) (written_forms c k)
 
 -- ---- openings and answers
 
@@ -92,18 +108,17 @@ kind_again : (name : Name) (k : NodeKind) (size : ℕ) (rest : List Item) → be
 kind_again name kind.File size rest = refl
 kind_again name kind.Dir size rest = refl
 
-dirent_again : (d : Dirent) → name_read d.name ≡ Ok d.name → dirent_in (dirent d) ≡ Some d
+pub dirent_again : (d : Dirent) → name_read d.name ≡ Ok d.name → IsEntryReadAgain d
 dirent_again d e =
     let rest = Word (truth_word d.has_props) ∷ Number d.created ∷ string d.date ∷ string d.author ∷ [] in
     ap behind_name (right_same (name_read d.name) d.name (row (Word (node_kind_word d.kind) ∷ Number d.size ∷ rest)) e)
     ∙ kind_again d.name d.kind d.size rest
     ∙ rest_again d.name d.kind d.size d.has_props d.created d.date d.author
 
-dirents_again : (ds : List Dirent) → AreNamed ds → each dirent_in (row (map dirent ds)) ≡ Some ds
-dirents_again [] a = refl
-dirents_again (d ∷ ds) a =
-    ap (λ v. option_and_then (λ e. option_map (λ es. e ∷ es) (each dirent_in (row (map dirent ds)))) v) (dirent_again d a.0)
-    ∙ ap (option_map (λ es. d ∷ es)) (dirents_again ds a.1)
+pub dirents_again : (d : Dirent) (ds : List Dirent) → IsEntryReadAgain d → AreEntriesReadAgain ds → AreEntriesReadAgain (d ∷ ds)
+dirents_again d ds one others =
+    ap (λ v. option_and_then (λ e. option_map (λ es. e ∷ es) (each dirent_in (row (map dirent ds)))) v) one
+    ∙ ap (option_map (λ es. d ∷ es)) others
 
 kinds_again : (k : Option NodeKind) → answered (first_in kind_in) (kind_is k) ≡ Some k
 kinds_again None = refl
@@ -122,6 +137,4 @@ answers_again = record {
   of_number = λ n. refl;
   of_kind = kinds_again;
   of_value = values_again;
-  of_dirent = dirent_again;
-  of_dirents = dirents_again;
 }

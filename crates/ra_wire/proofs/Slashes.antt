@@ -1,13 +1,12 @@
 -- A path's own text has no slash in front.
-use Rattle.std.proofs.Common.{◌≡◌, ℕ, Bool, true, false, List, [], ◌∷◌, ap, subst, sym, ◌∙◌, refl, true≢false}
-use Rattle.std.specs.Prelude.{◌==◌, ◌&&◌, not, Result, Ok, Err, if◌then◌else◌}
+use Rattle.std.proofs.Common.{◌≡◌, ℕ, Bool, true, false, List, [], ◌∷◌, ap, sym, ◌∙◌, refl, true≢false}
+use Rattle.std.specs.Prelude.{◌==◌, ◌&&◌, not, Ok, Err, if◌then◌else◌}
 use Rattle.std.proofs.lemmas.Bool.{eqb-true}
 use Rattle.node_base.specs.Path.{Path}
 use Rattle.std.specs.List.{list_all, slice_split}
 use Rattle.std.specs.Str.{is_utf8}
 use Rattle.node_base.specs.PathText.{path_read, is_past_limits, pieces}
 use Rattle.node_base.specs.Names.{is_name, is_dots, is_name_byte}
-use Rattle.node_base.specs.declared.fault.PathFault.{PathFault}
 use Rattle.node_base.specs.declared.fault.PathFault.TheVariants.{TooLong, BadPath}
 use Rattle.ra_wire.specs.Params.{unslashed}
 

@@ -1,9 +1,9 @@
 -- What a client reads of a server's answers.
-use Rattle.std.specs.Prelude.{◌≡◌, ℕ, ◌==◌, nat_lt, Bool, true, false, List, [], ◌∷◌, map, length, Option, Some, None, Result, Ok, Err, codes, if◌then◌else◌}
+use Rattle.std.specs.Prelude.{ℕ, nat_lt, Bool, List, map, length, Option, Some, None, codes, if◌then◌else◌}
 use Rattle.std.specs.Option.{option_map, option_and_then}
 use Rattle.std.specs.Str.{bytes_eq}
 use Rattle.std.specs.FinMap as finite
-use Rattle.ra_item.specs.Items.{Item, Items, End, Then, Word, Number, Text, Nested, row}
+use Rattle.ra_item.specs.Items.{Item, Items, End, Then, Word, Text, Nested}
 use Rattle.node_base.specs.Path.{Name}
 use Rattle.node_base.specs.PathText.{name_read}
 use Rattle.node_base.specs.Props.{PropMap, props_fit}

@@ -4,6 +4,7 @@ pub mod Faults
 pub mod Laws
 pub mod Openings
 pub mod Params
+pub mod Prototypes
 pub mod ReadAgain
 pub mod Reading
 pub mod Replies

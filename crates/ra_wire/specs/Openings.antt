@@ -1,5 +1,5 @@
 -- What client and server send each other in an opening.
-use Rattle.std.specs.Prelude.{◌≡◌, ℕ, ◌==◌, Bool, true, false, List, [], ◌∷◌, map, Option, Some, None, codes, if◌then◌else◌}
+use Rattle.std.specs.Prelude.{ℕ, ◌==◌, List, map, Option, Some, None, if◌then◌else◌}
 use Rattle.std.specs.Option.{option_map, option_and_then}
 use Rattle.ra_item.specs.Items.{Item, Items}
 use Rattle.ra_wire.specs.Params.{parts_in, word_in, number_in, text_in, words_in, bracketed}

@@ -1,6 +1,6 @@
 -- How the command is read that an item is, place by place. `Commands` has the table that it comes to.
-use Rattle.std.specs.Prelude.{◌≡◌, ℕ, Bool, true, false, ◌&&◌, ◌==◌, List, [], ◌∷◌, Option, Some, None, Result, Ok, Err, codes, if◌then◌else◌}
-use Rattle.std.specs.Option.{option_map, option_and_then}
+use Rattle.std.specs.Prelude.{◌≡◌, ℕ, Bool, true, false, ◌&&◌, ◌==◌, List, Option, Some, None, Result, Ok, Err, codes, if◌then◌else◌}
+use Rattle.std.specs.Option.{option_and_then}
 use Rattle.std.specs.Str.{bytes_eq}
 use Rattle.ra_item.specs.Items.{Item, Items}
 use Rattle.ra_wire.specs.Params.{Read, parts_in, word_in, text_in, number_in, list_in, bool_in, path_in, prop_name_in, bracketed, perhaps}

@@ -1,8 +1,7 @@
 -- What a server writes, item by item.
-use Rattle.std.specs.Prelude.{ℕ, Bool, true, false, nat_lt, is_some, List, [], ◌∷◌, ◌++◌, map, length, take, drop, zero, suc, Option, Some, None, codes, if◌then◌else◌}
-use Rattle.std.specs.Option.{option_map, option_map_or}
+use Rattle.std.specs.Prelude.{ℕ, Bool, List, [], ◌∷◌, ◌++◌, map, Option, Some, None, codes, if◌then◌else◌}
 use Rattle.std.specs.FinMap as finite
-use Rattle.ra_item.specs.Items.{Item, Word, Number, Text, Nested, row, spell, spell_all}
+use Rattle.ra_item.specs.Items.{Item, Word, Number, Text, Nested, row}
 use Rattle.node_base.specs.Path.{Name}
 use Rattle.node_base.specs.Props.{PropMap}
 use Rattle.node_base.specs.declared.node.NodeKind.{NodeKind}

@@ -1,5 +1,5 @@
 -- What a client writes, item by item.
-use Rattle.std.specs.Prelude.{ℕ, Bool, true, false, List, [], ◌∷◌, Option, Some, None, codes}
+use Rattle.std.specs.Prelude.{ℕ, true, false, List, [], ◌∷◌, codes}
 use Rattle.ra_item.specs.Items.{Item, Word, Number, Text}
 use Rattle.node_base.specs.PathText.{path_text}
 use Rattle.ra_wire.specs.Commands.{Previous, Any, Absent, Value, Command, LatestRev, CheckPath, GetFile, GetDir, RevProplist, RevProp, ChangeProp, Replay, ReplayRange, truth_word}

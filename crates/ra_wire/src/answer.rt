@@ -3,6 +3,7 @@
 ghost use Rattle.std.specs.Prelude.{◌≡◌, IfOk, IfErr, Some, None};
 ghost use Rattle.std.specs.Option.{option_map};
 ghost use Rattle.ra_wire.specs.Params.{left_of, number_in, text_in, bracketed, NotRead};
+ghost use Rattle.ra_wire.specs.Prototypes.{IsNumber, IsKind, IsValue, Judges};
 ghost use Rattle.ra_wire.specs.Answers.{kind_in, kind_said, node_kind_in};
 
 use crate::fault::WireFault;
@@ -13,6 +14,7 @@ use node_base::NodeKind;
 pub fn latest(content: Params) -> Result<u64, WireFault>
     ensures read { IfOk result (λ n. option_map (λ r. r.0) (number_in (left_of content)) ≡ Some n) }
     ensures none { IfErr result (NotRead (number_in (left_of content))) }
+    ensures judged { Judges IsNumber (λ n. n) (left_of content) result }
 {
     let mut content = content;
     content.number()
@@ -22,6 +24,7 @@ pub fn latest(content: Params) -> Result<u64, WireFault>
 pub fn kind(content: Params) -> Result<Option<NodeKind>, WireFault>
     ensures read { IfOk result (λ k. option_map (λ r. r.0) (kind_in (left_of content)) ≡ Some k) }
     ensures none { IfErr result (NotRead (kind_in (left_of content))) }
+    ensures judged { Judges IsKind (λ k. k) (left_of content) result }
 {
     let mut content = content;
     next_kind(&mut content)
@@ -31,6 +34,7 @@ pub fn kind(content: Params) -> Result<Option<NodeKind>, WireFault>
 pub fn value(content: Params) -> Result<Option<Vec<u8>>, WireFault>
     ensures read { IfOk result (λ v. option_map (λ r. r.0) (bracketed text_in (left_of content)) ≡ Some (option_map (λ t. t.items) v)) }
     ensures none { IfErr result (NotRead (bracketed text_in (left_of content))) }
+    ensures judged { Judges IsValue (option_map (λ t. t.items)) (left_of content) result }
 {
     let mut content = content;
     content.maybe_text()

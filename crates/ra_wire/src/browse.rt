@@ -4,6 +4,7 @@ ghost use Rattle.std.specs.Prelude.{◌≡◌, map, IfOk, IfErr, Some, None};
 ghost use Rattle.std.specs.Option.{option_map};
 ghost use Rattle.ra_item.specs.Items.{row};
 ghost use Rattle.ra_wire.specs.Params.{left_of, each, NotRead};
+ghost use Rattle.ra_wire.specs.Prototypes.{IsFile, IsDir, Judges};
 ghost use Rattle.ra_wire.specs.Answers.{dirent_in, dirent_as, file_in, file_as, dir_in, dir_as};
 
 use crate::dirent::Dirent;
@@ -38,14 +39,24 @@ fn all_entries(alloc: Global, items: Vec<Item>) -> Result<Vec<Dirent>, WireFault
 {
     let mut entries = Vec::new(alloc);
     for item in items {
-        entries.push(Dirent::parse(alloc, item)?)?;
+        entries.push(Dirent::read(alloc, item)?)?;
     }
     Ok(entries)
 }
 
 impl FileFound {
-    /// What an answer says of a file. `BadShape` (48) for another form, and properties past the limits; `OutOfMemory` (70).
+    /// What an answer says of a file. `BadShape` (48) for another form, and properties past the limits;
+    /// `OutOfMemory` (70).
     pub fn parse(alloc: Global, content: Params) -> Result<FileFound, WireFault>
+        ensures read { IfOk result (λ f. file_in (left_of content) ≡ Some (file_as f)) }
+        ensures none { IfErr result (NotRead (file_in (left_of content))) }
+        ensures judged { Judges IsFile file_as (left_of content) result }
+    {
+        FileFound::read(alloc, content)
+    }
+
+    // The same, by what is read alone.
+    fn read(alloc: Global, content: Params) -> Result<FileFound, WireFault>
         ensures read { IfOk result (λ f. file_in (left_of content) ≡ Some (file_as f)) }
         ensures none { IfErr result (NotRead (file_in (left_of content))) }
     {
@@ -62,8 +73,18 @@ impl FileFound {
 }
 
 impl DirFound {
-    /// What an answer says of a directory. `BadShape` (48) for another form, and properties past the limits; `OutOfMemory` (70).
+    /// What an answer says of a directory. `BadShape` (48) for another form, and properties past the limits;
+    /// `OutOfMemory` (70).
     pub fn parse(alloc: Global, content: Params) -> Result<DirFound, WireFault>
+        ensures read { IfOk result (λ d. dir_in (left_of content) ≡ Some (dir_as d)) }
+        ensures none { IfErr result (NotRead (dir_in (left_of content))) }
+        ensures judged { Judges IsDir dir_as (left_of content) result }
+    {
+        DirFound::read(alloc, content)
+    }
+
+    // The same, by what is read alone.
+    fn read(alloc: Global, content: Params) -> Result<DirFound, WireFault>
         ensures read { IfOk result (λ d. dir_in (left_of content) ≡ Some (dir_as d)) }
         ensures none { IfErr result (NotRead (dir_in (left_of content))) }
     {

@@ -3,6 +3,7 @@
 ghost use Rattle.std.specs.Prelude.{◌≡◌, IfOk, IfErr, Some, None};
 ghost use Rattle.std.specs.Option.{option_map};
 ghost use Rattle.ra_wire.specs.Params.{left_of, NotRead};
+ghost use Rattle.ra_wire.specs.Prototypes.{IsDirent, Judges};
 ghost use Rattle.ra_wire.specs.Answers.{node_name_in, dirent_with, dirent_in, dirent_as};
 
 use crate::answer::next_node_kind;
@@ -66,9 +67,18 @@ fn rest_of(
 }
 
 impl Dirent {
-    /// The entry that an item is. `BadShape` (48) for another form, a kind that is neither file nor dir, or a name that is none;
-    /// `OutOfMemory` (70).
+    /// The entry that an item is. `BadShape` (48) for another form, a kind that is neither file nor dir, or a name that is
+    /// none; `OutOfMemory` (70).
     pub fn parse(alloc: Global, item: Item) -> Result<Dirent, WireFault>
+        ensures read { IfOk result (λ d. dirent_in item ≡ Some (dirent_as d)) }
+        ensures none { IfErr result (NotRead (dirent_in item)) }
+        ensures judged { Judges IsDirent dirent_as item result }
+    {
+        Dirent::read(alloc, item)
+    }
+
+    // The same, by what is read alone.
+    pub(crate) fn read(alloc: Global, item: Item) -> Result<Dirent, WireFault>
         ensures read { IfOk result (λ d. dirent_in item ≡ Some (dirent_as d)) }
         ensures none { IfErr result (NotRead (dirent_in item)) }
     {

@@ -1,7 +1,9 @@
-//! The beginning of a session: the server's greeting, the client's, the ways to say who one is, and the server's welcome.
+//! The beginning of a session: the server's greeting, the client's, the ways to say who one is, and the server's
+//! welcome.
 
 ghost use Rattle.std.specs.Prelude.{◌≡◌, IfOk, IfErr, Some, None};
 ghost use Rattle.ra_wire.specs.Params.{left_of, NotRead};
+ghost use Rattle.ra_wire.specs.Prototypes.{IsGreeting, IsHello, AreMechanisms, IsLogin, IsWelcome, Judges};
 ghost use Rattle.ra_wire.specs.Openings.{greeting_in, greeting_as, hello_in, hello_as, mechanisms_in, mechanisms_as, login_in, login_as, welcome_in, welcome_as};
 
 use crate::fault::WireFault;
@@ -58,6 +60,15 @@ impl Greeting {
     pub fn parse(alloc: Global, content: Params) -> Result<Greeting, WireFault>
         ensures read { IfOk result (λ g. greeting_in (left_of content) ≡ Some (greeting_as g)) }
         ensures none { IfErr result (NotRead (greeting_in (left_of content))) }
+        ensures judged { Judges IsGreeting greeting_as (left_of content) result }
+    {
+        Greeting::read(alloc, content)
+    }
+
+    // The same, by what is read alone.
+    fn read(alloc: Global, content: Params) -> Result<Greeting, WireFault>
+        ensures read { IfOk result (λ g. greeting_in (left_of content) ≡ Some (greeting_as g)) }
+        ensures none { IfErr result (NotRead (greeting_in (left_of content))) }
     {
         let mut content = content;
         let low = content.number()?;
@@ -74,8 +85,18 @@ impl Greeting {
 }
 
 impl Hello {
-    /// The client's greeting that an item is. `BadShape` (48) for another form or another version than 2, `OutOfMemory` (70).
+    /// The client's greeting that an item is. `BadShape` (48) for another form or another version than 2,
+    /// `OutOfMemory` (70).
     pub fn parse(alloc: Global, item: Item) -> Result<Hello, WireFault>
+        ensures read { IfOk result (λ h. hello_in item ≡ Some (hello_as h)) }
+        ensures none { IfErr result (NotRead (hello_in item)) }
+        ensures judged { Judges IsHello hello_as item result }
+    {
+        Hello::read(alloc, item)
+    }
+
+    // The same, by what is read alone.
+    fn read(alloc: Global, item: Item) -> Result<Hello, WireFault>
         ensures read { IfOk result (λ h. hello_in item ≡ Some (hello_as h)) }
         ensures none { IfErr result (NotRead (hello_in item)) }
     {
@@ -96,6 +117,15 @@ impl Mechanisms {
     pub fn parse(alloc: Global, content: Params) -> Result<Mechanisms, WireFault>
         ensures read { IfOk result (λ m. mechanisms_in (left_of content) ≡ Some (mechanisms_as m)) }
         ensures none { IfErr result (NotRead (mechanisms_in (left_of content))) }
+        ensures judged { Judges AreMechanisms mechanisms_as (left_of content) result }
+    {
+        Mechanisms::read(alloc, content)
+    }
+
+    // The same, by what is read alone.
+    fn read(alloc: Global, content: Params) -> Result<Mechanisms, WireFault>
+        ensures read { IfOk result (λ m. mechanisms_in (left_of content) ≡ Some (mechanisms_as m)) }
+        ensures none { IfErr result (NotRead (mechanisms_in (left_of content))) }
     {
         let mut content = content;
         let names = content.words(alloc)?;
@@ -109,6 +139,15 @@ impl Login {
     pub fn parse(item: Item) -> Result<Login, WireFault>
         ensures read { IfOk result (λ l. login_in item ≡ Some (login_as l)) }
         ensures none { IfErr result (NotRead (login_in item)) }
+        ensures judged { Judges IsLogin login_as item result }
+    {
+        Login::read(item)
+    }
+
+    // The same, by what is read alone.
+    fn read(item: Item) -> Result<Login, WireFault>
+        ensures read { IfOk result (λ l. login_in item ≡ Some (login_as l)) }
+        ensures none { IfErr result (NotRead (login_in item)) }
     {
         let mut parts = Params::of(item)?;
         let mechanism = parts.word()?;
@@ -120,6 +159,15 @@ impl Login {
 impl Welcome {
     /// The welcome that an answer holds. `BadShape` (48) for another form, `OutOfMemory` (70).
     pub fn parse(alloc: Global, content: Params) -> Result<Welcome, WireFault>
+        ensures read { IfOk result (λ w. welcome_in (left_of content) ≡ Some (welcome_as w)) }
+        ensures none { IfErr result (NotRead (welcome_in (left_of content))) }
+        ensures judged { Judges IsWelcome welcome_as (left_of content) result }
+    {
+        Welcome::read(alloc, content)
+    }
+
+    // The same, by what is read alone.
+    fn read(alloc: Global, content: Params) -> Result<Welcome, WireFault>
         ensures read { IfOk result (λ w. welcome_in (left_of content) ≡ Some (welcome_as w)) }
         ensures none { IfErr result (NotRead (welcome_in (left_of content))) }
     {

@@ -5,6 +5,7 @@ ghost use Rattle.std.specs.Option.{option_map};
 ghost use Rattle.std.specs.FinMap as finite;
 ghost use Rattle.ra_item.specs.Items.{row};
 ghost use Rattle.ra_wire.specs.Params.{left_of, NotRead};
+ghost use Rattle.ra_wire.specs.Prototypes.{HasProps, AreRevprops, Judges};
 ghost use Rattle.ra_wire.specs.Answers.{short_value, property_in, with_property, one_more, properties_of, props_in, revprops_in};
 
 use crate::fault::WireFault;
@@ -68,8 +69,8 @@ fn all_props(alloc: Global, items: Vec<Item>) -> Result<Props, WireFault>
     Ok(props)
 }
 
-/// The next item, which is a list of properties in any order; of two with one name the later counts. `BadShape` (48) where it isn't,
-/// and for a name, a value or a number of properties past the limits; `OutOfMemory` (70).
+/// The next item, which is a list of properties in any order; of two with one name the later counts. `BadShape` (48)
+/// where it isn't, and for a name, a value or a number of properties past the limits; `OutOfMemory` (70).
 pub fn next_props(alloc: Global, params: &mut Params) -> Result<Props, WireFault>
     ensures read { IfOk result (λ m. props_in (left_of params.old) ≡ Some (m, left_of params.new)) }
     ensures none { IfErr result (NotRead (props_in (left_of params.old))) }
@@ -81,13 +82,24 @@ pub fn next_props(alloc: Global, params: &mut Params) -> Result<Props, WireFault
 pub fn proplist(alloc: Global, content: Params) -> Result<Props, WireFault>
     ensures read { IfOk result (λ m. option_map (λ r. r.0) (props_in (left_of content)) ≡ Some m) }
     ensures none { IfErr result (NotRead (props_in (left_of content))) }
+    ensures judged { Judges HasProps (λ m. m) (left_of content) result }
 {
     let mut content = content;
     next_props(alloc, &mut content)
 }
 
-/// The properties in front of a revision's edit: `( revprops ( .. ) )`. `BadShape` (48) for another form, and as [`next_props`].
+/// The properties in front of a revision's edit: `( revprops ( .. ) )`. `BadShape` (48) for another form, and as
+/// [`next_props`].
 pub fn revprops(alloc: Global, item: Item) -> Result<Props, WireFault>
+    ensures read { IfOk result (λ m. revprops_in item ≡ Some m) }
+    ensures none { IfErr result (NotRead (revprops_in item)) }
+    ensures judged { Judges AreRevprops (λ m. m) item result }
+{
+    read_revprops(alloc, item)
+}
+
+// The same, by what is read alone.
+fn read_revprops(alloc: Global, item: Item) -> Result<Props, WireFault>
     ensures read { IfOk result (λ m. revprops_in item ≡ Some m) }
     ensures none { IfErr result (NotRead (revprops_in item)) }
 {

@@ -4,6 +4,7 @@ ghost use Rattle.std.specs.Prelude.{◌≡◌, map, IfOk, IfErr, Some, None};
 ghost use Rattle.std.specs.Option.{option_map};
 ghost use Rattle.ra_item.specs.Items.{row};
 ghost use Rattle.ra_wire.specs.Params.{left_of, each, NotRead};
+ghost use Rattle.ra_wire.specs.Prototypes.{IsRefused, IsReply, HasContent, Judges};
 ghost use Rattle.ra_wire.specs.Answers.{reply_in, reply_as, reply_of, refused_in, refused_as, content_in};
 
 use crate::fault::WireFault;
@@ -37,6 +38,15 @@ impl Refused {
     pub fn parse(item: Item) -> Result<Refused, WireFault>
         ensures read { IfOk result (λ f. refused_in item ≡ Some (refused_as f)) }
         ensures none { IfErr result (NotRead (refused_in item)) }
+        ensures judged { Judges IsRefused refused_as item result }
+    {
+        Refused::read(item)
+    }
+
+    // The same, by what is read alone.
+    fn read(item: Item) -> Result<Refused, WireFault>
+        ensures read { IfOk result (λ f. refused_in item ≡ Some (refused_as f)) }
+        ensures none { IfErr result (NotRead (refused_in item)) }
     {
         let mut parts = Params::of(item)?;
         let number = parts.number()?;
@@ -59,7 +69,7 @@ fn all_refused(alloc: Global, items: Vec<Item>) -> Result<Vec<Refused>, WireFaul
 {
     let mut all = Vec::new(alloc);
     for item in items {
-        all.push(Refused::parse(item)?)?;
+        all.push(Refused::read(item)?)?;
     }
     Ok(all)
 }
@@ -83,6 +93,15 @@ impl Reply {
     pub fn parse(alloc: Global, item: Item) -> Result<Reply, WireFault>
         ensures read { IfOk result (λ r. reply_in item ≡ Some (reply_as r)) }
         ensures none { IfErr result (NotRead (reply_in item)) }
+        ensures judged { Judges IsReply reply_as item result }
+    {
+        Reply::read(alloc, item)
+    }
+
+    // The same, by what is read alone.
+    fn read(alloc: Global, item: Item) -> Result<Reply, WireFault>
+        ensures read { IfOk result (λ r. reply_in item ≡ Some (reply_as r)) }
+        ensures none { IfErr result (NotRead (reply_in item)) }
     {
         let mut parts = Params::of(item)?;
         let word = parts.word()?;
@@ -94,8 +113,17 @@ impl Reply {
     pub fn content(alloc: Global, item: Item) -> Result<Params, WireFault>
         ensures read { IfOk result (λ p. content_in item ≡ Some (left_of p)) }
         ensures none { IfErr result (NotRead (content_in item)) }
+        ensures judged { Judges HasContent left_of item result }
     {
-        match Reply::parse(alloc, item)? {
+        Reply::held(alloc, item)
+    }
+
+    // The same, by what is read alone.
+    fn held(alloc: Global, item: Item) -> Result<Params, WireFault>
+        ensures read { IfOk result (λ p. content_in item ≡ Some (left_of p)) }
+        ensures none { IfErr result (NotRead (content_in item)) }
+    {
+        match Reply::read(alloc, item)? {
             Reply::Success(content) => Ok(content),
             Reply::Failure(_) => Err(WireFault::BadShape),
         }

@@ -332,7 +332,8 @@ fn write_file_named<W: Write>(
     write_end(out)
 }
 
-/// What a client is told of a file: the digits of its text's MD5, the revision, and its properties where they are wanted.
+/// What a client is told of a file: the digits of its text's MD5, the revision, and its properties where they are
+/// wanted.
 pub fn write_file<W: Write>(
     out: &mut W,
     sum: &[u8],

@@ -1,13 +1,15 @@
 //! What stands in answers.
 
 use crate::helpers_for_tests::{content_of, item_of};
-use crate::sessions::{AUTHORISED, DONE, PROPLIST, REVPROPS};
+use crate::sessions::{AUTHORISED, DONE, NO_FILE, PROPLIST, REVPROPS, SVNSERVE_DIR, SVNSERVE_FILE};
 use node_base::{NodeKind, Props, RevNo};
 use ra_wire::answer::{kind, latest, value};
 use ra_wire::browse::{DirFound, FileFound};
+use ra_wire::dirent::Dirent;
+use ra_wire::law;
 use ra_wire::opening::Mechanisms;
 use ra_wire::props::{proplist, revprops};
-use ra_wire::reply::Reply;
+use ra_wire::reply::{Refused, Reply};
 use ra_wire::reply_writer::{
     write_dir, write_failure, write_file, write_kind, write_latest, write_proplist, write_revprops,
     write_value,
@@ -15,205 +17,205 @@ use ra_wire::reply_writer::{
 use std::alloc::Global;
 use std::test::Fail;
 
-// The first refusal of a failure: its number, text, file and line.
-fn refused(alloc: Global, bytes: &[u8]) -> Result<Option<(u64, Vec<u8>, Vec<u8>, u64)>, Fail> {
-    let Some(item) = item_of(alloc, bytes)? else {
-        return Ok(None);
-    };
-    let Ok(Reply::Failure(all)) = Reply::parse(alloc, item) else {
-        return Ok(None);
-    };
-    let mut all = all;
-    all.as_mut_slice().reverse();
-    match all.pop() {
-        Some(first) => Ok(Some((first.number, first.text, first.file, first.line))),
-        None => Ok(None),
+// Whether the first of some refusals is this.
+fn begins_with(all: &[Refused], number: u64, text: &[u8], file: &[u8], line: u64) -> bool {
+    match all.first() {
+        Some(first) => {
+            first.number == number
+                && first.text.as_slice() == text
+                && first.file.as_slice() == file
+                && first.line == line
+        }
+        None => false,
     }
 }
 
-fn refuses(
-    alloc: Global,
-    bytes: &[u8],
-    number: u64,
-    text: &[u8],
-    file: &[u8],
-    line: u64,
-) -> Result<bool, Fail> {
-    match refused(alloc, bytes)? {
-        Some(first) => Ok(
-            first.0 == number
-                && first.1.as_slice() == text
-                && first.2.as_slice() == file
-                && first.3 == line,
-        ),
-        None => Ok(false),
+fn refuses(alloc: Global, bytes: &[u8], number: u64, text: &[u8], file: &[u8], line: u64) -> bool {
+    let Some(item) = item_of(alloc, bytes) else {
+        return false;
+    };
+    match Reply::parse(alloc, item) {
+        Ok(Reply::Failure(all)) => begins_with(all.as_slice(), number, text, file, line),
+        Ok(Reply::Success(_)) | Err(_) => false,
     }
 }
 
 #[test]
 fn failures(rt: HostRuntime) -> Result<(), Fail> {
     let alloc = rt.alloc();
+    let unexpected: &[u8] = b"( failure ( ( 22 31:the property is not as expected 0: 0 ) ) ) ";
+    let two: &[u8] = b"( failure ( ( 210005 2:no 8:replay.c 12 x ) ( 1 0: 0: 0 ) ) ) ";
+    let none: &[u8] = b"File not found: revision 2, path '/nofile'";
     assert!(rt;
         refuses(
             alloc,
-            b"( failure ( ( 22 31:the property is not as expected 0: 0 ) ) ) ",
+            unexpected,
             22,
             b"the property is not as expected",
             b"",
             0
-        )?
+        )
     );
-    assert!(rt;
-        refuses(
-            alloc,
-            b"( failure ( ( 210005 2:no 9:replay.c 12 x ) ( 1 0: 0: 0 ) ) ) ",
-            210005,
-            b"no",
-            b"replay.c ",
-            12
-        )? == false
-    );
-    assert!(rt;
-        refuses(
-            alloc,
-            b"( failure ( ( 210005 2:no 8:replay.c 12 x ) ( 1 0: 0: 0 ) ) ) ",
-            210005,
-            b"no",
-            b"replay.c",
-            12
-        )?
-    );
-    assert!(rt; content_of(alloc, b"( failure ( ) ) ")?.is_none());
-    assert!(rt; content_of(alloc, b"( step ( ) ) ")?.is_none());
+    assert!(rt; refuses(alloc, two, 210005, b"no", b"replay.c", 12));
+    assert!(rt; refuses(alloc, NO_FILE, 160013, none, b"", 0));
+    Ok(())
+}
+
+// An answer without content, with more behind its elements, and two that are none: a failure, and another word.
+#[test]
+fn contents(rt: HostRuntime) -> Result<(), Fail> {
+    let alloc = rt.alloc();
+    assert!(rt; content_of(alloc, DONE).is_some());
+    assert!(rt; content_of(alloc, b"( success ( 1 ) 2 ) ").is_some());
+    assert!(rt; content_of(alloc, b"( failure ( ) ) ").is_none());
+    assert!(rt; content_of(alloc, b"( step ( ) ) ").is_none());
     Ok(())
 }
 
 // A number, or none where there isn't one.
-fn number(alloc: Global, bytes: &[u8]) -> Result<Option<u64>, Fail> {
-    match content_of(alloc, bytes)? {
-        Some(content) => Ok(latest(content).ok()),
-        None => Ok(None),
-    }
+fn number(alloc: Global, bytes: &[u8]) -> Option<u64> {
+    latest(content_of(alloc, bytes)?).ok()
 }
 
 // What stands at a path, where the answer says it.
-fn kind_of(alloc: Global, bytes: &[u8]) -> Result<Option<Option<NodeKind>>, Fail> {
-    match content_of(alloc, bytes)? {
-        Some(content) => Ok(kind(content).ok()),
-        None => Ok(None),
-    }
+fn kind_of(alloc: Global, bytes: &[u8]) -> Option<Option<NodeKind>> {
+    kind(content_of(alloc, bytes)?).ok()
 }
 
 #[test]
 fn numbers_and_kinds(rt: HostRuntime) -> Result<(), Fail> {
     let alloc = rt.alloc();
-    assert!(rt; number(alloc, b"( success ( 10 ) ) ")? == Some(10));
-    assert!(rt; number(alloc, b"( success ( x ) ) ")?.is_none());
-    assert!(rt; kind_of(alloc, b"( success ( file ) ) ")? == Some(Some(NodeKind::File)));
-    assert!(rt; kind_of(alloc, b"( success ( none ) ) ")? == Some(None));
-    assert!(rt; kind_of(alloc, b"( success ( unknown ) ) ")?.is_none());
+    assert!(rt; number(alloc, b"( success ( 10 ) ) ") == Some(10));
+    assert!(rt; number(alloc, b"( success ( x ) ) ").is_none());
+    assert!(rt; kind_of(alloc, b"( success ( file ) ) ") == Some(Some(NodeKind::File)));
+    assert!(rt; kind_of(alloc, b"( success ( none ) ) ") == Some(None));
+    assert!(rt; kind_of(alloc, b"( success ( unknown ) ) ").is_none());
     Ok(())
 }
 
 // Whether an answer holds this value, or none.
-fn holds(alloc: Global, bytes: &[u8], want: Option<&[u8]>) -> Result<bool, Fail> {
-    match content_of(alloc, bytes)? {
-        Some(content) => match value(content) {
-            Ok(found) => Ok(found.as_deref() == want),
-            Err(_) => Ok(false),
-        },
-        None => Ok(false),
+fn holds(alloc: Global, bytes: &[u8], want: Option<&[u8]>) -> bool {
+    let Some(content) = content_of(alloc, bytes) else {
+        return false;
+    };
+    match value(content) {
+        Ok(found) => found.as_deref() == want,
+        Err(_) => false,
     }
 }
 
 // Whether a command is answered without a question.
-fn asks_nothing(alloc: Global, bytes: &[u8]) -> Result<bool, Fail> {
-    match content_of(alloc, bytes)? {
-        Some(content) => match Mechanisms::parse(alloc, content) {
-            Ok(ways) => Ok(ways.names.is_empty() && ways.realm.is_empty()),
-            Err(_) => Ok(false),
-        },
-        None => Ok(false),
+fn asks_nothing(alloc: Global, bytes: &[u8]) -> bool {
+    let Some(content) = content_of(alloc, bytes) else {
+        return false;
+    };
+    match Mechanisms::parse(alloc, content) {
+        Ok(ways) => ways.names.is_empty() && ways.realm.is_empty(),
+        Err(_) => false,
     }
 }
 
 #[test]
 fn values_and_nothing(rt: HostRuntime) -> Result<(), Fail> {
     let alloc = rt.alloc();
-    assert!(rt; holds(alloc, b"( success ( ( 2:hi ) ) ) ", Some(b"hi"))?);
-    assert!(rt; holds(alloc, b"( success ( ( ) ) ) ", None)?);
-    assert!(rt; asks_nothing(alloc, AUTHORISED)?);
-    assert!(rt; content_of(alloc, DONE)?.is_some());
+    assert!(rt; holds(alloc, b"( success ( ( 2:hi ) ) ) ", Some(b"hi")));
+    assert!(rt; holds(alloc, b"( success ( ( ) ) ) ", None));
+    assert!(rt; asks_nothing(alloc, AUTHORISED));
     Ok(())
 }
 
 // The properties of an answer, or none.
-fn props_of(alloc: Global, bytes: &[u8]) -> Result<Props, Fail> {
-    match content_of(alloc, bytes)? {
-        Some(content) => Ok(proplist(alloc, content).ok().unwrap_or(Props::empty())),
-        None => Ok(Props::empty()),
-    }
+fn props_of(alloc: Global, bytes: &[u8]) -> Props {
+    let Some(content) = content_of(alloc, bytes) else {
+        return Props::empty();
+    };
+    proplist(alloc, content).ok().unwrap_or(Props::empty())
 }
 
 // Those in front of an edit.
-fn front_props(alloc: Global, bytes: &[u8]) -> Result<Props, Fail> {
-    match item_of(alloc, bytes)? {
-        Some(item) => Ok(revprops(alloc, item).ok().unwrap_or(Props::empty())),
-        None => Ok(Props::empty()),
-    }
+fn front_props(alloc: Global, bytes: &[u8]) -> Props {
+    let Some(item) = item_of(alloc, bytes) else {
+        return Props::empty();
+    };
+    revprops(alloc, item).ok().unwrap_or(Props::empty())
 }
 
 fn has(props: &Props, name: &[u8], value: &[u8]) -> bool {
     props.get(name) == Some(value)
 }
 
+fn are_zero(props: &Props) -> bool {
+    props.len() == 2
+        && has(props, b"custom:zero", b"on revision 0")
+        && has(props, b"svn:date", b"2020-01-01T00:00:00.000000Z")
+}
+
+fn are_second(props: &Props) -> bool {
+    props.len() == 4
+        && has(props, b"svn:author", b"b\xc3\xb6b")
+        && has(props, b"svn:log", b"edits and properties")
+}
+
 #[test]
 fn properties_of_a_server(rt: HostRuntime) -> Result<(), Fail> {
-    let props = props_of(rt.alloc(), PROPLIST)?;
-    assert!(rt; props.len() == 2 && has(&props, b"custom:zero", b"on revision 0"));
-    assert!(rt; has(&props, b"svn:date", b"2020-01-01T00:00:00.000000Z"));
-    let front = front_props(rt.alloc(), REVPROPS)?;
-    assert!(rt; front.len() == 4 && has(&front, b"svn:author", b"b\xc3\xb6b"));
-    assert!(rt; has(&front, b"svn:log", b"edits and properties"));
+    let alloc = rt.alloc();
+    assert!(rt; are_zero(&props_of(alloc, PROPLIST)));
+    assert!(rt; are_second(&front_props(alloc, REVPROPS)));
+    assert!(rt;
+        has(
+            &props_of(alloc, b"( success ( ( ( 7:svn:log 2:hi ) ) ) ) "),
+            b"svn:log",
+            b"hi"
+        )
+    );
     Ok(())
 }
 
-// The properties that are read are written as they came.
+// Whether the properties that are read are written as they came, in an answer and in front of an edit.
+fn are_written(alloc: Global) -> bool {
+    let mut out = Vec::new(alloc);
+    let mut front = Vec::new(alloc);
+    write_proplist(&mut out, &props_of(alloc, PROPLIST)).is_ok()
+        && write_revprops(&mut front, &front_props(alloc, REVPROPS)).is_ok()
+        && out.as_slice() == PROPLIST
+        && front.as_slice() == REVPROPS
+}
+
 #[test]
 fn properties_are_written(rt: HostRuntime) -> Result<(), Fail> {
-    let alloc = rt.alloc();
-    let mut out = Vec::new(alloc);
-    write_proplist(&mut out, &props_of(alloc, PROPLIST)?)?;
-    assert_eq!(rt; out.as_slice(), PROPLIST);
-    out.clear();
-    write_revprops(&mut out, &front_props(alloc, REVPROPS)?)?;
-    assert_eq!(rt; out.as_slice(), REVPROPS);
+    assert!(rt; are_written(rt.alloc()));
     Ok(())
 }
 
-// In any order, the later of two with one name, and none past the limits.
+fn are_last(props: &Props) -> bool {
+    props.len() == 2 && has(props, b"b", b"y") && has(props, b"a", b"")
+}
+
+// In any order, the later of two with one name, and none of another form.
 #[test]
 fn properties_in_any_order(rt: HostRuntime) -> Result<(), Fail> {
     let alloc = rt.alloc();
-    let props = props_of(
-        alloc,
-        b"( success ( ( ( 1:b 1:x ) ( 1:a 0: ) ( 1:b 1:y ) ) ) ) ",
-    )?;
-    assert!(rt; props.len() == 2 && has(&props, b"b", b"y") && has(&props, b"a", b""));
-    assert!(rt; props_of(alloc, b"( success ( ( ( 1:a 0: ) ( 1:b x ) ) ) ) ")?.is_empty());
-    assert!(rt; front_props(alloc, b"( revprop ( ( 1:a 0: ) ) ) ")?.is_empty());
+    let twice: &[u8] = b"( success ( ( ( 1:b 1:x ) ( 1:a 0: ) ( 1:b 1:y ) ) ) ) ";
+    assert!(rt; are_last(&props_of(alloc, twice)));
+    assert!(rt; props_of(alloc, b"( success ( ( ( 1:a 0: ) ( 1:b x ) ) ) ) ").is_empty());
+    assert!(rt; front_props(alloc, b"( revprop ( ( 1:a 0: ) ) ) ").is_empty());
     Ok(())
+}
+
+// Writes an answer of each kind, and the failures that the rows have.
+fn write_answers(out: &mut Vec<u8>) -> bool {
+    write_latest(out, RevNo::new(3)).is_ok()
+        && write_kind(out, Some(NodeKind::File)).is_ok()
+        && write_kind(out, None).is_ok()
+        && write_value(out, Some(b"hi")).is_ok()
+        && write_value(out, None).is_ok()
+        && write_failure(out, 21, b"no such revision").is_ok()
 }
 
 #[test]
 fn answers_are_written(rt: HostRuntime) -> Result<(), Fail> {
     let mut out = Vec::new(rt.alloc());
-    write_latest(&mut out, RevNo::new(3))?;
-    write_kind(&mut out, Some(NodeKind::File))?;
-    write_kind(&mut out, None)?;
-    write_value(&mut out, Some(b"hi"))?;
-    write_value(&mut out, None)?;
-    write_failure(&mut out, 21, b"no such revision")?;
+    assert!(rt; write_answers(&mut out));
     assert_eq!(rt;
         out.as_slice(),
         b"( success ( 3 ) ) ( success ( file ) ) ( success ( none ) ) ( success ( ( 2:hi ) ) ) ( success ( ( ) ) ) ( failure ( ( 21 16:no such revision 0: 0 ) ) ) ".as_slice()
@@ -221,34 +223,30 @@ fn answers_are_written(rt: HostRuntime) -> Result<(), Fail> {
     Ok(())
 }
 
-// What an answer says of the entries of a directory: how many there are, the first's size and revision, and its author.
-fn dir_of(alloc: Global, bytes: &[u8]) -> Result<Option<DirFound>, Fail> {
-    match content_of(alloc, bytes)? {
-        Some(content) => Ok(DirFound::parse(alloc, content).ok()),
-        None => Ok(None),
+// What an answer says of a directory.
+fn dir_of(alloc: Global, bytes: &[u8]) -> Option<DirFound> {
+    DirFound::parse(alloc, content_of(alloc, bytes)?).ok()
+}
+
+// Whether there is one entry, a file of this size and revision, and its author.
+fn is_one(entries: &[Dirent], size: u64, created: u64, author: Option<&[u8]>) -> bool {
+    match entries.first() {
+        Some(entry) => {
+            entries.len() == 1
+                && entry.size == size
+                && entry.created == created
+                && entry.kind == NodeKind::File
+                && !entry.has_props
+                && entry.author.as_deref() == author
+        }
+        None => false,
     }
 }
 
-fn lists(
-    alloc: Global,
-    bytes: &[u8],
-    size: u64,
-    created: u64,
-    author: Option<&[u8]>,
-) -> Result<bool, Fail> {
-    match dir_of(alloc, bytes)? {
-        Some(dir) => match dir.entries.first() {
-            Some(entry) => Ok(
-                dir.entries.len() == 1
-                    && entry.size == size
-                    && entry.created == created
-                    && entry.kind == NodeKind::File
-                    && !entry.has_props
-                    && entry.author.as_deref() == author,
-            ),
-            None => Ok(false),
-        },
-        None => Ok(false),
+fn lists(alloc: Global, bytes: &[u8], size: u64, created: u64, author: Option<&[u8]>) -> bool {
+    match dir_of(alloc, bytes) {
+        Some(dir) => is_one(dir.entries.as_slice(), size, created, author),
+        None => false,
     }
 }
 
@@ -258,70 +256,84 @@ const DIR: &[u8] = b"( success ( 1 ( ) ( ( 1:a file 6 false 1 ( ) ( ) ) ) ) ) ";
 #[test]
 fn directories(rt: HostRuntime) -> Result<(), Fail> {
     let alloc = rt.alloc();
-    assert!(rt; lists(alloc, DIR, 6, 1, None)?);
-    assert!(rt;
-        lists(
-            alloc,
-            b"( success ( 9 ( ) ( ( 1:a file 6 false 70000 ( 1:d ) ( 5:alice ) 1 ) ) ) ) ",
-            6,
-            70000,
-            Some(b"alice")
-        )?
-    );
-    assert!(rt;
-        dir_of(
-            alloc,
-            b"( success ( 1 ( ) ( ( 1:a none 6 false 1 ( ) ( ) ) ) ) ) "
-        )?
-        .is_none()
-    );
-    assert!(rt;
-        dir_of(
-            alloc,
-            b"( success ( 1 ( ) ( ( 2:.. dir 0 false 1 ( ) ( ) ) ) ) ) "
-        )?
-        .is_none()
-    );
+    let alice: &[u8] =
+        b"( success ( 9 ( ) ( ( 1:a file 6 false 70000 ( 1:d ) ( 5:alice ) 1 ) ) ) ) ";
+    let kindless: &[u8] = b"( success ( 1 ( ) ( ( 1:a none 6 false 1 ( ) ( ) ) ) ) ) ";
+    let nameless: &[u8] = b"( success ( 1 ( ) ( ( 2:.. dir 0 false 1 ( ) ( ) ) ) ) ) ";
+    assert!(rt; lists(alloc, DIR, 6, 1, None));
+    assert!(rt; lists(alloc, alice, 6, 70000, Some(b"alice")));
+    assert!(rt; dir_of(alloc, kindless).is_none());
+    assert!(rt; dir_of(alloc, nameless).is_none());
     Ok(())
 }
 
-// An answer to `get-dir` written again, its properties wanted.
-fn dir_again(alloc: Global, bytes: &[u8]) -> Result<Vec<u8>, Fail> {
+// Whether a directory is written as it came, its properties wanted. The law of its reading takes it.
+fn is_dir_again(alloc: Global, bytes: &[u8]) -> bool {
     let mut out = Vec::new(alloc);
-    if let Some(dir) = dir_of(alloc, bytes)? {
-        write_dir(
-            &mut out,
-            RevNo::new(1),
-            &dir.props,
-            true,
-            dir.entries.as_slice(),
-        )?;
-    }
-    Ok(out)
+    let Some(dir) = dir_of(alloc, bytes) else {
+        return false;
+    };
+    law::dir_is_read_again(&dir.props, dir.entries.as_slice());
+    write_dir(
+        &mut out,
+        RevNo::new(1),
+        &dir.props,
+        true,
+        dir.entries.as_slice(),
+    )
+    .is_ok()
+        && out.as_slice() == bytes
+}
+
+// What an answer says of a file.
+fn file_of(alloc: Global, bytes: &[u8]) -> Option<FileFound> {
+    FileFound::parse(alloc, content_of(alloc, bytes)?).ok()
+}
+
+// The same of a file.
+fn is_file_again(alloc: Global, bytes: &[u8]) -> bool {
+    let mut out = Vec::new(alloc);
+    let Some(file) = file_of(alloc, bytes) else {
+        return false;
+    };
+    law::props_are_read_again(&file.props);
+    let sum = file.sum.as_deref().unwrap_or(b"");
+    write_file(&mut out, sum, RevNo::new(1), &file.props, true).is_ok() && out.as_slice() == bytes
 }
 
 // An answer to `get-file`.
 const FILE: &[u8] = b"( success ( ( 32:b1946ac92492d2347c6235b4d2611184 ) 1 ( ) ) ) ";
-
-fn file_again(alloc: Global, bytes: &[u8]) -> Result<Vec<u8>, Fail> {
-    let mut out = Vec::new(alloc);
-    let Some(content) = content_of(alloc, bytes)? else {
-        return Ok(out);
-    };
-    if let Ok(file) = FileFound::parse(alloc, content) {
-        let sum = file.sum.as_deref().unwrap_or(b"");
-        write_file(&mut out, sum, RevNo::new(1), &file.props, true)?;
-    }
-    Ok(out)
-}
 
 #[test]
 fn browsing_is_written(rt: HostRuntime) -> Result<(), Fail> {
     let alloc = rt.alloc();
     let dir: &[u8] =
         b"( success ( 1 ( ( 1:p 1:v ) ) ( ( 1:a file 6 false 1 ( ) ( ) ) ( 1:d dir 0 true 65535 ( 1:t ) ( 1:u ) ) ) ) ) ";
-    assert_eq!(rt; dir_again(alloc, DIR)?.as_slice(), DIR);
-    assert_eq!(rt; dir_again(alloc, dir)?.as_slice(), dir);
-    assert_eq!(rt; file_again(alloc, FILE)?.as_slice(), FILE);
+    assert!(rt; is_dir_again(alloc, DIR));
+    assert!(rt; is_dir_again(alloc, dir));
+    assert!(rt; is_file_again(alloc, FILE));
+    Ok(())
+}
+
+// Whether `svnserve` tells of a directory or a file with its three properties of an entry.
+fn tells_three(props: &Props, revision: &[u8]) -> bool {
+    props.len() == 3 && has(props, b"svn:entry:committed-rev", revision)
+}
+
+fn is_of_svnserve(alloc: Global) -> bool {
+    let (Some(dir), Some(file)) = (dir_of(alloc, SVNSERVE_DIR), file_of(alloc, SVNSERVE_FILE))
+    else {
+        return false;
+    };
+    dir.entries.is_empty()
+        && dir.revision == 1
+        && file.revision == 2
+        && tells_three(&dir.props, b"1")
+        && tells_three(&file.props, b"2")
+}
+
+#[test]
+fn browsing_of_svnserve(rt: HostRuntime) -> Result<(), Fail> {
+    assert!(rt; is_of_svnserve(rt.alloc()));
     Ok(())
 }

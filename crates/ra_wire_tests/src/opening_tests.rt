@@ -1,7 +1,9 @@
 //! What client and server say at the beginning of a session.
 
 use crate::helpers_for_tests::{content_of, item_of};
-use crate::sessions::{AUTHORISED, DONE, GREETING, HELLO, LOGIN, MECHANISMS, WELCOME};
+use crate::sessions::{
+    AUTHORISED, DONE, GREETING, HELLO, LOGIN, MECHANISMS, SVNSERVE, SVNSERVE_WELCOME, WELCOME,
+};
 use ra_wire::command_writer::{write_anonymous, write_hello};
 use ra_wire::opening::{Greeting, Hello, Login, Mechanisms, Welcome};
 use ra_wire::reply_writer::{
@@ -20,33 +22,40 @@ fn are(words: &[Vec<u8>], wanted: &[&[u8]]) -> bool {
             .all(|(word, want)| word.as_slice() == *want)
 }
 
+fn is_hello(hello: &Hello, capabilities: &[&[u8]], url: &[u8]) -> bool {
+    are(hello.capabilities.as_slice(), capabilities) && hello.url.as_slice() == url
+}
+
 // Whether a client says hello with these capabilities and this URL.
-fn says_hello(
-    alloc: Global,
-    bytes: &[u8],
-    capabilities: &[&[u8]],
-    url: &[u8],
-) -> Result<bool, Fail> {
-    let Some(item) = item_of(alloc, bytes)? else {
-        return Ok(false);
+fn says_hello(alloc: Global, bytes: &[u8], capabilities: &[&[u8]], url: &[u8]) -> bool {
+    let Some(item) = item_of(alloc, bytes) else {
+        return false;
     };
     match Hello::parse(alloc, item) {
-        Ok(hello) => Ok(
-            are(hello.capabilities.as_slice(), capabilities) && hello.url.as_slice() == url,
-        ),
-        Err(_) => Ok(false),
+        Ok(hello) => is_hello(&hello, capabilities, url),
+        Err(_) => false,
     }
 }
 
 // Whether a client's greeting is refused with 48.
-fn no_hello(alloc: Global, bytes: &[u8]) -> Result<bool, Fail> {
-    let Some(item) = item_of(alloc, bytes)? else {
-        return Ok(false);
+fn no_hello(alloc: Global, bytes: &[u8]) -> bool {
+    let Some(item) = item_of(alloc, bytes) else {
+        return false;
     };
     match Hello::parse(alloc, item) {
-        Ok(_) => Ok(false),
-        Err(fault) => Ok(fault.number() == 48),
+        Ok(_) => false,
+        Err(fault) => fault.number() == 48,
     }
+}
+
+// The first of some bytes that is greeted.
+fn first_greeted<'a>(alloc: Global, table: &'a [&'a [u8]]) -> Option<&'a [u8]> {
+    for bytes in table {
+        if !no_hello(alloc, bytes) {
+            return Some(*bytes);
+        }
+    }
+    None
 }
 
 const CAPABILITIES: [&[u8]; 7] = [
@@ -59,150 +68,199 @@ const CAPABILITIES: [&[u8]; 7] = [
     b"log-revprops",
 ];
 
+// No greetings: another version, words that are strings, no URL or a word in its place, no list.
+const NO_HELLO: [&[u8]; 5] = [
+    b"( 1 ( ) 1:u ) ",
+    b"( 2 ( 1:x ) 1:u ) ",
+    b"( 2 ( ) ) ",
+    b"( 2 ( ) u ) ",
+    b"2 ",
+];
+
 #[test]
 fn greetings_of_clients(rt: HostRuntime) -> Result<(), Fail> {
     let alloc = rt.alloc();
+    let own: [&[u8]; 1] = [b"edit-pipeline"];
     assert!(rt;
         says_hello(
             alloc,
             HELLO,
             CAPABILITIES.as_slice(),
             b"svn://127.0.0.1:59875"
-        )?
+        )
     );
-    let own: [&[u8]; 1] = [b"edit-pipeline"];
     assert!(rt;
         says_hello(
             alloc,
             b"( 2 ( edit-pipeline ) 21:svn://127.0.0.1:3690/ ) ",
             own.as_slice(),
             b"svn://127.0.0.1:3690/"
-        )?
+        )
     );
-    for bytes in [
-        b"( 1 ( ) 1:u ) ".as_slice(),
-        b"( 2 ( 1:x ) 1:u ) ".as_slice(),
-        b"( 2 ( ) ) ".as_slice(),
-        b"( 2 ( ) u ) ".as_slice(),
-        b"2 ".as_slice(),
-    ] {
-        assert!(rt; no_hello(alloc, bytes)?);
-    }
+    assert_eq!(rt; first_greeted(alloc, NO_HELLO.as_slice()), None);
     Ok(())
 }
 
-// What a client says of who it is: the mechanism and the token, or `no` and a refusal's number.
-fn login(alloc: Global, bytes: &[u8]) -> Result<(Vec<u8>, Option<Vec<u8>>), Fail> {
-    let Some(item) = item_of(alloc, bytes)? else {
-        return Ok((Vec::new(alloc), None));
+// Whether a client says that it is this; a mechanism `no` for a refusal.
+fn logs_in(alloc: Global, bytes: &[u8], mechanism: &[u8], token: Option<&[u8]>) -> bool {
+    let Some(item) = item_of(alloc, bytes) else {
+        return false;
     };
     match Login::parse(item) {
-        Ok(login) => Ok((login.mechanism, login.token)),
-        Err(_) => Ok((Vec::from_slice(alloc, b"no")?, None)),
+        Ok(login) => login.mechanism.as_slice() == mechanism && login.token.as_deref() == token,
+        Err(_) => mechanism == b"no".as_slice(),
     }
-}
-
-fn logs_in(
-    alloc: Global,
-    bytes: &[u8],
-    mechanism: &[u8],
-    token: Option<&[u8]>,
-) -> Result<bool, Fail> {
-    let said = login(alloc, bytes)?;
-    Ok(said.0.as_slice() == mechanism && said.1.as_deref() == token)
 }
 
 #[test]
 fn who_a_client_is(rt: HostRuntime) -> Result<(), Fail> {
     let alloc = rt.alloc();
-    assert!(rt; logs_in(alloc, LOGIN, b"ANONYMOUS", Some(b"YW5vbnltb3VzQHZt\n"))?);
-    assert!(rt; logs_in(alloc, b"( CRAM-MD5 ( ) 1 ) ", b"CRAM-MD5", None)?);
-    assert!(rt; logs_in(alloc, b"( CRAM-MD5 ) ", b"no", None)?);
-    assert!(rt; logs_in(alloc, b"( ANONYMOUS ( x ) ) ", b"no", None)?);
+    assert!(rt; logs_in(alloc, LOGIN, b"ANONYMOUS", Some(b"YW5vbnltb3VzQHZt\n")));
+    assert!(rt; logs_in(alloc, b"( CRAM-MD5 ( ) 1 ) ", b"CRAM-MD5", None));
+    assert!(rt; logs_in(alloc, b"( CRAM-MD5 ) ", b"no", None));
+    assert!(rt; logs_in(alloc, b"( ANONYMOUS ( x ) ) ", b"no", None));
     Ok(())
 }
 
-// Whether a server's greeting, mechanisms and welcome say this.
-fn server_says(alloc: Global, words: &[&[u8]], identity: &[u8], url: &[u8]) -> Result<bool, Fail> {
-    let (Some(first), Some(second), Some(third)) = (
-        content_of(alloc, GREETING)?,
-        content_of(alloc, MECHANISMS)?,
-        content_of(alloc, WELCOME)?,
-    ) else {
-        return Ok(false);
+// Whether a server greets with version 2 alone, no mechanisms and these words.
+fn greets(alloc: Global, bytes: &[u8], words: &[&[u8]]) -> bool {
+    let Some(content) = content_of(alloc, bytes) else {
+        return false;
     };
-    let (Ok(greeting), Ok(ways), Ok(welcome)) = (
-        Greeting::parse(alloc, first),
-        Mechanisms::parse(alloc, second),
-        Welcome::parse(alloc, third),
-    ) else {
-        return Ok(false);
-    };
-    Ok(
-        greeting.low == 2
-            && greeting.high == 2
-            && greeting.mechanisms.is_empty()
-            && are(greeting.capabilities.as_slice(), words)
-            && are(ways.names.as_slice(), [b"ANONYMOUS".as_slice()].as_slice())
-            && ways.realm.as_slice() == identity
-            && welcome.identity.as_slice() == identity
-            && welcome.url.as_slice() == url
-            && welcome.capabilities.is_empty(),
-    )
+    match Greeting::parse(alloc, content) {
+        Ok(greeting) => {
+            greeting.low == 2
+                && greeting.high == 2
+                && greeting.mechanisms.is_empty()
+                && are(greeting.capabilities.as_slice(), words)
+        }
+        Err(_) => false,
+    }
 }
+
+// Whether a server asks who the client is, by ANONYMOUS alone.
+fn asks(alloc: Global, bytes: &[u8], realm: &[u8]) -> bool {
+    let way: [&[u8]; 1] = [b"ANONYMOUS"];
+    let Some(content) = content_of(alloc, bytes) else {
+        return false;
+    };
+    match Mechanisms::parse(alloc, content) {
+        Ok(ways) => are(ways.names.as_slice(), way.as_slice()) && ways.realm.as_slice() == realm,
+        Err(_) => false,
+    }
+}
+
+fn is_welcome(welcome: &Welcome, identity: &[u8], url: &[u8], words: &[&[u8]]) -> bool {
+    welcome.identity.as_slice() == identity
+        && welcome.url.as_slice() == url
+        && are(welcome.capabilities.as_slice(), words)
+}
+
+// Whether a server welcomes to this repository, with these words.
+fn welcomes(alloc: Global, bytes: &[u8], identity: &[u8], url: &[u8], words: &[&[u8]]) -> bool {
+    let Some(content) = content_of(alloc, bytes) else {
+        return false;
+    };
+    match Welcome::parse(alloc, content) {
+        Ok(welcome) => is_welcome(&welcome, identity, url, words),
+        Err(_) => false,
+    }
+}
+
+const IDENTITY: &[u8] = b"6a1f0c3e-0000-4000-8000-0000000000a1";
+
+const URL: &[u8] = b"svn://127.0.0.1:59875/";
 
 #[test]
 fn opening_of_a_server(rt: HostRuntime) -> Result<(), Fail> {
+    let alloc = rt.alloc();
     let words: [&[u8]; 2] = [b"edit-pipeline", b"atomic-revprops"];
+    let none: [&[u8]; 0] = [];
+    assert!(rt; greets(alloc, GREETING, words.as_slice()));
+    assert!(rt; asks(alloc, MECHANISMS, IDENTITY));
+    assert!(rt; welcomes(alloc, WELCOME, IDENTITY, URL, none.as_slice()));
+    Ok(())
+}
+
+const SVNSERVE_WORDS: [&[u8]; 13] = [
+    b"edit-pipeline",
+    b"svndiff1",
+    b"accepts-svndiff2",
+    b"absent-entries",
+    b"commit-revprops",
+    b"depth",
+    b"log-revprops",
+    b"atomic-revprops",
+    b"partial-replay",
+    b"inherited-props",
+    b"ephemeral-txnprops",
+    b"file-revs-reverse",
+    b"list",
+];
+
+#[test]
+fn opening_of_svnserve(rt: HostRuntime) -> Result<(), Fail> {
+    let alloc = rt.alloc();
+    let words: [&[u8]; 1] = [b"mergeinfo"];
+    assert!(rt; greets(alloc, SVNSERVE, SVNSERVE_WORDS.as_slice()));
     assert!(rt;
-        server_says(
-            rt.alloc(),
-            words.as_slice(),
-            b"6a1f0c3e-0000-4000-8000-0000000000a1",
-            b"svn://127.0.0.1:59875/"
-        )?
+        welcomes(
+            alloc,
+            SVNSERVE_WELCOME,
+            b"709bc996-b9ae-4bf5-b01b-066d8cc89755",
+            b"svn://127.0.0.1:46902/src",
+            words.as_slice()
+        )
     );
     Ok(())
+}
+
+// Writes what a server says in an opening, up to its welcome.
+fn write_opening(out: &mut Vec<u8>) -> bool {
+    write_greeting(out).is_ok()
+        && write_mechanisms(out, IDENTITY).is_ok()
+        && write_done(out).is_ok()
+        && write_welcome(out, IDENTITY, URL).is_ok()
+}
+
+// Whether bytes are these, one after another.
+fn are_joined(bytes: &[u8], parts: &[&[u8]]) -> bool {
+    let Some((first, others)) = parts.split_first() else {
+        return bytes.is_empty();
+    };
+    match bytes.strip_prefix(*first) {
+        Some(rest) => are_joined(rest, others),
+        None => false,
+    }
 }
 
 #[test]
 fn opening_is_written(rt: HostRuntime) -> Result<(), Fail> {
     let mut out = Vec::new(rt.alloc());
-    write_greeting(&mut out)?;
-    assert_eq!(rt; out.as_slice(), GREETING);
-    out.clear();
-    write_mechanisms(&mut out, b"6a1f0c3e-0000-4000-8000-0000000000a1")?;
-    assert_eq!(rt; out.as_slice(), MECHANISMS);
-    out.clear();
-    write_done(&mut out)?;
-    assert_eq!(rt; out.as_slice(), DONE);
-    out.clear();
-    write_welcome(
-        &mut out,
-        b"6a1f0c3e-0000-4000-8000-0000000000a1",
-        b"svn://127.0.0.1:59875/",
-    )?;
-    assert_eq!(rt; out.as_slice(), WELCOME);
+    let parts: [&[u8]; 4] = [GREETING, MECHANISMS, DONE, WELCOME];
+    assert!(rt; write_opening(&mut out));
+    assert!(rt; are_joined(out.as_slice(), parts.as_slice()));
     Ok(())
+}
+
+// Writes what stands before an answer, what answers another way, and what a client says in an opening.
+fn write_others(out: &mut Vec<u8>) -> bool {
+    write_authorised(out).is_ok()
+        && write_only_anonymous(out).is_ok()
+        && write_hello(out, b"svn://127.0.0.1:3690/").is_ok()
+        && write_anonymous(out).is_ok()
 }
 
 #[test]
 fn other_words_of_an_opening(rt: HostRuntime) -> Result<(), Fail> {
     let mut out = Vec::new(rt.alloc());
-    write_authorised(&mut out)?;
-    assert_eq!(rt; out.as_slice(), AUTHORISED);
-    out.clear();
-    write_only_anonymous(&mut out)?;
-    assert_eq!(rt;
-        out.as_slice(),
-        b"( failure ( 14:only ANONYMOUS ) ) ".as_slice()
-    );
-    out.clear();
-    write_hello(&mut out, b"svn://127.0.0.1:3690/")?;
-    write_anonymous(&mut out)?;
-    assert_eq!(rt;
-        out.as_slice(),
-        b"( 2 ( edit-pipeline ) 21:svn://127.0.0.1:3690/ ) ( ANONYMOUS ( 0: ) ) ".as_slice()
-    );
+    let parts: [&[u8]; 4] = [
+        AUTHORISED,
+        b"( failure ( 14:only ANONYMOUS ) ) ",
+        b"( 2 ( edit-pipeline ) 21:svn://127.0.0.1:3690/ ) ",
+        b"( ANONYMOUS ( 0: ) ) ",
+    ];
+    assert!(rt; write_others(&mut out));
+    assert!(rt; are_joined(out.as_slice(), parts.as_slice()));
     Ok(())
 }

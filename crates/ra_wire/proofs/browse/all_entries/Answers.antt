@@ -6,12 +6,12 @@ use Rattle.ra_wire.proofs.browse.all_entries.Goals as goal
 
 pub loop-item-preserved : goal.loop-item-preserved
 loop-item-preserved c = (
-  each_pushed (dirent_as) dirent_in c.loop-item.yielded c.in-Some.item c.loop-item.entries.items c.push.new.self.items c.in_ok-parse.field-0 c.loop-item.invariant.0 c.in_ok-parse.ensures.read c.in_ok-push.ensures.items,
+  each_pushed (dirent_as) dirent_in c.loop-item.yielded c.in-Some.item c.loop-item.entries.items c.push.new.self.items c.in_ok-read.field-0 c.loop-item.invariant.0 c.in_ok-read.ensures.read c.in_ok-push.ensures.items,
   append_assoc c.loop-item.yielded (c.in-Some.item ∷ []) c.next.new.self.rest.items ∙ ap (λ l. c.loop-item.yielded ++ l) (sym c.in-Some.ensures.steps.0) ∙ c.loop-item.invariant.1,
 )
 
-pub returns-in_err-parse-clause-none : goal.returns-in_err-parse-clause-none
-returns-in_err-parse-clause-none c =
+pub returns-in_err-read-clause-none : goal.returns-in_err-read-clause-none
+returns-in_err-read-clause-none c =
     let p = err_from_is_err_and c.from_residual.result c.from_residual.ensures.1 in
     rw (p.1, p.2)
-    (not_each dirent_in c.loop-item.yielded c.in-Some.item c.next.new.self.rest.items c.args.items.items c.in_err-parse.field-0.0 (sym c.loop-item.invariant.1 ∙ ap (λ l. c.loop-item.yielded ++ l) c.in-Some.ensures.steps.0) c.in_err-parse.ensures.none)
+    (not_each dirent_in c.loop-item.yielded c.in-Some.item c.next.new.self.rest.items c.args.items.items c.in_err-read.field-0.0 (sym c.loop-item.invariant.1 ∙ ap (λ l. c.loop-item.yielded ++ l) c.in-Some.ensures.steps.0) c.in_err-read.ensures.none)
