@@ -1,4 +1,8 @@
 //! A mirror's calls and jobs on states in memory, with the answers that svnsync's protocol fixes.
+ghost use Rattle.std.specs.Prelude.{◌≢◌, IfSome};
+ghost use Rattle.sync_core.specs.Deeds.{Ends};
+ghost use Rattle.sync_core.specs.States.{deed_in};
+
 use dump_load::ChangeSet;
 use node_base::{PropName, PropValue, Props, Refusal, RevNo};
 use repo_core::Repo;
@@ -154,7 +158,9 @@ fn next(
     master: &Repo,
     job: &JobState,
     lines: &mut Vec<u8>,
-) -> Option<Answer> {
+) -> Option<Answer>
+    ensures { IfSome result (λ _. deed_in job.now ≢ Ends) }
+{
     match &decide(job) {
         Action::End => None,
         Action::Call(call) => Some(of_call(rt, alloc, mirror, seat, call, lines)),
@@ -179,6 +185,23 @@ fn run(
             Some(answer) => job = absorb(job, answer),
             None => return job,
         }
+    }
+    job
+}
+
+// Runs a job to its end. Each answer brings it nearer, so no bound is needed.
+fn finish(
+    rt: &impl Abort,
+    alloc: Global,
+    mirror: &mut PlainMirror,
+    seat: u64,
+    master: &Repo,
+    job: JobState,
+    lines: &mut Vec<u8>,
+) -> JobState {
+    let mut job = job;
+    while let Some(answer) = next(rt, alloc, mirror, seat, master, &job, lines) {
+        job = absorb(job, answer);
     }
     job
 }
@@ -221,7 +244,7 @@ fn initialised(
     lines: &mut Vec<u8>,
 ) -> u8 {
     let job = JobState::init(value(rt, alloc, b"/master"));
-    ended(run(rt, alloc, mirror, seat, master, job, 9, lines))
+    ended(finish(rt, alloc, mirror, seat, master, job, lines))
 }
 
 // A mirror that is initialised.
@@ -249,8 +272,8 @@ fn is_whole(mirror: &PlainMirror) -> bool {
         && has(mirror, 0, b"svn:sync-lock", None)
 }
 
-// Whether, after a sync that stops after so many actions, one that doesn't steal the lock is refused, and one that does says these
-// lines and leaves the mirror whole.
+// Whether, after a sync that stops after so many actions, one that doesn't steal the lock is refused, and one that does
+// says these lines and leaves the mirror whole.
 fn resumes(rt: &impl Abort, alloc: Global, actions: u64, said: &[u8]) -> bool {
     let master = master(rt, alloc, 1);
     let mut mirror = begun(rt, alloc, &master);
@@ -558,8 +581,8 @@ fn refusals_are_told_as_the_table_has_them(rt: HostRuntime) -> Result<(), Fail> 
     Ok(())
 }
 
-// Whether a job that copies properties of a range of an edited master ends so and says these lines, and whether the mirror has the
-// edit then.
+// Whether a job that copies properties of a range of an edited master ends so and says these lines, and whether the
+// mirror has the edit then.
 fn copies(rt: &impl Abort, alloc: Global, low: u16, high: u16, end: u8, said: &[u8]) -> bool {
     let mut four = master(rt, alloc, 4);
     let mut mirror = begun(rt, alloc, &four);
@@ -570,7 +593,7 @@ fn copies(rt: &impl Abort, alloc: Global, low: u16, high: u16, end: u8, said: &[
     four.put_props(RevNo::new(2), two).expect(rt, "properties");
     lines.clear();
     let job = JobState::copy_props(token(rt, alloc, b"job"), RevNo::new(low), RevNo::new(high));
-    let job = run(rt, alloc, &mut mirror, 2, &four, job, 99, &mut lines);
+    let job = finish(rt, alloc, &mut mirror, 2, &four, job, &mut lines);
     ended(job) == end
         && lines.as_slice() == said
         && has(&mirror, 2, b"svn:log", Some(b"two")) == (end == 0)
@@ -690,8 +713,8 @@ fn a_master_that_is_behind_changes_nothing(rt: HostRuntime) -> Result<(), Fail> 
     Ok(())
 }
 
-// Whether a sync of a mirror whose last revision is merged, and that notes the number after it, which no revision has, is told
-// these numbers. By them the mirror is copying.
+// Whether a sync of a mirror whose last revision is merged, and that notes the number after it, which no revision has,
+// is told these numbers. By them the mirror is copying.
 fn ends_past_the_last(rt: &impl Abort, alloc: Global, text: &str) -> bool {
     let last = RevNo::new(65535);
     let standing = standing(rt, alloc, b"65535", Some(b"65536"), 65535);

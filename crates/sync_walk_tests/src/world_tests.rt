@@ -62,17 +62,6 @@ struct World {
     counts: Counts,
 }
 
-fn deed_of(action: &Action<'_>) -> Deed {
-    match action {
-        Action::Call(call) => deed_of_call(call),
-        Action::AskIdentity => Deed::Who,
-        Action::AskLatest => Deed::Latest,
-        Action::Fetch(n) => Deed::Fetch(n.get()),
-        Action::FetchProps(n) => Deed::FetchProps(n.get()),
-        Action::End => Deed::End,
-    }
-}
-
 fn deed_of_call(call: &MirrorCall<'_>) -> Deed {
     match call {
         MirrorCall::Init { .. } => Deed::Init,
@@ -424,7 +413,14 @@ fn failed(rt: &impl Abort, alloc: Global) -> Answer {
 
 // What a job does next.
 fn deed_next(job: &JobState) -> Deed {
-    deed_of(&decide(job))
+    match &decide(job) {
+        Action::Call(call) => deed_of_call(call),
+        Action::AskIdentity => Deed::Who,
+        Action::AskLatest => Deed::Latest,
+        Action::Fetch(n) => Deed::Fetch(n.get()),
+        Action::FetchProps(n) => Deed::FetchProps(n.get()),
+        Action::End => Deed::End,
+    }
 }
 
 fn of_step(step: Result<Reply, SyncFault>) -> Answer {
