@@ -225,13 +225,14 @@ fn write_opening(out: &mut Vec<u8>) -> bool {
 
 // Whether bytes are these, one after another.
 fn are_joined(bytes: &[u8], parts: &[&[u8]]) -> bool {
-    let Some((first, others)) = parts.split_first() else {
-        return bytes.is_empty();
-    };
-    match bytes.strip_prefix(*first) {
-        Some(rest) => are_joined(rest, others),
-        None => false,
+    let mut left = bytes;
+    for part in parts {
+        match left.strip_prefix(*part) {
+            Some(rest) => left = rest,
+            None => return false,
+        }
     }
+    left.is_empty()
 }
 
 #[test]
