@@ -215,53 +215,52 @@ fn opening_of_svnserve(rt: HostRuntime) -> Result<(), Fail> {
     Ok(())
 }
 
-// Writes what a server says in an opening, up to its welcome.
-fn write_opening(out: &mut Vec<u8>) -> bool {
-    write_greeting(out).is_ok()
-        && write_mechanisms(out, IDENTITY).is_ok()
-        && write_done(out).is_ok()
-        && write_welcome(out, IDENTITY, URL).is_ok()
+// Whether these bytes were written, which are let go of then.
+fn took(out: &mut Vec<u8>, want: &[u8]) -> bool {
+    let same = out.as_slice() == want;
+    out.clear();
+    same
 }
 
-// Whether bytes are these, one after another.
-fn are_joined(bytes: &[u8], parts: &[&[u8]]) -> bool {
-    let mut left = bytes;
-    for part in parts {
-        match left.strip_prefix(*part) {
-            Some(rest) => left = rest,
-            None => return false,
-        }
-    }
-    left.is_empty()
+// Whether a server's opening up to its welcome is written so.
+fn writes_opening(out: &mut Vec<u8>) -> bool {
+    write_greeting(out).is_ok()
+        && took(out, GREETING)
+        && write_mechanisms(out, IDENTITY).is_ok()
+        && took(out, MECHANISMS)
+        && write_done(out).is_ok()
+        && took(out, DONE)
+        && write_welcome(out, IDENTITY, URL).is_ok()
+        && took(out, WELCOME)
 }
 
 #[test]
 fn opening_is_written(rt: HostRuntime) -> Result<(), Fail> {
     let mut out = Vec::new(rt.alloc());
-    let parts: [&[u8]; 4] = [GREETING, MECHANISMS, DONE, WELCOME];
-    assert!(rt; write_opening(&mut out));
-    assert!(rt; are_joined(out.as_slice(), parts.as_slice()));
+    assert!(rt; writes_opening(&mut out));
     Ok(())
 }
 
-// Writes what stands before an answer, what answers another way, and what a client says in an opening.
-fn write_others(out: &mut Vec<u8>) -> bool {
+// Whether what stands before an answer, and what answers another way, are written so.
+fn writes_others(out: &mut Vec<u8>) -> bool {
     write_authorised(out).is_ok()
+        && took(out, AUTHORISED)
         && write_only_anonymous(out).is_ok()
-        && write_hello(out, b"svn://127.0.0.1:3690/").is_ok()
+        && took(out, b"( failure ( 14:only ANONYMOUS ) ) ")
+}
+
+// Whether what a client says in an opening is written so.
+fn writes_client(out: &mut Vec<u8>) -> bool {
+    write_hello(out, b"svn://127.0.0.1:3690/").is_ok()
+        && took(out, b"( 2 ( edit-pipeline ) 21:svn://127.0.0.1:3690/ ) ")
         && write_anonymous(out).is_ok()
+        && took(out, b"( ANONYMOUS ( 0: ) ) ")
 }
 
 #[test]
 fn other_words_of_an_opening(rt: HostRuntime) -> Result<(), Fail> {
     let mut out = Vec::new(rt.alloc());
-    let parts: [&[u8]; 4] = [
-        AUTHORISED,
-        b"( failure ( 14:only ANONYMOUS ) ) ",
-        b"( 2 ( edit-pipeline ) 21:svn://127.0.0.1:3690/ ) ",
-        b"( ANONYMOUS ( 0: ) ) ",
-    ];
-    assert!(rt; write_others(&mut out));
-    assert!(rt; are_joined(out.as_slice(), parts.as_slice()));
+    assert!(rt; writes_others(&mut out));
+    assert!(rt; writes_client(&mut out));
     Ok(())
 }
