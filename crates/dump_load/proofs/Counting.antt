@@ -14,7 +14,7 @@ use Rattle.dump_load.specs.declared.fault.ChangeFault.{ChangeFault}
 use Rattle.dump_load.specs.declared.fault.ChangeFault.TheVariants as refusal
 use Rattle.dump_load.specs.Changes.{NoneFalls}
 use Rattle.dump_load.specs.Faults.{fault_if, first_of, IsRefusal}
-use Rattle.dump_load.specs.Records.{paths_named, is_out_of_order, lacks_kind, set_fault}
+use Rattle.dump_load.specs.Records.{paths_named, is_out_of_order, leaves_unsaid, set_fault}
 use Rattle.dump_load.proofs.PathOrder.{less_of}
 use Rattle.dump_load.proofs.Combining.{none_after}
 use Rattle.dump_load.proofs.Moved.{paths_more}
@@ -81,9 +81,9 @@ named_more cs i x c up some within ax ac =
 
 module _ (cs : List Change) where
   pub too_many : nat_lt 4096 (paths_named cs) ≡ true → set_fault cs ≡ Some refusal.TooLong
-  too_many m = ap (λ b. first_of (fault_if b refusal.TooLong ∷ fault_if (is_out_of_order cs) refusal.OutOfOrder ∷ fault_if (lacks_kind cs) refusal.BadHeader ∷ [])) m
+  too_many m = ap (λ b. first_of (fault_if b refusal.TooLong ∷ fault_if (is_out_of_order cs) refusal.OutOfOrder ∷ fault_if (leaves_unsaid cs) refusal.BadHeader ∷ [])) m
 
-  pub fits_all : nat_lt 4096 (paths_named cs) ≡ false → is_out_of_order cs ≡ false → lacks_kind cs ≡ false → set_fault cs ≡ None
+  pub fits_all : nat_lt 4096 (paths_named cs) ≡ false → is_out_of_order cs ≡ false → leaves_unsaid cs ≡ false → set_fault cs ≡ None
   fits_all m o k = λ i. first_of (fault_if (m i) refusal.TooLong ∷ fault_if (o i) refusal.OutOfOrder ∷ fault_if (k i) refusal.BadHeader ∷ [])
 
   refusal_of : (e : ChangeFault) (first second : Option ChangeFault) → ((f : ChangeFault) → first ≡ Some f → second ≡ Some f) → IsRefusal e first → IsRefusal e second
@@ -100,15 +100,15 @@ module _ (cs : List Change) where
   refusal_of refusal.OutOfMemory first second h r = tt
 
   pub refused_order : (e : ChangeFault) → nat_lt 4096 (paths_named cs) ≡ false → IsRefusal e (fault_if (is_out_of_order cs) refusal.OutOfOrder) → IsRefusal e (set_fault cs)
-  refused_order e m r = refusal_of e _ _ (λ f h. ap (λ b. first_of (fault_if b refusal.TooLong ∷ fault_if (is_out_of_order cs) refusal.OutOfOrder ∷ fault_if (lacks_kind cs) refusal.BadHeader ∷ [])) m ∙ second (is_out_of_order cs) f h) r
+  refused_order e m r = refusal_of e _ _ (λ f h. ap (λ b. first_of (fault_if b refusal.TooLong ∷ fault_if (is_out_of_order cs) refusal.OutOfOrder ∷ fault_if (leaves_unsaid cs) refusal.BadHeader ∷ [])) m ∙ second (is_out_of_order cs) f h) r
     where
-      second : (b : Bool) (f : ChangeFault) → fault_if b refusal.OutOfOrder ≡ Some f → first_of (fault_if false refusal.TooLong ∷ fault_if b refusal.OutOfOrder ∷ fault_if (lacks_kind cs) refusal.BadHeader ∷ []) ≡ Some f
+      second : (b : Bool) (f : ChangeFault) → fault_if b refusal.OutOfOrder ≡ Some f → first_of (fault_if false refusal.TooLong ∷ fault_if b refusal.OutOfOrder ∷ fault_if (leaves_unsaid cs) refusal.BadHeader ∷ []) ≡ Some f
       second true f h = h
       second false f h = cc
 
-  pub refused_kind : (e : ChangeFault) → nat_lt 4096 (paths_named cs) ≡ false → is_out_of_order cs ≡ false → IsRefusal e (fault_if (lacks_kind cs) refusal.BadHeader) → IsRefusal e (set_fault cs)
+  pub refused_kind : (e : ChangeFault) → nat_lt 4096 (paths_named cs) ≡ false → is_out_of_order cs ≡ false → IsRefusal e (fault_if (leaves_unsaid cs) refusal.BadHeader) → IsRefusal e (set_fault cs)
   refused_kind e m o r =
-      refusal_of e _ _ (λ f h. (λ i. first_of (fault_if (m i) refusal.TooLong ∷ fault_if (o i) refusal.OutOfOrder ∷ fault_if (lacks_kind cs) refusal.BadHeader ∷ [])) ∙ third (lacks_kind cs) f h) r
+      refusal_of e _ _ (λ f h. (λ i. first_of (fault_if (m i) refusal.TooLong ∷ fault_if (o i) refusal.OutOfOrder ∷ fault_if (leaves_unsaid cs) refusal.BadHeader ∷ [])) ∙ third (leaves_unsaid cs) f h) r
     where
       third : (b : Bool) (f : ChangeFault) → fault_if b refusal.BadHeader ≡ Some f → first_of (fault_if false refusal.TooLong ∷ fault_if false refusal.OutOfOrder ∷ fault_if b refusal.BadHeader ∷ []) ≡ Some f
       third true f h = h

@@ -16,7 +16,7 @@ use Rattle.node_base.specs.declared.node.Source.{Source}
 use Rattle.node_base.specs.Tree.{PathMap, IsDirAt, with_number, marked, changed_at, grafted, blocked, kind_of, blank, alone, source_at}
 use Rattle.path_tree.specs.Copies.{copy_too_long}
 use Rattle.dump_load.specs.declared.change.Change.{Change}
-use Rattle.dump_load.specs.Changes.{settles, is_delete, brings, is_plain, is_described, IsWhole}
+use Rattle.dump_load.specs.Changes.{settles, is_delete, brings, is_plain, is_described, IsDescribed}
 use Rattle.dump_load.specs.Effect.{content, with_parts, arrives, stepped}
 use Rattle.dump_load.specs.Faults.{fault_if, fault_of, place_fault, judged, mismatches, lacks_source, copies_too_long, is_file, same_kind}
 
@@ -137,7 +137,7 @@ module _ (trees : List PathMap) (f : Path → Option Node) (c : Change) (e : fau
   pub text_fits_there : brings c ≡ false → IsSome c.text → IsDirAt f c.path → ⊥
   text_fits_there b t = no_dir c.kind c.text (f c.path) t (ap (λ v. option_map_or (mismatches c.kind (is_some c.text)) v false) (sym (ap (λ v. cond v (option_map_or (λ s. option_map kind_of (source_at trees s [])) c.source c.kind) (option_map kind_of (f c.path))) b)) ∙ (faultless trees f c e).kind)
 
-  pub text_fits_content : brings c ≡ true → IsWhole c → IsSome c.text → IsDirAt (content trees c) [] → ⊥
+  pub text_fits_content : brings c ≡ true → IsDescribed c → IsSome c.text → IsDirAt (content trees c) [] → ⊥
   text_fits_content b w t = at c.source refl
     where
       judged_is : judged trees f c ≡ option_map_or (λ s. option_map kind_of (source_at trees s [])) c.source c.kind

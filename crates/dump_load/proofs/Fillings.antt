@@ -1,5 +1,5 @@
 -- What is filled in, change by change, is the set that was stated.
-use Rattle.std.proofs.Common.{◌≡◌, ℕ, Bool, true, false, cond, ◌&&◌, ◌||◌, List, [], ◌∷◌, ◌++◌, Option, Some, None, is_some, refl, sym, ap, subst, ◌∙◌, append-nil, append_assoc}
+use Rattle.std.proofs.Common.{◌≡◌, ℕ, Bool, true, false, cond, ◌&&◌, ◌||◌, List, [], ◌∷◌, ◌++◌, Option, Some, None, is_some, not, refl, sym, ap, subst, ◌∙◌, append-nil, append_assoc}
 use Rattle.std.specs.Option.{is_none, option_or, option_map}
 use Rattle.std.specs.Ordering.{is_lt, ordering_reverse}
 use Rattle.std.specs.declared.cmp.Ordering.TheVariants.{Less}
@@ -12,14 +12,17 @@ use Rattle.node_base.specs.Path.{Path, path_cmp, paths_total, same_path, is_fron
 use Rattle.node_base.proofs.PathLemmas.{path_of_same}
 use Rattle.node_base.specs.Tree.{PathMap}
 use Rattle.node_base.specs.declared.node.Node.{Node}
+use Rattle.node_base.specs.declared.node.Action.{Action}
+use Rattle.node_base.specs.declared.node.Action.TheVariants.{Modify, Add, Delete, Replace}
+use Rattle.node_base.specs.declared.node.Source.{Source}
 use Rattle.node_base.specs.declared.node.NodeKind.{NodeKind}
 use Rattle.node_base.specs.declared.node.NodeKind.TheVariants.{File, Dir}
 use Rattle.dump_load.specs.declared.change.Change.{Change}
-use Rattle.dump_load.specs.Changes.{is_delete, is_plain, is_described, change_at, Precedes, Follows, IsWhole, IsInOrder, IsNormal}
+use Rattle.dump_load.specs.Changes.{settles, is_delete, is_plain, is_described, has_form, change_at, Precedes, Follows, IsWhole, IsInOrder, IsNormal}
 use Rattle.dump_load.specs.Effect.{effect, stepped}
 use Rattle.dump_load.specs.Faults.{fault_of, fault}
 use Rattle.node_base.specs.declared.fault.TreeFault.{TreeFault}
-use Rattle.dump_load.specs.Records.{Combined, is_kindless, earlier, sound_after, sound, blank_text, blanked, with_blanks, with_kind, filled_in, filled_after, Filling, IsSetOf}
+use Rattle.dump_load.specs.Records.{Combined, is_unsaid, earlier, sound_after, sound, blank_text, blanked, with_blanks, with_kind, filled_in, filled_after, Filling, IsSetOf}
 use Rattle.dump_load.proofs.Faultless.{deletes_settle}
 use Rattle.dump_load.proofs.Walk.{fault-end}
 use Rattle.dump_load.proofs.OneMore.{effect-end, change_at-end}
@@ -38,13 +41,28 @@ described None j t e = cc
 described (Some File) j t e = refl
 described (Some Dir) j t e = refl
 
+-- what copies nothing may have all parts
+plain_form : (a : Action) (s : Option Source) (p t : Bool) → (settles a && not (is_delete a) && is_none s) ≡ true → ((is_none s || (settles a && not (is_delete a))) && not (is_delete a && (p || t))) ≡ true
+plain_form Modify s p t e = cc
+plain_form Delete s p t e = cc
+plain_form Add None p t e = refl
+plain_form Add (Some s) p t e = cc
+plain_form Replace None p t e = refl
+plain_form Replace (Some s) p t e = cc
+
+neither : (a b : Bool) → (a || not b) ≡ false → (a ≡ false) × (b ≡ true)
+neither true b e = cc
+neither false true e = (refl, refl)
+neither false false e = cc
+
 -- a change that says what it adds is whole once it is filled in
-pub whole_filled : (trees : List PathMap) (before : Path → Option Node) (c : Change) → is_kindless c ≡ false → IsWhole (with_kind trees before (with_blanks c))
+pub whole_filled : (trees : List PathMap) (before : Path → Option Node) (c : Change) → is_unsaid c ≡ false → IsWhole (with_kind trees before (with_blanks c))
 whole_filled trees before c e =
+    let said = neither (is_plain c && is_none c.kind) (has_form c) e in
     elim (is_plain c) as (λ b. is_plain c ≡ b → (b && is_none c.kind) ≡ false → IsWhole (with_kind trees before (cond b (blanked c) c))) [
-      | true ↦ λ p e _. described c.kind _ c.text e
-      | false ↦ λ p _ q. cc
-    ] refl e
+      | true ↦ λ p e. (λ _. described c.kind _ c.text e, plain_form c.action c.source true (is_some (blank_text c.kind c.text)) p)
+      | false ↦ λ p _. (λ q. cc, said.1)
+    ] refl said.0
 
 module _ (trees : List PathMap) where
   precedes_filled : (before : List Change) (d c : Change) → Precedes d c → Precedes (filled_in trees before d) c
@@ -74,7 +92,7 @@ module _ (trees : List PathMap) where
   pub filling_none : (tree : PathMap) → ((q : Path) → get tree q ≡ effect trees [] q) → Filling trees [] [] tree None
   filling_none tree h = record { items = refl; left = h; fault = refl; all = λ _. refl; kinds = refl }
 
-  module _ (ys rest out : List Change) (tree : PathMap) (first : Option TreeFault) (c f : Change) (w : Filling trees ys out tree first) (order : IsInOrder (ys ++ c ∷ rest)) (says : is_kindless c ≡ false) (is : f ≡ with_kind trees (get tree) (with_blanks c)) where
+  module _ (ys rest out : List Change) (tree : PathMap) (first : Option TreeFault) (c f : Change) (w : Filling trees ys out tree first) (order : IsInOrder (ys ++ c ∷ rest)) (says : is_unsaid c ≡ false) (is : f ≡ with_kind trees (get tree) (with_blanks c)) where
     same_function : ◌≡◌ {A = Path → Option Node} (get tree) (effect trees (sound trees out))
     same_function = λ i q. w.left q i
 
@@ -90,8 +108,8 @@ module _ (trees : List PathMap) where
     items : out ++ f ∷ [] ≡ filled_after trees [] (ys ++ c ∷ [])
     items = (λ i. w.items i ++ (f_is ∙ ap (λ s. filled_in trees s c) w.items) i ∷ []) ∙ sym (filled-end [] ys c)
 
-    kinds : list_any is_kindless (ys ++ c ∷ []) ≡ false
-    kinds = list_any-append is_kindless ys (c ∷ []) ∙ (λ i. w.kinds i || (says i || false))
+    kinds : list_any is_unsaid (ys ++ c ∷ []) ≡ false
+    kinds = list_any-append is_unsaid ys (c ∷ []) ∙ (λ i. w.kinds i || (says i || false))
 
     sound_is : (b : Bool) → is_none (fault_of trees (get tree) f) ≡ b → sound trees (out ++ f ∷ []) ≡ cond b (sound trees out ++ f ∷ []) (sound trees out)
     sound_is b e = sound-end [] out f ∙ ap (λ b. cond b (sound trees out ++ f ∷ []) (sound trees out)) ((λ i. is_none (fault_of trees (sym same_function i) f)) ∙ e)
@@ -171,18 +189,18 @@ module _ (trees : List PathMap) where
   follows_itself : (done : List Change) (c : Change) → Follows done c → Follows done (filled_in trees done c)
   follows_itself done c h = follows_same done c (filled_in trees done c) (sym (blanks_path c)) h
 
-  normal_after : (done cs : List Change) → IsNormal done → AllFollow done cs → IsInOrder cs → list_any is_kindless cs ≡ false → IsNormal (filled_after trees done cs)
+  normal_after : (done cs : List Change) → IsNormal done → AllFollow done cs → IsInOrder cs → list_any is_unsaid cs ≡ false → IsNormal (filled_after trees done cs)
   normal_after done [] n h o k = n
   normal_after done (c ∷ cs) n h o k =
       normal_after (done ++ filled_in trees done c ∷ []) cs
-      (normal_end done (filled_in trees done c) n (follows_itself done c h.0) (whole_filled trees (effect trees (sound trees done)) c (first_not (is_kindless c) (list_any is_kindless cs) k)))
-      (follow_more done cs c h.1 o.0) o.1 (rest_not (is_kindless c) (list_any is_kindless cs) k)
+      (normal_end done (filled_in trees done c) n (follows_itself done c h.0) (whole_filled trees (effect trees (sound trees done)) c (first_not (is_unsaid c) (list_any is_unsaid cs) k)))
+      (follow_more done cs c h.1 o.0) o.1 (rest_not (is_unsaid c) (list_any is_unsaid cs) k)
 
   none_yet : (cs : List Change) → AllFollow [] cs
   none_yet [] = tt
   none_yet (c ∷ cs) = (tt, none_yet cs)
 
-  pub normal_filled : (cs : List Change) → IsInOrder cs → list_any is_kindless cs ≡ false → IsNormal (filled_after trees [] cs)
+  pub normal_filled : (cs : List Change) → IsInOrder cs → list_any is_unsaid cs ≡ false → IsNormal (filled_after trees [] cs)
   normal_filled cs o k = normal_after [] cs tt (none_yet cs) o k
 
   -- the changes before a path, of those done and then those that follow
@@ -232,7 +250,7 @@ module _ (trees : List PathMap) where
         | false ↦ λ e. changes_after (done ++ filled_in trees done c ∷ []) cs p (follow_more done cs c h.1 o.0) o.1 (ends ∙ ap (λ b. cond b (Some (filled_in trees done c)) (change_at done p)) e ∙ none)
       ] refl
 
-  pub set_of : (cs out s : List Change) → Combined cs out → list_any is_kindless out ≡ false → s ≡ filled_after trees [] out → IsSetOf trees cs s
+  pub set_of : (cs out s : List Change) → Combined cs out → list_any is_unsaid out ≡ false → s ≡ filled_after trees [] out → IsSetOf trees cs s
   set_of cs out s w k is =
       subst (IsSetOf trees cs) (sym is)
       (record {

@@ -10,7 +10,7 @@ use Rattle.dump_load.specs.declared.change.Change.{Change}
 use Rattle.dump_load.specs.declared.fault.ChangeFault.{ChangeFault}
 use Rattle.dump_load.specs.declared.fault.ChangeFault.TheVariants as refusal
 use Rattle.dump_load.specs.Faults.{fault_if, IsRefusal}
-use Rattle.dump_load.specs.Records.{stated_at, Combined, paths_named, is_out_of_order, is_kindless, filled_after, set_fault, IsSetOf}
+use Rattle.dump_load.specs.Records.{stated_at, Combined, paths_named, is_out_of_order, is_unsaid, filled_after, set_fault, IsSetOf}
 use Rattle.dump_load.proofs.Combining.{fits}
 use Rattle.dump_load.proofs.Fillings.{set_of}
 use Rattle.dump_load.proofs.Moved.{set_moved, order_moved, kind_moved, kinds_lack, paths_moved}
@@ -29,7 +29,7 @@ module _ (cs xs ys : List Change) (is : xs ≡ cs) (moved : IsPermutation xs ys)
   all_same : (p : Path) → stated_at ys p ≡ stated_at cs p
   all_same p = same p ∙ ap (λ zs. stated_at zs p) is
 
-  pub gathered_set : (trees : List PathMap) (out s : List Change) → Combined ys out → list_any is_kindless out ≡ false → s ≡ filled_after trees [] out → IsSetOf trees cs s
+  pub gathered_set : (trees : List PathMap) (out s : List Change) → Combined ys out → list_any is_unsaid out ≡ false → s ≡ filled_after trees [] out → IsSetOf trees cs s
   gathered_set trees out s w k e = set_moved cs ys all_moved all_same trees s (set_of trees ys out s w k e)
 
   module _ (shown : List Change) (n : ℕ) (shows : shown ≡ ys) (counts : n ≡ paths_named shown) where
@@ -39,7 +39,7 @@ module _ (cs xs ys : List Change) (is : xs ≡ cs) (moved : IsPermutation xs ys)
     pub gathered_many : 4096 < n → set_fault cs ≡ Some refusal.TooLong
     gathered_many h = too_many cs (many_test n (paths_named cs) counted h)
 
-    pub gathered_fits : n ≤ 4096 → (out : List Change) → Combined ys out → list_any is_kindless out ≡ false → set_fault cs ≡ None
+    pub gathered_fits : n ≤ 4096 → (out : List Change) → Combined ys out → list_any is_unsaid out ≡ false → set_fault cs ≡ None
     gathered_fits h out w k =
         fits_all cs (few_test n (paths_named cs) counted h) (sym (order_moved cs ys all_moved all_same) ∙ fits ys out w) (sym (kind_moved cs ys all_moved all_same) ∙ kinds_lack ys out w ∙ k)
 
@@ -47,7 +47,7 @@ module _ (cs xs ys : List Change) (is : xs ≡ cs) (moved : IsPermutation xs ys)
     gathered_order h e r =
         refused_order cs e (few_test n (paths_named cs) counted h) (subst (λ b. IsRefusal e (fault_if b refusal.OutOfOrder)) (order_moved cs ys all_moved all_same) r)
 
-    pub gathered_kind : n ≤ 4096 → (e : ChangeFault) (out : List Change) → Combined ys out → IsRefusal e (fault_if (list_any is_kindless out) refusal.BadHeader) → IsRefusal e (set_fault cs)
+    pub gathered_kind : n ≤ 4096 → (e : ChangeFault) (out : List Change) → Combined ys out → IsRefusal e (fault_if (list_any is_unsaid out) refusal.BadHeader) → IsRefusal e (set_fault cs)
     gathered_kind h e out w r =
         refused_kind cs e (few_test n (paths_named cs) counted h) (sym (order_moved cs ys all_moved all_same) ∙ fits ys out w)
         (subst (λ b. IsRefusal e (fault_if b refusal.BadHeader)) (sym (sym (kind_moved cs ys all_moved all_same) ∙ kinds_lack ys out w)) r)

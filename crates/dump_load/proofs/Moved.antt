@@ -11,7 +11,7 @@ use Rattle.node_base.proofs.PathLemmas.{same_path_itself}
 use Rattle.node_base.specs.Tree.{PathMap}
 use Rattle.dump_load.specs.declared.change.Change.{Change}
 use Rattle.dump_load.specs.Changes.{is_delete, change_at, IsInOrder}
-use Rattle.dump_load.specs.Records.{stated_at, combined, stated, Combined, paths_named, is_under, is_out_of_order, is_kindless, lacks_kind, filled_in, earlier, IsSetOf}
+use Rattle.dump_load.specs.Records.{stated_at, combined, stated, Combined, paths_named, is_under, is_out_of_order, is_unsaid, leaves_unsaid, filled_in, earlier, IsSetOf}
 use Rattle.dump_load.proofs.OneMore.{change_at-after}
 use Rattle.dump_load.proofs.Combining.{order_follows, any_named, none_any}
 
@@ -32,15 +32,15 @@ module _ (cs ys : List Change) (moved : IsPermutation cs ys) (same : (p : Path) 
       (λ j. list_any (λ c. is_none (same_stated j c.path) || under_moved j c) ys)
       ∙ any_moved (λ c. is_none (stated cs c.path) || is_under cs c)
 
-  pub kind_moved : lacks_kind ys ≡ lacks_kind cs
-  kind_moved = (λ j. list_any (λ c. option_map_or is_kindless (same_stated j c.path) false) ys) ∙ any_moved (λ c. option_map_or is_kindless (stated cs c.path) false)
+  pub kind_moved : leaves_unsaid ys ≡ leaves_unsaid cs
+  kind_moved = (λ j. list_any (λ c. option_map_or is_unsaid (same_stated j c.path) false) ys) ∙ any_moved (λ c. option_map_or is_unsaid (stated cs c.path) false)
 
   pub set_moved : (trees : List PathMap) (s : List Change) → IsSetOf trees ys s → IsSetOf trees cs s
   set_moved trees s h = record { normal = h.normal; changes = λ p. h.changes p ∙ ap (option_map (filled_in trees (earlier s p))) (λ i. same_stated i p) }
 
 -- ---- the paths that are named
 
-named_at : (cs : List Change) (q : Path) → finite.get (finite.from_entries {R = path_cmp} (map (λ c. (c.path, true)) cs)) q ≡ cond (list_any (λ c. same_path q c.path) cs) (Some true) None
+pub named_at : (cs : List Change) (q : Path) → finite.get (finite.from_entries {R = path_cmp} (map (λ c. (c.path, true)) cs)) q ≡ cond (list_any (λ c. same_path q c.path) cs) (Some true) None
 named_at [] q = finite.get-empty path_cmp q
 named_at (c ∷ cs) q =
     finite.get-insert paths_total (finite.from_entries (map (λ c. (c.path, true)) cs)) c.path true q
@@ -97,8 +97,8 @@ none_at P (c ∷ s) p h =
     ] refl h
 
 -- some change is such a one just where one is that is stated
-pub kinds_lack : (cs out : List Change) → Combined cs out → lacks_kind cs ≡ list_any is_kindless out
-kinds_lack cs out w = alike (lacks_kind cs) (list_any is_kindless out) forward back
+pub kinds_lack : (cs out : List Change) → Combined cs out → leaves_unsaid cs ≡ list_any is_unsaid out
+kinds_lack cs out w = alike (leaves_unsaid cs) (list_any is_unsaid out) forward back
   where
     alike : (a b : Bool) → (b ≡ false → a ≡ false) → (a ≡ false → b ≡ false) → a ≡ b
     alike true true f g = refl
@@ -106,15 +106,15 @@ kinds_lack cs out w = alike (lacks_kind cs) (list_any is_kindless out) forward b
     alike false true f g = sym (g refl)
     alike false false f g = refl
 
-    forward : list_any is_kindless out ≡ false → lacks_kind cs ≡ false
-    forward none = none_any (λ c. option_map_or is_kindless (stated cs c.path) false) cs (λ f r c e. ap (λ o. option_map_or is_kindless o false) (sym (w.changes c.path)) ∙ none_at is_kindless out c.path none)
+    forward : list_any is_unsaid out ≡ false → leaves_unsaid cs ≡ false
+    forward none = none_any (λ c. option_map_or is_unsaid (stated cs c.path) false) cs (λ f r c e. ap (λ o. option_map_or is_unsaid o false) (sym (w.changes c.path)) ∙ none_at is_unsaid out c.path none)
 
-    back : lacks_kind cs ≡ false → list_any is_kindless out ≡ false
-    back none = none_any is_kindless out (λ f r c e. at f r c e (is_kindless c) refl)
+    back : leaves_unsaid cs ≡ false → list_any is_unsaid out ≡ false
+    back none = none_any is_unsaid out (λ f r c e. at f r c e (is_unsaid c) refl)
       where
-        at : (f r : List Change) (c : Change) → out ≡ f ++ c ∷ r → (b : Bool) → is_kindless c ≡ b → is_kindless c ≡ false
+        at : (f r : List Change) (c : Change) → out ≡ f ++ c ∷ r → (b : Bool) → is_unsaid c ≡ b → is_unsaid c ≡ false
         at f r c e false k = k
         at f r c e true k =
             let here : stated cs c.path ≡ Some c = sym (w.changes c.path) ∙ ap (λ s. change_at s c.path) e ∙ at_own_path f r c (subst IsInOrder e w.order) in
             let some : stated_at cs c.path ≡ [] → ⊥ = λ z. cc (ap combined z, here) in
-            cc (any_named (λ p. option_map_or is_kindless (stated cs p) false) cs [] c.path some (ap (λ o. option_map_or is_kindless o false) here ∙ k), ap (list_any (λ d. option_map_or is_kindless (stated cs d.path) false)) (append-nil cs), none)
+            cc (any_named (λ p. option_map_or is_unsaid (stated cs p) false) cs [] c.path some (ap (λ o. option_map_or is_unsaid o false) here ∙ k), ap (list_any (λ d. option_map_or is_unsaid (stated cs d.path) false)) (append-nil cs), none)

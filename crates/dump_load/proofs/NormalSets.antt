@@ -1,10 +1,10 @@
--- A normal set, change by change.
+-- Changes in order and normal sets, change by change.
 use Rattle.std.proofs.Common.{◌≡◌, ℕ, suc, ◌+◌, ◌-◌, ◌<◌, List, [], ◌∷◌, ◌++◌, length, take, drop, get_or, sym, ap, subst, ◌∙◌, arith, add-one, drop-cons}
 use Rattle.std.proofs.lemmas.List.{take-append-drop}
 use Rattle.std.proofs.Math.Seq.{take-suc}
 use Rattle.dump_load.specs.declared.change.Change.{Change}
-use Rattle.dump_load.specs.Changes.{Precedes, Follows, IsWhole, IsNormal}
-use Rattle.dump_load.proofs.Combining.{follows_later, follows_end}
+use Rattle.dump_load.specs.Changes.{Precedes, Follows, IsWhole, IsInOrder, IsNormal}
+use Rattle.dump_load.proofs.Combining.{follows_later, follows_end, order_follows, order_end}
 use Rattle.dump_load.proofs.Fillings.{normal_end}
 use Rattle.dump_load.proofs.Walk.{normal_follows, whole_in}
 
@@ -22,6 +22,9 @@ module _ (cs : List Change) (i : ℕ) (c : Change) (here : i < length cs) (is : 
   pub not_whole : (IsWhole c → ⊥) → IsNormal cs → ⊥
   not_whole apart n = apart (whole_in (take i cs) (drop (i + 1) cs) c (subst IsNormal split_is n))
 
+  pub order_first : i ≡ 0 → IsInOrder (take (i + 1) cs)
+  order_first e = subst IsInOrder (sym (done_is ∙ ap (λ j. take j cs ++ c ∷ []) e)) (tt, tt)
+
   pub normal_first : i ≡ 0 → IsWhole c → IsNormal (take (i + 1) cs)
   normal_first e w = subst IsNormal (sym (done_is ∙ ap (λ j. take j cs ++ c ∷ []) e)) (w, tt, tt)
 
@@ -34,6 +37,16 @@ module _ (cs : List Change) (i : ℕ) (c : Change) (here : i < length cs) (is : 
     pub not_next : (Precedes l c → ⊥) → IsNormal cs → ⊥
     not_next apart n =
         apart (last_of (take (i - 1) cs) [] l c (subst (λ s. Follows s c) front_is (normal_follows (take i cs) (drop (i + 1) cs) c (subst IsNormal split_is n))))
+
+    pub not_rising : (Precedes l c → ⊥) → IsInOrder cs → ⊥
+    not_rising apart n =
+        apart (last_of (take (i - 1) cs) [] l c (subst (λ s. Follows s c) front_is (order_follows (take i cs) (drop (i + 1) cs) c (subst IsInOrder split_is n))))
+
+    pub order_next : Precedes l c → IsInOrder (take i cs) → IsInOrder (take (i + 1) cs)
+    order_next p n =
+        let front : IsInOrder (take (i - 1) cs ++ l ∷ []) = subst IsInOrder front_is n in
+        let follows : Follows (take i cs) c = subst (λ s. Follows s c) (sym front_is) (follows_end (take (i - 1) cs) l c (follows_later (take (i - 1) cs) l c p.rises (order_follows (take (i - 1) cs) [] l front)) p) in
+        subst IsInOrder (sym done_is) (order_end (take i cs) c n follows)
 
     pub normal_next : Precedes l c → IsWhole c → IsNormal (take i cs) → IsNormal (take (i + 1) cs)
     normal_next p w n =

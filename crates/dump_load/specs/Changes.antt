@@ -1,5 +1,5 @@
 -- Changes, and lists of them.
-use Rattle.std.specs.Prelude.{◌≡◌, ℕ, Bool, true, false, not, ◌&&◌, List, [], ◌∷◌, Option, Some, None, is_some, is_none, if◌then◌else◌}
+use Rattle.std.specs.Prelude.{◌≡◌, ◌≤◌, ℕ, Bool, true, false, not, ◌&&◌, ◌||◌, List, [], ◌∷◌, length, Option, Some, None, is_some, is_none, if◌then◌else◌}
 use Rattle.std.specs.Option.{option_or}
 use Rattle.std.specs.Ordering.{is_lt}
 use Rattle.std.specs.List.{AllByRecursion, filter}
@@ -66,8 +66,16 @@ is_described (Some Dir) has_props has_text = has_props
 is_described (Some File) has_props has_text = has_props && has_text
 
 -- an add or a replace that copies nothing says what is there
+abbrev pub IsDescribed : Change → Type 0
+IsDescribed c = is_plain c ≡ true → is_described c.kind (is_some c.props) (is_some c.text) ≡ true
+
+-- dump text can say it: it has a source only where it makes a node, and no part at a deletion
+abbrev pub has_form : Change → Bool
+has_form c = (is_none c.source || brings c) && not (is_delete c.action && (is_some c.props || is_some c.text))
+
+-- it says what is there, and dump text can say it
 abbrev pub IsWhole : Change → Type 0
-IsWhole c = is_plain c ≡ true → is_described c.kind (is_some c.props) (is_some c.text) ≡ true
+IsWhole c = IsDescribed c × (has_form c ≡ true)
 
 -- a change stands before a later one: its path comes before the other's, and isn't a deleted front of it
 pub record Precedes (c d : Change) : Type 0 where
@@ -96,6 +104,10 @@ IsInOrder (c ∷ s) = AllByRecursion (Precedes c) s × IsInOrder s
 abbrev pub IsNormal : List Change → Type 0
 IsNormal [] = Unit {0}
 IsNormal (c ∷ s) = IsWhole c × AllByRecursion (Precedes c) s × IsNormal s
+
+-- the changes of a set: normal, and 4,096 at most
+abbrev pub IsSet : List Change → Type 0
+IsSet s = IsNormal s × (length s ≤ 4096)
 
 -- a change with this text and these properties, where they are given
 abbrev pub regiven : Option (List ℕ) → Option PropMap → Change → Change

@@ -1,5 +1,5 @@
 -- The first fault of a set of changes.
-use Rattle.std.specs.Prelude.{◌≡◌, ℕ, ◌++◌, Bool, true, false, not, ◌&&◌, ◌||◌, List, [], ◌∷◌, Option, Some, None, is_some, is_none, if◌then◌else◌}
+use Rattle.std.specs.Prelude.{◌≡◌, ◌≤◌, ◌<◌, ℕ, ◌++◌, Bool, true, false, not, ◌&&◌, ◌||◌, List, [], ◌∷◌, length, Option, Some, None, is_some, is_none, if◌then◌else◌}
 use Rattle.std.specs.Option.{option_or, option_map, option_map_or}
 use Rattle.std.specs.List.{slice_get}
 use Rattle.node_base.specs.Path.{Path, same_path}
@@ -16,7 +16,7 @@ use Rattle.node_base.specs.declared.fault.TreeFault.TheVariants.{TooLong, BadPat
 use Rattle.dump_load.specs.declared.change.Change.{Change}
 use Rattle.dump_load.specs.declared.fault.ChangeFault.{ChangeFault}
 use Rattle.dump_load.specs.declared.fault.ChangeFault.TheVariants as refusal
-use Rattle.dump_load.specs.Changes.{settles, brings}
+use Rattle.dump_load.specs.Changes.{settles, brings, IsInOrder, IsNormal}
 use Rattle.dump_load.specs.Effect.{effect}
 
 -- the fault where the test holds
@@ -98,6 +98,13 @@ refused KindMismatch = refusal.KindMismatch
 abbrev pub IsRefusal : ChangeFault → Option ChangeFault → Type 0
 IsRefusal refusal.OutOfMemory first = Unit {0}
 IsRefusal e first = first ≡ Some e
+
+-- why some changes are no set: they are too many; else they aren't in order; else one of them isn't whole
+abbrev pub IsNoSet : List Change → ChangeFault → Type 0
+IsNoSet s refusal.TooLong = 4096 < length s
+IsNoSet s refusal.OutOfOrder = (length s ≤ 4096) × (IsInOrder s → ⊥)
+IsNoSet s refusal.BadHeader = (length s ≤ 4096) × IsInOrder s × (IsNormal s → ⊥)
+IsNoSet s e = ⊥
 
 -- the number of a refusal
 abbrev pub number_of : ChangeFault → ℕ

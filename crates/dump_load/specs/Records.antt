@@ -18,7 +18,7 @@ use Rattle.dump_text.specs.declared.record.PropPart.TheVariants.{Whole}
 use Rattle.dump_load.specs.declared.change.Change.{Change}
 use Rattle.dump_load.specs.declared.fault.ChangeFault.{ChangeFault}
 use Rattle.dump_load.specs.declared.fault.ChangeFault.TheVariants as refusal
-use Rattle.dump_load.specs.Changes.{is_delete, is_add, is_plain, change_at, IsInOrder, IsNormal}
+use Rattle.dump_load.specs.Changes.{is_delete, is_add, is_plain, has_form, change_at, IsInOrder, IsNormal}
 use Rattle.dump_load.specs.Effect.{effect}
 use Rattle.dump_load.specs.Faults.{fault_if, first_of, judged, fault_of, fault, refused, IsRefusal}
 
@@ -74,13 +74,17 @@ is_out_of_order cs = list_any (λ c. is_none (stated cs c.path) || is_under cs c
 abbrev pub is_kindless : Change → Bool
 is_kindless c = is_plain c && is_none c.kind
 
+-- such a one, or one of a form that dump text can't say
+abbrev pub is_unsaid : Change → Bool
+is_unsaid c = is_kindless c || not (has_form c)
+
 -- some path's change is such a one
-abbrev pub lacks_kind : List Change → Bool
-lacks_kind cs = list_any (λ c. option_map_or is_kindless (stated cs c.path) false) cs
+abbrev pub leaves_unsaid : List Change → Bool
+leaves_unsaid cs = list_any (λ c. option_map_or is_unsaid (stated cs c.path) false) cs
 
 -- why changes that are stated so make no set
 abbrev pub set_fault : List Change → Option ChangeFault
-set_fault cs = first_of (fault_if (nat_lt 4096 (paths_named cs)) refusal.TooLong ∷ fault_if (is_out_of_order cs) refusal.OutOfOrder ∷ fault_if (lacks_kind cs) refusal.BadHeader ∷ [])
+set_fault cs = first_of (fault_if (nat_lt 4096 (paths_named cs)) refusal.TooLong ∷ fault_if (is_out_of_order cs) refusal.OutOfOrder ∷ fault_if (leaves_unsaid cs) refusal.BadHeader ∷ [])
 
 -- the changes before a path
 abbrev pub earlier : List Change → Path → List Change
@@ -137,7 +141,7 @@ pub record Filling (trees : List PathMap) (ys out : List Change) (tree : PathMap
   pub left : (q : Path) → finite.get tree q ≡ effect trees (sound trees out) q
   pub fault : first ≡ fault trees out
   pub all : first ≡ None → sound trees out ≡ out
-  pub kinds : list_any is_kindless ys ≡ false
+  pub kinds : list_any is_unsaid ys ≡ false
 
 -- why a revision isn't taken: its number isn't the next one; else its records make no set; else the set that they make has a fault
 pub data IsLoadRefusal (trees : List PathMap) (number : ℕ) (rs : List NodeRecord) (e : ChangeFault) : Type 0 where

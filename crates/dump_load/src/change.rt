@@ -1,6 +1,6 @@
 //! One change of a revision.
 ghost use Rattle.std.specs.Prelude.{◌≡◌, true, false, IfOk};
-ghost use Rattle.dump_load.specs.Changes.{settles, is_delete, is_add, is_plain, brings, IsWhole};
+ghost use Rattle.dump_load.specs.Changes.{settles, is_delete, is_add, is_plain, brings, has_form, IsDescribed, IsWhole};
 ghost use Rattle.dump_load.specs.Records.{change_of, record_of};
 
 use dump_text::{NodeRecord, PropPart};
@@ -69,11 +69,21 @@ impl Change {
         self.brings() && self.source.is_none()
     }
 
-    /// Whether it says all that is there, if it is an add or a replace that copies nothing: a directory has properties, a file a
-    /// text too.
-    pub fn is_whole(&self) -> bool
-        ensures holds { result ≡ true → IsWhole self.now }
-        ensures fails { result ≡ false → ¬ IsWhole self.now }
+    /// Whether dump text can say it: it has a source only where it makes a node, and a deletion has no parts.
+    pub fn has_form(&self) -> bool
+        ensures { result ≡ has_form self.now }
+    {
+        if is_delete(self.action) {
+            return self.source.is_none() && self.props.is_none() && self.text.is_none();
+        }
+        self.brings() || self.source.is_none()
+    }
+
+    // Whether it says all that is there, if it is an add or a replace that copies nothing: a directory has properties,
+    // a file a text too.
+    fn is_described(&self) -> bool
+        ensures holds { result ≡ true → IsDescribed self.now }
+        ensures fails { result ≡ false → ¬ IsDescribed self.now }
     {
         let described = match self.kind {
             None => false,
@@ -81,6 +91,15 @@ impl Change {
             Some(NodeKind::File) => self.props.is_some() && self.text.is_some(),
         };
         !self.is_plain() || described
+    }
+
+    /// Whether dump text can say it, and it says all that is there, if it is an add or a replace that copies nothing: a
+    /// directory has properties, a file a text too.
+    pub fn is_whole(&self) -> bool
+        ensures holds { result ≡ true → IsWhole self.now }
+        ensures fails { result ≡ false → ¬ IsWhole self.now }
+    {
+        self.is_described() && self.has_form()
     }
 
     /// The change that a record states.

@@ -4,11 +4,11 @@ ghost use Rattle.std.specs.List.{list_any};
 ghost use Rattle.std.specs.FinMap as map;
 ghost use Rattle.dump_load.specs.declared.change.Change.{Change as ChangeOf};
 ghost use Rattle.dump_load.specs.declared.fault.ChangeFault.TheVariants.{BadHeader};
-ghost use Rattle.dump_load.specs.Changes.{IsInOrder, IsWhole};
+ghost use Rattle.dump_load.specs.Changes.{IsDescribed, IsInOrder};
 ghost use Rattle.dump_load.specs.Effect.{effect, stepped};
 ghost use Rattle.node_base.specs.Path.{Path};
 ghost use Rattle.dump_load.specs.Faults.{IsRefusal, fault, fault_if, fault_of};
-ghost use Rattle.dump_load.specs.Records.{is_kindless, with_blanks, with_kind, filled_after, Filling};
+ghost use Rattle.dump_load.specs.Records.{is_unsaid, with_blanks, with_kind, filled_after, Filling};
 
 use crate::judge::{fault_of, judged};
 use crate::steps::{begin, step};
@@ -17,11 +17,11 @@ use node_base::{NodeKind, Props, Text, TreeFault};
 use path_tree::Tree;
 use std::alloc::{AllocError, Global};
 
-// Whether it copies nothing and doesn't say what it adds.
-fn is_kindless(change: &Change) -> bool
-    ensures { result ≡ is_kindless change.now }
+// Whether it copies nothing and doesn't say what it adds, or has a form that dump text can't say.
+fn is_unsaid(change: &Change) -> bool
+    ensures { result ≡ is_unsaid change.now }
 {
-    change.is_plain() && change.kind.is_none()
+    (change.is_plain() && change.kind.is_none()) || !change.has_form()
 }
 
 // Empty properties, and an empty text of a file, where an add or a replace that copies nothing has none.
@@ -88,7 +88,7 @@ fn advance(
     change: &Change,
 ) -> Result<Option<TreeFault>, AllocError>
     requires few { length trees.now ≤ 65535 }
-    requires whole { IsWhole change.now }
+    requires whole { IsDescribed change.now }
     ensures fault { IfOk result (λ f. f ≡ fault_of trees.now (map.get tree.old) change.now) }
     ensures left { OnOk result ((q : Path) → map.get tree.new q ≡ (if is_none (fault_of trees.now (map.get tree.old) change.now) then stepped trees.now (map.get tree.old) change.now q else map.get tree.old q)) }
 {
@@ -118,9 +118,9 @@ fn fill_one(
 ) -> Result<(), ChangeFault>
     requires { length trees.now ≤ 65535 }
     ensures filled { OnOk result ((ys rest : List ChangeOf) → Filling trees.now ys so_far.old.changes.items so_far.old.tree so_far.old.fault → IsInOrder (ys ++ change ∷ rest) → Filling trees.now (ys ++ change ∷ []) so_far.new.changes.items so_far.new.tree so_far.new.fault) }
-    ensures refused { IfErr result (λ e. (ys rest : List ChangeOf) → IsRefusal e (fault_if (list_any is_kindless (ys ++ change ∷ rest)) BadHeader)) }
+    ensures refused { IfErr result (λ e. (ys rest : List ChangeOf) → IsRefusal e (fault_if (list_any is_unsaid (ys ++ change ∷ rest)) BadHeader)) }
 {
-    if is_kindless(&change) {
+    if is_unsaid(&change) {
         return Err(ChangeFault::BadHeader);
     }
     let blanked = with_blanks(alloc, change)?;
@@ -132,15 +132,16 @@ fn fill_one(
 }
 
 /// Changes in path order with what is missing filled in: the kind that counts, and what an add or a replace that copies nothing
-/// begins with. Where such a one doesn't say what it adds they are refused (2). Where they have no fault, the tree is theirs.
+/// begins with. Where such a one doesn't say what it adds, or one has a form that dump text can't say, they are refused (2).
+/// Where they have no fault, the tree is theirs.
 pub fn fill(alloc: Global, trees: &[Tree], changes: Vec<Change>) -> Result<Filled, ChangeFault>
     requires few { length trees.now ≤ 65535 }
     requires order { IsInOrder changes.items }
     ensures filled { IfOk result (λ f. f.changes.items ≡ filled_after trees.now [] changes.items) }
     ensures fault { IfOk result (λ f. f.fault ≡ fault trees.now f.changes.items) }
     ensures tree { IfOk result (λ f. f.fault ≡ None → (q : Path) → map.get f.tree q ≡ effect trees.now f.changes.items q) }
-    ensures kinds { OnOk result (list_any is_kindless changes.items ≡ false) }
-    ensures refused { IfErr result (λ e. IsRefusal e (fault_if (list_any is_kindless changes.items) BadHeader)) }
+    ensures kinds { OnOk result (list_any is_unsaid changes.items ≡ false) }
+    ensures refused { IfErr result (λ e. IsRefusal e (fault_if (list_any is_unsaid changes.items) BadHeader)) }
 {
     let mut filled = Filled {
         changes: Vec::with_capacity(alloc, changes.len())?,

@@ -1,6 +1,6 @@
 //! Whether changes are a normal set.
 ghost use Rattle.std.specs.Prelude.{◌≡◌, ◌<◌, ◌+◌, length, take, true, false};
-ghost use Rattle.dump_load.specs.Changes.{IsNormal, Precedes};
+ghost use Rattle.dump_load.specs.Changes.{IsInOrder, IsNormal, Precedes};
 
 use crate::Change;
 use crate::change::is_delete;
@@ -32,6 +32,32 @@ fn goes_on(changes: &[Change], place: usize) -> bool
         return true;
     }
     precedes(&changes[place - 1], change)
+}
+
+// Whether the change at that place stands after the one before it.
+fn rises(changes: &[Change], place: usize) -> bool
+    requires within { place < length changes.now }
+    ensures holds { result ≡ true → IsInOrder (take place changes.now) → IsInOrder (take (place + 1) changes.now) }
+    ensures fails { result ≡ false → ¬ IsInOrder changes.now }
+{
+    let change = &changes[place];
+    if place == 0 {
+        return true;
+    }
+    precedes(&changes[place - 1], change)
+}
+
+/// Whether changes are in path order, each path once, with nothing under a path that is deleted.
+pub fn is_in_order(changes: &[Change]) -> bool
+    ensures holds { result ≡ true → IsInOrder changes.now }
+    ensures fails { result ≡ false → ¬ IsInOrder changes.now }
+{
+    for place in 0..changes.len() {
+        if !rises(changes, place) {
+            return false;
+        }
+    }
+    true
 }
 
 /// Whether changes are in path order, each path once, with nothing under a path that is deleted, and each whole.

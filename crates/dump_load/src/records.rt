@@ -152,7 +152,7 @@ impl ChangeSet {
     /// no properties, and for a file no text, where it has none.
     ///
     /// Refused are more than 4,096 paths (8), then records of one path that don't combine, or one under a path that is deleted
-    /// (15), then an add without a source and a kind (2).
+    /// (15), then an add without a source and a kind, or a change that dump text can't say (2).
     pub fn from_records(
         alloc: Global,
         trees: &[Tree],

@@ -1,17 +1,20 @@
 //! A normal set of changes.
-ghost use Rattle.std.specs.Prelude.{◌≡◌, List, [], None, IsSome, IfOk, IfSome, map};
-ghost use Rattle.dump_load.specs.Changes.{IsNormal};
+ghost use Rattle.std.specs.Prelude.{◌≡◌, ◌≤◌, List, [], length, IfErr, IfOk, OnErr, OnOk, map};
+ghost use Rattle.dump_load.specs.Changes.{IsNormal, IsSet};
+ghost use Rattle.dump_load.specs.Faults.{IsNoSet};
 ghost use Rattle.node_base.specs.Tree.{PathMap};
 ghost use Rattle.dump_text.specs.declared.record.NodeRecord.{NodeRecord as RecordOf};
 ghost use Rattle.dump_load.specs.Records.{record_of, IsNormalSetOf};
 
-use crate::Change;
-use crate::normal::is_normal;
+use crate::normal::{is_in_order, is_normal};
+use crate::{Change, ChangeFault};
 use dump_text::NodeRecord;
+use node_base::limits::CHANGES;
 use std::alloc::{AllocError, Global};
 use std::marker::Model;
 
-/// Changes in path order, each path once, and nothing under a path that is deleted. Contracts see the list of changes.
+/// At most 4,096 changes in path order, each path once, nothing under a path that is deleted, and each of them one that dump text
+/// can say. Contracts see the list of changes.
 #[derive(Debug, Drop)]
 pub struct ChangeSet {
     changes: Vec<Change>,
@@ -26,17 +29,17 @@ impl Model for ChangeSet {
 
     ghost coded = { coded_set };
 
-    ghost use Rattle.dump_load.specs.Changes.{IsNormal};
+    ghost use Rattle.dump_load.specs.Changes.{IsSet};
 
     ghost view = { λ a. a.changes.items };
 
-    ghost invariant = { λ a. IsNormal a.changes.items };
+    ghost invariant = { λ a. IsSet a.changes.items };
 }
 
 impl ChangeSet {
     /// The set of these changes.
-    pub fn new(changes: Vec<Change>) -> ChangeSet
-        requires { IsNormal changes.items }
+    pub(crate) fn new(changes: Vec<Change>) -> ChangeSet
+        requires { IsSet changes.items }
         ensures { result ≡ changes.items }
     {
         ChangeSet { changes }
@@ -51,24 +54,32 @@ impl ChangeSet {
         }
     }
 
-    /// The set of these changes, where they are in path order, each path once, nothing under a path that is deleted, and each says
-    /// what is there where it copies nothing. Else there is none.
-    pub fn from_changes(changes: Vec<Change>) -> Option<ChangeSet>
-        ensures set { IfSome result (λ s. s ≡ changes.items) }
-        ensures none { result ≡ None → ¬ IsNormal changes.items }
-        ensures some { IsSome result → IsNormal changes.items }
+    /// The set of these changes. Refused are more than 4,096 (8), then those that aren't in path order, each path once and nothing
+    /// under a path that is deleted (15), then one that copies nothing and doesn't say what is there, or that dump text can't
+    /// say: with a source where no node is made, or parts at a deletion (2).
+    pub fn from_changes(changes: Vec<Change>) -> Result<ChangeSet, ChangeFault>
+        ensures set { IfOk result (λ s. s ≡ changes.items) }
+        ensures is_set { OnOk result (IsSet changes.items) }
+        ensures refused { IfErr result (IsNoSet changes.items) }
+        ensures no_set { OnErr result (¬ IsSet changes.items) }
     {
-        if is_normal(&changes) {
-            Some(ChangeSet { changes })
-        } else {
-            None
+        if changes.len() > CHANGES {
+            return Err(ChangeFault::TooLong);
         }
+        if !is_in_order(&changes) {
+            return Err(ChangeFault::OutOfOrder);
+        }
+        if !is_normal(&changes) {
+            return Err(ChangeFault::BadHeader);
+        }
+        Ok(ChangeSet { changes })
     }
 
     /// The changes alone, in path order.
     pub fn into_changes(self) -> Vec<Change>
         ensures value { result.items ≡ self }
         ensures normal { IsNormal self }
+        ensures few { length self ≤ 4096 }
     {
         self.changes
     }
@@ -77,6 +88,7 @@ impl ChangeSet {
     pub fn changes(&self) -> &[Change]
         ensures value { result.now ≡ self.now }
         ensures normal { IsNormal self.now }
+        ensures few { length self.now ≤ 4096 }
     {
         self.changes.as_slice()
     }

@@ -3,7 +3,7 @@ ghost use Rattle.std.specs.Prelude.{◌≡◌, ◌≤◌, length, [], false, tru
 ghost use Rattle.std.specs.FinMap as map;
 ghost use Rattle.node_base.specs.Path.{Path, same_path};
 ghost use Rattle.node_base.specs.Tree.{blank, base, marked, changed_at, grafted, IsDirAt};
-ghost use Rattle.dump_load.specs.Changes.{brings, settles, is_delete, IsWhole};
+ghost use Rattle.dump_load.specs.Changes.{brings, settles, is_delete, IsDescribed};
 ghost use Rattle.dump_load.specs.Effect.{content, effect, stepped, with_parts};
 ghost use Rattle.dump_load.specs.Faults.{fault_of};
 
@@ -69,7 +69,7 @@ fn bring(alloc: Global, trees: &[Tree], tree: &mut Tree, change: &Change) -> Res
 fn arrive(alloc: Global, trees: &[Tree], tree: &mut Tree, change: &Change) -> Result<(), AllocError>
     requires few { length trees.now ≤ 65535 }
     requires brings { brings change.now ≡ true }
-    requires whole { IsWhole change.now }
+    requires whole { IsDescribed change.now }
     requires faultless { fault_of trees.now (map.get tree.old) change.now ≡ None }
     ensures { OnOk result ((q : Path) → map.get tree.new q ≡ stepped trees.now (map.get tree.old) change.now q) }
 {
@@ -106,7 +106,7 @@ pub fn step(
     change: &Change,
 ) -> Result<(), AllocError>
     requires few { length trees.now ≤ 65535 }
-    requires whole { IsWhole change.now }
+    requires whole { IsDescribed change.now }
     requires faultless { fault_of trees.now (map.get tree.old) change.now ≡ None }
     ensures { OnOk result ((q : Path) → map.get tree.new q ≡ stepped trees.now (map.get tree.old) change.now q) }
 {

@@ -1,6 +1,6 @@
 //! The limits of sets and of copies.
 
-use dump_load::{ChangeSet, load_revision};
+use dump_load::{Change, ChangeSet, load_revision};
 use dump_text::NodeRecord;
 use node_base::{Action, NodeKind, NodePath, RevNo, Source};
 use path_tree::Tree;
@@ -74,6 +74,25 @@ fn so_many_paths(rt: HostRuntime) -> Result<(), Fail> {
     assert_eq!(rt; full, Ok(4_096));
     let over = changes_of_many(rt.alloc(), 4_097, Action::Add, FILE)?;
     assert_eq!(rt; over, Err(8));
+    Ok(())
+}
+
+// How many changes so many modifications are a set of as they come, or the number of the refusal.
+fn modified(alloc: Global, count: u16) -> Result<Result<usize, u8>, Fail> {
+    let mut all = Vec::new(alloc);
+    for one in many(alloc, count, Action::Modify, None)? {
+        all.push(Change::from_record(one))?;
+    }
+    match ChangeSet::from_changes(all) {
+        Ok(set) => Ok(Ok(set.changes().len())),
+        Err(fault) => Ok(Err(fault.number())),
+    }
+}
+
+#[test]
+fn so_many_changes(rt: HostRuntime) -> Result<(), Fail> {
+    assert_eq!(rt; modified(rt.alloc(), 4_096)?, Ok(4_096));
+    assert_eq!(rt; modified(rt.alloc(), 4_097)?, Err(8));
     Ok(())
 }
 

@@ -27,7 +27,26 @@ fn changes(alloc: Global, lines: &str) -> Result<Vec<Change>, Fail> {
 fn is_set(alloc: Global, lines: &str, as_they_come: bool, in_order: bool) -> Result<bool, Fail> {
     let set = ChangeSet::from_changes(changes(alloc, lines)?);
     let sorted = ChangeSet::from_changes(in_path_order(changes(alloc, lines)?)?);
-    Ok(set.is_some() == as_they_come && sorted.is_some() == in_order)
+    Ok(set.is_ok() == as_they_come && sorted.is_ok() == in_order)
+}
+
+// The number of the refusal of changes as they come, or 0.
+fn refusal(alloc: Global, lines: &str) -> Result<u8, Fail> {
+    match ChangeSet::from_changes(changes(alloc, lines)?) {
+        Ok(_) => Ok(0),
+        Err(fault) => Ok(fault.number()),
+    }
+}
+
+#[test]
+fn why_changes_are_no_set(rt: HostRuntime) -> Result<(), Fail> {
+    assert_eq!(rt; refusal(rt.alloc(), "delete b/x\nchange b/x/y")?, 15);
+    assert_eq!(rt; refusal(rt.alloc(), "add q dir")?, 2);
+    // A source where nothing is made; what is out of order comes first.
+    assert_eq!(rt; refusal(rt.alloc(), "change b - t 1")?, 2);
+    assert_eq!(rt; refusal(rt.alloc(), "delete b - t 1")?, 2);
+    assert_eq!(rt; refusal(rt.alloc(), "change b - t 1\nadd a - t 1")?, 15);
+    Ok(())
 }
 
 #[test]
@@ -44,7 +63,7 @@ fn changes_that_are_a_set(rt: HostRuntime) -> Result<(), Fail> {
 fn a_set_and_its_changes(rt: HostRuntime) -> Result<(), Fail> {
     let all = in_path_order(changes(rt.alloc(), "add b - t 1\ndelete c")?)?;
     assert_eq!(rt; count_paths(&all), 2);
-    let set = ChangeSet::from_changes(all).ok_or("no set")?;
+    let set = ChangeSet::from_changes(all)?;
     assert!(rt; set.share(rt.alloc())?.into_changes().len() == 2);
     assert!(rt; ChangeSet::empty(rt.alloc()).changes().is_empty());
     Ok(())
@@ -138,7 +157,7 @@ fn given(alloc: Global, props: Option<Props>, text: Option<Text>) -> Result<Opti
         change.text = text;
     }
     match ChangeSet::from_changes(all) {
-        Some(set) if trees.len() <= 65_535 => Ok(Some(apply(alloc, trees.as_slice(), &set)?)),
+        Ok(set) if trees.len() <= 65_535 => Ok(Some(apply(alloc, trees.as_slice(), &set)?)),
         _ => Ok(None),
     }
 }

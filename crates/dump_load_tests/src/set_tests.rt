@@ -42,6 +42,26 @@ fn text_for_directory(alloc: Global) -> Result<u8, Fail> {
     answer(alloc, stated)
 }
 
+// The number of the refusal of a deletion with a text.
+fn text_of_deleted(alloc: Global) -> Result<u8, Fail> {
+    let mut stated = records(alloc, "delete t/x")?;
+    let text = Text::empty(alloc)?;
+    if let Some(first) = stated.get_mut(0) {
+        first.text = Some(text);
+    }
+    answer(alloc, stated)
+}
+
+#[test]
+fn what_dump_text_cant_say(rt: HostRuntime) -> Result<(), Fail> {
+    assert_eq!(rt; text_of_deleted(rt.alloc())?, 2);
+    assert_eq!(rt;
+        answer(rt.alloc(), records(rt.alloc(), "change t - t 1")?)?,
+        2
+    );
+    Ok(())
+}
+
 #[test]
 fn a_text_for_a_directory(rt: HostRuntime) -> Result<(), Fail> {
     assert_eq!(rt; text_for_directory(rt.alloc())?, 17);

@@ -42,14 +42,16 @@ fresh_begun trees f g Add None p None e = ap (λ o. record (begun Add None p Non
 fresh_begun trees f g Add (Some Dir) p None e = ap (λ o. record (begun Add (Some Dir) p None) { props = option_map (λ m. option_map_or (λ x. x.props) o m) (begun Add (Some Dir) p None).props; text = option_map (λ t. option_map_or (λ x. Rattle.std.specs.Prelude.unwrap_or x.text t) o t) (begun Add (Some Dir) p None).text }) (e ∙ ap (λ o. option_map_or (arrives trees (begun Add (Some Dir) p None)) o (marked f p (length trees) p)) (rest_itself p))
 fresh_begun trees f g Add (Some File) p None e = ap (λ o. record (begun Add (Some File) p None) { props = option_map (λ m. option_map_or (λ x. x.props) o m) (begun Add (Some File) p None).props; text = option_map (λ t. option_map_or (λ x. Rattle.std.specs.Prelude.unwrap_or x.text t) o t) (begun Add (Some File) p None).text }) (e ∙ ap (λ o. option_map_or (arrives trees (begun Add (Some File) p None)) o (marked f p (length trees) p)) (rest_itself p))
 
-pub whole_begun : (a : Action) (k : Option NodeKind) (p : Path) (s : Option Source) → (is_add a ≡ true → IsSome k) → (is_add a || not (settles a) || is_delete a) ≡ true → IsWhole (begun a k p s)
-whole_begun Modify k p s h u = λ e. cc
-whole_begun Delete k p s h u = λ e. cc
-whole_begun Replace k p s h u = cc
-whole_begun Add k p (Some s) h u = λ e. cc
-whole_begun Add None p None h u = cc (h refl)
-whole_begun Add (Some Dir) p None h u = λ e. refl
-whole_begun Add (Some File) p None h u = λ e. refl
+pub whole_begun : (a : Action) (k : Option NodeKind) (p : Path) (s : Option Source) → (is_add a ≡ true → IsSome k) → (is_add a || not (settles a) || is_delete a) ≡ true → (is_add a ≡ false → s ≡ None) → IsWhole (begun a k p s)
+whole_begun Modify k p None h u f = (λ e. cc, refl)
+whole_begun Modify k p (Some s) h u f = cc (f refl)
+whole_begun Delete k p None h u f = (λ e. cc, refl)
+whole_begun Delete k p (Some s) h u f = cc (f refl)
+whole_begun Replace k p s h u f = cc
+whole_begun Add k p (Some s) h u f = (λ e. cc, refl)
+whole_begun Add None p None h u f = cc (h refl)
+whole_begun Add (Some Dir) p None h u f = (λ e. refl, refl)
+whole_begun Add (Some File) p None h u f = (λ e. refl, refl)
 
 -- ---- faults
 

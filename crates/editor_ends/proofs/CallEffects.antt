@@ -241,7 +241,7 @@ known trees f c none whole = by c.action refl
     stays a e b p = known_some trees f c (option_map kind_of (f c.path)) (judged_stays trees f c (ap (λ a. settles a && not (is_delete a)) e ∙ b)) (mapped (f c.path) (there (f c.path) (sym p ∙ ap (λ a. place_fault a (is_some (f c.path))) (sym e) ∙ ok.place)))
 
     from : brings c ≡ true → (o : Option Source) → c.source ≡ o → Known trees f c
-    from b None e = known_some trees f c c.kind (judged_brings trees f c b ∙ ap (λ o. option_map_or (λ s. option_map kind_of (source_at trees s [])) o c.kind) e) (described c.kind (is_some c.props) (is_some c.text) (whole ((λ i. b i && is_none (e i)))))
+    from b None e = known_some trees f c c.kind (judged_brings trees f c b ∙ ap (λ o. option_map_or (λ s. option_map kind_of (source_at trees s [])) o c.kind) e) (described c.kind (is_some c.props) (is_some c.text) (whole.0 ((λ i. b i && is_none (e i)))))
     from b (Some s) e = known_some trees f c (option_map kind_of (source_at trees s [])) (judged_brings trees f c b ∙ ap (λ o. option_map_or (λ s. option_map kind_of (source_at trees s [])) o c.kind) e) (mapped (source_at trees s []) (found_source (source_at trees s []) (ap (λ o. option_map_or (λ s. is_none (source_at trees s [])) o false) (sym e) ∙ ok.source)))
 
     by : (a : Action) → c.action ≡ a → Known trees f c

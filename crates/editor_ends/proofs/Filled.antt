@@ -1,6 +1,6 @@
 -- Changes beside the tree that they make, and what one change more leaves of them.
 use Rattle.std.proofs.Common.{◌≡◌, ℕ, Bool, true, false, cond, not, ◌&&◌, ◌||◌, List, [], ◌∷◌, ◌++◌, length, map, Option, Some, None, IsSome, is_some, refl, sym, ap, subst, ◌∙◌, append-nil}
-use Rattle.std.specs.Prelude.{unwrap_or}
+use Rattle.std.specs.Prelude.{unwrap_or, is_none}
 use Rattle.std.specs.Option.{option_map, option_map_or}
 use Rattle.std.specs.List.{AllByRecursion}
 use Rattle.std.proofs.lemmas.List.{map-append}
@@ -12,7 +12,7 @@ use Rattle.node_base.specs.Tree.{PathMap, with_number, marked, changed_at, graft
 use Rattle.node_base.specs.declared.node.Node.{Node}
 use Rattle.node_base.specs.declared.fault.TreeFault.TheVariants.{NoSuchPath, NotDir}
 use Rattle.dump_load.specs.declared.change.Change.{Change}
-use Rattle.dump_load.specs.Changes.{settles, is_delete, change_at, IsClear, IsWhole, IsNormal, Precedes}
+use Rattle.dump_load.specs.Changes.{settles, is_delete, brings, change_at, IsClear, IsWhole, IsNormal, Precedes}
 use Rattle.dump_load.specs.Effect.{effect, stepped, arrives, with_parts}
 use Rattle.dump_load.proofs.PathOrder.{no_front_none, less_differs, greater_differs}
 use Rattle.dump_load.proofs.OneMore.{clear_of_follows}
@@ -72,7 +72,12 @@ module _ (f : Nodes) where
   clear-filled (c ∷ s) x h = (h.0, clear-filled s x h.1)
 
   pub whole-filled : (c : Change) → IsWhole c → IsWhole (filled f c)
-  whole-filled c w = λ plain. ap (λ b. Rattle.dump_load.specs.Changes.is_described c.kind b (is_some (filled f c).text)) (kept c.props _) ∙ ap (λ b. Rattle.dump_load.specs.Changes.is_described c.kind (is_some c.props) b) (kept c.text _) ∙ w plain
+  whole-filled c w = (
+    λ plain. ap (λ b. Rattle.dump_load.specs.Changes.is_described c.kind b (is_some (filled f c).text)) (kept c.props _) ∙ ap (λ b. Rattle.dump_load.specs.Changes.is_described c.kind (is_some c.props) b) (kept c.text _) ∙ w.0 plain,
+    ap (λ b. (is_none c.source || brings c) && not (is_delete c.action && (b || is_some (filled f c).text))) (kept c.props _)
+        ∙ ap (λ b. (is_none c.source || brings c) && not (is_delete c.action && (is_some c.props || b))) (kept c.text _)
+        ∙ w.1,
+  )
     where
       kept : {A : Type 0} (o : Option A) (g : A → A) → is_some (option_map g o) ≡ is_some o
       kept None g = refl

@@ -1,6 +1,6 @@
 -- Properties and texts that are given to what has a change already.
 use Rattle.std.proofs.Common.{◌≡◌, ℕ, Bool, true, false, cond, not, ◌&&◌, ◌||◌, List, [], ◌∷◌, ◌++◌, length, map, Option, Some, None, IsSome, is_some, refl, sym, ap, subst, ◌∙◌}
-use Rattle.std.specs.Prelude.{unwrap_or, is_none}
+use Rattle.std.specs.Prelude.{unwrap_or, is_none, IfSome}
 use Rattle.std.specs.Option.{option_map, option_map_or}
 use Rattle.std.specs.List.{AllByRecursion}
 use Rattle.std.proofs.lemmas.List.{map-append}
@@ -10,9 +10,11 @@ use Rattle.node_base.specs.Path.{Path, Name, path_cmp, same_path}
 use Rattle.node_base.specs.Props.{PropMap}
 use Rattle.node_base.specs.Tree.{PathMap, changed_at, with_given}
 use Rattle.node_base.specs.NodeEdits.{prop_put, with_prop, with_piece}
+use Rattle.node_base.specs.declared.node.Action.{Action}
+use Rattle.node_base.specs.declared.node.Action.TheVariants.{Modify, Add, Delete, Replace}
 use Rattle.node_base.specs.declared.node.Node.{Node}
 use Rattle.dump_load.specs.declared.change.Change.{Change}
-use Rattle.dump_load.specs.Changes.{settles, is_delete, change_at, IsWhole, IsNormal, regiven, is_described}
+use Rattle.dump_load.specs.Changes.{settles, is_delete, brings, change_at, IsWhole, IsNormal, regiven, is_described}
 use Rattle.dump_load.specs.Effect.{effect}
 use Rattle.dump_load.proofs.PathOrder.{less_differs, greater_differs}
 use Rattle.dump_load.proofs.Reparted.{effect_reparted}
@@ -109,8 +111,15 @@ module _ (trees : List PathMap) (tree new_tree : PathMap) (front rest : List Cha
       turned false None = refl
       turned false (Some d) = refl
 
-whole_props : (c : Change) → IsWhole c → IsWhole (giving_props c)
-whole_props c w = λ plain. at c.kind (is_some c.props) (is_some c.text) (w plain)
+-- what isn't deleted may have any parts
+form_on : (a : Action) (s x y : Bool) → is_delete a ≡ false → (s && not (is_delete a && x)) ≡ true → (s && not (is_delete a && y)) ≡ true
+form_on Modify s x y d e = e
+form_on Add s x y d e = e
+form_on Delete s x y d e = cc
+form_on Replace s x y d e = e
+
+whole_props : (c : Change) → is_delete c.action ≡ false → IsWhole c → IsWhole (giving_props c)
+whole_props c stands w = (λ plain. at c.kind (is_some c.props) (is_some c.text) (w.0 plain), form_on c.action (is_none c.source || brings c) _ _ stands w.1)
   where
     at : (k : _) (a b : Bool) → is_described k a b ≡ true → is_described k true b ≡ true
     at None a b e = cc
@@ -118,8 +127,8 @@ whole_props c w = λ plain. at c.kind (is_some c.props) (is_some c.text) (w plai
     at (Some Rattle.node_base.specs.declared.node.NodeKind.TheVariants.File) true b e = e
     at (Some Rattle.node_base.specs.declared.node.NodeKind.TheVariants.File) false b e = cc
 
-whole_text : (c : Change) → IsWhole c → IsWhole (giving_text c)
-whole_text c w = λ plain. at c.kind (is_some c.props) (is_some c.text) (w plain)
+whole_text : (c : Change) → is_delete c.action ≡ false → IsWhole c → IsWhole (giving_text c)
+whole_text c stands w = (λ plain. at c.kind (is_some c.props) (is_some c.text) (w.0 plain), form_on c.action (is_none c.source || brings c) _ _ stands w.1)
   where
     at : (k : _) (a b : Bool) → is_described k a b ≡ true → is_described k a true ≡ true
     at None a b e = cc
@@ -141,9 +150,9 @@ props_after : (name : Name) (value : Option (List ℕ)) (c : Change) (o : Option
 props_after name value c None = refl
 props_after name value c (Some x) = refl
 
-pub gives_props : (trees : List PathMap) (tree new_tree : PathMap) (front rest : List Change) (c : Change) (name : Name) (value : Option (List ℕ)) → Made trees tree (front ++ c ∷ rest) → ((q : Path) → get new_tree q ≡ changed_at (get tree) c.path (with_prop name value) q) → Gives trees tree (front ++ c ∷ rest) new_tree (front ++ giving_props c ∷ rest) c.path (with_prop name value) giving_props
-gives_props trees tree new_tree front rest c name value m step =
-    gives_parts trees tree new_tree front rest c (giving_props c) m giving_props refl (or_yes (settles c.action)) refl refl (whole_props c) (with_prop name value) step None (Some (new_props name value c (get tree c.path))) (ap (props_of c) (step c.path ∙ here_changed (get tree) c.path (with_prop name value)) ∙ props_after name value c (get tree c.path))
+pub gives_props : (trees : List PathMap) (tree new_tree : PathMap) (front rest : List Change) (c : Change) (name : Name) (value : Option (List ℕ)) → is_delete c.action ≡ false → Made trees tree (front ++ c ∷ rest) → ((q : Path) → get new_tree q ≡ changed_at (get tree) c.path (with_prop name value) q) → Gives trees tree (front ++ c ∷ rest) new_tree (front ++ giving_props c ∷ rest) c.path (with_prop name value) giving_props
+gives_props trees tree new_tree front rest c name value stands m step =
+    gives_parts trees tree new_tree front rest c (giving_props c) m giving_props refl (or_yes (settles c.action)) refl refl (whole_props c stands) (with_prop name value) step None (Some (new_props name value c (get tree c.path))) (ap (props_of c) (step c.path ∙ here_changed (get tree) c.path (with_prop name value)) ∙ props_after name value c (get tree c.path))
     (λ x e. λ i. record { text = x.text; props = new_props name value c (e i); changed = x.changed })
 
 abbrev pub new_text : (Node → Node) → Change → Option Node → List ℕ
@@ -161,9 +170,9 @@ some_is : (o : Option (List ℕ)) (t : List ℕ) → IsSome o → Some (unwrap_o
 some_is None t h = cc h
 some_is (Some s) t h = refl
 
-pub gives_text : (trees : List PathMap) (tree new_tree : PathMap) (front rest : List Change) (c : Change) (g : Node → Node) → ((x : Node) → (g x).props ≡ x.props) → ((x : Node) → (g x).changed ≡ x.changed) → ((x : Node) → get tree c.path ≡ Some x → IsSome (g x).text) → Made trees tree (front ++ c ∷ rest) → ((q : Path) → get new_tree q ≡ changed_at (get tree) c.path g q) → Gives trees tree (front ++ c ∷ rest) new_tree (front ++ giving_text c ∷ rest) c.path g giving_text
-gives_text trees tree new_tree front rest c g props number has m step =
-    gives_parts trees tree new_tree front rest c (giving_text c) m giving_text refl (ap (λ b. settles c.action || b) (or_yes (is_some c.props)) ∙ or_yes (settles c.action)) refl refl (whole_text c) g step (Some (new_text g c (get tree c.path))) None (ap (text_of c) (step c.path ∙ here_changed (get tree) c.path g) ∙ text_after g c props (get tree c.path))
+pub gives_text : (trees : List PathMap) (tree new_tree : PathMap) (front rest : List Change) (c : Change) (g : Node → Node) → ((x : Node) → (g x).props ≡ x.props) → ((x : Node) → (g x).changed ≡ x.changed) → ((x : Node) → get tree c.path ≡ Some x → IsSome (g x).text) → is_delete c.action ≡ false → Made trees tree (front ++ c ∷ rest) → ((q : Path) → get new_tree q ≡ changed_at (get tree) c.path g q) → Gives trees tree (front ++ c ∷ rest) new_tree (front ++ giving_text c ∷ rest) c.path g giving_text
+gives_text trees tree new_tree front rest c g props number has stands m step =
+    gives_parts trees tree new_tree front rest c (giving_text c) m giving_text refl (ap (λ b. settles c.action || b) (or_yes (is_some c.props)) ∙ or_yes (settles c.action)) refl refl (whole_text c stands) g step (Some (new_text g c (get tree c.path))) None (ap (text_of c) (step c.path ∙ here_changed (get tree) c.path g) ∙ text_after g c props (get tree c.path))
     (λ x e. λ i. record { text = text_is x e i; props = sym (props x) i; changed = sym (number x) i })
   where
     text_is : (x : Node) → get tree c.path ≡ Some x → Some (new_text g c (get tree c.path)) ≡ (g x).text
@@ -171,7 +180,10 @@ gives_text trees tree new_tree front rest c g props number has m step =
 
 -- ---- at the place that a search found
 
-module _ (trees : List PathMap) (tree new_tree : PathMap) (s : List Change) (i : ℕ) (d e : Change) (p : Path) (m : Made trees tree s) (here : i < length s) (at : d ≡ get_or s i d) (placed : IsNormal s → (c : Change) → slice_get s i ≡ Some c → c.path ≡ p) where
+module _ (trees : List PathMap) (tree new_tree : PathMap) (s : List Change) (i : ℕ) (d e : Change) (p : Path) (m : Made trees tree s) (here : i < length s) (at : d ≡ get_or s i d) (placed : IsNormal s → (c : Change) → slice_get s i ≡ Some c → c.path ≡ p) (unsettled : IfSome (slice_get s i) (λ c. is_delete c.action ≡ false)) where
+  stands : is_delete d.action ≡ false
+  stands = subst (λ o. IfSome o (λ (c : Change). is_delete c.action ≡ false)) (slice_get-get_or s i d here ∙ ap Some (sym at)) unsettled
+
   found_path : d.path ≡ p
   found_path = placed m.normal d (slice_get-get_or s i d here ∙ ap Some (sym at))
 
@@ -186,17 +198,17 @@ module _ (trees : List PathMap) (tree new_tree : PathMap) (s : List Change) (i :
   pub props_at : (name : Name) (value : Option (List ℕ)) → e ≡ giving_props d → ((q : Path) → get new_tree q ≡ changed_at (get tree) p (with_prop name value) q) → Gives trees tree s new_tree (slice_set s i e) p (with_prop name value) giving_props
   props_at name value is step =
       brought_back (giving_props d) (with_prop name value) giving_props is
-      (gives_props trees tree new_tree (take i s) (drop (i + 1) s) d name value split_made (λ q. step q ∙ ap (λ z. changed_at (get tree) z (with_prop name value) q) (sym found_path)))
+      (gives_props trees tree new_tree (take i s) (drop (i + 1) s) d name value stands split_made (λ q. step q ∙ ap (λ z. changed_at (get tree) z (with_prop name value) q) (sym found_path)))
 
   pub started_at : e ≡ giving_text d → ((q : Path) → get new_tree q ≡ changed_at (get tree) p (with_given (Some []) None) q) → Gives trees tree s new_tree (slice_set s i e) p (with_given (Some []) None) giving_text
   started_at is step =
       brought_back (giving_text d) (with_given (Some []) None) giving_text is
-      (gives_text trees tree new_tree (take i s) (drop (i + 1) s) d (with_given (Some []) None) (λ x. refl) (λ x. refl) (λ x h. refl) split_made (λ q. step q ∙ ap (λ z. changed_at (get tree) z (with_given (Some []) None) q) (sym found_path)))
+      (gives_text trees tree new_tree (take i s) (drop (i + 1) s) d (with_given (Some []) None) (λ x. refl) (λ x. refl) (λ x h. refl) stands split_made (λ q. step q ∙ ap (λ z. changed_at (get tree) z (with_given (Some []) None) q) (sym found_path)))
 
   pub appended_at : (piece : List ℕ) → e ≡ giving_text d → piece_fault (get tree) p piece ≡ None → ((q : Path) → get new_tree q ≡ changed_at (get tree) p (with_piece piece) q) → Gives trees tree s new_tree (slice_set s i e) p (with_piece piece) giving_text
   appended_at piece is fault step =
       brought_back (giving_text d) (with_piece piece) giving_text is
-      (gives_text trees tree new_tree (take i s) (drop (i + 1) s) d (with_piece piece) (λ x. refl) (λ x. refl) (λ x h. longer x.text (has_text (get tree p) x (test_fails (is_dir (get tree p)) KindMismatch (second_none (change_fault (get tree) p) _ (first_none (text_fault (get tree) p) _ fault))) (ap (get tree) (sym found_path) ∙ h))) split_made (λ q. step q ∙ ap (λ z. changed_at (get tree) z (with_piece piece) q) (sym found_path)))
+      (gives_text trees tree new_tree (take i s) (drop (i + 1) s) d (with_piece piece) (λ x. refl) (λ x. refl) (λ x h. longer x.text (has_text (get tree p) x (test_fails (is_dir (get tree p)) KindMismatch (second_none (change_fault (get tree) p) _ (first_none (text_fault (get tree) p) _ fault))) (ap (get tree) (sym found_path) ∙ h))) stands split_made (λ q. step q ∙ ap (λ z. changed_at (get tree) z (with_piece piece) q) (sym found_path)))
     where
       has_text : (o : Option Node) (x : Node) → is_dir o ≡ false → o ≡ Some x → IsSome x.text
       has_text o x e h = there x.text (ap is_dir (sym h) ∙ e)

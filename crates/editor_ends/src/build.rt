@@ -93,6 +93,7 @@ impl<'a> BuildEditor<'a> {
         from: Option<&Source>,
     ) -> Result<NodePath, EditorFault>
         requires known { (is_add action || not (settles action)) ≡ true }
+        requires sourced { is_add action ≡ false → from ≡ None }
         ensures begins { OnOk result (Made self.old.trees.now self.old.tree self.old.changes.items → Begins self.old.trees.now self.old.tree self.old.changes.items self.new.tree self.new.changes.items (begun action (Some kind) path.now (option_copied from.entry))) }
         ensures baton { IfOk result (λ p. p ≡ path.now) }
         ensures refused { IfErr result (λ e. Made self.old.trees.now self.old.tree self.old.changes.items → IsFaultOr (begin_fault self.old.trees.now (map.get self.old.tree) (is_late_in self.old.changes.items (begun action (Some kind) path.now (option_copied from.entry))) (begun action (Some kind) path.now (option_copied from.entry))) e) }

@@ -34,6 +34,7 @@ pub fn new_change(
 ) -> Result<Change, AllocError>
     requires described { is_add action ≡ true → IsSome kind }
     requires known { (is_add action || not (settles action) || is_delete action) ≡ true }
+    requires sourced { is_add action ≡ false → from ≡ None }
     ensures begun { IfOk result (λ c. c ≡ begun action kind path.now (option_copied from.entry)) }
     ensures whole { IfOk result IsWhole }
 {

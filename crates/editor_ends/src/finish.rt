@@ -72,7 +72,7 @@ pub fn finish(alloc: Global, tree: &Tree, changes: Vec<Change>) -> Result<Change
         return Err(EditorFault::TooLong);
     }
     match ChangeSet::from_changes(kept) {
-        Some(set) => Ok(set),
-        None => Err(EditorFault::OutOfOrder),
+        Ok(set) => Ok(set),
+        Err(_) => Err(EditorFault::OutOfOrder),
     }
 }

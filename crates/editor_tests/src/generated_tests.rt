@@ -72,7 +72,7 @@ fn some_set(
     for _ in 0..numbers.below(5) {
         changes.push(some_change(alloc, numbers, (trees.len() % 65_535) as u16)?)?;
     }
-    let Some(set) = ChangeSet::from_changes(in_path_order(changes)?) else {
+    let Ok(set) = ChangeSet::from_changes(in_path_order(changes)?) else {
         return Ok(None);
     };
     if trees.len() > 65_535 || apply(alloc, trees, &set).is_err() {

@@ -187,7 +187,7 @@ whole_told c h = at c.action h
     at Modify w = w
     at Add w = w
     at Replace w = w
-    at Delete w = λ e. cc
+    at Delete w = (λ e. cc, w.1)
 
 precede_told : (c : Change) (s : List Change) → AllByRecursion (Precedes c) s → AllByRecursion (Precedes (told c)) (map told s)
 precede_told c [] h = tt

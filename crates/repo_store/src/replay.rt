@@ -47,7 +47,7 @@ fn set_of(alloc: Global, nodes: Vec<NodeRecord>) -> Result<ChangeSet, ReadFault>
         → form_fault (map change_of nodes.items) ≡ None → ⊥ }
 {
     let changes = changes_of(alloc, nodes)?;
-    let Some(set) = ChangeSet::from_changes(changes) else {
+    let Ok(set) = ChangeSet::from_changes(changes) else {
         return Err(ReadFault::Bad);
     };
     match judge_form(&set) {

@@ -1,13 +1,10 @@
 //! Entries that a store takes and writes, and those that it refuses.
 
-use crate::made::path;
 use crate::store_tests::{FIRST, SECOND, commit, is_journal, opened, refusal, second_disk};
-use dump_load::{Change, ChangeSet};
 use fleet_disk::MemDisk;
-use node_base::{Action, NodeKind, Props, RevNo, Source, Text};
+use node_base::{Props, RevNo};
 use repo_store::RepoStore;
 use std::alloc::Global;
-use std::process::Abort;
 use std::test::Fail;
 
 // What a journal opens to whose second entry is this one, shorter than 256 bytes: the refusal, or 0.
@@ -68,44 +65,11 @@ fn export(alloc: Global, store: &RepoStore<MemDisk>, at: u16) -> u8 {
     }
 }
 
-fn commit_set(alloc: Global, store: &mut RepoStore<MemDisk>, set: ChangeSet) -> u8 {
-    match store.commit(alloc, RevNo::new(1), set, Props::empty(), None) {
-        Ok(_) => 0,
-        Err(fault) => fault.number(),
-    }
-}
-
-// A source where nothing is made.
-fn odd_source(rt: &impl Abort, alloc: Global) -> Result<ChangeSet, Fail> {
-    let mut changes = Vec::new(alloc);
-    changes.push(Change {
-        path: path(rt, alloc, "a"),
-        action: Action::Modify,
-        kind: Some(NodeKind::File),
-        source: Some(Source {
-            path: path(rt, alloc, "a"),
-            revision: RevNo::new(1),
-        }),
-        props: Some(Props::empty()),
-        text: Some(Text::empty(alloc)?),
-    })?;
-    Ok(ChangeSet::from_changes(changes).ok_or("no set")?)
-}
-
 #[test]
 fn what_a_store_refuses(rt: HostRuntime) -> Result<(), Fail> {
     let mut store = opened(rt.alloc(), second_disk(&rt, rt.alloc())?)?;
     assert_eq!(rt; commit(&rt, rt.alloc(), &mut store, "a"), 12);
     assert!(rt; put(rt.alloc(), &mut store, 2) == 21 && export(rt.alloc(), &store, 2) == 21);
-    assert!(rt; is_journal(&store.into_disk(), &[FIRST, SECOND]));
-    Ok(())
-}
-
-#[test]
-fn what_an_entry_cant_say(rt: HostRuntime) -> Result<(), Fail> {
-    let mut store = opened(rt.alloc(), second_disk(&rt, rt.alloc())?)?;
-    let odd = odd_source(&rt, rt.alloc())?;
-    assert_eq!(rt; commit_set(rt.alloc(), &mut store, odd), 2);
     assert!(rt; is_journal(&store.into_disk(), &[FIRST, SECOND]));
     Ok(())
 }

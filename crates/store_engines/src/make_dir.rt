@@ -62,8 +62,8 @@ fn one_directory(alloc: Global, path: NodePath) -> Result<ChangeSet, Refusal>
         return Err(Refusal::OutOfMemory);
     }
     match ChangeSet::from_changes(changes) {
-        Some(set) => Ok(set),
-        None => unreachable!(),
+        Ok(set) => Ok(set),
+        Err(_) => unreachable!(),
     }
 }
 

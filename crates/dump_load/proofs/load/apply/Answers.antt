@@ -21,8 +21,8 @@ loop-change-preserved c =
 
 pub step-requires-clause-whole : goal.step-requires-clause-whole
 step-requires-clause-whole c =
-    walked_whole c.args.trees.now c.changes-changes.result.now c.loop-change.change-index c.loop-change.tree c.loop-change.invariant c.change-item.result (omega arith) c.change-item.is
-    (subst IsNormal (sym c.changes-changes.ensures.value) c.changes-changes.ensures.normal)
+    (walked_whole c.args.trees.now c.changes-changes.result.now c.loop-change.change-index c.loop-change.tree c.loop-change.invariant c.change-item.result (omega arith) c.change-item.is
+    (subst IsNormal (sym c.changes-changes.ensures.value) c.changes-changes.ensures.normal)).0
 
 pub returns-clause-effect : goal.returns-clause-effect
 returns-clause-effect c = λ q.

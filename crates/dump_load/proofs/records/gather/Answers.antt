@@ -2,12 +2,16 @@ use Rattle.std.proofs.lemmas.Result.{err_from_is_err_and}
 use Rattle.std.proofs.Common.{map, sym, subst}
 use Rattle.dump_load.specs.Records.{change_of, IsSetOf}
 use Rattle.dump_load.proofs.Fillings.{set_of}
+use Rattle.dump_load.proofs.Few.{few_filled}
 use Rattle.dump_load.proofs.Gathered.{gathered_set, gathered_many, gathered_fits, gathered_order, gathered_kind}
 use Rattle.dump_load.proofs.records.gather.Goals as goal
 
 pub new-requires : goal.new-requires
-new-requires c =
-    (set_of c.args.trees.now c.in_ok-stated.stated.items c.in_ok-combined.combined.items c.in_ok-filled.filled.changes.items c.in_ok-combined.ensures.combined c.in_ok-filled.ensures.kinds c.in_ok-filled.ensures.filled).normal
+new-requires c = (
+  (set_of c.args.trees.now c.in_ok-stated.stated.items c.in_ok-combined.combined.items c.in_ok-filled.filled.changes.items c.in_ok-combined.ensures.combined c.in_ok-filled.ensures.kinds c.in_ok-filled.ensures.filled).normal,
+  few_filled c.args.trees.now c.in_ok-stated.stated.items c.in_ok-combined.combined.items c.in_ok-filled.filled.changes.items c.deref.result.now c.count_paths.result c.in_ok-combined.ensures.combined c.in_ok-filled.ensures.filled
+      c.deref.ensures.value c.count_paths.ensures c.if-count_paths-gt-CHANGES.false,
+)
 
 pub returns-clause-set : goal.returns-clause-set
 returns-clause-set c =

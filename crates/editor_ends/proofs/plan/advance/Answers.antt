@@ -21,7 +21,8 @@ returns-clause-faultless c d e =
     ap (fault_of c.args.revision.now.trees.now (map.get c.args.progress.now.tree)) (sym same) ∙ sym c.in_default.ensures
 
 pub step-requires-clause-whole : goal.step-requires-clause-whole
-step-requires-clause-whole c = walked_whole c.args.revision.now.trees.now c.args.revision.now.set.now c.args.progress.now.next c.args.progress.now.tree c.requires.walked c.index-set-progress.result c.requires.here c.index-set-progress.is c.requires.normal
+step-requires-clause-whole c =
+    (walked_whole c.args.revision.now.trees.now c.args.revision.now.set.now c.args.progress.now.next c.args.progress.now.tree c.requires.walked c.index-set-progress.result c.requires.here c.index-set-progress.is c.requires.normal).0
 
 pub returns-in-Some-clause-own : goal.returns-in-Some-clause-own
 returns-in-Some-clause-own c =
