@@ -135,7 +135,7 @@ init_run laws url s old new ho hn e x start f ran same =
     ends : (e : Ending) → IsEnded ran.last e → EndsInit url (answer_to e) (said_by ran.going.rounds)
     ends ending.Fine (inl h) = done.done h
     ends ending.Fine (inr h) = absurd (no_fine h)
-    ends (ending.Refused g) (inl h) = run_from (init_start url) ran.last ran.going.rounds goes (λ y z. absurd z) g (ended_refused ran.last g h)
+    ends (ending.Refused g) (inl h) = run_from (init_start url) ran.last ran.going.rounds goes (record { refusals = λ y z. absurd z; who = λ y z. absurd z; merged = λ y z. absurd z }) g (ended_refused ran.last g h)
     ends (ending.Refused g) (inr h) = Memory (same_fault g fault.OutOfMemory h)
 
 -- copying runs
@@ -221,7 +221,7 @@ puts_on laws token copying.Lock low high (answer.Map x) es more h r = tt
 puts_on laws token copying.Lock low high (answer.Refused x) es more h r = tt
 puts_on laws token copying.Lock low high (answer.Failed x) es more h r = tt
 puts_on laws token copying.Look low high answer.Done es more h r = tt
-puts_on laws token copying.Look low high (answer.Seen x) es more h r = copy_looked_is x (λ p. PutsIn p low high (es ++ more)) (λ m uuid. quiet (Calls Look) (answer.Seen x) es more refl tt r ∙ h) (λ y t. tt)
+puts_on laws token copying.Look low high (answer.Seen x) es more h r = copy_looked_is x (λ p. PutsIn p low high (es ++ more)) (quiet (Calls Look) (answer.Seen x) es more refl tt r ∙ h) (λ y t. tt)
 puts_on laws token copying.Look low high (answer.Identity x) es more h r = tt
 puts_on laws token copying.Look low high (answer.Latest x) es more h r = tt
 puts_on laws token copying.Look low high (answer.Revision x y) es more h r = tt
@@ -230,7 +230,7 @@ puts_on laws token copying.Look low high (answer.Refused x) es more h r = tt
 puts_on laws token copying.Look low high (answer.Failed x) es more h r = tt
 puts_on laws token (copying.Who m uuid) low high answer.Done es more h r = tt
 puts_on laws token (copying.Who m uuid) low high (answer.Seen x) es more h r = tt
-puts_on laws token (copying.Who m uuid) low high (answer.Identity x) es more h r = copy_begin_is x (λ p. PutsIn p low high (es ++ more)) low high (starts_at low high (es ++ more) (quiet (AsksIdentity) (answer.Identity x) es more refl tt r ∙ h)) (none_at low high (es ++ more) (quiet (AsksIdentity) (answer.Identity x) es more refl tt r ∙ h)) (λ y t. tt) m uuid
+puts_on laws token (copying.Who m uuid) low high (answer.Identity x) es more h r = copy_begin_is m uuid x (λ p. PutsIn p low high (es ++ more)) low high (starts_at low high (es ++ more) (quiet (AsksIdentity) (answer.Identity x) es more refl tt r ∙ h)) (none_at low high (es ++ more) (quiet (AsksIdentity) (answer.Identity x) es more refl tt r ∙ h)) (λ o. tt) (λ o. tt)
 puts_on laws token (copying.Who m uuid) low high (answer.Latest x) es more h r = tt
 puts_on laws token (copying.Who m uuid) low high (answer.Revision x y) es more h r = tt
 puts_on laws token (copying.Who m uuid) low high (answer.Map x) es more h r = tt
@@ -317,5 +317,5 @@ copy_run laws token low high s old new ho hn e x start f ran same =
     ends : (e : Ending) → IsEnded ran.last e → EndsCopy low high (answer_to e) (said_by ran.going.rounds)
     ends ending.Fine (inl h) = record { all = all_put low high ran.last (said_by ran.going.rounds) puts h; released = released.released h }
     ends ending.Fine (inr h) = absurd (no_fine h)
-    ends (ending.Refused g) (inl h) = run_from (copy_start token low high) ran.last ran.going.rounds goes (λ y z. absurd z) g (ended_refused ran.last g h)
+    ends (ending.Refused g) (inl h) = run_from (copy_start token low high) ran.last ran.going.rounds goes (record { refusals = λ y z. absurd z; who = λ y z. absurd z; merged = λ y z. absurd z }) g (ended_refused ran.last g h)
     ends (ending.Refused g) (inr h) = Memory (same_fault g fault.OutOfMemory h)

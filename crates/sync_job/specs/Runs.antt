@@ -1,5 +1,5 @@
 -- Runs of jobs: what is said in them, and how they end.
-use Rattle.std.specs.Prelude.{◌≡◌, ◌⊎◌, ℕ, ◌+◌, ◌-◌, ◌≤◌, Bool, true, List, [], ◌∷◌, ◌++◌, Option, Some, None, is_none, Result, Ok, Err, string_bytes}
+use Rattle.std.specs.Prelude.{◌≡◌, ◌⊎◌, ℕ, ◌+◌, ◌-◌, ◌≤◌, Bool, true, false, List, [], ◌∷◌, ◌++◌, Option, Some, None, is_none, Result, Ok, Err, string_bytes}
 use Rattle.std.specs.List.{range_with_len}
 use Rattle.node_base.specs.Props.{PropMap}
 use Rattle.sync_core.specs.declared.answer.Answer.{Answer}
@@ -10,9 +10,12 @@ use Rattle.sync_core.specs.declared.fault.SyncFault.{SyncFault}
 use Rattle.sync_core.specs.declared.fault.SyncFault.TheVariants as fault
 use Rattle.sync_core.specs.declared.state.JobState.{JobState}
 use Rattle.sync_core.specs.declared.number.Number.TheVariants.{Spelt}
-use Rattle.sync_core.specs.Mirror.{Call, Init, ReleaseLock, PutProps}
+use Rattle.sync_core.specs.Mirror.{Call, Init, ReleaseLock, PutProps, Look}
 use Rattle.sync_core.specs.Jobs.{Job, Order, Initialise, Sync, CopyProps, Locked, begun}
+use Rattle.sync_core.specs.declared.standing.Standing.{Standing}
 use Rattle.sync_core.specs.Faults.{inconsistent_as}
+use Rattle.sync_core.specs.Identities.{is_identity}
+use Rattle.sync_core.specs.Names.{reaches}
 use Rattle.sync_core.specs.Shapes.{shape_in}
 use Rattle.sync_core.specs.SyncFollows.{IsSynced}
 use Rattle.sync_core.specs.Deeds.{Deed, Calls, AsksIdentity, AsksLatest, Fetches, FetchesProps, Ends, IsLawfulDeed, heard}
@@ -122,20 +125,33 @@ abbrev pub TellsNumbers : SyncFault → Type 0
 TellsNumbers (fault.Inconsistent merged copying head) = Unit {0}
 TellsNumbers _ = ⊥
 
--- that the source is another repository (56), or that properties past what is merged are to be copied (58)
-abbrev pub IsOfMaster : SyncFault → Type 0
-IsOfMaster fault.WrongMaster = Unit {0}
-IsOfMaster (fault.NotYetCopied n) = Unit {0}
-IsOfMaster _ = ⊥
+-- a look of this run saw the mirror stand so
+abbrev pub IsLooked : Standing → List Spoken → Type 0
+IsLooked s es = IsSaid (Says (Calls Look) (told.Seen s)) es
 
--- what a job refuses by itself for an answer: a look at a mirror that isn't initialised (51) or in no shape (57), the identity that
--- it has asked for (56, 58), and where it goes on from revision to revision, numbers that leave none (57)
-abbrev pub IsShown : Outcome → SyncFault → Type 0
-IsShown (told.Seen s) f = ((is_none s.url ≡ true) × (f ≡ fault.NotInitialised)) ⊎ ((shape_in s.merged s.copying s.head ≡ None) × (f ≡ inconsistent_as s))
-IsShown (told.Identity found) f = IsOfMaster f
-IsShown (told.Latest n) f = TellsNumbers f
-IsShown told.Done f = TellsNumbers f
-IsShown _ f = ⊥
+-- the master has another identity than the mirror that was looked at (56)
+pub record IsForeign (es : List Spoken) (found : List ℕ) (f : SyncFault) : Type 0 where
+  pub standing : Standing
+  pub looked : IsLooked standing es
+  pub other : is_identity standing.uuid found ≡ false
+  pub fault : f ≡ fault.WrongMaster
+
+-- properties are to be copied past what was merged in the mirror that was looked at (58)
+pub record IsBeyond (es : List Spoken) (f : SyncFault) : Type 0 where
+  pub standing : Standing
+  pub looked : IsLooked standing es
+  pub high : ℕ
+  pub unmerged : reaches standing.merged high ≡ false
+  pub fault : f ≡ fault.NotYetCopied high
+
+-- what a job refuses by itself for an answer, by what was said: a look at a mirror that isn't initialised (51) or in no shape (57),
+-- the identity that it has asked for (56, 58), and where it goes on from revision to revision, numbers that leave none (57)
+abbrev pub IsShown : List Spoken → Outcome → SyncFault → Type 0
+IsShown es (told.Seen s) f = ((is_none s.url ≡ true) × (f ≡ fault.NotInitialised)) ⊎ ((shape_in s.merged s.copying s.head ≡ None) × (f ≡ inconsistent_as s))
+IsShown es (told.Identity found) f = IsForeign es found f ⊎ IsBeyond es f
+IsShown es (told.Latest n) f = TellsNumbers f
+IsShown es told.Done f = TellsNumbers f
+IsShown es _ f = ⊥
 
 -- where a refusal comes from: a port answered it (a master's as 60, with what it told inside), or it is want of memory, or an answer
 -- that was heard shows it
@@ -144,7 +160,7 @@ pub data ComesFrom (es : List Spoken) (f : SyncFault) : Type 0 where
   Trees : (n : ℕ) → IsSaid (NoTree n (refused_as f)) es → ComesFrom es f
   Masters : (d : Deed) → (text : _) → f ≡ fault.MasterFailed text → IsSaid (Says d (told.Failed (string_bytes text))) es → ComesFrom es f
   Memory : f ≡ fault.OutOfMemory → ComesFrom es f
-  Tables : (d : Deed) → (o : Outcome) → IsShown o f → IsSaid (Says d o) es → ComesFrom es f
+  Tables : (d : Deed) → (o : Outcome) → IsShown es o f → IsSaid (Says d o) es → ComesFrom es f
 
 -- the last that is said is that the lock is released
 pub record IsReleased (es : List Spoken) : Type 0 where
