@@ -1,5 +1,6 @@
 //! The ports of a job, and all that is said through them.
-ghost use Rattle.std.specs.Prelude.{◌≡◌, ◌≤◌, ◌+◌, ℕ, List, vec_capacity, ◌⊎◌, ◌++◌, ◌∷◌, [], IfOk, IfSome, OnOk, OnErr, IsErr, Err, None, length, map};
+ghost use Rattle.std.specs.Prelude.{◌≡◌, ◌≤◌, ◌+◌, ℕ, List, vec_capacity, ◌⊎◌, ◌++◌, ◌∷◌, [], IfOk, IfSome, OnOk};
+ghost use Rattle.std.specs.Prelude.{OnErr, IsErr, Err, None, length, map};
 ghost use Rattle.sync_core.specs.declared.answer.Answer.TheVariants as answer_is;
 ghost use Rattle.sync_core.specs.declared.fault.SyncFault.TheVariants.{OutOfMemory as NoMemory};
 ghost use Rattle.sync_job.specs.Fronts.{WentAt, IsHeard, accepted_by, counted_by};
@@ -21,11 +22,11 @@ use path_tree::Tree;
 use std::alloc::{AllocError, Global};
 use sync_core::{Action, Answer, KeptCall, MirrorCall, Reply, SyncFault};
 
-/// What a job speaks to: a master, a mirror, and who is told. It keeps what was said through it: each call of the mirror, each
-/// question to the master and each report with its answer, and each tree that was refused, in order.
+/// What a job speaks to: a master, a mirror, and who is told. It keeps what was said through it: each call of the
+/// mirror, each question to the master and each report with its answer, and each tree that was refused, in order.
 ///
-/// Room for a call, and for its report, is made before it: want of memory then leaves the ports alone. Where an answer can't be
-/// kept for want of memory, it counts as 70.
+/// Room for a call, and for its report, is made before it: want of memory then leaves the ports alone. Where an answer
+/// can't be kept for want of memory, it counts as 70.
 #[derive(Drop)]
 pub struct JobPorts<M: MasterPort + Drop, N: MirrorPort + Drop, R: Report + Drop> {
     master: M,
@@ -78,8 +79,11 @@ impl<M: MasterPort + Drop, N: MirrorPort + Drop, R: Report + Drop> JobPorts<M, N
         action: &Action<'_>,
     ) -> Answer
         requires { deed_of action.now ≡ Ends → ⊥ }
-        ensures said { Acted (deed_of action.now) result (calls_of self.old) (calls_of self.new) (R.heard (report_of self.old)) (R.heard (report_of self.new)) }
-        ensures mirror { WentAt N.stands N.clock N.left_since N.honest (mirror_of self.old) (mirror_of self.new) (accepted_by (deed_of action.now) (outcome_of result)) (counted_by (deed_of action.now) (outcome_of result)) }
+        ensures said { Acted (deed_of action.now) result (calls_of self.old) (calls_of self.new)
+            (R.heard (report_of self.old)) (R.heard (report_of self.new)) }
+        ensures mirror { WentAt N.stands N.clock N.left_since N.honest (mirror_of self.old) (mirror_of self.new)
+            (accepted_by (deed_of action.now) (outcome_of result))
+            (counted_by (deed_of action.now) (outcome_of result)) }
     {
         match action {
             Action::Call(call) => self.step(alloc, call),
@@ -87,14 +91,17 @@ impl<M: MasterPort + Drop, N: MirrorPort + Drop, R: Report + Drop> JobPorts<M, N
             Action::AskLatest => self.latest(alloc),
             Action::Fetch(number) => self.fetch(alloc, *number, trees),
             Action::FetchProps(number) => self.fetch_props(alloc, *number),
-            Action::End => Answer::Refused(SyncFault::OutOfMemory),
+            Action::End => unreachable!(),
         }
     }
 
     // A call of the mirror, and its report.
     fn step(&mut self, alloc: Global, call: &MirrorCall<'_>) -> Answer
-        ensures said { Acted (Calls (call_of call.now)) result (calls_of self.old) (calls_of self.new) (R.heard (report_of self.old)) (R.heard (report_of self.new)) }
-        ensures mirror { WentAt N.stands N.clock N.left_since N.honest (mirror_of self.old) (mirror_of self.new) (accepted_by (Calls (call_of call.now)) (outcome_of result)) (counted_by (Calls (call_of call.now)) (outcome_of result)) }
+        ensures said { Acted (Calls (call_of call.now)) result (calls_of self.old) (calls_of self.new)
+            (R.heard (report_of self.old)) (R.heard (report_of self.new)) }
+        ensures mirror { WentAt N.stands N.clock N.left_since N.honest (mirror_of self.old) (mirror_of self.new)
+            (accepted_by (Calls (call_of call.now)) (outcome_of result))
+            (counted_by (Calls (call_of call.now)) (outcome_of result)) }
     {
         let kept = match self.room_for(alloc, call) {
             Ok(kept) => kept,
@@ -136,7 +143,8 @@ impl<M: MasterPort + Drop, N: MirrorPort + Drop, R: Report + Drop> JobPorts<M, N
     fn tell(&mut self, call: &MirrorCall<'_>)
         requires { length self.old.calls.items + 1 ≤ vec_capacity self.old.calls }
         ensures calls { calls_of self.new ≡ calls_of self.old ++ map Tells (told_of (call_of call.now)) }
-        ensures told { (told : List IsTold) → R.heard (report_of self.old) told → R.heard (report_of self.new) (told ++ told_of (call_of call.now)) }
+        ensures told { (told : List IsTold) → R.heard (report_of self.old) told → R.heard (report_of self.new)
+            (told ++ told_of (call_of call.now)) }
         ensures mirror { mirror_of self.new ≡ mirror_of self.old }
     {
         match call {
@@ -150,7 +158,8 @@ impl<M: MasterPort + Drop, N: MirrorPort + Drop, R: Report + Drop> JobPorts<M, N
     fn tell_committed(&mut self, number: RevNo)
         requires { length self.old.calls.items + 1 ≤ vec_capacity self.old.calls }
         ensures calls { calls_of self.new ≡ calls_of self.old ++ Tells (Committed number) ∷ [] }
-        ensures told { (told : List IsTold) → R.heard (report_of self.old) told → R.heard (report_of self.new) (told ++ Committed number ∷ []) }
+        ensures told { (told : List IsTold) → R.heard (report_of self.old) told → R.heard (report_of self.new)
+            (told ++ Committed number ∷ []) }
         ensures mirror { mirror_of self.new ≡ mirror_of self.old }
     {
         self.report.committed(number);
@@ -161,7 +170,8 @@ impl<M: MasterPort + Drop, N: MirrorPort + Drop, R: Report + Drop> JobPorts<M, N
     fn tell_copied(&mut self, number: RevNo)
         requires { length self.old.calls.items + 1 ≤ vec_capacity self.old.calls }
         ensures calls { calls_of self.new ≡ calls_of self.old ++ Tells (Copied number) ∷ [] }
-        ensures told { (told : List IsTold) → R.heard (report_of self.old) told → R.heard (report_of self.new) (told ++ Copied number ∷ []) }
+        ensures told { (told : List IsTold) → R.heard (report_of self.old) told → R.heard (report_of self.new)
+            (told ++ Copied number ∷ []) }
         ensures mirror { mirror_of self.new ≡ mirror_of self.old }
     {
         self.report.copied(number);
@@ -170,8 +180,10 @@ impl<M: MasterPort + Drop, N: MirrorPort + Drop, R: Report + Drop> JobPorts<M, N
     }
 
     fn identity(&mut self, alloc: Global) -> Answer
-        ensures said { Acted AsksIdentity result (calls_of self.old) (calls_of self.new) (R.heard (report_of self.old)) (R.heard (report_of self.new)) }
-        ensures mirror { WentAt N.stands N.clock N.left_since N.honest (mirror_of self.old) (mirror_of self.new) (accepted_by AsksIdentity (outcome_of result)) (counted_by AsksIdentity (outcome_of result)) }
+        ensures said { Acted AsksIdentity result (calls_of self.old) (calls_of self.new)
+            (R.heard (report_of self.old)) (R.heard (report_of self.new)) }
+        ensures mirror { WentAt N.stands N.clock N.left_since N.honest (mirror_of self.old) (mirror_of self.new)
+            (accepted_by AsksIdentity (outcome_of result)) (counted_by AsksIdentity (outcome_of result)) }
     {
         if self.calls.reserve(1).is_err() {
             return Answer::Refused(SyncFault::OutOfMemory);
@@ -183,8 +195,10 @@ impl<M: MasterPort + Drop, N: MirrorPort + Drop, R: Report + Drop> JobPorts<M, N
     }
 
     fn latest(&mut self, alloc: Global) -> Answer
-        ensures said { Acted AsksLatest result (calls_of self.old) (calls_of self.new) (R.heard (report_of self.old)) (R.heard (report_of self.new)) }
-        ensures mirror { WentAt N.stands N.clock N.left_since N.honest (mirror_of self.old) (mirror_of self.new) (accepted_by AsksLatest (outcome_of result)) (counted_by AsksLatest (outcome_of result)) }
+        ensures said { Acted AsksLatest result (calls_of self.old) (calls_of self.new) (R.heard (report_of self.old))
+            (R.heard (report_of self.new)) }
+        ensures mirror { WentAt N.stands N.clock N.left_since N.honest (mirror_of self.old) (mirror_of self.new)
+            (accepted_by AsksLatest (outcome_of result)) (counted_by AsksLatest (outcome_of result)) }
     {
         if self.calls.reserve(1).is_err() {
             return Answer::Refused(SyncFault::OutOfMemory);
@@ -196,8 +210,10 @@ impl<M: MasterPort + Drop, N: MirrorPort + Drop, R: Report + Drop> JobPorts<M, N
     }
 
     fn fetch(&mut self, alloc: Global, number: RevNo, trees: &mut Vec<Tree>) -> Answer
-        ensures said { Acted (Fetches number) result (calls_of self.old) (calls_of self.new) (R.heard (report_of self.old)) (R.heard (report_of self.new)) }
-        ensures mirror { WentAt N.stands N.clock N.left_since N.honest (mirror_of self.old) (mirror_of self.new) (accepted_by (Fetches number) (outcome_of result)) (counted_by (Fetches number) (outcome_of result)) }
+        ensures said { Acted (Fetches number) result (calls_of self.old) (calls_of self.new)
+            (R.heard (report_of self.old)) (R.heard (report_of self.new)) }
+        ensures mirror { WentAt N.stands N.clock N.left_since N.honest (mirror_of self.old) (mirror_of self.new)
+            (accepted_by (Fetches number) (outcome_of result)) (counted_by (Fetches number) (outcome_of result)) }
     {
         if let Some(refusal) = self.fill(alloc, number, trees) {
             return refusal;
@@ -216,8 +232,11 @@ impl<M: MasterPort + Drop, N: MirrorPort + Drop, R: Report + Drop> JobPorts<M, N
     }
 
     fn fetch_props(&mut self, alloc: Global, number: RevNo) -> Answer
-        ensures said { Acted (FetchesProps number) result (calls_of self.old) (calls_of self.new) (R.heard (report_of self.old)) (R.heard (report_of self.new)) }
-        ensures mirror { WentAt N.stands N.clock N.left_since N.honest (mirror_of self.old) (mirror_of self.new) (accepted_by (FetchesProps number) (outcome_of result)) (counted_by (FetchesProps number) (outcome_of result)) }
+        ensures said { Acted (FetchesProps number) result (calls_of self.old) (calls_of self.new)
+            (R.heard (report_of self.old)) (R.heard (report_of self.new)) }
+        ensures mirror { WentAt N.stands N.clock N.left_since N.honest (mirror_of self.old) (mirror_of self.new)
+            (accepted_by (FetchesProps number) (outcome_of result))
+            (counted_by (FetchesProps number) (outcome_of result)) }
     {
         if self.calls.reserve(1).is_err() {
             return Answer::Refused(SyncFault::OutOfMemory);
@@ -231,8 +250,11 @@ impl<M: MasterPort + Drop, N: MirrorPort + Drop, R: Report + Drop> JobPorts<M, N
 
     // The mirror's trees before a revision, those that aren't at hand; or why not.
     fn fill(&mut self, alloc: Global, number: RevNo, trees: &mut Vec<Tree>) -> Option<Answer>
-        ensures none { result ≡ None → (calls_of self.new ≡ calls_of self.old) × (report_of self.new ≡ report_of self.old) }
-        ensures some { IfSome result (λ a. Acted (Fetches number) a (calls_of self.old) (calls_of self.new) (R.heard (report_of self.old)) (R.heard (report_of self.new))) }
+        ensures none { result ≡ None → (calls_of self.new ≡ calls_of self.old) ×
+            (report_of self.new ≡ report_of self.old) }
+        ensures some { IfSome result
+            (λ a. Acted (Fetches number) a (calls_of self.old) (calls_of self.new) (R.heard (report_of self.old))
+            (R.heard (report_of self.new))) }
         ensures mirror { WentAt N.stands N.clock N.left_since N.honest (mirror_of self.old) (mirror_of self.new) [] [] }
     {
         for i in trees.len()..number.index() {
@@ -252,8 +274,11 @@ impl<M: MasterPort + Drop, N: MirrorPort + Drop, R: Report + Drop> JobPorts<M, N
         number: RevNo,
         trees: &mut Vec<Tree>,
     ) -> Option<Answer>
-        ensures none { result ≡ None → (calls_of self.new ≡ calls_of self.old) × (report_of self.new ≡ report_of self.old) }
-        ensures some { IfSome result (λ a. Acted (Fetches of) a (calls_of self.old) (calls_of self.new) (R.heard (report_of self.old)) (R.heard (report_of self.new))) }
+        ensures none { result ≡ None → (calls_of self.new ≡ calls_of self.old) ×
+            (report_of self.new ≡ report_of self.old) }
+        ensures some { IfSome result
+            (λ a. Acted (Fetches of) a (calls_of self.old) (calls_of self.new) (R.heard (report_of self.old))
+            (R.heard (report_of self.new))) }
         ensures mirror { WentAt N.stands N.clock N.left_since N.honest (mirror_of self.old) (mirror_of self.new) [] [] }
     {
         let _ = of;
@@ -274,7 +299,8 @@ impl<M: MasterPort + Drop, N: MirrorPort + Drop, R: Report + Drop> JobPorts<M, N
     }
 }
 
-// The refusal of a mirror's call for the list and for the job. A call answered 31 counts with those that were accepted: that is
+// The refusal of a mirror's call for the list and for the job. A call answered 31 counts with those that were
+// accepted: that is
 // kept without memory.
 fn refused_twice(alloc: Global, fault: SyncFault) -> (Answer, Answer)
     ensures same { outcome_of result.0 ≡ outcome_of result.1 }

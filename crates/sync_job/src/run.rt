@@ -25,8 +25,10 @@ pub fn run_sync<M: MasterPort + Drop, N: MirrorPort + Drop, R: Report + Drop>(
     token: Token,
     steal: bool,
 ) -> Result<(), SyncFault>
-    ensures run { IsSyncRun token steal (calls_of ports.old) (calls_of ports.new) (R.heard (report_of ports.old)) (R.heard (report_of ports.new)) result }
-    ensures mirror { Moving (calls_of ports.old) (calls_of ports.new) (WentAt N.stands N.clock N.left_since N.honest (mirror_of ports.old) (mirror_of ports.new)) }
+    ensures run { IsSyncRun token steal (calls_of ports.old) (calls_of ports.new) (R.heard (report_of ports.old))
+        (R.heard (report_of ports.new)) result }
+    ensures mirror { Moving (calls_of ports.old) (calls_of ports.new)
+        (WentAt N.stands N.clock N.left_since N.honest (mirror_of ports.old) (mirror_of ports.new)) }
 {
     jobs_follow();
     jobs_end();
@@ -39,8 +41,10 @@ pub fn run_init<M: MasterPort + Drop, N: MirrorPort + Drop, R: Report + Drop>(
     ports: &mut JobPorts<M, N, R>,
     url: PropValue,
 ) -> Result<(), SyncFault>
-    ensures run { IsInitRun url (calls_of ports.old) (calls_of ports.new) (R.heard (report_of ports.old)) (R.heard (report_of ports.new)) result }
-    ensures mirror { Moving (calls_of ports.old) (calls_of ports.new) (WentAt N.stands N.clock N.left_since N.honest (mirror_of ports.old) (mirror_of ports.new)) }
+    ensures run { IsInitRun url (calls_of ports.old) (calls_of ports.new) (R.heard (report_of ports.old))
+        (R.heard (report_of ports.new)) result }
+    ensures mirror { Moving (calls_of ports.old) (calls_of ports.new)
+        (WentAt N.stands N.clock N.left_since N.honest (mirror_of ports.old) (mirror_of ports.new)) }
 {
     jobs_follow();
     jobs_end();
@@ -55,8 +59,10 @@ pub fn run_copy_revprops<M: MasterPort + Drop, N: MirrorPort + Drop, R: Report +
     low: RevNo,
     high: RevNo,
 ) -> Result<(), SyncFault>
-    ensures run { IsCopyRun token low high (calls_of ports.old) (calls_of ports.new) (R.heard (report_of ports.old)) (R.heard (report_of ports.new)) result }
-    ensures mirror { Moving (calls_of ports.old) (calls_of ports.new) (WentAt N.stands N.clock N.left_since N.honest (mirror_of ports.old) (mirror_of ports.new)) }
+    ensures run { IsCopyRun token low high (calls_of ports.old) (calls_of ports.new) (R.heard (report_of ports.old))
+        (R.heard (report_of ports.new)) result }
+    ensures mirror { Moving (calls_of ports.old) (calls_of ports.new)
+        (WentAt N.stands N.clock N.left_since N.honest (mirror_of ports.old) (mirror_of ports.new)) }
 {
     jobs_follow();
     jobs_end();
@@ -79,8 +85,10 @@ fn run_job<M: MasterPort + Drop, N: MirrorPort + Drop, R: Report + Drop>(
     ports: &mut JobPorts<M, N, R>,
     state: JobState,
 ) -> Ending
-    ensures ran { Ran state (calls_of ports.old) (calls_of ports.new) (R.heard (report_of ports.old)) (R.heard (report_of ports.new)) result }
-    ensures mirror { Moving (calls_of ports.old) (calls_of ports.new) (WentAt N.stands N.clock N.left_since N.honest (mirror_of ports.old) (mirror_of ports.new)) }
+    ensures ran { Ran state (calls_of ports.old) (calls_of ports.new) (R.heard (report_of ports.old))
+        (R.heard (report_of ports.new)) result }
+    ensures mirror { Moving (calls_of ports.old) (calls_of ports.new)
+        (WentAt N.stands N.clock N.left_since N.honest (mirror_of ports.old) (mirror_of ports.new)) }
 {
     let mut state = state;
     let mut trees = Vec::new(alloc);
@@ -100,10 +108,15 @@ fn next<M: MasterPort + Drop, N: MirrorPort + Drop, R: Report + Drop>(
     trees: &mut Vec<Tree>,
     state: &JobState,
 ) -> Option<Answer>
-    ensures none { result ≡ None → (deed_in state.now ≡ Ends) × (calls_of ports.new ≡ calls_of ports.old) × (report_of ports.new ≡ report_of ports.old) }
-    ensures some { IfSome result (λ a. Acted (deed_in state.now) a (calls_of ports.old) (calls_of ports.new) (R.heard (report_of ports.old)) (R.heard (report_of ports.new))) }
+    ensures none { result ≡ None → (deed_in state.now ≡ Ends) × (calls_of ports.new ≡ calls_of ports.old) ×
+        (report_of ports.new ≡ report_of ports.old) }
+    ensures some { IfSome result
+        (λ a. Acted (deed_in state.now) a (calls_of ports.old) (calls_of ports.new) (R.heard (report_of ports.old))
+        (R.heard (report_of ports.new))) }
     ensures stays { result ≡ None → mirror_of ports.new ≡ mirror_of ports.old }
-    ensures mirror { IfSome result (λ a. WentAt N.stands N.clock N.left_since N.honest (mirror_of ports.old) (mirror_of ports.new) (accepted_by (deed_in state.now) (outcome_of a)) (counted_by (deed_in state.now) (outcome_of a))) }
+    ensures mirror { IfSome result
+        (λ a. WentAt N.stands N.clock N.left_since N.honest (mirror_of ports.old) (mirror_of ports.new)
+        (accepted_by (deed_in state.now) (outcome_of a)) (counted_by (deed_in state.now) (outcome_of a))) }
 {
     match decide(state) {
         Action::End => None,
