@@ -1,0 +1,15 @@
+use Rattle.std.proofs.Common.{subst}
+use Rattle.repo_store.specs.Changes.{IsTaken, IsBroken}
+use Rattle.repo_store.specs.Words.{disk_of}
+use Rattle.sync_core.specs.Calls.{call_of}
+use Rattle.sync_job.proofs.Stores.{not_staged, written, doubtful}
+use Rattle.sync_job.proofs.alone.AloneMirror.write.Goals as goal
+
+pub returns-in-Err-clause-moved : goal.returns-in-Err-clause-moved
+returns-in-Err-clause-moved g c = λ m s. not_staged c.args.self.now.store c.stage.new.self c.args.self.now.holder (call_of c.args.call.now) c.args.entry c.in-Err.fault c.fault_of.result m (λ image honest left. g.met.D.Disk.only_now (disk_of c.args.self.now.store) image honest left) s c.requires.planned c.in-Err.ensures.stages c.fault_of.ensures
+
+pub returns-in-Ok-install-clause-moved : goal.returns-in-Ok-install-clause-moved
+returns-in-Ok-install-clause-moved g c = λ m s. written c.args.self.now.store c.stage.new.self c.install.new.self c.args.self.now.holder c.holder_after-self.result c.new.result (call_of c.args.call.now) c.args.entry c.in-Ok.staged m s c.requires.planned c.in-Ok.ensures.stages (subst (λ e. IsTaken e c.stage.new.self c.install.new.self) c.in-Ok.ensures.stages.says c.in-Ok-install.ensures.installed) c.new.ensures c.holder_after-self.ensures
+
+pub returns-in-Err-install-clause-moved : goal.returns-in-Err-install-clause-moved
+returns-in-Err-install-clause-moved g c = λ m s. doubtful c.args.self.now.store c.stage.new.self c.install.new.self c.args.self.now.holder (call_of c.args.call.now) c.args.entry c.in-Ok.staged c.in-Err-install.fault c.fault_of-in-Err-install.result m s c.requires.planned c.in-Ok.ensures.stages (subst (λ e. IsBroken e c.stage.new.self c.install.new.self c.in-Err-install.fault) c.in-Ok.ensures.stages.says c.in-Err-install.ensures.installed) c.fault_of-in-Err-install.ensures

@@ -1,0 +1,392 @@
+//! The ports of a job, and all that is said through them.
+ghost use Rattle.std.specs.Prelude.{◌≡◌, ◌≤◌, ◌+◌, ℕ, List, vec_capacity, ◌⊎◌, ◌++◌, ◌∷◌, [], IfOk, IfSome, OnOk};
+ghost use Rattle.std.specs.Prelude.{OnErr, IsErr, Err, None, length, map};
+ghost use Rattle.sync_core.specs.declared.answer.Answer.TheVariants as answer_is;
+ghost use Rattle.sync_core.specs.declared.fault.SyncFault.TheVariants.{OutOfMemory as NoMemory};
+ghost use Rattle.sync_job.specs.Fronts.{WentAt, IsHeard, accepted_by, counted_by};
+ghost use Rattle.sync_core.specs.Calls.{call_of};
+ghost use Rattle.sync_core.specs.Deeds.{Deed, Calls, AsksIdentity, AsksLatest, Fetches, FetchesProps, Ends, deed_of};
+ghost use Rattle.sync_core.specs.Copies.{call_in, outcome_of};
+ghost use Rattle.sync_job.specs.Kept.{refused_as};
+ghost use Rattle.sync_job.specs.declared.report.Told.{Told as IsTold};
+ghost use Rattle.sync_job.specs.declared.report.Told.TheVariants.{Committed, Copied};
+ghost use Rattle.sync_job.specs.Said.{Acted, Fits, IsQuestion, Tells, told_of};
+
+use crate::master::{MasterFault, MasterPort};
+use crate::mirror::MirrorPort;
+use crate::port_call::PortCall;
+use crate::report::{Report, Told};
+use dump_load::ChangeSet;
+use node_base::{PropValue, Props, Refusal, RevNo};
+use path_tree::Tree;
+use std::alloc::{AllocError, Global};
+use sync_core::{Action, Answer, KeptCall, MirrorCall, Reply, SyncFault};
+
+/// What a job speaks to: a master, a mirror, and who is told. It keeps what was said through it: each call of the
+/// mirror, each question to the master and each report with its answer, and each tree that was refused, in order.
+///
+/// Room for a call, and for its report, is made before it: want of memory then leaves the ports alone. Where an answer
+/// can't be kept for want of memory, it counts as 70.
+#[derive(Drop)]
+pub struct JobPorts<M: MasterPort + Drop, N: MirrorPort + Drop, R: Report + Drop> {
+    master: M,
+    mirror: N,
+    report: R,
+    calls: Vec<PortCall>,
+}
+
+impl<M: MasterPort + Drop, N: MirrorPort + Drop, R: Report + Drop> JobPorts<M, N, R> {
+    ghost use Rattle.sync_job.specs.Words.{calls_of, master_of, mirror_of, report_of};
+
+    /// The ports, through which nothing was said yet.
+    pub fn new(alloc: Global, master: M, mirror: N, report: R) -> JobPorts<M, N, R>
+        ensures calls { calls_of result ≡ [] }
+        ensures parts { (master_of result ≡ master) × (mirror_of result ≡ mirror) × (report_of result ≡ report) }
+    {
+        JobPorts {
+            master,
+            mirror,
+            report,
+            calls: Vec::new(alloc),
+        }
+    }
+
+    /// The three, as what was said has left them.
+    pub fn into_parts(self) -> (M, N, R)
+        ensures { (result.0 ≡ master_of self) × (result.1 ≡ mirror_of self) × (result.2 ≡ report_of self) }
+    {
+        let JobPorts {
+            master,
+            mirror,
+            report,
+            calls: _,
+        } = self;
+        (master, mirror, report)
+    }
+
+    /// How many calls were made.
+    pub fn count(&self) -> usize
+        ensures { result ≡ length (calls_of self.now) }
+    {
+        self.calls.len()
+    }
+
+    /// Does what a job does next, and answers it. For a revision the trees before it are at hand, or asked for.
+    pub(crate) fn act(
+        &mut self,
+        alloc: Global,
+        trees: &mut Vec<Tree>,
+        action: &Action<'_>,
+    ) -> Answer
+        requires { deed_of action.now ≡ Ends → ⊥ }
+        ensures said { Acted (deed_of action.now) result (calls_of self.old) (calls_of self.new)
+            (R.heard (report_of self.old)) (R.heard (report_of self.new)) }
+        ensures mirror { WentAt N.stands N.clock N.left_since N.honest (mirror_of self.old) (mirror_of self.new)
+            (accepted_by (deed_of action.now) (outcome_of result))
+            (counted_by (deed_of action.now) (outcome_of result)) }
+    {
+        match action {
+            Action::Call(call) => self.step(alloc, call),
+            Action::AskIdentity => self.identity(alloc),
+            Action::AskLatest => self.latest(alloc),
+            Action::Fetch(number) => self.fetch(alloc, *number, trees),
+            Action::FetchProps(number) => self.fetch_props(alloc, *number),
+            Action::End => unreachable!(),
+        }
+    }
+
+    // A call of the mirror, and its report.
+    fn step(&mut self, alloc: Global, call: &MirrorCall<'_>) -> Answer
+        ensures said { Acted (Calls (call_of call.now)) result (calls_of self.old) (calls_of self.new)
+            (R.heard (report_of self.old)) (R.heard (report_of self.new)) }
+        ensures mirror { WentAt N.stands N.clock N.left_since N.honest (mirror_of self.old) (mirror_of self.new)
+            (accepted_by (Calls (call_of call.now)) (outcome_of result))
+            (counted_by (Calls (call_of call.now)) (outcome_of result)) }
+    {
+        let kept = match self.room_for(alloc, call) {
+            Ok(kept) => kept,
+            Err(_) => return Answer::Refused(SyncFault::OutOfMemory),
+        };
+        match self.mirror.step(alloc, call) {
+            Ok(Reply::Done) => {
+                self.calls.push_reserved(PortCall::Step(kept, Answer::Done));
+                self.tell(call);
+                Answer::Done
+            }
+            Ok(Reply::Seen(standing)) => {
+                let (first, second) = twice(alloc, Answer::Seen(standing));
+                self.calls.push_reserved(PortCall::Step(kept, first));
+                second
+            }
+            Err(fault) => {
+                let (first, second) = refused_twice(alloc, fault);
+                self.calls.push_reserved(PortCall::Step(kept, first));
+                second
+            }
+        }
+    }
+
+    // Room for a call and its report, and the call as it is kept.
+    fn room_for(&mut self, alloc: Global, call: &MirrorCall<'_>) -> Result<KeptCall, AllocError>
+        ensures kept { IfOk result (λ k. call_in k ≡ call_of call.now) }
+        ensures room { OnOk result (length self.new.calls.items + 2 ≤ vec_capacity self.new.calls) }
+        ensures calls { calls_of self.new ≡ calls_of self.old }
+        ensures report { report_of self.new ≡ report_of self.old }
+        ensures mirror { mirror_of self.new ≡ mirror_of self.old }
+    {
+        let kept = KeptCall::of(alloc, call)?;
+        self.calls.reserve(2)?;
+        Ok(kept)
+    }
+
+    // Tells of an accepted call.
+    fn tell(&mut self, call: &MirrorCall<'_>)
+        requires { length self.old.calls.items + 1 ≤ vec_capacity self.old.calls }
+        ensures calls { calls_of self.new ≡ calls_of self.old ++ map Tells (told_of (call_of call.now)) }
+        ensures told { (told : List IsTold) → R.heard (report_of self.old) told → R.heard (report_of self.new)
+            (told ++ told_of (call_of call.now)) }
+        ensures mirror { mirror_of self.new ≡ mirror_of self.old }
+    {
+        match call {
+            MirrorCall::Init { .. } => self.tell_copied(RevNo::ZERO),
+            MirrorCall::Commit { number, .. } => self.tell_committed(*number),
+            MirrorCall::PutProps { number, .. } => self.tell_copied(*number),
+            _ => {}
+        }
+    }
+
+    fn tell_committed(&mut self, number: RevNo)
+        requires { length self.old.calls.items + 1 ≤ vec_capacity self.old.calls }
+        ensures calls { calls_of self.new ≡ calls_of self.old ++ Tells (Committed number) ∷ [] }
+        ensures told { (told : List IsTold) → R.heard (report_of self.old) told → R.heard (report_of self.new)
+            (told ++ Committed number ∷ []) }
+        ensures mirror { mirror_of self.new ≡ mirror_of self.old }
+    {
+        self.report.committed(number);
+        self.calls
+            .push_reserved(PortCall::Told(Told::Committed(number)));
+    }
+
+    fn tell_copied(&mut self, number: RevNo)
+        requires { length self.old.calls.items + 1 ≤ vec_capacity self.old.calls }
+        ensures calls { calls_of self.new ≡ calls_of self.old ++ Tells (Copied number) ∷ [] }
+        ensures told { (told : List IsTold) → R.heard (report_of self.old) told → R.heard (report_of self.new)
+            (told ++ Copied number ∷ []) }
+        ensures mirror { mirror_of self.new ≡ mirror_of self.old }
+    {
+        self.report.copied(number);
+        self.calls
+            .push_reserved(PortCall::Told(Told::Copied(number)));
+    }
+
+    fn identity(&mut self, alloc: Global) -> Answer
+        ensures said { Acted AsksIdentity result (calls_of self.old) (calls_of self.new)
+            (R.heard (report_of self.old)) (R.heard (report_of self.new)) }
+        ensures mirror { WentAt N.stands N.clock N.left_since N.honest (mirror_of self.old) (mirror_of self.new)
+            (accepted_by AsksIdentity (outcome_of result)) (counted_by AsksIdentity (outcome_of result)) }
+    {
+        if self.calls.reserve(1).is_err() {
+            return Answer::Refused(SyncFault::OutOfMemory);
+        }
+        let answer = identity_answer(alloc, self.master.identity(alloc));
+        let (first, second) = twice(alloc, answer);
+        self.calls.push_reserved(PortCall::Identity(first));
+        second
+    }
+
+    fn latest(&mut self, alloc: Global) -> Answer
+        ensures said { Acted AsksLatest result (calls_of self.old) (calls_of self.new) (R.heard (report_of self.old))
+            (R.heard (report_of self.new)) }
+        ensures mirror { WentAt N.stands N.clock N.left_since N.honest (mirror_of self.old) (mirror_of self.new)
+            (accepted_by AsksLatest (outcome_of result)) (counted_by AsksLatest (outcome_of result)) }
+    {
+        if self.calls.reserve(1).is_err() {
+            return Answer::Refused(SyncFault::OutOfMemory);
+        }
+        let answer = latest_answer(alloc, self.master.latest(alloc));
+        let (first, second) = twice(alloc, answer);
+        self.calls.push_reserved(PortCall::Latest(first));
+        second
+    }
+
+    fn fetch(&mut self, alloc: Global, number: RevNo, trees: &mut Vec<Tree>) -> Answer
+        ensures said { Acted (Fetches number) result (calls_of self.old) (calls_of self.new)
+            (R.heard (report_of self.old)) (R.heard (report_of self.new)) }
+        ensures mirror { WentAt N.stands N.clock N.left_since N.honest (mirror_of self.old) (mirror_of self.new)
+            (accepted_by (Fetches number) (outcome_of result)) (counted_by (Fetches number) (outcome_of result)) }
+    {
+        if let Some(refusal) = self.fill(alloc, number, trees) {
+            return refusal;
+        }
+        if self.calls.reserve(1).is_err() {
+            return Answer::Refused(SyncFault::OutOfMemory);
+        }
+        let answer = revision_answer(
+            alloc,
+            number,
+            self.master.fetch(alloc, number, trees.as_slice()),
+        );
+        let (first, second) = twice(alloc, answer);
+        self.calls.push_reserved(PortCall::Fetch(number, first));
+        second
+    }
+
+    fn fetch_props(&mut self, alloc: Global, number: RevNo) -> Answer
+        ensures said { Acted (FetchesProps number) result (calls_of self.old) (calls_of self.new)
+            (R.heard (report_of self.old)) (R.heard (report_of self.new)) }
+        ensures mirror { WentAt N.stands N.clock N.left_since N.honest (mirror_of self.old) (mirror_of self.new)
+            (accepted_by (FetchesProps number) (outcome_of result))
+            (counted_by (FetchesProps number) (outcome_of result)) }
+    {
+        if self.calls.reserve(1).is_err() {
+            return Answer::Refused(SyncFault::OutOfMemory);
+        }
+        let answer = map_answer(alloc, number, self.master.fetch_props(alloc, number));
+        let (first, second) = twice(alloc, answer);
+        self.calls
+            .push_reserved(PortCall::FetchProps(number, first));
+        second
+    }
+
+    // The mirror's trees before a revision, those that aren't at hand; or why not.
+    fn fill(&mut self, alloc: Global, number: RevNo, trees: &mut Vec<Tree>) -> Option<Answer>
+        ensures none { result ≡ None → (calls_of self.new ≡ calls_of self.old) ×
+            (report_of self.new ≡ report_of self.old) }
+        ensures some { IfSome result
+            (λ a. Acted (Fetches number) a (calls_of self.old) (calls_of self.new) (R.heard (report_of self.old))
+            (R.heard (report_of self.new))) }
+        ensures mirror { WentAt N.stands N.clock N.left_since N.honest (mirror_of self.old) (mirror_of self.new) [] [] }
+    {
+        for i in trees.len()..number.index() {
+            let refusal = self.take_tree(alloc, number, RevNo::new(i as u16), trees);
+            if refusal.is_some() {
+                return refusal;
+            }
+        }
+        None
+    }
+
+    // One tree of the mirror.
+    fn take_tree(
+        &mut self,
+        alloc: Global,
+        of: RevNo,
+        number: RevNo,
+        trees: &mut Vec<Tree>,
+    ) -> Option<Answer>
+        ensures none { result ≡ None → (calls_of self.new ≡ calls_of self.old) ×
+            (report_of self.new ≡ report_of self.old) }
+        ensures some { IfSome result
+            (λ a. Acted (Fetches of) a (calls_of self.old) (calls_of self.new) (R.heard (report_of self.old))
+            (R.heard (report_of self.new))) }
+        ensures mirror { WentAt N.stands N.clock N.left_since N.honest (mirror_of self.old) (mirror_of self.new) [] [] }
+    {
+        let _ = of;
+        if self.calls.reserve(1).is_err() || trees.reserve(1).is_err() {
+            return Some(Answer::Refused(SyncFault::OutOfMemory));
+        }
+        match self.mirror.tree(number) {
+            Ok(tree) => {
+                trees.push_reserved(tree);
+                None
+            }
+            Err(fault) => {
+                let (first, second) = fault_twice(alloc, fault);
+                self.calls.push_reserved(PortCall::NoTree(number, first));
+                Some(Answer::Refused(second))
+            }
+        }
+    }
+}
+
+// The refusal of a mirror's call for the list and for the job. A call answered 31 counts with those that were
+// accepted: that is
+// kept without memory.
+fn refused_twice(alloc: Global, fault: SyncFault) -> (Answer, Answer)
+    ensures same { outcome_of result.0 ≡ outcome_of result.1 }
+    ensures heard { IsHeard (Err fault) result.1 }
+{
+    if fault.number() == 31 {
+        return (
+            Answer::Refused(SyncFault::Other(Refusal::DeviceFailed)),
+            Answer::Refused(SyncFault::Other(Refusal::DeviceFailed)),
+        );
+    }
+    twice(alloc, Answer::Refused(fault))
+}
+
+// The answer for the list and the one for the job. Where it can't be copied both are 70.
+fn twice(alloc: Global, answer: Answer) -> (Answer, Answer)
+    ensures same { outcome_of result.0 ≡ outcome_of result.1 }
+    ensures answer { (result.1 ≡ answer) ⊎ (result.1 ≡ answer_is.Refused NoMemory) }
+{
+    match answer.copy(alloc) {
+        Ok(kept) => (kept, answer),
+        Err(_) => (
+            Answer::Refused(SyncFault::OutOfMemory),
+            Answer::Refused(SyncFault::OutOfMemory),
+        ),
+    }
+}
+
+// The same of a fault.
+fn fault_twice(alloc: Global, fault: SyncFault) -> (SyncFault, SyncFault)
+    ensures { refused_as result.0 ≡ refused_as result.1 }
+{
+    match fault.copy(alloc) {
+        Ok(kept) => (kept, fault),
+        Err(_) => (SyncFault::OutOfMemory, SyncFault::OutOfMemory),
+    }
+}
+
+// The master's fault as an answer.
+fn failed(alloc: Global, fault: MasterFault) -> Answer
+    ensures { (d : Deed) → IsQuestion d → Fits d result }
+{
+    match fault.text(alloc) {
+        Ok(text) => Answer::Failed(text),
+        Err(_) => Answer::Refused(SyncFault::OutOfMemory),
+    }
+}
+
+fn identity_answer(alloc: Global, answer: Result<PropValue, MasterFault>) -> Answer
+    ensures { Fits AsksIdentity result }
+{
+    match answer {
+        Ok(uuid) => Answer::Identity(uuid),
+        Err(fault) => failed(alloc, fault),
+    }
+}
+
+fn latest_answer(alloc: Global, answer: Result<RevNo, MasterFault>) -> Answer
+    ensures { Fits AsksLatest result }
+{
+    match answer {
+        Ok(number) => Answer::Latest(number),
+        Err(fault) => failed(alloc, fault),
+    }
+}
+
+fn revision_answer(
+    alloc: Global,
+    number: RevNo,
+    answer: Result<(ChangeSet, Props), MasterFault>,
+) -> Answer
+    ensures { Fits (Fetches number) result }
+{
+    let _ = number;
+    match answer {
+        Ok((set, props)) => Answer::Revision(set, props),
+        Err(fault) => failed(alloc, fault),
+    }
+}
+
+fn map_answer(alloc: Global, number: RevNo, answer: Result<Props, MasterFault>) -> Answer
+    ensures { Fits (FetchesProps number) result }
+{
+    let _ = number;
+    match answer {
+        Ok(props) => Answer::Map(props),
+        Err(fault) => failed(alloc, fault),
+    }
+}

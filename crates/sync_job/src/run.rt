@@ -1,0 +1,135 @@
+//! Runs of jobs.
+ghost use Rattle.std.specs.Prelude.{◌≡◌, None, IfSome};
+ghost use Rattle.sync_core.specs.Deeds.{Ends};
+ghost use Rattle.sync_core.specs.States.{deed_in};
+ghost use Rattle.sync_job.specs.Said.{Acted};
+ghost use Rattle.sync_job.specs.Fronts.{WentAt, Moving, accepted_by, counted_by};
+ghost use Rattle.sync_core.specs.Copies.{outcome_of};
+ghost use Rattle.sync_job.specs.Words.{calls_of, mirror_of, report_of};
+ghost use Rattle.sync_job.specs.Runs.{Ran, IsEnded, answer_to, IsSyncRun, IsInitRun, IsCopyRun};
+
+use crate::master::MasterPort;
+use crate::mirror::MirrorPort;
+use crate::ports::JobPorts;
+use crate::report::Report;
+use node_base::{PropValue, RevNo};
+use path_tree::Tree;
+use std::alloc::Global;
+use sync_core::law::{jobs_end, jobs_follow};
+use sync_core::{Action, Answer, Ending, JobState, SyncFault, Token, absorb, decide};
+
+/// Brings the mirror up to its master.
+pub fn run_sync<M: MasterPort + Drop, N: MirrorPort + Drop, R: Report + Drop>(
+    alloc: Global,
+    ports: &mut JobPorts<M, N, R>,
+    token: Token,
+    steal: bool,
+) -> Result<(), SyncFault>
+    ensures run { IsSyncRun token steal (calls_of ports.old) (calls_of ports.new) (R.heard (report_of ports.old))
+        (R.heard (report_of ports.new)) result }
+    ensures mirror { Moving (calls_of ports.old) (calls_of ports.new)
+        (WentAt N.stands N.clock N.left_since N.honest (mirror_of ports.old) (mirror_of ports.new)) }
+{
+    jobs_follow();
+    jobs_end();
+    result_of(run_job(alloc, ports, JobState::sync(token, steal)))
+}
+
+/// Makes the mirror one of the master, which is reached by that URL.
+pub fn run_init<M: MasterPort + Drop, N: MirrorPort + Drop, R: Report + Drop>(
+    alloc: Global,
+    ports: &mut JobPorts<M, N, R>,
+    url: PropValue,
+) -> Result<(), SyncFault>
+    ensures run { IsInitRun url (calls_of ports.old) (calls_of ports.new) (R.heard (report_of ports.old))
+        (R.heard (report_of ports.new)) result }
+    ensures mirror { Moving (calls_of ports.old) (calls_of ports.new)
+        (WentAt N.stands N.clock N.left_since N.honest (mirror_of ports.old) (mirror_of ports.new)) }
+{
+    jobs_follow();
+    jobs_end();
+    result_of(run_job(alloc, ports, JobState::init(url)))
+}
+
+/// Copies the properties of the revisions from `low` to `high` again.
+pub fn run_copy_revprops<M: MasterPort + Drop, N: MirrorPort + Drop, R: Report + Drop>(
+    alloc: Global,
+    ports: &mut JobPorts<M, N, R>,
+    token: Token,
+    low: RevNo,
+    high: RevNo,
+) -> Result<(), SyncFault>
+    ensures run { IsCopyRun token low high (calls_of ports.old) (calls_of ports.new) (R.heard (report_of ports.old))
+        (R.heard (report_of ports.new)) result }
+    ensures mirror { Moving (calls_of ports.old) (calls_of ports.new)
+        (WentAt N.stands N.clock N.left_since N.honest (mirror_of ports.old) (mirror_of ports.new)) }
+{
+    jobs_follow();
+    jobs_end();
+    result_of(run_job(alloc, ports, JobState::copy_props(token, low, high)))
+}
+
+// How a run ended, as an answer.
+fn result_of(ending: Ending) -> Result<(), SyncFault>
+    ensures { result ≡ answer_to ending }
+{
+    match ending {
+        Ending::Fine => Ok(()),
+        Ending::Refused(fault) => Err(fault),
+    }
+}
+
+// Runs a job to its end.
+fn run_job<M: MasterPort + Drop, N: MirrorPort + Drop, R: Report + Drop>(
+    alloc: Global,
+    ports: &mut JobPorts<M, N, R>,
+    state: JobState,
+) -> Ending
+    ensures ran { Ran state (calls_of ports.old) (calls_of ports.new) (R.heard (report_of ports.old))
+        (R.heard (report_of ports.new)) result }
+    ensures mirror { Moving (calls_of ports.old) (calls_of ports.new)
+        (WentAt N.stands N.clock N.left_since N.honest (mirror_of ports.old) (mirror_of ports.new)) }
+{
+    let mut state = state;
+    let mut trees = Vec::new(alloc);
+    for _i in 0..u64::MAX {
+        match next(alloc, ports, &mut trees, &state) {
+            Some(answer) => state = absorb(state, answer),
+            None => return ended(state),
+        }
+    }
+    Ending::Refused(SyncFault::OutOfMemory)
+}
+
+// What the job does next is done, and answered; None where it has ended.
+fn next<M: MasterPort + Drop, N: MirrorPort + Drop, R: Report + Drop>(
+    alloc: Global,
+    ports: &mut JobPorts<M, N, R>,
+    trees: &mut Vec<Tree>,
+    state: &JobState,
+) -> Option<Answer>
+    ensures none { result ≡ None → (deed_in state.now ≡ Ends) × (calls_of ports.new ≡ calls_of ports.old) ×
+        (report_of ports.new ≡ report_of ports.old) }
+    ensures some { IfSome result
+        (λ a. Acted (deed_in state.now) a (calls_of ports.old) (calls_of ports.new) (R.heard (report_of ports.old))
+        (R.heard (report_of ports.new))) }
+    ensures stays { result ≡ None → mirror_of ports.new ≡ mirror_of ports.old }
+    ensures mirror { IfSome result
+        (λ a. WentAt N.stands N.clock N.left_since N.honest (mirror_of ports.old) (mirror_of ports.new)
+        (accepted_by (deed_in state.now) (outcome_of a)) (counted_by (deed_in state.now) (outcome_of a))) }
+{
+    match decide(state) {
+        Action::End => None,
+        action => Some(ports.act(alloc, trees, &action)),
+    }
+}
+
+// How a job has ended.
+fn ended(state: JobState) -> Ending
+    ensures { IsEnded state result }
+{
+    match state.ending() {
+        Some(ending) => ending,
+        None => Ending::Refused(SyncFault::OutOfMemory),
+    }
+}
