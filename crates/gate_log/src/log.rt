@@ -1,11 +1,14 @@
 //! The log.
-ghost use Rattle.std.specs.Prelude.{◌≡◌, ◌≢◌, ◌⊎◌, ◌<◌, ◌≤◌, ◌+◌, ◌*◌, ◌^◌, ◌++◌, ◌∷◌, ◌↔◌, [], List, ℕ, false, length, take, slice_get, Some, IsTrue, IfOk, IfErr, OnOk, OnErr, IsErrOf};
+ghost use Rattle.std.specs.Prelude.{◌≡◌, ◌≢◌, ◌⊎◌, ◌<◌, ◌≤◌, ◌+◌, ◌*◌, ◌^◌, ◌++◌, ◌∷◌, ◌↔◌, [], List, ℕ, false};
+ghost use Rattle.std.specs.Prelude.{length, take, slice_get, Some, IsTrue, IfOk, IfErr, OnOk, OnErr, IsErrOf};
 ghost use Rattle.std.proofs.Props.{props};
 ghost use Rattle.fleet_disk.specs.Image.{Image, no_bytes};
 ghost use Rattle.fleet_disk.specs.Rules.{Only, LeavesOnly, Settles, Rose, Within};
 ghost use Rattle.gate_log.specs.Faults.{IsFindFault};
+ghost use Rattle.gate_log.specs.Looks.{Looks};
 ghost use Rattle.gate_log.specs.Slots.{slots, gates_size};
-ghost use Rattle.gate_log.specs.Standing.{last_end, IsRising, IsAtRest, IsEither, IsBlank, IsDamagedAt, Stands, StandsAlike, StandsAs, HasNoEntry};
+ghost use Rattle.gate_log.specs.Standing.{last_end, IsRising, IsAtRest, IsEither, IsBlank, IsDamagedAt, Stands};
+ghost use Rattle.gate_log.specs.Standing.{StandsAlike, StandsAs, HasNoEntry};
 ghost use Rattle.gate_log.specs.StandingLaws.{rising_prop};
 
 use crate::create::begin;
@@ -57,19 +60,27 @@ impl<D: Disk> GateLog<D> {
     /// Begins a log without entries on a disk of two empty files. Until it has answered Ok a stop leaves no entry and
     /// one gate at most, of any value, so that an opening answers NoRepository (34) or Damaged (33). The first append
     /// takes no memory. It answers OutOfMemory (70) before it asks the disk for anything, ThereAlready (35) where a
-    /// file isn't empty, and DeviceFailed (31); a refusal hands the disk back.
+    /// file isn't empty, and DeviceFailed (31). A refusal hands the disk back; one with something on it then is as it
+    /// was: a read gives what it gave, and a stop leaves what it could leave, at each moment too.
     pub fn create(alloc: Global, disk: D) -> Result<GateLog<D>, (LogFault, D)>
         ensures empty { D.honest disk → OnOk result (D.reads disk ≡ no_bytes) }
         ensures entries { IfOk result (λ log. (ends_of log ≡ []) × ¬ HasFailed log) }
-        ensures files { D.honest disk → IfOk result (λ log. ((D.reads (disk_of log)).journal ≡ []) × ((D.reads (disk_of log)).gate ≡ 0 ∷ [])) }
-        ensures durable { D.honest disk → IfOk result (λ log. (image : Image) → D.may_leave (disk_of log) image → Stands image []) }
+        ensures files { D.honest disk → IfOk result
+            (λ log. ((D.reads (disk_of log)).journal ≡ []) × ((D.reads (disk_of log)).gate ≡ 0 ∷ [])) }
+        ensures durable { D.honest disk → IfOk result
+            (λ log. (image : Image) → D.may_leave (disk_of log) image → Stands image []) }
         ensures there { D.honest disk → IfErr result (λ e. e.0 ≡ LogFault.ThereAlready → D.reads disk ≢ no_bytes) }
+        ensures looks { D.honest disk → D.reads disk ≢ no_bytes
+            → IfErr result (λ e. Looks D.honest D.reads D.may_leave D.clock D.left_since D.failures disk e.1) }
         ensures device { IfErr result (λ e. e.0 ≡ LogFault.DeviceFailed → Rose (D.failures disk) (D.failures e.1)) }
         ensures memory { IfErr result (λ e. e.0 ≡ LogFault.OutOfMemory → e.1 ≡ disk) }
         ensures room { IfOk result HasRoom }
-        ensures no_other { IfErr result (λ e. (e.0 ≡ LogFault.DeviceFailed) ⊎ (e.0 ≡ LogFault.ThereAlready) ⊎ (e.0 ≡ LogFault.OutOfMemory)) }
-        ensures any_moment { D.honest disk → Only no_bytes (D.may_leave disk) → IfOk result (λ log. LeavesOnly D.clock D.left_since disk (disk_of log) IsBlank) }
-        ensures any_moment_err { D.honest disk → Only no_bytes (D.may_leave disk) → IfErr result (λ e. LeavesOnly D.clock D.left_since disk e.1 IsBlank) }
+        ensures no_other { IfErr result (λ e. (e.0 ≡ LogFault.DeviceFailed) ⊎ (e.0 ≡ LogFault.ThereAlready)
+            ⊎ (e.0 ≡ LogFault.OutOfMemory)) }
+        ensures any_moment { D.honest disk → Only no_bytes (D.may_leave disk) → IfOk result
+            (λ log. LeavesOnly D.clock D.left_since disk (disk_of log) IsBlank) }
+        ensures any_moment_err { D.honest disk → Only no_bytes (D.may_leave disk) → IfErr result
+            (λ e. LeavesOnly D.clock D.left_since disk e.1 IsBlank) }
         ensures honest { IfOk result (λ log. D.honest disk ↔ D.honest (disk_of log)) }
         ensures honest_err { IfErr result (λ e. D.honest disk ↔ D.honest e.1) }
         ensures later { IfOk result (λ log. D.failures disk ≤ D.failures (disk_of log)) }
@@ -93,17 +104,22 @@ impl<D: Disk> GateLog<D> {
     /// first sync has succeeded a stop leaves what it could leave before, and from then on an image that stands for
     /// the entries that a read gave. It answers NoRepository (34) where the first gate is missing or closed, Damaged
     /// (33) with the first entry whose length or next gate breaks the format, DeviceFailed (31) and OutOfMemory (70);
-    /// a refusal hands the disk back, and but for 31 leaves there what a read gave.
+    /// a refusal hands the disk back. But for 31 a read of it then gives what it gave, a stop leaves that, and at each
+    /// moment left what it could leave before.
     pub fn open(alloc: Global, disk: D) -> Result<GateLog<D>, (LogFault, D)>
-        ensures found { D.honest disk → (entries : List (List ℕ)) → Stands (D.reads disk) entries → 0 < length entries → IfOk result (λ log. entries_of log ≡ entries) }
+        ensures found { D.honest disk → (entries : List (List ℕ)) → Stands (D.reads disk) entries → 0 < length entries
+            → IfOk result (λ log. entries_of log ≡ entries) }
         ensures refused { D.honest disk → (entries : List (List ℕ)) → Stands (D.reads disk) entries → 0 < length entries
             → IfErr result (λ e. (e.0 ≡ LogFault.DeviceFailed) ⊎ (e.0 ≡ LogFault.OutOfMemory)) }
         ensures stands { D.honest disk → IfOk result (λ log. Stands (D.reads disk) (entries_of log)) }
         ensures some { IfOk result (λ log. (0 < length (entries_of log)) × ¬ HasFailed log) }
-        ensures files { D.honest disk → IfOk result (λ log. ((D.reads (disk_of log)).journal ≡ take (size_of log) (D.reads disk).journal)
+        ensures files { D.honest disk → IfOk result
+            (λ log. ((D.reads (disk_of log)).journal ≡ take (size_of log) (D.reads disk).journal)
             × ((D.reads (disk_of log)).gate ≡ take (gates_size (length (ends_of log))) (D.reads disk).gate)) }
-        ensures durable { D.honest disk → IfOk result (λ log. (image : Image) → D.may_leave (disk_of log) image → Stands image (entries_of log)) }
-        ensures damaged { D.honest disk → (entry : ℕ) → IfErr result (λ e. e.0 ≡ LogFault.Damaged entry → IsDamagedAt entry (D.reads disk)) }
+        ensures durable { D.honest disk → IfOk result
+            (λ log. (image : Image) → D.may_leave (disk_of log) image → Stands image (entries_of log)) }
+        ensures damaged { D.honest disk → (entry : ℕ) → IfErr result
+            (λ e. e.0 ≡ LogFault.Damaged entry → IsDamagedAt entry (D.reads disk)) }
         ensures missing { D.honest disk → IfErr result (λ e. e.0 ≡ LogFault.NoRepository → HasNoEntry (D.reads disk)) }
         ensures device { IfErr result (λ e. e.0 ≡ LogFault.DeviceFailed → Rose (D.failures disk) (D.failures e.1)) }
         ensures no_other { IfErr result (λ e. IsFindFault e.0) }
@@ -111,10 +127,15 @@ impl<D: Disk> GateLog<D> {
             (λ c. D.may_leave disk c ⊎ StandsAlike (D.reads disk) c)) }
         ensures any_moment_err { D.honest disk → IfErr result (λ e. LeavesOnly D.clock D.left_since disk e.1
             (λ c. D.may_leave disk c ⊎ StandsAlike (D.reads disk) c)) }
-        ensures settles { D.honest disk → IfOk result (λ log. Settles D.may_leave D.clock D.left_since disk (disk_of log) (StandsAs (D.reads disk))) }
-        ensures settles_err { D.honest disk → IfErr result (λ e. LeavesOnly D.clock D.left_since disk e.1 (D.may_leave disk)
+        ensures settles { D.honest disk → IfOk result
+            (λ log. Settles D.may_leave D.clock D.left_since disk (disk_of log) (StandsAs (D.reads disk))) }
+        ensures settles_err { D.honest disk → IfErr result
+            (λ e. LeavesOnly D.clock D.left_since disk e.1 (D.may_leave disk)
             ⊎ Settles D.may_leave D.clock D.left_since disk e.1 (StandsAs (D.reads disk))) }
-        ensures kept { D.honest disk → IfErr result (λ e. (e.0 ≡ LogFault.DeviceFailed) ⊎ Only (D.reads disk) (D.may_leave e.1)) }
+        ensures kept { D.honest disk → IfErr result
+            (λ e. (e.0 ≡ LogFault.DeviceFailed) ⊎ Only (D.reads disk) (D.may_leave e.1)) }
+        ensures looks { D.honest disk → IfErr result (λ e. (e.0 ≡ LogFault.DeviceFailed)
+            ⊎ Looks D.honest D.reads D.may_leave D.clock D.left_since D.failures disk e.1) }
         ensures honest { IfOk result (λ log. D.honest disk ↔ D.honest (disk_of log)) }
         ensures honest_err { IfErr result (λ e. D.honest disk ↔ D.honest e.1) }
         ensures later { IfOk result (λ log. D.failures disk ≤ D.failures (disk_of log)) }
@@ -136,7 +157,8 @@ impl<D: Disk> GateLog<D> {
     pub fn len(&self) -> u64
         ensures count { result ≡ length (ends_of self.now) }
         ensures entries { result ≡ length (entries_of self.now) }
-        ensures stand { D.honest (disk_of self.now) → ¬ HasFailed self.now → (image : Image) → D.may_leave (disk_of self.now) image → Stands image (entries_of self.now) }
+        ensures stand { D.honest (disk_of self.now) → ¬ HasFailed self.now → (image : Image)
+            → D.may_leave (disk_of self.now) image → Stands image (entries_of self.now) }
     {
         self.ends.len() as u64
     }
@@ -180,7 +202,8 @@ impl<D: Disk> GateLog<D> {
         ensures failed { IsErrOf result LogFault.Failed ↔ HasFailed self.old }
         ensures full { IsErrOf result LogFault.LogFull ↔ (¬ HasFailed self.old × (2 ^ 56 < size_of self.old + count)) }
         ensures memory { IsErrOf result LogFault.OutOfMemory → ¬ HasRoom self.old }
-        ensures no_other { IfErr result (λ e. (e ≡ LogFault.Failed) ⊎ (e ≡ LogFault.LogFull) ⊎ (e ≡ LogFault.OutOfMemory)) }
+        ensures no_other { IfErr result (λ e. (e ≡ LogFault.Failed) ⊎ (e ≡ LogFault.LogFull)
+            ⊎ (e ≡ LogFault.OutOfMemory)) }
     {
         if self.failed {
             return Err(LogFault::Failed);
@@ -200,28 +223,38 @@ impl<D: Disk> GateLog<D> {
     pub fn append(&mut self, bytes: &[u8]) -> Result<Receipt, LogFault>
         requires { 0 < length bytes.now }
 
-        ensures added { D.honest (disk_of self.old) → OnOk result (entries_of self.new ≡ entries_of self.old ++ bytes.now ∷ []) }
+        ensures added { D.honest (disk_of self.old)
+            → OnOk result (entries_of self.new ≡ entries_of self.old ++ bytes.now ∷ []) }
         ensures ends { OnOk result (ends_of self.new ≡ ends_of self.old ++ (size_of self.old + length bytes.now) ∷ []) }
-        ensures files { D.honest (disk_of self.old) → OnOk result (((D.reads (disk_of self.new)).journal ≡ (D.reads (disk_of self.old)).journal ++ bytes.now)
+        ensures files { D.honest (disk_of self.old)
+            → OnOk result (((D.reads (disk_of self.new)).journal ≡ (D.reads (disk_of self.old)).journal ++ bytes.now)
             × ((D.reads (disk_of self.new)).gate ≡ slots (ends_of self.new) ++ 0 ∷ [])) }
         ensures receipt { IfOk result (λ receipt. entry_of receipt ≡ length (entries_of self.old)) }
-        ensures durable { D.honest (disk_of self.old) → OnOk result ((image : Image) → D.may_leave (disk_of self.new) image
+        ensures durable { D.honest (disk_of self.old)
+            → OnOk result ((image : Image) → D.may_leave (disk_of self.new) image
             → Stands image (entries_of self.old ++ bytes.now ∷ [])) }
-        ensures any_moment { D.honest (disk_of self.old) → ¬ HasFailed self.old → LeavesOnly D.clock D.left_since (disk_of self.old) (disk_of self.new)
+        ensures any_moment { D.honest (disk_of self.old) → ¬ HasFailed self.old
+            → LeavesOnly D.clock D.left_since (disk_of self.old) (disk_of self.new)
             (IsEither (entries_of self.old) bytes.now) }
-        ensures any_moment_failed { D.honest (disk_of self.old) → HasFailed self.old → LeavesOnly D.clock D.left_since (disk_of self.old) (disk_of self.new)
+        ensures any_moment_failed { D.honest (disk_of self.old) → HasFailed self.old
+            → LeavesOnly D.clock D.left_since (disk_of self.old) (disk_of self.new)
             (D.may_leave (disk_of self.old)) }
-        ensures either { D.honest (disk_of self.old) → IsErrOf result LogFault.DeviceFailed → (image : Image) → D.may_leave (disk_of self.new) image
+        ensures either { D.honest (disk_of self.old) → IsErrOf result LogFault.DeviceFailed → (image : Image)
+            → D.may_leave (disk_of self.new) image
             → IsEither (entries_of self.old) bytes.now image }
 
-        ensures device { IsErrOf result LogFault.DeviceFailed → Rose (D.failures (disk_of self.old)) (D.failures (disk_of self.new)) }
+        ensures device { IsErrOf result LogFault.DeviceFailed
+            → Rose (D.failures (disk_of self.old)) (D.failures (disk_of self.new)) }
         ensures failed { IsErrOf result LogFault.Failed ↔ HasFailed self.old }
-        ensures full { IsErrOf result LogFault.LogFull ↔ (¬ HasFailed self.old × (2 ^ 56 < size_of self.old + length bytes.now)) }
+        ensures full { IsErrOf result LogFault.LogFull ↔ (¬ HasFailed self.old
+            × (2 ^ 56 < size_of self.old + length bytes.now)) }
         ensures memory { IsErrOf result LogFault.OutOfMemory → ¬ HasRoom self.old }
-        ensures no_other { IfErr result (λ e. (e ≡ LogFault.DeviceFailed) ⊎ (e ≡ LogFault.Failed) ⊎ (e ≡ LogFault.LogFull) ⊎ (e ≡ LogFault.OutOfMemory)) }
+        ensures no_other { IfErr result (λ e. (e ≡ LogFault.DeviceFailed) ⊎ (e ≡ LogFault.Failed)
+            ⊎ (e ≡ LogFault.LogFull) ⊎ (e ≡ LogFault.OutOfMemory)) }
 
         ensures kept { OnErr result (ends_of self.new ≡ ends_of self.old) }
-        ensures untouched { IfErr result (λ e. (e ≡ LogFault.DeviceFailed) ⊎ ((disk_of self.new ≡ disk_of self.old) × (ends_of self.new ≡ ends_of self.old))) }
+        ensures untouched { IfErr result (λ e. (e ≡ LogFault.DeviceFailed)
+            ⊎ ((disk_of self.new ≡ disk_of self.old) × (ends_of self.new ≡ ends_of self.old))) }
         ensures working { HasFailed self.new ↔ (HasFailed self.old ⊎ IsErrOf result LogFault.DeviceFailed) }
         ensures honest { D.honest (disk_of self.old) ↔ D.honest (disk_of self.new) }
         ensures later { D.failures (disk_of self.old) ≤ D.failures (disk_of self.new) }
@@ -241,16 +274,22 @@ impl<D: Disk> GateLog<D> {
     /// honest one; the entries stay as they are.
     pub fn read_entry(&mut self, alloc: Global, entry: u64) -> Result<Vec<u8>, LogFault>
         requires { entry < length (ends_of self.old) }
-        ensures bytes { D.honest (disk_of self.old) → IfOk result (λ bytes. slice_get (entries_of self.old) entry ≡ Some bytes.items) }
+        ensures bytes { D.honest (disk_of self.old) → IfOk result
+            (λ bytes. slice_get (entries_of self.old) entry ≡ Some bytes.items) }
         ensures same { D.honest (disk_of self.old) → entries_of self.new ≡ entries_of self.old }
         ensures ends { ends_of self.new ≡ ends_of self.old }
-        ensures inside { D.honest (disk_of self.old) → Within (D.may_leave (disk_of self.new)) (D.may_leave (disk_of self.old)) }
-        ensures any_moment { D.honest (disk_of self.old) → LeavesOnly D.clock D.left_since (disk_of self.old) (disk_of self.new) (D.may_leave (disk_of self.old)) }
-        ensures device { IsErrOf result LogFault.DeviceFailed → Rose (D.failures (disk_of self.old)) (D.failures (disk_of self.new)) }
+        ensures inside { D.honest (disk_of self.old)
+            → Within (D.may_leave (disk_of self.new)) (D.may_leave (disk_of self.old)) }
+        ensures any_moment { D.honest (disk_of self.old)
+            → LeavesOnly D.clock D.left_since (disk_of self.old) (disk_of self.new) (D.may_leave (disk_of self.old)) }
+        ensures device { IsErrOf result LogFault.DeviceFailed
+            → Rose (D.failures (disk_of self.old)) (D.failures (disk_of self.new)) }
         ensures failed { IsErrOf result LogFault.Failed ↔ HasFailed self.old }
         ensures working { HasFailed self.new ↔ (HasFailed self.old ⊎ IsErrOf result LogFault.DeviceFailed) }
-        ensures no_other { D.honest (disk_of self.old) → IfErr result (λ e. (e ≡ LogFault.DeviceFailed) ⊎ (e ≡ LogFault.Failed) ⊎ (e ≡ LogFault.OutOfMemory)) }
-        ensures faults { IfErr result (λ e. (e ≡ LogFault.DeviceFailed) ⊎ (e ≡ LogFault.Failed) ⊎ (e ≡ LogFault.Damaged entry) ⊎ (e ≡ LogFault.OutOfMemory)) }
+        ensures no_other { D.honest (disk_of self.old) → IfErr result
+            (λ e. (e ≡ LogFault.DeviceFailed) ⊎ (e ≡ LogFault.Failed) ⊎ (e ≡ LogFault.OutOfMemory)) }
+        ensures faults { IfErr result (λ e. (e ≡ LogFault.DeviceFailed) ⊎ (e ≡ LogFault.Failed)
+            ⊎ (e ≡ LogFault.Damaged entry) ⊎ (e ≡ LogFault.OutOfMemory)) }
         ensures honest { D.honest (disk_of self.old) ↔ D.honest (disk_of self.new) }
         ensures later { D.failures (disk_of self.old) ≤ D.failures (disk_of self.new) }
     {

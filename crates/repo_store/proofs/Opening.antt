@@ -20,7 +20,7 @@ moved first image entries r old new (others, there, s) = (entries, new, subst (�
 
 -- images of the same entries keep the same
 pub alike : (first image : Image) (entries : List (List ℕ)) → Stands first entries → Stands image entries → KeepsAlike first image
-alike first image entries old new r known = ∥∥₁_map known (moved first image entries r old new)
+alike first image entries old new = ((entries, old, new), λ r known. ∥∥₁_map known (moved first image entries r old new))
 
 pub alike_or : {P : Type 0} (first image : Image) → P ⊎ StandsAlike first image → P ⊎ KeepsAlike first image
 alike_or first image (inl p) = inl p

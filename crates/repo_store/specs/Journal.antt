@@ -13,7 +13,7 @@ use Rattle.dump_load.specs.declared.change.Change.{Change}
 use Rattle.dump_load.specs.Changes.{IsNormal}
 use Rattle.dump_load.specs.Records.{record_of}
 use Rattle.fleet_disk.specs.Image.{Image}
-use Rattle.gate_log.specs.Standing.{Stands, IsDamagedAt}
+use Rattle.gate_log.specs.Standing.{Stands, StandsAlike, IsDamagedAt}
 use Rattle.repo_core.specs.Repository.{Revision, Repository, fresh}
 use Rattle.repo_core.specs.declared.entry.Entry.{Entry}
 use Rattle.repo_core.specs.declared.entry.Entry.TheVariants.{Revised, Mapped}
@@ -101,9 +101,9 @@ KeepsOr r (Some e) image = ∥ IsBeforeOrAfter r e image ∥₁
 abbrev pub doubt_in : Option StagedEntry → Option Entry
 doubt_in = option_map (λ (s : StagedEntry). s.entry)
 
--- an image keeps whatever the first keeps
+-- an image has the entries that the first has, and keeps whatever the first keeps
 abbrev pub KeepsAlike : Image → Image → Type 0
-KeepsAlike first image = (r : Repository) → Keeps r first → Keeps r image
+KeepsAlike first image = StandsAlike first image × ((r : Repository) → Keeps r first → Keeps r image)
 
 -- the canonical text of a revision: the set that made its tree, and the properties that it has now
 abbrev pub IsExport : Repository → ℕ → List ℕ → Type 0

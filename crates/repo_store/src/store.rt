@@ -1,15 +1,16 @@
 //! The store.
-ghost use Rattle.std.specs.Prelude.{◌≡◌, ◌≢◌, ◌<◌, ◌≤◌, ◌^◌, ◌↔◌, ◌⊎◌, ℕ, List, length};
+ghost use Rattle.std.specs.Prelude.{◌≡◌, ◌≢◌, ◌<◌, ◌≤◌, ◌^◌, ◌↔◌, ◌⊎◌, ◌∷◌, [], ℕ, List, length};
 ghost use Rattle.std.specs.Prelude.{IsTrue, Some, None, is_some, IfOk, IfErr, OnOk, IsErr};
 ghost use Rattle.std.specs.Option.{option_copied};
 ghost use Rattle.std.specs.FinMap as finite;
 ghost use Rattle.fleet_disk.specs.Image.{Image, no_bytes};
-ghost use Rattle.fleet_disk.specs.Rules.{LeavesOnly, Rose};
+ghost use Rattle.fleet_disk.specs.Rules.{LeavesOnly, Only, Rose};
 ghost use Rattle.gate_log.specs.Log.{entries_of, disk_of as log_disk, HasFailed as LogFailed};
-ghost use Rattle.gate_log.specs.Standing.{HasNoEntry};
+ghost use Rattle.gate_log.specs.Looks.{Looks};
+ghost use Rattle.gate_log.specs.Standing.{HasNoEntry, IsBlank, IsEither, Stands, StandsAlike};
 ghost use Rattle.repo_core.specs.Repository.{Revision, fresh};
 ghost use Rattle.repo_store.specs.Journal.{doubt_in, Tell, Keeps, KeepsOr, ReopensTo, IsDamaged, IsExport, IsBeginning};
-ghost use Rattle.repo_store.specs.Journal.{KeepsAlike};
+ghost use Rattle.repo_store.specs.Journal.{beginning_of, KeepsAlike};
 ghost use Rattle.repo_store.specs.Refusals.{IsCreateFault, IsOpenFault};
 ghost use Rattle.repo_store.specs.declared.fault.StoreFault.TheVariants as refusal;
 ghost use Rattle.gate_log.specs.declared.fault.LogFault.TheVariants as log;
@@ -41,17 +42,32 @@ pub struct RepoStore<D: Disk> {
 }
 
 impl<D: Disk> RepoStore<D> {
-    ghost use Rattle.repo_store.specs.Words.{disk_of, doubt_of, repository_of, revisions_of, identity_of, HasFailed};
-    ghost use Rattle.repo_store.specs.Words.{IsKept};
+    ghost use Rattle.repo_store.specs.Words.{disk_of, doubt_of, log_of, repository_of, revisions_of, identity_of};
+    ghost use Rattle.repo_store.specs.Words.{HasFailed, IsKept};
 
     /// Begins a repository of revision 0 alone, without properties, on a disk of two empty files; from Ok on a stop
-    /// leaves what keeps it. ThereAlready (35) where a file isn't empty, DeviceFailed (31), OutOfMemory (70); a refusal
-    /// hands the disk back. What a stop leaves before Ok isn't said.
+    /// leaves its first entry and no other. Until then a stop leaves no entry, with one gate at most where nothing was
+    /// synced yet, or that one.
+    ///
+    /// ThereAlready (35) where a file isn't empty, DeviceFailed (31), OutOfMemory (70). A refusal hands the disk back;
+    /// one with something on it then is as it was: a read gives what it gave, and a stop leaves what it could leave, at
+    /// each moment too. After 70 it is the disk that was given.
     pub fn create(alloc: Global, disk: D, identity: Uuid) -> Result<RepoStore<D>, (StoreFault, D)>
         ensures made { IfOk result (λ store. repository_of store ≡ fresh identity) }
         ensures working { IfOk result (λ store. ¬ HasFailed store) }
         ensures durable { D.honest disk → IfOk result (λ store. (image : Image) → D.may_leave (disk_of store) image
             → Keeps (fresh identity) image) }
+        ensures first { D.honest disk → IfOk result (λ store. (image : Image) → D.may_leave (disk_of store) image
+            → Stands image (beginning_of identity ∷ [])) }
+        ensures written { D.honest disk → IfOk result (λ store. entries_of (log_of store)
+            ≡ beginning_of identity ∷ []) }
+        ensures any_moment { D.honest disk → Only no_bytes (D.may_leave disk) → IfOk result (λ store.
+            LeavesOnly D.clock D.left_since disk (disk_of store)
+            (λ c. IsBlank c ⊎ IsEither [] (beginning_of identity) c)) }
+        ensures any_moment_err { D.honest disk → Only no_bytes (D.may_leave disk) → IfErr result (λ e.
+            LeavesOnly D.clock D.left_since disk e.1 (λ c. IsBlank c ⊎ IsEither [] (beginning_of identity) c)) }
+        ensures looks { D.honest disk → D.reads disk ≢ no_bytes
+            → IfErr result (λ e. Looks D.honest D.reads D.may_leave D.clock D.left_since D.failures disk e.1) }
         ensures empty { D.honest disk → OnOk result (D.reads disk ≡ no_bytes) }
         ensures there { D.honest disk → IfErr result (λ e. e.0 ≡ refusal.Log log.ThereAlready
             → D.reads disk ≢ no_bytes) }
@@ -82,7 +98,10 @@ impl<D: Disk> RepoStore<D> {
     /// Opens the repository that a disk holds, the one to which what a read gives reopens, with the sets of changes
     /// that its entries tell: what is exported is what was exported before (`one_verdict`). NoRepository (34), Damaged
     /// (33) with the first entry that breaks the journal's format or isn't an entry that the repository before it
-    /// takes, and only there, DeviceFailed (31), OutOfMemory (70); a refusal hands the disk back.
+    /// takes, and only there, DeviceFailed (31), OutOfMemory (70).
+    ///
+    /// A refusal hands the disk back: at each moment a stop leaves what it could leave before, or an image of the entries
+    /// that a read gave; after it, but for 31, what a read gave, or an image of its entries.
     pub fn open(alloc: Global, disk: D) -> Result<RepoStore<D>, (StoreFault, D)>
         ensures stands { D.honest disk → IfOk result (λ store. ReopensTo (identity_of store) (revisions_of store)
             (D.reads disk)) }
@@ -109,6 +128,8 @@ impl<D: Disk> RepoStore<D> {
             (λ c. D.may_leave disk c ⊎ KeepsAlike (D.reads disk) c)) }
         ensures any_moment_err { D.honest disk → IfErr result (λ e. LeavesOnly D.clock D.left_since disk e.1
             (λ c. D.may_leave disk c ⊎ KeepsAlike (D.reads disk) c)) }
+        ensures kept { D.honest disk → IfErr result (λ e. (e.0 ≡ refusal.Log log.DeviceFailed) ⊎ ((image : Image)
+            → D.may_leave e.1 image → (image ≡ D.reads disk) ⊎ StandsAlike (D.reads disk) image)) }
         ensures honest { IfOk result (λ store. D.honest disk ↔ D.honest (disk_of store)) }
         ensures honest_err { IfErr result (λ e. D.honest disk ↔ D.honest e.1) }
         ensures later { IfOk result (λ store. D.failures disk ≤ D.failures (disk_of store)) }

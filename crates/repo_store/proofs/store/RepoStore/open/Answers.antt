@@ -102,3 +102,10 @@ returns-in-Err-replay-clause-first g c h entry damage =
     only_first c.one_verdict.ensures.one_damage c.one_verdict.ensures.damage_not_missing (g.D.Disk.reads c.args.disk) entry c.in-Err-replay.fault damage (replayed_fault c.in-Err-replay.fault c.in-Err-replay.ensures.no_other)
     (λ n is. inr (entries_of c.in-Ok.log, c.in-Ok.ensures.stands h, c.in-Err-replay.ensures.damaged honest n (ap (λ (f : LogFault). Err f) is)))
     (λ is. absurd (never_missing c.in-Err-replay.fault c.in-Err-replay.ensures.no_other is))
+
+pub returns-in-Err-replay-clause-kept : goal.returns-in-Err-replay-clause-kept
+returns-in-Err-replay-clause-kept g c h =
+    let honest = c.in-Ok.ensures.honest.0 h in
+    inr (λ image left.
+        let left = subst (λ (d : g.row.D.Denot). g.D.Disk.may_leave d image) c.into_disk.ensures left in
+        inr (entries_of c.in-Ok.log, c.in-Ok.ensures.stands h, c.in-Ok.ensures.durable h image (c.replay.ensures.inside honest image left)))
