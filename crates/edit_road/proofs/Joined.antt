@@ -32,7 +32,7 @@ use Rattle.ra_edit.specs.declared.edit_fault.EditFault.TheVariants as fault
 use Rattle.ra_edit.proofs.WrittenReceived.{written_is_received}
 use Rattle.ra_edit.proofs.NotRefused.{written_is_not_refused}
 use Rattle.edit_road.specs.Laws.{HaveBytes}
-use Rattle.edit_road.specs.Sent.{IsSmall, IsSent, body_of, DriveIsWritten, DriveIsReceived, DriveIsNotRefused}
+use Rattle.edit_road.specs.Sent.{IsSmall, IsSent, IsNew, body_of, DriveIsWritten, DriveIsReceived, DriveIsNotRefused}
 use Rattle.edit_road.proofs.Pieces.{one, run_both, same_effect, same_nesting}
 use Rattle.edit_road.proofs.Refused.{bytes_join, any_by_bytes, same_refusal}
 use Rattle.edit_road.proofs.Driven.{cut_bytes, drive_bytes}
@@ -207,8 +207,8 @@ own P Q failed fault.BadToken g h = h
 own P Q failed fault.BadShape g h = h
 own P Q failed fault.Refused g h = h
 
-pub not_refused : {E : Type 0} (shows : E → List Call → Type 0) (began : E → List PathMap) → WrittenIsRead → DriveIsWritten → DriveIsNotRefused shows began
-not_refused shows began law written editor trees s more before after was spent failed f sent new over at fresh refuses =
-    own (RefusesOne shows began RefusesWithin editor (cut_all (drive trees s))) (λ e. e ≡ refusal.OutOfMemory) failed f
-    (λ e r. one_for_memory trees s e r.before r.next r.rest sent r.among (subst (λ t. RefusesWithin t r.before r.next e) over (r.met [] new)))
-    (written_is_not_refused shows began RefusesWithin law editor (length trees) (base_number trees) (body_of trees s) more before after was spent failed f (written trees s sent) at fresh refuses)
+pub not_refused : WrittenIsRead → DriveIsWritten → DriveIsNotRefused
+not_refused law written trees s more before after was spent failed f sent at fresh refuses =
+    own (RefusesOne IsNew (λ t. t) RefusesWithin trees (cut_all (drive trees s))) (λ e. e ≡ refusal.OutOfMemory) failed f
+    (λ e r. one_for_memory trees s e r.before r.next r.rest sent r.among (r.met [] refl))
+    (written_is_not_refused IsNew (λ t. t) RefusesWithin law trees (length trees) (base_number trees) (body_of trees s) more before after was spent failed f (written trees s sent) at fresh refuses)

@@ -16,7 +16,7 @@ use Rattle.ra_edit.specs.EditLaws.{IsBefore, IsOnlyFor}
 use Rattle.ra_edit.specs.ItemStreams.{Takes, reader_of, has_failed, is_spent, ahead}
 use Rattle.ra_edit.specs.declared.edit_fault.EditFault.{EditFault}
 use Rattle.ra_edit.specs.declared.stream.ItemStream.{ItemStream}
-use Rattle.edit_road.specs.Sent.{IsSent}
+use Rattle.edit_road.specs.Sent.{IsSent, RefusesOver}
 
 -- the items that were taken are one edit, and this set is what its calls come to over these trees
 pub record IsSetOfItems (trees : List PathMap) (before after : Option (List ℕ)) (was is : List ℕ → Stream) (set : List Change) : Type 0 where
@@ -36,6 +36,10 @@ ReceivesSet trees set before after was is = (s : List Change) (more : List ℕ) 
 
 abbrev pub Receives : {R : Type 0} {g : _} → (R → Option (List ℕ)) → List PathMap → ItemStream R g → ItemStream R g → List Change → Type 0
 Receives remaining trees old new set = ReceivesSet trees set (remaining (reader_of old)) (remaining (reader_of new)) (ahead old) (ahead new)
+
+-- why the next edit is refused
+abbrev pub RefusesEdit : {R : Type 0} {g : _} → (R → Option (List ℕ)) → List PathMap → ItemStream R g → ItemStream R g → EditFault → Type 0
+RefusesEdit remaining trees old new f = RefusesOver trees (remaining (reader_of old)) (remaining (reader_of new)) (ahead old) (is_spent old) (has_failed new) f
 
 -- where a drive of a set that may be sent is to come, a refusal is want of memory or a read that failed
 abbrev pub RefusesSet : List PathMap → Option (List ℕ) → (List ℕ → Stream) → Bool → Bool → EditFault → Type 0

@@ -70,9 +70,17 @@ DriveIsWritten = (trees : List PathMap) (s : List Change) → IsSent trees s →
 abbrev pub DriveIsReceived : Type 0
 DriveIsReceived = (trees : List PathMap) (s set : List Change) (more : List ℕ) (before after : Option (List ℕ)) (was is : List ℕ → Stream) (items : List Item) (calls : List Call) → IsSent trees s → IsBefore (edit_bytes (drive trees s) ++ more) before was → Takes items before after was is → SpellsEdit items calls → IsSetWithin trees set calls → ((q : Path) → effect trees set q ≡ effect trees s q) × IsBefore more after is
 
--- and an editor that builds over the same trees is refused only for want of memory, its own or the receiver's, or by a read that failed
-abbrev pub DriveIsNotRefused : {E : Type 0} → (E → List Call → Type 0) → (E → List PathMap) → Type 0
-DriveIsNotRefused shows began = (editor : _) (trees : List PathMap) (s : List Change) (more : List ℕ) (before after : Option (List ℕ)) (was : List ℕ → Stream) (spent failed : Bool) (f : EditFault) → IsSent trees s → shows editor [] → began editor ≡ trees → IsBefore (edit_bytes (drive trees s) ++ more) before was → spent ≡ false → RefusesDrive shows began RefusesWithin editor before after was spent failed f → IsOnlyFor (λ e. e ≡ OutOfMemory) failed f
+-- nothing was shown over these trees yet
+abbrev pub IsNew : List PathMap → List Call → Type 0
+IsNew trees shown = shown ≡ []
+
+-- items that are calls of an edit up to some place before its end were taken, and then the stream was refused, or the next item was, for what it says or by an editor that builds over these trees
+abbrev pub RefusesOver : List PathMap → Option (List ℕ) → Option (List ℕ) → (List ℕ → Stream) → Bool → Bool → EditFault → Type 0
+RefusesOver trees before after was spent failed f = RefusesDrive IsNew (λ t. t) RefusesWithin trees before after was spent failed f
+
+-- where the bytes of a drive are to come, whatever follows them, such a refusal is want of memory, the editor's own or the receiver's, or a read that failed
+abbrev pub DriveIsNotRefused : Type 0
+DriveIsNotRefused = (trees : List PathMap) (s : List Change) (more : List ℕ) (before after : Option (List ℕ)) (was : List ℕ → Stream) (spent failed : Bool) (f : EditFault) → IsSent trees s → IsBefore (edit_bytes (drive trees s) ++ more) before was → spent ≡ false → RefusesOver trees before after was spent failed f → IsOnlyFor (λ e. e ≡ OutOfMemory) failed f
 
 -- calls that a set is driven as keep the nesting and go down, so that what they were written as is their spelling
 abbrev pub DriveIsSpelled : Type 0

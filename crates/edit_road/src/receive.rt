@@ -1,7 +1,7 @@
 //! A set of changes from the items of an edit.
 ghost use Rattle.std.specs.Prelude.{◌≡◌, ◌≤◌, ◌||◌, length, true, false, IfOk, IfErr, OnOk, OnErr};
 ghost use Rattle.ra_edit.specs.ItemStreams.{has_failed, is_spent, is_peer};
-ghost use Rattle.edit_road.specs.Receiving.{IsNextEdit, Receives, Refuses};
+ghost use Rattle.edit_road.specs.Receiving.{IsNextEdit, Receives, Refuses, RefusesEdit};
 
 use dump_load::ChangeSet;
 use editor_ends::BuildEditor;
@@ -25,6 +25,7 @@ pub fn receive_set<R: Read + Drop>(
 ) -> Result<ChangeSet, EditFault>
     requires few { length trees.now ≤ 65535 }
     ensures edit { IfOk result (IsNextEdit R.remaining trees.now items.old items.new) }
+    ensures stopped { IfErr result (RefusesEdit R.remaining trees.now items.old items.new) }
     ensures received { IfOk result (Receives R.remaining trees.now items.old items.new) }
     ensures refused { IfErr result (Refuses R.remaining trees.now items.old items.new) }
     ensures failed { has_failed items.new ≡ (has_failed items.old || is_peer result) }
