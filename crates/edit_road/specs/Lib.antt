@@ -1,0 +1,4 @@
+pub mod Laws
+pub mod Receiving
+pub mod Sending
+pub mod Sent

@@ -1,0 +1,87 @@
+-- Sets of changes that may be sent, and what is received of them.
+use Rattle.std.specs.Prelude.{◌≡◌, ℕ, ◌≤◌, Bool, true, false, List, [], ◌∷◌, ◌++◌, length, Option, None, IfSome}
+use Rattle.std.specs.List.{AllByRecursion}
+use Rattle.std.specs.FinMap as finite
+use Rattle.node_base.specs.Path.{Path}
+use Rattle.node_base.specs.PathText.{is_path}
+use Rattle.node_base.specs.Props.{IsProps}
+use Rattle.node_base.specs.Tree.{PathMap, IsDirAt, base}
+use Rattle.node_base.specs.declared.node.Source.{Source}
+use Rattle.dump_load.specs.declared.change.Change.{Change}
+use Rattle.dump_load.specs.Changes.{IsNormal}
+use Rattle.dump_load.specs.Effect.{effect}
+use Rattle.dump_load.specs.Faults.{fault}
+use Rattle.delta_editor.specs.declared.call.Call.{Call}
+use Rattle.delta_editor.specs.declared.call.Call.TheVariants as call
+use Rattle.delta_editor.specs.declared.fault.EditorFault.TheVariants.{OutOfMemory}
+use Rattle.delta_editor.specs.Nesting.{IsNested}
+use Rattle.editor_ends.specs.Laws.{IsWithin}
+use Rattle.editor_ends.specs.BuildFaults.{RefusesWithin}
+use Rattle.editor_ends.specs.Built.{IsSetWithin}
+use Rattle.editor_ends.specs.Drive.{base_number, walk, drive}
+use Rattle.ra_item.specs.Items.{Item}
+use Rattle.ra_item.specs.Streams.{Stream}
+use Rattle.ra_edit.specs.Commands.{edit_bytes}
+use Rattle.ra_edit.specs.Edits.{SpellsEdit}
+use Rattle.ra_edit.specs.EditLaws.{IsWritten, IsBefore, IsOnlyFor}
+use Rattle.ra_edit.specs.ItemStreams.{Takes}
+use Rattle.ra_edit.specs.Wire.{AllDeeper}
+use Rattle.ra_edit.specs.Received.{RefusesDrive}
+use Rattle.ra_edit.specs.declared.edit_fault.EditFault.{EditFault}
+
+-- a source is a path and a revision within the limits
+pub record IsSource (s : Source) : Type 0 where
+  pub path : is_path s.path ≡ true
+  pub revision : s.revision ≤ 65535
+
+-- a change within the limits, as the types of its parts make sure
+pub record IsSmall (c : Change) : Type 0 where
+  pub path : is_path c.path ≡ true
+  pub source : IfSome c.source IsSource
+  pub parts : IsWithin c
+
+-- the set has no more changes than a revision may have, each within the limits
+pub record IsBounded (s : List Change) : Type 0 where
+  pub few : length s ≤ 4096
+  pub small : AllByRecursion IsSmall s
+
+-- the properties of each node of a tree are within the limits
+abbrev pub HasProps : PathMap → Type 0
+HasProps m = (q : Path) → IfSome (finite.get m q) (λ x. IsProps x.props)
+
+-- a set that may be sent as the revision after some trees
+pub record IsSent (trees : List PathMap) (s : List Change) : Type 0 where
+  pub numbered : length trees ≤ 65535
+  pub root : IsDirAt (base trees) []
+  pub nodes : AllByRecursion HasProps trees
+  pub normal : IsNormal s
+  pub faultless : fault trees s ≡ None
+  pub bounded : IsBounded s
+
+-- the calls of a drive behind the opening of the root
+abbrev pub body_of : List PathMap → List Change → List Call
+body_of trees s = walk trees [] [] s ++ (call.CloseDir [] ∷ call.CloseEdit ∷ [])
+
+-- a drive of such a set is an edit that is written
+abbrev pub DriveIsWritten : Type 0
+DriveIsWritten = (trees : List PathMap) (s : List Change) → IsSent trees s → IsWritten (length trees) (base_number trees) (body_of trees s)
+
+-- where the bytes of a drive are to come, whatever follows them, a set that was built of what was taken has the effect of the one that was sent
+abbrev pub DriveIsReceived : Type 0
+DriveIsReceived = (trees : List PathMap) (s set : List Change) (more : List ℕ) (before after : Option (List ℕ)) (was is : List ℕ → Stream) (items : List Item) (calls : List Call) → IsSent trees s → IsBefore (edit_bytes (drive trees s) ++ more) before was → Takes items before after was is → SpellsEdit items calls → IsSetWithin trees set calls → ((q : Path) → effect trees set q ≡ effect trees s q) × IsBefore more after is
+
+-- nothing was shown over these trees yet
+abbrev pub IsNew : List PathMap → List Call → Type 0
+IsNew trees shown = shown ≡ []
+
+-- items that are calls of an edit up to some place before its end were taken, and then the stream was refused, or the next item was, for what it says or by an editor that builds over these trees
+abbrev pub RefusesOver : List PathMap → Option (List ℕ) → Option (List ℕ) → (List ℕ → Stream) → Bool → Bool → EditFault → Type 0
+RefusesOver trees before after was spent failed f = RefusesDrive IsNew (λ t. t) RefusesWithin trees before after was spent failed f
+
+-- where the bytes of a drive are to come, whatever follows them, such a refusal is want of memory, the editor's own or the receiver's, or a read that failed
+abbrev pub DriveIsNotRefused : Type 0
+DriveIsNotRefused = (trees : List PathMap) (s : List Change) (more : List ℕ) (before after : Option (List ℕ)) (was : List ℕ → Stream) (spent failed : Bool) (f : EditFault) → IsSent trees s → IsBefore (edit_bytes (drive trees s) ++ more) before was → spent ≡ false → RefusesOver trees before after was spent failed f → IsOnlyFor (λ e. e ≡ OutOfMemory) failed f
+
+-- calls that a set is driven as keep the nesting and go down, so that what they were written as is their spelling
+abbrev pub DriveIsSpelled : Type 0
+DriveIsSpelled = (trees : List PathMap) (s : List Change) → IsNormal s → fault trees s ≡ None → IsDirAt (base trees) [] → IsNested (drive trees s) × AllDeeper (drive trees s)

@@ -1,0 +1,93 @@
+//! Readers and writers that fail, sets that can't be, and edits that are refused.
+
+use crate::sets::{bare, refusal, sent, set_of};
+use crate::spelled_tests::{FULL, every_command};
+use crate::streams_for_tests::{Failing, items_from};
+use dump_load::ChangeSet;
+use node_base::Action;
+use path_tree::Tree;
+use std::alloc::Global;
+use std::rt::HostRuntime;
+use std::test::Fail;
+
+// What a receive is refused for where its reader fails behind these bytes, and then the next one.
+fn broken(alloc: Global, trees: &[Tree], bytes: &[u8]) -> (u8, u8) {
+    let mut items = items_from(alloc, bytes, 7, true);
+    let first = refusal(alloc, trees, &mut items);
+    (first, refusal(alloc, trees, &mut items))
+}
+
+// Whether a reader that fails behind any beginning of an edit is said to have failed, and the stream is over.
+fn all_break(alloc: Global, trees: &[Tree]) -> bool {
+    for end in 0..FULL.len() {
+        if broken(alloc, trees, FULL.get(..end).unwrap_or(b"")) != (49, 32) {
+            return false;
+        }
+    }
+    true
+}
+
+#[test]
+fn a_reader_that_fails_is_told(rt: HostRuntime) -> Result<(), Fail> {
+    let alloc = rt.alloc();
+    let (trees, _set) = every_command(&rt, alloc)?;
+    assert!(rt; all_break(alloc, &trees));
+    assert!(rt; broken(alloc, &trees, FULL) == (0, 49));
+    Ok(())
+}
+
+// The number of what a set isn't sent for where the writer fails behind so many calls, 0 where it is sent; none where the
+// writer doesn't have a beginning of the edit.
+fn unsent(alloc: Global, trees: &[Tree], set: &ChangeSet, left: usize) -> Option<u8> {
+    let mut bytes = Vec::new(alloc);
+    let out = Failing {
+        bytes: &mut bytes,
+        left,
+    };
+    let number = match sent(alloc, trees, set, out) {
+        Ok(_) => 0,
+        Err(fault) => fault.number(),
+    };
+    FULL.starts_with(bytes.as_slice()).then_some(number)
+}
+
+// Whether a writer that fails behind fewer calls than so many is said to have failed.
+fn all_unsent(alloc: Global, trees: &[Tree], set: &ChangeSet, calls: usize) -> bool {
+    for left in 0..calls {
+        if unsent(alloc, trees, set, left) != Some(49) {
+            return false;
+        }
+    }
+    true
+}
+
+#[test]
+fn a_writer_that_fails_is_told(rt: HostRuntime) -> Result<(), Fail> {
+    let alloc = rt.alloc();
+    let (trees, set) = every_command(&rt, alloc)?;
+    assert!(rt; all_unsent(alloc, &trees, &set, 20));
+    assert!(rt; unsent(alloc, &trees, &set, 20) == Some(0));
+    Ok(())
+}
+
+#[test]
+fn a_set_with_a_fault_is_not_sent(rt: HostRuntime) -> Result<(), Fail> {
+    let alloc = rt.alloc();
+    let (trees, _set) = every_command(&rt, alloc)?;
+    let mut changes = Vec::new(alloc);
+    changes.push(bare(alloc, "a", Action::Delete)?)?;
+    let set = set_of(&rt, changes);
+    assert!(rt; unsent(alloc, &trees, &set, usize::MAX) == Some(11));
+    Ok(())
+}
+
+// What an edit is refused for.
+fn refused(alloc: Global, trees: &[Tree], bytes: &[u8]) -> u8 {
+    refusal(alloc, trees, &mut items_from(alloc, bytes, 9, false))
+}
+
+#[test]
+fn an_edit_over_other_trees_is_refused(rt: HostRuntime) {
+    let trees: [Tree; 0] = [];
+    assert!(rt; refused(rt.alloc(), &trees, FULL) == 16);
+}
