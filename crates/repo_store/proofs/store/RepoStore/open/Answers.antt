@@ -107,5 +107,5 @@ pub returns-in-Err-replay-clause-kept : goal.returns-in-Err-replay-clause-kept
 returns-in-Err-replay-clause-kept g c h =
     let honest = c.in-Ok.ensures.honest.0 h in
     inr (λ image left.
-        let left = subst (λ (d : g.row.D.Denot). g.D.Disk.may_leave d image) c.into_disk.ensures left in
-        inr (entries_of c.in-Ok.log, c.in-Ok.ensures.stands h, c.in-Ok.ensures.durable h image (c.replay.ensures.inside honest image left)))
+    let left = subst (λ (d : g.row.D.Denot). g.D.Disk.may_leave d image) c.into_disk.ensures left in
+    inr (entries_of c.in-Ok.log, c.in-Ok.ensures.stands h, c.in-Ok.ensures.durable h image (c.replay.ensures.inside honest image left)))
