@@ -37,6 +37,6 @@ fn a_job_goes_on_where_memory_was_refused(rt: HostRuntime) -> Result<(), Fail> {
     assert_eq!(rt; ran.number, 0);
     let copied = done(&rt, alloc, ran, Order::Copy(0, 1), Order::Steal);
     assert_eq!(rt; copied.number, 0);
-    assert!(rt; rests(&opened(&rt, alloc, copied.disk)));
+    assert!(rt; rests(&opened(&rt, alloc, copied.into_disk())));
     Ok(())
 }

@@ -25,7 +25,8 @@ fn refused(
     let mirror = AloneMirror::new(opened(rt, alloc, disk));
     let mut ports = JobPorts::new(alloc, stubborn, mirror, Lines::new(alloc));
     let answer = answered(rt, alloc, &mut ports, order);
-    let (_master, mirror, _lines) = ports.into_parts();
+    let (stubborn, mirror, _lines) = ports.into_parts();
+    let _master = stubborn.into_master().into_store().into_disk();
     (answer, opened(rt, alloc, mirror.into_disk()))
 }
 

@@ -30,7 +30,7 @@ fn properties_past_what_is_merged(rt: HostRuntime) -> Result<(), Fail> {
     let ran = synchronized(&rt, rt.alloc(), &FILES);
     let refused = go_on(&rt, rt.alloc(), ran, Order::Copy(5, 5));
     assert!(rt; refused.says(58, &[]));
-    assert!(rt; is_free(&rt, rt.alloc(), refused.disk));
+    assert!(rt; is_free(&rt, rt.alloc(), refused.into_disk()));
     Ok(())
 }
 
@@ -46,7 +46,7 @@ fn properties_before_anything_is_merged(rt: HostRuntime) -> Result<(), Fail> {
     );
     let refused = go_on(&rt, alloc, begun, Order::Copy(1, 1));
     assert!(rt; refused.says(58, &[]));
-    assert!(rt; is_free(&rt, alloc, refused.disk));
+    assert!(rt; is_free(&rt, alloc, refused.into_disk()));
     Ok(())
 }
 
@@ -65,7 +65,7 @@ fn a_master_is_edited_between_two_copies(rt: HostRuntime) -> Result<(), Fail> {
     edited(&rt, rt.alloc(), &mut first.master);
     let second = go_on(&rt, rt.alloc(), first, Order::Copy(2, 2));
     assert!(rt; second.says(0, &[copied(2)]));
-    let mirror = opened(&rt, rt.alloc(), second.disk);
+    let mirror = opened(&rt, rt.alloc(), second.into_disk());
     assert!(rt;
         has(&mirror, 2, b"svn:log", Some(b"ho")) && has(&mirror, 1, b"svn:log", Some(b"hi"))
     );
@@ -76,9 +76,9 @@ fn a_master_is_edited_between_two_copies(rt: HostRuntime) -> Result<(), Fail> {
 fn another_master(rt: HostRuntime) -> Result<(), Fail> {
     let ran = synchronized(&rt, rt.alloc(), &["a"]);
     let other = with_files(&rt, rt.alloc(), OTHER, &["a", "b"]);
-    let refused = run(&rt, rt.alloc(), other, ran.disk, Order::Sync);
+    let refused = run(&rt, rt.alloc(), other, ran.into_disk(), Order::Sync);
     assert!(rt; refused.says(56, &[]));
-    assert!(rt; is_free(&rt, rt.alloc(), refused.disk));
+    assert!(rt; is_free(&rt, rt.alloc(), refused.into_disk()));
     Ok(())
 }
 
@@ -90,11 +90,11 @@ fn a_master_that_is_behind(rt: HostRuntime) -> Result<(), Fail> {
         &rt,
         rt.alloc(),
         master(&rt, rt.alloc()),
-        ran.disk,
+        ran.into_disk(),
         Order::Sync,
     );
     assert!(rt; behind.says(0, &[]));
-    assert!(rt; opened(&rt, rt.alloc(), behind.disk).repo().head().get() == 2);
+    assert!(rt; opened(&rt, rt.alloc(), behind.into_disk()).repo().head().get() == 2);
     Ok(())
 }
 
@@ -129,6 +129,6 @@ fn a_repository_that_is_no_mirror(rt: HostRuntime) -> Result<(), Fail> {
     assert!(rt; refused.says(51, &[]));
     let refused = go_on(&rt, alloc, refused, Order::Copy(0, 0));
     assert!(rt; refused.says(51, &[]));
-    assert!(rt; is_free(&rt, alloc, refused.disk));
+    assert!(rt; is_free(&rt, alloc, refused.into_disk()));
     Ok(())
 }

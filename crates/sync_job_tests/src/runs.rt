@@ -33,6 +33,19 @@ pub(crate) struct Ran {
 }
 
 impl Ran {
+    // The mirror's disk.
+    pub(crate) fn into_disk(self) -> MemDisk {
+        let Ran {
+            number: _,
+            lines: _,
+            count: _,
+            master,
+            disk,
+        } = self;
+        let _master = master.into_disk();
+        disk
+    }
+
     // It was answered so, and told just this.
     pub(crate) fn says(&self, number: u8, told: &[Told]) -> bool {
         self.number == number && self.lines.are(told)

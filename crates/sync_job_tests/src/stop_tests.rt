@@ -53,7 +53,8 @@ pub(crate) fn stopped(rt: &impl Abort, alloc: Global, calls: u64, fuse: Fuse, pi
         Lines::new(alloc),
     );
     let answer = answered(rt, alloc, &mut ports, Order::Sync);
-    let (_master, mirror, lines) = ports.into_parts();
+    let (master, mirror, lines) = ports.into_parts();
+    let _master = master.into_store().into_disk();
     let left = mirror.into_disk().into_inner();
     Left {
         number: number_of(&answer),

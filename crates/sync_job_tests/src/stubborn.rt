@@ -24,6 +24,11 @@ impl Stubborn {
         }
     }
 
+    // The master inside.
+    pub(crate) fn into_master(self) -> HeldMaster<MemDisk> {
+        self.master
+    }
+
     // The next question is answered.
     fn answers(&mut self) -> Result<(), MasterFault> {
         if self.left > 0 {
