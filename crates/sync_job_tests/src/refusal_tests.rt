@@ -94,7 +94,13 @@ fn a_master_that_is_behind(rt: HostRuntime) -> Result<(), Fail> {
         Order::Sync,
     );
     assert!(rt; behind.says(0, &[]));
-    assert!(rt; opened(&rt, rt.alloc(), behind.into_disk()).repo().head().get() == 2);
+    assert!(rt;
+        opened(&rt, rt.alloc(), behind.into_disk())
+            .repo()
+            .head()
+            .get()
+            == 2
+    );
     Ok(())
 }
 
