@@ -1,6 +1,5 @@
 -- Where a run's refusals come from, and how it ends well.
 use Rattle.std.proofs.Common.{◌≡◌, ◌⊎◌, inl, inr, ℕ, ◌+◌, nat_lt, nat_le, not, Bool, true, false, List, [], ◌∷◌, ◌++◌, map, Option, Some, None, is_none, is_some, if◌then◌else◌, string_bytes, refl, sym, ap, subst, ◌∙◌}
-use Rattle.std.proofs.lemmas.List.{append-nil, append_assoc}
 use Rattle.std.specs.Option.{option_map_or}
 use Rattle.sync_core.specs.declared.answer.Answer.{Answer}
 use Rattle.sync_core.specs.declared.answer.Answer.TheVariants as answer
@@ -20,11 +19,10 @@ use Rattle.sync_core.specs.declared.init_job.InitPhase.TheVariants as initial
 use Rattle.sync_core.specs.declared.sync_job.Known.{Known}
 use Rattle.sync_core.specs.declared.sync_job.SyncPhase.{SyncPhase}
 use Rattle.sync_core.specs.declared.sync_job.SyncPhase.TheVariants as phase
-use Rattle.sync_core.specs.declared.sync_job.SyncJob.{SyncJob}
 use Rattle.sync_core.specs.declared.copy_job.CopyPhase.{CopyPhase}
 use Rattle.sync_core.specs.declared.copy_job.CopyPhase.TheVariants as copying
 use Rattle.sync_core.specs.Names.{is_absent, reaches}
-use Rattle.sync_core.specs.Mirror.{Call, ReleaseLock, Look}
+use Rattle.sync_core.specs.Mirror.{Look}
 use Rattle.sync_core.specs.Deeds.{Deed, Calls, AsksIdentity, AsksLatest, Fetches, FetchesProps, Ends, fault_in}
 use Rattle.sync_core.specs.States.{deed_in, after, ending_of}
 use Rattle.sync_core.specs.Shapes.{shape_in}
@@ -37,9 +35,9 @@ use Rattle.sync_job.specs.declared.report.Told.{Told}
 use Rattle.sync_core.specs.Copies.{outcome_of}
 use Rattle.sync_job.specs.Kept.{refused_as}
 use Rattle.sync_core.specs.Copies as told
-use Rattle.sync_job.specs.Said.{Spoken, Says, NoTree, Tells, told_of, told_by, made, Fits, IsRound, Done, Lacking, Treeless}
-use Rattle.sync_job.specs.Runs.{Round, said_by, Goes, IsSaid, IsLooked, IsForeign, IsBeyond, IsShown, TellsNumbers, ComesFrom, Mirrors, Trees, Masters, Memory, Tables, IsReleased, due, ReportedFrom}
-use Rattle.sync_job.proofs.Rounds.{carry, silent}
+use Rattle.sync_job.specs.Said.{Spoken, Says, NoTree, Tells, told_by, made, Fits, IsRound, Done, Lacking, Treeless}
+use Rattle.sync_job.specs.Runs.{Round, said_by, Goes, IsSaid, IsLooked, IsForeign, IsBeyond, IsShown, TellsNumbers, ComesFrom, Mirrors, Trees, Masters, Memory, Tables, due, ReportedFrom}
+use Rattle.sync_job.proofs.Rounds.{carry}
 
 -- reports
 

@@ -1,6 +1,6 @@
 -- How runs end well.
-use Rattle.std.proofs.Common.{◌≡◌, ◌⊎◌, inl, inr, ℕ, ◌+◌, ◌-◌, ◌≤◌, nat_lt, nat_le, Bool, true, false, List, [], ◌∷◌, ◌++◌, Option, Some, None, Result, Ok, Err, refl, sym, ap, subst, ◌∙◌, arith}
-use Rattle.std.proofs.lemmas.List.{append-nil, append_assoc}
+use Rattle.std.proofs.Common.{◌≡◌, ◌⊎◌, inl, inr, ℕ, Bool, List, [], ◌++◌, Option, Some, None, Result, refl, sym, ap, subst, ◌∙◌}
+use Rattle.std.proofs.lemmas.List.{append-nil}
 use Rattle.sync_core.specs.declared.answer.Answer.{Answer}
 use Rattle.sync_core.specs.declared.answer.Answer.TheVariants as answer
 use Rattle.sync_core.specs.declared.fault.SyncFault.{SyncFault}
@@ -10,27 +10,23 @@ use Rattle.sync_core.specs.declared.ending.Ending.TheVariants as ending
 use Rattle.sync_core.specs.declared.state.JobState.{JobState}
 use Rattle.sync_core.specs.declared.state.JobState.TheVariants as state
 use Rattle.sync_core.specs.declared.number.Number.TheVariants.{Absent}
-use Rattle.sync_core.specs.declared.init_job.InitPhase.{InitPhase}
-use Rattle.sync_core.specs.declared.init_job.InitPhase.TheVariants as initial
 use Rattle.sync_core.specs.declared.sync_job.Known.{Known}
 use Rattle.sync_core.specs.declared.sync_job.SyncPhase.{SyncPhase}
 use Rattle.sync_core.specs.declared.sync_job.SyncPhase.TheVariants as phase
 use Rattle.sync_core.specs.declared.copy_job.CopyPhase.{CopyPhase}
 use Rattle.sync_core.specs.declared.copy_job.CopyPhase.TheVariants as copying
-use Rattle.sync_core.specs.Mirror.{Call, Init, ReleaseLock}
-use Rattle.sync_core.specs.Jobs.{Job, Order, Initialise, Sync, CopyProps, begun}
+use Rattle.sync_core.specs.Mirror.{ReleaseLock}
+use Rattle.sync_core.specs.Jobs.{Job, Sync, begun}
 use Rattle.sync_core.specs.SyncFollows as sync_follows
-use Rattle.sync_core.specs.Deeds.{Deed, Calls, Ends}
-use Rattle.sync_core.specs.States.{deed_in, after, ending_of, Follows, sync_start, init_start, copy_start}
-use Rattle.sync_core.specs.InitTable as init_table
+use Rattle.sync_core.specs.Deeds.{Deed, Calls}
+use Rattle.sync_core.specs.States.{deed_in, after, ending_of, Follows, sync_start}
 use Rattle.sync_core.specs.SyncTable as sync_table
 use Rattle.sync_core.specs.CopyTable as copy_table
 use Rattle.sync_job.specs.declared.report.Told.{Told}
-use Rattle.sync_core.specs.Copies as told
-use Rattle.sync_job.specs.Said.{Spoken, Says, Tells, made, Fits, IsRound, Done, Lacking, Treeless}
-use Rattle.sync_job.specs.Runs.{Round, said_by, Goes, Going, Ran, IsEnded, IsReleased, ComesFrom, Memory, hears_all, IsCopying, IsZero, IsWithin, Runs, Synced, EndsSync, IsSyncRun, answer_to, Begun, EndsInit, IsInitRun}
+use Rattle.sync_job.specs.Said.{Spoken, made, IsRound, Done, Lacking, Treeless}
+use Rattle.sync_job.specs.Runs.{Round, said_by, Goes, Ran, IsEnded, IsReleased, Memory, hears_all, IsCopying, EndsSync, IsSyncRun, answer_to}
 use Rattle.sync_job.proofs.Rounds.{Laws, carry, silent, run_rightly, IsRightly, EndsRefused}
-use Rattle.sync_job.proofs.Causes.{run_reported, run_from, ended_refused, next_is, looked_is, who_is, cleared_is, copy_looked_is, copy_begin_is, copy_next_is, said_right, said_left}
+use Rattle.sync_job.proofs.Causes.{run_reported, run_from, ended_refused, next_is, looked_is, who_is, cleared_is, copy_looked_is, copy_begin_is, copy_next_is}
 
 -- how a job comes to a good end: it had ended so, or its lock is released
 abbrev pub IsFineBy : JobState → Answer → Type 0

@@ -1,5 +1,5 @@
 -- What a run's calls leave of a mirror.
-use Rattle.std.proofs.Common.{◌≡◌, ◌≢◌, ◌⊎◌, ◌↔◌, inl, inr, ℕ, ◌==◌, ◌≤◌, Bool, true, false, List, [], ◌∷◌, ◌++◌, map, Option, Some, None, is_some, IsSome, MatchOption, Result, Ok, Err, IfOk, if◌then◌else◌, refl, sym, ap, subst, ◌∙◌, arith}
+use Rattle.std.proofs.Common.{◌≡◌, ◌⊎◌, ◌↔◌, inl, inr, ℕ, ◌≤◌, Bool, true, false, List, [], ◌∷◌, ◌++◌, map, Option, Some, None, is_some, IsSome, MatchOption, Result, Ok, Err, IfOk, if◌then◌else◌, refl, sym, ap, subst, ◌∙◌, arith}
 use Rattle.std.proofs.lemmas.List.{append-nil, append_assoc}
 use Rattle.std.specs.Option.{option_map_or}
 use Rattle.fleet_disk.specs.Image.{Image}
@@ -8,7 +8,6 @@ use Rattle.repo_core.specs.Repository.{Repository}
 use Rattle.repo_core.specs.declared.entry.Entry.{Entry}
 use Rattle.repo_core.specs.Entries.{with_entry_in}
 use Rattle.repo_store.specs.Journal as journal
-use Rattle.node_base.specs.Refusals.{refusal_number}
 use Rattle.node_base.specs.declared.refusal.Refusal.TheVariants as device
 use Rattle.dump_load.specs.declared.fault.ChangeFault.TheVariants as change
 use Rattle.repo_core.specs.declared.fault.RepoFault.{RepoFault}
@@ -16,7 +15,7 @@ use Rattle.repo_core.specs.declared.fault.RepoFault.TheVariants as repo
 use Rattle.sync_core.specs.Mirror.{Call, Init, TakeLock, StealLock, ReleaseLock, SetCopying, Commit, PutProps, SetMerged, ClearCopying, Look, Refusal, Missed, OfRepository, entry_of}
 use Rattle.sync_core.specs.Plain.{IsTold}
 use Rattle.sync_core.specs.Dues.{IsNeedFault}
-use Rattle.sync_core.specs.Faults.{refusal_of, of_repository}
+use Rattle.sync_core.specs.Faults.{of_repository}
 use Rattle.sync_core.specs.Deeds.{Deed, Calls, AsksIdentity, AsksLatest, Fetches, FetchesProps, Ends}
 use Rattle.sync_core.specs.declared.need.Need.{Need}
 use Rattle.sync_core.specs.declared.need.Need.TheVariants as need
@@ -29,9 +28,9 @@ use Rattle.sync_core.specs.declared.reply.Reply.{Reply as Given}
 use Rattle.sync_core.specs.declared.reply.Reply.TheVariants as given
 use Rattle.sync_job.specs.declared.report.Told.{Told}
 use Rattle.sync_core.specs.Copies.{outcome_of}
-use Rattle.sync_job.specs.Kept.{IsWrite, IsLook, refused_as}
+use Rattle.sync_job.specs.Kept.{IsWrite, IsLook}
 use Rattle.sync_job.specs.Said.{Spoken, Says, NoTree, Tells, told_by, IsRound, Done, Lacking, Treeless, Acted}
-use Rattle.sync_job.specs.Mirrors.{MirrorNow, repository_by, Keeps, IsFit, accepted, IsDue, ByTable, ByForm, IsCause, Due, NoMemory, NoRoom, Broken, IsAccepted, IsDoubted, Steps, Accepted, Doubted, Unchanged, Moves, Stays}
+use Rattle.sync_job.specs.Mirrors.{MirrorNow, repository_by, Keeps, IsFit, accepted, ByTable, ByForm, IsCause, Due, NoMemory, NoRoom, Broken, IsAccepted, IsDoubted, Steps, Accepted, Doubted, Unchanged, Moves, Stays}
 use Rattle.sync_job.specs.Fronts.{EndsKeepAll, replayed, HasCome, Working, Doubtful, KeepsFront, Went, WentAt, Moving, is_device, IsHeard, accepted_by, counted_by, accepted_in, counted_in}
 use Rattle.sync_job.proofs.Stores.{sure}
 

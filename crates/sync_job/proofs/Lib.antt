@@ -1,7 +1,8 @@
 pub mod Causes
 pub mod Endings
-pub mod OtherEndings
 pub mod Fronts
+pub mod OtherEndings
 pub mod Rounds
 pub mod Saids
 pub mod Stores
+pub mod Worlds

@@ -1,5 +1,5 @@
 -- How init runs and copying runs end well.
-use Rattle.std.proofs.Common.{◌≡◌, ◌⊎◌, inl, inr, ℕ, zero, suc, ◌+◌, ◌-◌, ◌≤◌, nat_lt, nat_le, Bool, true, false, List, [], ◌∷◌, ◌++◌, Option, Some, None, Result, Ok, Err, refl, sym, ap, subst, ◌∙◌, arith}
+use Rattle.std.proofs.Common.{◌≡◌, ◌⊎◌, inl, inr, ℕ, suc, ◌+◌, ◌-◌, ◌≤◌, nat_lt, nat_le, true, false, List, [], ◌∷◌, ◌++◌, Some, Result, refl, sym, ap, subst, ◌∙◌, arith}
 use Rattle.std.proofs.lemmas.List.{append-nil, append_assoc}
 use Rattle.sync_core.specs.declared.answer.Answer.{Answer}
 use Rattle.sync_core.specs.declared.answer.Answer.TheVariants as answer
@@ -9,33 +9,27 @@ use Rattle.sync_core.specs.declared.ending.Ending.{Ending}
 use Rattle.sync_core.specs.declared.ending.Ending.TheVariants as ending
 use Rattle.sync_core.specs.declared.state.JobState.{JobState}
 use Rattle.sync_core.specs.declared.state.JobState.TheVariants as state
-use Rattle.sync_core.specs.declared.number.Number.TheVariants.{Absent}
 use Rattle.sync_core.specs.declared.init_job.InitPhase.{InitPhase}
 use Rattle.sync_core.specs.declared.init_job.InitPhase.TheVariants as initial
-use Rattle.sync_core.specs.declared.sync_job.Known.{Known}
-use Rattle.sync_core.specs.declared.sync_job.SyncPhase.{SyncPhase}
-use Rattle.sync_core.specs.declared.sync_job.SyncPhase.TheVariants as phase
 use Rattle.sync_core.specs.declared.copy_job.CopyPhase.{CopyPhase}
 use Rattle.sync_core.specs.declared.copy_job.CopyPhase.TheVariants as copying
-use Rattle.sync_core.specs.Mirror.{Call, Init, TakeLock, StealLock, SetCopying, Commit, PutProps, SetMerged, ClearCopying, Look, ReleaseLock}
-use Rattle.sync_core.specs.Jobs.{Job, Order, Initialise, Sync, CopyProps, begun}
-use Rattle.sync_core.specs.SyncFollows as sync_follows
-use Rattle.sync_core.specs.Deeds.{Deed, Calls, AsksIdentity, AsksLatest, Fetches, FetchesProps, Ends}
-use Rattle.sync_core.specs.States.{deed_in, after, ending_of, Follows, sync_start, init_start, copy_start}
+use Rattle.sync_core.specs.Mirror.{Init, TakeLock, PutProps, Look, ReleaseLock}
+use Rattle.sync_core.specs.Jobs.{Initialise, CopyProps, begun}
+use Rattle.sync_core.specs.Deeds.{Deed, Calls, AsksIdentity, FetchesProps}
+use Rattle.sync_core.specs.States.{deed_in, after, ending_of, Follows, init_start, copy_start}
 use Rattle.sync_core.specs.InitTable as init_table
-use Rattle.sync_core.specs.SyncTable as sync_table
 use Rattle.sync_core.specs.CopyTable as copy_table
 use Rattle.sync_job.specs.declared.report.Told.{Told}
 use Rattle.sync_core.specs.Copies as told
-use Rattle.sync_job.specs.Said.{Spoken, Says, NoTree, Tells, made, Fits, IsRound, Done, Lacking, Treeless}
-use Rattle.sync_job.specs.Runs.{Round, said_by, Goes, Going, Ran, IsEnded, IsReleased, ComesFrom, Memory, hears_all, IsCopying, IsZero, IsWithin, Runs, Synced, EndsSync, IsSyncRun, answer_to, Begun, EndsInit, IsInitRun, put_by, puts_in, Copied, EndsCopy, IsCopyRun, IsSaid}
+use Rattle.sync_job.specs.Said.{Spoken, Says, NoTree, Tells, made, IsRound, Done, Lacking, Treeless}
+use Rattle.sync_job.specs.Runs.{said_by, Goes, Ran, IsEnded, Memory, IsZero, IsWithin, answer_to, Begun, EndsInit, IsInitRun, put_by, puts_in, EndsCopy, IsCopyRun, IsSaid}
 use Rattle.std.specs.List.{range_with_len}
 use Rattle.std.proofs.lemmas.Bool.Decides.{nat_tests}
 use Rattle.sync_core.proofs.Lists.{range-next}
 use Rattle.node_base.specs.Props.{PropMap}
-use Rattle.sync_job.proofs.Endings.{EndsReleased, run_released, follows_fine, no_fine, same_fault, some_fine, never}
-use Rattle.sync_job.proofs.Rounds.{Laws, carry, silent, run_rightly, IsRightly, EndsRefused}
-use Rattle.sync_job.proofs.Causes.{run_reported, run_from, ended_refused, next_is, looked_is, who_is, cleared_is, copy_looked_is, copy_begin_is, copy_next_is, said_right, said_left}
+use Rattle.sync_job.proofs.Endings.{EndsReleased, run_released, no_fine, same_fault, some_fine, never}
+use Rattle.sync_job.proofs.Rounds.{Laws, carry, silent, run_rightly, IsRightly}
+use Rattle.sync_job.proofs.Causes.{run_reported, run_from, ended_refused, copy_looked_is, copy_begin_is, copy_next_is, said_right}
 
 -- an init job comes to a good end by its Init alone
 pub record IsInitDone (url : List ℕ) (d : Deed) (a : Answer) : Type 0 where

@@ -1,5 +1,5 @@
 -- What holds through the rounds of a run.
-use Rattle.std.proofs.Common.{◌≡◌, ◌⊎◌, inl, inr, ℕ, List, [], ◌∷◌, ◌++◌, map, Option, Some, None, refl, sym, ap, subst, ◌∙◌}
+use Rattle.std.proofs.Common.{◌≡◌, ◌⊎◌, inl, inr, ℕ, List, [], ◌∷◌, ◌++◌, map, Some, refl, sym, ap, subst, ◌∙◌}
 use Rattle.std.proofs.lemmas.List.{append-nil, append_assoc}
 use Rattle.sync_core.specs.declared.answer.Answer.{Answer}
 use Rattle.sync_core.specs.declared.answer.Answer.TheVariants as answer
@@ -14,13 +14,10 @@ use Rattle.sync_core.specs.declared.init_job.InitPhase.TheVariants as initial
 use Rattle.sync_core.specs.declared.sync_job.Known.{Known}
 use Rattle.sync_core.specs.declared.sync_job.SyncPhase.{SyncPhase}
 use Rattle.sync_core.specs.declared.sync_job.SyncPhase.TheVariants as phase
-use Rattle.sync_core.specs.declared.init_job.InitJob.{InitJob}
-use Rattle.sync_core.specs.declared.copy_job.CopyJob.{CopyJob}
 use Rattle.sync_core.specs.declared.copy_job.CopyPhase.{CopyPhase}
 use Rattle.sync_core.specs.declared.copy_job.CopyPhase.TheVariants as copying
-use Rattle.sync_core.specs.Mirror.{Call}
-use Rattle.sync_core.specs.Jobs.{Job, Locked}
-use Rattle.sync_core.specs.Deeds.{Deed, Calls, AsksIdentity, AsksLatest, Fetches, FetchesProps, Ends, heard, IsLawfulDeed}
+use Rattle.sync_core.specs.Jobs.{Job}
+use Rattle.sync_core.specs.Deeds.{Deed, Calls, AsksIdentity, AsksLatest, Fetches, FetchesProps, Ends, heard}
 use Rattle.sync_core.specs.States.{deed_in, after, ending_of, Follows, IsNumberOf}
 use Rattle.sync_core.specs.InitTable as init_table
 use Rattle.sync_core.specs.SyncTable as sync_table
@@ -33,8 +30,8 @@ use Rattle.sync_core.specs.States.{IsAskedFor}
 use Rattle.sync_job.specs.declared.report.Told.{Told}
 use Rattle.sync_core.specs.Copies.{outcome_of}
 use Rattle.sync_job.specs.Kept.{refused_as}
-use Rattle.sync_job.specs.Said.{Spoken, Says, NoTree, Tells, told_by, made, Fits, IsRound, Done, Lacking, Treeless}
-use Rattle.sync_job.specs.Runs.{Round, said_by, Goes, answer_of, hears, hears_all, IsAsked, IsRight, AreRight}
+use Rattle.sync_job.specs.Said.{Spoken, NoTree, Tells, told_by, made, Fits, IsRound, Done, Lacking, Treeless}
+use Rattle.sync_job.specs.Runs.{Round, said_by, Goes, answer_of, hears, hears_all, IsAsked, AreRight}
 
 -- what the core's laws say of its jobs
 pub record Laws : Type 0 where

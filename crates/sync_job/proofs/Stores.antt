@@ -1,7 +1,6 @@
 -- What a call does to a mirror in a store.
-use Rattle.std.proofs.Common.{◌≡◌, ◌⊎◌, ◌↔◌, inl, inr, ℕ, ◌≤◌, ◌<◌, ◌+◌, length, List, [], ◌∷◌, Option, Some, None, IsSome, MatchOption, Result, Ok, Err, refl, sym, ap, subst, ◌∙◌, arith}
+use Rattle.std.proofs.Common.{◌≡◌, ◌⊎◌, ◌↔◌, inl, inr, ℕ, ◌≤◌, List, [], ◌∷◌, Option, Some, None, IsSome, MatchOption, Result, Ok, Err, refl, sym, ap, subst, ◌∙◌, arith}
 use Rattle.std.specs.Option.{option_map, option_map_or}
-use Rattle.std.specs.FinMap as finite
 use Rattle.fleet_disk.specs.Image.{Image}
 use Rattle.fleet_disk.specs.Rules.{LeavesOnly}
 use Rattle.fleet_disk.specs.declared.disk.Disk.{Ghosts}
@@ -9,7 +8,7 @@ use Rattle.gate_log.specs.declared.fault.LogFault.TheVariants as log
 use Rattle.node_base.specs.declared.refusal.Refusal.TheVariants as refusal_is
 use Rattle.dump_load.specs.declared.change.Change.{Change}
 use Rattle.dump_load.specs.Faults.{first_of}
-use Rattle.repo_core.specs.Repository.{Revision, Repository, props_at}
+use Rattle.repo_core.specs.Repository.{Revision}
 use Rattle.repo_core.specs.Entries.{with_entry_in}
 use Rattle.repo_core.specs.Refusals.{by_repository}
 use Rattle.repo_core.specs.Refusals as core
@@ -29,8 +28,7 @@ use Rattle.repo_store.specs.declared.store.RepoStore.{RepoStore}
 use Rattle.sync_core.specs.Faults.{of_repository}
 use Rattle.sync_core.specs.Mirror.{Mirror, Call, Init, TakeLock, StealLock, ReleaseLock, SetCopying, Commit, PutProps, SetMerged, ClearCopying, Look, Refusal, OfRepository, Reply, Refused, refusal, unmet, standing_of, entry_of, mirror_with, granted, reply_to, holder_after}
 use Rattle.sync_core.specs.Mirror as mirror_reply
-use Rattle.sync_core.specs.Names.{lock_name}
-use Rattle.sync_core.specs.Plain.{IsNumbered, IsRefused, LacksMemory, AnswersErr}
+use Rattle.sync_core.specs.Plain.{IsNumbered, IsRefused, AnswersErr}
 use Rattle.sync_core.specs.Plans.{IsToWrite, IsPlanned}
 use Rattle.sync_core.specs.declared.planning.Planned.{Planned}
 use Rattle.sync_core.specs.declared.planning.Planned.TheVariants.{Tell}
@@ -39,7 +37,7 @@ use Rattle.sync_core.specs.declared.fault.SyncFault.TheVariants as fault
 use Rattle.sync_core.specs.declared.reply.Reply.{Reply as Given}
 use Rattle.sync_core.specs.declared.reply.Reply.TheVariants as given
 use Rattle.sync_core.specs.declared.standing.Standing.{Standing}
-use Rattle.sync_job.specs.Kept.{IsWrite, IsLook}
+use Rattle.sync_job.specs.Kept.{IsWrite}
 use Rattle.sync_job.specs.StoreFaults.{fault_of}
 use Rattle.sync_job.specs.declared.alone.AloneMirror.{AloneMirror}
 use Rattle.sync_job.specs.Mirrors.{MirrorNow, Moves, mirror_in, unspelt, repository_by, accepted, doubted, ByTable, ByForm, IsCause, Due, NoMemory, NoRoom, Broken, Steps, Accepted, Doubted, Unchanged, Keeps}

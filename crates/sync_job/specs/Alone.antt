@@ -1,10 +1,10 @@
 -- A mirror and a master that are held alone.
-use Rattle.std.specs.Prelude.{◌≡◌, ◌↔◌, ◌⊎◌, ◌<◌, ℕ, map, List, length, Option, Some, None, IsSome, Result}
+use Rattle.std.specs.Prelude.{◌≡◌, ◌↔◌, ◌⊎◌, ◌<◌, ℕ, map, length, Option, None, IsSome, Result}
 use Rattle.uuid.specs.Text.{hyphenated_text, lower}
 use Rattle.fleet_disk.specs.Image.{Image}
 use Rattle.fleet_disk.specs.declared.disk.Disk.{Ghosts}
 use Rattle.fleet_disk.specs.Rules.{LeavesOnly}
-use Rattle.repo_core.specs.Repository.{Repository, Revision, trees_of}
+use Rattle.repo_core.specs.Repository.{Repository, trees_of}
 use Rattle.sync_core.specs.Mirror.{Call}
 use Rattle.sync_core.specs.declared.fault.SyncFault.{SyncFault}
 use Rattle.sync_core.specs.declared.reply.Reply.{Reply as Given}

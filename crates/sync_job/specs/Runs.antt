@@ -1,5 +1,5 @@
 -- Runs of jobs: what is said in them, and how they end.
-use Rattle.std.specs.Prelude.{◌≡◌, ◌⊎◌, ℕ, ◌+◌, ◌-◌, ◌≤◌, Bool, true, false, List, [], ◌∷◌, ◌++◌, Option, Some, None, is_none, Result, Ok, Err, string_bytes}
+use Rattle.std.specs.Prelude.{◌≡◌, ◌⊎◌, ℕ, ◌+◌, ◌-◌, ◌≤◌, Bool, true, false, List, [], ◌∷◌, ◌++◌, Some, None, is_none, Result, Ok, Err, string_bytes}
 use Rattle.std.specs.List.{range_with_len}
 use Rattle.node_base.specs.Props.{PropMap}
 use Rattle.sync_core.specs.declared.answer.Answer.{Answer}
@@ -10,7 +10,7 @@ use Rattle.sync_core.specs.declared.fault.SyncFault.{SyncFault}
 use Rattle.sync_core.specs.declared.fault.SyncFault.TheVariants as fault
 use Rattle.sync_core.specs.declared.state.JobState.{JobState}
 use Rattle.sync_core.specs.declared.number.Number.TheVariants.{Spelt}
-use Rattle.sync_core.specs.Mirror.{Call, Init, ReleaseLock, PutProps, Look}
+use Rattle.sync_core.specs.Mirror.{Init, ReleaseLock, PutProps, Look}
 use Rattle.sync_core.specs.Jobs.{Job, Order, Initialise, Sync, CopyProps, Locked, begun}
 use Rattle.sync_core.specs.declared.standing.Standing.{Standing}
 use Rattle.sync_core.specs.Faults.{inconsistent_as}

@@ -1,6 +1,6 @@
 //! The ports of a job, and all that is said through them.
 ghost use Rattle.std.specs.Prelude.{◌≡◌, ◌≤◌, ◌+◌, ℕ, List, vec_capacity, ◌⊎◌, ◌++◌, ◌∷◌, [], IfOk, IfSome, OnOk};
-ghost use Rattle.std.specs.Prelude.{OnErr, IsErr, Err, None, length, map};
+ghost use Rattle.std.specs.Prelude.{OnErr, IsErr, Err, None, Some, ◌-◌, length, map};
 ghost use Rattle.sync_core.specs.declared.answer.Answer.TheVariants as answer_is;
 ghost use Rattle.sync_core.specs.declared.fault.SyncFault.TheVariants.{OutOfMemory as NoMemory};
 ghost use Rattle.sync_job.specs.Fronts.{WentAt, IsHeard, accepted_by, counted_by};
@@ -10,7 +10,11 @@ ghost use Rattle.sync_core.specs.Copies.{call_in, outcome_of};
 ghost use Rattle.sync_job.specs.Kept.{refused_as};
 ghost use Rattle.sync_job.specs.declared.report.Told.{Told as IsTold};
 ghost use Rattle.sync_job.specs.declared.report.Told.TheVariants.{Committed, Copied};
+ghost use Rattle.node_base.specs.Tree.{PathMap};
+ghost use Rattle.sync_core.specs.World.{Origin, map_at, moment_of};
+ghost use Rattle.sync_core.specs.World.{Makes as MakesTree};
 ghost use Rattle.sync_job.specs.Said.{Acted, Fits, IsQuestion, Tells, told_of};
+ghost use Rattle.sync_job.specs.Worlds.{IsAnswerAt, Happens, TakesTrees};
 
 use crate::master::{MasterFault, MasterPort};
 use crate::mirror::MirrorPort;
@@ -84,6 +88,9 @@ impl<M: MasterPort + Drop, N: MirrorPort + Drop, R: Report + Drop> JobPorts<M, N
         ensures mirror { WentAt N.stands N.clock N.left_since N.honest (mirror_of self.old) (mirror_of self.new)
             (accepted_by (deed_of action.now) (outcome_of result))
             (counted_by (deed_of action.now) (outcome_of result)) }
+        ensures happens { Happens (M.is_at (master_of self.old)) (M.is_at (master_of self.new))
+            (N.stands (mirror_of self.old)) (N.stands (mirror_of self.new)) (N.seat (mirror_of self.old))
+            (N.seat (mirror_of self.new)) (deed_of action.now) result trees.old.items trees.new.items }
     {
         match action {
             Action::Call(call) => self.step(alloc, call),
@@ -102,6 +109,9 @@ impl<M: MasterPort + Drop, N: MirrorPort + Drop, R: Report + Drop> JobPorts<M, N
         ensures mirror { WentAt N.stands N.clock N.left_since N.honest (mirror_of self.old) (mirror_of self.new)
             (accepted_by (Calls (call_of call.now)) (outcome_of result))
             (counted_by (Calls (call_of call.now)) (outcome_of result)) }
+        ensures happens { (trees : List PathMap) → Happens (M.is_at (master_of self.old)) (M.is_at (master_of self.new))
+            (N.stands (mirror_of self.old)) (N.stands (mirror_of self.new)) (N.seat (mirror_of self.old))
+            (N.seat (mirror_of self.new)) (Calls (call_of call.now)) result trees trees }
     {
         let kept = match self.room_for(alloc, call) {
             Ok(kept) => kept,
@@ -133,6 +143,7 @@ impl<M: MasterPort + Drop, N: MirrorPort + Drop, R: Report + Drop> JobPorts<M, N
         ensures calls { calls_of self.new ≡ calls_of self.old }
         ensures report { report_of self.new ≡ report_of self.old }
         ensures mirror { mirror_of self.new ≡ mirror_of self.old }
+        ensures master { master_of self.new ≡ master_of self.old }
     {
         let kept = KeptCall::of(alloc, call)?;
         self.calls.reserve(2)?;
@@ -146,6 +157,7 @@ impl<M: MasterPort + Drop, N: MirrorPort + Drop, R: Report + Drop> JobPorts<M, N
         ensures told { (told : List IsTold) → R.heard (report_of self.old) told → R.heard (report_of self.new)
             (told ++ told_of (call_of call.now)) }
         ensures mirror { mirror_of self.new ≡ mirror_of self.old }
+        ensures master { master_of self.new ≡ master_of self.old }
     {
         match call {
             MirrorCall::Init { .. } => self.tell_copied(RevNo::ZERO),
@@ -161,6 +173,7 @@ impl<M: MasterPort + Drop, N: MirrorPort + Drop, R: Report + Drop> JobPorts<M, N
         ensures told { (told : List IsTold) → R.heard (report_of self.old) told → R.heard (report_of self.new)
             (told ++ Committed number ∷ []) }
         ensures mirror { mirror_of self.new ≡ mirror_of self.old }
+        ensures master { master_of self.new ≡ master_of self.old }
     {
         self.report.committed(number);
         self.calls
@@ -173,6 +186,7 @@ impl<M: MasterPort + Drop, N: MirrorPort + Drop, R: Report + Drop> JobPorts<M, N
         ensures told { (told : List IsTold) → R.heard (report_of self.old) told → R.heard (report_of self.new)
             (told ++ Copied number ∷ []) }
         ensures mirror { mirror_of self.new ≡ mirror_of self.old }
+        ensures master { master_of self.new ≡ master_of self.old }
     {
         self.report.copied(number);
         self.calls
@@ -184,6 +198,9 @@ impl<M: MasterPort + Drop, N: MirrorPort + Drop, R: Report + Drop> JobPorts<M, N
             (R.heard (report_of self.old)) (R.heard (report_of self.new)) }
         ensures mirror { WentAt N.stands N.clock N.left_since N.honest (mirror_of self.old) (mirror_of self.new)
             (accepted_by AsksIdentity (outcome_of result)) (counted_by AsksIdentity (outcome_of result)) }
+        ensures happens { (trees : List PathMap) → Happens (M.is_at (master_of self.old)) (M.is_at (master_of self.new))
+            (N.stands (mirror_of self.old)) (N.stands (mirror_of self.new)) (N.seat (mirror_of self.old))
+            (N.seat (mirror_of self.new)) AsksIdentity result trees trees }
     {
         if self.calls.reserve(1).is_err() {
             return Answer::Refused(SyncFault::OutOfMemory);
@@ -199,6 +216,9 @@ impl<M: MasterPort + Drop, N: MirrorPort + Drop, R: Report + Drop> JobPorts<M, N
             (R.heard (report_of self.new)) }
         ensures mirror { WentAt N.stands N.clock N.left_since N.honest (mirror_of self.old) (mirror_of self.new)
             (accepted_by AsksLatest (outcome_of result)) (counted_by AsksLatest (outcome_of result)) }
+        ensures happens { (trees : List PathMap) → Happens (M.is_at (master_of self.old)) (M.is_at (master_of self.new))
+            (N.stands (mirror_of self.old)) (N.stands (mirror_of self.new)) (N.seat (mirror_of self.old))
+            (N.seat (mirror_of self.new)) AsksLatest result trees trees }
     {
         if self.calls.reserve(1).is_err() {
             return Answer::Refused(SyncFault::OutOfMemory);
@@ -214,6 +234,9 @@ impl<M: MasterPort + Drop, N: MirrorPort + Drop, R: Report + Drop> JobPorts<M, N
             (R.heard (report_of self.old)) (R.heard (report_of self.new)) }
         ensures mirror { WentAt N.stands N.clock N.left_since N.honest (mirror_of self.old) (mirror_of self.new)
             (accepted_by (Fetches number) (outcome_of result)) (counted_by (Fetches number) (outcome_of result)) }
+        ensures happens { Happens (M.is_at (master_of self.old)) (M.is_at (master_of self.new))
+            (N.stands (mirror_of self.old)) (N.stands (mirror_of self.new)) (N.seat (mirror_of self.old))
+            (N.seat (mirror_of self.new)) (Fetches number) result trees.old.items trees.new.items }
     {
         if let Some(refusal) = self.fill(alloc, number, trees) {
             return refusal;
@@ -224,7 +247,8 @@ impl<M: MasterPort + Drop, N: MirrorPort + Drop, R: Report + Drop> JobPorts<M, N
         let answer = revision_answer(
             alloc,
             number,
-            self.master.fetch(alloc, number, trees.as_slice()),
+            self.master
+                .fetch(alloc, number, &trees.as_slice()[..number.index()]),
         );
         let (first, second) = twice(alloc, answer);
         self.calls.push_reserved(PortCall::Fetch(number, first));
@@ -237,6 +261,9 @@ impl<M: MasterPort + Drop, N: MirrorPort + Drop, R: Report + Drop> JobPorts<M, N
         ensures mirror { WentAt N.stands N.clock N.left_since N.honest (mirror_of self.old) (mirror_of self.new)
             (accepted_by (FetchesProps number) (outcome_of result))
             (counted_by (FetchesProps number) (outcome_of result)) }
+        ensures happens { (trees : List PathMap) → Happens (M.is_at (master_of self.old)) (M.is_at (master_of self.new))
+            (N.stands (mirror_of self.old)) (N.stands (mirror_of self.new)) (N.seat (mirror_of self.old))
+            (N.seat (mirror_of self.new)) (FetchesProps number) result trees trees }
     {
         if self.calls.reserve(1).is_err() {
             return Answer::Refused(SyncFault::OutOfMemory);
@@ -256,6 +283,10 @@ impl<M: MasterPort + Drop, N: MirrorPort + Drop, R: Report + Drop> JobPorts<M, N
             (λ a. Acted (Fetches number) a (calls_of self.old) (calls_of self.new) (R.heard (report_of self.old))
             (R.heard (report_of self.new))) }
         ensures mirror { WentAt N.stands N.clock N.left_since N.honest (mirror_of self.old) (mirror_of self.new) [] [] }
+        ensures master { master_of self.new ≡ master_of self.old }
+        ensures trees { TakesTrees (N.stands (mirror_of self.old)) (N.stands (mirror_of self.new))
+            (N.seat (mirror_of self.old)) (N.seat (mirror_of self.new)) trees.old.items trees.new.items result }
+        ensures many { result ≡ None → number ≤ length trees.new.items }
     {
         for i in trees.len()..number.index() {
             let refusal = self.take_tree(alloc, number, RevNo::new(i as u16), trees);
@@ -274,12 +305,17 @@ impl<M: MasterPort + Drop, N: MirrorPort + Drop, R: Report + Drop> JobPorts<M, N
         number: RevNo,
         trees: &mut Vec<Tree>,
     ) -> Option<Answer>
+        requires next { number ≡ length trees.old.items }
         ensures none { result ≡ None → (calls_of self.new ≡ calls_of self.old) ×
             (report_of self.new ≡ report_of self.old) }
         ensures some { IfSome result
             (λ a. Acted (Fetches of) a (calls_of self.old) (calls_of self.new) (R.heard (report_of self.old))
             (R.heard (report_of self.new))) }
         ensures mirror { WentAt N.stands N.clock N.left_since N.honest (mirror_of self.old) (mirror_of self.new) [] [] }
+        ensures master { master_of self.new ≡ master_of self.old }
+        ensures trees { TakesTrees (N.stands (mirror_of self.old)) (N.stands (mirror_of self.new))
+            (N.seat (mirror_of self.old)) (N.seat (mirror_of self.new)) trees.old.items trees.new.items result }
+        ensures one { result ≡ None → length trees.new.items ≡ length trees.old.items + 1 }
     {
         let _ = of;
         if self.calls.reserve(1).is_err() || trees.reserve(1).is_err() {
@@ -300,8 +336,7 @@ impl<M: MasterPort + Drop, N: MirrorPort + Drop, R: Report + Drop> JobPorts<M, N
 }
 
 // The refusal of a mirror's call for the list and for the job. A call answered 31 counts with those that were
-// accepted: that is
-// kept without memory.
+// accepted: that is kept without memory.
 fn refused_twice(alloc: Global, fault: SyncFault) -> (Answer, Answer)
     ensures same { outcome_of result.0 ≡ outcome_of result.1 }
     ensures heard { IsHeard (Err fault) result.1 }
@@ -341,7 +376,8 @@ fn fault_twice(alloc: Global, fault: SyncFault) -> (SyncFault, SyncFault)
 
 // The master's fault as an answer.
 fn failed(alloc: Global, fault: MasterFault) -> Answer
-    ensures { (d : Deed) → IsQuestion d → Fits d result }
+    ensures fits { (d : Deed) → IsQuestion d → Fits d result }
+    ensures at { (o : Origin) (d : Deed) → IsQuestion d → IsAnswerAt o d result }
 {
     match fault.text(alloc) {
         Ok(text) => Answer::Failed(text),
@@ -350,7 +386,8 @@ fn failed(alloc: Global, fault: MasterFault) -> Answer
 }
 
 fn identity_answer(alloc: Global, answer: Result<PropValue, MasterFault>) -> Answer
-    ensures { Fits AsksIdentity result }
+    ensures fits { Fits AsksIdentity result }
+    ensures at { (o : Origin) → IfOk answer (λ v. v ≡ o.identity) → IsAnswerAt o AsksIdentity result }
 {
     match answer {
         Ok(uuid) => Answer::Identity(uuid),
@@ -359,7 +396,8 @@ fn identity_answer(alloc: Global, answer: Result<PropValue, MasterFault>) -> Ans
 }
 
 fn latest_answer(alloc: Global, answer: Result<RevNo, MasterFault>) -> Answer
-    ensures { Fits AsksLatest result }
+    ensures fits { Fits AsksLatest result }
+    ensures at { (o : Origin) → IfOk answer (λ n. n ≡ length o.trees - 1) → IsAnswerAt o AsksLatest result }
 {
     match answer {
         Ok(number) => Answer::Latest(number),
@@ -372,7 +410,9 @@ fn revision_answer(
     number: RevNo,
     answer: Result<(ChangeSet, Props), MasterFault>,
 ) -> Answer
-    ensures { Fits (Fetches number) result }
+    ensures fits { Fits (Fetches number) result }
+    ensures at { (o : Origin) → IfOk answer (λ r. MakesTree o number r.0 × (map_at o (moment_of o) number ≡ Some r.1))
+        → IsAnswerAt o (Fetches number) result }
 {
     let _ = number;
     match answer {
@@ -382,7 +422,9 @@ fn revision_answer(
 }
 
 fn map_answer(alloc: Global, number: RevNo, answer: Result<Props, MasterFault>) -> Answer
-    ensures { Fits (FetchesProps number) result }
+    ensures fits { Fits (FetchesProps number) result }
+    ensures at { (o : Origin) → IfOk answer (λ p. map_at o (moment_of o) number ≡ Some p)
+        → IsAnswerAt o (FetchesProps number) result }
 {
     let _ = number;
     match answer {

@@ -1,11 +1,13 @@
 //! Runs of jobs.
-ghost use Rattle.std.specs.Prelude.{◌≡◌, None, IfSome};
+ghost use Rattle.std.specs.Prelude.{◌≡◌, ◌≢◌, None, IfSome};
 ghost use Rattle.sync_core.specs.Deeds.{Ends};
-ghost use Rattle.sync_core.specs.States.{deed_in};
+ghost use Rattle.sync_core.specs.States.{deed_in, Follows};
 ghost use Rattle.sync_job.specs.Said.{Acted};
 ghost use Rattle.sync_job.specs.Fronts.{WentAt, Moving, accepted_by, counted_by};
 ghost use Rattle.sync_core.specs.Copies.{outcome_of};
-ghost use Rattle.sync_job.specs.Words.{calls_of, mirror_of, report_of};
+ghost use Rattle.sync_job.specs.Words.{calls_of, master_of, mirror_of, report_of};
+ghost use Rattle.sync_job.specs.Worlds.{Happens, IsEvents};
+ghost use Rattle.sync_core.specs.Jobs.{Order, begun};
 ghost use Rattle.sync_job.specs.Runs.{Ran, IsEnded, answer_to, IsSyncRun, IsInitRun, IsCopyRun};
 
 use crate::master::MasterPort;
@@ -15,7 +17,7 @@ use crate::report::Report;
 use node_base::{PropValue, RevNo};
 use path_tree::Tree;
 use std::alloc::Global;
-use sync_core::law::{jobs_end, jobs_follow};
+use sync_core::law::{answers_are_heard, every_run, jobs_end, jobs_follow};
 use sync_core::{Action, Answer, Ending, JobState, SyncFault, Token, absorb, decide};
 
 /// Brings the mirror up to its master.
@@ -29,6 +31,8 @@ pub fn run_sync<M: MasterPort + Drop, N: MirrorPort + Drop, R: Report + Drop>(
         (R.heard (report_of ports.new)) result }
     ensures mirror { Moving (calls_of ports.old) (calls_of ports.new)
         (WentAt N.stands N.clock N.left_since N.honest (mirror_of ports.old) (mirror_of ports.new)) }
+    ensures world { IsEvents (M.is_at (master_of ports.old)) (M.is_at (master_of ports.new))
+        (N.stands (mirror_of ports.old)) (N.stands (mirror_of ports.new)) (N.seat (mirror_of ports.old)) }
 {
     jobs_follow();
     jobs_end();
@@ -45,6 +49,8 @@ pub fn run_init<M: MasterPort + Drop, N: MirrorPort + Drop, R: Report + Drop>(
         (R.heard (report_of ports.new)) result }
     ensures mirror { Moving (calls_of ports.old) (calls_of ports.new)
         (WentAt N.stands N.clock N.left_since N.honest (mirror_of ports.old) (mirror_of ports.new)) }
+    ensures world { IsEvents (M.is_at (master_of ports.old)) (M.is_at (master_of ports.new))
+        (N.stands (mirror_of ports.old)) (N.stands (mirror_of ports.new)) (N.seat (mirror_of ports.old)) }
 {
     jobs_follow();
     jobs_end();
@@ -63,6 +69,8 @@ pub fn run_copy_revprops<M: MasterPort + Drop, N: MirrorPort + Drop, R: Report +
         (R.heard (report_of ports.new)) result }
     ensures mirror { Moving (calls_of ports.old) (calls_of ports.new)
         (WentAt N.stands N.clock N.left_since N.honest (mirror_of ports.old) (mirror_of ports.new)) }
+    ensures world { IsEvents (M.is_at (master_of ports.old)) (M.is_at (master_of ports.new))
+        (N.stands (mirror_of ports.old)) (N.stands (mirror_of ports.new)) (N.seat (mirror_of ports.old)) }
 {
     jobs_follow();
     jobs_end();
@@ -89,7 +97,12 @@ fn run_job<M: MasterPort + Drop, N: MirrorPort + Drop, R: Report + Drop>(
         (R.heard (report_of ports.new)) result }
     ensures mirror { Moving (calls_of ports.old) (calls_of ports.new)
         (WentAt N.stands N.clock N.left_since N.honest (mirror_of ports.old) (mirror_of ports.new)) }
+    ensures world { (order : Order) → Follows (begun order) state → IsEvents (M.is_at (master_of ports.old)) (M.is_at (master_of ports.new))
+        (N.stands (mirror_of ports.old)) (N.stands (mirror_of ports.new)) (N.seat (mirror_of ports.old)) }
 {
+    every_run();
+    answers_are_heard();
+    jobs_follow();
     let mut state = state;
     let mut trees = Vec::new(alloc);
     for _i in 0..u64::MAX {
@@ -117,6 +130,11 @@ fn next<M: MasterPort + Drop, N: MirrorPort + Drop, R: Report + Drop>(
     ensures mirror { IfSome result
         (λ a. WentAt N.stands N.clock N.left_since N.honest (mirror_of ports.old) (mirror_of ports.new)
         (accepted_by (deed_in state.now) (outcome_of a)) (counted_by (deed_in state.now) (outcome_of a))) }
+    ensures goes { IfSome result (λ _. deed_in state.now ≢ Ends) }
+    ensures master { result ≡ None → master_of ports.new ≡ master_of ports.old }
+    ensures happens { IfSome result (λ a. Happens (M.is_at (master_of ports.old)) (M.is_at (master_of ports.new))
+        (N.stands (mirror_of ports.old)) (N.stands (mirror_of ports.new)) (N.seat (mirror_of ports.old))
+        (N.seat (mirror_of ports.new)) (deed_in state.now) a trees.old.items trees.new.items) }
 {
     match decide(state) {
         Action::End => None,
