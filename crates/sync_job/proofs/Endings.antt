@@ -274,7 +274,7 @@ pub same_fault : (f g : SyncFault) → ending.Refused f ≡ ending.Refused g →
 same_fault f g h = cc
 
 -- a sync run
-pub sync_run : Laws → (token : List ℕ) (steal : Bool) (s : JobState) (old new : List Spoken) (heard_old heard_new : List Told → Type 0) (e : Ending) (x : Result (Unit {0}) SyncFault)
+pub sync_run : {B : Type 0} → Laws → (token : List ℕ) (steal : Bool) (s : JobState) (old new : List Spoken) (heard_old heard_new : B → List Told → Type 0) (e : Ending) (x : Result (Unit {0}) SyncFault)
     → s ≡ sync_start token steal → Follows (begun (Sync token steal)) s → Ran s old new heard_old heard_new e → x ≡ answer_to e → IsSyncRun token steal old new heard_old heard_new x
 sync_run laws token steal s old new ho hn e x start f ran same =
     record {

@@ -347,7 +347,7 @@ round_counts d a more (Treeless of n f e r m) =
     (ap (λ x. accepted_by x (outcome_of a)) e ∙ sym (ap accepted_in m), ap (λ x. counted_by x (outcome_of a)) e ∙ sym (ap counted_in m))
 
 -- a run goes on by a deed
-pub moving_on : {N : Type 0} (stands : N → MirrorNow → Type 0) (clock : N → ℕ) (left_since : N → ℕ → Image → Type 0) (honest : N → Type 0) (old mid new : N) (said_old said_mid said_new : List Spoken) (heard_mid heard_new : List Told → Type 0) (d : Deed) (a : Answer)
+pub moving_on : {N : Type 0} {B : Type 0} (stands : N → MirrorNow → Type 0) (clock : N → ℕ) (left_since : N → ℕ → Image → Type 0) (honest : N → Type 0) (old mid new : N) (said_old said_mid said_new : List Spoken) (heard_mid heard_new : B → List Told → Type 0) (d : Deed) (a : Answer)
     → Moving said_old said_mid (WentAt stands clock left_since honest old mid) → Acted d a said_mid said_new heard_mid heard_new → WentAt stands clock left_since honest mid new (accepted_by d (outcome_of a)) (counted_by d (outcome_of a))
     → Moving said_old said_new (WentAt stands clock left_since honest old new)
 moving_on stands clock left_since honest old mid new said_old said_mid said_new heard_mid heard_new d a x y w =

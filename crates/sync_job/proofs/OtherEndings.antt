@@ -105,7 +105,7 @@ begun_on laws url s es a more p r = record { init = stays_init url s a p.init; d
     by (inr h) (Treeless of n f d e m) = absurd (no_done f (sym e ∙ h.accepted))
 
 -- an init run
-pub init_run : Laws → (url : List ℕ) (s : JobState) (old new : List Spoken) (heard_old heard_new : List Told → Type 0) (e : Ending) (x : Result (Unit {0}) SyncFault)
+pub init_run : {B : Type 0} → Laws → (url : List ℕ) (s : JobState) (old new : List Spoken) (heard_old heard_new : B → List Told → Type 0) (e : Ending) (x : Result (Unit {0}) SyncFault)
     → s ≡ init_start url → Follows (begun (Initialise url)) s → Ran s old new heard_old heard_new e → x ≡ answer_to e → IsInitRun url old new heard_old heard_new x
 init_run laws url s old new ho hn e x start f ran same =
     record {
@@ -284,7 +284,7 @@ all_put low high (state.Copy s) es p h = subst (λ k. puts_in es ≡ range_with_
     by (copying.Release e) q h = never h
 
 -- a copying run
-pub copy_run : Laws → (token : List ℕ) (low high : ℕ) (s : JobState) (old new : List Spoken) (heard_old heard_new : List Told → Type 0) (e : Ending) (x : Result (Unit {0}) SyncFault)
+pub copy_run : {B : Type 0} → Laws → (token : List ℕ) (low high : ℕ) (s : JobState) (old new : List Spoken) (heard_old heard_new : B → List Told → Type 0) (e : Ending) (x : Result (Unit {0}) SyncFault)
     → s ≡ copy_start token low high → Follows (begun (CopyProps token)) s → Ran s old new heard_old heard_new e → x ≡ answer_to e → IsCopyRun token low high old new heard_old heard_new x
 copy_run laws token low high s old new ho hn e x start f ran same =
     record {

@@ -41,18 +41,18 @@ Goes s [] t = t ≡ s
 Goes s (r ∷ rs) t = IsRound (deed_in s) r.answer r.more × Goes (after s r.answer) rs t
 
 -- a run as far as it has come, with what it has added to all that was said and told
-pub record Going (s : JobState) (old new : List Spoken) (heard_old heard_new : List Told → Type 0) (t : JobState) : Type 0 where
+pub record Going {B : Type 0} (s : JobState) (old new : List Spoken) (heard_old heard_new : B → List Told → Type 0) (t : JobState) : Type 0 where
   pub rounds : List Round
   pub goes : Goes s rounds t
   pub adds : new ≡ old ++ said_by rounds
-  pub tells : (told : List Told) → heard_old told → heard_new (told ++ told_in (said_by rounds))
+  pub tells : (first : B) (told : List Told) → heard_old first told → heard_new first (told ++ told_in (said_by rounds))
 
 -- a state in which a job has ended so, or want of memory
 abbrev pub IsEnded : JobState → Ending → Type 0
 IsEnded s e = (ending_of s ≡ Some e) ⊎ (e ≡ ending.Refused fault.OutOfMemory)
 
 -- a run to its end
-pub record Ran (s : JobState) (old new : List Spoken) (heard_old heard_new : List Told → Type 0) (e : Ending) : Type 0 where
+pub record Ran {B : Type 0} (s : JobState) (old new : List Spoken) (heard_old heard_new : B → List Told → Type 0) (e : Ending) : Type 0 where
   pub last : JobState
   pub going : Going s old new heard_old heard_new last
   pub ended : IsEnded last e
@@ -178,12 +178,12 @@ abbrev pub IsWithin : ℕ → ℕ → Job → ℕ → Type 0
 IsWithin low high job n = (low ≤ n) × (n ≤ high)
 
 -- what a run of a job says, whatever its ports answer
-pub record Runs (IsNumber : Job → ℕ → Type 0) (order : Order) (old new : List Spoken) (heard_old heard_new : List Told → Type 0) (IsEnd : List Spoken → Type 0) : Type 0 where
+pub record Runs {B : Type 0} (IsNumber : Job → ℕ → Type 0) (order : Order) (old new : List Spoken) (heard_old heard_new : B → List Told → Type 0) (IsEnd : List Spoken → Type 0) : Type 0 where
   pub more : List Spoken
   pub adds : new ≡ old ++ more
   pub right : AreRight IsNumber (begun order) more
   pub reported : ReportedFrom [] more
-  pub tells : (told : List Told) → heard_old told → heard_new (told ++ told_in more)
+  pub tells : (first : B) (told : List Told) → heard_old first told → heard_new first (told ++ told_in more)
   pub end : IsEnd more
 
 -- a sync run ends well only where all that the master told in it is merged, nothing is being copied, and the lock is released
@@ -195,7 +195,7 @@ abbrev pub EndsSync : Order → Result (Unit {0}) SyncFault → List Spoken → 
 EndsSync order (Ok u) es = Synced order es
 EndsSync order (Err f) es = ComesFrom es f
 
-abbrev pub IsSyncRun : List ℕ → Bool → List Spoken → List Spoken → (List Told → Type 0) → (List Told → Type 0) → Result (Unit {0}) SyncFault → Type 0
+abbrev pub IsSyncRun : {B : Type 0} → List ℕ → Bool → List Spoken → List Spoken → (B → List Told → Type 0) → (B → List Told → Type 0) → Result (Unit {0}) SyncFault → Type 0
 IsSyncRun token steal old new heard_old heard_new result = Runs IsCopying (Sync token steal) old new heard_old heard_new (EndsSync (Sync token steal) result)
 
 -- an init run ends well only where its Init, of its order's URL, was accepted
@@ -208,7 +208,7 @@ abbrev pub EndsInit : List ℕ → Result (Unit {0}) SyncFault → List Spoken �
 EndsInit url (Ok u) es = Begun url es
 EndsInit url (Err f) es = ComesFrom es f
 
-abbrev pub IsInitRun : List ℕ → List Spoken → List Spoken → (List Told → Type 0) → (List Told → Type 0) → Result (Unit {0}) SyncFault → Type 0
+abbrev pub IsInitRun : {B : Type 0} → List ℕ → List Spoken → List Spoken → (B → List Told → Type 0) → (B → List Told → Type 0) → Result (Unit {0}) SyncFault → Type 0
 IsInitRun url old new heard_old heard_new result = Runs IsZero (Initialise url) old new heard_old heard_new (EndsInit url result)
 
 -- the numbers whose properties were put, in order
@@ -231,5 +231,5 @@ abbrev pub EndsCopy : ℕ → ℕ → Result (Unit {0}) SyncFault → List Spoke
 EndsCopy low high (Ok u) es = Copied low high es
 EndsCopy low high (Err f) es = ComesFrom es f
 
-abbrev pub IsCopyRun : List ℕ → ℕ → ℕ → List Spoken → List Spoken → (List Told → Type 0) → (List Told → Type 0) → Result (Unit {0}) SyncFault → Type 0
+abbrev pub IsCopyRun : {B : Type 0} → List ℕ → ℕ → ℕ → List Spoken → List Spoken → (B → List Told → Type 0) → (B → List Told → Type 0) → Result (Unit {0}) SyncFault → Type 0
 IsCopyRun token low high old new heard_old heard_new result = Runs (IsWithin low high) (CopyProps token) old new heard_old heard_new (EndsCopy low high result)

@@ -86,8 +86,8 @@ pub data IsRound (d : Deed) (a : Answer) (more : List Spoken) : Type 0 where
   Treeless : (of n : ℕ) → (f : SyncFault) → d ≡ Fetches of → a ≡ answer.Refused f → more ≡ NoTree n (refused_as f) ∷ [] → IsRound d a more
 
 -- what one deed adds to all that was said and told
-pub record Acted (d : Deed) (a : Answer) (old new : List Spoken) (heard_old heard_new : List Told → Type 0) : Type 0 where
+pub record Acted {B : Type 0} (d : Deed) (a : Answer) (old new : List Spoken) (heard_old heard_new : B → List Told → Type 0) : Type 0 where
   pub more : List Spoken
   pub round : IsRound d a more
   pub adds : new ≡ old ++ more
-  pub tells : (told : List Told) → heard_old told → heard_new (told ++ told_in more)
+  pub tells : (first : B) (told : List Told) → heard_old first told → heard_new first (told ++ told_in more)

@@ -48,6 +48,13 @@ impl<D: Disk + Drop> AloneMirror<D> {
         &self.store
     }
 
+    /// The store, as the calls have left it.
+    pub fn into_store(self) -> RepoStore<D>
+        ensures { result ≡ store_of self }
+    {
+        self.store
+    }
+
     /// The disk, with what the calls have left there.
     pub fn into_disk(self) -> D
         ensures { result ≡ disk_of (store_of self) }

@@ -154,8 +154,8 @@ impl<M: MasterPort + Drop, N: MirrorPort + Drop, R: Report + Drop> JobPorts<M, N
     fn tell(&mut self, call: &MirrorCall<'_>)
         requires { length self.old.calls.items + 1 ≤ vec_capacity self.old.calls }
         ensures calls { calls_of self.new ≡ calls_of self.old ++ map Tells (told_of (call_of call.now)) }
-        ensures told { (told : List IsTold) → R.heard (report_of self.old) told → R.heard (report_of self.new)
-            (told ++ told_of (call_of call.now)) }
+        ensures told { (first : R) (told : List IsTold) → R.heard (report_of self.old) first told
+            → R.heard (report_of self.new) first (told ++ told_of (call_of call.now)) }
         ensures mirror { mirror_of self.new ≡ mirror_of self.old }
         ensures master { master_of self.new ≡ master_of self.old }
     {
@@ -170,8 +170,8 @@ impl<M: MasterPort + Drop, N: MirrorPort + Drop, R: Report + Drop> JobPorts<M, N
     fn tell_committed(&mut self, number: RevNo)
         requires { length self.old.calls.items + 1 ≤ vec_capacity self.old.calls }
         ensures calls { calls_of self.new ≡ calls_of self.old ++ Tells (Committed number) ∷ [] }
-        ensures told { (told : List IsTold) → R.heard (report_of self.old) told → R.heard (report_of self.new)
-            (told ++ Committed number ∷ []) }
+        ensures told { (first : R) (told : List IsTold) → R.heard (report_of self.old) first told
+            → R.heard (report_of self.new) first (told ++ Committed number ∷ []) }
         ensures mirror { mirror_of self.new ≡ mirror_of self.old }
         ensures master { master_of self.new ≡ master_of self.old }
     {
@@ -183,8 +183,8 @@ impl<M: MasterPort + Drop, N: MirrorPort + Drop, R: Report + Drop> JobPorts<M, N
     fn tell_copied(&mut self, number: RevNo)
         requires { length self.old.calls.items + 1 ≤ vec_capacity self.old.calls }
         ensures calls { calls_of self.new ≡ calls_of self.old ++ Tells (Copied number) ∷ [] }
-        ensures told { (told : List IsTold) → R.heard (report_of self.old) told → R.heard (report_of self.new)
-            (told ++ Copied number ∷ []) }
+        ensures told { (first : R) (told : List IsTold) → R.heard (report_of self.old) first told
+            → R.heard (report_of self.new) first (told ++ Copied number ∷ []) }
         ensures mirror { mirror_of self.new ≡ mirror_of self.old }
         ensures master { master_of self.new ≡ master_of self.old }
     {
