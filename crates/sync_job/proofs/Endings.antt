@@ -24,7 +24,7 @@ use Rattle.sync_core.specs.SyncTable as sync_table
 use Rattle.sync_core.specs.CopyTable as copy_table
 use Rattle.sync_job.specs.declared.report.Told.{Told}
 use Rattle.sync_job.specs.Said.{Spoken, made, IsRound, Done, Lacking, Treeless}
-use Rattle.sync_job.specs.Runs.{Round, said_by, Goes, Ran, IsEnded, IsReleased, Memory, hears_all, IsCopying, EndsSync, IsSyncRun, answer_to}
+use Rattle.sync_job.specs.Runs.{no_number, Round, said_by, Goes, Ran, IsEnded, IsReleased, Memory, hears_all, IsCopying, EndsSync, IsSyncRun, answer_to}
 use Rattle.sync_job.proofs.Rounds.{Laws, carry, silent, run_rightly, IsRightly, EndsRefused}
 use Rattle.sync_job.proofs.Causes.{run_reported, run_from, ended_refused, next_is, looked_is, who_is, cleared_is, copy_looked_is, copy_begin_is, copy_next_is}
 
@@ -301,5 +301,5 @@ sync_run laws token steal s old new ho hn e x start f ran same =
     ends : (e : Ending) → IsEnded ran.last e → EndsSync (Sync token steal) (answer_to e) (said_by ran.going.rounds)
     ends ending.Fine (inl h) = record { all = synced ran.last (hears_all (begun (Sync token steal)) (said_by ran.going.rounds)) is_sync h (follows_fine ran.last (hears_all (begun (Sync token steal)) (said_by ran.going.rounds)) h rightly.follows); released = released.released h }
     ends ending.Fine (inr h) = absurd (no_fine h)
-    ends (ending.Refused g) (inl h) = run_from (sync_start token steal) ran.last ran.going.rounds goes (record { refusals = λ y z. absurd z; who = λ y z. absurd z; merged = λ y z. absurd z }) g (ended_refused ran.last g h)
+    ends (ending.Refused g) (inl h) = run_from laws IsCopying no_number (begun (Sync token steal)) (sync_start token steal) ran.last ran.going.rounds goes (record { rightly = record { right = tt; numbers = λ job n h. h; follows = inl (subst (λ y. Follows (begun (Sync token steal)) y) start f) }; from = record { refusals = λ y z. absurd z; who = λ y z. absurd z; merged = λ y z. absurd z; highest = λ n z. absurd z } }) g (ended_refused ran.last g h)
     ends (ending.Refused g) (inr h) = Memory (same_fault g fault.OutOfMemory h)

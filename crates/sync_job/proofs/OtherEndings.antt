@@ -22,7 +22,7 @@ use Rattle.sync_core.specs.CopyTable as copy_table
 use Rattle.sync_job.specs.declared.report.Told.{Told}
 use Rattle.sync_core.specs.Copies as told
 use Rattle.sync_job.specs.Said.{Spoken, Says, NoTree, Tells, made, IsRound, Done, Lacking, Treeless}
-use Rattle.sync_job.specs.Runs.{said_by, Goes, Ran, IsEnded, Memory, IsZero, IsWithin, answer_to, Begun, EndsInit, IsInitRun, put_by, puts_in, EndsCopy, IsCopyRun, IsSaid}
+use Rattle.sync_job.specs.Runs.{no_number, said_by, Goes, Ran, IsEnded, Memory, IsZero, IsWithin, answer_to, Begun, EndsInit, IsInitRun, put_by, puts_in, EndsCopy, IsCopyRun, IsSaid}
 use Rattle.std.specs.List.{range_with_len}
 use Rattle.std.proofs.lemmas.Bool.Decides.{nat_tests}
 use Rattle.sync_core.proofs.Lists.{range-next}
@@ -129,7 +129,7 @@ init_run laws url s old new ho hn e x start f ran same =
     ends : (e : Ending) → IsEnded ran.last e → EndsInit url (answer_to e) (said_by ran.going.rounds)
     ends ending.Fine (inl h) = done.done h
     ends ending.Fine (inr h) = absurd (no_fine h)
-    ends (ending.Refused g) (inl h) = run_from (init_start url) ran.last ran.going.rounds goes (record { refusals = λ y z. absurd z; who = λ y z. absurd z; merged = λ y z. absurd z }) g (ended_refused ran.last g h)
+    ends (ending.Refused g) (inl h) = run_from laws IsZero no_number (begun (Initialise url)) (init_start url) ran.last ran.going.rounds goes (record { rightly = record { right = tt; numbers = λ job n h. h; follows = inl (subst (λ y. Follows (begun (Initialise url)) y) start f) }; from = record { refusals = λ y z. absurd z; who = λ y z. absurd z; merged = λ y z. absurd z; highest = λ n z. absurd z } }) g (ended_refused ran.last g h)
     ends (ending.Refused g) (inr h) = Memory (same_fault g fault.OutOfMemory h)
 
 -- copying runs
@@ -293,7 +293,7 @@ copy_run laws token low high s old new ho hn e x start f ran same =
       right = rightly.right;
       reported = run_reported s ran.last ran.going.rounds ran.going.goes;
       tells = ran.going.tells;
-      end = subst (λ y. EndsCopy low high y (said_by ran.going.rounds)) (sym same) (ends e ran.ended);
+      end = subst (λ y. EndsCopy token low high y (said_by ran.going.rounds)) (sym same) (ends e ran.ended);
     }
   where
     goes : Goes (copy_start token low high) ran.going.rounds ran.last
@@ -308,8 +308,8 @@ copy_run laws token low high s old new ho hn e x start f ran same =
     puts : CopyPuts low high ran.last (said_by ran.going.rounds)
     puts = carry (CopyPuts low high) (copy_on laws low high) (copy_start token low high) ran.last ran.going.rounds [] goes (refl, refl, refl)
 
-    ends : (e : Ending) → IsEnded ran.last e → EndsCopy low high (answer_to e) (said_by ran.going.rounds)
+    ends : (e : Ending) → IsEnded ran.last e → EndsCopy token low high (answer_to e) (said_by ran.going.rounds)
     ends ending.Fine (inl h) = record { all = all_put low high ran.last (said_by ran.going.rounds) puts h; released = released.released h }
     ends ending.Fine (inr h) = absurd (no_fine h)
-    ends (ending.Refused g) (inl h) = run_from (copy_start token low high) ran.last ran.going.rounds goes (record { refusals = λ y z. absurd z; who = λ y z. absurd z; merged = λ y z. absurd z }) g (ended_refused ran.last g h)
+    ends (ending.Refused g) (inl h) = run_from laws (IsWithin low high) (λ n. n ≡ high) (begun (CopyProps token)) (copy_start token low high) ran.last ran.going.rounds goes (record { rightly = record { right = tt; numbers = λ job n h. h; follows = inl (subst (λ y. Follows (begun (CopyProps token)) y) start f) }; from = record { refusals = λ y z. absurd z; who = λ y z. absurd z; merged = λ y z. absurd z; highest = λ n e. sym e } }) g (ended_refused ran.last g h)
     ends (ending.Refused g) (inr h) = Memory (same_fault g fault.OutOfMemory h)

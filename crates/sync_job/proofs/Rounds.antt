@@ -96,7 +96,7 @@ same_heard job Ends (answer.Map x) h = absurd h
 same_heard job Ends (answer.Refused x) h = absurd h
 same_heard job Ends (answer.Failed x) h = absurd h
 
-hears_append : (job : Job) (xs ys : List Spoken) → hears_all job (xs ++ ys) ≡ hears_all (hears_all job xs) ys
+pub hears_append : (job : Job) (xs ys : List Spoken) → hears_all job (xs ++ ys) ≡ hears_all (hears_all job xs) ys
 hears_append job [] ys = refl
 hears_append job (x ∷ xs) ys = hears_append (hears job x) xs ys
 

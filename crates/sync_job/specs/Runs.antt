@@ -1,5 +1,5 @@
 -- Runs of jobs: what is said in them, and how they end.
-use Rattle.std.specs.Prelude.{◌≡◌, ◌⊎◌, ℕ, ◌+◌, ◌-◌, ◌≤◌, Bool, true, false, List, [], ◌∷◌, ◌++◌, Some, None, is_none, Result, Ok, Err, string_bytes}
+use Rattle.std.specs.Prelude.{◌≡◌, ◌⊎◌, ℕ, ◌+◌, ◌-◌, ◌≤◌, nat_lt, Bool, true, false, List, [], ◌∷◌, ◌++◌, Some, None, is_none, Result, Ok, Err, string_bytes}
 use Rattle.std.specs.List.{range_with_len}
 use Rattle.node_base.specs.Props.{PropMap}
 use Rattle.sync_core.specs.declared.answer.Answer.{Answer}
@@ -14,8 +14,9 @@ use Rattle.sync_core.specs.Mirror.{Init, ReleaseLock, PutProps, Look}
 use Rattle.sync_core.specs.Jobs.{Job, Order, Initialise, Sync, CopyProps, Locked, begun}
 use Rattle.sync_core.specs.declared.standing.Standing.{Standing}
 use Rattle.sync_core.specs.Faults.{inconsistent_as}
+use Rattle.sync_core.specs.Faults as numbers
 use Rattle.sync_core.specs.Identities.{is_identity}
-use Rattle.sync_core.specs.Names.{reaches}
+use Rattle.sync_core.specs.Names.{reaches, is_absent}
 use Rattle.sync_core.specs.Shapes.{shape_in}
 use Rattle.sync_core.specs.SyncFollows.{IsSynced}
 use Rattle.sync_core.specs.Deeds.{Deed, Calls, AsksIdentity, AsksLatest, Fetches, FetchesProps, Ends, IsLawfulDeed, heard}
@@ -120,11 +121,6 @@ abbrev pub IsSaid : Spoken → List Spoken → Type 0
 IsSaid e [] = ⊥
 IsSaid e (x ∷ xs) = (x ≡ e) ⊎ IsSaid e xs
 
--- a refusal that tells the mirror's numbers (57)
-abbrev pub TellsNumbers : SyncFault → Type 0
-TellsNumbers (fault.Inconsistent merged copying head) = Unit {0}
-TellsNumbers _ = ⊥
-
 -- a look of this run saw the mirror stand so
 abbrev pub IsLooked : Standing → List Spoken → Type 0
 IsLooked s es = IsSaid (Says (Calls Look) (told.Seen s)) es
@@ -136,31 +132,41 @@ pub record IsForeign (es : List Spoken) (found : List ℕ) (f : SyncFault) : Typ
   pub other : is_identity standing.uuid found ≡ false
   pub fault : f ≡ fault.WrongMaster
 
--- properties are to be copied past what was merged in the mirror that was looked at (58)
-pub record IsBeyond (es : List Spoken) (f : SyncFault) : Type 0 where
+-- properties are to be copied past what was merged in the mirror that was looked at (58); such a number is the order's highest
+pub record IsBeyond (IsHigh : ℕ → Type 0) (es : List Spoken) (f : SyncFault) : Type 0 where
   pub standing : Standing
   pub looked : IsLooked standing es
   pub high : ℕ
+  pub highest : IsHigh high
   pub unmerged : reaches standing.merged high ≡ false
   pub fault : f ≡ fault.NotYetCopied high
 
--- what a job refuses by itself for an answer, by what was said: a look at a mirror that isn't initialised (51) or in no shape (57),
--- the identity that it has asked for (56, 58), and where it goes on from revision to revision, numbers that leave none (57)
-abbrev pub IsShown : List Spoken → Outcome → SyncFault → Type 0
-IsShown es (told.Seen s) f = ((is_none s.url ≡ true) × (f ≡ fault.NotInitialised)) ⊎ ((shape_in s.merged s.copying s.head ≡ None) × (f ≡ inconsistent_as s))
-IsShown es (told.Identity found) f = IsForeign es found f ⊎ IsBeyond es f
-IsShown es (told.Latest n) f = TellsNumbers f
-IsShown es told.Done f = TellsNumbers f
-IsShown es _ f = ⊥
+-- by what the job has heard a revision is noted as being copied, and none may follow the head (57)
+pub record IsStuck (job : Job) (f : SyncFault) : Type 0 where
+  pub noted : is_absent job.copying ≡ false
+  pub full : nat_lt job.head 65535 ≡ false
+  pub fault : f ≡ fault.Inconsistent (numbers.told_of job.merged None) (numbers.told_of job.copying None) job.head
+
+-- what a job refuses by itself for an answer, by what was said up to it: a look at a mirror that isn't initialised (51) or in no
+-- shape (57), the identity that it has asked for (56, 58), and the newest revision where none may be fetched (57)
+abbrev pub IsShown : (ℕ → Type 0) → Job → List Spoken → Outcome → SyncFault → Type 0
+IsShown IsHigh job es (told.Seen s) f = ((is_none s.url ≡ true) × (f ≡ fault.NotInitialised)) ⊎ ((shape_in s.merged s.copying s.head ≡ None) × (f ≡ inconsistent_as s))
+IsShown IsHigh job es (told.Identity found) f = IsForeign es found f ⊎ IsBeyond IsHigh es f
+IsShown IsHigh job es (told.Latest n) f = IsStuck (hears_all job es) f
+IsShown IsHigh job es _ f = ⊥
 
 -- where a refusal comes from: a port answered it (a master's as 60, with what it told inside), or it is want of memory, or an answer
 -- that was heard shows it
-pub data ComesFrom (es : List Spoken) (f : SyncFault) : Type 0 where
-  Mirrors : (d : Deed) → IsSaid (Says d (refused_as f)) es → ComesFrom es f
-  Trees : (n : ℕ) → IsSaid (NoTree n (refused_as f)) es → ComesFrom es f
-  Masters : (d : Deed) → (text : _) → f ≡ fault.MasterFailed text → IsSaid (Says d (told.Failed (string_bytes text))) es → ComesFrom es f
-  Memory : f ≡ fault.OutOfMemory → ComesFrom es f
-  Tables : (d : Deed) → (o : Outcome) → IsShown es o f → IsSaid (Says d o) es → ComesFrom es f
+pub data ComesFrom (IsHigh : ℕ → Type 0) (job : Job) (es : List Spoken) (f : SyncFault) : Type 0 where
+  Mirrors : (d : Deed) → IsSaid (Says d (refused_as f)) es → ComesFrom IsHigh job es f
+  Trees : (n : ℕ) → IsSaid (NoTree n (refused_as f)) es → ComesFrom IsHigh job es f
+  Masters : (d : Deed) → (text : _) → f ≡ fault.MasterFailed text → IsSaid (Says d (told.Failed (string_bytes text))) es → ComesFrom IsHigh job es f
+  Memory : f ≡ fault.OutOfMemory → ComesFrom IsHigh job es f
+  Tables : (d : Deed) → (o : Outcome) → (heard more : List Spoken) → es ≡ heard ++ more → IsSaid (Says d o) heard → IsShown IsHigh job heard o f → ComesFrom IsHigh job es f
+
+-- a job whose order has no highest number
+abbrev pub no_number : ℕ → Type 0
+no_number n = ⊥
 
 -- the last that is said is that the lock is released
 pub record IsReleased (es : List Spoken) : Type 0 where
@@ -193,7 +199,7 @@ pub record Synced (order : Order) (es : List Spoken) : Type 0 where
 
 abbrev pub EndsSync : Order → Result (Unit {0}) SyncFault → List Spoken → Type 0
 EndsSync order (Ok u) es = Synced order es
-EndsSync order (Err f) es = ComesFrom es f
+EndsSync order (Err f) es = ComesFrom no_number (begun order) es f
 
 abbrev pub IsSyncRun : {B : Type 0} → List ℕ → Bool → List Spoken → List Spoken → (B → List Told → Type 0) → (B → List Told → Type 0) → Result (Unit {0}) SyncFault → Type 0
 IsSyncRun token steal old new heard_old heard_new result = Runs IsCopying (Sync token steal) old new heard_old heard_new (EndsSync (Sync token steal) result)
@@ -206,7 +212,7 @@ pub record Begun (url : List ℕ) (es : List Spoken) : Type 0 where
 
 abbrev pub EndsInit : List ℕ → Result (Unit {0}) SyncFault → List Spoken → Type 0
 EndsInit url (Ok u) es = Begun url es
-EndsInit url (Err f) es = ComesFrom es f
+EndsInit url (Err f) es = ComesFrom no_number (begun (Initialise url)) es f
 
 abbrev pub IsInitRun : {B : Type 0} → List ℕ → List Spoken → List Spoken → (B → List Told → Type 0) → (B → List Told → Type 0) → Result (Unit {0}) SyncFault → Type 0
 IsInitRun url old new heard_old heard_new result = Runs IsZero (Initialise url) old new heard_old heard_new (EndsInit url result)
@@ -227,9 +233,9 @@ pub record Copied (low high : ℕ) (es : List Spoken) : Type 0 where
   pub all : puts_in es ≡ range_with_len low (high + 1 - low)
   pub released : IsReleased es
 
-abbrev pub EndsCopy : ℕ → ℕ → Result (Unit {0}) SyncFault → List Spoken → Type 0
-EndsCopy low high (Ok u) es = Copied low high es
-EndsCopy low high (Err f) es = ComesFrom es f
+abbrev pub EndsCopy : List ℕ → ℕ → ℕ → Result (Unit {0}) SyncFault → List Spoken → Type 0
+EndsCopy token low high (Ok u) es = Copied low high es
+EndsCopy token low high (Err f) es = ComesFrom (λ n. n ≡ high) (begun (CopyProps token)) es f
 
 abbrev pub IsCopyRun : {B : Type 0} → List ℕ → ℕ → ℕ → List Spoken → List Spoken → (B → List Told → Type 0) → (B → List Told → Type 0) → Result (Unit {0}) SyncFault → Type 0
-IsCopyRun token low high old new heard_old heard_new result = Runs (IsWithin low high) (CopyProps token) old new heard_old heard_new (EndsCopy low high result)
+IsCopyRun token low high old new heard_old heard_new result = Runs (IsWithin low high) (CopyProps token) old new heard_old heard_new (EndsCopy token low high result)
