@@ -16,3 +16,4 @@ pub mod Permuted
 pub mod Reparted
 pub mod Sorting
 pub mod Walk
+pub mod Within

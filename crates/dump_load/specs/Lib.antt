@@ -1,3 +1,4 @@
+pub mod Bounds
 pub mod Changes
 pub mod Coded
 pub mod Effect

@@ -9,7 +9,8 @@ use thiserror::Error;
 /// Why records make no set of changes, or a set no tree.
 #[derive(Clone, Copy, Debug, PartialEq, Eq, Drop, Error)]
 pub enum ChangeFault {
-    /// An add or a replace that copies nothing doesn't say what it adds, or a change is one that dump text can't say (2).
+    /// An add or a replace that copies nothing doesn't say what it adds, or a change is one that dump text can't
+    /// say (2).
     #[error("bad header")]
     BadHeader,
     /// More than 4,096 paths are changed, or a path of a copy is past the limits (8).

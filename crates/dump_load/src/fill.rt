@@ -1,5 +1,6 @@
 //! What records leave out, filled in.
-ghost use Rattle.std.specs.Prelude.{◌≡◌, ◌≤◌, ◌++◌, ◌∷◌, List, [], length, None, false, is_none, if◌then◌else◌, IfOk, IfErr, OnOk};
+ghost use Rattle.std.specs.Prelude.{◌≡◌, ◌≤◌, ◌++◌, ◌∷◌, List, [], length, None, false, is_none};
+ghost use Rattle.std.specs.Prelude.{if◌then◌else◌, IfOk, IfErr, OnOk};
 ghost use Rattle.std.specs.List.{list_any};
 ghost use Rattle.std.specs.FinMap as map;
 ghost use Rattle.dump_load.specs.declared.change.Change.{Change as ChangeOf};
@@ -90,7 +91,9 @@ fn advance(
     requires few { length trees.now ≤ 65535 }
     requires whole { IsDescribed change.now }
     ensures fault { IfOk result (λ f. f ≡ fault_of trees.now (map.get tree.old) change.now) }
-    ensures left { OnOk result ((q : Path) → map.get tree.new q ≡ (if is_none (fault_of trees.now (map.get tree.old) change.now) then stepped trees.now (map.get tree.old) change.now q else map.get tree.old q)) }
+    ensures left { OnOk result ((q : Path)
+        → map.get tree.new q ≡ (if is_none (fault_of trees.now (map.get tree.old) change.now)
+        then stepped trees.now (map.get tree.old) change.now q else map.get tree.old q)) }
 {
     match fault_of(trees, tree, change) {
         Some(fault) => Ok(Some(fault)),
@@ -117,8 +120,12 @@ fn fill_one(
     change: Change,
 ) -> Result<(), ChangeFault>
     requires { length trees.now ≤ 65535 }
-    ensures filled { OnOk result ((ys rest : List ChangeOf) → Filling trees.now ys so_far.old.changes.items so_far.old.tree so_far.old.fault → IsInOrder (ys ++ change ∷ rest) → Filling trees.now (ys ++ change ∷ []) so_far.new.changes.items so_far.new.tree so_far.new.fault) }
-    ensures refused { IfErr result (λ e. (ys rest : List ChangeOf) → IsRefusal e (fault_if (list_any is_unsaid (ys ++ change ∷ rest)) BadHeader)) }
+    ensures filled { OnOk result ((ys rest : List ChangeOf)
+        → Filling trees.now ys so_far.old.changes.items so_far.old.tree so_far.old.fault
+        → IsInOrder (ys ++ change ∷ rest)
+        → Filling trees.now (ys ++ change ∷ []) so_far.new.changes.items so_far.new.tree so_far.new.fault) }
+    ensures refused { IfErr result (λ e. (ys rest : List ChangeOf)
+        → IsRefusal e (fault_if (list_any is_unsaid (ys ++ change ∷ rest)) BadHeader)) }
 {
     if is_unsaid(&change) {
         return Err(ChangeFault::BadHeader);
@@ -131,15 +138,16 @@ fn fill_one(
     Ok(())
 }
 
-/// Changes in path order with what is missing filled in: the kind that counts, and what an add or a replace that copies nothing
-/// begins with. Where such a one doesn't say what it adds, or one has a form that dump text can't say, they are refused (2).
-/// Where they have no fault, the tree is theirs.
+/// Changes in path order with what is missing filled in: the kind that counts, and what an add or a replace that
+/// copies nothing begins with. Where such a one doesn't say what it adds, or one has a form that dump text can't
+/// say, they are refused (2). Where they have no fault, the tree is theirs.
 pub fn fill(alloc: Global, trees: &[Tree], changes: Vec<Change>) -> Result<Filled, ChangeFault>
     requires few { length trees.now ≤ 65535 }
     requires order { IsInOrder changes.items }
     ensures filled { IfOk result (λ f. f.changes.items ≡ filled_after trees.now [] changes.items) }
     ensures fault { IfOk result (λ f. f.fault ≡ fault trees.now f.changes.items) }
-    ensures tree { IfOk result (λ f. f.fault ≡ None → (q : Path) → map.get f.tree q ≡ effect trees.now f.changes.items q) }
+    ensures tree { IfOk result (λ f. f.fault ≡ None → (q : Path)
+        → map.get f.tree q ≡ effect trees.now f.changes.items q) }
     ensures kinds { OnOk result (list_any is_unsaid changes.items ≡ false) }
     ensures refused { IfErr result (λ e. IsRefusal e (fault_if (list_any is_unsaid changes.items) BadHeader)) }
 {

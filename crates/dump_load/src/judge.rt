@@ -6,7 +6,8 @@ ghost use Rattle.node_base.specs.Path.{same_path};
 ghost use Rattle.node_base.specs.Tree.{source_at};
 ghost use Rattle.node_base.specs.declared.fault.TreeFault.TheVariants.{BadPath, NoSource, KindMismatch, TooLong};
 ghost use Rattle.dump_load.specs.Changes.{settles, brings};
-ghost use Rattle.dump_load.specs.Faults.{fault_if, fault_of, place_fault, judged, mismatches, lacks_source, copies_too_long};
+ghost use Rattle.dump_load.specs.Faults.{fault_if, fault_of, place_fault, judged, mismatches, lacks_source};
+ghost use Rattle.dump_load.specs.Faults.{copies_too_long};
 
 use crate::Change;
 use crate::change::settles;
@@ -68,8 +69,8 @@ fn source_fault(trees: &[Tree], change: &Change) -> Option<TreeFault>
     }
 }
 
-/// The kind that counts for a change: that of the source of a copy, the one that is given for another add or replace, and else
-/// that of the node that is there.
+/// The kind that counts for a change: that of the source of a copy, the one that is given for another add or
+/// replace, and else that of the node that is there.
 pub fn judged(trees: &[Tree], tree: &Tree, change: &Change) -> Option<NodeKind>
     ensures { result ≡ judged trees.now (map.get tree.now) change.now }
 {
@@ -119,7 +120,8 @@ fn is_too_long(trees: &[Tree], change: &Change, source: &Source) -> bool
 }
 
 fn copy_fault(trees: &[Tree], change: &Change) -> Option<TreeFault>
-    ensures { result ≡ fault_if (brings change.now && option_map_or (copies_too_long trees.now change.now.path) change.now.source false) TooLong }
+    ensures { result ≡ fault_if (brings change.now
+        && option_map_or (copies_too_long trees.now change.now.path) change.now.source false) TooLong }
 {
     match &change.source {
         None => None,
@@ -133,10 +135,10 @@ fn copy_fault(trees: &[Tree], change: &Change) -> Option<TreeFault>
     }
 }
 
-/// The first of a change's faults, in their order, where `tree` is what the changes before it left: the root is added, deleted
-/// or replaced (10), a front of the path is absent (11) or a file (13), an add finds something (12) or another change nothing
-/// (11), the source isn't there (14), a kind differs or a directory is given a text (17), and a path of the copy is past the
-/// limits (8).
+/// The first of a change's faults, in their order, where `tree` is what the changes before it left: the root is
+/// added, deleted or replaced (10), a front of the path is absent (11) or a file (13), an add finds something (12)
+/// or another change nothing (11), the source isn't there (14), a kind differs or a directory is given a text (17),
+/// and a path of the copy is past the limits (8).
 pub fn fault_of(trees: &[Tree], tree: &Tree, change: &Change) -> Option<TreeFault>
     ensures { result ≡ fault_of trees.now (map.get tree.now) change.now }
 {

@@ -1,6 +1,8 @@
-//! Laws of sets of changes and of their effects, over all trees and sets. Each is proved as the contract of a function that does
-//! nothing.
-ghost use Rattle.dump_load.specs.Laws.{TreesAreEffects, NoChanges, OneMore, OneMoreInOrder, NormalFollows, FollowsClear, OneMoreFault, Replaced, Reparted, Bare, NumberedFromBelow, Permuted, OneSet};
+//! Laws of sets of changes and of their effects, over all trees and sets. Each is proved as the contract of a
+//! function that does nothing.
+ghost use Rattle.dump_load.specs.Laws.{TreesAreEffects, NoChanges, OneMore, OneMoreInOrder, NormalFollows};
+ghost use Rattle.dump_load.specs.Laws.{FollowsClear, OneMoreFault, Replaced, Reparted, Bare, NumberedFromBelow};
+ghost use Rattle.dump_load.specs.Laws.{Permuted, OneSet};
 
 /// The tree that a set makes, as one map, has the set's effect at each path.
 #[tactic(auto, using(crate::proofs::EffectTrees::effect_tree_at))]
@@ -13,8 +15,8 @@ pub fn no_changes()
     ensures { NoChanges }
 {}
 
-/// One change more does to the effect what one step does to a tree, wherever it stands among the others: none of them has its
-/// path, and where it adds, deletes or replaces none is below.
+/// One change more does to the effect what one step does to a tree, wherever it stands among the others: none of
+/// them has its path, and where it adds, deletes or replaces none is below.
 pub fn one_more()
     ensures anywhere { OneMore }
     ensures in_order { OneMoreInOrder }

@@ -14,6 +14,7 @@ mod fault;
 mod fill;
 mod judge;
 pub mod laws;
+mod limits;
 mod load;
 mod normal;
 mod order;

@@ -18,8 +18,8 @@ use node_base::RevNo;
 use path_tree::Tree;
 use std::alloc::Global;
 
-/// The tree that a set of changes makes of the trees before it, or the set's first fault in path order. The result is a share
-/// of the newest tree, changed along the set's paths.
+/// The tree that a set of changes makes of the trees before it, or the set's first fault in path order. The result
+/// is a share of the newest tree, changed along the set's paths.
 pub fn apply(alloc: Global, trees: &[Tree], set: &ChangeSet) -> Result<Tree, ChangeFault>
     requires { length trees.now ≤ 65535 }
     ensures effect { IfOk result (λ t. (q : Path) → map.get t q ≡ effect trees.now set.now q) }
@@ -38,8 +38,9 @@ pub fn apply(alloc: Global, trees: &[Tree], set: &ChangeSet) -> Result<Tree, Cha
     Ok(tree)
 }
 
-/// The set of changes of a revision and the tree that it makes, from the revision's number and records, over the trees before it.
-/// Refused are a number that isn't the next one (16), then what makes no set, then the set's first fault.
+/// The set of changes of a revision and the tree that it makes, from the revision's number and records, over the
+/// trees before it. Refused are a number that isn't the next one (16), then what makes no set, then the set's first
+/// fault.
 pub fn load_revision(
     alloc: Global,
     trees: &[Tree],

@@ -37,7 +37,8 @@ fn goes_on(changes: &[Change], place: usize) -> bool
 // Whether the change at that place stands after the one before it.
 fn rises(changes: &[Change], place: usize) -> bool
     requires within { place < length changes.now }
-    ensures holds { result ≡ true → IsInOrder (take place changes.now) → IsInOrder (take (place + 1) changes.now) }
+    ensures holds { result ≡ true → IsInOrder (take place changes.now)
+        → IsInOrder (take (place + 1) changes.now) }
     ensures fails { result ≡ false → ¬ IsInOrder changes.now }
 {
     let change = &changes[place];

@@ -25,7 +25,8 @@ pub fn in_path_order(changes: Vec<Change>) -> Result<Vec<Change>, AllocError>
 fn is_new(changes: &[Change], place: usize) -> bool
     requires rises { NoneFalls changes.now }
     requires within { place < length changes.now }
-    ensures { paths_named (take (place + 1) changes.now) ≡ (if result then paths_named (take place changes.now) + 1 else paths_named (take place changes.now)) }
+    ensures { paths_named (take (place + 1) changes.now)
+        ≡ (if result then paths_named (take place changes.now) + 1 else paths_named (take place changes.now)) }
 {
     if place == 0 {
         return true;

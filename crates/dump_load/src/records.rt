@@ -1,5 +1,6 @@
 //! From a revision's records to its set of changes.
-ghost use Rattle.std.specs.Prelude.{◌≡◌, ◌≤◌, ◌++◌, ◌∷◌, ◌&&◌, ◌||◌, List, [], length, map, None, true, false, IfOk, IfErr, OnOk};
+ghost use Rattle.std.specs.Prelude.{◌≡◌, ◌≤◌, ◌++◌, ◌∷◌, ◌&&◌, ◌||◌, List, [], length};
+ghost use Rattle.std.specs.Prelude.{map, None, true, false, IfOk, IfErr, OnOk};
 ghost use Rattle.std.specs.FinMap as finite;
 ghost use Rattle.dump_load.specs.declared.change.Change.{Change as ChangeOf};
 ghost use Rattle.node_base.specs.Path.{Path, same_path, is_front};
@@ -60,22 +61,27 @@ fn is_front(c: &Change, d: &Change) -> bool
 
 // Whether a change after another is its replacement: an add of the path that was deleted.
 fn replaces(last: &Change, change: &Change) -> bool
-    ensures { result ≡ (same_path last.now.path change.now.path && (is_delete last.now.action && is_add change.now.action)) }
+    ensures { result ≡ (same_path last.now.path change.now.path
+        && (is_delete last.now.action && is_add change.now.action)) }
 {
     is_same_path(last, change) && (is_delete(last.action) && is_add(change.action))
 }
 
 // Whether a change can't stand after another: it is of the same path, or under a path that was deleted.
 fn clashes(last: &Change, change: &Change) -> bool
-    ensures { result ≡ (same_path last.now.path change.now.path || (is_delete last.now.action && is_front last.now.path change.now.path)) }
+    ensures { result ≡ (same_path last.now.path change.now.path
+        || (is_delete last.now.action && is_front last.now.path change.now.path)) }
 {
     is_same_path(last, change) || (is_delete(last.action) && is_front(last, change))
 }
 
 // One more of what is stated in path order.
 fn take_in(combined: &mut Vec<Change>, change: Change) -> Result<(), ChangeFault>
-    ensures taken { OnOk result ((ys rest : List ChangeOf) → Combined ys combined.old.items → NoneFalls (ys ++ change ∷ rest) → Combined (ys ++ change ∷ []) combined.new.items) }
-    ensures refused { IfErr result (λ e. (ys rest : List ChangeOf) → Combined ys combined.old.items → NoneFalls (ys ++ change ∷ rest) → IsRefusal e (fault_if (is_out_of_order (ys ++ change ∷ rest)) OutOfOrder)) }
+    ensures taken { OnOk result ((ys rest : List ChangeOf) → Combined ys combined.old.items
+        → NoneFalls (ys ++ change ∷ rest) → Combined (ys ++ change ∷ []) combined.new.items) }
+    ensures refused { IfErr result (λ e. (ys rest : List ChangeOf) → Combined ys combined.old.items
+        → NoneFalls (ys ++ change ∷ rest)
+        → IsRefusal e (fault_if (is_out_of_order (ys ++ change ∷ rest)) OutOfOrder)) }
 {
     let Some(last) = combined.pop() else {
         combined.push(change)?;
@@ -123,7 +129,8 @@ pub fn gather(
     requires { length trees.now ≤ 65535 }
     ensures set { IfOk result (λ g. IsNormalSetOf trees.now records.items g.set) }
     ensures fault { IfOk result (λ g. g.fault ≡ fault trees.now g.set) }
-    ensures tree { IfOk result (λ g. g.fault ≡ None → (q : Path) → finite.get g.tree q ≡ effect trees.now g.set q) }
+    ensures tree { IfOk result (λ g. g.fault ≡ None → (q : Path)
+        → finite.get g.tree q ≡ effect trees.now g.set q) }
     ensures fits { OnOk result (set_fault (map change_of records.items) ≡ None) }
     ensures refused { IfErr result (λ e. IsRefusal e (set_fault (map change_of records.items))) }
 {
@@ -146,13 +153,13 @@ pub fn gather(
 }
 
 impl ChangeSet {
-    /// The set of changes that a revision's records make, over the trees of the revisions before it. The records may come in any
-    /// order; those of one path come together: there is one, or a deletion and then an add, which are one replace. A kind that is
-    /// missing becomes the node's, as the changes before it in path order leave it, or the source's. An add without a source gets
-    /// no properties, and for a file no text, where it has none.
+    /// The set of changes that a revision's records make, over the trees of the revisions before it. The records
+    /// may come in any order; those of one path come together: there is one, or a deletion and then an add, which
+    /// are one replace. A kind that is missing becomes the node's, as the changes before it in path order leave it,
+    /// or the source's. An add without a source gets no properties, and for a file no text, where it has none.
     ///
-    /// Refused are more than 4,096 paths (8), then records of one path that don't combine, or one under a path that is deleted
-    /// (15), then an add without a source and a kind, or a change that dump text can't say (2).
+    /// Refused are more than 4,096 paths (8), then records of one path that don't combine, or one under a path that
+    /// is deleted (15), then an add without a source and a kind, or a change that dump text can't say (2).
     pub fn from_records(
         alloc: Global,
         trees: &[Tree],

@@ -1,5 +1,6 @@
 //! One change of a tree.
-ghost use Rattle.std.specs.Prelude.{◌≡◌, ◌≤◌, length, [], false, true, None, Some, IsSome, OnOk, OnErr, IfOk};
+ghost use Rattle.std.specs.Prelude.{◌≡◌, ◌≤◌, length, [], false, true, None, Some, IsSome, OnOk, OnErr};
+ghost use Rattle.std.specs.Prelude.{IfOk};
 ghost use Rattle.std.specs.FinMap as map;
 ghost use Rattle.node_base.specs.Path.{Path, same_path};
 ghost use Rattle.node_base.specs.Tree.{blank, base, marked, changed_at, grafted, IsDirAt};
@@ -39,7 +40,8 @@ pub fn blank(alloc: Global, kind: Option<NodeKind>) -> Result<Node, AllocError>
 // Gives the node at the change's path what the change gives, and numbers it and what is above it.
 fn put(alloc: Global, number: RevNo, tree: &mut Tree, change: &Change) -> Result<(), AllocError>
     requires { IsSome change.now.text → ¬ IsDirAt (map.get tree.old) change.now.path }
-    ensures { OnOk result ((q : Path) → map.get tree.new q ≡ marked (changed_at (map.get tree.old) change.now.path (with_parts change.now)) change.now.path number q) }
+    ensures { OnOk result ((q : Path) → map.get tree.new q
+        ≡ marked (changed_at (map.get tree.old) change.now.path (with_parts change.now)) change.now.path number q) }
 {
     let text = share_text(&change.text)?;
     let props = share_props(&change.props)?;
@@ -51,7 +53,8 @@ fn put(alloc: Global, number: RevNo, tree: &mut Tree, change: &Change) -> Result
 fn bring(alloc: Global, trees: &[Tree], tree: &mut Tree, change: &Change) -> Result<(), AllocError>
     requires brings { brings change.now ≡ true }
     requires faultless { fault_of trees.now (map.get tree.old) change.now ≡ None }
-    ensures { OnOk result ((q : Path) → map.get tree.new q ≡ grafted (map.get tree.old) change.now.path (content trees.now change.now) q) }
+    ensures { OnOk result ((q : Path)
+        → map.get tree.new q ≡ grafted (map.get tree.old) change.now.path (content trees.now change.now) q) }
 {
     match &change.source {
         None => {

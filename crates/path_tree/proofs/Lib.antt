@@ -6,6 +6,7 @@ pub mod Exchanges
 pub mod Fronts
 pub mod Lengths
 pub mod Entries
+pub mod Kept
 pub mod Marks
 pub mod Place
 pub mod Pointers

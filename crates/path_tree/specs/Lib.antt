@@ -5,6 +5,7 @@ pub mod Joined
 pub mod JoinedLemmas
 pub mod Listed
 pub mod NodeCalls
+pub mod Nodes
 pub mod Reach
 pub mod Shape
 pub mod Shared

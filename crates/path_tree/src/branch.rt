@@ -1,5 +1,6 @@
 //! A node with what is below it, each child shared by its owners.
-ghost use Rattle.std.specs.Prelude.{◌≡◌, ◌++◌, ◌<◌, ◌≤◌, [], not, length, IfOk, IfErr, OnOk, OnErr, IsSome, None, Some, MatchOption};
+ghost use Rattle.std.specs.Prelude.{◌≡◌, ◌++◌, ◌<◌, ◌≤◌, [], not, length, IfOk, IfErr, OnOk, OnErr};
+ghost use Rattle.std.specs.Prelude.{IsSome, None, Some, MatchOption};
 ghost use Rattle.std.specs.FinMap as map;
 ghost use Rattle.std.specs.List.{list_any};
 ghost use Rattle.std.specs.Arc.{arc_value};
@@ -79,8 +80,8 @@ fn reach_to(child: &(NodeName, Branch)) -> Reach
     child.1.reach_behind(&child.0)
 }
 
-// How far the paths to these children and below them reach, which is known to be no further than `most`: the look ends where
-// it is reached.
+// How far the paths to these children and below them reach, which is known to be no further than `most`: the look
+// ends where it is reached.
 fn look(children: &[Arc<(NodeName, Branch)>], most: Reach) -> Reach
     requires { either most (reach_of (pointed children.now)) ≡ most }
     ensures { result ≡ reach_of (pointed children.now) }
@@ -95,8 +96,8 @@ fn look(children: &[Arc<(NodeName, Branch)>], most: Reach) -> Reach
     reach
 }
 
-// How far the paths to these children and below them reach, where it was `old` before one that reached `gone` became one
-// that reaches `come`.
+// How far the paths to these children and below them reach, where it was `old` before one that reached `gone`
+// became one that reaches `come`.
 fn reach_after(children: &[Arc<(NodeName, Branch)>], old: Reach, gone: Reach, come: Reach) -> Reach
     requires { Exchanged old gone come (reach_of (pointed children.now)) }
     ensures { result ≡ reach_of (pointed children.now) }
@@ -146,7 +147,8 @@ impl Branch {
 
     /// What stands at a path and below it.
     pub fn find(&self, path: &[NodeName]) -> Option<&Branch>
-        ensures { MatchOption result ((q : Path) → map.get self.now (path.now ++ q) ≡ None) (λ b. (q : Path) → map.get b.now q ≡ map.get self.now (path.now ++ q)) }
+        ensures { MatchOption result ((q : Path) → map.get self.now (path.now ++ q) ≡ None) (λ b. (q : Path)
+            → map.get b.now q ≡ map.get self.now (path.now ++ q)) }
     {
         match path {
             [] => Some(self),
@@ -278,15 +280,16 @@ impl Branch {
         }
     }
 
-    // Puts a value at a property's name of the node at the top, or takes the one there away. A value that would take the
-    // properties past their limits is no want of memory, and callers refuse it before.
+    // Puts a value at a property's name of the node at the top, or takes the one there away. A value that would
+    // take the properties past their limits is no want of memory, and callers refuse it before.
     fn put_prop(
         &mut self,
         alloc: Global,
         name: PropName,
         value: Option<PropValue>,
     ) -> Result<(), AllocError>
-        ensures ok { OnOk result ((q : Path) → map.get self.new q ≡ changed_at (map.get self.old) [] (with_prop name value) q) }
+        ensures ok { OnOk result ((q : Path)
+            → map.get self.new q ≡ changed_at (map.get self.old) [] (with_prop name value) q) }
         ensures err { OnErr result (self.new ≡ self.old) }
     {
         let Ok(()) = self.node.put_prop(alloc, name, value) else {
@@ -295,10 +298,11 @@ impl Branch {
         Ok(())
     }
 
-    // Puts bytes behind the text of the node at the top. Bytes that would take the text past its limit are no want of memory,
-    // and callers refuse them before.
+    // Puts bytes behind the text of the node at the top. Bytes that would take the text past its limit are no want
+    // of memory, and callers refuse them before.
     fn append_text(&mut self, alloc: Global, piece: &[u8]) -> Result<(), AllocError>
-        ensures ok { OnOk result ((q : Path) → map.get self.new q ≡ changed_at (map.get self.old) [] (with_piece piece.now) q) }
+        ensures ok { OnOk result ((q : Path)
+            → map.get self.new q ≡ changed_at (map.get self.old) [] (with_piece piece.now) q) }
         ensures err { OnErr result (self.new ≡ self.old) }
     {
         let Ok(()) = self.node.append_text(alloc, piece) else {
@@ -347,14 +351,16 @@ impl Branch {
         }
     }
 
-    /// Adds each node with its path, in path order. The path's names stand behind those above it, which come back as they were.
+    /// Adds each node with its path, in path order. The path's names stand behind those above it, which come back
+    /// as they were.
     pub fn list_into<'a>(
         &'a self,
         alloc: Global,
         above: &mut Vec<&'a NodeName>,
         out: &mut Vec<Entry<'a>>,
     ) -> Result<(), AllocError>
-        ensures listed { OnOk result (shown out.new.items ≡ shown out.old.items ++ under (shown_names above.old.items) (map.entries self.now)) }
+        ensures listed { OnOk result (shown out.new.items
+            ≡ shown out.old.items ++ under (shown_names above.old.items) (map.entries self.now)) }
         ensures above { OnOk result (shown_names above.new.items ≡ shown_names above.old.items) }
     {
         let mut path = Vec::with_capacity(alloc, above.len())?;

@@ -9,6 +9,7 @@ mod branch;
 mod calls;
 mod edit;
 mod error;
+pub mod limits;
 mod listing;
 mod node_calls;
 pub mod plain;

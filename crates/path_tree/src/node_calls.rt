@@ -8,14 +8,15 @@ ghost use Rattle.path_tree.specs.Calls.{Answers, text_fault};
 ghost use Rattle.path_tree.specs.NodeCalls.{prop_fault, piece_fault};
 
 use crate::edit::Edit;
+use crate::limits::{name_limits, value_limits};
 use crate::{Tree, TreeError};
 use node_base::limits::TEXT_BYTES;
 use node_base::{Node, NodePath, PropName, PropValue, Text, TreeFault};
 use std::alloc::Global;
 
 impl Tree {
-    /// Puts a value at a property's name, or takes the one there away. Refused: as `set_props` is, and then a value that
-    /// takes the node's properties past their limits (8).
+    /// Puts a value at a property's name, or takes the one there away. Refused: as `set_props` is, and then a value
+    /// that takes the node's properties past their limits (8).
     pub fn put_prop(
         &mut self,
         alloc: Global,
@@ -24,20 +25,24 @@ impl Tree {
         value: Option<PropValue>,
     ) -> Result<(), TreeError>
         ensures answer { Answers (prop_fault (map.get self.old) path.now name (is_some value)) result }
-        ensures ok { OnOk result ((q : Path) → map.get self.new q ≡ changed_at (map.get self.old) path.now (with_prop name value) q) }
+        ensures ok { OnOk result ((q : Path)
+            → map.get self.new q ≡ changed_at (map.get self.old) path.now (with_prop name value) q) }
         ensures err { OnErr result (self.new ≡ self.old) }
     {
         if let Some(fault) = self.prop_fault(path, &name, value.is_some()) {
             return Err(TreeError::Fault(fault));
         }
-        self.is_tree();
+        self.limits();
+        name_limits(&name);
+        value_limits(&value);
         Ok(self.alter(alloc, path.names(), Edit::Prop(name, value))?)
     }
 
     /// Puts an empty text in the place of a file's. Refused: as `set_text` is.
     pub fn start_text(&mut self, alloc: Global, path: &NodePath) -> Result<(), TreeError>
         ensures answer { Answers (text_fault (map.get self.old) path.now) result }
-        ensures ok { OnOk result ((q : Path) → map.get self.new q ≡ changed_at (map.get self.old) path.now (with_given (Some []) None) q) }
+        ensures ok { OnOk result ((q : Path)
+            → map.get self.new q ≡ changed_at (map.get self.old) path.now (with_given (Some []) None) q) }
         ensures err { OnErr result (self.new ≡ self.old) }
     {
         if let Some(fault) = self.text_fault(path) {
@@ -55,13 +60,14 @@ impl Tree {
         piece: &[u8],
     ) -> Result<(), TreeError>
         ensures answer { Answers (piece_fault (map.get self.old) path.now piece.now) result }
-        ensures ok { OnOk result ((q : Path) → map.get self.new q ≡ changed_at (map.get self.old) path.now (with_piece piece.now) q) }
+        ensures ok { OnOk result ((q : Path)
+            → map.get self.new q ≡ changed_at (map.get self.old) path.now (with_piece piece.now) q) }
         ensures err { OnErr result (self.new ≡ self.old) }
     {
         if let Some(fault) = self.piece_fault(path, piece) {
             return Err(TreeError::Fault(fault));
         }
-        self.is_tree();
+        self.limits();
         let piece = Vec::from_slice(alloc, piece)?;
         Ok(self.alter(alloc, path.names(), Edit::Piece(piece))?)
     }

@@ -4,7 +4,8 @@ ghost use Rattle.path_tree.specs.Reach.{behind_name, either, nowhere, past, tell
 
 use node_base::NodeName;
 
-/// The most names of a path, and the most bytes with one more for each name. A count past the greatest `usize` stands there.
+/// The most names of a path, and the most bytes with one more for each name. A count past the greatest `usize`
+/// stands there.
 #[derive(Clone, Copy)]
 pub struct Reach {
     pub names: usize,
@@ -53,8 +54,8 @@ impl Reach {
         self.names == other.names && self.bytes == other.bytes
     }
 
-    /// Whether the reach of some paths, this one, tells what it is after those of `gone` became those of `come`: count by
-    /// count, others have as much as `gone` had or `come` has it.
+    /// Whether the reach of some paths, this one, tells what it is after those of `gone` became those of `come`:
+    /// count by count, others have as much as `gone` had or `come` has it.
     pub fn tells(self, gone: Reach, come: Reach) -> bool
         ensures { result ≡ tells self gone come }
     {

@@ -1,32 +1,38 @@
 //! Whole trees, whose owners share what they have in common.
-ghost use Rattle.std.specs.Prelude.{◌≡◌, ◌++◌, [], true, false, IfOk, OnOk, OnErr, IsSome, None};
+ghost use Rattle.std.specs.Prelude.{◌≡◌, ◌++◌, [], true, false, IfOk, OnOk, OnErr, IsSome, IfSome, None};
 ghost use Rattle.std.specs.Option.{option_copied};
 ghost use Rattle.std.specs.FinMap as map;
 ghost use Rattle.node_base.specs.Path.{Path, same_path};
 ghost use Rattle.node_base.specs.Limits.{fits};
-ghost use Rattle.node_base.specs.Tree.{grafted, marked, changed_at, with_given, HasFronts, IsDirAt, IsTree, blocked, alone, new_dir};
+ghost use Rattle.node_base.specs.PathText.{is_path};
+ghost use Rattle.node_base.specs.Tree.{grafted, marked, changed_at, with_given, HasFronts, IsDirAt, IsTree, blocked};
+ghost use Rattle.node_base.specs.Tree.{alone, new_dir};
 ghost use Rattle.path_tree.specs.Copies.{copy_too_long};
 ghost use Rattle.path_tree.specs.Edits.{edit_at};
 ghost use Rattle.path_tree.specs.Listed.{shown};
+ghost use Rattle.path_tree.specs.Nodes.{IsNode, HasNodes, IsSmallTree};
 ghost use Rattle.path_tree.specs.Shape.{IsShape};
 
 use crate::Entry;
 use crate::branch::Branch;
 use crate::edit::Edit;
+use crate::limits::{node_limits, path_limits, props_limits, text_limits};
 use node_base::{Node, NodeName, NodePath, Props, RevNo, Text, TreeFault};
 use std::alloc::{AllocError, Global};
 use std::marker::Model;
 use std::sync::Arc;
 
-/// The nodes of a revision, seen by contracts as a finite map from paths to nodes: the root is a directory, and so is each proper front of a path that is there.
+/// The nodes of a revision, seen by contracts as a finite map from paths to nodes: the root is a directory, and so
+/// is each proper front of a path that is there. Paths, properties and texts are within their limits.
 #[derive(Drop)]
 pub struct Tree {
     root: Arc<Branch>,
 }
 
 impl Model for Tree {
-    ghost use Rattle.node_base.specs.Tree.{PathMap, coded_tree, IsTree};
+    ghost use Rattle.node_base.specs.Tree.{PathMap, coded_tree};
     ghost use Rattle.std.specs.Arc.{arc_value};
+    ghost use Rattle.path_tree.specs.Nodes.{IsSmallTree};
 
     ghost Value = { PathMap };
 
@@ -34,7 +40,7 @@ impl Model for Tree {
 
     ghost view = { λ a. arc_value a.root };
 
-    ghost invariant = { λ a. IsTree (arc_value a.root) };
+    ghost invariant = { λ a. IsSmallTree (arc_value a.root) };
 }
 
 impl Tree {
@@ -59,6 +65,13 @@ impl Tree {
     /// Does nothing: its contract says what each tree is.
     pub fn is_tree(&self)
         ensures { IsTree self.now }
+    {
+        let _ = &self.root;
+    }
+
+    /// Does nothing: its contract says that each path and each node is within the limits.
+    pub fn limits(&self)
+        ensures { IsSmallTree self.now }
     {
         let _ = &self.root;
     }
@@ -123,14 +136,18 @@ impl Tree {
     pub fn put_node(&mut self, alloc: Global, path: &NodePath, node: Node) -> Result<(), AllocError>
         requires below_root { same_path path.now [] ≡ false }
         requires not_blocked { blocked (map.get self.old) path.now ≡ None }
-        ensures ok { OnOk result ((q : Path) → map.get self.new q ≡ grafted (map.get self.old) path.now (alone node) q) }
+        ensures ok { OnOk result ((q : Path)
+            → map.get self.new q ≡ grafted (map.get self.old) path.now (alone node) q) }
         ensures err { OnErr result (self.new ≡ self.old) }
     {
         let _ = path.names();
+        path_limits(path);
+        node_limits(&node);
         self.graft(alloc, path, Branch::leaf(alloc, node))
     }
 
-    /// Puts what stands at `source` of a tree, and below it, in the place of what stands at a path and below it. All but the top of it is shared.
+    /// Puts what stands at `source` of a tree, and below it, in the place of what stands at a path and below it.
+    /// All but the top of it is shared.
     pub fn graft_copy(
         &mut self,
         alloc: Global,
@@ -142,19 +159,24 @@ impl Tree {
         requires not_blocked { blocked (map.get self.old) path.now ≡ None }
         requires there { IsSome (map.get from.now source.now) }
         requires small { copy_too_long from.now source.now path.now ≡ false }
-        ensures ok { OnOk result ((q : Path) → map.get self.new q ≡ grafted (map.get self.old) path.now (λ r. map.get from.now (source.now ++ r)) q) }
+        ensures ok { OnOk result ((q : Path)
+            → map.get self.new q ≡ grafted (map.get self.old) path.now
+            (λ r. map.get from.now (source.now ++ r)) q) }
         ensures err { OnErr result (self.new ≡ self.old) }
     {
         let Some(branch) = from.root.find(source) else {
             unreachable!()
         };
+        from.limits();
+        path_limits(path);
         self.graft(alloc, path, branch.again(alloc)?)
     }
 
     /// Removes what stands at a path and below it.
     pub fn prune(&mut self, alloc: Global, path: &[NodeName]) -> Result<(), AllocError>
         requires { same_path path.now [] ≡ false }
-        ensures ok { OnOk result ((q : Path) → map.get self.new q ≡ grafted (map.get self.old) path.now (λ _. None) q) }
+        ensures ok { OnOk result ((q : Path)
+            → map.get self.new q ≡ grafted (map.get self.old) path.now (λ _. None) q) }
         ensures err { OnErr result (self.new ≡ self.old) }
     {
         let _ = &self.root;
@@ -177,13 +199,16 @@ impl Tree {
         props: Option<Props>,
     ) -> Result<(), AllocError>
         requires { IsSome text → ¬ IsDirAt (map.get self.old) path.now }
-        ensures ok { OnOk result ((q : Path) → map.get self.new q ≡ changed_at (map.get self.old) path.now (with_given text props) q) }
+        ensures ok { OnOk result ((q : Path)
+            → map.get self.new q ≡ changed_at (map.get self.old) path.now (with_given text props) q) }
         ensures err { OnErr result (self.new ≡ self.old) }
     {
         let _ = &self.root;
         let Some(_) = self.get(path) else {
             return Ok(());
         };
+        text_limits(&text);
+        props_limits(&props);
         self.alter(alloc, path, Edit::Parts(text, props))
     }
 
@@ -193,7 +218,10 @@ impl Tree {
         requires not_blocked { blocked (map.get self.old) path.now ≡ None }
         requires fronts { HasFronts (map.get branch) }
         requires small { (r : Path) → IsSome (map.get branch r) → fits (path.now ++ r) ≡ true }
-        ensures ok { OnOk result ((q : Path) → map.get self.new q ≡ grafted (map.get self.old) path.now (map.get branch) q) }
+        requires paths { (r : Path) → IsSome (map.get branch r) → is_path (path.now ++ r) ≡ true }
+        requires nodes { (r : Path) → IfSome (map.get branch r) IsNode }
+        ensures ok { OnOk result ((q : Path)
+            → map.get self.new q ≡ grafted (map.get self.old) path.now (map.get branch) q) }
         ensures err { OnErr result (self.new ≡ self.old) }
     {
         let _ = &self.root;
@@ -213,6 +241,7 @@ impl Tree {
     ) -> Result<(), AllocError>
         requires there { IsSome (map.get self.old path.now) }
         requires shape { IsShape (edit_at edit (map.get self.old) path.now) }
+        requires nodes { HasNodes (edit_at edit (map.get self.old) path.now) }
         ensures ok { OnOk result ((q : Path) → map.get self.new q ≡ edit_at edit (map.get self.old) path.now q) }
         ensures err { OnErr result (self.new ≡ self.old) }
     {

@@ -12,8 +12,8 @@ use node_base::{PropName, Props, RevNo};
 use std::alloc::Global;
 
 impl Repo {
-    /// Commits a set of changes against the head, and answers the new revision's number. `stage_commit` has the refusals; a
-    /// refused commit changes nothing.
+    /// Commits a set of changes against the head, and answers the new revision's number. `stage_commit` has the
+    /// refusals; a refused commit changes nothing.
     pub fn commit(
         &mut self,
         alloc: Global,
@@ -23,9 +23,14 @@ impl Repo {
         moment: Option<Moment>,
     ) -> Result<RevNo, RepoFault>
         ensures number { IfOk result (λ n. n ≡ length self.old.revisions) }
-        ensures made { OnOk result (self.new ≡ with_entry_in self.old (Revised (length self.old.revisions) set (dated props moment))) }
-        ensures taken { OnOk result (commit_fault self.old.revisions base (Revised (length self.old.revisions) set (dated props moment)) ≡ None) }
-        ensures refused { IfErr result (λ e. IsDue e (commit_fault self.old.revisions base (Revised (length self.old.revisions) set (dated props moment)))) }
+        ensures made { OnOk result (self.new
+            ≡ with_entry_in self.old (Revised (length self.old.revisions) set (dated props moment))) }
+        ensures taken { OnOk result
+            (commit_fault self.old.revisions base (Revised (length self.old.revisions) set (dated props moment))
+            ≡ None) }
+        ensures refused { IfErr result
+            (λ e. IsDue e (commit_fault self.old.revisions base
+            (Revised (length self.old.revisions) set (dated props moment)))) }
         ensures same { OnErr result (self.new ≡ self.old) }
     {
         let staged = self.stage_commit(alloc, base, set, props, moment)?;
@@ -43,9 +48,13 @@ impl Repo {
         value: Option<&[u8]>,
         expected: &Expected,
     ) -> Result<(), RepoFault>
-        ensures made { OnOk result (self.new ≡ with_entry_in self.old (Mapped number (with_value (props_at self.old.revisions number) name.now (option_copied value.entry)))) }
-        ensures taken { OnOk result (change_fault self.old.revisions number name.now (option_copied value.entry) expected.now ≡ None) }
-        ensures refused { IfErr result (λ e. IsDue e (change_fault self.old.revisions number name.now (option_copied value.entry) expected.now)) }
+        ensures made { OnOk result (self.new
+            ≡ with_entry_in self.old
+            (Mapped number (with_value (props_at self.old.revisions number) name.now (option_copied value.entry)))) }
+        ensures taken { OnOk result
+            (change_fault self.old.revisions number name.now (option_copied value.entry) expected.now ≡ None) }
+        ensures refused { IfErr result
+            (λ e. IsDue e (change_fault self.old.revisions number name.now (option_copied value.entry) expected.now)) }
         ensures same { OnErr result (self.new ≡ self.old) }
     {
         let staged = self.stage_change_prop(alloc, number, name, value, expected)?;
@@ -53,7 +62,8 @@ impl Repo {
         Ok(())
     }
 
-    /// Puts all properties of a revision, without memory. Refused is a revision above the head (21), and then nothing changes.
+    /// Puts all properties of a revision, without memory. Refused is a revision above the head (21), and then
+    /// nothing changes.
     pub fn put_props(&mut self, number: RevNo, props: Props) -> Result<(), RepoFault>
         ensures made { OnOk result (self.new ≡ with_entry_in self.old (Mapped number props)) }
         ensures taken { OnOk result (by_repository self.old.revisions (Mapped number props) ≡ None) }

@@ -22,8 +22,9 @@ pub enum RepoFault {
     /// A commit against an earlier revision than the head, which is told (25).
     #[error("the base is not the head {0}")]
     Behind(RevNo),
-    /// The first fault of a commit's changes: a path of a copy past the limits (8), the root added, deleted or replaced (10),
-    /// nothing there (11), something there (12), a file above (13), no such source (14), another kind (17).
+    /// The first fault of a commit's changes: a path of a copy past the limits (8), the root added, deleted or
+    /// replaced (10), nothing there (11), something there (12), a file above (13), no such source (14), another
+    /// kind (17).
     #[error("{0}")]
     Change(ChangeFault),
     /// Properties past the limits: a value, or how many there are (8).

@@ -52,7 +52,8 @@ pub fn with_value(
 ) -> Result<Props, RepoFault>
     ensures map { IfOk result (λ m. m ≡ with_value props name.now (option_copied value.entry)) }
     ensures within { IfOk result (λ m. limit_fault m ≡ None) }
-    ensures refused { IfErr result (λ e. IsDue e (limit_fault (with_value props name.now (option_copied value.entry)))) }
+    ensures refused { IfErr result
+        (λ e. IsDue e (limit_fault (with_value props name.now (option_copied value.entry)))) }
 {
     match value {
         Some(value) => {

@@ -28,8 +28,8 @@ impl Model for Moment {
 }
 
 impl Moment {
-    /// The moment that many microseconds after 1970 began, in UTC and without leap seconds. None from the year 2100 on, which
-    /// begins at 4,102,444,800,000,000.
+    /// The moment that many microseconds after 1970 began, in UTC and without leap seconds. None from the year 2100
+    /// on, which begins at 4,102,444,800,000,000.
     pub fn from_micros(micros: u64) -> Option<Moment>
         ensures range { IsSome result ↔ (micros ≤ 4102444799999999) }
         ensures moment { IfSome result (λ at. IsMoment micros at) }

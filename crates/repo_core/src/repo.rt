@@ -1,5 +1,6 @@
 //! A repository in memory.
-ghost use Rattle.std.specs.Prelude.{◌≡◌, ◌<◌, ◌≤◌, length, slice_get, take, Some, None, IsSome, IfSome, IsSomeAnd, OnOk, IfOk};
+ghost use Rattle.std.specs.Prelude.{◌≡◌, ◌<◌, ◌≤◌, length, slice_get, take, Some, None, IsSome, IfSome};
+ghost use Rattle.std.specs.Prelude.{IsSomeAnd, OnOk, IfOk};
 ghost use Rattle.std.specs.Option.{option_map, option_copied};
 ghost use Rattle.node_base.specs.Props.{PropMap};
 ghost use Rattle.node_base.specs.Tree.{PathMap};
@@ -18,9 +19,9 @@ use uuid::Uuid;
 // How many revisions there can be: 0 to 65,535.
 const REVISIONS: usize = 65_536;
 
-/// A repository, seen by contracts as its identity, its revisions (each a tree and a property map), and the set of changes that
-/// made the tree of each. Trees share what they have in common. Room for all revisions that can be is made by `new`; of it
-/// only what is used is written.
+/// A repository, seen by contracts as its identity, its revisions (each a tree and a property map), and the set of
+/// changes that made the tree of each. Trees share what they have in common. Room for all revisions that can be is
+/// made by `new`; of it only what is used is written.
 #[derive(Drop)]
 pub struct Repo {
     identity: Uuid,
@@ -79,7 +80,8 @@ impl Repo {
         RevNo::new((self.trees.len() - 1) as u16)
     }
 
-    /// Does nothing: its contract says what each repository is. Each set makes its tree from the trees before it, without a fault.
+    /// Does nothing: its contract says what each repository is. Each set makes its tree from the trees before it,
+    /// without a fault.
     pub fn is_repository(&self)
         ensures { IsRepository self.now }
     {
@@ -108,12 +110,14 @@ impl Repo {
         self.maps.get(number.index())
     }
 
-    /// The changes that made the tree of a revision, which have no fault over the trees of the revisions before it; None above
-    /// the head. Revision 0 has none.
+    /// The changes that made the tree of a revision, which have no fault over the trees of the revisions before it;
+    /// None above the head. Revision 0 has none.
     pub fn set(&self, number: RevNo) -> Option<&ChangeSet>
         ensures set { option_copied result ≡ slice_get self.now.sets number }
         ensures there { number < length self.now.revisions → IsSome result }
-        ensures makes { IfSome result (λ s. IsSomeAnd (tree_at self.now.revisions number) (Makes (take number (trees_of self.now.revisions)) s.now)) }
+        ensures makes { IfSome result
+            (λ s. IsSomeAnd (tree_at self.now.revisions number)
+            (Makes (take number (trees_of self.now.revisions)) s.now)) }
     {
         self.is_repository();
         self.set_at(number)

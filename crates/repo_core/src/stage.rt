@@ -1,5 +1,6 @@
 //! Changes judged and made ready: every refusal, and all memory that a change takes.
-ghost use Rattle.std.specs.Prelude.{◌≡◌, ◌≢◌, ◌<◌, ◌≤◌, length, None, Some, IfOk, OnOk, IfErr, OnErr, IsOk};
+ghost use Rattle.std.specs.Prelude.{◌≡◌, ◌≢◌, ◌<◌, ◌≤◌, length, None, Some, IfOk, OnOk, IfErr};
+ghost use Rattle.std.specs.Prelude.{OnErr, IsOk};
 ghost use Rattle.std.specs.Option.{option_copied};
 ghost use Rattle.repo_core.specs.Repository.{props_at};
 ghost use Rattle.repo_core.specs.Dates.{dated};
@@ -15,11 +16,11 @@ use node_base::{PropName, Props, RevNo};
 use std::alloc::Global;
 
 impl Repo {
-    /// Makes a commit ready: the revision after the head with the tree that the set makes, and the properties, in which the
-    /// moment, where one is given, is the `svn:date`.
+    /// Makes a commit ready: the revision after the head with the tree that the set makes, and the properties, in
+    /// which the moment, where one is given, is the `svn:date`.
     ///
-    /// Refused are a base above the head (21) or below it (25, with the head), the revision after 65,535 (23), the set's first
-    /// fault, and properties past the limits (8).
+    /// Refused are a base above the head (21) or below it (25, with the head), the revision after 65,535 (23), the
+    /// set's first fault, and properties past the limits (8).
     pub fn stage_commit(
         &self,
         alloc: Global,
@@ -30,8 +31,12 @@ impl Repo {
     ) -> Result<Staged, RepoFault>
         ensures entry { IfOk result (λ s. s.entry ≡ Revised (length self.now.revisions) set (dated props moment)) }
         ensures ready { IfOk result (IsReady self.now.revisions) }
-        ensures taken { OnOk result (commit_fault self.now.revisions base (Revised (length self.now.revisions) set (dated props moment)) ≡ None) }
-        ensures refused { IfErr result (λ e. IsDue e (commit_fault self.now.revisions base (Revised (length self.now.revisions) set (dated props moment)))) }
+        ensures taken { OnOk result
+            (commit_fault self.now.revisions base (Revised (length self.now.revisions) set (dated props moment))
+            ≡ None) }
+        ensures refused { IfErr result
+            (λ e. IsDue e (commit_fault self.now.revisions base
+            (Revised (length self.now.revisions) set (dated props moment)))) }
     {
         judge_base(self.head(), base)?;
         let number = self.next_number()?;
@@ -42,8 +47,8 @@ impl Repo {
 
     /// Makes a conditional change of one property of a revision ready: the value stands at the name, or none does.
     ///
-    /// Refused are a revision above the head (21), another value than the expected one (22, with the value that is there), and
-    /// properties past the limits (8).
+    /// Refused are a revision above the head (21), another value than the expected one (22, with the value that is
+    /// there), and properties past the limits (8).
     pub fn stage_change_prop(
         &self,
         alloc: Global,
@@ -52,10 +57,13 @@ impl Repo {
         value: Option<&[u8]>,
         expected: &Expected,
     ) -> Result<Staged, RepoFault>
-        ensures entry { IfOk result (λ s. s.entry ≡ Mapped number (with_value (props_at self.now.revisions number) name.now (option_copied value.entry))) }
+        ensures entry { IfOk result (λ s. s.entry
+            ≡ Mapped number (with_value (props_at self.now.revisions number) name.now (option_copied value.entry))) }
         ensures ready { IfOk result (IsReady self.now.revisions) }
-        ensures taken { OnOk result (change_fault self.now.revisions number name.now (option_copied value.entry) expected.now ≡ None) }
-        ensures refused { IfErr result (λ e. IsDue e (change_fault self.now.revisions number name.now (option_copied value.entry) expected.now)) }
+        ensures taken { OnOk result
+            (change_fault self.now.revisions number name.now (option_copied value.entry) expected.now ≡ None) }
+        ensures refused { IfErr result
+            (λ e. IsDue e (change_fault self.now.revisions number name.now (option_copied value.entry) expected.now)) }
     {
         let Some(props) = self.props(number) else {
             return Err(RepoFault::NoSuchRevision);
@@ -67,7 +75,8 @@ impl Repo {
         Ok(Staged::map(number, props))
     }
 
-    /// Makes a change of all properties of a revision ready, which takes no memory. Refused is a revision above the head (21).
+    /// Makes a change of all properties of a revision ready, which takes no memory. Refused is a revision above the
+    /// head (21).
     pub fn stage_put_props(&self, number: RevNo, props: Props) -> Result<Staged, RepoFault>
         ensures entry { IfOk result (λ s. s.entry ≡ Mapped number props) }
         ensures ready { IfOk result (IsReady self.now.revisions) }

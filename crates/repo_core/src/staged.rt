@@ -10,8 +10,8 @@ use node_base::{Props, RevNo};
 use path_tree::Tree;
 use std::marker::Model;
 
-/// An accepted change with all that it takes to install it, seen by contracts as its entry and the new tree where there is
-/// one. Dropped, it changes nothing.
+/// An accepted change with all that it takes to install it, seen by contracts as its entry and the new tree where
+/// there is one. Dropped, it changes nothing.
 #[derive(Drop)]
 pub struct Staged {
     entry: Entry,

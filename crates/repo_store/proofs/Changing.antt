@@ -16,7 +16,6 @@ use Rattle.repo_core.specs.declared.entry.Entry.TheVariants.{Revised, Mapped}
 use Rattle.repo_core.specs.declared.fault.RepoFault.{RepoFault}
 use Rattle.repo_core.specs.declared.fault.RepoFault.TheVariants as fault
 use Rattle.repo_store.specs.Changes.{Changes, Installs, IsBroken, IsJudged, IsTaken, Stages, Stays}
-use Rattle.repo_store.specs.Forms.{due_of}
 use Rattle.repo_store.specs.Journal.{Keeps, KeepsOr, IsBeforeOrAfter, spelling}
 use Rattle.repo_store.specs.Words.{disk_of, doubt_of, entry_in, log_of, repository_of, HasFailed}
 use Rattle.repo_store.specs.declared.fault.StoreFault.{StoreFault}
@@ -36,24 +35,6 @@ due_is (fault.Behind head) due e = e
 due_is (fault.Change f) due e = e
 due_is fault.TooLong due e = e
 due_is fault.OutOfMemory due e = tt
-
-due_some : (entry : Entry) (refused : Option RepoFault) (f : RepoFault) → refused ≡ Some f → due_of entry refused ≡ Some f
-due_some (Revised n set props) refused f e = ap (λ r. due_of (Revised n set props) r) e
-due_some (Mapped n props) refused f e = e
-
--- what the repository refuses is due first
-pub due_first : (entry : Entry) (refused : Option RepoFault) (f : RepoFault) → IsDue f refused → IsDue f (due_of entry refused)
-due_first entry refused fault.NoSuchRevision e = due_some entry refused fault.NoSuchRevision e
-due_first entry refused (fault.BaseMismatch found) e = due_some entry refused (fault.BaseMismatch found) e
-due_first entry refused fault.Full e = due_some entry refused fault.Full e
-due_first entry refused (fault.Behind head) e = due_some entry refused (fault.Behind head) e
-due_first entry refused (fault.Change f) e = due_some entry refused (fault.Change f) e
-due_first entry refused fault.TooLong e = due_some entry refused fault.TooLong e
-due_first entry refused fault.OutOfMemory e = tt
-
--- and where it refuses nothing, what no entry can say
-pub due_then : (entry staged : Entry) (refused : Option RepoFault) (due : Option RepoFault) → (refused ≡ None) × (staged ≡ entry) → due_of staged None ≡ due → due_of entry refused ≡ due
-due_then entry staged refused due (none, same) e = ap₂ (λ (x : Entry) (r : Option RepoFault). due_of x r) (sym same) none ∙ e
 
 pub judged_of : (entry : Entry) (refused : Option RepoFault) (r : Result StagedEntry RepoFault)
     → IfOk r (λ s. s.entry ≡ entry) → OnOk r (refused ≡ None) → IfErr r (λ f. IsDue f refused) → IsJudged entry refused r

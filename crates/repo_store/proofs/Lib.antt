@@ -1,7 +1,6 @@
 pub mod Beginnings
 pub mod Changing
 pub mod Exports
-pub mod Formed
 pub mod Going
 pub mod Images
 pub mod Keeping

@@ -12,7 +12,7 @@ use Rattle.dump_text.specs.declared.record.PropPart.TheVariants.{Whole}
 use Rattle.dump_text.specs.declared.record.RevRecord.{RevRecord}
 use Rattle.dump_text.specs.declared.record.DumpRecord.TheVariants as told
 use Rattle.dump_load.specs.declared.change.Change.{Change}
-use Rattle.dump_load.specs.Changes.{IsNormal}
+use Rattle.dump_load.specs.Bounds.{IsBounded}
 use Rattle.dump_load.specs.Records.{change_of, record_of, whole_props}
 use Rattle.repo_core.specs.Repository.{Repository, fresh}
 use Rattle.repo_core.specs.Entries.{with_entry_in}
@@ -23,10 +23,9 @@ use Rattle.gate_log.specs.declared.fault.LogFault.{LogFault}
 use Rattle.gate_log.specs.declared.fault.LogFault.TheVariants.{Damaged, OutOfMemory as LogMemory}
 use Rattle.repo_store.specs.declared.read.ReadFault.{ReadFault}
 use Rattle.repo_store.specs.declared.read.ReadFault.TheVariants.{Bad, OutOfMemory as ReadMemory}
-use Rattle.repo_store.specs.Forms.{form_fault}
 use Rattle.repo_store.specs.Journal.{IsBeginning, Spells, Takes}
 use Rattle.repo_store.specs.Readings.{IsRevisionOf}
-use Rattle.repo_store.proofs.Spelling.{formed_set, few_changes}
+use Rattle.repo_store.proofs.Spelling.{formed_set}
 
 part_back : (p : Option PropPart) → option_map Whole (option_map whole_props p) ≡ p
 part_back None = refl
@@ -58,17 +57,17 @@ taken_map bytes r old new is none there accepted then =
     (Mapped r.number r.props, record { canonical = canonical; readable = readable }, record { next = there; set = tt; accepted = accepted }, then)
 
 -- a new revision is taken
-pub taken_set : (bytes : List ℕ) (r : RevRecord) (set : List Change) (old new : Repository) → IsRevisionOf bytes r → set ≡ map change_of r.nodes.items → IsNormal set → form_fault set ≡ None
+pub taken_set : (bytes : List ℕ) (r : RevRecord) (set : List Change) (old new : Repository) → IsRevisionOf bytes r → set ≡ map change_of r.nodes.items → IsBounded set
     → r.number ≡ length old.revisions → by_repository old.revisions (Revised (length old.revisions) set r.props) ≡ None → new ≡ with_entry_in old (Revised (length old.revisions) set r.props)
     → (e : Entry) × Spells bytes e × Takes old.revisions e × (new ≡ with_entry_in old e)
-taken_set bytes r set old new is same normal form next accepted then =
+taken_set bytes r set old new is same bounded next accepted then =
     let nodes : map record_of set ≡ r.nodes.items = ap (λ (s : List Change). map record_of s) same ∙ nodes_back r.nodes.items in
-    let formed = subst (λ (l : List NodeRecord). AreFormed l) nodes (formed_set set form) in
+    let formed = subst (λ (l : List NodeRecord). AreFormed l) nodes (formed_set set bounded) in
     let canonical = is.canonical ∙ ap (λ (l : List NodeRecord). canon_entry r.number r.props ++ flat_map canon_node l) (sym nodes) in
     let readable = subst (λ (l : List NodeRecord). AreRecords bytes (told.Revision r.number r.props ∷ map read_node l)) (sym nodes) (is.readable formed) in
     let spells : Spells bytes (Revised r.number set r.props) = record { canonical = canonical; readable = readable } in
     let spelled = subst (λ (n : ℕ). Spells bytes (Revised n set r.props)) next spells in
-    (Revised (length old.revisions) set r.props, spelled, record { next = refl; set = (normal, few_changes set form); accepted = accepted }, then)
+    (Revised (length old.revisions) set r.props, spelled, record { next = refl; set = bounded.set; accepted = accepted }, then)
 
 -- bytes that bring one repository to the next
 abbrev pub IsTaken : List ℕ → Repository → Repository → Type 0
@@ -80,12 +79,11 @@ map_if (Ok v) bytes r old new is none there accepted then = taken_map bytes r ol
 map_if (Err e) bytes r old new is none there accepted then = tt
 
 pub set_if : {A E : Type 0} (res : Result A E) (bytes : List ℕ) (r : RevRecord) (set : List Change) (old new : Repository) → IsRevisionOf bytes r → set ≡ map change_of r.nodes.items
-    → IsNormal (map change_of r.nodes.items) → form_fault (map change_of r.nodes.items) ≡ None
+    → IsBounded (map change_of r.nodes.items)
     → r.number ≡ length old.revisions → OnOk res (by_repository old.revisions (Revised (length old.revisions) set r.props) ≡ None)
     → OnOk res (new ≡ with_entry_in old (Revised (length old.revisions) set r.props)) → OnOk res (IsTaken bytes old new)
-set_if (Ok v) bytes r set old new is same normal form next accepted then =
-    taken_set bytes r set old new is same (subst (λ (s : List Change). IsNormal s) (sym same) normal) (subst (λ (s : List Change). form_fault s ≡ None) (sym same) form) next accepted then
-set_if (Err e) bytes r set old new is same normal form next accepted then = tt
+set_if (Ok v) bytes r set old new is same bounded next accepted then = taken_set bytes r set old new is same (subst (λ (s : List Change). IsBounded s) (sym same) bounded) next accepted then
+set_if (Err e) bytes r set old new is same bounded next accepted then = tt
 
 -- the entry that is read and taken
 pub next_taken : (entries : List (List ℕ)) (i : ℕ) (bytes items : List ℕ) (old new : Repository) → slice_get entries i ≡ Some items → bytes ≡ items → IsTaken bytes old new

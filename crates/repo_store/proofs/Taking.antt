@@ -5,13 +5,11 @@ use Rattle.std.proofs.lemmas.List.{length-map}
 use Rattle.node_base.specs.Props.{PropMap}
 use Rattle.dump_text.specs.Canon.{told_kind}
 use Rattle.dump_text.specs.Laws.{DumpsAreRead}
-use Rattle.dump_text.specs.Written.{AreFormed, AreRecords}
 use Rattle.dump_text.specs.declared.record.NodeRecord.{NodeRecord}
 use Rattle.dump_text.specs.declared.record.PropPart.TheVariants.{Whole}
 use Rattle.dump_text.specs.declared.record.RevRecord.{RevRecord}
-use Rattle.dump_text.specs.declared.record.DumpRecord.{DumpRecord}
 use Rattle.dump_load.specs.declared.change.Change.{Change}
-use Rattle.dump_load.specs.Changes.{IsNormal}
+use Rattle.dump_load.specs.Changes.{IsSet}
 use Rattle.dump_load.specs.Faults.{fault, refused}
 use Rattle.dump_load.specs.Records.{change_of, record_of, whole_props}
 use Rattle.node_base.specs.declared.fault.TreeFault.{TreeFault}
@@ -21,11 +19,9 @@ use Rattle.repo_core.specs.declared.entry.Entry.{Entry}
 use Rattle.repo_core.specs.declared.entry.Entry.TheVariants.{Revised, Mapped}
 use Rattle.repo_core.specs.declared.fault.RepoFault.{RepoFault}
 use Rattle.repo_core.specs.declared.fault.RepoFault.TheVariants as refusal
-use Rattle.repo_store.specs.Forms.{form_fault}
 use Rattle.repo_store.specs.Journal.{Spells, Takes}
 use Rattle.repo_store.specs.Readings.{IsRevisionOf}
-use Rattle.repo_store.proofs.Formed.{entry_formed, nodes_fit}
-use Rattle.repo_store.proofs.Reading.{told_of, one_revision, revision_is}
+use Rattle.repo_store.proofs.Reading.{told_of, revision_is}
 use Rattle.repo_store.proofs.Told.{told, none_left, none_right, or_none, fault_told, normal_told}
 
 props_back : (o : Option PropMap) → option_map whole_props (option_map Whole o) ≡ o
@@ -72,18 +68,14 @@ never_above law bytes (Revised n set props) r x spells is takes above =
 
 -- one whose number is the next is a set
 pub set_stands : (law : DumpsAreRead) (bytes : List ℕ) (e : Entry) (r : RevRecord) (x : List Revision) → Spells bytes e → IsRevisionOf bytes r → Takes x e → length x ≤ r.number
-    → IsNormal (map change_of r.nodes.items) × (form_fault (map change_of r.nodes.items) ≡ None) × (by_repository x (Revised (length x) (map change_of r.nodes.items) r.props) ≡ None)
+    → IsSet (map change_of r.nodes.items) × (by_repository x (Revised (length x) (map change_of r.nodes.items) r.props) ≡ None)
 set_stands law bytes (Mapped n props) r x spells is takes above =
     let next : n < length x = takes.next in
     absurd (omega (arith, (revision_is law bytes (Mapped n props) r spells is.read).0, next, above))
 set_stands law bytes (Revised n set props) r x spells is takes above =
     let (number, same, nodes) = revision_is law bytes (Revised n set props) r spells is.read in
     let sets : map change_of r.nodes.items ≡ map told set = ap (λ (ns : List NodeRecord). map change_of ns) nodes ∙ set_told set in
-    let readable = subst (λ (rs : List DumpRecord). AreRecords bytes rs) (one_revision (Revised n set props)) spells.readable in
-    let formed : AreFormed r.nodes.items = subst (λ (ns : List NodeRecord). AreFormed ns) (sym nodes) (entry_formed bytes n props (map told_of (map record_of set)) readable) in
-    let count : length r.nodes.items ≡ length set = ap length nodes ∙ length-map (map record_of set) told_of ∙ length-map set record_of in
-    let small = subst (λ (k : ℕ). k ≤ 4096) (sym count) takes.set.1 in (
-      subst (λ (s : List Change). IsNormal s) (sym sets) (normal_told set takes.set.0),
-      nodes_fit r.nodes.items formed small,
+    let few = subst (λ (k : ℕ). k ≤ 4096) (sym (length-map set told)) takes.set.1 in (
+      subst (λ (s : List Change). IsSet s) (sym sets) (normal_told set takes.set.0, few),
       (λ i. by_repository x (Revised (length x) (sets i) (same i))) ∙ accepted_told x n (length x) set props takes.accepted,
     )

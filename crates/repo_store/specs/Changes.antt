@@ -12,7 +12,6 @@ use Rattle.repo_core.specs.Staging.{StagedEntry}
 use Rattle.repo_core.specs.declared.entry.Entry.{Entry}
 use Rattle.repo_core.specs.declared.entry.Entry.TheVariants.{Revised, Mapped}
 use Rattle.repo_core.specs.declared.fault.RepoFault.{RepoFault}
-use Rattle.repo_store.specs.Forms.{due_of}
 use Rattle.repo_store.specs.Journal.{spelling, Keeps, KeepsOr, IsBeforeOrAfter}
 use Rattle.repo_store.specs.Words.{disk_of, doubt_of, entry_in, log_of, repository_of, HasFailed, IsReadyFor}
 use Rattle.repo_store.specs.declared.fault.StoreFault.{StoreFault}
@@ -59,8 +58,8 @@ pub record IsStaged {D : Type 0} {G : Ghosts D} (entry : Entry) (due : Option Re
 
 -- an entry is made ready, or is refused and nothing changes: what it is where the repository refuses this of it
 abbrev pub Stages : {D : Type 0} {G : Ghosts D} → Entry → Option RepoFault → RepoStore D G → RepoStore D G → Result Staged StoreFault → Type 0
-Stages entry refused old new (Ok staged) = IsStaged entry (due_of entry refused) old new staged
-Stages entry refused old new (Err e) = Stays old new × Refuses old entry (due_of entry refused) e
+Stages entry refused old new (Ok staged) = IsStaged entry refused old new staged
+Stages entry refused old new (Err e) = Stays old new × Refuses old entry refused e
 
 -- the entry is written and taken in
 pub record IsTaken {D : Type 0} {G : Ghosts D} (entry : Entry) (old new : RepoStore D G) : Type 0 where
@@ -102,5 +101,5 @@ Installs entry old new (Err e) = IsBroken entry old new e
 
 -- a change of a store, which is this entry where the repository refuses this of it: it is taken; or nothing is due and the device fails; or it is refused
 abbrev pub Changes : {D : Type 0} {G : Ghosts D} {T : Type 0} → Entry → Option RepoFault → RepoStore D G → RepoStore D G → Result T StoreFault → Type 0
-Changes entry refused old new (Ok answer) = (due_of entry refused ≡ None) × IsTaken entry old new
-Changes entry refused old new (Err e) = ((due_of entry refused ≡ None) × IsBroken entry old new e) ⊎ IsRefused entry (due_of entry refused) old new e
+Changes entry refused old new (Ok answer) = (refused ≡ None) × IsTaken entry old new
+Changes entry refused old new (Err e) = ((refused ≡ None) × IsBroken entry old new e) ⊎ IsRefused entry refused old new e

@@ -10,7 +10,7 @@ use Rattle.dump_text.specs.Written.{AreRecords, read_node}
 use Rattle.dump_text.specs.declared.record.DumpRecord.{DumpRecord}
 use Rattle.dump_text.specs.declared.record.DumpRecord.TheVariants as told
 use Rattle.dump_load.specs.declared.change.Change.{Change}
-use Rattle.dump_load.specs.Changes.{IsNormal}
+use Rattle.dump_load.specs.Changes.{IsSet}
 use Rattle.dump_load.specs.Records.{record_of}
 use Rattle.fleet_disk.specs.Image.{Image}
 use Rattle.gate_log.specs.Standing.{Stands, StandsAlike, IsDamagedAt}
@@ -38,7 +38,7 @@ pub record Spells (bytes : List ℕ) (e : Entry) : Type 0 where
 
 -- a revision's set is normal, and has 4,096 changes at most
 abbrev pub HasSet : Entry → Type 0
-HasSet (Revised n set props) = IsNormal set × (length set ≤ 4096)
+HasSet (Revised n set props) = IsSet set
 HasSet (Mapped n props) = Unit {0}
 
 -- the revisions take the entry: it is the revision after the head, or properties of one that is there, and nothing is refused

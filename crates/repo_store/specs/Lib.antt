@@ -1,5 +1,4 @@
 pub mod Changes
-pub mod Forms
 pub mod Journal
 pub mod Numbers
 pub mod Readings

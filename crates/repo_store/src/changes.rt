@@ -10,11 +10,8 @@ ghost use Rattle.repo_core.specs.declared.entry.Entry.{Entry as EntryOf};
 ghost use Rattle.repo_core.specs.declared.entry.Entry.TheVariants.{Revised, Mapped};
 ghost use Rattle.repo_core.specs.declared.fault.RepoFault.{RepoFault as RepoFaultOf};
 ghost use Rattle.repo_store.specs.Changes.{Changes, Installs, IsJudged, IsNumbered, Stages};
-ghost use Rattle.repo_store.specs.Forms.{HasForm};
-ghost use Rattle.repo_store.specs.Journal.{HasSet};
 ghost use Rattle.repo_store.specs.Words.{entry_in, log_of, revisions_of, HasFailed, IsReadyFor};
 
-use crate::form::judge_entry;
 use crate::spell::entry_bytes;
 use crate::{Committed, RepoStore, Staged, StoreFault};
 use dump_load::ChangeSet;
@@ -29,8 +26,7 @@ impl<D: Disk> RepoStore<D> {
     /// the number after the head's.
     ///
     /// Refused is any entry after a failure of the device (32); then what the repository refuses of it (21, 23, its
-    /// set's first fault, 8); then a set that no entry says (2, 8); then an entry past the journal's limit (36); and
-    /// want of memory (70).
+    /// set's first fault, 8); then an entry past the journal's limit (36); and want of memory (70).
     pub fn stage(&mut self, alloc: Global, entry: Entry) -> Result<Staged, StoreFault>
         requires numbered { IsNumbered (revisions_of self.old) entry }
         ensures stages { Stages entry (by_repository (revisions_of self.old) entry) self.old self.new result }
@@ -164,12 +160,8 @@ impl<D: Disk> RepoStore<D> {
         if self.log.has_failed() {
             return Err(StoreFault::Log(LogFault::Failed));
         }
-        let change = match judged {
-            Ok(change) => change,
-            Err(fault) => return Err(StoreFault::Repo(fault)),
-        };
-        match judge_entry(change.entry()) {
-            Ok(()) => self.reserve(alloc, change),
+        match judged {
+            Ok(change) => self.reserve(alloc, change),
             Err(fault) => Err(StoreFault::Repo(fault)),
         }
     }
@@ -179,8 +171,6 @@ impl<D: Disk> RepoStore<D> {
     fn reserve(&mut self, alloc: Global, change: repo_core::Staged) -> Result<Staged, StoreFault>
         requires working { ¬ HasFailed self.old }
         requires ready { IsReady (revisions_of self.old) change }
-        requires set { HasSet change.entry }
-        requires form { HasForm change.entry }
         ensures stages { Stages change.entry None self.old self.new result }
     {
         let Ok(bytes) = entry_bytes(alloc, change.entry()) else {

@@ -29,7 +29,6 @@ pub use verdicts::one_verdict;
 mod changes;
 mod committed;
 mod fault;
-mod form;
 mod numbers;
 mod read;
 mod replay;

@@ -1,5 +1,6 @@
 //! How entries are read.
-ghost use Rattle.std.specs.Prelude.{◌≡◌, ◌∷◌, ◌++◌, ◌↔◌, [], ℕ, List, map, false, Some, IfOk, IfErr, IfNone, IfSome};
+ghost use Rattle.std.specs.Prelude.{◌≡◌, ◌∷◌, ◌++◌, ◌↔◌, [], ℕ, List, map, false, Some, IfOk};
+ghost use Rattle.std.specs.Prelude.{IfErr, IfNone, IfSome};
 ghost use Rattle.std.specs.Prelude.{OnOk, IsErrOf, IsTrue};
 ghost use Rattle.node_base.specs.Props.{PropMap};
 ghost use Rattle.dump_text.specs.Canon.{canon_revision};
@@ -107,7 +108,8 @@ fn first(
 ) -> Result<RevRecord, ReadFault>
     ensures joined { IfOk result (λ r. records_of r ≡ so_far revision ++ told.Revision number props ∷ []) }
     ensures bad { IsErrOf result ReadFault.Bad → (rest : List RecordOf) (n : ℕ) (ps : PropMap) (nodes : List NodeOf)
-        → so_far revision ++ told.Revision number props ∷ rest ≡ told.Revision n ps ∷ map told.Node nodes → ⊥ }
+        → so_far revision ++ told.Revision number props ∷ rest ≡ told.Revision n ps ∷ map told.Node nodes
+            → ⊥ }
     ensures no_other { IfErr result (λ e. e ≡ ReadFault.Bad) }
 {
     match revision {

@@ -1,9 +1,11 @@
 //! The repository that a journal's entries stand for.
-ghost use Rattle.std.specs.Prelude.{◌≡◌, ◌<◌, ◌≤◌, ◌+◌, ◌⊎◌, ◌↔◌, ℕ, List, [], map, length, slice_get, take, Some};
+ghost use Rattle.std.specs.Prelude.{◌≡◌, ◌<◌, ◌≤◌, ◌+◌, ◌⊎◌, ◌↔◌, ℕ, List, [], map};
+ghost use Rattle.std.specs.Prelude.{length, slice_get, take, Some};
 ghost use Rattle.std.specs.Prelude.{None, IfOk, IfErr, OnOk, IsErrOf};
 ghost use Rattle.std.specs.Option.{option_map};
 ghost use Rattle.node_base.specs.Props.{PropMap};
-ghost use Rattle.dump_load.specs.Changes.{IsNormal};
+ghost use Rattle.dump_load.specs.Bounds.{IsBounded};
+ghost use Rattle.dump_load.specs.Changes.{IsSet};
 ghost use Rattle.dump_load.specs.Records.{change_of};
 ghost use Rattle.fleet_disk.specs.Rules.{LeavesOnly, Rose, Within};
 ghost use Rattle.gate_log.specs.Log.{disk_of, ends_of, entries_of, HasFailed};
@@ -13,11 +15,9 @@ ghost use Rattle.repo_core.specs.Entries.{with_entry_in};
 ghost use Rattle.repo_core.specs.Refusals.{by_repository};
 ghost use Rattle.repo_core.specs.declared.entry.Entry.{Entry as EntryOf};
 ghost use Rattle.repo_core.specs.declared.entry.Entry.TheVariants.{Revised, Mapped};
-ghost use Rattle.repo_store.specs.Forms.{form_fault};
 ghost use Rattle.repo_store.specs.Refusals.{IsReplayFault};
 ghost use Rattle.repo_store.specs.Journal.{IsBeginning, Spells, Takes, Tell, IsFirstBad};
 
-use crate::form::judge_form;
 use crate::read::{ReadFault, read_beginning, read_revision};
 use dump_load::{Change, ChangeSet};
 use dump_text::law::dumps_are_read;
@@ -41,24 +41,20 @@ fn changes_of(alloc: Global, nodes: Vec<NodeRecord>) -> Result<Vec<Change>, Allo
 // The set that an entry's nodes are.
 fn set_of(alloc: Global, nodes: Vec<NodeRecord>) -> Result<ChangeSet, ReadFault>
     ensures set { IfOk result (λ s. s ≡ map change_of nodes.items) }
-    ensures normal { OnOk result (IsNormal (map change_of nodes.items)) }
-    ensures form { OnOk result (form_fault (map change_of nodes.items) ≡ None) }
-    ensures bad { IsErrOf result ReadFault.Bad → IsNormal (map change_of nodes.items)
-        → form_fault (map change_of nodes.items) ≡ None → ⊥ }
+    ensures bounded { OnOk result (IsBounded (map change_of nodes.items)) }
+    ensures bad { IsErrOf result ReadFault.Bad → IsSet (map change_of nodes.items) → ⊥ }
 {
     let changes = changes_of(alloc, nodes)?;
-    let Ok(set) = ChangeSet::from_changes(changes) else {
-        return Err(ReadFault::Bad);
-    };
-    match judge_form(&set) {
-        Ok(()) => Ok(set),
+    match ChangeSet::from_changes(changes) {
+        Ok(set) => Ok(set),
         Err(_) => Err(ReadFault::Bad),
     }
 }
 
 // The repository after its first entry.
 fn begin(alloc: Global, bytes: &[u8]) -> Result<Repo, ReadFault>
-    ensures begun { IfOk result (λ r. (identity : List ℕ) × (props : PropMap) × IsBeginning bytes.now identity props
+    ensures begun { IfOk result (λ r. (identity : List ℕ) × (props : PropMap)
+        × IsBeginning bytes.now identity props
         × (r ≡ with_entry_in (fresh identity) (Mapped 0 props))) }
     ensures bad { IsErrOf result ReadFault.Bad → (identity : List ℕ) (props : PropMap)
         → IsBeginning bytes.now identity props → ⊥ }
@@ -75,7 +71,8 @@ fn begin(alloc: Global, bytes: &[u8]) -> Result<Repo, ReadFault>
 fn take_map(repo: &mut Repo, number: RevNo, props: Props) -> Result<(), ReadFault>
     ensures taken { OnOk result (repo.new ≡ with_entry_in repo.old (Mapped number props)) }
     ensures accepted { OnOk result (by_repository repo.old.revisions (Mapped number props) ≡ None) }
-    ensures bad { IsErrOf result ReadFault.Bad → by_repository repo.old.revisions (Mapped number props) ≡ None → ⊥ }
+    ensures bad { IsErrOf result ReadFault.Bad → by_repository repo.old.revisions (Mapped number props) ≡ None
+        → ⊥ }
     ensures no_other { IfErr result (λ e. e ≡ ReadFault.Bad) }
 {
     match repo.put_props(number, props) {
@@ -106,7 +103,8 @@ fn take_set(alloc: Global, repo: &mut Repo, set: ChangeSet, props: Props) -> Res
 fn take_entry(alloc: Global, repo: &mut Repo, bytes: &[u8]) -> Result<(), ReadFault>
     ensures taken { OnOk result ((e : EntryOf) × Spells bytes.now e × Takes repo.old.revisions e
         × (repo.new ≡ with_entry_in repo.old e)) }
-    ensures bad { IsErrOf result ReadFault.Bad → (e : EntryOf) → Spells bytes.now e → Takes repo.old.revisions e → ⊥ }
+    ensures bad { IsErrOf result ReadFault.Bad → (e : EntryOf) → Spells bytes.now e → Takes repo.old.revisions e
+        → ⊥ }
 {
     dumps_are_read();
     let RevRecord {
@@ -151,7 +149,8 @@ fn read_next<D: Disk>(
     ensures taken { D.honest (disk_of log.old)
         → OnOk result ((bytes : List ℕ) × (e : EntryOf) × (slice_get (entries_of log.old) entry ≡ Some bytes)
         × Spells bytes e × Takes repo.old.revisions e × (repo.new ≡ with_entry_in repo.old e)) }
-    ensures damaged { D.honest (disk_of log.old) → (k : ℕ) → IsErrOf result (log_fault.Damaged k) → k ≡ entry }
+    ensures damaged { D.honest (disk_of log.old) → (k : ℕ) → IsErrOf result (log_fault.Damaged k)
+        → k ≡ entry }
     ensures breaks { D.honest (disk_of log.old) → (k : ℕ) → IsErrOf result (log_fault.Damaged k)
         → (bytes : List ℕ) (e : EntryOf) → slice_get (entries_of log.old) entry ≡ Some bytes → Spells bytes e
         → Takes repo.old.revisions e → ⊥ }
@@ -180,7 +179,8 @@ fn read_first<D: Disk>(alloc: Global, log: &mut GateLog<D>) -> Result<Repo, LogF
     requires there { 0 < length (ends_of log.old) }
     requires working { ¬ HasFailed log.old }
     ensures begun { D.honest (disk_of log.old)
-        → IfOk result (λ r. (bytes : List ℕ) × (props : PropMap) × (slice_get (entries_of log.old) 0 ≡ Some bytes)
+        → IfOk result (λ r. (bytes : List ℕ) × (props : PropMap)
+            × (slice_get (entries_of log.old) 0 ≡ Some bytes)
         × IsBeginning bytes r.identity props × (r ≡ with_entry_in (fresh r.identity) (Mapped 0 props))) }
     ensures damaged { D.honest (disk_of log.old) → (k : ℕ) → IsErrOf result (log_fault.Damaged k) → k ≡ 0 }
     ensures breaks { D.honest (disk_of log.old) → (k : ℕ) → IsErrOf result (log_fault.Damaged k)

@@ -4,8 +4,7 @@ ghost use Rattle.dump_text.specs.Canon.{canon_entry, canon_revision};
 ghost use Rattle.dump_text.specs.Written.{AreFormed, AreRecords, read_revision};
 ghost use Rattle.dump_text.specs.declared.record.DumpRecord.TheVariants as told;
 ghost use Rattle.repo_core.specs.declared.entry.Entry.TheVariants.{Revised, Mapped};
-ghost use Rattle.repo_store.specs.Journal.{spelling, Spells, IsBeginning};
-ghost use Rattle.repo_store.specs.Forms.{form_fault, HasForm};
+ghost use Rattle.repo_store.specs.Journal.{spelling, HasSet, Spells, IsBeginning};
 
 use dump_load::ChangeSet;
 use dump_text::law::dumps_go_on;
@@ -79,8 +78,11 @@ pub fn revision_bytes(
     props: &Props,
 ) -> Result<Vec<u8>, AllocError>
     ensures canonical { IfOk result (λ v. v.items ≡ spelling (Revised number set.now props.now)) }
-    ensures spelled { form_fault set.now ≡ None → IfOk result (λ v. Spells v.items (Revised number set.now props.now)) }
+    ensures spelled { IfOk result (λ v. Spells v.items (Revised number set.now props.now)) }
+    ensures set { HasSet (Revised number set.now props.now) }
 {
+    // For the proof: dump text can say what a set keeps by its type.
+    set.changes();
     let revision = RevRecord {
         number,
         props: props.share()?,
@@ -92,7 +94,8 @@ pub fn revision_bytes(
 /// The bytes of an entry.
 pub fn entry_bytes(alloc: Global, entry: &Entry) -> Result<Vec<u8>, AllocError>
     ensures canonical { IfOk result (λ v. v.items ≡ spelling entry.now) }
-    ensures spelled { HasForm entry.now → IfOk result (λ v. Spells v.items entry.now) }
+    ensures spelled { IfOk result (λ v. Spells v.items entry.now) }
+    ensures set { HasSet entry.now }
 {
     match entry {
         Entry::Revised { number, set, props } => revision_bytes(alloc, *number, set, props),

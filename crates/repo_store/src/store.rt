@@ -1,5 +1,6 @@
 //! The store.
-ghost use Rattle.std.specs.Prelude.{◌≡◌, ◌≢◌, ◌<◌, ◌≤◌, ◌^◌, ◌↔◌, ◌⊎◌, ◌∷◌, [], ℕ, List, length};
+ghost use Rattle.std.specs.Prelude.{◌≡◌, ◌≢◌, ◌<◌, ◌≤◌, ◌^◌, ◌↔◌, ◌⊎◌, ◌∷◌};
+ghost use Rattle.std.specs.Prelude.{[], ℕ, List, length};
 ghost use Rattle.std.specs.Prelude.{IsTrue, Some, None, is_some, IfOk, IfErr, OnOk, IsErr};
 ghost use Rattle.std.specs.Option.{option_copied};
 ghost use Rattle.std.specs.FinMap as finite;
@@ -100,8 +101,8 @@ impl<D: Disk> RepoStore<D> {
     /// (33) with the first entry that breaks the journal's format or isn't an entry that the repository before it
     /// takes, and only there, DeviceFailed (31), OutOfMemory (70).
     ///
-    /// A refusal hands the disk back: at each moment a stop leaves what it could leave before, or an image of the entries
-    /// that a read gave; after it, but for 31, what a read gave, or an image of its entries.
+    /// A refusal hands the disk back: at each moment a stop leaves what it could leave before, or an image of the
+    /// entries that a read gave; after it, but for 31, what a read gave, or an image of its entries.
     pub fn open(alloc: Global, disk: D) -> Result<RepoStore<D>, (StoreFault, D)>
         ensures stands { D.honest disk → IfOk result (λ store. ReopensTo (identity_of store) (revisions_of store)
             (D.reads disk)) }
@@ -109,9 +110,11 @@ impl<D: Disk> RepoStore<D> {
         ensures working { IfOk result (λ store. ¬ HasFailed store) }
         ensures durable { D.honest disk → IfOk result (λ store. (image : Image) → D.may_leave (disk_of store) image
             → Keeps (repository_of store) image) }
-        ensures found { D.honest disk → (identity : List ℕ) (x : List Revision) → ReopensTo identity x (D.reads disk)
+        ensures found { D.honest disk → (identity : List ℕ) (x : List Revision)
+            → ReopensTo identity x (D.reads disk)
             → IfOk result (λ store. (identity_of store ≡ identity) × (revisions_of store ≡ x)) }
-        ensures refused { D.honest disk → (identity : List ℕ) (x : List Revision) → ReopensTo identity x (D.reads disk)
+        ensures refused { D.honest disk → (identity : List ℕ) (x : List Revision)
+            → ReopensTo identity x (D.reads disk)
             → IfErr result (λ e. (e.0 ≡ refusal.Log log.DeviceFailed) ⊎ (e.0 ≡ refusal.Log log.OutOfMemory)) }
         ensures damaged { D.honest disk → (entry : ℕ)
             → IfErr result (λ e. e.0 ≡ refusal.Log (log.Damaged entry) → IsDamaged entry (D.reads disk)) }
@@ -124,7 +127,8 @@ impl<D: Disk> RepoStore<D> {
         ensures device { IfErr result (λ e. e.0 ≡ refusal.Log log.DeviceFailed
             → Rose (D.failures disk) (D.failures e.1)) }
         ensures no_other { IfErr result (λ e. IsOpenFault e.0) }
-        ensures any_moment { D.honest disk → IfOk result (λ store. LeavesOnly D.clock D.left_since disk (disk_of store)
+        ensures any_moment { D.honest disk
+            → IfOk result (λ store. LeavesOnly D.clock D.left_since disk (disk_of store)
             (λ c. D.may_leave disk c ⊎ KeepsAlike (D.reads disk) c)) }
         ensures any_moment_err { D.honest disk → IfErr result (λ e. LeavesOnly D.clock D.left_since disk e.1
             (λ c. D.may_leave disk c ⊎ KeepsAlike (D.reads disk) c)) }

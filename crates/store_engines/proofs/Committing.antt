@@ -25,7 +25,6 @@ use Rattle.repo_core.specs.Refusals.{is_short, within_limits, limit_fault, base_
 use Rattle.repo_core.specs.declared.entry.Entry.TheVariants.{Revised}
 use Rattle.repo_core.specs.declared.fault.RepoFault.{RepoFault}
 use Rattle.repo_core.specs.declared.fault.RepoFault.TheVariants as core
-use Rattle.repo_store.specs.Forms.{form_fault}
 use Rattle.repo_store.specs.declared.fault.StoreFault.{StoreFault}
 use Rattle.repo_store.specs.declared.fault.StoreFault.TheVariants.{Repo, Log}
 use Rattle.store_engines.specs.Commits.{committed_line, directory_entry, directory_fault, directory_set, fault_there, logged, IsCommitted, NotCommitted, bare_entry, commit_refused, commit_stops, commit_not_kept, commit_unsaid}
@@ -81,18 +80,18 @@ long_message message moment h =
 some_none : (f : RepoFault) → Some f ≡ None → ⊥
 some_none f e = true≢false (ap is_some e)
 
--- the faults of a commit in their order, that of the map the last but one
-abbrev Due : Option RepoFault → Option RepoFault → Option RepoFault → Option RepoFault → Option RepoFault → Option RepoFault
-Due b n d l f = first_of (first_of (b ∷ first_of (n ∷ d ∷ l ∷ []) ∷ []) ∷ f ∷ [])
+-- the faults of a commit in their order, that of the map the last
+abbrev Due : Option RepoFault → Option RepoFault → Option RepoFault → Option RepoFault → Option RepoFault
+Due b n d l = first_of (b ∷ first_of (n ∷ d ∷ l ∷ []) ∷ [])
 
-grows : (b n d : Option RepoFault) (past : Bool) (f : RepoFault) → Due b n d (fault_if past core.TooLong) None ≡ Some f → Due b n d (Some core.TooLong) None ≡ Some f
+grows : (b n d : Option RepoFault) (past : Bool) (f : RepoFault) → Due b n d (fault_if past core.TooLong) ≡ Some f → Due b n d (Some core.TooLong) ≡ Some f
 grows (Some x) n d past f h = h
 grows None (Some x) d past f h = h
 grows None None (Some x) past f h = h
 grows None None None true f h = h
 grows None None None false f h = absurd (some_none f (sym h))
 
-all_else : (b n d : Option RepoFault) (l : Option RepoFault) → Due b n d l None ≡ None → Due b n d (Some core.TooLong) None ≡ Some core.TooLong
+all_else : (b n d : Option RepoFault) (l : Option RepoFault) → Due b n d l ≡ None → Due b n d (Some core.TooLong) ≡ Some core.TooLong
 all_else (Some x) n d l h = absurd (some_none x h)
 all_else None (Some x) d l h = absurd (some_none x h)
 all_else None None (Some x) l h = absurd (some_none x h)
@@ -109,7 +108,7 @@ is_due core.TooLong due h = inr h
 
 -- the faults of a directory with these properties
 abbrev due_with : List Revision → ℕ → List Change → PropMap → Option RepoFault
-due_with x base set props = first_of (commit_fault x base (Revised (length x) set props) ∷ form_fault set ∷ [])
+due_with x base set props = commit_fault x base (Revised (length x) set props)
 
 long_due : (x : List Revision) (path : Path) (message : List ℕ) (moment : DateTime) (m : PropMap) (f : RepoFault) → 65536 < length message → due_with x (head_of x) (directory_set path) m ≡ Some f
     → entry_fault x (directory_entry x path message moment) ≡ Some f
@@ -117,7 +116,7 @@ long_due x path message moment m f h due =
     let b = base_fault x (head_of x) in
     let n = fault_if (nat_lt 65535 (length x)) core.Full in
     let d = option_map (λ t. core.Change (refused t)) (fault (trees_of x) (directory_set path)) in
-    ap (λ l. Due b n d l None) (long_message message moment h)
+    ap (λ l. Due b n d l) (long_message message moment h)
     ∙ grows b n d (not (within_limits m)) f due
 
 long_all : (x : List Revision) (path : Path) (message : List ℕ) (moment : DateTime) (m : PropMap) → 65536 < length message → due_with x (head_of x) (directory_set path) m ≡ None
@@ -126,7 +125,7 @@ long_all x path message moment m h due =
     let b = base_fault x (head_of x) in
     let n = fault_if (nat_lt 65535 (length x)) core.Full in
     let d = option_map (λ t. core.Change (refused t)) (fault (trees_of x) (directory_set path)) in
-    ap (λ l. Due b n d l None) (long_message message moment h)
+    ap (λ l. Due b n d l) (long_message message moment h)
     ∙ all_else b n d (limit_fault m) due
 
 abbrev LongDue : List Revision → List Change → DateTime → Refusal → Type 0

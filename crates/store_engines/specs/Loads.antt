@@ -21,10 +21,8 @@ use Rattle.repo_core.specs.declared.entry.Entry.TheVariants.{Revised, Mapped}
 use Rattle.repo_core.specs.Refusals.{by_repository, commit_fault, IsDue}
 use Rattle.repo_core.specs.declared.fault.RepoFault.{RepoFault}
 use Rattle.fleet_disk.specs.declared.disk.Disk.{Ghosts}
-use Rattle.repo_store.specs.Forms.{form_fault}
 use Rattle.repo_store.specs.Words.{repository_of, revisions_of}
 use Rattle.repo_store.specs.declared.store.RepoStore.{RepoStore}
-use Rattle.dump_load.specs.Faults.{first_of}
 use Rattle.fleet_engines.specs.Refusals.{dump_refusal}
 use Rattle.fleet_engines.specs.Revisions.{Rev, Makes, IsUnfit, is_zero, is_past_zero}
 use Rattle.fleet_engines.specs.Grouping.{records_of_rev, is_no_identity}
@@ -42,7 +40,7 @@ pub data IsLoaded (x : List Revision) (r : Rev) (e : Entry) (said : List ℕ) : 
 
 -- what the repository refuses of an entry as it is committed
 abbrev pub entry_fault : List Revision → Entry → Option RepoFault
-entry_fault x (Revised n set props) = first_of (commit_fault x (head_of x) (Revised n set props) ∷ form_fault set ∷ [])
+entry_fault x (Revised n set props) = commit_fault x (head_of x) (Revised n set props)
 entry_fault x (Mapped n props) = by_repository x (Mapped n props)
 
 -- whole revisions one after another, each of which the repository takes, and all that is said of them

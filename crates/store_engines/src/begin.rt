@@ -1,5 +1,6 @@
 //! Stores begun and opened.
-ghost use Rattle.std.specs.Prelude.{◌≡◌, ◌≢◌, ◌≤◌, ◌↔◌, ◌⊎◌, ℕ, List, IfOk, IfErr, IsErr, OnOk};
+ghost use Rattle.std.specs.Prelude.{◌≡◌, ◌≢◌, ◌≤◌, ◌↔◌, ◌⊎◌, ℕ, List, IfOk, IfErr};
+ghost use Rattle.std.specs.Prelude.{IsErr, OnOk};
 ghost use Rattle.fleet_disk.specs.Image.{Image, no_bytes};
 ghost use Rattle.fleet_disk.specs.Rules.{LeavesOnly, Rose};
 ghost use Rattle.gate_log.specs.Standing.{HasNoEntry};
@@ -30,7 +31,8 @@ pub fn create_store<D: Disk + Drop>(
     ensures no_other { IfErr result IsCreateRefusal }
     ensures later { IfOk result (λ store. D.failures disk ≤ D.failures (disk_of store)) }
     ensures device { IfErr result (λ e. (left : D) × (D.honest disk ↔ D.honest left)
-        × (D.failures disk ≤ D.failures left) × (e ≡ Refusal.DeviceFailed → Rose (D.failures disk) (D.failures left))) }
+        × (D.failures disk ≤ D.failures left)
+            × (e ≡ Refusal.DeviceFailed → Rose (D.failures disk) (D.failures left))) }
     ensures honest { IfOk result (λ store. D.honest disk ↔ D.honest (disk_of store)) }
     ensures no_peer { IfErr result (λ e. e ≡ Refusal.PeerFailed → ⊥) }
 {
@@ -51,20 +53,23 @@ pub fn open_store<D: Disk + Drop>(alloc: Global, disk: D) -> Result<RepoStore<D>
         → Keeps (repository_of store) image) }
     ensures found { D.honest disk → (identity : List ℕ) (x : List Revision) → ReopensTo identity x (D.reads disk)
         → IfOk result (λ store. (identity_of store ≡ identity) × (revisions_of store ≡ x)) }
-    ensures refused { D.honest disk → (identity : List ℕ) (x : List Revision) → ReopensTo identity x (D.reads disk)
+    ensures refused { D.honest disk → (identity : List ℕ) (x : List Revision)
+        → ReopensTo identity x (D.reads disk)
         → IfErr result (λ e. (e ≡ Refusal.DeviceFailed) ⊎ (e ≡ Refusal.OutOfMemory)) }
     ensures damaged { D.honest disk → (entry : ℕ)
         → IfErr result (λ e. e ≡ Refusal.Damaged entry → IsDamaged entry (D.reads disk)) }
     ensures stopped { D.honest disk → (entry : ℕ) → IsDamaged entry (D.reads disk) → IsErr result }
     ensures first { D.honest disk → (entry : ℕ) → IsDamaged entry (D.reads disk)
-        → IfErr result (λ e. (e ≡ Refusal.Damaged entry) ⊎ (e ≡ Refusal.DeviceFailed) ⊎ (e ≡ Refusal.OutOfMemory)) }
+        → IfErr result (λ e. (e ≡ Refusal.Damaged entry) ⊎ (e ≡ Refusal.DeviceFailed)
+            ⊎ (e ≡ Refusal.OutOfMemory)) }
     ensures missing { D.honest disk → IfErr result (λ e. e ≡ Refusal.NoRepository → HasNoEntry (D.reads disk)) }
     ensures no_other { IfErr result IsOpenRefusal }
     ensures later { IfOk result (λ store. D.failures disk ≤ D.failures (disk_of store)) }
     ensures any_moment { D.honest disk → IfOk result (λ store. LeavesOnly D.clock D.left_since disk (disk_of store)
         (λ c. D.may_leave disk c ⊎ KeepsAlike (D.reads disk) c)) }
     ensures device { IfErr result (λ e. (left : D) × (D.honest disk ↔ D.honest left)
-        × (D.failures disk ≤ D.failures left) × (e ≡ Refusal.DeviceFailed → Rose (D.failures disk) (D.failures left))
+        × (D.failures disk ≤ D.failures left)
+            × (e ≡ Refusal.DeviceFailed → Rose (D.failures disk) (D.failures left))
         × (D.honest disk → LeavesOnly D.clock D.left_since disk left (λ c. D.may_leave disk c
         ⊎ KeepsAlike (D.reads disk) c))) }
     ensures honest { IfOk result (λ store. D.honest disk ↔ D.honest (disk_of store)) }

@@ -1,5 +1,6 @@
 //! `dump` over any disk and writer.
-ghost use Rattle.std.specs.Prelude.{◌≡◌, ◌<◌, ◌≤◌, ◌⊎◌, ◌+◌, ◌-◌, ℕ, length, true, Some, IfOk, IfErr, OnOk};
+ghost use Rattle.std.specs.Prelude.{◌≡◌, ◌<◌, ◌≤◌, ◌⊎◌, ◌+◌, ◌-◌, ℕ, length, true};
+ghost use Rattle.std.specs.Prelude.{Some, IfOk, IfErr, OnOk};
 ghost use Rattle.std.specs.Io.KnownBytes.{Appends};
 ghost use Rattle.dump_text.specs.Canon.{canon_head};
 ghost use Rattle.fleet_engines.specs.Runs.{Flagged};
@@ -95,7 +96,8 @@ fn write_all<D: Disk + Drop, W: Write + Drop>(
     requires there { last < length (revisions_of store.now) }
     ensures ok { OnOk result (Appends (W.contents output.old.inner) (W.contents output.new.inner)
         (revisions_text (repository_of store.now) first (last + 1 - first))) }
-    ensures refused { IfErr result (λ e. ((e ≡ Refusal.OutOfMemory) × (written : ℕ) × (written < last + 1 - first)
+    ensures refused { IfErr result (λ e. ((e ≡ Refusal.OutOfMemory) × (written : ℕ)
+        × (written < last + 1 - first)
         × Appends (W.contents output.old.inner) (W.contents output.new.inner)
         (revisions_text (repository_of store.now) first written))
         ⊎ ((e ≡ Refusal.PeerFailed) × (output.new.failed ≡ true))) }

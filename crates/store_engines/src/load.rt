@@ -1,6 +1,7 @@
 //! `load` over any disk, reader and writer.
 ghost use Rattle.std.specs.List.{filter};
-ghost use Rattle.std.specs.Prelude.{◌≡◌, ◌≢◌, ◌⊎◌, ◌<◌, ◌∷◌, ◌++◌, [], ℕ, List, Option, Some, None, length, true};
+ghost use Rattle.std.specs.Prelude.{◌≡◌, ◌≢◌, ◌⊎◌, ◌<◌, ◌∷◌, ◌++◌, [], ℕ, List};
+ghost use Rattle.std.specs.Prelude.{Option, Some, None, length, true};
 ghost use Rattle.std.specs.Prelude.{false, IfOk, IfErr, IfSome, OnOk, OnErr};
 ghost use Rattle.std.specs.Io.KnownBytes.{Appends, Consumes, IsAtEnd};
 ghost use Rattle.node_base.specs.Props.{PropMap};
@@ -67,7 +68,8 @@ fn judge(
     ensures set { IfOk result (λ s. (props : PropMap) → (tree : PathMap)
         × Makes trees.now (record { number = number; props = props; nodes = nodes.items }) s tree) }
     ensures refused { IfErr result (λ e. (e ≡ Refusal.OutOfMemory)
-        ⊎ ((props : PropMap) → IsUnfit trees.now (record { number = number; props = props; nodes = nodes.items }) e)) }
+        ⊎ ((props : PropMap) → IsUnfit trees.now
+            (record { number = number; props = props; nodes = nodes.items }) e)) }
     ensures no_device { IfErr result (λ e. is_device e ≡ false) }
     ensures no_peer { IfErr result (λ e. e ≡ Refusal.PeerFailed → ⊥) }
 {
@@ -116,7 +118,8 @@ fn load_next<D: Disk + Drop, W: Write + Drop>(
         × Appends (W.contents output.old.inner) (W.contents output.new.inner) line) }
     ensures refused { IfErr result (λ e. NotLoaded (repository_of store.old) (rev_of revision) store.new
         (W.contents output.old.inner) (W.contents output.new.inner) output.new.failed e) }
-    ensures device { IsSafe store.old → ServesRecords (records_of_rev (rev_of revision)) store.old store.new result [] }
+    ensures device { IsSafe store.old
+        → ServesRecords (records_of_rev (rev_of revision)) store.old store.new result [] }
     ensures peer { Flagged result output.old.failed output.new.failed }
 {
     let RevRecord {
@@ -147,7 +150,8 @@ fn load_one<D: Disk + Drop, W: Write + Drop>(
     ensures refused { IfErr result (λ e. IsBare (rev_of revision)
         → NotLoaded (repository_of store.old) (rev_of revision) store.new (W.contents output.old.inner)
         (W.contents output.new.inner) output.new.failed e) }
-    ensures device { IsSafe store.old → ServesRecords (records_of_rev (rev_of revision)) store.old store.new result [] }
+    ensures device { IsSafe store.old
+        → ServesRecords (records_of_rev (rev_of revision)) store.old store.new result [] }
     ensures peer { Flagged result output.old.failed output.new.failed }
 {
     if is_zero(store.repo(), &revision) {
@@ -184,7 +188,8 @@ impl Loader {
             → Stands x rs (repository_of store.old) (last_of self.old) start (W.contents output.old.inner)
             → CantTake x rs next store.new start (W.contents output.new.inner) output.new.failed e) }
         ensures device { IsSafe store.old
-            → ServesRecords (read_of (last_of self.old) ++ filter is_no_identity (next ∷ [])) store.old store.new result
+            → ServesRecords (read_of (last_of self.old)
+                ++ filter is_no_identity (next ∷ [])) store.old store.new result
             (read_of (last_of self.new)) }
         ensures peer { Flagged result output.old.failed output.new.failed }
     {
@@ -212,7 +217,8 @@ impl Loader {
 
     // A node record of no revision, or of revision 0, is WrongNumber (16).
     fn add_node(&mut self, node: NodeRecord) -> Result<(), Refusal>
-        ensures ok { OnOk result ((r : Rev) × (last_of self.old ≡ Some r) × (is_past_zero (last_of self.old) ≡ true)
+        ensures ok { OnOk result ((r : Rev) × (last_of self.old ≡ Some r)
+            × (is_past_zero (last_of self.old) ≡ true)
             × (last_of self.new ≡ Some (record r { nodes = r.nodes ++ node ∷ [] }))) }
         ensures refused { IfErr result (λ e. ((e ≡ Refusal.OutOfMemory)
             ⊎ ((e ≡ Refusal.WrongNumber) × (is_past_zero (last_of self.old) ≡ false)))) }
@@ -302,7 +308,8 @@ impl Loader {
             (W.contents output.old.inner)
             → Reached x (bytes ++ piece.now) reader.new (repository_of store.new) (last_of self.new) start
             (W.contents output.new.inner)) }
-        ensures refused { IfErr result (λ e. (rest : List ℕ) (x : Repository) (bytes : List ℕ) (start : Option (List ℕ))
+        ensures refused { IfErr result
+            (λ e. (rest : List ℕ) (x : Repository) (bytes : List ℕ) (start : Option (List ℕ))
             → Reached x bytes reader.old (repository_of store.old) (last_of self.old) start
             (W.contents output.old.inner)
             → Refused x ((bytes ++ piece.now) ++ rest) store.new start (W.contents output.new.inner) output.new.failed
@@ -358,11 +365,13 @@ fn read_all<D: Disk + Drop, R: Read + Drop, W: Write + Drop>(
     ensures ok { OnOk result (0 < length piece.old → (bytes : List ℕ)
         × Consumes (R.remaining input.old.inner) (R.remaining input.new.inner) bytes
         × IsAtEnd (R.remaining input.new.inner)
-        × Leads reader.old (repository_of store.old) (last_of loader.old) (W.contents output.old.inner) bytes reader.new
+        × Leads reader.old (repository_of store.old) (last_of loader.old)
+            (W.contents output.old.inner) bytes reader.new
         (repository_of store.new) (last_of loader.new) (W.contents output.new.inner)) }
     ensures refused { IfErr result (λ e. (x : Repository) (start : Option (List ℕ))
         → Reached x [] reader.old (repository_of store.old) (last_of loader.old) start (W.contents output.old.inner)
-        → IfSome (R.remaining input.old.inner) (λ bytes. Refused x bytes store.new start (W.contents output.new.inner)
+        → IfSome (R.remaining input.old.inner)
+            (λ bytes. Refused x bytes store.new start (W.contents output.new.inner)
         output.new.failed e)) }
     ensures reading { OnOk result (has_failed reader.old ≡ false → has_failed reader.new ≡ false) }
     ensures device { has_failed reader.old ≡ false → IsSafe store.old → Serves store.old store.new result }

@@ -1,5 +1,6 @@
 //! `mkdir` over any disk and writer.
-ghost use Rattle.std.specs.Prelude.{◌≡◌, ◌<◌, ◌≤◌, ◌⊎◌, ℕ, List, length, true, false, Ok, Err, Some, IfOk, IfErr, OnOk};
+ghost use Rattle.std.specs.Prelude.{◌≡◌, ◌<◌, ◌≤◌, ◌⊎◌, ℕ, List, length, true, false, Ok, Err};
+ghost use Rattle.std.specs.Prelude.{Some, IfOk, IfErr, OnOk};
 ghost use Rattle.std.specs.Prelude.{IsErrOf, codes};
 ghost use Rattle.std.specs.Option.{option_map};
 ghost use Rattle.fleet_engines.specs.Runs.{Flagged};
@@ -126,7 +127,8 @@ fn commit_directory<D: Disk + Drop, W: Write + Drop>(
     moment: Moment,
     output: &mut Sink<W>,
 ) -> Result<(), Refusal>
-    ensures ok { OnOk result ((bytes : List ℕ) → is_mirror (revisions_of store.old) ≡ false → path_read bytes ≡ Ok path
+    ensures ok { OnOk result ((bytes : List ℕ) → is_mirror (revisions_of store.old) ≡ false
+        → path_read bytes ≡ Ok path
         → IsCommitted (repository_of store.old) bytes message.now moment (repository_of store.new)
         (W.contents output.old.inner) (W.contents output.new.inner)) }
     ensures refused { IfErr result (λ e. (bytes : List ℕ) → is_mirror (revisions_of store.old) ≡ false

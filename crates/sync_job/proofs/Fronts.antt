@@ -30,7 +30,7 @@ use Rattle.sync_job.specs.declared.report.Told.{Told}
 use Rattle.sync_core.specs.Copies.{outcome_of}
 use Rattle.sync_job.specs.Kept.{IsWrite, IsLook}
 use Rattle.sync_job.specs.Said.{Spoken, Says, NoTree, Tells, told_by, IsRound, Done, Lacking, Treeless, Acted}
-use Rattle.sync_job.specs.Mirrors.{MirrorNow, repository_by, Keeps, IsFit, accepted, ByTable, ByForm, IsCause, Due, NoMemory, NoRoom, Broken, IsAccepted, IsDoubted, Steps, Accepted, Doubted, Unchanged, Moves, Stays}
+use Rattle.sync_job.specs.Mirrors.{MirrorNow, repository_by, Keeps, IsFit, accepted, ByTable, IsCause, Due, NoMemory, NoRoom, Broken, IsAccepted, IsDoubted, Steps, Accepted, Doubted, Unchanged, Moves, Stays}
 use Rattle.sync_job.specs.Fronts.{EndsKeepAll, replayed, HasCome, Working, Doubtful, KeepsFront, Went, WentAt, Moving, is_device, IsHeard, accepted_by, counted_by, accepted_in, counted_in}
 use Rattle.sync_job.proofs.Stores.{sure}
 
@@ -233,7 +233,6 @@ told_isnt text (OfRepository e) f h = same_as f (of_repository e) h (repo_isnt e
 
 cause_isnt : (m : MirrorNow) (seat : ℕ) (call : Call) (f : SyncFault) → IsCause m seat call f → is_device f ≡ false
 cause_isnt m seat call f (Due (ByTable why e t)) = told_isnt _ why f t
-cause_isnt m seat call f (Due (ByForm e u h)) = same_as f (of_repository e) h (repo_isnt e)
 cause_isnt m seat call f (NoMemory h) = same_as f _ h refl
 cause_isnt m seat call f (NoRoom h) = same_as f _ h refl
 cause_isnt m seat call f (Broken h d) = same_as f _ h refl

@@ -18,7 +18,6 @@ use Rattle.repo_core.specs.declared.fault.RepoFault.{RepoFault}
 use Rattle.repo_core.specs.declared.fault.RepoFault.TheVariants as repo
 use Rattle.repo_store.specs.Changes.{Stays, Refuses, IsStaged, IsTaken, IsBroken}
 use Rattle.repo_store.specs.Changes as changes
-use Rattle.repo_store.specs.Forms.{form_fault, due_of}
 use Rattle.repo_store.specs.Journal as journal
 use Rattle.repo_store.specs.Words.{disk_of, repository_of, revisions_of, HasFailed}
 use Rattle.repo_store.specs.declared.fault.StoreFault.{StoreFault}
@@ -40,7 +39,7 @@ use Rattle.sync_core.specs.declared.standing.Standing.{Standing}
 use Rattle.sync_job.specs.Kept.{IsWrite}
 use Rattle.sync_job.specs.StoreFaults.{fault_of}
 use Rattle.sync_job.specs.declared.alone.AloneMirror.{AloneMirror}
-use Rattle.sync_job.specs.Mirrors.{MirrorNow, Moves, mirror_in, unspelt, repository_by, accepted, doubted, ByTable, ByForm, IsCause, Due, NoMemory, NoRoom, Broken, Steps, Accepted, Doubted, Unchanged, Keeps}
+use Rattle.sync_job.specs.Mirrors.{MirrorNow, Moves, mirror_in, repository_by, accepted, doubted, ByTable, IsCause, Due, NoMemory, NoRoom, Broken, Steps, Accepted, Doubted, Unchanged, Keeps}
 use Rattle.sync_job.specs.Alone.{StandsAt, Moved}
 
 -- the entry of a call is one of the store's too
@@ -98,68 +97,21 @@ unchanged {G} old new h call f m only s cause d r w =
       };
     }
 
--- the first of two that is there
-first_two : (a b : Option RepoFault) (r : RepoFault) → first_of (a ∷ b ∷ []) ≡ Some r → (a ≡ Some r) ⊎ (b ≡ Some r)
-first_two (Some x) b r h = inl h
-first_two None (Some y) r h = inr h
-first_two None None r h = absurd (cc)
-
-first_none : (a b : Option RepoFault) → first_of (a ∷ b ∷ []) ≡ None → a ≡ None
-first_none None b h = refl
-first_none (Some x) b h = absurd (cc)
-
-free_due : (e : Entry) (refused : Option RepoFault) → due_of e refused ≡ None → refused ≡ None
-free_due (Revised n set props) refused h = first_none refused (form_fault set) h
-free_due (Mapped n props) refused h = h
-
-set_in : Entry → List Change
-set_in (Revised n set props) = set
-set_in (Mapped n props) = []
-
-entry_in : Option Entry → Entry → Entry
-entry_in (Some e) other = e
-entry_in None other = other
-
-unspelt_by : (set other : List Change) (r : RepoFault) → set ≡ other → form_fault other ≡ Some r → form_fault set ≡ Some r
-unspelt_by set other r h u = subst (λ x. form_fault x ≡ Some r) (sym h) u
-
--- a set that can't be written is the call's
-unspelt_set : (x : List Revision) (call : Call) (n : ℕ) (set : List Change) (props : _) (r : RepoFault) → entry_of x call ≡ Some (Revised n set props) → form_fault set ≡ Some r → unspelt call ≡ Some r
-unfolding set_in entry_in
-unspelt_set x (Commit k own p) n set props r h u = unspelt_by own set r (ap (λ (o : Option Entry). set_in (entry_in o (Mapped 0 p))) h) u
-unspelt_set x (Init url uuid p) n set props r h u = absurd (cc)
-unspelt_set x (TakeLock t) n set props r h u = absurd (cc)
-unspelt_set x (StealLock t) n set props r h u = absurd (cc)
-unspelt_set x ReleaseLock n set props r h u = absurd (cc)
-unspelt_set x (SetCopying k) n set props r h u = absurd (cc)
-unspelt_set x (PutProps k p) n set props r h u = absurd (cc)
-unspelt_set x (SetMerged k) n set props r h u = absurd (cc)
-unspelt_set x ClearCopying n set props r h u = absurd (cc)
-unspelt_set x Look n set props r h u = absurd (cc)
-
 -- what the repository refuses of the entry is refused of the call
 by_table : (m : MirrorNow) (call : Call) (e : Entry) (r : RepoFault) → IsToWrite (mirror_in m) 0 call e → by_repository m.repository.revisions e ≡ Some r → IsCause m 0 call (of_repository r)
 by_table m call e r p h = Due (ByTable (OfRepository r) (p.may_refuse ∙ ap (option_map OfRepository) h) refl)
 
-by_either : (m : MirrorNow) (call : Call) (n : ℕ) (set : List Change) (props : _) (r : RepoFault) → IsToWrite (mirror_in m) 0 call (Revised n set props) → (by_repository m.repository.revisions (Revised n set props) ≡ Some r) ⊎ (form_fault set ≡ Some r) → IsCause m 0 call (of_repository r)
-by_either m call n set props r p (inl h) = by_table m call (Revised n set props) r p h
-by_either m call n set props r p (inr h) = Due (ByForm r (unspelt_set m.repository.revisions call n set props r p.entry h) refl)
-
-due_cause : (m : MirrorNow) (call : Call) (e : Entry) (r : RepoFault) → IsToWrite (mirror_in m) 0 call e → due_of e (by_repository m.repository.revisions e) ≡ Some r → IsCause m 0 call (of_repository r)
-due_cause m call (Revised n set props) r p h = by_either m call n set props r p (first_two (by_repository m.repository.revisions (Revised n set props)) (form_fault set) r h)
-due_cause m call (Mapped n props) r p h = by_table m call (Mapped n props) r p h
-
-judged_cause : (m : MirrorNow) (call : Call) (e : Entry) (r : RepoFault) → IsToWrite (mirror_in m) 0 call e → core.IsDue r (due_of e (by_repository m.repository.revisions e)) → IsCause m 0 call (of_repository r)
-judged_cause m call e repo.NoSuchRevision p h = due_cause m call e repo.NoSuchRevision p h
-judged_cause m call e (repo.BaseMismatch found) p h = due_cause m call e (repo.BaseMismatch found) p h
-judged_cause m call e repo.Full p h = due_cause m call e repo.Full p h
-judged_cause m call e (repo.Behind head) p h = due_cause m call e (repo.Behind head) p h
-judged_cause m call e (repo.Change f) p h = due_cause m call e (repo.Change f) p h
-judged_cause m call e repo.TooLong p h = due_cause m call e repo.TooLong p h
+judged_cause : (m : MirrorNow) (call : Call) (e : Entry) (r : RepoFault) → IsToWrite (mirror_in m) 0 call e → core.IsDue r (by_repository m.repository.revisions e) → IsCause m 0 call (of_repository r)
+judged_cause m call e repo.NoSuchRevision p h = by_table m call e repo.NoSuchRevision p h
+judged_cause m call e (repo.BaseMismatch found) p h = by_table m call e (repo.BaseMismatch found) p h
+judged_cause m call e repo.Full p h = by_table m call e repo.Full p h
+judged_cause m call e (repo.Behind head) p h = by_table m call e (repo.Behind head) p h
+judged_cause m call e (repo.Change f) p h = by_table m call e (repo.Change f) p h
+judged_cause m call e repo.TooLong p h = by_table m call e repo.TooLong p h
 judged_cause m call e repo.OutOfMemory p h = NoMemory refl
 
 -- why an entry isn't made ready is why nothing has changed
-store_cause : {D : Type 0} {G : Ghosts D} (old : RepoStore D G) (m : MirrorNow) (call : Call) (e : Entry) (x : StoreFault) → IsToWrite (mirror_in m) 0 call e → (HasFailed old → IsSome m.doubt) → Refuses old e (due_of e (by_repository m.repository.revisions e)) x → IsCause m 0 call (fault_of x)
+store_cause : {D : Type 0} {G : Ghosts D} (old : RepoStore D G) (m : MirrorNow) (call : Call) (e : Entry) (x : StoreFault) → IsToWrite (mirror_in m) 0 call e → (HasFailed old → IsSome m.doubt) → Refuses old e (by_repository m.repository.revisions e) x → IsCause m 0 call (fault_of x)
 store_cause old m call e (Repo r) p b h = judged_cause m call e r p h.1
 store_cause old m call e (Log log.Failed) p b h = Broken refl (b h)
 store_cause old m call e (Log log.LogFull) p b h = NoRoom refl
@@ -172,10 +124,10 @@ store_cause old m call e (Log log.ThereAlready) p b h = absurd h
 -- an entry isn't made ready: the mirror is as it was
 pub not_staged : {D : Type 0} {G : Ghosts D} (old new : RepoStore D G) (h : Option ℕ) (call : Call) (e : Entry) (x : StoreFault) (f : SyncFault) (m : MirrorNow)
     → ((c : Image) → G.honest (disk_of old) → G.left_since (disk_of old) (G.clock (disk_of old)) c → G.may_leave (disk_of old) c)
-    → StandsAt old h m → IsToWrite (mirror_with (revisions_of old) h) 0 call e → Stays old new × Refuses old e (due_of e (by_repository (revisions_of old) e)) x → f ≡ fault_of x → Moved old new h h call (Err f) m
+    → StandsAt old h m → IsToWrite (mirror_with (revisions_of old) h) 0 call e → Stays old new × Refuses old e (by_repository (revisions_of old) e) x → f ≡ fault_of x → Moved old new h h call (Err f) m
 not_staged old new h call e x f m only s p w same =
     unchanged old new h call f m only s
-    (subst (λ y. IsCause m 0 call y) (sym same) (store_cause old m call e x (planned_at old h call e m s p) s.doubt.0 (subst (λ r. Refuses old e (due_of e (by_repository r.revisions e)) x) (sym s.repository) w.1)))
+    (subst (λ y. IsCause m 0 call y) (sym same) (store_cause old m call e x (planned_at old h call e m s p) s.doubt.0 (subst (λ r. Refuses old e (by_repository r.revisions e) x) (sym s.repository) w.1)))
     w.0.disk w.0.repository w.0.working
 
 no_doubt : (d : Option Entry) → (IsSome d → ⊥) → d ≡ None
@@ -200,12 +152,12 @@ free_of m call e p h = p.may_refuse ∙ ap (option_map OfRepository) h
 
 -- an entry is written: the call is accepted
 pub written : {D : Type 0} {G : Ghosts D} (old mid new : RepoStore D G) (h k : Option ℕ) (seat : ℕ) (call : Call) (e : Entry) (ready : Staged) (m : MirrorNow)
-    → StandsAt old h m → IsToWrite (mirror_with (revisions_of old) h) 0 call e → IsStaged e (due_of e (by_repository (revisions_of old) e)) old mid ready → IsTaken e mid new → seat ≡ 0 → k ≡ holder_after h seat call → Moved old new h k call (Ok given.Done) m
+    → StandsAt old h m → IsToWrite (mirror_with (revisions_of old) h) 0 call e → IsStaged e (by_repository (revisions_of old) e) old mid ready → IsTaken e mid new → seat ≡ 0 → k ≡ holder_after h seat call → Moved old new h k call (Ok given.Done) m
 written {G} old mid new h k seat call e ready m s plan staged taken none_else holder =
     record {
       now = accepted m 0 call;
       steps = Accepted given.Done refl (record {
-        free = free_of m call e p (subst (λ x. by_repository x.revisions e ≡ None) (sym s.repository) (free_due e (by_repository (revisions_of old) e) staged.taken));
+        free = free_of m call e p (subst (λ x. by_repository x.revisions e ≡ None) (sym s.repository) staged.taken);
         reply = done_by (mirror_in m) call (writes m.repository.revisions call e p.entry);
         working = inl (no_doubt m.doubt (λ x. staged.worked (s.doubt.1 x)));
         mirror = refl;
@@ -238,12 +190,12 @@ device_failed x f h same = ap Err (same ∙ ap fault_of h)
 
 -- the device failed in the writing of an entry: it is in doubt
 pub doubtful : {D : Type 0} {G : Ghosts D} (old mid new : RepoStore D G) (h : Option ℕ) (call : Call) (e : Entry) (ready : Staged) (x : StoreFault) (f : SyncFault) (m : MirrorNow)
-    → StandsAt old h m → IsToWrite (mirror_with (revisions_of old) h) 0 call e → IsStaged e (due_of e (by_repository (revisions_of old) e)) old mid ready → IsBroken e mid new x → f ≡ fault_of x → Moved old new h h call (Err f) m
+    → StandsAt old h m → IsToWrite (mirror_with (revisions_of old) h) 0 call e → IsStaged e (by_repository (revisions_of old) e) old mid ready → IsBroken e mid new x → f ≡ fault_of x → Moved old new h h call (Err f) m
 doubtful {G} old mid new h call e ready x f m s plan staged broken same =
     record {
       now = doubted m call;
       steps = Doubted (device_failed x f broken.fault same) (record {
-        free = free_of m call e p (subst (λ x. by_repository x.revisions e ≡ None) (sym s.repository) (free_due e (by_repository (revisions_of old) e) staged.taken));
+        free = free_of m call e p (subst (λ x. by_repository x.revisions e ≡ None) (sym s.repository) staged.taken);
         entry = some;
         working = no_doubt m.doubt (λ x. staged.worked (s.doubt.1 x));
         mirror = refl;

@@ -1,5 +1,6 @@
 //! A node with what is below it, each child owned by its parent.
-ghost use Rattle.std.specs.Prelude.{◌≡◌, ℕ, ◌+◌, ◌<◌, ◌≤◌, ◌++◌, ◌∷◌, List, [], length, IfOk, IfErr, OnOk, OnErr, Some, None, IsSome, MatchOption, slice_index_or, not};
+ghost use Rattle.std.specs.Prelude.{◌≡◌, ℕ, ◌+◌, ◌<◌, ◌≤◌, ◌++◌, ◌∷◌, List, [], length};
+ghost use Rattle.std.specs.Prelude.{IfOk, IfErr, OnOk, OnErr, Some, None, IsSome, MatchOption, slice_index_or, not};
 ghost use Rattle.std.specs.Option.{option_copied};
 ghost use Rattle.std.specs.FinMap as map;
 ghost use Rattle.node_base.specs.Path.{Path};
@@ -60,7 +61,8 @@ impl Branch {
 
     /// What stands at a path and below it.
     pub fn find(&self, path: &[NodeName]) -> Option<&Branch>
-        ensures { MatchOption result ((q : Path) → map.get self.now (path.now ++ q) ≡ None) (λ b. (q : Path) → map.get b.now q ≡ map.get self.now (path.now ++ q)) }
+        ensures { MatchOption result ((q : Path) → map.get self.now (path.now ++ q) ≡ None) (λ b. (q : Path)
+            → map.get b.now q ≡ map.get self.now (path.now ++ q)) }
     {
         match path {
             [] => Some(self),
@@ -82,7 +84,8 @@ impl Branch {
         branch: Branch,
     ) -> Result<(), AllocError>
         requires { IsSome (map.get self.old above.now) }
-        ensures ok { OnOk result ((q : Path) → map.get self.new q ≡ grafted (map.get self.old) (above.now ++ name ∷ []) (map.get branch) q) }
+        ensures ok { OnOk result ((q : Path)
+            → map.get self.new q ≡ grafted (map.get self.old) (above.now ++ name ∷ []) (map.get branch) q) }
         ensures err { OnErr result (self.new ≡ self.old) }
     {
         match above {
@@ -106,7 +109,8 @@ impl Branch {
 
     /// Removes what stands at a path and below it.
     pub fn prune(&mut self, above: &[NodeName], name: &NodeName)
-        ensures { (q : Path) → map.get self.new q ≡ grafted (map.get self.old) (above.now ++ name.now ∷ []) (λ _. None) q }
+        ensures { (q : Path) → map.get self.new q
+            ≡ grafted (map.get self.old) (above.now ++ name.now ∷ []) (λ _. None) q }
     {
         match above {
             [] => {
@@ -142,7 +146,8 @@ impl Branch {
 
     /// Gives the node at a path a text and properties, where they are given.
     pub fn put_parts(&mut self, path: &[NodeName], text: Option<Text>, props: Option<Props>)
-        ensures { (q : Path) → map.get self.new q ≡ changed_at (map.get self.old) path.now (with_given text props) q }
+        ensures { (q : Path) → map.get self.new q
+            ≡ changed_at (map.get self.old) path.now (with_given text props) q }
     {
         match path {
             [] => self.node.put_parts(text, props),
@@ -228,14 +233,16 @@ impl Branch {
         }
     }
 
-    /// Adds each node with its path, in path order. The path's names stand behind those above it, which come back as they were.
+    /// Adds each node with its path, in path order. The path's names stand behind those above it, which come back
+    /// as they were.
     pub fn list_into<'a>(
         &'a self,
         alloc: Global,
         above: &mut Vec<&'a NodeName>,
         out: &mut Vec<Entry<'a>>,
     ) -> Result<(), AllocError>
-        ensures listed { OnOk result (shown out.new.items ≡ shown out.old.items ++ under (shown_names above.old.items) (map.entries self.now)) }
+        ensures listed { OnOk result (shown out.new.items
+            ≡ shown out.old.items ++ under (shown_names above.old.items) (map.entries self.now)) }
         ensures above { OnOk result (shown_names above.new.items ≡ shown_names above.old.items) }
     {
         let mut path = Vec::with_capacity(alloc, above.len())?;

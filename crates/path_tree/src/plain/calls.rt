@@ -2,7 +2,8 @@
 ghost use Rattle.std.specs.Prelude.{◌≡◌, ◌++◌, Some, None, OnOk, OnErr};
 ghost use Rattle.std.specs.FinMap as map;
 ghost use Rattle.node_base.specs.Path.{Path};
-ghost use Rattle.path_tree.specs.Calls.{Answers, add_fault, change_fault, remove_fault, text_fault, copy_fault, added, changed, removed, copied};
+ghost use Rattle.path_tree.specs.Calls.{Answers, add_fault, change_fault, remove_fault, text_fault, copy_fault, added};
+ghost use Rattle.path_tree.specs.Calls.{changed, removed, copied};
 
 use super::Tree;
 use crate::TreeError;
@@ -10,7 +11,8 @@ use node_base::{Node, NodePath, Props, RevNo, Text, TreeFault};
 use std::alloc::Global;
 
 impl Tree {
-    /// Adds a file. Refused: the root (10), a front of the path that is absent (11) or a file (13), the first from the root down, and a path that is there (12).
+    /// Adds a file. Refused: the root (10), a front of the path that is absent (11) or a file (13), the first from
+    /// the root down, and a path that is there (12).
     pub fn put_file(
         &mut self,
         alloc: Global,
@@ -20,7 +22,9 @@ impl Tree {
         number: RevNo,
     ) -> Result<(), TreeError>
         ensures answer { Answers (add_fault (map.get self.old) path.now) result }
-        ensures ok { OnOk result ((q : Path) → map.get self.new q ≡ added (map.get self.old) path.now (record { text = Some text; props = props; changed = number }) q) }
+        ensures ok { OnOk result ((q : Path)
+            → map.get self.new q ≡ added (map.get self.old) path.now
+            (record { text = Some text; props = props; changed = number }) q) }
         ensures err { OnErr result (self.new ≡ self.old) }
     {
         self.add(
@@ -43,7 +47,9 @@ impl Tree {
         number: RevNo,
     ) -> Result<(), TreeError>
         ensures answer { Answers (add_fault (map.get self.old) path.now) result }
-        ensures ok { OnOk result ((q : Path) → map.get self.new q ≡ added (map.get self.old) path.now (record { text = None; props = props; changed = number }) q) }
+        ensures ok { OnOk result ((q : Path)
+            → map.get self.new q ≡ added (map.get self.old) path.now
+            (record { text = None; props = props; changed = number }) q) }
         ensures err { OnErr result (self.new ≡ self.old) }
     {
         self.add(
@@ -57,7 +63,8 @@ impl Tree {
         )
     }
 
-    /// Puts properties in the place of a node's. Refused: a front of the path that is absent (11) or a file (13), and a path that is absent (11).
+    /// Puts properties in the place of a node's. Refused: a front of the path that is absent (11) or a file (13),
+    /// and a path that is absent (11).
     pub fn set_props(
         &mut self,
         alloc: Global,
@@ -66,7 +73,8 @@ impl Tree {
         number: RevNo,
     ) -> Result<(), TreeError>
         ensures answer { Answers (change_fault (map.get self.old) path.now) result }
-        ensures ok { OnOk result ((q : Path) → map.get self.new q ≡ changed (map.get self.old) path.now None (Some props) number q) }
+        ensures ok { OnOk result ((q : Path)
+            → map.get self.new q ≡ changed (map.get self.old) path.now None (Some props) number q) }
         ensures err { OnErr result (self.new ≡ self.old) }
     {
         if let Some(fault) = self.change_fault(path) {
@@ -88,7 +96,8 @@ impl Tree {
         number: RevNo,
     ) -> Result<(), TreeError>
         ensures answer { Answers (text_fault (map.get self.old) path.now) result }
-        ensures ok { OnOk result ((q : Path) → map.get self.new q ≡ changed (map.get self.old) path.now (Some text) None number q) }
+        ensures ok { OnOk result ((q : Path)
+            → map.get self.new q ≡ changed (map.get self.old) path.now (Some text) None number q) }
         ensures err { OnErr result (self.new ≡ self.old) }
     {
         if let Some(fault) = self.text_fault(path) {
@@ -117,7 +126,8 @@ impl Tree {
         Ok(())
     }
 
-    /// Copies what stands at `source` of a tree, and below it, to a new path. Refused: as a new file is, then a source that is absent (14), then a path past the limits (8).
+    /// Copies what stands at `source` of a tree, and below it, to a new path. Refused: as a new file is, then a
+    /// source that is absent (14), then a path past the limits (8).
     pub fn copy_in(
         &mut self,
         alloc: Global,
@@ -127,7 +137,9 @@ impl Tree {
         number: RevNo,
     ) -> Result<(), TreeError>
         ensures answer { Answers (copy_fault (map.get self.old) path.now from.now source.now) result }
-        ensures ok { OnOk result ((q : Path) → map.get self.new q ≡ copied (map.get self.old) path.now (λ r. map.get from.now (source.now ++ r)) number q) }
+        ensures ok { OnOk result ((q : Path)
+            → map.get self.new q ≡ copied (map.get self.old) path.now
+            (λ r. map.get from.now (source.now ++ r)) number q) }
         ensures err { OnErr result (self.new ≡ self.old) }
     {
         if let Some(fault) = self.copy_fault(path, from, source) {

@@ -4,7 +4,8 @@ ghost use Rattle.std.specs.Option.{option_copied};
 ghost use Rattle.std.specs.FinMap as map;
 ghost use Rattle.node_base.specs.Path.{Path, same_path};
 ghost use Rattle.node_base.specs.Limits.{fits};
-ghost use Rattle.node_base.specs.Tree.{grafted, marked, changed_at, with_given, HasFronts, IsDirAt, IsTree, blocked, alone, new_dir};
+ghost use Rattle.node_base.specs.Tree.{grafted, marked, changed_at, with_given, HasFronts, IsDirAt, IsTree, blocked};
+ghost use Rattle.node_base.specs.Tree.{alone, new_dir};
 ghost use Rattle.path_tree.specs.Copies.{copy_too_long};
 ghost use Rattle.path_tree.specs.Listed.{shown};
 
@@ -14,7 +15,8 @@ use node_base::{Node, NodeName, NodePath, Props, RevNo, Text, TreeFault};
 use std::alloc::{AllocError, Global};
 use std::marker::Model;
 
-/// The nodes of a revision, seen by contracts as a finite map from paths to nodes: the root is a directory, and so is each proper front of a path that is there.
+/// The nodes of a revision, seen by contracts as a finite map from paths to nodes: the root is a directory, and so
+/// is each proper front of a path that is there.
 #[derive(Drop)]
 pub struct Tree {
     root: Branch,
@@ -113,14 +115,16 @@ impl Tree {
     pub fn put_node(&mut self, alloc: Global, path: &NodePath, node: Node) -> Result<(), AllocError>
         requires below_root { same_path path.now [] ≡ false }
         requires not_blocked { blocked (map.get self.old) path.now ≡ None }
-        ensures ok { OnOk result ((q : Path) → map.get self.new q ≡ grafted (map.get self.old) path.now (alone node) q) }
+        ensures ok { OnOk result ((q : Path)
+            → map.get self.new q ≡ grafted (map.get self.old) path.now (alone node) q) }
         ensures err { OnErr result (self.new ≡ self.old) }
     {
         let _ = path.names();
         self.graft(alloc, path, Branch::leaf(alloc, node))
     }
 
-    /// Puts a copy of what stands at `source` of a tree, and below it, in the place of what stands at a path and below it.
+    /// Puts a copy of what stands at `source` of a tree, and below it, in the place of what stands at a path and
+    /// below it.
     pub fn graft_copy(
         &mut self,
         alloc: Global,
@@ -132,7 +136,9 @@ impl Tree {
         requires not_blocked { blocked (map.get self.old) path.now ≡ None }
         requires there { IsSome (map.get from.now source.now) }
         requires small { copy_too_long from.now source.now path.now ≡ false }
-        ensures ok { OnOk result ((q : Path) → map.get self.new q ≡ grafted (map.get self.old) path.now (λ r. map.get from.now (source.now ++ r)) q) }
+        ensures ok { OnOk result ((q : Path)
+            → map.get self.new q ≡ grafted (map.get self.old) path.now
+            (λ r. map.get from.now (source.now ++ r)) q) }
         ensures err { OnErr result (self.new ≡ self.old) }
     {
         let Some(branch) = from.root.find(source) else {
@@ -144,7 +150,8 @@ impl Tree {
     /// Removes what stands at a path and below it.
     pub fn prune(&mut self, _alloc: Global, path: &[NodeName]) -> Result<(), AllocError>
         requires { same_path path.now [] ≡ false }
-        ensures ok { OnOk result ((q : Path) → map.get self.new q ≡ grafted (map.get self.old) path.now (λ _. None) q) }
+        ensures ok { OnOk result ((q : Path)
+            → map.get self.new q ≡ grafted (map.get self.old) path.now (λ _. None) q) }
         ensures err { OnErr result (self.new ≡ self.old) }
     {
         let Some((name, above)) = path.split_last() else {
@@ -163,7 +170,8 @@ impl Tree {
         props: Option<Props>,
     ) -> Result<(), AllocError>
         requires { IsSome text → ¬ IsDirAt (map.get self.old) path.now }
-        ensures ok { OnOk result ((q : Path) → map.get self.new q ≡ changed_at (map.get self.old) path.now (with_given text props) q) }
+        ensures ok { OnOk result ((q : Path)
+            → map.get self.new q ≡ changed_at (map.get self.old) path.now (with_given text props) q) }
         ensures err { OnErr result (self.new ≡ self.old) }
     {
         self.root.put_parts(path, text, props);
@@ -176,7 +184,8 @@ impl Tree {
         requires not_blocked { blocked (map.get self.old) path.now ≡ None }
         requires fronts { HasFronts (map.get branch) }
         requires small { (r : Path) → IsSome (map.get branch r) → fits (path.now ++ r) ≡ true }
-        ensures ok { OnOk result ((q : Path) → map.get self.new q ≡ grafted (map.get self.old) path.now (map.get branch) q) }
+        ensures ok { OnOk result ((q : Path)
+            → map.get self.new q ≡ grafted (map.get self.old) path.now (map.get branch) q) }
         ensures err { OnErr result (self.new ≡ self.old) }
     {
         let Some((name, above)) = path.names().split_last() else {

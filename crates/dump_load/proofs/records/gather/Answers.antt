@@ -15,7 +15,7 @@ new-requires c = (
 
 pub returns-clause-set : goal.returns-clause-set
 returns-clause-set c =
-    subst (IsSetOf c.args.trees.now (map change_of c.args.records.items)) (sym c.new.ensures)
+    subst (IsSetOf c.args.trees.now (map change_of c.args.records.items)) (sym c.new.ensures.set)
     (gathered_set (map change_of c.args.records.items) c.in_ok-changes_of.field-0.items c.in_ok-stated.stated.items c.in_ok-changes_of.ensures c.in_ok-stated.ensures.moved c.in_ok-stated.ensures.stated
     c.args.trees.now c.in_ok-combined.combined.items c.in_ok-filled.filled.changes.items c.in_ok-combined.ensures.combined c.in_ok-filled.ensures.kinds c.in_ok-filled.ensures.filled)
 

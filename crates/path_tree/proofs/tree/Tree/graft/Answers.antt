@@ -8,10 +8,12 @@ use Rattle.node_base.specs.declared.node.Node.{Node}
 use Rattle.node_base.specs.Tree.{IsTree, IsDirAt, blocked, grafted}
 use Rattle.path_tree.specs.declared.edit.Edit.TheVariants.{Graft}
 use Rattle.path_tree.specs.Edits.{edit_at}
+use Rattle.path_tree.specs.Nodes.{HasNodes, IsSmallTree}
 use Rattle.path_tree.specs.Shape.{IsShape}
 use Rattle.path_tree.proofs.Altered.{grafted_below}
 use Rattle.path_tree.proofs.Edits.{on_ok}
 use Rattle.path_tree.proofs.Fronts.{dir_above, dir_is_there, shape_of, shape-grafted}
+use Rattle.path_tree.proofs.Kept.{nodes-grafted}
 use Rattle.path_tree.proofs.tree.Tree.graft.Goals as goal
 use Rattle.path_tree.proofs.tree.Tree.graft.Goals.{In_ok-child}
 
@@ -33,11 +35,17 @@ alter-requires-clause-there c = dir_is_there (get c.args.self.now c.in-Some.abov
 
 pub alter-requires-clause-shape : goal.alter-requires-clause-shape
 alter-requires-clause-shape c =
-    let tree : IsTree c.args.self.now = subst IsTree c.self.view_is c.self.invariant in
+    let tree : IsTree c.args.self.now = (subst IsSmallTree c.self.view_is c.self.invariant).tree in
     let e = (goal.at.alter-requires-clause-shape c).In_ok-child in
     subst IsShape (ap (λ p. grafted (get c.args.self.now) p (get c.args.branch)) (sym (split e)) ∙ grafts e)
     (shape-grafted (get c.args.self.now) (get c.args.branch) c.in-Some.above.now (arc_value c.in_ok-child.child).0 (shape_of c.args.self.now tree) c.requires.fronts
     (subst (λ p. (r : Path) → IsSome (get c.args.branch r) → fits (p ++ r) ≡ true) (split e) c.requires.small) (dir e))
+
+pub alter-requires-clause-nodes : goal.alter-requires-clause-nodes
+alter-requires-clause-nodes c =
+    let small : IsSmallTree c.args.self.now = subst IsSmallTree c.self.view_is c.self.invariant in
+    subst HasNodes (grafts (goal.at.alter-requires-clause-nodes c).In_ok-child)
+    (nodes-grafted (get c.args.self.now) (get c.args.branch) c.args.path.now small.kept c.requires.paths c.requires.nodes)
 
 pub returns-clause-ok : goal.returns-clause-ok
 returns-clause-ok c = on_ok c.alter.result _ _ (λ h q. h q ∙ (λ i. sym (grafts (goal.at.returns-clause-ok c).In_ok-child) i q)) c.alter.ensures.ok

@@ -6,10 +6,12 @@ use Rattle.node_base.specs.declared.node.Node.{Node}
 use Rattle.node_base.specs.Tree.{IsTree, changed_at, with_given}
 use Rattle.path_tree.specs.declared.edit.Edit.TheVariants.{Parts}
 use Rattle.path_tree.specs.Edits.{edit_at}
+use Rattle.path_tree.specs.Nodes.{HasNodes, IsSmallTree}
 use Rattle.path_tree.specs.Shape.{IsShape}
 use Rattle.path_tree.proofs.Altered.{changed_below, changed_nothing}
 use Rattle.path_tree.proofs.Edits.{on_ok}
 use Rattle.path_tree.proofs.Fronts.{shape_of, shape-changed}
+use Rattle.path_tree.proofs.Kept.{nodes-changed}
 use Rattle.path_tree.proofs.tree.Tree.put_parts.Goals as goal
 use Rattle.path_tree.proofs.tree.Tree.put_parts.Goals.{In-Some}
 
@@ -23,8 +25,14 @@ changes c = λ i q. sym (changed_below (get c.args.self.now) c.args.path.now (wi
 
 pub alter-requires-clause-shape : goal.alter-requires-clause-shape
 alter-requires-clause-shape c =
-    let tree : IsTree c.args.self.now = subst IsTree c.self.view_is c.self.invariant in
+    let tree : IsTree c.args.self.now = (subst IsSmallTree c.self.view_is c.self.invariant).tree in
     subst IsShape (changes (goal.at.alter-requires-clause-shape c).In-Some) (shape-changed (get c.args.self.now) c.args.path.now c.args.text c.args.props c.requires (shape_of c.args.self.now tree))
+
+pub alter-requires-clause-nodes : goal.alter-requires-clause-nodes
+alter-requires-clause-nodes c =
+    let small : IsSmallTree c.args.self.now = subst IsSmallTree c.self.view_is c.self.invariant in
+    subst HasNodes (changes (goal.at.alter-requires-clause-nodes c).In-Some)
+    (nodes-changed (get c.args.self.now) c.args.path.now c.args.text c.args.props c.text_limits.ensures c.props_limits.ensures small.kept)
 
 pub returns-clause-ok : goal.returns-clause-ok
 returns-clause-ok c = on_ok c.alter.result _ _ (λ h q. h q ∙ (λ i. sym (changes (goal.at.returns-clause-ok c).In-Some) i q)) c.alter.ensures.ok
