@@ -13,6 +13,7 @@ use Rattle.repo_store.specs.Words.{disk_of, repository_of, HasFailed}
 use Rattle.sync_core.specs.World.{Origin, maps_now}
 use Rattle.sync_job.specs.declared.alone.AloneMirror.{AloneMirror}
 use Rattle.sync_job.specs.declared.held.HeldMaster.{HeldMaster}
+use Rattle.sync_job.specs.declared.lent.LentMaster.{LentMaster}
 use Rattle.sync_job.specs.Mirrors.{MirrorNow, Keeps, Steps}
 
 -- so a mirror stands in a store: its repository, the holder, a call's entry in doubt where the device failed, and all that a stop
@@ -26,6 +27,10 @@ pub record StandsAt {D : Type 0} {G : Ghosts D} (store : RepoStore D G) (holder 
 -- the store of a master
 abbrev pub master_in : {D : Type 0} {G : Ghosts D} → HeldMaster D G → RepoStore D G
 master_in a = a.store
+
+-- the store of one that is lent
+abbrev pub lent_in : {D : Type 0} {G : Ghosts D} → LentMaster D G → RepoStore D G
+lent_in a = a.store.now
 
 -- a master that is this repository now
 pub record IsMasterAt (r : Repository) (o : Origin) : Type 0 where

@@ -1,16 +1,15 @@
 //! A master that is held alone.
-ghost use Rattle.std.specs.Prelude.{◌≡◌, IfOk};
-ghost use Rattle.uuid.specs.Text.{hyphenated_text, lower};
+ghost use Rattle.std.specs.Prelude.{◌≡◌};
 ghost use Rattle.sync_job.specs.Alone.{master_in};
 
+use crate::lent::LentMaster;
 use crate::master::{MasterFault, MasterPort};
 use dump_load::ChangeSet;
 use fleet_disk::Disk;
-use node_base::{PropValue, Props, Refusal, RevNo};
+use node_base::{PropValue, Props, RevNo};
 use path_tree::Tree;
 use repo_store::RepoStore;
-use std::alloc::{AllocError, Global};
-use uuid::Uuid;
+use std::alloc::Global;
 
 /// A master in a store that nobody else has.
 #[derive(Drop)]
@@ -48,51 +47,23 @@ impl<D: Disk + Drop> MasterPort for HeldMaster<D> {
     ghost is_at = { λ a o. IsMasterAt (repository_of a.store) o };
 
     fn identity(&mut self, alloc: Global) -> Result<PropValue, MasterFault> {
-        match identity_text(alloc, self.store.repo().identity()) {
-            Ok(text) => Ok(text),
-            Err(_) => Err(MasterFault::Refused(Refusal::OutOfMemory)),
-        }
+        LentMaster::new(&self.store).identity(alloc)
     }
 
-    fn latest(&mut self, _alloc: Global) -> Result<RevNo, MasterFault> {
-        Ok(self.store.repo().head())
+    fn latest(&mut self, alloc: Global) -> Result<RevNo, MasterFault> {
+        LentMaster::new(&self.store).latest(alloc)
     }
 
     fn fetch(
         &mut self,
         alloc: Global,
         number: RevNo,
-        _trees: &[Tree],
+        trees: &[Tree],
     ) -> Result<(ChangeSet, Props), MasterFault> {
-        let props = self.fetch_props(alloc, number)?;
-        match self.store.repo().set(number) {
-            Some(set) => match set.share(alloc) {
-                Ok(set) => Ok((set, props)),
-                Err(_) => Err(MasterFault::Refused(Refusal::OutOfMemory)),
-            },
-            None => Err(MasterFault::Refused(Refusal::NoSuchRevision)),
-        }
+        LentMaster::new(&self.store).fetch(alloc, number, trees)
     }
 
-    fn fetch_props(&mut self, _alloc: Global, number: RevNo) -> Result<Props, MasterFault> {
-        match self.store.repo().props(number) {
-            Some(props) => match props.share() {
-                Ok(props) => Ok(props),
-                Err(_) => Err(MasterFault::Refused(Refusal::OutOfMemory)),
-            },
-            None => Err(MasterFault::Refused(Refusal::NoSuchRevision)),
-        }
-    }
-}
-
-// The identity as a mirror's properties spell it.
-fn identity_text(alloc: Global, identity: Uuid) -> Result<PropValue, AllocError>
-    ensures { IfOk result (λ v. v ≡ hyphenated_text lower identity) }
-{
-    let mut buffer = [0u8; 36];
-    let text = identity.hyphenated().encode_lower(&mut buffer);
-    match PropValue::new(Vec::from_slice(alloc, text.as_bytes())?) {
-        Ok(value) => Ok(value),
-        Err(_) => Err(AllocError),
+    fn fetch_props(&mut self, alloc: Global, number: RevNo) -> Result<Props, MasterFault> {
+        LentMaster::new(&self.store).fetch_props(alloc, number)
     }
 }

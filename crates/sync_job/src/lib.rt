@@ -20,6 +20,7 @@
 
 pub use alone::AloneMirror;
 pub use held::HeldMaster;
+pub use lent::LentMaster;
 pub use master::{MasterFault, MasterPort};
 pub use mirror::MirrorPort;
 pub use port_call::PortCall;
@@ -31,6 +32,7 @@ mod alone;
 mod faults;
 mod held;
 pub mod law;
+mod lent;
 mod master;
 mod mirror;
 mod port_call;

@@ -1,4 +1,4 @@
-use Rattle.sync_job.proofs.held.HeldMasterMasterPort.fetch.Goals as goal
+use Rattle.sync_job.proofs.lent.LentMasterMasterPort.fetch.Goals as goal
 
 pub returns-in-Err : goal.returns-in-Err
 returns-in-Err g c = record { set = λ o h. let x = c.fetch_props.ensures o h in record { now = x.now; steps = x.steps; comes = x.comes; stays = x.stays; answer = λ e. tt } }
