@@ -2,7 +2,7 @@
 ghost use Rattle.std.specs.Prelude.{◌≡◌};
 ghost use Rattle.sync_job.specs.Alone.{master_in};
 
-use crate::lent::LentMaster;
+use crate::lent::{identity_of, props_of, revision_of};
 use crate::master::{MasterFault, MasterPort};
 use dump_load::ChangeSet;
 use fleet_disk::Disk;
@@ -47,23 +47,23 @@ impl<D: Disk + Drop> MasterPort for HeldMaster<D> {
     ghost is_at = { λ a o. IsMasterAt (repository_of a.store) o };
 
     fn identity(&mut self, alloc: Global) -> Result<PropValue, MasterFault> {
-        LentMaster::new(&self.store).identity(alloc)
+        identity_of(alloc, &self.store)
     }
 
-    fn latest(&mut self, alloc: Global) -> Result<RevNo, MasterFault> {
-        LentMaster::new(&self.store).latest(alloc)
+    fn latest(&mut self, _alloc: Global) -> Result<RevNo, MasterFault> {
+        Ok(self.store.repo().head())
     }
 
     fn fetch(
         &mut self,
         alloc: Global,
         number: RevNo,
-        trees: &[Tree],
+        _trees: &[Tree],
     ) -> Result<(ChangeSet, Props), MasterFault> {
-        LentMaster::new(&self.store).fetch(alloc, number, trees)
+        revision_of(alloc, &self.store, number)
     }
 
-    fn fetch_props(&mut self, alloc: Global, number: RevNo) -> Result<Props, MasterFault> {
-        LentMaster::new(&self.store).fetch_props(alloc, number)
+    fn fetch_props(&mut self, _alloc: Global, number: RevNo) -> Result<Props, MasterFault> {
+        props_of(&self.store, number)
     }
 }

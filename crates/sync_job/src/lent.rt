@@ -1,7 +1,10 @@
 //! A master that is lent.
-ghost use Rattle.std.specs.Prelude.{◌≡◌, IfOk};
+ghost use Rattle.std.specs.Prelude.{◌≡◌, Some, IfOk};
 ghost use Rattle.uuid.specs.Text.{hyphenated_text, lower};
-ghost use Rattle.sync_job.specs.Alone.{lent_in};
+ghost use Rattle.repo_store.specs.Words.{repository_of};
+ghost use Rattle.sync_core.specs.World.{Origin, map_at, moment_of};
+ghost use Rattle.sync_core.specs.World.{Makes as MakesTree};
+ghost use Rattle.sync_job.specs.Alone.{lent_in, IsMasterAt};
 
 use crate::master::{MasterFault, MasterPort};
 use dump_load::ChangeSet;
@@ -28,16 +31,13 @@ impl<'a, D: Disk + Drop> LentMaster<'a, D> {
 }
 
 impl<'a, D: Disk + Drop> MasterPort for LentMaster<'a, D> {
-    ghost use Rattle.sync_job.specs.Alone.{IsMasterAt};
     ghost use Rattle.repo_store.specs.Words.{repository_of};
+    ghost use Rattle.sync_job.specs.Alone.{IsMasterAt};
 
     ghost is_at = { λ a o. IsMasterAt (repository_of a.store.now) o };
 
     fn identity(&mut self, alloc: Global) -> Result<PropValue, MasterFault> {
-        match identity_text(alloc, self.store.repo().identity()) {
-            Ok(text) => Ok(text),
-            Err(_) => Err(MasterFault::Refused(Refusal::OutOfMemory)),
-        }
+        identity_of(alloc, self.store)
     }
 
     fn latest(&mut self, _alloc: Global) -> Result<RevNo, MasterFault> {
@@ -50,24 +50,56 @@ impl<'a, D: Disk + Drop> MasterPort for LentMaster<'a, D> {
         number: RevNo,
         _trees: &[Tree],
     ) -> Result<(ChangeSet, Props), MasterFault> {
-        let props = self.fetch_props(alloc, number)?;
-        match self.store.repo().set(number) {
-            Some(set) => match set.share(alloc) {
-                Ok(set) => Ok((set, props)),
-                Err(_) => Err(MasterFault::Refused(Refusal::OutOfMemory)),
-            },
-            None => Err(MasterFault::Refused(Refusal::NoSuchRevision)),
-        }
+        revision_of(alloc, self.store, number)
     }
 
     fn fetch_props(&mut self, _alloc: Global, number: RevNo) -> Result<Props, MasterFault> {
-        match self.store.repo().props(number) {
-            Some(props) => match props.share() {
-                Ok(props) => Ok(props),
-                Err(_) => Err(MasterFault::Refused(Refusal::OutOfMemory)),
-            },
-            None => Err(MasterFault::Refused(Refusal::NoSuchRevision)),
-        }
+        props_of(self.store, number)
+    }
+}
+
+// What a master in a store answers; it stays as it is.
+
+pub(crate) fn identity_of<D: Disk>(
+    alloc: Global,
+    store: &RepoStore<D>,
+) -> Result<PropValue, MasterFault>
+    ensures { (o : Origin) → IsMasterAt (repository_of store.now) o → IfOk result (λ v. v ≡ o.identity) }
+{
+    match identity_text(alloc, store.repo().identity()) {
+        Ok(text) => Ok(text),
+        Err(_) => Err(MasterFault::Refused(Refusal::OutOfMemory)),
+    }
+}
+
+pub(crate) fn revision_of<D: Disk>(
+    alloc: Global,
+    store: &RepoStore<D>,
+    number: RevNo,
+) -> Result<(ChangeSet, Props), MasterFault>
+    ensures { (o : Origin) → IsMasterAt (repository_of store.now) o → IfOk result
+        (λ r. MakesTree o number r.0 × (map_at o (moment_of o) number ≡ Some r.1)) }
+{
+    let props = props_of(store, number)?;
+    match store.repo().set(number) {
+        Some(set) => match set.share(alloc) {
+            Ok(set) => Ok((set, props)),
+            Err(_) => Err(MasterFault::Refused(Refusal::OutOfMemory)),
+        },
+        None => Err(MasterFault::Refused(Refusal::NoSuchRevision)),
+    }
+}
+
+pub(crate) fn props_of<D: Disk>(store: &RepoStore<D>, number: RevNo) -> Result<Props, MasterFault>
+    ensures { (o : Origin) → IsMasterAt (repository_of store.now) o → IfOk result
+        (λ p. map_at o (moment_of o) number ≡ Some p) }
+{
+    match store.repo().props(number) {
+        Some(props) => match props.share() {
+            Ok(props) => Ok(props),
+            Err(_) => Err(MasterFault::Refused(Refusal::OutOfMemory)),
+        },
+        None => Err(MasterFault::Refused(Refusal::NoSuchRevision)),
     }
 }
 
