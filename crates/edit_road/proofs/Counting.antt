@@ -22,7 +22,8 @@ use Rattle.delta_editor.specs.declared.call.Call.TheVariants as call
 use Rattle.editor_ends.specs.Fronts.{above, fronts}
 use Rattle.editor_ends.specs.Parts.{removals, settings, prop_calls, pieces_of, pieces, text_calls, parts}
 use Rattle.editor_ends.specs.Drive.{base_number, opening, opens, closes, calls_with, of_file, old_props, change_calls, rests_with, rests_at, walk}
-use Rattle.edit_road.specs.Sent.{HasProps, IsSmall, IsSent, body_of}
+use Rattle.dump_load.specs.Bounds.{IsSmall}
+use Rattle.edit_road.specs.Sent.{HasProps, IsSent, body_of}
 use Rattle.edit_road.proofs.Limits.{above_path, fronts_length, old_is_props}
 use Rattle.edit_road.proofs.Walked.{Entry}
 
@@ -121,4 +122,4 @@ walk_few trees nodes done (c ∷ s) at d h l =
     )
 
 pub body_few : (trees : List PathMap) (s : List Change) → IsSent trees s → length (body_of trees s) ≤ 4297740354
-body_few trees s sent = omega (arith, sent.bounded.few, walk_few trees sent.nodes [] s [] tt sent.bounded.small (omega arith), length-append (walk trees [] [] s) (call.CloseDir [] ∷ call.CloseEdit ∷ []))
+body_few trees s sent = omega (arith, sent.bounded.set.1, walk_few trees sent.nodes [] s [] tt sent.bounded.small (omega arith), length-append (walk trees [] [] s) (call.CloseDir [] ∷ call.CloseEdit ∷ []))

@@ -19,7 +19,7 @@ use Rattle.ra_edit.specs.declared.edit_fault.EditFault.{EditFault}
 use Rattle.ra_edit.specs.declared.edit_fault.EditFault.TheVariants as fault
 use Rattle.ra_edit.specs.declared.receive_command.Command.{Command}
 use Rattle.ra_edit.proofs.OwnRefusals.{own_map}
-use Rattle.edit_road.specs.Sent.{IsNew, RefusesOver, DriveIsReceived, DriveIsNotRefused}
+use Rattle.edit_road.specs.Sent.{IsNew, IsSent, MayBeSent, RefusesOver, DriveIsReceived, DriveIsNotRefused}
 use Rattle.edit_road.specs.Receiving.{IsSetOfItems, ReceivesSet, RefusesSet}
 
 pub next_edit : (editor : BuildEditor) (built : Built) (set : List Change) (trees : List PathMap) (before after : Option (List ℕ)) (was is : List ℕ → Stream) → has_shown editor [] → trees_of editor ≡ trees → built_over built ≡ trees_of editor → set ≡ set_within built → Received has_shown is_made_of editor built before after was is → IsSetOfItems trees before after was is set
@@ -31,8 +31,8 @@ next_edit editor built set trees before after was is new over same at r = record
   made = subst (λ z. IsSetWithin trees z r.calls) (sym at) (subst (λ t. IsSetWithin t (set_within built) r.calls) (same ∙ over) (r.shown [] new));
 }
 
-pub received_set : DriveIsReceived → (set : List Change) (trees : List PathMap) (before after : Option (List ℕ)) (was is : List ℕ → Stream) → IsSetOfItems trees before after was is set → ReceivesSet trees set before after was is
-received_set law set trees before after was is r s more sent there = law trees s set more before after was is r.items r.calls sent there r.taken r.spelled r.made
+pub received_set : DriveIsReceived → (set : List Change) (trees : List PathMap) → ((s : List Change) → MayBeSent trees s → IsSent trees s) → (before after : Option (List ℕ)) (was is : List ℕ → Stream) → IsSetOfItems trees before after was is set → ReceivesSet trees set before after was is
+received_set law set trees kept before after was is r s more may there = law trees s set more before after was is r.items r.calls (kept s may) there r.taken r.spelled r.made
 
 -- ---- what is refused
 
@@ -80,5 +80,5 @@ refused_over shows began editor trees before after was spent failed f new over r
 pub refused_for_memory : (trees : List PathMap) (before after : Option (List ℕ)) (was : List ℕ → Stream) (spent failed : Bool) → RefusesOver trees before after was spent failed fault.OutOfMemory
 refused_for_memory trees before after was spent failed = record { items = []; calls = []; at = Begun; say = Nothing Begun; unended = λ e. cc; stops = inl tt }
 
-pub refused_set : DriveIsNotRefused → (trees : List PathMap) (before after : Option (List ℕ)) (was : List ℕ → Stream) (spent failed : Bool) (f : EditFault) → RefusesOver trees before after was spent failed f → RefusesSet trees before was spent failed f
-refused_set law trees before after was spent failed f r s more sent there fresh = law trees s more before after was spent failed f sent there fresh r
+pub refused_set : DriveIsNotRefused → (trees : List PathMap) → ((s : List Change) → MayBeSent trees s → IsSent trees s) → (before after : Option (List ℕ)) (was : List ℕ → Stream) (spent failed : Bool) (f : EditFault) → RefusesOver trees before after was spent failed f → RefusesSet trees before was spent failed f
+refused_set law trees kept before after was spent failed f r s more may there fresh = law trees s more before after was spent failed f (kept s may) there fresh r

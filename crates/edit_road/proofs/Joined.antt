@@ -14,7 +14,8 @@ use Rattle.delta_editor.specs.declared.call.Call.TheVariants as call
 use Rattle.delta_editor.specs.declared.fault.EditorFault.{EditorFault}
 use Rattle.delta_editor.specs.declared.fault.EditorFault.TheVariants as refusal
 use Rattle.delta_editor.proofs.CallLemmas.{all_called-append}
-use Rattle.editor_ends.specs.Laws.{IsWithin}
+use Rattle.dump_load.specs.Bounds.{IsWithin}
+use Rattle.dump_load.proofs.Within.{within_of}
 use Rattle.editor_ends.specs.BuildFaults.{call_fault, refusal_after, first_refusal, takes, gives, acts_below, is_changed, IsTooLarge, IsCallRefusal, RefusesWithin}
 use Rattle.editor_ends.specs.BuildFaults as faults
 use Rattle.editor_ends.specs.Drive.{base_number, walk, drive}
@@ -32,7 +33,7 @@ use Rattle.ra_edit.specs.declared.edit_fault.EditFault.TheVariants as fault
 use Rattle.ra_edit.proofs.WrittenReceived.{written_is_received}
 use Rattle.ra_edit.proofs.NotRefused.{written_is_not_refused}
 use Rattle.edit_road.specs.Laws.{HaveBytes}
-use Rattle.edit_road.specs.Sent.{IsSmall, IsSent, IsNew, body_of, DriveIsWritten, DriveIsReceived, DriveIsNotRefused}
+use Rattle.edit_road.specs.Sent.{IsSent, IsNew, body_of, DriveIsWritten, DriveIsReceived, DriveIsNotRefused}
 use Rattle.edit_road.proofs.Pieces.{one, run_both, same_effect, same_nesting}
 use Rattle.edit_road.proofs.Refused.{bytes_join, any_by_bytes, same_refusal}
 use Rattle.edit_road.proofs.Driven.{cut_bytes, drive_bytes}
@@ -70,19 +71,15 @@ cut_same : (cs : List Call) → AreSameCalls (cut_all cs) cs
 cut_same [] = refl
 cut_same (c ∷ cs) = bytes_join (cut c) (cut_all cs) ∙ (λ i. one_same c i ++ cut_same cs i)
 
-parts_small : (s : List Change) → AllByRecursion IsSmall s → AllByRecursion IsWithin s
-parts_small [] h = tt
-parts_small (c ∷ s) h = (h.0.parts, parts_small s h.1)
-
 -- ---- what is received
 
 pub received : WrittenIsRead → DriveIsWritten → DriveIsReceived
 received law written trees s set more before after was is items calls sent at taken spelled made =
     let got = written_is_received law (length trees) (base_number trees) (body_of trees s) more before after was is items calls (written trees s sent) at taken spelled in
     let bytes : HaveBytes calls = subst HaveBytes (sym got.0) (cut_bytes (drive trees s)) in
-    let nested : IsNested calls = same_nesting Before calls (drive trees s) bytes (drive_bytes trees s) got.1 ∙ nested-drive trees s sent.normal sent.faultless sent.root in
+    let nested : IsNested calls = same_nesting Before calls (drive trees s) bytes (drive_bytes trees s) got.1 ∙ nested-drive trees s sent.bounded.set.0 sent.faultless sent.root in
     let effects = same_effect trees (base trees) calls (drive trees s) got.1 in
-    ((λ q. (made nested).effect_is q ∙ (λ i. effects i q) ∙ (λ i. called-drive trees s sent.normal sent.faultless i q)), got.2)
+    ((λ q. (made nested).effect_is q ∙ (λ i. effects i q) ∙ (λ i. called-drive trees s sent.bounded.set.0 sent.faultless i q)), got.2)
 
 -- ---- what is refused
 
@@ -137,16 +134,16 @@ one_for_memory trees s e before c rest sent among h = at (h there.stage there.ra
     calls = cut_all (drive trees s)
 
     within : AllByRecursion IsWithin s
-    within = parts_small s sent.bounded.small
+    within = within_of s sent.bounded.small
 
     nested : IsNested calls
-    nested = same_nesting Before calls (drive trees s) (cut_bytes (drive trees s)) (drive_bytes trees s) (cut_same (drive trees s)) ∙ nested-drive trees s sent.normal sent.faultless sent.root
+    nested = same_nesting Before calls (drive trees s) (cut_bytes (drive trees s)) (drive_bytes trees s) (cut_same (drive trees s)) ∙ nested-drive trees s sent.bounded.set.0 sent.faultless sent.root
 
     there : Goes Before (before ++ c ∷ []) rest After
     there = goes Before (before ++ c ∷ []) rest After (ap (run Before) (append_assoc before (c ∷ []) rest ∙ among) ∙ nested)
 
     free : call_fault trees before c ≡ None
-    free = free_amid trees [] before c rest (ap (refusal_after trees []) among ∙ same_refusal trees calls (drive trees s) (cut_bytes (drive trees s)) (drive_bytes trees s) (cut_same (drive trees s)) ∙ free-drive trees s sent.normal sent.faultless sent.root within)
+    free = free_amid trees [] before c rest (ap (refusal_after trees []) among ∙ same_refusal trees calls (drive trees s) (cut_bytes (drive trees s)) (drive_bytes trees s) (cut_same (drive trees s)) ∙ free-drive trees s sent.bounded.set.0 sent.faultless sent.root within)
 
     whole : c ≡ call.CloseEdit → calls ≡ before ++ call.CloseEdit ∷ []
     whole k =
@@ -183,7 +180,7 @@ one_for_memory trees s e before c rest sent among h = at (h there.stage there.ra
     at (faults.OfCall k) = cc (free, k)
     at (faults.OfSize k big large) =
         big
-        ∙ memory_alone trees s refusal.TooLong sent.normal sent.faultless sent.root within sent.bounded.few (OfEditor front call.CloseEdit [] is_front (λ stage ran. faults.OfSize refl refl (record {
+        ∙ memory_alone trees s refusal.TooLong sent.bounded.set.0 sent.faultless sent.root within sent.bounded.set.1 (OfEditor front call.CloseEdit [] is_front (λ stage ran. faults.OfSize refl refl (record {
           set = large.set;
           normal = large.normal;
           is = λ q. large.is q ∙ same_effects k q;

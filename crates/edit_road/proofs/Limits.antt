@@ -30,7 +30,8 @@ use Rattle.dump_load.specs.Effect.{content, brought, laid, parted, is_numbered, 
 use Rattle.editor_ends.specs.Fronts.{above, fronts_from}
 use Rattle.editor_ends.specs.Drive.{begins_with, old_props}
 use Rattle.editor_ends.proofs.Walks.{front_fits}
-use Rattle.edit_road.specs.Sent.{HasProps, IsSmall}
+use Rattle.dump_load.specs.Bounds.{IsSmall}
+use Rattle.edit_road.specs.Sent.{HasProps}
 
 -- ---- paths
 

@@ -29,7 +29,8 @@ use Rattle.editor_ends.proofs.Down.{drive_down}
 use Rattle.editor_ends.proofs.Given.{pieces_are}
 use Rattle.ra_edit.specs.EditLaws.{IsRev, IsFrom, IsWithin, AllWithin, TextsFit}
 use Rattle.ra_edit.specs.Wire.{is_deeper, AllDeeper}
-use Rattle.edit_road.specs.Sent.{HasProps, IsSmall, IsSource, IsSent, body_of}
+use Rattle.dump_load.specs.Bounds.{IsSmall, IsSource}
+use Rattle.edit_road.specs.Sent.{HasProps, IsSent, body_of}
 use Rattle.edit_road.proofs.Walked.{Entry, Holds, Each, body_all}
 use Rattle.edit_road.proofs.Limits.{IsEntry, above_path, fronts_paths, name_read, entries_fit, md5_bytes, old_is_props}
 

@@ -16,7 +16,7 @@ use Rattle.ra_edit.specs.EditLaws.{IsBefore, IsOnlyFor}
 use Rattle.ra_edit.specs.ItemStreams.{Takes, reader_of, has_failed, is_spent, ahead}
 use Rattle.ra_edit.specs.declared.edit_fault.EditFault.{EditFault}
 use Rattle.ra_edit.specs.declared.stream.ItemStream.{ItemStream}
-use Rattle.edit_road.specs.Sent.{IsSent, RefusesOver}
+use Rattle.edit_road.specs.Sent.{MayBeSent, RefusesOver}
 
 -- the items that were taken are one edit, and this set is what its calls come to over these trees
 pub record IsSetOfItems (trees : List PathMap) (before after : Option (List ℕ)) (was is : List ℕ → Stream) (set : List Change) : Type 0 where
@@ -32,7 +32,7 @@ IsNextEdit remaining trees old new set = IsSetOfItems trees (remaining (reader_o
 
 -- where a drive of a set that may be sent is to come, this set has its effect, and then the stream stands before what follows
 abbrev pub ReceivesSet : List PathMap → List Change → Option (List ℕ) → Option (List ℕ) → (List ℕ → Stream) → (List ℕ → Stream) → Type 0
-ReceivesSet trees set before after was is = (s : List Change) (more : List ℕ) → IsSent trees s → IsBefore (edit_bytes (drive trees s) ++ more) before was → ((q : Path) → effect trees set q ≡ effect trees s q) × IsBefore more after is
+ReceivesSet trees set before after was is = (s : List Change) (more : List ℕ) → MayBeSent trees s → IsBefore (edit_bytes (drive trees s) ++ more) before was → ((q : Path) → effect trees set q ≡ effect trees s q) × IsBefore more after is
 
 abbrev pub Receives : {R : Type 0} {g : _} → (R → Option (List ℕ)) → List PathMap → ItemStream R g → ItemStream R g → List Change → Type 0
 Receives remaining trees old new set = ReceivesSet trees set (remaining (reader_of old)) (remaining (reader_of new)) (ahead old) (ahead new)
@@ -43,7 +43,7 @@ RefusesEdit remaining trees old new f = RefusesOver trees (remaining (reader_of 
 
 -- where a drive of a set that may be sent is to come, a refusal is want of memory or a read that failed
 abbrev pub RefusesSet : List PathMap → Option (List ℕ) → (List ℕ → Stream) → Bool → Bool → EditFault → Type 0
-RefusesSet trees before was spent failed f = (s : List Change) (more : List ℕ) → IsSent trees s → IsBefore (edit_bytes (drive trees s) ++ more) before was → spent ≡ false → IsOnlyFor (λ e. e ≡ OutOfMemory) failed f
+RefusesSet trees before was spent failed f = (s : List Change) (more : List ℕ) → MayBeSent trees s → IsBefore (edit_bytes (drive trees s) ++ more) before was → spent ≡ false → IsOnlyFor (λ e. e ≡ OutOfMemory) failed f
 
 abbrev pub Refuses : {R : Type 0} {g : _} → (R → Option (List ℕ)) → List PathMap → ItemStream R g → ItemStream R g → EditFault → Type 0
 Refuses remaining trees old new f = RefusesSet trees (remaining (reader_of old)) (ahead old) (is_spent old) (has_failed new) f

@@ -1,13 +1,12 @@
 -- Sets of changes that may be sent, and what is received of them.
-use Rattle.std.specs.Prelude.{◌≡◌, ℕ, ◌≤◌, Bool, true, false, List, [], ◌∷◌, ◌++◌, length, Option, None, IfSome}
+use Rattle.std.specs.Prelude.{◌≡◌, ℕ, ◌≤◌, Bool, false, List, [], ◌∷◌, ◌++◌, length, Option, None, IfSome}
 use Rattle.std.specs.List.{AllByRecursion}
 use Rattle.std.specs.FinMap as finite
 use Rattle.node_base.specs.Path.{Path}
-use Rattle.node_base.specs.PathText.{is_path}
 use Rattle.node_base.specs.Props.{IsProps}
 use Rattle.node_base.specs.Tree.{PathMap, IsDirAt, base}
-use Rattle.node_base.specs.declared.node.Source.{Source}
 use Rattle.dump_load.specs.declared.change.Change.{Change}
+use Rattle.dump_load.specs.Bounds.{IsBounded}
 use Rattle.dump_load.specs.Changes.{IsNormal}
 use Rattle.dump_load.specs.Effect.{effect}
 use Rattle.dump_load.specs.Faults.{fault}
@@ -15,7 +14,6 @@ use Rattle.delta_editor.specs.declared.call.Call.{Call}
 use Rattle.delta_editor.specs.declared.call.Call.TheVariants as call
 use Rattle.delta_editor.specs.declared.fault.EditorFault.TheVariants.{OutOfMemory}
 use Rattle.delta_editor.specs.Nesting.{IsNested}
-use Rattle.editor_ends.specs.Laws.{IsWithin}
 use Rattle.editor_ends.specs.BuildFaults.{RefusesWithin}
 use Rattle.editor_ends.specs.Built.{IsSetWithin}
 use Rattle.editor_ends.specs.Drive.{base_number, walk, drive}
@@ -29,22 +27,6 @@ use Rattle.ra_edit.specs.Wire.{AllDeeper}
 use Rattle.ra_edit.specs.Received.{RefusesDrive}
 use Rattle.ra_edit.specs.declared.edit_fault.EditFault.{EditFault}
 
--- a source is a path and a revision within the limits
-pub record IsSource (s : Source) : Type 0 where
-  pub path : is_path s.path ≡ true
-  pub revision : s.revision ≤ 65535
-
--- a change within the limits, as the types of its parts make sure
-pub record IsSmall (c : Change) : Type 0 where
-  pub path : is_path c.path ≡ true
-  pub source : IfSome c.source IsSource
-  pub parts : IsWithin c
-
--- the set has no more changes than a revision may have, each within the limits
-pub record IsBounded (s : List Change) : Type 0 where
-  pub few : length s ≤ 4096
-  pub small : AllByRecursion IsSmall s
-
 -- the properties of each node of a tree are within the limits
 abbrev pub HasProps : PathMap → Type 0
 HasProps m = (q : Path) → IfSome (finite.get m q) (λ x. IsProps x.props)
@@ -54,9 +36,13 @@ pub record IsSent (trees : List PathMap) (s : List Change) : Type 0 where
   pub numbered : length trees ≤ 65535
   pub root : IsDirAt (base trees) []
   pub nodes : AllByRecursion HasProps trees
-  pub normal : IsNormal s
-  pub faultless : fault trees s ≡ None
   pub bounded : IsBounded s
+  pub faultless : fault trees s ≡ None
+
+-- what is left of that over trees of a program: a set within the limits that has no fault over them
+pub record MayBeSent (trees : List PathMap) (s : List Change) : Type 0 where
+  pub bounded : IsBounded s
+  pub faultless : fault trees s ≡ None
 
 -- the calls of a drive behind the opening of the root
 abbrev pub body_of : List PathMap → List Change → List Call

@@ -6,6 +6,7 @@ ghost use Rattle.edit_road.specs.Receiving.{IsNextEdit, Receives, Refuses, Refus
 use dump_load::ChangeSet;
 use editor_ends::BuildEditor;
 use path_tree::Tree;
+use path_tree::limits::trees_limits;
 use ra_edit::edit_fault::EditFault;
 use ra_edit::receive::receive;
 use ra_edit::stream::ItemStream;
@@ -32,7 +33,8 @@ pub fn receive_set<R: Read + Drop>(
     ensures goes_on { OnOk result (is_spent items.new ≡ false) }
     ensures spent { OnErr result (is_spent items.new ≡ true) }
 {
-    // For the proof: what is read of a set that was sent.
+    // For the proof: what trees keep by their type, and what is read of a set that was sent.
+    trees_limits(trees);
     crate::law::drive_is_received();
     crate::law::drive_is_not_refused();
     let Ok(editor) = BuildEditor::new(alloc, trees) else {

@@ -1,6 +1,5 @@
 //! A set of changes as the bytes of an edit.
-ghost use Rattle.std.specs.Prelude.{◌≡◌, ◌≤◌, length, [], None, IfOk, IfErr, OnOk};
-ghost use Rattle.node_base.specs.Tree.{IsDirAt, base};
+ghost use Rattle.std.specs.Prelude.{◌≡◌, ◌≤◌, length, None, IfOk, IfErr, OnOk};
 ghost use Rattle.dump_load.specs.Faults.{fault};
 ghost use Rattle.edit_road.specs.Sending.{Sends, IsUnsent};
 
@@ -8,19 +7,10 @@ use delta_editor::EditorFault;
 use dump_load::ChangeSet;
 use editor_ends::drive;
 use path_tree::Tree;
+use path_tree::limits::has_root;
 use ra_edit::wire::WireEditor;
 use std::alloc::Global;
 use std::io::Write;
-
-// Does nothing: its contract says that the revision after these trees begins with a root, which is a directory.
-fn has_root(trees: &[Tree])
-    ensures { IsDirAt (base trees.now) [] }
-{
-    match trees.last() {
-        Some(tree) => tree.is_tree(),
-        None => {}
-    }
-}
 
 /// Writes a set of changes as the edit of the revision after these trees, 65,535 at most, the newest last, behind what
 /// the writer has: the commands of the calls that the set is driven as, in the one spelling that is written.

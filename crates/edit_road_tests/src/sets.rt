@@ -2,8 +2,10 @@
 
 use delta_editor::EditorFault;
 use dump_load::{Change, ChangeSet, apply};
+use edit_road::law::set_may_be_sent;
 use edit_road::receive::receive_set;
 use edit_road::send::send_set;
+use editor_ends::law::{set_is_refused_for_memory_alone, set_is_taken};
 use node_base::{
     Action, Node, NodeKind, NodePath, PropName, PropValue, Props, RevNo, Source, Text,
 };
@@ -153,6 +155,9 @@ pub(crate) fn sent<W: Write + Drop>(
     if trees.len() > 65_535 {
         return Err(EditorFault::TooLong);
     }
+    set_is_taken(trees, set);
+    set_is_refused_for_memory_alone(trees, set);
+    set_may_be_sent(trees, set);
     send_set(alloc, trees, set, out)
 }
 

@@ -30,7 +30,7 @@ use Rattle.editor_ends.specs.Drive.{base_number, opening, opens, closes, calls_w
 use Rattle.editor_ends.specs.BuildFaults.{is_below, takes, acts_below, gives, is_changed, call_fault, refusal_after, IsCallRefusal, RefusesWithin}
 use Rattle.editor_ends.specs.BuildFaults as faults
 use Rattle.editor_ends.specs.Refusals.{IsDriveRefusal, OfMemory, OfSet, OfEditor}
-use Rattle.editor_ends.specs.Laws.{IsWithin}
+use Rattle.dump_load.specs.Bounds.{IsWithin}
 use Rattle.editor_ends.proofs.Fronts.{all_map, fronts_are}
 use Rattle.editor_ends.proofs.Filled.{or_yes, all_of, all_two}
 use Rattle.editor_ends.proofs.CallEffects.{all_filter, none_first, none_rest}

@@ -26,7 +26,7 @@ use Rattle.delta_editor.specs.declared.fault.EditorFault.TheVariants as refusal
 use Rattle.delta_editor.proofs.CallLemmas.{all_called-append}
 use Rattle.editor_ends.specs.Parts.{removals, settings, prop_calls, pieces, text_calls, parts}
 use Rattle.editor_ends.specs.BuildFaults.{put_fault, call_fault}
-use Rattle.editor_ends.specs.Laws.{IsWithin}
+use Rattle.dump_load.specs.Bounds.{IsWithin}
 use Rattle.editor_ends.proofs.Filled.{Nodes, or_no, or_yes}
 use Rattle.editor_ends.proofs.Fitting.{Among, inserted_among, fits_with_one}
 use Rattle.editor_ends.proofs.Faultfree.{Free, free_one, free_both, blocked_alike}

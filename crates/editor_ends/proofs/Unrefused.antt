@@ -34,7 +34,7 @@ use Rattle.md5.specs.Md5.{md5}
 use Rattle.editor_ends.specs.Parts.{removals, settings, prop_calls, pieces, text_calls, dir_parts, parts}
 use Rattle.editor_ends.specs.Drive.{base_number, opening, opens, closes, calls_with, change_calls, of_file, old_props, rests_with, rests_at, walk, drive}
 use Rattle.editor_ends.specs.BuildFaults.{takes, acts_below, call_fault, first_refusal}
-use Rattle.editor_ends.specs.Laws.{IsWithin}
+use Rattle.dump_load.specs.Bounds.{IsWithin}
 use Rattle.editor_ends.proofs.Fronts.{all_map, fronts_are, above_is, above_rest, strict, front_end}
 use Rattle.editor_ends.proofs.Filled.{Nodes, or_no, rest_itself, stepped_away}
 use Rattle.editor_ends.proofs.Walks.{front_rest, never_itself, of_root}

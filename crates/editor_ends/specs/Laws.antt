@@ -1,10 +1,10 @@
 -- Laws of the calls that a set is driven as, and of the set that calls come to.
-use Rattle.std.specs.Prelude.{◌≡◌, ℕ, ◌<◌, ◌≤◌, List, [], ◌∷◌, ◌++◌, None, length, IfSome}
+use Rattle.std.specs.Prelude.{◌≡◌, ℕ, ◌<◌, ◌≤◌, List, [], ◌∷◌, ◌++◌, None, length}
 use Rattle.std.specs.List.{AllByRecursion, concat}
 use Rattle.node_base.specs.Path.{Name, Path}
-use Rattle.node_base.specs.Props.{IsProps}
 use Rattle.node_base.specs.Tree.{PathMap, IsDirAt, base}
 use Rattle.dump_load.specs.declared.change.Change.{Change}
+use Rattle.dump_load.specs.Bounds.{IsWithin}
 use Rattle.dump_load.specs.Changes.{IsNormal}
 use Rattle.dump_load.specs.Effect.{effect}
 use Rattle.dump_load.specs.Faults.{fault}
@@ -32,10 +32,6 @@ DriveIsNested = (trees : List PathMap) (s : List Change) → IsNormal s → faul
 abbrev pub PiecesOfAText : Type 0
 PiecesOfAText = (t : List ℕ) → (concat (pieces t) ≡ t) × AllByRecursion (λ p. (0 < length p) × (length p ≤ 65536)) (pieces t)
 
--- the properties and the text that a change gives are within the limits
-abbrev pub IsWithin : Change → Type 0
-IsWithin c = IfSome c.props IsProps × IfSome c.text (λ t. length t ≤ 1048576)
-
 -- where a set has no fault, an editor that builds over the same trees has no cause to refuse one of the calls that it is driven as
 abbrev pub DriveIsTaken : Type 0
 DriveIsTaken = (trees : List PathMap) (s : List Change) → IsNormal s → fault trees s ≡ None → IsDirAt (base trees) [] → AllByRecursion IsWithin s → first_refusal trees (drive trees s) ≡ None
@@ -43,6 +39,14 @@ DriveIsTaken = (trees : List PathMap) (s : List Change) → IsNormal s → fault
 -- and such a drive, of no more than 4,096 changes, is refused for want of memory alone
 abbrev pub DriveForMemoryAlone : Type 0
 DriveForMemoryAlone = (trees : List PathMap) (s : List Change) (e : EditorFault) → IsNormal s → fault trees s ≡ None → IsDirAt (base trees) [] → AllByRecursion IsWithin s → length s ≤ 4096 → IsDriveRefusal RefusesWithin trees trees s e → e ≡ OutOfMemory
+
+-- so much is left of these two of a set and of trees of a program, whose types keep the limits: where the set has no fault over the trees, no call of its drive is refused
+abbrev pub IsTaken : List PathMap → List Change → Type 0
+IsTaken trees s = fault trees s ≡ None → first_refusal trees (drive trees s) ≡ None
+
+-- and a drive of it is refused for want of memory alone
+abbrev pub IsRefusedForMemoryAlone : List PathMap → List Change → Type 0
+IsRefusedForMemoryAlone trees s = (e : EditorFault) → fault trees s ≡ None → IsDriveRefusal RefusesWithin trees trees s e → e ≡ OutOfMemory
 
 -- calls come to one set at most
 abbrev pub OneBuiltSet : Type 0

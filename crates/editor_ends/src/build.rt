@@ -1,5 +1,6 @@
 //! An editor that makes a set of changes of what it is shown.
-ghost use Rattle.std.specs.Prelude.{◌≡◌, ◌≤◌, ◌||◌, length, not, true, false, Some, None, [], List, IsSome, IfOk, IfErr, OnOk};
+ghost use Rattle.std.specs.Prelude.{◌≡◌, ◌≤◌, ◌||◌, length, not, true, false, Some, None, [], List};
+ghost use Rattle.std.specs.Prelude.{IsSome, IfOk, IfErr, OnOk};
 ghost use Rattle.std.specs.Option.{option_copied};
 ghost use Rattle.std.specs.FinMap as map;
 ghost use Rattle.node_base.specs.Tree.{PathMap};
@@ -20,10 +21,11 @@ use std::alloc::{AllocError, Global};
 
 /// Makes the set of changes that it is shown as calls, for the revision that comes after some trees.
 ///
-/// A target that is named has to be the number of the trees (16). Bases aren't read, and the sum of a closed file isn't compared.
-/// Refused at the call that brings it: an add or a deletion of the root (10); a path that is opened or added twice, or deleted
-/// after it or something below it was touched (15); the fault of the change that the call begins (8, 11 to 14, 17); a property or
-/// a text past its limit (8). Refused at the end: more than 4,096 changes (8). Each call may be refused for want of memory (70).
+/// A target that is named has to be the number of the trees (16). Bases aren't read, and the sum of a closed file
+/// isn't compared. Refused at the call that brings it: an add or a deletion of the root (10); a path that is opened
+/// or added twice, or deleted after it or something below it was touched (15); the fault of the change that the
+/// call begins (8, 11 to 14, 17); a property or a text past its limit (8). Refused at the end: more than 4,096
+/// changes (8). Each call may be refused for want of memory (70).
 #[derive(Drop)]
 pub struct BuildEditor<'a> {
     alloc: Global,
@@ -50,12 +52,13 @@ pub struct BuiltFile {
 }
 
 impl<'a> Built<'a> {
-    /// The set that the calls come to: a normal set of 4,096 changes at most, with the effect of the calls. It has a change of
-    /// each path that they change and of no other, with the action, the kind and the source that they ask for there, and with the
-    /// properties, and the text, that they come to, where they say what these are.
+    /// The set that the calls come to: a normal set of 4,096 changes at most, with the effect of the calls. It has
+    /// a change of each path that they change and of no other, with the action, the kind and the source that they
+    /// ask for there, and with the properties, and the text, that they come to, where they say what these are.
     pub fn set(&self) -> &ChangeSet
         ensures within { result.now ≡ set_within self.now }
-        ensures built { (calls : List Call) → is_made_of self.now calls → IsNested calls → IsSetOf (built_over self.now) result.now calls }
+        ensures built { (calls : List Call) → is_made_of self.now calls → IsNested calls
+            → IsSetOf (built_over self.now) result.now calls }
     {
         &self.set
     }
@@ -63,7 +66,8 @@ impl<'a> Built<'a> {
     /// The set of changes alone, of which the same holds.
     pub fn into_set(self) -> ChangeSet
         ensures within { result ≡ set_within self.entry }
-        ensures built { (calls : List Call) → is_made_of self.entry calls → IsNested calls → IsSetOf (built_over self.entry) result calls }
+        ensures built { (calls : List Call) → is_made_of self.entry calls → IsNested calls
+            → IsSetOf (built_over self.entry) result calls }
     {
         let Built { trees: _, set } = self;
         set
@@ -94,9 +98,14 @@ impl<'a> BuildEditor<'a> {
     ) -> Result<NodePath, EditorFault>
         requires known { (is_add action || not (settles action)) ≡ true }
         requires sourced { is_add action ≡ false → from ≡ None }
-        ensures begins { OnOk result (Made self.old.trees.now self.old.tree self.old.changes.items → Begins self.old.trees.now self.old.tree self.old.changes.items self.new.tree self.new.changes.items (begun action (Some kind) path.now (option_copied from.entry))) }
+        ensures begins { OnOk result (Made self.old.trees.now self.old.tree self.old.changes.items
+            → Begins self.old.trees.now self.old.tree self.old.changes.items self.new.tree self.new.changes.items
+            (begun action (Some kind) path.now (option_copied from.entry))) }
         ensures baton { IfOk result (λ p. p ≡ path.now) }
-        ensures refused { IfErr result (λ e. Made self.old.trees.now self.old.tree self.old.changes.items → IsFaultOr (begin_fault self.old.trees.now (map.get self.old.tree) (is_late_in self.old.changes.items (begun action (Some kind) path.now (option_copied from.entry))) (begun action (Some kind) path.now (option_copied from.entry))) e) }
+        ensures refused { IfErr result (λ e. Made self.old.trees.now self.old.tree self.old.changes.items
+            → IsFaultOr (begin_fault self.old.trees.now (map.get self.old.tree)
+            (is_late_in self.old.changes.items (begun action (Some kind) path.now (option_copied from.entry)))
+            (begun action (Some kind) path.now (option_copied from.entry))) e) }
         ensures over { trees_of self.new ≡ trees_of self.old }
     {
         let baton = path.copy(self.alloc)?;

@@ -1,5 +1,6 @@
 //! The changes that calls begin and give parts to, in path order beside the tree that they make.
-ghost use Rattle.std.specs.Prelude.{◌≡◌, ◌≤◌, ◌<◌, ◌||◌, length, true, false, not, Some, None, IsSome, IfOk, IfErr, IfSome, OnOk, [], List, ◌&&◌};
+ghost use Rattle.std.specs.Prelude.{◌≡◌, ◌≤◌, ◌<◌, ◌||◌, length, true, false, not, Some, None};
+ghost use Rattle.std.specs.Prelude.{IsSome, IfOk, IfErr, IfSome, OnOk, [], List, ◌&&◌};
 ghost use Rattle.std.specs.Option.{option_copied, option_map, option_map_or};
 ghost use Rattle.std.specs.FinMap as map;
 ghost use Rattle.std.specs.List.{slice_get};
@@ -16,7 +17,8 @@ ghost use Rattle.delta_editor.specs.declared.fault.EditorFault.TheVariants.{TooL
 ghost use Rattle.node_base.specs.declared.node.Action.TheVariants.{Replace};
 ghost use Rattle.delta_editor.specs.Faults.{refused};
 ghost use Rattle.editor_ends.specs.BuildFaults.{begun, begin_fault, blank_text, is_long, put_fault};
-ghost use Rattle.editor_ends.specs.Built.{Made, Begins, Gives, IsFresh, IsFaultOr, Placed, is_late_in, is_taken, giving_props, giving_text, told};
+ghost use Rattle.editor_ends.specs.Built.{Made, Begins, Gives, IsFresh, IsFaultOr, Placed, is_late_in, is_taken};
+ghost use Rattle.editor_ends.specs.Built.{giving_props, giving_text, told};
 
 use delta_editor::EditorFault;
 use dump_load::{Change, fault_of, is_add, is_delete, settles, step};
@@ -89,9 +91,11 @@ fn place_of(changes: &[Change], path: &NodePath) -> Result<usize, usize>
 // Makes a change of the tree where it has no fault there.
 fn make(alloc: Global, trees: &[Tree], tree: &mut Tree, change: &Change) -> Result<(), EditorFault>
     requires whole { IsWhole change.now }
-    ensures made { OnOk result ((q : Path) → map.get tree.new q ≡ stepped trees.now (map.get tree.old) change.now q) }
+    ensures made { OnOk result ((q : Path)
+        → map.get tree.new q ≡ stepped trees.now (map.get tree.old) change.now q) }
     ensures faultless { OnOk result (fault_of trees.now (map.get tree.old) change.now ≡ None) }
-    ensures refused { IfErr result (λ e. length trees.now ≤ 65535 → IsFaultOr (option_map refused (fault_of trees.now (map.get tree.old) change.now)) e) }
+    ensures refused { IfErr result (λ e. length trees.now ≤ 65535
+        → IsFaultOr (option_map refused (fault_of trees.now (map.get tree.old) change.now)) e) }
 {
     if trees.len() > 65_535 {
         return Err(EditorFault::WrongNumber);
@@ -120,8 +124,10 @@ pub fn open_or_add(
     requires whole { IsWhole change }
     requires fresh { IsFresh change }
     requires known { (is_add change.action || not (settles change.action)) ≡ true }
-    ensures begins { OnOk result (Made trees.now tree.old changes.old.items → Begins trees.now tree.old changes.old.items tree.new changes.new.items change) }
-    ensures refused { IfErr result (λ e. Made trees.now tree.old changes.old.items → IsFaultOr (begin_fault trees.now (map.get tree.old) (is_late_in changes.old.items change) change) e) }
+    ensures begins { OnOk result (Made trees.now tree.old changes.old.items
+        → Begins trees.now tree.old changes.old.items tree.new changes.new.items change) }
+    ensures refused { IfErr result (λ e. Made trees.now tree.old changes.old.items
+        → IsFaultOr (begin_fault trees.now (map.get tree.old) (is_late_in changes.old.items change) change) e) }
 {
     if is_root_settled(&change) {
         return Err(EditorFault::BadPath);
@@ -162,8 +168,10 @@ pub fn delete(
     requires whole { IsWhole change }
     requires fresh { IsFresh change }
     requires deletes { is_delete change.action ≡ true }
-    ensures begins { OnOk result (Made trees.now tree.old changes.old.items → Begins trees.now tree.old changes.old.items tree.new changes.new.items change) }
-    ensures refused { IfErr result (λ e. Made trees.now tree.old changes.old.items → IsFaultOr (begin_fault trees.now (map.get tree.old) (is_late_in changes.old.items change) change) e) }
+    ensures begins { OnOk result (Made trees.now tree.old changes.old.items
+        → Begins trees.now tree.old changes.old.items tree.new changes.new.items change) }
+    ensures refused { IfErr result (λ e. Made trees.now tree.old changes.old.items
+        → IsFaultOr (begin_fault trees.now (map.get tree.old) (is_late_in changes.old.items change) change) e) }
 {
     if is_root_settled(&change) {
         return Err(EditorFault::BadPath);
@@ -202,7 +210,8 @@ fn is_next_below(changes: &[Change], at: usize, path: &NodePath) -> bool
 // Where the change of what is open stands.
 fn place_open(changes: &[Change], path: &NodePath) -> Option<usize>
     ensures found { IfSome result (λ i. i < length changes.now) }
-    ensures placed { IfSome result (λ i. IsNormal changes.now → (c : ChangeOf) → slice_get changes.now i ≡ Some c → c.path ≡ path.now) }
+    ensures placed { IfSome result (λ i. IsNormal changes.now → (c : ChangeOf) → slice_get changes.now i ≡ Some c
+        → c.path ≡ path.now) }
     ensures stands { IfSome result (λ i. IfSome (slice_get changes.now i) (λ c. is_delete c.action ≡ false)) }
     ensures none { result ≡ None → IsNormal changes.now → is_taken changes.now path.now ≡ false }
 {
@@ -252,9 +261,13 @@ pub fn put_prop(
     name: &PropName,
     value: Option<&[u8]>,
 ) -> Result<(), EditorFault>
-    ensures gives { OnOk result ((trees : List PathMap) → Made trees tree.old changes.old.items → Gives trees tree.old changes.old.items tree.new changes.new.items path.now (with_prop name.now (option_map (λ b. b.now) value.entry)) giving_props) }
-    ensures faultless { OnOk result (put_fault (map.get tree.old) path.now name.now (option_map (λ b. b.now) value.entry) ≡ None) }
-    ensures refused { IfErr result (λ e. IsNormal changes.old.items → is_taken changes.old.items path.now ≡ true → IsFaultOr (put_fault (map.get tree.old) path.now name.now (option_map (λ b. b.now) value.entry)) e) }
+    ensures gives { OnOk result ((trees : List PathMap) → Made trees tree.old changes.old.items
+        → Gives trees tree.old changes.old.items tree.new changes.new.items path.now
+        (with_prop name.now (option_map (λ b. b.now) value.entry)) giving_props) }
+    ensures faultless { OnOk result
+        (put_fault (map.get tree.old) path.now name.now (option_map (λ b. b.now) value.entry) ≡ None) }
+    ensures refused { IfErr result (λ e. IsNormal changes.old.items → is_taken changes.old.items path.now ≡ true
+        → IsFaultOr (put_fault (map.get tree.old) path.now name.now (option_map (λ b. b.now) value.entry)) e) }
 {
     let Some(at) = place_open(changes, path) else {
         return Err(EditorFault::NoSuchPath);
@@ -295,9 +308,12 @@ pub fn start_text(
     changes: &mut Vec<Change>,
     path: &NodePath,
 ) -> Result<(), EditorFault>
-    ensures gives { OnOk result ((trees : List PathMap) → Made trees tree.old changes.old.items → Gives trees tree.old changes.old.items tree.new changes.new.items path.now (with_given (Some []) None) giving_text) }
+    ensures gives { OnOk result ((trees : List PathMap) → Made trees tree.old changes.old.items
+        → Gives trees tree.old changes.old.items tree.new changes.new.items path.now
+        (with_given (Some []) None) giving_text) }
     ensures faultless { OnOk result (text_fault (map.get tree.old) path.now ≡ None) }
-    ensures refused { IfErr result (λ e. IsNormal changes.old.items → is_taken changes.old.items path.now ≡ true → IsFaultOr (option_map refused (text_fault (map.get tree.old) path.now)) e) }
+    ensures refused { IfErr result (λ e. IsNormal changes.old.items → is_taken changes.old.items path.now ≡ true
+        → IsFaultOr (option_map refused (text_fault (map.get tree.old) path.now)) e) }
 {
     let Some(at) = place_open(changes, path) else {
         return Err(EditorFault::NoSuchPath);
@@ -318,9 +334,12 @@ pub fn append_text(
     path: &NodePath,
     piece: &[u8],
 ) -> Result<(), EditorFault>
-    ensures gives { OnOk result ((trees : List PathMap) → Made trees tree.old changes.old.items → Gives trees tree.old changes.old.items tree.new changes.new.items path.now (with_piece piece.now) giving_text) }
+    ensures gives { OnOk result ((trees : List PathMap) → Made trees tree.old changes.old.items
+        → Gives trees tree.old changes.old.items tree.new changes.new.items path.now
+        (with_piece piece.now) giving_text) }
     ensures faultless { OnOk result (piece_fault (map.get tree.old) path.now piece.now ≡ None) }
-    ensures refused { IfErr result (λ e. IsNormal changes.old.items → is_taken changes.old.items path.now ≡ true → IsFaultOr (option_map refused (piece_fault (map.get tree.old) path.now piece.now)) e) }
+    ensures refused { IfErr result (λ e. IsNormal changes.old.items → is_taken changes.old.items path.now ≡ true
+        → IsFaultOr (option_map refused (piece_fault (map.get tree.old) path.now piece.now)) e) }
 {
     let Some(at) = place_open(changes, path) else {
         return Err(EditorFault::NoSuchPath);

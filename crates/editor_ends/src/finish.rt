@@ -42,8 +42,11 @@ fn is_idle(change: &Change, next: &Change) -> bool
 
 // The next change, in the place of the one before it where that only led to it.
 fn keep(kept: &mut Vec<Change>, change: Change) -> Result<(), AllocError>
-    ensures keeps { OnOk result ((trees : List PathMap) (rest : List ChangeOf) → IsNormal (kept.old.items ++ change ∷ rest) → Keeps trees (kept.old.items ++ change ∷ rest) (kept.new.items ++ rest)) }
-    ensures lean { OnOk result ((rest : List ChangeOf) → IsNormal (kept.old.items ++ change ∷ rest) → IsLean kept.old.items → IsLean kept.new.items) }
+    ensures keeps { OnOk result ((trees : List PathMap) (rest : List ChangeOf)
+        → IsNormal (kept.old.items ++ change ∷ rest)
+        → Keeps trees (kept.old.items ++ change ∷ rest) (kept.new.items ++ rest)) }
+    ensures lean { OnOk result ((rest : List ChangeOf) → IsNormal (kept.old.items ++ change ∷ rest)
+        → IsLean kept.old.items → IsLean kept.new.items) }
 {
     let Some(last) = kept.pop() else {
         kept.push(change)?;
@@ -58,11 +61,13 @@ fn keep(kept: &mut Vec<Change>, change: Change) -> Result<(), AllocError>
     Ok(())
 }
 
-/// The set of changes in path order, with what they gave as the tree has it, and without those that only led to others. Refused:
-/// more than 4,096 changes (8).
+/// The set of changes in path order, with what they gave as the tree has it, and without those that only led to
+/// others. Refused: more than 4,096 changes (8).
 pub fn finish(alloc: Global, tree: &Tree, changes: Vec<Change>) -> Result<ChangeSet, EditorFault>
-    ensures set { IfOk result (λ s. (trees : List PathMap) → Made trees tree.now changes.items → IsSetOver trees (map.get tree.now) changes.items s) }
-    ensures refused { IfErr result (λ e. (trees : List PathMap) → Made trees tree.now changes.items → IsFinishRefusal trees (map.get tree.now) changes.items e) }
+    ensures set { IfOk result (λ s. (trees : List PathMap) → Made trees tree.now changes.items
+        → IsSetOver trees (map.get tree.now) changes.items s) }
+    ensures refused { IfErr result (λ e. (trees : List PathMap) → Made trees tree.now changes.items
+        → IsFinishRefusal trees (map.get tree.now) changes.items e) }
 {
     let mut kept: Vec<Change> = Vec::with_capacity(alloc, changes.len())?;
     for change in changes {

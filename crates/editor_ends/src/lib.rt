@@ -6,7 +6,8 @@
 //! let calls = drive(alloc, &trees, &set, Recorder::new(alloc))?;
 //! ```
 //!
-//! Contract: where it answers Ok, the editor was shown exactly the calls that the set is driven as, whatever editor it is.
+//! Contract: where it answers Ok, the editor was shown exactly the calls that the set is driven as, whatever editor
+//! it is.
 //!
 //! [`BuildEditor`] makes a set of changes of the calls that it is shown:
 //!

@@ -99,8 +99,14 @@ fn give_file<E: Editor>(
     old: &Props,
 ) -> Result<(), EditorFault>
     requires { E.file_path file.old ≡ change.now.path }
-    ensures shown { OnOk result (Adds E.shows editor.old editor.new (option_map_or (prop_calls (call.FileProp change.now.path) old.now) change.now.props [] ++ option_map_or (text_calls change.now.path) change.now.text [])) }
-    ensures stops { IfErr result (Stops E.shows E.began E.refuses editor.old (option_map_or (prop_calls (call.FileProp change.now.path) old.now) change.now.props [] ++ option_map_or (text_calls change.now.path) change.now.text [])) }
+    ensures shown { OnOk result
+        (Adds E.shows editor.old editor.new
+        (option_map_or (prop_calls (call.FileProp change.now.path) old.now) change.now.props []
+        ++ option_map_or (text_calls change.now.path) change.now.text [])) }
+    ensures stops { IfErr result
+        (Stops E.shows E.began E.refuses editor.old
+        (option_map_or (prop_calls (call.FileProp change.now.path) old.now) change.now.props []
+        ++ option_map_or (text_calls change.now.path) change.now.text [])) }
     ensures baton { E.file_path file.new ≡ E.file_path file.old }
     ensures began { E.began editor.new ≡ E.began editor.old }
 {
@@ -119,8 +125,11 @@ pub fn show_file<E: Editor>(
     requires few { length trees.now ≤ 65535 }
     requires up { E.dir_path up.old ≡ above change.now.path }
     requires stays { is_delete change.now.action ≡ false }
-    ensures shown { OnOk result (Adds E.shows editor.old editor.new (opening trees.now true change.now ++ file_parts change.now old.now)) }
-    ensures stops { IfErr result (Stops E.shows E.began E.refuses editor.old (opening trees.now true change.now ++ file_parts change.now old.now)) }
+    ensures shown { OnOk result
+        (Adds E.shows editor.old editor.new (opening trees.now true change.now ++ file_parts change.now old.now)) }
+    ensures stops { IfErr result
+        (Stops E.shows E.began E.refuses editor.old
+        (opening trees.now true change.now ++ file_parts change.now old.now)) }
     ensures up { E.dir_path up.new ≡ E.dir_path up.old }
     ensures began { E.began editor.new ≡ E.began editor.old }
 {
@@ -145,8 +154,11 @@ pub fn show_dir<E: Editor>(
     requires few { length trees.now ≤ 65535 }
     requires up { E.dir_path up.old ≡ above change.now.path }
     requires stays { is_delete change.now.action ≡ false }
-    ensures shown { OnOk result (Adds E.shows editor.old editor.new (opening trees.now false change.now ++ dir_parts change.now old.now)) }
-    ensures stops { IfErr result (Stops E.shows E.began E.refuses editor.old (opening trees.now false change.now ++ dir_parts change.now old.now)) }
+    ensures shown { OnOk result
+        (Adds E.shows editor.old editor.new (opening trees.now false change.now ++ dir_parts change.now old.now)) }
+    ensures stops { IfErr result
+        (Stops E.shows E.began E.refuses editor.old
+        (opening trees.now false change.now ++ dir_parts change.now old.now)) }
     ensures baton { IfOk result (λ d. E.dir_path d ≡ change.now.path) }
     ensures up { E.dir_path up.new ≡ E.dir_path up.old }
     ensures began { E.began editor.new ≡ E.began editor.old }

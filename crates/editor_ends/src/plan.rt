@@ -1,5 +1,6 @@
 //! What has to be known of a change before it is made.
-ghost use Rattle.std.specs.Prelude.{◌≡◌, ◌≤◌, ◌<◌, ◌+◌, ◌∷◌, [], length, Some, None, false, IfOk, IfErr, OnOk};
+ghost use Rattle.std.specs.Prelude.{◌≡◌, ◌≤◌, ◌<◌, ◌+◌, ◌∷◌, [], length, Some, None, false};
+ghost use Rattle.std.specs.Prelude.{IfOk, IfErr, OnOk};
 ghost use Rattle.std.specs.List.{slice_get};
 ghost use Rattle.std.specs.FinMap as map;
 ghost use Rattle.dump_load.specs.declared.change.Change.{Change};
@@ -58,10 +59,14 @@ pub fn advance(revision: &Revision<'_>, progress: &mut Progress) -> Result<Plan,
     requires normal { IsNormal revision.now.set.now }
     requires here { progress.old.next < length revision.now.set.now }
     requires walked { Walked revision.now.trees.now revision.now.set.now progress.old.next progress.old.tree }
-    ensures walked { OnOk result (Walked revision.now.trees.now revision.now.set.now progress.new.next progress.new.tree) }
+    ensures walked { OnOk result
+        (Walked revision.now.trees.now revision.now.set.now progress.new.next progress.new.tree) }
     ensures next { OnOk result (progress.new.next ≡ progress.old.next + 1) }
-    ensures plan { IfOk result (λ p. (c : Change) → slice_get revision.now.set.now progress.old.next ≡ Some c → (p.file ≡ of_file revision.now.trees.now (map.get progress.old.tree) c) × (p.old ≡ old_props revision.now.trees.now (map.get progress.old.tree) c)) }
-    ensures faultless { OnOk result ((c : Change) → slice_get revision.now.set.now progress.old.next ≡ Some c → fault_of revision.now.trees.now (map.get progress.old.tree) c ≡ None) }
+    ensures plan { IfOk result (λ p. (c : Change) → slice_get revision.now.set.now progress.old.next ≡ Some c
+        → (p.file ≡ of_file revision.now.trees.now (map.get progress.old.tree) c)
+        × (p.old ≡ old_props revision.now.trees.now (map.get progress.old.tree) c)) }
+    ensures faultless { OnOk result ((c : Change) → slice_get revision.now.set.now progress.old.next ≡ Some c
+        → fault_of revision.now.trees.now (map.get progress.old.tree) c ≡ None) }
     ensures own { IfErr result (IsOwn revision.now.trees.now revision.now.set.now) }
 {
     let trees = revision.trees;

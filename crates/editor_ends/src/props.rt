@@ -18,8 +18,12 @@ fn unset_dir<E: Editor>(
     old: &Props,
     new: &Props,
 ) -> Result<(), EditorFault>
-    ensures shown { OnOk result (Adds E.shows editor.old editor.new (removals (call.DirProp (E.dir_path dir.old)) new.now (map.entries old.now))) }
-    ensures stops { IfErr result (Stops E.shows E.began E.refuses editor.old (removals (call.DirProp (E.dir_path dir.old)) new.now (map.entries old.now))) }
+    ensures shown { OnOk result
+        (Adds E.shows editor.old editor.new
+        (removals (call.DirProp (E.dir_path dir.old)) new.now (map.entries old.now))) }
+    ensures stops { IfErr result
+        (Stops E.shows E.began E.refuses editor.old
+        (removals (call.DirProp (E.dir_path dir.old)) new.now (map.entries old.now))) }
     ensures baton { E.dir_path dir.new ≡ E.dir_path dir.old }
     ensures began { E.began editor.new ≡ E.began editor.old }
 {
@@ -35,8 +39,11 @@ fn unset_dir<E: Editor>(
 
 // Gives a directory each of the new properties.
 fn set_dir<E: Editor>(editor: &mut E, dir: &mut E::Dir, new: &Props) -> Result<(), EditorFault>
-    ensures shown { OnOk result (Adds E.shows editor.old editor.new (settings (call.DirProp (E.dir_path dir.old)) (map.entries new.now))) }
-    ensures stops { IfErr result (Stops E.shows E.began E.refuses editor.old (settings (call.DirProp (E.dir_path dir.old)) (map.entries new.now))) }
+    ensures shown { OnOk result
+        (Adds E.shows editor.old editor.new (settings (call.DirProp (E.dir_path dir.old)) (map.entries new.now))) }
+    ensures stops { IfErr result
+        (Stops E.shows E.began E.refuses editor.old
+        (settings (call.DirProp (E.dir_path dir.old)) (map.entries new.now))) }
     ensures baton { E.dir_path dir.new ≡ E.dir_path dir.old }
     ensures began { E.began editor.new ≡ E.began editor.old }
 {
@@ -54,8 +61,12 @@ fn unset_file<E: Editor>(
     old: &Props,
     new: &Props,
 ) -> Result<(), EditorFault>
-    ensures shown { OnOk result (Adds E.shows editor.old editor.new (removals (call.FileProp (E.file_path file.old)) new.now (map.entries old.now))) }
-    ensures stops { IfErr result (Stops E.shows E.began E.refuses editor.old (removals (call.FileProp (E.file_path file.old)) new.now (map.entries old.now))) }
+    ensures shown { OnOk result
+        (Adds E.shows editor.old editor.new
+        (removals (call.FileProp (E.file_path file.old)) new.now (map.entries old.now))) }
+    ensures stops { IfErr result
+        (Stops E.shows E.began E.refuses editor.old
+        (removals (call.FileProp (E.file_path file.old)) new.now (map.entries old.now))) }
     ensures baton { E.file_path file.new ≡ E.file_path file.old }
     ensures began { E.began editor.new ≡ E.began editor.old }
 {
@@ -71,8 +82,11 @@ fn unset_file<E: Editor>(
 
 // Gives a file each of the new properties.
 fn set_file<E: Editor>(editor: &mut E, file: &mut E::File, new: &Props) -> Result<(), EditorFault>
-    ensures shown { OnOk result (Adds E.shows editor.old editor.new (settings (call.FileProp (E.file_path file.old)) (map.entries new.now))) }
-    ensures stops { IfErr result (Stops E.shows E.began E.refuses editor.old (settings (call.FileProp (E.file_path file.old)) (map.entries new.now))) }
+    ensures shown { OnOk result
+        (Adds E.shows editor.old editor.new (settings (call.FileProp (E.file_path file.old)) (map.entries new.now))) }
+    ensures stops { IfErr result
+        (Stops E.shows E.began E.refuses editor.old
+        (settings (call.FileProp (E.file_path file.old)) (map.entries new.now))) }
     ensures baton { E.file_path file.new ≡ E.file_path file.old }
     ensures began { E.began editor.new ≡ E.began editor.old }
 {
@@ -90,8 +104,10 @@ fn reset_dir<E: Editor>(
     old: &Props,
     new: &Props,
 ) -> Result<(), EditorFault>
-    ensures shown { OnOk result (Adds E.shows editor.old editor.new (prop_calls (call.DirProp (E.dir_path dir.old)) old.now new.now)) }
-    ensures stops { IfErr result (Stops E.shows E.began E.refuses editor.old (prop_calls (call.DirProp (E.dir_path dir.old)) old.now new.now)) }
+    ensures shown { OnOk result
+        (Adds E.shows editor.old editor.new (prop_calls (call.DirProp (E.dir_path dir.old)) old.now new.now)) }
+    ensures stops { IfErr result
+        (Stops E.shows E.began E.refuses editor.old (prop_calls (call.DirProp (E.dir_path dir.old)) old.now new.now)) }
     ensures baton { E.dir_path dir.new ≡ E.dir_path dir.old }
     ensures began { E.began editor.new ≡ E.began editor.old }
 {
@@ -106,8 +122,11 @@ fn reset_file<E: Editor>(
     old: &Props,
     new: &Props,
 ) -> Result<(), EditorFault>
-    ensures shown { OnOk result (Adds E.shows editor.old editor.new (prop_calls (call.FileProp (E.file_path file.old)) old.now new.now)) }
-    ensures stops { IfErr result (Stops E.shows E.began E.refuses editor.old (prop_calls (call.FileProp (E.file_path file.old)) old.now new.now)) }
+    ensures shown { OnOk result
+        (Adds E.shows editor.old editor.new (prop_calls (call.FileProp (E.file_path file.old)) old.now new.now)) }
+    ensures stops { IfErr result
+        (Stops E.shows E.began E.refuses editor.old
+        (prop_calls (call.FileProp (E.file_path file.old)) old.now new.now)) }
     ensures baton { E.file_path file.new ≡ E.file_path file.old }
     ensures began { E.began editor.new ≡ E.began editor.old }
 {
@@ -142,8 +161,12 @@ pub fn give_file_props<E: Editor>(
     old: &Props,
 ) -> Result<(), EditorFault>
     requires { E.file_path file.old ≡ change.now.path }
-    ensures shown { OnOk result (Adds E.shows editor.old editor.new (option_map_or (prop_calls (call.FileProp change.now.path) old.now) change.now.props [])) }
-    ensures stops { IfErr result (Stops E.shows E.began E.refuses editor.old (option_map_or (prop_calls (call.FileProp change.now.path) old.now) change.now.props [])) }
+    ensures shown { OnOk result
+        (Adds E.shows editor.old editor.new
+        (option_map_or (prop_calls (call.FileProp change.now.path) old.now) change.now.props [])) }
+    ensures stops { IfErr result
+        (Stops E.shows E.began E.refuses editor.old
+        (option_map_or (prop_calls (call.FileProp change.now.path) old.now) change.now.props [])) }
     ensures baton { E.file_path file.new ≡ E.file_path file.old }
     ensures began { E.began editor.new ≡ E.began editor.old }
 {

@@ -1,5 +1,6 @@
 //! A set of changes, shown to an editor.
-ghost use Rattle.std.specs.Prelude.{◌≡◌, ◌≤◌, ◌<◌, ◌++◌, ◌∷◌, [], Some, None, length, false, IfOk, IfErr, IsOk, MatchOption, OnOk};
+ghost use Rattle.std.specs.Prelude.{◌≡◌, ◌≤◌, ◌<◌, ◌++◌, ◌∷◌, [], Some, None, length, false};
+ghost use Rattle.std.specs.Prelude.{IfOk, IfErr, IsOk, MatchOption, OnOk};
 ghost use Rattle.node_base.specs.Path.{Path, is_front};
 ghost use Rattle.node_base.specs.Limits.{fits};
 ghost use Rattle.delta_editor.specs.Calls.{Adds};
@@ -37,9 +38,13 @@ fn show_change<E: Editor>(
     requires few { length trees.now ≤ 65535 }
     requires up { E.dir_path up.old ≡ above change.now.path }
     requires below_root { is_front change.now.path [] ≡ false }
-    ensures shown { OnOk result (Adds E.shows editor.old editor.new (calls_with trees.now plan.now.file plan.now.old change.now)) }
-    ensures stops { IfErr result (Stops E.shows E.began E.refuses editor.old (calls_with trees.now plan.now.file plan.now.old change.now)) }
-    ensures rests { IfOk result (λ o. MatchOption o (rests_with plan.now.file change.now ≡ above change.now.path) (λ d. (E.dir_path d ≡ change.now.path) × (rests_with plan.now.file change.now ≡ change.now.path))) }
+    ensures shown { OnOk result
+        (Adds E.shows editor.old editor.new (calls_with trees.now plan.now.file plan.now.old change.now)) }
+    ensures stops { IfErr result
+        (Stops E.shows E.began E.refuses editor.old (calls_with trees.now plan.now.file plan.now.old change.now)) }
+    ensures rests { IfOk result (λ o. MatchOption o (rests_with plan.now.file change.now
+        ≡ above change.now.path) (λ d. (E.dir_path d ≡ change.now.path)
+        × (rests_with plan.now.file change.now ≡ change.now.path))) }
     ensures up { E.dir_path up.new ≡ E.dir_path up.old }
     ensures began { E.began editor.new ≡ E.began editor.old }
 {
@@ -68,13 +73,21 @@ fn enter<E: Editor>(
     requires here { progress.old.next < length revision.now.set.now }
     requires walked { Walked revision.now.trees.now revision.now.set.now progress.old.next progress.old.tree }
     requires child { IsNext revision.now.set.now progress.old.next (E.dir_path up.old) path.now }
-    ensures walked { OnOk result (Walked revision.now.trees.now revision.now.set.now progress.new.next progress.new.tree) }
+    ensures walked { OnOk result
+        (Walked revision.now.trees.now revision.now.set.now progress.new.next progress.new.tree) }
     ensures within { OnOk result (progress.new.next ≤ length revision.now.set.now) }
-    ensures moved { IfOk result (λ o. MatchOption o (progress.old.next < progress.new.next) (λ _. progress.old.next ≤ progress.new.next)) }
-    ensures later { IfOk result (λ o. MatchOption o (E.dir_path up.old ≡ E.dir_path up.old) (λ _. IsLater revision.now.set.now progress.new.next path.now)) }
+    ensures moved { IfOk result
+        (λ o. MatchOption o (progress.old.next < progress.new.next) (λ _. progress.old.next ≤ progress.new.next)) }
+    ensures later { IfOk result (λ o. MatchOption o (E.dir_path up.old
+        ≡ E.dir_path up.old) (λ _. IsLater revision.now.set.now progress.new.next path.now)) }
     ensures up { E.dir_path up.new ≡ E.dir_path up.old }
-    ensures shown { IfOk result (Entered E.shows E.dir_path editor.old editor.new (left revision.now.trees.now revision.now.set.now progress.old.next (E.dir_path up.old)) (left revision.now.trees.now revision.now.set.now progress.new.next) (E.dir_path up.old) path.now) }
-    ensures halts { IfErr result (Halts E.shows E.began E.refuses revision.now.trees.now revision.now.set.now editor.old (left revision.now.trees.now revision.now.set.now progress.old.next (E.dir_path up.old))) }
+    ensures shown { IfOk result
+        (Entered E.shows E.dir_path editor.old editor.new
+        (left revision.now.trees.now revision.now.set.now progress.old.next (E.dir_path up.old))
+        (left revision.now.trees.now revision.now.set.now progress.new.next) (E.dir_path up.old) path.now) }
+    ensures halts { IfErr result
+        (Halts E.shows E.began E.refuses revision.now.trees.now revision.now.set.now editor.old
+        (left revision.now.trees.now revision.now.set.now progress.old.next (E.dir_path up.old))) }
     ensures began { E.began editor.new ≡ E.began editor.old }
 {
     let set = revision.set;
@@ -94,7 +107,8 @@ fn child_of(
     at: &NodePath,
 ) -> Result<Option<NodePath>, EditorFault>
     requires later { IsLater set.now next at.now }
-    ensures next { IfOk result (λ o. MatchOption o (is_under set.now next at.now ≡ false) (λ p. IsNext set.now next at.now p)) }
+    ensures next { IfOk result (λ o. MatchOption o (is_under set.now next at.now
+        ≡ false) (λ p. IsNext set.now next at.now p)) }
     ensures memory { IfErr result (λ e. e ≡ OutOfMemory) }
 {
     if next >= set.len() {
@@ -128,13 +142,18 @@ fn show_below<E: Editor>(
     requires walked { Walked revision.now.trees.now revision.now.set.now progress.old.next progress.old.tree }
     requires at { E.dir_path dir.old ≡ at.now }
     requires later { IsLater revision.now.set.now progress.old.next at.now }
-    ensures walked { OnOk result (Walked revision.now.trees.now revision.now.set.now progress.new.next progress.new.tree) }
+    ensures walked { OnOk result
+        (Walked revision.now.trees.now revision.now.set.now progress.new.next progress.new.tree) }
     ensures within { OnOk result (progress.new.next ≤ length revision.now.set.now) }
     ensures moved { OnOk result (progress.old.next ≤ progress.new.next) }
     ensures baton { E.dir_path dir.new ≡ E.dir_path dir.old }
     ensures past { OnOk result (is_under revision.now.set.now progress.new.next at.now ≡ false) }
-    ensures shown { OnOk result (Shown E.shows editor.old editor.new (left revision.now.trees.now revision.now.set.now progress.old.next at.now) (left revision.now.trees.now revision.now.set.now progress.new.next at.now)) }
-    ensures halts { IfErr result (Halts E.shows E.began E.refuses revision.now.trees.now revision.now.set.now editor.old (left revision.now.trees.now revision.now.set.now progress.old.next at.now)) }
+    ensures shown { OnOk result
+        (Shown E.shows editor.old editor.new (left revision.now.trees.now revision.now.set.now progress.old.next at.now)
+        (left revision.now.trees.now revision.now.set.now progress.new.next at.now)) }
+    ensures halts { IfErr result
+        (Halts E.shows E.began E.refuses revision.now.trees.now revision.now.set.now editor.old
+        (left revision.now.trees.now revision.now.set.now progress.old.next at.now)) }
     ensures began { E.began editor.new ≡ E.began editor.old }
 {
     loop {
@@ -168,12 +187,17 @@ fn show_root<E: Editor>(
     requires first { progress.old.next ≡ 0 }
     requires walked { Walked revision.now.trees.now revision.now.set.now progress.old.next progress.old.tree }
     requires at { E.dir_path root.old ≡ [] }
-    ensures walked { OnOk result (Walked revision.now.trees.now revision.now.set.now progress.new.next progress.new.tree) }
+    ensures walked { OnOk result
+        (Walked revision.now.trees.now revision.now.set.now progress.new.next progress.new.tree) }
     ensures within { OnOk result (progress.new.next ≤ length revision.now.set.now) }
     ensures later { OnOk result (IsLater revision.now.set.now progress.new.next []) }
     ensures baton { E.dir_path root.new ≡ E.dir_path root.old }
-    ensures shown { OnOk result (Shown E.shows editor.old editor.new (left revision.now.trees.now revision.now.set.now progress.old.next []) (left revision.now.trees.now revision.now.set.now progress.new.next [])) }
-    ensures halts { IfErr result (Halts E.shows E.began E.refuses revision.now.trees.now revision.now.set.now editor.old (left revision.now.trees.now revision.now.set.now progress.old.next [])) }
+    ensures shown { OnOk result
+        (Shown E.shows editor.old editor.new (left revision.now.trees.now revision.now.set.now progress.old.next [])
+        (left revision.now.trees.now revision.now.set.now progress.new.next [])) }
+    ensures halts { IfErr result
+        (Halts E.shows E.began E.refuses revision.now.trees.now revision.now.set.now editor.old
+        (left revision.now.trees.now revision.now.set.now progress.old.next [])) }
     ensures began { E.began editor.new ≡ E.began editor.old }
 {
     let set = revision.set;
@@ -201,8 +225,11 @@ fn show_all<E: Editor>(
     requires at { E.dir_path root.old ≡ [] }
     ensures faultless { OnOk result (fault revision.now.trees.now revision.now.set.now ≡ None) }
     ensures baton { E.dir_path root.new ≡ E.dir_path root.old }
-    ensures shown { OnOk result (Adds E.shows editor.old editor.new (walk revision.now.trees.now [] [] revision.now.set.now)) }
-    ensures halts { IfErr result (Halts E.shows E.began E.refuses revision.now.trees.now revision.now.set.now editor.old (walk revision.now.trees.now [] [] revision.now.set.now)) }
+    ensures shown { OnOk result
+        (Adds E.shows editor.old editor.new (walk revision.now.trees.now [] [] revision.now.set.now)) }
+    ensures halts { IfErr result
+        (Halts E.shows E.began E.refuses revision.now.trees.now revision.now.set.now editor.old
+        (walk revision.now.trees.now [] [] revision.now.set.now)) }
     ensures began { E.began editor.new ≡ E.began editor.old }
 {
     let mut progress = Progress {
@@ -219,8 +246,13 @@ fn show_edit<E: Editor>(revision: &Revision<'_>, editor: &mut E) -> Result<(), E
     requires few { length revision.now.trees.now ≤ 65535 }
     requires normal { IsNormal revision.now.set.now }
     ensures faultless { OnOk result (fault revision.now.trees.now revision.now.set.now ≡ None) }
-    ensures shown { OnOk result (Adds E.shows editor.old editor.new (call.Target (length revision.now.trees.now) ∷ call.OpenRoot (base_number revision.now.trees.now) ∷ (walk revision.now.trees.now [] [] revision.now.set.now ++ call.CloseDir [] ∷ []))) }
-    ensures halts { IfErr result (Halts E.shows E.began E.refuses revision.now.trees.now revision.now.set.now editor.old (calls.drive revision.now.trees.now revision.now.set.now)) }
+    ensures shown { OnOk result
+        (Adds E.shows editor.old editor.new
+        (call.Target (length revision.now.trees.now) ∷ call.OpenRoot (base_number revision.now.trees.now) ∷
+        (walk revision.now.trees.now [] [] revision.now.set.now ++ call.CloseDir [] ∷ []))) }
+    ensures halts { IfErr result
+        (Halts E.shows E.began E.refuses revision.now.trees.now revision.now.set.now editor.old
+        (calls.drive revision.now.trees.now revision.now.set.now)) }
     ensures began { E.began editor.new ≡ E.began editor.old }
 {
     editor.target(next_number(revision.trees))?;
@@ -234,16 +266,17 @@ fn show_edit<E: Editor>(revision: &Revision<'_>, editor: &mut E) -> Result<(), E
     }
 }
 
-/// Shows a set of changes as the revision after these trees to an editor that was shown nothing yet, and gives what the edit
-/// comes to.
+/// Shows a set of changes as the revision after these trees to an editor that was shown nothing yet, and gives what
+/// the edit comes to.
 ///
-/// The changes come in path order. Each directory is opened just above what changes in it, and closed when the next path isn't
-/// under it. A deletion is one call, a replace is a deletion and an add. Properties that a change gives are shown against those
-/// of the node that it begins with: a removal for each name that goes, then each new value, both in the order of the names. A
-/// text is sent whole, in pieces of 65,536 bytes at most, and the close of its file has its MD5.
+/// The changes come in path order. Each directory is opened just above what changes in it, and closed when the next
+/// path isn't under it. A deletion is one call, a replace is a deletion and an add. Properties that a change gives
+/// are shown against those of the node that it begins with: a removal for each name that goes, then each new value,
+/// both in the order of the names. A text is sent whole, in pieces of 65,536 bytes at most, and the close of its
+/// file has its MD5.
 ///
-/// Refused: with the set's first fault (8, 10 to 14, 17), for want of memory (70), and with what the editor may answer at one
-/// of these calls after those before it. The editor is given up then.
+/// Refused: with the set's first fault (8, 10 to 14, 17), for want of memory (70), and with what the editor may
+/// answer at one of these calls after those before it. The editor is given up then.
 pub fn drive<E: Editor>(
     alloc: Global,
     trees: &[Tree],
@@ -255,7 +288,8 @@ pub fn drive<E: Editor>(
     ensures began { IfOk result (λ d. E.done_began d ≡ E.began editor) }
     ensures shown { IfOk result (λ d. E.done_shows d (calls.drive trees.now set.now)) }
     ensures faultless { OnOk result (fault trees.now set.now ≡ None) }
-    ensures effect { OnOk result ((q : Path) → call_effect trees.now (calls.drive trees.now set.now) q ≡ effect trees.now set.now q) }
+    ensures effect { OnOk result ((q : Path)
+        → call_effect trees.now (calls.drive trees.now set.now) q ≡ effect trees.now set.now q) }
     ensures refused { IfErr result (IsDriveRefusal E.refuses (E.began editor) trees.now set.now) }
 {
     let revision = Revision {

@@ -20,8 +20,10 @@ fn send_pieces<E: Editor>(
     file: &mut E::File,
     text: &[u8],
 ) -> Result<(), EditorFault>
-    ensures shown { OnOk result (Adds E.shows editor.old editor.new (map (call.TextPiece (E.file_path file.old)) (pieces text.now))) }
-    ensures stops { IfErr result (Stops E.shows E.began E.refuses editor.old (map (call.TextPiece (E.file_path file.old)) (pieces text.now))) }
+    ensures shown { OnOk result
+        (Adds E.shows editor.old editor.new (map (call.TextPiece (E.file_path file.old)) (pieces text.now))) }
+    ensures stops { IfErr result
+        (Stops E.shows E.began E.refuses editor.old (map (call.TextPiece (E.file_path file.old)) (pieces text.now))) }
     ensures baton { E.file_path file.new ≡ E.file_path file.old }
     ensures began { E.began editor.new ≡ E.began editor.old }
 {
@@ -37,7 +39,8 @@ fn send_pieces<E: Editor>(
 // Sends a whole text.
 fn send_text<E: Editor>(editor: &mut E, file: &mut E::File, text: &Text) -> Result<(), EditorFault>
     ensures shown { OnOk result (Adds E.shows editor.old editor.new (text_calls (E.file_path file.old) text.now)) }
-    ensures stops { IfErr result (Stops E.shows E.began E.refuses editor.old (text_calls (E.file_path file.old) text.now)) }
+    ensures stops { IfErr result
+        (Stops E.shows E.began E.refuses editor.old (text_calls (E.file_path file.old) text.now)) }
     ensures baton { E.file_path file.new ≡ E.file_path file.old }
     ensures began { E.began editor.new ≡ E.began editor.old }
 {
@@ -53,8 +56,10 @@ pub fn give_text<E: Editor>(
     change: &Change,
 ) -> Result<(), EditorFault>
     requires { E.file_path file.old ≡ change.now.path }
-    ensures shown { OnOk result (Adds E.shows editor.old editor.new (option_map_or (text_calls change.now.path) change.now.text [])) }
-    ensures stops { IfErr result (Stops E.shows E.began E.refuses editor.old (option_map_or (text_calls change.now.path) change.now.text [])) }
+    ensures shown { OnOk result
+        (Adds E.shows editor.old editor.new (option_map_or (text_calls change.now.path) change.now.text [])) }
+    ensures stops { IfErr result
+        (Stops E.shows E.began E.refuses editor.old (option_map_or (text_calls change.now.path) change.now.text [])) }
     ensures baton { E.file_path file.new ≡ E.file_path file.old }
     ensures began { E.began editor.new ≡ E.began editor.old }
 {

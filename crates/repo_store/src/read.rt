@@ -109,7 +109,7 @@ fn first(
     ensures joined { IfOk result (λ r. records_of r ≡ so_far revision ++ told.Revision number props ∷ []) }
     ensures bad { IsErrOf result ReadFault.Bad → (rest : List RecordOf) (n : ℕ) (ps : PropMap) (nodes : List NodeOf)
         → so_far revision ++ told.Revision number props ∷ rest ≡ told.Revision n ps ∷ map told.Node nodes
-            → ⊥ }
+        → ⊥ }
     ensures no_other { IfErr result (λ e. e ≡ ReadFault.Bad) }
 {
     match revision {

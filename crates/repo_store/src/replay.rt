@@ -180,7 +180,7 @@ fn read_first<D: Disk>(alloc: Global, log: &mut GateLog<D>) -> Result<Repo, LogF
     requires working { ¬ HasFailed log.old }
     ensures begun { D.honest (disk_of log.old)
         → IfOk result (λ r. (bytes : List ℕ) × (props : PropMap)
-            × (slice_get (entries_of log.old) 0 ≡ Some bytes)
+        × (slice_get (entries_of log.old) 0 ≡ Some bytes)
         × IsBeginning bytes r.identity props × (r ≡ with_entry_in (fresh r.identity) (Mapped 0 props))) }
     ensures damaged { D.honest (disk_of log.old) → (k : ℕ) → IsErrOf result (log_fault.Damaged k) → k ≡ 0 }
     ensures breaks { D.honest (disk_of log.old) → (k : ℕ) → IsErrOf result (log_fault.Damaged k)

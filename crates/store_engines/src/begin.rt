@@ -32,7 +32,7 @@ pub fn create_store<D: Disk + Drop>(
     ensures later { IfOk result (λ store. D.failures disk ≤ D.failures (disk_of store)) }
     ensures device { IfErr result (λ e. (left : D) × (D.honest disk ↔ D.honest left)
         × (D.failures disk ≤ D.failures left)
-            × (e ≡ Refusal.DeviceFailed → Rose (D.failures disk) (D.failures left))) }
+        × (e ≡ Refusal.DeviceFailed → Rose (D.failures disk) (D.failures left))) }
     ensures honest { IfOk result (λ store. D.honest disk ↔ D.honest (disk_of store)) }
     ensures no_peer { IfErr result (λ e. e ≡ Refusal.PeerFailed → ⊥) }
 {
@@ -61,7 +61,7 @@ pub fn open_store<D: Disk + Drop>(alloc: Global, disk: D) -> Result<RepoStore<D>
     ensures stopped { D.honest disk → (entry : ℕ) → IsDamaged entry (D.reads disk) → IsErr result }
     ensures first { D.honest disk → (entry : ℕ) → IsDamaged entry (D.reads disk)
         → IfErr result (λ e. (e ≡ Refusal.Damaged entry) ⊎ (e ≡ Refusal.DeviceFailed)
-            ⊎ (e ≡ Refusal.OutOfMemory)) }
+        ⊎ (e ≡ Refusal.OutOfMemory)) }
     ensures missing { D.honest disk → IfErr result (λ e. e ≡ Refusal.NoRepository → HasNoEntry (D.reads disk)) }
     ensures no_other { IfErr result IsOpenRefusal }
     ensures later { IfOk result (λ store. D.failures disk ≤ D.failures (disk_of store)) }
@@ -69,7 +69,7 @@ pub fn open_store<D: Disk + Drop>(alloc: Global, disk: D) -> Result<RepoStore<D>
         (λ c. D.may_leave disk c ⊎ KeepsAlike (D.reads disk) c)) }
     ensures device { IfErr result (λ e. (left : D) × (D.honest disk ↔ D.honest left)
         × (D.failures disk ≤ D.failures left)
-            × (e ≡ Refusal.DeviceFailed → Rose (D.failures disk) (D.failures left))
+        × (e ≡ Refusal.DeviceFailed → Rose (D.failures disk) (D.failures left))
         × (D.honest disk → LeavesOnly D.clock D.left_since disk left (λ c. D.may_leave disk c
         ⊎ KeepsAlike (D.reads disk) c))) }
     ensures honest { IfOk result (λ store. D.honest disk ↔ D.honest (disk_of store)) }

@@ -69,7 +69,7 @@ fn judge(
         × Makes trees.now (record { number = number; props = props; nodes = nodes.items }) s tree) }
     ensures refused { IfErr result (λ e. (e ≡ Refusal.OutOfMemory)
         ⊎ ((props : PropMap) → IsUnfit trees.now
-            (record { number = number; props = props; nodes = nodes.items }) e)) }
+        (record { number = number; props = props; nodes = nodes.items }) e)) }
     ensures no_device { IfErr result (λ e. is_device e ≡ false) }
     ensures no_peer { IfErr result (λ e. e ≡ Refusal.PeerFailed → ⊥) }
 {
@@ -189,7 +189,7 @@ impl Loader {
             → CantTake x rs next store.new start (W.contents output.new.inner) output.new.failed e) }
         ensures device { IsSafe store.old
             → ServesRecords (read_of (last_of self.old)
-                ++ filter is_no_identity (next ∷ [])) store.old store.new result
+            ++ filter is_no_identity (next ∷ [])) store.old store.new result
             (read_of (last_of self.new)) }
         ensures peer { Flagged result output.old.failed output.new.failed }
     {
@@ -366,12 +366,12 @@ fn read_all<D: Disk + Drop, R: Read + Drop, W: Write + Drop>(
         × Consumes (R.remaining input.old.inner) (R.remaining input.new.inner) bytes
         × IsAtEnd (R.remaining input.new.inner)
         × Leads reader.old (repository_of store.old) (last_of loader.old)
-            (W.contents output.old.inner) bytes reader.new
+        (W.contents output.old.inner) bytes reader.new
         (repository_of store.new) (last_of loader.new) (W.contents output.new.inner)) }
     ensures refused { IfErr result (λ e. (x : Repository) (start : Option (List ℕ))
         → Reached x [] reader.old (repository_of store.old) (last_of loader.old) start (W.contents output.old.inner)
         → IfSome (R.remaining input.old.inner)
-            (λ bytes. Refused x bytes store.new start (W.contents output.new.inner)
+        (λ bytes. Refused x bytes store.new start (W.contents output.new.inner)
         output.new.failed e)) }
     ensures reading { OnOk result (has_failed reader.old ≡ false → has_failed reader.new ≡ false) }
     ensures device { has_failed reader.old ≡ false → IsSafe store.old → Serves store.old store.new result }
