@@ -1,0 +1,9 @@
+use Rattle.std.proofs.Common.{subst, sym}
+use Rattle.std.specs.Result.{OnOk}
+use Rattle.std.specs.Io.KnownBytes.{Appends}
+use Rattle.mirror_engines.specs.Infos.{merged_line}
+use Rattle.mirror_engines.proofs.info.write_merged.Goals as goal
+
+pub returns-in-None-clause-ok : goal.returns-in-None-clause-ok
+returns-in-None-clause-ok g c =
+    subst (λ n. OnOk c.write_line.result (Appends (g.W.Write.contents c.args.output.now.inner) (g.W.Write.contents c.write_line.new.output.inner) (merged_line n))) (sym c.in-None.is) c.write_line.ensures.ok

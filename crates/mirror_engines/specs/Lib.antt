@@ -1,0 +1,4 @@
+pub mod Infos
+pub mod Lines
+pub mod Ports
+pub mod Runs

@@ -1,0 +1,157 @@
+//! Runs over a mirror's store.
+ghost use Rattle.std.specs.Prelude.{◌≡◌, None, true, IfErr, OnOk};
+ghost use Rattle.repo_store.specs.Words.{repository_of, HasFailed};
+ghost use Rattle.sync_job.specs.Alone.{begun, holder_of, store_of, StandsAt};
+ghost use Rattle.mirror_engines.specs.Runs.{answer_of, told_as, IsCopied, IsInitialised, IsSynchronised, IsWorked};
+ghost use Rattle.mirror_engines.specs.Runs.{Serves};
+
+use crate::lent::LentMaster;
+use crate::printer::Printer;
+use crate::work::Work;
+use fleet_disk::Disk;
+use fleet_engines::Sink;
+use node_base::{PropValue, Refusal, RevNo};
+use repo_store::RepoStore;
+use std::alloc::Global;
+use std::io::Write;
+use sync_core::{SyncFault, Token};
+use sync_job::{AloneMirror, JobPorts, run_copy_revprops as run_copy, run_init, run_sync};
+
+/// Makes a repository without revisions the mirror of a source, which is reached by that URL. The mirror's store and
+/// the writer come back as the run has left them, with its answer: a refusal of the job, and where it wasn't refused
+/// but a line couldn't be written PeerFailed (49).
+pub fn run_initialize<D: Disk + Drop, E: Disk + Drop, W: Write + Drop>(
+    alloc: Global,
+    mirror: RepoStore<D>,
+    source: &RepoStore<E>,
+    url: PropValue,
+    output: Sink<W>,
+) -> (RepoStore<D>, Sink<W>, Result<(), Refusal>)
+    ensures ran { Serves (IsInitialised url) mirror result.0 (W.contents output.inner) (W.contents result.1.inner)
+        result.1.failed result.2 }
+    ensures unfailed { OnOk result.2 (result.1.failed ≡ output.failed) }
+    ensures peer { IfErr result.2 (λ e. e ≡ Refusal.PeerFailed → result.1.failed ≡ true) }
+{
+    let mut ports = JobPorts::new(
+        alloc,
+        LentMaster::new(source),
+        held(mirror),
+        Printer::new(output),
+    );
+    let ended = run_init(alloc, &mut ports, url);
+    let (_source, mirror, printer) = ports.into_parts();
+    let answer = answer_of(ended, printer.is_lost());
+    (mirror.into_store(), printer.into_sink(), answer)
+}
+
+/// Brings a mirror up to its source, under a job's token. Where it is to steal, it takes a lock that stands.
+pub fn run_synchronize<D: Disk + Drop, E: Disk + Drop, W: Write + Drop>(
+    alloc: Global,
+    mirror: RepoStore<D>,
+    source: &RepoStore<E>,
+    token: Token,
+    steal: bool,
+    output: Sink<W>,
+) -> (RepoStore<D>, Sink<W>, Result<(), Refusal>)
+    ensures ran { Serves (IsSynchronised token steal) mirror result.0 (W.contents output.inner)
+        (W.contents result.1.inner) result.1.failed result.2 }
+    ensures unfailed { OnOk result.2 (result.1.failed ≡ output.failed) }
+    ensures peer { IfErr result.2 (λ e. e ≡ Refusal.PeerFailed → result.1.failed ≡ true) }
+{
+    let mut ports = JobPorts::new(
+        alloc,
+        LentMaster::new(source),
+        held(mirror),
+        Printer::new(output),
+    );
+    let ended = run_sync(alloc, &mut ports, token, steal);
+    let (_source, mirror, printer) = ports.into_parts();
+    let answer = answer_of(ended, printer.is_lost());
+    (mirror.into_store(), printer.into_sink(), answer)
+}
+
+/// Copies the properties of the revisions from `low` to `high` to a mirror again, under a job's token.
+pub fn run_copy_revprops<D: Disk + Drop, E: Disk + Drop, W: Write + Drop>(
+    alloc: Global,
+    mirror: RepoStore<D>,
+    source: &RepoStore<E>,
+    token: Token,
+    low: RevNo,
+    high: RevNo,
+    output: Sink<W>,
+) -> (RepoStore<D>, Sink<W>, Result<(), Refusal>)
+    ensures ran { Serves (IsCopied token low high) mirror result.0 (W.contents output.inner) (W.contents result.1.inner)
+        result.1.failed result.2 }
+    ensures unfailed { OnOk result.2 (result.1.failed ≡ output.failed) }
+    ensures peer { IfErr result.2 (λ e. e ≡ Refusal.PeerFailed → result.1.failed ≡ true) }
+{
+    let mut ports = JobPorts::new(
+        alloc,
+        LentMaster::new(source),
+        held(mirror),
+        Printer::new(output),
+    );
+    let ended = run_copy(alloc, &mut ports, token, low, high);
+    let (_source, mirror, printer) = ports.into_parts();
+    let answer = answer_of(ended, printer.is_lost());
+    (mirror.into_store(), printer.into_sink(), answer)
+}
+
+/// Runs the work over a mirror's store and a source: as `run_initialize`, `run_synchronize` and `run_copy_revprops`.
+pub fn run_work<D: Disk + Drop, E: Disk + Drop, W: Write + Drop>(
+    alloc: Global,
+    mirror: RepoStore<D>,
+    source: &RepoStore<E>,
+    work: Work,
+    output: Sink<W>,
+) -> (RepoStore<D>, Sink<W>, Result<(), Refusal>)
+    ensures ran { Serves (IsWorked work) mirror result.0 (W.contents output.inner) (W.contents result.1.inner)
+        result.1.failed result.2 }
+    ensures unfailed { OnOk result.2 (result.1.failed ≡ output.failed) }
+    ensures peer { IfErr result.2 (λ e. e ≡ Refusal.PeerFailed → result.1.failed ≡ true) }
+{
+    match work {
+        Work::Initialize { url } => run_initialize(alloc, mirror, source, url, output),
+        Work::Synchronize { token, steal } => {
+            run_synchronize(alloc, mirror, source, token, steal, output)
+        }
+        Work::CopyRevprops { token, low, high } => {
+            run_copy_revprops(alloc, mirror, source, token, low, high, output)
+        }
+    }
+}
+
+// A mirror in a store that nobody else has.
+fn held<D: Disk + Drop>(store: RepoStore<D>) -> AloneMirror<D>
+    ensures store { store_of result ≡ store }
+    ensures stands { ¬ HasFailed store → StandsAt store None (begun (repository_of store)) }
+    ensures holder { holder_of result ≡ None }
+{
+    let _repo = store.repo();
+    AloneMirror::new(store)
+}
+
+// The answer of a run, by how its job ended and whether a line was lost.
+fn answer_of(ended: Result<(), SyncFault>, lost: bool) -> Result<(), Refusal>
+    ensures { result ≡ answer_of ended lost }
+{
+    match ended {
+        Ok(()) => {
+            if lost {
+                return Err(Refusal::PeerFailed);
+            }
+            Ok(())
+        }
+        Err(fault) => Err(told_as(Refusal::from(fault))),
+    }
+}
+
+// A job's refusal as its run answers it.
+fn told_as(refusal: Refusal) -> Refusal
+    ensures { result ≡ told_as refusal }
+{
+    if refusal.number() == 49 {
+        return Refusal::OutOfTurn;
+    }
+    refusal
+}
