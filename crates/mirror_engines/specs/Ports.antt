@@ -1,16 +1,9 @@
 -- The ports of a run.
 use Rattle.std.specs.Prelude.{◌≡◌, ℕ, List, Bool, false, Option}
-use Rattle.fleet_disk.specs.declared.disk.Disk.{Ghosts}
 use Rattle.fleet_engines.specs.declared.stream.Sink.{Sink}
-use Rattle.repo_store.specs.declared.store.RepoStore.{RepoStore}
 use Rattle.sync_job.specs.declared.report.Told.{Told}
 use Rattle.mirror_engines.specs.Lines.{IsPrinted}
-use Rattle.mirror_engines.specs.declared.lent.LentMaster.{LentMaster}
 use Rattle.mirror_engines.specs.declared.printer.Printer.{Printer}
-
--- the store of a master that is lent
-abbrev pub source_of : {D : Type 0} {G : Ghosts D} → LentMaster D G → RepoStore D G
-source_of a = a.store.now
 
 -- the writer of a report as it is now, and whether a line was lost
 abbrev pub sink_of : {W : Type 0} → Printer W → Sink W

@@ -17,13 +17,11 @@
 #![tactic(auto)]
 
 pub use info::run_info;
-pub use lent::LentMaster;
 pub use printer::Printer;
 pub use runs::{run_copy_revprops, run_initialize, run_synchronize, run_work};
 pub use work::Work;
 
 mod info;
-mod lent;
 mod lines;
 mod printer;
 mod runs;

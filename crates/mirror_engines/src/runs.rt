@@ -5,7 +5,6 @@ ghost use Rattle.sync_job.specs.Alone.{begun, holder_of, store_of, StandsAt};
 ghost use Rattle.mirror_engines.specs.Runs.{answer_of, told_as, IsCopied, IsInitialised, IsSynchronised, IsWorked};
 ghost use Rattle.mirror_engines.specs.Runs.{Serves};
 
-use crate::lent::LentMaster;
 use crate::printer::Printer;
 use crate::work::Work;
 use fleet_disk::Disk;
@@ -15,7 +14,9 @@ use repo_store::RepoStore;
 use std::alloc::Global;
 use std::io::Write;
 use sync_core::{SyncFault, Token};
-use sync_job::{AloneMirror, JobPorts, run_copy_revprops as run_copy, run_init, run_sync};
+use sync_job::{
+    AloneMirror, JobPorts, LentMaster, run_copy_revprops as run_copy, run_init, run_sync,
+};
 
 /// Makes a repository without revisions the mirror of a source, which is reached by that URL. The mirror's store and
 /// the writer come back as the run has left them, with its answer: a refusal of the job, and where it wasn't refused
