@@ -1,5 +1,5 @@
 -- What is told of a value that is refused, and of an error.
-use Rattle.std.proofs.Common.{◌≡◌, ℕ, List, [], Option, Some, None, Result, Ok, Err, inl, inr, refl, sym, ap, ◌∙◌, subst, IfErr, IfSome, ◌++◌, codes}
+use Rattle.std.proofs.Common.{◌≡◌, ℕ, List, [], Option, Some, None, Result, Ok, Err, inl, inr, refl, sym, ap, ◌∙◌, subst, IfErr, IfSome, ◌++◌, true, false, bytes_eq, codes}
 use Rattle.std.specs.Fmt.{debug_str, ◌++?◌}
 use Rattle.clap.specs.Kinds.{Kinds, HasKind}
 use Rattle.clap.specs.Values.{kind_of}
@@ -10,8 +10,9 @@ use Rattle.fleet_main.specs.declared.command_line.Usage.{Usage}
 use Rattle.fleet_main.specs.declared.command_line.Usage.TheVariants.{Shown, Wrong, OutOfMemory}
 use Rattle.fleet_main.specs.Lines.{HasNoLineFeed, IsLineOf}
 use Rattle.fleet_main.specs.Terminal.{HasNoControl}
-use Rattle.fleet_main.specs.Values.{HasReturn, HasValue, SpellsMicros, SpellsRange, identity_read}
-use Rattle.fleet_main.specs.Usages.{IsRefusedAt, IsTold, IsUsageAt, IsUsageOf, IsValueLine, no_identity, no_range, no_moment, no_message}
+use Rattle.sync_core.specs.Tokens.{is_token}
+use Rattle.fleet_main.specs.Values.{HasReturn, HasValue, SpellsMicros, SpellsRange, identity_read, is_on_server}
+use Rattle.fleet_main.specs.Usages.{IsRefusedAt, IsTold, IsUsageAt, IsUsageOf, IsValueLine, IsOverTwo, IsSyncRefused, no_identity, no_range, no_moment, no_message, no_folders, no_copied_range, on_server, named_twice, no_token}
 
 pub identity_refused : (rows : List Row) (value read told : List ℕ) (u : Usage) → HasValue rows (codes "uuid") value → read ≡ value → told ≡ value
     → identity_read read ≡ None → IsTold (codes "svnfleet create") told (codes "a UUID of the form 8-4-4-4-12 in hexadecimal digits") u → IsRefusedAt (Some (codes "create", rows)) u
@@ -69,3 +70,37 @@ told_of help middle wanted wrong line (Some q) h is = subst (λ w. IsLineOf help
 pub value_line : (help value wanted wrong line : List ℕ) → IfSome (debug_str value ++? Some (codes " is not " ++ wanted)) (λ bs. wrong ≡ bs)
     → IsLineOf help wrong line → HasNoControl line → HasNoLineFeed line → IsValueLine help value wanted line
 value_line help value wanted wrong line h is clean one = (clean, one, told_of help (codes " is not ") wanted wrong line (debug_str value) h is)
+
+-- a source on a server
+pub server_refused : (rows : List Row) (help value read told : List ℕ) (u : Usage) → HasValue rows (codes "SOURCE") value → read ≡ value → told ≡ value → is_on_server read ≡ true → IsTold help told (codes "a folder") u
+    → IsSyncRefused rows help u
+server_refused rows help value read told (Shown text) has r t on h = absurd h
+server_refused rows help value read told (Wrong text) has r t on h = on_server told (has ∙ ap (λ v. Some v) (sym t)) (ap is_on_server (t ∙ sym r) ∙ on) h
+server_refused rows help value read told OutOfMemory has r t on h = tt
+
+-- one folder named twice
+pub twice_refused : (rows : List Row) (help mirror value read other told : List ℕ) (u : Usage) → HasValue rows (codes "MIRROR") mirror → HasValue rows (codes "SOURCE") value → read ≡ mirror → other ≡ value → told ≡ value
+    → bytes_eq read other ≡ true → IsTold help told (codes "another folder than the mirror's") u → IsSyncRefused rows help u
+twice_refused rows help mirror value read other told (Shown text) has there r o t same h = absurd h
+twice_refused rows help mirror value read other told (Wrong text) has there r o t same h =
+    named_twice read told (has ∙ ap (λ v. Some v) (sym r)) (there ∙ ap (λ v. Some v) (sym t)) (ap (λ v. bytes_eq read v) (t ∙ sym o) ∙ same) h
+twice_refused rows help mirror value read other told OutOfMemory has there r o t same h = tt
+
+-- what is no token
+pub token_refused : (rows : List Row) (help value : List ℕ) (u : Usage) → HasValue rows (codes "token") value → is_token value ≡ false
+    → IsTold help value (codes "a token of 1 to 255 printable ASCII characters without blanks") u → IsSyncRefused rows help u
+token_refused rows help value (Shown text) has none h = absurd h
+token_refused rows help value (Wrong text) has none h = no_token value has none h
+token_refused rows help value OutOfMemory has none h = tt
+
+-- of the command at hand
+pub folders_refused : (name : List ℕ) (rows : List Row) (u : Usage) → IsOverTwo name → IsSyncRefused rows (codes "svnfleet " ++ name) u → IsRefusedAt (Some (name, rows)) u
+folders_refused name rows (Shown text) o h = absurd h
+folders_refused name rows (Wrong text) o h = (name, rows, refl, no_folders o h)
+folders_refused name rows OutOfMemory o h = tt
+
+pub copied_range_refused : (rows : List Row) (value : List ℕ) (u : Usage) → HasValue rows (codes "revisions") value
+    → ((lo hi : ℕ) → SpellsRange value lo hi → ⊥) → IsTold (codes "svnfleet copy-revprops") value (codes "a range LO:HI of revisions from 0 to 65535, LO not above HI") u → IsRefusedAt (Some (codes "copy-revprops", rows)) u
+copied_range_refused rows value (Shown text) has none h = absurd h
+copied_range_refused rows value (Wrong text) has none h = (codes "copy-revprops", rows, refl, no_copied_range value refl has none h)
+copied_range_refused rows value OutOfMemory has none h = tt

@@ -1,5 +1,5 @@
 -- What the program tells where the words name no command.
-use Rattle.std.specs.Prelude.{◌≡◌, ◌≢◌, ◌⊎◌, ℕ, List, [], ◌++◌, Option, Some, None, IfSome, string_bytes, codes}
+use Rattle.std.specs.Prelude.{◌≡◌, ◌≢◌, ◌⊎◌, ℕ, List, true, false, [], ◌++◌, Option, Some, None, IfSome, bytes_eq, string_bytes, codes}
 use Rattle.std.specs.Fmt.{debug_str}
 use Rattle.clap.specs.Kinds.{Kinds, IsAmong}
 use Rattle.clap.specs.Words.{Row}
@@ -7,7 +7,8 @@ use Rattle.clap.specs.declared.error.kind.ErrorKind.{ErrorKind}
 use Rattle.clap.specs.declared.error.kind.ErrorKind.TheVariants as kind
 use Rattle.fleet_main.specs.Lines.{HasNoLineFeed, IsLineOf}
 use Rattle.fleet_main.specs.Terminal.{HasNoControl}
-use Rattle.fleet_main.specs.Values.{HasReturn, HasValue, SpellsMicros, SpellsRange, identity_read}
+use Rattle.sync_core.specs.Tokens.{is_token}
+use Rattle.fleet_main.specs.Values.{HasReturn, HasValue, SpellsMicros, SpellsRange, identity_read, is_on_server}
 use Rattle.fleet_main.specs.declared.command_line.Usage.{Usage}
 use Rattle.fleet_main.specs.declared.command_line.Usage.TheVariants.{Shown, Wrong, OutOfMemory}
 
@@ -36,7 +37,25 @@ IsTold help value wanted (Shown text) = ⊥
 IsTold help value wanted (Wrong text) = IsValueLine help value wanted (string_bytes text)
 IsTold help value wanted OutOfMemory = Unit {0}
 
--- the value of a subcommand that isn't taken: it spells no identity, no range or no moment, or is a message with a carriage return
+-- the value of a command over a mirror and its source that isn't taken: the source is one on a server, or the mirror's folder, or the token is none
+pub data IsSyncValueRefused (rows : List Row) (help line : List ℕ) : Type 0 where
+  on_server : (value : List ℕ) → HasValue rows (codes "SOURCE") value → is_on_server value ≡ true → IsValueLine help value (codes "a folder") line → IsSyncValueRefused rows help line
+  named_twice : (mirror value : List ℕ) → HasValue rows (codes "MIRROR") mirror → HasValue rows (codes "SOURCE") value → bytes_eq mirror value ≡ true
+      → IsValueLine help value (codes "another folder than the mirror's") line → IsSyncValueRefused rows help line
+  no_token : (value : List ℕ) → HasValue rows (codes "token") value → is_token value ≡ false
+      → IsValueLine help value (codes "a token of 1 to 255 printable ASCII characters without blanks") line → IsSyncValueRefused rows help line
+
+-- of such a command: a value is refused; else memory ran out
+abbrev pub IsSyncRefused : List Row → List ℕ → Usage → Type 0
+IsSyncRefused rows help (Shown text) = ⊥
+IsSyncRefused rows help (Wrong text) = IsSyncValueRefused rows help (string_bytes text)
+IsSyncRefused rows help OutOfMemory = Unit {0}
+
+-- a command over a mirror and its source
+abbrev pub IsOverTwo : List ℕ → Type 0
+IsOverTwo name = (name ≡ codes "initialize") ⊎ (name ≡ codes "synchronize") ⊎ (name ≡ codes "copy-revprops")
+
+-- the value of a subcommand that isn't taken: it spells no identity, no range, no moment or no token, is a message with a carriage return, or a source that is none
 pub data IsValueRefused (name : List ℕ) (rows : List Row) (line : List ℕ) : Type 0 where
   no_identity : (value : List ℕ) → name ≡ codes "create" → HasValue rows (codes "uuid") value → identity_read value ≡ None
       → IsValueLine (codes "svnfleet create") value (codes "a UUID of the form 8-4-4-4-12 in hexadecimal digits") line → IsValueRefused name rows line
@@ -46,6 +65,9 @@ pub data IsValueRefused (name : List ℕ) (rows : List Row) (line : List ℕ) : 
       → IsValueLine (codes "svnfleet mkdir") value (codes "a number of microseconds from 0 to 4102444799999999") line → IsValueRefused name rows line
   no_message : (value : List ℕ) → name ≡ codes "mkdir" → HasValue rows (codes "message") value → HasReturn value
       → IsValueLine (codes "svnfleet mkdir") value (codes "a message without carriage returns") line → IsValueRefused name rows line
+  no_folders : IsOverTwo name → IsSyncValueRefused rows (codes "svnfleet " ++ name) line → IsValueRefused name rows line
+  no_copied_range : (value : List ℕ) → name ≡ codes "copy-revprops" → HasValue rows (codes "revisions") value → ((lo hi : ℕ) → SpellsRange value lo hi → ⊥)
+      → IsValueLine (codes "svnfleet copy-revprops") value (codes "a range LO:HI of revisions from 0 to 65535, LO not above HI") line → IsValueRefused name rows line
 
 -- of a subcommand with its values: a value is refused; else memory ran out
 abbrev pub IsRefusedAt : Option (List ℕ × List Row) → Usage → Type 0

@@ -1,15 +1,17 @@
 -- What the values of a command's words spell.
-use Rattle.std.specs.Prelude.{◌≡◌, ◌≤◌, ℕ, List, ◌∷◌, ◌++◌, ◌==◌, Option, true, Some, None, string_bytes, codes}
-use Rattle.std.specs.List.{list_any}
+use Rattle.std.specs.Prelude.{◌≡◌, ◌≢◌, ◌≤◌, ℕ, List, ◌∷◌, ◌++◌, ◌==◌, nat_eq, Option, Bool, true, false, Some, None, bytes_eq, string_bytes, codes}
+use Rattle.std.specs.List.{list_any, starts_with}
+use Rattle.std.specs.Option.{option_map_or}
 use Rattle.uuid.specs.Text.{parsed_hyphenated}
 use Rattle.clap.specs.Words.{Row, first_of}
 use Rattle.node_base.specs.Numbers.{decimal, rev_read}
 use Rattle.repo_core.specs.Dates.{IsMoment}
 use Rattle.store_engines.specs.Ranges.{first_in, last_in}
 use Rattle.store_engines.specs.declared.range.RevRange.{RevRange}
+use Rattle.sync_core.specs.Tokens.{is_token}
 use Rattle.fleet_main.specs.Words.{word_of}
 use Rattle.fleet_main.specs.declared.command_line.Command.{Command}
-use Rattle.fleet_main.specs.declared.command_line.Command.TheVariants.{List as ListIt, Canon, Create, Load, Dump, MakeDir}
+use Rattle.fleet_main.specs.declared.command_line.Command.TheVariants.{List as ListIt, Canon, Create, Load, Dump, MakeDir, Initialize, Synchronize, CopyRevprops, Info}
 
 -- the identity that 8-4-4-4-12 hexadecimal digits spell, in any case, with hyphens between them
 abbrev pub identity_read : List ℕ → Option (List ℕ)
@@ -43,6 +45,28 @@ HasReturn text = list_any (λ b. b == 13) text ≡ true
 abbrev pub HasValue : List Row → List ℕ → List ℕ → Type 0
 HasValue rows name value = first_of name rows ≡ Some value
 
+-- the source is one on a server
+abbrev pub is_on_server : List ℕ → Bool
+is_on_server source = starts_with nat_eq (codes "svn://") source
+
+-- the folders of a mirror and its source: two, and the source's isn't on a server
+abbrev pub HasFolders : List Row → List ℕ → List ℕ → Type 0
+HasFolders rows mirror source =
+    HasValue rows (codes "MIRROR") mirror × HasValue rows (codes "SOURCE") source × (is_on_server source ≡ false) × (bytes_eq mirror source ≡ false)
+
+-- the range that is given
+abbrev pub IsRangeGiven : List Row → RevRange → Type 0
+IsRangeGiven rows range = (value : List ℕ) × HasValue rows (codes "revisions") value × SpellsRange value (first_in range) (last_in range)
+
+-- the token that a value says, where there is one, and else `job`
+abbrev pub IsTokenOf : Option (List ℕ) → List ℕ → Type 0
+IsTokenOf None token = token ≡ codes "job"
+IsTokenOf (Some value) token = (token ≡ value) × (is_token value ≡ true)
+
+-- whether the option without a value is given
+abbrev pub is_given : List Row → List ℕ → Bool
+is_given rows name = option_map_or (λ value. bytes_eq value (codes "true")) (first_of name rows) false
+
 -- a command's folder, identity, range, path, message and moment are those of the values under their names
 abbrev pub HasValuesOf : List Row → Command → Type 0
 HasValuesOf rows ListIt = Unit {0}
@@ -54,6 +78,13 @@ HasValuesOf rows (Dump folder range) = HasValue rows (codes "DIR") (string_bytes
 HasValuesOf rows (MakeDir folder path message moment) =
     HasValue rows (codes "DIR") (string_bytes folder) × HasValue rows (codes "PATH") (string_bytes path) × HasValue rows (codes "message") (string_bytes message) × ¬ HasReturn (string_bytes message)
     × ((value : List ℕ) × HasValue rows (codes "moment") value × ((micros : ℕ) × SpellsMicros value micros × IsMoment micros moment))
+HasValuesOf rows (Initialize mirror source) = HasFolders rows (string_bytes mirror) (string_bytes source)
+HasValuesOf rows (Synchronize mirror source token steal) =
+    HasFolders rows (string_bytes mirror) (string_bytes source) × IsTokenOf (first_of (codes "token") rows) token × (steal ≡ is_given rows (codes "steal-lock"))
+HasValuesOf rows (CopyRevprops mirror source token range) =
+    HasFolders rows (string_bytes mirror) (string_bytes source) × IsTokenOf (first_of (codes "token") rows) token
+    × IsRangeGiven rows range
+HasValuesOf rows (Info mirror) = HasValue rows (codes "MIRROR") (string_bytes mirror)
 
 -- of a subcommand with its values: the command has its name and its values
 abbrev pub IsCommandOf : Option (List ℕ × List Row) → Command → Type 0

@@ -1,6 +1,6 @@
 //! The command line.
 ghost use Rattle.std.specs.Prelude.{◌≡◌, ◌≤◌, ◌++◌, ℕ, List, [], Option, IfNone, IfOk, IfErr, IfSome, Some, None, map};
-ghost use Rattle.std.specs.Prelude.{false, IsTrue, ◌↔◌, string_bytes, codes};
+ghost use Rattle.std.specs.Prelude.{false, true, IsTrue, ◌↔◌, string_bytes, codes};
 ghost use Rattle.std.specs.Option.{option_map};
 ghost use Rattle.clap.specs.Faults.{fault_of};
 ghost use Rattle.clap.specs.Kinds.{FailsBy};
@@ -10,10 +10,15 @@ ghost use Rattle.clap.specs.Words.{subcommand_rows_of};
 ghost use Rattle.clap.specs.declared.builder.command.Command.TheViews.{out-Command as fields_of};
 ghost use Rattle.fleet_main.specs.Lines.{HasNoLineFeed, IsLineOf, first_lines, help_of, without_label};
 ghost use Rattle.fleet_main.specs.Terminal.{HasNoControl};
-ghost use Rattle.fleet_main.specs.Usages.{IsRefusedAt, IsTold, IsUsageAt, IsUsageOf};
-ghost use Rattle.fleet_main.specs.Values.{HasReturn, HasValue, IsCommandOf, SpellsMicros, SpellsRange, identity_read};
-ghost use Rattle.fleet_main.specs.Words.{canon_app, create_app, dump_app, folders_app, list_app, load_app, mkdir_app};
-ghost use Rattle.fleet_main.specs.Words.{mkdir_place_app, named_rule, range_rule, streams_app, svnfleet_app, word_rule};
+ghost use Rattle.fleet_main.specs.Usages.{IsRefusedAt, IsSyncRefused, IsTold, IsUsageAt, IsUsageOf};
+ghost use Rattle.fleet_main.specs.Values.{HasFolders, HasReturn, HasValue, IsCommandOf, IsTokenOf, SpellsMicros};
+ghost use Rattle.fleet_main.specs.Values.{IsRangeGiven, SpellsRange, identity_read, is_given, is_on_server};
+ghost use Rattle.fleet_main.specs.Words.{canon_app, copied_range_rule, copy_revprops_app, create_app, dump_app};
+ghost use Rattle.fleet_main.specs.Words.{flag_rule, folders_app, histories_app, info_app, initialize_app, list_app};
+ghost use Rattle.fleet_main.specs.Words.{load_app, mirrors_app, mkdir_app, mkdir_place_app, named_rule, optional_rule};
+ghost use Rattle.fleet_main.specs.Words.{range_rule, streams_app, svnfleet_app, synchronize_app, two_folders_app};
+ghost use Rattle.fleet_main.specs.Words.{word_rule};
+ghost use Rattle.sync_core.specs.Tokens.{is_token};
 ghost use Rattle.node_base.specs.Numbers.{rev_read};
 ghost use Rattle.repo_core.specs.Dates.{IsMoment};
 ghost use Rattle.store_engines.specs.Ranges.{first_in, last_in};
@@ -27,6 +32,7 @@ use node_base::{RevNo, read_decimal};
 use repo_core::Moment;
 use std::alloc::{AllocError, Global};
 use store_engines::RevRange;
+use sync_core::Token;
 use uuid::Uuid;
 
 /// What the program is told to do.
@@ -56,6 +62,29 @@ pub enum Command {
         path: String,
         message: String,
         moment: Moment,
+    },
+    /// Make a folder's repository the mirror of another folder's.
+    Initialize {
+        mirror: String,
+        source: String,
+    },
+    /// Bring a mirror up to its source, under a job's token, over a lock that stands where it is to steal.
+    Synchronize {
+        mirror: String,
+        source: String,
+        token: Token,
+        steal: bool,
+    },
+    /// Copy the properties of a range of revisions to a mirror again, under a job's token.
+    CopyRevprops {
+        mirror: String,
+        source: String,
+        token: Token,
+        range: RevRange,
+    },
+    /// Tell how a mirror stands.
+    Info {
+        mirror: String,
     },
 }
 
@@ -121,6 +150,29 @@ fn valued<'a>(alloc: Global, name: &'a str, value: &'a str, help: &'a str) -> Ar
         .help(help)
         .long(name)
         .value_name(value)
+}
+
+// An option with a long name and one value, which may be left out.
+fn optional<'a>(alloc: Global, name: &'a str, value: &'a str, help: &'a str) -> Arg<'a>
+    ensures rule { rule_of result ≡ optional_rule name.now }
+    ensures local { result.global ≡ false }
+{
+    Arg::new(alloc, name)
+        .action(ArgAction::Set)
+        .help(help)
+        .long(name)
+        .value_name(value)
+}
+
+// An option with a long name and no value.
+fn flag<'a>(alloc: Global, name: &'a str, help: &'a str) -> Arg<'a>
+    ensures rule { rule_of result ≡ flag_rule name.now }
+    ensures local { result.global ≡ false }
+{
+    Arg::new(alloc, name)
+        .action(ArgAction::SetTrue)
+        .help(help)
+        .long(name)
 }
 
 // `-r LO:HI`, which may be left out.
@@ -221,6 +273,113 @@ fn mkdir<'a>(alloc: Global) -> Result<clap::Command<'a>, AllocError>
     Ok(whole)
 }
 
+// `-r LO:HI`, which has to be there.
+fn copied_range<'a>(alloc: Global) -> Arg<'a>
+    ensures rule { rule_of result ≡ copied_range_rule }
+    ensures local { result.global ≡ false }
+{
+    Arg::new(alloc, "revisions")
+        .required(true)
+        .short('r')
+        .value_name("LO:HI")
+        .action(ArgAction::Set)
+        .help("The first and the last revision to copy")
+}
+
+// A command of that name over a mirror and its source.
+fn two_folders<'a>(
+    alloc: Global,
+    name: &'a str,
+    about: &'a str,
+    after: &'a str,
+) -> Result<clap::Command<'a>, AllocError>
+    ensures app { IfOk result (λ c. app_of c ≡ two_folders_app name.now) }
+    ensures local { IfOk result (λ c. (fields_of c).has_globals ≡ false) }
+{
+    let mirror = word(alloc, "MIRROR", "The folder of the mirror");
+    let source = word(alloc, "SOURCE", "The folder of its source");
+    let top = clap::Command::new(alloc, name)
+        .about(about)
+        .after_help(after);
+    let placed = top.arg(mirror)?;
+    let whole = placed.arg(source)?;
+    Ok(whole)
+}
+
+fn token_option<'a>(alloc: Global) -> Arg<'a>
+    ensures rule { rule_of result ≡ optional_rule (codes "token") }
+    ensures local { result.global ≡ false }
+{
+    optional(
+        alloc,
+        "token",
+        "T",
+        "The token of the sync lock: 1 to 255 printable ASCII characters without blanks; job where it is left out",
+    )
+}
+
+fn initialize<'a>(alloc: Global) -> Result<clap::Command<'a>, AllocError>
+    ensures app { IfOk result (λ c. app_of c ≡ initialize_app) }
+    ensures local { IfOk result (λ c. (fields_of c).has_globals ≡ false) }
+{
+    two_folders(
+        alloc,
+        "initialize",
+        "Makes an empty repository the mirror of a source",
+        texts::INITIALIZE,
+    )
+}
+
+fn synchronize<'a>(alloc: Global) -> Result<clap::Command<'a>, AllocError>
+    ensures app { IfOk result (λ c. app_of c ≡ synchronize_app) }
+    ensures local { IfOk result (λ c. (fields_of c).has_globals ≡ false) }
+{
+    let steal = flag(
+        alloc,
+        "steal-lock",
+        "Take the sync lock though it is held, by a run that was stopped",
+    );
+    let token = token_option(alloc);
+    let top = two_folders(
+        alloc,
+        "synchronize",
+        "Brings a mirror up to its source",
+        texts::SYNCHRONIZE,
+    )?;
+    let placed = top.arg(steal)?;
+    let whole = placed.arg(token)?;
+    Ok(whole)
+}
+
+fn copy_revprops<'a>(alloc: Global) -> Result<clap::Command<'a>, AllocError>
+    ensures app { IfOk result (λ c. app_of c ≡ copy_revprops_app) }
+    ensures local { IfOk result (λ c. (fields_of c).has_globals ≡ false) }
+{
+    let range = copied_range(alloc);
+    let token = token_option(alloc);
+    let top = two_folders(
+        alloc,
+        "copy-revprops",
+        "Copies the properties of revisions to a mirror again",
+        texts::COPY_REVPROPS,
+    )?;
+    let placed = top.arg(range)?;
+    let whole = placed.arg(token)?;
+    Ok(whole)
+}
+
+fn info<'a>(alloc: Global) -> Result<clap::Command<'a>, AllocError>
+    ensures app { IfOk result (λ c. app_of c ≡ info_app) }
+    ensures local { IfOk result (λ c. (fields_of c).has_globals ≡ false) }
+{
+    let mirror = word(alloc, "MIRROR", "The folder of the mirror");
+    let top = clap::Command::new(alloc, "info")
+        .about("Tells where a mirror is copied from, and how far it is")
+        .after_help(texts::INFO);
+    let whole = top.arg(mirror)?;
+    Ok(whole)
+}
+
 // The program with the commands over streams alone.
 fn over_streams<'a>(alloc: Global) -> Result<clap::Command<'a>, AllocError>
     ensures app { IfOk result (λ c. app_of c ≡ streams_app) }
@@ -251,8 +410,9 @@ fn over_folders<'a>(alloc: Global) -> Result<clap::Command<'a>, AllocError>
     Ok(whole)
 }
 
-fn svnfleet<'a>(alloc: Global) -> Result<clap::Command<'a>, AllocError>
-    ensures app { IfOk result (λ c. app_of c ≡ svnfleet_app) }
+// And with those that read a folder, or commit to it.
+fn over_histories<'a>(alloc: Global) -> Result<clap::Command<'a>, AllocError>
+    ensures app { IfOk result (λ c. app_of c ≡ histories_app) }
     ensures local { IfOk result (λ c. (fields_of c).has_globals ≡ false) }
 {
     let dump = dump(alloc)?;
@@ -260,6 +420,31 @@ fn svnfleet<'a>(alloc: Global) -> Result<clap::Command<'a>, AllocError>
     let top = over_folders(alloc)?;
     let some = top.subcommand(dump)?;
     let whole = some.subcommand(mkdir)?;
+    Ok(whole)
+}
+
+// And with those that write a mirror's revisions.
+fn over_mirrors<'a>(alloc: Global) -> Result<clap::Command<'a>, AllocError>
+    ensures app { IfOk result (λ c. app_of c ≡ mirrors_app) }
+    ensures local { IfOk result (λ c. (fields_of c).has_globals ≡ false) }
+{
+    let initialize = initialize(alloc)?;
+    let synchronize = synchronize(alloc)?;
+    let top = over_histories(alloc)?;
+    let some = top.subcommand(initialize)?;
+    let whole = some.subcommand(synchronize)?;
+    Ok(whole)
+}
+
+fn svnfleet<'a>(alloc: Global) -> Result<clap::Command<'a>, AllocError>
+    ensures app { IfOk result (λ c. app_of c ≡ svnfleet_app) }
+    ensures local { IfOk result (λ c. (fields_of c).has_globals ≡ false) }
+{
+    let copy_revprops = copy_revprops(alloc)?;
+    let info = info(alloc)?;
+    let top = over_mirrors(alloc)?;
+    let some = top.subcommand(copy_revprops)?;
+    let whole = some.subcommand(info)?;
     Ok(whole)
 }
 
@@ -301,6 +486,10 @@ fn named(alloc: Global, matches: &ArgMatches<'_>) -> Result<Command, Usage>
         Some(("load", given)) => load_named(alloc, given),
         Some(("dump", given)) => dump_named(alloc, given),
         Some(("mkdir", given)) => mkdir_named(alloc, given),
+        Some(("initialize", given)) => initialize_named(alloc, given),
+        Some(("synchronize", given)) => synchronize_named(alloc, given),
+        Some(("copy-revprops", given)) => copy_revprops_named(alloc, given),
+        Some(("info", given)) => info_named(alloc, given),
         _ => Err(Usage::OutOfMemory),
     }
 }
@@ -414,6 +603,151 @@ fn mkdir_named(alloc: Global, given: &ArgMatches<'_>) -> Result<Command, Usage>
             value.as_str(),
             "a number of microseconds from 0 to 4102444799999999",
         )),
+    }
+}
+
+fn initialize_named(alloc: Global, given: &ArgMatches<'_>) -> Result<Command, Usage>
+    ensures named { IfOk result (IsCommandOf (Some (codes "initialize", rows_of (found_of given.now)))) }
+    ensures usage { IfErr result (IsRefusedAt (Some (codes "initialize", rows_of (found_of given.now)))) }
+{
+    match folders(alloc, "svnfleet initialize", given) {
+        Ok((mirror, source)) => Ok(Command::Initialize { mirror, source }),
+        Err(usage) => Err(usage),
+    }
+}
+
+fn synchronize_named(alloc: Global, given: &ArgMatches<'_>) -> Result<Command, Usage>
+    ensures named { IfOk result (IsCommandOf (Some (codes "synchronize", rows_of (found_of given.now)))) }
+    ensures usage { IfErr result (IsRefusedAt (Some (codes "synchronize", rows_of (found_of given.now)))) }
+{
+    match folders(alloc, "svnfleet synchronize", given) {
+        Ok((mirror, source)) => match token_of(alloc, "svnfleet synchronize", given) {
+            Ok(token) => Ok(Command::Synchronize {
+                mirror,
+                source,
+                token,
+                steal: is_given(given, "steal-lock"),
+            }),
+            Err(usage) => Err(usage),
+        },
+        Err(usage) => Err(usage),
+    }
+}
+
+fn copy_revprops_named(alloc: Global, given: &ArgMatches<'_>) -> Result<Command, Usage>
+    ensures named { IfOk result (IsCommandOf (Some (codes "copy-revprops", rows_of (found_of given.now)))) }
+    ensures usage { IfErr result (IsRefusedAt (Some (codes "copy-revprops", rows_of (found_of given.now)))) }
+{
+    match folders(alloc, "svnfleet copy-revprops", given) {
+        Ok((mirror, source)) => match token_of(alloc, "svnfleet copy-revprops", given) {
+            Ok(token) => match copied_range_of(alloc, given) {
+                Ok(range) => Ok(Command::CopyRevprops {
+                    mirror,
+                    source,
+                    token,
+                    range,
+                }),
+                Err(usage) => Err(usage),
+            },
+            Err(usage) => Err(usage),
+        },
+        Err(usage) => Err(usage),
+    }
+}
+
+// The revisions whose properties are to be copied.
+fn copied_range_of(alloc: Global, given: &ArgMatches<'_>) -> Result<RevRange, Usage>
+    ensures range { IfOk result (IsRangeGiven (rows_of (found_of given.now))) }
+    ensures usage { IfErr result (IsRefusedAt (Some (codes "copy-revprops", rows_of (found_of given.now)))) }
+{
+    let Some(value) = value(given, "revisions") else {
+        return Err(Usage::OutOfMemory);
+    };
+    match range_of(value) {
+        Some(range) => Ok(range),
+        None => Err(wrong(
+            alloc,
+            "svnfleet copy-revprops",
+            value,
+            "a range LO:HI of revisions from 0 to 65535, LO not above HI",
+        )),
+    }
+}
+
+fn info_named(alloc: Global, given: &ArgMatches<'_>) -> Result<Command, Usage>
+    ensures named { IfOk result (IsCommandOf (Some (codes "info", rows_of (found_of given.now)))) }
+    ensures usage { IfErr result (IsRefusedAt (Some (codes "info", rows_of (found_of given.now)))) }
+{
+    Ok(Command::Info {
+        mirror: text(alloc, given, "MIRROR")?,
+    })
+}
+
+// The folders of a mirror and its source, which are two.
+fn folders(alloc: Global, help: &str, given: &ArgMatches<'_>) -> Result<(String, String), Usage>
+    ensures folders { IfOk result (λ p. HasFolders (rows_of (found_of given.now)) (string_bytes p.0)
+        (string_bytes p.1)) }
+    ensures usage { IfErr result (IsSyncRefused (rows_of (found_of given.now)) help.now) }
+{
+    let mirror = text(alloc, given, "MIRROR")?;
+    let source = text(alloc, given, "SOURCE")?;
+    if is_on_server(source.as_str()) {
+        return Err(wrong(alloc, help, source.as_str(), "a folder"));
+    }
+    if mirror.as_str() == source.as_str() {
+        return Err(wrong(
+            alloc,
+            help,
+            source.as_str(),
+            "another folder than the mirror's",
+        ));
+    }
+    Ok((mirror, source))
+}
+
+// Whether a source is one on a server.
+fn is_on_server(source: &str) -> bool
+    ensures { result ≡ is_on_server source.now }
+{
+    source.starts_with("svn://")
+}
+
+// The token that is given, or `job`.
+fn token_of(alloc: Global, help: &str, given: &ArgMatches<'_>) -> Result<Token, Usage>
+    ensures token { IfOk result (IsTokenOf (first_of (codes "token") (rows_of (found_of given.now)))) }
+    ensures usage { IfErr result (IsSyncRefused (rows_of (found_of given.now)) help.now) }
+{
+    let Some(value) = value(given, "token") else {
+        return default_token(alloc);
+    };
+    match Token::new(Vec::from_slice(alloc, value.as_bytes())?) {
+        Some(token) => Ok(token),
+        None => Err(wrong(
+            alloc,
+            help,
+            value,
+            "a token of 1 to 255 printable ASCII characters without blanks",
+        )),
+    }
+}
+
+fn default_token(alloc: Global) -> Result<Token, Usage>
+    ensures token { IfOk result (λ t. t ≡ codes "job") }
+    ensures memory { IfErr result (λ u. u ≡ Usage.OutOfMemory) }
+{
+    match Token::new(Vec::from_slice(alloc, b"job")?) {
+        Some(token) => Ok(token),
+        None => Err(Usage::OutOfMemory),
+    }
+}
+
+// Whether an option without a value is given.
+fn is_given(given: &ArgMatches<'_>, name: &str) -> bool
+    ensures { result ≡ is_given (rows_of (found_of given.now)) name.now }
+{
+    match value(given, name) {
+        Some(text) => text == "true",
+        None => false,
     }
 }
 

@@ -1,5 +1,5 @@
 //! One command, from its words to its status.
-ghost use Rattle.std.specs.Prelude.{◌≡◌, ◌⊎◌, ◌||◌, true, IfErr, OnOk, string_bytes};
+ghost use Rattle.std.specs.Prelude.{◌≡◌, ◌⊎◌, ◌||◌, ◌<◌, length, true, IfErr, IfOk, OnOk, string_bytes};
 ghost use Rattle.std.specs.Io.KnownBytes.{Appends};
 ghost use Rattle.fleet_disk.specs.Image.{Image};
 ghost use Rattle.node_base.specs.declared.refusal.Refusal.{Refusal as RefusalOf};
@@ -7,20 +7,26 @@ ghost use Rattle.node_base.specs.Refusals.{fault_line};
 ghost use Rattle.repo_store.specs.Journal.{Keeps};
 ghost use Rattle.repo_store.specs.Words.{disk_of, repository_of, HasFailed};
 ghost use Rattle.fleet_engines.specs.Runs.{BothFlagged, Flagged};
+ghost use Rattle.mirror_engines.specs.Runs.{IsInitialised, IsWorked};
 ghost use Rattle.fleet_main.specs.Doing.{EndsWith, HandsOn, IsBegun, IsCommittedTo, IsDone, IsDumped, IsLoadedFrom};
-ghost use Rattle.fleet_main.specs.Doing.{IsNotDone, NotCommittedTo, NotDumped, NotLoadedFrom, OfStanding, UnopenedOr};
+ghost use Rattle.fleet_main.specs.Doing.{IsNotDone, IsToldOf, IsWorkedOver, NoSourceOr, NotCommittedTo, NotDumped};
+ghost use Rattle.fleet_main.specs.Doing.{NotKept, NotLoadedFrom, NotToldOf, NotWorkedOn, NotWorkedOver, OfBoth};
+ghost use Rattle.fleet_main.specs.Doing.{OfStanding, OverSource, UnopenedBoth, UnopenedOr, WorkedOn};
 ghost use Rattle.fleet_main.specs.Opening.{DiskFails, NotBegun};
 
 use crate::command_line::Command;
 use crate::folders::{Folders, created, opened};
 use fleet_disk::Disk;
 use fleet_engines::{Sink, Source, run_canon, run_list};
-use node_base::Refusal;
+use mirror_engines::{Work, run_info, run_work};
+use node_base::limits::PROP_VALUE_BYTES;
+use node_base::{PropValue, Refusal};
 use repo_core::Moment;
 use repo_store::RepoStore;
 use std::alloc::Global;
 use std::io::{Read, Write};
 use store_engines::{RevRange, run_dump, run_load, run_mkdir};
+use sync_core::Token;
 use uuid::Uuid;
 
 // The status of a command that was refused.
@@ -137,41 +143,243 @@ fn make_dir<F: Folders, W: Write + Drop>(
     }
 }
 
+fn info<F: Folders, W: Write + Drop>(
+    alloc: Global,
+    folders: &mut F,
+    mirror: &str,
+    output: &mut Sink<W>,
+) -> Result<(), Refusal>
+    ensures done { OnOk result (OfStanding F.Place.Disk (F.honest folders.old) (F.holds folders.old mirror.now)
+        (IsToldOf (F.honest folders.old) (W.contents output.old.inner) (W.contents output.new.inner))) }
+    ensures refused { IfErr result (λ e. UnopenedOr F.Place.Disk
+        (DiskFails F.Place.failures (F.failures folders.old) (F.failures folders.new)) (F.honest folders.old) mirror.now
+        (F.holds folders.old mirror.now) (W.contents output.old.inner) (W.contents output.new.inner) e
+        (NotToldOf (F.honest folders.old) (W.contents output.old.inner) (W.contents output.new.inner)
+        output.new.failed e)) }
+    ensures peer { Flagged result output.old.failed output.new.failed }
+{
+    match opened(alloc, folders, mirror) {
+        Ok(store) => {
+            kept(&store);
+            run_info(&store, output)
+        }
+        Err(refusal) => Err(refusal),
+    }
+}
+
+// The mirror's folder is opened first.
+fn mirrored<F: Folders, W: Write + Drop>(
+    alloc: Global,
+    folders: &mut F,
+    mirror: &str,
+    source: &str,
+    work: Work,
+    output: Sink<W>,
+) -> (Sink<W>, Result<(), Refusal>)
+    ensures done { OnOk result.1 (OfBoth F.Place.Disk F.honest F.holds folders.old mirror.now source.now
+        (IsWorkedOver (IsWorked work) (W.contents output.inner) (W.contents result.0.inner))) }
+    ensures refused { IfErr result.1 (λ e. UnopenedBoth F.Place.Disk F.failures F.honest F.holds folders.old folders.new
+        mirror.now source.now (W.contents output.inner) (W.contents result.0.inner) e
+        (NotWorkedOver (IsWorked work) (W.contents output.inner) (W.contents result.0.inner) result.0.failed e)) }
+    ensures unfailed { OnOk result.1 (result.0.failed ≡ output.failed) }
+    ensures peer { IfErr result.1 (λ e. e ≡ Refusal.PeerFailed → result.0.failed ≡ true) }
+{
+    match opened(alloc, folders, mirror) {
+        Ok(store) => {
+            kept(&store);
+            mirrored_from(alloc, folders, store, source, work, output)
+        }
+        Err(refusal) => (output, Err(refusal)),
+    }
+}
+
+// Then the source's; and the work is done.
+fn mirrored_from<F: Folders, W: Write + Drop>(
+    alloc: Global,
+    folders: &mut F,
+    mirror: RepoStore<F::Place>,
+    source: &str,
+    work: Work,
+    output: Sink<W>,
+) -> (Sink<W>, Result<(), Refusal>)
+    ensures done { OnOk result.1 (OverSource F.Place.Disk F.honest F.holds folders.old source.now mirror
+        (IsWorkedOver (IsWorked work) (W.contents output.inner) (W.contents result.0.inner))) }
+    ensures refused { IfErr result.1 (λ e. NoSourceOr F.Place.Disk F.failures F.honest F.holds folders.old folders.new
+        source.now mirror (W.contents output.inner) (W.contents result.0.inner) e
+        (NotWorkedOver (IsWorked work) (W.contents output.inner) (W.contents result.0.inner) result.0.failed e)) }
+    ensures unfailed { OnOk result.1 (result.0.failed ≡ output.failed) }
+    ensures peer { IfErr result.1 (λ e. e ≡ Refusal.PeerFailed → result.0.failed ≡ true) }
+{
+    match opened(alloc, folders, source) {
+        Ok(store) => {
+            kept(&store);
+            worked(alloc, mirror, store, work, output)
+        }
+        Err(refusal) => {
+            let _disk = mirror.into_disk();
+            (output, Err(refusal))
+        }
+    }
+}
+
+fn worked<D: Disk + Drop, W: Write + Drop>(
+    alloc: Global,
+    mirror: RepoStore<D>,
+    source: RepoStore<D>,
+    work: Work,
+    output: Sink<W>,
+) -> (Sink<W>, Result<(), Refusal>)
+    ensures done { OnOk result.1 (WorkedOn (IsWorked work) (W.contents output.inner) (W.contents result.0.inner) mirror) }
+    ensures refused { IfErr result.1 (λ e. NotWorkedOn (IsWorked work) (W.contents output.inner)
+        (W.contents result.0.inner) result.0.failed e mirror) }
+    ensures unfailed { OnOk result.1 (result.0.failed ≡ output.failed) }
+    ensures peer { IfErr result.1 (λ e. e ≡ Refusal.PeerFailed → result.0.failed ≡ true) }
+{
+    let (mirror, output, done) = run_work(alloc, mirror, &source, work, output);
+    let _disk = mirror.into_disk();
+    let _source = source.into_disk();
+    (output, done)
+}
+
+fn initialize<F: Folders, W: Write + Drop>(
+    alloc: Global,
+    folders: &mut F,
+    mirror: &str,
+    source: &str,
+    output: Sink<W>,
+) -> (Sink<W>, Result<(), Refusal>)
+    ensures done { OnOk result.1 (OfBoth F.Place.Disk F.honest F.holds folders.old mirror.now source.now
+        (IsWorkedOver (IsInitialised source.now) (W.contents output.inner) (W.contents result.0.inner))) }
+    ensures refused { IfErr result.1 (λ e. NotKept source.now (W.contents output.inner) (W.contents result.0.inner) e
+        ⊎ UnopenedBoth F.Place.Disk F.failures F.honest F.holds folders.old folders.new mirror.now source.now
+        (W.contents output.inner) (W.contents result.0.inner) e
+        (NotWorkedOver (IsInitialised source.now) (W.contents output.inner) (W.contents result.0.inner)
+        result.0.failed e)) }
+    ensures unfailed { OnOk result.1 (result.0.failed ≡ output.failed) }
+    ensures peer { IfErr result.1 (λ e. e ≡ Refusal.PeerFailed → result.0.failed ≡ true) }
+{
+    match url_of(alloc, source) {
+        Ok(url) => mirrored(
+            alloc,
+            folders,
+            mirror,
+            source,
+            Work::Initialize { url },
+            output,
+        ),
+        Err(refusal) => (output, Err(refusal)),
+    }
+}
+
+// The value of `svn:sync-from-url`.
+fn url_of(alloc: Global, source: &str) -> Result<PropValue, Refusal>
+    ensures url { IfOk result (λ url. url ≡ source.now) }
+    ensures refused { IfErr result (λ e. (e ≡ Refusal.OutOfMemory)
+        ⊎ ((e ≡ Refusal.TooLong) × (65536 < length source.now))) }
+{
+    if source.len() > PROP_VALUE_BYTES {
+        return Err(Refusal::TooLong);
+    }
+    let Ok(bytes) = Vec::from_slice(alloc, source.as_bytes()) else {
+        return Err(Refusal::OutOfMemory);
+    };
+    match PropValue::new(bytes) {
+        Ok(url) => Ok(url),
+        Err(_) => unreachable!(),
+    }
+}
+
 // The command's answer, with what it wrote.
 fn run_one<F: Folders, R: Read + Drop, W: Write + Drop>(
     alloc: Global,
     folders: &mut F,
     command: Command,
     input: &mut Source<R>,
-    output: &mut Sink<W>,
-) -> Result<(), Refusal>
-    ensures done { OnOk result (IsDone F.Place.Disk (F.honest folders.old) (F.holds folders.old) command
-        (R.remaining input.old.inner) (W.contents output.old.inner) (W.contents output.new.inner)) }
-    ensures refused { IfErr result (IsNotDone F.Place.Disk (DiskFails F.Place.failures (F.failures folders.old)
-        (F.failures folders.new)) (F.honest folders.old) (F.holds folders.old) command (R.remaining input.old.inner)
-        (W.contents output.old.inner) (W.contents output.new.inner) output.new.failed) }
-    ensures peer { BothFlagged result input.old.failed input.new.failed output.old.failed output.new.failed }
+    output: Sink<W>,
+) -> (Sink<W>, Result<(), Refusal>)
+    ensures done { OnOk result.1 (IsDone F.Place.Disk F.honest F.holds folders.old command
+        (R.remaining input.old.inner) (W.contents output.inner) (W.contents result.0.inner)) }
+    ensures refused { IfErr result.1 (IsNotDone F.Place.Disk F.failures F.honest F.holds folders.old
+        folders.new command (R.remaining input.old.inner) (W.contents output.inner) (W.contents result.0.inner) result.0.failed) }
+    ensures unfailed { OnOk result.1 ((input.new.failed ≡ input.old.failed) × (result.0.failed ≡ output.failed)) }
+    ensures peer { IfErr result.1 (λ e. e ≡ Refusal.PeerFailed → (input.new.failed || result.0.failed) ≡ true) }
 {
+    let mut output = output;
     match command {
-        Command::List => run_list(alloc, input, output),
-        Command::Canon => run_canon(alloc, input, output),
-        Command::Create { folder, identity } => create(alloc, folders, folder.as_str(), identity),
-        Command::Load { folder } => load(alloc, folders, folder.as_str(), input, output),
-        Command::Dump { folder, range } => dump(alloc, folders, folder.as_str(), range, output),
+        Command::List => {
+            let done = run_list(alloc, input, &mut output);
+            (output, done)
+        }
+        Command::Canon => {
+            let done = run_canon(alloc, input, &mut output);
+            (output, done)
+        }
+        Command::Create { folder, identity } => {
+            let done = create(alloc, folders, folder.as_str(), identity);
+            (output, done)
+        }
+        Command::Load { folder } => {
+            let done = load(alloc, folders, folder.as_str(), input, &mut output);
+            (output, done)
+        }
+        Command::Dump { folder, range } => {
+            let done = dump(alloc, folders, folder.as_str(), range, &mut output);
+            (output, done)
+        }
         Command::MakeDir {
             folder,
             path,
             message,
             moment,
-        } => make_dir(
+        } => {
+            let done = make_dir(
+                alloc,
+                folders,
+                folder.as_str(),
+                path.as_str(),
+                message.as_str(),
+                moment,
+                &mut output,
+            );
+            (output, done)
+        }
+        Command::Initialize { mirror, source } => {
+            initialize(alloc, folders, mirror.as_str(), source.as_str(), output)
+        }
+        Command::Synchronize {
+            mirror,
+            source,
+            token,
+            steal,
+        } => mirrored(
             alloc,
             folders,
-            folder.as_str(),
-            path.as_str(),
-            message.as_str(),
-            moment,
+            mirror.as_str(),
+            source.as_str(),
+            Work::Synchronize { token, steal },
             output,
         ),
+        Command::CopyRevprops {
+            mirror,
+            source,
+            token,
+            range,
+        } => mirrored(
+            alloc,
+            folders,
+            mirror.as_str(),
+            source.as_str(),
+            Work::CopyRevprops {
+                token,
+                low: range.first(),
+                high: range.last(),
+            },
+            output,
+        ),
+        Command::Info { mirror } => {
+            let done = info(alloc, folders, mirror.as_str(), &mut output);
+            (output, done)
+        }
     }
 }
 
@@ -181,57 +389,59 @@ fn run_flushed<F: Folders, R: Read + Drop, W: Write + Drop>(
     folders: &mut F,
     command: Command,
     input: &mut Source<R>,
-    output: &mut Sink<W>,
-) -> Result<(), Refusal>
-    ensures done { OnOk result (HandsOn (IsDone F.Place.Disk (F.honest folders.old) (F.holds folders.old) command
-        (R.remaining input.old.inner) (W.contents output.old.inner)) (W.contents output.new.inner)) }
-    ensures refused { IfErr result (EndsWith (IsDone F.Place.Disk (F.honest folders.old) (F.holds folders.old) command
-        (R.remaining input.old.inner) (W.contents output.old.inner))
-        (IsNotDone F.Place.Disk (DiskFails F.Place.failures (F.failures folders.old) (F.failures folders.new))
-        (F.honest folders.old) (F.holds folders.old) command (R.remaining input.old.inner)
-        (W.contents output.old.inner)) (W.contents output.new.inner) output.new.failed) }
-    ensures unfailed { OnOk result ((input.new.failed ≡ input.old.failed) × (output.new.failed ≡ output.old.failed)) }
-    ensures peer { IfErr result (λ e. e ≡ Refusal.PeerFailed → (input.new.failed || output.new.failed) ≡ true) }
+    output: Sink<W>,
+) -> (Sink<W>, Result<(), Refusal>)
+    ensures done { OnOk result.1 (HandsOn (IsDone F.Place.Disk F.honest F.holds folders.old command
+        (R.remaining input.old.inner) (W.contents output.inner)) (W.contents result.0.inner)) }
+    ensures refused { IfErr result.1 (EndsWith (IsDone F.Place.Disk F.honest F.holds folders.old command
+        (R.remaining input.old.inner) (W.contents output.inner))
+        (IsNotDone F.Place.Disk F.failures F.honest F.holds folders.old folders.new command
+        (R.remaining input.old.inner) (W.contents output.inner)) (W.contents result.0.inner) result.0.failed) }
+    ensures unfailed { OnOk result.1 ((input.new.failed ≡ input.old.failed) × (result.0.failed ≡ output.failed)) }
+    ensures peer { IfErr result.1 (λ e. e ≡ Refusal.PeerFailed → (input.new.failed || result.0.failed) ≡ true) }
 {
-    let done = run_one(alloc, folders, command, input, output);
+    let (output, done) = run_one(alloc, folders, command, input, output);
+    let mut output = output;
     let flushed = output.flush();
     match done {
-        Ok(()) => flushed,
-        Err(refusal) => Err(refusal),
+        Ok(()) => (output, flushed),
+        Err(refusal) => (output, Err(refusal)),
     }
 }
 
 /// Runs a command over folders. The status is 0 where it is done and what it wrote is handed on, or 1 where it was
 /// refused, and then the refusal's line is on `errors`. What was written before a refusal is flushed before its line.
+/// The writer comes back as the command has left it.
 ///
 /// Of honest folders it says besides what repository the folder's files kept, what the command made of it, and what a
-/// stop leaves: after a `create` that is done, and at each moment of the others.
+/// stop leaves: after a `create` that is done, and at each moment of the others. Of the commands over a mirror and its
+/// source it says this of both, the mirror's folder as it was and the source's as the opening of the mirror's has left
+/// it.
 pub fn run<F: Folders, R: Read + Drop, W: Write + Drop, E: Write + Drop>(
     alloc: Global,
     folders: &mut F,
     command: Command,
     input: &mut Source<R>,
-    output: &mut Sink<W>,
+    output: Sink<W>,
     errors: &mut Sink<E>,
-) -> u8
-    ensures status { (result ≡ 0) ⊎ (result ≡ 1) }
-    ensures done { result ≡ 0 → HandsOn (IsDone F.Place.Disk (F.honest folders.old) (F.holds folders.old) command
-        (R.remaining input.old.inner) (W.contents output.old.inner)) (W.contents output.new.inner) }
-    ensures unfailed { result ≡ 0 → (input.new.failed ≡ input.old.failed) × (output.new.failed ≡ output.old.failed) }
-    ensures silent { result ≡ 0 → E.contents errors.new.inner ≡ E.contents errors.old.inner }
-    ensures refused { result ≡ 1 → (e : RefusalOf)
-        × EndsWith (IsDone F.Place.Disk (F.honest folders.old) (F.holds folders.old) command
-        (R.remaining input.old.inner) (W.contents output.old.inner))
-        (IsNotDone F.Place.Disk (DiskFails F.Place.failures (F.failures folders.old) (F.failures folders.new))
-        (F.honest folders.old) (F.holds folders.old) command (R.remaining input.old.inner)
-        (W.contents output.old.inner)) (W.contents output.new.inner) output.new.failed e
-        × (e ≡ Refusal.PeerFailed → (input.new.failed || output.new.failed) ≡ true)
+) -> (u8, Sink<W>)
+    ensures status { (result.0 ≡ 0) ⊎ (result.0 ≡ 1) }
+    ensures done { result.0 ≡ 0 → HandsOn (IsDone F.Place.Disk F.honest F.holds folders.old command
+        (R.remaining input.old.inner) (W.contents output.inner)) (W.contents result.1.inner) }
+    ensures unfailed { result.0 ≡ 0 → (input.new.failed ≡ input.old.failed) × (result.1.failed ≡ output.failed) }
+    ensures silent { result.0 ≡ 0 → E.contents errors.new.inner ≡ E.contents errors.old.inner }
+    ensures refused { result.0 ≡ 1 → (e : RefusalOf)
+        × EndsWith (IsDone F.Place.Disk F.honest F.holds folders.old command
+        (R.remaining input.old.inner) (W.contents output.inner))
+        (IsNotDone F.Place.Disk F.failures F.honest F.holds folders.old folders.new command
+        (R.remaining input.old.inner) (W.contents output.inner)) (W.contents result.1.inner) result.1.failed e
+        × (e ≡ Refusal.PeerFailed → (input.new.failed || result.1.failed) ≡ true)
         × ((errors.new.failed ≡ true) ⊎ Appends (E.contents errors.old.inner) (E.contents errors.new.inner)
         (fault_line e)) }
 {
     match run_flushed(alloc, folders, command, input, output) {
-        Ok(()) => 0,
-        Err(refusal) => refused(&refusal, errors),
+        (output, Ok(())) => (0, output),
+        (output, Err(refusal)) => (refused(&refusal, errors), output),
     }
 }
 

@@ -36,4 +36,8 @@ fn is_command(word: &str) -> bool
         || word == "load"
         || word == "dump"
         || word == "mkdir"
+        || word == "initialize"
+        || word == "synchronize"
+        || word == "copy-revprops"
+        || word == "info"
 }

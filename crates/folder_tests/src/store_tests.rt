@@ -112,9 +112,9 @@ fn run_over<F: Folders, R: Read + Drop>(
 ) -> Ran
     requires { F.honest folders.old }
 {
-    let mut output = Sink::new(Vec::new(alloc));
+    let output = Sink::new(Vec::new(alloc));
     let mut errors = Sink::new(Vec::new(alloc));
-    let status = run(alloc, folders, command, input, &mut output, &mut errors);
+    let (status, output) = run(alloc, folders, command, input, output, &mut errors);
     Ran {
         status,
         output: output.into_inner(),

@@ -1,4 +1,5 @@
-//! svnfleet: lists and rewrites the dumps of Subversion repositories, and keeps repositories in folders.
+//! svnfleet: lists and rewrites the dumps of Subversion repositories, and keeps repositories and mirrors of them in
+//! folders.
 #![tactic(auto)]
 
 use fleet_main::{HostDescriptors, HostFolders, Sink, Source, Usage, fill_streams, plan, run};
@@ -61,16 +62,16 @@ fn planned(rt: &HostRuntime, words: &[String]) -> u8 {
                 return told(rt, "svnfleet: 70 out of memory", 1);
             };
             let mut input = Source::new(rt.stdin());
-            let mut output = Sink::new(buffer);
             let mut errors = Sink::new(rt.stderr());
-            run(
+            let (status, _output) = run(
                 rt.alloc(),
                 &mut HostFolders::new(rt),
                 command,
                 &mut input,
-                &mut output,
+                Sink::new(buffer),
                 &mut errors,
-            )
+            );
+            status
         }
         Err(Usage::Shown(text)) => match rt.print(text) {
             Ok(()) => 0,

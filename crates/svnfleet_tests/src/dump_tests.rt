@@ -42,15 +42,15 @@ pub(crate) fn joined(alloc: Global, parts: &[&str]) -> Result<Vec<u8>, AllocErro
 fn outcome_of(rt: &HostRuntime, command: Command, parts: &[&str]) -> Result<Ran, Fail> {
     let bytes = joined(rt.alloc(), parts)?;
     let mut input = Source::new(bytes.as_slice());
-    let mut output = Sink::new(Vec::new(rt.alloc()));
+    let output = Sink::new(Vec::new(rt.alloc()));
     let mut errors = Sink::new(Vec::new(rt.alloc()));
     let mut folders = HostFolders::new(rt);
-    let status = run(
+    let (status, output) = run(
         rt.alloc(),
         &mut folders,
         command,
         &mut input,
-        &mut output,
+        output,
         &mut errors,
     );
     Ok(Ran {

@@ -40,15 +40,15 @@ impl Write for Closed {
     }
 }
 
-// Runs `canon` from a reader to a writer: whether it ends with status 1 and one line, that a stream failed.
+// Runs `canon` from a reader to a writer, which it answers: whether it ends with status 1 and one line, that a stream failed.
 fn tells<R: Read + Drop, W: Write + Drop>(
     rt: &HostRuntime,
     input: &mut Source<R>,
-    output: &mut Sink<W>,
-) -> bool {
+    output: Sink<W>,
+) -> (bool, Sink<W>) {
     let mut errors = Sink::new(Vec::new(rt.alloc()));
     let mut folders = HostFolders::new(rt);
-    let status = run(
+    let (status, output) = run(
         rt.alloc(),
         &mut folders,
         Command::Canon,
@@ -57,18 +57,21 @@ fn tells<R: Read + Drop, W: Write + Drop>(
         &mut errors,
     );
     let line = b"svnfleet: 49 stream failed\n".as_slice();
-    status == 1 && errors.into_inner().as_slice() == line
+    (
+        status == 1 && errors.into_inner().as_slice() == line,
+        output,
+    )
 }
 
 #[test]
 fn failed_reader_is_told(rt: HostRuntime) -> Result<(), Fail> {
     let whole = joined(rt.alloc(), &[HEAD, ZERO, ONE_FILE])?;
     let written = joined(rt.alloc(), &[HEAD, ZERO])?;
-    let mut output = Sink::new(Vec::new(rt.alloc()));
     let mut broken = Source::new(Broken {
         bytes: whole.as_slice(),
     });
-    assert!(rt; tells(&rt, &mut broken, &mut output) && broken.failed);
+    let (told, output) = tells(&rt, &mut broken, Sink::new(Vec::new(rt.alloc())));
+    assert!(rt; told && broken.failed);
     assert!(rt; output.into_inner().as_slice() == written.as_slice());
     Ok(())
 }
@@ -77,8 +80,8 @@ fn failed_reader_is_told(rt: HostRuntime) -> Result<(), Fail> {
 fn failed_writer_is_told(rt: HostRuntime) -> Result<(), Fail> {
     let whole = joined(rt.alloc(), &[HEAD, ZERO, ONE_FILE])?;
     let mut input = Source::new(whole.as_slice());
-    let mut output = Sink::new(Closed);
-    assert!(rt; tells(&rt, &mut input, &mut output) && output.failed && !input.failed);
+    let (told, output) = tells(&rt, &mut input, Sink::new(Closed));
+    assert!(rt; told && output.failed && !input.failed);
     Ok(())
 }
 

@@ -1,42 +1,54 @@
 use Rattle.std.proofs.Common.{string_bytes, subst, sym, IfErr}
 use Rattle.std.specs.Result.{OnOk}
-use Rattle.fleet_main.specs.Doing.{IsCommittedTo, IsDone, IsDumped, IsLoadedFrom, IsNotDone, NotCommittedTo, NotDumped, NotLoadedFrom}
+use Rattle.fleet_main.specs.Doing.{IsCommittedTo, IsDone, IsDumped, IsLoadedFrom, IsNotDone, IsToldOf, NotCommittedTo, NotDumped, NotLoadedFrom, NotToldOf}
 use Rattle.fleet_main.specs.Opening.{DiskFails}
 use Rattle.fleet_main.proofs.Doing.{committed_at, done_at, not_committed_at, refused_at}
 use Rattle.fleet_main.proofs.execute.run_one.Goals as goal
 
 pub returns-in-Load-clause-done : goal.returns-in-Load-clause-done
 returns-in-Load-clause-done g c =
-    subst (λ k. OnOk c.load.result (IsDone g.F.Place.Disk (g.F.Folders.honest c.args.folders.now) (g.F.Folders.holds c.args.folders.now) k (g.R.Read.remaining c.args.input.now.inner) (g.W.Write.contents c.args.output.now.inner) (g.W.Write.contents c.load.new.output.inner))) (sym c.in-Load.is)
-    (done_at g.F.Place.Disk c.load.result (g.F.Folders.honest c.args.folders.now) (g.F.Folders.holds c.args.folders.now) (IsLoadedFrom (g.F.Folders.honest c.args.folders.now) (g.R.Read.remaining c.args.input.now.inner) (g.W.Write.contents c.args.output.now.inner) (g.W.Write.contents c.load.new.output.inner))
-    c.as_str-in-Load.result.now (string_bytes c.in-Load.folder) c.as_str-in-Load.ensures.value c.load.ensures.done)
+    subst (λ k. OnOk c.load-done.result (IsDone g.F.Place.Disk g.F.Folders.honest g.F.Folders.holds c.args.folders.now k (g.R.Read.remaining c.args.input.now.inner) (g.W.Write.contents c.args.output.inner) (g.W.Write.contents c.load-done.new.output.inner))) (sym c.in-Load.is)
+    (done_at g.F.Place.Disk c.load-done.result (g.F.Folders.honest c.args.folders.now) (g.F.Folders.holds c.args.folders.now) (IsLoadedFrom (g.F.Folders.honest c.args.folders.now) (g.R.Read.remaining c.args.input.now.inner) (g.W.Write.contents c.args.output.inner) (g.W.Write.contents c.load-done.new.output.inner))
+    c.as_str-in-Load.result.now (string_bytes c.in-Load.folder) c.as_str-in-Load.ensures.value c.load-done.ensures.done)
 
 pub returns-in-Load-clause-refused : goal.returns-in-Load-clause-refused
 returns-in-Load-clause-refused g c =
-    subst (λ k. IfErr c.load.result (IsNotDone g.F.Place.Disk (DiskFails g.F.Place.Disk.failures (g.F.Folders.failures c.args.folders.now) (g.F.Folders.failures c.load.new.folders)) (g.F.Folders.honest c.args.folders.now) (g.F.Folders.holds c.args.folders.now) k (g.R.Read.remaining c.args.input.now.inner) (g.W.Write.contents c.args.output.now.inner) (g.W.Write.contents c.load.new.output.inner) c.load.new.output.failed)) (sym c.in-Load.is)
-    (refused_at g.F.Place.Disk c.load.result (DiskFails g.F.Place.Disk.failures (g.F.Folders.failures c.args.folders.now) (g.F.Folders.failures c.load.new.folders)) (g.F.Folders.honest c.args.folders.now) (g.F.Folders.holds c.args.folders.now) (g.W.Write.contents c.args.output.now.inner) (g.W.Write.contents c.load.new.output.inner) (NotLoadedFrom (g.F.Folders.honest c.args.folders.now) (g.R.Read.remaining c.args.input.now.inner) (g.W.Write.contents c.args.output.now.inner) (g.W.Write.contents c.load.new.output.inner) c.load.new.output.failed)
-    c.as_str-in-Load.result.now (string_bytes c.in-Load.folder) c.as_str-in-Load.ensures.value c.load.ensures.refused)
+    subst (λ k. IfErr c.load-done.result (IsNotDone g.F.Place.Disk g.F.Folders.failures g.F.Folders.honest g.F.Folders.holds c.args.folders.now c.load-done.new.folders k (g.R.Read.remaining c.args.input.now.inner) (g.W.Write.contents c.args.output.inner) (g.W.Write.contents c.load-done.new.output.inner) c.load-done.new.output.failed)) (sym c.in-Load.is)
+    (refused_at g.F.Place.Disk c.load-done.result (DiskFails g.F.Place.Disk.failures (g.F.Folders.failures c.args.folders.now) (g.F.Folders.failures c.load-done.new.folders)) (g.F.Folders.honest c.args.folders.now) (g.F.Folders.holds c.args.folders.now) (g.W.Write.contents c.args.output.inner) (g.W.Write.contents c.load-done.new.output.inner) (NotLoadedFrom (g.F.Folders.honest c.args.folders.now) (g.R.Read.remaining c.args.input.now.inner) (g.W.Write.contents c.args.output.inner) (g.W.Write.contents c.load-done.new.output.inner) c.load-done.new.output.failed)
+    c.as_str-in-Load.result.now (string_bytes c.in-Load.folder) c.as_str-in-Load.ensures.value c.load-done.ensures.refused)
 
 pub returns-in-Dump-clause-done : goal.returns-in-Dump-clause-done
 returns-in-Dump-clause-done g c =
-    subst (λ k. OnOk c.dump.result (IsDone g.F.Place.Disk (g.F.Folders.honest c.args.folders.now) (g.F.Folders.holds c.args.folders.now) k (g.R.Read.remaining c.args.input.now.inner) (g.W.Write.contents c.args.output.now.inner) (g.W.Write.contents c.dump.new.output.inner))) (sym c.in-Dump.is)
-    (done_at g.F.Place.Disk c.dump.result (g.F.Folders.honest c.args.folders.now) (g.F.Folders.holds c.args.folders.now) (IsDumped (g.F.Folders.honest c.args.folders.now) c.in-Dump.range (g.W.Write.contents c.args.output.now.inner) (g.W.Write.contents c.dump.new.output.inner))
-    c.as_str-in-Dump.result.now (string_bytes c.in-Dump.folder) c.as_str-in-Dump.ensures.value c.dump.ensures.done)
+    subst (λ k. OnOk c.dump-done.result (IsDone g.F.Place.Disk g.F.Folders.honest g.F.Folders.holds c.args.folders.now k (g.R.Read.remaining c.args.input.now.inner) (g.W.Write.contents c.args.output.inner) (g.W.Write.contents c.dump-done.new.output.inner))) (sym c.in-Dump.is)
+    (done_at g.F.Place.Disk c.dump-done.result (g.F.Folders.honest c.args.folders.now) (g.F.Folders.holds c.args.folders.now) (IsDumped (g.F.Folders.honest c.args.folders.now) c.in-Dump.range (g.W.Write.contents c.args.output.inner) (g.W.Write.contents c.dump-done.new.output.inner))
+    c.as_str-in-Dump.result.now (string_bytes c.in-Dump.folder) c.as_str-in-Dump.ensures.value c.dump-done.ensures.done)
 
 pub returns-in-Dump-clause-refused : goal.returns-in-Dump-clause-refused
 returns-in-Dump-clause-refused g c =
-    subst (λ k. IfErr c.dump.result (IsNotDone g.F.Place.Disk (DiskFails g.F.Place.Disk.failures (g.F.Folders.failures c.args.folders.now) (g.F.Folders.failures c.dump.new.folders)) (g.F.Folders.honest c.args.folders.now) (g.F.Folders.holds c.args.folders.now) k (g.R.Read.remaining c.args.input.now.inner) (g.W.Write.contents c.args.output.now.inner) (g.W.Write.contents c.dump.new.output.inner) c.dump.new.output.failed)) (sym c.in-Dump.is)
-    (refused_at g.F.Place.Disk c.dump.result (DiskFails g.F.Place.Disk.failures (g.F.Folders.failures c.args.folders.now) (g.F.Folders.failures c.dump.new.folders)) (g.F.Folders.honest c.args.folders.now) (g.F.Folders.holds c.args.folders.now) (g.W.Write.contents c.args.output.now.inner) (g.W.Write.contents c.dump.new.output.inner) (NotDumped (g.F.Folders.honest c.args.folders.now) c.in-Dump.range (g.W.Write.contents c.args.output.now.inner) (g.W.Write.contents c.dump.new.output.inner) c.dump.new.output.failed)
-    c.as_str-in-Dump.result.now (string_bytes c.in-Dump.folder) c.as_str-in-Dump.ensures.value c.dump.ensures.refused)
+    subst (λ k. IfErr c.dump-done.result (IsNotDone g.F.Place.Disk g.F.Folders.failures g.F.Folders.honest g.F.Folders.holds c.args.folders.now c.dump-done.new.folders k (g.R.Read.remaining c.args.input.now.inner) (g.W.Write.contents c.args.output.inner) (g.W.Write.contents c.dump-done.new.output.inner) c.dump-done.new.output.failed)) (sym c.in-Dump.is)
+    (refused_at g.F.Place.Disk c.dump-done.result (DiskFails g.F.Place.Disk.failures (g.F.Folders.failures c.args.folders.now) (g.F.Folders.failures c.dump-done.new.folders)) (g.F.Folders.honest c.args.folders.now) (g.F.Folders.holds c.args.folders.now) (g.W.Write.contents c.args.output.inner) (g.W.Write.contents c.dump-done.new.output.inner) (NotDumped (g.F.Folders.honest c.args.folders.now) c.in-Dump.range (g.W.Write.contents c.args.output.inner) (g.W.Write.contents c.dump-done.new.output.inner) c.dump-done.new.output.failed)
+    c.as_str-in-Dump.result.now (string_bytes c.in-Dump.folder) c.as_str-in-Dump.ensures.value c.dump-done.ensures.refused)
 
 pub returns-in-MakeDir-clause-done : goal.returns-in-MakeDir-clause-done
 returns-in-MakeDir-clause-done g c =
-    subst (λ k. OnOk c.make_dir.result (IsDone g.F.Place.Disk (g.F.Folders.honest c.args.folders.now) (g.F.Folders.holds c.args.folders.now) k (g.R.Read.remaining c.args.input.now.inner) (g.W.Write.contents c.args.output.now.inner) (g.W.Write.contents c.make_dir.new.output.inner))) (sym c.in-MakeDir.is)
-    (committed_at g.F.Place.Disk c.make_dir.result (g.F.Folders.honest c.args.folders.now) (g.F.Folders.holds c.args.folders.now) (λ p m. IsCommittedTo (g.F.Folders.honest c.args.folders.now) p m c.in-MakeDir.moment (g.W.Write.contents c.args.output.now.inner) (g.W.Write.contents c.make_dir.new.output.inner))
-    c.as_str-in-MakeDir.result.now (string_bytes c.in-MakeDir.folder) c.as_str-in-MakeDir-2.result.now (string_bytes c.in-MakeDir.path) c.as_str-in-MakeDir-3.result.now (string_bytes c.in-MakeDir.message) c.as_str-in-MakeDir.ensures.value c.as_str-in-MakeDir-2.ensures.value c.as_str-in-MakeDir-3.ensures.value c.make_dir.ensures.done)
+    subst (λ k. OnOk c.make_dir-done.result (IsDone g.F.Place.Disk g.F.Folders.honest g.F.Folders.holds c.args.folders.now k (g.R.Read.remaining c.args.input.now.inner) (g.W.Write.contents c.args.output.inner) (g.W.Write.contents c.make_dir-done.new.output.inner))) (sym c.in-MakeDir.is)
+    (committed_at g.F.Place.Disk c.make_dir-done.result (g.F.Folders.honest c.args.folders.now) (g.F.Folders.holds c.args.folders.now) (λ p m. IsCommittedTo (g.F.Folders.honest c.args.folders.now) p m c.in-MakeDir.moment (g.W.Write.contents c.args.output.inner) (g.W.Write.contents c.make_dir-done.new.output.inner))
+    c.as_str-in-MakeDir.result.now (string_bytes c.in-MakeDir.folder) c.as_str-in-MakeDir-2.result.now (string_bytes c.in-MakeDir.path) c.as_str-in-MakeDir-3.result.now (string_bytes c.in-MakeDir.message) c.as_str-in-MakeDir.ensures.value c.as_str-in-MakeDir-2.ensures.value c.as_str-in-MakeDir-3.ensures.value c.make_dir-done.ensures.done)
 
 pub returns-in-MakeDir-clause-refused : goal.returns-in-MakeDir-clause-refused
 returns-in-MakeDir-clause-refused g c =
-    subst (λ k. IfErr c.make_dir.result (IsNotDone g.F.Place.Disk (DiskFails g.F.Place.Disk.failures (g.F.Folders.failures c.args.folders.now) (g.F.Folders.failures c.make_dir.new.folders)) (g.F.Folders.honest c.args.folders.now) (g.F.Folders.holds c.args.folders.now) k (g.R.Read.remaining c.args.input.now.inner) (g.W.Write.contents c.args.output.now.inner) (g.W.Write.contents c.make_dir.new.output.inner) c.make_dir.new.output.failed)) (sym c.in-MakeDir.is)
-    (not_committed_at g.F.Place.Disk c.make_dir.result (DiskFails g.F.Place.Disk.failures (g.F.Folders.failures c.args.folders.now) (g.F.Folders.failures c.make_dir.new.folders)) (g.F.Folders.honest c.args.folders.now) (g.F.Folders.holds c.args.folders.now) (g.W.Write.contents c.args.output.now.inner) (g.W.Write.contents c.make_dir.new.output.inner) (λ p m e. NotCommittedTo (g.F.Folders.honest c.args.folders.now) p m c.in-MakeDir.moment (g.W.Write.contents c.args.output.now.inner) (g.W.Write.contents c.make_dir.new.output.inner) c.make_dir.new.output.failed e)
-    c.as_str-in-MakeDir.result.now (string_bytes c.in-MakeDir.folder) c.as_str-in-MakeDir-2.result.now (string_bytes c.in-MakeDir.path) c.as_str-in-MakeDir-3.result.now (string_bytes c.in-MakeDir.message) c.as_str-in-MakeDir.ensures.value c.as_str-in-MakeDir-2.ensures.value c.as_str-in-MakeDir-3.ensures.value c.make_dir.ensures.refused)
+    subst (λ k. IfErr c.make_dir-done.result (IsNotDone g.F.Place.Disk g.F.Folders.failures g.F.Folders.honest g.F.Folders.holds c.args.folders.now c.make_dir-done.new.folders k (g.R.Read.remaining c.args.input.now.inner) (g.W.Write.contents c.args.output.inner) (g.W.Write.contents c.make_dir-done.new.output.inner) c.make_dir-done.new.output.failed)) (sym c.in-MakeDir.is)
+    (not_committed_at g.F.Place.Disk c.make_dir-done.result (DiskFails g.F.Place.Disk.failures (g.F.Folders.failures c.args.folders.now) (g.F.Folders.failures c.make_dir-done.new.folders)) (g.F.Folders.honest c.args.folders.now) (g.F.Folders.holds c.args.folders.now) (g.W.Write.contents c.args.output.inner) (g.W.Write.contents c.make_dir-done.new.output.inner) (λ p m e. NotCommittedTo (g.F.Folders.honest c.args.folders.now) p m c.in-MakeDir.moment (g.W.Write.contents c.args.output.inner) (g.W.Write.contents c.make_dir-done.new.output.inner) c.make_dir-done.new.output.failed e)
+    c.as_str-in-MakeDir.result.now (string_bytes c.in-MakeDir.folder) c.as_str-in-MakeDir-2.result.now (string_bytes c.in-MakeDir.path) c.as_str-in-MakeDir-3.result.now (string_bytes c.in-MakeDir.message) c.as_str-in-MakeDir.ensures.value c.as_str-in-MakeDir-2.ensures.value c.as_str-in-MakeDir-3.ensures.value c.make_dir-done.ensures.refused)
+
+pub returns-in-Info-clause-done : goal.returns-in-Info-clause-done
+returns-in-Info-clause-done g c =
+    subst (λ k. OnOk c.info-done.result (IsDone g.F.Place.Disk g.F.Folders.honest g.F.Folders.holds c.args.folders.now k (g.R.Read.remaining c.args.input.now.inner) (g.W.Write.contents c.args.output.inner) (g.W.Write.contents c.info-done.new.output.inner))) (sym c.in-Info.is)
+    (done_at g.F.Place.Disk c.info-done.result (g.F.Folders.honest c.args.folders.now) (g.F.Folders.holds c.args.folders.now) (IsToldOf (g.F.Folders.honest c.args.folders.now) (g.W.Write.contents c.args.output.inner) (g.W.Write.contents c.info-done.new.output.inner))
+    c.as_str-in-Info.result.now (string_bytes c.in-Info.mirror) c.as_str-in-Info.ensures.value c.info-done.ensures.done)
+
+pub returns-in-Info-clause-refused : goal.returns-in-Info-clause-refused
+returns-in-Info-clause-refused g c =
+    subst (λ k. IfErr c.info-done.result (IsNotDone g.F.Place.Disk g.F.Folders.failures g.F.Folders.honest g.F.Folders.holds c.args.folders.now c.info-done.new.folders k (g.R.Read.remaining c.args.input.now.inner) (g.W.Write.contents c.args.output.inner) (g.W.Write.contents c.info-done.new.output.inner) c.info-done.new.output.failed)) (sym c.in-Info.is)
+    (refused_at g.F.Place.Disk c.info-done.result (DiskFails g.F.Place.Disk.failures (g.F.Folders.failures c.args.folders.now) (g.F.Folders.failures c.info-done.new.folders)) (g.F.Folders.honest c.args.folders.now) (g.F.Folders.holds c.args.folders.now) (g.W.Write.contents c.args.output.inner) (g.W.Write.contents c.info-done.new.output.inner) (NotToldOf (g.F.Folders.honest c.args.folders.now) (g.W.Write.contents c.args.output.inner) (g.W.Write.contents c.info-done.new.output.inner) c.info-done.new.output.failed)
+    c.as_str-in-Info.result.now (string_bytes c.in-Info.mirror) c.as_str-in-Info.ensures.value c.info-done.ensures.refused)
