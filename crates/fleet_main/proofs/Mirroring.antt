@@ -96,3 +96,12 @@ both_at r Q a b c d e f h = subst (λ x. OnOk r (Q b x)) f (subst (λ x. OnOk r 
 
 pub not_both_at : {T : Type 0} (r : Result T Refusal) (Q : List ℕ → List ℕ → Refusal → Type 0) (a b c d : List ℕ) → a ≡ b → c ≡ d → IfErr r (Q a c) → IfErr r (Q b d)
 not_both_at r Q a b c d e f h = subst (λ x. IfErr r (Q b x)) f (subst (λ x. IfErr r (Q x c)) e h)
+
+-- the second of two causes
+pub or_second : {T : Type 0} (r : Result T Refusal) (P Q : Refusal → Type 0) → IfErr r Q → IfErr r (λ e. P e ⊎ Q e)
+or_second (Ok u) P Q h = tt
+or_second (Err e) P Q h = inr h
+
+-- what is said of a refusal holds of the one that is answered
+pub of_err : {T : Type 0} (r : Result T Refusal) (e : Refusal) (P : Refusal → Type 0) → r ≡ Err e → IfErr r P → P e
+of_err r e P same h = subst (λ x. IfErr x P) same h

@@ -47,7 +47,7 @@ HasValue rows name value = first_of name rows ≡ Some value
 
 -- the source is one on a server
 abbrev pub is_on_server : List ℕ → Bool
-is_on_server source = starts_with nat_eq (codes "svn://") source
+is_on_server source = starts_with nat_eq source (codes "svn://")
 
 -- the folders of a mirror and its source: two, and the source's isn't on a server
 abbrev pub HasFolders : List Row → List ℕ → List ℕ → Type 0

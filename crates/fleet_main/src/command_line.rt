@@ -709,7 +709,7 @@ fn folders(alloc: Global, help: &str, given: &ArgMatches<'_>) -> Result<(String,
 fn is_on_server(source: &str) -> bool
     ensures { result ≡ is_on_server source.now }
 {
-    source.starts_with("svn://")
+    source.as_bytes().starts_with(b"svn://")
 }
 
 // The token that is given, or `job`.

@@ -439,9 +439,10 @@ pub fn run<F: Folders, R: Read + Drop, W: Write + Drop, E: Write + Drop>(
         × ((errors.new.failed ≡ true) ⊎ Appends (E.contents errors.old.inner) (E.contents errors.new.inner)
         (fault_line e)) }
 {
-    match run_flushed(alloc, folders, command, input, output) {
-        (output, Ok(())) => (0, output),
-        (output, Err(refusal)) => (refused(&refusal, errors), output),
+    let (output, done) = run_flushed(alloc, folders, command, input, output);
+    match done {
+        Ok(()) => (0, output),
+        Err(refusal) => (refused(&refusal, errors), output),
     }
 }
 

@@ -1,4 +1,8 @@
-use Rattle.std.proofs.Common.{string_bytes, subst, sym, IfErr}
+use Rattle.store_engines.specs.Ranges.{first_in, last_in}
+use Rattle.std.proofs.Common.{string_bytes, subst, sym, IfErr, ◌⊎◌}
+use Rattle.mirror_engines.specs.Runs.{IsInitialised, IsSynchronised, IsCopied}
+use Rattle.fleet_main.specs.Doing.{IsWorkedOver, NotWorkedOver, NotKept, OfBoth, UnopenedBoth}
+use Rattle.fleet_main.proofs.Mirroring.{both_at, not_both_at}
 use Rattle.std.specs.Result.{OnOk}
 use Rattle.fleet_main.specs.Doing.{IsCommittedTo, IsDone, IsDumped, IsLoadedFrom, IsNotDone, IsToldOf, NotCommittedTo, NotDumped, NotLoadedFrom, NotToldOf}
 use Rattle.fleet_main.specs.Opening.{DiskFails}
@@ -52,3 +56,29 @@ returns-in-Info-clause-refused g c =
     subst (λ k. IfErr c.info-done.result (IsNotDone g.F.Place.Disk g.F.Folders.failures g.F.Folders.honest g.F.Folders.holds c.args.folders.now c.info-done.new.folders k (g.R.Read.remaining c.args.input.now.inner) (g.W.Write.contents c.args.output.inner) (g.W.Write.contents c.info-done.new.output.inner) c.info-done.new.output.failed)) (sym c.in-Info.is)
     (refused_at g.F.Place.Disk c.info-done.result (DiskFails g.F.Place.Disk.failures (g.F.Folders.failures c.args.folders.now) (g.F.Folders.failures c.info-done.new.folders)) (g.F.Folders.honest c.args.folders.now) (g.F.Folders.holds c.args.folders.now) (g.W.Write.contents c.args.output.inner) (g.W.Write.contents c.info-done.new.output.inner) (NotToldOf (g.F.Folders.honest c.args.folders.now) (g.W.Write.contents c.args.output.inner) (g.W.Write.contents c.info-done.new.output.inner) c.info-done.new.output.failed)
     c.as_str-in-Info.result.now (string_bytes c.in-Info.mirror) c.as_str-in-Info.ensures.value c.info-done.ensures.refused)
+
+pub returns-in-Initialize-clause-done : goal.returns-in-Initialize-clause-done
+returns-in-Initialize-clause-done g c =
+    subst (λ k. OnOk c.initialize.result.1 (IsDone g.F.Place.Disk g.F.Folders.honest g.F.Folders.holds c.args.folders.now k (g.R.Read.remaining c.args.input.now.inner) (g.W.Write.contents c.args.output.inner) (g.W.Write.contents c.initialize.result.0.inner))) (sym c.in-Initialize.is)
+    (both_at c.initialize.result.1 (λ m s. OfBoth g.F.Place.Disk g.F.Folders.honest g.F.Folders.holds c.args.folders.now m s (IsWorkedOver (IsInitialised s) (g.W.Write.contents c.args.output.inner) (g.W.Write.contents c.initialize.result.0.inner)))
+    c.as_str-in-Initialize.result.now (string_bytes c.in-Initialize.mirror) c.as_str-in-Initialize-2.result.now (string_bytes c.in-Initialize.source) c.as_str-in-Initialize.ensures.value c.as_str-in-Initialize-2.ensures.value c.initialize.ensures.done)
+
+pub returns-in-Initialize-clause-refused : goal.returns-in-Initialize-clause-refused
+returns-in-Initialize-clause-refused g c =
+    subst (λ k. IfErr c.initialize.result.1 (IsNotDone g.F.Place.Disk g.F.Folders.failures g.F.Folders.honest g.F.Folders.holds c.args.folders.now c.initialize.new.folders k (g.R.Read.remaining c.args.input.now.inner) (g.W.Write.contents c.args.output.inner) (g.W.Write.contents c.initialize.result.0.inner) c.initialize.result.0.failed)) (sym c.in-Initialize.is)
+    (not_both_at c.initialize.result.1
+    (λ m s e. NotKept s (g.W.Write.contents c.args.output.inner) (g.W.Write.contents c.initialize.result.0.inner) e ⊎ UnopenedBoth g.F.Place.Disk g.F.Folders.failures g.F.Folders.honest g.F.Folders.holds c.args.folders.now c.initialize.new.folders m s (g.W.Write.contents c.args.output.inner) (g.W.Write.contents c.initialize.result.0.inner) e (NotWorkedOver (IsInitialised s) (g.W.Write.contents c.args.output.inner) (g.W.Write.contents c.initialize.result.0.inner) c.initialize.result.0.failed e))
+    c.as_str-in-Initialize.result.now (string_bytes c.in-Initialize.mirror) c.as_str-in-Initialize-2.result.now (string_bytes c.in-Initialize.source) c.as_str-in-Initialize.ensures.value c.as_str-in-Initialize-2.ensures.value c.initialize.ensures.refused)
+
+pub returns-in-Synchronize-clause-done : goal.returns-in-Synchronize-clause-done
+returns-in-Synchronize-clause-done g c =
+    subst (λ k. OnOk c.mirrored.result.1 (IsDone g.F.Place.Disk g.F.Folders.honest g.F.Folders.holds c.args.folders.now k (g.R.Read.remaining c.args.input.now.inner) (g.W.Write.contents c.args.output.inner) (g.W.Write.contents c.mirrored.result.0.inner))) (sym c.in-Synchronize.is)
+    (both_at c.mirrored.result.1 (λ m s. OfBoth g.F.Place.Disk g.F.Folders.honest g.F.Folders.holds c.args.folders.now m s (IsWorkedOver (IsSynchronised c.in-Synchronize.token c.in-Synchronize.steal) (g.W.Write.contents c.args.output.inner) (g.W.Write.contents c.mirrored.result.0.inner)))
+    c.as_str-in-Synchronize.result.now (string_bytes c.in-Synchronize.mirror) c.as_str-in-Synchronize-2.result.now (string_bytes c.in-Synchronize.source) c.as_str-in-Synchronize.ensures.value c.as_str-in-Synchronize-2.ensures.value c.mirrored.ensures.done)
+
+pub returns-in-CopyRevprops-clause-done : goal.returns-in-CopyRevprops-clause-done
+returns-in-CopyRevprops-clause-done g c =
+    subst (λ k. OnOk c.mirrored-in-CopyRevprops.result.1 (IsDone g.F.Place.Disk g.F.Folders.honest g.F.Folders.holds c.args.folders.now k (g.R.Read.remaining c.args.input.now.inner) (g.W.Write.contents c.args.output.inner) (g.W.Write.contents c.mirrored-in-CopyRevprops.result.0.inner))) (sym c.in-CopyRevprops.is)
+    (both_at c.mirrored-in-CopyRevprops.result.1 (λ m s. OfBoth g.F.Place.Disk g.F.Folders.honest g.F.Folders.holds c.args.folders.now m s (IsWorkedOver (IsCopied c.in-CopyRevprops.token (first_in c.in-CopyRevprops.range) (last_in c.in-CopyRevprops.range)) (g.W.Write.contents c.args.output.inner) (g.W.Write.contents c.mirrored-in-CopyRevprops.result.0.inner)))
+    c.as_str-in-CopyRevprops.result.now (string_bytes c.in-CopyRevprops.mirror) c.as_str-in-CopyRevprops-2.result.now (string_bytes c.in-CopyRevprops.source) c.as_str-in-CopyRevprops.ensures.value c.as_str-in-CopyRevprops-2.ensures.value (subst (λ h. OnOk c.mirrored-in-CopyRevprops.result.1 (OfBoth g.F.Place.Disk g.F.Folders.honest g.F.Folders.holds c.args.folders.now c.as_str-in-CopyRevprops.result.now c.as_str-in-CopyRevprops-2.result.now (IsWorkedOver (IsCopied c.in-CopyRevprops.token (first_in c.in-CopyRevprops.range) h) (g.W.Write.contents c.args.output.inner) (g.W.Write.contents c.mirrored-in-CopyRevprops.result.0.inner)))) c.last.ensures
+    (subst (λ l. OnOk c.mirrored-in-CopyRevprops.result.1 (OfBoth g.F.Place.Disk g.F.Folders.honest g.F.Folders.holds c.args.folders.now c.as_str-in-CopyRevprops.result.now c.as_str-in-CopyRevprops-2.result.now (IsWorkedOver (IsCopied c.in-CopyRevprops.token l c.last.result) (g.W.Write.contents c.args.output.inner) (g.W.Write.contents c.mirrored-in-CopyRevprops.result.0.inner)))) c.first.ensures c.mirrored-in-CopyRevprops.ensures.done)))
