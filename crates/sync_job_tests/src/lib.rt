@@ -1,0 +1,12 @@
+//! Tests of jobs over a master and a mirror in stores, through `sync_job`'s public items: what is told and left, stops at
+//! each moment of a run, and masters that refuse.
+#![tactic(auto)]
+
+#[cfg(test)]
+mod made;
+#[cfg(test)]
+mod master_tests;
+#[cfg(test)]
+mod runs_tests;
+#[cfg(test)]
+mod stop_tests;

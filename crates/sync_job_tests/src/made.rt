@@ -1,0 +1,241 @@
+//! What the tests run: a master of two revisions, a mirror on a disk, and a report that counts in digits.
+use dump_load::{Change, ChangeSet};
+use fleet_disk::{Disk, DiskFile, MemDisk, Pick};
+use node_base::{Action, NodeKind, NodePath, PropName, PropValue, Props, RevNo, Text};
+use repo_store::RepoStore;
+use std::alloc::Global;
+use std::process::Abort;
+use sync_core::{SyncFault, Token};
+use sync_job::{AloneMirror, JobPorts, LentMaster, Report, run_copy_revprops, run_init, run_sync};
+use uuid::Uuid;
+
+pub(crate) const MASTER: &str = "6a1f0c3e-0000-4000-8000-000000000001";
+
+pub(crate) const OTHER: &str = "6a1f0c3e-0000-4000-8000-000000000002";
+
+/// What was told, in decimal digits: 2 and twice the number for a commit, 1 and twice the number for a copy.
+#[derive(Drop)]
+pub(crate) struct Heard {
+    pub(crate) told: u64,
+}
+
+impl Report for Heard {
+    ghost heard = { λ now first told. Unit {0} };
+
+    fn committed(&mut self, number: RevNo) {
+        self.told = self
+            .told
+            .wrapping_mul(10)
+            .wrapping_add(u64::from(number.get()).wrapping_mul(2).wrapping_add(2));
+    }
+
+    fn copied(&mut self, number: RevNo) {
+        self.told = self
+            .told
+            .wrapping_mul(10)
+            .wrapping_add(u64::from(number.get()).wrapping_mul(2).wrapping_add(1));
+    }
+}
+
+/// Copied 0; committed 1 and copied 1; copied 1 alone; copied 0 and copied 1.
+pub(crate) const COPIED_0: u64 = 1;
+
+pub(crate) const COMMITTED_1: u64 = 43;
+
+pub(crate) const COPIED_1: u64 = 3;
+
+pub(crate) const COPIED_BOTH: u64 = 13;
+
+/// How a run ended: what was told, and the number of its refusal, 0 where there is none.
+#[derive(Clone, Copy, PartialEq, Eq)]
+pub(crate) struct Ran {
+    pub(crate) told: u64,
+    pub(crate) number: u8,
+}
+
+pub(crate) fn ended(told: u64, number: u8) -> Ran {
+    Ran { told, number }
+}
+
+pub(crate) fn number_of(answer: Result<(), SyncFault>) -> u8 {
+    match answer {
+        Ok(()) => 0,
+        Err(fault) => fault.number(),
+    }
+}
+
+pub(crate) fn value(rt: &impl Abort, alloc: Global, text: &[u8]) -> PropValue {
+    let bytes = Vec::from_slice(alloc, text).expect(rt, "memory");
+    PropValue::new(bytes).expect(rt, "a property's value")
+}
+
+pub(crate) fn token(rt: &impl Abort, alloc: Global) -> Token {
+    let bytes = Vec::from_slice(alloc, b"job").expect(rt, "memory");
+    Token::new(bytes).expect(rt, "a token")
+}
+
+fn log(rt: &impl Abort, alloc: Global, text: &[u8]) -> Props {
+    let mut props = Props::empty();
+    let name = PropName::parse(alloc, b"svn:log").expect(rt, "a property's name");
+    props
+        .set(alloc, name, value(rt, alloc, text))
+        .expect(rt, "a property");
+    props
+}
+
+// A set that adds a file with this text.
+fn file(rt: &impl Abort, alloc: Global, at: &str, text: &[u8]) -> ChangeSet {
+    let bytes = Vec::from_slice(alloc, text).expect(rt, "memory");
+    let mut changes = Vec::new(alloc);
+    changes
+        .push(Change {
+            path: NodePath::parse(alloc, at.as_bytes()).expect(rt, "a path"),
+            action: Action::Add,
+            kind: Some(NodeKind::File),
+            source: None,
+            props: Some(Props::empty()),
+            text: Some(Text::new(alloc, bytes).expect(rt, "a text")),
+        })
+        .expect(rt, "memory");
+    ChangeSet::from_changes(changes).expect(rt, "a normal set")
+}
+
+/// A store that is begun with this identity.
+pub(crate) fn created(rt: &impl Abort, alloc: Global, identity: &str) -> RepoStore<MemDisk> {
+    let identity = Uuid::parse_str(identity).expect(rt, "an identity");
+    match RepoStore::create(alloc, MemDisk::new(alloc), identity) {
+        Ok(store) => store,
+        Err(_) => rt.abort(),
+    }
+}
+
+/// Commits a file with a log.
+pub(crate) fn commit(rt: &impl Abort, alloc: Global, store: &mut RepoStore<MemDisk>, at: &str) {
+    let head = store.repo().head();
+    let set = file(rt, alloc, at, b"hello\n");
+    match store.commit(alloc, head, set, log(rt, alloc, b"hi"), None) {
+        Ok(_) => {}
+        Err(_) => rt.abort(),
+    }
+}
+
+/// Edits the log of a revision.
+pub(crate) fn edit(rt: &impl Abort, alloc: Global, store: &mut RepoStore<MemDisk>, number: u16) {
+    match store.put_props(alloc, RevNo::new(number), log(rt, alloc, b"ho")) {
+        Ok(_) => {}
+        Err(_) => rt.abort(),
+    }
+}
+
+/// The master: one file in revision 1.
+pub(crate) fn master(rt: &impl Abort, alloc: Global) -> RepoStore<MemDisk> {
+    let mut store = created(rt, alloc, MASTER);
+    commit(rt, alloc, &mut store, "a");
+    store
+}
+
+/// What a job is to do.
+#[derive(Clone, Copy)]
+pub(crate) enum Order {
+    Initialize,
+    Synchronize,
+    Steal,
+    Copy(u16, u16),
+}
+
+/// Runs a job at the mirror of a disk, if that opens.
+pub(crate) fn run<D: Disk + Drop>(
+    rt: &impl Abort,
+    alloc: Global,
+    disk: D,
+    source: &RepoStore<MemDisk>,
+    order: Order,
+) -> (D, Ran) {
+    let store = match RepoStore::open(alloc, disk) {
+        Ok(store) => store,
+        Err((fault, disk)) => return (disk, ended(0, fault.number())),
+    };
+    let mirror = AloneMirror::new(store);
+    let heard = Heard { told: 0 };
+    let mut ports = JobPorts::new(alloc, LentMaster::new(source), mirror, heard);
+    let answer = match order {
+        Order::Initialize => run_init(alloc, &mut ports, value(rt, alloc, b"master")),
+        Order::Synchronize => run_sync(alloc, &mut ports, token(rt, alloc), false),
+        Order::Steal => run_sync(alloc, &mut ports, token(rt, alloc), true),
+        Order::Copy(low, high) => run_copy_revprops(
+            alloc,
+            &mut ports,
+            token(rt, alloc),
+            RevNo::new(low),
+            RevNo::new(high),
+        ),
+    };
+    let (_source, mirror, heard) = ports.into_parts();
+    (mirror.into_disk(), ended(heard.told, number_of(answer)))
+}
+
+/// A disk with an empty repository of its own identity.
+pub(crate) fn empty(rt: &impl Abort, alloc: Global) -> MemDisk {
+    created(rt, alloc, OTHER).into_disk()
+}
+
+/// A disk with an initialised mirror, all synced.
+pub(crate) fn initialised(rt: &impl Abort, alloc: Global, source: &RepoStore<MemDisk>) -> MemDisk {
+    let (disk, _ran) = run(rt, alloc, empty(rt, alloc), source, Order::Initialize);
+    disk.crash(Pick::New).expect(rt, "memory")
+}
+
+/// How many bytes a gate has.
+pub(crate) fn gate(disk: &MemDisk) -> usize {
+    disk.bytes(DiskFile::Gate).len()
+}
+
+// Whether revision 0 has this property.
+fn has(store: &RepoStore<MemDisk>, name: &[u8], text: Option<&[u8]>) -> bool {
+    match store.repo().props(RevNo::ZERO) {
+        Some(props) => props.get(name) == text,
+        None => false,
+    }
+}
+
+// Whether a store is a mirror at rest, with this head merged.
+fn is_merged(store: &RepoStore<MemDisk>, head: u16, merged: &[u8]) -> bool {
+    store.repo().head().get() == head
+        && has(store, b"svn:sync-last-merged-rev", Some(merged))
+        && has(store, b"svn:sync-currently-copying", None)
+        && has(store, b"svn:sync-lock", None)
+        && has(store, b"svn:sync-from-url", Some(b"master"))
+        && has(store, b"svn:sync-from-uuid", Some(MASTER.as_bytes()))
+}
+
+/// Whether a disk opens as a mirror at rest, with this head merged.
+pub(crate) fn rests(alloc: Global, disk: MemDisk, head: u16, merged: &[u8]) -> bool {
+    match RepoStore::open(alloc, disk) {
+        Ok(store) => {
+            let rests = is_merged(&store, head, merged);
+            let _disk = store.into_disk();
+            rests
+        }
+        Err(_) => false,
+    }
+}
+
+// Whether this is a revision's log.
+fn is_log(store: &RepoStore<MemDisk>, number: u16, text: &[u8]) -> bool {
+    match store.repo().props(RevNo::new(number)) {
+        Some(props) => props.get(b"svn:log") == Some(text),
+        None => false,
+    }
+}
+
+/// Whether a disk opens with this log of a revision.
+pub(crate) fn has_log(alloc: Global, disk: MemDisk, number: u16, text: &[u8]) -> bool {
+    match RepoStore::open(alloc, disk) {
+        Ok(store) => {
+            let is = is_log(&store, number, text);
+            let _disk = store.into_disk();
+            is
+        }
+        Err(_) => false,
+    }
+}
