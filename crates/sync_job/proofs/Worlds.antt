@@ -142,20 +142,22 @@ stepped_on : (w : World) (events : List Event) (at new : Origin → Type 0) (sta
 stepped_on w events at new stands s trees steps p u comes there =
     let c = comes_on (run w events) steps p comes in
     let e : run w (events ++ map event_of steps) ≡ run (run w events) (map event_of steps) = run-append w events (map event_of steps) in
-    let o : (run w (events ++ map event_of steps)).origin ≡ p = ap (λ v. v.origin) e ∙ c.origin in
-    (record {
-      happens = is_run-append w events (map event_of steps) u.happens c.run_is;
-      room = u.room;
-      alone = ap (λ v. v.rooms) e ∙ c.rooms ∙ u.alone;
-      master = subst new (sym o) there;
-      mirror = u.mirror;
-      there = u.there;
-      same = u.same;
-      job = u.job;
-      seated = u.seated;
-      follows = u.follows;
-      first = u.first;
-    }, o)
+    let o : (run w (events ++ map event_of steps)).origin ≡ p = ap (λ v. v.origin) e ∙ c.origin in (
+      record {
+        happens = is_run-append w events (map event_of steps) u.happens c.run_is;
+        room = u.room;
+        alone = ap (λ v. v.rooms) e ∙ c.rooms ∙ u.alone;
+        master = subst new (sym o) there;
+        mirror = u.mirror;
+        there = u.there;
+        same = u.same;
+        job = u.job;
+        seated = u.seated;
+        follows = u.follows;
+        first = u.first;
+      },
+      o,
+    )
 
 -- the job at the seat, once it has heard something
 heard_at : (jobs : List (Option Job)) (job new : Job) → job_at jobs 0 ≡ Some job → job_at (slice_set jobs 0 (Some new)) 0 ≡ Some new
