@@ -8,7 +8,7 @@ use Rattle.node_base.specs.PathText.{path_text}
 use Rattle.node_base.specs.declared.node.Source.{Source}
 use Rattle.delta_editor.specs.declared.call.Call.{Call}
 use Rattle.delta_editor.specs.declared.call.Call.TheVariants as call
-use Rattle.ra_edit.specs.Spelling.{head, window}
+use Rattle.svndiff.specs.Spelling.{head, window}
 
 -- items in brackets
 abbrev pub list : List Item → Item

@@ -1,8 +1,8 @@
 -- Where the commands of a drive stand, and what was given of an open file's text.
 use Rattle.std.specs.Prelude.{◌++◌, ◌≡◌, ℕ, Bool, true, false, List, [], ◌∷◌, map, reverse, Option, Some, None, codes}
 use Rattle.md5.specs.Md5.{Holds, md5}
-use Rattle.ra_edit.specs.Reading.{is_between}
-use Rattle.ra_edit.specs.declared.reading.Reading.{Reading}
+use Rattle.svndiff.specs.Reading.{is_between}
+use Rattle.svndiff.specs.declared.reading.Reading.{Reading}
 use Rattle.ra_item.specs.Items.{Item}
 use Rattle.node_base.specs.Path.{Path}
 use Rattle.delta_editor.specs.Calls.{Adds}

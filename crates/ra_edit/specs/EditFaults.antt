@@ -9,8 +9,8 @@ use Rattle.ra_edit.specs.declared.edit_fault.EditFault.{EditFault}
 use Rattle.ra_edit.specs.declared.edit_fault.EditFault.TheVariants as fault
 use Rattle.ra_edit.specs.declared.shape_fault.ShapeFault.{ShapeFault}
 use Rattle.ra_edit.specs.declared.shape_fault.ShapeFault.TheVariants as shape
-use Rattle.ra_edit.specs.declared.fault.WindowFault.{WindowFault}
-use Rattle.ra_edit.specs.declared.fault.WindowFault.TheVariants as window
+use Rattle.svndiff.specs.declared.fault.WindowFault.{WindowFault}
+use Rattle.svndiff.specs.declared.fault.WindowFault.TheVariants as window
 
 abbrev pub edit_number : EditFault → ℕ
 edit_number fault.BadSum = 6

@@ -11,9 +11,9 @@ use Rattle.node_base.specs.declared.node.Source.{Source}
 use Rattle.delta_editor.specs.declared.call.Call.{Call}
 use Rattle.delta_editor.specs.declared.call.Call.TheVariants as call
 use Rattle.ra_edit.specs.Commands.{list}
-use Rattle.ra_edit.specs.Streams.{reading, pieces_in, Reads}
-use Rattle.ra_edit.specs.Reading.{begin, is_between}
-use Rattle.ra_edit.specs.declared.reading.Reading.{Reading}
+use Rattle.svndiff.specs.Streams.{reading, pieces_in, Reads}
+use Rattle.svndiff.specs.Reading.{begin, is_between}
+use Rattle.svndiff.specs.declared.reading.Reading.{Reading}
 
 -- a command of this name with these parameters; more behind them, and behind the parameters, is ignored
 abbrev pub IsCommand : List ℕ → List Item → Item → Type 0

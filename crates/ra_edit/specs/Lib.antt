@@ -1,13 +1,6 @@
 pub mod Commands
 pub mod EditLaws
 pub mod Edits
-pub mod Faults
-pub mod Grammar
-pub mod Groups
-pub mod Laws
-pub mod Reading
-pub mod Spelling
-pub mod Streams
 pub mod EditFaults
 pub mod Rests
 pub mod ItemStreams

@@ -10,10 +10,10 @@ ghost use Rattle.hex.specs.Hex.{encode_lower};
 ghost use Rattle.ra_item.specs.Items.{spell, Text, Number};
 ghost use Rattle.node_base.specs.PathText.{path_text};
 ghost use Rattle.ra_edit.specs.Commands.{list, command, revision, string, source, sum_text, token, chunk, parts};
-ghost use Rattle.ra_edit.specs.Spelling.{head, window};
+ghost use Rattle.svndiff.specs.Spelling.{head, window};
 ghost use Rattle.ra_edit.specs.Written.{before_params, behind_params, chunks};
 
-use crate::writer::{PIECE, window_size, write_window};
+use svndiff::writer::{PIECE, window_size, write_window};
 use node_base::{NodePath, RevNo, Source};
 use ra_item::writer::{write_close, write_number, write_open, write_text, write_word};
 use std::io;

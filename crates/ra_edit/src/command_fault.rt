@@ -4,7 +4,7 @@ ghost use Rattle.std.specs.Prelude.{◌≡◌};
 ghost use Rattle.ra_edit.specs.EditFaults.{of_window};
 ghost use Rattle.ra_edit.specs.declared.command_fault.CommandFault.TheVariants as fault;
 
-use crate::fault::WindowFault;
+use svndiff::fault::WindowFault;
 use delta_editor::EditorFault;
 use std::alloc::{AllocError, AllocFailed};
 use thiserror::Error;

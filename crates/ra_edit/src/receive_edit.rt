@@ -9,7 +9,7 @@ ghost use Rattle.node_base.specs.Path.{same_name};
 ghost use Rattle.delta_editor.specs.Calls.{Adds};
 ghost use Rattle.delta_editor.specs.declared.call.Call.{Call};
 ghost use Rattle.delta_editor.specs.declared.call.Call.TheVariants as call;
-ghost use Rattle.ra_edit.specs.Streams.{reading, Reads};
+ghost use Rattle.svndiff.specs.Streams.{reading, Reads};
 ghost use Rattle.ra_edit.specs.Edits.{Held, At, Begun, is_free, last_calls, Within, IsCommand};
 ghost use Rattle.ra_edit.specs.Receiving.{Forms};
 ghost use Rattle.ra_edit.specs.Refusals.{open_of, unless, is_in_dir, has_dir, for_token, in_file, at_start, of_stream, at_chunk, at_end, at_close, is_finish, due, refusal, RefusedFor, ReadFirst, RefusesOne, Meets, IfOwn};
@@ -20,7 +20,7 @@ ghost use Rattle.ra_edit.specs.declared.receive_command.Command.TheVariants as c
 ghost use Rattle.ra_edit.specs.declared.receive_edit.Given.TheVariants as given;
 
 use crate::command_fault::CommandFault;
-use crate::reader::WindowReader;
+use svndiff::reader::WindowReader;
 use crate::receive_command::Command;
 use crate::receive_text::take_chunk;
 use delta_editor::{Editor, EditorFault};

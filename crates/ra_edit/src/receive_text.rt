@@ -5,12 +5,12 @@ ghost use Rattle.std.specs.List.{concat};
 ghost use Rattle.md5.specs.Md5.{Holds};
 ghost use Rattle.delta_editor.specs.Calls.{Adds, Refused};
 ghost use Rattle.delta_editor.specs.declared.call.Call.TheVariants as call;
-ghost use Rattle.ra_edit.specs.Streams.{reading, pieces_in, with_piece, Reads};
+ghost use Rattle.svndiff.specs.Streams.{reading, pieces_in, with_piece, Reads};
 ghost use Rattle.ra_edit.specs.Refusals.{of_stream, RefusedFor, RefusesOne, IfOwn};
-ghost use Rattle.ra_edit.specs.declared.reading.Reading.{Reading};
+ghost use Rattle.svndiff.specs.declared.reading.Reading.{Reading};
 
 use crate::command_fault::CommandFault;
-use crate::reader::WindowReader;
+use svndiff::reader::WindowReader;
 use delta_editor::{Editor, EditorFault};
 use md5::{Digest, Md5};
 
