@@ -2,8 +2,6 @@ mod Chunks
 mod EditRead
 mod EditSays
 mod Told
-pub mod Streaming
-pub mod ByteFaults
 pub mod Receiving
 pub mod Refusing
 pub mod Steps

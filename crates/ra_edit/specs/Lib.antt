@@ -2,8 +2,6 @@ pub mod Commands
 pub mod EditLaws
 pub mod Edits
 pub mod EditFaults
-pub mod Rests
-pub mod ItemStreams
 pub mod Receiving
 pub mod Edit
 pub mod Refusals

@@ -19,8 +19,8 @@ pub mod receive_command;
 mod receive_edit;
 mod receive_text;
 pub mod shape_fault;
-pub mod stream;
 mod token;
 pub mod wire;
 
+pub use ra_item::stream;
 pub use svndiff::{fault, reader, writer};

@@ -9,6 +9,7 @@ use delta_editor::EditorFault;
 use ra_edit::edit_fault::EditFault;
 use ra_edit::receive::receive;
 use ra_edit::wire::WireEditor;
+use ra_item::fault::{ItemFault, NextFault};
 use std::alloc::Global;
 use std::rt::HostRuntime;
 
@@ -48,7 +49,7 @@ fn is_passed_on(alloc: Global, size: usize) -> bool {
         Some(fault) => {
             fault == EditFault::OutOfMemory
                 && FULL.starts_with(bytes.as_slice())
-                && items.next().err() == Some(EditFault::Failed)
+                && items.next().err() == Some(NextFault::Items(ItemFault::Failed))
         }
     }
 }

@@ -6,3 +6,5 @@ mod Canon
 mod Read
 mod Weighing
 mod GoesOn
+mod ByteFaults
+pub mod Streaming

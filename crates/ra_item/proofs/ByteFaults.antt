@@ -11,7 +11,7 @@ use Rattle.ra_item.specs.declared.fault.ItemFault.TheVariants as item
 use Rattle.ra_item.specs.declared.reading.Place.{Place}
 use Rattle.ra_item.specs.declared.reading.Place.TheVariants as at
 use Rattle.ra_item.specs.declared.reading.Reading.{Reading}
-use Rattle.ra_edit.specs.Rests.{is_of_byte}
+use Rattle.ra_item.specs.Rests.{is_of_byte}
 
 abbrev Good : Step → Type 0
 Good (Next r) = is_failed r ≡ false

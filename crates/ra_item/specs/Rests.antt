@@ -2,8 +2,8 @@
 use Rattle.std.specs.Prelude.{Bool, true, false}
 use Rattle.ra_item.specs.declared.fault.ItemFault.{ItemFault}
 use Rattle.ra_item.specs.declared.fault.ItemFault.TheVariants as item
-use Rattle.ra_edit.specs.declared.stream.Rest.{Rest}
-use Rattle.ra_edit.specs.declared.stream.Rest.TheVariants as rest
+use Rattle.ra_item.specs.declared.stream.Rest.{Rest}
+use Rattle.ra_item.specs.declared.stream.Rest.TheVariants as rest
 
 -- more may be read
 abbrev pub is_open : Rest → Bool

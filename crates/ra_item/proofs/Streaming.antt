@@ -1,33 +1,26 @@
 -- Items that are ready, and what is read behind them.
-use Rattle.std.proofs.Common.{◌≡◌, ◌≢◌, ℕ, Bool, true, false, ◌||◌, List, [], ◌∷◌, ◌++◌, Option, Result, Ok, Err, refl, sym, ap, subst, ◌∙◌, append_assoc}
-use Rattle.std.proofs.lemmas.List.{reverse-reverse, reverse-append}
+use Rattle.std.proofs.Common.{◌≡◌, ◌≢◌, ℕ, ◌+◌, ◌≤◌, inl, inr, arith, length, length-append, Bool, true, false, List, [], ◌∷◌, ◌++◌, Option, Result, Ok, Err, refl, sym, ap, subst, ◌∙◌, append_assoc}
+use Rattle.std.proofs.lemmas.List.{reverse-reverse, reverse-append, length-reverse}
 use Rattle.std.specs.Prelude.{reverse, OnOk}
 use Rattle.std.proofs.KnownBytes.{Consumes-nil, Consumes-trans}
 use Rattle.ra_item.specs.Items.{Item}
 use Rattle.ra_item.specs.Reading.{Step, Next, Gives, Refused, one_step}
-use Rattle.ra_item.specs.Streams.{Stream, Reads, Refuses, of_step, one_byte, reading, StreamIs}
+use Rattle.byte_streams.specs.Causes.{Counts, Fails}
+use Rattle.ra_item.specs.Streams.{Stream, Reads, Refuses, of_step, one_byte, reading, items_of, StreamIs}
 use Rattle.ra_item.specs.declared.fault.ItemFault.{ItemFault}
 use Rattle.ra_item.specs.declared.fault.ItemFault.TheVariants as item
 use Rattle.ra_item.specs.declared.reading.Reading.{Reading}
 use Rattle.ra_item.specs.Streams.{is_failed}
-use Rattle.ra_edit.specs.Rests.{is_open, is_of_byte, is_sound, is_over}
-use Rattle.ra_edit.specs.EditFaults.{of_item}
-use Rattle.ra_edit.proofs.ByteFaults.{of_bytes}
-use Rattle.ra_edit.specs.ItemStreams.{behind, rest_of, Takes, Ends, Breaks, Stops}
-use Rattle.ra_edit.specs.declared.edit_fault.EditFault.{EditFault}
-use Rattle.ra_edit.specs.declared.edit_fault.EditFault.TheVariants as edit
-use Rattle.ra_edit.specs.declared.stream.Rest.{Rest}
-use Rattle.ra_edit.specs.declared.stream.Rest.TheVariants as rest
+use Rattle.ra_item.specs.Rests.{is_open, is_of_byte, is_sound, is_over}
+use Rattle.ra_item.proofs.ByteFaults.{of_bytes}
+use Rattle.ra_item.proofs.Runs.{reading-append, reading-refused}
+use Rattle.ra_item.specs.ItemStreams.{behind, rest_of, Takes, Ends, Breaks, Stops}
+use Rattle.ra_item.specs.declared.fault.NextFault.{NextFault}
+use Rattle.ra_item.specs.declared.fault.NextFault.TheVariants as next
+use Rattle.ra_item.specs.declared.stream.Rest.{Rest}
+use Rattle.ra_item.specs.declared.stream.Rest.TheVariants as rest
 
 -- ---- pieces, and items in front
-
-pub reading-append : (s : Stream) (a b : List ℕ) → reading s (a ++ b) ≡ reading (reading s a) b
-reading-append s [] b = refl
-reading-append s (x ∷ a) b = reading-append (one_byte s x) a b
-
-pub reading-refused : (items : List Item) (f : ItemFault) (bs : List ℕ) → reading (Refuses items f) bs ≡ Refuses items f
-reading-refused items f [] = refl
-reading-refused items f (b ∷ bs) = reading-refused items f bs
 
 behind_step : (xs ys : List Item) (s : Step) → of_step (xs ++ ys) s ≡ behind xs (of_step ys s)
 behind_step xs ys (Next r) = refl
@@ -122,23 +115,22 @@ takes_break xs ys f a b d s t p q = record {
   items = λ more. ap s (append_assoc p.bytes q.bytes more) ∙ p.items (q.bytes ++ more) ∙ ap (behind xs) (q.items more);
 }
 
-pub takes_stop : (xs ys : List Item) (f : EditFault) (a b d : Option (List ℕ)) (s t : List ℕ → Stream) (before spent failed : Bool) → Takes xs a b s t → (spent ≡ true → before ≡ true) → Stops ys b d t spent failed f → Stops (xs ++ ys) a d s before failed f
-takes_stop xs ys edit.Truncated a b d s t before spent failed p g q = takes_end xs ys false a b d s t p q
-takes_stop xs ys edit.TooLong a b d s t before spent failed p g q = takes_break xs ys item.TooLong a b d s t p q
-takes_stop xs ys edit.BadItem a b d s t before spent failed p g q = takes_break xs ys item.BadItem a b d s t p q
-takes_stop xs ys edit.TooDeep a b d s t before spent failed p g q = takes_break xs ys item.TooDeep a b d s t p q
-takes_stop xs ys edit.Failed a b d s t before spent failed p g q = g q
-takes_stop xs ys edit.PeerFailed a b d s t before spent failed p g q = q
-takes_stop xs ys edit.OutOfMemory a b d s t before spent failed p g q = tt
-takes_stop xs ys edit.BadSum a b d s t before spent failed p g q = absurd q
-takes_stop xs ys edit.BadWindow a b d s t before spent failed p g q = absurd q
-takes_stop xs ys edit.CopyWindow a b d s t before spent failed p g q = absurd q
-takes_stop xs ys edit.BadToken a b d s t before spent failed p g q = absurd q
-takes_stop xs ys edit.BadShape a b d s t before spent failed p g q = absurd q
-takes_stop xs ys edit.Refused a b d s t before spent failed p g q = absurd q
-takes_stop xs ys (edit.Editor e) a b d s t before spent failed p g q = absurd q
+pub takes_stop : (xs ys : List Item) (f : NextFault) (a b d : Option (List ℕ)) (s t : List ℕ → Stream) (before spent : Bool) (now whole : Counts) → Takes xs a b s t → (spent ≡ true → before ≡ true) → (Fails now → Fails whole) → Stops ys b d t spent now f → Stops (xs ++ ys) a d s before whole f
+takes_stop xs ys (next.Items item.Truncated) a b d s t before spent now whole p g h q = takes_end xs ys false a b d s t p q
+takes_stop xs ys (next.Items item.TooLong) a b d s t before spent now whole p g h q = takes_break xs ys item.TooLong a b d s t p q
+takes_stop xs ys (next.Items item.BadItem) a b d s t before spent now whole p g h q = takes_break xs ys item.BadItem a b d s t p q
+takes_stop xs ys (next.Items item.TooDeep) a b d s t before spent now whole p g h q = takes_break xs ys item.TooDeep a b d s t p q
+takes_stop xs ys (next.Items item.Failed) a b d s t before spent now whole p g h q = g q
+takes_stop xs ys (next.Items item.OutOfMemory) a b d s t before spent now whole p g h q = tt
+takes_stop xs ys next.PeerFailed a b d s t before spent now whole p g h q = h q
 
-of_fault : (f : ItemFault) (a b : Option (List ℕ)) (s : List ℕ → Stream) (before failed : Bool) → is_of_byte f ≡ true → Breaks [] f a b s → Stops [] a b s before failed (of_item f)
+-- a failure in the last of some calls is one of them all
+pub fails_since : (first before now reads : ℕ) → first ≤ before → Fails (record { before = before; now = now; reads = reads }) → Fails (record { before = first; now = now; reads = reads })
+fails_since first before now reads h (inl (inl r)) = inl (inl (omega (arith, h, r)))
+fails_since first before now reads h (inl (inr r)) = inl (inr r)
+fails_since first before now reads h (inr r) = inr r
+
+of_fault : (f : ItemFault) (a b : Option (List ℕ)) (s : List ℕ → Stream) (before : Bool) (failed : Counts) → is_of_byte f ≡ true → Breaks [] f a b s → Stops [] a b s before failed (next.Items f)
 of_fault item.TooLong a b s before failed k p = p
 of_fault item.BadItem a b s before failed k p = p
 of_fault item.TooDeep a b s before failed k p = p
@@ -147,8 +139,8 @@ of_fault item.Failed a b s before failed k p = cc
 of_fault item.OutOfMemory a b s before failed k p = cc
 
 -- a refusal that was found stands at the front now
-pub stops_here : (r : Rest) (f : ItemFault) (a b : Option (List ℕ)) (s : List ℕ → Stream) (ready : List Item) (old : Reading) (before failed : Bool) → r ≡ rest.Refused f → is_sound r ≡ true → ready ≡ [] → Takes [] a b s (rest_of r ready old)
-    → Stops [] a b s before failed (of_item f)
+pub stops_here : (r : Rest) (f : ItemFault) (a b : Option (List ℕ)) (s : List ℕ → Stream) (ready : List Item) (old : Reading) (before : Bool) (failed : Counts) → r ≡ rest.Refused f → is_sound r ≡ true → ready ≡ [] → Takes [] a b s (rest_of r ready old)
+    → Stops [] a b s before failed (next.Items f)
 stops_here r f a b s ready old before failed e sound none p =
     let k : is_of_byte f ≡ true = ap is_sound (sym e) ∙ sound in
     let front : (more : List ℕ) → s (p.bytes ++ more) ≡ Refuses [] f = λ more. p.items more ∙ ap (λ q. behind [] (rest_of q ready old more)) e ∙ ap (λ l. Refuses (reverse l) f) none in
@@ -173,14 +165,35 @@ popped r a b s now ready left x sound n e p = record {
 pub goes_on : (a b d : Option (List ℕ)) (s t u : List ℕ → Stream) → Takes [] a b s t → Takes [] b d t u → Takes [] a d s u
 goes_on = takes_more [] []
 
-pub quiet : (a b d : Bool) → b ≡ a → d ≡ (b || false) → d ≡ a
-quiet true b d p q = cc (ap (λ x. x || false) p)
-quiet false b d p q = cc (ap (λ x. x || false) p)
-
 not_spent : (spent before : Bool) → spent ≡ false → spent ≡ true → before ≡ true
 not_spent true before n h = cc
 not_spent false before n h = cc
 
 -- a refusal behind what was taken
-pub stops_later : (a b d : Option (List ℕ)) (s t : List ℕ → Stream) (before spent failed : Bool) (f : EditFault) → Takes [] a b s t → spent ≡ false → Stops [] b d t spent failed f → Stops [] a d s before failed f
-stops_later a b d s t before spent failed f p n = takes_stop [] [] f a b d s t before spent failed p (not_spent spent before n)
+pub stops_later : (a b d : Option (List ℕ)) (s t : List ℕ → Stream) (before spent : Bool) (first mid now reads : ℕ) (f : NextFault) → Takes [] a b s t → spent ≡ false → first ≤ mid → Stops [] b d t spent (record { before = mid; now = now; reads = reads }) f → Stops [] a d s before (record { before = first; now = now; reads = reads }) f
+stops_later a b d s t before spent first mid now reads f p n h = takes_stop [] [] f a b d s t before spent _ _ p (not_spent spent before n) (fails_since first mid now reads h)
+
+-- ---- no more items come than bytes
+
+step_adds : (xs : List Item) (s : Step) → length (items_of (of_step xs s)) ≤ length xs + 1
+step_adds xs (Next r) = omega arith
+step_adds xs (Gives x r) = omega (arith, length-append xs (x ∷ []))
+step_adds xs (Refused f) = omega arith
+
+byte_adds : (s : Stream) (b : ℕ) → length (items_of (one_byte s b)) ≤ length (items_of s) + 1
+byte_adds (Reads xs r) b = step_adds xs (one_step r b)
+byte_adds (Refuses xs f) b = omega arith
+
+pub reading_adds : (s : Stream) (bs : List ℕ) → length (items_of (reading s bs)) ≤ length (items_of s) + length bs
+reading_adds s [] = omega arith
+reading_adds s (b ∷ bs) = omega (arith, byte_adds s b, reading_adds (one_byte s b) bs)
+
+-- the items of a piece, the last one first, are no more than its bytes
+pub few_ok : (ready out turned : List Item) (old new : Reading) (piece : List ℕ) → ready ≡ [] → turned ≡ reverse out → reading (Reads ready old) piece ≡ Reads out new → length turned ≤ length piece
+few_ok ready out turned old new piece e t h =
+    omega (arith, ap length t, length-reverse out, ap length e, ap (λ s. length (items_of s)) h, reading_adds (Reads ready old) piece)
+
+pub few_unless : {E : Type 0} (t : Result (Unit {0}) E) (ready out turned : List Item) (old new : Reading) (f : ItemFault) (now : List ℕ → Stream) (piece : List ℕ) → ready ≡ [] → OnOk t (turned ≡ reverse out) → OnOk t ((f ≢ item.OutOfMemory) × ((bytes : List ℕ) → now bytes ≡ Refuses out f)) → StreamIs (Err f) new out (reading (Reads ready old) piece) → OnOk t (length turned ≤ length piece)
+few_unless (Ok u) ready out turned old new f now piece e t p h =
+    omega (arith, ap length t, length-reverse out, ap length e, ap (λ s. length (items_of s)) (is_refused f new out (reading (Reads ready old) piece) p.0 h), reading_adds (Reads ready old) piece)
+few_unless (Err x) ready out turned old new f now piece e t p h = tt

@@ -1,63 +1,55 @@
 //! The items of a stream, one at a time.
 
-ghost use Rattle.std.specs.Prelude.{◌≡◌, ◌≢◌, reverse, ◌≤◌, ◌<◌, ◌+◌, ◌||◌, ℕ, List, [], ◌++◌, length, take, OnOk, OnErr, IfOk, IfErr, Err, None, true, false};
-ghost use Rattle.std.specs.Io.KnownBytes.{Consumes, IsAtEnd, Keeps};
+ghost use Rattle.std.specs.Prelude.{◌≡◌, ◌≢◌, reverse, ◌≤◌, ◌<◌, ◌+◌, ℕ, List, [], ◌++◌, length, take};
+ghost use Rattle.std.specs.Prelude.{OnOk, OnErr, IfOk, IfErr, Err, None, true, false};
+ghost use Rattle.std.specs.Io.KnownBytes.{Consumes, IsAtEnd};
+ghost use Rattle.std.proofs.Props.{props};
 ghost use Rattle.ra_item.specs.Streams.{is_failed, Refuses};
 ghost use Rattle.ra_item.specs.declared.fault.ItemFault.TheVariants as item;
 ghost use Rattle.ra_item.specs.Reading.{is_between};
-ghost use Rattle.ra_edit.specs.Rests.{is_open, is_sound, is_of_byte};
+ghost use Rattle.ra_item.specs.Rests.{is_open, is_sound, is_of_byte};
 
-use crate::edit_fault::EditFault;
-use ra_item::fault::ItemFault;
-use ra_item::item::Item;
-use ra_item::reader::ItemReader;
+use crate::fault::{ItemFault, NextFault};
+use crate::item::Item;
+use crate::reader::ItemReader;
+use byte_streams::{Input, MOST_READS};
 use std::alloc::Global;
-use std::io::Read;
 use std::mem;
 
 // How many bytes are read at a time: 16 KiB.
 const PIECE: usize = 16_384;
 
-// How many reads one stream gets: the next one isn't made and counts as failed.
-const READS: u64 = 1_099_511_627_775;
-
-// A reader, whether it has failed, and how often it was read.
+// An input, and how often it was read for a stream.
 #[derive(Drop)]
-pub struct Source<R: Read + Drop> {
-    // The reader.
-    inner: R,
-    // Whether a read answered an error, or wasn't made because there were too many.
-    failed: bool,
-    // How many reads were made.
+pub struct Source<I: Input + Drop> {
+    inner: I,
     reads: u64,
+    ghost counted: { reads ≤ I.reads inner } by { Prim.hlevel props },
 }
 
-impl<R: Read + Drop> Source<R> {
-    ghost use Rattle.ra_edit.specs.ItemStreams.{is_peer};
-    ghost use Rattle.ra_edit.specs.declared.edit_fault.EditFault.TheVariants as edit;
+impl<I: Input + Drop> Source<I> {
+    ghost use Rattle.byte_streams.specs.Causes.{Fails, counts};
+    ghost use Rattle.ra_item.specs.declared.fault.NextFault.TheVariants.{PeerFailed};
 
-    // Reads some bytes, none only at the end. PeerFailed (49) where the reader failed, and only there.
-    fn read(&mut self, piece: &mut [u8]) -> Result<usize, EditFault>
+    // Reads some bytes, none only at the end. PeerFailed (49) where the input failed, or has had all its reads.
+    fn read(&mut self, piece: &mut [u8]) -> Result<usize, NextFault>
         ensures bound { IfOk result (λ n. n ≤ length piece.new) }
-        ensures bytes { IfOk result (λ n. Consumes (R.remaining self.old.inner) (R.remaining self.new.inner) (take n piece.new)) }
-        ensures end { IfOk result (λ n. n ≡ 0 → 0 < length piece.new → IsAtEnd (R.remaining self.new.inner)) }
+        ensures bytes { IfOk result (λ n. Consumes (I.remaining self.old.inner) (I.remaining self.new.inner) (take n piece.new)) }
+        ensures end { IfOk result (λ n. n ≡ 0 → 0 < length piece.new → IsAtEnd (I.remaining self.new.inner)) }
         ensures count { OnOk result ((self.new.reads ≡ self.old.reads + 1) × (self.old.reads < 1099511627775)) }
-        ensures peer { IfErr result (λ e. e ≡ edit.PeerFailed) }
-        ensures failed { self.new.failed ≡ (self.old.failed || is_peer result) }
+        ensures peer { IfErr result (λ e. e ≡ PeerFailed) }
+        ensures cause { OnErr result (Fails (counts I.failures I.reads self.old.inner self.new.inner)) }
+        ensures later { I.failures self.old.inner ≤ I.failures self.new.inner }
     {
-        if self.reads >= READS {
-            self.failed = true;
-            return Err(EditFault::PeerFailed);
+        if self.reads >= MOST_READS {
+            return Err(NextFault::PeerFailed);
         }
         match self.inner.read(piece) {
             Ok(n) => {
                 self.reads += 1;
                 Ok(n)
             }
-            Err(_) => {
-                self.failed = true;
-                Err(EditFault::PeerFailed)
-            }
+            Err(_) => Err(NextFault::PeerFailed),
         }
     }
 }
@@ -73,10 +65,10 @@ pub enum Rest {
     Spent,
 }
 
-/// Items from a reader, one at a time. What was read of the items behind the next is kept.
+/// Items from an input, one at a time. What was read of the items behind the next is kept.
 #[derive(Drop)]
-pub struct ItemStream<R: Read + Drop> {
-    source: Source<R>,
+pub struct ItemStream<I: Input + Drop> {
+    source: Source<I>,
     items: ItemReader,
     // The items that are whole, the next one last.
     ready: Vec<Item>,
@@ -86,20 +78,18 @@ pub struct ItemStream<R: Read + Drop> {
     ghost sound: { is_sound rest ≡ true },
 }
 
-impl<R: Read + Drop> ItemStream<R> {
-    ghost use Rattle.ra_edit.specs.ItemStreams.{reader_of, has_failed, is_spent, ahead, Takes, Ends, Stops, Answers, Fresh, Fills, is_peer};
-    ghost use Rattle.ra_edit.specs.declared.edit_fault.EditFault.TheVariants as edit;
+impl<I: Input + Drop> ItemStream<I> {
+    ghost use Rattle.ra_item.specs.ItemStreams.{reader_of, is_spent, ahead, left, Answers, Fresh, Fills};
+    ghost use Rattle.ra_item.specs.declared.fault.NextFault.TheVariants.{Items};
 
-    /// Before the reader's next byte.
-    pub fn new(alloc: Global, reader: R) -> ItemStream<R>
-        ensures reader { reader_of result ≡ reader }
-        ensures failed { has_failed result ≡ false }
+    /// Before the input's next byte.
+    pub fn new(alloc: Global, input: I) -> ItemStream<I>
+        ensures reader { reader_of result ≡ input }
         ensures begins { Fresh result }
     {
         ItemStream {
             source: Source {
-                inner: reader,
-                failed: false,
+                inner: input,
                 reads: 0,
             },
             items: ItemReader::new(alloc),
@@ -109,18 +99,20 @@ impl<R: Read + Drop> ItemStream<R> {
         }
     }
 
-    /// The next whole top-level item, or none where the input ends between items; then the stream stands as before its first item.
+    /// The next whole top-level item, or none where the input ends between items; then the stream stands as before its first
+    /// item.
     ///
     /// `Truncated` (7) where it ends inside one; `BadItem` (41), `TooDeep` (42) and `TooLong` (8) at a byte that no item has,
-    /// behind the items before it; `PeerFailed` (49) where a read failed, and only there; `OutOfMemory` (70) where a growth
-    /// was refused. After a refusal each later call answers `Failed` (32).
-    pub fn next(&mut self) -> Result<Option<Item>, EditFault>
-        ensures answer { Answers R.remaining self.old self.new result }
-        ensures spent { is_spent self.old ≡ true → result ≡ Err edit.Failed }
+    /// behind the items before it; `PeerFailed` (49) only where the input failed or was read 2^40 - 1 times; `OutOfMemory` (70)
+    /// where a growth was refused. After a refusal each later call answers `Failed` (32).
+    pub fn next(&mut self) -> Result<Option<Item>, NextFault>
+        ensures answer { Answers I.remaining I.failures I.reads self.old self.new result }
+        ensures spent { is_spent self.old ≡ true → result ≡ Err (Items item.Failed) }
         ensures later { OnErr result (is_spent self.new ≡ true) }
         ensures goes_on { OnOk result (is_spent self.new ≡ false) }
         ensures ended { IfOk result (λ x. x ≡ None → Fresh self.new) }
-        ensures failed { has_failed self.new ≡ (has_failed self.old || is_peer result) }
+        ensures fewer { IfOk result (λ x. x ≢ None → left self.new < left self.old) }
+        ensures failures { I.failures (reader_of self.old) ≤ I.failures (reader_of self.new) }
     {
         match self.fill() {
             Ok(true) => Ok(Some(self.ready.pop().unwrap())),
@@ -136,37 +128,28 @@ impl<R: Read + Drop> ItemStream<R> {
     pub fn spend(&mut self)
         ensures spent { is_spent self.new ≡ true }
         ensures reader { reader_of self.new ≡ reader_of self.old }
-        ensures failed { has_failed self.new ≡ has_failed self.old }
     {
         self.items = ItemReader::new(self.alloc);
         self.ready.clear();
         self.rest = Rest::Spent;
     }
 
-    // Makes no further read, and counts that as a failed one.
-    pub(crate) fn give_up(&mut self) -> EditFault
-        ensures failed { has_failed self.new ≡ true }
-        ensures peer { result ≡ edit.PeerFailed }
-    {
-        self.source.failed = true;
-        EditFault::PeerFailed
-    }
-
     // Reads until an item is ready, or to the end between items, which answers false.
-    fn fill(&mut self) -> Result<bool, EditFault>
-        ensures fills { Fills R.remaining self.old self.new result }
+    fn fill(&mut self) -> Result<bool, NextFault>
+        ensures fills { Fills I.remaining I.failures I.reads self.old self.new result }
         ensures ready { IfOk result (λ b. b ≡ true → 0 < length self.new.ready.items) }
-        ensures spent { is_spent self.old ≡ true → result ≡ Err edit.Failed }
+        ensures spent { is_spent self.old ≡ true → result ≡ Err (Items item.Failed) }
         ensures goes_on { OnOk result (is_spent self.new ≡ false) }
         ensures ended { IfOk result (λ b. b ≡ false → Fresh self.new) }
-        ensures failed { has_failed self.new ≡ (has_failed self.old || is_peer result) }
+        ensures fewer { IfOk result (λ b. b ≡ true → left self.new ≤ left self.old) }
+        ensures failures { I.failures (reader_of self.old) ≤ I.failures (reader_of self.new) }
     {
         if let Rest::Spent = self.rest {
-            return Err(EditFault::Failed);
+            return Err(NextFault::Items(ItemFault::Failed));
         }
         while self.ready.is_empty() {
             if let Rest::Refused(fault) = self.rest {
-                return Err(fault.into());
+                return Err(NextFault::Items(fault));
             }
             if !self.pull()? {
                 return Ok(false);
@@ -176,14 +159,15 @@ impl<R: Read + Drop> ItemStream<R> {
     }
 
     // Reads a piece and takes its items; at the end between items it answers false.
-    fn pull(&mut self) -> Result<bool, EditFault>
+    fn pull(&mut self) -> Result<bool, NextFault>
         requires open { is_open self.old.rest ≡ true }
         requires none { self.old.ready.items ≡ [] }
-        ensures fills { Fills R.remaining self.old self.new result }
+        ensures fills { Fills I.remaining I.failures I.reads self.old self.new result }
         ensures count { OnOk result ((self.new.source.reads ≡ self.old.source.reads + 1) × (self.old.source.reads < 1099511627775)) }
         ensures goes_on { OnOk result (is_spent self.new ≡ false) }
         ensures ended { IfOk result (λ b. b ≡ false → Fresh self.new) }
-        ensures failed { has_failed self.new ≡ (has_failed self.old || is_peer result) }
+        ensures fewer { IfOk result (λ b. b ≡ true → left self.new ≤ left self.old) }
+        ensures failures { I.failures (reader_of self.old) ≤ I.failures (reader_of self.new) }
     {
         let mut piece = [0u8; PIECE];
         let n = self.source.read(&mut piece)?;
@@ -196,11 +180,11 @@ impl<R: Read + Drop> ItemStream<R> {
     }
 
     // The end of the input.
-    fn end(&mut self) -> Result<(), EditFault>
+    fn end(&mut self) -> Result<(), NextFault>
         requires open { is_open self.old.rest ≡ true }
         requires none { self.old.ready.items ≡ [] }
         ensures whole { OnOk result (is_between self.old.items ≡ true) }
-        ensures cut { IfErr result (λ e. (e ≡ edit.Truncated) × (is_between self.old.items ≡ false)) }
+        ensures cut { IfErr result (λ e. (e ≡ Items item.Truncated) × (is_between self.old.items ≡ false)) }
         ensures source { self.new.source ≡ self.old.source }
         ensures goes_on { is_spent self.new ≡ false }
         ensures fresh { Fresh self.new }
@@ -208,22 +192,23 @@ impl<R: Read + Drop> ItemStream<R> {
         let ended = mem::replace(&mut self.items, ItemReader::new(self.alloc));
         match ended.finish() {
             Ok(()) => Ok(()),
-            Err(_) => Err(EditFault::Truncated),
+            Err(_) => Err(NextFault::Items(ItemFault::Truncated)),
         }
     }
 
     // The items that are ready stand in front of a refusal.
-    fn refuse(&mut self, fault: ItemFault) -> Result<(), EditFault>
+    fn refuse(&mut self, fault: ItemFault) -> Result<(), NextFault>
         requires of_byte { fault ≢ item.OutOfMemory → is_of_byte fault ≡ true }
-        ensures memory { IfErr result (λ e. e ≡ edit.OutOfMemory) }
+        ensures memory { IfErr result (λ e. e ≡ Items item.OutOfMemory) }
         ensures refused { OnOk result ((fault ≢ item.OutOfMemory) × ((bytes : List ℕ) → ahead self.new bytes ≡ Refuses self.old.ready.items fault)) }
+        ensures turned { OnOk result (self.new.ready.items ≡ reverse self.old.ready.items) }
         ensures source { self.new.source ≡ self.old.source }
         ensures goes_on { OnOk result (is_spent self.new ≡ false) }
     {
         match fault {
             ItemFault::OutOfMemory => {
                 self.rest = Rest::Spent;
-                Err(EditFault::OutOfMemory)
+                Err(NextFault::Items(fault))
             }
             _ => {
                 turn(&mut self.ready);
@@ -234,11 +219,12 @@ impl<R: Read + Drop> ItemStream<R> {
     }
 
     // Takes a piece when no item is ready.
-    fn take(&mut self, piece: &[u8]) -> Result<(), EditFault>
+    fn take(&mut self, piece: &[u8]) -> Result<(), NextFault>
         requires open { is_open self.old.rest ≡ true }
         requires none { self.old.ready.items ≡ [] }
         ensures ahead { OnOk result ((more : List ℕ) → ahead self.old (piece.now ++ more) ≡ ahead self.new more) }
-        ensures memory { IfErr result (λ e. e ≡ edit.OutOfMemory) }
+        ensures memory { IfErr result (λ e. e ≡ Items item.OutOfMemory) }
+        ensures few { OnOk result (length self.new.ready.items ≤ length piece.now) }
         ensures source { self.new.source ≡ self.old.source }
         ensures goes_on { OnOk result (is_spent self.new ≡ false) }
     {
