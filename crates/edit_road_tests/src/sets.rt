@@ -1,5 +1,6 @@
 //! Sets of small revisions, for the tests.
 
+use byte_streams::Input;
 use delta_editor::EditorFault;
 use dump_load::{Change, ChangeSet, apply};
 use edit_road::receive::receive_set;
@@ -12,7 +13,7 @@ use ra_edit::edit_fault::EditFault;
 use ra_edit::stream::ItemStream;
 use std::alloc::Global;
 use std::cmp::Ordering;
-use std::io::{Read, Write};
+use std::io::Write;
 use std::process::Abort;
 use std::test::Fail;
 
@@ -157,10 +158,10 @@ pub(crate) fn sent<W: Write + Drop>(
 }
 
 /// Receives a set over so few trees that one may be received.
-pub(crate) fn received<R: Read + Drop>(
+pub(crate) fn received<I: Input + Drop>(
     alloc: Global,
     trees: &[Tree],
-    items: &mut ItemStream<R>,
+    items: &mut ItemStream<I>,
 ) -> Result<ChangeSet, EditFault> {
     if trees.len() > 65_535 {
         return Err(EditFault::TooLong);
@@ -169,11 +170,11 @@ pub(crate) fn received<R: Read + Drop>(
 }
 
 /// Whether the next set that is received makes the same tree as this one.
-pub(crate) fn comes_next<R: Read + Drop>(
+pub(crate) fn comes_next<I: Input + Drop>(
     alloc: Global,
     trees: &[Tree],
     set: &ChangeSet,
-    items: &mut ItemStream<R>,
+    items: &mut ItemStream<I>,
 ) -> bool {
     match received(alloc, trees, items) {
         Ok(found) => make_one(alloc, trees, set, &found),
@@ -182,10 +183,10 @@ pub(crate) fn comes_next<R: Read + Drop>(
 }
 
 /// The number of what the next receive is refused for; 0 where it isn't.
-pub(crate) fn refusal<R: Read + Drop>(
+pub(crate) fn refusal<I: Input + Drop>(
     alloc: Global,
     trees: &[Tree],
-    items: &mut ItemStream<R>,
+    items: &mut ItemStream<I>,
 ) -> u8 {
     match received(alloc, trees, items) {
         Ok(_) => 0,

@@ -1,3 +1,4 @@
+pub mod Names
 pub mod Commands
 pub mod EditLaws
 pub mod Edits

@@ -1,5 +1,5 @@
 -- What was read of a drive, and what its editor was shown.
-use Rattle.std.specs.Prelude.{◌≡◌, ◌⊎◌, ℕ, Bool, true, List, [], ◌∷◌, ◌++◌, Option, codes}
+use Rattle.std.specs.Prelude.{◌≡◌, ◌⊎◌, ℕ, Bool, true, List, [], ◌∷◌, ◌++◌, Option}
 use Rattle.ra_item.specs.Items.{Item}
 use Rattle.ra_item.specs.Streams.{Stream}
 use Rattle.delta_editor.specs.Calls.{Adds}
@@ -18,6 +18,8 @@ use Rattle.ra_edit.specs.declared.receive_command.Command.{Command}
 use Rattle.ra_edit.specs.declared.shape_fault.ShapeFault.{ShapeFault}
 use Rattle.ra_edit.specs.declared.edit_fault.EditFault.{EditFault}
 use Rattle.ra_edit.specs.declared.edit_fault.EditFault.TheVariants as fault
+use Rattle.ra_edit.specs.Names.{word_of}
+use Rattle.ra_edit.specs.declared.name.Name.TheVariants as word
 
 -- these items were read and are these calls, which an editor was shown, and so the commands stand
 pub record Goes {E : Type 0} (shows : E → List Call → Type 0) (old new : E) (before after : Option (List ℕ)) (was is : List ℕ → Stream) (stands : At → Type 0) : Type 0 where
@@ -37,7 +39,7 @@ pub record Comes {E : Type 0} (shows : E → List Call → Type 0) (old new : E)
   pub at : At
   pub taken : Takes (items ++ last ∷ []) before after was is
   pub say : AllSay Begun items calls at
-  pub end : IsCommand (codes "finish-replay") [] last
+  pub end : IsCommand (word_of word.FinishReplay) [] last
   pub shown : Adds shows old new calls
   pub here : stands at
 

@@ -14,6 +14,7 @@ mod command;
 pub mod command_fault;
 pub mod edit_fault;
 pub mod law;
+mod name;
 pub mod receive;
 pub mod receive_command;
 mod receive_edit;

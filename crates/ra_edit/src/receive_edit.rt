@@ -1,6 +1,6 @@
 //! An edit that is received: what is open, and what a command does.
 
-ghost use Rattle.std.specs.Prelude.{◌≡◌, ◌+◌, ◌≤◌, ◌<◌, ◌++◌, ◌∷◌, ◌&&◌, [], ℕ, List, Option, map, length, reverse, IfOk, IfErr, IsSomeAnd, OnOk, OnErr, Ok, Err, Some, None, true, false, vec_len, vec_capacity, slice_get, codes};
+ghost use Rattle.std.specs.Prelude.{◌≡◌, ◌+◌, ◌≤◌, ◌<◌, ◌++◌, ◌∷◌, ◌&&◌, [], ℕ, List, Option, map, length, reverse, IfOk, IfErr, IsSomeAnd, OnOk, OnErr, Ok, Err, Some, None, true, false, vec_len, vec_capacity, slice_get};
 ghost use Rattle.std.specs.Option.{option_copied, option_map};
 ghost use Rattle.std.specs.List.{concat};
 ghost use Rattle.md5.specs.Md5.{Holds, md5};
@@ -11,6 +11,8 @@ ghost use Rattle.delta_editor.specs.declared.call.Call.{Call};
 ghost use Rattle.delta_editor.specs.declared.call.Call.TheVariants as call;
 ghost use Rattle.svndiff.specs.Streams.{reading, Reads};
 ghost use Rattle.ra_edit.specs.Edits.{Held, At, Begun, is_free, last_calls, Within, IsCommand};
+ghost use Rattle.ra_edit.specs.Names.{word_of};
+ghost use Rattle.ra_edit.specs.declared.name.Name.TheVariants as word;
 ghost use Rattle.ra_edit.specs.Receiving.{Forms};
 ghost use Rattle.ra_edit.specs.Refusals.{open_of, unless, is_in_dir, has_dir, for_token, in_file, at_start, of_stream, at_chunk, at_end, at_close, is_finish, due, refusal, RefusedFor, ReadFirst, RefusesOne, Meets, IfOwn};
 ghost use Rattle.ra_edit.specs.declared.command_fault.CommandFault.{CommandFault};
@@ -548,7 +550,7 @@ impl<E: Editor> Edit<E> {
     /// Ends the edit at `finish-replay`: the root is opened and closed where it wasn't, and the editor's `close_edit` is called.
     /// `BadToken` (46) where something is open; then it is discarded, and the edit is aborted.
     pub fn finish(self) -> Result<E::Done, CommandFault>
-        ensures done { IfOk result (λ d. (at : At) (item : Item) → IsCommand (codes "finish-replay") [] item → Stands E.dir_path E.file_path self.stage self.dirs.items self.file at → Finishes E.shows E.done_shows self.editor d item at) }
+        ensures done { IfOk result (λ d. (at : At) (item : Item) → IsCommand (word_of word.FinishReplay) [] item → Stands E.dir_path E.file_path self.stage self.dirs.items self.file at → Finishes E.shows E.done_shows self.editor d item at) }
         ensures began { IfOk result (λ d. E.done_began d ≡ E.began self.editor) }
         ensures refused { IfErr result (λ f. (at : At) → Stands E.dir_path E.file_path self.stage self.dirs.items self.file at → RefusedFor f (refusal at command.Finish)) }
         ensures own { IfErr result (IfOwn (λ f. (at : At) → Stands E.dir_path E.file_path self.stage self.dirs.items self.file at → Meets E.shows E.began E.refuses self.editor at command.Finish f)) }

@@ -8,6 +8,7 @@ ghost use Rattle.ra_edit.specs.Tokens.{newest};
 ghost use Rattle.ra_edit.specs.Wire.{Shows, Holds, held_before, done_held_before, writer_of, room_of};
 
 use crate::command;
+use crate::name::Name;
 use crate::token::{Place, Tokens};
 use delta_editor::{Editor, EditorFault, Source};
 use node_base::{NodePath, PropName, RevNo};
@@ -121,7 +122,7 @@ impl<W: Write + Drop> Editor for WireEditor<W> {
     ghost refuses = { λ held calls c e. e ≡ PeerFailed };
 
     fn target(&mut self, rev: RevNo) -> Result<(), EditorFault> {
-        let written = command::write_numbered(&mut self.out, b"target-rev", rev.get());
+        let written = command::write_numbered(&mut self.out, Name::TargetRev, rev.get());
         sent(&mut self.out, written)
     }
 
@@ -130,7 +131,7 @@ impl<W: Write + Drop> Editor for WireEditor<W> {
         let Some(child) = self.tokens.give(&place) else {
             return Err(EditorFault::PeerFailed);
         };
-        let written = command::write_open_root(&mut self.out, b"open-root", base, child);
+        let written = command::write_open_root(&mut self.out, Name::OpenRoot, base, child);
         sent(&mut self.out, written)?;
         Ok(WireDir { place })
     }
@@ -146,7 +147,7 @@ impl<W: Write + Drop> Editor for WireEditor<W> {
         let Some(child) = self.tokens.give(&place) else {
             return Err(EditorFault::PeerFailed);
         };
-        let written = command::write_add(&mut self.out, b"add-dir", path, parent, child, from);
+        let written = command::write_add(&mut self.out, Name::AddDir, path, parent, child, from);
         sent(&mut self.out, written)?;
         Ok(WireDir { place })
     }
@@ -164,7 +165,7 @@ impl<W: Write + Drop> Editor for WireEditor<W> {
         };
         let written = command::write_open_node(
             &mut self.out,
-            b"open-dir",
+            Name::OpenDir,
             path,
             parent,
             child,
@@ -181,7 +182,7 @@ impl<W: Write + Drop> Editor for WireEditor<W> {
         base: Option<RevNo>,
     ) -> Result<(), EditorFault> {
         let parent = self.tokens.at(&up.place);
-        let written = command::write_delete(&mut self.out, b"delete-entry", path, base, parent);
+        let written = command::write_delete(&mut self.out, Name::DeleteEntry, path, base, parent);
         sent(&mut self.out, written)
     }
 
@@ -196,7 +197,7 @@ impl<W: Write + Drop> Editor for WireEditor<W> {
         let Some(child) = self.tokens.give(&place) else {
             return Err(EditorFault::PeerFailed);
         };
-        let written = command::write_add(&mut self.out, b"add-file", path, parent, child, from);
+        let written = command::write_add(&mut self.out, Name::AddFile, path, parent, child, from);
         sent(&mut self.out, written)?;
         Ok(WireFile { place })
     }
@@ -214,7 +215,7 @@ impl<W: Write + Drop> Editor for WireEditor<W> {
         };
         let written = command::write_open_node(
             &mut self.out,
-            b"open-file",
+            Name::OpenFile,
             path,
             parent,
             child,
@@ -232,7 +233,7 @@ impl<W: Write + Drop> Editor for WireEditor<W> {
     ) -> Result<(), EditorFault> {
         let at = self.tokens.at(&dir.place);
         let name = name.as_bytes();
-        let written = command::write_prop(&mut self.out, b"change-dir-prop", at, name, value);
+        let written = command::write_prop(&mut self.out, Name::ChangeDirProp, at, name, value);
         sent(&mut self.out, written)
     }
 
@@ -244,7 +245,7 @@ impl<W: Write + Drop> Editor for WireEditor<W> {
     ) -> Result<(), EditorFault> {
         let at = self.tokens.at(&file.place);
         let name = name.as_bytes();
-        let written = command::write_prop(&mut self.out, b"change-file-prop", at, name, value);
+        let written = command::write_prop(&mut self.out, Name::ChangeFileProp, at, name, value);
         sent(&mut self.out, written)
     }
 
@@ -262,21 +263,21 @@ impl<W: Write + Drop> Editor for WireEditor<W> {
 
     fn text_end(&mut self, file: &mut WireFile) -> Result<(), EditorFault> {
         let at = self.tokens.at(&file.place);
-        let written = command::write_ended(&mut self.out, b"textdelta-end", at);
+        let written = command::write_ended(&mut self.out, Name::TextdeltaEnd, at);
         sent(&mut self.out, written)
     }
 
     fn close_file(&mut self, file: WireFile, sum: Option<[u8; 16]>) -> Result<(), EditorFault> {
         let WireFile { place } = file;
         let at = self.tokens.at(&place);
-        let written = command::write_close_file(&mut self.out, b"close-file", at, sum);
+        let written = command::write_close_file(&mut self.out, Name::CloseFile, at, sum);
         sent(&mut self.out, written)
     }
 
     fn close_dir(&mut self, dir: WireDir) -> Result<(), EditorFault> {
         let WireDir { place } = dir;
         let at = self.tokens.at(&place);
-        let written = command::write_ended(&mut self.out, b"close-dir", at);
+        let written = command::write_ended(&mut self.out, Name::CloseDir, at);
         sent(&mut self.out, written)
     }
 
@@ -295,7 +296,7 @@ impl<W: Write + Drop> Editor for WireEditor<W> {
             start,
             tokens: _,
         } = self;
-        let written = command::write_bare(&mut out, b"finish-replay");
+        let written = command::write_bare(&mut out, Name::FinishReplay);
         sent(&mut out, written)?;
         let (out, _) = out.into_parts();
         Ok(Written { out, start })
