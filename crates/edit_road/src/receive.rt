@@ -1,6 +1,8 @@
 //! A set of changes from the items of an edit.
 ghost use Rattle.std.specs.Prelude.{◌≡◌, ◌≤◌, length, true, false, IfOk, IfErr, OnOk, OnErr};
-ghost use Rattle.ra_item.specs.ItemStreams.{reader_of, is_spent};
+ghost use Rattle.ra_item.specs.ItemStreams.{reader_of, meanwhile, is_spent};
+ghost use Rattle.byte_streams.specs.Causes.{Fails};
+ghost use Rattle.ra_edit.specs.declared.edit_fault.EditFault.TheVariants.{PeerFailed};
 ghost use Rattle.edit_road.specs.Receiving.{IsNextEdit, Receives, Refuses, RefusesEdit};
 
 use byte_streams::Input;
@@ -28,6 +30,7 @@ pub fn receive_set<I: Input + Drop>(
     ensures stopped { IfErr result (RefusesEdit I.remaining I.failures I.reads trees.now items.old items.new) }
     ensures received { IfOk result (Receives I.remaining trees.now items.old items.new) }
     ensures refused { IfErr result (Refuses I.remaining I.failures I.reads trees.now items.old items.new) }
+    ensures peer { IfErr result (λ f. f ≡ PeerFailed → Fails (meanwhile I.failures I.reads items.old items.new)) }
     ensures failures { I.failures (reader_of items.old) ≤ I.failures (reader_of items.new) }
     ensures goes_on { OnOk result (is_spent items.new ≡ false) }
     ensures spent { OnErr result (is_spent items.new ≡ true) }

@@ -4,6 +4,8 @@ ghost use Rattle.std.specs.Prelude.{◌≡◌, ◌≤◌, ◌<◌, IfOk, IfErr, 
 ghost use Rattle.ra_edit.specs.Edit.{Stands};
 ghost use Rattle.ra_edit.specs.Edits.{Begun};
 ghost use Rattle.ra_item.specs.ItemStreams.{reader_of, meanwhile, is_spent, left, ahead};
+ghost use Rattle.byte_streams.specs.Causes.{Fails};
+ghost use Rattle.ra_edit.specs.declared.edit_fault.EditFault.TheVariants.{PeerFailed};
 ghost use Rattle.ra_edit.specs.Refusals.{Meets};
 ghost use Rattle.ra_edit.specs.Received.{Comes, TakesOne, Received, StopsBehind, RefusesDrive};
 
@@ -31,6 +33,7 @@ pub fn receive<I: Input + Drop, E: Editor>(
     ensures received { IfOk result (λ done. Received E.shows E.done_shows editor done (I.remaining (reader_of items.old)) (I.remaining (reader_of items.new)) (ahead items.old) (ahead items.new)) }
     ensures began { IfOk result (λ done. E.done_began done ≡ E.began editor) }
     ensures refused { IfErr result (RefusesDrive E.shows E.began E.refuses editor (I.remaining (reader_of items.old)) (I.remaining (reader_of items.new)) (ahead items.old) (is_spent items.old) (meanwhile I.failures I.reads items.old items.new)) }
+    ensures peer { IfErr result (λ f. f ≡ PeerFailed → Fails (meanwhile I.failures I.reads items.old items.new)) }
     ensures failures { I.failures (reader_of items.old) ≤ I.failures (reader_of items.new) }
     ensures goes_on { OnOk result (is_spent items.new ≡ false) }
     ensures spent { OnErr result (is_spent items.new ≡ true) }

@@ -5,7 +5,7 @@ ghost use Rattle.std.specs.Io.KnownBytes.{Keeps};
 ghost use Rattle.std.specs.Io.Buffered.{writer_buffer, writer_contents};
 ghost use Rattle.delta_editor.specs.declared.fault.EditorFault.TheVariants.{OutOfMemory, PeerFailed};
 ghost use Rattle.ra_edit.specs.Tokens.{newest};
-ghost use Rattle.ra_edit.specs.Wire.{Shows, Holds, held_before, done_held_before, writer_of, room_of};
+ghost use Rattle.ra_edit.specs.Wire.{Shows, Holds, held_before, done_held_before, inner_of, writer_of, room_of};
 
 use crate::command;
 use crate::name::Name;
@@ -79,6 +79,20 @@ impl<W: Write + Drop> WireEditor<W> {
             }),
             Err(_) => Err(EditorFault::OutOfMemory),
         }
+    }
+
+    /// Gives the edit up, behind a refusal too: the writer, as the calls so far left it.
+    pub fn into_writer(self) -> W
+        ensures { result ≡ inner_of self }
+    {
+        let WireEditor {
+            alloc: _,
+            out,
+            start: _,
+            tokens: _,
+        } = self;
+        let (out, _) = out.into_parts();
+        out
     }
 }
 
@@ -303,12 +317,6 @@ impl<W: Write + Drop> Editor for WireEditor<W> {
     }
 
     fn abort_edit(self) {
-        let WireEditor {
-            alloc: _,
-            out,
-            start: _,
-            tokens: _,
-        } = self;
-        let (_, _) = out.into_parts();
+        let _ = self.into_writer();
     }
 }
