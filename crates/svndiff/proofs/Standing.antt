@@ -1,5 +1,5 @@
 -- What is read is in the grammar.
-use Rattle.std.proofs.Common.{◌≡◌, inl, inr, ℕ, zero, suc, ◌+◌, ◌-◌, ◌*◌, ◌≤◌, ◌<◌, ◌==◌, ◌&&◌, ◌||◌, not, Bool, true, false, List, [], ◌∷◌, ◌++◌, length, take, nat_lt, refl, sym, ap, subst, ◌∙◌, append_assoc, append-nil, length-append, arith}
+use Rattle.std.proofs.Common.{◌≡◌, ◌⊎◌, inl, inr, ℕ, zero, suc, ◌+◌, ◌-◌, ◌*◌, ◌≤◌, ◌<◌, ◌==◌, ◌&&◌, ◌||◌, not, Bool, true, false, List, [], ◌∷◌, ◌++◌, length, take, nat_lt, refl, sym, ap, subst, ◌∙◌, append_assoc, append-nil, length-append, arith}
 use Rattle.std.proofs.lemmas.Bool.Decides.{nat_tests}
 use Rattle.std.specs.Bool.{if◌then◌else◌}
 use Rattle.svndiff.specs.Groups.{is_last, group, number_after, ends_once, Spells}
@@ -12,10 +12,13 @@ use Rattle.svndiff.specs.declared.reading.Digit.TheVariants.{Whole, Goes, Wrong}
 use Rattle.svndiff.specs.declared.reading.Place.{Place}
 use Rattle.svndiff.specs.declared.reading.Place.TheVariants as at
 use Rattle.svndiff.specs.declared.reading.Reading.{Reading}
-use Rattle.svndiff.specs.declared.fault.WindowFault.TheVariants.{BadWindow}
+use Rattle.svndiff.specs.declared.fault.WindowFault.{WindowFault}
+use Rattle.svndiff.specs.declared.fault.WindowFault.TheVariants.{BadWindow, CopyWindow, TooLong, Failed}
 use Rattle.svndiff.specs.Reading.{Step, Next, Gives, Refused, begin, is_between, in_magic, digit, filled, head_digit, length_digit, more_data, instructed, judged, summed, instruction, one_less, one_step}
-use Rattle.svndiff.specs.Streams.{Stream, Reads, Refuses, of_step, one_byte, reading}
-use Rattle.svndiff.proofs.Runs.{state}
+use Rattle.svndiff.specs.Streams.{Stream, Reads, Refuses, of_step, one_byte, reading, stream_of}
+use Rattle.svndiff.specs.Refusals.{Whole_windows, Offset, AndSource, AndTarget, AndSize, Numbers, IsPast, IsOverfull, HasSource, Copies, IsDue, RefusedForCause, RefusedIsNoFront}
+use Rattle.svndiff.proofs.Read.{texts_are_read}
+use Rattle.svndiff.proofs.Runs.{state, reading-append, reading-refused}
 
 -- bytes of a number that goes on
 abbrev none_last : List ℕ → Bool
@@ -29,21 +32,6 @@ record Begun (digits : List ℕ) (count n : ℕ) : Type 0 where
   number : number_after 0 digits ≡ n
 
 -- the numbers of a window in front of one of them
-abbrev Offset : List ℕ → Type 0
-Offset bytes = (anywhere : ℕ) × Spells bytes anywhere
-
-abbrev AndSource : ℕ → List ℕ → Type 0
-AndSource source bytes = (front digits : List ℕ) × Offset front × Spells digits source × (bytes ≡ front ++ digits)
-
-abbrev AndTarget : ℕ → ℕ → List ℕ → Type 0
-AndTarget source target bytes = (front digits : List ℕ) × AndSource source front × Spells digits target × (bytes ≡ front ++ digits)
-
-abbrev AndSize : ℕ → ℕ → ℕ → List ℕ → Type 0
-AndSize source target size bytes = (front digits : List ℕ) × AndTarget source target front × Spells digits size × (bytes ≡ front ++ digits)
-
-abbrev Numbers : ℕ → ℕ → ℕ → ℕ → List ℕ → Type 0
-Numbers source target size fresh bytes = (front digits : List ℕ) × AndSize source target size front × Spells digits fresh × (bytes ≡ front ++ digits)
-
 abbrev InFront : Field → ℕ → ℕ → ℕ → List ℕ → Type 0
 InFront field.SourceOffset source target size bytes = bytes ≡ []
 InFront field.SourceLength source target size bytes = Offset bytes
@@ -51,12 +39,12 @@ InFront field.TargetLength source target size bytes = AndSource source bytes
 InFront field.InstructionLength source target size bytes = AndTarget source target bytes
 InFront field.NewLength source target size bytes = AndSize source target size bytes
 
--- the version, and whole windows
-record Whole_windows (bytes text : List ℕ) (room : ℕ) : Type 0 where
-  windows : List ℕ
-  are : AreWindows windows text
-  room_is : length text + room ≡ 1048576
-  joined : bytes ≡ 83 ∷ 86 ∷ 78 ∷ 0 ∷ windows
+-- instructions for so much new data, which is counted up to the limit
+abbrev Made : List ℕ → ℕ → Type 0
+Made made sum = (total : ℕ) × AreNew made total × (sum ≤ 102400 → sum ≡ total)
+
+made_are : (made : List ℕ) (sum : ℕ) → Made made sum → sum ≤ 102400 → AreNew made sum
+made_are made sum m h = subst (AreNew made) (sym (m.2 h)) m.1
 
 -- what is behind so many bytes, at each place
 abbrev Part : Place → ℕ → ℕ → ℕ → ℕ → ℕ → ℕ → List ℕ → List ℕ → Type 0
@@ -65,20 +53,27 @@ Part at.Between source target left fresh sum room text bytes = Whole_windows byt
 Part (at.Head f count n) source target left fresh sum room text bytes =
     (front numbers digits : List ℕ) × Whole_windows front text room × InFront f source target left numbers × Begun digits count n × (bytes ≡ front ++ (numbers ++ digits))
 Part at.Instruction source target left fresh sum room text bytes =
-    (front numbers made : List ℕ) × Whole_windows front text room × Numbers 0 target (length made + left) fresh numbers × (sum ≤ 102400 → AreNew made sum) × (fresh ≤ 102400) × (fresh ≤ room) × (0 < left) × (bytes ≡ front ++ (numbers ++ made))
+    (front numbers made : List ℕ) × Whole_windows front text room × Numbers 0 target (length made + left) fresh numbers × Made made sum × (fresh ≤ 102400) × (fresh ≤ room) × (0 < left) × (bytes ≡ front ++ (numbers ++ made))
 Part (at.Length count n) source target left fresh sum room text bytes =
-    (front numbers made digits : List ℕ) × Whole_windows front text room × Numbers 0 target (length made + (1 + length digits) + left) fresh numbers × (sum ≤ 102400 → AreNew made sum) × (fresh ≤ 102400) × (fresh ≤ room) × (0 < left) × Begun digits count n × (bytes ≡ front ++ (numbers ++ (made ++ 128 ∷ digits)))
+    (front numbers made digits : List ℕ) × Whole_windows front text room × Numbers 0 target (length made + (1 + length digits) + left) fresh numbers × Made made sum × (fresh ≤ 102400) × (fresh ≤ room) × (0 < left) × Begun digits count n × (bytes ≡ front ++ (numbers ++ (made ++ 128 ∷ digits)))
 Part at.NewData source target left fresh sum room text bytes =
     (front numbers made before new : List ℕ) × Whole_windows front before (room + length new) × Numbers 0 (length new + fresh) (length made) (length new + fresh) numbers × AreNew made (length new + fresh) × (length new + fresh ≤ 102400) × (fresh ≤ room) × (0 < fresh) × (text ≡ before ++ new) × (bytes ≡ front ++ (numbers ++ (made ++ new)))
-Part at.Failed source target left fresh sum room text bytes = Unit {0}
+Part at.Failed source target left fresh sum room text bytes = ⊥
 
 abbrev Stands : Reading → List ℕ → List ℕ → Type 0
 Stands r text bytes = Part r.place r.source r.target r.instructions r.fresh r.sum r.room text bytes
 
+-- what a refusal's number says of the bytes up to it
+abbrev Cause : WindowFault → List ℕ → List ℕ → Type 0
+Cause TooLong text bytes = IsOverfull text bytes
+Cause CopyWindow text bytes = HasSource text bytes ⊎ Copies text bytes
+Cause BadWindow text bytes = Unit {0}
+Cause Failed text bytes = ⊥
+
 abbrev Fine : List ℕ → List ℕ → Step → Type 0
 Fine text bytes (Next r) = Stands r text bytes
 Fine text bytes (Gives b r) = Stands r (text ++ b ∷ []) bytes
-Fine text bytes (Refused f) = Unit {0}
+Fine text bytes (Refused f) = Cause f text bytes
 
 if_fine : (text bytes : List ℕ) (t : Bool) (x y : Step) → (t ≡ true → Fine text bytes x) → (t ≡ false → Fine text bytes y) → Fine text bytes (if t then x else y)
 if_fine text bytes true x y h k = h refl
@@ -201,7 +196,7 @@ window_done front numbers made before new text bytes n room_before room w (a4, d
     }
 
 -- the instructions are over
-summed_at : (p : Place) (source target fresh sum room : ℕ) (text bytes front numbers made : List ℕ) (s t : Bool) → (sum == target && sum == fresh) ≡ s → (fresh == 0) ≡ t → Whole_windows front text room → Numbers 0 target (length made) fresh numbers → (sum ≤ 102400 → AreNew made sum) → fresh ≤ 102400 → fresh ≤ room → bytes ≡ front ++ (numbers ++ made) → Fine text bytes (if s then Next (state (if t then at.Between else at.NewData) source target 0 fresh sum room) else Refused BadWindow)
+summed_at : (p : Place) (source target fresh sum room : ℕ) (text bytes front numbers made : List ℕ) (s t : Bool) → (sum == target && sum == fresh) ≡ s → (fresh == 0) ≡ t → Whole_windows front text room → Numbers 0 target (length made) fresh numbers → Made made sum → fresh ≤ 102400 → fresh ≤ room → bytes ≡ front ++ (numbers ++ made) → Fine text bytes (if s then Next (state (if t then at.Between else at.NewData) source target 0 fresh sum room) else Refused BadWindow)
 summed_at p source target fresh sum room text bytes front numbers made false t e z w n are short fits j = tt
 summed_at p source target fresh sum room text bytes front numbers made true true e z w n are short fits j =
     let q = both (sum == target) (sum == fresh) e in
@@ -209,7 +204,7 @@ summed_at p source target fresh sum room text bytes front numbers made true true
     let sf = eq_from sum fresh q.1 in
     let f0 = eq_from fresh 0 z in
     let same : target ≡ fresh = sym st ∙ sf in
-    let made_all : AreNew made fresh = subst (AreNew made) sf (are (omega (arith, sf, short))) in
+    let made_all : AreNew made fresh = subst (AreNew made) sf (made_are made sum are (omega (arith, sf, short))) in
     window_done front numbers made text [] text bytes fresh room room w (subst (λ x. Numbers 0 x (length made) fresh numbers) same n) made_all f0 short (sym (append-nil text)) (j ∙ ap (λ x. front ++ (numbers ++ x)) (sym (append-nil made))) w.room_is
 summed_at p source target fresh sum room text bytes front numbers made true false e z w n are short fits j =
     let q = both (sum == target) (sum == fresh) e in
@@ -218,7 +213,7 @@ summed_at p source target fresh sum room text bytes front numbers made true fals
     let same : target ≡ fresh = sym st ∙ sf in
     let plain : length {A = ℕ} [] + fresh ≡ fresh = omega arith in
     let wide : room + length {A = ℕ} [] ≡ room = omega arith in
-    let made_all : AreNew made fresh = subst (AreNew made) sf (are (omega (arith, sf, short))) in (
+    let made_all : AreNew made fresh = subst (AreNew made) sf (made_are made sum are (omega (arith, sf, short))) in (
       front,
       numbers,
       made,
@@ -234,21 +229,21 @@ summed_at p source target fresh sum room text bytes front numbers made true fals
       j ∙ ap (λ x. front ++ (numbers ++ x)) (sym (append-nil made)),
     )
 
-summed_fine : (p : Place) (source target left fresh sum room : ℕ) (text bytes front numbers made : List ℕ) → left ≡ 0 → Whole_windows front text room → Numbers 0 target (length made + left) fresh numbers → (sum ≤ 102400 → AreNew made sum) → fresh ≤ 102400 → fresh ≤ room → bytes ≡ front ++ (numbers ++ made) → Fine text bytes (summed (state p source target left fresh sum room))
+summed_fine : (p : Place) (source target left fresh sum room : ℕ) (text bytes front numbers made : List ℕ) → left ≡ 0 → Whole_windows front text room → Numbers 0 target (length made + left) fresh numbers → Made made sum → fresh ≤ 102400 → fresh ≤ room → bytes ≡ front ++ (numbers ++ made) → Fine text bytes (summed (state p source target left fresh sum room))
 summed_fine p source target left fresh sum room text bytes front numbers made z w n are short fits j =
     let size : length made + left ≡ length made = omega (arith, z) in
     subst (λ l. Fine text bytes (summed (state p source target l fresh sum room))) (sym z) (summed_at p source target fresh sum room text bytes front numbers made (sum == target && sum == fresh) (fresh == 0) refl refl w (subst (λ x. Numbers 0 target x fresh numbers) size n) are short fits j)
 
 -- an instruction is whole
-more_at : (made first : List ℕ) (sum n : ℕ) (s : Bool) → (nat_lt 102400 sum || nat_lt 102400 n) ≡ s → (sum ≤ 102400 → AreNew made sum) → IsNew first n → (if s then 102401 else sum + n) ≤ 102400 → AreNew (made ++ first) (if s then 102401 else sum + n)
-more_at made first sum n true e are one h = absurd (omega (arith, h))
-more_at made first sum n false e are one h = More made first sum n (are (omega (arith, h))) one
+more_at : (made first : List ℕ) (sum n : ℕ) (s : Bool) → (nat_lt 102400 sum || nat_lt 102400 n) ≡ s → Made made sum → IsNew first n → Made (made ++ first) (if s then 102401 else sum + n)
+more_at made first sum n true e are one = (are.0 + n, More made first are.0 n are.1 one, λ h. absurd (omega (arith, h)))
+more_at made first sum n false e are one = (are.0 + n, More made first are.0 n are.1 one, λ h. omega (arith, h, are.2 (omega (arith, h))))
 
-instructed_fine : (p : Place) (source target left fresh sum room n : ℕ) (text bytes front numbers made first : List ℕ) → Whole_windows front text room → Numbers 0 target (length (made ++ first) + left) fresh numbers → (sum ≤ 102400 → AreNew made sum) → (0 < n → IsNew first n) → fresh ≤ 102400 → fresh ≤ room → bytes ≡ front ++ (numbers ++ (made ++ first)) → Fine text bytes (instructed (state p source target left fresh sum room) n)
+instructed_fine : (p : Place) (source target left fresh sum room n : ℕ) (text bytes front numbers made first : List ℕ) → Whole_windows front text room → Numbers 0 target (length (made ++ first) + left) fresh numbers → Made made sum → (0 < n → IsNew first n) → fresh ≤ 102400 → fresh ≤ room → bytes ≡ front ++ (numbers ++ (made ++ first)) → Fine text bytes (instructed (state p source target left fresh sum room) n)
 instructed_fine p source target left fresh sum room n text bytes front numbers made first w m are one short fits j =
     if_fine text bytes (n == 0) _ _ (λ _. tt) (λ some.
     let new : IsNew first n = one (positive n some) in
-    let all : more_data sum n ≤ 102400 → AreNew (made ++ first) (more_data sum n) = more_at made first sum n (nat_lt 102400 sum || nat_lt 102400 n) refl are new in
+    let all : Made (made ++ first) (more_data sum n) = more_at made first sum n (nat_lt 102400 sum || nat_lt 102400 n) refl are new in
     if_fine text bytes (left == 0) _ _
     (λ z. summed_fine p source target left fresh (more_data sum n) room text bytes front numbers (made ++ first) (eq_from left 0 z) w m all short fits j)
     (λ l. (front, numbers, made ++ first, w, m, all, short, fits, positive left l, j)))
@@ -264,7 +259,7 @@ short_new b e f h =
 instruction_fine : (source target left fresh sum room : ℕ) (text bytes : List ℕ) (b : ℕ) → Part at.Instruction source target left fresh sum room text bytes → Fine text (bytes ++ b ∷ []) (instruction (one_less (state at.Instruction source target left fresh sum room)) b)
 instruction_fine source target left fresh sum room text bytes b (front, numbers, made, w, m, are, short, fits, some, j) =
     let more : bytes ++ b ∷ [] ≡ front ++ (numbers ++ (made ++ b ∷ [])) = ap (λ x. x ++ b ∷ []) j ∙ snoc3 front numbers made b in
-    if_fine text (bytes ++ b ∷ []) (nat_lt b 128) _ _ (λ _. tt) (λ high.
+    if_fine text (bytes ++ b ∷ []) (nat_lt b 128) _ _ (λ low. inr (front, numbers, made, room, target, left, fresh, are.0, b, w, m, are.1, short, fits, some, lt_from b 128 low, more)) (λ high.
     if_fine text (bytes ++ b ∷ []) (nat_lt b 192) _ _
     (λ low. if_fine text (bytes ++ b ∷ []) (b == 128) _ _
     (λ long. if_fine text (bytes ++ b ∷ []) (left - 1 == 0) _ _ (λ _. tt) (λ l.
@@ -307,21 +302,24 @@ or_false : (a b : Bool) → (a || b) ≡ false → (a ≡ false) × (b ≡ false
 or_false true b e = cc
 or_false false b e = (refl, e)
 
+past_one : (target fresh room : ℕ) → (nat_lt 102400 target || nat_lt 102400 fresh || nat_lt room fresh) ≡ true → IsPast target fresh room
+past_one target fresh room e = grind (arith, nat_tests)
+
 judged_fine : (p : Place) (source target left fresh sum room : ℕ) (text bytes front numbers : List ℕ) → Whole_windows front text room → Numbers source target left fresh numbers → bytes ≡ front ++ numbers → Fine text bytes (judged (state p source target left fresh sum room))
 judged_fine p source target left fresh sum room text bytes front numbers w m j =
-    if_fine text bytes (nat_lt 102400 target || nat_lt 102400 fresh || nat_lt room fresh) _ _ (λ _. tt) (λ limits.
+    if_fine text bytes (nat_lt 102400 target || nat_lt 102400 fresh || nat_lt room fresh) _ _ (λ past. (front, numbers, room, source, target, left, fresh, w, m, past_one target fresh room past, j)) (λ limits.
     let q = or_false (nat_lt 102400 target || nat_lt 102400 fresh) (nat_lt room fresh) limits in
     let r = or_false (nat_lt 102400 target) (nat_lt 102400 fresh) q.0 in
     let short : fresh ≤ 102400 = le_from 102400 fresh r.1 in
     let fits : fresh ≤ room = le_from room fresh q.1 in
-    if_fine text bytes (nat_lt 0 source) _ _ (λ _. tt) (λ no.
+    if_fine text bytes (nat_lt 0 source) _ _ (λ some. inl (front, numbers, room, source, target, left, fresh, w, m, le_from 102400 target r.0, short, fits, lt_from 0 source some, j)) (λ no.
     let zero_source : source ≡ 0 = omega (arith, le_from 0 source no) in
     let size : left ≡ length {A = ℕ} [] + left = omega arith in
     let m0 = subst (λ x. Numbers 0 target x fresh numbers) size (subst (λ x. Numbers x target left fresh numbers) zero_source m) in
     let end = j ∙ ap (λ x. front ++ x) (sym (append-nil numbers)) in
     if_fine text bytes (left == 0) _ _
-    (λ z. summed_fine p source target left fresh 0 room text bytes front numbers [] (eq_from left 0 z) w m0 (λ _. None) short fits end)
-    (λ l. (front, numbers, [], w, m0, (λ _. None), short, fits, positive left l, end))))
+    (λ z. summed_fine p source target left fresh 0 room text bytes front numbers [] (eq_from left 0 z) w m0 (0, None, λ _. refl) short fits end)
+    (λ l. (front, numbers, [], w, m0, (0, None, λ _. refl), short, fits, positive left l, end))))
 
 -- a number in front of a window
 filled_fine : (f : Field) (p : Place) (source target left fresh sum room n : ℕ) (text bytes front numbers digits : List ℕ) → Whole_windows front text room → InFront f source target left numbers → Spells digits n → bytes ≡ front ++ (numbers ++ digits) → Fine text bytes (filled f (state p source target left fresh sum room) n)
@@ -380,22 +378,23 @@ step_fine (at.Head f count n) source target left fresh sum room text bytes b h =
 step_fine at.Instruction source target left fresh sum room text bytes b h = instruction_fine source target left fresh sum room text bytes b h
 step_fine (at.Length count n) source target left fresh sum room text bytes b h = length_fine source target left fresh sum room count n text bytes b h
 step_fine at.NewData source target left fresh sum room text bytes b h = new_fine source target left fresh sum room text bytes b (nat_lt 1 fresh) refl h
-step_fine at.Failed source target left fresh sum room text bytes b h = tt
+step_fine at.Failed source target left fresh sum room text bytes b h = absurd h
 
--- a stream stands behind some bytes
+-- a stream stands behind some bytes, or was refused for a cause at one of them
 abbrev StreamStands : Stream → List ℕ → Type 0
-StreamStands (Reads text r) bytes = Stands r text bytes
-StreamStands (Refuses text f) bytes = Unit {0}
+StreamStands (Reads text r) bytes = (stream_of bytes ≡ Reads text r) × Stands r text bytes
+StreamStands (Refuses text f) bytes = (front rest : List ℕ) × (bytes ≡ front ++ rest) × (stream_of front ≡ Refuses text f) × Cause f text front
 
-step_stands : (text bytes : List ℕ) (s : Step) → Fine text bytes s → StreamStands (of_step text s) bytes
-step_stands text bytes (Next r) h = h
-step_stands text bytes (Gives b r) h = h
-step_stands text bytes (Refused f) h = tt
+step_stands : (text bytes : List ℕ) (s : Step) → stream_of bytes ≡ of_step text s → Fine text bytes s → StreamStands (of_step text s) bytes
+step_stands text bytes (Next r) e h = (e, h)
+step_stands text bytes (Gives b r) e h = (e, h)
+step_stands text bytes (Refused f) e h = (bytes, [], sym (append-nil bytes), e, h)
 
 one_stands : (s : Stream) (bytes : List ℕ) (b : ℕ) → StreamStands s bytes → StreamStands (one_byte s b) (bytes ++ b ∷ [])
 one_stands (Reads text r) bytes b h =
-    step_stands text (bytes ++ b ∷ []) (one_step r b) (step_fine r.place r.source r.target r.instructions r.fresh r.sum r.room text bytes b h)
-one_stands (Refuses text f) bytes b h = tt
+    step_stands text (bytes ++ b ∷ []) (one_step r b) (reading-append (Reads [] begin) bytes (b ∷ []) ∙ ap (λ s. one_byte s b) h.0)
+    (step_fine r.place r.source r.target r.instructions r.fresh r.sum r.room text bytes b h.1)
+one_stands (Refuses text f) bytes b (front, rest, j, e, h) = (front, rest ++ b ∷ [], ap (λ l. l ++ b ∷ []) j ∙ append_assoc front rest (b ∷ []), e, h)
 
 all_stand : (s : Stream) (bytes more : List ℕ) → StreamStands s bytes → StreamStands (reading s more) (bytes ++ more)
 all_stand s bytes [] h = subst (StreamStands s) (sym (append-nil bytes)) h
@@ -411,8 +410,31 @@ between_text (at.Length count n) source target left fresh sum room text bytes e 
 between_text at.NewData source target left fresh sum room text bytes e h = cc
 between_text at.Failed source target left fresh sum room text bytes e h = cc
 
+from_start : (bytes : List ℕ) → StreamStands (stream_of bytes) bytes
+from_start bytes = all_stand (Reads [] begin) [] bytes (refl, (omega arith, refl, refl, refl))
+
 pub read_is_text : (bytes text : List ℕ) → IsRead bytes text → IsText bytes text
 read_is_text bytes text (r, between, e) =
-    let start : StreamStands (Reads [] begin) [] = (omega arith, refl, refl, refl) in
-    let end : Stands r text bytes = subst (λ s. StreamStands s bytes) e (all_stand (Reads [] begin) [] bytes start) in
-    between_text r.place r.source r.target r.instructions r.fresh r.sum r.room text bytes between end
+    let end : StreamStands (Reads text r) bytes = subst (λ s. StreamStands s bytes) e (from_start bytes) in
+    between_text r.place r.source r.target r.instructions r.fresh r.sum r.room text bytes between end.1
+
+-- ---- why bytes are refused
+
+never : (text whole : List ℕ) (r : Reading) (f : WindowFault) → Refuses text f ≡ Reads whole r → ⊥
+never text whole r f e = cc
+
+pub refused_is_no_front : RefusedIsNoFront
+refused_is_no_front bytes more text whole f e t =
+    let read = texts_are_read (bytes ++ more) whole t in
+    never text whole read.0 f (sym (reading-refused text f more) ∙ ap (λ s. reading s more) (sym e) ∙ sym (reading-append (Reads [] begin) bytes more) ∙ read.2)
+
+due : (f : WindowFault) (text front : List ℕ) → stream_of front ≡ Refuses text f → Cause f text front → IsDue f text front
+due TooLong text front e h = h
+due CopyWindow text front e h = h
+due BadWindow text front e h = λ more whole. refused_is_no_front front more text whole BadWindow e
+due Failed text front e h = h
+
+pub refused_for_cause : RefusedForCause
+refused_for_cause bytes text f e =
+    let h : StreamStands (Refuses text f) bytes = subst (λ s. StreamStands s bytes) e (from_start bytes) in
+    (h.0, h.1, h.2, h.3, due f text h.0 h.3 h.4)

@@ -1,6 +1,7 @@
 //! Laws of texts in windows, over all bytes. Each is proved as the contract of a function that does nothing.
 
 ghost use Rattle.svndiff.specs.Laws.{PiecesJoin, TextsAreRead, OneText, WrittenIsText, WrittenIsRead, ReadIsText};
+ghost use Rattle.svndiff.specs.Refusals.{RefusedForCause, RefusedIsNoFront};
 
 /// It doesn't matter how bytes are cut into pieces.
 pub fn pieces_join()
@@ -30,4 +31,15 @@ pub fn written_is_read()
 /// What is read, up to an end between windows, is in the grammar.
 pub fn read_is_text()
     ensures { ReadIsText }
+{}
+
+/// Refused bytes begin no text.
+pub fn refused_is_no_front()
+    ensures { RefusedIsNoFront }
+{}
+
+/// Which number refused bytes get, and at which of them: 8 where a window's numbers are past a limit, 45 where it has a source or
+/// an instruction of another kind, 44 where no text goes on so.
+pub fn refused_for_cause()
+    ensures { RefusedForCause }
 {}
