@@ -2,7 +2,8 @@
 //!
 //! Each `Err` is the writer's own; then some of the bytes may have been written.
 
-ghost use Rattle.std.specs.Prelude.{◌≡◌, ◌<◌, ◌≤◌, ◌+◌, ℕ, List, [], ◌∷◌, ◌++◌, Some, None, length, OnOk};
+ghost use Rattle.std.specs.Prelude.{◌≡◌, ◌<◌, ◌≤◌, ◌+◌, ℕ, List, [], ◌∷◌, ◌++◌, Some};
+ghost use Rattle.std.specs.Prelude.{None, length, OnOk};
 ghost use Rattle.std.specs.Option.{option_copied, option_map};
 ghost use Rattle.std.specs.Fmt.{decimal};
 ghost use Rattle.std.specs.Io.KnownBytes.{Appends};
@@ -16,11 +17,11 @@ ghost use Rattle.svndiff.specs.Spelling.{head, window};
 ghost use Rattle.ra_edit.specs.Written.{before_params, behind_params, chunks};
 
 use crate::name::Name;
-use svndiff::writer::{PIECE, window_size, write_window};
 use node_base::{NodePath, RevNo, Source};
 use ra_item::writer::{write_close, write_number, write_open, write_text, write_word};
 use std::io;
 use std::io::Write;
+use svndiff::writer::{PIECE, window_size, write_window};
 
 /// What stands in front of a command's parameters.
 fn write_name<W: Write>(out: &mut W, name: Name) -> io::Result<()>
@@ -78,7 +79,8 @@ fn write_revision<W: Write>(out: &mut W, base: Option<RevNo>) -> io::Result<()>
 
 /// A string that may be missing.
 fn write_string<W: Write>(out: &mut W, value: Option<&[u8]>) -> io::Result<()>
-    ensures { OnOk result (Appends (W.contents out.old) (W.contents out.new) (spell (string (option_map (λ v. v.now) value.entry)))) }
+    ensures { OnOk result (Appends (W.contents out.old) (W.contents out.new)
+        (spell (string (option_map (λ v. v.now) value.entry)))) }
 {
     match value {
         Some(value) => {
@@ -92,7 +94,8 @@ fn write_string<W: Write>(out: &mut W, value: Option<&[u8]>) -> io::Result<()>
 
 /// Where a copy comes from.
 fn write_source<W: Write>(out: &mut W, from: Option<&Source>) -> io::Result<()>
-    ensures { OnOk result (Appends (W.contents out.old) (W.contents out.new) (spell (source (option_copied from.entry)))) }
+    ensures { OnOk result (Appends (W.contents out.old) (W.contents out.new)
+        (spell (source (option_copied from.entry)))) }
 {
     match from {
         Some(from) => {
@@ -130,7 +133,8 @@ fn write_sum<W: Write>(out: &mut W, sum: Option<[u8; 16]>) -> io::Result<()>
 
 /// A command that says a number: the revision that is shown.
 pub fn write_numbered<W: Write>(out: &mut W, name: Name, number: u16) -> io::Result<()>
-    ensures { OnOk result (Appends (W.contents out.old) (W.contents out.new) (spell (command (word_of name) (Number number ∷ [])))) }
+    ensures { OnOk result (Appends (W.contents out.old) (W.contents out.new)
+        (spell (command (word_of name) (Number number ∷ [])))) }
 {
     write_name(out, name)?;
     write_number(out, u64::from(number))?;
@@ -144,7 +148,8 @@ pub fn write_open_root<W: Write>(
     base: Option<RevNo>,
     child: u64,
 ) -> io::Result<()>
-    ensures { OnOk result (Appends (W.contents out.old) (W.contents out.new) (spell (command (word_of name) (revision base ∷ Text (token child) ∷ [])))) }
+    ensures { OnOk result (Appends (W.contents out.old) (W.contents out.new)
+        (spell (command (word_of name) (revision base ∷ Text (token child) ∷ [])))) }
 {
     write_name(out, name)?;
     write_revision(out, base)?;
@@ -161,7 +166,10 @@ pub fn write_add<W: Write>(
     child: u64,
     from: Option<&Source>,
 ) -> io::Result<()>
-    ensures { OnOk result (Appends (W.contents out.old) (W.contents out.new) (spell (command (word_of name) (Text (path_text path.now) ∷ Text (token up) ∷ Text (token child) ∷ source (option_copied from.entry) ∷ [])))) }
+    ensures { OnOk result (Appends (W.contents out.old) (W.contents out.new)
+        (spell (command (word_of name)
+        (Text (path_text path.now) ∷ Text (token up) ∷ Text (token child) ∷ source
+        (option_copied from.entry) ∷ [])))) }
 {
     write_name(out, name)?;
     write_path(out, path)?;
@@ -180,7 +188,9 @@ pub fn write_open_node<W: Write>(
     child: u64,
     base: Option<RevNo>,
 ) -> io::Result<()>
-    ensures { OnOk result (Appends (W.contents out.old) (W.contents out.new) (spell (command (word_of name) (Text (path_text path.now) ∷ Text (token up) ∷ Text (token child) ∷ revision base ∷ [])))) }
+    ensures { OnOk result (Appends (W.contents out.old) (W.contents out.new)
+        (spell (command (word_of name)
+        (Text (path_text path.now) ∷ Text (token up) ∷ Text (token child) ∷ revision base ∷ [])))) }
 {
     write_name(out, name)?;
     write_path(out, path)?;
@@ -198,7 +208,8 @@ pub fn write_delete<W: Write>(
     base: Option<RevNo>,
     up: u64,
 ) -> io::Result<()>
-    ensures { OnOk result (Appends (W.contents out.old) (W.contents out.new) (spell (command (word_of name) (Text (path_text path.now) ∷ revision base ∷ Text (token up) ∷ [])))) }
+    ensures { OnOk result (Appends (W.contents out.old) (W.contents out.new)
+        (spell (command (word_of name) (Text (path_text path.now) ∷ revision base ∷ Text (token up) ∷ [])))) }
 {
     write_name(out, name)?;
     write_path(out, path)?;
@@ -215,7 +226,9 @@ pub fn write_prop<W: Write>(
     prop: &[u8],
     value: Option<&[u8]>,
 ) -> io::Result<()>
-    ensures { OnOk result (Appends (W.contents out.old) (W.contents out.new) (spell (command (word_of name) (Text (token at) ∷ Text prop.now ∷ string (option_map (λ v. v.now) value.entry) ∷ [])))) }
+    ensures { OnOk result (Appends (W.contents out.old) (W.contents out.new)
+        (spell (command (word_of name)
+        (Text (token at) ∷ Text prop.now ∷ string (option_map (λ v. v.now) value.entry) ∷ [])))) }
 {
     write_name(out, name)?;
     write_token(out, at)?;
@@ -226,7 +239,8 @@ pub fn write_prop<W: Write>(
 
 /// A command that names a file and has empty brackets behind it.
 fn write_start<W: Write>(out: &mut W, name: Name, file: u64) -> io::Result<()>
-    ensures { OnOk result (Appends (W.contents out.old) (W.contents out.new) (spell (command (word_of name) (Text (token file) ∷ list [] ∷ [])))) }
+    ensures { OnOk result (Appends (W.contents out.old) (W.contents out.new)
+        (spell (command (word_of name) (Text (token file) ∷ list [] ∷ [])))) }
 {
     write_name(out, name)?;
     write_token(out, file)?;
@@ -236,7 +250,8 @@ fn write_start<W: Write>(out: &mut W, name: Name, file: u64) -> io::Result<()>
 
 /// A chunk of these bytes.
 fn write_bytes<W: Write>(out: &mut W, name: Name, file: u64, bytes: &[u8]) -> io::Result<()>
-    ensures { OnOk result (Appends (W.contents out.old) (W.contents out.new) (spell (command (word_of name) (Text (token file) ∷ Text bytes.now ∷ [])))) }
+    ensures { OnOk result (Appends (W.contents out.old) (W.contents out.new)
+        (spell (command (word_of name) (Text (token file) ∷ Text bytes.now ∷ [])))) }
 {
     write_name(out, name)?;
     write_token(out, file)?;
@@ -246,7 +261,9 @@ fn write_bytes<W: Write>(out: &mut W, name: Name, file: u64, bytes: &[u8]) -> io
 
 /// A text begins: the command, and a chunk with the four bytes in front of all windows.
 pub fn write_text_start<W: Write>(out: &mut W, file: u64) -> io::Result<()>
-    ensures { OnOk result (Appends (W.contents out.old) (W.contents out.new) (spell (command (word_of word.ApplyTextdelta) (Text (token file) ∷ list [] ∷ [])) ++ spell (chunk (Text (token file)) head))) }
+    ensures { OnOk result (Appends (W.contents out.old) (W.contents out.new)
+        (spell (command (word_of word.ApplyTextdelta) (Text (token file) ∷ list [] ∷ []))
+        ++ spell (chunk (Text (token file)) head))) }
 {
     write_start(out, Name::ApplyTextdelta, file)?;
     write_bytes(out, Name::TextdeltaChunk, file, b"SVN\x00")
@@ -266,7 +283,8 @@ fn write_window_text<W: Write>(out: &mut W, bytes: &[u8]) -> io::Result<()>
 /// A window in a chunk of its own.
 fn write_chunk<W: Write>(out: &mut W, name: Name, file: u64, bytes: &[u8]) -> io::Result<()>
     requires { length bytes.now ≤ 65536 }
-    ensures { OnOk result (Appends (W.contents out.old) (W.contents out.new) (spell (command (word_of name) (Text (token file) ∷ Text (window bytes.now) ∷ [])))) }
+    ensures { OnOk result (Appends (W.contents out.old) (W.contents out.new)
+        (spell (command (word_of name) (Text (token file) ∷ Text (window bytes.now) ∷ [])))) }
 {
     write_name(out, name)?;
     write_token(out, file)?;
@@ -289,7 +307,8 @@ pub fn write_piece<W: Write>(out: &mut W, file: u64, piece: &[u8]) -> io::Result
 
 /// A command that names what is open and says no more: a text ends, or a directory is closed.
 pub fn write_ended<W: Write>(out: &mut W, name: Name, at: u64) -> io::Result<()>
-    ensures { OnOk result (Appends (W.contents out.old) (W.contents out.new) (spell (command (word_of name) (Text (token at) ∷ [])))) }
+    ensures { OnOk result (Appends (W.contents out.old) (W.contents out.new)
+        (spell (command (word_of name) (Text (token at) ∷ [])))) }
 {
     write_name(out, name)?;
     write_token(out, at)?;
@@ -303,7 +322,8 @@ pub fn write_close_file<W: Write>(
     file: u64,
     sum: Option<[u8; 16]>,
 ) -> io::Result<()>
-    ensures { OnOk result (Appends (W.contents out.old) (W.contents out.new) (spell (command (word_of name) (Text (token file) ∷ string (sum_text sum) ∷ [])))) }
+    ensures { OnOk result (Appends (W.contents out.old) (W.contents out.new)
+        (spell (command (word_of name) (Text (token file) ∷ string (sum_text sum) ∷ [])))) }
 {
     write_name(out, name)?;
     write_token(out, file)?;

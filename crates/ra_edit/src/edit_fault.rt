@@ -35,11 +35,12 @@ pub enum EditFault {
     /// A window of a text copies (45).
     #[error("window copies")]
     CopyWindow,
-    /// A command names what isn't open, isn't the innermost open thing or is of another kind; a new token is in use; or something is
-    /// open at the end (46).
+    /// A command names what isn't open, isn't the innermost open thing or is of another kind; a new token is in
+    /// use; or something is open at the end (46).
     #[error("bad token")]
     BadToken,
-    /// No editor command, one out of its place, a path, a property's name or a revision that is none, or the input's end between items (48).
+    /// No editor command, one out of its place, a path, a property's name or a revision that is none, or the
+    /// input's end between items (48).
     #[error("bad command shape")]
     BadShape,
     /// A read failed, or the input was read as often as one stream may be (49).

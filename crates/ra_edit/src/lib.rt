@@ -1,9 +1,11 @@
 //! What Subversion's editor drives are over the wire: commands in items, and texts in windows.
 //!
-//! A revision is sent as commands of the ra_svn protocol, one for each call of an editor, and a text in it in windows of
-//! svndiff version 0, as the crate `svndiff` takes and writes them; its modules stand here by their names too.
+//! A revision is sent as commands of the ra_svn protocol, one for each call of an editor, and a text in it in
+//! windows of svndiff version 0, as the crate `svndiff` takes and writes them; its modules stand here by their
+//! names too.
 //!
-//! - [`wire::WireEditor`] is an editor that writes the calls that it is shown, in one spelling and with one reserved buffer.
+//! - [`wire::WireEditor`] is an editor that writes the calls that it is shown, in one spelling and with one reserved
+//!   buffer.
 //! - [`receive::receive`] shows an editor the calls that items spell, in any of the forms that are read.
 //!
 //! What is written for an edit is one of the forms that `specs/Edits.antt` takes, and is received as the same calls,

@@ -17,22 +17,28 @@ use delta_editor::Editor;
 use ra_item::stream::ItemStream;
 use std::alloc::Global;
 
-/// Receives one edit: shows its editor the calls that the next items spell, up to `finish-replay`, and gives what the edit
-/// comes to. The new data of each window is handed on as it comes, what one chunk has of it as one piece, and summed.
+/// Receives one edit: shows its editor the calls that the next items spell, up to `finish-replay`, and gives what
+/// the edit comes to. The new data of each window is handed on as it comes, what one chunk has of it as one piece,
+/// and summed.
 ///
-/// Refused: what the stream's `next` refuses; `BadShape` (48) for no command, one out of its place, and the end of the input
-/// between items; `BadToken` (46); `BadWindow` (44), `CopyWindow` (45) and `TooLong` (8) in a text; `BadSum` (6) at a
-/// `close-file`; `Refused` (60) at an `abort-edit` or a failure before `close-edit`; `Editor` where the editor refuses a call;
-/// `OutOfMemory` (70).
-/// After a refusal what is open is discarded, the edit is aborted, and the stream answers `Failed` (32) from then on.
+/// Refused: what the stream's `next` refuses; `BadShape` (48) for no command, one out of its place, and the end of
+/// the input between items; `BadToken` (46); `BadWindow` (44), `CopyWindow` (45) and `TooLong` (8) in a text;
+/// `BadSum` (6) at a `close-file`; `Refused` (60) at an `abort-edit` or a failure before `close-edit`; `Editor`
+/// where the editor refuses a call; `OutOfMemory` (70). After a refusal what is open is discarded, the edit is
+/// aborted, and the stream answers `Failed` (32) from then on.
 pub fn receive<I: Input + Drop, E: Editor>(
     alloc: Global,
     items: &mut ItemStream<I>,
     editor: E,
 ) -> Result<E::Done, EditFault>
-    ensures received { IfOk result (λ done. Received E.shows E.done_shows editor done (I.remaining (reader_of items.old)) (I.remaining (reader_of items.new)) (ahead items.old) (ahead items.new)) }
+    ensures received { IfOk result
+        (λ done. Received E.shows E.done_shows editor done (I.remaining (reader_of items.old))
+        (I.remaining (reader_of items.new)) (ahead items.old) (ahead items.new)) }
     ensures began { IfOk result (λ done. E.done_began done ≡ E.began editor) }
-    ensures refused { IfErr result (RefusesDrive E.shows E.began E.refuses editor (I.remaining (reader_of items.old)) (I.remaining (reader_of items.new)) (ahead items.old) (is_spent items.old) (meanwhile I.failures I.reads items.old items.new)) }
+    ensures refused { IfErr result
+        (RefusesDrive E.shows E.began E.refuses editor (I.remaining (reader_of items.old))
+        (I.remaining (reader_of items.new)) (ahead items.old) (is_spent items.old)
+        (meanwhile I.failures I.reads items.old items.new)) }
     ensures peer { IfErr result (λ f. f ≡ PeerFailed → Fails (meanwhile I.failures I.reads items.old items.new)) }
     ensures failures { I.failures (reader_of items.old) ≤ I.failures (reader_of items.new) }
     ensures goes_on { OnOk result (is_spent items.new ≡ false) }
@@ -61,8 +67,14 @@ fn take_commands<I: Input + Drop, E: Editor>(
 ) -> Result<(), EditFault>
     requires begun { Stands E.dir_path E.file_path edit.old.stage edit.old.dirs.items edit.old.file Begun }
     ensures began { E.began edit.new.editor ≡ E.began edit.old.editor }
-    ensures comes { OnOk result (Comes E.shows edit.old.editor edit.new.editor (I.remaining (reader_of items.old)) (I.remaining (reader_of items.new)) (ahead items.old) (ahead items.new) (Stands E.dir_path E.file_path edit.new.stage edit.new.dirs.items edit.new.file)) }
-    ensures refused { IfErr result (RefusesDrive E.shows E.began E.refuses edit.old.editor (I.remaining (reader_of items.old)) (I.remaining (reader_of items.new)) (ahead items.old) (is_spent items.old) (meanwhile I.failures I.reads items.old items.new)) }
+    ensures comes { OnOk result
+        (Comes E.shows edit.old.editor edit.new.editor (I.remaining (reader_of items.old))
+        (I.remaining (reader_of items.new)) (ahead items.old) (ahead items.new)
+        (Stands E.dir_path E.file_path edit.new.stage edit.new.dirs.items edit.new.file)) }
+    ensures refused { IfErr result
+        (RefusesDrive E.shows E.began E.refuses edit.old.editor (I.remaining (reader_of items.old))
+        (I.remaining (reader_of items.new)) (ahead items.old) (is_spent items.old)
+        (meanwhile I.failures I.reads items.old items.new)) }
     ensures failures { I.failures (reader_of items.old) ≤ I.failures (reader_of items.new) }
     ensures goes_on { OnOk result (is_spent items.new ≡ false) }
 {
@@ -80,8 +92,16 @@ fn take_command<I: Input + Drop, E: Editor>(
     edit: &mut Edit<E>,
 ) -> Result<bool, EditFault>
     ensures began { E.began edit.new.editor ≡ E.began edit.old.editor }
-    ensures taken { IfOk result (TakesOne E.shows edit.old.editor edit.new.editor (I.remaining (reader_of items.old)) (I.remaining (reader_of items.new)) (ahead items.old) (ahead items.new) (Stands E.dir_path E.file_path edit.old.stage edit.old.dirs.items edit.old.file) (Stands E.dir_path E.file_path edit.new.stage edit.new.dirs.items edit.new.file)) }
-    ensures refused { IfErr result (StopsBehind (Meets E.shows E.began E.refuses edit.old.editor) [] (Stands E.dir_path E.file_path edit.old.stage edit.old.dirs.items edit.old.file) (I.remaining (reader_of items.old)) (I.remaining (reader_of items.new)) (ahead items.old) (is_spent items.old) (meanwhile I.failures I.reads items.old items.new)) }
+    ensures taken { IfOk result
+        (TakesOne E.shows edit.old.editor edit.new.editor (I.remaining (reader_of items.old))
+        (I.remaining (reader_of items.new)) (ahead items.old) (ahead items.new)
+        (Stands E.dir_path E.file_path edit.old.stage edit.old.dirs.items edit.old.file)
+        (Stands E.dir_path E.file_path edit.new.stage edit.new.dirs.items edit.new.file)) }
+    ensures refused { IfErr result
+        (StopsBehind (Meets E.shows E.began E.refuses edit.old.editor) []
+        (Stands E.dir_path E.file_path edit.old.stage edit.old.dirs.items edit.old.file)
+        (I.remaining (reader_of items.old)) (I.remaining (reader_of items.new)) (ahead items.old) (is_spent items.old)
+        (meanwhile I.failures I.reads items.old items.new)) }
     ensures failures { I.failures (reader_of items.old) ≤ I.failures (reader_of items.new) }
     ensures goes_on { OnOk result (is_spent items.new ≡ false) }
     ensures fewer { OnOk result (left items.new < left items.old) }

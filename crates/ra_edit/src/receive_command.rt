@@ -1,13 +1,16 @@
 //! Editor commands and their items, as the ra_svn protocol has them.
 
-ghost use Rattle.std.specs.Prelude.{◌≡◌, ◌≤◌, ◌⊎◌, List, [], ◌∷◌, reverse, IfOk, IfErr, Ok, true, false, ℕ};
+ghost use Rattle.std.specs.Prelude.{◌≡◌, ◌≤◌, ◌⊎◌, List, [], ◌∷◌, reverse, IfOk, IfErr, Ok};
+ghost use Rattle.std.specs.Prelude.{true, false, ℕ};
 ghost use Rattle.std.specs.Option.{option_map};
 ghost use Rattle.ra_item.specs.Items.{Word, Number, Text};
 ghost use Rattle.node_base.specs.PathText.{path_read};
 ghost use Rattle.node_base.specs.Props.{prop_name_read};
 ghost use Rattle.ra_edit.specs.Commands.{list};
 ghost use Rattle.ra_edit.specs.Edits.{IsRevision, IsString, IsSum, IsSource};
-ghost use Rattle.ra_edit.specs.Receiving.{left_of, NextIs, IsPath, IsPropName, Forms, FormsWith, AWord, AText, AList, ARevision, APath, APropName, ABase, AValue, ASum, ASource, NotRead, params_of, IsNoCommand};
+ghost use Rattle.ra_edit.specs.Receiving.{left_of, NextIs, IsPath, IsPropName, Forms, FormsWith, AWord, AText, AList};
+ghost use Rattle.ra_edit.specs.Receiving.{ARevision, APath, APropName, ABase, AValue, ASum, ASource, NotRead};
+ghost use Rattle.ra_edit.specs.Receiving.{params_of, IsNoCommand};
 ghost use Rattle.ra_edit.specs.declared.name.Name.TheVariants as word;
 ghost use Rattle.ra_edit.specs.declared.shape_fault.ShapeFault.TheVariants as shape;
 ghost use Rattle.node_base.specs.Path.{Path};
@@ -184,7 +187,8 @@ impl Params {
 
     // The next item, which is a list of a string or of nothing.
     fn value(&mut self) -> Result<Option<Vec<u8>>, ShapeFault>
-        ensures read { IfOk result (λ v. NextIs (IsString (option_map (λ s. s.items) v)) (left_of self.old) (left_of self.new)) }
+        ensures read { IfOk result
+            (λ v. NextIs (IsString (option_map (λ s. s.items) v)) (left_of self.old) (left_of self.new)) }
         ensures none { IfErr result (NotRead (AValue ∷ []) (left_of self.old)) }
     {
         let mut inner = self.list()?;
@@ -249,8 +253,8 @@ fn read_path(alloc: Global, text: &[u8]) -> Result<NodePath, ShapeFault>
 }
 
 impl Command {
-    /// The command that an item is. `BadShape` (48) where it is none: its name, what it names, a path, a property's name or a
-    /// revision; `OutOfMemory` (70).
+    /// The command that an item is. `BadShape` (48) where it is none: its name, what it names, a path, a property's
+    /// name or a revision; `OutOfMemory` (70).
     pub fn parse(alloc: Global, item: Item) -> Result<Command, ShapeFault>
         ensures forms { IfOk result (λ c. Forms c item) }
         ensures none { IfErr result (IsNoCommand item) }

@@ -1,6 +1,7 @@
 //! An editor that writes the calls that it is shown as commands of the ra_svn protocol.
 
-ghost use Rattle.std.specs.Prelude.{◌≡◌, ◌+◌, ℕ, List, [], ◌∷◌, ◌++◌, Option, Some, None, IfOk, IfErr, IsOk, OnOk};
+ghost use Rattle.std.specs.Prelude.{◌≡◌, ◌+◌, ℕ, List, [], ◌∷◌, ◌++◌, Option, Some, None, IfOk};
+ghost use Rattle.std.specs.Prelude.{IfErr, IsOk, OnOk};
 ghost use Rattle.std.specs.Io.KnownBytes.{Keeps};
 ghost use Rattle.std.specs.Io.Buffered.{writer_buffer, writer_contents};
 ghost use Rattle.delta_editor.specs.declared.fault.EditorFault.TheVariants.{OutOfMemory, PeerFailed};
@@ -17,11 +18,13 @@ use std::io;
 use std::io::{BufWriter, Write};
 use std::snapshot::Snapshot;
 
-/// How many bytes are kept back at most until they are written: the longest command of a revision within the limits has 65,842.
+/// How many bytes are kept back at most until they are written: the longest command of a revision within the limits
+/// has 65,842.
 pub const ROOM: usize = 66_560;
 
-/// Writes the calls that it is shown, each as its commands in the one spelling that is written. What is opened gets the tokens
-/// `t0`, `t1`, `t2` and so on in the order of opening. A piece of a text is written in windows of at most 65,536 bytes.
+/// Writes the calls that it is shown, each as its commands in the one spelling that is written. What is opened gets
+/// the tokens `t0`, `t1`, `t2` and so on in the order of opening. A piece of a text is written in windows of at
+/// most 65,536 bytes.
 ///
 /// `new` reserves its room once. From then on its calls take no memory: they answer `PeerFailed` (49) where the writer
 /// failed, or where 2^64 - 1 tokens are given out, and nothing else.
@@ -61,8 +64,8 @@ impl<W> Written<W> {
 }
 
 impl<W: Write + Drop> WireEditor<W> {
-    /// An editor that writes behind what the writer has. `OutOfMemory` (70) where its room can't be had; the writer is let
-    /// go of then.
+    /// An editor that writes behind what the writer has. `OutOfMemory` (70) where its room can't be had; the writer
+    /// is let go of then.
     pub fn new(alloc: Global, out: W) -> Result<WireEditor<W>, EditorFault>
         ensures begins { IfOk result (λ e. Shows W.contents e []) }
         ensures began { IfOk result (λ e. held_before W.contents e ≡ W.contents out) }

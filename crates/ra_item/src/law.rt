@@ -1,6 +1,8 @@
 //! Laws of items, over all bytes. Each is proved as the contract of a function that does nothing.
 
-ghost use Rattle.ra_item.specs.Laws.{PiecesJoin, StreamsAreRead, WholeAtWhite, WrittenIsSpelled, WrittenIsRead, OneReading, ReadIsSpelled, EndsWhole, RefusedBehindItems, KeptIsFed, ReadGoesOn, RefusedIsNoFront};
+ghost use Rattle.ra_item.specs.Laws.{PiecesJoin, StreamsAreRead, WholeAtWhite, WrittenIsSpelled, WrittenIsRead};
+ghost use Rattle.ra_item.specs.Laws.{OneReading, ReadIsSpelled, EndsWhole, RefusedBehindItems, KeptIsFed, ReadGoesOn};
+ghost use Rattle.ra_item.specs.Laws.{RefusedIsNoFront};
 
 /// It doesn't matter how bytes are cut into pieces.
 pub fn pieces_join()

@@ -1,6 +1,7 @@
 //! The items of a stream, one at a time.
 
-ghost use Rattle.std.specs.Prelude.{◌≡◌, ◌≢◌, reverse, ◌≤◌, ◌<◌, ◌+◌, ℕ, List, [], ◌++◌, length, take};
+ghost use Rattle.std.specs.Prelude.{◌≡◌, ◌≢◌, reverse, ◌≤◌, ◌<◌, ◌+◌, ℕ, List, []};
+ghost use Rattle.std.specs.Prelude.{◌++◌, length, take};
 ghost use Rattle.std.specs.Prelude.{OnOk, OnErr, IfOk, IfErr, Err, None, true, false};
 ghost use Rattle.std.specs.Io.KnownBytes.{Consumes, IsAtEnd};
 ghost use Rattle.std.proofs.Props.{props};
@@ -34,7 +35,8 @@ impl<I: Input + Drop> Source<I> {
     // Reads some bytes, none only at the end. PeerFailed (49) where the input failed, or has had all its reads.
     fn read(&mut self, piece: &mut [u8]) -> Result<usize, NextFault>
         ensures bound { IfOk result (λ n. n ≤ length piece.new) }
-        ensures bytes { IfOk result (λ n. Consumes (I.remaining self.old.inner) (I.remaining self.new.inner) (take n piece.new)) }
+        ensures bytes { IfOk result
+            (λ n. Consumes (I.remaining self.old.inner) (I.remaining self.new.inner) (take n piece.new)) }
         ensures end { IfOk result (λ n. n ≡ 0 → 0 < length piece.new → IsAtEnd (I.remaining self.new.inner)) }
         ensures count { OnOk result ((self.new.reads ≡ self.old.reads + 1) × (self.old.reads < 1099511627775)) }
         ensures peer { IfErr result (λ e. e ≡ PeerFailed) }
@@ -99,12 +101,12 @@ impl<I: Input + Drop> ItemStream<I> {
         }
     }
 
-    /// The next whole top-level item, or none where the input ends between items; then the stream stands as before its first
-    /// item.
+    /// The next whole top-level item, or none where the input ends between items; then the stream stands as before
+    /// its first item.
     ///
-    /// `Truncated` (7) where it ends inside one; `BadItem` (41), `TooDeep` (42) and `TooLong` (8) at a byte that no item has,
-    /// behind the items before it; `PeerFailed` (49) only where the input failed or was read 2^40 - 1 times; `OutOfMemory` (70)
-    /// where a growth was refused. After a refusal each later call answers `Failed` (32).
+    /// `Truncated` (7) where it ends inside one; `BadItem` (41), `TooDeep` (42) and `TooLong` (8) at a byte that no
+    /// item has, behind the items before it; `PeerFailed` (49) only where the input failed or was read 2^40 - 1
+    /// times; `OutOfMemory` (70) where a growth was refused. After a refusal each later call answers `Failed` (32).
     pub fn next(&mut self) -> Result<Option<Item>, NextFault>
         ensures answer { Answers I.remaining I.failures I.reads self.old self.new result }
         ensures spent { is_spent self.old ≡ true → result ≡ Err (Items item.Failed) }
@@ -163,7 +165,8 @@ impl<I: Input + Drop> ItemStream<I> {
         requires open { is_open self.old.rest ≡ true }
         requires none { self.old.ready.items ≡ [] }
         ensures fills { Fills I.remaining I.failures I.reads self.old self.new result }
-        ensures count { OnOk result ((self.new.source.reads ≡ self.old.source.reads + 1) × (self.old.source.reads < 1099511627775)) }
+        ensures count { OnOk result ((self.new.source.reads ≡ self.old.source.reads + 1)
+            × (self.old.source.reads < 1099511627775)) }
         ensures goes_on { OnOk result (is_spent self.new ≡ false) }
         ensures ended { IfOk result (λ b. b ≡ false → Fresh self.new) }
         ensures fewer { IfOk result (λ b. b ≡ true → left self.new ≤ left self.old) }
@@ -200,7 +203,8 @@ impl<I: Input + Drop> ItemStream<I> {
     fn refuse(&mut self, fault: ItemFault) -> Result<(), NextFault>
         requires of_byte { fault ≢ item.OutOfMemory → is_of_byte fault ≡ true }
         ensures memory { IfErr result (λ e. e ≡ Items item.OutOfMemory) }
-        ensures refused { OnOk result ((fault ≢ item.OutOfMemory) × ((bytes : List ℕ) → ahead self.new bytes ≡ Refuses self.old.ready.items fault)) }
+        ensures refused { OnOk result ((fault ≢ item.OutOfMemory)
+            × ((bytes : List ℕ) → ahead self.new bytes ≡ Refuses self.old.ready.items fault)) }
         ensures turned { OnOk result (self.new.ready.items ≡ reverse self.old.ready.items) }
         ensures source { self.new.source ≡ self.old.source }
         ensures goes_on { OnOk result (is_spent self.new ≡ false) }

@@ -14,8 +14,8 @@ pub enum WindowFault {
     /// The reader has refused bytes before (32).
     #[error("failed before")]
     Failed,
-    /// Bytes that aren't version 0 or no window: a number past ten bytes or 2^64 - 1, an instruction of another kind, without
-    /// length or past its section, lengths that don't agree, or an end inside a window (44).
+    /// Bytes that aren't version 0 or no window: a number past ten bytes or 2^64 - 1, an instruction of another
+    /// kind, without length or past its section, lengths that don't agree, or an end inside a window (44).
     #[error("bad window")]
     BadWindow,
     /// A window with a source, or an instruction that copies (45).

@@ -38,8 +38,8 @@ pub fn refused_is_no_front()
     ensures { RefusedIsNoFront }
 {}
 
-/// Which number refused bytes get, and at which of them: 8 where a window's numbers are past a limit, 45 where it has a source or
-/// an instruction of another kind, 44 where no text goes on so.
+/// Which number refused bytes get, and at which of them: 8 where a window's numbers are past a limit, 45 where it
+/// has a source or an instruction of another kind, 44 where no text goes on so.
 pub fn refused_for_cause()
     ensures { RefusedForCause }
 {}

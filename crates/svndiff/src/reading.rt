@@ -1,8 +1,11 @@
 //! A text that comes in windows, byte by byte.
 
-ghost use Rattle.std.specs.Prelude.{◌≡◌, ◌≤◌, ◌<◌, ◌-◌, ◌+◌, ◌*◌, Some, None, length, take, Ok, Err, nat_lt, if◌then◌else◌};
+ghost use Rattle.std.specs.Prelude.{◌≡◌, ◌≤◌, ◌<◌, ◌-◌, ◌+◌, ◌*◌, Some, None, length, take};
+ghost use Rattle.std.specs.Prelude.{Ok, Err, nat_lt, if◌then◌else◌};
 ghost use Rattle.svndiff.specs.Groups.{group, is_last};
-ghost use Rattle.svndiff.specs.Reading.{begin, spent, is_between, is_failed, magic, in_magic, digit, summed, judged, filled, head_digit, more_data, instructed, within, instruction, length_digit, one_less, given, byte_step, one_step, StepIs};
+ghost use Rattle.svndiff.specs.Reading.{begin, spent, is_between, is_failed, magic, in_magic, digit, summed, judged};
+ghost use Rattle.svndiff.specs.Reading.{filled, head_digit, more_data, instructed, within, instruction, length_digit};
+ghost use Rattle.svndiff.specs.Reading.{one_less, given, byte_step, one_step, StepIs};
 ghost use Rattle.svndiff.specs.declared.reading.Place.TheVariants as at;
 
 use crate::fault::WindowFault;

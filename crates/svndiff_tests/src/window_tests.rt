@@ -1,12 +1,12 @@
 //! Windows spelled out by hand, whole and one byte at a time.
 
+use std::alloc::Global;
+use std::rt::HostRuntime;
+use std::test::Fail;
 use svndiff::fault::WindowFault;
 use svndiff::law;
 use svndiff::reader::WindowReader;
 use svndiff::writer::{write_head, write_text, write_windows};
-use std::alloc::Global;
-use std::rt::HostRuntime;
-use std::test::Fail;
 
 // `hello` and an LF.
 const HELLO: [u8; 16] = *b"SVN\x00\x00\x00\x06\x01\x06\x86hello\n";
