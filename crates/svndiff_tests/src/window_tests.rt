@@ -223,5 +223,7 @@ fn laws_are_called(rt: HostRuntime) {
     law::written_is_text();
     law::written_is_read();
     law::read_is_text();
+    law::refused_is_no_front();
+    law::refused_for_cause();
     assert!(rt; WindowFault::CopyWindow.number() == 45);
 }
