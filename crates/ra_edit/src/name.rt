@@ -55,7 +55,7 @@ impl Name {
     }
 
     /// The name that a word is.
-    pub fn of(word: &[u8]) -> Option<Name>
+    pub fn any(word: &[u8]) -> Option<Name>
         ensures name { IfSome result (λ n. word.now ≡ word_of n) }
         ensures none { result ≡ None → (n : Name) → word.now ≡ word_of n → ⊥ }
     {

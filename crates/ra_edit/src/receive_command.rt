@@ -262,7 +262,7 @@ impl Command {
         let mut parts = Params::of(item)?;
         let word = parts.word()?;
         let mut params = parts.list()?;
-        match Name::of(word.as_slice()) {
+        match Name::any(word.as_slice()) {
             Some(name) => any_command(alloc, name, &mut params),
             None => Err(ShapeFault::BadShape),
         }
