@@ -31,3 +31,16 @@ AppendsFront old new bytes = (n : ℕ) × Appends old new (take n bytes)
 abbrev pub number_of : SinkFault → ℕ
 number_of fault.PeerFailed = 49
 number_of fault.OutOfMemory = 70
+
+-- how often an input had failed before some calls and has by their end, and how often it was read by then
+pub record Counts : Type 0 where
+  pub before : ℕ
+  pub now : ℕ
+  pub reads : ℕ
+
+abbrev pub counts : {I : Type 0} → (I → ℕ) → (I → ℕ) → I → I → Counts
+counts failures reads old new = record { before = failures old; now = failures new; reads = reads new }
+
+-- it failed in these calls, or was read as often as one stream may be
+abbrev pub Fails : Counts → Type 0
+Fails c = Rose c.before c.now ⊎ (1099511627775 ≤ c.reads)

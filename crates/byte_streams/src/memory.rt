@@ -1,5 +1,6 @@
 //! An output in memory, for tests.
-ghost use Rattle.std.specs.Prelude.{◌≡◌, ◌≤◌, ◌<◌, ◌+◌, ◌++◌, ℕ, List, [], Option, Some, length, take, drop};
+ghost use Rattle.std.specs.Prelude.{◌≡◌, ◌≤◌, ◌<◌, ◌+◌, ◌++◌, ℕ, List, [], Option, Some};
+ghost use Rattle.std.specs.Prelude.{length, take, drop};
 ghost use Rattle.byte_streams.specs.Causes.{Rose};
 
 use crate::fault::StreamFault;

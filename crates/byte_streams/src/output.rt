@@ -1,7 +1,8 @@
 //! What is written to, as an engine sees it.
 ghost use Rattle.std.specs.Prelude.{◌≡◌, ◌≤◌, ℕ, List, Option, length, IfOk, OnOk, OnErr};
 ghost use Rattle.std.specs.Io.KnownBytes.{Appends, Keeps, WriteAppends};
-ghost use Rattle.byte_streams.specs.Causes.{HasCause, AppendsFront};
+ghost use Rattle.std.specs.Prelude.{true, false};
+ghost use Rattle.byte_streams.specs.Causes.{HasCause, AppendsFront, Rose};
 
 use crate::fault::StreamFault;
 
@@ -46,4 +47,13 @@ pub fn write_bytes<O: Output>(output: &mut O, bytes: &[u8]) -> Result<(), Stream
         at += output.write(&bytes[at..])?;
     }
     Ok(())
+}
+
+/// Whether an output has failed since it had failed so often; a count at its greatest tells that it has.
+pub fn has_failed_since<O: Output>(output: &O, before: u64) -> bool
+    ensures rose { result ≡ true → Rose before (O.failures output.now) }
+    ensures stood { result ≡ false → O.failures output.now ≤ before }
+{
+    let now = output.count_failures();
+    now > before || now == u64::MAX
 }

@@ -1,5 +1,6 @@
 //! An output for code that knows std's writers alone.
-ghost use Rattle.std.specs.Prelude.{◌≡◌, ◌≤◌, ◌<◌, ◌+◌, ◌++◌, ◌∷◌, [], ℕ, List, Option, length, min, true, false, Ok, Err, IfOk, IfErr, OnOk, OnErr, IsTrue, codes};
+ghost use Rattle.std.specs.Prelude.{◌≡◌, ◌≤◌, ◌<◌, ◌+◌, ◌++◌, ◌∷◌, [], ℕ, List, Option};
+ghost use Rattle.std.specs.Prelude.{length, min, true, false, Ok, Err, IfOk, IfErr, OnOk, OnErr, IsTrue, codes};
 ghost use Rattle.std.specs.Io.KnownBytes.{Appends, Keeps};
 ghost use Rattle.std.proofs.Props.{props};
 ghost use Rattle.byte_streams.specs.Causes.{Rose};
@@ -11,15 +12,16 @@ use std::io::{ErrorKind, Write};
 
 /// An output, and whether it failed in the run of writes that was begun last.
 ///
-/// It is itself a writer of std. What such code answers says nothing of the output, but what is kept here does: it is so of
-/// each value of the type, whatever the code did.
+/// It is itself a writer of std. What such code answers says nothing of the output, but what is kept here does: it
+/// is so of each value of the type, whatever the code did.
 #[derive(Drop)]
 pub struct Sink<O: Output + Drop> {
     inner: O,
     begun: u64,
     failed: bool,
     ghost later: { begun ≤ O.failures inner } by { Prim.hlevel props },
-    ghost cause: { failed ≡ true → min (begun + 1) 18446744073709551615 ≤ O.failures inner } by { Prim.hlevel props },
+    ghost cause: { failed ≡ true
+        → min (begun + 1) 18446744073709551615 ≤ O.failures inner } by { Prim.hlevel props },
 }
 
 impl<O: Output + Drop> Write for Sink<O> {
@@ -74,8 +76,8 @@ impl<O: Output + Drop> Sink<O> {
         count
     }
 
-    /// What the answer of a run of writes is that was begun at this count: PeerFailed (49) where the output failed in it,
-    /// and OutOfMemory (70) at another error, or where another run was begun meanwhile.
+    /// What the answer of a run of writes is that was begun at this count: PeerFailed (49) where the output failed
+    /// in it, and OutOfMemory (70) at another error, or where another run was begun meanwhile.
     pub fn answered(&self, count: u64, answer: io::Result<()>) -> Result<(), SinkFault>
         ensures ok { OnOk result (answer ≡ Ok tt) }
         ensures told { begun_of self.now ≡ count → result ≡ told (failed_of self.now) answer }

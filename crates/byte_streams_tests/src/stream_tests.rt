@@ -1,8 +1,8 @@
 //! Reads and writes that pass and that fail, and how they are counted.
 
 use byte_streams::{
-    CountedReader, CountedWriter, FuseInput, Input, MemOutput, Output, Sink, SinkFault,
-    StreamFault, write_bytes,
+    CountedReader, CountedWriter, FuseInput, Input, Lent, MemOutput, Output, Sink, SinkFault,
+    StreamFault, has_failed_since, write_bytes,
 };
 use std::alloc::Global;
 use std::io;
@@ -138,4 +138,45 @@ fn a_sink_hands_on_and_gives_its_output_back(rt: HostRuntime) {
     let output = sink.into_inner();
     assert!(rt; output.bytes() == b"12\n".as_slice() && output.handed_on() == 3);
     assert!(rt; Sink::new(CountedWriter::new(Closed)).hand_on() == Err(SinkFault::PeerFailed));
+}
+
+// Code that keeps its writer: what it writes, and whether that was taken.
+fn is_taken<W: Write + Drop>(mut out: W) -> bool {
+    write_number(&mut out, 7).is_ok()
+}
+
+// Whether an output that passes so many writes is back behind such code, with these bytes, and has failed or not.
+fn comes_back(alloc: Global, passing: u64, bytes: &[u8], failed: bool) -> bool {
+    let output = MemOutput::new(alloc, passing);
+    let before = output.count_failures();
+    let mut back = None;
+    let taken = is_taken(Lent::new(output, &mut back));
+    match back {
+        Some(output) => {
+            taken != failed
+                && output.bytes() == bytes
+                && has_failed_since(&output, before) == failed
+        }
+        None => false,
+    }
+}
+
+#[test]
+fn what_is_lent_comes_back(rt: HostRuntime) {
+    assert!(rt; comes_back(rt.alloc(), 9, b"7\n", false));
+    assert!(rt; comes_back(rt.alloc(), 0, b"", true));
+}
+
+// What is left of an output that is written to and taken out again, and whether its place stays empty.
+fn taken_out(alloc: Global) -> bool {
+    let mut back = None;
+    let mut lent = Lent::new(MemOutput::new(alloc, 9), &mut back);
+    let written = write_number(&mut lent, 12).is_ok() && lent.flush().is_ok();
+    let output = lent.into_inner();
+    written && output.bytes() == b"12\n".as_slice() && output.handed_on() == 3 && back.is_none()
+}
+
+#[test]
+fn what_is_taken_out_stays_out(rt: HostRuntime) {
+    assert!(rt; taken_out(rt.alloc()));
 }

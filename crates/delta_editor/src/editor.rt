@@ -12,13 +12,14 @@ use node_base::{NodePath, PropName, RevNo};
 /// Who is shown a revision, call by call, as Subversion's delta editor is: `target`, `open_root`, then directories and
 /// files opened, added, changed and closed, entries deleted, and `close_edit`.
 ///
-/// `Dir` and `File` are batons: what is open. A type that isn't `Drop` makes sure that each is closed or discarded once.
-/// A close takes its baton, on a refusal too. After any refusal the caller discards the batons that are open and calls
-/// `abort_edit`; nothing is said of what the editor was shown from then on.
+/// `Dir` and `File` are batons: what is open. A type that isn't `Drop` makes sure that each is closed or discarded
+/// once. A close takes its baton, on a refusal too. After any refusal the caller discards the batons that are open and
+/// calls `abort_edit`; nothing is said of what the editor was shown from then on.
 ///
-/// The caller keeps the nesting: what is closed, takes a child or has an entry deleted is the innermost open thing; a file
-/// is given at most one text, its pieces between `text_start` and `text_end`; the root is opened once. The word for it is
-/// `IsNested`, of the whole list of calls. No method asks for it: an editor that needs it says so in what it shows.
+/// The caller keeps the nesting: what is closed, takes a child or has an entry deleted is the innermost open thing; a
+/// file is given at most one text, its pieces between `text_start` and `text_end`; the root is opened once. The word
+/// for it is `IsNested`, of the whole list of calls. No method asks for it: an editor that needs it says so in what it
+/// shows.
 pub trait Editor {
     /// What an edit comes to.
     type Done;
@@ -32,13 +33,14 @@ pub trait Editor {
     ghost Began: { Type 0  -- the type of what an editor began with
     };
 
-    ghost began: { Self → Began  -- what it began with, which no call changes: the trees that a builder builds over, or what a writer held
-    };
+    // What an editor began with, which no call changes: the trees that a builder builds over, or what a writer held.
+    ghost began: { Self → Began };
 
     ghost done_began: { Self.Done → Began  -- the same of what `close_edit` answers
     };
 
-    ghost refuses: { Began → List Call → Call → EditorFault → Type 0  -- where it began with that, after such calls, the refusals that the next call may meet
+    ghost refuses: { Began → List Call → Call → EditorFault
+        → Type 0  -- where it began with that, after such calls, the refusals that the next call may meet
     };
 
     /// Names the revision that is shown.
@@ -47,7 +49,8 @@ pub trait Editor {
         ensures refused { IfErr result (Refused shows began refuses self.old (call.Target rev)) }
         ensures began { began self.new ≡ began self.old };
 
-    /// Opens the root. `base` is the revision that it is known at, here and in the calls below: the one before the revision that is shown.
+    /// Opens the root. `base` is the revision that it is known at, here and in the calls below: the one before the
+    /// revision that is shown.
     fn open_root(&mut self, base: Option<RevNo>) -> Result<Self::Dir, EditorFault>
         ensures shown { OnOk result (Adds shows self.old self.new (call.OpenRoot base ∷ [])) }
         ensures baton { IfOk result (λ d. dir_path d ≡ []) }
@@ -56,7 +59,8 @@ pub trait Editor {
 
     /// Ends the edit, and gives what it came to.
     fn close_edit(self) -> Result<Self::Done, EditorFault>
-        ensures shown { IfOk result (λ d. (calls : List Call) → shows self calls → done_shows d (calls ++ call.CloseEdit ∷ [])) }
+        ensures shown { IfOk result (λ d. (calls : List Call) → shows self calls
+            → done_shows d (calls ++ call.CloseEdit ∷ [])) }
         ensures began { IfOk result (λ d. done_began d ≡ began self) }
         ensures refused { IfErr result (Refused shows began refuses self call.CloseEdit) };
 
@@ -76,10 +80,12 @@ pub trait Editor {
         path: &NodePath,
         from: Option<&Source>,
     ) -> Result<Self::Dir, EditorFault>
-        ensures shown { OnOk result (Adds shows self.old self.new (call.AddDir (dir_path up.old) path.now (option_copied from.entry) ∷ [])) }
+        ensures shown { OnOk result (Adds shows self.old self.new
+            (call.AddDir (dir_path up.old) path.now (option_copied from.entry) ∷ [])) }
         ensures baton { IfOk result (λ d. dir_path d ≡ path.now) }
         ensures up { dir_path up.new ≡ dir_path up.old }
-        ensures refused { IfErr result (Refused shows began refuses self.old (call.AddDir (dir_path up.old) path.now (option_copied from.entry))) }
+        ensures refused { IfErr result (Refused shows began refuses self.old
+            (call.AddDir (dir_path up.old) path.now (option_copied from.entry))) }
         ensures began { began self.new ≡ began self.old };
 
     /// Opens a directory in `up`.
@@ -92,7 +98,8 @@ pub trait Editor {
         ensures shown { OnOk result (Adds shows self.old self.new (call.OpenDir (dir_path up.old) path.now base ∷ [])) }
         ensures baton { IfOk result (λ d. dir_path d ≡ path.now) }
         ensures up { dir_path up.new ≡ dir_path up.old }
-        ensures refused { IfErr result (Refused shows began refuses self.old (call.OpenDir (dir_path up.old) path.now base)) }
+        ensures refused { IfErr result (Refused shows began refuses self.old
+            (call.OpenDir (dir_path up.old) path.now base)) }
         ensures began { began self.new ≡ began self.old };
 
     /// Deletes an entry of `up`, a file or a directory with all that is in it.
@@ -102,9 +109,11 @@ pub trait Editor {
         path: &NodePath,
         base: Option<RevNo>,
     ) -> Result<(), EditorFault>
-        ensures shown { OnOk result (Adds shows self.old self.new (call.DeleteEntry (dir_path up.old) path.now base ∷ [])) }
+        ensures shown { OnOk result (Adds shows self.old self.new
+            (call.DeleteEntry (dir_path up.old) path.now base ∷ [])) }
         ensures up { dir_path up.new ≡ dir_path up.old }
-        ensures refused { IfErr result (Refused shows began refuses self.old (call.DeleteEntry (dir_path up.old) path.now base)) }
+        ensures refused { IfErr result (Refused shows began refuses self.old
+            (call.DeleteEntry (dir_path up.old) path.now base)) }
         ensures began { began self.new ≡ began self.old };
 
     /// Gives a directory's property a value, or with none removes it.
@@ -114,9 +123,11 @@ pub trait Editor {
         name: &PropName,
         value: Option<&[u8]>,
     ) -> Result<(), EditorFault>
-        ensures shown { OnOk result (Adds shows self.old self.new (call.DirProp (dir_path dir.old) name.now (option_map (λ v. v.now) value.entry) ∷ [])) }
+        ensures shown { OnOk result (Adds shows self.old self.new
+            (call.DirProp (dir_path dir.old) name.now (option_map (λ v. v.now) value.entry) ∷ [])) }
         ensures baton { dir_path dir.new ≡ dir_path dir.old }
-        ensures refused { IfErr result (Refused shows began refuses self.old (call.DirProp (dir_path dir.old) name.now (option_map (λ v. v.now) value.entry))) }
+        ensures refused { IfErr result (Refused shows began refuses self.old
+            (call.DirProp (dir_path dir.old) name.now (option_map (λ v. v.now) value.entry))) }
         ensures began { began self.new ≡ began self.old };
 
     /// Closes a directory.
@@ -142,10 +153,12 @@ pub trait Editor {
         path: &NodePath,
         from: Option<&Source>,
     ) -> Result<Self::File, EditorFault>
-        ensures shown { OnOk result (Adds shows self.old self.new (call.AddFile (dir_path up.old) path.now (option_copied from.entry) ∷ [])) }
+        ensures shown { OnOk result (Adds shows self.old self.new
+            (call.AddFile (dir_path up.old) path.now (option_copied from.entry) ∷ [])) }
         ensures baton { IfOk result (λ d. file_path d ≡ path.now) }
         ensures up { dir_path up.new ≡ dir_path up.old }
-        ensures refused { IfErr result (Refused shows began refuses self.old (call.AddFile (dir_path up.old) path.now (option_copied from.entry))) }
+        ensures refused { IfErr result (Refused shows began refuses self.old
+            (call.AddFile (dir_path up.old) path.now (option_copied from.entry))) }
         ensures began { began self.new ≡ began self.old };
 
     /// Opens a file in `up`.
@@ -155,10 +168,12 @@ pub trait Editor {
         path: &NodePath,
         base: Option<RevNo>,
     ) -> Result<Self::File, EditorFault>
-        ensures shown { OnOk result (Adds shows self.old self.new (call.OpenFile (dir_path up.old) path.now base ∷ [])) }
+        ensures shown { OnOk result (Adds shows self.old self.new
+            (call.OpenFile (dir_path up.old) path.now base ∷ [])) }
         ensures baton { IfOk result (λ d. file_path d ≡ path.now) }
         ensures up { dir_path up.new ≡ dir_path up.old }
-        ensures refused { IfErr result (Refused shows began refuses self.old (call.OpenFile (dir_path up.old) path.now base)) }
+        ensures refused { IfErr result (Refused shows began refuses self.old
+            (call.OpenFile (dir_path up.old) path.now base)) }
         ensures began { began self.new ≡ began self.old };
 
     /// Gives a file's property a value, or with none removes it.
@@ -168,9 +183,11 @@ pub trait Editor {
         name: &PropName,
         value: Option<&[u8]>,
     ) -> Result<(), EditorFault>
-        ensures shown { OnOk result (Adds shows self.old self.new (call.FileProp (file_path file.old) name.now (option_map (λ v. v.now) value.entry) ∷ [])) }
+        ensures shown { OnOk result (Adds shows self.old self.new
+            (call.FileProp (file_path file.old) name.now (option_map (λ v. v.now) value.entry) ∷ [])) }
         ensures baton { file_path file.new ≡ file_path file.old }
-        ensures refused { IfErr result (Refused shows began refuses self.old (call.FileProp (file_path file.old) name.now (option_map (λ v. v.now) value.entry))) }
+        ensures refused { IfErr result (Refused shows began refuses self.old
+            (call.FileProp (file_path file.old) name.now (option_map (λ v. v.now) value.entry))) }
         ensures began { began self.new ≡ began self.old };
 
     /// Begins a file's new text, which takes the place of the one before.
@@ -182,9 +199,11 @@ pub trait Editor {
 
     /// Adds a piece to the text that has begun.
     fn text_piece(&mut self, file: &mut Self::File, piece: &[u8]) -> Result<(), EditorFault>
-        ensures shown { OnOk result (Adds shows self.old self.new (call.TextPiece (file_path file.old) piece.now ∷ [])) }
+        ensures shown { OnOk result (Adds shows self.old self.new
+            (call.TextPiece (file_path file.old) piece.now ∷ [])) }
         ensures baton { file_path file.new ≡ file_path file.old }
-        ensures refused { IfErr result (Refused shows began refuses self.old (call.TextPiece (file_path file.old) piece.now)) }
+        ensures refused { IfErr result (Refused shows began refuses self.old
+            (call.TextPiece (file_path file.old) piece.now)) }
         ensures began { began self.new ≡ began self.old };
 
     /// Ends the text that has begun.

@@ -9,7 +9,8 @@ use thiserror::Error;
 /// Why an editor refuses a call. After any refusal its caller discards the batons that are open and calls `abort_edit`.
 #[derive(Clone, Copy, Debug, PartialEq, Eq, Drop, Error)]
 pub enum EditorFault {
-    /// A limit is passed: more than 4,096 changes, a path of a copy, a property's value, a node's properties, or a text (8).
+    /// A limit is passed: more than 4,096 changes, a path of a copy, a property's value, a node's properties, or a text
+    /// (8).
     #[error("limit exceeded")]
     TooLong,
     /// The root is added or deleted (10).

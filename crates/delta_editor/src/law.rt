@@ -1,5 +1,7 @@
 //! Laws of calls: each function does nothing, and its contract is the law.
-ghost use Rattle.delta_editor.specs.Laws.{CallsJoin, ClosesChangeNothing, CopiedIsTheSource, DeletedIsGone, ElsewhereStays, NestedIsEdit, OneNameChanges, PiecesMakeTheText, TouchedAreNumbered};
+ghost use Rattle.delta_editor.specs.Laws.{CallsJoin, ClosesChangeNothing, CopiedIsTheSource, DeletedIsGone};
+ghost use Rattle.delta_editor.specs.Laws.{ElsewhereStays, NestedIsEdit, OneNameChanges, PiecesMakeTheText};
+ghost use Rattle.delta_editor.specs.Laws.{TouchedAreNumbered};
 
 /// Calls have the effect of the first of them, and then of the rest.
 pub fn calls_join()
@@ -21,7 +23,8 @@ pub fn one_name_changes()
     ensures { OneNameChanges }
 {}
 
-/// What is opened or added, and what is above a path that is opened, added or deleted, gets the number of the revision that is shown.
+/// What is opened or added, and what is above a path that is opened, added or deleted, gets the number of the revision
+/// that is shown.
 pub fn touched_are_numbered()
     ensures { TouchedAreNumbered }
 {}
@@ -41,7 +44,8 @@ pub fn elsewhere_stays()
     ensures { ElsewhereStays }
 {}
 
-/// Calls keep the nesting just where they are an edit of the grammar: each directory and file from its opening to its close.
+/// Calls keep the nesting just where they are an edit of the grammar: each directory and file from its opening to its
+/// close.
 pub fn nested_is_edit()
     ensures { NestedIsEdit }
 {}

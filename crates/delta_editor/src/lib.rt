@@ -12,8 +12,8 @@
 //! let calls = editor.close_edit()?;        // OpenRoot, DeleteEntry, CloseDir, CloseEdit
 //! ```
 //!
-//! Contract: a call that answers Ok has added itself, with full paths, to what the editor was shown, and `close_edit` hands
-//! the whole list on. A refusal is one that the editor says it may answer there.
+//! Contract: a call that answers Ok has added itself, with full paths, to what the editor was shown, and `close_edit`
+//! hands the whole list on. A refusal is one that the editor says it may answer there.
 #![tactic(auto)]
 
 pub use bytes::Bytes;

@@ -1,7 +1,9 @@
 //! What an empty line judges: whether headers go together, and their lengths.
 
 ghost use Rattle.std.specs.Prelude.{◌≡◌, Option, Some, None};
-ghost use Rattle.dump_text.specs.Forms.{fits_form, has_no_node, is_identity_head, has_source_form, is_node_head, lengths_agree, lengths_fit, is_deletion, is_making, is_first, is_inside, source_of, part_of, record_of, stage_after};
+ghost use Rattle.dump_text.specs.Forms.{fits_form, has_no_node, is_identity_head, has_source_form, is_node_head};
+ghost use Rattle.dump_text.specs.Forms.{lengths_agree, lengths_fit, is_deletion, is_making, is_first, is_inside};
+ghost use Rattle.dump_text.specs.Forms.{source_of, part_of, record_of, stage_after};
 
 use crate::head::Head;
 use crate::record::{DumpRecord, NodeRecord, PropPart};

@@ -3,7 +3,9 @@
 ghost use Rattle.std.specs.Prelude.{◌≡◌, ◌≤◌, ◌<◌, Option, Some, None, IfOk, codes};
 ghost use Rattle.node_base.specs.Numbers.{decimal};
 ghost use Rattle.dump_text.specs.Headers.{known_name};
-ghost use Rattle.dump_text.specs.Heads.{line_says, HeadIs, LengthIs, no_head, set_identity, set_number, set_path, set_kind, set_action, set_source_revision, set_source_path, set_sum, set_text_delta, set_prop_delta, known_says};
+ghost use Rattle.dump_text.specs.Heads.{line_says, HeadIs, LengthIs, no_head, set_identity, set_number, set_path};
+ghost use Rattle.dump_text.specs.Heads.{set_kind, set_action, set_source_revision, set_source_path, set_sum};
+ghost use Rattle.dump_text.specs.Heads.{set_text_delta, set_prop_delta, known_says};
 
 use crate::fault::DumpFault;
 use crate::header::{

@@ -1,7 +1,8 @@
 //! Names and values of header lines.
 
 ghost use Rattle.std.specs.Prelude.{◌≡◌, ◌≤◌, ◌<◌, ◌^◌, Option, Some, None, IfOk, MatchOption, codes, nat_lt, ◌&&◌};
-ghost use Rattle.dump_text.specs.Headers.{known_name, split_line, kind_of, action_of, identity_of, dump_path, pair_now, without_slash, PathIs};
+ghost use Rattle.dump_text.specs.Headers.{known_name, split_line, kind_of, action_of, identity_of, dump_path, pair_now};
+ghost use Rattle.dump_text.specs.Headers.{without_slash, PathIs};
 
 use crate::fault::DumpFault;
 use node_base::{Action, NodeKind, NodePath, PathFault};

@@ -1,6 +1,8 @@
 //! Laws of dump text, as contracts of functions that do nothing.
 
-ghost use Rattle.dump_text.specs.Laws.{PiecesJoin, RefusalsStay, DumpsAreRead, ReadsAreDumps, RefusalsHaveAByte, RefusedIsNoFront, OneReading, EntriesAreReadAgain, RevisionsAreReadAgain, WrittenIsRead, DumpsGoOn};
+ghost use Rattle.dump_text.specs.Laws.{PiecesJoin, RefusalsStay, DumpsAreRead, ReadsAreDumps, RefusalsHaveAByte};
+ghost use Rattle.dump_text.specs.Laws.{RefusedIsNoFront, OneReading, EntriesAreReadAgain, RevisionsAreReadAgain};
+ghost use Rattle.dump_text.specs.Laws.{WrittenIsRead, DumpsGoOn};
 
 /// It doesn't matter how a dump is cut into pieces.
 pub fn pieces_join()
@@ -42,7 +44,8 @@ pub fn entries_are_read_again()
     ensures { EntriesAreReadAgain }
 {}
 
-/// What is written of a revision is read again, whatever follows: as the same records, but that a deletion's kind isn't written.
+/// What is written of a revision is read again, whatever follows: as the same records, but that a deletion's kind isn't
+/// written.
 pub fn revisions_are_read_again()
     ensures { RevisionsAreReadAgain }
 {}

@@ -4,7 +4,8 @@ ghost use Rattle.std.specs.Prelude.{◌≡◌, ◌≤◌, [], ◌∷◌, true};
 ghost use Rattle.node_base.specs.Props.{IsProps};
 ghost use Rattle.node_base.specs.PathText.{is_path};
 ghost use Rattle.dump_text.specs.Canon.{canon_entry, canon_revision};
-ghost use Rattle.dump_text.specs.Written.{IsKept, IsKeptSource, IsKeptPart, AreKept, AreFormed, AreRecords, read_revision};
+ghost use Rattle.dump_text.specs.Written.{IsKept, IsKeptSource, IsKeptPart, AreKept, AreFormed, AreRecords};
+ghost use Rattle.dump_text.specs.Written.{read_revision};
 ghost use Rattle.dump_text.specs.declared.record.DumpRecord.TheVariants.{Revision};
 
 use crate::record::{NodeRecord, PropPart, RevRecord};
@@ -74,7 +75,8 @@ pub fn entry_reads_again(number: RevNo, props: &Props)
 
 /// What is written of a revision is read again, whatever stands before it.
 pub fn revision_reads_again(revision: &RevRecord)
-    ensures { AreFormed revision.now.nodes.items → AreRecords (canon_revision revision.now) (read_revision revision.now) }
+    ensures { AreFormed revision.now.nodes.items → AreRecords (canon_revision revision.now)
+        (read_revision revision.now) }
 {
     number_limit(revision.number);
     props_limits(&revision.props);

@@ -1,7 +1,8 @@
 //! Dumps that come in pieces.
 
 ghost use Rattle.std.specs.Prelude.{◌≡◌, ℕ, List, ◌≤◌, ◌+◌, length, Ok, Err, OnOk, OnErr, true, false, if◌then◌else◌};
-ghost use Rattle.dump_text.specs.Streams.{version_of, kept, StreamIs, Reads, fresh, spent, reading, dump, has_failed, is_between, IsFront};
+ghost use Rattle.dump_text.specs.Streams.{version_of, kept, StreamIs, Reads, fresh, spent, reading, dump, has_failed};
+ghost use Rattle.dump_text.specs.Streams.{is_between, IsFront};
 ghost use Rattle.dump_text.specs.Grammar.{Dump};
 ghost use Rattle.dump_text.specs.declared.record.DumpRecord.{DumpRecord};
 ghost use Rattle.dump_text.specs.declared.fault.DumpFault.TheVariants.{Failed, Truncated};
@@ -12,8 +13,9 @@ use crate::state::ReadState;
 use std::alloc::Global;
 use std::marker::Model;
 
-/// A dump that comes in pieces, as the notes on the dump file format (dump-load-format, version 2) describe it. Contracts see
-/// what has come of it: the records that are whole are handed out, and the rest is kept until the next piece.
+/// A dump that comes in pieces, as the notes on the dump file format (dump-load-format, version 2) describe it.
+/// Contracts see what has come of it: the records that are whole are handed out, and the rest is kept until the next
+/// piece.
 #[derive(Drop)]
 pub struct DumpReader {
     alloc: Global,
@@ -43,15 +45,18 @@ impl DumpReader {
         }
     }
 
-    /// Takes the next piece of a dump, and adds each record that is whole now, in order. The pieces may be of any sizes.
+    /// Takes the next piece of a dump, and adds each record that is whole now, in order. The pieces may be of any
+    /// sizes.
     ///
     /// A refusal comes in the call that brings the byte that shows it, with the records before that byte in `out`; so
     /// does OutOfMemory, with some of them. After either the reader keeps nothing, and each later call answers Failed.
     pub fn feed(&mut self, piece: &[u8], out: &mut Vec<DumpRecord>) -> Result<(), DumpFault>
-        ensures reads { has_failed self.old ≡ false → StreamIs result self.new out.new.items (reading (Reads out.old.items self.old) piece.now) }
+        ensures reads { has_failed self.old ≡ false → StreamIs result self.new out.new.items
+            (reading (Reads out.old.items self.old) piece.now) }
         ensures failed { has_failed self.old ≡ true → result ≡ Err Failed }
         ensures later { OnErr result (self.new ≡ spent) }
-        ensures front { has_failed self.old ≡ false → OnErr result (IsFront out.new.items (reading (Reads out.old.items self.old) piece.now)) }
+        ensures front { has_failed self.old ≡ false → OnErr result
+            (IsFront out.new.items (reading (Reads out.old.items self.old) piece.now)) }
         ensures kept { has_failed self.old ≡ true → out.new.items ≡ out.old.items }
         ensures held { kept self.new ≤ kept self.old + length piece.now }
     {
@@ -68,12 +73,14 @@ impl DumpReader {
         }
     }
 
-    /// The end of the input: fine between two records and behind the version block, else Truncated; Failed after a refusal.
+    /// The end of the input: fine between two records and behind the version block, else Truncated; Failed after a
+    /// refusal.
     pub fn finish(self) -> Result<(), DumpFault>
         ensures failed { has_failed self ≡ true → result ≡ Err Failed }
         ensures ended { has_failed self ≡ false → result ≡ (if is_between self then Ok tt else Err Truncated) }
         // what was read is a dump of the grammar
-        ensures dump { OnOk result ((bytes : List ℕ) (rs : List DumpRecord) → dump bytes ≡ Reads rs self → Dump bytes rs) }
+        ensures dump { OnOk result ((bytes : List ℕ) (rs : List DumpRecord) → dump bytes ≡ Reads rs self
+            → Dump bytes rs) }
     {
         if self.state.has_failed() {
             return Err(DumpFault::Failed);
@@ -85,8 +92,8 @@ impl DumpReader {
         }
     }
 
-    /// How many bytes are kept of a line, a text, or a count, a name or a value of a property block that isn't whole yet:
-    /// never more than were fed, whatever lengths were announced.
+    /// How many bytes are kept of a line, a text, or a count, a name or a value of a property block that isn't whole
+    /// yet: never more than were fed, whatever lengths were announced.
     pub fn held(&self) -> u128
         ensures { result ≡ kept self.now }
     {

@@ -28,7 +28,8 @@ pub struct RevRecord {
     pub nodes: Vec<NodeRecord>,
 }
 
-/// A record of a stream: the repository's identity, the beginning of a revision with its properties, or a node of that revision.
+/// A record of a stream: the repository's identity, the beginning of a revision with its properties, or a node of that
+/// revision.
 #[derive(Debug, Drop)]
 pub enum DumpRecord {
     Identity(Uuid),

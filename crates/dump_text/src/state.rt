@@ -1,8 +1,12 @@
 //! What has come of a stream, between two bytes.
 
-ghost use Rattle.std.specs.Prelude.{◌≡◌, ◌≤◌, ◌<◌, ◌+◌, ◌++◌, ◌∷◌, [], length, take, drop, slice_index, Option, Some, None, Ok, Err, IfOk, IfSome, OnErr, true, false, if◌then◌else◌};
+ghost use Rattle.std.specs.Prelude.{◌≡◌, ◌≤◌, ◌<◌, ◌+◌, ◌++◌, ◌∷◌, [], length, take, drop, slice_index, Option, Some};
+ghost use Rattle.std.specs.Prelude.{None, Ok, Err, IfOk, IfSome, OnErr, true, false, if◌then◌else◌};
 ghost use Rattle.md5.specs.Md5.{md5};
-ghost use Rattle.dump_text.specs.Streams.{StreamIs, Reads, Refuses, begin, fresh, spent, has_failed, give, text_is, after_block, content, judged, line_is, reading, sum_holds, is_line_place, is_failed, is_between, kept, of_prop_fault, of_text_fault, GoesOn, NoLf, IsFront};
+ghost use Rattle.dump_text.specs.Streams.{StreamIs, Reads, Refuses, begin, fresh, spent, has_failed, give, text_is};
+ghost use Rattle.dump_text.specs.Streams.{after_block, content, judged, line_is, reading, sum_holds, is_line_place};
+ghost use Rattle.dump_text.specs.Streams.{is_failed, is_between, kept, of_prop_fault, of_text_fault, GoesOn, NoLf};
+ghost use Rattle.dump_text.specs.Streams.{IsFront};
 ghost use Rattle.dump_text.specs.declared.state.Place.TheVariants as at;
 
 use crate::fault::DumpFault;
@@ -371,7 +375,8 @@ impl ReadState {
         out: &mut Vec<DumpRecord>,
     ) -> Result<(), DumpFault>
         requires { is_line_place self.old.place ≡ true }
-        ensures on { StreamIs result self.new out.new.items (line_is self.old.place out.old.items (record self.old { held = [] }) (self.old.held ++ last.now)) }
+        ensures on { StreamIs result self.new out.new.items (line_is self.old.place out.old.items
+            (record self.old { held = [] }) (self.old.held ++ last.now)) }
         ensures out { OnErr result (out.new.items ≡ out.old.items) }
     {
         if self.held.len() == 0 {

@@ -8,7 +8,9 @@ ghost use Rattle.md5.specs.Md5.{md5};
 ghost use Rattle.dump_text.specs.Grammar.{Dump};
 ghost use Rattle.dump_text.specs.Written.{AreRecords, AreFormed, read_identity, read_revision};
 ghost use Rattle.dump_text.specs.declared.record.DumpRecord.TheVariants.{Revision};
-ghost use Rattle.dump_text.specs.Canon.{header_line, canon_identity, canon_head, canon_entry, canon_node, canon_revision, kind_word, action_word, told_kind, kind_line, source_lines, block_of, block_line, text_of, text_lines, content_line, content_of, now_of};
+ghost use Rattle.dump_text.specs.Canon.{header_line, canon_identity, canon_head, canon_entry, canon_node};
+ghost use Rattle.dump_text.specs.Canon.{canon_revision, kind_word, action_word, told_kind, kind_line, source_lines};
+ghost use Rattle.dump_text.specs.Canon.{block_of, block_line, text_of, text_lines, content_line, content_of, now_of};
 
 use crate::limits::{entry_reads_again, revision_reads_again};
 use crate::record::{NodeRecord, PropPart, RevRecord};
@@ -29,7 +31,8 @@ pub fn write_head<W: Write>(out: &mut W, uuid: Option<&Uuid>) -> io::Result<()>
 }
 
 fn write_identity<W: Write>(out: &mut W, uuid: Option<&Uuid>) -> io::Result<()>
-    ensures bytes { OnOk result (Appends (W.contents out.old) (W.contents out.new) (canon_identity (now_of uuid.entry))) }
+    ensures bytes { OnOk result (Appends (W.contents out.old) (W.contents out.new)
+        (canon_identity (now_of uuid.entry))) }
     ensures again { OnOk result (Dump (canon_head (now_of uuid.entry)) (read_identity (now_of uuid.entry))) }
 {
     match uuid {
@@ -78,7 +81,8 @@ fn write_entry<W: Write>(out: &mut W, number: RevNo, props: &Props) -> io::Resul
 pub fn write_revision<W: Write>(out: &mut W, revision: &RevRecord) -> io::Result<()>
     ensures bytes { OnOk result (Appends (W.contents out.old) (W.contents out.new) (canon_revision revision.now)) }
     // read again, these bytes are the same records, but that a deletion's kind isn't written
-    ensures again { AreFormed revision.now.nodes.items → AreRecords (canon_revision revision.now) (read_revision revision.now) }
+    ensures again { AreFormed revision.now.nodes.items → AreRecords (canon_revision revision.now)
+        (read_revision revision.now) }
 {
     revision_reads_again(revision);
     write_entry(out, revision.number, &revision.props)?;
@@ -185,7 +189,8 @@ fn write_text_lines<W: Write>(out: &mut W, text: &Option<Text>) -> io::Result<()
 }
 
 fn write_sum<W: Write>(out: &mut W, text: &Text) -> io::Result<()>
-    ensures { OnOk result (Appends (W.contents out.old) (W.contents out.new) (header_line (codes "Text-content-md5: ") (encode_lower (md5 text.now)))) }
+    ensures { OnOk result (Appends (W.contents out.old) (W.contents out.new)
+        (header_line (codes "Text-content-md5: ") (encode_lower (md5 text.now)))) }
 {
     let digits = hex_of(text.sum());
     out.write_all(b"Text-content-md5: ")?;

@@ -1,5 +1,5 @@
 -- A set is received, or refused.
-use Rattle.std.proofs.Common.{◌≡◌, ℕ, Bool, List, [], ◌++◌, Option, inl, inr, sym, ap, subst, ◌∙◌}
+use Rattle.std.proofs.Common.{◌≡◌, ℕ, Bool, List, [], ◌++◌, Option, inl, inr, refl, sym, ap, subst, ◌∙◌}
 use Rattle.node_base.specs.Tree.{PathMap}
 use Rattle.dump_load.specs.declared.change.Change.{Change}
 use Rattle.delta_editor.specs.declared.call.Call.{Call}
@@ -9,16 +9,18 @@ use Rattle.editor_ends.specs.Built.{IsSetWithin}
 use Rattle.editor_ends.specs.Builders.{has_shown, trees_of, set_within, built_over, is_made_of}
 use Rattle.editor_ends.specs.declared.build.BuildEditor.{BuildEditor}
 use Rattle.editor_ends.specs.declared.build.Built.{Built}
+use Rattle.byte_streams.specs.Causes.{Counts}
+use Rattle.ra_item.specs.declared.fault.ItemFault.TheVariants as item
+use Rattle.ra_item.specs.declared.fault.NextFault.TheVariants as next
 use Rattle.ra_item.specs.Items.{Item}
 use Rattle.ra_item.specs.Streams.{Stream}
 use Rattle.ra_edit.specs.Edits.{At, Begun, Nothing}
 use Rattle.ra_edit.specs.Refusals.{Meets}
-use Rattle.ra_edit.specs.Received.{Received, RefusesDrive, ShownBefore, StopsBehind, IsRefused}
-use Rattle.ra_edit.specs.declared.command_fault.CommandFault.{CommandFault}
+use Rattle.ra_edit.specs.Received.{Received, RefusesDrive, ShownBefore, StopsBehind}
 use Rattle.ra_edit.specs.declared.edit_fault.EditFault.{EditFault}
 use Rattle.ra_edit.specs.declared.edit_fault.EditFault.TheVariants as fault
 use Rattle.ra_edit.specs.declared.receive_command.Command.{Command}
-use Rattle.ra_edit.proofs.OwnRefusals.{own_map}
+use Rattle.ra_edit.proofs.Drives.{lifted}
 use Rattle.edit_road.specs.Sent.{IsNew, IsSent, MayBeSent, RefusesOver, DriveIsReceived, DriveIsNotRefused}
 use Rattle.edit_road.specs.Receiving.{IsSetOfItems, ReceivesSet, RefusesSet}
 
@@ -50,11 +52,7 @@ met_over shows began editor trees calls at c f new over m = record {
   };
 }
 
-refused_alike : (met met2 : At → Command → EditorFault → Type 0) (at : At) (item : Item) (why : CommandFault) → ((c : Command) (f : EditorFault) → met at c f → met2 at c f) → IsRefused met at item why → IsRefused met2 at item why
-refused_alike met met2 at item why g (inl h) = inl h
-refused_alike met met2 at item why g (inr h) = inr (h.0, h.1, h.2, own_map why (g h.0) h.3)
-
-stops_alike : (met met2 : At → Command → EditorFault → Type 0) (items : List Item) (stood : At → Type 0) (before after : Option (List ℕ)) (was : List ℕ → Stream) (spent failed : Bool) (f : EditFault) → ((at : At) (c : Command) (f : EditorFault) → met at c f → met2 at c f) → StopsBehind met items stood before after was spent failed f → StopsBehind met2 items stood before after was spent failed f
+stops_alike : (met met2 : At → Command → EditorFault → Type 0) (items : List Item) (stood : At → Type 0) (before after : Option (List ℕ)) (was : List ℕ → Stream) (spent : Bool) (failed : Counts) (f : EditFault) → ((at : At) (c : Command) (f : EditorFault) → met at c f → met2 at c f) → StopsBehind met items stood before after was spent failed f → StopsBehind met2 items stood before after was spent failed f
 stops_alike met met2 items stood before after was spent failed f g (inl h) = inl h
 stops_alike met met2 items stood before after was spent failed f g (inr (inl h)) = inr (inl h)
 stops_alike met met2 items stood before after was spent failed f g (inr (inr r)) = inr (inr (record {
@@ -63,10 +61,10 @@ stops_alike met met2 items stood before after was spent failed f g (inr (inr r))
   is = r.is;
   taken = r.taken;
   same = r.same;
-  due = λ at h. refused_alike met met2 at r.item r.why (g at) (r.due at h);
+  due = λ at h. lifted met met2 at r.item r.why (g at) (r.due at h);
 }))
 
-pub refused_over : {E : Type 0} (shows : E → List Call → Type 0) (began : E → List PathMap) (editor : E) (trees : List PathMap) (before after : Option (List ℕ)) (was : List ℕ → Stream) (spent failed : Bool) (f : EditFault) → shows editor [] → began editor ≡ trees → RefusesDrive shows began RefusesWithin editor before after was spent failed f → RefusesOver trees before after was spent failed f
+pub refused_over : {E : Type 0} (shows : E → List Call → Type 0) (began : E → List PathMap) (editor : E) (trees : List PathMap) (before after : Option (List ℕ)) (was : List ℕ → Stream) (spent : Bool) (failed : Counts) (f : EditFault) → shows editor [] → began editor ≡ trees → RefusesDrive shows began RefusesWithin editor before after was spent failed f → RefusesOver trees before after was spent failed f
 refused_over shows began editor trees before after was spent failed f new over r = record {
   items = r.items;
   calls = r.calls;
@@ -77,8 +75,8 @@ refused_over shows began editor trees before after was spent failed f new over r
 }
 
 -- before the first item memory may run out
-pub refused_for_memory : (trees : List PathMap) (before after : Option (List ℕ)) (was : List ℕ → Stream) (spent failed : Bool) → RefusesOver trees before after was spent failed fault.OutOfMemory
-refused_for_memory trees before after was spent failed = record { items = []; calls = []; at = Begun; say = Nothing Begun; unended = λ e. cc; stops = inl tt }
+pub refused_for_memory : (trees : List PathMap) (before after : Option (List ℕ)) (was : List ℕ → Stream) (spent : Bool) (failed : Counts) → RefusesOver trees before after was spent failed fault.OutOfMemory
+refused_for_memory trees before after was spent failed = record { items = []; calls = []; at = Begun; say = Nothing Begun; unended = λ e. cc; stops = inl (next.Items item.OutOfMemory, refl, tt) }
 
-pub refused_set : DriveIsNotRefused → (trees : List PathMap) → ((s : List Change) → MayBeSent trees s → IsSent trees s) → (before after : Option (List ℕ)) (was : List ℕ → Stream) (spent failed : Bool) (f : EditFault) → RefusesOver trees before after was spent failed f → RefusesSet trees before was spent failed f
+pub refused_set : DriveIsNotRefused → (trees : List PathMap) → ((s : List Change) → MayBeSent trees s → IsSent trees s) → (before after : Option (List ℕ)) (was : List ℕ → Stream) (spent : Bool) (failed : Counts) (f : EditFault) → RefusesOver trees before after was spent failed f → RefusesSet trees before was spent failed f
 refused_set law trees kept before after was spent failed f r s more may there fresh = law trees s more before after was spent failed f (kept s may) there fresh r

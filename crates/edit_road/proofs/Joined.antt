@@ -16,7 +16,7 @@ use Rattle.delta_editor.specs.declared.fault.EditorFault.TheVariants as refusal
 use Rattle.delta_editor.proofs.CallLemmas.{all_called-append}
 use Rattle.dump_load.specs.Bounds.{IsWithin}
 use Rattle.dump_load.proofs.Within.{within_of}
-use Rattle.editor_ends.specs.BuildFaults.{call_fault, refusal_after, first_refusal, takes, gives, acts_below, is_changed, IsTooLarge, IsCallRefusal, RefusesWithin}
+use Rattle.editor_ends.specs.BuildFaults.{call_fault, refusal_after, takes, gives, acts_below, is_changed, IsCallRefusal, RefusesWithin}
 use Rattle.editor_ends.specs.BuildFaults as faults
 use Rattle.editor_ends.specs.Drive.{base_number, walk, drive}
 use Rattle.editor_ends.specs.Refusals.{OfEditor}
@@ -26,12 +26,11 @@ use Rattle.editor_ends.proofs.Unrefused.{free-drive}
 use Rattle.editor_ends.proofs.Memory.{memory_alone}
 use Rattle.ra_item.specs.Laws.{WrittenIsRead}
 use Rattle.ra_edit.specs.Commands.{parts_within}
-use Rattle.ra_edit.specs.EditLaws.{cut, cut_all, each_byte, byte_by_byte, AreSameCalls, IsOnlyFor}
+use Rattle.ra_edit.specs.EditLaws.{cut, cut_all, each_byte, byte_by_byte, AreSameCalls}
 use Rattle.ra_edit.specs.Refusals.{RefusesOne}
-use Rattle.ra_edit.specs.declared.edit_fault.EditFault.{EditFault}
 use Rattle.ra_edit.specs.declared.edit_fault.EditFault.TheVariants as fault
 use Rattle.ra_edit.proofs.WrittenReceived.{written_is_received}
-use Rattle.ra_edit.proofs.NotRefused.{written_is_not_refused}
+use Rattle.ra_edit.proofs.NotRefused.{known, written_is_not_refused}
 use Rattle.edit_road.specs.Laws.{HaveBytes}
 use Rattle.edit_road.specs.Sent.{IsSent, IsNew, body_of, DriveIsWritten, DriveIsReceived, DriveIsNotRefused}
 use Rattle.edit_road.proofs.Pieces.{one, run_both, same_effect, same_nesting}
@@ -188,24 +187,8 @@ one_for_memory trees s e before c rest sent among h = at (h there.stage there.ra
           many = large.many;
         })))
 
-own : (P Q : EditorFault → Type 0) (failed : Bool) (f : EditFault) → ((e : EditorFault) → P e → Q e) → IsOnlyFor P failed f → IsOnlyFor Q failed f
-own P Q failed fault.OutOfMemory g h = h
-own P Q failed fault.PeerFailed g h = h
-own P Q failed (fault.Editor e) g h = g e h
-own P Q failed fault.Truncated g h = h
-own P Q failed fault.TooLong g h = h
-own P Q failed fault.BadItem g h = h
-own P Q failed fault.TooDeep g h = h
-own P Q failed fault.Failed g h = h
-own P Q failed fault.BadSum g h = h
-own P Q failed fault.BadWindow g h = h
-own P Q failed fault.CopyWindow g h = h
-own P Q failed fault.BadToken g h = h
-own P Q failed fault.BadShape g h = h
-own P Q failed fault.Refused g h = h
-
 pub not_refused : WrittenIsRead → DriveIsWritten → DriveIsNotRefused
 not_refused law written trees s more before after was spent failed f sent at fresh refuses =
-    own (RefusesOne IsNew (λ t. t) RefusesWithin trees (cut_all (drive trees s))) (λ e. e ≡ refusal.OutOfMemory) failed f
+    known (RefusesOne IsNew (λ t. t) RefusesWithin trees (cut_all (drive trees s))) (λ e. e ≡ refusal.OutOfMemory) failed f
     (λ e r. one_for_memory trees s e r.before r.next r.rest sent r.among (r.met [] refl))
     (written_is_not_refused IsNew (λ t. t) RefusesWithin law trees (length trees) (base_number trees) (body_of trees s) more before after was spent failed f (written trees s sent) at fresh refuses)

@@ -27,7 +27,7 @@ use Rattle.ra_item.specs.Bytes.{is_word}
 use Rattle.ra_item.specs.Items.{Item, Number, Text, row, spell, spell_all, nesting, deepest, Fits, AllFit, Within}
 use Rattle.ra_edit.specs.Commands.{list, command, revision, string, source, sum_text, opening, with_opening, token, next_token, number_of, token_of, chunk, parts_within, spelled, spelled_after, edit_items}
 use Rattle.ra_edit.specs.EditLaws.{IsRev}
-use Rattle.ra_edit.specs.Spelling.{groups, new_data, window, head}
+use Rattle.svndiff.specs.Spelling.{groups, new_data, window, head}
 use Rattle.dump_load.specs.Bounds.{IsSmall, IsSource}
 use Rattle.edit_road.specs.Sent.{IsSent, body_of}
 use Rattle.edit_road.proofs.Counting.{body_few}

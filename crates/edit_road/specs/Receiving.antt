@@ -8,14 +8,15 @@ use Rattle.delta_editor.specs.declared.call.Call.{Call}
 use Rattle.delta_editor.specs.declared.fault.EditorFault.TheVariants.{OutOfMemory}
 use Rattle.editor_ends.specs.Built.{IsSetWithin}
 use Rattle.editor_ends.specs.Drive.{drive}
+use Rattle.byte_streams.specs.Causes.{Counts}
 use Rattle.ra_item.specs.Items.{Item}
 use Rattle.ra_item.specs.Streams.{Stream}
 use Rattle.ra_edit.specs.Commands.{edit_bytes}
 use Rattle.ra_edit.specs.Edits.{SpellsEdit}
 use Rattle.ra_edit.specs.EditLaws.{IsBefore, IsOnlyFor}
-use Rattle.ra_edit.specs.ItemStreams.{Takes, reader_of, has_failed, is_spent, ahead}
+use Rattle.ra_item.specs.ItemStreams.{Takes, reader_of, meanwhile, is_spent, ahead}
 use Rattle.ra_edit.specs.declared.edit_fault.EditFault.{EditFault}
-use Rattle.ra_edit.specs.declared.stream.ItemStream.{ItemStream}
+use Rattle.ra_item.specs.declared.stream.ItemStream.{ItemStream}
 use Rattle.edit_road.specs.Sent.{MayBeSent, RefusesOver}
 
 -- the items that were taken are one edit, and this set is what its calls come to over these trees
@@ -38,12 +39,12 @@ abbrev pub Receives : {R : Type 0} {g : _} → (R → Option (List ℕ)) → Lis
 Receives remaining trees old new set = ReceivesSet trees set (remaining (reader_of old)) (remaining (reader_of new)) (ahead old) (ahead new)
 
 -- why the next edit is refused
-abbrev pub RefusesEdit : {R : Type 0} {g : _} → (R → Option (List ℕ)) → List PathMap → ItemStream R g → ItemStream R g → EditFault → Type 0
-RefusesEdit remaining trees old new f = RefusesOver trees (remaining (reader_of old)) (remaining (reader_of new)) (ahead old) (is_spent old) (has_failed new) f
+abbrev pub RefusesEdit : {R : Type 0} {g : _} → (R → Option (List ℕ)) → (R → ℕ) → (R → ℕ) → List PathMap → ItemStream R g → ItemStream R g → EditFault → Type 0
+RefusesEdit remaining failures reads trees old new f = RefusesOver trees (remaining (reader_of old)) (remaining (reader_of new)) (ahead old) (is_spent old) (meanwhile failures reads old new) f
 
 -- where a drive of a set that may be sent is to come, a refusal is want of memory or a read that failed
-abbrev pub RefusesSet : List PathMap → Option (List ℕ) → (List ℕ → Stream) → Bool → Bool → EditFault → Type 0
+abbrev pub RefusesSet : List PathMap → Option (List ℕ) → (List ℕ → Stream) → Bool → Counts → EditFault → Type 0
 RefusesSet trees before was spent failed f = (s : List Change) (more : List ℕ) → MayBeSent trees s → IsBefore (edit_bytes (drive trees s) ++ more) before was → spent ≡ false → IsOnlyFor (λ e. e ≡ OutOfMemory) failed f
 
-abbrev pub Refuses : {R : Type 0} {g : _} → (R → Option (List ℕ)) → List PathMap → ItemStream R g → ItemStream R g → EditFault → Type 0
-Refuses remaining trees old new f = RefusesSet trees (remaining (reader_of old)) (ahead old) (is_spent old) (has_failed new) f
+abbrev pub Refuses : {R : Type 0} {g : _} → (R → Option (List ℕ)) → (R → ℕ) → (R → ℕ) → List PathMap → ItemStream R g → ItemStream R g → EditFault → Type 0
+Refuses remaining failures reads trees old new f = RefusesSet trees (remaining (reader_of old)) (ahead old) (is_spent old) (meanwhile failures reads old new) f

@@ -1,7 +1,8 @@
 -- What is written of a set that is sent, and why it isn't.
-use Rattle.std.specs.Prelude.{◌≡◌, ℕ, List, Option, Some}
+use Rattle.std.specs.Prelude.{◌≡◌, ℕ, List, Option, Some, MatchOption}
 use Rattle.std.specs.Option.{option_map}
 use Rattle.std.specs.Io.KnownBytes.{Appends}
+use Rattle.byte_streams.specs.Causes.{Rose}
 use Rattle.node_base.specs.Tree.{PathMap}
 use Rattle.dump_load.specs.declared.change.Change.{Change}
 use Rattle.dump_load.specs.Faults.{fault}
@@ -20,3 +21,7 @@ pub data IsUnsent (trees : List PathMap) (set : List Change) (f : EditorFault) :
   OfMemory : f ≡ OutOfMemory → IsUnsent trees set f
   OfWriter : f ≡ PeerFailed → IsUnsent trees set f
   OfSet : option_map refused (fault trees set) ≡ Some f → IsUnsent trees set f
+
+-- that the writer failed is said only where the output is back, and failed more often than so often
+abbrev pub IsToldOnlyBy : {O : Type 0} → (O → ℕ) → ℕ → EditorFault → Option O → Type 0
+IsToldOnlyBy failures before f out = f ≡ PeerFailed → MatchOption out ⊥ (λ o. Rose before (failures o))

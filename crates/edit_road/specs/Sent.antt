@@ -22,7 +22,8 @@ use Rattle.ra_item.specs.Streams.{Stream}
 use Rattle.ra_edit.specs.Commands.{edit_bytes}
 use Rattle.ra_edit.specs.Edits.{SpellsEdit}
 use Rattle.ra_edit.specs.EditLaws.{IsWritten, IsBefore, IsOnlyFor}
-use Rattle.ra_edit.specs.ItemStreams.{Takes}
+use Rattle.byte_streams.specs.Causes.{Counts}
+use Rattle.ra_item.specs.ItemStreams.{Takes}
 use Rattle.ra_edit.specs.Wire.{AllDeeper}
 use Rattle.ra_edit.specs.Received.{RefusesDrive}
 use Rattle.ra_edit.specs.declared.edit_fault.EditFault.{EditFault}
@@ -61,12 +62,12 @@ abbrev pub IsNew : List PathMap → List Call → Type 0
 IsNew trees shown = shown ≡ []
 
 -- items that are calls of an edit up to some place before its end were taken, and then the stream was refused, or the next item was, for what it says or by an editor that builds over these trees
-abbrev pub RefusesOver : List PathMap → Option (List ℕ) → Option (List ℕ) → (List ℕ → Stream) → Bool → Bool → EditFault → Type 0
+abbrev pub RefusesOver : List PathMap → Option (List ℕ) → Option (List ℕ) → (List ℕ → Stream) → Bool → Counts → EditFault → Type 0
 RefusesOver trees before after was spent failed f = RefusesDrive IsNew (λ t. t) RefusesWithin trees before after was spent failed f
 
 -- where the bytes of a drive are to come, whatever follows them, such a refusal is want of memory, the editor's own or the receiver's, or a read that failed
 abbrev pub DriveIsNotRefused : Type 0
-DriveIsNotRefused = (trees : List PathMap) (s : List Change) (more : List ℕ) (before after : Option (List ℕ)) (was : List ℕ → Stream) (spent failed : Bool) (f : EditFault) → IsSent trees s → IsBefore (edit_bytes (drive trees s) ++ more) before was → spent ≡ false → RefusesOver trees before after was spent failed f → IsOnlyFor (λ e. e ≡ OutOfMemory) failed f
+DriveIsNotRefused = (trees : List PathMap) (s : List Change) (more : List ℕ) (before after : Option (List ℕ)) (was : List ℕ → Stream) (spent : Bool) (failed : Counts) (f : EditFault) → IsSent trees s → IsBefore (edit_bytes (drive trees s) ++ more) before was → spent ≡ false → RefusesOver trees before after was spent failed f → IsOnlyFor (λ e. e ≡ OutOfMemory) failed f
 
 -- calls that a set is driven as keep the nesting and go down, so that what they were written as is their spelling
 abbrev pub DriveIsSpelled : Type 0

@@ -1,8 +1,11 @@
 //! A set of changes from the items of an edit.
-ghost use Rattle.std.specs.Prelude.{◌≡◌, ◌≤◌, ◌||◌, length, true, false, IfOk, IfErr, OnOk, OnErr};
-ghost use Rattle.ra_edit.specs.ItemStreams.{has_failed, is_spent, is_peer};
+ghost use Rattle.std.specs.Prelude.{◌≡◌, ◌≤◌, length, true, false, IfOk, IfErr, OnOk, OnErr};
+ghost use Rattle.ra_item.specs.ItemStreams.{reader_of, meanwhile, is_spent};
+ghost use Rattle.byte_streams.specs.Causes.{Fails};
+ghost use Rattle.ra_edit.specs.declared.edit_fault.EditFault.TheVariants.{PeerFailed};
 ghost use Rattle.edit_road.specs.Receiving.{IsNextEdit, Receives, Refuses, RefusesEdit};
 
+use byte_streams::Input;
 use dump_load::ChangeSet;
 use editor_ends::BuildEditor;
 use path_tree::Tree;
@@ -11,25 +14,25 @@ use ra_edit::edit_fault::EditFault;
 use ra_edit::receive::receive;
 use ra_edit::stream::ItemStream;
 use std::alloc::Global;
-use std::io::Read;
 
 /// Receives the set of changes that the next edit makes as the revision after these trees, 65,535 at most, the newest
 /// last. Where a set that was sent over the same trees is to come, what is received has its effect, the stream stands
-/// before what follows, and only want of memory (70) or a read that failed (49) refuses it.
+/// before what follows, and only want of memory (70) or an input that failed (49) refuses it.
 ///
 /// Refused: as `receive` refuses an edit, and as an editor that builds a set refuses one of its calls. After a refusal
 /// the stream answers `Failed` (32) from then on.
-pub fn receive_set<R: Read + Drop>(
+pub fn receive_set<I: Input + Drop>(
     alloc: Global,
     trees: &[Tree],
-    items: &mut ItemStream<R>,
+    items: &mut ItemStream<I>,
 ) -> Result<ChangeSet, EditFault>
     requires few { length trees.now ≤ 65535 }
-    ensures edit { IfOk result (IsNextEdit R.remaining trees.now items.old items.new) }
-    ensures stopped { IfErr result (RefusesEdit R.remaining trees.now items.old items.new) }
-    ensures received { IfOk result (Receives R.remaining trees.now items.old items.new) }
-    ensures refused { IfErr result (Refuses R.remaining trees.now items.old items.new) }
-    ensures failed { has_failed items.new ≡ (has_failed items.old || is_peer result) }
+    ensures edit { IfOk result (IsNextEdit I.remaining trees.now items.old items.new) }
+    ensures stopped { IfErr result (RefusesEdit I.remaining I.failures I.reads trees.now items.old items.new) }
+    ensures received { IfOk result (Receives I.remaining trees.now items.old items.new) }
+    ensures refused { IfErr result (Refuses I.remaining I.failures I.reads trees.now items.old items.new) }
+    ensures peer { IfErr result (λ f. f ≡ PeerFailed → Fails (meanwhile I.failures I.reads items.old items.new)) }
+    ensures failures { I.failures (reader_of items.old) ≤ I.failures (reader_of items.new) }
     ensures goes_on { OnOk result (is_spent items.new ≡ false) }
     ensures spent { OnErr result (is_spent items.new ≡ true) }
 {

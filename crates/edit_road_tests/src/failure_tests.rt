@@ -1,8 +1,9 @@
 //! Readers and writers that fail, sets that can't be, and edits that are refused.
 
-use crate::sets::{bare, refusal, sent, set_of};
+use crate::sets::{bare, refusal, sent, sent_to, set_of};
 use crate::spelled_tests::{FULL, every_command};
 use crate::streams_for_tests::{Failing, items_from};
+use byte_streams::{MemOutput, Output};
 use dump_load::ChangeSet;
 use node_base::Action;
 use path_tree::Tree;
@@ -36,8 +37,8 @@ fn a_reader_that_fails_is_told(rt: HostRuntime) -> Result<(), Fail> {
     Ok(())
 }
 
-// The number of what a set isn't sent for where the writer fails behind so many calls, 0 where it is sent; none where the
-// writer doesn't have a beginning of the edit.
+// The number of what a set isn't sent for where the writer fails behind so many calls, 0 where it is sent; none where
+// the writer doesn't have a beginning of the edit.
 fn unsent(alloc: Global, trees: &[Tree], set: &ChangeSet, left: usize) -> Option<u8> {
     let mut bytes = Vec::new(alloc);
     let out = Failing {
@@ -70,6 +71,42 @@ fn a_writer_that_fails_is_told(rt: HostRuntime) -> Result<(), Fail> {
     Ok(())
 }
 
+// The number of what a set isn't sent for to a counted output that fails behind so many writes, 0 where it is sent;
+// none where the output isn't back, doesn't have a beginning of the edit, or has failed where it isn't said to.
+fn unsent_to(alloc: Global, trees: &[Tree], set: &ChangeSet, passing: u64) -> Option<u8> {
+    let (number, out) = match sent_to(alloc, trees, set, MemOutput::new(alloc, passing)) {
+        Ok(out) => (0, Some(out)),
+        Err(unsent) => (unsent.fault.number(), unsent.out),
+    };
+    is_counted(&out?, number).then_some(number)
+}
+
+// Whether an output has a beginning of the edit, whole where it is sent, and failed exactly where it is said to.
+fn is_counted(out: &MemOutput, number: u8) -> bool {
+    FULL.starts_with(out.bytes())
+        && (out.count_failures() > 0) == (number == 49)
+        && (number != 0 || out.bytes() == FULL)
+}
+
+// Whether an output that fails behind fewer writes than so many is back and is said to have failed.
+fn all_come_back(alloc: Global, trees: &[Tree], set: &ChangeSet, writes: u64) -> bool {
+    for passing in 0..writes {
+        if unsent_to(alloc, trees, set, passing) != Some(49) {
+            return false;
+        }
+    }
+    true
+}
+
+#[test]
+fn an_output_that_fails_comes_back(rt: HostRuntime) -> Result<(), Fail> {
+    let alloc = rt.alloc();
+    let (trees, set) = every_command(&rt, alloc)?;
+    assert!(rt; all_come_back(alloc, &trees, &set, 20));
+    assert!(rt; unsent_to(alloc, &trees, &set, 20) == Some(0));
+    Ok(())
+}
+
 #[test]
 fn a_set_with_a_fault_is_not_sent(rt: HostRuntime) -> Result<(), Fail> {
     let alloc = rt.alloc();
@@ -78,6 +115,7 @@ fn a_set_with_a_fault_is_not_sent(rt: HostRuntime) -> Result<(), Fail> {
     changes.push(bare(alloc, "a", Action::Delete)?)?;
     let set = set_of(&rt, changes);
     assert!(rt; unsent(alloc, &trees, &set, usize::MAX) == Some(11));
+    assert!(rt; unsent_to(alloc, &trees, &set, u64::MAX) == Some(11));
     Ok(())
 }
 

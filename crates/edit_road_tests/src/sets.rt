@@ -1,10 +1,11 @@
 //! Sets of small revisions, for the tests.
 
+use byte_streams::{Input, Output};
 use delta_editor::EditorFault;
 use dump_load::{Change, ChangeSet, apply};
 use edit_road::law::set_may_be_sent;
 use edit_road::receive::receive_set;
-use edit_road::send::send_set;
+use edit_road::send::{Unsent, send_set, send_set_to};
 use editor_ends::law::{set_is_refused_for_memory_alone, set_is_taken};
 use node_base::{
     Action, Node, NodeKind, NodePath, PropName, PropValue, Props, RevNo, Source, Text,
@@ -14,7 +15,7 @@ use ra_edit::edit_fault::EditFault;
 use ra_edit::stream::ItemStream;
 use std::alloc::Global;
 use std::cmp::Ordering;
-use std::io::{Read, Write};
+use std::io::Write;
 use std::process::Abort;
 use std::test::Fail;
 
@@ -161,11 +162,27 @@ pub(crate) fn sent<W: Write + Drop>(
     send_set(alloc, trees, set, out)
 }
 
-/// Receives a set over so few trees that one may be received.
-pub(crate) fn received<R: Read + Drop>(
+/// Sends a set in the same way to an output whose failures are counted.
+pub(crate) fn sent_to<O: Output + Drop>(
     alloc: Global,
     trees: &[Tree],
-    items: &mut ItemStream<R>,
+    set: &ChangeSet,
+    out: O,
+) -> Result<O, Unsent<O>> {
+    if trees.len() > 65_535 {
+        return Err(Unsent {
+            fault: EditorFault::TooLong,
+            out: Some(out),
+        });
+    }
+    send_set_to(alloc, trees, set, out)
+}
+
+/// Receives a set over so few trees that one may be received.
+pub(crate) fn received<I: Input + Drop>(
+    alloc: Global,
+    trees: &[Tree],
+    items: &mut ItemStream<I>,
 ) -> Result<ChangeSet, EditFault> {
     if trees.len() > 65_535 {
         return Err(EditFault::TooLong);
@@ -174,11 +191,11 @@ pub(crate) fn received<R: Read + Drop>(
 }
 
 /// Whether the next set that is received makes the same tree as this one.
-pub(crate) fn comes_next<R: Read + Drop>(
+pub(crate) fn comes_next<I: Input + Drop>(
     alloc: Global,
     trees: &[Tree],
     set: &ChangeSet,
-    items: &mut ItemStream<R>,
+    items: &mut ItemStream<I>,
 ) -> bool {
     match received(alloc, trees, items) {
         Ok(found) => make_one(alloc, trees, set, &found),
@@ -187,10 +204,10 @@ pub(crate) fn comes_next<R: Read + Drop>(
 }
 
 /// The number of what the next receive is refused for; 0 where it isn't.
-pub(crate) fn refusal<R: Read + Drop>(
+pub(crate) fn refusal<I: Input + Drop>(
     alloc: Global,
     trees: &[Tree],
-    items: &mut ItemStream<R>,
+    items: &mut ItemStream<I>,
 ) -> u8 {
     match received(alloc, trees, items) {
         Ok(_) => 0,

@@ -1,5 +1,6 @@
 //! Readers and writers for the tests, cut anyhow and failing.
 
+use byte_streams::CountedReader;
 use ra_edit::stream::ItemStream;
 use std::alloc::Global;
 use std::io;
@@ -31,16 +32,14 @@ pub(crate) fn items_from(
     bytes: &[u8],
     size: usize,
     breaks: bool,
-) -> ItemStream<Lent<'_>> {
+) -> ItemStream<CountedReader<Lent<'_>>> {
     let size = size.max(1);
-    ItemStream::new(
-        alloc,
-        Lent {
-            bytes,
-            size,
-            breaks,
-        },
-    )
+    let reader = CountedReader::new(Lent {
+        bytes,
+        size,
+        breaks,
+    });
+    ItemStream::new(alloc, reader)
 }
 
 /// A writer that takes so many writes and fails from then on.

@@ -1,5 +1,5 @@
-//! Tests of `delta_editor` and `editor_ends` through their public items: what a recorder keeps of the calls that it is shown, what
-//! a set is driven as, and sets that are built again of such calls.
+//! Tests of `delta_editor` and `editor_ends` through their public items: what a recorder keeps of the calls that it is
+//! shown, what a set is driven as, and sets that are built again of such calls.
 #![tactic(auto)]
 
 #[cfg(test)]

@@ -126,7 +126,8 @@ impl Contents {
         at: u64,
         bytes: &Vec<u8>,
     ) -> Result<(), AllocError>
-        ensures { (read : Image) → OnOk result (image_of self.new ≡ pick_step pick (DiskCall.Write file at bytes.now) read (image_of self.old)) }
+        ensures { (read : Image) → OnOk result (image_of self.new
+            ≡ pick_step pick (DiskCall.Write file at bytes.now) read (image_of self.old)) }
     {
         match pick {
             Pick::Old => Ok(()),

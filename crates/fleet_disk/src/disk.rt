@@ -1,7 +1,8 @@
 //! A disk as a log sees it: what a read gives, and what a stop may leave.
 ghost use Rattle.std.specs.Prelude.{◌≡◌, ◌≤◌, ◌↔◌, ℕ, length, take, IfOk, OnOk};
 ghost use Rattle.fleet_disk.specs.Image.{Image, bytes_of};
-ghost use Rattle.fleet_disk.specs.Rules.{overwritten, IsRead, Torn, CutBack, OnFile, Follows, Within, Only, Elapses, HasCause};
+ghost use Rattle.fleet_disk.specs.Rules.{overwritten, IsRead, Torn, CutBack, OnFile, Follows, Within, Only, Elapses};
+ghost use Rattle.fleet_disk.specs.Rules.{HasCause};
 
 use thiserror::Error;
 
@@ -49,10 +50,12 @@ pub trait Disk {
     /// file goes on there and the buffer isn't empty.
     fn read(&mut self, file: DiskFile, at: u64, buf: &mut [u8]) -> Result<usize, DiskFault>
         ensures within { IfOk result (λ n. n ≤ length buf.old) }
-        ensures bytes { honest self.old → IfOk result (λ n. IsRead (bytes_of file (reads self.old)) at n buf.old buf.new) }
+        ensures bytes { honest self.old → IfOk result (λ n. IsRead
+            (bytes_of file (reads self.old)) at n buf.old buf.new) }
         ensures reads { honest self.old → reads self.new ≡ reads self.old }
         ensures left { honest self.old → Within (may_leave self.new) (may_leave self.old) }
-        ensures time { honest self.old → Elapses (clock self.old) (clock self.new) (left_since self.old) (left_since self.new) (may_leave self.new) }
+        ensures time { honest self.old → Elapses (clock self.old) (clock self.new) (left_since self.old)
+            (left_since self.new) (may_leave self.new) }
         ensures honest { honest self.old ↔ honest self.new }
         ensures cause { HasCause (failures self.old) (failures self.new) result };
 
@@ -61,25 +64,31 @@ pub trait Disk {
         ensures bytes { honest self.old → IfOk result (λ n. n ≡ length (bytes_of file (reads self.old))) }
         ensures reads { honest self.old → reads self.new ≡ reads self.old }
         ensures left { honest self.old → Within (may_leave self.new) (may_leave self.old) }
-        ensures time { honest self.old → Elapses (clock self.old) (clock self.new) (left_since self.old) (left_since self.new) (may_leave self.new) }
+        ensures time { honest self.old → Elapses (clock self.old) (clock self.new) (left_since self.old)
+            (left_since self.new) (may_leave self.new) }
         ensures honest { honest self.old ↔ honest self.new }
         ensures cause { HasCause (failures self.old) (failures self.new) result };
 
     /// Writes bytes over what is there, and past the end.
     fn write_at(&mut self, file: DiskFile, at: u64, bytes: &[u8]) -> Result<(), DiskFault>
         requires { honest self.old → at ≤ length (bytes_of file (reads self.old)) }
-        ensures written { honest self.old → OnOk result (OnFile file (λ old new. new ≡ overwritten at bytes.now old) (reads self.old) (reads self.new)) }
-        ensures left { honest self.old → Follows (OnFile file (Torn at (length bytes.now))) (may_leave self.old) (may_leave self.new) }
-        ensures time { honest self.old → Elapses (clock self.old) (clock self.new) (left_since self.old) (left_since self.new) (may_leave self.new) }
+        ensures written { honest self.old → OnOk result (OnFile file (λ old new.
+            new ≡ overwritten at bytes.now old) (reads self.old) (reads self.new)) }
+        ensures left { honest self.old → Follows (OnFile file (Torn at (length bytes.now))) (may_leave self.old)
+            (may_leave self.new) }
+        ensures time { honest self.old → Elapses (clock self.old) (clock self.new) (left_since self.old)
+            (left_since self.new) (may_leave self.new) }
         ensures honest { honest self.old ↔ honest self.new }
         ensures cause { HasCause (failures self.old) (failures self.new) result };
 
     /// Cuts a file to a length that it has or is past.
     fn cut(&mut self, file: DiskFile, len: u64) -> Result<(), DiskFault>
         requires { honest self.old → len ≤ length (bytes_of file (reads self.old)) }
-        ensures cut { honest self.old → OnOk result (OnFile file (λ old new. new ≡ take len old) (reads self.old) (reads self.new)) }
+        ensures cut { honest self.old → OnOk result (OnFile file (λ old new.
+            new ≡ take len old) (reads self.old) (reads self.new)) }
         ensures left { honest self.old → Follows (OnFile file (CutBack len)) (may_leave self.old) (may_leave self.new) }
-        ensures time { honest self.old → Elapses (clock self.old) (clock self.new) (left_since self.old) (left_since self.new) (may_leave self.new) }
+        ensures time { honest self.old → Elapses (clock self.old) (clock self.new) (left_since self.old)
+            (left_since self.new) (may_leave self.new) }
         ensures honest { honest self.old ↔ honest self.new }
         ensures cause { HasCause (failures self.old) (failures self.new) result };
 
@@ -88,12 +97,14 @@ pub trait Disk {
         ensures durable { honest self.old → OnOk result (Only (reads self.old) (may_leave self.new)) }
         ensures reads { honest self.old → reads self.new ≡ reads self.old }
         ensures left { honest self.old → Within (may_leave self.new) (may_leave self.old) }
-        ensures time { honest self.old → Elapses (clock self.old) (clock self.new) (left_since self.old) (left_since self.new) (may_leave self.new) }
+        ensures time { honest self.old → Elapses (clock self.old) (clock self.new) (left_since self.old)
+            (left_since self.new) (may_leave self.new) }
         ensures honest { honest self.old ↔ honest self.new }
         ensures cause { HasCause (failures self.old) (failures self.new) result };
 
     /// A stop now is one since an earlier clock.
-    ghost counts_now: { (disk : Self) (t : ℕ) (c : Image) → honest disk → t ≤ clock disk → may_leave disk c → left_since disk t c };
+    ghost counts_now: { (disk : Self) (t : ℕ) (c : Image) → honest disk → t ≤ clock disk → may_leave disk c
+        → left_since disk t c };
 
     /// Since this clock there is no other stop.
     ghost only_now: { (disk : Self) (c : Image) → honest disk → left_since disk (clock disk) c → may_leave disk c };

@@ -46,11 +46,11 @@ impl HeldFiles for HostRuntime {
 
 /// The files `journal` and `gate` of a folder.
 ///
-/// While it is open nobody else has the folder: it holds the journal. A file that isn't there counts as empty until it is
-/// made, and isn't held. That such a disk keeps the rules is a premise that no
-/// contract shows, so what is said of an honest disk is said of it under that premise alone; that a refusal comes
-/// only where the count of failures rose holds of it as it is. A sync syncs the files that were written or cut since the
-/// last one, and at first both, for what an earlier process left.
+/// While it is open nobody else has the folder: it holds the journal. A file that isn't there counts as empty until it
+/// is made, and isn't held. That such a disk keeps the rules is a premise that no contract shows, so what is said of an
+/// honest disk is said of it under that premise alone; that a refusal comes only where the count of failures rose holds
+/// of it as it is. A sync syncs the files that were written or cut since the last one, and at first both, for what an
+/// earlier process left.
 #[derive(Drop)]
 pub struct HostDisk<F: Read + Write + Seek + OpenFile> {
     journal: Option<HostFile<F>>,
@@ -66,8 +66,8 @@ struct HostFile<F> {
 }
 
 impl<F: Read + Write + Seek + OpenFile + Drop> HostDisk<F> {
-    /// Opens the files of a folder, and makes none. No failure is counted yet. The host refuses where the folder is in use;
-    /// it or memory may refuse besides.
+    /// Opens the files of a folder, and makes none. No failure is counted yet. The host refuses where the folder is in
+    /// use; it or memory may refuse besides.
     pub fn open<R: HeldFiles<File = F>>(
         rt: &R,
         alloc: Global,
@@ -81,9 +81,9 @@ impl<F: Read + Write + Seek + OpenFile + Drop> HostDisk<F> {
         HostDisk::found(rt, journal.as_str(), gate.as_str())
     }
 
-    /// Opens the files of a folder, and makes those that are missing, so that both are open; but where one of them is there
-    /// already and isn't empty, nothing is made. No failure is counted yet. The host refuses where the folder is in use; it or
-    /// memory may refuse besides.
+    /// Opens the files of a folder, and makes those that are missing, so that both are open; but where one of them is
+    /// there already and isn't empty, nothing is made. No failure is counted yet. The host refuses where the folder is
+    /// in use; it or memory may refuse besides.
     pub fn create<R: HeldFiles<File = F>>(
         rt: &R,
         alloc: Global,
@@ -121,8 +121,8 @@ impl<F: Read + Write + Seek + OpenFile + Drop> HostDisk<F> {
         })
     }
 
-    // The same files, with those made that are missing. The journal is held before the gate is made, so that of two processes
-    // that begin at once one alone goes on.
+    // The same files, with those made that are missing. The journal is held before the gate is made, so that of two
+    // processes that begin at once one alone goes on.
     fn completed<R: HeldFiles<File = F>>(
         self,
         rt: &R,

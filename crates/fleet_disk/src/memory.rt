@@ -117,7 +117,8 @@ impl MemDisk {
         ensures ok { OnOk result ((kept : Vec ℕ Global) × (kept.items ≡ bytes.now)
             × (self.new.calls.items ≡ self.old.calls.items ++ DiskCall.Write file at kept ∷ [])
             × (image_of self.new.files ≡ on_file file (written at bytes.now) (image_of self.old.files))) }
-        ensures err { OnErr result ((self.new.calls.items ≡ self.old.calls.items) × (image_of self.new.files ≡ image_of self.old.files)) }
+        ensures err { OnErr result ((self.new.calls.items ≡ self.old.calls.items)
+            × (image_of self.new.files ≡ image_of self.old.files)) }
         ensures first { self.new.first ≡ self.old.first }
         ensures failures { self.new.failures ≡ self.old.failures }
     {
@@ -154,7 +155,8 @@ impl Disk for MemDisk {
 
     ghost only_now = { λ disk c honest left. only_left (image_of disk.first) disk.calls.items c left };
 
-    ghost reads_left = { λ disk honest. subst (λ (c : Image). MayLeave disk c) disk.kept (read_is_left (image_of disk.first) disk.calls.items) };
+    ghost reads_left = { λ disk honest. subst (λ (c : Image).
+        MayLeave disk c) disk.kept (read_is_left (image_of disk.first) disk.calls.items) };
 
     fn read(&mut self, file: DiskFile, at: u64, buf: &mut [u8]) -> Result<usize, DiskFault> {
         let len = buf.len();

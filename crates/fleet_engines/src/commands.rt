@@ -26,8 +26,14 @@ fn read_all<R: Read + Drop, W: Write + Drop>(
     input: &mut Source<R>,
     output: &mut Sink<W>,
 ) -> Result<(), Refusal>
-    ensures ok { OnOk result (0 < length piece.old → (bytes : List ℕ) × Consumes (R.remaining input.old.inner) (R.remaining input.new.inner) bytes × IsAtEnd (R.remaining input.new.inner) × Leads engine.old.product reader.old (told_of engine.old.history) (W.contents output.old.inner) bytes reader.new (told_of engine.new.history) (W.contents output.new.inner)) }
-    ensures refused { IfErr result (λ e. (output.new.failed ≡ true) ⊎ ((start : Option (List ℕ)) → Reached engine.old.product [] reader.old (told_of engine.old.history) start (W.contents output.old.inner) → IfSome (R.remaining input.old.inner) (λ bytes. Refused engine.old.product bytes start (W.contents output.new.inner) e))) }
+    ensures ok { OnOk result (0 < length piece.old → (bytes : List ℕ)
+        × Consumes (R.remaining input.old.inner) (R.remaining input.new.inner) bytes
+        × IsAtEnd (R.remaining input.new.inner) × Leads engine.old.product reader.old (told_of engine.old.history)
+        (W.contents output.old.inner) bytes reader.new (told_of engine.new.history) (W.contents output.new.inner)) }
+    ensures refused { IfErr result (λ e. (output.new.failed ≡ true)
+        ⊎ ((start : Option (List ℕ)) → Reached engine.old.product [] reader.old (told_of engine.old.history) start
+        (W.contents output.old.inner) → IfSome (R.remaining input.old.inner) (λ bytes.
+        Refused engine.old.product bytes start (W.contents output.new.inner) e))) }
     ensures peer { BothFlagged result input.old.failed input.new.failed output.old.failed output.new.failed }
     ensures product { engine.new.product ≡ engine.old.product }
 {
@@ -49,8 +55,15 @@ fn read_dump<R: Read + Drop, W: Write + Drop>(
     input: &mut Source<R>,
     output: &mut Sink<W>,
 ) -> Result<(), Refusal>
-    ensures ok { OnOk result (0 < length piece.old → (start : Option (List ℕ)) → Reached engine.old.product [] reader (told_of engine.old.history) start (W.contents output.old.inner) → IfSome (R.remaining input.old.inner) (λ bytes. Accepted engine.old.product bytes start (W.contents output.new.inner))) }
-    ensures refused { IfErr result (λ e. (output.new.failed ≡ true) ⊎ (0 < length piece.old → (start : Option (List ℕ)) → Reached engine.old.product [] reader (told_of engine.old.history) start (W.contents output.old.inner) → IfSome (R.remaining input.old.inner) (λ bytes. Refused engine.old.product bytes start (W.contents output.new.inner) e))) }
+    ensures ok { OnOk result (0 < length piece.old → (start : Option (List ℕ))
+        → Reached engine.old.product [] reader (told_of engine.old.history) start (W.contents output.old.inner)
+        → IfSome (R.remaining input.old.inner) (λ bytes. Accepted engine.old.product bytes start
+        (W.contents output.new.inner))) }
+    ensures refused { IfErr result (λ e. (output.new.failed ≡ true)
+        ⊎ (0 < length piece.old → (start : Option (List ℕ)) → Reached engine.old.product [] reader
+        (told_of engine.old.history) start (W.contents output.old.inner)
+        → IfSome (R.remaining input.old.inner) (λ bytes. Refused engine.old.product bytes start
+        (W.contents output.new.inner) e))) }
     ensures peer { BothFlagged result input.old.failed input.new.failed output.old.failed output.new.failed }
 {
     read_all(engine, &mut reader, piece, input, output)?;
@@ -65,8 +78,11 @@ fn run_pieces<R: Read + Drop, W: Write + Drop>(
     input: &mut Source<R>,
     output: &mut Sink<W>,
 ) -> Result<(), Refusal>
-    ensures ok { OnOk result (0 < length piece.old → IfSome (R.remaining input.old.inner) (λ bytes. Accepted product bytes (W.contents output.old.inner) (W.contents output.new.inner))) }
-    ensures refused { IfErr result (λ e. (output.new.failed ≡ true) ⊎ (0 < length piece.old → IfSome (R.remaining input.old.inner) (λ bytes. Refused product bytes (W.contents output.old.inner) (W.contents output.new.inner) e))) }
+    ensures ok { OnOk result (0 < length piece.old → IfSome (R.remaining input.old.inner) (λ bytes.
+        Accepted product bytes (W.contents output.old.inner) (W.contents output.new.inner))) }
+    ensures refused { IfErr result (λ e. (output.new.failed ≡ true)
+        ⊎ (0 < length piece.old → IfSome (R.remaining input.old.inner) (λ bytes.
+        Refused product bytes (W.contents output.old.inner) (W.contents output.new.inner) e))) }
     ensures peer { BothFlagged result input.old.failed input.new.failed output.old.failed output.new.failed }
 {
     let mut engine = Engine::new(alloc, product)?;
@@ -80,8 +96,11 @@ fn run_dump<R: Read + Drop, W: Write + Drop>(
     input: &mut Source<R>,
     output: &mut Sink<W>,
 ) -> Result<(), Refusal>
-    ensures ok { OnOk result (IfSome (R.remaining input.old.inner) (λ bytes. Accepted product bytes (W.contents output.old.inner) (W.contents output.new.inner))) }
-    ensures refused { IfErr result (λ e. (output.new.failed ≡ true) ⊎ IfSome (R.remaining input.old.inner) (λ bytes. Refused product bytes (W.contents output.old.inner) (W.contents output.new.inner) e)) }
+    ensures ok { OnOk result (IfSome (R.remaining input.old.inner) (λ bytes.
+        Accepted product bytes (W.contents output.old.inner) (W.contents output.new.inner))) }
+    ensures refused { IfErr result (λ e. (output.new.failed ≡ true)
+        ⊎ IfSome (R.remaining input.old.inner) (λ bytes. Refused product bytes (W.contents output.old.inner)
+        (W.contents output.new.inner) e)) }
     ensures peer { BothFlagged result input.old.failed input.new.failed output.old.failed output.new.failed }
 {
     match Vec::from_elem(alloc, 0u8, PIECE) {
@@ -96,22 +115,28 @@ pub fn run_list<R: Read + Drop, W: Write + Drop>(
     input: &mut Source<R>,
     output: &mut Sink<W>,
 ) -> Result<(), Refusal>
-    ensures ok { OnOk result (IfSome (R.remaining input.old.inner) (λ bytes. Accepted Product.List bytes (W.contents output.old.inner) (W.contents output.new.inner))) }
-    ensures refused { IfErr result (λ e. (output.new.failed ≡ true) ⊎ IfSome (R.remaining input.old.inner) (λ bytes. Refused Product.List bytes (W.contents output.old.inner) (W.contents output.new.inner) e)) }
+    ensures ok { OnOk result (IfSome (R.remaining input.old.inner) (λ bytes.
+        Accepted Product.List bytes (W.contents output.old.inner) (W.contents output.new.inner))) }
+    ensures refused { IfErr result (λ e. (output.new.failed ≡ true)
+        ⊎ IfSome (R.remaining input.old.inner) (λ bytes. Refused Product.List bytes (W.contents output.old.inner)
+        (W.contents output.new.inner) e)) }
     ensures peer { BothFlagged result input.old.failed input.new.failed output.old.failed output.new.failed }
 {
     run_dump(alloc, Product::List, input, output)
 }
 
-/// Reads a dump and writes it in its canonical spelling: head and revision 0 once a record of another number or the end has come,
-/// and each later revision when it has been judged. A refusal leaves what was written before it.
+/// Reads a dump and writes it in its canonical spelling: head and revision 0 once a record of another number or the end
+/// has come, and each later revision when it has been judged. A refusal leaves what was written before it.
 pub fn run_canon<R: Read + Drop, W: Write + Drop>(
     alloc: Global,
     input: &mut Source<R>,
     output: &mut Sink<W>,
 ) -> Result<(), Refusal>
-    ensures ok { OnOk result (IfSome (R.remaining input.old.inner) (λ bytes. Accepted Product.Canon bytes (W.contents output.old.inner) (W.contents output.new.inner))) }
-    ensures refused { IfErr result (λ e. (output.new.failed ≡ true) ⊎ IfSome (R.remaining input.old.inner) (λ bytes. Refused Product.Canon bytes (W.contents output.old.inner) (W.contents output.new.inner) e)) }
+    ensures ok { OnOk result (IfSome (R.remaining input.old.inner) (λ bytes.
+        Accepted Product.Canon bytes (W.contents output.old.inner) (W.contents output.new.inner))) }
+    ensures refused { IfErr result (λ e. (output.new.failed ≡ true)
+        ⊎ IfSome (R.remaining input.old.inner) (λ bytes. Refused Product.Canon bytes (W.contents output.old.inner)
+        (W.contents output.new.inner) e)) }
     ensures peer { BothFlagged result input.old.failed input.new.failed output.old.failed output.new.failed }
 {
     run_dump(alloc, Product::Canon, input, output)

@@ -1,11 +1,13 @@
 //! What is made of a dump, record by record and piece by piece.
-ghost use Rattle.std.specs.Prelude.{◌≡◌, ◌&&◌, ◌∷◌, ◌++◌, ◌⊎◌, [], ℕ, List, Option, true, IfOk, IfErr, OnOk, OnErr, not, if◌then◌else◌};
+ghost use Rattle.std.specs.Prelude.{◌≡◌, ◌&&◌, ◌∷◌, ◌++◌, ◌⊎◌, [], ℕ, List, Option, true, IfOk, IfErr, OnOk, OnErr};
+ghost use Rattle.std.specs.Prelude.{not, if◌then◌else◌};
 ghost use Rattle.std.specs.Io.KnownBytes.{Appends};
 ghost use Rattle.std.specs.List.{flat_map};
 ghost use Rattle.dump_text.specs.declared.record.DumpRecord.{DumpRecord as RecordOf};
 ghost use Rattle.fleet_engines.specs.Histories.{revs_of, told_of};
 ghost use Rattle.fleet_engines.specs.Revisions.{CantClose, CantTake, Closes, Rev, Told, untold};
-ghost use Rattle.fleet_engines.specs.Runs.{canon_of, has_begun, head_of, newest_listing, Accepted, Flagged, Moves, Reached, Refused, Stands, Stops};
+ghost use Rattle.fleet_engines.specs.Runs.{canon_of, has_begun, head_of, newest_listing, Accepted, Flagged, Moves};
+ghost use Rattle.fleet_engines.specs.Runs.{Reached, Refused, Stands, Stops};
 
 use crate::history::History;
 use crate::listing::push_listing;
@@ -38,7 +40,8 @@ fn write_beginning<W: Write + Drop>(
     history: &History,
     output: &mut Sink<W>,
 ) -> Result<(), Refusal>
-    ensures ok { OnOk result (Appends (W.contents output.old.inner) (W.contents output.new.inner) (if is_due then head_of (told_of history.now) else [])) }
+    ensures ok { OnOk result (Appends (W.contents output.old.inner) (W.contents output.new.inner)
+        (if is_due then head_of (told_of history.now) else [])) }
     ensures peer { Flagged result output.old.failed output.new.failed }
     ensures only_peer { OnErr result (output.new.failed ≡ true) }
 {
@@ -54,7 +57,8 @@ fn write_closed<W: Write + Drop>(
     closed: &Option<RevRecord>,
     output: &mut Sink<W>,
 ) -> Result<(), Refusal>
-    ensures ok { OnOk result (Appends (W.contents output.old.inner) (W.contents output.new.inner) (flat_map canon_of (revs_of closed.now))) }
+    ensures ok { OnOk result (Appends (W.contents output.old.inner) (W.contents output.new.inner)
+        (flat_map canon_of (revs_of closed.now))) }
     ensures peer { Flagged result output.old.failed output.new.failed }
     ensures only_peer { OnErr result (output.new.failed ≡ true) }
 {
@@ -71,7 +75,8 @@ fn write_due<W: Write + Drop>(
     closed: &Option<RevRecord>,
     output: &mut Sink<W>,
 ) -> Result<(), Refusal>
-    ensures ok { OnOk result (Appends (W.contents output.old.inner) (W.contents output.new.inner) ((if is_due then head_of (told_of history.now) else []) ++ flat_map canon_of (revs_of closed.now))) }
+    ensures ok { OnOk result (Appends (W.contents output.old.inner) (W.contents output.new.inner)
+        ((if is_due then head_of (told_of history.now) else []) ++ flat_map canon_of (revs_of closed.now))) }
     ensures peer { Flagged result output.old.failed output.new.failed }
     ensures only_peer { OnErr result (output.new.failed ≡ true) }
 {
@@ -99,8 +104,11 @@ impl Engine {
         next: DumpRecord,
         output: &mut Sink<W>,
     ) -> Result<(), Refusal>
-        ensures ok { OnOk result (Moves self.old.product (told_of self.old.history) (told_of self.new.history) (W.contents output.old.inner) (W.contents output.new.inner) (next ∷ [])) }
-        ensures refused { IfErr result (λ e. (output.new.failed ≡ true) ⊎ ((W.contents output.new.inner ≡ W.contents output.old.inner) × ((e ≡ Refusal.OutOfMemory) ⊎ CantTake (told_of self.old.history) next e))) }
+        ensures ok { OnOk result (Moves self.old.product (told_of self.old.history) (told_of self.new.history)
+            (W.contents output.old.inner) (W.contents output.new.inner) (next ∷ [])) }
+        ensures refused { IfErr result (λ e. (output.new.failed ≡ true)
+            ⊎ ((W.contents output.new.inner ≡ W.contents output.old.inner)
+            × ((e ≡ Refusal.OutOfMemory) ⊎ CantTake (told_of self.old.history) next e))) }
         ensures peer { Flagged result output.old.failed output.new.failed }
         ensures product { self.new.product ≡ self.old.product }
     {
@@ -119,8 +127,11 @@ impl Engine {
         next: DumpRecord,
         output: &mut Sink<W>,
     ) -> Result<(), Refusal>
-        ensures ok { OnOk result (Moves Product.Canon (told_of self.old.history) (told_of self.new.history) (W.contents output.old.inner) (W.contents output.new.inner) (next ∷ [])) }
-        ensures refused { IfErr result (λ e. (output.new.failed ≡ true) ⊎ ((W.contents output.new.inner ≡ W.contents output.old.inner) × ((e ≡ Refusal.OutOfMemory) ⊎ CantTake (told_of self.old.history) next e))) }
+        ensures ok { OnOk result (Moves Product.Canon (told_of self.old.history) (told_of self.new.history)
+            (W.contents output.old.inner) (W.contents output.new.inner) (next ∷ [])) }
+        ensures refused { IfErr result (λ e. (output.new.failed ≡ true)
+            ⊎ ((W.contents output.new.inner ≡ W.contents output.old.inner)
+            × ((e ≡ Refusal.OutOfMemory) ⊎ CantTake (told_of self.old.history) next e))) }
         ensures peer { Flagged result output.old.failed output.new.failed }
         ensures product { self.new.product ≡ self.old.product }
     {
@@ -136,8 +147,12 @@ impl Engine {
         records: Vec<DumpRecord>,
         output: &mut Sink<W>,
     ) -> Result<(), Refusal>
-        ensures ok { OnOk result (Moves self.old.product (told_of self.old.history) (told_of self.new.history) (W.contents output.old.inner) (W.contents output.new.inner) records.items) }
-        ensures refused { IfErr result (λ e. (output.new.failed ≡ true) ⊎ ((rs : List RecordOf) (start : Option (List ℕ)) → Stands self.old.product rs (told_of self.old.history) start (W.contents output.old.inner) → Stops self.old.product rs records.items start (W.contents output.new.inner) e)) }
+        ensures ok { OnOk result (Moves self.old.product (told_of self.old.history) (told_of self.new.history)
+            (W.contents output.old.inner) (W.contents output.new.inner) records.items) }
+        ensures refused { IfErr result (λ e. (output.new.failed ≡ true)
+            ⊎ ((rs : List RecordOf) (start : Option (List ℕ))
+            → Stands self.old.product rs (told_of self.old.history) start (W.contents output.old.inner)
+            → Stops self.old.product rs records.items start (W.contents output.new.inner) e)) }
         ensures peer { Flagged result output.old.failed output.new.failed }
         ensures product { self.new.product ≡ self.old.product }
     {
@@ -154,8 +169,14 @@ impl Engine {
         piece: &[u8],
         output: &mut Sink<W>,
     ) -> Result<(), Refusal>
-        ensures ok { OnOk result ((bytes : List ℕ) (start : Option (List ℕ)) → Reached self.old.product bytes reader.old (told_of self.old.history) start (W.contents output.old.inner) → Reached self.old.product (bytes ++ piece.now) reader.new (told_of self.new.history) start (W.contents output.new.inner)) }
-        ensures refused { IfErr result (λ e. (output.new.failed ≡ true) ⊎ ((bytes rest : List ℕ) (start : Option (List ℕ)) → Reached self.old.product bytes reader.old (told_of self.old.history) start (W.contents output.old.inner) → Refused self.old.product ((bytes ++ piece.now) ++ rest) start (W.contents output.new.inner) e)) }
+        ensures ok { OnOk result ((bytes : List ℕ) (start : Option (List ℕ))
+            → Reached self.old.product bytes reader.old (told_of self.old.history) start (W.contents output.old.inner)
+            → Reached self.old.product (bytes ++ piece.now) reader.new (told_of self.new.history) start
+            (W.contents output.new.inner)) }
+        ensures refused { IfErr result (λ e. (output.new.failed ≡ true)
+            ⊎ ((bytes rest : List ℕ) (start : Option (List ℕ))
+            → Reached self.old.product bytes reader.old (told_of self.old.history) start (W.contents output.old.inner)
+            → Refused self.old.product ((bytes ++ piece.now) ++ rest) start (W.contents output.new.inner) e)) }
         ensures peer { Flagged result output.old.failed output.new.failed }
         ensures product { self.new.product ≡ self.old.product }
     {
@@ -174,8 +195,13 @@ impl Engine {
         reader: DumpReader,
         output: &mut Sink<W>,
     ) -> Result<(), Refusal>
-        ensures ok { OnOk result ((bytes : List ℕ) (start : Option (List ℕ)) → Reached self.old.product bytes reader (told_of self.old.history) start (W.contents output.old.inner) → Accepted self.old.product bytes start (W.contents output.new.inner)) }
-        ensures refused { IfErr result (λ e. (output.new.failed ≡ true) ⊎ ((bytes : List ℕ) (start : Option (List ℕ)) → Reached self.old.product bytes reader (told_of self.old.history) start (W.contents output.old.inner) → Refused self.old.product bytes start (W.contents output.new.inner) e)) }
+        ensures ok { OnOk result ((bytes : List ℕ) (start : Option (List ℕ))
+            → Reached self.old.product bytes reader (told_of self.old.history) start (W.contents output.old.inner)
+            → Accepted self.old.product bytes start (W.contents output.new.inner)) }
+        ensures refused { IfErr result (λ e. (output.new.failed ≡ true)
+            ⊎ ((bytes : List ℕ) (start : Option (List ℕ)) → Reached self.old.product bytes reader
+            (told_of self.old.history) start (W.contents output.old.inner)
+            → Refused self.old.product bytes start (W.contents output.new.inner) e)) }
         ensures peer { Flagged result output.old.failed output.new.failed }
     {
         if let Err(fault) = reader.finish() {
@@ -194,8 +220,11 @@ fn finish_list<W: Write + Drop>(
     history: &mut History,
     output: &mut Sink<W>,
 ) -> Result<(), Refusal>
-    ensures ok { OnOk result ((all : Told) × (newest : List Rev) × Closes (told_of history.old) all newest × Appends (W.contents output.old.inner) (W.contents output.new.inner) (newest_listing all.trees)) }
-    ensures refused { IfErr result (λ e. (output.new.failed ≡ true) ⊎ ((W.contents output.new.inner ≡ W.contents output.old.inner) × ((e ≡ Refusal.OutOfMemory) ⊎ CantClose (told_of history.old) e))) }
+    ensures ok { OnOk result ((all : Told) × (newest : List Rev) × Closes (told_of history.old) all newest
+        × Appends (W.contents output.old.inner) (W.contents output.new.inner) (newest_listing all.trees)) }
+    ensures refused { IfErr result (λ e. (output.new.failed ≡ true)
+        ⊎ ((W.contents output.new.inner ≡ W.contents output.old.inner)
+        × ((e ≡ Refusal.OutOfMemory) ⊎ CantClose (told_of history.old) e))) }
     ensures peer { Flagged result output.old.failed output.new.failed }
 {
     history.close()?;
@@ -208,8 +237,12 @@ fn finish_list<W: Write + Drop>(
 
 // What isn't written yet of the canonical spelling.
 fn finish_canon<W: Write + Drop>(history: &mut History, output: &mut Sink<W>) -> Result<(), Refusal>
-    ensures ok { OnOk result ((all : Told) × (newest : List Rev) × Closes (told_of history.old) all newest × Appends (W.contents output.old.inner) (W.contents output.new.inner) ((if not (has_begun (told_of history.old)) then head_of all else []) ++ flat_map canon_of newest)) }
-    ensures refused { IfErr result (λ e. (output.new.failed ≡ true) ⊎ ((W.contents output.new.inner ≡ W.contents output.old.inner) × ((e ≡ Refusal.OutOfMemory) ⊎ CantClose (told_of history.old) e))) }
+    ensures ok { OnOk result ((all : Told) × (newest : List Rev) × Closes (told_of history.old) all newest
+        × Appends (W.contents output.old.inner) (W.contents output.new.inner)
+        ((if not (has_begun (told_of history.old)) then head_of all else []) ++ flat_map canon_of newest)) }
+    ensures refused { IfErr result (λ e. (output.new.failed ≡ true)
+        ⊎ ((W.contents output.new.inner ≡ W.contents output.old.inner)
+        × ((e ≡ Refusal.OutOfMemory) ⊎ CantClose (told_of history.old) e))) }
     ensures peer { Flagged result output.old.failed output.new.failed }
 {
     let had_begun = history.has_begun();

@@ -6,7 +6,8 @@ ghost use Rattle.dump_load.specs.declared.change.Change.{Change};
 ghost use Rattle.dump_text.specs.Canon.{now_of};
 ghost use Rattle.node_base.specs.Tree.{PathMap};
 ghost use Rattle.fleet_engines.specs.Histories.{told_of, revs_of, rev_of};
-ghost use Rattle.fleet_engines.specs.Revisions.{by_set, is_past_zero, is_zero, root_alone, untold, Makes, IsUnfit, Closes, CantClose, Takes, CantTake};
+ghost use Rattle.fleet_engines.specs.Revisions.{by_set, is_past_zero, is_zero, root_alone, untold, Makes, IsUnfit};
+ghost use Rattle.fleet_engines.specs.Revisions.{Closes, CantClose, Takes, CantTake};
 ghost use Rattle.fleet_engines.specs.Runs.{has_begun};
 
 use crate::refusals::change_refusal;
@@ -17,7 +18,8 @@ use path_tree::Tree;
 use std::alloc::{AllocError, Global};
 use uuid::Uuid;
 
-/// What a dump's records have made so far: the identity, revision 0's properties, the trees from revision 0 on, and the revision that is still read.
+/// What a dump's records have made so far: the identity, revision 0's properties, the trees from revision 0 on, and the
+/// revision that is still read.
 #[derive(Drop)]
 pub struct History {
     alloc: Global,
@@ -62,7 +64,8 @@ impl History {
         })
     }
 
-    /// Takes a record. Where it begins a revision, the one before it is judged and, unless it is revision 0, given back as it is written.
+    /// Takes a record. Where it begins a revision, the one before it is judged and, unless it is revision 0, given back
+    /// as it is written.
     pub fn take(&mut self, next: DumpRecord) -> Result<Option<RevRecord>, Refusal>
         ensures taken { IfOk result (λ out. Takes (told_of self.old) next (told_of self.new) (revs_of out)) }
         ensures refused { IfErr result (λ e. (e ≡ Refusal.OutOfMemory) ⊎ CantTake (told_of self.old) next e) }
@@ -88,7 +91,10 @@ impl History {
     }
 
     fn begin(&mut self, number: RevNo, props: Props)
-        ensures { told_of self.new ≡ record (told_of self.old) { last = Some (record { number = number; props = props; nodes = [] }) } }
+        ensures { told_of self.new ≡ record (told_of self.old) {
+          last = Some
+              (record { number = number; props = props; nodes = [] });
+        } }
     {
         let nodes = Vec::new(self.alloc);
         self.last = Some(RevRecord {
@@ -101,7 +107,8 @@ impl History {
     // A node record of no revision, or of revision 0, is WrongNumber (16).
     fn add_node(&mut self, node: NodeRecord) -> Result<(), Refusal>
         ensures taken { IfOk result (λ _. Takes (told_of self.old) (DumpRecord.Node node) (told_of self.new) []) }
-        ensures refused { IfErr result (λ e. (e ≡ Refusal.OutOfMemory) ⊎ CantTake (told_of self.old) (DumpRecord.Node node) e) }
+        ensures refused { IfErr result (λ e. (e ≡ Refusal.OutOfMemory)
+            ⊎ CantTake (told_of self.old) (DumpRecord.Node node) e) }
         ensures no_peer { IfErr result (λ e. e ≡ Refusal.PeerFailed → ⊥) }
     {
         if !self.is_past_zero() {
@@ -129,7 +136,8 @@ impl History {
         }
     }
 
-    /// Judges the revision that is read, if there is one: its number, then its changes. Revision 0, before any other, gives its properties.
+    /// Judges the revision that is read, if there is one: its number, then its changes. Revision 0, before any other,
+    /// gives its properties.
     pub fn close(&mut self) -> Result<Option<RevRecord>, Refusal>
         ensures closed { IfOk result (λ out. Closes (told_of self.old) (told_of self.new) (revs_of out)) }
         ensures refused { IfErr result (λ e. (e ≡ Refusal.OutOfMemory) ⊎ CantClose (told_of self.old) e) }
@@ -148,8 +156,11 @@ impl History {
 
     // One tree more. The records come back in their canonical order.
     fn add_revision(&mut self, revision: RevRecord) -> Result<RevRecord, Refusal>
-        ensures made { IfOk result (λ out. (set : List Change) × (tree : PathMap) × Makes self.old.trees.items (rev_of revision) set tree × (rev_of out ≡ by_set (rev_of revision) set) × (told_of self.new ≡ record (told_of self.old) { trees = self.old.trees.items ++ tree ∷ [] })) }
-        ensures refused { IfErr result (λ e. (e ≡ Refusal.OutOfMemory) ⊎ IsUnfit self.old.trees.items (rev_of revision) e) }
+        ensures made { IfOk result (λ out. (set : List Change) × (tree : PathMap)
+            × Makes self.old.trees.items (rev_of revision) set tree × (rev_of out ≡ by_set (rev_of revision) set)
+            × (told_of self.new ≡ record (told_of self.old) { trees = self.old.trees.items ++ tree ∷ [] })) }
+        ensures refused { IfErr result (λ e. (e ≡ Refusal.OutOfMemory)
+            ⊎ IsUnfit self.old.trees.items (rev_of revision) e) }
         ensures no_peer { IfErr result (λ e. e ≡ Refusal.PeerFailed → ⊥) }
     {
         let RevRecord {

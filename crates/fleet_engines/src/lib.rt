@@ -24,8 +24,8 @@ pub fn records_dont_matter()
     ensures { RecordsDontMatter }
 {}
 
-/// What is taken record by record is a list of revisions, each with its nodes, that make trees one after another; the identity is
-/// the last one that is told before them.
+/// What is taken record by record is a list of revisions, each with its nodes, that make trees one after another; the
+/// identity is the last one that is told before them.
 pub fn revisions_are_grouped()
     ensures { RevisionsAreGrouped }
 {}

@@ -24,7 +24,8 @@ pub fn push_path(line: &mut String, path: &[&NodeName]) -> Result<(), AllocError
 // Adds a name, and others behind slashes.
 #[tactic(auto, using(node_base::proofs::TextLemmas::text_of_first))]
 fn push_names(line: &mut String, first: &NodeName, rest: &[&NodeName]) -> Result<(), AllocError>
-    ensures { OnOk result (string_bytes line.new ≡ string_bytes line.old ++ path_text (first.now ∷ map (λ n. n.now) rest.now)) }
+    ensures { OnOk result (string_bytes line.new ≡ string_bytes line.old
+        ++ path_text (first.now ∷ map (λ n. n.now) rest.now)) }
 {
     line.push_str(first.as_str())?;
     push_rest(line, rest)
@@ -43,7 +44,8 @@ fn push_rest(line: &mut String, names: &[&NodeName]) -> Result<(), AllocError>
 
 /// Adds a node's line of a listing.
 pub fn push_node_line(line: &mut String, path: &[&NodeName], node: &Node) -> Result<(), AllocError>
-    ensures { OnOk result (string_bytes line.new ≡ string_bytes line.old ++ node_line (map (λ n. n.now) path.now) node.now) }
+    ensures { OnOk result (string_bytes line.new ≡ string_bytes line.old
+        ++ node_line (map (λ n. n.now) path.now) node.now) }
 {
     let changed = node.changed.get();
     match &node.text {
@@ -57,14 +59,16 @@ pub fn push_node_line(line: &mut String, path: &[&NodeName], node: &Node) -> Res
 
 // Adds what stands before a file's path: its revision and its length.
 fn push_file_front(line: &mut String, changed: u16, length: usize) -> Result<(), AllocError>
-    ensures { OnOk result (string_bytes line.new ≡ string_bytes line.old ++ codes "F " ++ decimal changed ++ codes " " ++ decimal length ++ codes " ") }
+    ensures { OnOk result (string_bytes line.new ≡ string_bytes line.old ++ codes "F " ++ decimal changed ++ codes " "
+        ++ decimal length ++ codes " ") }
 {
     write!(line, "F {changed} {length} ")
 }
 
 // Adds what stands before a directory's path: its revision.
 fn push_dir_front(line: &mut String, changed: u16) -> Result<(), AllocError>
-    ensures { OnOk result (string_bytes line.new ≡ string_bytes line.old ++ codes "D " ++ decimal changed ++ codes " ") }
+    ensures { OnOk result (string_bytes line.new ≡ string_bytes line.old ++ codes "D " ++ decimal changed
+        ++ codes " ") }
 {
     write!(line, "D {changed} ")
 }

@@ -22,7 +22,8 @@ fn push_entries(text: &mut String, entries: &[Entry<'_>]) -> Result<(), AllocErr
 
 // Adds the line with a revision's number.
 fn push_number_line(text: &mut String, number: usize) -> Result<(), AllocError>
-    ensures { OnOk result (string_bytes text.new ≡ string_bytes text.old ++ codes "revision " ++ decimal number ++ 10 ∷ []) }
+    ensures { OnOk result (string_bytes text.new ≡ string_bytes text.old ++ codes "revision " ++ decimal number ++ 10
+        ∷ []) }
 {
     write!(text, "revision {number}\n")
 }

@@ -36,7 +36,8 @@ impl<R: Read + Drop> Source<R> {
     /// Reads some bytes, none only at the end. PeerFailed (49) where the reader failed, and only there.
     pub fn read(&mut self, piece: &mut [u8]) -> Result<usize, Refusal>
         ensures bound { IfOk result (λ n. n ≤ length piece.new) }
-        ensures bytes { IfOk result (λ n. Consumes (R.remaining self.old.inner) (R.remaining self.new.inner) (take n piece.new)) }
+        ensures bytes { IfOk result (λ n. Consumes (R.remaining self.old.inner) (R.remaining self.new.inner)
+            (take n piece.new)) }
         ensures end { IfOk result (λ n. n ≡ 0 → 0 < length piece.new → IsAtEnd (R.remaining self.new.inner)) }
         ensures none { OnErr result (Keeps (R.remaining self.old.inner) (R.remaining self.new.inner)) }
         ensures peer { Flagged result self.old.failed self.new.failed }
@@ -119,7 +120,8 @@ impl<W: Write + Drop> Sink<W> {
 
     /// Writes the head of a dump. PeerFailed (49) where the writer failed, and only there.
     pub fn head(&mut self, uuid: Option<&Uuid>) -> Result<(), Refusal>
-        ensures ok { OnOk result (Appends (W.contents self.old.inner) (W.contents self.new.inner) (canon_head (now_of uuid.entry))) }
+        ensures ok { OnOk result (Appends (W.contents self.old.inner) (W.contents self.new.inner)
+            (canon_head (now_of uuid.entry))) }
         ensures peer { Flagged result self.old.failed self.new.failed }
         ensures only_peer { OnErr result (self.new.failed ≡ true) }
     {
@@ -129,7 +131,8 @@ impl<W: Write + Drop> Sink<W> {
 
     /// Writes a revision without nodes. PeerFailed (49) where the writer failed, and only there.
     pub fn entry(&mut self, number: RevNo, props: &Props) -> Result<(), Refusal>
-        ensures ok { OnOk result (Appends (W.contents self.old.inner) (W.contents self.new.inner) (canon_entry number props.now)) }
+        ensures ok { OnOk result (Appends (W.contents self.old.inner) (W.contents self.new.inner)
+            (canon_entry number props.now)) }
         ensures peer { Flagged result self.old.failed self.new.failed }
         ensures only_peer { OnErr result (self.new.failed ≡ true) }
     {
@@ -139,7 +142,8 @@ impl<W: Write + Drop> Sink<W> {
 
     /// Writes a revision. PeerFailed (49) where the writer failed, and only there.
     pub fn revision(&mut self, revision: &RevRecord) -> Result<(), Refusal>
-        ensures ok { OnOk result (Appends (W.contents self.old.inner) (W.contents self.new.inner) (canon_revision revision.now)) }
+        ensures ok { OnOk result (Appends (W.contents self.old.inner) (W.contents self.new.inner)
+            (canon_revision revision.now)) }
         ensures peer { Flagged result self.old.failed self.new.failed }
         ensures only_peer { OnErr result (self.new.failed ≡ true) }
     {
@@ -149,7 +153,8 @@ impl<W: Write + Drop> Sink<W> {
 
     /// Writes the line that tells a refusal. PeerFailed (49) where the writer failed, and only there.
     pub fn line(&mut self, refusal: &Refusal) -> Result<(), Refusal>
-        ensures ok { OnOk result (Appends (W.contents self.old.inner) (W.contents self.new.inner) (fault_line refusal.now)) }
+        ensures ok { OnOk result (Appends (W.contents self.old.inner) (W.contents self.new.inner)
+            (fault_line refusal.now)) }
         ensures peer { Flagged result self.old.failed self.new.failed }
         ensures only_peer { OnErr result (self.new.failed ≡ true) }
     {

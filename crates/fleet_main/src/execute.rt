@@ -229,7 +229,8 @@ fn worked<D: Disk + Drop, W: Write + Drop>(
     work: Work,
     output: Sink<W>,
 ) -> (Sink<W>, Result<(), Refusal>)
-    ensures done { OnOk result.1 (WorkedOn (IsWorked work) (W.contents output.inner) (W.contents result.0.inner) mirror) }
+    ensures done { OnOk result.1 (WorkedOn (IsWorked work) (W.contents output.inner)
+        (W.contents result.0.inner) mirror) }
     ensures refused { IfErr result.1 (λ e. NotWorkedOn (IsWorked work) (W.contents output.inner)
         (W.contents result.0.inner) result.0.failed e mirror) }
     ensures unfailed { OnOk result.1 (result.0.failed ≡ output.failed) }
@@ -300,7 +301,8 @@ fn run_one<F: Folders, R: Read + Drop, W: Write + Drop>(
     ensures done { OnOk result.1 (IsDone F.Place.Disk F.honest F.holds folders.old command
         (R.remaining input.old.inner) (W.contents output.inner) (W.contents result.0.inner)) }
     ensures refused { IfErr result.1 (IsNotDone F.Place.Disk F.failures F.honest F.holds folders.old
-        folders.new command (R.remaining input.old.inner) (W.contents output.inner) (W.contents result.0.inner) result.0.failed) }
+        folders.new command (R.remaining input.old.inner) (W.contents output.inner) (W.contents result.0.inner)
+        result.0.failed) }
     ensures unfailed { OnOk result.1 ((input.new.failed ≡ input.old.failed) × (result.0.failed ≡ output.failed)) }
     ensures peer { IfErr result.1 (λ e. e ≡ Refusal.PeerFailed → (input.new.failed || result.0.failed) ≡ true) }
 {

@@ -3,6 +3,7 @@
 use crate::store_tests::{
     HEAD, IDENTITY, LOAD, LOADED, ONE_FILE, begun, comes, done, with_one_file,
 };
+use byte_streams::CountedReader;
 use dump_load::ChangeSet;
 use editor_ends::BuildEditor;
 use fleet_disk::MemDisk;
@@ -48,7 +49,7 @@ fn built(alloc: Global, trees: &[Tree], edit: &str) -> Result<ChangeSet, Fail> {
         return Err(Fail::new("too many trees"));
     }
     let editor = BuildEditor::new(alloc, trees)?;
-    let mut items = ItemStream::new(alloc, edit.as_bytes());
+    let mut items = ItemStream::new(alloc, CountedReader::new(edit.as_bytes()));
     match receive(alloc, &mut items, editor) {
         Ok(built) => Ok(built.into_set()),
         Err(_) => Err(Fail::new("no edit")),

@@ -16,7 +16,8 @@ pub fn end_of(ends: &[u64]) -> u64
 pub fn bounds(ends: &[u64], entry: usize) -> (u64, u64)
     requires inside { entry < length ends.now }
     requires rising { IsRising 0 ends.now }
-    ensures part { (journal : List ℕ) → slice_get (parts 0 ends.now journal) entry ≡ Some (take (result.1 - result.0) (drop result.0 journal)) }
+    ensures part { (journal : List ℕ) → slice_get (parts 0 ends.now journal) entry
+        ≡ Some (take (result.1 - result.0) (drop result.0 journal)) }
     ensures order { result.0 < result.1 }
     ensures last { result.1 ≤ last_end 0 ends.now }
 {

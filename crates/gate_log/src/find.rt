@@ -1,5 +1,6 @@
 //! Which entries stand on a disk.
-ghost use Rattle.std.specs.Prelude.{◌≡◌, ◌≢◌, ◌⊎◌, ◌<◌, ◌≤◌, ◌+◌, ◌^◌, ◌↔◌, ℕ, [], IsTrue, length, take, drop, get_or, IfOk, IfErr, IsErrOf};
+ghost use Rattle.std.specs.Prelude.{◌≡◌, ◌≢◌, ◌⊎◌, ◌<◌, ◌≤◌, ◌+◌, ◌^◌, ◌↔◌, ℕ, [], IsTrue, length, take, drop, get_or};
+ghost use Rattle.std.specs.Prelude.{IfOk, IfErr, IsErrOf};
 ghost use Rattle.fleet_disk.specs.Image.{Image};
 ghost use Rattle.fleet_disk.specs.Rules.{HasCause, Rose};
 ghost use Rattle.gate_log.specs.Faults.{IsFindFault};
@@ -16,7 +17,8 @@ use std::alloc::Global;
 // A gate is open.
 fn gate_is_open<D: Disk>(disk: &mut D, at: u64) -> Result<bool, DiskFault>
     requires { at + 1 < 2 ^ 64 }
-    ensures open { D.honest disk.old → at < length (D.reads disk.old).gate → IfOk result (λ is_open. IsTrue is_open ↔ (get_or (D.reads disk.old).gate at 0 ≡ 1)) }
+    ensures open { D.honest disk.old → at < length (D.reads disk.old).gate
+        → IfOk result (λ is_open. IsTrue is_open ↔ (get_or (D.reads disk.old).gate at 0 ≡ 1)) }
     ensures looks { Looks D.honest D.reads D.may_leave D.clock D.left_since D.failures disk.old disk.new }
     ensures cause { HasCause (D.failures disk.old) (D.failures disk.new) result }
 {
@@ -29,7 +31,8 @@ fn gate_is_open<D: Disk>(disk: &mut D, at: u64) -> Result<bool, DiskFault>
 // The length behind a gate.
 fn read_length<D: Disk>(disk: &mut D, at: u64) -> Result<u64, DiskFault>
     requires { at + 8 < 2 ^ 64 }
-    ensures length { D.honest disk.old → at + 8 ≤ length (D.reads disk.old).gate → IfOk result (λ end. take 8 (drop at (D.reads disk.old).gate) ≡ eight_bytes end) }
+    ensures length { D.honest disk.old → at + 8 ≤ length (D.reads disk.old).gate
+        → IfOk result (λ end. take 8 (drop at (D.reads disk.old).gate) ≡ eight_bytes end) }
     ensures looks { Looks D.honest D.reads D.may_leave D.clock D.left_since D.failures disk.old disk.new }
     ensures cause { HasCause (D.failures disk.old) (D.failures disk.new) result }
 {
@@ -44,7 +47,8 @@ pub fn find_ends<D: Disk>(alloc: Global, disk: &mut D) -> Result<Vec<u64>, LogFa
     ensures some { IfOk result (λ ends. 0 < length ends.items) }
     ensures rising { IfOk result (λ ends. IsRising 0 ends.items) }
     ensures room { IfOk result (λ ends. gates_size (length ends.items) < 2 ^ 64) }
-    ensures damaged { D.honest disk.old → (entry : ℕ) → IsErrOf result (LogFault.Damaged entry) → IsDamagedAt entry (D.reads disk.old) }
+    ensures damaged { D.honest disk.old → (entry : ℕ) → IsErrOf result (LogFault.Damaged entry)
+        → IsDamagedAt entry (D.reads disk.old) }
     ensures missing { D.honest disk.old → IsErrOf result LogFault.NoRepository → HasNoEntry (D.reads disk.old) }
     ensures device { IsErrOf result LogFault.DeviceFailed → Rose (D.failures disk.old) (D.failures disk.new) }
     ensures no_other { IfErr result IsFindFault }

@@ -17,10 +17,14 @@ pub fn put_entry<D: Disk>(disk: &mut D, ends: &[u64], entry: &[u8]) -> Result<()
     requires at_rest { D.honest disk.old → IsAtRest ends.now (D.reads disk.old) }
     requires durable { D.honest disk.old → Only (D.reads disk.old) (D.may_leave disk.old) }
 
-    ensures at_rest { D.honest disk.old → OnOk result (IsAtRest (ends.now ++ (last_end 0 ends.now + length entry.now) ∷ []) (D.reads disk.new)) }
-    ensures journal { D.honest disk.old → OnOk result ((D.reads disk.new).journal ≡ (D.reads disk.old).journal ++ entry.now) }
-    ensures gates { D.honest disk.old → OnOk result ((D.reads disk.new).gate ≡ slots (ends.now ++ (last_end 0 ends.now + length entry.now) ∷ []) ++ 0 ∷ []) }
-    ensures added { D.honest disk.old → OnOk result (parts 0 (ends.now ++ (last_end 0 ends.now + length entry.now) ∷ []) (D.reads disk.new).journal
+    ensures at_rest { D.honest disk.old → OnOk result (IsAtRest
+        (ends.now ++ (last_end 0 ends.now + length entry.now) ∷ []) (D.reads disk.new)) }
+    ensures journal { D.honest disk.old → OnOk result ((D.reads disk.new).journal
+        ≡ (D.reads disk.old).journal ++ entry.now) }
+    ensures gates { D.honest disk.old → OnOk result ((D.reads disk.new).gate
+        ≡ slots (ends.now ++ (last_end 0 ends.now + length entry.now) ∷ []) ++ 0 ∷ []) }
+    ensures added { D.honest disk.old → OnOk result (parts 0 (ends.now ++ (last_end 0 ends.now + length entry.now) ∷ [])
+        (D.reads disk.new).journal
         ≡ parts 0 ends.now (D.reads disk.old).journal ++ entry.now ∷ []) }
     ensures durable { D.honest disk.old → OnOk result (Only (D.reads disk.new) (D.may_leave disk.new)) }
     ensures any_moment { D.honest disk.old → LeavesOnly D.clock D.left_since disk.old disk.new

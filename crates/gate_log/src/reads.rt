@@ -14,7 +14,8 @@ fn read_some<D: Disk>(
     buf: &mut [u8],
 ) -> Result<usize, DiskFault>
     ensures within { IfOk result (λ n. n ≤ length buf.old) }
-    ensures bytes { D.honest disk.old → IfOk result (λ n. IsRead (bytes_of file (D.reads disk.old)) at n buf.old buf.new) }
+    ensures bytes { D.honest disk.old → IfOk result (λ n. IsRead
+        (bytes_of file (D.reads disk.old)) at n buf.old buf.new) }
     ensures looks { Looks D.honest D.reads D.may_leave D.clock D.left_since D.failures disk.old disk.new }
     ensures cause { HasCause (D.failures disk.old) (D.failures disk.new) result }
 {
@@ -34,7 +35,8 @@ pub fn length_of<D: Disk>(disk: &mut D, file: DiskFile) -> Result<u64, DiskFault
 fn fill<D: Disk>(disk: &mut D, file: DiskFile, at: u64, buf: &mut [u8]) -> Result<usize, DiskFault>
     requires { at + length buf.old < 2 ^ 64 }
     ensures within { IfOk result (λ n. n ≤ length buf.old) }
-    ensures bytes { D.honest disk.old → IfOk result (λ n. IsFilled (bytes_of file (D.reads disk.old)) at n buf.old buf.new) }
+    ensures bytes { D.honest disk.old → IfOk result (λ n. IsFilled
+        (bytes_of file (D.reads disk.old)) at n buf.old buf.new) }
     ensures looks { Looks D.honest D.reads D.may_leave D.clock D.left_since D.failures disk.old disk.new }
     ensures cause { HasCause (D.failures disk.old) (D.failures disk.new) result }
 {
@@ -59,7 +61,8 @@ pub fn read_full<D: Disk>(
     requires { at + length buf.old < 2 ^ 64 }
     ensures within { IfOk result (λ n. n ≤ length buf.old) }
     ensures octets { (i : ℕ) → slice_index_or buf.new i 0 < 256 }
-    ensures bytes { D.honest disk.old → IfOk result (λ n. IsFilled (bytes_of file (D.reads disk.old)) at n buf.old buf.new) }
+    ensures bytes { D.honest disk.old → IfOk result (λ n. IsFilled
+        (bytes_of file (D.reads disk.old)) at n buf.old buf.new) }
     ensures looks { Looks D.honest D.reads D.may_leave D.clock D.left_since D.failures disk.old disk.new }
     ensures cause { HasCause (D.failures disk.old) (D.failures disk.new) result }
 {

@@ -94,7 +94,7 @@ serves contents IsRun N order End before after p q said ended is run l there hol
     record {
       said = said;
       ended = ended;
-      run = is (record { more = run.more; adds = run.adds; right = run.right; reported = run.reported; tells = λ u told h. tt; end = run.end });
+      run = is (record { more = run.more; adds = run.adds; right = run.right; reported = run.reported; tells = λ u told h. tt; let_go = run.let_go; end = run.end });
       lost = is_lost q;
       printed = subst (λ xs. IsPrinted (contents (sink_of p).inner) (contents (sink_of q).inner) (sink_of q).failed (is_lost q) (told_in xs)) (sym run.adds)
           (run.tells p [] (printed_none contents p l)).printed;

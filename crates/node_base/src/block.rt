@@ -2,7 +2,8 @@
 ghost use Rattle.std.specs.Prelude.{◌≡◌, ◌+◌, ◌<◌, ◌≤◌, ◌^◌, [], ◌∷◌, ◌++◌, length, IfOk, IfSome, MatchOption};
 ghost use Rattle.std.specs.FinMap as map;
 ghost use Rattle.node_base.specs.Numbers.{is_digit, number_of};
-ghost use Rattle.node_base.specs.Blocks.{StepIs, BlockIs, MayKeep, held_more, run_block, part_step, block_step, keep, go, only, name_is, value_is, new_block, unfinished};
+ghost use Rattle.node_base.specs.Blocks.{StepIs, BlockIs, MayKeep, held_more, run_block, part_step, block_step, keep};
+ghost use Rattle.node_base.specs.Blocks.{go, only, name_is, value_is, new_block, unfinished};
 ghost use Rattle.node_base.specs.BlockKept.{kept_bytes, kept_after};
 ghost use Rattle.node_base.specs.declared.block_part.Part.TheVariants.{KeyCount, ValueCount, Ending};
 

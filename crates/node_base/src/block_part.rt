@@ -1,6 +1,7 @@
 //! The places in a property block.
 
-/// What is awaited in a property block. A property is `K`, a blank, the count of its name's bytes, LF, the name, LF, `V`, a blank, the count of its value's bytes, LF, the value, LF.
+/// What is awaited in a property block. A property is `K`, a blank, the count of its name's bytes, LF, the name, LF,
+/// `V`, a blank, the count of its value's bytes, LF, the value, LF.
 #[derive(Clone, Copy, Debug)]
 pub enum Part {
     /// `K`, or the `P` of PROPS-END.

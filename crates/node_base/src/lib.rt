@@ -1,4 +1,5 @@
-//! Names, paths, properties, texts and nodes of a Subversion repository, and the words that contracts use for its trees.
+//! Names, paths, properties, texts and nodes of a Subversion repository, and the words that contracts use for its
+//! trees.
 #![tactic(auto)]
 
 pub use block::BlockReader;

@@ -90,8 +90,8 @@ impl Node {
         }
     }
 
-    /// Puts bytes behind a file's text. TooLong where it would have more than 1,048,576. A directory stays as it is, and so does
-    /// the node at an error.
+    /// Puts bytes behind a file's text. TooLong where it would have more than 1,048,576. A directory stays as it is,
+    /// and so does the node at an error.
     pub fn append_text(&mut self, alloc: Global, piece: &[u8]) -> Result<(), TextFault>
         ensures ok { OnOk result (self.new ≡ with_piece piece.now self.old) }
         ensures fault { IfErr result (λ e. e ≡ piece_fault piece.now self.old.text) }

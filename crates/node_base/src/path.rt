@@ -1,5 +1,6 @@
 //! Paths of nodes.
-ghost use Rattle.std.specs.Prelude.{◌≡◌, ◌≤◌, [], ◌++◌, ◌∷◌, length, IfOk, MatchOption, None, Some, Ok, Err, IfErr, true, false, nat_lt, codes};
+ghost use Rattle.std.specs.Prelude.{◌≡◌, ◌≤◌, [], ◌++◌, ◌∷◌, length, IfOk, MatchOption, None, Some, Ok, Err, IfErr};
+ghost use Rattle.std.specs.Prelude.{true, false, nat_lt, codes};
 ghost use Rattle.std.specs.Cmp.{IsTotalOrder, eq_by_cmp_equiv, partial_equiv_from_equiv, partial_order_from_total};
 ghost use Rattle.std.specs.Cmp.Rules.{comparing};
 ghost use Rattle.std.proofs.Common.{rules, refl};
@@ -8,7 +9,8 @@ ghost use Rattle.std.specs.declared.cmp.Ordering.TheVariants.{Less};
 ghost use Rattle.node_base.specs.Path.{Name, Path, path_cmp, paths_total, is_front, same_path, rest_after};
 ghost use Rattle.node_base.specs.Limits.{fits, weight};
 ghost use Rattle.node_base.specs.Names.{is_name};
-ghost use Rattle.node_base.specs.PathText.{Spells, IsSmall, path_text, slashed, Answers, path_read, child_of, pieces, is_long_name, is_past_limits};
+ghost use Rattle.node_base.specs.PathText.{Spells, IsSmall, path_text, slashed, Answers, path_read, child_of, pieces};
+ghost use Rattle.node_base.specs.PathText.{is_long_name, is_past_limits};
 ghost use Rattle.std.specs.Fmt.{DisplaysOnOk};
 ghost use Rattle.std.specs.List.{list_any};
 
@@ -41,8 +43,9 @@ impl Model for NodePath {
 }
 
 impl NodePath {
-    /// The path that the bytes spell: its names with a `/` between each two, and the root where there are none. Refused:
-    /// more than 1,024 bytes, 64 names or 255 bytes of a name (`TooLong`), then bytes that spell no path (`BadPath`).
+    /// The path that the bytes spell: its names with a `/` between each two, and the root where there are none.
+    /// Refused: more than 1,024 bytes, 64 names or 255 bytes of a name (`TooLong`), then bytes that spell no path
+    /// (`BadPath`).
     pub fn parse(alloc: Global, bytes: &[u8]) -> Result<NodePath, PathFault>
         ensures read { Answers (path_read bytes.now) result }
         // what is taken is spelled by the bytes, and each path within the limits that they spell is taken
@@ -83,7 +86,8 @@ impl NodePath {
     }
 
     /// How many bytes its text has, 1,024 at most.
-    #[tactic(auto, using(crate::proofs::ReadBack::length_of_text, crate::proofs::ReadBack::weight_of_fits, crate::proofs::ReadBack::count_of_fits))]
+    #[tactic(auto, using(crate::proofs::ReadBack::length_of_text, // and what the limits say of it
+    crate::proofs::ReadBack::weight_of_fits, crate::proofs::ReadBack::count_of_fits))]
     pub fn text_len(&self) -> usize
         ensures len { result ≡ length (path_text self.now) }
         ensures small { result ≤ 1024 }
@@ -286,7 +290,8 @@ pub fn compare_paths(left: &[NodeName], right: &[NodeName]) -> Ordering
 
 /// The laws of the order of paths. It is total, a path stands before what is below it, and what is below a path stands
 /// with it: before every later path. So `a`, `a/x`, `a-b` is in order.
-#[tactic(auto, using(crate::specs::Path::paths_total, crate::specs::Path::paths_exact, crate::proofs::PathLemmas::before_below, crate::proofs::PathLemmas::below_stays_before))]
+#[tactic(auto, using(crate::specs::Path::paths_total, crate::specs::Path::paths_exact, // the order's own laws
+crate::proofs::PathLemmas::before_below, crate::proofs::PathLemmas::below_stays_before))]
 pub fn path_order()
     ensures total { IsTotalOrder path_cmp }
     ensures exact { IsAntisymmetric path_cmp }
@@ -297,7 +302,8 @@ pub fn path_order()
 
 /// What follows a front in a path.
 pub fn rest_after<'a>(front: &[NodeName], path: &'a [NodeName]) -> Option<&'a [NodeName]>
-    ensures { MatchOption result (rest_after front.now path.now ≡ None) (λ r. rest_after front.now path.now ≡ Some r.now) }
+    ensures { MatchOption result (rest_after front.now path.now ≡ None) (λ r.
+        rest_after front.now path.now ≡ Some r.now) }
 {
     let Some((n, front)) = front.split_first() else {
         return Some(path);

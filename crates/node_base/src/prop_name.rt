@@ -45,7 +45,8 @@ fn are_prop_bytes(bytes: &[u8]) -> bool
 }
 
 impl PropName {
-    /// The name of these bytes. TooLong past 255 bytes; else BadProps for no bytes, for bytes that aren't UTF-8, and for one below 0x20 or 0x7F.
+    /// The name of these bytes. TooLong past 255 bytes; else BadProps for no bytes, for bytes that aren't UTF-8, and
+    /// for one below 0x20 or 0x7F.
     pub fn parse(alloc: Global, bytes: &[u8]) -> Result<PropName, PropFault>
         ensures name { IfOk result (λ n. prop_name_read bytes.now ≡ Ok n) }
         ensures fault { IfErr result (λ e. IsFault e (prop_name_read bytes.now)) }

@@ -1,10 +1,12 @@
 //! Properties of a node or a revision.
-ghost use Rattle.std.specs.Prelude.{◌≡◌, ◌==◌, ◌↔◌, length, true, nat_lt, IsTrue, IfOk, OnOk, IfErr, OnErr, if◌then◌else◌};
+ghost use Rattle.std.specs.Prelude.{◌≡◌, ◌==◌, ◌↔◌, length, true, nat_lt, IsTrue, IfOk, OnOk, IfErr, OnErr};
+ghost use Rattle.std.specs.Prelude.{if◌then◌else◌};
 ghost use Rattle.std.specs.FinMap as map;
 ghost use Rattle.std.specs.Option.{option_copied};
 ghost use Rattle.std.specs.Slice.Iter.{iter_rest};
 ghost use Rattle.node_base.specs.declared.prop_fault.PropFault.TheVariants.{TooLong, OutOfMemory};
-ghost use Rattle.node_base.specs.Props.{PropMap, IsProps, props_fit, fits_with, is_sync, sync_part, without_sync, copied_beside};
+ghost use Rattle.node_base.specs.Props.{PropMap, IsProps, props_fit, fits_with, is_sync, sync_part, without_sync};
+ghost use Rattle.node_base.specs.Props.{copied_beside};
 
 use crate::limits::{PROPS, SYNC_PROPS};
 use crate::prop_list::PropList;
@@ -136,7 +138,8 @@ impl Props {
 
     // Puts those whose names begin with `svn:sync-` into entries that have none of them.
     fn put_sync(&self, alloc: Global, list: &mut PropList) -> Result<(), AllocError>
-        ensures { OnOk result ((copied : PropMap) → list.old ≡ without_sync copied → list.new ≡ copied_beside self.now copied) }
+        ensures { OnOk result ((copied : PropMap) → list.old ≡ without_sync copied
+            → list.new ≡ copied_beside self.now copied) }
     {
         for (name, value) in self.entries() {
             if is_sync_name(name.as_bytes()) {
@@ -205,7 +208,8 @@ impl Props {
         n
     }
 
-    /// No value stands at the name any more. At an error the properties stay. The entries are copied only where they have another owner.
+    /// No value stands at the name any more. At an error the properties stay. The entries are copied only where they
+    /// have another owner.
     pub fn remove(&mut self, alloc: Global, name: &[u8]) -> Result<(), AllocError>
         ensures ok { OnOk result (self.new ≡ map.remove self.old name.now) }
         ensures err { OnErr result (self.new ≡ self.old) }
@@ -243,12 +247,14 @@ impl Props {
         }
     }
 
-    /// The value stands at the name from now on. TooLong where the map would pass 256 names, or 16 names that begin with `svn:sync-` and are counted apart.
-    /// At an error the properties stay. The entries are copied only where they have another owner.
+    /// The value stands at the name from now on. TooLong where the map would pass 256 names, or 16 names that begin
+    /// with `svn:sync-` and are counted apart. At an error the properties stay. The entries are copied only where they
+    /// have another owner.
     pub fn set(&mut self, alloc: Global, name: PropName, value: PropValue) -> Result<(), PropFault>
         ensures ok { OnOk result (self.new ≡ map.insert self.old name value) }
         ensures within { OnOk result (props_fit (map.insert self.old name value) ≡ true) }
-        ensures fault { IfErr result (λ e. e ≡ (if props_fit (map.insert self.old name value) then OutOfMemory else TooLong)) }
+        ensures fault { IfErr result (λ e. e ≡ (if props_fit
+            (map.insert self.old name value) then OutOfMemory else TooLong)) }
         ensures err { OnErr result (self.new ≡ self.old) }
     {
         let _ = &self.list;

@@ -2,7 +2,8 @@
 ghost use Rattle.std.specs.Prelude.{◌≡◌, ◌<◌, ◌++◌, false, Some, IfOk, codes, string_bytes};
 ghost use Rattle.std.specs.Fmt.{DisplaysOnOk};
 ghost use Rattle.std.specs.Option.{option_map};
-ghost use Rattle.node_base.specs.Refusals.{inconsistent_text, refusal_number, refusal_text, tells_more, shown_byte, shown_token, number_or_dash, fault_line};
+ghost use Rattle.node_base.specs.Refusals.{inconsistent_text, refusal_number, refusal_text, tells_more, shown_byte};
+ghost use Rattle.node_base.specs.Refusals.{shown_token, number_or_dash, fault_line};
 
 use crate::RevNo;
 use std::alloc::{AllocError, Global};
@@ -97,8 +98,8 @@ pub enum Refusal {
     HolderRunning(Vec<u8>),
     /// The source isn't the repository that the mirror was initialized from.
     WrongMaster,
-    /// The mirror's properties of its synchronisation fit no shape in which it rests. A number that is absent, misspelt or
-    /// 2^64 or more is None.
+    /// The mirror's properties of its synchronisation fit no shape in which it rests. A number that is absent, misspelt
+    /// or 2^64 or more is None.
     Inconsistent {
         merged: Option<u64>,
         copying: Option<u64>,
@@ -285,7 +286,8 @@ fn write_told<T: fmt::Display, W: fmt::Write>(
     after: &str,
     f: &mut fmt::Formatter<W>,
 ) -> fmt::Result
-    ensures { DisplaysOnOk W.write_str_gives f.old result (option_map (λ t. before.now ++ t ++ after.now) (T.output told.now)) f.new }
+    ensures { DisplaysOnOk W.write_str_gives f.old result (option_map (λ t.
+        before.now ++ t ++ after.now) (T.output told.now)) f.new }
 {
     write!(f, "{before}{told}{after}")
 }

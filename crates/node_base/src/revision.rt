@@ -37,8 +37,8 @@ impl RevNo {
         RevNo { number }
     }
 
-    /// The revision number that decimal digits spell, leading zeros or not. None where the bytes aren't digits alone, or
-    /// where the number is above 65,535.
+    /// The revision number that decimal digits spell, leading zeros or not. None where the bytes aren't digits alone,
+    /// or where the number is above 65,535.
     pub fn parse(bytes: &[u8]) -> Option<RevNo>
         ensures { result ≡ rev_read bytes.now }
     {

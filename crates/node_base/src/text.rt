@@ -34,7 +34,8 @@ impl Model for Text {
 
     ghost view = { λ a. (arc_value a.body).bytes.items };
 
-    ghost invariant = { λ a. (length (arc_value a.body).bytes.items ≤ 1048576) × IfSome (arc_value a.body).sum (λ s. s ≡ md5 (arc_value a.body).bytes.items) };
+    ghost invariant = { λ a. (length (arc_value a.body).bytes.items ≤ 1048576)
+        × IfSome (arc_value a.body).sum (λ s. s ≡ md5 (arc_value a.body).bytes.items) };
 }
 
 impl Text {
@@ -104,8 +105,8 @@ impl Text {
         }
     }
 
-    /// Puts bytes behind it. TooLong where it would have more than 1,048,576. At an error it stays. Its bytes are copied only where
-    /// they have another owner.
+    /// Puts bytes behind it. TooLong where it would have more than 1,048,576. At an error it stays. Its bytes are
+    /// copied only where they have another owner.
     pub fn append(&mut self, alloc: Global, piece: &[u8]) -> Result<(), TextFault>
         ensures ok { OnOk result (self.new ≡ self.old ++ piece.now) }
         ensures small { OnOk result (length (self.old ++ piece.now) ≤ 1048576) }

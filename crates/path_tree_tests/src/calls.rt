@@ -5,7 +5,8 @@ use path_tree::{Entry, Tree, TreeError, plain};
 use std::alloc::Global;
 use std::test::Fail;
 
-/// The calls that both bodies have, by the texts of paths. A call answers the number of its refusal, and 0 where it is done.
+/// The calls that both bodies have, by the texts of paths. A call answers the number of its refusal, and 0 where it is
+/// done.
 pub(crate) trait Calls: Sized + Drop {
     fn fresh(alloc: Global) -> Result<Self, Fail>;
 

@@ -70,8 +70,8 @@ fn forty_copies_are_copied_where_they_fit(rt: HostRuntime) -> Result<(), Fail> {
     Ok(())
 }
 
-// After 63 copies a path has 64 names, and one more copy would make it 65. Without the last copy, or with a tree that was
-// shared before it, there is room for one.
+// After 63 copies a path has 64 names, and one more copy would make it 65. Without the last copy, or with a tree that
+// was shared before it, there is room for one.
 fn answers_after(alloc: Global, gone: &str, want: u8) -> Result<bool, Fail> {
     let Some(mut tree) = doubled(alloc, "f", numbered(alloc, 63)?.as_slice())? else {
         return Ok(false);
@@ -108,8 +108,8 @@ fn a_removal_makes_no_room_where_another_is_as_deep(rt: HostRuntime) -> Result<(
     Ok(())
 }
 
-// A file and copies under names of 253, 255, 255 and 255 bytes: with a file of two bytes the longest path has 1,024 bytes,
-// and with one of three it would have 1,025.
+// A file and copies under names of 253, 255, 255 and 255 bytes: with a file of two bytes the longest path has 1,024
+// bytes, and with one of three it would have 1,025.
 fn fits_long_names(alloc: Global, file: &str) -> Result<bool, Fail> {
     let names = [
         long(alloc, "a", 253)?,

@@ -109,7 +109,8 @@ fn plain_refusals_come_in_their_order(rt: HostRuntime) -> Result<(), Fail> {
     Ok(())
 }
 
-// Whether of copies to a path of 64 names that of what has something below it is refused, and that of what has nothing isn't.
+// Whether of copies to a path of 64 names that of what has something below it is refused, and that of what has nothing
+// isn't.
 fn refuses_deep_copies<T: Calls>(alloc: Global) -> Result<bool, Fail> {
     let mut tree = small::<T>(alloc)?;
     let from = tree.again()?;
@@ -142,8 +143,8 @@ fn source<T: Calls>(alloc: Global) -> Result<T, Fail> {
     Ok(tree)
 }
 
-// Whether a tree lists these lines before, and those after a copy of a directory into itself, a change in the copy, and a
-// removal from the source.
+// Whether a tree lists these lines before, and those after a copy of a directory into itself, a change in the copy, and
+// a removal from the source.
 fn lists<T: Calls>(alloc: Global, before: &str, after: &str) -> Result<bool, Fail> {
     let mut tree = source::<T>(alloc)?;
     let shared = tree.again()?;

@@ -5,9 +5,9 @@ use Rattle.std.specs.Fmt.{decimal}
 use Rattle.std.specs.Io.KnownBytes.{Appends}
 use Rattle.ra_item.specs.Items.{spell, Text}
 use Rattle.ra_edit.specs.Commands.{parts, parts_within, chunk, token}
-use Rattle.ra_edit.specs.Spelling.{window}
+use Rattle.svndiff.specs.Spelling.{window}
 use Rattle.ra_edit.specs.Written.{chunks}
-use Rattle.ra_edit.proofs.Written.{appends_join, shorter}
+use Rattle.svndiff.proofs.Written.{appends_join, shorter}
 
 -- room for more parts changes nothing
 enough_parts : (j k : ℕ) (text : List ℕ) → length text ≤ j → length text ≤ k → parts_within j text ≡ parts_within k text

@@ -5,8 +5,14 @@ use Rattle.ra_item.specs.Streams.{Stream}
 use Rattle.delta_editor.specs.declared.call.Call.{Call}
 use Rattle.ra_edit.specs.Edits.{Named, At, Begun, Targeted, Inside, Announced, Ended, Says, AllSay, Nothing, Then, IsCommand}
 use Rattle.ra_edit.specs.Edit.{Stands, Moves, Finishes}
-use Rattle.ra_edit.specs.EditFaults.{of_command}
-use Rattle.ra_edit.specs.ItemStreams.{Takes, Ends, Stops}
+use Rattle.byte_streams.specs.Causes.{Counts, Fails}
+use Rattle.ra_item.specs.declared.fault.ItemFault.TheVariants as item
+use Rattle.ra_item.specs.declared.fault.NextFault.{NextFault}
+use Rattle.ra_item.specs.declared.fault.NextFault.TheVariants as next
+use Rattle.ra_edit.specs.EditFaults.{of_command, of_next}
+use Rattle.ra_edit.specs.declared.command_fault.CommandFault.TheVariants as why
+use Rattle.ra_edit.specs.declared.edit_fault.EditFault.TheVariants as fault
+use Rattle.ra_item.specs.ItemStreams.{Takes, Ends, Stops}
 use Rattle.ra_edit.specs.Received.{Goes, Comes, Received, IsRefused, StopsBehind, ShownBefore, RefusesDrive}
 use Rattle.ra_edit.specs.Refusals.{refusal, RefusedFor, Meets, IfOwn}
 use Rattle.ra_edit.specs.declared.receive_command.Command.{Command}
@@ -19,7 +25,7 @@ use Rattle.ra_edit.specs.declared.receive_edit.OpenFile.{OpenFile}
 use Rattle.ra_edit.specs.declared.receive_edit.Stage.{Stage}
 use Rattle.ra_edit.specs.declared.receive_edit.Stage.TheVariants as stage
 use Rattle.ra_edit.specs.declared.edit_fault.EditFault.{EditFault}
-use Rattle.ra_edit.proofs.Streaming.{takes_none, takes_more, takes_end, takes_stop}
+use Rattle.ra_item.proofs.Streaming.{takes_none, takes_more, takes_end, takes_stop}
 use Rattle.ra_edit.proofs.OwnRefusals.{own_map, met_before}
 use Rattle.ra_edit.proofs.Steps.{adds_join}
 
@@ -101,21 +107,21 @@ spent_not true old e h = cc
 spent_not false old e h = cc
 
 -- what the editor may meet behind other calls
-lifted : (own met : At → Command → EditorFault → Type 0) (at : At) (item : Item) (why : CommandFault) → ((c : Command) (e : EditorFault) → own at c e → met at c e) → IsRefused own at item why → IsRefused met at item why
+pub lifted : (own met : At → Command → EditorFault → Type 0) (at : At) (item : Item) (why : CommandFault) → ((c : Command) (e : EditorFault) → own at c e → met at c e) → IsRefused own at item why → IsRefused met at item why
 lifted own met at item why lift (inl k) = inl k
 lifted own met at item why lift (inr k) = inr (k.0, k.1, k.2, own_map why (λ e. lift k.0 e) k.3)
 
 -- a refusal behind items that were taken
-pub stops_behind : (own met : At → Command → EditorFault → Type 0) (xs : List Item) (at : At) (stood : At → Type 0) (f : EditFault) (a b d : Option (List ℕ)) (s t : List ℕ → Stream) (before spent failed : Bool) → ((c : Command) (e : EditorFault) → own at c e → met at c e) → stood at → Takes xs a b s t → (spent ≡ true → before ≡ true) → StopsBehind own [] stood b d t spent failed f → StopsBehind met xs (λ x. x ≡ at) a d s before failed f
-stops_behind own met xs at stood f a b d s t before spent failed lift here p g (inl q) = inl (subst (λ l. Stops l a d s before failed f) (append-nil xs) (takes_stop xs [] f a b d s t before spent failed p g q))
-stops_behind own met xs at stood f a b d s t before spent failed lift here p g (inr (inl q)) = inr (inl (q.0, subst (λ l. Ends l true a d s) (append-nil xs) (takes_end xs [] true a b d s t p q.1)))
-stops_behind own met xs at stood f a b d s t before spent failed lift here p g (inr (inr q)) = inr (inr (record { item = q.item; why = q.why; is = q.is; taken = takes_more xs (q.item ∷ []) a b d s t q.is p q.taken; same = q.same; due = λ x e. subst (λ y. IsRefused met y q.item q.why) (sym e) (lifted own met at q.item q.why lift (q.due at here)) }))
+pub stops_behind : (own met : At → Command → EditorFault → Type 0) (xs : List Item) (at : At) (stood : At → Type 0) (f : EditFault) (a b d : Option (List ℕ)) (s t : List ℕ → Stream) (before spent : Bool) (now failed : Counts) → ((c : Command) (e : EditorFault) → own at c e → met at c e) → stood at → Takes xs a b s t → (spent ≡ true → before ≡ true) → (Fails now → Fails failed) → StopsBehind own [] stood b d t spent now f → StopsBehind met xs (λ x. x ≡ at) a d s before failed f
+stops_behind own met xs at stood f a b d s t before spent now failed lift here p g h (inl q) = inl (q.0, q.1, subst (λ l. Stops l a d s before failed q.0) (append-nil xs) (takes_stop xs [] q.0 a b d s t before spent now failed p g h q.2))
+stops_behind own met xs at stood f a b d s t before spent now failed lift here p g h (inr (inl q)) = inr (inl (q.0, subst (λ l. Ends l true a d s) (append-nil xs) (takes_end xs [] true a b d s t p q.1)))
+stops_behind own met xs at stood f a b d s t before spent now failed lift here p g h (inr (inr q)) = inr (inr (record { item = q.item; why = q.why; is = q.is; taken = takes_more xs (q.item ∷ []) a b d s t q.is p q.taken; same = q.same; due = λ x e. subst (λ y. IsRefused met y q.item q.why) (sym e) (lifted own met at q.item q.why lift (q.due at here)) }))
 
-pub drive_refused : {E O : Type 0} (shows : E → List Call → Type 0) (began : E → O) (refuses : O → List Call → Call → EditorFault → Type 0) (old mid : E) (a b d : Option (List ℕ)) (s t : List ℕ → Stream) (before spent failed : Bool) (stood : At → Type 0) (f : EditFault) → began mid ≡ began old → ((x : At) → stood x → x ≡ Ended → ⊥) → Goes shows old mid a b s t stood → (spent ≡ true → before ≡ true) → StopsBehind (Meets shows began refuses mid) [] stood b d t spent failed f → RefusesDrive shows began refuses old a d s before failed f
-drive_refused shows began refuses old mid a b d s t before spent failed stood f same stay k g q = record { items = k.items; calls = k.calls; at = k.at; say = k.say; unended = stay k.at k.here; stops = stops_behind (Meets shows began refuses mid) (Meets (ShownBefore shows k.calls) began refuses old) k.items k.at stood f a b d s t before spent failed (λ c e. met_before shows began refuses old mid k.calls k.at c e k.shown same) k.here k.taken g q }
+pub drive_refused : {E O : Type 0} (shows : E → List Call → Type 0) (began : E → O) (refuses : O → List Call → Call → EditorFault → Type 0) (old mid : E) (a b d : Option (List ℕ)) (s t : List ℕ → Stream) (before spent : Bool) (now failed : Counts) (stood : At → Type 0) (f : EditFault) → began mid ≡ began old → ((x : At) → stood x → x ≡ Ended → ⊥) → Goes shows old mid a b s t stood → (spent ≡ true → before ≡ true) → (Fails now → Fails failed) → StopsBehind (Meets shows began refuses mid) [] stood b d t spent now f → RefusesDrive shows began refuses old a d s before failed f
+drive_refused shows began refuses old mid a b d s t before spent now failed stood f same stay k g h q = record { items = k.items; calls = k.calls; at = k.at; say = k.say; unended = stay k.at k.here; stops = stops_behind (Meets shows began refuses mid) (Meets (ShownBefore shows k.calls) began refuses old) k.items k.at stood f a b d s t before spent now failed (λ c e. met_before shows began refuses old mid k.calls k.at c e k.shown same) k.here k.taken g h q }
 
 -- at the end of a drive
-pub end_refused : {E O : Type 0} (shows : E → List Call → Type 0) (began : E → O) (refuses : O → List Call → Call → EditorFault → Type 0) (start old new : E) (a b : Option (List ℕ)) (s t : List ℕ → Stream) (before failed : Bool) (stands : At → Type 0) (f : CommandFault) → old ≡ start → began new ≡ began old → ((at : At) → stands at → RefusedFor f (refusal at command.Finish)) → IfOwn (λ e. (at : At) → stands at → Meets shows began refuses new at command.Finish e) f → ((x : At) → stands x → x ≡ Ended → ⊥) → Comes shows old new a b s t stands → RefusesDrive shows began refuses start a b s before failed (of_command f)
+pub end_refused : {E O : Type 0} (shows : E → List Call → Type 0) (began : E → O) (refuses : O → List Call → Call → EditorFault → Type 0) (start old new : E) (a b : Option (List ℕ)) (s t : List ℕ → Stream) (before : Bool) (failed : Counts) (stands : At → Type 0) (f : CommandFault) → old ≡ start → began new ≡ began old → ((at : At) → stands at → RefusedFor f (refusal at command.Finish)) → IfOwn (λ e. (at : At) → stands at → Meets shows began refuses new at command.Finish e) f → ((x : At) → stands x → x ≡ Ended → ⊥) → Comes shows old new a b s t stands → RefusesDrive shows began refuses start a b s before failed (of_command f)
 end_refused shows began refuses start old new a b s t before failed stands f is same why own stay k = subst (λ x. RefusesDrive shows began refuses x a b s before failed (of_command f)) is (record {
   items = k.items;
   calls = k.calls;
@@ -124,3 +130,39 @@ end_refused shows began refuses start old new a b s t before failed stands f is 
   unended = stay k.at k.here;
   stops = inr (inr (record { item = k.last; why = f; is = t; taken = k.taken; same = refl; due = λ x e. subst (λ y. IsRefused (Meets (ShownBefore shows k.calls) began refuses old) y k.last f) (sym e) (inr (command.Finish, k.end, why k.at k.here, own_map f (λ g m. met_before shows began refuses old new k.calls k.at command.Finish g k.shown same (m k.at k.here)) own)) }));
 })
+
+-- ---- a failed read
+
+next_peer : (e : NextFault) (xs : List Item) (a b : Option (List ℕ)) (s : List ℕ → Stream) (spent : Bool) (failed : Counts) → of_next e ≡ fault.PeerFailed → Stops xs a b s spent failed e → Fails failed
+next_peer (next.Items item.Truncated) xs a b s spent failed p q = cc
+next_peer (next.Items item.TooLong) xs a b s spent failed p q = cc
+next_peer (next.Items item.Failed) xs a b s spent failed p q = cc
+next_peer (next.Items item.BadItem) xs a b s spent failed p q = cc
+next_peer (next.Items item.TooDeep) xs a b s spent failed p q = cc
+next_peer (next.Items item.OutOfMemory) xs a b s spent failed p q = cc
+next_peer next.PeerFailed xs a b s spent failed p q = q
+
+no_peer : (f : CommandFault) → of_command f ≡ fault.PeerFailed → ⊥
+no_peer why.BadSum p = cc
+no_peer why.TooLong p = cc
+no_peer why.Failed p = cc
+no_peer why.BadWindow p = cc
+no_peer why.CopyWindow p = cc
+no_peer why.BadToken p = cc
+no_peer why.BadShape p = cc
+no_peer why.Refused p = cc
+no_peer why.OutOfMemory p = cc
+no_peer (why.Editor e) p = cc
+
+shape_no_peer : fault.BadShape ≡ fault.PeerFailed → ⊥
+shape_no_peer p = cc
+
+-- a drive is refused so only where its input failed
+pub drive_peer : {E O : Type 0} (shows : E → List Call → Type 0) (began : E → O) (refuses : O → List Call → Call → EditorFault → Type 0) (editor : E) (a b : Option (List ℕ)) (s : List ℕ → Stream) (spent : Bool) (failed : Counts) (f : EditFault) → RefusesDrive shows began refuses editor a b s spent failed f → f ≡ fault.PeerFailed → Fails failed
+drive_peer shows began refuses editor a b s spent failed f r p = elim r.stops [
+  | inl q ↦ next_peer q.0 r.items a b s spent failed (sym q.1 ∙ p) q.2
+  | inr q ↦ elim q [
+    | inl e ↦ absurd (shape_no_peer (sym e.0 ∙ p))
+    | inr i ↦ absurd (no_peer i.why (sym i.same ∙ p))
+  ]
+]

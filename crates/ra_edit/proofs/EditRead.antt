@@ -16,15 +16,15 @@ use Rattle.delta_editor.specs.declared.call.Call.{Call}
 use Rattle.delta_editor.specs.declared.call.Call.TheVariants as call
 use Rattle.delta_editor.specs.Nesting.{Opened, OpenDir, Stage, After, is_dir, run}
 use Rattle.ra_edit.specs.Commands.{revision, string, source, sum_text, token, number_of, chunk, parts_within}
-use Rattle.ra_edit.specs.Edits.{IsRevision, IsString, IsSum, IsSource, IsCommand, Held, Dir, Fresh, Told, Named, named, is_free, IsOpenDir, At, Begun, Targeted, Inside, Ended, Says, AllSay, Nothing, Then, SpellsEdit, SumsTo}
+use Rattle.ra_edit.specs.Edits.{IsRevision, IsString, IsSum, IsSource, Held, Dir, Named, named, is_free, IsOpenDir, At, Inside, Ended, AllSay, Then}
 use Rattle.ra_edit.specs.Edits as edits
 use Rattle.ra_edit.specs.EditLaws.{IsRev, IsFrom, IsWithin}
-use Rattle.ra_edit.specs.Spelling.{window}
-use Rattle.ra_edit.specs.Streams.{reading, Reads}
-use Rattle.ra_edit.specs.declared.reading.Place.TheVariants as at
-use Rattle.ra_edit.specs.declared.reading.Reading.{Reading}
-use Rattle.ra_edit.proofs.Read.{window_read, window_pieces}
-use Rattle.ra_edit.proofs.Spelled.{window_is}
+use Rattle.svndiff.specs.Spelling.{window}
+use Rattle.svndiff.specs.Streams.{reading, Reads}
+use Rattle.svndiff.specs.declared.reading.Place.TheVariants as at
+use Rattle.svndiff.specs.declared.reading.Reading.{Reading}
+use Rattle.svndiff.proofs.Read.{window_read, window_pieces}
+use Rattle.svndiff.proofs.Spelled.{window_is}
 use Rattle.ra_edit.proofs.Told.{both, not_true_false, shorter_other}
 
 -- ---- what stands in brackets

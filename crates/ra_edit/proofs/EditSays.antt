@@ -9,14 +9,14 @@ use Rattle.delta_editor.specs.declared.call.Call.{Call}
 use Rattle.delta_editor.specs.declared.call.Call.TheVariants as call
 use Rattle.delta_editor.specs.Nesting.{OpenFile, OpenText, TextDone, Within, After, is_dir, run}
 use Rattle.ra_edit.specs.Commands.{list, command, revision, string, source, sum_text, token, number_of, chunk, parts, spelled_after}
-use Rattle.ra_edit.specs.Edits.{IsRevision, IsString, IsSum, IsSource, IsCommand, Held, Dir, Fresh, Told, Named, named, is_free, IsOpenDir, At, Begun, Targeted, Inside, Ended, Says, AllSay, Nothing, Then, SpellsEdit, SumsTo}
+use Rattle.ra_edit.specs.Edits.{Dir, Fresh, Told, named, Begun, Targeted, Inside, Ended, AllSay, Nothing, Then}
 use Rattle.ra_edit.specs.Edits as edits
 use Rattle.ra_edit.specs.EditLaws.{AllWithin, TextsFit, is_no_target, cut_all, WrittenIsEdit}
-use Rattle.ra_edit.specs.Reading.{begin}
-use Rattle.ra_edit.specs.Spelling.{head}
+use Rattle.svndiff.specs.Reading.{begin}
+use Rattle.svndiff.specs.Spelling.{head}
 use Rattle.ra_edit.specs.Wire.{AllDeeper, is_deeper}
-use Rattle.ra_edit.specs.declared.reading.Place.TheVariants as at
-use Rattle.ra_edit.specs.declared.reading.Reading.{Reading}
+use Rattle.svndiff.specs.declared.reading.Place.TheVariants as at
+use Rattle.svndiff.specs.declared.reading.Reading.{Reading}
 use Rattle.ra_edit.proofs.Told.{both}
 use Rattle.ra_edit.proofs.EditRead.{revision_is, string_is, source_is, sum_is, open_dirs, dirs, Fine, fine_kept, fine_grown, grown, free, is_open, behind, ran, or_false, or_falses, below, parts_are, parts_join, Awaits, in_text, pieces_say, room_for}
 

@@ -1,14 +1,7 @@
 mod Chunks
 mod EditRead
 mod EditSays
-mod Read
-mod Runs
-mod Spelled
-mod Standing
 mod Told
-mod Written
-pub mod Streaming
-pub mod ByteFaults
 pub mod Receiving
 pub mod Refusing
 pub mod Steps

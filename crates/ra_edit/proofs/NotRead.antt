@@ -1,17 +1,18 @@
 -- What can't be read.
 use Rattle.std.proofs.Common.{◌≡◌, ℕ, List, [], ◌∷◌, Option, Some, None, Result, Ok, Err, IfErr, refl, sym, ap, subst, ◌∙◌, inl, inr, if◌then◌else◌}
-use Rattle.std.specs.Prelude.{◌⊎◌, codes}
+use Rattle.std.specs.Prelude.{◌⊎◌}
 use Rattle.ra_item.specs.Items.{Item, Items, End, Then, Word, Number, Text, Nested, row}
 use Rattle.node_base.specs.Path.{Path, same_name}
 use Rattle.node_base.specs.PathText.{path_read}
 use Rattle.node_base.specs.declared.node.Source.{Source}
 use Rattle.ra_edit.specs.Commands.{list}
 use Rattle.ra_edit.specs.Edits.{IsRevision, IsString, IsSum, IsSource}
-use Rattle.ra_edit.specs.Receiving.{Param, AList, ABase, AValue, ASum, ASource, IsA, BeginWith, NotRead, params_of, word_of, Forms, IsNoCommand}
+use Rattle.ra_edit.specs.Receiving.{Param, AList, ABase, AValue, ASum, ASource, IsA, BeginWith, NotRead, params_of, Forms, IsNoCommand}
+use Rattle.ra_edit.specs.Names.{word_of}
 use Rattle.ra_edit.specs.declared.receive_command.Command.{Command}
 use Rattle.ra_edit.specs.declared.receive_command.Command.TheVariants as command
-use Rattle.ra_edit.specs.declared.receive_command.Name.{Name}
-use Rattle.ra_edit.specs.declared.receive_command.Name.TheVariants as name
+use Rattle.ra_edit.specs.declared.name.Name.{Name}
+use Rattle.ra_edit.specs.declared.name.Name.TheVariants as name
 use Rattle.ra_edit.specs.declared.shape_fault.ShapeFault.{ShapeFault}
 use Rattle.ra_edit.specs.declared.shape_fault.ShapeFault.TheVariants as shape
 use Rattle.ra_edit.proofs.OneEdit.{no_slash}
@@ -106,27 +107,15 @@ no_source old new inner rest t w shape.BadShape e h s u k = subst (λ l. BeginWi
 
 -- ---- commands
 
+abbrev names : List Name
+names = name.TargetRev ∷ name.OpenRoot ∷ name.DeleteEntry ∷ name.AddDir ∷ name.OpenDir ∷ name.ChangeDirProp ∷ name.CloseDir ∷ name.AddFile ∷ name.OpenFile ∷ name.ChangeFileProp ∷ name.ApplyTextdelta ∷ name.TextdeltaChunk ∷ name.TextdeltaEnd ∷ name.CloseFile ∷ name.CloseEdit ∷ name.FinishReplay ∷ name.AbortEdit ∷ name.Failure ∷ []
+
+abbrev first_of : List Name → List ℕ → Option Name
+first_of [] w = None
+first_of (n ∷ ns) w = if same_name w (word_of n) then Some n else first_of ns w
+
 abbrev name_at : List ℕ → Option Name
-name_at w =
-    if same_name w (codes "target-rev") then Some name.TargetRev
-    else if same_name w (codes "open-root") then Some name.OpenRoot
-    else if same_name w (codes "delete-entry") then Some name.DeleteEntry
-    else if same_name w (codes "add-dir") then Some name.AddDir
-    else if same_name w (codes "open-dir") then Some name.OpenDir
-    else if same_name w (codes "change-dir-prop") then Some name.ChangeDirProp
-    else if same_name w (codes "close-dir") then Some name.CloseDir
-    else if same_name w (codes "add-file") then Some name.AddFile
-    else if same_name w (codes "open-file") then Some name.OpenFile
-    else if same_name w (codes "change-file-prop") then Some name.ChangeFileProp
-    else if same_name w (codes "apply-textdelta") then Some name.ApplyTextdelta
-    else if same_name w (codes "textdelta-chunk") then Some name.TextdeltaChunk
-    else if same_name w (codes "textdelta-end") then Some name.TextdeltaEnd
-    else if same_name w (codes "close-file") then Some name.CloseFile
-    else if same_name w (codes "close-edit") then Some name.CloseEdit
-    else if same_name w (codes "finish-replay") then Some name.FinishReplay
-    else if same_name w (codes "abort-edit") then Some name.AbortEdit
-    else if same_name w (codes "failure") then Some name.Failure
-    else None
+name_at = first_of names
 
 name_back : (n : Name) → name_at (word_of n) ≡ Some n
 name_back name.TargetRev = refl

@@ -16,9 +16,12 @@ use Rattle.delta_editor.specs.declared.fault.EditorFault.{EditorFault}
 use Rattle.ra_edit.specs.Commands.{list, edit_items, edit_bytes}
 use Rattle.ra_edit.specs.Edits.{IsCommand, IsString, At, Begun, Ended, Says, AllSay, SpellsEdit}
 use Rattle.ra_edit.specs.Edits as edits
-use Rattle.ra_edit.specs.EditFaults.{of_command, of_shape}
+use Rattle.byte_streams.specs.Causes.{Counts}
+use Rattle.ra_item.specs.declared.fault.NextFault.{NextFault}
+use Rattle.ra_item.specs.declared.fault.NextFault.TheVariants as next
+use Rattle.ra_edit.specs.EditFaults.{of_command, of_next, of_shape}
 use Rattle.ra_edit.specs.EditLaws.{cut_all, IsBefore, IsWritten, SaysSomeCommand, IsOnlyFor, WrittenComes, WrittenIsNotRefused}
-use Rattle.ra_edit.specs.ItemStreams.{behind, Ends, Breaks, Stops}
+use Rattle.ra_item.specs.ItemStreams.{behind, Ends, Breaks, Stops}
 use Rattle.ra_edit.specs.Received.{IsRefused, RefusesItem, StopsBehind, ShownBefore}
 use Rattle.ra_edit.specs.Receiving.{Forms, IsNoCommand}
 use Rattle.ra_edit.specs.Refusals.{refusal, RefusedFor, IfOwn, RefusesOne, Meets}
@@ -117,21 +120,14 @@ broken_at left None was xs f e = absurd e.consumed
 broken_at left (Some rest) was xs f e = ap (λ b. items_of (was b)) e.consumed ∙ ap items_of (e.items rest)
 
 -- it doesn't, but for a read that failed or want of memory
-stopped : (own : EditorFault → Type 0) (xs : List Item) (before after : Option (List ℕ)) (was : List ℕ → Stream) (spent failed : Bool) (f : EditFault) → ((w : Bool) → Ends xs w before after was → ⊥) → ((i : ItemFault) → Breaks xs i before after was → ⊥) → spent ≡ false → Stops xs before after was spent failed f → IsOnlyFor own failed f
-stopped own xs before after was spent failed fault.Truncated e b n q = absurd (e false q)
-stopped own xs before after was spent failed fault.TooLong e b n q = absurd (b item.TooLong q)
-stopped own xs before after was spent failed fault.BadItem e b n q = absurd (b item.BadItem q)
-stopped own xs before after was spent failed fault.TooDeep e b n q = absurd (b item.TooDeep q)
-stopped own xs before after was spent failed fault.Failed e b n q = cc
-stopped own xs before after was spent failed fault.PeerFailed e b n q = q
-stopped own xs before after was spent failed fault.OutOfMemory e b n q = tt
-stopped own xs before after was spent failed fault.BadSum e b n q = absurd q
-stopped own xs before after was spent failed fault.BadWindow e b n q = absurd q
-stopped own xs before after was spent failed fault.CopyWindow e b n q = absurd q
-stopped own xs before after was spent failed fault.BadToken e b n q = absurd q
-stopped own xs before after was spent failed fault.BadShape e b n q = absurd q
-stopped own xs before after was spent failed fault.Refused e b n q = absurd q
-stopped own xs before after was spent failed (fault.Editor k) e b n q = absurd q
+stopped : (own : EditorFault → Type 0) (xs : List Item) (before after : Option (List ℕ)) (was : List ℕ → Stream) (spent : Bool) (failed : Counts) (f : NextFault) → ((w : Bool) → Ends xs w before after was → ⊥) → ((i : ItemFault) → Breaks xs i before after was → ⊥) → spent ≡ false → Stops xs before after was spent failed f → IsOnlyFor own failed (of_next f)
+stopped own xs before after was spent failed (next.Items item.Truncated) e b n q = absurd (e false q)
+stopped own xs before after was spent failed (next.Items item.TooLong) e b n q = absurd (b item.TooLong q)
+stopped own xs before after was spent failed (next.Items item.BadItem) e b n q = absurd (b item.BadItem q)
+stopped own xs before after was spent failed (next.Items item.TooDeep) e b n q = absurd (b item.TooDeep q)
+stopped own xs before after was spent failed (next.Items item.Failed) e b n q = cc
+stopped own xs before after was spent failed (next.Items item.OutOfMemory) e b n q = tt
+stopped own xs before after was spent failed next.PeerFailed e b n q = q
 
 -- nor before an item that was written
 begins : (xs : List Item) (x : Item) (vs : List Item) → xs ≡ x ∷ vs → xs ≡ [] → ⊥
@@ -170,7 +166,7 @@ within_at [] x rest w = w.0
 within_at (y ∷ items) x rest w = within_at items x rest w.1
 
 -- a command for which nothing is due is refused for memory or by the editor
-none_due : (own : EditorFault → Type 0) (failed : Bool) (f : CommandFault) (what : Option CommandFault) → what ≡ None → RefusedFor f what → IfOwn own f → IsOnlyFor own failed (of_command f)
+none_due : (own : EditorFault → Type 0) (failed : Counts) (f : CommandFault) (what : Option CommandFault) → what ≡ None → RefusedFor f what → IfOwn own f → IsOnlyFor own failed (of_command f)
 none_due own failed why.BadSum what e r o = cc
 none_due own failed why.TooLong what e r o = cc
 none_due own failed why.Failed what e r o = cc
@@ -182,11 +178,11 @@ none_due own failed why.Refused what e r o = cc
 none_due own failed why.OutOfMemory what e r o = tt
 none_due own failed (why.Editor k) what e r o = o
 
-no_shape : (own : EditorFault → Type 0) (failed : Bool) (x : Item) (f : ShapeFault) → (c : Command) → Forms c x → IsNoCommand x f → IsOnlyFor own failed (of_command (of_shape f))
+no_shape : (own : EditorFault → Type 0) (failed : Counts) (x : Item) (f : ShapeFault) → (c : Command) → Forms c x → IsNoCommand x f → IsOnlyFor own failed (of_command (of_shape f))
 no_shape own failed x shape.BadShape c h n = absurd (n c h)
 no_shape own failed x shape.OutOfMemory c h n = tt
 
-refused_for : (own : EditorFault → Type 0) (failed : Bool) (at to : At) (x : Item) (calls : List Call) (f : CommandFault) → Within x → Says at x calls to → IsRefused (λ a c e. own e) at x f → IsOnlyFor own failed (of_command f)
+refused_for : (own : EditorFault → Type 0) (failed : Counts) (at to : At) (x : Item) (calls : List Call) (f : CommandFault) → Within x → Says at x calls to → IsRefused (λ a c e. own e) at x f → IsOnlyFor own failed (of_command f)
 refused_for own failed at to x calls f w s (inl q) =
     let c = says_some_command at to x calls w s in
     subst (λ y. IsOnlyFor own failed (of_command y)) (sym q.1) (no_shape own failed x q.0 c.0 c.1 q.2)
@@ -212,7 +208,7 @@ noted met first calls later all at to x why j d s (inl q) = inl q
 noted met first calls later all at to x why j d s (inr q) =
     inr (q.0, q.1, q.2, own_map why (λ e m. record { first = first; calls = calls; later = later; at = at; to = to; item = x; command = q.0; joined = j; apart = d; says = s; forms = q.1; met_there = m }) q.3)
 
-item_refused : (met : List Call → At → Command → EditorFault → Type 0) (failed : Bool) (f : EditFault) (before after : Option (List ℕ)) (was : List ℕ → Stream) (items : List Item) (calls : List Call) (at : At) (bytes : List ℕ) (whole vs : List Item) (read : List Call) → AllSay Begun items calls at → ((d : List Item) → items ≡ whole ++ d → ⊥) → SpellsEdit whole read → AllByRecursion Within whole → IsBefore bytes before was → items_of (stream_of bytes) ≡ whole ++ vs → RefusesItem (met calls) items (λ a. a ≡ at) before after was f → IsOnlyFor (InEdit met read) failed f
+item_refused : (met : List Call → At → Command → EditorFault → Type 0) (failed : Counts) (f : EditFault) (before after : Option (List ℕ)) (was : List ℕ → Stream) (items : List Item) (calls : List Call) (at : At) (bytes : List ℕ) (whole vs : List Item) (read : List Call) → AllSay Begun items calls at → ((d : List Item) → items ≡ whole ++ d → ⊥) → SpellsEdit whole read → AllByRecursion Within whole → IsBefore bytes before was → items_of (stream_of bytes) ≡ whole ++ vs → RefusesItem (met calls) items (λ a. a ≡ at) before after was f → IsOnlyFor (InEdit met read) failed f
 item_refused met failed f before after was items calls at bytes whole vs read say never written within stands is q =
     let t = taken_from bytes before after was q.is (items ++ q.item ∷ []) stands q.taken in
     let us = items_of (q.is t.0) in
@@ -228,7 +224,7 @@ item_refused met failed f before after was items calls at bytes whole vs read sa
     (refused_for (InEdit met read) failed at k.to q.item k.calls q.why (within_at items q.item n.0 (subst (λ l. AllByRecursion Within l) n.1 within)) one
     (noted met calls k.calls k.later read at k.to q.item q.why joined (distinct_at Begun at items calls tt say) one (q.due at refl)))
 
-pub not_refused : WrittenIsRead → (met : List Call → At → Command → EditorFault → Type 0) (n : ℕ) (base : Option ℕ) (body : List Call) (more : List ℕ) (before after : Option (List ℕ)) (was : List ℕ → Stream) (spent failed : Bool) (f : EditFault) (items : List Item) (calls : List Call) (at : At) → IsWritten n base body → IsBefore (edit_bytes (call.Target n ∷ call.OpenRoot base ∷ body) ++ more) before was → spent ≡ false → AllSay Begun items calls at → (at ≡ Ended → ⊥) → StopsBehind (met calls) items (λ a. a ≡ at) before after was spent failed f → IsOnlyFor (InEdit met (call.Target n ∷ call.OpenRoot base ∷ cut_all body)) failed f
+pub not_refused : WrittenIsRead → (met : List Call → At → Command → EditorFault → Type 0) (n : ℕ) (base : Option ℕ) (body : List Call) (more : List ℕ) (before after : Option (List ℕ)) (was : List ℕ → Stream) (spent : Bool) (failed : Counts) (f : EditFault) (items : List Item) (calls : List Call) (at : At) → IsWritten n base body → IsBefore (edit_bytes (call.Target n ∷ call.OpenRoot base ∷ body) ++ more) before was → spent ≡ false → AllSay Begun items calls at → (at ≡ Ended → ⊥) → StopsBehind (met calls) items (λ a. a ≡ at) before after was spent failed f → IsOnlyFor (InEdit met (call.Target n ∷ call.OpenRoot base ∷ cut_all body)) failed f
 not_refused law met n base body more before after was spent failed f items calls at w s fresh say unended stops =
     let edit = call.Target n ∷ call.OpenRoot base ∷ body in
     let bytes = edit_bytes edit ++ more in
@@ -243,7 +239,7 @@ not_refused law met n base body more before after was spent failed f items calls
     let no_end : (k : Bool) → Ends items k before after was → ⊥ = λ k e. never vs (sym (ended_at s.0 after was items k (subst (λ b. Ends items k b after was) s.1 e)) ∙ left) in
     let no_break : (i : ItemFault) → Breaks items i before after was → ⊥ = λ i e. never vs (sym (broken_at s.0 after was items i (subst (λ b. Breaks items i b after was) s.1 e)) ∙ left) in
     elim stops [
-      | inl q ↦ stopped own items before after was spent failed f no_end no_break fresh q
+      | inl q ↦ subst (IsOnlyFor own failed) (sym q.1) (stopped own items before after was spent failed q.0 no_end no_break fresh q.2)
       | inr q ↦ elim q [
         | inl e ↦ absurd (no_end true e.1)
         | inr r ↦ item_refused met failed f before after was items calls at bytes whole vs read say never written w.items s is r
@@ -271,7 +267,7 @@ one_of shows began refuses editor all e k =
         ∙ sym g
 
 -- what is known of the editor's own refusal
-known : (own is : EditorFault → Type 0) (failed : Bool) (f : EditFault) → ((e : EditorFault) → own e → is e) → IsOnlyFor own failed f → IsOnlyFor is failed f
+pub known : (own is : EditorFault → Type 0) (failed : Counts) (f : EditFault) → ((e : EditorFault) → own e → is e) → IsOnlyFor own failed f → IsOnlyFor is failed f
 known own is failed fault.OutOfMemory g h = h
 known own is failed fault.PeerFailed g h = h
 known own is failed (fault.Editor e) g h = g e h

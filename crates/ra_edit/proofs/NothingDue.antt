@@ -8,15 +8,15 @@ use Rattle.node_base.proofs.PathLemmas.{same_name_itself}
 use Rattle.delta_editor.specs.declared.call.Call.{Call}
 use Rattle.ra_edit.specs.Edits.{Held, Dir, Fresh, Within, Told, Named, named, At, Begun, Targeted, Inside, Announced, Ended, Says, is_free, IsOpenDir, IsUnopened, SumsTo}
 use Rattle.ra_edit.specs.Edits as edits
-use Rattle.ra_edit.specs.Reading.{is_between, is_failed}
-use Rattle.ra_edit.specs.Streams.{Reads, reading}
+use Rattle.svndiff.specs.Reading.{is_between, is_failed}
+use Rattle.svndiff.specs.Streams.{Reads, reading}
 use Rattle.ra_edit.specs.Receiving.{Forms}
 use Rattle.ra_edit.specs.Refusals.{open_of, unless, is_dir, is_in_dir, has_dir, for_token, in_file, at_start, of_stream, at_chunk, at_end, sums, at_close, refusal}
 use Rattle.ra_edit.specs.declared.command_fault.CommandFault.{CommandFault}
 use Rattle.ra_edit.specs.declared.command_fault.CommandFault.TheVariants as fault
-use Rattle.ra_edit.specs.declared.reading.Place.{Place}
-use Rattle.ra_edit.specs.declared.reading.Place.TheVariants as place
-use Rattle.ra_edit.specs.declared.reading.Reading.{Reading}
+use Rattle.svndiff.specs.declared.reading.Place.{Place}
+use Rattle.svndiff.specs.declared.reading.Place.TheVariants as place
+use Rattle.svndiff.specs.declared.reading.Reading.{Reading}
 use Rattle.ra_edit.specs.declared.receive_command.Command.{Command}
 use Rattle.ra_edit.specs.declared.receive_command.Command.TheVariants as command
 use Rattle.ra_edit.proofs.OneEdit.{sum_of, sum_says}

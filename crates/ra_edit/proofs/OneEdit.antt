@@ -14,11 +14,11 @@ use Rattle.node_base.specs.declared.node.Source.{Source}
 use Rattle.node_base.specs.declared.fault.PathFault.TheVariants as fault
 use Rattle.delta_editor.specs.declared.call.Call.{Call}
 use Rattle.delta_editor.specs.declared.call.Call.TheVariants as call
-use Rattle.ra_edit.specs.Edits.{IsRevision, IsString, IsSum, IsSource, IsCommand, Held, Dir, Fresh, Within, Told, Named, named, is_free, At, Begun, Targeted, Inside, Announced, Ended, IsUnopened, last_calls, Says, AllSay, SpellsEdit}
+use Rattle.ra_edit.specs.Edits.{IsRevision, IsString, IsSum, IsSource, Held, Dir, Fresh, Within, Told, Named, named, is_free, At, Begun, Targeted, Inside, Announced, Ended, IsUnopened, last_calls, Says, AllSay, SpellsEdit}
 use Rattle.ra_edit.specs.Edits as edits
 use Rattle.ra_edit.specs.EditLaws.{OneEdit, EndsOnce}
-use Rattle.ra_edit.specs.Reading.{begin}
-use Rattle.ra_edit.specs.Streams.{Stream, Reads, Refuses, reading, pieces_in}
+use Rattle.svndiff.specs.Reading.{begin}
+use Rattle.svndiff.specs.Streams.{Stream, Reads, Refuses, reading, pieces_in}
 use Rattle.node_base.proofs.ReadBack.{name_of_test}
 use Rattle.node_base.proofs.PathLemmas.{same_name_itself, name_of_same}
 use Rattle.ra_edit.proofs.Told.{both}

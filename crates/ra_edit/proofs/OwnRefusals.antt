@@ -12,12 +12,12 @@ use Rattle.ra_edit.specs.Edit.{dirs_named, Stands, GivenIs, has_root}
 use Rattle.ra_edit.specs.EditFaults.{of_window}
 use Rattle.ra_edit.specs.Received.{ShownBefore}
 use Rattle.ra_edit.specs.Refusals.{open_of, RefusesOne, path_at, held_at, is_rooted, ReadFirst, Asks, Meets, IfOwn}
-use Rattle.ra_edit.specs.Streams.{reading, pieces_in, Reads}
+use Rattle.svndiff.specs.Streams.{reading, pieces_in, Reads}
 use Rattle.ra_edit.specs.declared.command_fault.CommandFault.{CommandFault}
 use Rattle.ra_edit.specs.declared.command_fault.CommandFault.TheVariants as fault
-use Rattle.ra_edit.specs.declared.fault.WindowFault.{WindowFault}
-use Rattle.ra_edit.specs.declared.fault.WindowFault.TheVariants as window
-use Rattle.ra_edit.specs.declared.reading.Reading.{Reading}
+use Rattle.svndiff.specs.declared.fault.WindowFault.{WindowFault}
+use Rattle.svndiff.specs.declared.fault.WindowFault.TheVariants as window
+use Rattle.svndiff.specs.declared.reading.Reading.{Reading}
 use Rattle.ra_edit.specs.declared.receive_command.Command.{Command}
 use Rattle.ra_edit.specs.declared.receive_command.Command.TheVariants as command
 use Rattle.ra_edit.specs.declared.receive_edit.OpenDir.{OpenDir}

@@ -7,8 +7,8 @@ use Rattle.ra_edit.specs.Commands.{list}
 use Rattle.ra_edit.specs.Edits.{IsCommand}
 use Rattle.ra_edit.specs.Receiving.{FormsWith}
 use Rattle.ra_edit.specs.declared.receive_command.Command.TheVariants as command
-use Rattle.ra_edit.specs.declared.receive_command.Name.{Name}
-use Rattle.ra_edit.specs.declared.receive_command.Name.TheVariants as name
+use Rattle.ra_edit.specs.declared.name.Name.{Name}
+use Rattle.ra_edit.specs.declared.name.Name.TheVariants as name
 
 pub turned : (old new : List Item) (x : Item) → old ≡ new ++ x ∷ [] → reverse old ≡ x ∷ reverse new
 turned old new x e = ap reverse e ∙ reverse-append new (x ∷ [])

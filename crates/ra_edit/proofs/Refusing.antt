@@ -5,17 +5,17 @@ use Rattle.md5.specs.Md5.{md5}
 use Rattle.node_base.specs.Path.{Path, same_name}
 use Rattle.ra_edit.specs.EditFaults.{of_window}
 use Rattle.ra_edit.specs.Edits.{Held, Dir, Named, named, At, Begun, Targeted, Inside, Announced, Ended, is_free, IsOpenDir}
-use Rattle.ra_edit.specs.Reading.{is_failed, byte_step, Refused}
-use Rattle.ra_edit.specs.Streams.{Stream, Reads, Refuses, of_step, reading}
+use Rattle.svndiff.specs.Reading.{is_failed, byte_step, Refused}
+use Rattle.svndiff.specs.Streams.{Stream, Reads, Refuses, of_step, reading}
 use Rattle.ra_edit.specs.Refusals.{open_of, unless, is_dir, for_token, in_file, of_stream, at_close, is_finish, due, refusal, RefusedFor}
 use Rattle.ra_edit.specs.Edit.{dir_named, dirs_named, GivenIs, Stands, is_announced}
 use Rattle.ra_edit.specs.declared.command_fault.CommandFault.{CommandFault}
 use Rattle.ra_edit.specs.declared.command_fault.CommandFault.TheVariants as fault
-use Rattle.ra_edit.specs.declared.fault.WindowFault.{WindowFault}
-use Rattle.ra_edit.specs.declared.fault.WindowFault.TheVariants as window
-use Rattle.ra_edit.specs.declared.reading.Place.{Place}
-use Rattle.ra_edit.specs.declared.reading.Place.TheVariants as place
-use Rattle.ra_edit.specs.declared.reading.Reading.{Reading}
+use Rattle.svndiff.specs.declared.fault.WindowFault.{WindowFault}
+use Rattle.svndiff.specs.declared.fault.WindowFault.TheVariants as window
+use Rattle.svndiff.specs.declared.reading.Place.{Place}
+use Rattle.svndiff.specs.declared.reading.Place.TheVariants as place
+use Rattle.svndiff.specs.declared.reading.Reading.{Reading}
 use Rattle.ra_edit.specs.declared.receive_command.Command.{Command}
 use Rattle.ra_edit.specs.declared.receive_command.Command.TheVariants as command
 use Rattle.ra_edit.specs.declared.receive_edit.Given.{Given}

@@ -15,10 +15,10 @@ use Rattle.delta_editor.specs.declared.call.Call.TheVariants as call
 use Rattle.ra_edit.specs.Edits as edits
 use Rattle.ra_edit.specs.Edits.{Held, Dir, Fresh, Within, Told, Named, named, At, Begun, Targeted, Inside, Announced, Ended, last_calls, Says, is_free, IsCommand, IsRevision, IsSource, IsString, IsUnopened, IsOpenDir}
 use Rattle.std.specs.List.{concat}
-use Rattle.ra_edit.specs.Reading.{begin}
-use Rattle.ra_edit.specs.Streams.{reading, pieces_in, Reads}
+use Rattle.svndiff.specs.Reading.{begin}
+use Rattle.svndiff.specs.Streams.{reading, pieces_in, Reads}
 use Rattle.ra_edit.specs.Edits.{IsSum, SumsTo}
-use Rattle.ra_edit.specs.declared.reading.Reading.{Reading}
+use Rattle.svndiff.specs.declared.reading.Reading.{Reading}
 use Rattle.ra_edit.specs.Receiving.{IsPath, IsPropName, Forms}
 use Rattle.ra_edit.specs.declared.command_fault.CommandFault.{CommandFault}
 use Rattle.ra_edit.specs.declared.receive_command.Command.{Command}

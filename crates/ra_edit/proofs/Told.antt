@@ -13,13 +13,13 @@ use Rattle.delta_editor.specs.declared.call.Call.{Call}
 use Rattle.delta_editor.specs.declared.call.Call.TheVariants as call
 use Rattle.delta_editor.specs.Nesting.{Opened, OpenDir, OpenFile, OpenText, TextDone, Stage, Before, Within, After, is_dir, is_fresh, is_in_text, is_told, innermost, next, run, IsNested}
 use Rattle.ra_edit.specs.Commands.{list, command, revision, string, source, sum_text, opening, with_opening, opened_after, token, number_of, chunk, parts, spelled, spelled_after, edit_bytes}
-use Rattle.ra_edit.specs.Spelling.{head, window}
+use Rattle.svndiff.specs.Spelling.{head, window}
 use Rattle.ra_edit.specs.Tokens.{newest}
 use Rattle.ra_edit.specs.Wire.{is_deeper, AllDeeper, path_of, open_at, Numbered, Stands, Shows}
 use Rattle.ra_edit.specs.declared.token.Tokens.{Tokens}
 use Rattle.std.specs.declared.io.buffered.BufWriter.{BufWriter}
 use Rattle.ra_edit.specs.declared.wire.WireEditor.{WireEditor}
-use Rattle.ra_edit.proofs.Written.{appends_join}
+use Rattle.svndiff.proofs.Written.{appends_join}
 
 -- ---- the items of a call by numbers
 

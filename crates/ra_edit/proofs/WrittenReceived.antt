@@ -16,11 +16,11 @@ use Rattle.delta_editor.specs.declared.call.Call.TheVariants as call
 use Rattle.ra_edit.specs.Commands.{parts, edit_items, edit_bytes}
 use Rattle.ra_edit.specs.Edits.{SpellsEdit}
 use Rattle.ra_edit.specs.EditLaws.{cut, cut_all, each_byte, byte_by_byte, IsBefore, WrittenIsTaken, WrittenIsReceived}
-use Rattle.ra_edit.specs.ItemStreams.{behind, Takes}
+use Rattle.ra_item.specs.ItemStreams.{behind, Takes}
 use Rattle.ra_edit.proofs.EditRead.{parts_join}
 use Rattle.ra_edit.proofs.EditSays.{written_is_edit}
 use Rattle.ra_edit.proofs.OneEdit.{one_edit, ends_once}
-use Rattle.ra_edit.proofs.Streaming.{behind_reading}
+use Rattle.ra_item.proofs.Streaming.{behind_reading}
 
 -- ---- pieces that were cut
 

@@ -1,5 +1,5 @@
 -- Calls of an editor as items of the ra_svn protocol: the one spelling that is written.
-use Rattle.std.specs.Prelude.{ℕ, zero, suc, List, [], ◌∷◌, ◌++◌, map, length, take, drop, Option, Some, None, codes, if◌then◌else◌}
+use Rattle.std.specs.Prelude.{ℕ, zero, suc, List, [], ◌∷◌, ◌++◌, map, length, take, drop, Option, Some, None, if◌then◌else◌}
 use Rattle.std.specs.Fmt.{decimal}
 use Rattle.hex.specs.Hex.{encode_lower}
 use Rattle.ra_item.specs.Items.{Item, Word, Number, Text, Nested, row, spell_all}
@@ -8,7 +8,9 @@ use Rattle.node_base.specs.PathText.{path_text}
 use Rattle.node_base.specs.declared.node.Source.{Source}
 use Rattle.delta_editor.specs.declared.call.Call.{Call}
 use Rattle.delta_editor.specs.declared.call.Call.TheVariants as call
-use Rattle.ra_edit.specs.Spelling.{head, window}
+use Rattle.svndiff.specs.Spelling.{head, window}
+use Rattle.ra_edit.specs.Names.{word_of}
+use Rattle.ra_edit.specs.declared.name.Name.TheVariants as word
 
 -- items in brackets
 abbrev pub list : List Item → Item
@@ -81,7 +83,7 @@ token_of opened p = Text (token (number_of opened p))
 
 -- bytes of a text in windows
 abbrev pub chunk : Item → List ℕ → Item
-chunk file bytes = command (codes "textdelta-chunk") (file ∷ Text bytes ∷ [])
+chunk file bytes = command (word_of word.TextdeltaChunk) (file ∷ Text bytes ∷ [])
 
 -- parts of 65,536 bytes, the last of what is left
 abbrev pub parts_within : ℕ → List ℕ → List (List ℕ)
@@ -95,21 +97,21 @@ parts text = parts_within (length text) text
 -- the items of a call, where these were opened before: a text begins with the format's four bytes, and a piece of it is
 -- sent window by window, each in a chunk of its own
 abbrev pub spelled : List Path → Call → List Item
-spelled opened (call.Target n) = command (codes "target-rev") (Number n ∷ []) ∷ []
-spelled opened (call.OpenRoot base) = command (codes "open-root") (revision base ∷ next_token opened ∷ []) ∷ []
-spelled opened (call.AddDir up p from) = command (codes "add-dir") (Text (path_text p) ∷ token_of opened up ∷ next_token opened ∷ source from ∷ []) ∷ []
-spelled opened (call.OpenDir up p base) = command (codes "open-dir") (Text (path_text p) ∷ token_of opened up ∷ next_token opened ∷ revision base ∷ []) ∷ []
-spelled opened (call.DeleteEntry up p base) = command (codes "delete-entry") (Text (path_text p) ∷ revision base ∷ token_of opened up ∷ []) ∷ []
-spelled opened (call.AddFile up p from) = command (codes "add-file") (Text (path_text p) ∷ token_of opened up ∷ next_token opened ∷ source from ∷ []) ∷ []
-spelled opened (call.OpenFile up p base) = command (codes "open-file") (Text (path_text p) ∷ token_of opened up ∷ next_token opened ∷ revision base ∷ []) ∷ []
-spelled opened (call.DirProp p name value) = command (codes "change-dir-prop") (token_of opened p ∷ Text name ∷ string value ∷ []) ∷ []
-spelled opened (call.FileProp p name value) = command (codes "change-file-prop") (token_of opened p ∷ Text name ∷ string value ∷ []) ∷ []
-spelled opened (call.TextStart p) = command (codes "apply-textdelta") (token_of opened p ∷ list [] ∷ []) ∷ chunk (token_of opened p) head ∷ []
+spelled opened (call.Target n) = command (word_of word.TargetRev) (Number n ∷ []) ∷ []
+spelled opened (call.OpenRoot base) = command (word_of word.OpenRoot) (revision base ∷ next_token opened ∷ []) ∷ []
+spelled opened (call.AddDir up p from) = command (word_of word.AddDir) (Text (path_text p) ∷ token_of opened up ∷ next_token opened ∷ source from ∷ []) ∷ []
+spelled opened (call.OpenDir up p base) = command (word_of word.OpenDir) (Text (path_text p) ∷ token_of opened up ∷ next_token opened ∷ revision base ∷ []) ∷ []
+spelled opened (call.DeleteEntry up p base) = command (word_of word.DeleteEntry) (Text (path_text p) ∷ revision base ∷ token_of opened up ∷ []) ∷ []
+spelled opened (call.AddFile up p from) = command (word_of word.AddFile) (Text (path_text p) ∷ token_of opened up ∷ next_token opened ∷ source from ∷ []) ∷ []
+spelled opened (call.OpenFile up p base) = command (word_of word.OpenFile) (Text (path_text p) ∷ token_of opened up ∷ next_token opened ∷ revision base ∷ []) ∷ []
+spelled opened (call.DirProp p name value) = command (word_of word.ChangeDirProp) (token_of opened p ∷ Text name ∷ string value ∷ []) ∷ []
+spelled opened (call.FileProp p name value) = command (word_of word.ChangeFileProp) (token_of opened p ∷ Text name ∷ string value ∷ []) ∷ []
+spelled opened (call.TextStart p) = command (word_of word.ApplyTextdelta) (token_of opened p ∷ list [] ∷ []) ∷ chunk (token_of opened p) head ∷ []
 spelled opened (call.TextPiece p piece) = map (λ part. chunk (token_of opened p) (window part)) (parts piece)
-spelled opened (call.TextEnd p) = command (codes "textdelta-end") (token_of opened p ∷ []) ∷ []
-spelled opened (call.CloseFile p sum) = command (codes "close-file") (token_of opened p ∷ string (sum_text sum) ∷ []) ∷ []
-spelled opened (call.CloseDir p) = command (codes "close-dir") (token_of opened p ∷ []) ∷ []
-spelled opened call.CloseEdit = command (codes "finish-replay") [] ∷ []
+spelled opened (call.TextEnd p) = command (word_of word.TextdeltaEnd) (token_of opened p ∷ []) ∷ []
+spelled opened (call.CloseFile p sum) = command (word_of word.CloseFile) (token_of opened p ∷ string (sum_text sum) ∷ []) ∷ []
+spelled opened (call.CloseDir p) = command (word_of word.CloseDir) (token_of opened p ∷ []) ∷ []
+spelled opened call.CloseEdit = command (word_of word.FinishReplay) [] ∷ []
 
 -- the items of calls, where these were opened before
 abbrev pub spelled_after : List Path → List Call → List Item

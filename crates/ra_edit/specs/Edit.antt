@@ -1,8 +1,8 @@
 -- Where the commands of a drive stand, and what was given of an open file's text.
-use Rattle.std.specs.Prelude.{◌++◌, ◌≡◌, ℕ, Bool, true, false, List, [], ◌∷◌, map, reverse, Option, Some, None, codes}
+use Rattle.std.specs.Prelude.{◌++◌, ◌≡◌, ℕ, Bool, true, false, List, [], ◌∷◌, map, reverse, Option, Some, None}
 use Rattle.md5.specs.Md5.{Holds, md5}
-use Rattle.ra_edit.specs.Reading.{is_between}
-use Rattle.ra_edit.specs.declared.reading.Reading.{Reading}
+use Rattle.svndiff.specs.Reading.{is_between}
+use Rattle.svndiff.specs.declared.reading.Reading.{Reading}
 use Rattle.ra_item.specs.Items.{Item}
 use Rattle.node_base.specs.Path.{Path}
 use Rattle.delta_editor.specs.Calls.{Adds}
@@ -14,6 +14,8 @@ use Rattle.ra_edit.specs.declared.receive_edit.OpenDir.{OpenDir}
 use Rattle.ra_edit.specs.declared.receive_edit.OpenFile.{OpenFile}
 use Rattle.ra_edit.specs.declared.receive_edit.Stage.{Stage}
 use Rattle.ra_edit.specs.declared.receive_edit.Stage.TheVariants as stage
+use Rattle.ra_edit.specs.Names.{word_of}
+use Rattle.ra_edit.specs.declared.name.Name.TheVariants as word
 
 -- an open directory, with its token
 abbrev pub dir_named : {D : Type 0} → (D → Path) → OpenDir D → Named
@@ -91,7 +93,7 @@ pub record FileMoves {E F : Type 0} (file_path : F → Path) (shows : E → List
 -- a command was done; or it is the end of the drive, and nothing was done for it
 abbrev pub Stepped : {E : Type 0} → (E → List Call → Type 0) → E → E → Item → At → (At → Type 0) → Bool → Type 0
 Stepped shows old new item at stands false = Moves shows old new item at stands
-Stepped shows old new item at stands true = IsCommand (codes "finish-replay") [] item × (new ≡ old) × stands at
+Stepped shows old new item at stands true = IsCommand (word_of word.FinishReplay) [] item × (new ≡ old) × stands at
 
 -- `finish-replay` ends the edit, and this was shown by it
 abbrev pub Finishes : {E D : Type 0} → (E → List Call → Type 0) → (D → List Call → Type 0) → E → D → Item → At → Type 0

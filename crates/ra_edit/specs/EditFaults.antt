@@ -1,7 +1,8 @@
 -- Why a drive isn't received, as numbers and from other refusals.
 use Rattle.std.specs.Prelude.{ℕ}
 use Rattle.delta_editor.specs.Faults.{number_of}
-use Rattle.ra_item.specs.declared.fault.ItemFault.{ItemFault}
+use Rattle.ra_item.specs.declared.fault.NextFault.{NextFault}
+use Rattle.ra_item.specs.declared.fault.NextFault.TheVariants as next
 use Rattle.ra_item.specs.declared.fault.ItemFault.TheVariants as item
 use Rattle.ra_edit.specs.declared.command_fault.CommandFault.{CommandFault}
 use Rattle.ra_edit.specs.declared.command_fault.CommandFault.TheVariants as command
@@ -9,8 +10,8 @@ use Rattle.ra_edit.specs.declared.edit_fault.EditFault.{EditFault}
 use Rattle.ra_edit.specs.declared.edit_fault.EditFault.TheVariants as fault
 use Rattle.ra_edit.specs.declared.shape_fault.ShapeFault.{ShapeFault}
 use Rattle.ra_edit.specs.declared.shape_fault.ShapeFault.TheVariants as shape
-use Rattle.ra_edit.specs.declared.fault.WindowFault.{WindowFault}
-use Rattle.ra_edit.specs.declared.fault.WindowFault.TheVariants as window
+use Rattle.svndiff.specs.declared.fault.WindowFault.{WindowFault}
+use Rattle.svndiff.specs.declared.fault.WindowFault.TheVariants as window
 
 abbrev pub edit_number : EditFault → ℕ
 edit_number fault.BadSum = 6
@@ -28,14 +29,15 @@ edit_number fault.Refused = 60
 edit_number fault.OutOfMemory = 70
 edit_number (fault.Editor f) = number_of f
 
--- the refusal of bytes that are no items
-abbrev pub of_item : ItemFault → EditFault
-of_item item.Truncated = fault.Truncated
-of_item item.TooLong = fault.TooLong
-of_item item.Failed = fault.Failed
-of_item item.BadItem = fault.BadItem
-of_item item.TooDeep = fault.TooDeep
-of_item item.OutOfMemory = fault.OutOfMemory
+-- the refusal of a stream whose next item doesn't come
+abbrev pub of_next : NextFault → EditFault
+of_next (next.Items item.Truncated) = fault.Truncated
+of_next (next.Items item.TooLong) = fault.TooLong
+of_next (next.Items item.Failed) = fault.Failed
+of_next (next.Items item.BadItem) = fault.BadItem
+of_next (next.Items item.TooDeep) = fault.TooDeep
+of_next (next.Items item.OutOfMemory) = fault.OutOfMemory
+of_next next.PeerFailed = fault.PeerFailed
 
 -- the refusal of bytes that are no windows
 abbrev pub of_window : WindowFault → CommandFault

@@ -12,9 +12,12 @@ use Rattle.delta_editor.specs.declared.call.Call.{Call}
 use Rattle.delta_editor.specs.declared.call.Call.TheVariants as call
 use Rattle.delta_editor.specs.Nesting.{IsNested}
 use Rattle.delta_editor.specs.declared.fault.EditorFault.{EditorFault}
+use Rattle.byte_streams.specs.Causes.{Counts, Fails}
+use Rattle.ra_item.specs.declared.fault.NextFault.{NextFault}
+use Rattle.ra_edit.specs.EditFaults.{of_next}
 use Rattle.ra_edit.specs.Commands.{parts, edit_items, edit_bytes}
 use Rattle.ra_edit.specs.Edits.{At, Says, SumsTo, SpellsEdit}
-use Rattle.ra_edit.specs.ItemStreams.{Takes, Ends, Stops}
+use Rattle.ra_item.specs.ItemStreams.{Takes, Ends, Stops}
 use Rattle.ra_edit.specs.Received.{RefusesDrive}
 use Rattle.ra_edit.specs.Receiving.{Forms}
 use Rattle.ra_edit.specs.Refusals.{RefusesOne}
@@ -130,18 +133,18 @@ abbrev pub SaysSomeCommand : Type 0
 SaysSomeCommand = (at to : At) (item : Item) (calls : List Call) → Within item → Says at item calls to → (c : Command) × Forms c item
 
 -- a refusal for want of memory, by a read that failed, or the editor's own, of which this is known
-abbrev pub IsOnlyFor : (EditorFault → Type 0) → Bool → EditFault → Type 0
+abbrev pub IsOnlyFor : (EditorFault → Type 0) → Counts → EditFault → Type 0
 IsOnlyFor own failed fault.OutOfMemory = ⊤
-IsOnlyFor own failed fault.PeerFailed = failed ≡ true
+IsOnlyFor own failed fault.PeerFailed = Fails failed
 IsOnlyFor own failed (fault.Editor e) = own e
 IsOnlyFor own failed f = ⊥
 
 -- where an item that was written is to come, the bytes don't end before it, nor is the stream refused but for want of memory or by a
 -- read that failed
 abbrev pub WrittenComes : Type 0
-WrittenComes = (x : Item) (more : List ℕ) (before after : Option (List ℕ)) (was : List ℕ → Stream) → Within x → IsBefore (spell_all (row (x ∷ [])) ++ more) before was → ((whole : Bool) → Ends [] whole before after was → ⊥) × ((spent failed : Bool) (f : EditFault) → spent ≡ false → Stops [] before after was spent failed f → IsOnlyFor (λ e. ⊥) failed f)
+WrittenComes = (x : Item) (more : List ℕ) (before after : Option (List ℕ)) (was : List ℕ → Stream) → Within x → IsBefore (spell_all (row (x ∷ [])) ++ more) before was → ((whole : Bool) → Ends [] whole before after was → ⊥) × ((spent : Bool) (failed : Counts) (f : NextFault) → spent ≡ false → Stops [] before after was spent failed f → IsOnlyFor (λ e. ⊥) failed (of_next f))
 
 -- where an edit that was written is to come, it is refused only for want of memory, by a read that failed, or by the editor, which
 -- was shown the first of the edit's calls, each piece of a text in its parts, and may refuse the next one so
 abbrev pub WrittenIsNotRefused : {E O : Type 0} → (E → List Call → Type 0) → (E → O) → (O → List Call → Call → EditorFault → Type 0) → Type 0
-WrittenIsNotRefused shows began refuses = (editor : _) (n : ℕ) (base : Option ℕ) (body : List Call) (more : List ℕ) (before after : Option (List ℕ)) (was : List ℕ → Stream) (spent failed : Bool) (f : EditFault) → IsWritten n base body → IsBefore (edit_bytes (call.Target n ∷ call.OpenRoot base ∷ body) ++ more) before was → spent ≡ false → RefusesDrive shows began refuses editor before after was spent failed f → IsOnlyFor (RefusesOne shows began refuses editor (call.Target n ∷ call.OpenRoot base ∷ cut_all body)) failed f
+WrittenIsNotRefused shows began refuses = (editor : _) (n : ℕ) (base : Option ℕ) (body : List Call) (more : List ℕ) (before after : Option (List ℕ)) (was : List ℕ → Stream) (spent : Bool) (failed : Counts) (f : EditFault) → IsWritten n base body → IsBefore (edit_bytes (call.Target n ∷ call.OpenRoot base ∷ body) ++ more) before was → spent ≡ false → RefusesDrive shows began refuses editor before after was spent failed f → IsOnlyFor (RefusesOne shows began refuses editor (call.Target n ∷ call.OpenRoot base ∷ cut_all body)) failed f

@@ -1,5 +1,5 @@
 -- Which items are which calls of an editor: every form that a reader takes, the written one among them.
-use Rattle.std.specs.Prelude.{◌≡◌, ◌⊎◌, ℕ, ◌≤◌, Bool, true, false, List, [], ◌∷◌, ◌++◌, map, Option, Some, None, Ok, IfSome, codes, not, ◌&&◌}
+use Rattle.std.specs.Prelude.{◌≡◌, ◌⊎◌, ℕ, ◌≤◌, Bool, true, false, List, [], ◌∷◌, ◌++◌, map, Option, Some, None, Ok, IfSome, not, ◌&&◌}
 use Rattle.std.specs.List.{concat}
 use Rattle.hex.specs.Hex.{decode_sized}
 use Rattle.md5.specs.Md5.{md5}
@@ -11,9 +11,11 @@ use Rattle.node_base.specs.declared.node.Source.{Source}
 use Rattle.delta_editor.specs.declared.call.Call.{Call}
 use Rattle.delta_editor.specs.declared.call.Call.TheVariants as call
 use Rattle.ra_edit.specs.Commands.{list}
-use Rattle.ra_edit.specs.Streams.{reading, pieces_in, Reads}
-use Rattle.ra_edit.specs.Reading.{begin, is_between}
-use Rattle.ra_edit.specs.declared.reading.Reading.{Reading}
+use Rattle.svndiff.specs.Streams.{reading, pieces_in, Reads}
+use Rattle.svndiff.specs.Reading.{begin, is_between}
+use Rattle.svndiff.specs.declared.reading.Reading.{Reading}
+use Rattle.ra_edit.specs.Names.{word_of}
+use Rattle.ra_edit.specs.declared.name.Name.TheVariants as word
 
 -- a command of this name with these parameters; more behind them, and behind the parameters, is ignored
 abbrev pub IsCommand : List ℕ → List Item → Item → Type 0
@@ -89,26 +91,26 @@ SumsTo sum text = IfSome sum (λ s. s ≡ md5 text)
 
 -- what one item is behind others, and where the commands then stand: a chunk is pieces of a text, one for each window that has new data in it
 pub data Says : At → Item → List Call → At → Type 0 where
-  Target : (n : ℕ) (item : Item) → n ≤ 65535 → IsCommand (codes "target-rev") (Number n ∷ []) item → Says Begun item (call.Target n ∷ []) Targeted
-  OpenRoot : (at : At) (base : Option ℕ) (t : List ℕ) (b item : Item) → IsUnopened at → IsRevision base b → IsCommand (codes "open-root") (b ∷ Text t ∷ []) item → Says at item (call.OpenRoot base ∷ []) (Inside (named t [] Dir ∷ []))
-  AddDir : (u : List ℕ) (up : Path) (os : List Named) (text t : List ℕ) (p : Path) (from : Option Source) (s item : Item) → path_read text ≡ Ok p → is_free t (named u up Dir ∷ os) ≡ true → IsSource from s → IsCommand (codes "add-dir") (Text text ∷ Text u ∷ Text t ∷ s ∷ []) item → Says (Inside (named u up Dir ∷ os)) item (call.AddDir up p from ∷ []) (Inside (named t p Dir ∷ named u up Dir ∷ os))
-  OpenDir : (u : List ℕ) (up : Path) (os : List Named) (text t : List ℕ) (p : Path) (base : Option ℕ) (b item : Item) → path_read text ≡ Ok p → is_free t (named u up Dir ∷ os) ≡ true → IsRevision base b → IsCommand (codes "open-dir") (Text text ∷ Text u ∷ Text t ∷ b ∷ []) item → Says (Inside (named u up Dir ∷ os)) item (call.OpenDir up p base ∷ []) (Inside (named t p Dir ∷ named u up Dir ∷ os))
-  DeleteEntry : (u : List ℕ) (up : Path) (os : List Named) (text : List ℕ) (p : Path) (base : Option ℕ) (b item : Item) → path_read text ≡ Ok p → IsRevision base b → IsCommand (codes "delete-entry") (Text text ∷ b ∷ Text u ∷ []) item → Says (Inside (named u up Dir ∷ os)) item (call.DeleteEntry up p base ∷ []) (Inside (named u up Dir ∷ os))
-  AddFile : (u : List ℕ) (up : Path) (os : List Named) (text t : List ℕ) (p : Path) (from : Option Source) (s item : Item) → path_read text ≡ Ok p → is_free t (named u up Dir ∷ os) ≡ true → IsSource from s → IsCommand (codes "add-file") (Text text ∷ Text u ∷ Text t ∷ s ∷ []) item → Says (Inside (named u up Dir ∷ os)) item (call.AddFile up p from ∷ []) (Inside (named t p Fresh ∷ named u up Dir ∷ os))
-  OpenFile : (u : List ℕ) (up : Path) (os : List Named) (text t : List ℕ) (p : Path) (base : Option ℕ) (b item : Item) → path_read text ≡ Ok p → is_free t (named u up Dir ∷ os) ≡ true → IsRevision base b → IsCommand (codes "open-file") (Text text ∷ Text u ∷ Text t ∷ b ∷ []) item → Says (Inside (named u up Dir ∷ os)) item (call.OpenFile up p base ∷ []) (Inside (named t p Fresh ∷ named u up Dir ∷ os))
-  DirProp : (t : List ℕ) (p : Path) (os : List Named) (text : List ℕ) (name : Name) (value : Option (List ℕ)) (v item : Item) → IsOpenDir t p os → prop_name_read text ≡ Ok name → IsString value v → IsCommand (codes "change-dir-prop") (Text t ∷ Text text ∷ v ∷ []) item → Says (Inside os) item (call.DirProp p name value ∷ []) (Inside os)
-  FileProp : (t : List ℕ) (p : Path) (held : Held) (os : List Named) (text : List ℕ) (name : Name) (value : Option (List ℕ)) (v item : Item) → (held ≡ Dir → ⊥) → prop_name_read text ≡ Ok name → IsString value v → IsCommand (codes "change-file-prop") (Text t ∷ Text text ∷ v ∷ []) item → Says (Inside (named t p held ∷ os)) item (call.FileProp p name value ∷ []) (Inside (named t p held ∷ os))
-  TextStart : (t : List ℕ) (p : Path) (os : List Named) (sum : Items) (item : Item) → IsCommand (codes "apply-textdelta") (Text t ∷ Nested sum ∷ []) item → Says (Inside (named t p Fresh ∷ os)) item (call.TextStart p ∷ []) (Inside (named t p (Within [] begin) ∷ os))
-  Chunk : (t : List ℕ) (p : Path) (os : List Named) (text bytes : List ℕ) (r new : Reading) (pieces : List (List ℕ)) (item : Item) → reading (Reads text r) bytes ≡ Reads (text ++ concat pieces) new → pieces ≡ pieces_in r bytes → IsCommand (codes "textdelta-chunk") (Text t ∷ Text bytes ∷ []) item → Says (Inside (named t p (Within text r) ∷ os)) item (map (call.TextPiece p) pieces) (Inside (named t p (Within (text ++ concat pieces) new) ∷ os))
-  TextEnd : (t : List ℕ) (p : Path) (os : List Named) (text : List ℕ) (r : Reading) (item : Item) → is_between r ≡ true → IsCommand (codes "textdelta-end") (Text t ∷ []) item → Says (Inside (named t p (Within text r) ∷ os)) item (call.TextEnd p ∷ []) (Inside (named t p (Told text) ∷ os))
-  CloseFresh : (t : List ℕ) (p : Path) (os : List Named) (sum : Option (List ℕ)) (s item : Item) → IsSum sum s → IsCommand (codes "close-file") (Text t ∷ s ∷ []) item → Says (Inside (named t p Fresh ∷ os)) item (call.CloseFile p sum ∷ []) (Inside os)
-  CloseTold : (t : List ℕ) (p : Path) (os : List Named) (text : List ℕ) (sum : Option (List ℕ)) (s item : Item) → SumsTo sum text → IsSum sum s → IsCommand (codes "close-file") (Text t ∷ s ∷ []) item → Says (Inside (named t p (Told text) ∷ os)) item (call.CloseFile p sum ∷ []) (Inside os)
-  CloseDir : (t : List ℕ) (p : Path) (os : List Named) (item : Item) → IsCommand (codes "close-dir") (Text t ∷ []) item → Says (Inside (named t p Dir ∷ os)) item (call.CloseDir p ∷ []) (Inside os)
-  CloseEdit : (item : Item) → IsCommand (codes "close-edit") [] item → Says (Inside []) item [] (Announced true)
-  CloseNone : (at : At) (item : Item) → IsUnopened at → IsCommand (codes "close-edit") [] item → Says at item [] (Announced false)
-  Finish : (item : Item) → IsCommand (codes "finish-replay") [] item → Says (Inside []) item (last_calls true) Ended
-  FinishNone : (at : At) (item : Item) → IsUnopened at → IsCommand (codes "finish-replay") [] item → Says at item (last_calls false) Ended
-  FinishAnnounced : (root : Bool) (item : Item) → IsCommand (codes "finish-replay") [] item → Says (Announced root) item (last_calls root) Ended
+  Target : (n : ℕ) (item : Item) → n ≤ 65535 → IsCommand (word_of word.TargetRev) (Number n ∷ []) item → Says Begun item (call.Target n ∷ []) Targeted
+  OpenRoot : (at : At) (base : Option ℕ) (t : List ℕ) (b item : Item) → IsUnopened at → IsRevision base b → IsCommand (word_of word.OpenRoot) (b ∷ Text t ∷ []) item → Says at item (call.OpenRoot base ∷ []) (Inside (named t [] Dir ∷ []))
+  AddDir : (u : List ℕ) (up : Path) (os : List Named) (text t : List ℕ) (p : Path) (from : Option Source) (s item : Item) → path_read text ≡ Ok p → is_free t (named u up Dir ∷ os) ≡ true → IsSource from s → IsCommand (word_of word.AddDir) (Text text ∷ Text u ∷ Text t ∷ s ∷ []) item → Says (Inside (named u up Dir ∷ os)) item (call.AddDir up p from ∷ []) (Inside (named t p Dir ∷ named u up Dir ∷ os))
+  OpenDir : (u : List ℕ) (up : Path) (os : List Named) (text t : List ℕ) (p : Path) (base : Option ℕ) (b item : Item) → path_read text ≡ Ok p → is_free t (named u up Dir ∷ os) ≡ true → IsRevision base b → IsCommand (word_of word.OpenDir) (Text text ∷ Text u ∷ Text t ∷ b ∷ []) item → Says (Inside (named u up Dir ∷ os)) item (call.OpenDir up p base ∷ []) (Inside (named t p Dir ∷ named u up Dir ∷ os))
+  DeleteEntry : (u : List ℕ) (up : Path) (os : List Named) (text : List ℕ) (p : Path) (base : Option ℕ) (b item : Item) → path_read text ≡ Ok p → IsRevision base b → IsCommand (word_of word.DeleteEntry) (Text text ∷ b ∷ Text u ∷ []) item → Says (Inside (named u up Dir ∷ os)) item (call.DeleteEntry up p base ∷ []) (Inside (named u up Dir ∷ os))
+  AddFile : (u : List ℕ) (up : Path) (os : List Named) (text t : List ℕ) (p : Path) (from : Option Source) (s item : Item) → path_read text ≡ Ok p → is_free t (named u up Dir ∷ os) ≡ true → IsSource from s → IsCommand (word_of word.AddFile) (Text text ∷ Text u ∷ Text t ∷ s ∷ []) item → Says (Inside (named u up Dir ∷ os)) item (call.AddFile up p from ∷ []) (Inside (named t p Fresh ∷ named u up Dir ∷ os))
+  OpenFile : (u : List ℕ) (up : Path) (os : List Named) (text t : List ℕ) (p : Path) (base : Option ℕ) (b item : Item) → path_read text ≡ Ok p → is_free t (named u up Dir ∷ os) ≡ true → IsRevision base b → IsCommand (word_of word.OpenFile) (Text text ∷ Text u ∷ Text t ∷ b ∷ []) item → Says (Inside (named u up Dir ∷ os)) item (call.OpenFile up p base ∷ []) (Inside (named t p Fresh ∷ named u up Dir ∷ os))
+  DirProp : (t : List ℕ) (p : Path) (os : List Named) (text : List ℕ) (name : Name) (value : Option (List ℕ)) (v item : Item) → IsOpenDir t p os → prop_name_read text ≡ Ok name → IsString value v → IsCommand (word_of word.ChangeDirProp) (Text t ∷ Text text ∷ v ∷ []) item → Says (Inside os) item (call.DirProp p name value ∷ []) (Inside os)
+  FileProp : (t : List ℕ) (p : Path) (held : Held) (os : List Named) (text : List ℕ) (name : Name) (value : Option (List ℕ)) (v item : Item) → (held ≡ Dir → ⊥) → prop_name_read text ≡ Ok name → IsString value v → IsCommand (word_of word.ChangeFileProp) (Text t ∷ Text text ∷ v ∷ []) item → Says (Inside (named t p held ∷ os)) item (call.FileProp p name value ∷ []) (Inside (named t p held ∷ os))
+  TextStart : (t : List ℕ) (p : Path) (os : List Named) (sum : Items) (item : Item) → IsCommand (word_of word.ApplyTextdelta) (Text t ∷ Nested sum ∷ []) item → Says (Inside (named t p Fresh ∷ os)) item (call.TextStart p ∷ []) (Inside (named t p (Within [] begin) ∷ os))
+  Chunk : (t : List ℕ) (p : Path) (os : List Named) (text bytes : List ℕ) (r new : Reading) (pieces : List (List ℕ)) (item : Item) → reading (Reads text r) bytes ≡ Reads (text ++ concat pieces) new → pieces ≡ pieces_in r bytes → IsCommand (word_of word.TextdeltaChunk) (Text t ∷ Text bytes ∷ []) item → Says (Inside (named t p (Within text r) ∷ os)) item (map (call.TextPiece p) pieces) (Inside (named t p (Within (text ++ concat pieces) new) ∷ os))
+  TextEnd : (t : List ℕ) (p : Path) (os : List Named) (text : List ℕ) (r : Reading) (item : Item) → is_between r ≡ true → IsCommand (word_of word.TextdeltaEnd) (Text t ∷ []) item → Says (Inside (named t p (Within text r) ∷ os)) item (call.TextEnd p ∷ []) (Inside (named t p (Told text) ∷ os))
+  CloseFresh : (t : List ℕ) (p : Path) (os : List Named) (sum : Option (List ℕ)) (s item : Item) → IsSum sum s → IsCommand (word_of word.CloseFile) (Text t ∷ s ∷ []) item → Says (Inside (named t p Fresh ∷ os)) item (call.CloseFile p sum ∷ []) (Inside os)
+  CloseTold : (t : List ℕ) (p : Path) (os : List Named) (text : List ℕ) (sum : Option (List ℕ)) (s item : Item) → SumsTo sum text → IsSum sum s → IsCommand (word_of word.CloseFile) (Text t ∷ s ∷ []) item → Says (Inside (named t p (Told text) ∷ os)) item (call.CloseFile p sum ∷ []) (Inside os)
+  CloseDir : (t : List ℕ) (p : Path) (os : List Named) (item : Item) → IsCommand (word_of word.CloseDir) (Text t ∷ []) item → Says (Inside (named t p Dir ∷ os)) item (call.CloseDir p ∷ []) (Inside os)
+  CloseEdit : (item : Item) → IsCommand (word_of word.CloseEdit) [] item → Says (Inside []) item [] (Announced true)
+  CloseNone : (at : At) (item : Item) → IsUnopened at → IsCommand (word_of word.CloseEdit) [] item → Says at item [] (Announced false)
+  Finish : (item : Item) → IsCommand (word_of word.FinishReplay) [] item → Says (Inside []) item (last_calls true) Ended
+  FinishNone : (at : At) (item : Item) → IsUnopened at → IsCommand (word_of word.FinishReplay) [] item → Says at item (last_calls false) Ended
+  FinishAnnounced : (root : Bool) (item : Item) → IsCommand (word_of word.FinishReplay) [] item → Says (Announced root) item (last_calls root) Ended
 
 -- items one after another
 pub data AllSay : At → List Item → List Call → At → Type 0 where

@@ -1,16 +1,8 @@
+pub mod Names
 pub mod Commands
 pub mod EditLaws
 pub mod Edits
-pub mod Faults
-pub mod Grammar
-pub mod Groups
-pub mod Laws
-pub mod Reading
-pub mod Spelling
-pub mod Streams
 pub mod EditFaults
-pub mod Rests
-pub mod ItemStreams
 pub mod Receiving
 pub mod Edit
 pub mod Refusals

@@ -1,5 +1,5 @@
 -- What was read of a drive, and what its editor was shown.
-use Rattle.std.specs.Prelude.{◌≡◌, ◌⊎◌, ℕ, Bool, true, List, [], ◌∷◌, ◌++◌, Option, codes}
+use Rattle.std.specs.Prelude.{◌≡◌, ◌⊎◌, ℕ, Bool, true, List, [], ◌∷◌, ◌++◌, Option}
 use Rattle.ra_item.specs.Items.{Item}
 use Rattle.ra_item.specs.Streams.{Stream}
 use Rattle.delta_editor.specs.Calls.{Adds}
@@ -7,15 +7,19 @@ use Rattle.delta_editor.specs.declared.call.Call.{Call}
 use Rattle.delta_editor.specs.declared.fault.EditorFault.{EditorFault}
 use Rattle.ra_edit.specs.Edits.{At, Begun, Ended, AllSay, SpellsEdit, IsCommand}
 use Rattle.ra_edit.specs.Edit.{Stepped}
-use Rattle.ra_edit.specs.EditFaults.{of_command, of_shape}
+use Rattle.byte_streams.specs.Causes.{Counts}
+use Rattle.ra_item.specs.declared.fault.NextFault.{NextFault}
+use Rattle.ra_edit.specs.EditFaults.{of_command, of_next, of_shape}
 use Rattle.ra_edit.specs.Receiving.{Forms, IsNoCommand}
 use Rattle.ra_edit.specs.Refusals.{refusal, RefusedFor, IfOwn, Meets}
-use Rattle.ra_edit.specs.ItemStreams.{Takes, Ends, Stops}
+use Rattle.ra_item.specs.ItemStreams.{Takes, Ends, Stops}
 use Rattle.ra_edit.specs.declared.command_fault.CommandFault.{CommandFault}
 use Rattle.ra_edit.specs.declared.receive_command.Command.{Command}
 use Rattle.ra_edit.specs.declared.shape_fault.ShapeFault.{ShapeFault}
 use Rattle.ra_edit.specs.declared.edit_fault.EditFault.{EditFault}
 use Rattle.ra_edit.specs.declared.edit_fault.EditFault.TheVariants as fault
+use Rattle.ra_edit.specs.Names.{word_of}
+use Rattle.ra_edit.specs.declared.name.Name.TheVariants as word
 
 -- these items were read and are these calls, which an editor was shown, and so the commands stand
 pub record Goes {E : Type 0} (shows : E → List Call → Type 0) (old new : E) (before after : Option (List ℕ)) (was is : List ℕ → Stream) (stands : At → Type 0) : Type 0 where
@@ -35,7 +39,7 @@ pub record Comes {E : Type 0} (shows : E → List Call → Type 0) (old new : E)
   pub at : At
   pub taken : Takes (items ++ last ∷ []) before after was is
   pub say : AllSay Begun items calls at
-  pub end : IsCommand (codes "finish-replay") [] last
+  pub end : IsCommand (word_of word.FinishReplay) [] last
   pub shown : Adds shows old new calls
   pub here : stands at
 
@@ -68,15 +72,15 @@ pub record RefusesItem (met : At → Command → EditorFault → Type 0) (items 
   pub due : (at : At) → stood at → IsRefused met at item why
 
 -- behind these items the stream was refused, or ended, or the next item was refused
-abbrev pub StopsBehind : (At → Command → EditorFault → Type 0) → List Item → (At → Type 0) → Option (List ℕ) → Option (List ℕ) → (List ℕ → Stream) → Bool → Bool → EditFault → Type 0
-StopsBehind met items stood before after was spent failed f = Stops items before after was spent failed f ⊎ (((f ≡ fault.BadShape) × Ends items true before after was) ⊎ RefusesItem met items stood before after was f)
+abbrev pub StopsBehind : (At → Command → EditorFault → Type 0) → List Item → (At → Type 0) → Option (List ℕ) → Option (List ℕ) → (List ℕ → Stream) → Bool → Counts → EditFault → Type 0
+StopsBehind met items stood before after was spent failed f = ((e : NextFault) × (f ≡ of_next e) × Stops items before after was spent failed e) ⊎ (((f ≡ fault.BadShape) × Ends items true before after was) ⊎ RefusesItem met items stood before after was f)
 
 -- what an editor was shown, once these calls are
 abbrev pub ShownBefore : {E : Type 0} → (E → List Call → Type 0) → List Call → E → List Call → Type 0
 ShownBefore shows calls e all = (shown : List Call) × shows e shown × (all ≡ shown ++ calls)
 
 -- a drive was refused behind items that are calls of an edit up to some place before its end; by the editor, where it may refuse a call behind these
-pub record RefusesDrive {E O : Type 0} (shows : E → List Call → Type 0) (began : E → O) (refuses : O → List Call → Call → EditorFault → Type 0) (editor : E) (before after : Option (List ℕ)) (was : List ℕ → Stream) (spent failed : Bool) (f : EditFault) : Type 0 where
+pub record RefusesDrive {E O : Type 0} (shows : E → List Call → Type 0) (began : E → O) (refuses : O → List Call → Call → EditorFault → Type 0) (editor : E) (before after : Option (List ℕ)) (was : List ℕ → Stream) (spent : Bool) (failed : Counts) (f : EditFault) : Type 0 where
   pub items : List Item
   pub calls : List Call
   pub at : At

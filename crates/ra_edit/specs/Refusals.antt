@@ -11,9 +11,9 @@ use Rattle.delta_editor.specs.declared.call.Call.TheVariants as call
 use Rattle.delta_editor.specs.declared.fault.EditorFault.{EditorFault}
 use Rattle.ra_edit.specs.Edits.{Held, Dir, Fresh, Within, Told, Named, is_free, IsOpenDir, At, Begun, Inside, Announced, Says, last_calls}
 use Rattle.ra_edit.specs.Receiving.{Forms}
-use Rattle.ra_edit.specs.Reading.{is_between, is_failed}
-use Rattle.ra_edit.specs.declared.reading.Reading.{Reading}
-use Rattle.ra_edit.specs.Streams.{Stream, Reads, Refuses, reading, pieces_in}
+use Rattle.svndiff.specs.Reading.{is_between, is_failed}
+use Rattle.svndiff.specs.declared.reading.Reading.{Reading}
+use Rattle.svndiff.specs.Streams.{Stream, Reads, Refuses, reading, pieces_in}
 use Rattle.ra_edit.specs.declared.command_fault.CommandFault.{CommandFault}
 use Rattle.ra_edit.specs.declared.command_fault.CommandFault.TheVariants as fault
 use Rattle.ra_edit.specs.declared.receive_command.Command.{Command}

@@ -52,6 +52,10 @@ done_held_before contents d = contents d.start.value
 abbrev pub writer_of : {T : Type 0} → Written T → T
 writer_of d = d.out
 
+-- the writer that an editor writes to
+abbrev pub inner_of : {T : Type 0} → WireEditor T → T
+inner_of e = writer_inner e.out
+
 -- how many bytes the editor has room to keep back
 abbrev pub room_of : {T : Type 0} → WireEditor T → ℕ
 room_of e = writer_capacity e.out

@@ -2,7 +2,7 @@
 use Rattle.std.specs.Prelude.{ℕ, List, [], ◌∷◌, ◌++◌, map}
 use Rattle.ra_item.specs.Items.{Text, row, spell_all}
 use Rattle.ra_edit.specs.Commands.{token, chunk}
-use Rattle.ra_edit.specs.Spelling.{window}
+use Rattle.svndiff.specs.Spelling.{window}
 
 -- what stands in front of a command's parameters, and behind them
 abbrev pub before_params : List ℕ → List ℕ

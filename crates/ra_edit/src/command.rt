@@ -2,29 +2,33 @@
 //!
 //! Each `Err` is the writer's own; then some of the bytes may have been written.
 
-ghost use Rattle.std.specs.Prelude.{◌≡◌, ◌<◌, ◌≤◌, ◌+◌, ℕ, List, [], ◌∷◌, ◌++◌, Some, None, codes, length, OnOk};
+ghost use Rattle.std.specs.Prelude.{◌≡◌, ◌<◌, ◌≤◌, ◌+◌, ℕ, List, [], ◌∷◌, ◌++◌, Some};
+ghost use Rattle.std.specs.Prelude.{None, length, OnOk};
 ghost use Rattle.std.specs.Option.{option_copied, option_map};
 ghost use Rattle.std.specs.Fmt.{decimal};
 ghost use Rattle.std.specs.Io.KnownBytes.{Appends};
 ghost use Rattle.hex.specs.Hex.{encode_lower};
 ghost use Rattle.ra_item.specs.Items.{spell, Text, Number};
 ghost use Rattle.node_base.specs.PathText.{path_text};
+ghost use Rattle.ra_edit.specs.Names.{word_of};
+ghost use Rattle.ra_edit.specs.declared.name.Name.TheVariants as word;
 ghost use Rattle.ra_edit.specs.Commands.{list, command, revision, string, source, sum_text, token, chunk, parts};
-ghost use Rattle.ra_edit.specs.Spelling.{head, window};
+ghost use Rattle.svndiff.specs.Spelling.{head, window};
 ghost use Rattle.ra_edit.specs.Written.{before_params, behind_params, chunks};
 
-use crate::writer::{PIECE, window_size, write_window};
+use crate::name::Name;
 use node_base::{NodePath, RevNo, Source};
 use ra_item::writer::{write_close, write_number, write_open, write_text, write_word};
 use std::io;
 use std::io::Write;
+use svndiff::writer::{PIECE, window_size, write_window};
 
 /// What stands in front of a command's parameters.
-fn write_name<W: Write>(out: &mut W, name: &[u8]) -> io::Result<()>
-    ensures { OnOk result (Appends (W.contents out.old) (W.contents out.new) (before_params name.now)) }
+fn write_name<W: Write>(out: &mut W, name: Name) -> io::Result<()>
+    ensures { OnOk result (Appends (W.contents out.old) (W.contents out.new) (before_params (word_of name))) }
 {
     write_open(out)?;
-    write_word(out, name)?;
+    write_word(out, name.word().as_bytes())?;
     write_open(out)
 }
 
@@ -75,7 +79,8 @@ fn write_revision<W: Write>(out: &mut W, base: Option<RevNo>) -> io::Result<()>
 
 /// A string that may be missing.
 fn write_string<W: Write>(out: &mut W, value: Option<&[u8]>) -> io::Result<()>
-    ensures { OnOk result (Appends (W.contents out.old) (W.contents out.new) (spell (string (option_map (λ v. v.now) value.entry)))) }
+    ensures { OnOk result (Appends (W.contents out.old) (W.contents out.new)
+        (spell (string (option_map (λ v. v.now) value.entry)))) }
 {
     match value {
         Some(value) => {
@@ -89,7 +94,8 @@ fn write_string<W: Write>(out: &mut W, value: Option<&[u8]>) -> io::Result<()>
 
 /// Where a copy comes from.
 fn write_source<W: Write>(out: &mut W, from: Option<&Source>) -> io::Result<()>
-    ensures { OnOk result (Appends (W.contents out.old) (W.contents out.new) (spell (source (option_copied from.entry)))) }
+    ensures { OnOk result (Appends (W.contents out.old) (W.contents out.new)
+        (spell (source (option_copied from.entry)))) }
 {
     match from {
         Some(from) => {
@@ -126,8 +132,9 @@ fn write_sum<W: Write>(out: &mut W, sum: Option<[u8; 16]>) -> io::Result<()>
 }
 
 /// A command that says a number: the revision that is shown.
-pub fn write_numbered<W: Write>(out: &mut W, name: &[u8], number: u16) -> io::Result<()>
-    ensures { OnOk result (Appends (W.contents out.old) (W.contents out.new) (spell (command name.now (Number number ∷ [])))) }
+pub fn write_numbered<W: Write>(out: &mut W, name: Name, number: u16) -> io::Result<()>
+    ensures { OnOk result (Appends (W.contents out.old) (W.contents out.new)
+        (spell (command (word_of name) (Number number ∷ [])))) }
 {
     write_name(out, name)?;
     write_number(out, u64::from(number))?;
@@ -137,11 +144,12 @@ pub fn write_numbered<W: Write>(out: &mut W, name: &[u8], number: u16) -> io::Re
 /// The root is opened.
 pub fn write_open_root<W: Write>(
     out: &mut W,
-    name: &[u8],
+    name: Name,
     base: Option<RevNo>,
     child: u64,
 ) -> io::Result<()>
-    ensures { OnOk result (Appends (W.contents out.old) (W.contents out.new) (spell (command name.now (revision base ∷ Text (token child) ∷ [])))) }
+    ensures { OnOk result (Appends (W.contents out.old) (W.contents out.new)
+        (spell (command (word_of name) (revision base ∷ Text (token child) ∷ [])))) }
 {
     write_name(out, name)?;
     write_revision(out, base)?;
@@ -152,13 +160,16 @@ pub fn write_open_root<W: Write>(
 /// A directory or a file is added, as the name of the command says.
 pub fn write_add<W: Write>(
     out: &mut W,
-    name: &[u8],
+    name: Name,
     path: &NodePath,
     up: u64,
     child: u64,
     from: Option<&Source>,
 ) -> io::Result<()>
-    ensures { OnOk result (Appends (W.contents out.old) (W.contents out.new) (spell (command name.now (Text (path_text path.now) ∷ Text (token up) ∷ Text (token child) ∷ source (option_copied from.entry) ∷ [])))) }
+    ensures { OnOk result (Appends (W.contents out.old) (W.contents out.new)
+        (spell (command (word_of name)
+        (Text (path_text path.now) ∷ Text (token up) ∷ Text (token child) ∷ source
+        (option_copied from.entry) ∷ [])))) }
 {
     write_name(out, name)?;
     write_path(out, path)?;
@@ -171,13 +182,15 @@ pub fn write_add<W: Write>(
 /// A directory or a file is opened, as the name of the command says.
 pub fn write_open_node<W: Write>(
     out: &mut W,
-    name: &[u8],
+    name: Name,
     path: &NodePath,
     up: u64,
     child: u64,
     base: Option<RevNo>,
 ) -> io::Result<()>
-    ensures { OnOk result (Appends (W.contents out.old) (W.contents out.new) (spell (command name.now (Text (path_text path.now) ∷ Text (token up) ∷ Text (token child) ∷ revision base ∷ [])))) }
+    ensures { OnOk result (Appends (W.contents out.old) (W.contents out.new)
+        (spell (command (word_of name)
+        (Text (path_text path.now) ∷ Text (token up) ∷ Text (token child) ∷ revision base ∷ [])))) }
 {
     write_name(out, name)?;
     write_path(out, path)?;
@@ -190,12 +203,13 @@ pub fn write_open_node<W: Write>(
 /// An entry is deleted.
 pub fn write_delete<W: Write>(
     out: &mut W,
-    name: &[u8],
+    name: Name,
     path: &NodePath,
     base: Option<RevNo>,
     up: u64,
 ) -> io::Result<()>
-    ensures { OnOk result (Appends (W.contents out.old) (W.contents out.new) (spell (command name.now (Text (path_text path.now) ∷ revision base ∷ Text (token up) ∷ [])))) }
+    ensures { OnOk result (Appends (W.contents out.old) (W.contents out.new)
+        (spell (command (word_of name) (Text (path_text path.now) ∷ revision base ∷ Text (token up) ∷ [])))) }
 {
     write_name(out, name)?;
     write_path(out, path)?;
@@ -207,12 +221,14 @@ pub fn write_delete<W: Write>(
 /// A property gets a value or is removed, a directory's or a file's, as the name of the command says.
 pub fn write_prop<W: Write>(
     out: &mut W,
-    name: &[u8],
+    name: Name,
     at: u64,
     prop: &[u8],
     value: Option<&[u8]>,
 ) -> io::Result<()>
-    ensures { OnOk result (Appends (W.contents out.old) (W.contents out.new) (spell (command name.now (Text (token at) ∷ Text prop.now ∷ string (option_map (λ v. v.now) value.entry) ∷ [])))) }
+    ensures { OnOk result (Appends (W.contents out.old) (W.contents out.new)
+        (spell (command (word_of name)
+        (Text (token at) ∷ Text prop.now ∷ string (option_map (λ v. v.now) value.entry) ∷ [])))) }
 {
     write_name(out, name)?;
     write_token(out, at)?;
@@ -222,8 +238,9 @@ pub fn write_prop<W: Write>(
 }
 
 /// A command that names a file and has empty brackets behind it.
-fn write_start<W: Write>(out: &mut W, name: &[u8], file: u64) -> io::Result<()>
-    ensures { OnOk result (Appends (W.contents out.old) (W.contents out.new) (spell (command name.now (Text (token file) ∷ list [] ∷ [])))) }
+fn write_start<W: Write>(out: &mut W, name: Name, file: u64) -> io::Result<()>
+    ensures { OnOk result (Appends (W.contents out.old) (W.contents out.new)
+        (spell (command (word_of name) (Text (token file) ∷ list [] ∷ [])))) }
 {
     write_name(out, name)?;
     write_token(out, file)?;
@@ -232,8 +249,9 @@ fn write_start<W: Write>(out: &mut W, name: &[u8], file: u64) -> io::Result<()>
 }
 
 /// A chunk of these bytes.
-fn write_bytes<W: Write>(out: &mut W, name: &[u8], file: u64, bytes: &[u8]) -> io::Result<()>
-    ensures { OnOk result (Appends (W.contents out.old) (W.contents out.new) (spell (command name.now (Text (token file) ∷ Text bytes.now ∷ [])))) }
+fn write_bytes<W: Write>(out: &mut W, name: Name, file: u64, bytes: &[u8]) -> io::Result<()>
+    ensures { OnOk result (Appends (W.contents out.old) (W.contents out.new)
+        (spell (command (word_of name) (Text (token file) ∷ Text bytes.now ∷ [])))) }
 {
     write_name(out, name)?;
     write_token(out, file)?;
@@ -243,10 +261,12 @@ fn write_bytes<W: Write>(out: &mut W, name: &[u8], file: u64, bytes: &[u8]) -> i
 
 /// A text begins: the command, and a chunk with the four bytes in front of all windows.
 pub fn write_text_start<W: Write>(out: &mut W, file: u64) -> io::Result<()>
-    ensures { OnOk result (Appends (W.contents out.old) (W.contents out.new) (spell (command (codes "apply-textdelta") (Text (token file) ∷ list [] ∷ [])) ++ spell (chunk (Text (token file)) head))) }
+    ensures { OnOk result (Appends (W.contents out.old) (W.contents out.new)
+        (spell (command (word_of word.ApplyTextdelta) (Text (token file) ∷ list [] ∷ []))
+        ++ spell (chunk (Text (token file)) head))) }
 {
-    write_start(out, b"apply-textdelta", file)?;
-    write_bytes(out, b"textdelta-chunk", file, b"SVN\x00")
+    write_start(out, Name::ApplyTextdelta, file)?;
+    write_bytes(out, Name::TextdeltaChunk, file, b"SVN\x00")
 }
 
 /// A window as a string.
@@ -261,9 +281,10 @@ fn write_window_text<W: Write>(out: &mut W, bytes: &[u8]) -> io::Result<()>
 }
 
 /// A window in a chunk of its own.
-fn write_chunk<W: Write>(out: &mut W, name: &[u8], file: u64, bytes: &[u8]) -> io::Result<()>
+fn write_chunk<W: Write>(out: &mut W, name: Name, file: u64, bytes: &[u8]) -> io::Result<()>
     requires { length bytes.now ≤ 65536 }
-    ensures { OnOk result (Appends (W.contents out.old) (W.contents out.new) (spell (command name.now (Text (token file) ∷ Text (window bytes.now) ∷ [])))) }
+    ensures { OnOk result (Appends (W.contents out.old) (W.contents out.new)
+        (spell (command (word_of name) (Text (token file) ∷ Text (window bytes.now) ∷ [])))) }
 {
     write_name(out, name)?;
     write_token(out, file)?;
@@ -278,15 +299,16 @@ pub fn write_piece<W: Write>(out: &mut W, file: u64, piece: &[u8]) -> io::Result
     let mut rest = piece;
     while rest.len() > 0 {
         let (part, behind) = rest.split_at(rest.len().min(PIECE));
-        write_chunk(out, b"textdelta-chunk", file, part)?;
+        write_chunk(out, Name::TextdeltaChunk, file, part)?;
         rest = behind;
     }
     Ok(())
 }
 
 /// A command that names what is open and says no more: a text ends, or a directory is closed.
-pub fn write_ended<W: Write>(out: &mut W, name: &[u8], at: u64) -> io::Result<()>
-    ensures { OnOk result (Appends (W.contents out.old) (W.contents out.new) (spell (command name.now (Text (token at) ∷ [])))) }
+pub fn write_ended<W: Write>(out: &mut W, name: Name, at: u64) -> io::Result<()>
+    ensures { OnOk result (Appends (W.contents out.old) (W.contents out.new)
+        (spell (command (word_of name) (Text (token at) ∷ [])))) }
 {
     write_name(out, name)?;
     write_token(out, at)?;
@@ -296,11 +318,12 @@ pub fn write_ended<W: Write>(out: &mut W, name: &[u8], at: u64) -> io::Result<()
 /// A file is closed.
 pub fn write_close_file<W: Write>(
     out: &mut W,
-    name: &[u8],
+    name: Name,
     file: u64,
     sum: Option<[u8; 16]>,
 ) -> io::Result<()>
-    ensures { OnOk result (Appends (W.contents out.old) (W.contents out.new) (spell (command name.now (Text (token file) ∷ string (sum_text sum) ∷ [])))) }
+    ensures { OnOk result (Appends (W.contents out.old) (W.contents out.new)
+        (spell (command (word_of name) (Text (token file) ∷ string (sum_text sum) ∷ [])))) }
 {
     write_name(out, name)?;
     write_token(out, file)?;
@@ -309,8 +332,8 @@ pub fn write_close_file<W: Write>(
 }
 
 /// A command that says nothing more: the end of an edit.
-pub fn write_bare<W: Write>(out: &mut W, name: &[u8]) -> io::Result<()>
-    ensures { OnOk result (Appends (W.contents out.old) (W.contents out.new) (spell (command name.now []))) }
+pub fn write_bare<W: Write>(out: &mut W, name: Name) -> io::Result<()>
+    ensures { OnOk result (Appends (W.contents out.old) (W.contents out.new) (spell (command (word_of name) []))) }
 {
     write_name(out, name)?;
     write_end(out)

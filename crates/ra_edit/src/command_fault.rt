@@ -4,9 +4,9 @@ ghost use Rattle.std.specs.Prelude.{◌≡◌};
 ghost use Rattle.ra_edit.specs.EditFaults.{of_window};
 ghost use Rattle.ra_edit.specs.declared.command_fault.CommandFault.TheVariants as fault;
 
-use crate::fault::WindowFault;
 use delta_editor::EditorFault;
 use std::alloc::{AllocError, AllocFailed};
+use svndiff::fault::WindowFault;
 use thiserror::Error;
 
 /// Why an item is no command of a drive, or one that can't be done. None of these is the stream's.
@@ -27,8 +27,8 @@ pub enum CommandFault {
     /// A window of a text copies (45).
     #[error("window copies")]
     CopyWindow,
-    /// A command names what isn't open, isn't the innermost open thing or is of another kind; a new token is in use; or something is
-    /// open at the end (46).
+    /// A command names what isn't open, isn't the innermost open thing or is of another kind; a new token is in
+    /// use; or something is open at the end (46).
     #[error("bad token")]
     BadToken,
     /// No editor command, one out of its place, a path, a property's name or a revision that is none (48).

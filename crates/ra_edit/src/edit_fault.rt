@@ -1,11 +1,11 @@
 //! Why a drive isn't received.
 
 ghost use Rattle.std.specs.Prelude.{◌≡◌};
-ghost use Rattle.ra_edit.specs.EditFaults.{edit_number, of_item, of_command};
+ghost use Rattle.ra_edit.specs.EditFaults.{edit_number, of_next, of_command};
 
 use crate::command_fault::CommandFault;
 use delta_editor::EditorFault;
-use ra_item::fault::ItemFault;
+use ra_item::fault::{ItemFault, NextFault};
 use thiserror::Error;
 
 /// Why items don't come, or why they are no drive of an editor.
@@ -35,14 +35,15 @@ pub enum EditFault {
     /// A window of a text copies (45).
     #[error("window copies")]
     CopyWindow,
-    /// A command names what isn't open, isn't the innermost open thing or is of another kind; a new token is in use; or something is
-    /// open at the end (46).
+    /// A command names what isn't open, isn't the innermost open thing or is of another kind; a new token is in
+    /// use; or something is open at the end (46).
     #[error("bad token")]
     BadToken,
-    /// No editor command, one out of its place, a path, a property's name or a revision that is none, or the input's end between items (48).
+    /// No editor command, one out of its place, a path, a property's name or a revision that is none, or the
+    /// input's end between items (48).
     #[error("bad command shape")]
     BadShape,
-    /// A read failed (49).
+    /// A read failed, or the input was read as often as one stream may be (49).
     #[error("stream failed")]
     PeerFailed,
     /// The peer gave the drive up: `abort-edit`, or a failure in place of a command (60).
@@ -80,17 +81,18 @@ impl EditFault {
     }
 }
 
-impl From<ItemFault> for EditFault {
-    ghost from_gives = { λ f e. e ≡ of_item f };
+impl From<NextFault> for EditFault {
+    ghost from_gives = { λ f e. e ≡ of_next f };
 
-    fn from(fault: ItemFault) -> EditFault {
+    fn from(fault: NextFault) -> EditFault {
         match fault {
-            ItemFault::Truncated => EditFault::Truncated,
-            ItemFault::TooLong => EditFault::TooLong,
-            ItemFault::Failed => EditFault::Failed,
-            ItemFault::BadItem => EditFault::BadItem,
-            ItemFault::TooDeep => EditFault::TooDeep,
-            ItemFault::OutOfMemory => EditFault::OutOfMemory,
+            NextFault::Items(ItemFault::Truncated) => EditFault::Truncated,
+            NextFault::Items(ItemFault::TooLong) => EditFault::TooLong,
+            NextFault::Items(ItemFault::Failed) => EditFault::Failed,
+            NextFault::Items(ItemFault::BadItem) => EditFault::BadItem,
+            NextFault::Items(ItemFault::TooDeep) => EditFault::TooDeep,
+            NextFault::Items(ItemFault::OutOfMemory) => EditFault::OutOfMemory,
+            NextFault::PeerFailed => EditFault::PeerFailed,
         }
     }
 }

@@ -1,40 +1,13 @@
-//! Laws of texts in windows, over all bytes, and of edits in items. Each is proved as the contract of a function that does nothing.
+//! Laws of edits in items, and of texts in windows. Each is proved as the contract of a function that does nothing.
 
-ghost use Rattle.ra_edit.specs.EditLaws.{WrittenIsEdit, OneEdit, EndsOnce, WrittenIsTaken, WrittenIsReceived, WrittenComes, SaysSomeCommand, WrittenIsNotRefused};
+ghost use Rattle.ra_edit.specs.EditLaws.{WrittenIsEdit, OneEdit, EndsOnce, WrittenIsTaken, WrittenIsReceived};
+ghost use Rattle.ra_edit.specs.EditLaws.{WrittenComes, SaysSomeCommand, WrittenIsNotRefused};
 ghost use Rattle.ra_edit.specs.Refusals.{NothingDue};
-ghost use Rattle.ra_edit.specs.Laws.{PiecesJoin, TextsAreRead, OneText, WrittenIsText, WrittenIsRead, ReadIsText};
 
 use delta_editor::Editor;
-
-/// It doesn't matter how bytes are cut into pieces.
-pub fn pieces_join()
-    ensures { PiecesJoin }
-{}
-
-/// What the grammar calls a text is read as that text.
-pub fn texts_are_read()
-    ensures { TextsAreRead }
-{}
-
-/// Bytes are one text at most.
-pub fn one_text()
-    ensures { OneText }
-{}
-
-/// What is written is in the grammar.
-pub fn written_is_text()
-    ensures { WrittenIsText }
-{}
-
-/// What is written is read again.
-pub fn written_is_read()
-    ensures { WrittenIsRead }
-{}
-
-/// What is read, up to an end between windows, is in the grammar.
-pub fn read_is_text()
-    ensures { ReadIsText }
-{}
+pub use svndiff::law::{
+    one_text, pieces_join, read_is_text, texts_are_read, written_is_read, written_is_text,
+};
 
 /// The items that are written for an edit are one of its forms that are read, with each piece of a text in its parts.
 pub fn written_is_edit()
@@ -56,24 +29,24 @@ pub fn nothing_due()
     ensures { NothingDue }
 {}
 
-/// Where an item that was written is to come, the bytes don't end before it, nor is the stream refused but for want of memory or by
-/// a read that failed.
+/// Where an item that was written is to come, the bytes don't end before it, nor is the stream refused but for want
+/// of memory or by a read that failed.
 pub fn written_comes()
     ensures { WrittenComes }
 {
     ra_item::law::written_is_read();
 }
 
-/// Items that were written are taken as these items, wherever in a stream they stand, and then the stream stands before what
-/// follows them.
+/// Items that were written are taken as these items, wherever in a stream they stand, and then the stream stands
+/// before what follows them.
 pub fn written_is_taken()
     ensures { WrittenIsTaken }
 {
     ra_item::law::written_is_read();
 }
 
-/// An edit that was written is received as the same calls, each piece of a text in its parts, wherever in a stream it stands,
-/// however the bytes are cut and whatever follows them; and then the stream stands before what follows.
+/// An edit that was written is received as the same calls, each piece of a text in its parts, wherever in a stream
+/// it stands, however the bytes are cut and whatever follows them; and then the stream stands before what follows.
 pub fn written_is_received()
     ensures { WrittenIsReceived }
 {
@@ -85,8 +58,8 @@ pub fn says_some_command()
     ensures { SaysSomeCommand }
 {}
 
-/// An edit that was written is refused only for want of memory, by a read that failed, or by the editor at one of its calls,
-/// wherever in a stream it stands, however the bytes are cut and whatever follows them.
+/// An edit that was written is refused only for want of memory, by a read that failed, or by the editor at one of
+/// its calls, wherever in a stream it stands, however the bytes are cut and whatever follows them.
 pub fn written_is_not_refused<E: Editor>()
     ensures { WrittenIsNotRefused E.shows E.began E.refuses }
 {

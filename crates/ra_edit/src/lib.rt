@@ -1,30 +1,29 @@
 //! What Subversion's editor drives are over the wire: commands in items, and texts in windows.
 //!
-//! A revision is sent as commands of the ra_svn protocol, one for each call of an editor, and a text in it as svndiff
-//! version 0: four bytes, and then windows of new data alone, each with five numbers in front (the place and length of its
-//! source, the length of its text, of its instructions and of its new data) and its instructions.
+//! A revision is sent as commands of the ra_svn protocol, one for each call of an editor, and a text in it in
+//! windows of svndiff version 0, as the crate `svndiff` takes and writes them; its modules stand here by their
+//! names too.
 //!
-//! - [`wire::WireEditor`] is an editor that writes the calls that it is shown, in one spelling and with one reserved buffer.
+//! - [`wire::WireEditor`] is an editor that writes the calls that it is shown, in one spelling and with one reserved
+//!   buffer.
 //! - [`receive::receive`] shows an editor the calls that items spell, in any of the forms that are read.
-//! - [`reader::WindowReader`] takes windows cut anyhow, and [`writer`] writes the one spelling of a text.
 //!
 //! What is written for an edit is one of the forms that `specs/Edits.antt` takes, and is received as the same calls,
-//! wherever in a stream it stands; what is written for a text is read again.
+//! wherever in a stream it stands.
 #![tactic(auto)]
 
 mod command;
 pub mod command_fault;
 pub mod edit_fault;
-pub mod fault;
 pub mod law;
-pub mod reader;
-mod reading;
+mod name;
 pub mod receive;
 pub mod receive_command;
 mod receive_edit;
 mod receive_text;
 pub mod shape_fault;
-pub mod stream;
 mod token;
 pub mod wire;
-pub mod writer;
+
+pub use ra_item::stream;
+pub use svndiff::{fault, reader, writer};

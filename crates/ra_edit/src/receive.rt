@@ -1,37 +1,46 @@
 //! An edit from its items.
 
-ghost use Rattle.std.specs.Prelude.{◌≡◌, ◌||◌, IfOk, IfErr, OnOk, OnErr, [], true, false};
+ghost use Rattle.std.specs.Prelude.{◌≡◌, ◌≤◌, ◌<◌, IfOk, IfErr, OnOk, OnErr, [], true, false};
 ghost use Rattle.ra_edit.specs.Edit.{Stands};
 ghost use Rattle.ra_edit.specs.Edits.{Begun};
-ghost use Rattle.ra_edit.specs.ItemStreams.{reader_of, has_failed, is_spent, is_peer, ahead};
+ghost use Rattle.ra_item.specs.ItemStreams.{reader_of, meanwhile, is_spent, left, ahead};
+ghost use Rattle.byte_streams.specs.Causes.{Fails};
+ghost use Rattle.ra_edit.specs.declared.edit_fault.EditFault.TheVariants.{PeerFailed};
 ghost use Rattle.ra_edit.specs.Refusals.{Meets};
 ghost use Rattle.ra_edit.specs.Received.{Comes, TakesOne, Received, StopsBehind, RefusesDrive};
 
 use crate::edit_fault::EditFault;
 use crate::receive_command::Command;
 use crate::receive_edit::Edit;
-use crate::stream::ItemStream;
+use byte_streams::Input;
 use delta_editor::Editor;
+use ra_item::stream::ItemStream;
 use std::alloc::Global;
-use std::io::Read;
 
-/// Receives one edit: shows its editor the calls that the next items spell, up to `finish-replay`, and gives what the edit
-/// comes to. The new data of each window is handed on as it comes, what one chunk has of it as one piece, and summed.
+/// Receives one edit: shows its editor the calls that the next items spell, up to `finish-replay`, and gives what
+/// the edit comes to. The new data of each window is handed on as it comes, what one chunk has of it as one piece,
+/// and summed.
 ///
-/// Refused: what the stream's `next` refuses; `BadShape` (48) for no command, one out of its place, and the end of the input
-/// between items; `BadToken` (46); `BadWindow` (44), `CopyWindow` (45) and `TooLong` (8) in a text; `BadSum` (6) at a
-/// `close-file`; `Refused` (60) at an `abort-edit` or a failure before `close-edit`; `Editor` where the editor refuses a call;
-/// `OutOfMemory` (70).
-/// After a refusal what is open is discarded, the edit is aborted, and the stream answers `Failed` (32) from then on.
-pub fn receive<R: Read + Drop, E: Editor>(
+/// Refused: what the stream's `next` refuses; `BadShape` (48) for no command, one out of its place, and the end of
+/// the input between items; `BadToken` (46); `BadWindow` (44), `CopyWindow` (45) and `TooLong` (8) in a text;
+/// `BadSum` (6) at a `close-file`; `Refused` (60) at an `abort-edit` or a failure before `close-edit`; `Editor`
+/// where the editor refuses a call; `OutOfMemory` (70). After a refusal what is open is discarded, the edit is
+/// aborted, and the stream answers `Failed` (32) from then on.
+pub fn receive<I: Input + Drop, E: Editor>(
     alloc: Global,
-    items: &mut ItemStream<R>,
+    items: &mut ItemStream<I>,
     editor: E,
 ) -> Result<E::Done, EditFault>
-    ensures received { IfOk result (λ done. Received E.shows E.done_shows editor done (R.remaining (reader_of items.old)) (R.remaining (reader_of items.new)) (ahead items.old) (ahead items.new)) }
+    ensures received { IfOk result
+        (λ done. Received E.shows E.done_shows editor done (I.remaining (reader_of items.old))
+        (I.remaining (reader_of items.new)) (ahead items.old) (ahead items.new)) }
     ensures began { IfOk result (λ done. E.done_began done ≡ E.began editor) }
-    ensures refused { IfErr result (RefusesDrive E.shows E.began E.refuses editor (R.remaining (reader_of items.old)) (R.remaining (reader_of items.new)) (ahead items.old) (is_spent items.old) (has_failed items.new)) }
-    ensures failed { has_failed items.new ≡ (has_failed items.old || is_peer result) }
+    ensures refused { IfErr result
+        (RefusesDrive E.shows E.began E.refuses editor (I.remaining (reader_of items.old))
+        (I.remaining (reader_of items.new)) (ahead items.old) (is_spent items.old)
+        (meanwhile I.failures I.reads items.old items.new)) }
+    ensures peer { IfErr result (λ f. f ≡ PeerFailed → Fails (meanwhile I.failures I.reads items.old items.new)) }
+    ensures failures { I.failures (reader_of items.old) ≤ I.failures (reader_of items.new) }
     ensures goes_on { OnOk result (is_spent items.new ≡ false) }
     ensures spent { OnErr result (is_spent items.new ≡ true) }
 {
@@ -51,37 +60,51 @@ pub fn receive<R: Read + Drop, E: Editor>(
 }
 
 // Takes commands up to `finish-replay`.
-fn take_commands<R: Read + Drop, E: Editor>(
+fn take_commands<I: Input + Drop, E: Editor>(
     alloc: Global,
-    items: &mut ItemStream<R>,
+    items: &mut ItemStream<I>,
     edit: &mut Edit<E>,
 ) -> Result<(), EditFault>
     requires begun { Stands E.dir_path E.file_path edit.old.stage edit.old.dirs.items edit.old.file Begun }
     ensures began { E.began edit.new.editor ≡ E.began edit.old.editor }
-    ensures comes { OnOk result (Comes E.shows edit.old.editor edit.new.editor (R.remaining (reader_of items.old)) (R.remaining (reader_of items.new)) (ahead items.old) (ahead items.new) (Stands E.dir_path E.file_path edit.new.stage edit.new.dirs.items edit.new.file)) }
-    ensures refused { IfErr result (RefusesDrive E.shows E.began E.refuses edit.old.editor (R.remaining (reader_of items.old)) (R.remaining (reader_of items.new)) (ahead items.old) (is_spent items.old) (has_failed items.new)) }
-    ensures failed { has_failed items.new ≡ (has_failed items.old || is_peer result) }
+    ensures comes { OnOk result
+        (Comes E.shows edit.old.editor edit.new.editor (I.remaining (reader_of items.old))
+        (I.remaining (reader_of items.new)) (ahead items.old) (ahead items.new)
+        (Stands E.dir_path E.file_path edit.new.stage edit.new.dirs.items edit.new.file)) }
+    ensures refused { IfErr result
+        (RefusesDrive E.shows E.began E.refuses edit.old.editor (I.remaining (reader_of items.old))
+        (I.remaining (reader_of items.new)) (ahead items.old) (is_spent items.old)
+        (meanwhile I.failures I.reads items.old items.new)) }
+    ensures failures { I.failures (reader_of items.old) ≤ I.failures (reader_of items.new) }
     ensures goes_on { OnOk result (is_spent items.new ≡ false) }
 {
-    for _ in 0..u64::MAX {
+    loop {
         if take_command(alloc, items, edit)? {
             return Ok(());
         }
     }
-    Err(items.give_up())
 }
 
 // Takes one command; `finish-replay` answers true.
-fn take_command<R: Read + Drop, E: Editor>(
+fn take_command<I: Input + Drop, E: Editor>(
     alloc: Global,
-    items: &mut ItemStream<R>,
+    items: &mut ItemStream<I>,
     edit: &mut Edit<E>,
 ) -> Result<bool, EditFault>
     ensures began { E.began edit.new.editor ≡ E.began edit.old.editor }
-    ensures taken { IfOk result (TakesOne E.shows edit.old.editor edit.new.editor (R.remaining (reader_of items.old)) (R.remaining (reader_of items.new)) (ahead items.old) (ahead items.new) (Stands E.dir_path E.file_path edit.old.stage edit.old.dirs.items edit.old.file) (Stands E.dir_path E.file_path edit.new.stage edit.new.dirs.items edit.new.file)) }
-    ensures refused { IfErr result (StopsBehind (Meets E.shows E.began E.refuses edit.old.editor) [] (Stands E.dir_path E.file_path edit.old.stage edit.old.dirs.items edit.old.file) (R.remaining (reader_of items.old)) (R.remaining (reader_of items.new)) (ahead items.old) (is_spent items.old) (has_failed items.new)) }
-    ensures failed { has_failed items.new ≡ (has_failed items.old || is_peer result) }
+    ensures taken { IfOk result
+        (TakesOne E.shows edit.old.editor edit.new.editor (I.remaining (reader_of items.old))
+        (I.remaining (reader_of items.new)) (ahead items.old) (ahead items.new)
+        (Stands E.dir_path E.file_path edit.old.stage edit.old.dirs.items edit.old.file)
+        (Stands E.dir_path E.file_path edit.new.stage edit.new.dirs.items edit.new.file)) }
+    ensures refused { IfErr result
+        (StopsBehind (Meets E.shows E.began E.refuses edit.old.editor) []
+        (Stands E.dir_path E.file_path edit.old.stage edit.old.dirs.items edit.old.file)
+        (I.remaining (reader_of items.old)) (I.remaining (reader_of items.new)) (ahead items.old) (is_spent items.old)
+        (meanwhile I.failures I.reads items.old items.new)) }
+    ensures failures { I.failures (reader_of items.old) ≤ I.failures (reader_of items.new) }
     ensures goes_on { OnOk result (is_spent items.new ≡ false) }
+    ensures fewer { OnOk result (left items.new < left items.old) }
 {
     let Some(item) = items.next()? else {
         return Err(EditFault::BadShape);

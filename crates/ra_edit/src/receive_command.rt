@@ -1,18 +1,21 @@
 //! Editor commands and their items, as the ra_svn protocol has them.
 
-ghost use Rattle.std.specs.Prelude.{◌≡◌, ◌≤◌, ◌⊎◌, List, [], ◌∷◌, reverse, IfOk, IfErr, IfSome, Ok, None, true, false, ℕ};
+ghost use Rattle.std.specs.Prelude.{◌≡◌, ◌≤◌, ◌⊎◌, List, [], ◌∷◌, reverse, IfOk, IfErr, Ok};
+ghost use Rattle.std.specs.Prelude.{true, false, ℕ};
 ghost use Rattle.std.specs.Option.{option_map};
 ghost use Rattle.ra_item.specs.Items.{Word, Number, Text};
 ghost use Rattle.node_base.specs.PathText.{path_read};
 ghost use Rattle.node_base.specs.Props.{prop_name_read};
 ghost use Rattle.ra_edit.specs.Commands.{list};
 ghost use Rattle.ra_edit.specs.Edits.{IsRevision, IsString, IsSum, IsSource};
-ghost use Rattle.ra_edit.specs.Receiving.{left_of, NextIs, word_of, IsPath, IsPropName, Forms, FormsWith, AWord, AText, AList, ARevision, APath, APropName, ABase, AValue, ASum, ASource, NotRead, params_of, is_of_file, IsNoCommand};
-ghost use Rattle.ra_edit.specs.declared.receive_command.Name.{Name};
-ghost use Rattle.ra_edit.specs.declared.receive_command.Name.TheVariants as name;
+ghost use Rattle.ra_edit.specs.Receiving.{left_of, NextIs, IsPath, IsPropName, Forms, FormsWith, AWord, AText, AList};
+ghost use Rattle.ra_edit.specs.Receiving.{ARevision, APath, APropName, ABase, AValue, ASum, ASource, NotRead};
+ghost use Rattle.ra_edit.specs.Receiving.{params_of, IsNoCommand};
+ghost use Rattle.ra_edit.specs.declared.name.Name.TheVariants as word;
 ghost use Rattle.ra_edit.specs.declared.shape_fault.ShapeFault.TheVariants as shape;
 ghost use Rattle.node_base.specs.Path.{Path};
 
+use crate::name::Name;
 use crate::shape_fault::ShapeFault;
 use hex::decode_to_slice;
 use node_base::{NodePath, PathFault, PropFault, PropName, RevNo, Source};
@@ -56,96 +59,6 @@ pub enum Command {
     Finish,
     /// `abort-edit`, or a failure in place of a command.
     Abort,
-}
-
-// The name of a command, or of a failure.
-#[derive(Clone, Copy)]
-enum Name {
-    TargetRev,
-    OpenRoot,
-    DeleteEntry,
-    AddDir,
-    OpenDir,
-    ChangeDirProp,
-    CloseDir,
-    AddFile,
-    OpenFile,
-    ChangeFileProp,
-    ApplyTextdelta,
-    TextdeltaChunk,
-    TextdeltaEnd,
-    CloseFile,
-    CloseEdit,
-    FinishReplay,
-    AbortEdit,
-    Failure,
-}
-
-// The name that a word is.
-fn any_name(word: &[u8]) -> Option<Name>
-    ensures name { IfSome result (λ n. word.now ≡ word_of n) }
-    ensures none { result ≡ None → (n : Name) → word.now ≡ word_of n → ⊥ }
-{
-    match outer_name(word) {
-        Some(name) => Some(name),
-        None => file_name(word),
-    }
-}
-
-// The names that open, close and delete directories, and those of an edit.
-fn outer_name(word: &[u8]) -> Option<Name>
-    ensures name { IfSome result (λ n. word.now ≡ word_of n) }
-    ensures none { result ≡ None → (n : Name) → is_of_file n ≡ false → word.now ≡ word_of n → ⊥ }
-{
-    if word == b"target-rev".as_slice() {
-        Some(Name::TargetRev)
-    } else if word == b"open-root".as_slice() {
-        Some(Name::OpenRoot)
-    } else if word == b"delete-entry".as_slice() {
-        Some(Name::DeleteEntry)
-    } else if word == b"add-dir".as_slice() {
-        Some(Name::AddDir)
-    } else if word == b"open-dir".as_slice() {
-        Some(Name::OpenDir)
-    } else if word == b"change-dir-prop".as_slice() {
-        Some(Name::ChangeDirProp)
-    } else if word == b"close-dir".as_slice() {
-        Some(Name::CloseDir)
-    } else if word == b"close-edit".as_slice() {
-        Some(Name::CloseEdit)
-    } else if word == b"finish-replay".as_slice() {
-        Some(Name::FinishReplay)
-    } else if word == b"abort-edit".as_slice() {
-        Some(Name::AbortEdit)
-    } else if word == b"failure".as_slice() {
-        Some(Name::Failure)
-    } else {
-        None
-    }
-}
-
-// The names of what is done with files.
-fn file_name(word: &[u8]) -> Option<Name>
-    ensures name { IfSome result (λ n. word.now ≡ word_of n) }
-    ensures none { result ≡ None → (n : Name) → is_of_file n ≡ true → word.now ≡ word_of n → ⊥ }
-{
-    if word == b"add-file".as_slice() {
-        Some(Name::AddFile)
-    } else if word == b"open-file".as_slice() {
-        Some(Name::OpenFile)
-    } else if word == b"change-file-prop".as_slice() {
-        Some(Name::ChangeFileProp)
-    } else if word == b"apply-textdelta".as_slice() {
-        Some(Name::ApplyTextdelta)
-    } else if word == b"textdelta-chunk".as_slice() {
-        Some(Name::TextdeltaChunk)
-    } else if word == b"textdelta-end".as_slice() {
-        Some(Name::TextdeltaEnd)
-    } else if word == b"close-file".as_slice() {
-        Some(Name::CloseFile)
-    } else {
-        None
-    }
 }
 
 // The items of a list that weren't taken yet.
@@ -274,7 +187,8 @@ impl Params {
 
     // The next item, which is a list of a string or of nothing.
     fn value(&mut self) -> Result<Option<Vec<u8>>, ShapeFault>
-        ensures read { IfOk result (λ v. NextIs (IsString (option_map (λ s. s.items) v)) (left_of self.old) (left_of self.new)) }
+        ensures read { IfOk result
+            (λ v. NextIs (IsString (option_map (λ s. s.items) v)) (left_of self.old) (left_of self.new)) }
         ensures none { IfErr result (NotRead (AValue ∷ []) (left_of self.old)) }
     {
         let mut inner = self.list()?;
@@ -339,8 +253,8 @@ fn read_path(alloc: Global, text: &[u8]) -> Result<NodePath, ShapeFault>
 }
 
 impl Command {
-    /// The command that an item is. `BadShape` (48) where it is none: its name, what it names, a path, a property's name or a
-    /// revision; `OutOfMemory` (70).
+    /// The command that an item is. `BadShape` (48) where it is none: its name, what it names, a path, a property's
+    /// name or a revision; `OutOfMemory` (70).
     pub fn parse(alloc: Global, item: Item) -> Result<Command, ShapeFault>
         ensures forms { IfOk result (λ c. Forms c item) }
         ensures none { IfErr result (IsNoCommand item) }
@@ -348,7 +262,7 @@ impl Command {
         let mut parts = Params::of(item)?;
         let word = parts.word()?;
         let mut params = parts.list()?;
-        match any_name(word.as_slice()) {
+        match Name::any(word.as_slice()) {
             Some(name) => any_command(alloc, name, &mut params),
             None => Err(ShapeFault::BadShape),
         }
@@ -381,23 +295,23 @@ fn any_command(alloc: Global, name: Name, params: &mut Params) -> Result<Command
 }
 
 fn target_rev(params: &mut Params) -> Result<Command, ShapeFault>
-    ensures forms { IfOk result (λ c. FormsWith c name.TargetRev (left_of params.old)) }
-    ensures none { IfErr result (NotRead (params_of name.TargetRev) (left_of params.old)) }
+    ensures forms { IfOk result (λ c. FormsWith c word.TargetRev (left_of params.old)) }
+    ensures none { IfErr result (NotRead (params_of word.TargetRev) (left_of params.old)) }
 {
     Ok(Command::Target(params.revision()?))
 }
 
 fn open_root(params: &mut Params) -> Result<Command, ShapeFault>
-    ensures forms { IfOk result (λ c. FormsWith c name.OpenRoot (left_of params.old)) }
-    ensures none { IfErr result (NotRead (params_of name.OpenRoot) (left_of params.old)) }
+    ensures forms { IfOk result (λ c. FormsWith c word.OpenRoot (left_of params.old)) }
+    ensures none { IfErr result (NotRead (params_of word.OpenRoot) (left_of params.old)) }
 {
     let base = params.base()?;
     Ok(Command::OpenRoot(base, params.text()?))
 }
 
 fn delete_entry(alloc: Global, params: &mut Params) -> Result<Command, ShapeFault>
-    ensures forms { IfOk result (λ c. FormsWith c name.DeleteEntry (left_of params.old)) }
-    ensures none { IfErr result (NotRead (params_of name.DeleteEntry) (left_of params.old)) }
+    ensures forms { IfOk result (λ c. FormsWith c word.DeleteEntry (left_of params.old)) }
+    ensures none { IfErr result (NotRead (params_of word.DeleteEntry) (left_of params.old)) }
 {
     let path = params.path(alloc)?;
     let base = params.base()?;
@@ -405,8 +319,8 @@ fn delete_entry(alloc: Global, params: &mut Params) -> Result<Command, ShapeFaul
 }
 
 fn add_dir(alloc: Global, params: &mut Params) -> Result<Command, ShapeFault>
-    ensures forms { IfOk result (λ c. FormsWith c name.AddDir (left_of params.old)) }
-    ensures none { IfErr result (NotRead (params_of name.AddDir) (left_of params.old)) }
+    ensures forms { IfOk result (λ c. FormsWith c word.AddDir (left_of params.old)) }
+    ensures none { IfErr result (NotRead (params_of word.AddDir) (left_of params.old)) }
 {
     let path = params.path(alloc)?;
     let up = params.text()?;
@@ -415,8 +329,8 @@ fn add_dir(alloc: Global, params: &mut Params) -> Result<Command, ShapeFault>
 }
 
 fn open_dir(alloc: Global, params: &mut Params) -> Result<Command, ShapeFault>
-    ensures forms { IfOk result (λ c. FormsWith c name.OpenDir (left_of params.old)) }
-    ensures none { IfErr result (NotRead (params_of name.OpenDir) (left_of params.old)) }
+    ensures forms { IfOk result (λ c. FormsWith c word.OpenDir (left_of params.old)) }
+    ensures none { IfErr result (NotRead (params_of word.OpenDir) (left_of params.old)) }
 {
     let path = params.path(alloc)?;
     let up = params.text()?;
@@ -425,8 +339,8 @@ fn open_dir(alloc: Global, params: &mut Params) -> Result<Command, ShapeFault>
 }
 
 fn change_dir_prop(params: &mut Params) -> Result<Command, ShapeFault>
-    ensures forms { IfOk result (λ c. FormsWith c name.ChangeDirProp (left_of params.old)) }
-    ensures none { IfErr result (NotRead (params_of name.ChangeDirProp) (left_of params.old)) }
+    ensures forms { IfOk result (λ c. FormsWith c word.ChangeDirProp (left_of params.old)) }
+    ensures none { IfErr result (NotRead (params_of word.ChangeDirProp) (left_of params.old)) }
 {
     let token = params.text()?;
     let name = params.prop_name()?;
@@ -434,15 +348,15 @@ fn change_dir_prop(params: &mut Params) -> Result<Command, ShapeFault>
 }
 
 fn close_dir(params: &mut Params) -> Result<Command, ShapeFault>
-    ensures forms { IfOk result (λ c. FormsWith c name.CloseDir (left_of params.old)) }
-    ensures none { IfErr result (NotRead (params_of name.CloseDir) (left_of params.old)) }
+    ensures forms { IfOk result (λ c. FormsWith c word.CloseDir (left_of params.old)) }
+    ensures none { IfErr result (NotRead (params_of word.CloseDir) (left_of params.old)) }
 {
     Ok(Command::CloseDir(params.text()?))
 }
 
 fn add_file(alloc: Global, params: &mut Params) -> Result<Command, ShapeFault>
-    ensures forms { IfOk result (λ c. FormsWith c name.AddFile (left_of params.old)) }
-    ensures none { IfErr result (NotRead (params_of name.AddFile) (left_of params.old)) }
+    ensures forms { IfOk result (λ c. FormsWith c word.AddFile (left_of params.old)) }
+    ensures none { IfErr result (NotRead (params_of word.AddFile) (left_of params.old)) }
 {
     let path = params.path(alloc)?;
     let up = params.text()?;
@@ -451,8 +365,8 @@ fn add_file(alloc: Global, params: &mut Params) -> Result<Command, ShapeFault>
 }
 
 fn open_file(alloc: Global, params: &mut Params) -> Result<Command, ShapeFault>
-    ensures forms { IfOk result (λ c. FormsWith c name.OpenFile (left_of params.old)) }
-    ensures none { IfErr result (NotRead (params_of name.OpenFile) (left_of params.old)) }
+    ensures forms { IfOk result (λ c. FormsWith c word.OpenFile (left_of params.old)) }
+    ensures none { IfErr result (NotRead (params_of word.OpenFile) (left_of params.old)) }
 {
     let path = params.path(alloc)?;
     let up = params.text()?;
@@ -461,8 +375,8 @@ fn open_file(alloc: Global, params: &mut Params) -> Result<Command, ShapeFault>
 }
 
 fn change_file_prop(params: &mut Params) -> Result<Command, ShapeFault>
-    ensures forms { IfOk result (λ c. FormsWith c name.ChangeFileProp (left_of params.old)) }
-    ensures none { IfErr result (NotRead (params_of name.ChangeFileProp) (left_of params.old)) }
+    ensures forms { IfOk result (λ c. FormsWith c word.ChangeFileProp (left_of params.old)) }
+    ensures none { IfErr result (NotRead (params_of word.ChangeFileProp) (left_of params.old)) }
 {
     let token = params.text()?;
     let name = params.prop_name()?;
@@ -470,8 +384,8 @@ fn change_file_prop(params: &mut Params) -> Result<Command, ShapeFault>
 }
 
 fn apply_textdelta(params: &mut Params) -> Result<Command, ShapeFault>
-    ensures forms { IfOk result (λ c. FormsWith c name.ApplyTextdelta (left_of params.old)) }
-    ensures none { IfErr result (NotRead (params_of name.ApplyTextdelta) (left_of params.old)) }
+    ensures forms { IfOk result (λ c. FormsWith c word.ApplyTextdelta (left_of params.old)) }
+    ensures none { IfErr result (NotRead (params_of word.ApplyTextdelta) (left_of params.old)) }
 {
     let token = params.text()?;
     let _sum = params.list()?;
@@ -479,23 +393,23 @@ fn apply_textdelta(params: &mut Params) -> Result<Command, ShapeFault>
 }
 
 fn textdelta_chunk(params: &mut Params) -> Result<Command, ShapeFault>
-    ensures forms { IfOk result (λ c. FormsWith c name.TextdeltaChunk (left_of params.old)) }
-    ensures none { IfErr result (NotRead (params_of name.TextdeltaChunk) (left_of params.old)) }
+    ensures forms { IfOk result (λ c. FormsWith c word.TextdeltaChunk (left_of params.old)) }
+    ensures none { IfErr result (NotRead (params_of word.TextdeltaChunk) (left_of params.old)) }
 {
     let token = params.text()?;
     Ok(Command::Chunk(token, params.text()?))
 }
 
 fn textdelta_end(params: &mut Params) -> Result<Command, ShapeFault>
-    ensures forms { IfOk result (λ c. FormsWith c name.TextdeltaEnd (left_of params.old)) }
-    ensures none { IfErr result (NotRead (params_of name.TextdeltaEnd) (left_of params.old)) }
+    ensures forms { IfOk result (λ c. FormsWith c word.TextdeltaEnd (left_of params.old)) }
+    ensures none { IfErr result (NotRead (params_of word.TextdeltaEnd) (left_of params.old)) }
 {
     Ok(Command::TextEnd(params.text()?))
 }
 
 fn close_file(params: &mut Params) -> Result<Command, ShapeFault>
-    ensures forms { IfOk result (λ c. FormsWith c name.CloseFile (left_of params.old)) }
-    ensures none { IfErr result (NotRead (params_of name.CloseFile) (left_of params.old)) }
+    ensures forms { IfOk result (λ c. FormsWith c word.CloseFile (left_of params.old)) }
+    ensures none { IfErr result (NotRead (params_of word.CloseFile) (left_of params.old)) }
 {
     let token = params.text()?;
     Ok(Command::CloseFile(token, params.sum()?))

@@ -1,6 +1,8 @@
 //! An edit that is received: what is open, and what a command does.
 
-ghost use Rattle.std.specs.Prelude.{◌≡◌, ◌+◌, ◌≤◌, ◌<◌, ◌++◌, ◌∷◌, ◌&&◌, [], ℕ, List, Option, map, length, reverse, IfOk, IfErr, IsSomeAnd, OnOk, OnErr, Ok, Err, Some, None, true, false, vec_len, vec_capacity, slice_get, codes};
+ghost use Rattle.std.specs.Prelude.{◌≡◌, ◌+◌, ◌≤◌, ◌<◌, ◌++◌, ◌∷◌, ◌&&◌, [], ℕ};
+ghost use Rattle.std.specs.Prelude.{List, Option, map, length, reverse, IfOk, IfErr, IsSomeAnd, OnOk, OnErr, Ok, Err};
+ghost use Rattle.std.specs.Prelude.{Some, None, true, false, vec_len, vec_capacity, slice_get};
 ghost use Rattle.std.specs.Option.{option_copied, option_map};
 ghost use Rattle.std.specs.List.{concat};
 ghost use Rattle.md5.specs.Md5.{Holds, md5};
@@ -9,18 +11,22 @@ ghost use Rattle.node_base.specs.Path.{same_name};
 ghost use Rattle.delta_editor.specs.Calls.{Adds};
 ghost use Rattle.delta_editor.specs.declared.call.Call.{Call};
 ghost use Rattle.delta_editor.specs.declared.call.Call.TheVariants as call;
-ghost use Rattle.ra_edit.specs.Streams.{reading, Reads};
+ghost use Rattle.svndiff.specs.Streams.{reading, Reads};
 ghost use Rattle.ra_edit.specs.Edits.{Held, At, Begun, is_free, last_calls, Within, IsCommand};
+ghost use Rattle.ra_edit.specs.Names.{word_of};
+ghost use Rattle.ra_edit.specs.declared.name.Name.TheVariants as word;
 ghost use Rattle.ra_edit.specs.Receiving.{Forms};
-ghost use Rattle.ra_edit.specs.Refusals.{open_of, unless, is_in_dir, has_dir, for_token, in_file, at_start, of_stream, at_chunk, at_end, at_close, is_finish, due, refusal, RefusedFor, ReadFirst, RefusesOne, Meets, IfOwn};
+ghost use Rattle.ra_edit.specs.Refusals.{open_of, unless, is_in_dir, has_dir, for_token, in_file, at_start, of_stream};
+ghost use Rattle.ra_edit.specs.Refusals.{at_chunk, at_end, at_close, is_finish, due, refusal, RefusedFor, ReadFirst};
+ghost use Rattle.ra_edit.specs.Refusals.{RefusesOne, Meets, IfOwn};
 ghost use Rattle.ra_edit.specs.declared.command_fault.CommandFault.{CommandFault};
 ghost use Rattle.ra_edit.specs.declared.command_fault.CommandFault.TheVariants as fault;
-ghost use Rattle.ra_edit.specs.Edit.{Stands, GivenIs, Moves, dirs_named, is_unopened, is_announced, has_root, TextEnds, SumIs, FileMoves, Stepped, Finishes};
+ghost use Rattle.ra_edit.specs.Edit.{Stands, GivenIs, Moves, dirs_named, is_unopened, is_announced, has_root, TextEnds};
+ghost use Rattle.ra_edit.specs.Edit.{SumIs, FileMoves, Stepped, Finishes};
 ghost use Rattle.ra_edit.specs.declared.receive_command.Command.TheVariants as command;
 ghost use Rattle.ra_edit.specs.declared.receive_edit.Given.TheVariants as given;
 
 use crate::command_fault::CommandFault;
-use crate::reader::WindowReader;
 use crate::receive_command::Command;
 use crate::receive_text::take_chunk;
 use delta_editor::{Editor, EditorFault};
@@ -29,6 +35,7 @@ use node_base::{NodePath, PropName, RevNo, Source};
 use std::alloc::Global;
 use std::cmp::Ordering;
 use std::mem;
+use svndiff::reader::WindowReader;
 
 // A directory that is open, and its token.
 pub struct OpenDir<D> {
@@ -101,9 +108,16 @@ impl<E: Editor> Edit<E> {
 
     /// Does what a command says; `finish-replay` answers true, and nothing is done for it yet.
     pub fn step(&mut self, command: Command) -> Result<bool, CommandFault>
-        ensures moved { IfOk result (λ done. (at : At) (item : Item) → Forms command item → Stands E.dir_path E.file_path self.old.stage self.old.dirs.items self.old.file at → Stepped E.shows self.old.editor self.new.editor item at (Stands E.dir_path E.file_path self.new.stage self.new.dirs.items self.new.file) done) }
-        ensures refused { IfErr result (λ f. (at : At) → Stands E.dir_path E.file_path self.old.stage self.old.dirs.items self.old.file at → RefusedFor f (refusal at command)) }
-        ensures own { IfErr result (IfOwn (λ f. (at : At) → Stands E.dir_path E.file_path self.old.stage self.old.dirs.items self.old.file at → Meets E.shows E.began E.refuses self.old.editor at command f)) }
+        ensures moved { IfOk result (λ done. (at : At) (item : Item) → Forms command item
+            → Stands E.dir_path E.file_path self.old.stage self.old.dirs.items self.old.file at
+            → Stepped E.shows self.old.editor self.new.editor item at
+            (Stands E.dir_path E.file_path self.new.stage self.new.dirs.items self.new.file) done) }
+        ensures refused { IfErr result (λ f. (at : At)
+            → Stands E.dir_path E.file_path self.old.stage self.old.dirs.items self.old.file at
+            → RefusedFor f (refusal at command)) }
+        ensures own { IfErr result (IfOwn (λ f. (at : At)
+            → Stands E.dir_path E.file_path self.old.stage self.old.dirs.items self.old.file at
+            → Meets E.shows E.began E.refuses self.old.editor at command f)) }
         ensures began { E.began self.new.editor ≡ E.began self.old.editor }
     {
         if let Command::Finish = &command {
@@ -118,9 +132,16 @@ impl<E: Editor> Edit<E> {
 
     // Does what a command says that isn't the end.
     fn perform(&mut self, command: Command) -> Result<(), CommandFault>
-        ensures moved { OnOk result ((at : At) (item : Item) → Forms command item → Stands E.dir_path E.file_path self.old.stage self.old.dirs.items self.old.file at → Moves E.shows self.old.editor self.new.editor item at (Stands E.dir_path E.file_path self.new.stage self.new.dirs.items self.new.file)) }
-        ensures refused { IfErr result (λ f. (at : At) → is_finish command ≡ false → Stands E.dir_path E.file_path self.old.stage self.old.dirs.items self.old.file at → RefusedFor f (due at command)) }
-        ensures own { IfErr result (IfOwn (λ f. (at : At) → Stands E.dir_path E.file_path self.old.stage self.old.dirs.items self.old.file at → Meets E.shows E.began E.refuses self.old.editor at command f)) }
+        ensures moved { OnOk result ((at : At) (item : Item) → Forms command item
+            → Stands E.dir_path E.file_path self.old.stage self.old.dirs.items self.old.file at
+            → Moves E.shows self.old.editor self.new.editor item at
+            (Stands E.dir_path E.file_path self.new.stage self.new.dirs.items self.new.file)) }
+        ensures refused { IfErr result (λ f. (at : At) → is_finish command ≡ false
+            → Stands E.dir_path E.file_path self.old.stage self.old.dirs.items self.old.file at
+            → RefusedFor f (due at command)) }
+        ensures own { IfErr result (IfOwn (λ f. (at : At)
+            → Stands E.dir_path E.file_path self.old.stage self.old.dirs.items self.old.file at
+            → Meets E.shows E.began E.refuses self.old.editor at command f)) }
         ensures began { E.began self.new.editor ≡ E.began self.old.editor }
     {
         match command {
@@ -145,9 +166,16 @@ impl<E: Editor> Edit<E> {
     }
 
     fn target(&mut self, rev: RevNo) -> Result<(), CommandFault>
-        ensures moved { OnOk result ((at : At) (item : Item) → Forms (command.Target rev) item → Stands E.dir_path E.file_path self.old.stage self.old.dirs.items self.old.file at → Moves E.shows self.old.editor self.new.editor item at (Stands E.dir_path E.file_path self.new.stage self.new.dirs.items self.new.file)) }
-        ensures refused { IfErr result (λ f. (at : At) → Stands E.dir_path E.file_path self.old.stage self.old.dirs.items self.old.file at → RefusedFor f (due at (command.Target rev))) }
-        ensures own { IfErr result (IfOwn (λ f. (at : At) → Stands E.dir_path E.file_path self.old.stage self.old.dirs.items self.old.file at → Meets E.shows E.began E.refuses self.old.editor at (command.Target rev) f)) }
+        ensures moved { OnOk result ((at : At) (item : Item) → Forms (command.Target rev) item
+            → Stands E.dir_path E.file_path self.old.stage self.old.dirs.items self.old.file at
+            → Moves E.shows self.old.editor self.new.editor item at
+            (Stands E.dir_path E.file_path self.new.stage self.new.dirs.items self.new.file)) }
+        ensures refused { IfErr result (λ f. (at : At)
+            → Stands E.dir_path E.file_path self.old.stage self.old.dirs.items self.old.file at
+            → RefusedFor f (due at (command.Target rev))) }
+        ensures own { IfErr result (IfOwn (λ f. (at : At)
+            → Stands E.dir_path E.file_path self.old.stage self.old.dirs.items self.old.file at
+            → Meets E.shows E.began E.refuses self.old.editor at (command.Target rev) f)) }
         ensures began { E.began self.new.editor ≡ E.began self.old.editor }
     {
         let Stage::Begun = self.stage else {
@@ -179,9 +207,16 @@ impl<E: Editor> Edit<E> {
     }
 
     fn open_root(&mut self, base: Option<RevNo>, token: Vec<u8>) -> Result<(), CommandFault>
-        ensures moved { OnOk result ((at : At) (item : Item) → Forms (command.OpenRoot base token) item → Stands E.dir_path E.file_path self.old.stage self.old.dirs.items self.old.file at → Moves E.shows self.old.editor self.new.editor item at (Stands E.dir_path E.file_path self.new.stage self.new.dirs.items self.new.file)) }
-        ensures refused { IfErr result (λ f. (at : At) → Stands E.dir_path E.file_path self.old.stage self.old.dirs.items self.old.file at → RefusedFor f (due at (command.OpenRoot base token))) }
-        ensures own { IfErr result (IfOwn (λ f. (at : At) → Stands E.dir_path E.file_path self.old.stage self.old.dirs.items self.old.file at → Meets E.shows E.began E.refuses self.old.editor at (command.OpenRoot base token) f)) }
+        ensures moved { OnOk result ((at : At) (item : Item) → Forms (command.OpenRoot base token) item
+            → Stands E.dir_path E.file_path self.old.stage self.old.dirs.items self.old.file at
+            → Moves E.shows self.old.editor self.new.editor item at
+            (Stands E.dir_path E.file_path self.new.stage self.new.dirs.items self.new.file)) }
+        ensures refused { IfErr result (λ f. (at : At)
+            → Stands E.dir_path E.file_path self.old.stage self.old.dirs.items self.old.file at
+            → RefusedFor f (due at (command.OpenRoot base token))) }
+        ensures own { IfErr result (IfOwn (λ f. (at : At)
+            → Stands E.dir_path E.file_path self.old.stage self.old.dirs.items self.old.file at
+            → Meets E.shows E.began E.refuses self.old.editor at (command.OpenRoot base token) f)) }
         ensures began { E.began self.new.editor ≡ E.began self.old.editor }
     {
         if !self.is_unopened() {
@@ -196,10 +231,14 @@ impl<E: Editor> Edit<E> {
 
     // Takes the innermost open thing, which is a directory with this token.
     fn take_innermost(&mut self, token: &[u8]) -> Result<OpenDir<E::Dir>, CommandFault>
-        ensures taken { IfOk result (λ d. (self.old.dirs.items ≡ self.new.dirs.items ++ d ∷ []) × (d.token.items ≡ token.now) × (self.old.file ≡ None)) }
-        ensures refused { IfErr result (λ f. (at : At) → Stands E.dir_path E.file_path self.old.stage self.old.dirs.items self.old.file at → RefusedFor f (unless (is_in_dir token.now (open_of at)) fault.BadToken)) }
+        ensures taken { IfOk result (λ d. (self.old.dirs.items ≡ self.new.dirs.items ++ d ∷ [])
+            × (d.token.items ≡ token.now) × (self.old.file ≡ None)) }
+        ensures refused { IfErr result (λ f. (at : At)
+            → Stands E.dir_path E.file_path self.old.stage self.old.dirs.items self.old.file at
+            → RefusedFor f (unless (is_in_dir token.now (open_of at)) fault.BadToken)) }
         ensures own { IfErr result (IfOwn (λ f. ⊥)) }
-        ensures room { OnOk result ((vec_len self.new.dirs + 1 ≡ vec_len self.old.dirs) × (vec_capacity self.new.dirs ≡ vec_capacity self.old.dirs)) }
+        ensures room { OnOk result ((vec_len self.new.dirs + 1 ≡ vec_len self.old.dirs)
+            × (vec_capacity self.new.dirs ≡ vec_capacity self.old.dirs)) }
         ensures file { self.new.file ≡ self.old.file }
         ensures editor { self.new.editor ≡ self.old.editor }
         ensures stage { self.new.stage ≡ self.old.stage }
@@ -232,10 +271,15 @@ impl<E: Editor> Edit<E> {
         true
     }
 
-    // Room for one more, by a token that isn't in use, in the innermost open thing, which is a directory with this token.
+    // Room for one more, by a token that isn't in use, in the innermost open thing, which is a directory with this
+    // token.
     fn take_parent(&mut self, up: &[u8], token: &[u8]) -> Result<OpenDir<E::Dir>, CommandFault>
-        ensures taken { IfOk result (λ d. (self.old.dirs.items ≡ self.new.dirs.items ++ d ∷ []) × (d.token.items ≡ up.now) × (self.old.file ≡ None)) }
-        ensures refused { IfErr result (λ f. (at : At) → Stands E.dir_path E.file_path self.old.stage self.old.dirs.items self.old.file at → RefusedFor f (unless (is_free token.now (open_of at) && is_in_dir up.now (open_of at)) fault.BadToken)) }
+        ensures taken { IfOk result (λ d. (self.old.dirs.items ≡ self.new.dirs.items ++ d ∷ [])
+            × (d.token.items ≡ up.now) × (self.old.file ≡ None)) }
+        ensures refused { IfErr result (λ f. (at : At)
+            → Stands E.dir_path E.file_path self.old.stage self.old.dirs.items self.old.file at
+            → RefusedFor f (unless (is_free token.now (open_of at)
+            && is_in_dir up.now (open_of at)) fault.BadToken)) }
         ensures own { IfErr result (IfOwn (λ f. ⊥)) }
         ensures free { OnOk result (is_free token.now (dirs_named E.dir_path self.old.dirs.items) ≡ true) }
         ensures room { OnOk result (vec_len self.new.dirs + 2 ≤ vec_capacity self.new.dirs) }
@@ -256,9 +300,16 @@ impl<E: Editor> Edit<E> {
         base: Option<RevNo>,
         up: Vec<u8>,
     ) -> Result<(), CommandFault>
-        ensures moved { OnOk result ((at : At) (item : Item) → Forms (command.DeleteEntry path base up) item → Stands E.dir_path E.file_path self.old.stage self.old.dirs.items self.old.file at → Moves E.shows self.old.editor self.new.editor item at (Stands E.dir_path E.file_path self.new.stage self.new.dirs.items self.new.file)) }
-        ensures refused { IfErr result (λ f. (at : At) → Stands E.dir_path E.file_path self.old.stage self.old.dirs.items self.old.file at → RefusedFor f (due at (command.DeleteEntry path base up))) }
-        ensures own { IfErr result (IfOwn (λ f. (at : At) → Stands E.dir_path E.file_path self.old.stage self.old.dirs.items self.old.file at → Meets E.shows E.began E.refuses self.old.editor at (command.DeleteEntry path base up) f)) }
+        ensures moved { OnOk result ((at : At) (item : Item) → Forms (command.DeleteEntry path base up) item
+            → Stands E.dir_path E.file_path self.old.stage self.old.dirs.items self.old.file at
+            → Moves E.shows self.old.editor self.new.editor item at
+            (Stands E.dir_path E.file_path self.new.stage self.new.dirs.items self.new.file)) }
+        ensures refused { IfErr result (λ f. (at : At)
+            → Stands E.dir_path E.file_path self.old.stage self.old.dirs.items self.old.file at
+            → RefusedFor f (due at (command.DeleteEntry path base up))) }
+        ensures own { IfErr result (IfOwn (λ f. (at : At)
+            → Stands E.dir_path E.file_path self.old.stage self.old.dirs.items self.old.file at
+            → Meets E.shows E.began E.refuses self.old.editor at (command.DeleteEntry path base up) f)) }
         ensures began { E.began self.new.editor ≡ E.began self.old.editor }
     {
         let mut dir = self.take_innermost(up.as_slice())?;
@@ -275,9 +326,16 @@ impl<E: Editor> Edit<E> {
         token: Vec<u8>,
         from: Option<Source>,
     ) -> Result<(), CommandFault>
-        ensures moved { OnOk result ((at : At) (item : Item) → Forms (command.AddDir path up token from) item → Stands E.dir_path E.file_path self.old.stage self.old.dirs.items self.old.file at → Moves E.shows self.old.editor self.new.editor item at (Stands E.dir_path E.file_path self.new.stage self.new.dirs.items self.new.file)) }
-        ensures refused { IfErr result (λ f. (at : At) → Stands E.dir_path E.file_path self.old.stage self.old.dirs.items self.old.file at → RefusedFor f (due at (command.AddDir path up token from))) }
-        ensures own { IfErr result (IfOwn (λ f. (at : At) → Stands E.dir_path E.file_path self.old.stage self.old.dirs.items self.old.file at → Meets E.shows E.began E.refuses self.old.editor at (command.AddDir path up token from) f)) }
+        ensures moved { OnOk result ((at : At) (item : Item) → Forms (command.AddDir path up token from) item
+            → Stands E.dir_path E.file_path self.old.stage self.old.dirs.items self.old.file at
+            → Moves E.shows self.old.editor self.new.editor item at
+            (Stands E.dir_path E.file_path self.new.stage self.new.dirs.items self.new.file)) }
+        ensures refused { IfErr result (λ f. (at : At)
+            → Stands E.dir_path E.file_path self.old.stage self.old.dirs.items self.old.file at
+            → RefusedFor f (due at (command.AddDir path up token from))) }
+        ensures own { IfErr result (IfOwn (λ f. (at : At)
+            → Stands E.dir_path E.file_path self.old.stage self.old.dirs.items self.old.file at
+            → Meets E.shows E.began E.refuses self.old.editor at (command.AddDir path up token from) f)) }
         ensures began { E.began self.new.editor ≡ E.began self.old.editor }
     {
         let mut dir = self.take_parent(up.as_slice(), token.as_slice())?;
@@ -295,9 +353,16 @@ impl<E: Editor> Edit<E> {
         token: Vec<u8>,
         base: Option<RevNo>,
     ) -> Result<(), CommandFault>
-        ensures moved { OnOk result ((at : At) (item : Item) → Forms (command.OpenDir path up token base) item → Stands E.dir_path E.file_path self.old.stage self.old.dirs.items self.old.file at → Moves E.shows self.old.editor self.new.editor item at (Stands E.dir_path E.file_path self.new.stage self.new.dirs.items self.new.file)) }
-        ensures refused { IfErr result (λ f. (at : At) → Stands E.dir_path E.file_path self.old.stage self.old.dirs.items self.old.file at → RefusedFor f (due at (command.OpenDir path up token base))) }
-        ensures own { IfErr result (IfOwn (λ f. (at : At) → Stands E.dir_path E.file_path self.old.stage self.old.dirs.items self.old.file at → Meets E.shows E.began E.refuses self.old.editor at (command.OpenDir path up token base) f)) }
+        ensures moved { OnOk result ((at : At) (item : Item) → Forms (command.OpenDir path up token base) item
+            → Stands E.dir_path E.file_path self.old.stage self.old.dirs.items self.old.file at
+            → Moves E.shows self.old.editor self.new.editor item at
+            (Stands E.dir_path E.file_path self.new.stage self.new.dirs.items self.new.file)) }
+        ensures refused { IfErr result (λ f. (at : At)
+            → Stands E.dir_path E.file_path self.old.stage self.old.dirs.items self.old.file at
+            → RefusedFor f (due at (command.OpenDir path up token base))) }
+        ensures own { IfErr result (IfOwn (λ f. (at : At)
+            → Stands E.dir_path E.file_path self.old.stage self.old.dirs.items self.old.file at
+            → Meets E.shows E.began E.refuses self.old.editor at (command.OpenDir path up token base) f)) }
         ensures began { E.began self.new.editor ≡ E.began self.old.editor }
     {
         let mut dir = self.take_parent(up.as_slice(), token.as_slice())?;
@@ -311,8 +376,10 @@ impl<E: Editor> Edit<E> {
     // The place of a directory that is open with this token.
     fn find(&self, token: &[u8]) -> Result<usize, CommandFault>
         ensures place { IfOk result (λ i. i < vec_len self.now.dirs) }
-        ensures found { IfOk result (λ i. IsSomeAnd (slice_get self.now.dirs.items i) (λ d. d.token.items ≡ token.now)) }
-        ensures none { IfErr result (λ f. (f ≡ fault.BadToken) × (has_dir token.now (dirs_named E.dir_path self.now.dirs.items) ≡ false)) }
+        ensures found { IfOk result (λ i. IsSomeAnd (slice_get self.now.dirs.items i) (λ d. d.token.items
+            ≡ token.now)) }
+        ensures none { IfErr result (λ f. (f ≡ fault.BadToken)
+            × (has_dir token.now (dirs_named E.dir_path self.now.dirs.items) ≡ false)) }
     {
         for (i, dir) in self.dirs.iter().enumerate() {
             if is_same(dir.token.as_slice(), token) {
@@ -328,9 +395,16 @@ impl<E: Editor> Edit<E> {
         name: PropName,
         value: Option<Vec<u8>>,
     ) -> Result<(), CommandFault>
-        ensures moved { OnOk result ((at : At) (item : Item) → Forms (command.DirProp token name value) item → Stands E.dir_path E.file_path self.old.stage self.old.dirs.items self.old.file at → Moves E.shows self.old.editor self.new.editor item at (Stands E.dir_path E.file_path self.new.stage self.new.dirs.items self.new.file)) }
-        ensures refused { IfErr result (λ f. (at : At) → Stands E.dir_path E.file_path self.old.stage self.old.dirs.items self.old.file at → RefusedFor f (due at (command.DirProp token name value))) }
-        ensures own { IfErr result (IfOwn (λ f. (at : At) → Stands E.dir_path E.file_path self.old.stage self.old.dirs.items self.old.file at → Meets E.shows E.began E.refuses self.old.editor at (command.DirProp token name value) f)) }
+        ensures moved { OnOk result ((at : At) (item : Item) → Forms (command.DirProp token name value) item
+            → Stands E.dir_path E.file_path self.old.stage self.old.dirs.items self.old.file at
+            → Moves E.shows self.old.editor self.new.editor item at
+            (Stands E.dir_path E.file_path self.new.stage self.new.dirs.items self.new.file)) }
+        ensures refused { IfErr result (λ f. (at : At)
+            → Stands E.dir_path E.file_path self.old.stage self.old.dirs.items self.old.file at
+            → RefusedFor f (due at (command.DirProp token name value))) }
+        ensures own { IfErr result (IfOwn (λ f. (at : At)
+            → Stands E.dir_path E.file_path self.old.stage self.old.dirs.items self.old.file at
+            → Meets E.shows E.began E.refuses self.old.editor at (command.DirProp token name value) f)) }
         ensures began { E.began self.new.editor ≡ E.began self.old.editor }
     {
         let at = self.find(token.as_slice())?;
@@ -341,9 +415,16 @@ impl<E: Editor> Edit<E> {
     }
 
     fn close_dir(&mut self, token: Vec<u8>) -> Result<(), CommandFault>
-        ensures moved { OnOk result ((at : At) (item : Item) → Forms (command.CloseDir token) item → Stands E.dir_path E.file_path self.old.stage self.old.dirs.items self.old.file at → Moves E.shows self.old.editor self.new.editor item at (Stands E.dir_path E.file_path self.new.stage self.new.dirs.items self.new.file)) }
-        ensures refused { IfErr result (λ f. (at : At) → Stands E.dir_path E.file_path self.old.stage self.old.dirs.items self.old.file at → RefusedFor f (due at (command.CloseDir token))) }
-        ensures own { IfErr result (IfOwn (λ f. (at : At) → Stands E.dir_path E.file_path self.old.stage self.old.dirs.items self.old.file at → Meets E.shows E.began E.refuses self.old.editor at (command.CloseDir token) f)) }
+        ensures moved { OnOk result ((at : At) (item : Item) → Forms (command.CloseDir token) item
+            → Stands E.dir_path E.file_path self.old.stage self.old.dirs.items self.old.file at
+            → Moves E.shows self.old.editor self.new.editor item at
+            (Stands E.dir_path E.file_path self.new.stage self.new.dirs.items self.new.file)) }
+        ensures refused { IfErr result (λ f. (at : At)
+            → Stands E.dir_path E.file_path self.old.stage self.old.dirs.items self.old.file at
+            → RefusedFor f (due at (command.CloseDir token))) }
+        ensures own { IfErr result (IfOwn (λ f. (at : At)
+            → Stands E.dir_path E.file_path self.old.stage self.old.dirs.items self.old.file at
+            → Meets E.shows E.began E.refuses self.old.editor at (command.CloseDir token) f)) }
         ensures began { E.began self.new.editor ≡ E.began self.old.editor }
     {
         let OpenDir { token: _, baton } = self.take_innermost(token.as_slice())?;
@@ -358,9 +439,16 @@ impl<E: Editor> Edit<E> {
         token: Vec<u8>,
         from: Option<Source>,
     ) -> Result<(), CommandFault>
-        ensures moved { OnOk result ((at : At) (item : Item) → Forms (command.AddFile path up token from) item → Stands E.dir_path E.file_path self.old.stage self.old.dirs.items self.old.file at → Moves E.shows self.old.editor self.new.editor item at (Stands E.dir_path E.file_path self.new.stage self.new.dirs.items self.new.file)) }
-        ensures refused { IfErr result (λ f. (at : At) → Stands E.dir_path E.file_path self.old.stage self.old.dirs.items self.old.file at → RefusedFor f (due at (command.AddFile path up token from))) }
-        ensures own { IfErr result (IfOwn (λ f. (at : At) → Stands E.dir_path E.file_path self.old.stage self.old.dirs.items self.old.file at → Meets E.shows E.began E.refuses self.old.editor at (command.AddFile path up token from) f)) }
+        ensures moved { OnOk result ((at : At) (item : Item) → Forms (command.AddFile path up token from) item
+            → Stands E.dir_path E.file_path self.old.stage self.old.dirs.items self.old.file at
+            → Moves E.shows self.old.editor self.new.editor item at
+            (Stands E.dir_path E.file_path self.new.stage self.new.dirs.items self.new.file)) }
+        ensures refused { IfErr result (λ f. (at : At)
+            → Stands E.dir_path E.file_path self.old.stage self.old.dirs.items self.old.file at
+            → RefusedFor f (due at (command.AddFile path up token from))) }
+        ensures own { IfErr result (IfOwn (λ f. (at : At)
+            → Stands E.dir_path E.file_path self.old.stage self.old.dirs.items self.old.file at
+            → Meets E.shows E.began E.refuses self.old.editor at (command.AddFile path up token from) f)) }
         ensures began { E.began self.new.editor ≡ E.began self.old.editor }
     {
         let mut dir = self.take_parent(up.as_slice(), token.as_slice())?;
@@ -378,9 +466,16 @@ impl<E: Editor> Edit<E> {
         token: Vec<u8>,
         base: Option<RevNo>,
     ) -> Result<(), CommandFault>
-        ensures moved { OnOk result ((at : At) (item : Item) → Forms (command.OpenFile path up token base) item → Stands E.dir_path E.file_path self.old.stage self.old.dirs.items self.old.file at → Moves E.shows self.old.editor self.new.editor item at (Stands E.dir_path E.file_path self.new.stage self.new.dirs.items self.new.file)) }
-        ensures refused { IfErr result (λ f. (at : At) → Stands E.dir_path E.file_path self.old.stage self.old.dirs.items self.old.file at → RefusedFor f (due at (command.OpenFile path up token base))) }
-        ensures own { IfErr result (IfOwn (λ f. (at : At) → Stands E.dir_path E.file_path self.old.stage self.old.dirs.items self.old.file at → Meets E.shows E.began E.refuses self.old.editor at (command.OpenFile path up token base) f)) }
+        ensures moved { OnOk result ((at : At) (item : Item) → Forms (command.OpenFile path up token base) item
+            → Stands E.dir_path E.file_path self.old.stage self.old.dirs.items self.old.file at
+            → Moves E.shows self.old.editor self.new.editor item at
+            (Stands E.dir_path E.file_path self.new.stage self.new.dirs.items self.new.file)) }
+        ensures refused { IfErr result (λ f. (at : At)
+            → Stands E.dir_path E.file_path self.old.stage self.old.dirs.items self.old.file at
+            → RefusedFor f (due at (command.OpenFile path up token base))) }
+        ensures own { IfErr result (IfOwn (λ f. (at : At)
+            → Stands E.dir_path E.file_path self.old.stage self.old.dirs.items self.old.file at
+            → Meets E.shows E.began E.refuses self.old.editor at (command.OpenFile path up token base) f)) }
         ensures began { E.began self.new.editor ≡ E.began self.old.editor }
     {
         let mut dir = self.take_parent(up.as_slice(), token.as_slice())?;
@@ -416,9 +511,16 @@ impl<E: Editor> Edit<E> {
         name: PropName,
         value: Option<Vec<u8>>,
     ) -> Result<(), CommandFault>
-        ensures moved { OnOk result ((at : At) (item : Item) → Forms (command.FileProp token name value) item → Stands E.dir_path E.file_path self.old.stage self.old.dirs.items self.old.file at → Moves E.shows self.old.editor self.new.editor item at (Stands E.dir_path E.file_path self.new.stage self.new.dirs.items self.new.file)) }
-        ensures refused { IfErr result (λ f. (at : At) → Stands E.dir_path E.file_path self.old.stage self.old.dirs.items self.old.file at → RefusedFor f (due at (command.FileProp token name value))) }
-        ensures own { IfErr result (IfOwn (λ f. (at : At) → Stands E.dir_path E.file_path self.old.stage self.old.dirs.items self.old.file at → Meets E.shows E.began E.refuses self.old.editor at (command.FileProp token name value) f)) }
+        ensures moved { OnOk result ((at : At) (item : Item) → Forms (command.FileProp token name value) item
+            → Stands E.dir_path E.file_path self.old.stage self.old.dirs.items self.old.file at
+            → Moves E.shows self.old.editor self.new.editor item at
+            (Stands E.dir_path E.file_path self.new.stage self.new.dirs.items self.new.file)) }
+        ensures refused { IfErr result (λ f. (at : At)
+            → Stands E.dir_path E.file_path self.old.stage self.old.dirs.items self.old.file at
+            → RefusedFor f (due at (command.FileProp token name value))) }
+        ensures own { IfErr result (IfOwn (λ f. (at : At)
+            → Stands E.dir_path E.file_path self.old.stage self.old.dirs.items self.old.file at
+            → Meets E.shows E.began E.refuses self.old.editor at (command.FileProp token name value) f)) }
         ensures began { E.began self.new.editor ≡ E.began self.old.editor }
     {
         let Some(file) = &mut self.file else {
@@ -429,9 +531,16 @@ impl<E: Editor> Edit<E> {
     }
 
     fn text_start(&mut self, token: Vec<u8>) -> Result<(), CommandFault>
-        ensures moved { OnOk result ((at : At) (item : Item) → Forms (command.TextStart token) item → Stands E.dir_path E.file_path self.old.stage self.old.dirs.items self.old.file at → Moves E.shows self.old.editor self.new.editor item at (Stands E.dir_path E.file_path self.new.stage self.new.dirs.items self.new.file)) }
-        ensures refused { IfErr result (λ f. (at : At) → Stands E.dir_path E.file_path self.old.stage self.old.dirs.items self.old.file at → RefusedFor f (due at (command.TextStart token))) }
-        ensures own { IfErr result (IfOwn (λ f. (at : At) → Stands E.dir_path E.file_path self.old.stage self.old.dirs.items self.old.file at → Meets E.shows E.began E.refuses self.old.editor at (command.TextStart token) f)) }
+        ensures moved { OnOk result ((at : At) (item : Item) → Forms (command.TextStart token) item
+            → Stands E.dir_path E.file_path self.old.stage self.old.dirs.items self.old.file at
+            → Moves E.shows self.old.editor self.new.editor item at
+            (Stands E.dir_path E.file_path self.new.stage self.new.dirs.items self.new.file)) }
+        ensures refused { IfErr result (λ f. (at : At)
+            → Stands E.dir_path E.file_path self.old.stage self.old.dirs.items self.old.file at
+            → RefusedFor f (due at (command.TextStart token))) }
+        ensures own { IfErr result (IfOwn (λ f. (at : At)
+            → Stands E.dir_path E.file_path self.old.stage self.old.dirs.items self.old.file at
+            → Meets E.shows E.began E.refuses self.old.editor at (command.TextStart token) f)) }
         ensures began { E.began self.new.editor ≡ E.began self.old.editor }
     {
         let Some(file) = &mut self.file else {
@@ -442,9 +551,16 @@ impl<E: Editor> Edit<E> {
     }
 
     fn chunk(&mut self, token: Vec<u8>, bytes: Vec<u8>) -> Result<(), CommandFault>
-        ensures moved { OnOk result ((at : At) (item : Item) → Forms (command.Chunk token bytes) item → Stands E.dir_path E.file_path self.old.stage self.old.dirs.items self.old.file at → Moves E.shows self.old.editor self.new.editor item at (Stands E.dir_path E.file_path self.new.stage self.new.dirs.items self.new.file)) }
-        ensures refused { IfErr result (λ f. (at : At) → Stands E.dir_path E.file_path self.old.stage self.old.dirs.items self.old.file at → RefusedFor f (due at (command.Chunk token bytes))) }
-        ensures own { IfErr result (IfOwn (λ f. (at : At) → Stands E.dir_path E.file_path self.old.stage self.old.dirs.items self.old.file at → Meets E.shows E.began E.refuses self.old.editor at (command.Chunk token bytes) f)) }
+        ensures moved { OnOk result ((at : At) (item : Item) → Forms (command.Chunk token bytes) item
+            → Stands E.dir_path E.file_path self.old.stage self.old.dirs.items self.old.file at
+            → Moves E.shows self.old.editor self.new.editor item at
+            (Stands E.dir_path E.file_path self.new.stage self.new.dirs.items self.new.file)) }
+        ensures refused { IfErr result (λ f. (at : At)
+            → Stands E.dir_path E.file_path self.old.stage self.old.dirs.items self.old.file at
+            → RefusedFor f (due at (command.Chunk token bytes))) }
+        ensures own { IfErr result (IfOwn (λ f. (at : At)
+            → Stands E.dir_path E.file_path self.old.stage self.old.dirs.items self.old.file at
+            → Meets E.shows E.began E.refuses self.old.editor at (command.Chunk token bytes) f)) }
         ensures began { E.began self.new.editor ≡ E.began self.old.editor }
     {
         let Some(file) = &mut self.file else {
@@ -455,9 +571,16 @@ impl<E: Editor> Edit<E> {
     }
 
     fn text_end(&mut self, token: Vec<u8>) -> Result<(), CommandFault>
-        ensures moved { OnOk result ((at : At) (item : Item) → Forms (command.TextEnd token) item → Stands E.dir_path E.file_path self.old.stage self.old.dirs.items self.old.file at → Moves E.shows self.old.editor self.new.editor item at (Stands E.dir_path E.file_path self.new.stage self.new.dirs.items self.new.file)) }
-        ensures refused { IfErr result (λ f. (at : At) → Stands E.dir_path E.file_path self.old.stage self.old.dirs.items self.old.file at → RefusedFor f (due at (command.TextEnd token))) }
-        ensures own { IfErr result (IfOwn (λ f. (at : At) → Stands E.dir_path E.file_path self.old.stage self.old.dirs.items self.old.file at → Meets E.shows E.began E.refuses self.old.editor at (command.TextEnd token) f)) }
+        ensures moved { OnOk result ((at : At) (item : Item) → Forms (command.TextEnd token) item
+            → Stands E.dir_path E.file_path self.old.stage self.old.dirs.items self.old.file at
+            → Moves E.shows self.old.editor self.new.editor item at
+            (Stands E.dir_path E.file_path self.new.stage self.new.dirs.items self.new.file)) }
+        ensures refused { IfErr result (λ f. (at : At)
+            → Stands E.dir_path E.file_path self.old.stage self.old.dirs.items self.old.file at
+            → RefusedFor f (due at (command.TextEnd token))) }
+        ensures own { IfErr result (IfOwn (λ f. (at : At)
+            → Stands E.dir_path E.file_path self.old.stage self.old.dirs.items self.old.file at
+            → Meets E.shows E.began E.refuses self.old.editor at (command.TextEnd token) f)) }
         ensures began { E.began self.new.editor ≡ E.began self.old.editor }
     {
         let Some(file) = &mut self.file else {
@@ -468,9 +591,16 @@ impl<E: Editor> Edit<E> {
     }
 
     fn close_file(&mut self, token: Vec<u8>, sum: Option<[u8; 16]>) -> Result<(), CommandFault>
-        ensures moved { OnOk result ((at : At) (item : Item) → Forms (command.CloseFile token sum) item → Stands E.dir_path E.file_path self.old.stage self.old.dirs.items self.old.file at → Moves E.shows self.old.editor self.new.editor item at (Stands E.dir_path E.file_path self.new.stage self.new.dirs.items self.new.file)) }
-        ensures refused { IfErr result (λ f. (at : At) → Stands E.dir_path E.file_path self.old.stage self.old.dirs.items self.old.file at → RefusedFor f (due at (command.CloseFile token sum))) }
-        ensures own { IfErr result (IfOwn (λ f. (at : At) → Stands E.dir_path E.file_path self.old.stage self.old.dirs.items self.old.file at → Meets E.shows E.began E.refuses self.old.editor at (command.CloseFile token sum) f)) }
+        ensures moved { OnOk result ((at : At) (item : Item) → Forms (command.CloseFile token sum) item
+            → Stands E.dir_path E.file_path self.old.stage self.old.dirs.items self.old.file at
+            → Moves E.shows self.old.editor self.new.editor item at
+            (Stands E.dir_path E.file_path self.new.stage self.new.dirs.items self.new.file)) }
+        ensures refused { IfErr result (λ f. (at : At)
+            → Stands E.dir_path E.file_path self.old.stage self.old.dirs.items self.old.file at
+            → RefusedFor f (due at (command.CloseFile token sum))) }
+        ensures own { IfErr result (IfOwn (λ f. (at : At)
+            → Stands E.dir_path E.file_path self.old.stage self.old.dirs.items self.old.file at
+            → Meets E.shows E.began E.refuses self.old.editor at (command.CloseFile token sum) f)) }
         ensures began { E.began self.new.editor ≡ E.began self.old.editor }
     {
         let OpenFile {
@@ -488,8 +618,11 @@ impl<E: Editor> Edit<E> {
         token: &[u8],
         sum: Option<[u8; 16]>,
     ) -> Result<OpenFile<E::File>, CommandFault>
-        ensures taken { IfOk result (λ f. (self.old.file ≡ Some f) × (f.token.items ≡ token.now) × SumIs f.given sum) }
-        ensures refused { IfErr result (λ f. (at : At) → Stands E.dir_path E.file_path self.old.stage self.old.dirs.items self.old.file at → RefusedFor f (in_file token.now (open_of at) (at_close sum))) }
+        ensures taken { IfOk result (λ f. (self.old.file ≡ Some f) × (f.token.items ≡ token.now)
+            × SumIs f.given sum) }
+        ensures refused { IfErr result (λ f. (at : At)
+            → Stands E.dir_path E.file_path self.old.stage self.old.dirs.items self.old.file at
+            → RefusedFor f (in_file token.now (open_of at) (at_close sum))) }
         ensures own { IfErr result (IfOwn (λ f. ⊥)) }
         ensures none { OnOk result (self.new.file ≡ None) }
         ensures dirs { self.new.dirs ≡ self.old.dirs }
@@ -518,9 +651,16 @@ impl<E: Editor> Edit<E> {
     }
 
     fn close_edit(&mut self) -> Result<(), CommandFault>
-        ensures moved { OnOk result ((at : At) (item : Item) → Forms (command.CloseEdit) item → Stands E.dir_path E.file_path self.old.stage self.old.dirs.items self.old.file at → Moves E.shows self.old.editor self.new.editor item at (Stands E.dir_path E.file_path self.new.stage self.new.dirs.items self.new.file)) }
-        ensures refused { IfErr result (λ f. (at : At) → Stands E.dir_path E.file_path self.old.stage self.old.dirs.items self.old.file at → RefusedFor f (due at (command.CloseEdit))) }
-        ensures own { IfErr result (IfOwn (λ f. (at : At) → Stands E.dir_path E.file_path self.old.stage self.old.dirs.items self.old.file at → Meets E.shows E.began E.refuses self.old.editor at (command.CloseEdit) f)) }
+        ensures moved { OnOk result ((at : At) (item : Item) → Forms (command.CloseEdit) item
+            → Stands E.dir_path E.file_path self.old.stage self.old.dirs.items self.old.file at
+            → Moves E.shows self.old.editor self.new.editor item at
+            (Stands E.dir_path E.file_path self.new.stage self.new.dirs.items self.new.file)) }
+        ensures refused { IfErr result (λ f. (at : At)
+            → Stands E.dir_path E.file_path self.old.stage self.old.dirs.items self.old.file at
+            → RefusedFor f (due at (command.CloseEdit))) }
+        ensures own { IfErr result (IfOwn (λ f. (at : At)
+            → Stands E.dir_path E.file_path self.old.stage self.old.dirs.items self.old.file at
+            → Meets E.shows E.began E.refuses self.old.editor at (command.CloseEdit) f)) }
         ensures began { E.began self.new.editor ≡ E.began self.old.editor }
     {
         if self.is_announced() {
@@ -545,13 +685,20 @@ impl<E: Editor> Edit<E> {
         }
     }
 
-    /// Ends the edit at `finish-replay`: the root is opened and closed where it wasn't, and the editor's `close_edit` is called.
-    /// `BadToken` (46) where something is open; then it is discarded, and the edit is aborted.
+    /// Ends the edit at `finish-replay`: the root is opened and closed where it wasn't, and the editor's
+    /// `close_edit` is called. `BadToken` (46) where something is open; then it is discarded, and the edit is
+    /// aborted.
     pub fn finish(self) -> Result<E::Done, CommandFault>
-        ensures done { IfOk result (λ d. (at : At) (item : Item) → IsCommand (codes "finish-replay") [] item → Stands E.dir_path E.file_path self.stage self.dirs.items self.file at → Finishes E.shows E.done_shows self.editor d item at) }
+        ensures done { IfOk result (λ d. (at : At) (item : Item) → IsCommand (word_of word.FinishReplay) [] item
+            → Stands E.dir_path E.file_path self.stage self.dirs.items self.file at
+            → Finishes E.shows E.done_shows self.editor d item at) }
         ensures began { IfOk result (λ d. E.done_began d ≡ E.began self.editor) }
-        ensures refused { IfErr result (λ f. (at : At) → Stands E.dir_path E.file_path self.stage self.dirs.items self.file at → RefusedFor f (refusal at command.Finish)) }
-        ensures own { IfErr result (IfOwn (λ f. (at : At) → Stands E.dir_path E.file_path self.stage self.dirs.items self.file at → Meets E.shows E.began E.refuses self.editor at command.Finish f)) }
+        ensures refused { IfErr result (λ f. (at : At)
+            → Stands E.dir_path E.file_path self.stage self.dirs.items self.file at
+            → RefusedFor f (refusal at command.Finish)) }
+        ensures own { IfErr result (IfOwn (λ f. (at : At)
+            → Stands E.dir_path E.file_path self.stage self.dirs.items self.file at
+            → Meets E.shows E.began E.refuses self.editor at command.Finish f)) }
     {
         if !self.is_closed() {
             self.abort();
@@ -635,7 +782,8 @@ fn slice_of(value: &Option<Vec<u8>>) -> Option<&[u8]>
 // The root, opened without a base and closed.
 fn show_root<E: Editor>(editor: &mut E) -> Result<(), EditorFault>
     ensures shown { OnOk result (Adds E.shows editor.old editor.new (call.OpenRoot None ∷ call.CloseDir [] ∷ [])) }
-    ensures refused { IfErr result (RefusesOne E.shows E.began E.refuses editor.old (call.OpenRoot None ∷ call.CloseDir [] ∷ [])) }
+    ensures refused { IfErr result
+        (RefusesOne E.shows E.began E.refuses editor.old (call.OpenRoot None ∷ call.CloseDir [] ∷ [])) }
     ensures began { E.began editor.new ≡ E.began editor.old }
 {
     let root = editor.open_root(None)?;
@@ -651,9 +799,12 @@ fn give_prop<E: Editor>(
     name: PropName,
     value: Option<Vec<u8>>,
 ) -> Result<(), CommandFault>
-    ensures moved { OnOk result ((item : Item) → Forms (command.FileProp token name value) item → FileMoves E.file_path E.shows editor.old editor.new item file.old file.new) }
+    ensures moved { OnOk result ((item : Item) → Forms (command.FileProp token name value) item
+        → FileMoves E.file_path E.shows editor.old editor.new item file.old file.new) }
     ensures refused { IfErr result (λ f. RefusedFor f (for_token token.items file.old.token.items None)) }
-    ensures own { IfErr result (IfOwn (RefusesOne E.shows E.began E.refuses editor.old (call.FileProp (E.file_path file.old.baton) name (option_map (λ s. s.items) value) ∷ []))) }
+    ensures own { IfErr result
+        (IfOwn (RefusesOne E.shows E.began E.refuses editor.old
+        (call.FileProp (E.file_path file.old.baton) name (option_map (λ s. s.items) value) ∷ []))) }
     ensures began { E.began editor.new ≡ E.began editor.old }
 {
     if !is_same(file.token.as_slice(), token.as_slice()) {
@@ -669,9 +820,12 @@ fn begin_text<E: Editor>(
     file: &mut OpenFile<E::File>,
     token: Vec<u8>,
 ) -> Result<(), CommandFault>
-    ensures moved { OnOk result ((item : Item) → Forms (command.TextStart token) item → FileMoves E.file_path E.shows editor.old editor.new item file.old file.new) }
-    ensures refused { IfErr result (λ f. (held : Held) → GivenIs file.old.given held → RefusedFor f (for_token token.items file.old.token.items (at_start held))) }
-    ensures own { IfErr result (IfOwn (RefusesOne E.shows E.began E.refuses editor.old (call.TextStart (E.file_path file.old.baton) ∷ []))) }
+    ensures moved { OnOk result ((item : Item) → Forms (command.TextStart token) item
+        → FileMoves E.file_path E.shows editor.old editor.new item file.old file.new) }
+    ensures refused { IfErr result (λ f. (held : Held) → GivenIs file.old.given held
+        → RefusedFor f (for_token token.items file.old.token.items (at_start held))) }
+    ensures own { IfErr result
+        (IfOwn (RefusesOne E.shows E.began E.refuses editor.old (call.TextStart (E.file_path file.old.baton) ∷ []))) }
     ensures began { E.began editor.new ≡ E.began editor.old }
 {
     if !is_same(file.token.as_slice(), token.as_slice()) {
@@ -692,9 +846,14 @@ fn give_bytes<E: Editor>(
     token: Vec<u8>,
     bytes: Vec<u8>,
 ) -> Result<(), CommandFault>
-    ensures moved { OnOk result ((item : Item) → Forms (command.Chunk token bytes) item → FileMoves E.file_path E.shows editor.old editor.new item file.old file.new) }
-    ensures refused { IfErr result (λ f. (held : Held) → GivenIs file.old.given held → RefusedFor f (for_token token.items file.old.token.items (at_chunk bytes.items held))) }
-    ensures own { IfErr result (IfOwn (λ f. (held : Held) → GivenIs file.old.given held → (pieces : List (List ℕ)) × ReadFirst held bytes.items pieces × RefusesOne E.shows E.began E.refuses editor.old (map (call.TextPiece (E.file_path file.old.baton)) pieces) f)) }
+    ensures moved { OnOk result ((item : Item) → Forms (command.Chunk token bytes) item
+        → FileMoves E.file_path E.shows editor.old editor.new item file.old file.new) }
+    ensures refused { IfErr result (λ f. (held : Held) → GivenIs file.old.given held
+        → RefusedFor f (for_token token.items file.old.token.items (at_chunk bytes.items held))) }
+    ensures own { IfErr result (IfOwn (λ f. (held : Held) → GivenIs file.old.given held
+        → (pieces : List (List ℕ)) × ReadFirst held bytes.items pieces
+        × RefusesOne E.shows E.began E.refuses editor.old
+        (map (call.TextPiece (E.file_path file.old.baton)) pieces) f)) }
     ensures began { E.began editor.new ≡ E.began editor.old }
 {
     if !is_same(file.token.as_slice(), token.as_slice()) {
@@ -713,9 +872,12 @@ fn close_text<E: Editor>(
     file: &mut OpenFile<E::File>,
     token: Vec<u8>,
 ) -> Result<(), CommandFault>
-    ensures moved { OnOk result ((item : Item) → Forms (command.TextEnd token) item → FileMoves E.file_path E.shows editor.old editor.new item file.old file.new) }
-    ensures refused { IfErr result (λ f. (held : Held) → GivenIs file.old.given held → RefusedFor f (for_token token.items file.old.token.items (at_end held))) }
-    ensures own { IfErr result (IfOwn (RefusesOne E.shows E.began E.refuses editor.old (call.TextEnd (E.file_path file.old.baton) ∷ []))) }
+    ensures moved { OnOk result ((item : Item) → Forms (command.TextEnd token) item
+        → FileMoves E.file_path E.shows editor.old editor.new item file.old file.new) }
+    ensures refused { IfErr result (λ f. (held : Held) → GivenIs file.old.given held
+        → RefusedFor f (for_token token.items file.old.token.items (at_end held))) }
+    ensures own { IfErr result
+        (IfOwn (RefusesOne E.shows E.began E.refuses editor.old (call.TextEnd (E.file_path file.old.baton) ∷ []))) }
     ensures began { E.began editor.new ≡ E.began editor.old }
 {
     if !is_same(file.token.as_slice(), token.as_slice()) {
@@ -745,7 +907,8 @@ fn end_text(given: &mut Given) -> Result<[u8; 16], CommandFault>
 // The sum that came is that of the text, where both are there.
 fn check_sum(given: &Given, sum: Option<[u8; 16]>) -> Result<(), CommandFault>
     ensures is { OnOk result (SumIs given.now sum) }
-    ensures refused { IfErr result (λ f. (held : Held) → GivenIs given.now held → RefusedFor f (at_close sum held)) }
+    ensures refused { IfErr result (λ f. (held : Held) → GivenIs given.now held
+        → RefusedFor f (at_close sum held)) }
     ensures own { IfErr result (IfOwn (λ f. ⊥)) }
 {
     match given {

@@ -1,6 +1,7 @@
 //! Tokens of what is opened.
 
-ghost use Rattle.std.specs.Prelude.{◌≡◌, ◌≤◌, ◌+◌, ◌==◌, ℕ, length, slice_index, MatchOption, if◌then◌else◌};
+ghost use Rattle.std.specs.Prelude.{◌≡◌, ◌≤◌, ◌+◌, ◌==◌, ℕ, length, slice_index, MatchOption};
+ghost use Rattle.std.specs.Prelude.{if◌then◌else◌};
 ghost use Rattle.ra_edit.specs.Tokens.{newest};
 
 use node_base::NodePath;
@@ -30,8 +31,9 @@ impl Place {
     }
 }
 
-/// The numbers of tokens: that of the next one, and for each number of names that of the newest thing opened at a path of so
-/// many. What is open has more names than what is around it, so this is the token of each thing that is open.
+/// The numbers of tokens: that of the next one, and for each number of names that of the newest thing opened at a
+/// path of so many. What is open has more names than what is around it, so this is the token of each thing that is
+/// open.
 #[derive(Drop)]
 pub struct Tokens {
     next: u64,
@@ -58,7 +60,10 @@ impl Tokens {
 
     /// Gives out the next number, for what is opened at a place. Nothing where there is none left.
     pub fn give(&mut self, place: &Place) -> Option<u64>
-        ensures { MatchOption result ((self.new ≡ self.old) × (18446744073709551615 ≤ self.old.next)) (λ n. (n ≡ self.old.next) × (self.new.next ≡ n + 1) × ((d : ℕ) → newest self.new d ≡ (if d == length place.now.path.value then n else newest self.old d))) }
+        ensures { MatchOption result ((self.new ≡ self.old)
+            × (18446744073709551615 ≤ self.old.next)) (λ n. (n ≡ self.old.next) × (self.new.next ≡ n + 1)
+            × ((d : ℕ) → newest self.new d
+            ≡ (if d == length place.now.path.value then n else newest self.old d))) }
     {
         let number = self.next;
         self.next = number.checked_add(1)?;

@@ -1,13 +1,15 @@
 //! An editor that writes the calls that it is shown as commands of the ra_svn protocol.
 
-ghost use Rattle.std.specs.Prelude.{◌≡◌, ◌+◌, ℕ, List, [], ◌∷◌, ◌++◌, Option, Some, None, IfOk, IfErr, IsOk, OnOk};
+ghost use Rattle.std.specs.Prelude.{◌≡◌, ◌+◌, ℕ, List, [], ◌∷◌, ◌++◌, Option, Some, None, IfOk};
+ghost use Rattle.std.specs.Prelude.{IfErr, IsOk, OnOk};
 ghost use Rattle.std.specs.Io.KnownBytes.{Keeps};
 ghost use Rattle.std.specs.Io.Buffered.{writer_buffer, writer_contents};
 ghost use Rattle.delta_editor.specs.declared.fault.EditorFault.TheVariants.{OutOfMemory, PeerFailed};
 ghost use Rattle.ra_edit.specs.Tokens.{newest};
-ghost use Rattle.ra_edit.specs.Wire.{Shows, Holds, held_before, done_held_before, writer_of, room_of};
+ghost use Rattle.ra_edit.specs.Wire.{Shows, Holds, held_before, done_held_before, inner_of, writer_of, room_of};
 
 use crate::command;
+use crate::name::Name;
 use crate::token::{Place, Tokens};
 use delta_editor::{Editor, EditorFault, Source};
 use node_base::{NodePath, PropName, RevNo};
@@ -16,11 +18,13 @@ use std::io;
 use std::io::{BufWriter, Write};
 use std::snapshot::Snapshot;
 
-/// How many bytes are kept back at most until they are written: the longest command of a revision within the limits has 65,842.
+/// How many bytes are kept back at most until they are written: the longest command of a revision within the limits
+/// has 65,842.
 pub const ROOM: usize = 66_560;
 
-/// Writes the calls that it is shown, each as its commands in the one spelling that is written. What is opened gets the tokens
-/// `t0`, `t1`, `t2` and so on in the order of opening. A piece of a text is written in windows of at most 65,536 bytes.
+/// Writes the calls that it is shown, each as its commands in the one spelling that is written. What is opened gets
+/// the tokens `t0`, `t1`, `t2` and so on in the order of opening. A piece of a text is written in windows of at
+/// most 65,536 bytes.
 ///
 /// `new` reserves its room once. From then on its calls take no memory: they answer `PeerFailed` (49) where the writer
 /// failed, or where 2^64 - 1 tokens are given out, and nothing else.
@@ -60,8 +64,8 @@ impl<W> Written<W> {
 }
 
 impl<W: Write + Drop> WireEditor<W> {
-    /// An editor that writes behind what the writer has. `OutOfMemory` (70) where its room can't be had; the writer is let
-    /// go of then.
+    /// An editor that writes behind what the writer has. `OutOfMemory` (70) where its room can't be had; the writer
+    /// is let go of then.
     pub fn new(alloc: Global, out: W) -> Result<WireEditor<W>, EditorFault>
         ensures begins { IfOk result (λ e. Shows W.contents e []) }
         ensures began { IfOk result (λ e. held_before W.contents e ≡ W.contents out) }
@@ -78,6 +82,20 @@ impl<W: Write + Drop> WireEditor<W> {
             }),
             Err(_) => Err(EditorFault::OutOfMemory),
         }
+    }
+
+    /// Gives the edit up, behind a refusal too: the writer, as the calls so far left it.
+    pub fn into_writer(self) -> W
+        ensures { result ≡ inner_of self }
+    {
+        let WireEditor {
+            alloc: _,
+            out,
+            start: _,
+            tokens: _,
+        } = self;
+        let (out, _) = out.into_parts();
+        out
     }
 }
 
@@ -121,7 +139,7 @@ impl<W: Write + Drop> Editor for WireEditor<W> {
     ghost refuses = { λ held calls c e. e ≡ PeerFailed };
 
     fn target(&mut self, rev: RevNo) -> Result<(), EditorFault> {
-        let written = command::write_numbered(&mut self.out, b"target-rev", rev.get());
+        let written = command::write_numbered(&mut self.out, Name::TargetRev, rev.get());
         sent(&mut self.out, written)
     }
 
@@ -130,7 +148,7 @@ impl<W: Write + Drop> Editor for WireEditor<W> {
         let Some(child) = self.tokens.give(&place) else {
             return Err(EditorFault::PeerFailed);
         };
-        let written = command::write_open_root(&mut self.out, b"open-root", base, child);
+        let written = command::write_open_root(&mut self.out, Name::OpenRoot, base, child);
         sent(&mut self.out, written)?;
         Ok(WireDir { place })
     }
@@ -146,7 +164,7 @@ impl<W: Write + Drop> Editor for WireEditor<W> {
         let Some(child) = self.tokens.give(&place) else {
             return Err(EditorFault::PeerFailed);
         };
-        let written = command::write_add(&mut self.out, b"add-dir", path, parent, child, from);
+        let written = command::write_add(&mut self.out, Name::AddDir, path, parent, child, from);
         sent(&mut self.out, written)?;
         Ok(WireDir { place })
     }
@@ -164,7 +182,7 @@ impl<W: Write + Drop> Editor for WireEditor<W> {
         };
         let written = command::write_open_node(
             &mut self.out,
-            b"open-dir",
+            Name::OpenDir,
             path,
             parent,
             child,
@@ -181,7 +199,7 @@ impl<W: Write + Drop> Editor for WireEditor<W> {
         base: Option<RevNo>,
     ) -> Result<(), EditorFault> {
         let parent = self.tokens.at(&up.place);
-        let written = command::write_delete(&mut self.out, b"delete-entry", path, base, parent);
+        let written = command::write_delete(&mut self.out, Name::DeleteEntry, path, base, parent);
         sent(&mut self.out, written)
     }
 
@@ -196,7 +214,7 @@ impl<W: Write + Drop> Editor for WireEditor<W> {
         let Some(child) = self.tokens.give(&place) else {
             return Err(EditorFault::PeerFailed);
         };
-        let written = command::write_add(&mut self.out, b"add-file", path, parent, child, from);
+        let written = command::write_add(&mut self.out, Name::AddFile, path, parent, child, from);
         sent(&mut self.out, written)?;
         Ok(WireFile { place })
     }
@@ -214,7 +232,7 @@ impl<W: Write + Drop> Editor for WireEditor<W> {
         };
         let written = command::write_open_node(
             &mut self.out,
-            b"open-file",
+            Name::OpenFile,
             path,
             parent,
             child,
@@ -232,7 +250,7 @@ impl<W: Write + Drop> Editor for WireEditor<W> {
     ) -> Result<(), EditorFault> {
         let at = self.tokens.at(&dir.place);
         let name = name.as_bytes();
-        let written = command::write_prop(&mut self.out, b"change-dir-prop", at, name, value);
+        let written = command::write_prop(&mut self.out, Name::ChangeDirProp, at, name, value);
         sent(&mut self.out, written)
     }
 
@@ -244,7 +262,7 @@ impl<W: Write + Drop> Editor for WireEditor<W> {
     ) -> Result<(), EditorFault> {
         let at = self.tokens.at(&file.place);
         let name = name.as_bytes();
-        let written = command::write_prop(&mut self.out, b"change-file-prop", at, name, value);
+        let written = command::write_prop(&mut self.out, Name::ChangeFileProp, at, name, value);
         sent(&mut self.out, written)
     }
 
@@ -262,21 +280,21 @@ impl<W: Write + Drop> Editor for WireEditor<W> {
 
     fn text_end(&mut self, file: &mut WireFile) -> Result<(), EditorFault> {
         let at = self.tokens.at(&file.place);
-        let written = command::write_ended(&mut self.out, b"textdelta-end", at);
+        let written = command::write_ended(&mut self.out, Name::TextdeltaEnd, at);
         sent(&mut self.out, written)
     }
 
     fn close_file(&mut self, file: WireFile, sum: Option<[u8; 16]>) -> Result<(), EditorFault> {
         let WireFile { place } = file;
         let at = self.tokens.at(&place);
-        let written = command::write_close_file(&mut self.out, b"close-file", at, sum);
+        let written = command::write_close_file(&mut self.out, Name::CloseFile, at, sum);
         sent(&mut self.out, written)
     }
 
     fn close_dir(&mut self, dir: WireDir) -> Result<(), EditorFault> {
         let WireDir { place } = dir;
         let at = self.tokens.at(&place);
-        let written = command::write_ended(&mut self.out, b"close-dir", at);
+        let written = command::write_ended(&mut self.out, Name::CloseDir, at);
         sent(&mut self.out, written)
     }
 
@@ -295,19 +313,13 @@ impl<W: Write + Drop> Editor for WireEditor<W> {
             start,
             tokens: _,
         } = self;
-        let written = command::write_bare(&mut out, b"finish-replay");
+        let written = command::write_bare(&mut out, Name::FinishReplay);
         sent(&mut out, written)?;
         let (out, _) = out.into_parts();
         Ok(Written { out, start })
     }
 
     fn abort_edit(self) {
-        let WireEditor {
-            alloc: _,
-            out,
-            start: _,
-            tokens: _,
-        } = self;
-        let (_, _) = out.into_parts();
+        let _ = self.into_writer();
     }
 }

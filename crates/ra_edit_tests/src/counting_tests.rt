@@ -226,7 +226,8 @@ impl<'a> Editor for Counting<'a> {
     }
 }
 
-/// What a drive comes to for an editor that takes so many calls, 0 or the number of its refusal, and what that editor counts.
+/// What a drive comes to for an editor that takes so many calls, 0 or the number of its refusal, and what that editor
+/// counts.
 pub(crate) fn counted(alloc: Global, bytes: &[u8], breaks: bool, left: usize) -> (u8, Counts) {
     let mut counts = NOTHING;
     let editor = Counting {
@@ -249,7 +250,8 @@ pub(crate) fn is_given_up(counts: &Counts) -> bool {
         && counts.ended == 0
 }
 
-// Whether a drive of so many calls is given up where its editor refuses any one of them. The last call takes the editor.
+// Whether a drive of so many calls is given up where its editor refuses any one of them. The last call takes the
+// editor.
 fn each_call_may_be_refused(alloc: Global, bytes: &[u8], calls: usize) -> bool {
     for left in 0..calls.saturating_sub(1) {
         let (number, counts) = counted(alloc, bytes, false, left);

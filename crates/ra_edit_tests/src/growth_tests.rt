@@ -9,6 +9,7 @@ use delta_editor::EditorFault;
 use ra_edit::edit_fault::EditFault;
 use ra_edit::receive::receive;
 use ra_edit::wire::WireEditor;
+use ra_item::fault::{ItemFault, NextFault};
 use std::alloc::Global;
 use std::rt::HostRuntime;
 
@@ -33,8 +34,8 @@ fn writing(rt: HostRuntime) {
     assert!(rt; is_written(rt.alloc()));
 }
 
-// Whether a drive is passed on whole, into a place that doesn't grow, or up to a growth that is refused. That growth is no
-// call's of the editor, and the stream is over.
+// Whether a drive is passed on whole, into a place that doesn't grow, or up to a growth that is refused. That growth is
+// no call's of the editor, and the stream is over.
 fn is_passed_on(alloc: Global, size: usize) -> bool {
     let Ok(mut bytes) = Vec::with_capacity(alloc, FULL.len()) else {
         return true;
@@ -48,7 +49,7 @@ fn is_passed_on(alloc: Global, size: usize) -> bool {
         Some(fault) => {
             fault == EditFault::OutOfMemory
                 && FULL.starts_with(bytes.as_slice())
-                && items.next().err() == Some(EditFault::Failed)
+                && items.next().err() == Some(NextFault::Items(ItemFault::Failed))
         }
     }
 }

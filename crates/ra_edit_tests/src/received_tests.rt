@@ -14,8 +14,8 @@ use std::test::Fail;
 pub(crate) const FULL: &[u8] =
     b"( target-rev ( 7 ) ) ( open-root ( ( 6 ) 2:t0 ) ) ( change-dir-prop ( 2:t0 1:p ( 3:one ) ) ) ( open-dir ( 1:d 2:t0 2:t1 ( 6 ) ) ) ( change-dir-prop ( 2:t1 1:q ( ) ) ) ( add-file ( 3:d/f 2:t1 2:t2 ( 2:/g 3 ) ) ) ( change-file-prop ( 2:t2 1:r ( 2:\x00\n ) ) ) ( apply-textdelta ( 2:t2 ( ) ) ) ( textdelta-chunk ( 2:t2 4:SVN\x00 ) ) ( textdelta-chunk ( 2:t2 12:\x00\x00\x06\x01\x06\x86hello\n ) ) ( textdelta-end ( 2:t2 ) ) ( close-file ( 2:t2 ( 32:b1946ac92492d2347c6235b4d2611184 ) ) ) ( delete-entry ( 3:d/x ( 6 ) 2:t1 ) ) ( add-dir ( 3:d/y 2:t1 2:t3 ( ) ) ) ( close-dir ( 2:t3 ) ) ( close-dir ( 2:t1 ) ) ( open-file ( 1:e 2:t0 2:t4 ( 6 ) ) ) ( change-file-prop ( 2:t4 1:s ( ) ) ) ( close-file ( 2:t4 ( ) ) ) ( close-dir ( 2:t0 ) ) ( finish-replay ( ) ) ";
 
-// The same calls in other forms: other tokens and white space, zeros in front, more behind the parameters, a source without its
-// slash, a sum in capitals, windows cut elsewhere, an end that is announced.
+// The same calls in other forms: other tokens and white space, zeros in front, more behind the parameters, a source
+// without its slash, a sum in capitals, windows cut elsewhere, an end that is announced.
 const OTHER: &[u8] =
     b"( target-rev ( 007 ) x )\n( open-root ( ( 6 9 ) 0: ) ) ( change-dir-prop ( 0: 1:p ( 3:one ) ) ) ( open-dir ( 1:d 0: 1:x ( 6 ) y ) ) ( change-dir-prop ( 1:x 1:q ( ) ) ) ( add-file ( 3:d/f 1:x 3:\xff\x00  ( 1:g 03 ) ) ) ( change-file-prop ( 3:\xff\x00  1:r ( 2:\x00\n 1:z ) ) ) ( apply-textdelta ( 3:\xff\x00  ( 4:base ) ) ) ( textdelta-chunk ( 3:\xff\x00  9:SVN\x00\x80\x00\x00\x06\x01 ) ) ( textdelta-chunk ( 3:\xff\x00  0: ) ) ( textdelta-chunk ( 3:\xff\x00  8:\x06\x86hello\n ) ) ( textdelta-end ( 3:\xff\x00  ) ) ( close-file ( 3:\xff\x00  ( 32:B1946AC92492D2347C6235B4D2611184 ) ) ) ( delete-entry ( 3:d/x ( 6 ) 1:x ) ) ( add-dir ( 3:d/y 1:x 3:\xff\x00  ( ) ) ) ( close-dir ( 3:\xff\x00  ) ) ( close-dir ( 1:x ) ) ( open-file ( 1:e 0: 1:x ( 6 ) ) ) ( change-file-prop ( 1:x 1:s ( ) ) ) ( close-file ( 1:x ( ) ) ) ( close-dir ( 0: ) ) ( close-edit ( ) ) ( finish-replay ( ) ) ";
 
@@ -74,8 +74,8 @@ fn a_reader_that_fails_is_told(rt: HostRuntime) {
     assert!(rt; broken(alloc, FULL) == (None, Some(49)));
 }
 
-// What a drive is refused for where the writer behind its editor fails behind so many calls, and where its stream is read from
-// again. The writer has a beginning of the drive.
+// What a drive is refused for where the writer behind its editor fails behind so many calls, and where its stream is
+// read from again. The writer has a beginning of the drive.
 fn unwritten(
     rt: &impl Abort,
     alloc: Global,

@@ -202,3 +202,20 @@ fn a_failing_writer_has_a_beginning(rt: HostRuntime) {
     }
     assert!(rt; fine);
 }
+
+#[test]
+fn a_writer_comes_back(rt: HostRuntime) {
+    let alloc = rt.alloc();
+    let mut bytes = Vec::new(alloc);
+    let out = Failing {
+        bytes: &mut bytes,
+        left: 1,
+        size: 1_000,
+    };
+    let mut editor = WireEditor::new(alloc, out).expect(&rt, "room");
+    let first = editor.target(RevNo::new(2));
+    let second = editor.target(RevNo::new(3));
+    let left = editor.into_writer().left;
+    assert!(rt; first == Ok(()) && second == Err(EditorFault::PeerFailed) && left == 0);
+    assert!(rt; bytes.as_slice() == b"( target-rev ( 2 ) ) ".as_slice());
+}

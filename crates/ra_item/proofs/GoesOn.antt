@@ -18,11 +18,11 @@ use Rattle.ra_item.proofs.Runs.{state}
 use Rattle.ra_item.proofs.Read.{lt_from, list_made, list_item, one_white, stream_item, Spelt, all_spelt}
 
 -- each open list has room for what stands in it: it will be closed within the depth
-abbrev Shallow : List Item → List (List Item) → Type 0
+abbrev pub Shallow : List Item → List (List Item) → Type 0
 Shallow line [] = Unit {0}
 Shallow line (around ∷ outer) = (deepest (row line) + length outer ≤ 15) × Shallow around outer
 
-open_few : (line : List Item) (outer : List (List Item)) → Shallow line outer → length outer ≤ 16
+pub open_few : (line : List Item) (outer : List (List Item)) → Shallow line outer → length outer ≤ 16
 open_few line [] s = omega arith
 open_few line (around ∷ outer) s = omega (arith, s.0)
 
@@ -98,7 +98,7 @@ counted_flat (Next r) f = if_flat (is_between r) _ _ (λ _. f) (λ _. if_flat (n
 counted_flat (Gives x r) f = f
 counted_flat (Refused g) f = tt
 
-abbrev FlatStream : Stream → Type 0
+abbrev pub FlatStream : Stream → Type 0
 FlatStream (Reads items r) = Shallow r.row r.outer
 FlatStream (Refuses items f) = Unit {0}
 
@@ -111,7 +111,7 @@ one_flat : (s : Stream) (b : ℕ) → FlatStream s → FlatStream (one_byte s b)
 one_flat (Reads items r) b f = step_flat items (one_step r b) (counted_flat (byte_step r.place r b) (byte_flat r.place r.count r.held r.row r.outer b f))
 one_flat (Refuses items g) b f = tt
 
-run_flat : (s : Stream) (bytes : List ℕ) → FlatStream s → FlatStream (reading s bytes)
+pub run_flat : (s : Stream) (bytes : List ℕ) → FlatStream s → FlatStream (reading s bytes)
 run_flat s [] f = f
 run_flat s (b ∷ bytes) f = run_flat (one_byte s b) bytes (one_flat s b f)
 

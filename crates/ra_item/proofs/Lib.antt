@@ -6,3 +6,6 @@ mod Canon
 mod Read
 mod Weighing
 mod GoesOn
+mod Causes
+mod ByteFaults
+pub mod Streaming

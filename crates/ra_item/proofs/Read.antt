@@ -22,10 +22,10 @@ use Rattle.ra_item.proofs.Classes.{both, digit_high, number_after-append}
 pub lt_from : (a b : ℕ) → nat_lt a b ≡ true → a < b
 lt_from a b e = grind (arith, nat_tests)
 
-le_from : (a b : ℕ) → nat_lt a b ≡ false → b ≤ a
+pub le_from : (a b : ℕ) → nat_lt a b ≡ false → b ≤ a
 le_from a b e = grind (arith, nat_tests)
 
-eq_from : (a b : ℕ) → (a == b) ≡ true → a ≡ b
+pub eq_from : (a b : ℕ) → (a == b) ≡ true → a ≡ b
 eq_from a b e = grind (arith, nat_tests)
 
 true_no_false : true ≡ false → ⊥
@@ -50,7 +50,7 @@ all_snoc kind (c ∷ bs) b e h = let p = both (kind c) (all_bytes kind bs) e in 
 white_snoc : (ws : List ℕ) (b : ℕ) → IsWhite ws → is_white b ≡ true → IsWhite (ws ++ b ∷ [])
 white_snoc ws b w e = (omega (arith, length-append ws (b ∷ [])), all_snoc is_white ws b w.1 e)
 
-word_snoc : (w : List ℕ) (b : ℕ) → is_word w ≡ true → is_word_byte b ≡ true → is_word (w ++ b ∷ []) ≡ true
+pub word_snoc : (w : List ℕ) (b : ℕ) → is_word w ≡ true → is_word_byte b ≡ true → is_word (w ++ b ∷ []) ≡ true
 word_snoc [] b e h = cc
 word_snoc (c ∷ cs) b e h = let p = both (is_letter c) (all_bytes is_word_byte cs) e in rw p.0 (all_snoc is_word_byte cs b p.1 h)
 
@@ -108,15 +108,15 @@ list_item front line bytes first x b (white, inner, w, s, f, e) o g h = (
   ap (λ i. i ++ (first ++ b ∷ [])) e ∙ append_assoc front (40 ∷ (white ++ inner)) (first ++ b ∷ []) ∙ ap (λ i. front ++ 40 ∷ i) (append_assoc white inner (first ++ b ∷ [])),
 )
 
-abbrev PartOf : Reading → List ℕ → Type 0
+abbrev pub PartOf : Reading → List ℕ → Type 0
 PartOf r bytes = Part r.place r.held r.row r.outer bytes
 
 -- a byte goes on with the item, or it is white space between items
-abbrev GoesOn : List ℕ → ℕ → Reading → ℕ → Type 0
+abbrev pub GoesOn : List ℕ → ℕ → Reading → ℕ → Type 0
 GoesOn bytes b r count = (PartOf r (bytes ++ b ∷ []) × (count ≡ length bytes)) ⊎ ((is_white b ≡ true) × (bytes ≡ []) × (is_between r ≡ true) × PartOf r [] × (r.count ≡ 0))
 
 -- a byte did right by the bytes before it, apart from the count
-abbrev Fine : List ℕ → ℕ → Step → Type 0
+abbrev pub Fine : List ℕ → ℕ → Step → Type 0
 Fine bytes b (Next r) = GoesOn bytes b r r.count
 Fine bytes b (Gives x r) = (is_white b ≡ true) × IsItem bytes x × PartOf r [] × (r.count ≡ 0)
 Fine bytes b (Refused f) = Unit {0}
@@ -246,7 +246,7 @@ closed_fine count held line (around ∷ outer) bytes b (no_bytes, (front, white,
     (λ h. closed_made count held line around outer front (40 ∷ (white ++ (inner ++ 41 ∷ []))) bytes b (list_of (row line)) refl i (white, inner, w, s, refl) g e c k h)
     (λ _. tt)
 
-byte_fine : (p : Place) (count : ℕ) (held : List ℕ) (line : List Item) (outer : List (List Item)) (bytes : List ℕ) (b : ℕ) → Part p held line outer bytes → count ≡ length bytes → count ≤ 33554432 → Fine bytes b (byte_step p (state p count held line outer) b)
+pub byte_fine : (p : Place) (count : ℕ) (held : List ℕ) (line : List Item) (outer : List (List Item)) (bytes : List ℕ) (b : ℕ) → Part p held line outer bytes → count ≡ length bytes → count ≤ 33554432 → Fine bytes b (byte_step p (state p count held line outer) b)
 byte_fine at.Between count held line outer bytes b i c k = start_fine count held line outer bytes b i c
 byte_fine at.Opened count held line outer bytes b i c k = opened_fine count held line outer bytes b i c
 byte_fine at.Word count held line outer bytes b i c k = word_fine count held line outer bytes b i c k

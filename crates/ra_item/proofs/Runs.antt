@@ -9,7 +9,7 @@ use Rattle.ra_item.specs.declared.fault.ItemFault.TheVariants.{OutOfMemory}
 use Rattle.ra_item.specs.declared.reading.Place.{Place}
 use Rattle.ra_item.specs.declared.reading.Place.TheVariants as at
 use Rattle.ra_item.specs.declared.reading.Reading.{Reading}
-use Rattle.ra_item.specs.Reading.{Step, Next, Gives, Refused, one_step, held_more}
+use Rattle.ra_item.specs.Reading.{Next, one_step, held_more}
 use Rattle.ra_item.specs.Streams.{Stream, Reads, Refuses, of_step, one_byte, reading, MayKeep, StreamIs}
 
 -- pieces don't matter

@@ -10,3 +10,6 @@ pub mod Streams
 pub mod Grammar
 pub mod Places
 pub mod Laws
+pub mod Rests
+pub mod ItemStreams
+pub mod Refusals

@@ -3,6 +3,8 @@ use Rattle.std.specs.Prelude.{◌≡◌, ℕ, nat_lt, List, length, Result, Ok, 
 use Rattle.ra_item.specs.Bytes.{is_word}
 use Rattle.ra_item.specs.Items.{Item, Items, Word, Text, Nested, spell, nesting}
 use Rattle.ra_item.specs.declared.fault.ItemFault.{ItemFault}
+use Rattle.ra_item.specs.declared.fault.NextFault.{NextFault}
+use Rattle.ra_item.specs.declared.fault.NextFault.TheVariants as next
 use Rattle.ra_item.specs.declared.fault.ItemFault.TheVariants.{Truncated, TooLong, Failed, BadItem, TooDeep, OutOfMemory}
 
 -- a word has at most 64 bytes
@@ -34,3 +36,7 @@ number_of_fault Failed = 32
 number_of_fault BadItem = 41
 number_of_fault TooDeep = 42
 number_of_fault OutOfMemory = 70
+
+abbrev pub number_of_next : NextFault → ℕ
+number_of_next (next.Items f) = number_of_fault f
+number_of_next next.PeerFailed = 49

@@ -1,8 +1,9 @@
-//! Why bytes are no items, or an item isn't made.
+//! Why bytes are no items, an item isn't made, or the next one of a stream doesn't come.
 
 ghost use Rattle.std.specs.Prelude.{◌≡◌};
-ghost use Rattle.ra_item.specs.Makers.{number_of_fault};
+ghost use Rattle.ra_item.specs.Makers.{number_of_fault, number_of_next};
 ghost use Rattle.ra_item.specs.declared.fault.ItemFault.TheVariants.{OutOfMemory};
+ghost use Rattle.ra_item.specs.declared.fault.NextFault.TheVariants.{Items};
 
 use std::alloc::{AllocError, AllocFailed};
 use thiserror::Error;
@@ -59,5 +60,36 @@ impl<T: Drop> From<AllocFailed<T>> for ItemFault {
 
     fn from(_: AllocFailed<T>) -> ItemFault {
         ItemFault::OutOfMemory
+    }
+}
+
+/// Why the next item of a stream doesn't come.
+#[derive(Clone, Copy, Debug, PartialEq, Eq, Drop, Error)]
+pub enum NextFault {
+    /// What its bytes are refused for, or want of memory; the number is that refusal's.
+    #[error("{0}")]
+    Items(ItemFault),
+    /// The input failed, or was read as often as one stream may be (49).
+    #[error("stream failed")]
+    PeerFailed,
+}
+
+impl NextFault {
+    /// The number by which logs and answers name the refusal.
+    pub fn number(&self) -> u32
+        ensures { result ≡ number_of_next self.now }
+    {
+        match self {
+            NextFault::Items(fault) => fault.number(),
+            NextFault::PeerFailed => 49,
+        }
+    }
+}
+
+impl From<ItemFault> for NextFault {
+    ghost from_gives = { λ f e. e ≡ Items f };
+
+    fn from(fault: ItemFault) -> NextFault {
+        NextFault::Items(fault)
     }
 }

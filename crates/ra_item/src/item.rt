@@ -114,7 +114,8 @@ fn depth_of(items: &[Item]) -> u32
 /// How many bytes the items are written with, where these are few enough for a list.
 fn size_of_all(items: &[Item]) -> Option<u32>
     ensures small { IfSome result (λ n. n ≤ 33554429) }
-    ensures size { MatchOption result (33554429 < length (spell_all (row items.now))) (λ n. n ≡ length (spell_all (row items.now))) }
+    ensures size { MatchOption result (33554429 < length (spell_all (row items.now))) (λ n. n
+        ≡ length (spell_all (row items.now))) }
 {
     let mut size = 0u32;
     for item in items {

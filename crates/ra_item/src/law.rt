@@ -1,6 +1,9 @@
 //! Laws of items, over all bytes. Each is proved as the contract of a function that does nothing.
 
-ghost use Rattle.ra_item.specs.Laws.{PiecesJoin, StreamsAreRead, WholeAtWhite, WrittenIsSpelled, WrittenIsRead, OneReading, ReadIsSpelled, EndsWhole, RefusedBehindItems, KeptIsFed, ReadGoesOn, RefusedIsNoFront};
+ghost use Rattle.ra_item.specs.Laws.{PiecesJoin, StreamsAreRead, WholeAtWhite, WrittenIsSpelled, WrittenIsRead};
+ghost use Rattle.ra_item.specs.Laws.{OneReading, ReadIsSpelled, EndsWhole, RefusedBehindItems, KeptIsFed, ReadGoesOn};
+ghost use Rattle.ra_item.specs.Laws.{RefusedIsNoFront};
+ghost use Rattle.ra_item.specs.Refusals.{RefusedForCause};
 
 /// It doesn't matter how bytes are cut into pieces.
 pub fn pieces_join()
@@ -60,4 +63,10 @@ pub fn read_goes_on()
 /// Bytes that are refused begin no stream of the grammar.
 pub fn refused_is_no_front()
     ensures { RefusedIsNoFront }
+{}
+
+/// Which number refused bytes get, and at which of them: 8 where a word, a string or an item is past its limit, 42
+/// where a list opens inside 16 others, 41 where no stream of items goes on so.
+pub fn refused_for_cause()
+    ensures { RefusedForCause }
 {}

@@ -2,8 +2,9 @@
 //!
 //! A Subversion client and a server send each other items: words, numbers, strings with their length in
 //! front, and lists of items, as the document `protocol` of Subversion's library `libsvn_ra_svn` has them.
-//! [`reader::ItemReader`] reads them from bytes that come in any pieces, [`writer::write_item`] writes them
-//! in one spelling, and an [`item::Item`] is within the limits of [`limits`] by its type.
+//! [`reader::ItemReader`] reads them from bytes that come in any pieces, [`stream::ItemStream`] gives those of an
+//! input one at a time, [`writer::write_item`] writes them in one spelling, and an [`item::Item`] is within the
+//! limits of [`limits`] by its type.
 //!
 //! ```text
 //! let mut reader = ItemReader::new(alloc);
@@ -27,4 +28,5 @@ pub mod limits;
 mod parts;
 pub mod reader;
 mod reading;
+pub mod stream;
 pub mod writer;

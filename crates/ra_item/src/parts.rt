@@ -1,7 +1,8 @@
 //! Bytes, items and open lists that a reader keeps.
 
 ghost use Rattle.ra_item.specs.Weights.{weigh, weigh_all};
-ghost use Rattle.std.specs.Prelude.{◌≡◌, ◌≤◌, [], ◌∷◌, ◌++◌, length, IfOk, OnErr, MatchOption, reverse};
+ghost use Rattle.std.specs.Prelude.{◌≡◌, ◌≤◌, [], ◌∷◌, ◌++◌, length, IfOk, OnErr, MatchOption};
+ghost use Rattle.std.specs.Prelude.{reverse};
 
 use crate::item::{Item, written_size};
 use std::alloc::{AllocError, Global};

@@ -58,11 +58,13 @@ impl ItemReader {
     /// then the items that are whole in a front of the piece are in `out`, behind those that were there. After an
     /// `Err` the reader keeps nothing, and each later call answers `Failed` (32) and leaves `out` as it is.
     pub fn feed(&mut self, piece: &[u8], out: &mut Vec<Item>) -> Result<(), ItemFault>
-        ensures reads { is_failed self.old ≡ false → StreamIs result self.new out.new.items (reading (Reads out.old.items self.old) piece.now) }
+        ensures reads { is_failed self.old ≡ false
+            → StreamIs result self.new out.new.items (reading (Reads out.old.items self.old) piece.now) }
         ensures failed { is_failed self.old ≡ true → (result ≡ Err Failed) × (out.new.items ≡ out.old.items) }
         ensures goes_on { OnOk result (is_failed self.new ≡ false) }
         ensures later { OnErr result (self.new ≡ failed) }
-        ensures front { is_failed self.old ≡ false → OnErr result (WholeInFront out.new.items (Reads out.old.items self.old) piece.now) }
+        ensures front { is_failed self.old ≡ false
+            → OnErr result (WholeInFront out.new.items (Reads out.old.items self.old) piece.now) }
     {
         if self.reading.is_failed() {
             self.reading = Reading::failed(self.alloc);

@@ -1,9 +1,11 @@
 //! An item that isn't whole yet, byte by byte.
 
-ghost use Rattle.std.specs.Prelude.{◌≡◌, ◌+◌, ◌<◌, ◌≤◌, ◌^◌, [], ◌∷◌, ◌++◌, length, IfOk, OnErr, Ok, Err, if◌then◌else◌, true, false};
+ghost use Rattle.std.specs.Prelude.{◌≡◌, ◌+◌, ◌<◌, ◌≤◌, ◌^◌, [], ◌∷◌, ◌++◌, length};
+ghost use Rattle.std.specs.Prelude.{IfOk, OnErr, Ok, Err, if◌then◌else◌, true, false};
 ghost use Rattle.ra_item.specs.Bytes.{is_white, is_digit};
 ghost use Rattle.ra_item.specs.Makers.{word_of, text_of};
-ghost use Rattle.ra_item.specs.Reading.{StepIs, begin, failed, give, made, close, open_list, start, in_word, in_number, byte_step, one_step, counted, Next, is_between, held_more};
+ghost use Rattle.ra_item.specs.Reading.{StepIs, begin, failed, give, made, close, open_list, start, in_word, in_number};
+ghost use Rattle.ra_item.specs.Reading.{byte_step, one_step, counted, Next, is_between, held_more};
 ghost use Rattle.ra_item.specs.Streams.{MayKeep, StreamIs, reading, one_byte, Reads, WholeInFront, is_failed};
 ghost use Rattle.ra_item.specs.Places.{kept};
 ghost use Rattle.ra_item.specs.declared.reading.Place.TheVariants as at;
@@ -278,7 +280,8 @@ impl Reading {
 
     /// White space behind a bracket or a string.
     fn end_part(&mut self, alloc: Global) -> Result<Option<Item>, ItemFault>
-        ensures opened { self.old.place ≡ at.Opened → StepIs result self.new (Next (record self.old { place = at.Between })) }
+        ensures opened { self.old.place ≡ at.Opened
+            → StepIs result self.new (Next (record self.old { place = at.Between })) }
         ensures ended { self.old.place ≡ at.Ended → StepIs result self.new (made self.old (text_of self.old.held)) }
         ensures closed { self.old.place ≡ at.Closed → StepIs result self.new (close self.old) }
     {

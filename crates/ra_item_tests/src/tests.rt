@@ -134,8 +134,8 @@ fn wrong_front(
     Ok(None)
 }
 
-// Each front of the parts gives the parts that it has whole, and ends well only behind one: else the number of the part and
-// the length of its first front that doesn't.
+// Each front of the parts gives the parts that it has whole, and ends well only behind one: else the number of the part
+// and the length of its first front that doesn't.
 fn wrong_fronts(alloc: Global, parts: &[&[u8]]) -> Result<Option<(usize, usize)>, Fail> {
     let mut before = Vec::new(alloc);
     for (count, part) in parts.iter().enumerate() {
@@ -502,4 +502,5 @@ fn laws_are_called() {
     law::kept_is_fed();
     law::read_goes_on();
     law::refused_is_no_front();
+    law::refused_for_cause();
 }

@@ -32,7 +32,8 @@ pub fn kind(content: Params) -> Result<Option<NodeKind>, WireFault>
 
 /// The value that an answer to `rev-prop` holds, or none. `BadShape` (48) for another form.
 pub fn value(content: Params) -> Result<Option<Vec<u8>>, WireFault>
-    ensures read { IfOk result (λ v. option_map (λ r. r.0) (bracketed text_in (left_of content)) ≡ Some (option_map (λ t. t.items) v)) }
+    ensures read { IfOk result (λ v. option_map (λ r. r.0) (bracketed text_in (left_of content))
+        ≡ Some (option_map (λ t. t.items) v)) }
     ensures none { IfErr result (NotRead (bracketed text_in (left_of content))) }
     ensures judged { Judges IsValue (option_map (λ t. t.items)) (left_of content) result }
 {

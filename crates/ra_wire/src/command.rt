@@ -4,7 +4,9 @@ ghost use Rattle.std.specs.Prelude.{◌≡◌, IfOk, IfErr, Some, None};
 ghost use Rattle.ra_item.specs.Items.{Nested};
 ghost use Rattle.ra_wire.specs.Params.{left_of, NotRead};
 ghost use Rattle.ra_wire.specs.Commands.{previous_as, command_as, Judged};
-ghost use Rattle.ra_wire.specs.Reading.{command_in, named, check_path_in, get_file_in, get_dir_in, rev_proplist_in, rev_prop_in, change_rev_prop_in, change_rev_prop2_in, replay_in, replay_range_in, previous_in, ReadIs, last_read, replayed};
+ghost use Rattle.ra_wire.specs.Reading.{command_in, named, check_path_in, get_file_in, get_dir_in, rev_proplist_in};
+ghost use Rattle.ra_wire.specs.Reading.{rev_prop_in, change_rev_prop_in, change_rev_prop2_in, replay_in};
+ghost use Rattle.ra_wire.specs.Reading.{replay_range_in, previous_in, ReadIs, last_read, replayed};
 
 use crate::fault::WireFault;
 use crate::params::Params;

@@ -23,7 +23,8 @@ use std::io::Write;
 
 // A version, a capability and a URL.
 fn write_version<W: Write>(out: &mut W, capability: &[u8], url: &[u8]) -> io::Result<()>
-    ensures { OnOk result (Appends (W.contents out.old) (W.contents out.new) (spell (list (Number 2 ∷ list (Word capability.now ∷ []) ∷ Text url.now ∷ [])))) }
+    ensures { OnOk result (Appends (W.contents out.old) (W.contents out.new)
+        (spell (list (Number 2 ∷ list (Word capability.now ∷ []) ∷ Text url.now ∷ [])))) }
 {
     write_open(out)?;
     write_number(out, 2)?;
@@ -41,7 +42,8 @@ pub fn write_hello<W: Write>(out: &mut W, url: &[u8]) -> io::Result<()>
 
 // A mechanism and a token.
 fn write_token<W: Write>(out: &mut W, mechanism: &[u8], token: &[u8]) -> io::Result<()>
-    ensures { OnOk result (Appends (W.contents out.old) (W.contents out.new) (spell (list (Word mechanism.now ∷ list (Text token.now ∷ []) ∷ [])))) }
+    ensures { OnOk result (Appends (W.contents out.old) (W.contents out.new)
+        (spell (list (Word mechanism.now ∷ list (Text token.now ∷ []) ∷ [])))) }
 {
     write_open(out)?;
     write_word(out, mechanism)?;
@@ -68,7 +70,8 @@ fn write_bare<W: Write>(out: &mut W, name: &[u8]) -> io::Result<()>
 
 // A command of a path and a revision.
 fn write_at<W: Write>(out: &mut W, name: &[u8], path: &NodePath, n: Option<u64>) -> io::Result<()>
-    ensures { OnOk result (Appends (W.contents out.old) (W.contents out.new) (spell (answer_of name.now (Text (path_text path.now) ∷ number_or_none n ∷ [])))) }
+    ensures { OnOk result (Appends (W.contents out.old) (W.contents out.new)
+        (spell (answer_of name.now (Text (path_text path.now) ∷ number_or_none n ∷ [])))) }
 {
     write_name(out, name)?;
     write_path(out, path)?;
@@ -85,7 +88,9 @@ fn write_look<W: Write>(
     props: bool,
     contents: bool,
 ) -> io::Result<()>
-    ensures { OnOk result (Appends (W.contents out.old) (W.contents out.new) (spell (answer_of name.now (Text (path_text path.now) ∷ number_or_none n ∷ Word (truth_word props) ∷ Word (truth_word contents) ∷ [])))) }
+    ensures { OnOk result (Appends (W.contents out.old) (W.contents out.new)
+        (spell (answer_of name.now (Text (path_text path.now) ∷ number_or_none n ∷ Word (truth_word props)
+        ∷ Word (truth_word contents) ∷ [])))) }
 {
     write_name(out, name)?;
     write_path(out, path)?;
@@ -97,7 +102,8 @@ fn write_look<W: Write>(
 
 // A command of a revision.
 fn write_numbered<W: Write>(out: &mut W, name: &[u8], n: u64) -> io::Result<()>
-    ensures { OnOk result (Appends (W.contents out.old) (W.contents out.new) (spell (answer_of name.now (Number n ∷ [])))) }
+    ensures { OnOk result (Appends (W.contents out.old) (W.contents out.new)
+        (spell (answer_of name.now (Number n ∷ [])))) }
 {
     write_name(out, name)?;
     write_number(out, n)?;
@@ -106,7 +112,8 @@ fn write_numbered<W: Write>(out: &mut W, name: &[u8], n: u64) -> io::Result<()>
 
 // A command of a revision and a property's name.
 fn write_property_of<W: Write>(out: &mut W, name: &[u8], n: u64, prop: &[u8]) -> io::Result<()>
-    ensures { OnOk result (Appends (W.contents out.old) (W.contents out.new) (spell (answer_of name.now (Number n ∷ Text prop.now ∷ [])))) }
+    ensures { OnOk result (Appends (W.contents out.old) (W.contents out.new)
+        (spell (answer_of name.now (Number n ∷ Text prop.now ∷ [])))) }
 {
     write_name(out, name)?;
     write_number(out, n)?;
@@ -116,7 +123,8 @@ fn write_property_of<W: Write>(out: &mut W, name: &[u8], n: u64, prop: &[u8]) ->
 
 // What a change replaces.
 fn write_replacing<W: Write>(out: &mut W, old: &Previous) -> io::Result<()>
-    ensures { OnOk result (Appends (W.contents out.old) (W.contents out.new) (spell (replacing (previous_as old.now)))) }
+    ensures { OnOk result (Appends (W.contents out.old) (W.contents out.new)
+        (spell (replacing (previous_as old.now)))) }
 {
     write_open(out)?;
     match old {
@@ -139,7 +147,9 @@ fn write_change<W: Write>(
     value: &Option<Vec<u8>>,
     old: &Previous,
 ) -> io::Result<()>
-    ensures { OnOk result (Appends (W.contents out.old) (W.contents out.new) (spell (answer_of name.now (Number n ∷ Text prop.now ∷ string (option_map (λ v. v.items) value.now) ∷ replacing (previous_as old.now) ∷ [])))) }
+    ensures { OnOk result (Appends (W.contents out.old) (W.contents out.new)
+        (spell (answer_of name.now (Number n ∷ Text prop.now ∷ string (option_map (λ v. v.items) value.now)
+        ∷ replacing (previous_as old.now) ∷ [])))) }
 {
     write_name(out, name)?;
     write_number(out, n)?;
@@ -151,7 +161,8 @@ fn write_change<W: Write>(
 
 // A replay of one revision, against revision 0 and with texts.
 fn write_replay<W: Write>(out: &mut W, name: &[u8], n: u64) -> io::Result<()>
-    ensures { OnOk result (Appends (W.contents out.old) (W.contents out.new) (spell (answer_of name.now (Number n ∷ Number 0 ∷ Word (truth_word true) ∷ [])))) }
+    ensures { OnOk result (Appends (W.contents out.old) (W.contents out.new)
+        (spell (answer_of name.now (Number n ∷ Number 0 ∷ Word (truth_word true) ∷ [])))) }
 {
     write_name(out, name)?;
     write_number(out, n)?;
@@ -162,7 +173,8 @@ fn write_replay<W: Write>(out: &mut W, name: &[u8], n: u64) -> io::Result<()>
 
 // The same of several revisions.
 fn write_range<W: Write>(out: &mut W, name: &[u8], start: u64, end: u64) -> io::Result<()>
-    ensures { OnOk result (Appends (W.contents out.old) (W.contents out.new) (spell (answer_of name.now (Number start ∷ Number end ∷ Number 0 ∷ Word (truth_word true) ∷ [])))) }
+    ensures { OnOk result (Appends (W.contents out.old) (W.contents out.new)
+        (spell (answer_of name.now (Number start ∷ Number end ∷ Number 0 ∷ Word (truth_word true) ∷ [])))) }
 {
     write_name(out, name)?;
     write_number(out, start)?;
@@ -174,7 +186,8 @@ fn write_range<W: Write>(out: &mut W, name: &[u8], start: u64, end: u64) -> io::
 
 /// A command. A change of a property is written as `change-rev-prop2`.
 pub fn write_command<W: Write>(out: &mut W, command: &Command) -> io::Result<()>
-    ensures { OnOk result (Appends (W.contents out.old) (W.contents out.new) (spell (command_item (command_as command.now)))) }
+    ensures { OnOk result (Appends (W.contents out.old) (W.contents out.new)
+        (spell (command_item (command_as command.now)))) }
 {
     match command {
         Command::LatestRev => write_bare(out, b"get-latest-rev"),

@@ -67,8 +67,8 @@ fn rest_of(
 }
 
 impl Dirent {
-    /// The entry that an item is. `BadShape` (48) for another form, a kind that is neither file nor dir, or a name that is
-    /// none; `OutOfMemory` (70).
+    /// The entry that an item is. `BadShape` (48) for another form, a kind that is neither file nor dir, or a name that
+    /// is none; `OutOfMemory` (70).
     pub fn parse(alloc: Global, item: Item) -> Result<Dirent, WireFault>
         ensures read { IfOk result (λ d. dirent_in item ≡ Some (dirent_as d)) }
         ensures none { IfErr result (NotRead (dirent_in item)) }

@@ -7,7 +7,8 @@ ghost use Rattle.node_base.specs.Props.{prop_name_read};
 ghost use Rattle.ra_wire.specs.Answers.{dirent_as};
 ghost use Rattle.ra_wire.specs.Commands.{command_as};
 ghost use Rattle.ra_wire.specs.Laws.{FormsAreRead, OneCommand, UnknownIsTold, OtherReplayIsTold, PrototypesAreRead};
-ghost use Rattle.ra_wire.specs.ReadAgain.{OpeningsAreReadAgain, AnswersAreReadAgain, IsReadAgain, IsEntryReadAgain, AreEntriesReadAgain, ArePropsReadAgain, IsDirReadAgain};
+ghost use Rattle.ra_wire.specs.ReadAgain.{OpeningsAreReadAgain, AnswersAreReadAgain, IsReadAgain, IsEntryReadAgain};
+ghost use Rattle.ra_wire.specs.ReadAgain.{AreEntriesReadAgain, ArePropsReadAgain, IsDirReadAgain};
 
 use crate::command::Command;
 use crate::dirent::Dirent;

@@ -4,7 +4,8 @@
 ghost use Rattle.std.specs.Prelude.{◌≡◌, IfOk, IfErr, Some, None};
 ghost use Rattle.ra_wire.specs.Params.{left_of, NotRead};
 ghost use Rattle.ra_wire.specs.Prototypes.{IsGreeting, IsHello, AreMechanisms, IsLogin, IsWelcome, Judges};
-ghost use Rattle.ra_wire.specs.Openings.{greeting_in, greeting_as, hello_in, hello_as, mechanisms_in, mechanisms_as, login_in, login_as, welcome_in, welcome_as};
+ghost use Rattle.ra_wire.specs.Openings.{greeting_in, greeting_as, hello_in, hello_as, mechanisms_in, mechanisms_as};
+ghost use Rattle.ra_wire.specs.Openings.{login_in, login_as, welcome_in, welcome_as};
 
 use crate::fault::WireFault;
 use crate::params::Params;

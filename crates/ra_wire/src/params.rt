@@ -3,7 +3,9 @@
 ghost use Rattle.std.specs.Prelude.{◌≡◌, [], ◌∷◌, reverse, map, IfOk, IfErr, true, false, Some, None};
 ghost use Rattle.std.specs.Option.{option_map};
 ghost use Rattle.ra_item.specs.Items.{Then, End, Nested, row};
-ghost use Rattle.ra_wire.specs.Params.{left_of, parts_in, word_in, text_in, number_in, list_in, bool_in, path_in, prop_name_in, bracketed, perhaps, right, unslashed, each, word_of, words_in, NotRead};
+ghost use Rattle.ra_wire.specs.Params.{left_of, parts_in, word_in, text_in, number_in, list_in, bool_in, path_in};
+ghost use Rattle.ra_wire.specs.Params.{prop_name_in, bracketed, perhaps, right, unslashed, each, word_of, words_in};
+ghost use Rattle.ra_wire.specs.Params.{NotRead};
 ghost use Rattle.node_base.specs.PathText.{path_read};
 
 use crate::fault::WireFault;
@@ -114,7 +116,8 @@ impl Params {
 
     /// The next item, which is a list of words.
     pub fn words(&mut self, alloc: Global) -> Result<Vec<Vec<u8>>, WireFault>
-        ensures read { IfOk result (λ ws. words_in (left_of self.old) ≡ Some (map (λ w. w.items) ws.items, left_of self.new)) }
+        ensures read { IfOk result (λ ws. words_in (left_of self.old)
+            ≡ Some (map (λ w. w.items) ws.items, left_of self.new)) }
         ensures none { IfErr result (NotRead (words_in (left_of self.old))) }
     {
         all_words(alloc, self.items()?)
@@ -192,7 +195,8 @@ impl Params {
 
     /// Brackets with a string or nothing.
     pub fn maybe_text(&mut self) -> Result<Option<Vec<u8>>, WireFault>
-        ensures read { IfOk result (λ t. bracketed text_in (left_of self.old) ≡ Some (option_map (λ s. s.items) t, left_of self.new)) }
+        ensures read { IfOk result (λ t. bracketed text_in (left_of self.old)
+            ≡ Some (option_map (λ s. s.items) t, left_of self.new)) }
         ensures none { IfErr result (NotRead (bracketed text_in (left_of self.old))) }
     {
         self.list()?.last_text()

@@ -52,7 +52,8 @@ pub fn write_one<W: Write>(out: &mut W, word: &[u8]) -> io::Result<()>
 
 /// Two words in brackets.
 pub fn write_two<W: Write>(out: &mut W, first: &[u8], second: &[u8]) -> io::Result<()>
-    ensures { OnOk result (Appends (W.contents out.old) (W.contents out.new) (spell (list (Word first.now ∷ Word second.now ∷ [])))) }
+    ensures { OnOk result (Appends (W.contents out.old) (W.contents out.new)
+        (spell (list (Word first.now ∷ Word second.now ∷ [])))) }
 {
     write_open(out)?;
     write_word(out, first)?;
@@ -62,7 +63,8 @@ pub fn write_two<W: Write>(out: &mut W, first: &[u8], second: &[u8]) -> io::Resu
 
 /// Brackets with a string or nothing.
 pub fn write_string<W: Write>(out: &mut W, found: Option<&[u8]>) -> io::Result<()>
-    ensures { OnOk result (Appends (W.contents out.old) (W.contents out.new) (spell (string (option_map (λ v. v.now) found.entry)))) }
+    ensures { OnOk result (Appends (W.contents out.old) (W.contents out.new)
+        (spell (string (option_map (λ v. v.now) found.entry)))) }
 {
     match found {
         None => write_none(out),
@@ -86,7 +88,8 @@ pub fn write_property<W: Write>(out: &mut W, name: &[u8], found: &[u8]) -> io::R
 
 /// Properties one after another.
 pub fn write_entries<W: Write>(out: &mut W, entries: &[(PropName, PropValue)]) -> io::Result<()>
-    ensures { OnOk result (Appends (W.contents out.old) (W.contents out.new) (spell_all (row (map property entries.now)))) }
+    ensures { OnOk result (Appends (W.contents out.old) (W.contents out.new)
+        (spell_all (row (map property entries.now)))) }
 {
     let Some((first, others)) = entries.split_first() else {
         return Ok(());
@@ -97,7 +100,8 @@ pub fn write_entries<W: Write>(out: &mut W, entries: &[(PropName, PropValue)]) -
 
 /// Properties in brackets.
 pub fn write_properties<W: Write>(out: &mut W, props: &Props) -> io::Result<()>
-    ensures { OnOk result (Appends (W.contents out.old) (W.contents out.new) (spell (properties (finite.entries props.now)))) }
+    ensures { OnOk result (Appends (W.contents out.old) (W.contents out.new)
+        (spell (properties (finite.entries props.now)))) }
 {
     write_open(out)?;
     write_entries(out, props.entries())?;
@@ -139,7 +143,8 @@ pub fn write_path<W: Write>(out: &mut W, path: &NodePath) -> io::Result<()>
 
 /// Brackets that are empty or hold a value.
 pub fn write_text_or_none<W: Write>(out: &mut W, value: &Option<Vec<u8>>) -> io::Result<()>
-    ensures { OnOk result (Appends (W.contents out.old) (W.contents out.new) (spell (string (option_map (λ v. v.items) value.now)))) }
+    ensures { OnOk result (Appends (W.contents out.old) (W.contents out.new)
+        (spell (string (option_map (λ v. v.items) value.now)))) }
 {
     match value {
         None => write_none(out),

@@ -6,7 +6,8 @@ ghost use Rattle.std.specs.FinMap as finite;
 ghost use Rattle.ra_item.specs.Items.{row};
 ghost use Rattle.ra_wire.specs.Params.{left_of, NotRead};
 ghost use Rattle.ra_wire.specs.Prototypes.{HasProps, AreRevprops, Judges};
-ghost use Rattle.ra_wire.specs.Answers.{short_value, property_in, with_property, one_more, properties_of, props_in, revprops_in};
+ghost use Rattle.ra_wire.specs.Answers.{short_value, property_in, with_property, one_more, properties_of, props_in};
+ghost use Rattle.ra_wire.specs.Answers.{revprops_in};
 
 use crate::fault::WireFault;
 use crate::params::Params;

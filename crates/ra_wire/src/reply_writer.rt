@@ -7,7 +7,9 @@ ghost use Rattle.std.specs.Option.{option_map};
 ghost use Rattle.std.specs.FinMap as finite;
 ghost use Rattle.std.specs.Io.KnownBytes.{Appends};
 ghost use Rattle.ra_item.specs.Items.{spell, spell_all, row, Word, Number, Text};
-ghost use Rattle.ra_wire.specs.Replies.{answer_of, list, greeting, mechanisms, only_anonymous, welcome, authorised, done, number, failure, properties, proplist, revprops, string, value, kind_is, node_kind_word, dirent, wanted_props, file_found, dir_found};
+ghost use Rattle.ra_wire.specs.Replies.{answer_of, list, greeting, mechanisms, only_anonymous, welcome, authorised};
+ghost use Rattle.ra_wire.specs.Replies.{done, number, failure, properties, proplist, revprops, string, value, kind_is};
+ghost use Rattle.ra_wire.specs.Replies.{node_kind_word, dirent, wanted_props, file_found, dir_found};
 ghost use Rattle.ra_wire.specs.Answers.{dirent_as};
 ghost use Rattle.ra_wire.specs.Commands.{truth_word};
 ghost use Rattle.std.specs.List.{flat_map};
@@ -24,7 +26,9 @@ use std::io::Write;
 
 // The greeting, with its name and two capabilities.
 fn write_versions<W: Write>(out: &mut W, name: &[u8], first: &[u8], second: &[u8]) -> io::Result<()>
-    ensures { OnOk result (Appends (W.contents out.old) (W.contents out.new) (spell (answer_of name.now (Number 2 ∷ Number 2 ∷ list [] ∷ list (Word first.now ∷ Word second.now ∷ []) ∷ [])))) }
+    ensures { OnOk result (Appends (W.contents out.old) (W.contents out.new)
+        (spell (answer_of name.now (Number 2 ∷ Number 2 ∷ list [] ∷ list (Word first.now ∷ Word second.now ∷ [])
+        ∷ [])))) }
 {
     write_name(out, name)?;
     write_number(out, 2)?;
@@ -43,7 +47,8 @@ pub fn write_greeting<W: Write>(out: &mut W) -> io::Result<()>
 
 // A way and a realm.
 fn write_way<W: Write>(out: &mut W, name: &[u8], way: &[u8], realm: &[u8]) -> io::Result<()>
-    ensures { OnOk result (Appends (W.contents out.old) (W.contents out.new) (spell (answer_of name.now (list (Word way.now ∷ []) ∷ Text realm.now ∷ [])))) }
+    ensures { OnOk result (Appends (W.contents out.old) (W.contents out.new)
+        (spell (answer_of name.now (list (Word way.now ∷ []) ∷ Text realm.now ∷ [])))) }
 {
     write_name(out, name)?;
     write_one(out, way)?;
@@ -60,7 +65,8 @@ pub fn write_mechanisms<W: Write>(out: &mut W, realm: &[u8]) -> io::Result<()>
 
 // A text as an answer.
 fn write_texted<W: Write>(out: &mut W, name: &[u8], text: &[u8]) -> io::Result<()>
-    ensures { OnOk result (Appends (W.contents out.old) (W.contents out.new) (spell (answer_of name.now (Text text.now ∷ [])))) }
+    ensures { OnOk result (Appends (W.contents out.old) (W.contents out.new)
+        (spell (answer_of name.now (Text text.now ∷ [])))) }
 {
     write_name(out, name)?;
     write_text(out, text)?;
@@ -76,7 +82,8 @@ pub fn write_only_anonymous<W: Write>(out: &mut W) -> io::Result<()>
 
 // Two texts and empty brackets.
 fn write_texts<W: Write>(out: &mut W, name: &[u8], first: &[u8], second: &[u8]) -> io::Result<()>
-    ensures { OnOk result (Appends (W.contents out.old) (W.contents out.new) (spell (answer_of name.now (Text first.now ∷ Text second.now ∷ list [] ∷ [])))) }
+    ensures { OnOk result (Appends (W.contents out.old) (W.contents out.new)
+        (spell (answer_of name.now (Text first.now ∷ Text second.now ∷ list [] ∷ [])))) }
 {
     write_name(out, name)?;
     write_text(out, first)?;
@@ -94,7 +101,8 @@ pub fn write_welcome<W: Write>(out: &mut W, identity: &[u8], url: &[u8]) -> io::
 
 // Empty brackets and a text.
 fn write_asking<W: Write>(out: &mut W, name: &[u8], text: &[u8]) -> io::Result<()>
-    ensures { OnOk result (Appends (W.contents out.old) (W.contents out.new) (spell (answer_of name.now (list [] ∷ Text text.now ∷ [])))) }
+    ensures { OnOk result (Appends (W.contents out.old) (W.contents out.new)
+        (spell (answer_of name.now (list [] ∷ Text text.now ∷ [])))) }
 {
     write_name(out, name)?;
     write_none(out)?;
@@ -119,7 +127,8 @@ pub fn write_done<W: Write>(out: &mut W) -> io::Result<()>
 
 // One refusal.
 fn write_fault<W: Write>(out: &mut W, n: u8, text: &[u8]) -> io::Result<()>
-    ensures { OnOk result (Appends (W.contents out.old) (W.contents out.new) (spell (list (Number n ∷ Text text.now ∷ Text [] ∷ Number 0 ∷ [])))) }
+    ensures { OnOk result (Appends (W.contents out.old) (W.contents out.new)
+        (spell (list (Number n ∷ Text text.now ∷ Text [] ∷ Number 0 ∷ [])))) }
 {
     write_open(out)?;
     write_number(out, u64::from(n))?;
@@ -131,7 +140,8 @@ fn write_fault<W: Write>(out: &mut W, n: u8, text: &[u8]) -> io::Result<()>
 
 // The same with the answer's name.
 fn write_refused<W: Write>(out: &mut W, name: &[u8], n: u8, text: &[u8]) -> io::Result<()>
-    ensures { OnOk result (Appends (W.contents out.old) (W.contents out.new) (spell (answer_of name.now (list (Number n ∷ Text text.now ∷ Text [] ∷ Number 0 ∷ []) ∷ [])))) }
+    ensures { OnOk result (Appends (W.contents out.old) (W.contents out.new)
+        (spell (answer_of name.now (list (Number n ∷ Text text.now ∷ Text [] ∷ Number 0 ∷ []) ∷ [])))) }
 {
     write_name(out, name)?;
     write_fault(out, n, text)?;
@@ -147,7 +157,8 @@ pub fn write_failure<W: Write>(out: &mut W, n: u8, text: &[u8]) -> io::Result<()
 
 // A number with the answer's name.
 fn write_numbered<W: Write>(out: &mut W, name: &[u8], n: u64) -> io::Result<()>
-    ensures { OnOk result (Appends (W.contents out.old) (W.contents out.new) (spell (answer_of name.now (Number n ∷ [])))) }
+    ensures { OnOk result (Appends (W.contents out.old) (W.contents out.new)
+        (spell (answer_of name.now (Number n ∷ [])))) }
 {
     write_name(out, name)?;
     write_number(out, n)?;
@@ -163,7 +174,8 @@ pub fn write_latest<W: Write>(out: &mut W, n: RevNo) -> io::Result<()>
 
 // A word with the answer's name.
 fn write_worded<W: Write>(out: &mut W, name: &[u8], word: &[u8]) -> io::Result<()>
-    ensures { OnOk result (Appends (W.contents out.old) (W.contents out.new) (spell (answer_of name.now (Word word.now ∷ [])))) }
+    ensures { OnOk result (Appends (W.contents out.old) (W.contents out.new)
+        (spell (answer_of name.now (Word word.now ∷ [])))) }
 {
     write_name(out, name)?;
     write_word(out, word)?;
@@ -183,7 +195,8 @@ pub fn write_kind<W: Write>(out: &mut W, kind: Option<NodeKind>) -> io::Result<(
 
 // The same with the answer's name.
 fn write_found<W: Write>(out: &mut W, name: &[u8], found: Option<&[u8]>) -> io::Result<()>
-    ensures { OnOk result (Appends (W.contents out.old) (W.contents out.new) (spell (answer_of name.now (string (option_map (λ v. v.now) found.entry) ∷ [])))) }
+    ensures { OnOk result (Appends (W.contents out.old) (W.contents out.new)
+        (spell (answer_of name.now (string (option_map (λ v. v.now) found.entry) ∷ [])))) }
 {
     write_name(out, name)?;
     write_string(out, found)?;
@@ -192,14 +205,16 @@ fn write_found<W: Write>(out: &mut W, name: &[u8], found: Option<&[u8]>) -> io::
 
 /// The value of one property, or none.
 pub fn write_value<W: Write>(out: &mut W, found: Option<&[u8]>) -> io::Result<()>
-    ensures { OnOk result (Appends (W.contents out.old) (W.contents out.new) (spell (value (option_map (λ v. v.now) found.entry)))) }
+    ensures { OnOk result (Appends (W.contents out.old) (W.contents out.new)
+        (spell (value (option_map (λ v. v.now) found.entry)))) }
 {
     write_found(out, b"success", found)
 }
 
 // The same with the answer's name.
 fn write_all_named<W: Write>(out: &mut W, name: &[u8], props: &Props) -> io::Result<()>
-    ensures { OnOk result (Appends (W.contents out.old) (W.contents out.new) (spell (answer_of name.now (properties (finite.entries props.now) ∷ [])))) }
+    ensures { OnOk result (Appends (W.contents out.old) (W.contents out.new)
+        (spell (answer_of name.now (properties (finite.entries props.now) ∷ [])))) }
 {
     write_name(out, name)?;
     write_properties(out, props)?;
@@ -215,7 +230,8 @@ pub fn write_proplist<W: Write>(out: &mut W, props: &Props) -> io::Result<()>
 
 // Properties behind a name.
 fn write_behind<W: Write>(out: &mut W, name: &[u8], props: &Props) -> io::Result<()>
-    ensures { OnOk result (Appends (W.contents out.old) (W.contents out.new) (spell (list (Word name.now ∷ properties (finite.entries props.now) ∷ [])))) }
+    ensures { OnOk result (Appends (W.contents out.old) (W.contents out.new)
+        (spell (list (Word name.now ∷ properties (finite.entries props.now) ∷ [])))) }
 {
     write_open(out)?;
     write_word(out, name)?;
@@ -267,7 +283,9 @@ fn write_rest<W: Write>(
     date: &Option<Vec<u8>>,
     author: &Option<Vec<u8>>,
 ) -> io::Result<()>
-    ensures { OnOk result (Appends (W.contents out.old) (W.contents out.new) (spell_all (row (Word (truth_word has_props) ∷ Number created ∷ string (option_map (λ t. t.items) date.now) ∷ string (option_map (λ t. t.items) author.now) ∷ [])))) }
+    ensures { OnOk result (Appends (W.contents out.old) (W.contents out.new)
+        (spell_all (row (Word (truth_word has_props) ∷ Number created ∷ string (option_map (λ t. t.items) date.now)
+        ∷ string (option_map (λ t. t.items) author.now) ∷ [])))) }
 {
     write_truth(out, has_props)?;
     write_number(out, created)?;
@@ -295,7 +313,8 @@ pub fn write_dirent<W: Write>(out: &mut W, entry: &Dirent) -> io::Result<()>
 
 // Entries one after another.
 fn write_dirents<W: Write>(out: &mut W, entries: &[Dirent]) -> io::Result<()>
-    ensures { OnOk result (Appends (W.contents out.old) (W.contents out.new) (spell_all (row (map dirent (map dirent_as entries.now))))) }
+    ensures { OnOk result (Appends (W.contents out.old) (W.contents out.new)
+        (spell_all (row (map dirent (map dirent_as entries.now))))) }
 {
     for entry in entries {
         write_dirent(out, entry)?;
@@ -305,7 +324,8 @@ fn write_dirents<W: Write>(out: &mut W, entries: &[Dirent]) -> io::Result<()>
 
 // Entries in brackets.
 fn write_entries<W: Write>(out: &mut W, entries: &[Dirent]) -> io::Result<()>
-    ensures { OnOk result (Appends (W.contents out.old) (W.contents out.new) (spell (list (map dirent (map dirent_as entries.now))))) }
+    ensures { OnOk result (Appends (W.contents out.old) (W.contents out.new)
+        (spell (list (map dirent (map dirent_as entries.now))))) }
 {
     write_open(out)?;
     write_dirents(out, entries)?;
@@ -321,7 +341,8 @@ fn write_file_named<W: Write>(
     props: &Props,
     wanted: bool,
 ) -> io::Result<()>
-    ensures { OnOk result (Appends (W.contents out.old) (W.contents out.new) (spell (answer_of name.now (list (Text sum.now ∷ []) ∷ Number n ∷ wanted_props wanted props.now ∷ [])))) }
+    ensures { OnOk result (Appends (W.contents out.old) (W.contents out.new)
+        (spell (answer_of name.now (list (Text sum.now ∷ []) ∷ Number n ∷ wanted_props wanted props.now ∷ [])))) }
 {
     write_name(out, name)?;
     write_open(out)?;
@@ -341,7 +362,8 @@ pub fn write_file<W: Write>(
     props: &Props,
     wanted: bool,
 ) -> io::Result<()>
-    ensures { OnOk result (Appends (W.contents out.old) (W.contents out.new) (spell (file_found sum.now n wanted props.now))) }
+    ensures { OnOk result (Appends (W.contents out.old) (W.contents out.new)
+        (spell (file_found sum.now n wanted props.now))) }
 {
     write_file_named(out, b"success", sum, n, props, wanted)
 }
@@ -355,7 +377,9 @@ fn write_dir_named<W: Write>(
     wanted: bool,
     entries: &[Dirent],
 ) -> io::Result<()>
-    ensures { OnOk result (Appends (W.contents out.old) (W.contents out.new) (spell (answer_of name.now (Number n ∷ wanted_props wanted props.now ∷ list (map dirent (map dirent_as entries.now)) ∷ [])))) }
+    ensures { OnOk result (Appends (W.contents out.old) (W.contents out.new)
+        (spell (answer_of name.now (Number n ∷ wanted_props wanted props.now
+        ∷ list (map dirent (map dirent_as entries.now)) ∷ [])))) }
 {
     write_name(out, name)?;
     write_number(out, u64::from(n.get()))?;
@@ -372,7 +396,8 @@ pub fn write_dir<W: Write>(
     wanted: bool,
     entries: &[Dirent],
 ) -> io::Result<()>
-    ensures { OnOk result (Appends (W.contents out.old) (W.contents out.new) (spell (dir_found n wanted props.now (map dirent_as entries.now)))) }
+    ensures { OnOk result (Appends (W.contents out.old) (W.contents out.new)
+        (spell (dir_found n wanted props.now (map dirent_as entries.now)))) }
 {
     write_dir_named(out, b"success", n, props, wanted, entries)
 }

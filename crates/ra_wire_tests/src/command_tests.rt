@@ -33,7 +33,8 @@ fn each_command_is_itself(rt: HostRuntime) -> Result<(), Fail> {
     Ok(())
 }
 
-// Other spellings of them: a slash in front, a missing last part, elements that the prototype doesn't have, leading zeros.
+// Other spellings of them: a slash in front, a missing last part, elements that the prototype doesn't have, leading
+// zeros.
 const OTHERS: [(&[u8], &[u8]); 9] = [
     (b"( get-latest-rev ( 1 ) 2 ) ", b"( get-latest-rev ( ) ) "),
     (

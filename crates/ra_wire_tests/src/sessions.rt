@@ -10,7 +10,8 @@ pub const LOGIN: &[u8] = b"( ANONYMOUS ( 17:YW5vbnltb3VzQHZt\n ) ) ";
 pub const DUMP: &[u8] =
     b"( get-latest-rev ( ) ) ( rev-proplist ( 0 ) ) ( replay-range ( 1 10 0 true ) ) ";
 
-// Those of `svnsync init`, of `svnsync sync` with all revisions, and of a session of svnsync that asks for properties alone.
+// Those of `svnsync init`, of `svnsync sync` with all revisions, and of a session of svnsync that asks for properties
+// alone.
 pub const INIT: &[u8] = b"( rev-proplist ( 0 ) ) ";
 
 pub const SYNC: &[u8] = b"( get-latest-rev ( ) ) ( replay-range ( 1 10 0 true ) ) ";

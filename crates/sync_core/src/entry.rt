@@ -36,7 +36,8 @@ pub fn entry_of(
     call: &MirrorCall<'_>,
 ) -> Result<Option<Entry>, SyncFault>
     ensures entry { IfOk result (λ e. e ≡ entry_of repo.now.revisions (call_of call.now)) }
-    ensures refused { IfErr result (λ f. IsDue f (option_and_then (by_repository repo.now.revisions) (entry_of repo.now.revisions (call_of call.now)))) }
+    ensures refused { IfErr result (λ f. IsDue f (option_and_then (by_repository repo.now.revisions)
+        (entry_of repo.now.revisions (call_of call.now)))) }
     ensures there { OnOk result (IsThere repo.now.revisions (call_of call.now)) }
 {
     match call {
@@ -80,8 +81,10 @@ pub fn own_of(repo: &Repo) -> &Props
 }
 
 fn lock_entry(alloc: Global, repo: &Repo, token: &Token) -> Result<Entry, SyncFault>
-    ensures entry { IfOk result (λ e. e ≡ Mapped 0 (finite.insert (props_at repo.now.revisions 0) lock_name token.now)) }
-    ensures refused { IfErr result (λ f. IsDue f (by_repository repo.now.revisions (Mapped 0 (finite.insert (props_at repo.now.revisions 0) lock_name token.now)))) }
+    ensures entry { IfOk result (λ e. e ≡ Mapped 0 (finite.insert
+        (props_at repo.now.revisions 0) lock_name token.now)) }
+    ensures refused { IfErr result (λ f. IsDue f (by_repository repo.now.revisions
+        (Mapped 0 (finite.insert (props_at repo.now.revisions 0) lock_name token.now)))) }
 {
     put_entry(alloc, repo, lock_name(), token.value(alloc)?)
 }
@@ -94,8 +97,10 @@ fn release_entry(alloc: Global, repo: &Repo) -> Result<Entry, SyncFault>
 }
 
 fn copying_entry(alloc: Global, repo: &Repo, number: RevNo) -> Result<Entry, SyncFault>
-    ensures entry { IfOk result (λ e. e ≡ Mapped 0 (finite.insert (props_at repo.now.revisions 0) copying_name (fmt.decimal number))) }
-    ensures refused { IfErr result (λ f. IsDue f (by_repository repo.now.revisions (Mapped 0 (finite.insert (props_at repo.now.revisions 0) copying_name (fmt.decimal number))))) }
+    ensures entry { IfOk result (λ e. e ≡ Mapped 0 (finite.insert (props_at repo.now.revisions 0) copying_name
+        (fmt.decimal number))) }
+    ensures refused { IfErr result (λ f. IsDue f (by_repository repo.now.revisions
+        (Mapped 0 (finite.insert (props_at repo.now.revisions 0) copying_name (fmt.decimal number))))) }
 {
     put_entry(alloc, repo, copying_name(), decimal(alloc, number)?)
 }
@@ -108,8 +113,10 @@ fn clear_entry(alloc: Global, repo: &Repo) -> Result<Entry, SyncFault>
 }
 
 fn merged_entry(alloc: Global, repo: &Repo, number: RevNo) -> Result<Entry, SyncFault>
-    ensures entry { IfOk result (λ e. e ≡ Mapped 0 (finite.insert (props_at repo.now.revisions 0) merged_name (fmt.decimal number))) }
-    ensures refused { IfErr result (λ f. IsDue f (by_repository repo.now.revisions (Mapped 0 (finite.insert (props_at repo.now.revisions 0) merged_name (fmt.decimal number))))) }
+    ensures entry { IfOk result (λ e. e ≡ Mapped 0 (finite.insert (props_at repo.now.revisions 0) merged_name
+        (fmt.decimal number))) }
+    ensures refused { IfErr result (λ f. IsDue f (by_repository repo.now.revisions
+        (Mapped 0 (finite.insert (props_at repo.now.revisions 0) merged_name (fmt.decimal number))))) }
 {
     put_entry(alloc, repo, merged_name(), decimal(alloc, number)?)
 }
@@ -182,8 +189,10 @@ fn with_none_merged(alloc: Global, props: Props) -> Result<Props, SyncFault>
 
 // The copied properties of a revision that is there, beside its own.
 fn props_entry(alloc: Global, repo: &Repo, number: RevNo, props: &Props) -> Result<Entry, SyncFault>
-    ensures entry { IfOk result (λ e. e ≡ Mapped number (copied_beside (props_at repo.now.revisions number) props.now)) }
-    ensures refused { IfErr result (λ f. IsDue f (by_repository repo.now.revisions (Mapped number (copied_beside (props_at repo.now.revisions number) props.now)))) }
+    ensures entry { IfOk result (λ e. e ≡ Mapped number (copied_beside
+        (props_at repo.now.revisions number) props.now)) }
+    ensures refused { IfErr result (λ f. IsDue f (by_repository repo.now.revisions
+        (Mapped number (copied_beside (props_at repo.now.revisions number) props.now)))) }
     ensures there { OnOk result (number < length repo.now.revisions) }
 {
     match repo.props(number) {
@@ -198,7 +207,8 @@ fn props_entry(alloc: Global, repo: &Repo, number: RevNo, props: &Props) -> Resu
 // Revision 0's map with a value at a name.
 fn put_entry(alloc: Global, repo: &Repo, name: &[u8], value: PropValue) -> Result<Entry, SyncFault>
     ensures entry { IfOk result (λ e. e ≡ Mapped 0 (finite.insert (props_at repo.now.revisions 0) name.now value)) }
-    ensures refused { IfErr result (λ f. IsDue f (by_repository repo.now.revisions (Mapped 0 (finite.insert (props_at repo.now.revisions 0) name.now value)))) }
+    ensures refused { IfErr result (λ f. IsDue f (by_repository repo.now.revisions
+        (Mapped 0 (finite.insert (props_at repo.now.revisions 0) name.now value)))) }
 {
     let own = own_of(repo).share()?;
     let props = with_value(alloc, own, name, value)?;

@@ -70,7 +70,8 @@ fn write_told<T: fmt::Display, W: fmt::Write>(
     after: &str,
     f: &mut fmt::Formatter<W>,
 ) -> fmt::Result
-    ensures { DisplaysOnOk W.write_str_gives f.old result (option_map (λ t. before.now ++ t ++ after.now) (T.output told.now)) f.new }
+    ensures { DisplaysOnOk W.write_str_gives f.old result (option_map (λ t.
+        before.now ++ t ++ after.now) (T.output told.now)) f.new }
 {
     write!(f, "{before}{told}{after}")
 }
@@ -82,7 +83,8 @@ fn write_inconsistent<W: fmt::Write>(
     head: RevNo,
     f: &mut fmt::Formatter<W>,
 ) -> fmt::Result
-    ensures { DisplaysOnOk W.write_str_gives f.old result (Some (fault_text (Inconsistent merged.now copying.now head))) f.new }
+    ensures { DisplaysOnOk W.write_str_gives f.old result (Some
+        (fault_text (Inconsistent merged.now copying.now head))) f.new }
 {
     write!(
         f,

@@ -2,7 +2,8 @@
 //! ask, call, run out of memory and leave, readers, and stops of mirrors with the entry of a call in flight kept or
 //! not. Each function does nothing: its contract is the law.
 ghost use Rattle.sync_core.specs.Faults.{DigitsAreTold};
-ghost use Rattle.sync_core.specs.Going.{DoesWhatItMay, AsksWhatItMay, FollowsOn, StaysEnded, OnlyEndedEnds, EndsWellDone, CommitsInOrder};
+ghost use Rattle.sync_core.specs.Going.{DoesWhatItMay, AsksWhatItMay, FollowsOn, StaysEnded, OnlyEndedEnds};
+ghost use Rattle.sync_core.specs.Going.{EndsWellDone, CommitsInOrder};
 ghost use Rattle.sync_core.specs.Hearing.{AnswersAreHeard, RefusalTellsNothing, JobsGoOn, StopsInFlight};
 ghost use Rattle.sync_core.specs.Holding.{LockIsGiven, HolderIsServed, HolderStays, HolderListens, HolderIsAlone};
 ghost use Rattle.sync_core.specs.Law.{FreshStarts, EveryRun, EveryFreshRun, MomentsRise, StaysBlank, HolderGoesOn};

@@ -2,7 +2,8 @@
 ghost use Rattle.std.specs.Prelude.{◌≡◌, ◌+◌, ◌==◌, ◌&&◌, ◌||◌, not, is_some, is_none, [], ◌∷◌};
 ghost use Rattle.std.specs.FinMap as finite;
 ghost use Rattle.dump_load.specs.Faults.{first_of, fault_if};
-ghost use Rattle.sync_core.specs.Names.{url_name, merged_name, copying_name, number_at, is_absent, is_number, reaches, precedes};
+ghost use Rattle.sync_core.specs.Names.{url_name, merged_name, copying_name, number_at, is_absent, is_number, reaches};
+ghost use Rattle.sync_core.specs.Names.{precedes};
 ghost use Rattle.sync_core.specs.Mirror.{standing_in, unmet, holds, held};
 ghost use Rattle.sync_core.specs.Mirror.{turn as turn_of};
 ghost use Rattle.sync_core.specs.Calls.{call_of};
@@ -55,7 +56,8 @@ pub fn unmet_need(
 
 // A mirror that begins isn't initialized and has no revision but 0.
 fn unmet_at_init(own: &Props, head: RevNo) -> Option<Need>
-    ensures { result ≡ first_of (fault_if (is_some (finite.get own.now url_name)) AlreadyInitialised ∷ fault_if (not (head == 0)) NotEmpty ∷ []) }
+    ensures { result ≡ first_of (fault_if (is_some (finite.get own.now url_name)) AlreadyInitialised
+        ∷ fault_if (not (head == 0)) NotEmpty ∷ []) }
 {
     if url(own).is_some() {
         Some(Need::AlreadyInitialised)
@@ -68,7 +70,8 @@ fn unmet_at_init(own: &Props, head: RevNo) -> Option<Need>
 
 // The lock of an initialized mirror is taken where nothing stands against it.
 fn unmet_at_lock(own: &Props, taken: bool, fault: Need) -> Option<Need>
-    ensures { result ≡ first_of (fault_if (is_none (finite.get own.now url_name)) NotInitialised ∷ fault_if taken fault ∷ []) }
+    ensures { result ≡ first_of (fault_if (is_none (finite.get own.now url_name)) NotInitialised ∷ fault_if taken fault
+        ∷ []) }
 {
     if url(own).is_none() {
         Some(Need::NotInitialised)
@@ -103,31 +106,36 @@ fn holds(holder: Option<Seat>, seat: Seat) -> bool
 }
 
 fn may_set(own: &Props, head: RevNo, number: RevNo) -> bool
-    ensures { result ≡ is_absent (number_at own.now copying_name) && is_number (number_at own.now merged_name) head && (number == head + 1) }
+    ensures { result ≡ is_absent (number_at own.now copying_name) && is_number (number_at own.now merged_name) head
+        && (number == head + 1) }
 {
     copying(own).is_absent() && merged(own).is(head) && is_next(head, number)
 }
 
 fn may_commit(own: &Props, head: RevNo, number: RevNo) -> bool
-    ensures { result ≡ is_number (number_at own.now copying_name) number && is_number (number_at own.now merged_name) head && (number == head + 1) }
+    ensures { result ≡ is_number (number_at own.now copying_name) number
+        && is_number (number_at own.now merged_name) head && (number == head + 1) }
 {
     copying(own).is(number) && merged(own).is(head) && is_next(head, number)
 }
 
 fn may_put(own: &Props, head: RevNo, number: RevNo) -> bool
-    ensures { result ≡ reaches (number_at own.now merged_name) number || (is_number (number_at own.now copying_name) number && (number == head)) }
+    ensures { result ≡ reaches (number_at own.now merged_name) number
+        || (is_number (number_at own.now copying_name) number && (number == head)) }
 {
     merged(own).reaches(number) || copying(own).is(number) && number == head
 }
 
 fn may_merge(own: &Props, head: RevNo, number: RevNo) -> bool
-    ensures { result ≡ is_number (number_at own.now copying_name) number && (number == head) && precedes (number_at own.now merged_name) number }
+    ensures { result ≡ is_number (number_at own.now copying_name) number && (number == head)
+        && precedes (number_at own.now merged_name) number }
 {
     copying(own).is(number) && number == head && merged(own).precedes(number)
 }
 
 fn may_clear(own: &Props, head: RevNo) -> bool
-    ensures { result ≡ is_number (number_at own.now copying_name) head && is_number (number_at own.now merged_name) head }
+    ensures { result ≡ is_number (number_at own.now copying_name) head
+        && is_number (number_at own.now merged_name) head }
 {
     copying(own).is(head) && merged(own).is(head)
 }

@@ -40,7 +40,8 @@ pub fn plan(
     call: &MirrorCall<'_>,
 ) -> Result<Planned, SyncFault>
     ensures planned { IfOk result (IsPlanned (mirror_with repo.now.revisions holder) seat (call_of call.now)) }
-    ensures refused { IfErr result (λ f. AnswersErr (mirror_with repo.now.revisions holder) seat (call_of call.now) f (mirror_with repo.now.revisions holder)) }
+    ensures refused { IfErr result (λ f. AnswersErr (mirror_with repo.now.revisions holder) seat (call_of call.now) f
+        (mirror_with repo.now.revisions holder)) }
 {
     let own = own_of(repo);
     match unmet_need(own, repo.head(), holder, seat, call) {

@@ -3,7 +3,8 @@ ghost use Rattle.std.specs.Prelude.{◌≡◌};
 ghost use Rattle.std.specs.Option.{option_copied, option_map_or};
 ghost use Rattle.std.specs.FinMap as finite;
 ghost use Rattle.node_base.specs.Numbers.{is_digit, all_bytes};
-ghost use Rattle.sync_core.specs.Names.{url_name, uuid_name, merged_name, copying_name, lock_name, number_of, number_at, starts_right, is_spelt, Absent};
+ghost use Rattle.sync_core.specs.Names.{url_name, uuid_name, merged_name, copying_name, lock_name, number_of};
+ghost use Rattle.sync_core.specs.Names.{number_at, starts_right, is_spelt, Absent};
 
 use crate::number::Number;
 use node_base::{Props, read_decimal};

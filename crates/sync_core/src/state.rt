@@ -3,7 +3,8 @@ ghost use Rattle.std.specs.Prelude.{◌≡◌, ◌≢◌, ◌<◌, ℕ};
 ghost use Rattle.sync_core.specs.Jobs.{Job, Initialise, Sync, CopyProps, begun};
 ghost use Rattle.sync_core.specs.Deeds.{Ends, deed_of, heard, IsLawfulDeed};
 ghost use Rattle.sync_core.specs.Measures.{left, CanBe};
-ghost use Rattle.sync_core.specs.States.{init_start, sync_start, copy_start, deed_in, after, ending_of, Follows, IsAskedFor};
+ghost use Rattle.sync_core.specs.States.{init_start, sync_start, copy_start, deed_in, after, ending_of, Follows};
+ghost use Rattle.sync_core.specs.States.{IsAskedFor};
 
 use crate::action::Action;
 use crate::answer::Answer;
@@ -93,7 +94,8 @@ fn tabled(state: &JobState) -> Action<'_>
 #[tactic(auto, using(crate::proofs::StateLemmas::follows_by))]
 pub fn absorb(state: JobState, answer: Answer) -> JobState
     ensures table { result ≡ after state answer }
-    ensures follows { (job : Job) (moment : ℕ) → Follows job state → Follows (heard job moment (deed_in state) answer) result }
+    ensures follows { (job : Job) (moment : ℕ) → Follows job state
+        → Follows (heard job moment (deed_in state) answer) result }
     ensures nearer { deed_in state ≢ Ends → left result < left state }
 {
     can_be(&answer);

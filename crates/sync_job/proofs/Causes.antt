@@ -74,7 +74,7 @@ due_told Ends a = refl
 
 reported_round : (d : Deed) (a : Answer) (more : List Spoken) → IsRound d a more → ReportedFrom [] more
 reported_round d a more (Done fits m) = subst (λ xs. ReportedFrom [] xs) (sym m) (subst (λ ts. ReportedFrom ts (map Tells (told_by d a))) (sym (due_told d a)) (reported_tells (told_by d a)))
-reported_round d a more (Lacking e m) = subst (λ xs. ReportedFrom [] xs) (sym m) tt
+reported_round d a more (Lacking e m due) = subst (λ xs. ReportedFrom [] xs) (sym m) tt
 reported_round d a more (Treeless of n f x e m) = subst (λ xs. ReportedFrom [] xs) (sym m) tt
 
 -- what is accepted is told
@@ -528,7 +528,7 @@ pub record SawMerged (es : List Spoken) (n : Number) : Type 0 where
 
 seen_made : (s : Standing) (es more : List Spoken) → IsRound (Calls Look) (answer.Seen s) more → IsLooked s (es ++ more)
 seen_made s es more (Done fits m) = said_right (Says (Calls Look) (told.Seen s)) es more (subst (λ xs. IsSaid (Says (Calls Look) (told.Seen s)) xs) (sym m) (inl refl))
-seen_made s es more (Lacking e m) = absurd (never e)
+seen_made s es more (Lacking e m due) = absurd (never e)
   where
     never : answer.Seen s ≡ answer.Refused fault.OutOfMemory → ⊥
     never h = cc
@@ -797,7 +797,7 @@ refused_from IsHigh job es more g f who merged top stuck before b q (Newest n e 
 
 comes_on : (IsHigh : ℕ → Type 0) (job : Job) (s : JobState) (es : List Spoken) (a : Answer) (more : List Spoken) → Follows (hears_all job es) s → IsFrom IsHigh job s es → IsRound (deed_in s) a more → (f : SyncFault) → refused_in (after s a) f → ComesFrom IsHigh job (es ++ more) f
 comes_on IsHigh job s es a more follows p (Done fits m) f r = done_from IsHigh job s es a more f follows p m (comes_from s a f (inr fits) r)
-comes_on IsHigh job s es a more follows p (Lacking e m) f r =
+comes_on IsHigh job s es a more follows p (Lacking e m due) f r =
     refused_from IsHigh job es more fault.OutOfMemory f (who_of s) (merged_of s) (high_of s) (stuck_of s) (refused_in s f) (λ b. comes_more IsHigh job es more f (p.refusals f b)) (λ x. Memory (sym x))
     (comes_from s (answer.Refused fault.OutOfMemory) f (inl tt) (subst (λ x. refused_in (after s x) f) e r))
 comes_on IsHigh job s es a more follows p (Treeless of n g d e m) f r =

@@ -24,8 +24,9 @@ use Rattle.sync_core.specs.SyncTable as sync_table
 use Rattle.sync_core.specs.CopyTable as copy_table
 use Rattle.sync_job.specs.declared.report.Told.{Told}
 use Rattle.sync_job.specs.Said.{Spoken, made, IsRound, Done, Lacking, Treeless}
-use Rattle.sync_job.specs.Runs.{no_number, Round, said_by, Goes, Ran, IsEnded, IsReleased, Memory, hears_all, IsCopying, EndsSync, IsSyncRun, answer_to}
+use Rattle.sync_job.specs.Runs.{no_number, Round, said_by, Goes, Ran, IsReleased, hears_all, IsCopying, EndsSync, IsSyncRun, answer_to}
 use Rattle.sync_job.proofs.Rounds.{Laws, carry, silent, run_rightly, IsRightly, EndsRefused}
+use Rattle.sync_job.proofs.Releases.{run_lets_go}
 use Rattle.sync_job.proofs.Causes.{run_reported, run_from, ended_refused, next_is, looked_is, who_is, cleared_is, copy_looked_is, copy_begin_is, copy_next_is}
 
 -- how a job comes to a good end: it had ended so, or its lock is released
@@ -220,7 +221,7 @@ released_on laws s es a more p r = record { lock = lock_after s a p.lock; releas
     by : IsFineBy s a → IsRound (deed_in s) a more → IsReleased (es ++ more)
     by (inl h) r = subst (λ xs. IsReleased xs) (sym (append-nil es) ∙ ap (λ xs. es ++ xs) (sym (silent laws s ending.Fine a more h r))) (p.released h)
     by (inr h) (Done fits m) = released_made (deed_in s) a es more h.0 h.1 m
-    by (inr h) (Lacking e m) = absurd (no_done fault.OutOfMemory (sym e ∙ h.1))
+    by (inr h) (Lacking e m due) = absurd (no_done fault.OutOfMemory (sym e ∙ h.1))
     by (inr h) (Treeless of n f d e m) = absurd (no_done f (sym e ∙ h.1))
 
 pub run_released : Laws → (s t : JobState) (rs : List Round) → Goes s rs t → HasLock s → ending_of s ≡ None → EndsReleased t (said_by rs)
@@ -283,6 +284,7 @@ sync_run laws token steal s old new ho hn e x start f ran same =
       right = rightly.right;
       reported = run_reported s ran.last ran.going.rounds ran.going.goes;
       tells = ran.going.tells;
+      let_go = run_lets_go (begun (Sync token steal)) (sync_start token steal) ran.last ran.going.rounds e refl goes ran.ended;
       end = subst (λ y. EndsSync (Sync token steal) y (said_by ran.going.rounds)) (sym same) (ends e ran.ended);
     }
   where
@@ -298,8 +300,6 @@ sync_run laws token steal s old new ho hn e x start f ran same =
     is_sync : IsSyncState ran.last
     is_sync = carry (λ y es. IsSyncState y) (λ y es a more p r. stays_sync y a p) (sync_start token steal) ran.last ran.going.rounds [] goes tt
 
-    ends : (e : Ending) → IsEnded ran.last e → EndsSync (Sync token steal) (answer_to e) (said_by ran.going.rounds)
-    ends ending.Fine (inl h) = record { all = synced ran.last (hears_all (begun (Sync token steal)) (said_by ran.going.rounds)) is_sync h (follows_fine ran.last (hears_all (begun (Sync token steal)) (said_by ran.going.rounds)) h rightly.follows); released = released.released h }
-    ends ending.Fine (inr h) = absurd (no_fine h)
-    ends (ending.Refused g) (inl h) = run_from laws IsCopying no_number (begun (Sync token steal)) (sync_start token steal) ran.last ran.going.rounds goes (record { rightly = record { right = tt; numbers = λ job n h. h; follows = inl (subst (λ y. Follows (begun (Sync token steal)) y) start f) }; from = record { refusals = λ y z. absurd z; who = λ y z. absurd z; merged = λ y z. absurd z; highest = λ n z. absurd z } }) g (ended_refused ran.last g h)
-    ends (ending.Refused g) (inr h) = Memory (same_fault g fault.OutOfMemory h)
+    ends : (e : Ending) → ending_of ran.last ≡ Some e → EndsSync (Sync token steal) (answer_to e) (said_by ran.going.rounds)
+    ends ending.Fine h = record { all = synced ran.last (hears_all (begun (Sync token steal)) (said_by ran.going.rounds)) is_sync h (follows_fine ran.last (hears_all (begun (Sync token steal)) (said_by ran.going.rounds)) h rightly.follows); released = released.released h }
+    ends (ending.Refused g) h = run_from laws IsCopying no_number (begun (Sync token steal)) (sync_start token steal) ran.last ran.going.rounds goes (record { rightly = record { right = tt; numbers = λ job n h. h; follows = inl (subst (λ y. Follows (begun (Sync token steal)) y) start f) }; from = record { refusals = λ y z. absurd z; who = λ y z. absurd z; merged = λ y z. absurd z; highest = λ n z. absurd z } }) g (ended_refused ran.last g h)

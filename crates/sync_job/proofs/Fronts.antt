@@ -340,7 +340,7 @@ round_counts d a more (Done fits e) = (
   sym (ap accepted_in e ∙ ap (λ xs. accepted_by d (outcome_of a) ++ xs) (tells_accept (told_by d a)) ∙ append-nil (accepted_by d (outcome_of a))),
   sym (ap counted_in e ∙ ap (λ xs. counted_by d (outcome_of a) ++ xs) (tells_count (told_by d a)) ∙ append-nil (counted_by d (outcome_of a))),
 )
-round_counts d a more (Lacking e n) =
+round_counts d a more (Lacking e n due) =
     (ap (λ x. accepted_by d (outcome_of x)) e ∙ (lacking d).0 ∙ sym (ap accepted_in n), ap (λ x. counted_by d (outcome_of x)) e ∙ (lacking d).1 ∙ sym (ap counted_in n))
 round_counts d a more (Treeless of n f e r m) =
     (ap (λ x. accepted_by x (outcome_of a)) e ∙ sym (ap accepted_in m), ap (λ x. counted_by x (outcome_of a)) e ∙ sym (ap counted_in m))

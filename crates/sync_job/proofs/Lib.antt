@@ -1,7 +1,9 @@
 pub mod Causes
 pub mod Endings
 pub mod Fronts
+pub mod Nearer
 pub mod OtherEndings
+pub mod Releases
 pub mod Rounds
 pub mod Saids
 pub mod Stores

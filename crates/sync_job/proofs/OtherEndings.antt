@@ -22,13 +22,14 @@ use Rattle.sync_core.specs.CopyTable as copy_table
 use Rattle.sync_job.specs.declared.report.Told.{Told}
 use Rattle.sync_core.specs.Copies as told
 use Rattle.sync_job.specs.Said.{Spoken, Says, NoTree, Tells, made, IsRound, Done, Lacking, Treeless}
-use Rattle.sync_job.specs.Runs.{no_number, said_by, Goes, Ran, IsEnded, Memory, IsZero, IsWithin, answer_to, Begun, EndsInit, IsInitRun, put_by, puts_in, EndsCopy, IsCopyRun, IsSaid}
+use Rattle.sync_job.specs.Runs.{no_number, said_by, Goes, Ran, IsZero, IsWithin, answer_to, Begun, EndsInit, IsInitRun, put_by, puts_in, EndsCopy, IsCopyRun, IsSaid}
 use Rattle.std.specs.List.{range_with_len}
 use Rattle.std.proofs.lemmas.Bool.Decides.{nat_tests}
 use Rattle.sync_core.proofs.Lists.{range-next}
 use Rattle.node_base.specs.Props.{PropMap}
 use Rattle.sync_job.proofs.Endings.{EndsReleased, run_released, no_fine, same_fault, some_fine, never}
 use Rattle.sync_job.proofs.Rounds.{Laws, carry, silent, run_rightly, IsRightly}
+use Rattle.sync_job.proofs.Releases.{run_lets_go, begun_unlocked}
 use Rattle.sync_job.proofs.Causes.{run_reported, run_from, ended_refused, copy_looked_is, copy_begin_is, copy_next_is, said_right}
 
 -- an init job comes to a good end by its Init alone
@@ -101,7 +102,7 @@ begun_on laws url s es a more p r = record { init = stays_init url s a p.init; d
     by : (ending_of s ≡ Some ending.Fine) ⊎ IsInitDone url (deed_in s) a → IsRound (deed_in s) a more → Begun url (es ++ more)
     by (inl h) r = subst (λ xs. Begun url xs) (sym (append-nil es) ∙ ap (λ xs. es ++ xs) (sym (silent laws s ending.Fine a more h r))) (p.done h)
     by (inr h) (Done fits m) = begun_made url (deed_in s) a es more h m
-    by (inr h) (Lacking e m) = absurd (no_done fault.OutOfMemory (sym e ∙ h.accepted))
+    by (inr h) (Lacking e m due) = absurd (no_done fault.OutOfMemory (sym e ∙ h.accepted))
     by (inr h) (Treeless of n f d e m) = absurd (no_done f (sym e ∙ h.accepted))
 
 -- an init run
@@ -114,6 +115,7 @@ init_run laws url s old new ho hn e x start f ran same =
       right = rightly.right;
       reported = run_reported s ran.last ran.going.rounds ran.going.goes;
       tells = ran.going.tells;
+      let_go = run_lets_go (begun (Initialise url)) (init_start url) ran.last ran.going.rounds e (begun_unlocked refl) goes ran.ended;
       end = subst (λ y. EndsInit url y (said_by ran.going.rounds)) (sym same) (ends e ran.ended);
     }
   where
@@ -126,11 +128,9 @@ init_run laws url s old new ho hn e x start f ran same =
     done : EndsBegun url ran.last (said_by ran.going.rounds)
     done = carry (EndsBegun url) (begun_on laws url) (init_start url) ran.last ran.going.rounds [] goes (record { init = refl; done = λ h. never h })
 
-    ends : (e : Ending) → IsEnded ran.last e → EndsInit url (answer_to e) (said_by ran.going.rounds)
-    ends ending.Fine (inl h) = done.done h
-    ends ending.Fine (inr h) = absurd (no_fine h)
-    ends (ending.Refused g) (inl h) = run_from laws IsZero no_number (begun (Initialise url)) (init_start url) ran.last ran.going.rounds goes (record { rightly = record { right = tt; numbers = λ job n h. h; follows = inl (subst (λ y. Follows (begun (Initialise url)) y) start f) }; from = record { refusals = λ y z. absurd z; who = λ y z. absurd z; merged = λ y z. absurd z; highest = λ n z. absurd z } }) g (ended_refused ran.last g h)
-    ends (ending.Refused g) (inr h) = Memory (same_fault g fault.OutOfMemory h)
+    ends : (e : Ending) → ending_of ran.last ≡ Some e → EndsInit url (answer_to e) (said_by ran.going.rounds)
+    ends ending.Fine h = done.done h
+    ends (ending.Refused g) h = run_from laws IsZero no_number (begun (Initialise url)) (init_start url) ran.last ran.going.rounds goes (record { rightly = record { right = tt; numbers = λ job n h. h; follows = inl (subst (λ y. Follows (begun (Initialise url)) y) start f) }; from = record { refusals = λ y z. absurd z; who = λ y z. absurd z; merged = λ y z. absurd z; highest = λ n z. absurd z } }) g (ended_refused ran.last g h)
 
 -- copying runs
 
@@ -147,7 +147,7 @@ IsGood _ = Unit {0}
 
 is_made : (d : Deed) (a : Answer) (more : List Spoken) → IsGood a → IsRound d a more → more ≡ made d a
 is_made d a more g (Done fits m) = m
-is_made d a more g (Lacking e m) = absurd (subst (λ x. IsGood x) e g)
+is_made d a more g (Lacking e m due) = absurd (subst (λ x. IsGood x) e g)
 is_made d a more g (Treeless of n f x e m) = absurd (subst (λ x. IsGood x) e g)
 
 quiet : (d : Deed) (a : Answer) (es more : List Spoken) → puts_in (made d a) ≡ [] → IsGood a → IsRound d a more → puts_in (es ++ more) ≡ puts_in es
@@ -293,6 +293,7 @@ copy_run laws token low high s old new ho hn e x start f ran same =
       right = rightly.right;
       reported = run_reported s ran.last ran.going.rounds ran.going.goes;
       tells = ran.going.tells;
+      let_go = run_lets_go (begun (CopyProps token)) (copy_start token low high) ran.last ran.going.rounds e refl goes ran.ended;
       end = subst (λ y. EndsCopy token low high y (said_by ran.going.rounds)) (sym same) (ends e ran.ended);
     }
   where
@@ -308,8 +309,6 @@ copy_run laws token low high s old new ho hn e x start f ran same =
     puts : CopyPuts low high ran.last (said_by ran.going.rounds)
     puts = carry (CopyPuts low high) (copy_on laws low high) (copy_start token low high) ran.last ran.going.rounds [] goes (refl, refl, refl)
 
-    ends : (e : Ending) → IsEnded ran.last e → EndsCopy token low high (answer_to e) (said_by ran.going.rounds)
-    ends ending.Fine (inl h) = record { all = all_put low high ran.last (said_by ran.going.rounds) puts h; released = released.released h }
-    ends ending.Fine (inr h) = absurd (no_fine h)
-    ends (ending.Refused g) (inl h) = run_from laws (IsWithin low high) (λ n. n ≡ high) (begun (CopyProps token)) (copy_start token low high) ran.last ran.going.rounds goes (record { rightly = record { right = tt; numbers = λ job n h. h; follows = inl (subst (λ y. Follows (begun (CopyProps token)) y) start f) }; from = record { refusals = λ y z. absurd z; who = λ y z. absurd z; merged = λ y z. absurd z; highest = λ n e. sym e } }) g (ended_refused ran.last g h)
-    ends (ending.Refused g) (inr h) = Memory (same_fault g fault.OutOfMemory h)
+    ends : (e : Ending) → ending_of ran.last ≡ Some e → EndsCopy token low high (answer_to e) (said_by ran.going.rounds)
+    ends ending.Fine h = record { all = all_put low high ran.last (said_by ran.going.rounds) puts h; released = released.released h }
+    ends (ending.Refused g) h = run_from laws (IsWithin low high) (λ n. n ≡ high) (begun (CopyProps token)) (copy_start token low high) ran.last ran.going.rounds goes (record { rightly = record { right = tt; numbers = λ job n h. h; follows = inl (subst (λ y. Follows (begun (CopyProps token)) y) start f) }; from = record { refusals = λ y z. absurd z; who = λ y z. absurd z; merged = λ y z. absurd z; highest = λ n e. sym e } }) g (ended_refused ran.last g h)

@@ -104,6 +104,11 @@ hears_tells : (job : Job) (ts : List Told) → hears_all job (map Tells ts) ≡ 
 hears_tells job [] = refl
 hears_tells job (t ∷ ts) = hears_tells job ts
 
+-- what a job has heard once a deed is done
+pub heard_round : (job : Job) (es : List Spoken) (d : Deed) (a : Answer) → Fits d a → hears_all job (es ++ made d a) ≡ heard (hears_all job es) 0 d a
+heard_round job es d a fits =
+    hears_append job es (made d a) ∙ hears_tells (heard (hears_all job es) 0 d (answer_of (outcome_of a))) (told_by d a) ∙ same_heard (hears_all job es) d a fits
+
 right_append : (N : Job → ℕ → Type 0) (job : Job) (xs ys : List Spoken) → AreRight N job xs → AreRight N (hears_all job xs) ys → AreRight N job (xs ++ ys)
 right_append N job [] ys p q = q
 right_append N job (x ∷ xs) ys p q = (p.0, right_append N (hears job x) xs ys p.1 q)
@@ -189,8 +194,7 @@ undone laws N job s es more f p h r e =
 done_rightly : Laws → (N : Job → ℕ → Type 0) (job : Job) (s : JobState) (es : List Spoken) (a : Answer) → IsRightly N job s es → Follows (hears_all job es) s → Fits (deed_in s) a → IsRightly N job (after s a) (es ++ made (deed_in s) a)
 done_rightly laws N job s es a p h fits =
     let j : Job = hears_all job es in
-    let heard_is : heard j 0 (deed_in s) (answer_of (outcome_of a)) ≡ heard j 0 (deed_in s) a = same_heard j (deed_in s) a fits in
-    let e : hears_all job (es ++ made (deed_in s) a) ≡ heard j 0 (deed_in s) a = hears_append job es (made (deed_in s) a) ∙ hears_tells (heard j 0 (deed_in s) (answer_of (outcome_of a))) (told_by (deed_in s) a) ∙ heard_is in
+    let e : hears_all job (es ++ made (deed_in s) a) ≡ heard j 0 (deed_in s) a = heard_round job es (deed_in s) a fits in
     record {
       right = right_append N job es (made (deed_in s) a) p.right ((laws.lawful j s h, asked_rightly laws N s j (deed_in s) a refl p.numbers h fits), right_tells N (heard j 0 (deed_in s) (answer_of (outcome_of a))) (told_by (deed_in s) a));
       numbers = is_of_after N s a p.numbers;
@@ -200,7 +204,7 @@ done_rightly laws N job s es a p h fits =
 -- a job that has ended says nothing
 pub silent : Laws → (s : JobState) (e : Ending) (a : Answer) (more : List Spoken) → ending_of s ≡ Some e → IsRound (deed_in s) a more → more ≡ []
 silent laws s e a more h (Done fits m) = absurd (subst (λ d. Fits d a) (laws.ended s a e h).0 fits)
-silent laws s e a more h (Lacking r m) = m
+silent laws s e a more h (Lacking r m due) = m
 silent laws s e a more h (Treeless of n f d r m) = absurd (never (sym d ∙ (laws.ended s a e h).0))
   where
     never : Fetches of ≡ Ends → ⊥
@@ -217,7 +221,7 @@ rightly_on laws N job s es a more p r = by p.follows
   where
     by_round : Follows (hears_all job es) s → IsRound (deed_in s) a more → IsRightly N job (after s a) (es ++ more)
     by_round h (Done fits m) = subst (λ xs. IsRightly N job (after s a) (es ++ xs)) (sym m) (done_rightly laws N job s es a p h fits)
-    by_round h (Lacking e m) = subst (λ x. IsRightly N job (after s x) (es ++ more)) (sym e) (subst (λ xs. IsRightly N job (after s (answer.Refused fault.OutOfMemory)) (es ++ xs)) (sym m) (undone laws N job s es [] fault.OutOfMemory p h tt refl))
+    by_round h (Lacking e m due) = subst (λ x. IsRightly N job (after s x) (es ++ more)) (sym e) (subst (λ xs. IsRightly N job (after s (answer.Refused fault.OutOfMemory)) (es ++ xs)) (sym m) (undone laws N job s es [] fault.OutOfMemory p h tt refl))
     by_round h (Treeless of n f d e m) = subst (λ x. IsRightly N job (after s x) (es ++ more)) (sym e) (subst (λ xs. IsRightly N job (after s (answer.Refused f)) (es ++ xs)) (sym m) (undone laws N job s es (NoTree n (refused_as f) ∷ []) f p h (tt, tt) refl))
 
     by : Follows (hears_all job es) s ⊎ EndsRefused s → IsRightly N job (after s a) (es ++ more)

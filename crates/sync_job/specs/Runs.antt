@@ -1,5 +1,5 @@
 -- Runs of jobs: what is said in them, and how they end.
-use Rattle.std.specs.Prelude.{◌≡◌, ◌⊎◌, ℕ, ◌+◌, ◌-◌, ◌≤◌, nat_lt, Bool, true, false, List, [], ◌∷◌, ◌++◌, Some, None, is_none, Result, Ok, Err, string_bytes}
+use Rattle.std.specs.Prelude.{◌≡◌, ◌≢◌, ◌⊎◌, ℕ, ◌+◌, ◌-◌, ◌≤◌, nat_lt, Bool, true, false, List, [], ◌∷◌, ◌++◌, Some, None, is_none, Result, Ok, Err, string_bytes}
 use Rattle.std.specs.List.{range_with_len}
 use Rattle.node_base.specs.Props.{PropMap}
 use Rattle.sync_core.specs.declared.answer.Answer.{Answer}
@@ -48,15 +48,11 @@ pub record Going {B : Type 0} (s : JobState) (old new : List Spoken) (heard_old 
   pub adds : new ≡ old ++ said_by rounds
   pub tells : (first : B) (told : List Told) → heard_old first told → heard_new first (told ++ told_in (said_by rounds))
 
--- a state in which a job has ended so, or want of memory
-abbrev pub IsEnded : JobState → Ending → Type 0
-IsEnded s e = (ending_of s ≡ Some e) ⊎ (e ≡ ending.Refused fault.OutOfMemory)
-
--- a run to its end
+-- a run to its job's end
 pub record Ran {B : Type 0} (s : JobState) (old new : List Spoken) (heard_old heard_new : B → List Told → Type 0) (e : Ending) : Type 0 where
   pub last : JobState
   pub going : Going s old new heard_old heard_new last
-  pub ended : IsEnded last e
+  pub ended : ending_of last ≡ Some e
 
 -- how a run ended, as an answer
 abbrev pub answer_to : Ending → Result (Unit {0}) SyncFault
@@ -183,13 +179,15 @@ IsZero job n = n ≡ 0
 abbrev pub IsWithin : ℕ → ℕ → Job → ℕ → Type 0
 IsWithin low high job n = (low ≤ n) × (n ≤ high)
 
--- what a run of a job says, whatever its ports answer
+-- what a run of a job says, whatever its ports answer. At its end the job has no lock by what it has heard: none was answered, or
+-- its release was asked for
 pub record Runs {B : Type 0} (IsNumber : Job → ℕ → Type 0) (order : Order) (old new : List Spoken) (heard_old heard_new : B → List Told → Type 0) (IsEnd : List Spoken → Type 0) : Type 0 where
   pub more : List Spoken
   pub adds : new ≡ old ++ more
   pub right : AreRight IsNumber (begun order) more
   pub reported : ReportedFrom [] more
   pub tells : (first : B) (told : List Told) → heard_old first told → heard_new first (told ++ told_in more)
+  pub let_go : (hears_all (begun order) more).stage ≢ Locked
   pub end : IsEnd more
 
 -- a sync run ends well only where all that the master told in it is merged, nothing is being copied, and the lock is released

@@ -1,10 +1,10 @@
 -- What is said through the ports of a job.
-use Rattle.std.specs.Prelude.{◌≡◌, ℕ, List, [], ◌∷◌, ◌++◌, map}
+use Rattle.std.specs.Prelude.{◌≡◌, ◌≢◌, ℕ, List, [], ◌∷◌, ◌++◌, map}
 use Rattle.sync_core.specs.declared.answer.Answer.{Answer}
 use Rattle.sync_core.specs.declared.answer.Answer.TheVariants as answer
 use Rattle.sync_core.specs.declared.fault.SyncFault.{SyncFault}
 use Rattle.sync_core.specs.declared.fault.SyncFault.TheVariants.{OutOfMemory}
-use Rattle.sync_core.specs.Mirror.{Call, Init, Commit, PutProps}
+use Rattle.sync_core.specs.Mirror.{Call, Init, ReleaseLock, Commit, PutProps}
 use Rattle.sync_core.specs.Deeds.{Deed, Calls, AsksIdentity, AsksLatest, Fetches, FetchesProps, Ends}
 use Rattle.sync_job.specs.declared.report.Told.{Told}
 use Rattle.sync_job.specs.declared.report.Told.TheVariants.{Committed, Copied}
@@ -79,10 +79,11 @@ IsQuestion (Fetches n) = Unit {0}
 IsQuestion (FetchesProps n) = Unit {0}
 IsQuestion Ends = ⊥
 
--- a deed is done and answered; or it isn't done, for want of memory, or since the mirror refuses a tree that it takes
+-- a deed is done and answered; or it isn't done, for want of memory, or since the mirror refuses a tree that it takes. A release of
+-- the lock is always done: there is room for it before it is due
 pub data IsRound (d : Deed) (a : Answer) (more : List Spoken) : Type 0 where
   Done : Fits d a → more ≡ made d a → IsRound d a more
-  Lacking : a ≡ answer.Refused OutOfMemory → more ≡ [] → IsRound d a more
+  Lacking : a ≡ answer.Refused OutOfMemory → more ≡ [] → d ≢ Calls ReleaseLock → IsRound d a more
   Treeless : (of n : ℕ) → (f : SyncFault) → d ≡ Fetches of → a ≡ answer.Refused f → more ≡ NoTree n (refused_as f) ∷ [] → IsRound d a more
 
 -- what one deed adds to all that was said and told

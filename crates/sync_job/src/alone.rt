@@ -105,7 +105,8 @@ impl<D: Disk + Drop> MirrorPort for AloneMirror<D> {
 
     ghost left_since = { λ a t image. D.left_since (disk_of a.store) t image };
 
-    ghost kept_now = { λ a m image honest stands left. stands.images honest image (D.only_now (disk_of a.store) image honest left) };
+    ghost kept_now = { λ a m image honest stands left. stands.images honest image
+        (D.only_now (disk_of a.store) image honest left) };
 
     fn step(&mut self, alloc: Global, call: &MirrorCall<'_>) -> Result<Reply, SyncFault> {
         match plan(alloc, self.store.repo(), self.holder, Seat::new(0), call) {

@@ -15,7 +15,8 @@
 //! has brought the mirror up to what the master told (or begun it, or put each number's properties once, in order) and
 //! given the lock back; a refusal is one that a port answered, want of memory, or shown by an answer that was heard. At
 //! each moment since its start a stop leaves the mirror as it was, or as a front of the accepted calls leaves it. At a
-//! true master's port a run is a list of events of `sync_core`'s world, so that what it leaves is a mirror of the master.
+//! true master's port a run is a list of events of `sync_core`'s world, so that what it leaves is a mirror of the
+//! master.
 #![tactic(auto)]
 
 pub use alone::AloneMirror;

@@ -1,11 +1,13 @@
 //! The ports of a job, and all that is said through them.
-ghost use Rattle.std.specs.Prelude.{◌≡◌, ◌≤◌, ◌+◌, ℕ, List, vec_capacity, ◌⊎◌, ◌++◌, ◌∷◌, [], IfOk, IfSome, OnOk};
-ghost use Rattle.std.specs.Prelude.{OnErr, IsErr, Err, None, Some, ◌-◌, length, map};
+ghost use Rattle.std.specs.Prelude.{◌≡◌, ◌≢◌, ◌≤◌, ◌+◌, ℕ, List, vec_capacity, ◌⊎◌, ◌++◌, ◌∷◌, [], IfOk, IfSome};
+ghost use Rattle.std.specs.Prelude.{OnOk, OnErr, IsErr, Err, None, Some, ◌-◌, length, map};
 ghost use Rattle.sync_core.specs.declared.answer.Answer.TheVariants as answer_is;
 ghost use Rattle.sync_core.specs.declared.fault.SyncFault.TheVariants.{OutOfMemory as NoMemory};
 ghost use Rattle.sync_job.specs.Fronts.{WentAt, IsHeard, accepted_by, counted_by};
 ghost use Rattle.sync_core.specs.Calls.{call_of};
 ghost use Rattle.sync_core.specs.Deeds.{Deed, Calls, AsksIdentity, AsksLatest, Fetches, FetchesProps, Ends, deed_of};
+ghost use Rattle.sync_core.specs.Measures.{CanBe};
+ghost use Rattle.sync_core.specs.Mirror.{ReleaseLock};
 ghost use Rattle.sync_core.specs.Copies.{call_in, outcome_of};
 ghost use Rattle.sync_job.specs.Kept.{refused_as};
 ghost use Rattle.sync_job.specs.declared.report.Told.{Told as IsTold};
@@ -13,6 +15,7 @@ ghost use Rattle.sync_job.specs.declared.report.Told.TheVariants.{Committed, Cop
 ghost use Rattle.node_base.specs.Tree.{PathMap};
 ghost use Rattle.sync_core.specs.World.{Origin, map_at, moment_of};
 ghost use Rattle.sync_core.specs.World.{Makes as MakesTree};
+ghost use Rattle.sync_job.specs.Rooms.{IsReady, KeepsRoom};
 ghost use Rattle.sync_job.specs.Said.{Acted, Fits, IsQuestion, Tells, told_of};
 ghost use Rattle.sync_job.specs.Worlds.{IsAnswerAt, Happens, TakesTrees};
 
@@ -29,8 +32,9 @@ use sync_core::{Action, Answer, KeptCall, MirrorCall, Reply, SyncFault};
 /// What a job speaks to: a master, a mirror, and who is told. It keeps what was said through it: each call of the
 /// mirror, each question to the master and each report with its answer, and each tree that was refused, in order.
 ///
-/// Room for a call, and for its report, is made before it: want of memory then leaves the ports alone. Where an answer
-/// can't be kept for want of memory, it counts as 70.
+/// Room for a call, and for its report, is made before it: want of memory then leaves the ports alone. Room for the
+/// release of a lock is made with the lock and kept, so want of memory keeps no lock from being given back. Where an
+/// answer can't be kept for want of memory, it counts as 70.
 #[derive(Drop)]
 pub struct JobPorts<M: MasterPort + Drop, N: MirrorPort + Drop, R: Report + Drop> {
     master: M,
@@ -40,7 +44,7 @@ pub struct JobPorts<M: MasterPort + Drop, N: MirrorPort + Drop, R: Report + Drop
 }
 
 impl<M: MasterPort + Drop, N: MirrorPort + Drop, R: Report + Drop> JobPorts<M, N, R> {
-    ghost use Rattle.sync_job.specs.Words.{calls_of, master_of, mirror_of, report_of};
+    ghost use Rattle.sync_job.specs.Words.{calls_of, master_of, mirror_of, report_of, HasRoom};
 
     /// The ports, through which nothing was said yet.
     pub fn new(alloc: Global, master: M, mirror: N, report: R) -> JobPorts<M, N, R>
@@ -82,7 +86,10 @@ impl<M: MasterPort + Drop, N: MirrorPort + Drop, R: Report + Drop> JobPorts<M, N
         trees: &mut Vec<Tree>,
         action: &Action<'_>,
     ) -> Answer
-        requires { deed_of action.now ≡ Ends → ⊥ }
+        requires goes { deed_of action.now ≡ Ends → ⊥ }
+        requires ready { IsReady (deed_of action.now) self.old }
+        ensures room { KeepsRoom (deed_of action.now) result self.old self.new }
+        ensures can { CanBe result }
         ensures said { Acted (deed_of action.now) result (calls_of self.old) (calls_of self.new)
             (R.heard (report_of self.old)) (R.heard (report_of self.new)) }
         ensures mirror { WentAt N.stands N.clock N.left_since N.honest (mirror_of self.old) (mirror_of self.new)
@@ -104,6 +111,9 @@ impl<M: MasterPort + Drop, N: MirrorPort + Drop, R: Report + Drop> JobPorts<M, N
 
     // A call of the mirror, and its report.
     fn step(&mut self, alloc: Global, call: &MirrorCall<'_>) -> Answer
+        requires ready { IsReady (Calls (call_of call.now)) self.old }
+        ensures room { KeepsRoom (Calls (call_of call.now)) result self.old self.new }
+        ensures can { CanBe result }
         ensures said { Acted (Calls (call_of call.now)) result (calls_of self.old) (calls_of self.new)
             (R.heard (report_of self.old)) (R.heard (report_of self.new)) }
         ensures mirror { WentAt N.stands N.clock N.left_since N.honest (mirror_of self.old) (mirror_of self.new)
@@ -136,23 +146,31 @@ impl<M: MasterPort + Drop, N: MirrorPort + Drop, R: Report + Drop> JobPorts<M, N
         }
     }
 
-    // Room for a call and its report, and the call as it is kept.
+    // Room for a call and its report, and for a release behind it, and the call as it is kept. A release has its room.
     fn room_for(&mut self, alloc: Global, call: &MirrorCall<'_>) -> Result<KeptCall, AllocError>
+        requires ready { IsReady (Calls (call_of call.now)) self.old }
         ensures kept { IfOk result (λ k. call_in k ≡ call_of call.now) }
-        ensures room { OnOk result (length self.new.calls.items + 2 ≤ vec_capacity self.new.calls) }
+        ensures room { OnOk result (HasRoom self.new) }
+        ensures more { OnOk result ((call_of call.now ≡ ReleaseLock)
+            ⊎ (length self.new.calls.items + 4 ≤ vec_capacity self.new.calls)) }
+        ensures keeps { HasRoom self.old → HasRoom self.new }
+        ensures made { OnErr result (call_of call.now ≢ ReleaseLock) }
         ensures calls { calls_of self.new ≡ calls_of self.old }
         ensures report { report_of self.new ≡ report_of self.old }
         ensures mirror { mirror_of self.new ≡ mirror_of self.old }
         ensures master { master_of self.new ≡ master_of self.old }
     {
-        let kept = KeptCall::of(alloc, call)?;
-        self.calls.reserve(2)?;
-        Ok(kept)
+        if let MirrorCall::ReleaseLock = call {
+            return Ok(KeptCall::ReleaseLock);
+        }
+        self.calls.reserve(4)?;
+        KeptCall::of(alloc, call)
     }
 
     // Tells of an accepted call.
     fn tell(&mut self, call: &MirrorCall<'_>)
         requires { length self.old.calls.items + 1 ≤ vec_capacity self.old.calls }
+        ensures room { length self.old.calls.items + 3 ≤ vec_capacity self.old.calls → HasRoom self.new }
         ensures calls { calls_of self.new ≡ calls_of self.old ++ map Tells (told_of (call_of call.now)) }
         ensures told { (first : R) (told : List IsTold) → R.heard (report_of self.old) first told
             → R.heard (report_of self.new) first (told ++ told_of (call_of call.now)) }
@@ -169,6 +187,7 @@ impl<M: MasterPort + Drop, N: MirrorPort + Drop, R: Report + Drop> JobPorts<M, N
 
     fn tell_committed(&mut self, number: RevNo)
         requires { length self.old.calls.items + 1 ≤ vec_capacity self.old.calls }
+        ensures room { length self.old.calls.items + 3 ≤ vec_capacity self.old.calls → HasRoom self.new }
         ensures calls { calls_of self.new ≡ calls_of self.old ++ Tells (Committed number) ∷ [] }
         ensures told { (first : R) (told : List IsTold) → R.heard (report_of self.old) first told
             → R.heard (report_of self.new) first (told ++ Committed number ∷ []) }
@@ -182,6 +201,7 @@ impl<M: MasterPort + Drop, N: MirrorPort + Drop, R: Report + Drop> JobPorts<M, N
 
     fn tell_copied(&mut self, number: RevNo)
         requires { length self.old.calls.items + 1 ≤ vec_capacity self.old.calls }
+        ensures room { length self.old.calls.items + 3 ≤ vec_capacity self.old.calls → HasRoom self.new }
         ensures calls { calls_of self.new ≡ calls_of self.old ++ Tells (Copied number) ∷ [] }
         ensures told { (first : R) (told : List IsTold) → R.heard (report_of self.old) first told
             → R.heard (report_of self.new) first (told ++ Copied number ∷ []) }
@@ -194,6 +214,8 @@ impl<M: MasterPort + Drop, N: MirrorPort + Drop, R: Report + Drop> JobPorts<M, N
     }
 
     fn identity(&mut self, alloc: Global) -> Answer
+        ensures room { KeepsRoom AsksIdentity result self.old self.new }
+        ensures can { CanBe result }
         ensures said { Acted AsksIdentity result (calls_of self.old) (calls_of self.new)
             (R.heard (report_of self.old)) (R.heard (report_of self.new)) }
         ensures mirror { WentAt N.stands N.clock N.left_since N.honest (mirror_of self.old) (mirror_of self.new)
@@ -202,7 +224,7 @@ impl<M: MasterPort + Drop, N: MirrorPort + Drop, R: Report + Drop> JobPorts<M, N
             (N.stands (mirror_of self.old)) (N.stands (mirror_of self.new)) (N.seat (mirror_of self.old))
             (N.seat (mirror_of self.new)) AsksIdentity result trees trees }
     {
-        if self.calls.reserve(1).is_err() {
+        if self.calls.reserve(3).is_err() {
             return Answer::Refused(SyncFault::OutOfMemory);
         }
         let answer = identity_answer(alloc, self.master.identity(alloc));
@@ -212,6 +234,8 @@ impl<M: MasterPort + Drop, N: MirrorPort + Drop, R: Report + Drop> JobPorts<M, N
     }
 
     fn latest(&mut self, alloc: Global) -> Answer
+        ensures room { KeepsRoom AsksLatest result self.old self.new }
+        ensures can { CanBe result }
         ensures said { Acted AsksLatest result (calls_of self.old) (calls_of self.new) (R.heard (report_of self.old))
             (R.heard (report_of self.new)) }
         ensures mirror { WentAt N.stands N.clock N.left_since N.honest (mirror_of self.old) (mirror_of self.new)
@@ -220,7 +244,7 @@ impl<M: MasterPort + Drop, N: MirrorPort + Drop, R: Report + Drop> JobPorts<M, N
             (N.stands (mirror_of self.old)) (N.stands (mirror_of self.new)) (N.seat (mirror_of self.old))
             (N.seat (mirror_of self.new)) AsksLatest result trees trees }
     {
-        if self.calls.reserve(1).is_err() {
+        if self.calls.reserve(3).is_err() {
             return Answer::Refused(SyncFault::OutOfMemory);
         }
         let answer = latest_answer(alloc, self.master.latest(alloc));
@@ -230,6 +254,8 @@ impl<M: MasterPort + Drop, N: MirrorPort + Drop, R: Report + Drop> JobPorts<M, N
     }
 
     fn fetch(&mut self, alloc: Global, number: RevNo, trees: &mut Vec<Tree>) -> Answer
+        ensures room { KeepsRoom (Fetches number) result self.old self.new }
+        ensures can { CanBe result }
         ensures said { Acted (Fetches number) result (calls_of self.old) (calls_of self.new)
             (R.heard (report_of self.old)) (R.heard (report_of self.new)) }
         ensures mirror { WentAt N.stands N.clock N.left_since N.honest (mirror_of self.old) (mirror_of self.new)
@@ -241,7 +267,7 @@ impl<M: MasterPort + Drop, N: MirrorPort + Drop, R: Report + Drop> JobPorts<M, N
         if let Some(refusal) = self.fill(alloc, number, trees) {
             return refusal;
         }
-        if self.calls.reserve(1).is_err() {
+        if self.calls.reserve(3).is_err() {
             return Answer::Refused(SyncFault::OutOfMemory);
         }
         let answer = revision_answer(
@@ -256,6 +282,8 @@ impl<M: MasterPort + Drop, N: MirrorPort + Drop, R: Report + Drop> JobPorts<M, N
     }
 
     fn fetch_props(&mut self, alloc: Global, number: RevNo) -> Answer
+        ensures room { KeepsRoom (FetchesProps number) result self.old self.new }
+        ensures can { CanBe result }
         ensures said { Acted (FetchesProps number) result (calls_of self.old) (calls_of self.new)
             (R.heard (report_of self.old)) (R.heard (report_of self.new)) }
         ensures mirror { WentAt N.stands N.clock N.left_since N.honest (mirror_of self.old) (mirror_of self.new)
@@ -265,7 +293,7 @@ impl<M: MasterPort + Drop, N: MirrorPort + Drop, R: Report + Drop> JobPorts<M, N
             (N.stands (mirror_of self.old)) (N.stands (mirror_of self.new)) (N.seat (mirror_of self.old))
             (N.seat (mirror_of self.new)) (FetchesProps number) result trees trees }
     {
-        if self.calls.reserve(1).is_err() {
+        if self.calls.reserve(3).is_err() {
             return Answer::Refused(SyncFault::OutOfMemory);
         }
         let answer = map_answer(alloc, number, self.master.fetch_props(alloc, number));
@@ -277,6 +305,8 @@ impl<M: MasterPort + Drop, N: MirrorPort + Drop, R: Report + Drop> JobPorts<M, N
 
     // The mirror's trees before a revision, those that aren't at hand; or why not.
     fn fill(&mut self, alloc: Global, number: RevNo, trees: &mut Vec<Tree>) -> Option<Answer>
+        ensures room { HasRoom self.old → HasRoom self.new }
+        ensures refusal { IfSome result (λ a. CanBe a × (a ≢ answer_is.Done)) }
         ensures none { result ≡ None → (calls_of self.new ≡ calls_of self.old) ×
             (report_of self.new ≡ report_of self.old) }
         ensures some { IfSome result
@@ -306,6 +336,8 @@ impl<M: MasterPort + Drop, N: MirrorPort + Drop, R: Report + Drop> JobPorts<M, N
         trees: &mut Vec<Tree>,
     ) -> Option<Answer>
         requires next { number ≡ length trees.old.items }
+        ensures room { HasRoom self.old → HasRoom self.new }
+        ensures refusal { IfSome result (λ a. CanBe a × (a ≢ answer_is.Done)) }
         ensures none { result ≡ None → (calls_of self.new ≡ calls_of self.old) ×
             (report_of self.new ≡ report_of self.old) }
         ensures some { IfSome result
@@ -318,7 +350,7 @@ impl<M: MasterPort + Drop, N: MirrorPort + Drop, R: Report + Drop> JobPorts<M, N
         ensures one { result ≡ None → length trees.new.items ≡ length trees.old.items + 1 }
     {
         let _ = of;
-        if self.calls.reserve(1).is_err() || trees.reserve(1).is_err() {
+        if self.calls.reserve(3).is_err() || trees.reserve(1).is_err() {
             return Some(Answer::Refused(SyncFault::OutOfMemory));
         }
         match self.mirror.tree(number) {
@@ -338,6 +370,7 @@ impl<M: MasterPort + Drop, N: MirrorPort + Drop, R: Report + Drop> JobPorts<M, N
 // The refusal of a mirror's call for the list and for the job. A call answered 31 counts with those that were
 // accepted: that is kept without memory.
 fn refused_twice(alloc: Global, fault: SyncFault) -> (Answer, Answer)
+    ensures refusal { CanBe result.1 × (result.1 ≢ answer_is.Done) }
     ensures same { outcome_of result.0 ≡ outcome_of result.1 }
     ensures heard { IsHeard (Err fault) result.1 }
 {
@@ -352,6 +385,7 @@ fn refused_twice(alloc: Global, fault: SyncFault) -> (Answer, Answer)
 
 // The answer for the list and the one for the job. Where it can't be copied both are 70.
 fn twice(alloc: Global, answer: Answer) -> (Answer, Answer)
+    ensures can { CanBe answer → CanBe result.1 }
     ensures same { outcome_of result.0 ≡ outcome_of result.1 }
     ensures answer { (result.1 ≡ answer) ⊎ (result.1 ≡ answer_is.Refused NoMemory) }
 {
@@ -376,6 +410,7 @@ fn fault_twice(alloc: Global, fault: SyncFault) -> (SyncFault, SyncFault)
 
 // The master's fault as an answer.
 fn failed(alloc: Global, fault: MasterFault) -> Answer
+    ensures can { CanBe result }
     ensures fits { (d : Deed) → IsQuestion d → Fits d result }
     ensures at { (o : Origin) (d : Deed) → IsQuestion d → IsAnswerAt o d result }
 {
@@ -386,6 +421,7 @@ fn failed(alloc: Global, fault: MasterFault) -> Answer
 }
 
 fn identity_answer(alloc: Global, answer: Result<PropValue, MasterFault>) -> Answer
+    ensures can { CanBe result }
     ensures fits { Fits AsksIdentity result }
     ensures at { (o : Origin) → IfOk answer (λ v. v ≡ o.identity) → IsAnswerAt o AsksIdentity result }
 {
@@ -396,11 +432,15 @@ fn identity_answer(alloc: Global, answer: Result<PropValue, MasterFault>) -> Ans
 }
 
 fn latest_answer(alloc: Global, answer: Result<RevNo, MasterFault>) -> Answer
+    ensures can { CanBe result }
     ensures fits { Fits AsksLatest result }
     ensures at { (o : Origin) → IfOk answer (λ n. n ≡ length o.trees - 1) → IsAnswerAt o AsksLatest result }
 {
     match answer {
-        Ok(number) => Answer::Latest(number),
+        Ok(number) => {
+            let _newest = number.get();
+            Answer::Latest(number)
+        }
         Err(fault) => failed(alloc, fault),
     }
 }
@@ -410,6 +450,7 @@ fn revision_answer(
     number: RevNo,
     answer: Result<(ChangeSet, Props), MasterFault>,
 ) -> Answer
+    ensures can { CanBe result }
     ensures fits { Fits (Fetches number) result }
     ensures at { (o : Origin) → IfOk answer (λ r. MakesTree o number r.0 × (map_at o (moment_of o) number ≡ Some r.1))
         → IsAnswerAt o (Fetches number) result }
@@ -422,6 +463,7 @@ fn revision_answer(
 }
 
 fn map_answer(alloc: Global, number: RevNo, answer: Result<Props, MasterFault>) -> Answer
+    ensures can { CanBe result }
     ensures fits { Fits (FetchesProps number) result }
     ensures at { (o : Origin) → IfOk answer (λ p. map_at o (moment_of o) number ≡ Some p)
         → IsAnswerAt o (FetchesProps number) result }

@@ -1,14 +1,16 @@
 //! Runs of jobs.
-ghost use Rattle.std.specs.Prelude.{◌≡◌, ◌≢◌, None, IfSome};
+ghost use Rattle.std.specs.Prelude.{◌≡◌, ◌≢◌, ◌<◌, None, Some, IfSome};
 ghost use Rattle.sync_core.specs.Deeds.{Ends};
-ghost use Rattle.sync_core.specs.States.{deed_in, Follows};
+ghost use Rattle.sync_core.specs.Measures.{CanBe, left};
+ghost use Rattle.sync_core.specs.States.{deed_in, ending_of, Follows};
 ghost use Rattle.sync_job.specs.Said.{Acted};
 ghost use Rattle.sync_job.specs.Fronts.{WentAt, Moving, accepted_by, counted_by};
 ghost use Rattle.sync_core.specs.Copies.{outcome_of};
 ghost use Rattle.sync_job.specs.Words.{calls_of, master_of, mirror_of, report_of};
 ghost use Rattle.sync_job.specs.Worlds.{Happens, IsEvents};
 ghost use Rattle.sync_core.specs.Jobs.{Order, begun};
-ghost use Rattle.sync_job.specs.Runs.{Ran, IsEnded, answer_to, IsSyncRun, IsInitRun, IsCopyRun};
+ghost use Rattle.sync_job.specs.Rooms.{IsReady, IsUnlocked, KeepsRoom};
+ghost use Rattle.sync_job.specs.Runs.{Ran, answer_to, IsSyncRun, IsInitRun, IsCopyRun};
 
 use crate::master::MasterPort;
 use crate::mirror::MirrorPort;
@@ -87,22 +89,26 @@ fn result_of(ending: Ending) -> Result<(), SyncFault>
     }
 }
 
-// Runs a job to its end.
+// Runs a job to its end, which each answer brings nearer.
 fn run_job<M: MasterPort + Drop, N: MirrorPort + Drop, R: Report + Drop>(
     alloc: Global,
     ports: &mut JobPorts<M, N, R>,
     state: JobState,
 ) -> Ending
+    requires near { left state < 18446744073709551615 }
+    requires first { IsUnlocked state }
     ensures ran { Ran state (calls_of ports.old) (calls_of ports.new) (R.heard (report_of ports.old))
         (R.heard (report_of ports.new)) result }
     ensures mirror { Moving (calls_of ports.old) (calls_of ports.new)
         (WentAt N.stands N.clock N.left_since N.honest (mirror_of ports.old) (mirror_of ports.new)) }
-    ensures world { (order : Order) → Follows (begun order) state → IsEvents (M.is_at (master_of ports.old)) (M.is_at (master_of ports.new))
+    ensures world { (order : Order) → Follows (begun order) state
+        → IsEvents (M.is_at (master_of ports.old)) (M.is_at (master_of ports.new))
         (N.stands (mirror_of ports.old)) (N.stands (mirror_of ports.new)) (N.seat (mirror_of ports.old)) }
 {
     every_run();
     answers_are_heard();
     jobs_follow();
+    jobs_end();
     let mut state = state;
     let mut trees = Vec::new(alloc);
     for _i in 0..u64::MAX {
@@ -111,7 +117,7 @@ fn run_job<M: MasterPort + Drop, N: MirrorPort + Drop, R: Report + Drop>(
             None => return ended(state),
         }
     }
-    Ending::Refused(SyncFault::OutOfMemory)
+    unreachable!()
 }
 
 // What the job does next is done, and answered; None where it has ended.
@@ -121,6 +127,9 @@ fn next<M: MasterPort + Drop, N: MirrorPort + Drop, R: Report + Drop>(
     trees: &mut Vec<Tree>,
     state: &JobState,
 ) -> Option<Answer>
+    requires { IsReady (deed_in state.now) ports.old }
+    ensures room { IfSome result (λ a. KeepsRoom (deed_in state.now) a ports.old ports.new) }
+    ensures can { IfSome result CanBe }
     ensures none { result ≡ None → (deed_in state.now ≡ Ends) × (calls_of ports.new ≡ calls_of ports.old) ×
         (report_of ports.new ≡ report_of ports.old) }
     ensures some { IfSome result
@@ -144,10 +153,12 @@ fn next<M: MasterPort + Drop, N: MirrorPort + Drop, R: Report + Drop>(
 
 // How a job has ended.
 fn ended(state: JobState) -> Ending
-    ensures { IsEnded state result }
+    requires { deed_in state ≡ Ends }
+    ensures { ending_of state ≡ Some result }
 {
+    jobs_end();
     match state.ending() {
         Some(ending) => ending,
-        None => Ending::Refused(SyncFault::OutOfMemory),
+        None => unreachable!(),
     }
 }

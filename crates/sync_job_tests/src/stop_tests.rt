@@ -43,7 +43,8 @@ fn told_later(entries: usize) -> u64 {
     }
 }
 
-// The answer to a synchronisation that may not steal: 54 where the stopped one has taken the lock and not given it back.
+// The answer to a synchronisation that may not steal: 54 where the stopped one has taken the lock and not given it
+// back.
 fn number_later(entries: usize) -> u8 {
     if (1..=6).contains(&entries) { 54 } else { 0 }
 }
@@ -60,7 +61,8 @@ fn standing(alloc: Global, left: MemDisk) -> (MemDisk, usize) {
     }
 }
 
-// Whether a mirror that was stopped so goes on as its entries say, under a job that may not steal, or under one that may.
+// Whether a mirror that was stopped so goes on as its entries say, under a job that may not steal, or under one that
+// may.
 fn goes_on(
     rt: &impl Abort,
     alloc: Global,
@@ -86,8 +88,8 @@ fn goes_on(
     }
 }
 
-// Whether, where the device fails for good after so many calls of a synchronisation, it is told with 31 but at its end, and
-// the mirror goes on from each image that a stop may leave.
+// Whether, where the device fails for good after so many calls of a synchronisation, it is told with 31 but at its end,
+// and the mirror goes on from each image that a stop may leave.
 fn is_stopped_after(
     rt: &impl Abort,
     alloc: Global,

@@ -1,7 +1,7 @@
 use Rattle.std.proofs.Common.{codes, [], ◌∷◌}
 use Rattle.ra_item.specs.Items.{spell, Text}
 use Rattle.ra_edit.specs.Commands.{command, token, list, chunk}
-use Rattle.ra_edit.specs.Spelling.{head}
+use Rattle.svndiff.specs.Spelling.{head}
 use Rattle.ra_edit.proofs.Chunks.{both_parts}
 use Rattle.ra_edit.proofs.command.write_text_start.Goals as goal
 

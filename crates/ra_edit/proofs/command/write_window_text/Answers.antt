@@ -1,5 +1,5 @@
 use Rattle.std.proofs.Common.{refl}
-use Rattle.ra_edit.specs.Spelling.{window}
+use Rattle.svndiff.specs.Spelling.{window}
 use Rattle.ra_edit.proofs.Chunks.{sized}
 use Rattle.ra_edit.proofs.command.write_window_text.Goals as goal
 

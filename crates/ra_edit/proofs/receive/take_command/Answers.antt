@@ -1,6 +1,6 @@
 use Rattle.std.proofs.Common.{refl, inr}
 use Rattle.std.proofs.lemmas.Result.{err_from_is_err_and}
-use Rattle.ra_edit.specs.ItemStreams.{ahead}
+use Rattle.ra_item.specs.ItemStreams.{ahead}
 use Rattle.ra_edit.proofs.OwnRefusals.{own_map}
 use Rattle.ra_edit.proofs.receive.take_command.Goals as goal
 

@@ -1,7 +1,8 @@
 use Rattle.std.proofs.Common.{◌∙◌, Ok, ap, sym}
 use Rattle.ra_item.specs.Items.{Text}
-use Rattle.ra_edit.specs.Receiving.{left_of, word_of}
-use Rattle.ra_edit.specs.declared.receive_command.Name.TheVariants as name
+use Rattle.ra_edit.specs.Receiving.{left_of}
+use Rattle.ra_edit.specs.Names.{word_of}
+use Rattle.ra_edit.specs.declared.name.Name.TheVariants as name
 use Rattle.ra_edit.proofs.Receiving.{named4}
 use Rattle.ra_edit.proofs.receive_command.add_dir.Goals as goal
 

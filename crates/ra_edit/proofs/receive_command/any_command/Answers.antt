@@ -1,5 +1,6 @@
-use Rattle.ra_edit.specs.Receiving.{left_of, word_of}
-use Rattle.ra_edit.specs.declared.receive_command.Name.TheVariants as name
+use Rattle.ra_edit.specs.Receiving.{left_of}
+use Rattle.ra_edit.specs.Names.{word_of}
+use Rattle.ra_edit.specs.declared.name.Name.TheVariants as name
 use Rattle.ra_edit.proofs.Receiving.{named0, given_up}
 use Rattle.ra_edit.proofs.receive_command.any_command.Goals as goal
 

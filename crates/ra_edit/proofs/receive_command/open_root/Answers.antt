@@ -1,6 +1,7 @@
 use Rattle.ra_item.specs.Items.{Text}
-use Rattle.ra_edit.specs.Receiving.{left_of, word_of}
-use Rattle.ra_edit.specs.declared.receive_command.Name.TheVariants as name
+use Rattle.ra_edit.specs.Receiving.{left_of}
+use Rattle.ra_edit.specs.Names.{word_of}
+use Rattle.ra_edit.specs.declared.name.Name.TheVariants as name
 use Rattle.ra_edit.proofs.Receiving.{named2}
 use Rattle.ra_edit.proofs.receive_command.open_root.Goals as goal
 

@@ -1,15 +1,15 @@
 use Rattle.std.proofs.lemmas.Result.{err_from_is_err_and}
 use Rattle.std.proofs.Common.{refl, rules}
-use Rattle.ra_edit.specs.declared.fault.WindowFault.TheVariants as failed
+use Rattle.svndiff.specs.declared.fault.WindowFault.TheVariants as failed
 use Rattle.ra_edit.proofs.Refusing.{chunk_refused, same_fault}
 use Rattle.std.proofs.Common.{◌∙◌, ◌∷◌, [], ◌++◌, ap, subst, append-nil}
 use Rattle.ra_edit.proofs.OwnRefusals.{window_own, piece_later}
 use Rattle.std.specs.List.{concat}
 use Rattle.md5.specs.Md5.{Holds}
-use Rattle.ra_edit.specs.Reading.{is_failed}
-use Rattle.ra_edit.specs.Streams.{reading, pieces_in, Reads}
+use Rattle.svndiff.specs.Reading.{is_failed}
+use Rattle.svndiff.specs.Streams.{reading, pieces_in, Reads}
 use Rattle.ra_edit.proofs.Steps.{pieces_join, pieces_added, not_failed}
-use Rattle.ra_edit.proofs.Runs.{pieces_more, piece_alone}
+use Rattle.svndiff.proofs.Runs.{pieces_more, piece_alone}
 use Rattle.ra_edit.proofs.receive_text.take_chunk.Goals as goal
 
 pub loop-rest-preserved : goal.loop-rest-preserved

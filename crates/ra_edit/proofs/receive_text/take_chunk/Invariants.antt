@@ -3,7 +3,7 @@ use Rattle.std.specs.List.{concat}
 use Rattle.md5.specs.Md5.{Holds}
 use Rattle.delta_editor.specs.Calls.{Adds}
 use Rattle.delta_editor.specs.declared.call.Call.TheVariants as call
-use Rattle.ra_edit.specs.Streams.{reading, pieces_in, Reads}
+use Rattle.svndiff.specs.Streams.{reading, pieces_in, Reads}
 use Rattle.ra_edit.proofs.receive_text.take_chunk.Given as goal
 
 abbrev pub invariant-loop-rest : goal.invariant-loop-rest

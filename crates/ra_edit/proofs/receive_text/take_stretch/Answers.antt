@@ -1,5 +1,5 @@
 use Rattle.std.proofs.Common.{◌∷◌, [], append-nil, rules}
-use Rattle.ra_edit.proofs.Runs.{piece_alone}
+use Rattle.svndiff.proofs.Runs.{piece_alone}
 use Rattle.ra_edit.proofs.receive_text.take_stretch.Goals as goal
 
 pub returns-clause-pieces : goal.returns-clause-pieces

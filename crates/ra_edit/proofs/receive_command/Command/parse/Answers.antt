@@ -16,4 +16,4 @@ returns-in-Some-clause-none c =
 
 pub returns-clause-none : goal.returns-clause-none
 returns-clause-none c =
-    no_name c.args.item (left_of c.in_ok-parts.parts) (left_of c.word.new.self) (left_of c.list.new.self) (left_of c.in_ok-params.params) c.in_ok-word.word.items c.in_ok-parts.ensures.read c.in_ok-word.ensures.read c.in_ok-params.ensures.read (λ n e. c.any_name.ensures.none c.in-None.is n (c.as_slice.ensures.value ∙ e))
+    no_name c.args.item (left_of c.in_ok-parts.parts) (left_of c.word.new.self) (left_of c.list.new.self) (left_of c.in_ok-params.params) c.in_ok-word.word.items c.in_ok-parts.ensures.read c.in_ok-word.ensures.read c.in_ok-params.ensures.read (λ n e. c.any.ensures.none c.in-None.is n (c.as_slice.ensures.value ∙ e))

@@ -3,7 +3,7 @@ use Rattle.std.specs.Io.Buffered.{writer_contents}
 use Rattle.ra_item.specs.Items.{spell, Text}
 use Rattle.delta_editor.specs.declared.call.Call.TheVariants as call
 use Rattle.ra_edit.specs.Commands.{command, token, list, chunk}
-use Rattle.ra_edit.specs.Spelling.{head}
+use Rattle.svndiff.specs.Spelling.{head}
 use Rattle.ra_edit.proofs.Told.{tell}
 use Rattle.ra_edit.proofs.wire.WireEditorEditor.text_start.Goals as goal
 

@@ -1,0 +1,6 @@
+pub mod Carried
+pub mod Fair
+pub mod Fitting
+pub mod Identities
+pub mod Taking
+pub mod Viewing

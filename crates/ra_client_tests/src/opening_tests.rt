@@ -1,0 +1,143 @@
+//! Openings, and those that are refused.
+
+use crate::sessions::{BROKEN, Line, OPENED, SAID, SINGLE, URL, WHOLE, number_of, open};
+use byte_streams::Output;
+use ra_client::ClientFault;
+use ra_edit::edit_fault::EditFault;
+use std::alloc::Global;
+use std::rt::HostRuntime;
+
+const IDENTITY: &str = "6a1f0c3e-0000-4000-8000-000000000001";
+
+// Whether an opening ends well: the identity and the URL are those of the server, and the client says this.
+fn opens(alloc: Global, bytes: &[u8], line: &Line, said: &[u8]) -> bool {
+    let Ok(port) = open(alloc, bytes, line) else {
+        return false;
+    };
+    let mut buffer = [0u8; 36];
+    let is_known = port.identity().hyphenated().encode_lower(&mut buffer) == IDENTITY
+        && port.root_url() == URL;
+    let output = port.into_output();
+    is_known && output.bytes() == said && output.handed_on() == said.len()
+}
+
+#[test]
+fn it_is_done_however_it_comes(rt: HostRuntime) {
+    assert!(rt; opens(rt.alloc(), OPENED, &WHOLE, SAID));
+    assert!(rt; opens(rt.alloc(), OPENED, &SINGLE, SAID));
+}
+
+// No way to say who one is, an old version beside the one that is spoken, an identity in capitals, and more behind
+// each prototype.
+const OTHER: &[u8] =
+    b"( success ( 1 3 ( EXTERNAL ) ( ) 9 ) x )\n( success ( ( ) 0: ) ) ( success ( 36:6A1F0C3E-0000-4000-8000-000000000001 21:svn://127.0.0.1:3690/ ( mergeinfo ) ( ) ) ) ";
+
+const HELLO: &[u8] = b"( 2 ( edit-pipeline ) 21:svn://127.0.0.1:3690/ ) ";
+
+#[test]
+fn nothing_is_said_where_nothing_is_asked(rt: HostRuntime) {
+    assert!(rt; opens(rt.alloc(), OTHER, &WHOLE, HELLO));
+    assert!(rt; opens(rt.alloc(), OTHER, &SINGLE, HELLO));
+}
+
+const CRAM: &[u8] =
+    b"( success ( 2 2 ( ) ( ) ) ) ( success ( ( CRAM-MD5 EXTERNAL ) 1:r ) ) ( success ( ) ) ";
+
+const SEVERAL: &[u8] =
+    b"( success ( 2 2 ( ) ( ) ) ) ( success ( ( CRAM-MD5 ANONYMOUS ) 1:r ) ) ( failure ( ) ) ";
+
+const NO_IDENTITY: &[u8] =
+    b"( success ( 2 2 ( ) ( ) ) ) ( success ( ( ) 0: ) ) ( success ( 32:6a1f0c3e000040008000000000000001 1:u ( ) ) ) ";
+
+const NO_LISTS: &[u8] =
+    b"( success ( 2 2 ( ) ( ) ) ) ( success ( ( ) 0: ) ) ( success ( 36:6a1f0c3e-0000-4000-8000-000000000001 1:u ) ) ";
+
+// What an opening is refused for.
+fn refusal(alloc: Global, bytes: &[u8]) -> Option<ClientFault> {
+    let whole = open(alloc, bytes, &WHOLE).err();
+    let single = open(alloc, bytes, &SINGLE).err();
+    if whole == single { whole } else { None }
+}
+
+fn is_bad(alloc: Global, bytes: &[u8]) -> bool {
+    refusal(alloc, bytes) == Some(ClientFault::BadAnswer)
+}
+
+fn is_refused(alloc: Global, bytes: &[u8]) -> bool {
+    refusal(alloc, bytes) == Some(ClientFault::Refused)
+}
+
+fn is_fault(alloc: Global, bytes: &[u8], fault: EditFault) -> bool {
+    refusal(alloc, bytes) == Some(ClientFault::Edit(fault))
+}
+
+#[test]
+fn another_version_is_refused(rt: HostRuntime) {
+    assert!(rt; is_bad(rt.alloc(), b"( success ( 1 1 ( ) ( ) ) ) "));
+    assert!(rt; is_bad(rt.alloc(), b"( success ( 3 4 ( ) ( ) ) ) "));
+}
+
+#[test]
+fn another_form_is_refused(rt: HostRuntime) {
+    assert!(rt; is_bad(rt.alloc(), b"( success ( 2 2 ( ) ) ) "));
+    assert!(rt; is_bad(rt.alloc(), b"( welcome ( 2 2 ( ) ( ) ) ) "));
+    assert!(rt; is_bad(rt.alloc(), b"( success 2 2 ( ) ( ) ) "));
+    assert!(rt; is_bad(rt.alloc(), b"220 "));
+    assert!(rt; is_bad(rt.alloc(), CRAM));
+    assert!(rt; is_bad(rt.alloc(), NO_IDENTITY));
+    assert!(rt; is_bad(rt.alloc(), NO_LISTS));
+}
+
+#[test]
+fn a_failure_is_told(rt: HostRuntime) {
+    assert!(rt; is_refused(rt.alloc(), b"( failure ( ( 48 3:bad 0: 0 ) ) ) "));
+    assert!(rt; is_refused(rt.alloc(), b"( failure ( 14:only ANONYMOUS ) ) "));
+    assert!(rt; is_refused(rt.alloc(), SEVERAL));
+}
+
+#[test]
+fn a_fault_of_items_is_told(rt: HostRuntime) {
+    assert!(rt; is_fault(rt.alloc(), b"( success ( 2 ", EditFault::Truncated));
+    assert!(rt; is_fault(rt.alloc(), b"HTTP/1.1 200 OK\r\n", EditFault::BadItem));
+    assert!(rt; is_bad(rt.alloc(), b""));
+    assert!(rt; is_bad(rt.alloc(), b"( success ( 2 2 ( ) ( ) ) ) "));
+}
+
+// The number of what an opening is refused for behind so many of its bytes, where the reader fails then or ends.
+fn cut(alloc: Global, end: usize, line: &Line) -> u8 {
+    number_of(open(alloc, OPENED.get(..end).unwrap_or(b""), line))
+}
+
+// Whether a reader that fails is told at each byte, and one that ends is no opening.
+fn all_cut(alloc: Global) -> bool {
+    for end in 0..OPENED.len() {
+        let ended = cut(alloc, end, &WHOLE);
+        if cut(alloc, end, &BROKEN) != 49 || (ended != 7 && ended != 60) {
+            return false;
+        }
+    }
+    cut(alloc, OPENED.len(), &BROKEN) == 0
+}
+
+#[test]
+fn a_reader_that_fails_is_told(rt: HostRuntime) {
+    assert!(rt; all_cut(rt.alloc()));
+}
+
+// What an opening is refused for whose writer fails behind so many writes.
+fn unwritten(alloc: Global, passing: u64) -> u8 {
+    let line = Line {
+        size: 4_096,
+        breaks: false,
+        passing,
+    };
+    number_of(open(alloc, OPENED, &line))
+}
+
+#[test]
+fn a_writer_that_fails_is_told(rt: HostRuntime) {
+    for passing in 0..4u64 {
+        assert!(rt; unwritten(rt.alloc(), passing) == 49);
+    }
+    assert!(rt; unwritten(rt.alloc(), 100) == 0);
+}

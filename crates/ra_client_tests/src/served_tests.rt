@@ -1,0 +1,110 @@
+//! What a server writes, taken by a client.
+
+use crate::answer_tests::fetched;
+use crate::sessions::{Line, Port, SAID, SINGLE, URL, WHOLE, is_said, number_of, open};
+use crate::sets::{first, makes_next, second};
+use byte_streams::CountedReader;
+use node_base::{PropName, PropValue, Props, RevNo};
+use path_tree::Tree;
+use ra_client::ClientFault;
+use ra_item::stream::ItemStream;
+use ra_serve::{HeldRepo, serve};
+use repo_core::Repo;
+use std::alloc::Global;
+use std::io;
+use std::io::Read;
+use std::process::Abort;
+use std::rt::HostRuntime;
+use std::test::Fail;
+use uuid::Uuid;
+
+const IDENTITY: &str = "6a1f0c3e-0000-4000-8000-000000000001";
+
+// All that the client asks: the newest revision, each of them, one that isn't there, and properties.
+const ASKED: &[u8] =
+    b"( get-latest-rev ( ) ) ( replay-range ( 0 0 0 true ) ) ( replay-range ( 1 1 0 true ) ) ( replay-range ( 2 2 0 true ) ) ( rev-proplist ( 9 ) ) ( rev-proplist ( 2 ) ) ";
+
+// A log.
+fn log(rt: &impl Abort, alloc: Global) -> Result<Props, Fail> {
+    let mut props = Props::empty();
+    let value = PropValue::new(Vec::from_slice(alloc, b"hi")?).expect(rt, "a value");
+    props.set(alloc, PropName::parse(alloc, b"svn:log")?, value)?;
+    Ok(props)
+}
+
+/// A repository of two revisions.
+pub(crate) fn repo(rt: &impl Abort, alloc: Global) -> Result<Repo, Fail> {
+    let identity = Uuid::parse_str(IDENTITY).expect(rt, "an identity");
+    let mut repo = Repo::new(alloc, identity)?;
+    repo.commit(
+        alloc,
+        RevNo::new(0),
+        first(rt, alloc)?,
+        log(rt, alloc)?,
+        None,
+    )
+    .expect(rt, "a commit");
+    repo.commit(
+        alloc,
+        RevNo::new(1),
+        second(rt, alloc)?,
+        log(rt, alloc)?,
+        None,
+    )
+    .expect(rt, "a commit");
+    Ok(repo)
+}
+
+/// What a server of it writes in a session in which this is asked.
+pub(crate) fn served(rt: &impl Abort, alloc: Global, asked: &[u8]) -> Result<Vec<u8>, Fail> {
+    let mut port = HeldRepo::new(alloc, repo(rt, alloc)?, false);
+    let mut all = Vec::from_slice(alloc, SAID)?;
+    all.extend_from_slice(asked)?;
+    let mut items = ItemStream::new(alloc, CountedReader::new(all.as_slice()));
+    let (out, _) = serve(alloc, &mut port, URL, &mut items, Vec::new(alloc)).expect(
+        rt,
+        "a session",
+    );
+    Ok(out)
+}
+
+// Whether a revision makes its tree.
+fn makes(alloc: Global, port: &mut Port<'_>, trees: &[Tree], number: u16, props: usize) -> bool {
+    match fetched(port, trees, number) {
+        Some((set, found)) => {
+            found.len() == props && makes_next(alloc, trees, usize::from(number), &set)
+        }
+        None => false,
+    }
+}
+
+// Whether a client that is told so asks for all of it and is answered.
+fn is_told(alloc: Global, trees: &[Tree], bytes: &[u8], line: &Line) -> bool {
+    let Ok(mut port) = open(alloc, bytes, line) else {
+        return false;
+    };
+    newest(&mut port) == Some(2)
+        && makes(alloc, &mut port, trees, 0, 0)
+        && makes(alloc, &mut port, trees, 1, 1)
+        && makes(alloc, &mut port, trees, 2, 1)
+        && port.fetch_props(RevNo::new(9)).err() == Some(ClientFault::Refused)
+        && number_of(port.fetch_props(RevNo::new(2))) == 0
+        && is_said(port.into_output().bytes(), ASKED)
+}
+
+fn newest(port: &mut Port<'_>) -> Option<u16> {
+    match port.latest() {
+        Ok(number) => Some(number.get()),
+        Err(_) => None,
+    }
+}
+
+#[test]
+fn a_client_takes_what_is_served(rt: HostRuntime) -> Result<(), Fail> {
+    let alloc = rt.alloc();
+    let held = repo(&rt, alloc)?;
+    let bytes = served(&rt, alloc, ASKED)?;
+    assert!(rt; is_told(alloc, held.trees(), bytes.as_slice(), &WHOLE));
+    assert!(rt; is_told(alloc, held.trees(), bytes.as_slice(), &SINGLE));
+    Ok(())
+}

@@ -1,0 +1,19 @@
+use Rattle.std.proofs.Common.{◌≡◌, ◌∙◌, refl, sym, ap, subst}
+use Rattle.std.specs.Prelude.{None, Some}
+use Rattle.std.specs.Io.KnownBytes.{Appends}
+use Rattle.ra_item.specs.Items.{spell}
+use Rattle.ra_wire.specs.Commands.{RevProplist}
+use Rattle.ra_wire.specs.Replies.{proplist}
+use Rattle.ra_serve.specs.Ports.{no_revision}
+use Rattle.ra_serve.proofs.Exits.{replied, tells_refusal}
+use Rattle.ra_serve.proofs.answer.proplist.Goals as goal
+
+pub returns-in-Err-clause-told : goal.returns-in-Err-clause-told
+returns-in-Err-clause-told g c =
+    tells_refusal g.P.RepoPort.repository g.P.RepoPort.refusals g.P.RepoPort.is_mirror g.W.Write.contents (RevProplist c.args.number) c.args.port.now c.props_asked.new.port c.args.out c.refuse.result c.in-Err.fault (λ x. no_revision x c.args.number) c.refuse.ensures c.in-Err.ensures.refused (λ x e d. d) c.props_asked.ensures.stays.repository
+
+pub returns-in_ok-write_proplist-in-Ok-clause-told : goal.returns-in_ok-write_proplist-in-Ok-clause-told
+returns-in_ok-write_proplist-in-Ok-clause-told g c = λ x e.
+    replied (g.P.RepoPort.is_mirror c.args.port.now) x (RevProplist c.args.number) _ _ _ _ None (c.in-Ok.ensures.there x e)
+    (subst (λ m. Appends (g.W.Write.contents c.args.out) (g.W.Write.contents c.write_proplist.new.out) (spell (proplist m))) (c.in-Ok.ensures.props x e) c.in_ok-write_proplist-in-Ok.ensures)
+    (c.props_asked.ensures.stays.repository ∙ e)

@@ -1,0 +1,6 @@
+pub mod Held
+pub mod Ports
+pub mod Answers
+pub mod Tellings
+pub mod Sessions
+pub mod Serving

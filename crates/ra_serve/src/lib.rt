@@ -1,0 +1,26 @@
+//! A repository served over the ra_svn protocol.
+//!
+//! [`serve`] answers one session from any [`RepoPort`]; [`HeldRepo`] and [`HeldStore`] are the ports over a repository
+//! in memory and one on a disk. What is written goes out command by command, and a replay revision by revision: no
+//! answer is composed whole but that of `get-dir`, which may be refused by its length.
+//!
+//! `specs/Answers` has what each command is refused and told, and `specs/Sessions` what a whole session is; the clause
+//! `served` of [`serve`] is on these.
+#![tactic(auto)]
+
+pub use fault::{End, PortFault, ServeFault};
+pub use held_repo::HeldRepo;
+pub use held_store::HeldStore;
+pub use port::{Replay, RepoPort};
+pub use session::serve;
+
+mod answer;
+mod ask;
+mod browse;
+mod fault;
+mod held_repo;
+mod held_store;
+mod port;
+mod replay;
+mod session;
+mod told;

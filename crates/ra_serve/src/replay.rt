@@ -1,0 +1,129 @@
+//! Revisions as their edits.
+
+ghost use Rattle.std.specs.Prelude.{◌≡◌, ◌<◌, ◌≤◌, ◌++◌, length, Some, None, IfOk};
+ghost use Rattle.std.specs.Io.KnownBytes.{Appends};
+ghost use Rattle.editor_ends.specs.Drive.{drive};
+ghost use Rattle.ra_item.specs.Items.{spell};
+ghost use Rattle.ra_edit.specs.Commands.{edit_bytes};
+ghost use Rattle.ra_wire.specs.Replies.{done, revprops};
+ghost use Rattle.ra_wire.specs.Commands.{Replay as ReplayOf, ReplayRange};
+ghost use Rattle.repo_core.specs.Repository.{Repository};
+ghost use Rattle.ra_serve.specs.Ports.{no_revision};
+ghost use Rattle.ra_serve.specs.Tellings.{Tells, GoesOn};
+
+use crate::ask::{newest, revision};
+use crate::fault::{PortFault, ServeFault};
+use crate::port::{Replay, RepoPort};
+use crate::told::refuse;
+use delta_editor::EditorFault;
+use edit_road::send::send_set;
+use node_base::RevNo;
+use ra_wire::reply_writer::{write_done, write_revprops};
+use std::alloc::Global;
+use std::io::Write;
+
+/// Writes the edit of a revision.
+fn write_edit<W: Write + Drop>(alloc: Global, replay: &Replay, out: W) -> Result<W, ServeFault>
+    requires few { length replay.now.trees.items ≤ 65535 }
+    ensures { IfOk result (λ w. Appends (W.contents out) (W.contents w)
+        (edit_bytes (drive replay.now.trees.items replay.now.set))) }
+{
+    match send_set(alloc, replay.trees.as_slice(), &replay.set, out) {
+        Ok(out) => Ok(out),
+        Err(EditorFault::PeerFailed) => Err(ServeFault::WriteFailed),
+        Err(_) => Err(ServeFault::OutOfMemory),
+    }
+}
+
+/// Writes the properties of a revision, and its edit.
+fn write_revision<W: Write + Drop>(alloc: Global, replay: &Replay, out: W) -> Result<W, ServeFault>
+    requires few { length replay.now.trees.items ≤ 65535 }
+    ensures { IfOk result (λ w. Appends (W.contents out) (W.contents w)
+        (spell (revprops replay.now.props) ++ edit_bytes (drive replay.now.trees.items replay.now.set))) }
+{
+    let mut out = out;
+    write_revprops(&mut out, &replay.props)?;
+    write_edit(alloc, replay, out)
+}
+
+// Says that all is sent.
+fn done<W: Write + Drop>(out: W) -> Result<W, ServeFault>
+    ensures { IfOk result (λ w. Appends (W.contents out) (W.contents w) (spell done)) }
+{
+    let mut out = out;
+    write_done(&mut out)?;
+    Ok(out)
+}
+
+/// Answers `replay`.
+pub fn replay<P: RepoPort, W: Write + Drop>(
+    alloc: Global,
+    port: &mut P,
+    number: u64,
+    out: W,
+) -> Result<W, ServeFault>
+    ensures told { IfOk result
+        (Tells P.repository P.refusals P.is_mirror W.contents (ReplayOf number) port.old port.new out) }
+    ensures goes { GoesOn P.refusals P.is_mirror port.old port.new }
+{
+    let number = match revision(port, number) {
+        Ok(number) => number,
+        Err(fault) => return refuse(fault, out),
+    };
+    match port.replay_of(number) {
+        Ok(replay) => {
+            let out = write_edit(alloc, &replay, out)?;
+            done(out)
+        }
+        Err(fault) => refuse(fault, out),
+    }
+}
+
+/// Answers `replay-range`, revision by revision.
+pub fn range<P: RepoPort, W: Write + Drop>(
+    alloc: Global,
+    port: &mut P,
+    first: u64,
+    last: u64,
+    out: W,
+) -> Result<W, ServeFault>
+    ensures told { IfOk result
+        (Tells P.repository P.refusals P.is_mirror W.contents (ReplayRange first last) port.old port.new out) }
+    ensures goes { GoesOn P.refusals P.is_mirror port.old port.new }
+{
+    let head = match newest(port) {
+        Ok(head) => head,
+        Err(fault) => return refuse(fault, out),
+    };
+    if first > head {
+        return refuse(PortFault::NoSuchRevision, out);
+    }
+    if last > head {
+        return refuse(PortFault::NoSuchRevision, out);
+    }
+    revisions(alloc, port, first as u16, last as u16, out)
+}
+
+// The revisions of a range that is there.
+fn revisions<P: RepoPort, W: Write + Drop>(
+    alloc: Global,
+    port: &mut P,
+    first: u16,
+    last: u16,
+    out: W,
+) -> Result<W, ServeFault>
+    requires there { (x : Repository) → P.repository port.old ≡ Some x
+        → (first < length x.revisions) × (last < length x.revisions) }
+    ensures told { IfOk result
+        (Tells P.repository P.refusals P.is_mirror W.contents (ReplayRange first last) port.old port.new out) }
+    ensures goes { GoesOn P.refusals P.is_mirror port.old port.new }
+{
+    let mut sent = out;
+    for number in u32::from(first)..u32::from(last) + 1 {
+        match port.replay_of(RevNo::new(number as u16)) {
+            Ok(replay) => sent = write_revision(alloc, &replay, sent)?,
+            Err(fault) => return refuse(fault, sent),
+        }
+    }
+    done(sent)
+}

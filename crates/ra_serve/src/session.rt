@@ -1,0 +1,272 @@
+//! A session from its greeting to its end.
+
+ghost use Rattle.std.specs.Prelude.{◌≡◌, ◌≤◌, ◌++◌, is_some, IfOk, IfErr, OnOk};
+ghost use Rattle.std.specs.Option.{option_map};
+ghost use Rattle.ra_wire.specs.Openings.{hello_in, login_in, login_as};
+ghost use Rattle.ra_serve.specs.Sessions.{is_anonymous};
+ghost use Rattle.std.specs.Io.KnownBytes.{Appends, Keeps};
+ghost use Rattle.byte_streams.specs.Causes.{Fails};
+ghost use Rattle.ra_item.specs.ItemStreams.{meanwhile, reader_of};
+ghost use Rattle.ra_item.specs.Items.{spell};
+ghost use Rattle.ra_wire.specs.Reading.{command_in};
+ghost use Rattle.ra_wire.specs.Replies.{done, greeting, mechanisms, only_anonymous, welcome};
+ghost use Rattle.uuid.specs.Text.{hyphenated_text, lower};
+ghost use Rattle.node_base.specs.declared.refusal.Refusal.TheVariants as refusal;
+ghost use Rattle.ra_serve.specs.Answers.{refused};
+ghost use Rattle.ra_serve.specs.Serving.{ServesSession, ServesLogin, ServesCommands};
+ghost use Rattle.ra_serve.specs.Tellings.{Replies, GoesOn};
+ghost use Rattle.ra_item.specs.declared.fault.NextFault.TheVariants as next;
+ghost use Rattle.ra_serve.specs.Serving.{EndsBy};
+
+use crate::answer::answer;
+use crate::fault::{End, ServeFault};
+use crate::port::RepoPort;
+use byte_streams::Input;
+use ra_item::fault::{ItemFault, NextFault};
+use ra_item::item::Item;
+use ra_item::stream::ItemStream;
+use ra_wire::fault::WireFault;
+use ra_wire::opening::{Hello, Login};
+use ra_wire::reply_writer::{
+    write_done, write_failure, write_greeting, write_mechanisms, write_only_anonymous,
+    write_welcome,
+};
+use std::alloc::Global;
+use std::io;
+use std::io::Write;
+use uuid::Uuid;
+
+/// Serves one session: the opening, then the answer to each command that the client sends. It ends where the input ends
+/// between items, where the opening ends it, and at a fault of items, and hands the writer back.
+///
+/// What it wrote is the answers to the items that it took, whatever the pieces in which they came: `ReadFailed` (49)
+/// only where the input's count of failures rose, or it was read 2^40 - 1 times, `WriteFailed` (49), or `OutOfMemory`
+/// (70) for a growth of its own.
+pub fn serve<P: RepoPort, I: Input + Drop, W: Write + Drop>(
+    alloc: Global,
+    port: &mut P,
+    root_url: &[u8],
+    items: &mut ItemStream<I>,
+    out: W,
+) -> Result<(W, End), ServeFault>
+    ensures served { IfOk result (λ r. ServesSession P.repository P.refusals P.is_mirror I.remaining W.contents
+        root_url.now port.old port.new items.old items.new out r.0 r.1) }
+    ensures reader { IfErr result (λ f. f ≡ ServeFault.ReadFailed
+        → Fails (meanwhile I.failures I.reads items.old items.new)) }
+    ensures failures { I.failures (reader_of items.old) ≤ I.failures (reader_of items.new) }
+{
+    let out = greet(out)?;
+    let item = match items.next() {
+        Ok(Some(item)) => item,
+        Ok(None) => return Ok((out, End::Input)),
+        Err(fault) => return ended(fault, out),
+    };
+    if says_hello(alloc, item)? {
+        return log_in(alloc, port, root_url, items, out);
+    }
+    let refused = bad_opening(out)?;
+    Ok((refused, End::Opening))
+}
+
+// Whether an item is the greeting of a client of version 2.
+fn says_hello(alloc: Global, item: Item) -> Result<bool, ServeFault>
+    ensures told { IfOk result (λ b. b ≡ is_some (hello_in item)) }
+    ensures reader { IfErr result (λ f. f ≡ ServeFault.ReadFailed → ⊥) }
+{
+    match Hello::parse(alloc, item) {
+        Ok(_) => Ok(true),
+        Err(WireFault::BadShape) => Ok(false),
+        Err(_) => Err(ServeFault::OutOfMemory),
+    }
+}
+
+// The greeting, which the client awaits.
+fn greet<W: Write + Drop>(out: W) -> Result<W, ServeFault>
+    ensures sent { IfOk result (λ w. Appends (W.contents out) (W.contents w) (spell greeting)) }
+    ensures writer { IfErr result (λ f. f ≡ ServeFault.ReadFailed → ⊥) }
+{
+    let mut out = out;
+    write_greeting(&mut out)?;
+    flushed(out)
+}
+
+// What is kept back goes out.
+fn flushed<W: Write + Drop>(out: W) -> Result<W, ServeFault>
+    ensures kept { IfOk result (λ w. Keeps (W.contents out) (W.contents w)) }
+    ensures writer { IfErr result (λ f. f ≡ ServeFault.ReadFailed → ⊥) }
+{
+    let mut out = out;
+    out.flush()?;
+    Ok(out)
+}
+
+// A refusal of the stream.
+fn ended<W: Write + Drop>(fault: NextFault, out: W) -> Result<(W, End), ServeFault>
+    ensures told { IfOk result (λ r. (r.0 ≡ out) × EndsBy fault r.1) }
+    ensures reader { IfErr result (λ f. f ≡ ServeFault.ReadFailed → fault ≡ next.PeerFailed) }
+{
+    match fault {
+        NextFault::PeerFailed => Err(ServeFault::ReadFailed),
+        NextFault::Items(ItemFault::OutOfMemory) => Err(ServeFault::OutOfMemory),
+        NextFault::Items(fault) => Ok((out, End::Items(fault))),
+    }
+}
+
+// Who the client is, and then its commands.
+fn log_in<P: RepoPort, I: Input + Drop, W: Write + Drop>(
+    alloc: Global,
+    port: &mut P,
+    root_url: &[u8],
+    items: &mut ItemStream<I>,
+    out: W,
+) -> Result<(W, End), ServeFault>
+    ensures served { IfOk result (λ r. ServesLogin P.repository P.refusals P.is_mirror I.remaining W.contents
+        root_url.now port.old port.new items.old items.new out r.0 r.1) }
+    ensures reader { IfErr result (λ f. f ≡ ServeFault.ReadFailed
+        → Fails (meanwhile I.failures I.reads items.old items.new)) }
+    ensures failures { I.failures (reader_of items.old) ≤ I.failures (reader_of items.new) }
+{
+    let identity = port.identity();
+    let out = ask_who(&identity, out)?;
+    let item = match items.next() {
+        Ok(Some(item)) => item,
+        Ok(None) => return Ok((out, End::Input)),
+        Err(fault) => return ended(fault, out),
+    };
+    match logs_in(item)? {
+        Some(true) => {
+            let out = welcome(&identity, root_url, out)?;
+            commands(alloc, port, items, out)
+        }
+        Some(false) => {
+            let out = only_anonymous(out)?;
+            Ok((out, End::Opening))
+        }
+        None => {
+            let out = bad_opening(out)?;
+            Ok((out, End::Opening))
+        }
+    }
+}
+
+// Whether a client says in the one way that is taken who it is; none for an item of another shape.
+fn logs_in(item: Item) -> Result<Option<bool>, ServeFault>
+    ensures told { IfOk result (λ o. o ≡ option_map is_anonymous (login_in item)) }
+    ensures reader { IfErr result (λ f. f ≡ ServeFault.ReadFailed → ⊥) }
+{
+    match Login::parse(item) {
+        Ok(login) => Ok(Some(is_anonymous(&login))),
+        Err(WireFault::BadShape) => Ok(None),
+        Err(_) => Err(ServeFault::OutOfMemory),
+    }
+}
+
+fn is_anonymous(login: &Login) -> bool
+    ensures { result ≡ is_anonymous (login_as login.now) }
+{
+    login.mechanism.as_slice() == b"ANONYMOUS".as_slice()
+}
+
+// Asks the client who it is.
+fn ask_who<W: Write + Drop>(identity: &Uuid, out: W) -> Result<W, ServeFault>
+    ensures sent { IfOk result (λ w. Appends (W.contents out) (W.contents w)
+        (spell (mechanisms (hyphenated_text lower identity.now)))) }
+    ensures writer { IfErr result (λ f. f ≡ ServeFault.ReadFailed → ⊥) }
+{
+    let mut out = out;
+    write_realm(&mut out, identity)?;
+    flushed(out)
+}
+
+fn write_realm<W: Write>(out: &mut W, identity: &Uuid) -> io::Result<()>
+    ensures { OnOk result (Appends (W.contents out.old) (W.contents out.new)
+        (spell (mechanisms (hyphenated_text lower identity.now)))) }
+{
+    let mut buffer = Uuid::encode_buffer();
+    let realm = identity.hyphenated().encode_lower(&mut buffer);
+    write_mechanisms(out, realm.as_bytes())
+}
+
+// The end of an opening.
+fn welcome<W: Write + Drop>(identity: &Uuid, root_url: &[u8], out: W) -> Result<W, ServeFault>
+    ensures sent { IfOk result (λ w. Appends (W.contents out) (W.contents w)
+        (spell done ++ spell (welcome (hyphenated_text lower identity.now) root_url.now))) }
+    ensures writer { IfErr result (λ f. f ≡ ServeFault.ReadFailed → ⊥) }
+{
+    let mut out = out;
+    write_done(&mut out)?;
+    write_identity(&mut out, identity, root_url)?;
+    flushed(out)
+}
+
+fn write_identity<W: Write>(out: &mut W, identity: &Uuid, root_url: &[u8]) -> io::Result<()>
+    ensures { OnOk result (Appends (W.contents out.old) (W.contents out.new)
+        (spell (welcome (hyphenated_text lower identity.now) root_url.now))) }
+{
+    let mut buffer = Uuid::encode_buffer();
+    let text = identity.hyphenated().encode_lower(&mut buffer);
+    write_welcome(out, text.as_bytes(), root_url)
+}
+
+// The client says in another way who it is.
+fn only_anonymous<W: Write + Drop>(out: W) -> Result<W, ServeFault>
+    ensures sent { IfOk result (λ w. Appends (W.contents out) (W.contents w) (spell only_anonymous)) }
+    ensures writer { IfErr result (λ f. f ≡ ServeFault.ReadFailed → ⊥) }
+{
+    let mut out = out;
+    write_only_anonymous(&mut out)?;
+    flushed(out)
+}
+
+// The client's item is another one.
+fn bad_opening<W: Write + Drop>(out: W) -> Result<W, ServeFault>
+    ensures sent { IfOk result (λ w. Appends (W.contents out) (W.contents w) (refused refusal.BadShape)) }
+    ensures writer { IfErr result (λ f. f ≡ ServeFault.ReadFailed → ⊥) }
+{
+    let mut out = out;
+    write_failure(&mut out, 48, b"bad command shape")?;
+    flushed(out)
+}
+
+// The commands of a session up to its end.
+fn commands<P: RepoPort, I: Input + Drop, W: Write + Drop>(
+    alloc: Global,
+    port: &mut P,
+    items: &mut ItemStream<I>,
+    out: W,
+) -> Result<(W, End), ServeFault>
+    ensures served { IfOk result (λ r. ServesCommands P.repository P.refusals P.is_mirror I.remaining W.contents
+        port.old port.new items.old items.new out r.0 r.1) }
+    ensures reader { IfErr result (λ f. f ≡ ServeFault.ReadFailed
+        → Fails (meanwhile I.failures I.reads items.old items.new)) }
+    ensures failures { I.failures (reader_of items.old) ≤ I.failures (reader_of items.new) }
+{
+    let mut sent = out;
+    for _ in 0..u64::MAX {
+        match items.next() {
+            Ok(Some(item)) => sent = turn(alloc, port, item, sent)?,
+            Ok(None) => return Ok((sent, End::Input)),
+            Err(fault) => return ended(fault, sent),
+        }
+    }
+    Err(ServeFault::OutOfMemory)
+}
+
+// Answers an item, and lets the answer go out.
+fn turn<P: RepoPort, W: Write + Drop>(
+    alloc: Global,
+    port: &mut P,
+    item: Item,
+    out: W,
+) -> Result<W, ServeFault>
+    ensures told { IfOk result
+        (Replies P.repository P.refusals P.is_mirror W.contents (command_in item) port.old port.new out) }
+    ensures goes { GoesOn P.refusals P.is_mirror port.old port.new }
+    ensures writer { IfErr result (λ f. f ≡ ServeFault.ReadFailed → ⊥) }
+{
+    match answer(alloc, port, item, out) {
+        Ok(out) => flushed(out),
+        Err(ServeFault::OutOfMemory) => Err(ServeFault::OutOfMemory),
+        Err(_) => Err(ServeFault::WriteFailed),
+    }
+}

@@ -1,0 +1,176 @@
+//! Readers and writers that fail, and answers that go out before more is awaited.
+
+use crate::made::{copy_port, file_port};
+use crate::replay_tests::{BARE, COPIED};
+use crate::sessions::{
+    AUTHORISED, CLIENT, DONE, Ended, GREETING, MECHANISMS, URL, WELCOME, asking, has_told, run,
+};
+use crate::streams_for_tests::{Held, items_from};
+use ra_item::fault::{ItemFault, NextFault};
+use ra_serve::{RepoPort, ServeFault, serve};
+use std::alloc::Global;
+use std::process::Abort;
+use std::rt::HostRuntime;
+
+// A client that asks for a copy's replay, and all that it is told.
+const ASKED: &[u8] = b"( replay-range ( 2 2 0 true ) ) ";
+
+const TOLD: [&[u8]; 7] = [
+    GREETING, MECHANISMS, WELCOME, AUTHORISED, BARE, COPIED, DONE,
+];
+
+// Whether bytes are a beginning of these parts.
+fn begin(bytes: &[u8], parts: &[&[u8]]) -> bool {
+    let mut rest = bytes;
+    for part in parts {
+        match rest.strip_prefix(*part) {
+            Some(behind) => rest = behind,
+            None => return part.starts_with(rest),
+        }
+    }
+    rest.is_empty()
+}
+
+// Whether a session was refused so, with a beginning of the answers.
+fn has_begun(ended: &Ended, fault: ServeFault) -> bool {
+    match &ended.out {
+        Some(out) => ended.end == Err(fault) && begin(out.bytes(), &TOLD),
+        None => false,
+    }
+}
+
+// How many reads, one byte each, have to pass for all to be told; none where fewer don't lead to 49 and a beginning.
+fn reads_wanted(rt: &impl Abort, alloc: Global, sent: &[u8]) -> Option<u64> {
+    let mut port = copy_port(rt, alloc);
+    for passing in 0..1_000 {
+        let ended = run(alloc, &mut port, sent, 1, passing, u64::MAX);
+        if ended.end.is_ok() {
+            return has_told(&ended, ended.end, &TOLD).then_some(passing);
+        }
+        if !has_begun(&ended, ServeFault::ReadFailed) {
+            return None;
+        }
+    }
+    None
+}
+
+#[test]
+fn a_reader_that_fails_is_told(rt: HostRuntime) {
+    let sent = asking(&rt, rt.alloc(), ASKED);
+    let reads = sent.len() as u64;
+    // the last read finds the end
+    assert!(rt; reads_wanted(&rt, rt.alloc(), &sent) == reads.checked_add(1));
+}
+
+// How many writes have to pass for all to be told; none where fewer don't lead to 49 and a beginning.
+fn writes_wanted(rt: &impl Abort, alloc: Global, sent: &[u8]) -> Option<u64> {
+    let mut port = copy_port(rt, alloc);
+    for passing in 0..1_000 {
+        let ended = run(alloc, &mut port, sent, sent.len(), u64::MAX, passing);
+        if ended.end.is_ok() {
+            return has_told(&ended, ended.end, &TOLD).then_some(passing);
+        }
+        if !has_begun(&ended, ServeFault::WriteFailed) {
+            return None;
+        }
+    }
+    None
+}
+
+#[test]
+fn a_writer_that_fails_is_told(rt: HostRuntime) {
+    let sent = asking(&rt, rt.alloc(), ASKED);
+    // each of the 14 items that are told takes a write or more
+    assert!(rt; writes_wanted(&rt, rt.alloc(), &sent).is_some_and(|writes| writes > 13));
+}
+
+// How a session ends whose writer doesn't hand on, and what it wrote.
+fn closed(rt: &impl Abort, alloc: Global, bytes: &mut Vec<u8>) -> Option<ServeFault> {
+    let mut port = file_port(rt, alloc, false);
+    let mut items = items_from(alloc, CLIENT, CLIENT.len(), u64::MAX);
+    let out = Held {
+        bytes,
+        closed: true,
+    };
+    serve(alloc, &mut port, URL, &mut items, out).err()
+}
+
+#[test]
+fn a_writer_that_does_not_hand_on_is_told(rt: HostRuntime) {
+    let mut bytes = Vec::new(rt.alloc());
+    assert!(rt; closed(&rt, rt.alloc(), &mut bytes) == Some(ServeFault::WriteFailed));
+    assert!(rt; bytes.as_slice() == GREETING);
+}
+
+// What a client sends item by item, and what it is to have been told when the next one is awaited.
+const ITEMS: [&[u8]; 5] = [
+    b"( 2 ( ) 0: ) ",
+    b"( ANONYMOUS ( ) ) ",
+    b"( get-latest-rev ( ) ) ",
+    b"( frob ( ) ) ",
+    b"( rev-prop ( 1 1:p ) ) ",
+];
+
+const STEPS: [&[u8]; 6] = [
+    GREETING,
+    MECHANISMS,
+    WELCOME,
+    b"( success ( ( ) 0: ) ) ( success ( 1 ) ) ",
+    b"( failure ( ( 47 15:unknown command 0: 0 ) ) ) ",
+    b"( success ( ( ) 0: ) ) ( success ( ( ) ) ) ",
+];
+
+// The first so many items, joined.
+fn items(rt: &impl Abort, alloc: Global, count: usize) -> Vec<u8> {
+    let mut sent = Vec::new(alloc);
+    for item in ITEMS.iter().take(count) {
+        sent.extend_from_slice(item).expect(rt, "memory");
+    }
+    sent
+}
+
+// Whether a session whose reader fails behind so many items had told what it is to tell by then, and handed it on.
+fn was_told<P: RepoPort>(alloc: Global, port: &mut P, sent: &[u8], count: usize) -> bool {
+    // one read has all of them, and the next one fails
+    let ended = run(alloc, port, sent, sent.len(), 1, u64::MAX);
+    match STEPS.get(..count.saturating_add(1)) {
+        Some(parts) => has_told(&ended, Err(ServeFault::ReadFailed), parts),
+        None => false,
+    }
+}
+
+// The first number of items behind which the answers weren't handed on when the next item was awaited.
+fn first_held_back(rt: &impl Abort, alloc: Global) -> Option<usize> {
+    let mut port = file_port(rt, alloc, false);
+    for count in 1..6 {
+        let sent = items(rt, alloc, count);
+        if !was_told(alloc, &mut port, &sent, count) {
+            return Some(count);
+        }
+    }
+    None
+}
+
+#[test]
+fn answers_go_out_before_more_is_awaited(rt: HostRuntime) {
+    assert!(rt; first_held_back(&rt, rt.alloc()).is_none());
+}
+
+// Whether a stream is over behind a session whose reader failed.
+fn is_over(rt: &impl Abort, alloc: Global) -> bool {
+    let mut port = file_port(rt, alloc, false);
+    let mut bytes = Vec::new(alloc);
+    let mut items = items_from(alloc, CLIENT, 7, 3);
+    let out = Held {
+        bytes: &mut bytes,
+        closed: false,
+    };
+    let fault = serve(alloc, &mut port, URL, &mut items, out).err();
+    fault == Some(ServeFault::ReadFailed)
+        && items.next().err() == Some(NextFault::Items(ItemFault::Failed))
+}
+
+#[test]
+fn a_stream_is_over_behind_its_failure(rt: HostRuntime) {
+    assert!(rt; is_over(&rt, rt.alloc()));
+}

@@ -1,0 +1,23 @@
+use Rattle.std.proofs.Common.{◌≡◌, ◌++◌, ℕ, suc, ◌-◌, None, refl, ap, sym, ◌∙◌, append_assoc, arith}
+use Rattle.std.proofs.lemmas.List.{append-nil}
+use Rattle.std.specs.List.{range_with_len}
+use Rattle.ra_item.specs.Items.{spell}
+use Rattle.repo_core.specs.Repository.{Repository, trees_of, head_of, props_at}
+use Rattle.ra_wire.specs.Commands.{LatestRev, RevProplist, ReplayRange}
+use Rattle.ra_wire.specs.Replies.{authorised, done, proplist, revprops}
+use Rattle.ra_serve.specs.Answers.{edits, edit_of, revision_bytes, unless_due}
+use Rattle.ra_serve.specs.Ports.{no_revision, set_of}
+use Rattle.session_road.proofs.law.server_tells_what_is_heard.Goals as goal
+
+-- one revision alone
+alone : (x : Repository) (n : ℕ) → edits x n (suc n - n) ≡ revision_bytes x n
+alone x n =
+    let one : suc n - n ≡ 1 = omega arith in
+    rw one (append-nil (revision_bytes x n))
+
+pub returns : goal.returns
+returns c = record {
+  number = λ mirror x. refl;
+  properties = λ mirror x n there. rw there refl;
+  revision = λ mirror x n there. rw (there, alone x n) (ap (λ z. spell authorised ++ z) (append_assoc (spell (revprops (props_at x.revisions n))) (edit_of x n) (spell done)));
+}

@@ -1,0 +1,4 @@
+pub mod Chained
+pub mod Changing
+pub mod Seen
+pub mod Showing

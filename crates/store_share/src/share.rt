@@ -1,0 +1,160 @@
+//! A store behind its lock, with its row beside it.
+ghost use Rattle.std.specs.Prelude.{◌≡◌, ◌≤◌, ◌<◌, ◌⊎◌, ℕ, Some, None, IfOk, IfErr, IfSome, IfNone, OnOk};
+ghost use Rattle.std.specs.Option.{option_map};
+ghost use Rattle.gate_log.specs.declared.fault.LogFault.TheVariants as log;
+ghost use Rattle.repo_core.specs.declared.fault.RepoFault.TheVariants as core;
+ghost use Rattle.repo_store.specs.declared.fault.StoreFault.TheVariants as fault;
+ghost use Rattle.rev_row.specs.declared.rev.Rev.{Rev as RevOf};
+ghost use Rattle.store_share.specs.Seats.{known_by, seen_by};
+
+use crate::book::MasterBook;
+use crate::name::RowName;
+use crate::seat::ReaderSeat;
+use dump_load::ChangeSet;
+use fleet_disk::Disk;
+use node_base::{PropName, Props, RevNo};
+use repo_core::{Expected, Moment};
+use repo_store::StoreFault;
+use rev_row::{Rev, RevRow};
+use std::alloc::{AllocError, Global};
+use std::sync::{Mutex, Wait};
+use uuid::Uuid;
+
+/// A repository on a disk that several threads share.
+#[derive(Drop)]
+pub struct MasterShare<L: RowName, D: Disk> {
+    book: Mutex<MasterBook<L, D>>,
+    row: RevRow,
+    ghost row_is: { row ≡ L.cells },
+}
+
+impl<L: RowName, D: Disk> MasterShare<L, D> {
+    /// A book behind a lock, and its row.
+    pub fn new(book: MasterBook<L, D>, row: RevRow) -> MasterShare<L, D>
+        requires { row ≡ L.cells }
+    {
+        MasterShare {
+            book: Mutex::new(book),
+            row,
+        }
+    }
+
+    /// The book.
+    pub fn close(self) -> MasterBook<L, D> {
+        let MasterShare { book, row: _ } = self;
+        book.into_inner()
+    }
+
+    /// The repository's identity.
+    pub fn identity<R: Wait>(&self, rt: &R) -> Uuid {
+        self.book.lock(rt).identity()
+    }
+
+    /// The seat of a reader, who has seen what is shown now. Only want of memory (70) refuses it.
+    pub fn enter_reader<R: Wait>(
+        &self,
+        rt: &R,
+        alloc: Global,
+    ) -> Result<ReaderSeat<L>, AllocError> {
+        let notes = self.row.notes(alloc)?;
+        Ok(self.book.lock(rt).seat_reader(notes))
+    }
+
+    /// The newest revision, which the reader has seen then. It never falls for a reader.
+    pub fn latest<R: Wait>(&self, rt: &R, reader: &mut ReaderSeat<L>) -> RevNo
+        ensures most { seen_by reader.old ≤ result }
+        ensures seen { seen_by reader.new ≡ result }
+        ensures kept { (r : ℕ) → r ≤ seen_by reader.old → known_by reader.new r ≡ known_by reader.old r }
+    {
+        self.book.lock(rt).latest(reader)
+    }
+
+    /// The revision of that number, where the reader has seen it or its cell shows it. It waits for nobody, and takes
+    /// no memory. What the reader has seen it reads for good.
+    pub fn read_at<'a>(&'a self, reader: &mut ReaderSeat<L>, number: RevNo) -> Option<&'a Rev>
+        ensures there { number ≤ seen_by reader.old → IfNone result ⊥ }
+        ensures value { (x : RevOf) → number ≤ seen_by reader.old → known_by reader.old number ≡ Some x
+            → IfSome result (λ r. r.now ≡ x) }
+        ensures number { IfSome result (λ r. (r.now.number ≡ number) × (known_by reader.new number ≡ Some r.now)) }
+        ensures seen { seen_by reader.new ≡ seen_by reader.old }
+        ensures kept { (r : ℕ) (x : RevOf) → known_by reader.old r ≡ Some x → known_by reader.new r ≡ Some x }
+    {
+        self.row.see(number, &mut reader.notes)
+    }
+
+    /// Commits a set of changes against the head. The revision is on the disk and in its cell when its number is
+    /// answered, and the committer has seen it. Refused are what a store refuses of a commit, and each change after a
+    /// cell that refused its box (32).
+    pub fn commit<R: Wait>(
+        &self,
+        rt: &R,
+        alloc: Global,
+        reader: &mut ReaderSeat<L>,
+        base: RevNo,
+        set: ChangeSet,
+        props: Props,
+        moment: Option<Moment>,
+    ) -> Result<RevNo, StoreFault>
+        ensures seen { IfOk result (λ n. n ≤ seen_by reader.new) }
+        ensures later { seen_by reader.old ≤ seen_by reader.new }
+        ensures set { IfOk result (λ n. option_map (λ x. x.set) (known_by reader.new n) ≡ Some set) }
+        ensures kept { (r : ℕ) → r ≤ seen_by reader.old → known_by reader.new r ≡ known_by reader.old r }
+    {
+        self.book
+            .lock(rt)
+            .commit_by(alloc, &self.row, reader, base, set, props, moment)
+    }
+
+    /// Puts a value at the name of a property of a revision, or takes it away, where the present value is as expected.
+    /// Refused are what a store refuses of it, and each change after a cell that refused its box (32).
+    pub fn change_prop<R: Wait>(
+        &self,
+        rt: &R,
+        alloc: Global,
+        number: RevNo,
+        name: &PropName,
+        value: Option<&[u8]>,
+        expected: &Expected,
+    ) -> Result<(), StoreFault> {
+        self.book
+            .lock(rt)
+            .change_prop(alloc, number, name, value, expected)
+    }
+
+    /// Puts all properties of a revision. Refused are what a store refuses of it, and each change after a cell that
+    /// refused its box (32).
+    pub fn put_props<R: Wait>(
+        &self,
+        rt: &R,
+        alloc: Global,
+        number: RevNo,
+        props: Props,
+    ) -> Result<(), StoreFault> {
+        self.book.lock(rt).put_props(alloc, number, props)
+    }
+
+    /// The properties that a revision has now. NoSuchRevision (21) above the head, OutOfMemory (70).
+    pub fn fetch_props<R: Wait>(&self, rt: &R, number: RevNo) -> Result<Props, StoreFault>
+        ensures refused { IfErr result (λ e. (e ≡ fault.Repo core.NoSuchRevision) ⊎ (e ≡ fault.Log log.OutOfMemory)) }
+    {
+        self.book.lock(rt).fetch_props(number)
+    }
+
+    /// The changes of a revision, and the properties that it has now; the reader has seen the revision then.
+    /// NoSuchRevision (21) above the head, never of what the reader has seen; OutOfMemory (70).
+    pub fn fetch<R: Wait>(
+        &self,
+        rt: &R,
+        alloc: Global,
+        reader: &mut ReaderSeat<L>,
+        number: RevNo,
+    ) -> Result<(ChangeSet, Props), StoreFault>
+        ensures within { IfOk result (λ p. number ≤ seen_by reader.new) }
+        ensures set { IfOk result (λ p. option_map (λ x. x.set) (known_by reader.new number) ≡ Some p.0) }
+        ensures kept { (r : ℕ) → r ≤ seen_by reader.old → known_by reader.new r ≡ known_by reader.old r }
+        ensures seen { seen_by reader.old ≤ seen_by reader.new }
+        ensures refused { IfErr result (λ e. (e ≡ fault.Repo core.NoSuchRevision) ⊎ (e ≡ fault.Log log.OutOfMemory)) }
+    {
+        self.book.lock(rt).fetch(alloc, reader, number)
+    }
+}

@@ -1,0 +1,5 @@
+mod Standing
+pub mod Read
+pub mod Runs
+pub mod Spelled
+pub mod Written

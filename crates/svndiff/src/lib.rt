@@ -1,0 +1,20 @@
+//! Texts in windows: version 0 of svndiff, with new data alone.
+//!
+//! A text is four bytes, `SVN` and 0, and then windows, as the notes on svndiff in Subversion's sources have them.
+//! Each window has five numbers in front (the place and length of its source, the length of its text, of its
+//! instructions and of its new data), its instructions, and its new data. What is taken here has no source, and no
+//! instruction that copies.
+//!
+//! - [`reader::WindowReader`] takes windows cut anyhow, keeps their numbers alone and lends the text, stretch by
+//!   stretch.
+//! - [`writer`] writes the one spelling of a text.
+//!
+//! What the grammar calls a text is read as that text and no other, what is read is in the grammar, and what is
+//! written is read again.
+#![tactic(auto)]
+
+pub mod fault;
+pub mod law;
+pub mod reader;
+mod reading;
+pub mod writer;
