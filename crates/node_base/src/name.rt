@@ -41,7 +41,7 @@ impl Model for NodeName {
 
 impl NodeName {
     /// The name that the bytes are. Refused: more than 255 bytes (`TooLong`), then bytes that are no name (`BadPath`).
-    #[tactic(auto, using(crate::proofs::ReadBack::name_of_test, // the test and the definition, both ways
+    #[tactic(auto, using(crate::proofs::ReadBack::name_of_test, // how a name is read, both ways
     crate::proofs::ReadBack::test_of_name), unfolding(crate::specs::PathText::name_read))]
     pub fn parse(alloc: Global, bytes: &[u8]) -> Result<NodeName, PathFault>
         ensures read { Answers (name_read bytes.now) result }
