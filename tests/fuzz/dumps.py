@@ -1,0 +1,450 @@
+"""Dumps of format 2, read and applied once more in plain Python, as docs/FORMATS.md and docs/MODEL.md say it.
+
+It is slow and short on purpose, and shares nothing with the program: the whole input is at hand, a tree is a dictionary
+from paths (tuples of names) to nodes, and each revision's tree is a copy of the one before.
+"""
+import hashlib
+import re
+
+VERSION = b'SVN-fs-dump-format-version: 2'
+LINE, BLOCK, TEXT = 4096, 33554432, 1048576
+NUMBERS = {b'Revision-number', b'Node-copyfrom-rev', b'Text-content-length', b'Prop-content-length', b'Content-length'}
+NODE_ONLY = [b'Node-path', b'Node-kind', b'Node-action', b'Node-copyfrom-rev', b'Node-copyfrom-path', b'Text-content-md5',
+             b'Text-content-length']
+KNOWN = {*NUMBERS, *NODE_ONLY, b'UUID', b'Text-delta', b'Prop-delta'}
+
+
+class Refused(Exception):
+    """A refusal by its number."""
+
+    def __init__(self, number):
+        super().__init__(number)
+        self.number = number
+
+
+def is_text(name):
+    """The rule of names but for what paths say besides: UTF-8 without control characters, and not empty."""
+    try:
+        name.decode('utf-8')
+    except UnicodeDecodeError:
+        return False
+    return bool(name) and not any(byte < 0x20 or byte == 0x7f for byte in name)
+
+
+def path_of(spelled):
+    if spelled.startswith(b'/'):
+        spelled = spelled[1:]
+    if not spelled:
+        return ()
+    names = tuple(spelled.split(b'/'))
+    if len(spelled) > 1024 or len(names) > 64 or any(len(name) > 255 for name in names):
+        raise Refused(8)
+    if any(not is_text(name) or name in (b'.', b'..') for name in names):
+        raise Refused(10)
+    return names
+
+
+def number_of(digits, most):
+    if not re.fullmatch(rb'[0-9]+', digits) or int(digits) > most:
+        raise Refused(3)
+    return int(digits)
+
+
+class Bytes:
+    """An input and a place in it."""
+
+    def __init__(self, data):
+        self.data, self.at = data, 0
+
+    def is_done(self):
+        return self.at == len(self.data)
+
+    def line(self):
+        end = self.data.find(b'\n', self.at)
+        if (end < 0 or end - self.at > LINE) and len(self.data) - self.at > LINE:
+            raise Refused(8)
+        if end < 0:
+            raise Refused(7)
+        found, self.at = self.data[self.at:end], end + 1
+        return found
+
+    def byte(self):
+        if self.is_done():
+            raise Refused(7)
+        self.at += 1
+        return self.data[self.at - 1]
+
+    def take(self, count):
+        """So many bytes, or 7."""
+        found = self.data[self.at:self.at + count]
+        self.at += len(found)
+        if len(found) < count:
+            raise Refused(7)
+        return found
+
+
+class Block:
+    """A property block of an announced length, read byte by byte."""
+
+    def __init__(self, data, length):
+        self.data, self.rest = data, length
+
+    def byte(self):
+        """The next byte, which isn't the last announced one."""
+        found = self.data.byte()
+        self.rest -= 1
+        if self.rest == 0:
+            raise Refused(5)
+        return found
+
+    def expect(self, wanted):
+        for byte in wanted:
+            if self.byte() != byte:
+                raise Refused(5)
+
+    def count(self, most):
+        digits = b''
+        while True:
+            # (a count's own fault is told at its LF before the announced end is)
+            found = self.data.byte()
+            self.rest -= 1
+            if found == 10 and digits:
+                break
+            if not 48 <= found <= 57 or self.rest == 0:
+                raise Refused(5)
+            digits += bytes([found])
+        if int(digits) > most:
+            raise Refused(8)
+        if int(digits) + 1 > self.rest or self.rest == 0:
+            raise Refused(5)
+        return int(digits)
+
+    def counted(self, count):
+        found = self.data.take(count)
+        self.rest -= count
+        if self.rest == 0:
+            raise Refused(5)
+        return found
+
+    def read(self):
+        props = {}
+        while True:
+            first = self.byte()
+            if first == ord('P'):
+                self.expect(b'ROPS-END')
+                if self.data.byte() != 10:
+                    raise Refused(5)
+                self.rest -= 1
+                if self.rest:
+                    raise Refused(5)
+                return props
+            if first != ord('K'):
+                raise Refused(5)
+            self.expect(b' ')
+            count = self.count(255)
+            if count == 0:
+                raise Refused(5)
+            name = self.counted(count)
+            if not is_text(name) or name in props:
+                raise Refused(5)
+            is_sync = name.startswith(b'svn:sync-')
+            if sum(it.startswith(b'svn:sync-') == is_sync for it in props) == (16 if is_sync else 256):
+                raise Refused(8)
+            self.expect(b'\nV ')
+            props[name] = self.counted(self.count(65536))
+            self.expect(b'\n')
+
+
+class Record:
+    """The headers of a record, and its content."""
+
+    def __init__(self):
+        self.values, self.props, self.text = {}, None, None
+
+    def header(self, line):
+        name, colon, value = line.partition(b': ')
+        if not colon or (name in KNOWN and name in self.values):
+            raise Refused(2)
+        if name not in KNOWN:
+            return
+        if name in NUMBERS:
+            is_revision = name in (b'Revision-number', b'Node-copyfrom-rev')
+            value = number_of(value, 65535 if is_revision else 2 ** 64 - 1)
+        elif name in (b'Node-path', b'Node-copyfrom-path'):
+            value = path_of(value)
+        elif name == b'Text-delta' and value == b'true':
+            raise Refused(9)
+        wanted = {b'UUID': rb'[0-9a-fA-F]{8}(-[0-9a-fA-F]{4}){3}-[0-9a-fA-F]{12}', b'Node-kind': b'file|dir',
+                  b'Node-action': b'change|add|delete|replace', b'Text-content-md5': b'[0-9a-fA-F]{32}'}
+        if name in wanted and not re.fullmatch(wanted[name], value):
+            raise Refused(2)
+        self.values[name] = value
+
+    def get(self, name):
+        return self.values.get(name)
+
+    def has(self, *names):
+        return any(name in self.values for name in names)
+
+    def form(self, is_first, is_below):
+        """Refuses (2) what is no record's form."""
+        if self.has(b'UUID'):
+            is_well = is_first and not self.has(*(KNOWN - {b'UUID', b'Text-delta', b'Prop-delta'}))
+        elif self.has(b'Revision-number'):
+            is_well = not self.has(*NODE_ONLY)
+        else:
+            action = self.get(b'Node-action')
+            is_well = is_below and self.has(b'Node-path') and action is not None
+            is_well &= self.has(b'Node-copyfrom-rev') == self.has(b'Node-copyfrom-path')
+            is_well &= not self.has(b'Node-copyfrom-rev') or action in (b'add', b'replace')
+            is_well &= action != b'delete' or not self.has(b'Prop-content-length', b'Text-content-length')
+        if not is_well or self.get(b'Prop-delta') == b'true':
+            raise Refused(2)
+
+    def content(self, data):
+        block, text = self.get(b'Prop-content-length'), self.get(b'Text-content-length')
+        if self.has(b'Content-length') and self.get(b'Content-length') != (block or 0) + (text or 0):
+            raise Refused(4)
+        if (block or 0) > BLOCK or (text or 0) > TEXT:
+            raise Refused(8)
+        if block is not None:
+            if block == 0:
+                raise Refused(5)
+            self.props = Block(data, block).read()
+        if text is not None:
+            self.text = data.take(text)
+            wanted = self.get(b'Text-content-md5')
+            if wanted and hashlib.md5(self.text).hexdigest() != wanted.lower().decode():
+                raise Refused(6)
+
+
+def records(dump):
+    """The records of a dump, each as it is whole; a refusal is raised behind those before it."""
+    data = Bytes(dump)
+    if data.line() != VERSION:
+        raise Refused(1)
+    if data.line() != b'':
+        raise Refused(2)
+    is_first, is_below = True, False
+    while not data.is_done():
+        if data.data[data.at] == 10:
+            data.at += 1
+            continue
+        record = Record()
+        while (line := data.line()) != b'':
+            record.header(line)
+        record.form(is_first, is_below)
+        record.content(data)
+        is_first, is_below = False, is_below or record.has(b'Revision-number')
+        yield record
+
+
+class Change:
+    """What a revision's records say of one path."""
+
+    def __init__(self, record):
+        self.path, self.action = record.get(b'Node-path'), record.get(b'Node-action')
+        self.kind, self.props, self.text = record.get(b'Node-kind'), record.props, record.text
+        self.source = None
+        if record.has(b'Node-copyfrom-rev'):
+            self.source = record.get(b'Node-copyfrom-path'), record.get(b'Node-copyfrom-rev')
+
+    def is_plain(self):
+        return self.action in (b'add', b'replace') and self.source is None
+
+
+def combined(nodes):
+    """The changes of a revision's records, one for each path, in path order."""
+    said = {}
+    for node in nodes:
+        said.setdefault(node.path, []).append(node)
+    if len(said) > 4096:
+        raise Refused(8)
+    changes = {}
+    for path, stated in said.items():
+        if len(stated) == 2 and stated[0].action == b'delete' and stated[1].action == b'add':
+            stated[1].action = b'replace'
+        elif len(stated) > 1:
+            raise Refused(15)
+        changes[path] = stated[-1]
+    for path in changes:
+        if any(path[:n] in changes and changes[path[:n]].action == b'delete' for n in range(len(path))):
+            raise Refused(15)
+    if any(it.is_plain() and it.kind is None for it in changes.values()):
+        raise Refused(2)
+    return [changes[path] for path in sorted(changes)]
+
+
+def node(kind, props, text, changed):
+    return {'kind': kind, 'props': props, 'text': text, 'changed': changed}
+
+
+def below(tree, path):
+    return [it for it in tree if it[:len(path)] == path]
+
+
+def judge(trees, tree, change):
+    """Refuses what is faulty in a change of the tree, and fills in its kind."""
+    path, number = change.path, len(trees)
+    if not path and change.action != b'change':
+        raise Refused(10)
+    for n in range(len(path)):
+        if path[:n] not in tree:
+            raise Refused(11)
+        if tree[path[:n]]['kind'] == b'file':
+            raise Refused(13)
+    if change.action == b'add' and path in tree:
+        raise Refused(12)
+    if change.action != b'add' and path not in tree:
+        raise Refused(11)
+    kind = change.kind
+    if change.source:
+        source, revision = change.source
+        if revision >= number or source not in trees[revision]:
+            raise Refused(14)
+        kind = trees[revision][source]['kind']
+    elif not change.is_plain():
+        kind = tree[path]['kind']
+    if change.kind not in (None, kind) or (change.text is not None and kind == b'dir'):
+        raise Refused(17)
+    change.kind = kind
+    if change.source:
+        for it in below(trees[revision], source):
+            made = path + it[len(source):]
+            if len(b'/'.join(made)) > 1024 or len(made) > 64:
+                raise Refused(8)
+
+
+def applied(trees, changes):
+    """The tree that the changes make over those of the revisions before, which share their nodes with it."""
+    number = len(trees)
+    tree = dict(trees[-1])
+
+    def mark(path):
+        tree[path] = {**tree[path], 'changed': number}
+
+    for change in changes:
+        judge(trees, tree, change)
+        path = change.path
+        if change.action in (b'delete', b'replace'):
+            for it in below(tree, path):
+                del tree[it]
+        if change.source:
+            source, revision = change.source
+            for it in below(trees[revision], source):
+                tree[path + it[len(source):]] = trees[revision][it]
+        elif change.is_plain():
+            change.props = change.props or {}
+            change.text = (change.text or b'') if change.kind == b'file' else None
+            tree[path] = node(change.kind, {}, b'' if change.kind == b'file' else None, number)
+        if change.action != b'delete':
+            tree[path] = dict(tree[path])
+            if change.props is not None:
+                tree[path]['props'] = change.props
+            if change.text is not None:
+                tree[path]['text'] = change.text
+            mark(path)
+        for n in range(len(path)):
+            mark(path[:n])
+    mark(())
+    return tree
+
+
+def block_of(props):
+    spelled = b''.join(b'K %d\n%s\nV %d\n%s\n' % (len(name), name, len(value), value) for name, value in sorted(props.items()))
+    return spelled + b'PROPS-END\n'
+
+
+def head_of(identity):
+    spelled = VERSION + b'\n\n'
+    return spelled + (b'UUID: %s\n\n' % identity.lower() if identity else b'')
+
+
+def revision_of(number, props, changes):
+    """A revision in its canonical spelling."""
+    block = block_of(props)
+    spelled = b'Revision-number: %d\nProp-content-length: %d\nContent-length: %d\n\n%s\n' % (number, len(block), len(block), block)
+    for change in changes:
+        lines = [b'Node-path: ' + b'/'.join(change.path)]
+        if change.action != b'delete':
+            lines += [b'Node-kind: ' + change.kind]
+        lines += [b'Node-action: ' + change.action]
+        if change.source:
+            lines += [b'Node-copyfrom-rev: %d' % change.source[1], b'Node-copyfrom-path: ' + b'/'.join(change.source[0])]
+        content = b''
+        if change.props is not None:
+            content += block_of(change.props)
+            lines += [b'Prop-content-length: %d' % len(content)]
+        if change.text is not None:
+            content += change.text
+            lines += [b'Text-content-length: %d' % len(change.text),
+                      b'Text-content-md5: ' + hashlib.md5(change.text).hexdigest().encode()]
+        if content or change.props is not None or change.text is not None:
+            lines += [b'Content-length: %d' % len(content)]
+        spelled += b'\n'.join(lines) + b'\n\n' + content + b'\n\n'
+    return spelled
+
+
+class History:
+    """What a dump's revisions come to: their trees, what is written of each, and why it stopped, if it did."""
+
+    def __init__(self, dump):
+        self.identity, self.trees, self.written, self.fault = None, [{(): node(b'dir', {}, None, 0)}], [], None
+        self.first_props, self.is_begun = {}, False
+        # the revision whose records come, not judged yet: its number, its properties, its changes
+        self.open = None
+        try:
+            for record in records(dump):
+                self.take(record)
+            self.close()
+            self.begin()
+        except Refused as refused:
+            self.fault = refused.number
+
+    def take(self, record):
+        if record.has(b'UUID'):
+            self.identity = record.get(b'UUID')
+        elif record.has(b'Revision-number'):
+            self.close()
+            self.open = record.get(b'Revision-number'), record.props or {}, []
+            if self.open[0] > 0:
+                self.begin()
+        elif self.open[0] == 0:
+            raise Refused(16)
+        else:
+            self.open[2].append(Change(record))
+
+    def begin(self):
+        """Revision 0 is settled: what comes next isn't one more of it."""
+        if not self.is_begun:
+            self.written.append(revision_of(0, self.first_props, []))
+            self.is_begun = True
+
+    def close(self):
+        if self.open is None:
+            return
+        number, props, nodes = self.open
+        if number == 0 and not self.is_begun:
+            self.first_props = props
+        elif number != len(self.trees):
+            raise Refused(16)
+        else:
+            changes = combined(nodes)
+            self.trees.append(applied(self.trees, changes))
+            self.written.append(revision_of(number, props, changes))
+        self.open = None
+
+    def canon(self):
+        """What `canon` writes; nothing before revision 0 is settled."""
+        return (head_of(self.identity) if self.is_begun else b'') + b''.join(self.written)
+
+    def listing(self):
+        """What `list` prints; nothing of a dump that is refused."""
+        if self.fault:
+            return b''
+        tree, lines = self.trees[-1], [b'revision %d' % (len(self.trees) - 1)]
+        for path in sorted(tree):
+            it, name = tree[path], b'/'.join(path) or b'/'
+            lines.append(b'D %d %s' % (it['changed'], name) if it['kind'] == b'dir' else
+                         b'F %d %d %s' % (it['changed'], len(it['text']), name))
+        return b'\n'.join(lines) + b'\n'
