@@ -1,11 +1,14 @@
 //! The port.
 
-ghost use Rattle.std.specs.Prelude.{◌≡◌, ◌≤◌, ◌⊎◌, ℕ, Option, Some, None, length, IfOk, IfErr, OnOk, OnErr};
-ghost use Rattle.std.specs.Option.{option_map};
+ghost use Rattle.std.specs.Prelude.{◌≡◌, ◌≤◌, ◌⊎◌, Some, None, length, IfOk, IfErr, OnOk, OnErr};
+ghost use Rattle.std.specs.Option.{option_copied, option_map};
 ghost use Rattle.fleet_disk.specs.Rules.{Rose};
-ghost use Rattle.ra_serve.specs.Ports.{Goes, IsOwn, Stays};
+ghost use Rattle.repo_core.specs.Repository.{Repository, head_of, props_at};
+ghost use Rattle.repo_core.specs.Refusals.{with_value, wanted};
+ghost use Rattle.repo_core.specs.Entries.{with_entry_in};
+ghost use Rattle.repo_core.specs.declared.entry.Entry.TheVariants.{Mapped};
+ghost use Rattle.ra_serve.specs.Ports.{IsOwn, IsReplay, MayRefuse, change_due, no_revision, tree_of};
 ghost use Rattle.ra_serve.specs.declared.fault.PortFault.TheVariants as fault;
-ghost use Rattle.repo_core.specs.Repository.{Repository};
 ghost use Rattle.store_share.specs.Chains.{trees_known};
 ghost use Rattle.store_share.specs.Seats.{known_by, seen_by};
 ghost use Rattle.share_ports.specs.Seats.{Keeps, Misses};
@@ -59,7 +62,7 @@ impl<'a, R: Wait, L: RowName, D: Disk> MasterSharePort<'a, R, L, D> {
 
 impl<R: Wait, L: RowName, D: Disk> RepoPort for MasterSharePort<'_, R, L, D> {
     ghost use Rattle.std.specs.Prelude.{None};
-    ghost use Rattle.share_ports.specs.Ports.{seat_of};
+    ghost use Rattle.share_ports.specs.Ports.{refusals_of, repository_in, seat_of, GoesOn, StaysSo};
 
     ghost repository = { λ _. None };
 
@@ -83,8 +86,10 @@ impl<R: Wait, L: RowName, D: Disk> RepoPort for MasterSharePort<'_, R, L, D> {
         ensures seen { IfOk result (λ n. seen_by (seat_of self.new) ≡ n) }
         ensures taken { OnErr result ⊥ }
         ensures keeps { Keeps (seat_of self.old) (seat_of self.new) }
-        ensures stays { Stays (repository self.old) (repository self.new) (is_mirror self.old) (is_mirror self.new)
-            (refusals self.old) (refusals self.new) }
+        ensures head { (x : Repository) → repository_in self.old ≡ Some x → IfOk result (λ n. n ≡ head_of x.revisions) }
+        ensures refused { (x : Repository) → repository_in self.old ≡ Some x
+            → IfErr result (λ f. MayRefuse (refusals_of self.old) (refusals_of self.new) f None) }
+        ensures stays { StaysSo self.old self.new }
     {
         Ok(self.share.latest(self.rt, &mut self.seat))
     }
@@ -94,11 +99,14 @@ impl<R: Wait, L: RowName, D: Disk> RepoPort for MasterSharePort<'_, R, L, D> {
     fn tree(&mut self, number: RevNo) -> Result<Tree, PortFault>
         ensures tree { IfOk result (λ t. option_map (λ x. x.tree) (known_by (seat_of self.new) number) ≡ Some t) }
         ensures within { OnOk result (number ≤ seen_by (seat_of self.new)) }
-        ensures refused { IfErr result
-            (Misses number (seen_by (seat_of self.new)) (refusals self.old) (refusals self.new)) }
+        ensures missed { IfErr result
+            (Misses number (seen_by (seat_of self.new)) (refusals_of self.old) (refusals_of self.new)) }
         ensures keeps { Keeps (seat_of self.old) (seat_of self.new) }
-        ensures stays { Stays (repository self.old) (repository self.new) (is_mirror self.old) (is_mirror self.new)
-            (refusals self.old) (refusals self.new) }
+        ensures of { (x : Repository) → repository_in self.old ≡ Some x
+            → IfOk result (λ t. (no_revision x number ≡ None) × (t ≡ tree_of x number)) }
+        ensures refused { (x : Repository) → repository_in self.old ≡ Some x
+            → IfErr result (λ f. MayRefuse (refusals_of self.old) (refusals_of self.new) f (no_revision x number)) }
+        ensures stays { StaysSo self.old self.new }
     {
         if !sees(self.rt, self.share, &mut self.seat, number) {
             return Err(PortFault::NoSuchRevision);
@@ -111,11 +119,14 @@ impl<R: Wait, L: RowName, D: Disk> RepoPort for MasterSharePort<'_, R, L, D> {
 
     /// The properties that a revision has now.
     fn props(&mut self, number: RevNo) -> Result<Props, PortFault>
-        ensures refused { IfErr result (λ f. (f ≡ fault.NoSuchRevision)
-            ⊎ ((f ≡ fault.OutOfMemory) × Rose (refusals self.old) (refusals self.new))) }
+        ensures missed { IfErr result (λ f. (f ≡ fault.NoSuchRevision)
+            ⊎ ((f ≡ fault.OutOfMemory) × Rose (refusals_of self.old) (refusals_of self.new))) }
         ensures seat { seat_of self.new ≡ seat_of self.old }
-        ensures stays { Stays (repository self.old) (repository self.new) (is_mirror self.old) (is_mirror self.new)
-            (refusals self.old) (refusals self.new) }
+        ensures props { (x : Repository) → repository_in self.old ≡ Some x
+            → IfOk result (λ p. (no_revision x number ≡ None) × (p ≡ props_at x.revisions number)) }
+        ensures refused { (x : Repository) → repository_in self.old ≡ Some x
+            → IfErr result (λ f. MayRefuse (refusals_of self.old) (refusals_of self.new) f (no_revision x number)) }
+        ensures stays { StaysSo self.old self.new }
     {
         match self.share.fetch_props(self.rt, number) {
             Ok(props) => Ok(props),
@@ -131,10 +142,18 @@ impl<R: Wait, L: RowName, D: Disk> RepoPort for MasterSharePort<'_, R, L, D> {
         value: Option<&[u8]>,
         expected: &Expected,
     ) -> Result<(), PortFault>
-        ensures refused { IfErr result (λ f. IsOwn f → Rose (refusals self.old) (refusals self.new)) }
+        ensures counted { IfErr result (λ f. IsOwn f → Rose (refusals_of self.old) (refusals_of self.new)) }
         ensures seat { seat_of self.new ≡ seat_of self.old }
-        ensures same { repository self.new ≡ repository self.old }
-        ensures goes { Goes (is_mirror self.old) (is_mirror self.new) (refusals self.old) (refusals self.new) }
+        ensures made { (x : Repository) → repository_in self.old ≡ Some x → OnOk result (repository_in self.new
+            ≡ Some (with_entry_in x
+            (Mapped number (with_value (props_at x.revisions number) name.now (option_copied value.entry))))) }
+        ensures taken { (x : Repository) → repository_in self.old ≡ Some x → OnOk result
+            (change_due x number name.now (option_copied value.entry) (wanted expected.now) ≡ None) }
+        ensures refused { (x : Repository) → repository_in self.old ≡ Some x
+            → IfErr result (λ f. MayRefuse (refusals_of self.old) (refusals_of self.new) f
+            (change_due x number name.now (option_copied value.entry) (wanted expected.now))) }
+        ensures same { OnErr result (repository_in self.new ≡ repository_in self.old) }
+        ensures goes { GoesOn self.old self.new }
     {
         match self
             .share
@@ -153,11 +172,15 @@ impl<R: Wait, L: RowName, D: Disk> RepoPort for MasterSharePort<'_, R, L, D> {
         ensures trees { IfOk result (λ p. p.trees.items ≡ trees_known (known_by (seat_of self.new)) number) }
         ensures within { OnOk result (number ≤ seen_by (seat_of self.new)) }
         ensures few { IfOk result (λ p. length p.trees.items ≤ 65535) }
-        ensures refused { IfErr result
-            (Misses number (seen_by (seat_of self.new)) (refusals self.old) (refusals self.new)) }
+        ensures missed { IfErr result
+            (Misses number (seen_by (seat_of self.new)) (refusals_of self.old) (refusals_of self.new)) }
         ensures keeps { Keeps (seat_of self.old) (seat_of self.new) }
-        ensures stays { Stays (repository self.old) (repository self.new) (is_mirror self.old) (is_mirror self.new)
-            (refusals self.old) (refusals self.new) }
+        ensures there { (x : Repository) → repository_in self.old ≡ Some x → OnOk result (no_revision x number ≡ None) }
+        ensures replay { (x : Repository) → repository_in self.old ≡ Some x
+            → IfOk result (λ p. IsReplay x number p.set p.trees.items p.props) }
+        ensures refused { (x : Repository) → repository_in self.old ≡ Some x
+            → IfErr result (λ f. MayRefuse (refusals_of self.old) (refusals_of self.new) f (no_revision x number)) }
+        ensures stays { StaysSo self.old self.new }
     {
         if !sees(self.rt, self.share, &mut self.seat, number) {
             return Err(PortFault::NoSuchRevision);
