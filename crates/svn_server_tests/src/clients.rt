@@ -11,9 +11,6 @@ use std::process::Abort;
 pub(crate) const CLIENT: &[u8] =
     b"( 2 ( edit-pipeline ) 21:svn://127.0.0.1:3690/ ) ( ANONYMOUS ( 0: ) ) ";
 
-/// What stands before the answer to a command.
-pub(crate) const AUTHORISED: &[u8] = b"( success ( ( ) 0: ) ) ";
-
 /// The newest revision, all three, and one that isn't there.
 pub(crate) const READING: &[u8] = b"( get-latest-rev ( ) ) ( replay-range ( 0 2 0 true ) ) \
     ( check-path ( 3:b/x ( 2 ) ) ) ( get-dir ( 0: ( 2 ) false true ( ) ) ) ( rev-proplist ( 1 ) ) \
@@ -37,14 +34,15 @@ pub(crate) fn told<P: RepoPort>(
     }
 }
 
-/// What a store of one's own tells, that with the copy where it is the long one.
+/// What a store of one's own tells clients that come one behind another and send this: all that it says, in a row. It is
+/// the store with the copy where that is wanted.
 pub(crate) fn told_by_store(
     rt: &impl Abort,
     alloc: Global,
     is_long: bool,
     mirror: bool,
     url: &[u8],
-    asked: &[u8],
+    asked: &[&[u8]],
 ) -> Option<Vec<u8>> {
     let store = if is_long {
         long_store(rt, alloc)
@@ -52,7 +50,23 @@ pub(crate) fn told_by_store(
         short_store(rt, alloc)
     };
     let mut port = HeldStore::new(alloc, store, mirror);
-    let told = told(rt, alloc, &mut port, url, asked);
+    let all = told_each(rt, alloc, &mut port, url, asked);
     let _disk = port.into_store().into_disk();
-    told
+    all
+}
+
+// What a port tells clients that come one behind another.
+fn told_each<P: RepoPort>(
+    rt: &impl Abort,
+    alloc: Global,
+    port: &mut P,
+    url: &[u8],
+    asked: &[&[u8]],
+) -> Option<Vec<u8>> {
+    let mut all = Vec::new(alloc);
+    for one in asked {
+        let told = told(rt, alloc, port, url, one)?;
+        all.extend_from_slice(&told).expect(rt, "memory");
+    }
+    Some(all)
 }

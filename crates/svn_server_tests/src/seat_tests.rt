@@ -47,7 +47,7 @@ fn port<'a, R: Wait + Abort, L: RowName>(
 fn tells_the_same<R: Wait + Abort, L: RowName>(rt: &R, alloc: Global, share: &Share<L>) -> bool {
     let mut port = port(rt, alloc, share, false);
     let by_share = told(rt, alloc, &mut port, URL, READING);
-    by_share.is_some() && by_share == told_by_store(rt, alloc, true, false, URL, READING)
+    by_share.is_some() && by_share == told_by_store(rt, alloc, true, false, URL, &[READING])
 }
 
 // Commits the copy.
@@ -72,7 +72,7 @@ fn sees_a_commit<R: Wait + Abort, L: RowName>(rt: &R, alloc: Global, share: &Sha
         && reader.latest() == Ok(number)
         && reader.tree(RevNo::new(3)).err() == Some(PortFault::NoSuchRevision)
         && told(rt, alloc, &mut reader, URL, READING)
-            == told_by_store(rt, alloc, true, false, URL, READING)
+            == told_by_store(rt, alloc, true, false, URL, &[READING])
 }
 
 // Whether a change through one port is there for another, which then refuses the same change.
