@@ -1,5 +1,5 @@
 -- What a command does over the repository that stands in a folder, step by step.
-use Rattle.std.proofs.Common.{◌≡◌, ◌≢◌, ℕ, Bool, true, false, List, [], length, ◌<◌, Option, Result, Ok, Err, IfSome, inr, refl, subst, ap, is_ok, IfErr, IsErrOf, ⊎_elim}
+use Rattle.std.proofs.Common.{◌≡◌, ◌≢◌, ℕ, Bool, true, false, List, [], length, ◌<◌, Option, Result, Ok, Err, IfSome, inr, refl, subst, ap, is_ok, IfErr, IsErrOf, ⊎_elim, ◌⊎◌}
 use Rattle.std.specs.Result.{OnOk, OnErr}
 use Rattle.std.specs.List.{filter}
 use Rattle.std.specs.Io.KnownBytes.{Appends, Keeps as HandedOn}
@@ -12,7 +12,7 @@ use Rattle.node_base.specs.Path.{Path}
 use Rattle.node_base.specs.PathText.{path_read}
 use Rattle.node_base.specs.declared.refusal.Refusal.{Refusal}
 use Rattle.node_base.specs.declared.refusal.Refusal.TheVariants as refusal
-use Rattle.repo_core.specs.Repository.{fresh}
+use Rattle.repo_core.specs.Repository.{fresh, Repository}
 use Rattle.repo_store.specs.Journal.{Keeps}
 use Rattle.repo_store.specs.Words.{disk_of, repository_of, revisions_of, HasFailed}
 use Rattle.repo_store.specs.declared.store.RepoStore.{RepoStore}
@@ -26,7 +26,8 @@ use Rattle.store_engines.specs.Loads.{Loaded, ServesOne, ServesRecords, Refused 
 use Rattle.store_engines.specs.Mirrors.{is_mirror}
 use Rattle.store_engines.specs.Ranges.{count_wanted, first_wanted, last_wanted}
 use Rattle.store_engines.specs.declared.range.RevRange.{RevRange}
-use Rattle.fleet_main.specs.Doing.{EndsWith, HandsOn, IsBegun, IsCommittedTo, IsDumped, IsKept, IsLoadedFrom, IsOpenedIn, NotCommittedTo, NotDumped, NotLoadedFrom, OfStanding, UnopenedOr, not_done, not_handed_on}
+use Rattle.sockets.specs.Lines.{listening}
+use Rattle.fleet_main.specs.Doing.{EndsWith, HandsOn, IsBegun, IsCommittedTo, IsDumped, IsKept, IsLoadedFrom, IsOpenedIn, IsServed, NotCommittedTo, NotDumped, NotLoadedFrom, NotServed, OfStanding, UnopenedOr, not_done, not_handed_on}
 
 -- of a store whose disk is honest and hasn't failed a stop leaves what keeps its repository
 abbrev pub KeptThen : {D : Type 0} {G : Ghosts D} → RepoStore D G → Type 0
@@ -99,6 +100,20 @@ pub dump_refused : {D T : Type 0} {G : Ghosts D} (r : Result T Refusal) (fails h
     → IfErr r (λ e. UnopenedOr G fails honest folder held before now e (NotDumped honest range before now failed e))
 dump_refused (Ok t) fails honest folder held range before now failed store o h k = tt
 dump_refused (Err e) fails honest folder held range before now failed store o h k = inr (store, store, o, (refl, h, kept_opened honest held store o k))
+
+-- it is served
+pub served_done : {D : Type 0} {G : Ghosts D} (r : Result (Unit {0}) Refusal) (honest : Type 0) (held : Image) (served : Repository → Bool → ℕ → ℕ → Type 0) (port connections : ℕ) (mirror : Bool) (before now : Option (List ℕ))
+    (store : RepoStore D G) → IsOpenedIn G honest held store → mirror ≡ is_mirror (revisions_of store) → OnOk r (served (repository_of store) mirror port connections) → OnOk r (Appends before now (listening port)) → KeptThen store
+    → OnOk r (OfStanding G honest held (IsServed honest served port connections before now))
+served_done (Ok u) honest held served port connections mirror before now store o m s t k =
+    (store, store, o, (subst (λ b. served (repository_of store) b port connections) m s, t, kept_opened honest held store o k))
+served_done (Err e) honest held served port connections mirror before now store o m s t k = tt
+
+pub served_refused : {D : Type 0} {G : Ghosts D} (r : Result (Unit {0}) Refusal) (fails honest : Type 0) (folder : List ℕ) (held : Image) (broke : Type 0) (before now : Option (List ℕ)) (store : RepoStore D G)
+    → IsOpenedIn G honest held store → IfErr r (λ e. (e ≡ refusal.OutOfMemory) ⊎ ((e ≡ refusal.PeerFailed) × broke)) → KeptThen store
+    → IfErr r (λ e. UnopenedOr G fails honest folder held before now e (NotServed honest broke e))
+served_refused (Ok u) fails honest folder held broke before now store o h k = tt
+served_refused (Err e) fails honest folder held broke before now store o h k = inr (store, store, o, (h, kept_opened honest held store o k))
 
 -- a repository is begun
 pub begun : {D : Type 0} {G : Ghosts D} (honest : Type 0) (held : Image) (identity : List ℕ) (store : RepoStore D G) → (honest → held ≡ no_bytes) → repository_of store ≡ fresh identity → ¬ HasFailed store

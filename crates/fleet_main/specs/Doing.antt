@@ -11,7 +11,7 @@ use Rattle.node_base.specs.Path.{Path}
 use Rattle.node_base.specs.PathText.{path_read}
 use Rattle.node_base.specs.declared.refusal.Refusal.{Refusal}
 use Rattle.node_base.specs.declared.refusal.Refusal.TheVariants as refusal
-use Rattle.repo_core.specs.Repository.{fresh, head_of, props_at}
+use Rattle.repo_core.specs.Repository.{fresh, head_of, props_at, Repository}
 use Rattle.repo_store.specs.Journal.{Keeps, KeepsAlike}
 use Rattle.repo_store.specs.Words.{disk_of, repository_of, revisions_of, HasFailed}
 use Rattle.repo_store.specs.declared.store.RepoStore.{RepoStore}
@@ -28,12 +28,13 @@ use Rattle.store_engines.specs.declared.range.RevRange.{RevRange}
 use Rattle.sync_core.specs.declared.fault.SyncFault.{SyncFault}
 use Rattle.sync_job.specs.Fronts.{accepted_in, counted_in}
 use Rattle.sync_job.specs.Said.{Spoken, told_in}
+use Rattle.sockets.specs.Lines.{listening}
 use Rattle.mirror_engines.specs.Infos.{info_fault, info_text}
 use Rattle.mirror_engines.specs.Lines.{line_of, IsPrinted}
 use Rattle.mirror_engines.specs.Runs.{answer_of, IsCopied, IsInitialised, IsSynchronised, Leaves}
 use Rattle.fleet_main.specs.Opening.{DiskFails, NotBegun, NotOpened}
 use Rattle.fleet_main.specs.declared.command_line.Command.{Command}
-use Rattle.fleet_main.specs.declared.command_line.Command.TheVariants.{List as ListIt, Canon, Create, Load, Dump, MakeDir, Initialize, Synchronize, CopyRevprops, Info}
+use Rattle.fleet_main.specs.declared.command_line.Command.TheVariants.{List as ListIt, Canon, Create, Load, Dump, MakeDir, Initialize, Synchronize, CopyRevprops, Info, Serve}
 
 -- a store is opened over what a folder's files held: on a disk that the folder gave, whose bytes these were, and that keeps the rules if the folders do
 pub record IsOpenedIn {D : Type 0} (G : Ghosts D) (honest : Type 0) (held : Image) (store : RepoStore D G) : Type 0 where
@@ -151,22 +152,47 @@ abbrev pub NotToldOf : {D : Type 0} {G : Ghosts D} → Type 0 → Option (List �
 NotToldOf honest before now failed e old new =
     (new ≡ old) × (((info_fault (props_at (revisions_of old) 0) (head_of (revisions_of old)) ≡ Some e) × (now ≡ before)) ⊎ ((e ≡ refusal.PeerFailed) × (failed ≡ true))) × IsKept honest old
 
--- a command is done over what folders hold, with these bytes to read: of a writer that held `before`, what it holds now
-abbrev pub IsDone : {D F : Type 0} → Ghosts D → (F → Type 0) → (F → List ℕ → Image) → F → Command → Option (List ℕ) → Option (List ℕ) → Option (List ℕ) → Type 0
-IsDone G honest holds folders ListIt bytes before now = IfSome bytes (λ read. Accepted product.List read before now)
-IsDone G honest holds folders Canon bytes before now = IfSome bytes (λ read. Accepted product.Canon read before now)
-IsDone G honest holds folders (Create folder identity) bytes before now = IsBegun G (honest folders) (holds folders (string_bytes folder)) identity × (now ≡ before)
-IsDone G honest holds folders (Load folder) bytes before now = OfStanding G (honest folders) (holds folders (string_bytes folder)) (IsLoadedFrom (honest folders) bytes before now)
-IsDone G honest holds folders (Dump folder range) bytes before now = OfStanding G (honest folders) (holds folders (string_bytes folder)) (IsDumped (honest folders) range before now)
-IsDone G honest holds folders (MakeDir folder path message moment) bytes before now =
+-- the store's repository was served, a mirror read-only, on that port over so many connections, and the port was told; as it began a stop left what keeps the repository. What it is later isn't said
+abbrev pub IsServed : {D : Type 0} {G : Ghosts D} → Type 0 → (Repository → Bool → ℕ → ℕ → Type 0) → ℕ → ℕ → Option (List ℕ) → Option (List ℕ) → RepoStore D G → RepoStore D G → Type 0
+IsServed honest served port connections before now old new =
+    served (repository_of old) (is_mirror (revisions_of old)) port connections × Appends before now (listening port) × IsKept honest old
+
+-- it wasn't: memory ran out, or the server failed
+abbrev pub NotServed : {D : Type 0} {G : Ghosts D} → Type 0 → Type 0 → Refusal → RepoStore D G → RepoStore D G → Type 0
+NotServed honest broke e old new = ((e ≡ refusal.OutOfMemory) ⊎ ((e ≡ refusal.PeerFailed) × broke)) × IsKept honest old
+
+-- the command serves
+abbrev pub is_serve : Command → Bool
+is_serve ListIt = false
+is_serve Canon = false
+is_serve (Create folder identity) = false
+is_serve (Load folder) = false
+is_serve (Dump folder range) = false
+is_serve (MakeDir folder path message moment) = false
+is_serve (Initialize mirror source) = false
+is_serve (Synchronize mirror source token steal) = false
+is_serve (CopyRevprops mirror source token range) = false
+is_serve (Info mirror) = false
+is_serve (Serve folder port connections) = true
+
+-- a command is done over what folders hold, with these bytes to read: of a writer that held `before`, what it holds now; `served` is what a server has served
+abbrev pub IsDone : {D F : Type 0} → Ghosts D → (F → Type 0) → (F → List ℕ → Image) → F → (Repository → Bool → ℕ → ℕ → Type 0) → Command → Option (List ℕ) → Option (List ℕ) → Option (List ℕ) → Type 0
+IsDone G honest holds folders served ListIt bytes before now = IfSome bytes (λ read. Accepted product.List read before now)
+IsDone G honest holds folders served Canon bytes before now = IfSome bytes (λ read. Accepted product.Canon read before now)
+IsDone G honest holds folders served (Create folder identity) bytes before now = IsBegun G (honest folders) (holds folders (string_bytes folder)) identity × (now ≡ before)
+IsDone G honest holds folders served (Load folder) bytes before now = OfStanding G (honest folders) (holds folders (string_bytes folder)) (IsLoadedFrom (honest folders) bytes before now)
+IsDone G honest holds folders served (Dump folder range) bytes before now = OfStanding G (honest folders) (holds folders (string_bytes folder)) (IsDumped (honest folders) range before now)
+IsDone G honest holds folders served (MakeDir folder path message moment) bytes before now =
     OfStanding G (honest folders) (holds folders (string_bytes folder)) (IsCommittedTo (honest folders) (string_bytes path) (string_bytes message) moment before now)
-IsDone G honest holds folders (Initialize mirror source) bytes before now =
+IsDone G honest holds folders served (Initialize mirror source) bytes before now =
     OfBoth G honest holds folders (string_bytes mirror) (string_bytes source) (IsWorkedOver (IsInitialised (string_bytes source)) before now)
-IsDone G honest holds folders (Synchronize mirror source token steal) bytes before now =
+IsDone G honest holds folders served (Synchronize mirror source token steal) bytes before now =
     OfBoth G honest holds folders (string_bytes mirror) (string_bytes source) (IsWorkedOver (IsSynchronised token steal) before now)
-IsDone G honest holds folders (CopyRevprops mirror source token range) bytes before now =
+IsDone G honest holds folders served (CopyRevprops mirror source token range) bytes before now =
     OfBoth G honest holds folders (string_bytes mirror) (string_bytes source) (IsWorkedOver (IsCopied token (first_in range) (last_in range)) before now)
-IsDone G honest holds folders (Info mirror) bytes before now = OfStanding G (honest folders) (holds folders (string_bytes mirror)) (IsToldOf (honest folders) before now)
+IsDone G honest holds folders served (Info mirror) bytes before now = OfStanding G (honest folders) (holds folders (string_bytes mirror)) (IsToldOf (honest folders) before now)
+IsDone G honest holds folders served (Serve folder port connections) bytes before now =
+    OfStanding G (honest folders) (holds folders (string_bytes folder)) (IsServed (honest folders) served port connections before now)
 
 -- the repository isn't opened, and nothing is written; or of the one that stands there P is so
 abbrev pub UnopenedOr : {D : Type 0} (G : Ghosts D) → Type 0 → Type 0 → List ℕ → Image → Option (List ℕ) → Option (List ℕ) → Refusal → (RepoStore D G → RepoStore D G → Type 0) → Type 0
@@ -184,31 +210,34 @@ pub data UnopenedBoth {D F : Type 0} (G : Ghosts D) (failures : F → ℕ) (hone
 abbrev pub NotKept : List ℕ → Option (List ℕ) → Option (List ℕ) → Refusal → Type 0
 NotKept source before now e = ((e ≡ refusal.OutOfMemory) ⊎ ((e ≡ refusal.TooLong) × (65536 < length source))) × (now ≡ before)
 
--- a command isn't done: why, and what is written then
-abbrev pub IsNotDone : {D F : Type 0} → Ghosts D → (F → ℕ) → (F → Type 0) → (F → List ℕ → Image) → F → F → Command → Option (List ℕ) → Option (List ℕ) → Option (List ℕ) → Bool → Refusal → Type 0
-IsNotDone G failures honest holds folders later ListIt bytes before now failed e = (failed ≡ true) ⊎ IfSome bytes (λ read. Refused product.List read before now e)
-IsNotDone G failures honest holds folders later Canon bytes before now failed e = (failed ≡ true) ⊎ IfSome bytes (λ read. Refused product.Canon read before now e)
-IsNotDone G failures honest holds folders later (Create folder identity) bytes before now failed e =
+-- a command isn't done: why, and what is written then; `broke` is that the server's count of failures rose
+abbrev pub IsNotDone : {D F : Type 0} → Ghosts D → (F → ℕ) → (F → Type 0) → (F → List ℕ → Image) → F → F → Type 0 → Command → Option (List ℕ) → Option (List ℕ) → Option (List ℕ) → Bool → Refusal → Type 0
+IsNotDone G failures honest holds folders later broke ListIt bytes before now failed e = (failed ≡ true) ⊎ IfSome bytes (λ read. Refused product.List read before now e)
+IsNotDone G failures honest holds folders later broke Canon bytes before now failed e = (failed ≡ true) ⊎ IfSome bytes (λ read. Refused product.Canon read before now e)
+IsNotDone G failures honest holds folders later broke (Create folder identity) bytes before now failed e =
     NotBegun (DiskFails G.failures (failures folders) (failures later)) (honest folders) (holds folders (string_bytes folder)) e × (now ≡ before)
-IsNotDone G failures honest holds folders later (Load folder) bytes before now failed e =
+IsNotDone G failures honest holds folders later broke (Load folder) bytes before now failed e =
     UnopenedOr G (DiskFails G.failures (failures folders) (failures later)) (honest folders) (string_bytes folder) (holds folders (string_bytes folder)) before now e
     (NotLoadedFrom (honest folders) bytes before now failed e)
-IsNotDone G failures honest holds folders later (Dump folder range) bytes before now failed e =
+IsNotDone G failures honest holds folders later broke (Dump folder range) bytes before now failed e =
     UnopenedOr G (DiskFails G.failures (failures folders) (failures later)) (honest folders) (string_bytes folder) (holds folders (string_bytes folder)) before now e
     (NotDumped (honest folders) range before now failed e)
-IsNotDone G failures honest holds folders later (MakeDir folder path message moment) bytes before now failed e =
+IsNotDone G failures honest holds folders later broke (MakeDir folder path message moment) bytes before now failed e =
     UnopenedOr G (DiskFails G.failures (failures folders) (failures later)) (honest folders) (string_bytes folder) (holds folders (string_bytes folder)) before now e
     (NotCommittedTo (honest folders) (string_bytes path) (string_bytes message) moment before now failed e)
-IsNotDone G failures honest holds folders later (Initialize mirror source) bytes before now failed e =
+IsNotDone G failures honest holds folders later broke (Initialize mirror source) bytes before now failed e =
     NotKept (string_bytes source) before now e
     ⊎ UnopenedBoth G failures honest holds folders later (string_bytes mirror) (string_bytes source) before now e (NotWorkedOver (IsInitialised (string_bytes source)) before now failed e)
-IsNotDone G failures honest holds folders later (Synchronize mirror source token steal) bytes before now failed e =
+IsNotDone G failures honest holds folders later broke (Synchronize mirror source token steal) bytes before now failed e =
     UnopenedBoth G failures honest holds folders later (string_bytes mirror) (string_bytes source) before now e (NotWorkedOver (IsSynchronised token steal) before now failed e)
-IsNotDone G failures honest holds folders later (CopyRevprops mirror source token range) bytes before now failed e =
+IsNotDone G failures honest holds folders later broke (CopyRevprops mirror source token range) bytes before now failed e =
     UnopenedBoth G failures honest holds folders later (string_bytes mirror) (string_bytes source) before now e (NotWorkedOver (IsCopied token (first_in range) (last_in range)) before now failed e)
-IsNotDone G failures honest holds folders later (Info mirror) bytes before now failed e =
+IsNotDone G failures honest holds folders later broke (Info mirror) bytes before now failed e =
     UnopenedOr G (DiskFails G.failures (failures folders) (failures later)) (honest folders) (string_bytes mirror) (holds folders (string_bytes mirror)) before now e
     (NotToldOf (honest folders) before now failed e)
+IsNotDone G failures honest holds folders later broke (Serve folder port connections) bytes before now failed e =
+    UnopenedOr G (DiskFails G.failures (failures folders) (failures later)) (honest folders) (string_bytes folder) (holds folders (string_bytes folder)) before now e
+    (NotServed (honest folders) broke e)
 
 -- what was written is handed on
 pub record HandsOn (P : Option (List ℕ) → Type 0) (now : Option (List ℕ)) : Type 0 where

@@ -1,4 +1,4 @@
--- The folders of a host, and what an error of the host is there.
+-- The folders and the sockets of a host, and what an error of the host is there.
 use Rattle.std.specs.Prelude.{◌≡◌, ◌≢◌, ℕ}
 use Rattle.std.specs.IoError.{error_kind}
 use Rattle.std.specs.declared.io.ErrorKind.TheVariants as kind
@@ -6,10 +6,15 @@ use Rattle.std.specs.declared.io.Error.{Error}
 use Rattle.fleet_main.specs.declared.folders.FolderFault.{FolderFault}
 use Rattle.fleet_main.specs.declared.folders.FolderFault.TheVariants.{DeviceFailed, OutOfMemory}
 use Rattle.fleet_main.specs.declared.folders.HostFolders.{HostFolders}
+use Rattle.fleet_main.specs.declared.serving.HostServer.{HostServer}
 
 -- how often the host has failed
 abbrev pub host_failures : {R : Type 0} → HostFolders R → ℕ
 host_failures folders = folders.failures
+
+-- how often its sockets have
+abbrev pub server_failures : {R : Type 0} → HostServer R → ℕ
+server_failures server = server.failures
 
 -- want of memory is told as such, and any other error as the device's failure
 abbrev pub IsFaultOf : FolderFault → Error → Type 0

@@ -11,7 +11,7 @@ use Rattle.store_engines.specs.declared.range.RevRange.{RevRange}
 use Rattle.sync_core.specs.Tokens.{is_token}
 use Rattle.fleet_main.specs.Words.{word_of}
 use Rattle.fleet_main.specs.declared.command_line.Command.{Command}
-use Rattle.fleet_main.specs.declared.command_line.Command.TheVariants.{List as ListIt, Canon, Create, Load, Dump, MakeDir, Initialize, Synchronize, CopyRevprops, Info}
+use Rattle.fleet_main.specs.declared.command_line.Command.TheVariants.{List as ListIt, Canon, Create, Load, Dump, MakeDir, Initialize, Synchronize, CopyRevprops, Info, Serve}
 
 -- the identity that 8-4-4-4-12 hexadecimal digits spell, in any case, with hyphens between them
 abbrev pub identity_read : List ℕ → Option (List ℕ)
@@ -29,6 +29,10 @@ pub record SpellsRange (value : List ℕ) (lo hi : ℕ) : Type 0 where
 -- microseconds after 1970 began, in decimal digits, up to the end of 2099
 abbrev pub SpellsMicros : List ℕ → ℕ → Type 0
 SpellsMicros value micros = (decimal value ≡ Some micros) × (micros ≤ 4102444799999999)
+
+-- a number from 1 up to the most, in decimal digits
+abbrev pub SpellsUpTo : ℕ → List ℕ → ℕ → Type 0
+SpellsUpTo most value n = (decimal value ≡ Some n) × (1 ≤ n) × (n ≤ most)
 
 -- what a value says, where there is one: a range, or all where it is left out
 abbrev pub IsRangeOf : Option (List ℕ) → Option RevRange → Type 0
@@ -67,7 +71,11 @@ IsTokenOf (Some value) token = (token ≡ value) × (is_token value ≡ true)
 abbrev pub is_given : List Row → List ℕ → Bool
 is_given rows name = option_map_or (λ value. bytes_eq value (codes "true")) (first_of name rows) false
 
--- a command's folder, identity, range, path, message and moment are those of the values under their names
+-- the first value of that name spells the number
+abbrev pub HasNumber : List Row → List ℕ → ℕ → ℕ → Type 0
+HasNumber rows name most n = (value : List ℕ) × HasValue rows name value × SpellsUpTo most value n
+
+-- a command's folder, identity, range, path, message, moment, port and connections are those of the values under their names
 abbrev pub HasValuesOf : List Row → Command → Type 0
 HasValuesOf rows ListIt = Unit {0}
 HasValuesOf rows Canon = Unit {0}
@@ -85,6 +93,8 @@ HasValuesOf rows (CopyRevprops mirror source token range) =
     HasFolders rows (string_bytes mirror) (string_bytes source) × IsTokenOf (first_of (codes "token") rows) token
     × IsRangeGiven rows range
 HasValuesOf rows (Info mirror) = HasValue rows (codes "MIRROR") (string_bytes mirror)
+HasValuesOf rows (Serve folder port connections) =
+    HasValue rows (codes "DIR") (string_bytes folder) × HasNumber rows (codes "port") 65535 port × HasNumber rows (codes "connections") 1024 connections
 
 -- of a subcommand with its values: the command has its name and its values
 abbrev pub IsCommandOf : Option (List ℕ × List Row) → Command → Type 0

@@ -4,7 +4,7 @@ use Rattle.clap.specs.Words.{App, Rule, new_app, new_rule, with_rule, with_subco
 use Rattle.clap.specs.Simple.{on_top}
 use Rattle.clap.specs.declared.builder.action.ArgAction.TheVariants.{Set, SetTrue}
 use Rattle.fleet_main.specs.declared.command_line.Command.{Command}
-use Rattle.fleet_main.specs.declared.command_line.Command.TheVariants.{List as ListIt, Canon, Create, Load, Dump, MakeDir, Initialize, Synchronize, CopyRevprops, Info}
+use Rattle.fleet_main.specs.declared.command_line.Command.TheVariants.{List as ListIt, Canon, Create, Load, Dump, MakeDir, Initialize, Synchronize, CopyRevprops, Info, Serve}
 
 abbrev pub list_app : App
 list_app = new_app (codes "list")
@@ -67,6 +67,13 @@ copy_revprops_app = with_rule (with_rule (two_folders_app (codes "copy-revprops"
 abbrev pub info_app : App
 info_app = with_rule (new_app (codes "info")) (word_rule (codes "MIRROR"))
 
+-- a folder, a port and a number of connections
+abbrev pub serve_place_app : App
+serve_place_app = with_rule (new_app (codes "serve")) (word_rule (codes "DIR"))
+
+abbrev pub serve_app : App
+serve_app = with_rule (with_rule serve_place_app (named_rule (codes "port"))) (named_rule (codes "connections"))
+
 -- the program by itself
 abbrev pub bare_app : App
 bare_app = on_top (λ s. record s { has_version = true; subcommand_required = true }) (new_app (codes "svnfleet"))
@@ -87,9 +94,13 @@ histories_app = with_subcommand (with_subcommand folders_app dump_app.top) mkdir
 abbrev pub mirrors_app : App
 mirrors_app = with_subcommand (with_subcommand histories_app initialize_app.top) synchronize_app.top
 
+-- and with that which tells of a mirror
+abbrev pub told_app : App
+told_app = with_subcommand (with_subcommand mirrors_app copy_revprops_app.top) info_app.top
+
 -- the program and its subcommands, of which it wants one
 abbrev pub svnfleet_app : App
-svnfleet_app = with_subcommand (with_subcommand mirrors_app copy_revprops_app.top) info_app.top
+svnfleet_app = with_subcommand told_app serve_app.top
 
 -- the word that names a command
 abbrev pub word_of : Command → List ℕ
@@ -103,3 +114,4 @@ word_of (Initialize mirror source) = codes "initialize"
 word_of (Synchronize mirror source token steal) = codes "synchronize"
 word_of (CopyRevprops mirror source token range) = codes "copy-revprops"
 word_of (Info mirror) = codes "info"
+word_of (Serve folder port connections) = codes "serve"

@@ -12,12 +12,13 @@ ghost use Rattle.fleet_main.specs.Lines.{HasNoLineFeed, IsLineOf, first_lines, h
 ghost use Rattle.fleet_main.specs.Terminal.{HasNoControl};
 ghost use Rattle.fleet_main.specs.Usages.{IsRefusedAt, IsSyncRefused, IsTold, IsUsageAt, IsUsageOf};
 ghost use Rattle.fleet_main.specs.Values.{HasFolders, HasReturn, HasValue, IsCommandOf, IsTokenOf, SpellsMicros};
-ghost use Rattle.fleet_main.specs.Values.{IsRangeGiven, SpellsRange, identity_read, is_given, is_on_server};
+ghost use Rattle.fleet_main.specs.Values.{HasNumber, IsRangeGiven, SpellsRange, SpellsUpTo, identity_read, is_given};
+ghost use Rattle.fleet_main.specs.Values.{is_on_server};
 ghost use Rattle.fleet_main.specs.Words.{canon_app, copied_range_rule, copy_revprops_app, create_app, dump_app};
 ghost use Rattle.fleet_main.specs.Words.{flag_rule, folders_app, histories_app, info_app, initialize_app, list_app};
 ghost use Rattle.fleet_main.specs.Words.{load_app, mirrors_app, mkdir_app, mkdir_place_app, named_rule, optional_rule};
-ghost use Rattle.fleet_main.specs.Words.{range_rule, streams_app, svnfleet_app, synchronize_app, two_folders_app};
-ghost use Rattle.fleet_main.specs.Words.{word_rule};
+ghost use Rattle.fleet_main.specs.Words.{range_rule, serve_app, serve_place_app, streams_app, svnfleet_app};
+ghost use Rattle.fleet_main.specs.Words.{synchronize_app, told_app, two_folders_app, word_rule};
 ghost use Rattle.sync_core.specs.Tokens.{is_token};
 ghost use Rattle.node_base.specs.Numbers.{rev_read};
 ghost use Rattle.repo_core.specs.Dates.{IsMoment};
@@ -85,6 +86,12 @@ pub enum Command {
     /// Tell how a mirror stands.
     Info {
         mirror: String,
+    },
+    /// Serve a folder's repository on a port of 127.0.0.1, over so many connections.
+    Serve {
+        folder: String,
+        port: u16,
+        connections: u16,
     },
 }
 
@@ -380,6 +387,41 @@ fn info<'a>(alloc: Global) -> Result<clap::Command<'a>, AllocError>
     Ok(whole)
 }
 
+// The command and the place that it takes.
+fn serve_place<'a>(alloc: Global) -> Result<clap::Command<'a>, AllocError>
+    ensures app { IfOk result (λ c. app_of c ≡ serve_place_app) }
+    ensures local { IfOk result (λ c. (fields_of c).has_globals ≡ false) }
+{
+    let folder = word(alloc, "DIR", "The folder of the repository");
+    let top = clap::Command::new(alloc, "serve")
+        .about("Serves a folder's repository to svnsync and other clients on this machine")
+        .after_help(texts::SERVE);
+    let whole = top.arg(folder)?;
+    Ok(whole)
+}
+
+fn serve<'a>(alloc: Global) -> Result<clap::Command<'a>, AllocError>
+    ensures app { IfOk result (λ c. app_of c ≡ serve_app) }
+    ensures local { IfOk result (λ c. (fields_of c).has_globals ≡ false) }
+{
+    let port = valued(
+        alloc,
+        "port",
+        "P",
+        "The port of 127.0.0.1, from 1 to 65535",
+    );
+    let connections = valued(
+        alloc,
+        "connections",
+        "N",
+        "The number of connections, from 1 to 1024, after which it ends",
+    );
+    let top = serve_place(alloc)?;
+    let placed = top.arg(port)?;
+    let whole = placed.arg(connections)?;
+    Ok(whole)
+}
+
 // The program with the commands over streams alone.
 fn over_streams<'a>(alloc: Global) -> Result<clap::Command<'a>, AllocError>
     ensures app { IfOk result (λ c. app_of c ≡ streams_app) }
@@ -436,8 +478,9 @@ fn over_mirrors<'a>(alloc: Global) -> Result<clap::Command<'a>, AllocError>
     Ok(whole)
 }
 
-fn svnfleet<'a>(alloc: Global) -> Result<clap::Command<'a>, AllocError>
-    ensures app { IfOk result (λ c. app_of c ≡ svnfleet_app) }
+// And with that which tells of a mirror.
+fn over_told<'a>(alloc: Global) -> Result<clap::Command<'a>, AllocError>
+    ensures app { IfOk result (λ c. app_of c ≡ told_app) }
     ensures local { IfOk result (λ c. (fields_of c).has_globals ≡ false) }
 {
     let copy_revprops = copy_revprops(alloc)?;
@@ -448,10 +491,20 @@ fn svnfleet<'a>(alloc: Global) -> Result<clap::Command<'a>, AllocError>
     Ok(whole)
 }
 
+fn svnfleet<'a>(alloc: Global) -> Result<clap::Command<'a>, AllocError>
+    ensures app { IfOk result (λ c. app_of c ≡ svnfleet_app) }
+    ensures local { IfOk result (λ c. (fields_of c).has_globals ≡ false) }
+{
+    let serve = serve(alloc)?;
+    let top = over_told(alloc)?;
+    let whole = top.subcommand(serve)?;
+    Ok(whole)
+}
+
 /// The command that the words name, the program's name first, with the values that they give it. Usage where they name
 /// none: help or the version only where it was asked for, and else what is wrong, in the words or in the value of an
-/// identity, a range, a moment or a message, in one line without control characters that names the help of the command
-/// at hand.
+/// identity, a range, a moment, a message, a port or a number of connections, in one line without control characters
+/// that names the help of the command at hand.
 pub fn plan(alloc: Global, words: &[String]) -> Result<Command, Usage>
     ensures named { IfOk result (IsCommandOf (subcommand_of svnfleet_app (map string_bytes words.now))) }
     ensures faultless { IfOk result (λ _. fault_of svnfleet_app (map string_bytes words.now) ≡ []) }
@@ -490,6 +543,7 @@ fn named(alloc: Global, matches: &ArgMatches<'_>) -> Result<Command, Usage>
         Some(("synchronize", given)) => synchronize_named(alloc, given),
         Some(("copy-revprops", given)) => copy_revprops_named(alloc, given),
         Some(("info", given)) => info_named(alloc, given),
+        Some(("serve", given)) => serve_named(alloc, given),
         _ => Err(Usage::OutOfMemory),
     }
 }
@@ -683,6 +737,59 @@ fn info_named(alloc: Global, given: &ArgMatches<'_>) -> Result<Command, Usage>
     })
 }
 
+fn serve_named(alloc: Global, given: &ArgMatches<'_>) -> Result<Command, Usage>
+    ensures named { IfOk result (IsCommandOf (Some (codes "serve", rows_of (found_of given.now)))) }
+    ensures usage { IfErr result (IsRefusedAt (Some (codes "serve", rows_of (found_of given.now)))) }
+{
+    match port_of(alloc, given) {
+        Ok(port) => match connections_of(alloc, given) {
+            Ok(connections) => Ok(Command::Serve {
+                folder: text(alloc, given, "DIR")?,
+                port,
+                connections,
+            }),
+            Err(usage) => Err(usage),
+        },
+        Err(usage) => Err(usage),
+    }
+}
+
+fn port_of(alloc: Global, given: &ArgMatches<'_>) -> Result<u16, Usage>
+    ensures port { IfOk result (HasNumber (rows_of (found_of given.now)) (codes "port") 65535) }
+    ensures usage { IfErr result (IsRefusedAt (Some (codes "serve", rows_of (found_of given.now)))) }
+{
+    let Some(value) = value(given, "port") else {
+        return Err(Usage::OutOfMemory);
+    };
+    match up_to(value, 65_535) {
+        Some(port) => Ok(port),
+        None => Err(wrong(
+            alloc,
+            "svnfleet serve",
+            value,
+            "a port from 1 to 65535",
+        )),
+    }
+}
+
+fn connections_of(alloc: Global, given: &ArgMatches<'_>) -> Result<u16, Usage>
+    ensures connections { IfOk result (HasNumber (rows_of (found_of given.now)) (codes "connections") 1024) }
+    ensures usage { IfErr result (IsRefusedAt (Some (codes "serve", rows_of (found_of given.now)))) }
+{
+    let Some(value) = value(given, "connections") else {
+        return Err(Usage::OutOfMemory);
+    };
+    match up_to(value, 1024) {
+        Some(connections) => Ok(connections),
+        None => Err(wrong(
+            alloc,
+            "svnfleet serve",
+            value,
+            "a number of connections from 1 to 1024",
+        )),
+    }
+}
+
 // The folders of a mirror and its source, which are two.
 fn folders(alloc: Global, help: &str, given: &ArgMatches<'_>) -> Result<(String, String), Usage>
     ensures folders { IfOk result (λ p. HasFolders (rows_of (found_of given.now)) (string_bytes p.0)
@@ -813,6 +920,18 @@ fn moment_of(value: &str) -> Option<Moment>
     ensures none { IfNone result ((micros : ℕ) → SpellsMicros value.now micros → ⊥) }
 {
     Moment::from_micros(read_decimal(value.as_bytes())?)
+}
+
+// The number from 1 up to the most that decimal digits spell.
+fn up_to(value: &str, most: u16) -> Option<u16>
+    ensures some { IfSome result (SpellsUpTo most value.now) }
+    ensures none { IfNone result ((n : ℕ) → SpellsUpTo most value.now n → ⊥) }
+{
+    let number = read_decimal(value.as_bytes())?;
+    if number == 0 || number > u64::from(most) {
+        return None;
+    }
+    u16::try_from(number).ok()
 }
 
 // What the program tells of an error that clap found in the words.

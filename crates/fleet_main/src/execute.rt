@@ -1,21 +1,25 @@
 //! One command, from its words to its status.
-ghost use Rattle.std.specs.Prelude.{◌≡◌, ◌⊎◌, ◌||◌, ◌<◌, length, true, IfErr, IfOk, OnOk, string_bytes};
+ghost use Rattle.std.specs.Prelude.{◌≡◌, ◌⊎◌, ◌||◌, ◌<◌, length, true, false, IfErr, IfOk, OnOk, string_bytes};
 ghost use Rattle.std.specs.Io.KnownBytes.{Appends};
 ghost use Rattle.fleet_disk.specs.Image.{Image};
+ghost use Rattle.fleet_disk.specs.Rules.{Rose};
 ghost use Rattle.node_base.specs.declared.refusal.Refusal.{Refusal as RefusalOf};
 ghost use Rattle.node_base.specs.Refusals.{fault_line};
 ghost use Rattle.repo_store.specs.Journal.{Keeps};
-ghost use Rattle.repo_store.specs.Words.{disk_of, repository_of, HasFailed};
+ghost use Rattle.repo_store.specs.Words.{disk_of, repository_of, revisions_of, HasFailed};
+ghost use Rattle.store_engines.specs.Mirrors.{is_mirror};
 ghost use Rattle.fleet_engines.specs.Runs.{BothFlagged, Flagged};
 ghost use Rattle.mirror_engines.specs.Runs.{IsInitialised, IsWorked};
 ghost use Rattle.fleet_main.specs.Doing.{EndsWith, HandsOn, IsBegun, IsCommittedTo, IsDone, IsDumped, IsLoadedFrom};
-ghost use Rattle.fleet_main.specs.Doing.{IsNotDone, IsToldOf, IsWorkedOver, NoSourceOr, NotCommittedTo, NotDumped};
-ghost use Rattle.fleet_main.specs.Doing.{NotKept, NotLoadedFrom, NotToldOf, NotWorkedOn, NotWorkedOver, OfBoth};
-ghost use Rattle.fleet_main.specs.Doing.{OfStanding, OverSource, UnopenedBoth, UnopenedOr, WorkedOn};
+ghost use Rattle.fleet_main.specs.Doing.{IsNotDone, IsServed, IsToldOf, IsWorkedOver, NoSourceOr, NotCommittedTo};
+ghost use Rattle.fleet_main.specs.Doing.{NotDumped, NotKept, NotLoadedFrom, NotServed, NotToldOf, NotWorkedOn};
+ghost use Rattle.fleet_main.specs.Doing.{NotWorkedOver, OfBoth, OfStanding, OverSource, UnopenedBoth, UnopenedOr};
+ghost use Rattle.fleet_main.specs.Doing.{WorkedOn, is_serve};
 ghost use Rattle.fleet_main.specs.Opening.{DiskFails, NotBegun};
 
 use crate::command_line::Command;
 use crate::folders::{Folders, created, opened};
+use crate::serving::Serving;
 use fleet_disk::Disk;
 use fleet_engines::{Sink, Source, run_canon, run_list};
 use mirror_engines::{Work, run_info, run_work};
@@ -25,7 +29,7 @@ use repo_core::Moment;
 use repo_store::RepoStore;
 use std::alloc::Global;
 use std::io::{Read, Write};
-use store_engines::{RevRange, run_dump, run_load, run_mkdir};
+use store_engines::{RevRange, is_mirror, run_dump, run_load, run_mkdir};
 use sync_core::Token;
 use uuid::Uuid;
 
@@ -167,6 +171,41 @@ fn info<F: Folders, W: Write + Drop>(
     }
 }
 
+// Whether a store's repository is a mirror.
+fn is_mirrored<D: Disk + Drop>(store: &RepoStore<D>) -> bool
+    ensures { result ≡ is_mirror (revisions_of store.now) }
+{
+    is_mirror(store.repo())
+}
+
+fn serve<F: Folders, S: Serving, W: Write + Drop>(
+    alloc: Global,
+    folders: &mut F,
+    server: &mut S,
+    folder: &str,
+    port: u16,
+    connections: u16,
+    output: &mut Sink<W>,
+) -> Result<(), Refusal>
+    ensures done { OnOk result (OfStanding F.Place.Disk (F.honest folders.old) (F.holds folders.old folder.now)
+        (IsServed (F.honest folders.old) (S.has_served server.new) port connections (W.contents output.old.inner)
+        (W.contents output.new.inner))) }
+    ensures refused { IfErr result (λ e. UnopenedOr F.Place.Disk
+        (DiskFails F.Place.failures (F.failures folders.old) (F.failures folders.new)) (F.honest folders.old) folder.now
+        (F.holds folders.old folder.now) (W.contents output.old.inner) (W.contents output.new.inner) e
+        (NotServed (F.honest folders.old) (Rose (S.failures server.old) (S.failures server.new)) e)) }
+    ensures unfailed { output.new.failed ≡ output.old.failed }
+{
+    match opened(alloc, folders, folder) {
+        Ok(store) => {
+            kept(&store);
+            let mirror = is_mirrored(&store);
+            server.serve(alloc, store, mirror, port, connections, output)
+        }
+        Err(refusal) => Err(refusal),
+    }
+}
+
 // The mirror's folder is opened first.
 fn mirrored<F: Folders, W: Write + Drop>(
     alloc: Global,
@@ -291,20 +330,22 @@ fn url_of(alloc: Global, source: &str) -> Result<PropValue, Refusal>
 }
 
 // The command's answer, with what it wrote.
-fn run_one<F: Folders, R: Read + Drop, W: Write + Drop>(
+fn run_one<F: Folders, S: Serving, R: Read + Drop, W: Write + Drop>(
     alloc: Global,
     folders: &mut F,
+    server: &mut S,
     command: Command,
     input: &mut Source<R>,
     output: Sink<W>,
 ) -> (Sink<W>, Result<(), Refusal>)
-    ensures done { OnOk result.1 (IsDone F.Place.Disk F.honest F.holds folders.old command
+    ensures done { OnOk result.1 (IsDone F.Place.Disk F.honest F.holds folders.old (S.has_served server.new) command
         (R.remaining input.old.inner) (W.contents output.inner) (W.contents result.0.inner)) }
-    ensures refused { IfErr result.1 (IsNotDone F.Place.Disk F.failures F.honest F.holds folders.old
-        folders.new command (R.remaining input.old.inner) (W.contents output.inner) (W.contents result.0.inner)
-        result.0.failed) }
+    ensures refused { IfErr result.1 (IsNotDone F.Place.Disk F.failures F.honest F.holds folders.old folders.new
+        (Rose (S.failures server.old) (S.failures server.new)) command (R.remaining input.old.inner)
+        (W.contents output.inner) (W.contents result.0.inner) result.0.failed) }
     ensures unfailed { OnOk result.1 ((input.new.failed ≡ input.old.failed) × (result.0.failed ≡ output.failed)) }
-    ensures peer { IfErr result.1 (λ e. e ≡ Refusal.PeerFailed → (input.new.failed || result.0.failed) ≡ true) }
+    ensures peer { IfErr result.1 (λ e. e ≡ Refusal.PeerFailed → is_serve command ≡ false
+        → (input.new.failed || result.0.failed) ≡ true) }
 {
     let mut output = output;
     match command {
@@ -382,27 +423,46 @@ fn run_one<F: Folders, R: Read + Drop, W: Write + Drop>(
             let done = info(alloc, folders, mirror.as_str(), &mut output);
             (output, done)
         }
+        Command::Serve {
+            folder,
+            port,
+            connections,
+        } => {
+            let done = serve(
+                alloc,
+                folders,
+                server,
+                folder.as_str(),
+                port,
+                connections,
+                &mut output,
+            );
+            (output, done)
+        }
     }
 }
 
 // The command's answer, when what it wrote is handed on.
-fn run_flushed<F: Folders, R: Read + Drop, W: Write + Drop>(
+fn run_flushed<F: Folders, S: Serving, R: Read + Drop, W: Write + Drop>(
     alloc: Global,
     folders: &mut F,
+    server: &mut S,
     command: Command,
     input: &mut Source<R>,
     output: Sink<W>,
 ) -> (Sink<W>, Result<(), Refusal>)
-    ensures done { OnOk result.1 (HandsOn (IsDone F.Place.Disk F.honest F.holds folders.old command
-        (R.remaining input.old.inner) (W.contents output.inner)) (W.contents result.0.inner)) }
-    ensures refused { IfErr result.1 (EndsWith (IsDone F.Place.Disk F.honest F.holds folders.old command
-        (R.remaining input.old.inner) (W.contents output.inner))
-        (IsNotDone F.Place.Disk F.failures F.honest F.holds folders.old folders.new command
-        (R.remaining input.old.inner) (W.contents output.inner)) (W.contents result.0.inner) result.0.failed) }
+    ensures done { OnOk result.1 (HandsOn (IsDone F.Place.Disk F.honest F.holds folders.old (S.has_served server.new)
+        command (R.remaining input.old.inner) (W.contents output.inner)) (W.contents result.0.inner)) }
+    ensures refused { IfErr result.1 (EndsWith (IsDone F.Place.Disk F.honest F.holds folders.old
+        (S.has_served server.new) command (R.remaining input.old.inner) (W.contents output.inner))
+        (IsNotDone F.Place.Disk F.failures F.honest F.holds folders.old folders.new
+        (Rose (S.failures server.old) (S.failures server.new)) command (R.remaining input.old.inner)
+        (W.contents output.inner)) (W.contents result.0.inner) result.0.failed) }
     ensures unfailed { OnOk result.1 ((input.new.failed ≡ input.old.failed) × (result.0.failed ≡ output.failed)) }
-    ensures peer { IfErr result.1 (λ e. e ≡ Refusal.PeerFailed → (input.new.failed || result.0.failed) ≡ true) }
+    ensures peer { IfErr result.1 (λ e. e ≡ Refusal.PeerFailed → is_serve command ≡ false
+        → (input.new.failed || result.0.failed) ≡ true) }
 {
-    let (output, done) = run_one(alloc, folders, command, input, output);
+    let (output, done) = run_one(alloc, folders, server, command, input, output);
     let mut output = output;
     let flushed = output.flush();
     match done {
@@ -411,37 +471,40 @@ fn run_flushed<F: Folders, R: Read + Drop, W: Write + Drop>(
     }
 }
 
-/// Runs a command over folders. The status is 0 where it is done and what it wrote is handed on, or 1 where it was
+/// Runs a command over folders, and `serve` by the server. The status is 0 where it is done and what it wrote is handed on, or 1 where it was
 /// refused, and then the refusal's line is on `errors`. What was written before a refusal is flushed before its line.
 /// The writer comes back as the command has left it.
 ///
 /// Of honest folders it says besides what repository the folder's files kept, what the command made of it, and what a
 /// stop leaves: after a `create` that is done, and at each moment of the others. Of the commands over a mirror and its
 /// source it says this of both, the mirror's folder as it was and the source's as the opening of the mirror's has left
-/// it.
-pub fn run<F: Folders, R: Read + Drop, W: Write + Drop, E: Write + Drop>(
+/// it. Of `serve` it says what repository it was that was served, how, and the line that was printed: what clients were
+/// told and what they changed no clause says.
+pub fn run<F: Folders, S: Serving, R: Read + Drop, W: Write + Drop, E: Write + Drop>(
     alloc: Global,
     folders: &mut F,
+    server: &mut S,
     command: Command,
     input: &mut Source<R>,
     output: Sink<W>,
     errors: &mut Sink<E>,
 ) -> (u8, Sink<W>)
     ensures status { (result.0 ≡ 0) ⊎ (result.0 ≡ 1) }
-    ensures done { result.0 ≡ 0 → HandsOn (IsDone F.Place.Disk F.honest F.holds folders.old command
-        (R.remaining input.old.inner) (W.contents output.inner)) (W.contents result.1.inner) }
+    ensures done { result.0 ≡ 0 → HandsOn (IsDone F.Place.Disk F.honest F.holds folders.old (S.has_served server.new)
+        command (R.remaining input.old.inner) (W.contents output.inner)) (W.contents result.1.inner) }
     ensures unfailed { result.0 ≡ 0 → (input.new.failed ≡ input.old.failed) × (result.1.failed ≡ output.failed) }
     ensures silent { result.0 ≡ 0 → E.contents errors.new.inner ≡ E.contents errors.old.inner }
     ensures refused { result.0 ≡ 1 → (e : RefusalOf)
-        × EndsWith (IsDone F.Place.Disk F.honest F.holds folders.old command
+        × EndsWith (IsDone F.Place.Disk F.honest F.holds folders.old (S.has_served server.new) command
         (R.remaining input.old.inner) (W.contents output.inner))
-        (IsNotDone F.Place.Disk F.failures F.honest F.holds folders.old folders.new command
-        (R.remaining input.old.inner) (W.contents output.inner)) (W.contents result.1.inner) result.1.failed e
-        × (e ≡ Refusal.PeerFailed → (input.new.failed || result.1.failed) ≡ true)
+        (IsNotDone F.Place.Disk F.failures F.honest F.holds folders.old folders.new
+        (Rose (S.failures server.old) (S.failures server.new)) command (R.remaining input.old.inner)
+        (W.contents output.inner)) (W.contents result.1.inner) result.1.failed e
+        × (e ≡ Refusal.PeerFailed → is_serve command ≡ false → (input.new.failed || result.1.failed) ≡ true)
         × ((errors.new.failed ≡ true) ⊎ Appends (E.contents errors.old.inner) (E.contents errors.new.inner)
         (fault_line e)) }
 {
-    let (output, done) = run_flushed(alloc, folders, command, input, output);
+    let (output, done) = run_flushed(alloc, folders, server, command, input, output);
     match done {
         Ok(()) => (0, output),
         Err(refusal) => (refused(&refusal, errors), output),

@@ -38,7 +38,7 @@ pub enum FolderFault {
 /// or where memory ran out, honest or not.
 pub trait Folders {
     /// The disk of a folder.
-    type Place: Disk + Drop;
+    type Place: Disk + Drop + Send;
 
     /// The disks that it gives keep the rules.
     ghost honest: { Self → Type 0 };
@@ -104,7 +104,10 @@ impl<'a, R: HeldFiles> HostFolders<'a, R> {
     }
 }
 
-impl<'a, R: HeldFiles> Folders for HostFolders<'a, R> {
+impl<'a, R: HeldFiles> Folders for HostFolders<'a, R>
+where
+    R::File: Send,
+{
     type Place = HostDisk<R::File>;
 
     // Nothing shows it of the host.

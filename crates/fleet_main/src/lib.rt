@@ -3,7 +3,11 @@
 //! ```text
 //! fill_streams(&mut HostDescriptors::new(&rt))?;
 //! match plan(alloc, &words) {
-//!     Ok(command) => run(alloc, &mut HostFolders::new(&rt), command, &mut input, &mut output, &mut errors),
+//!     Ok(command) => {
+//!         let mut folders = HostFolders::new(&rt);
+//!         let mut server = HostServer::new(&rt);
+//!         run(alloc, &mut folders, &mut server, command, &mut input, output, &mut errors)
+//!     }
 //!     Err(Usage::Shown(text)) => show(text),
 //!     Err(Usage::Wrong(line)) => tell(line, 2),
 //!     Err(Usage::OutOfMemory) => tell("svnfleet: 70 out of memory", 1),
@@ -20,6 +24,7 @@ pub use command_line::{Command, Usage, plan};
 pub use execute::run;
 pub use fleet_engines::{Sink, Source};
 pub use folders::{FolderFault, Folders, HostFolders};
+pub use serving::{HostServer, Serving};
 pub use store_engines::RevRange;
 pub use streams::{Descriptors, HostDescriptors, fill_streams};
 
@@ -28,6 +33,7 @@ mod execute;
 mod folders;
 mod help;
 pub mod law;
+mod serving;
 mod streams;
 mod terminal;
 mod texts;

@@ -4,6 +4,10 @@
 #[cfg(test)]
 mod memory;
 #[cfg(test)]
+mod serve_tests;
+#[cfg(test)]
+mod server;
+#[cfg(test)]
 mod store_tests;
 #[cfg(test)]
 mod wire_tests;

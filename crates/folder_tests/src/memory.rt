@@ -96,7 +96,7 @@ impl<'a, D: Disk> MemFolders<'a, D> {
     }
 }
 
-impl<'a, D: Disk + Drop> Folders for MemFolders<'a, D> {
+impl<'a, D: Disk + Drop + Send> Folders for MemFolders<'a, D> {
     type Place = Lent<'a, D>;
 
     ghost honest = { λ folders. IfSome folders.named (λ disk. D.honest disk.now) × IfSome folders.other (λ disk. D.honest disk.now) };

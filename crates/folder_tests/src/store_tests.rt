@@ -2,8 +2,9 @@
 //! refused.
 
 use crate::memory::MemFolders;
+use crate::server::Noted;
 use fleet_disk::{Disk, DiskFile, Fuse, FuseDisk, MemDisk, Pick};
-use fleet_main::{Command, Folders, Sink, Source, plan, run};
+use fleet_main::{Command, Folders, Serving, Sink, Source, plan, run};
 use node_base::{PropName, RevNo};
 use repo_core::Expected;
 use std::alloc::{AllocError, Global};
@@ -31,7 +32,7 @@ const NO_FILE: &str =
     "Revision-number: 2\nProp-content-length: 10\nContent-length: 10\n\nPROPS-END\n\nNode-path: a\nNode-action: delete\n\n\n\n";
 
 // Revision 0 of a mirror.
-const MIRROR: &str =
+pub(crate) const MIRROR: &str =
     "Revision-number: 0\nProp-content-length: 51\nContent-length: 51\n\nK 17\nsvn:sync-from-url\nV 12\nfile:///a/b/\nPROPS-END\n\n";
 
 // Revision 1 adds directory `a`: its properties have 75 bytes.
@@ -83,7 +84,7 @@ fn holds(disk: &MemDisk, parts: &[&str], gate: &[u8]) -> bool {
 }
 
 // The command that words name.
-fn named(alloc: Global, words: &[&str]) -> Result<Command, Fail> {
+pub(crate) fn named(alloc: Global, words: &[&str]) -> Result<Command, Fail> {
     let mut all = Vec::new(alloc);
     all.push(String::from_str(alloc, "svnfleet")?)?;
     for word in words {
@@ -97,7 +98,7 @@ fn named(alloc: Global, words: &[&str]) -> Result<Command, Fail> {
 
 // What a run gave.
 #[derive(Drop)]
-struct Ran {
+pub(crate) struct Ran {
     status: u8,
     output: Vec<u8>,
     errors: Vec<u8>,
@@ -112,9 +113,30 @@ fn run_over<F: Folders, R: Read + Drop>(
 ) -> Ran
     requires { F.honest folders.old }
 {
+    run_beside(alloc, folders, &mut Noted::new(), command, input)
+}
+
+// And beside this server.
+pub(crate) fn run_beside<F: Folders, S: Serving, R: Read + Drop>(
+    alloc: Global,
+    folders: &mut F,
+    server: &mut S,
+    command: Command,
+    input: &mut Source<R>,
+) -> Ran
+    requires { F.honest folders.old }
+{
     let output = Sink::new(Vec::new(alloc));
     let mut errors = Sink::new(Vec::new(alloc));
-    let (status, output) = run(alloc, folders, command, input, output, &mut errors);
+    let (status, output) = run(
+        alloc,
+        folders,
+        server,
+        command,
+        input,
+        output,
+        &mut errors,
+    );
     Ran {
         status,
         output: output.into_inner(),
@@ -133,7 +155,7 @@ pub(crate) struct Step<'a> {
 }
 
 // Whether a run came to what a step says.
-fn came_to(ran: &Ran, step: &Step<'_>) -> bool {
+pub(crate) fn came_to(ran: &Ran, step: &Step<'_>) -> bool {
     let status = if step.errors.is_empty() { 0 } else { 1 };
     ran.status == status
         && are(&ran.output, step.output)
@@ -141,7 +163,7 @@ fn came_to(ran: &Ran, step: &Step<'_>) -> bool {
 }
 
 // Whether a step over the folder `repo` on this disk comes to what it says.
-pub(crate) fn comes<D: Disk + Drop>(
+pub(crate) fn comes<D: Disk + Drop + Send>(
     alloc: Global,
     disk: &mut D,
     step: &Step<'_>,
@@ -190,7 +212,11 @@ pub(crate) fn done<'a>(
 }
 
 // A step that is refused before anything is printed.
-fn refused<'a>(words: &'a [&'a str], input: &'a [&'a str], errors: &'a str) -> Step<'a> {
+pub(crate) fn refused<'a>(
+    words: &'a [&'a str],
+    input: &'a [&'a str],
+    errors: &'a str,
+) -> Step<'a> {
     Step {
         words,
         input,

@@ -1,14 +1,17 @@
-//! svnfleet: lists and rewrites the dumps of Subversion repositories, and keeps repositories and mirrors of them in
-//! folders.
+//! svnfleet: lists and rewrites the dumps of Subversion repositories, keeps repositories and mirrors of them in folders,
+//! and serves these to Subversion's clients.
 #![tactic(auto)]
 
-use fleet_main::{HostDescriptors, HostFolders, Sink, Source, Usage, fill_streams, plan, run};
+use fleet_main::{
+    HostDescriptors, HostFolders, HostServer, Serving, Sink, Source, Usage, fill_streams, plan, run,
+};
 use std::io::{BufWriter, ErrorKind};
 use std::process::ExitCode;
 use std::{env, io};
 
 fn main(rt: HostRuntime) -> ExitCode {
-    ExitCode::from(status(&rt))
+    let mut server = HostServer::new(&rt);
+    ExitCode::from(status(&rt, &mut server))
 }
 
 // The words that the program was given, its name first.
@@ -27,9 +30,9 @@ fn told(rt: &HostRuntime, line: &str, status: u8) -> u8 {
 }
 
 // No file is opened before the standard streams are there.
-fn status(rt: &HostRuntime) -> u8 {
+fn status<S: Serving>(rt: &HostRuntime, server: &mut S) -> u8 {
     match fill_streams(&mut HostDescriptors::new(rt)) {
-        Ok(()) => worded(rt),
+        Ok(()) => worded(rt, server),
         Err(error) => {
             if error.kind() == ErrorKind::OutOfMemory {
                 return told(rt, "svnfleet: 70 out of memory", 1);
@@ -39,9 +42,9 @@ fn status(rt: &HostRuntime) -> u8 {
     }
 }
 
-fn worded(rt: &HostRuntime) -> u8 {
+fn worded<S: Serving>(rt: &HostRuntime, server: &mut S) -> u8 {
     match words(rt) {
-        Ok(words) => planned(rt, &words),
+        Ok(words) => planned(rt, server, &words),
         Err(error) => {
             if error.kind() == ErrorKind::OutOfMemory {
                 return told(rt, "svnfleet: 70 out of memory", 1);
@@ -55,7 +58,7 @@ fn worded(rt: &HostRuntime) -> u8 {
     }
 }
 
-fn planned(rt: &HostRuntime, words: &[String]) -> u8 {
+fn planned<S: Serving>(rt: &HostRuntime, server: &mut S, words: &[String]) -> u8 {
     match plan(rt.alloc(), words) {
         Ok(command) => {
             let Ok(buffer) = BufWriter::with_capacity(rt.alloc(), 65_536, rt.stdout()) else {
@@ -66,6 +69,7 @@ fn planned(rt: &HostRuntime, words: &[String]) -> u8 {
             let (status, _output) = run(
                 rt.alloc(),
                 &mut HostFolders::new(rt),
+                server,
                 command,
                 &mut input,
                 Sink::new(buffer),

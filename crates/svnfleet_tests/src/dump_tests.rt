@@ -1,5 +1,6 @@
 //! Whole runs of `list` and `canon` over memory.
 
+use crate::idle::Idle;
 use fleet_main::{Command, HostFolders, Sink, Source, run};
 use std::alloc::{AllocError, Global};
 use std::test::Fail;
@@ -48,6 +49,7 @@ fn outcome_of(rt: &HostRuntime, command: Command, parts: &[&str]) -> Result<Ran,
     let (status, output) = run(
         rt.alloc(),
         &mut folders,
+        &mut Idle,
         command,
         &mut input,
         output,

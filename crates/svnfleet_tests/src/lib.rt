@@ -4,6 +4,8 @@
 #[cfg(test)]
 mod dump_tests;
 #[cfg(test)]
+mod idle;
+#[cfg(test)]
 mod stream_tests;
 #[cfg(test)]
 mod word_tests;

@@ -1,6 +1,7 @@
 //! Runs whose reader or writer fails, and the engines without a status.
 
 use crate::dump_tests::{HEAD, ONE_FILE, ZERO, joined};
+use crate::idle::Idle;
 use fleet_engines::{
     Sink, Source, records_dont_matter, revisions_are_grouped, run_canon, run_list,
 };
@@ -51,6 +52,7 @@ fn tells<R: Read + Drop, W: Write + Drop>(
     let (status, output) = run(
         rt.alloc(),
         &mut folders,
+        &mut Idle,
         Command::Canon,
         input,
         output,

@@ -119,3 +119,67 @@ fn words_make_a_directory(rt: HostRuntime) -> Result<(), Fail> {
     assert!(rt; makes_directory(rt.alloc(), &words, "2001-09-09T01:46:40.123456Z")?);
     Ok(())
 }
+
+// By serving the folder `repo`, on this port and over so many connections.
+fn serves(alloc: Global, parts: &[&str], wanted: (u16, u16)) -> Result<bool, Fail> {
+    match planned(alloc, parts)? {
+        Ok(
+            Command::Serve {
+                folder,
+                port,
+                connections,
+            },
+        ) => Ok(folder.as_str() == "repo" && (port, connections) == wanted),
+        _ => Ok(false),
+    }
+}
+
+// Whether a port and a number of connections are taken as these.
+fn are_served(alloc: Global, port: &str, connections: &str, wanted: (u16, u16)) -> Result<bool, Fail> {
+    let words = [
+        "serve",
+        "repo",
+        "--port",
+        port,
+        "--connections",
+        connections,
+    ];
+    serves(alloc, &words, wanted)
+}
+
+#[test]
+fn words_serve(rt: HostRuntime) -> Result<(), Fail> {
+    assert!(rt; are_served(rt.alloc(), "3690", "7", (3690, 7))?);
+    assert!(rt; are_served(rt.alloc(), "1", "1", (1, 1))?);
+    assert!(rt; are_served(rt.alloc(), "65535", "1024", (65_535, 1024))?);
+    Ok(())
+}
+
+// Whether a port and a number of connections are wrong.
+fn is_wrong(alloc: Global, port: &str, connections: &str) -> Result<bool, Fail> {
+    let words = [
+        "serve",
+        "repo",
+        "--port",
+        port,
+        "--connections",
+        connections,
+    ];
+    Ok(meaning(alloc, &words)? == "wrong")
+}
+
+#[test]
+fn words_serve_within_limits(rt: HostRuntime) -> Result<(), Fail> {
+    for (port, connections) in [
+        ("0", "1"),
+        ("65536", "1"),
+        ("1", "0"),
+        ("1", "1025"),
+        ("x", "1"),
+        ("1", ""),
+        ("18446744073709551617", "1"),
+    ] {
+        assert!(rt; is_wrong(rt.alloc(), port, connections)?, "{port} {connections}");
+    }
+    Ok(())
+}
