@@ -6,3 +6,4 @@ pub mod Pieces
 pub mod Stored
 pub mod Replays
 pub mod Opening
+pub mod Handed

@@ -4,3 +4,4 @@ pub mod Answers
 pub mod Tellings
 pub mod Sessions
 pub mod Serving
+pub mod Counted

@@ -4,10 +4,13 @@
 //! in memory and one on a disk. What is written goes out command by command, and a replay revision by revision: no
 //! answer is composed whole but that of `get-dir`, which may be refused by its length.
 //!
+//! [`serve_to`] is the same over an output that counts its failures.
+//!
 //! `specs/Answers` has what each command is refused and told, and `specs/Sessions` what a whole session is; the clause
 //! `served` of [`serve`] is on these.
 #![tactic(auto)]
 
+pub use counted::{Unserved, serve_to};
 pub use fault::{End, PortFault, ServeFault};
 pub use held_repo::HeldRepo;
 pub use held_store::HeldStore;
@@ -17,6 +20,7 @@ pub use session::serve;
 mod answer;
 mod ask;
 mod browse;
+mod counted;
 mod fault;
 mod held_repo;
 mod held_store;

@@ -41,7 +41,8 @@ use uuid::Uuid;
 ///
 /// What it wrote is the answers to the items that it took, whatever the pieces in which they came: `ReadFailed` (49)
 /// only where the input's count of failures rose, or it was read 2^40 - 1 times, `WriteFailed` (49), or `OutOfMemory`
-/// (70) for a growth of its own.
+/// (70) for a growth of its own. A writer of std counts nothing: that `WriteFailed` comes only where the output's count
+/// of failures rose is said of `serve_to`, which hands it back behind a refusal too.
 pub fn serve<P: RepoPort, I: Input + Drop, W: Write + Drop>(
     alloc: Global,
     port: &mut P,

@@ -12,15 +12,15 @@ use std::alloc::Global;
 use std::process::Abort;
 use std::rt::HostRuntime;
 
-// A client that asks for a copy's replay, and all that it is told.
-const ASKED: &[u8] = b"( replay-range ( 2 2 0 true ) ) ";
+/// A client that asks for a copy's replay, and all that it is told.
+pub(crate) const ASKED: &[u8] = b"( replay-range ( 2 2 0 true ) ) ";
 
-const TOLD: [&[u8]; 7] = [
+pub(crate) const TOLD: [&[u8]; 7] = [
     GREETING, MECHANISMS, WELCOME, AUTHORISED, BARE, COPIED, DONE,
 ];
 
-// Whether bytes are a beginning of these parts.
-fn begin(bytes: &[u8], parts: &[&[u8]]) -> bool {
+/// Whether bytes are a beginning of these parts.
+pub(crate) fn begin(bytes: &[u8], parts: &[&[u8]]) -> bool {
     let mut rest = bytes;
     for part in parts {
         match rest.strip_prefix(*part) {

@@ -5,9 +5,10 @@ use crate::sessions::{
     AUTHORISED, DONE, GREETING, MECHANISMS, NO_MEMORY, URL, WELCOME, rest_behind,
 };
 use crate::streams_for_tests::{Held, items_from};
+use byte_streams::{MemOutput, Output};
 use dump_load::{Change, ChangeSet};
 use node_base::{Action, NodeKind, NodePath, Props, RevNo, Text};
-use ra_serve::{End, HeldRepo, ServeFault, serve};
+use ra_serve::{End, HeldRepo, ServeFault, serve, serve_to};
 use repo_core::Repo;
 use std::alloc::Global;
 use std::rt::HostRuntime;
@@ -147,13 +148,19 @@ fn is_served(alloc: Global, port: &mut HeldRepo, size: usize) -> bool {
     }
 }
 
-// The same over a repository of one file, where that could be made.
-fn is_served_whole(alloc: Global) -> bool {
-    let Some(set) = set(alloc) else {
-        return true;
-    };
+// A port over a repository of one file, where that could be made.
+fn port(alloc: Global) -> Option<HeldRepo> {
+    let set = set(alloc)?;
     match repo(alloc, set) {
-        Some(repo) => is_served(alloc, &mut HeldRepo::new(alloc, repo, false), SENT.len()),
+        Some(repo) => Some(HeldRepo::new(alloc, repo, false)),
+        None => None,
+    }
+}
+
+// The same over such a repository.
+fn is_served_whole(alloc: Global) -> bool {
+    match port(alloc) {
+        Some(mut port) => is_served(alloc, &mut port, SENT.len()),
         None => true,
     }
 }
@@ -161,4 +168,44 @@ fn is_served_whole(alloc: Global) -> bool {
 #[test]
 fn a_repository_is_served(rt: HostRuntime) {
     assert!(rt; is_served_whole(rt.alloc()));
+}
+
+// Whether a session is served to an output that grows, or given up at a growth that is refused: the output comes back,
+// has a beginning of the answers, and is said to have failed exactly where the growth was its own.
+fn is_served_to(alloc: Global, port: &mut HeldRepo) -> bool {
+    let mut items = items_from(alloc, SENT, SENT.len(), u64::MAX);
+    let out = MemOutput::new(alloc, u64::MAX);
+    match serve_to(alloc, port, URL, &mut items, out) {
+        Ok((out, end)) => end == End::Input && is_session(out.bytes(), true),
+        Err(unserved) => is_given_up(unserved.fault, &unserved.out),
+    }
+}
+
+fn is_given_up(fault: ServeFault, out: &Option<MemOutput>) -> bool {
+    match out {
+        Some(out) => is_told(fault, out.count_failures()) && is_session(out.bytes(), false),
+        None => false,
+    }
+}
+
+// Whether an output that has failed so often is told so.
+fn is_told(fault: ServeFault, failures: u64) -> bool {
+    if failures > 0 {
+        fault == ServeFault::WriteFailed
+    } else {
+        fault == ServeFault::OutOfMemory
+    }
+}
+
+// The same over a repository of one file, where that could be made.
+fn is_served_to_whole(alloc: Global) -> bool {
+    match port(alloc) {
+        Some(mut port) => is_served_to(alloc, &mut port),
+        None => true,
+    }
+}
+
+#[test]
+fn a_repository_is_served_to_an_output(rt: HostRuntime) {
+    assert!(rt; is_served_to_whole(rt.alloc()));
 }

@@ -7,6 +7,8 @@ mod captured;
 #[cfg(test)]
 mod captured_tests;
 #[cfg(test)]
+mod counted_tests;
+#[cfg(test)]
 mod failure_tests;
 #[cfg(test)]
 mod growth_tests;

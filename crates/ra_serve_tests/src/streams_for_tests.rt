@@ -57,3 +57,33 @@ impl<'a> Write for Held<'a> {
         Ok(())
     }
 }
+
+/// A writer of whose calls so many pass, writes and flushes, and each later one fails.
+#[derive(Drop)]
+pub(crate) struct Passing<'a> {
+    pub(crate) bytes: &'a mut Vec<u8>,
+    pub(crate) left: u64,
+}
+
+impl Passing<'_> {
+    // Lets one more call pass.
+    fn pass(&mut self) -> io::Result<()> {
+        if self.left == 0 {
+            return Err(io::Error::from(ErrorKind::BrokenPipe));
+        }
+        self.left -= 1;
+        Ok(())
+    }
+}
+
+impl<'a> Write for Passing<'a> {
+    fn write(&mut self, buf: &[u8]) -> io::Result<usize> {
+        self.pass()?;
+        self.bytes.extend_from_slice(buf)?;
+        Ok(buf.len())
+    }
+
+    fn flush(&mut self) -> io::Result<()> {
+        self.pass()
+    }
+}
