@@ -63,8 +63,10 @@ pub(crate) fn copied(rt: &impl Abort, alloc: Global, at: &[u8]) -> ChangeSet {
 
 /// The disk of a store whose revision 1 adds a directory, with the log `hi`.
 pub(crate) fn disk(rt: &impl Abort, alloc: Global) -> MemDisk {
-    let identity =
-        Uuid::parse_str("6a1f0c3e-0000-4000-8000-000000000001").expect(rt, "an identity");
+    let identity = Uuid::parse_str("6a1f0c3e-0000-4000-8000-000000000001").expect(
+        rt,
+        "an identity",
+    );
     let set = added(rt, alloc, b"t");
     let props = log(rt, alloc, b"hi");
     let made = RepoStore::create(alloc, MemDisk::new(alloc), identity);

@@ -83,10 +83,18 @@ fn fetch_the_same<R: Wait + Abort, L: RowName>(
     mut one: ReaderSeat<L>,
     mut other: ReaderSeat<L>,
 ) -> bool {
-    let (set, _props) = share.fetch(rt, alloc, &mut one, RevNo::new(2)).expect(rt, "a set");
-    let (found, _props) = share.fetch(rt, alloc, &mut other, RevNo::new(2)).expect(rt, "a set");
-    let read = share.read_at(&mut one, RevNo::new(2)).expect(rt, "a revision");
-    let there = share.read_at(&mut other, RevNo::new(2)).expect(rt, "a revision");
+    let (set, _props) = share
+        .fetch(rt, alloc, &mut one, RevNo::new(2))
+        .expect(rt, "a set");
+    let (found, _props) = share
+        .fetch(rt, alloc, &mut other, RevNo::new(2))
+        .expect(rt, "a set");
+    let read = share
+        .read_at(&mut one, RevNo::new(2))
+        .expect(rt, "a revision");
+    let there = share
+        .read_at(&mut other, RevNo::new(2))
+        .expect(rt, "a revision");
     are_same(&set, &found)
         && are_same(&set, &read.set)
         && have_same(alloc, &read.tree, &there.tree, 3)
