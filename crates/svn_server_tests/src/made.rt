@@ -79,8 +79,10 @@ pub(crate) fn copy_of_it(rt: &impl Abort, alloc: Global, at: &[u8]) -> ChangeSet
 
 // A store with revision 0 alone.
 fn empty_store(rt: &impl Abort, alloc: Global) -> RepoStore<MemDisk> {
-    let identity =
-        Uuid::parse_str("6a1f0c3e-0000-4000-8000-000000000001").expect(rt, "an identity");
+    let identity = Uuid::parse_str("6a1f0c3e-0000-4000-8000-000000000001").expect(
+        rt,
+        "an identity",
+    );
     RepoStore::create(alloc, MemDisk::new(alloc), identity)
         .map_err(|refused| refused.0)
         .expect(rt, "a store")

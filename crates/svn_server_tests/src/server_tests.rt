@@ -6,14 +6,13 @@ use fleet_disk::MemDisk;
 use repo_store::RepoStore;
 use sockets::{Server, dial};
 use std::alloc::Global;
-use std::io;
 use std::io::{Read, Write};
 use std::net::{Net, Shutdown, TcpListener, TcpStream};
 use std::process::Abort;
 use std::rt::HostRuntime;
 use std::sync::{Barrier, Wait};
-use std::thread;
 use std::thread::Threads;
+use std::{io, thread};
 use svn_server::serve_store;
 
 // Where a server says that it listens: whoever waits for that goes on behind the first flush.
@@ -56,15 +55,7 @@ fn serves<R: Net<Listener = TcpListener, Stream = TcpStream> + Threads + Wait + 
         line: Vec::new(alloc),
         listens,
     };
-    let answer = serve_store(
-        rt,
-        alloc,
-        store,
-        mirror,
-        port,
-        connections,
-        &mut output,
-    );
+    let answer = serve_store(rt, alloc, store, mirror, port, connections, &mut output);
     let line = format!(in alloc; "listening on 127.0.0.1:{port}\n").expect(rt, "memory");
     answer == Ok(()) && output.line.as_slice() == line.as_bytes()
 }
@@ -85,8 +76,8 @@ fn heard<R: Net<Listener = TcpListener, Stream = TcpStream> + Abort>(
     told
 }
 
-// What a server of a store tells clients that come one behind another and send this, in a row. None where it doesn't end
-// well.
+// What a server of a store tells clients that come one behind another and send this, in a row. None where it doesn't
+// end well.
 fn heard_of<R: Net<Listener = TcpListener, Stream = TcpStream> + Threads + Wait + Sync + Abort>(
     rt: &R,
     alloc: Global,
@@ -127,13 +118,7 @@ fn heard_each<R: Net<Listener = TcpListener, Stream = TcpStream> + Abort>(
 // Whether a server tells clients, one behind another, what a store of one's own does, and this last.
 fn tells_as_store<
     R: Net<Listener = TcpListener, Stream = TcpStream> + Threads + Wait + Sync + Abort,
->(
-    rt: &R,
-    alloc: Global,
-    mirror: bool,
-    asked: &[&[u8]],
-    last: &[u8],
-) -> bool {
+>(rt: &R, alloc: Global, mirror: bool, asked: &[&[u8]], last: &[u8]) -> bool {
     let port = free_port(rt);
     let url = format!(in alloc; "svn://127.0.0.1:{port}/").expect(rt, "memory");
     let store = long_store(rt, alloc);
