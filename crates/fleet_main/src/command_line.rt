@@ -404,12 +404,7 @@ fn serve<'a>(alloc: Global) -> Result<clap::Command<'a>, AllocError>
     ensures app { IfOk result (λ c. app_of c ≡ serve_app) }
     ensures local { IfOk result (λ c. (fields_of c).has_globals ≡ false) }
 {
-    let port = valued(
-        alloc,
-        "port",
-        "P",
-        "The port of 127.0.0.1, from 1 to 65535",
-    );
+    let port = valued(alloc, "port", "P", "The port of 127.0.0.1, from 1 to 65535");
     let connections = valued(
         alloc,
         "connections",
@@ -763,12 +758,7 @@ fn port_of(alloc: Global, given: &ArgMatches<'_>) -> Result<u16, Usage>
     };
     match up_to(value, 65_535) {
         Some(port) => Ok(port),
-        None => Err(wrong(
-            alloc,
-            "svnfleet serve",
-            value,
-            "a port from 1 to 65535",
-        )),
+        None => Err(wrong(alloc, "svnfleet serve", value, "a port from 1 to 65535")),
     }
 }
 

@@ -66,8 +66,7 @@ impl<'a, R> HostServer<'a, R> {
 }
 
 impl<'a, R: Net<Listener = TcpListener, Stream = TcpStream> + Threads + Wait + Sync> Serving
-    for HostServer<'a, R>
-{
+    for HostServer<'a, R> {
     // Nothing shows of the host what its sockets carried.
     ghost has_served = { λ server repository mirror port connections. ⊤ };
 
@@ -84,7 +83,15 @@ impl<'a, R: Net<Listener = TcpListener, Stream = TcpStream> + Threads + Wait + S
     ) -> Result<(), Refusal> {
         let rt = self.rt;
         let output = &mut output.inner;
-        match serve_store(rt, alloc, store, mirror, port, u64::from(connections), output) {
+        match serve_store(
+            rt,
+            alloc,
+            store,
+            mirror,
+            port,
+            u64::from(connections),
+            output,
+        ) {
             Ok(()) => Ok(()),
             Err(SocketFault::PeerFailed) => {
                 self.failures = self.failures.saturating_add(1);

@@ -72,7 +72,8 @@ properties were changed by hand (57), or the device fails; 2 where the words are
 pub const SERVE: &str = "\
 Serves the repository to Subversion's svnsync and svnrdump over svn://, on 127.0.0.1 alone, so to this machine:
 it asks for no password. Prints `listening on 127.0.0.1:P` once it listens, and ends when N connections have
-ended, those that failed among them; a client may make more than one. Another repository is begun as a copy by
+ended, those that failed among them. A call of svnsync makes one, a call of svnrdump two; a client that comes
+when all N are taken waits until it ends. Another repository is begun as a copy by
 `svnsync init file:///PATH svn://127.0.0.1:P/`, and brought up to DIR by `svnsync sync file:///PATH`.
 Nothing is committed to DIR. Properties of revisions that a client changes are changed in DIR, unless it is a
 mirror, which is served read-only (24). Each change that was answered stands after a stop.

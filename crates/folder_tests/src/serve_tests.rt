@@ -11,14 +11,7 @@ use fleet_main::Source;
 use std::alloc::Global;
 use std::test::Fail;
 
-const SERVE: [&str; 6] = [
-    "serve",
-    "--port",
-    "3690",
-    "repo",
-    "--connections",
-    "7",
-];
+const SERVE: [&str; 6] = ["serve", "--port", "3690", "repo", "--connections", "7"];
 
 // Whether the disk's repository is handed to a server with this note, and where it listens is printed.
 fn is_served(alloc: Global, disk: &mut MemDisk, wanted: (bool, u16, u16)) -> Result<bool, Fail> {

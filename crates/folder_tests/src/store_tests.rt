@@ -128,15 +128,7 @@ pub(crate) fn run_beside<F: Folders, S: Serving, R: Read + Drop>(
 {
     let output = Sink::new(Vec::new(alloc));
     let mut errors = Sink::new(Vec::new(alloc));
-    let (status, output) = run(
-        alloc,
-        folders,
-        server,
-        command,
-        input,
-        output,
-        &mut errors,
-    );
+    let (status, output) = run(alloc, folders, server, command, input, output, &mut errors);
     Ran {
         status,
         output: output.into_inner(),
@@ -212,11 +204,7 @@ pub(crate) fn done<'a>(
 }
 
 // A step that is refused before anything is printed.
-pub(crate) fn refused<'a>(
-    words: &'a [&'a str],
-    input: &'a [&'a str],
-    errors: &'a str,
-) -> Step<'a> {
+pub(crate) fn refused<'a>(words: &'a [&'a str], input: &'a [&'a str], errors: &'a str) -> Step<'a> {
     Step {
         words,
         input,

@@ -135,7 +135,12 @@ fn serves(alloc: Global, parts: &[&str], wanted: (u16, u16)) -> Result<bool, Fai
 }
 
 // Whether a port and a number of connections are taken as these.
-fn are_served(alloc: Global, port: &str, connections: &str, wanted: (u16, u16)) -> Result<bool, Fail> {
+fn are_served(
+    alloc: Global,
+    port: &str,
+    connections: &str,
+    wanted: (u16, u16),
+) -> Result<bool, Fail> {
     let words = [
         "serve",
         "repo",
@@ -179,7 +184,10 @@ fn words_serve_within_limits(rt: HostRuntime) -> Result<(), Fail> {
         ("1", ""),
         ("18446744073709551617", "1"),
     ] {
-        assert!(rt; is_wrong(rt.alloc(), port, connections)?, "{port} {connections}");
+        assert!(rt;
+            is_wrong(rt.alloc(), port, connections)?,
+            "{port} {connections}"
+        );
     }
     Ok(())
 }
