@@ -11,6 +11,7 @@ use dump_text::DumpReader;
 use node_base::Refusal;
 use std::alloc::Global;
 use std::io::{Read, Write};
+use std::mem::forget;
 
 // How many bytes are read at a time: 64 KiB.
 const PIECE: usize = 65_536;
@@ -86,7 +87,10 @@ fn run_pieces<R: Read + Drop, W: Write + Drop>(
     ensures peer { BothFlagged result input.old.failed input.new.failed output.old.failed output.new.failed }
 {
     let mut engine = Engine::new(alloc, product)?;
-    read_dump(&mut engine, DumpReader::new(alloc), piece, input, output)
+    let answer = read_dump(&mut engine, DumpReader::new(alloc), piece, input, output);
+    // (to take the trees apart would cost a third of the run: they are left to the end of the process)
+    forget(engine);
+    answer
 }
 
 // Reads a dump in pieces and writes what is made of it.
@@ -110,6 +114,8 @@ fn run_dump<R: Read + Drop, W: Write + Drop>(
 }
 
 /// Reads a dump and, at its end, prints its newest tree: nothing is written before the end has come without a fault.
+///
+/// The memory of what was read isn't given back: it is for a process that ends behind it.
 pub fn run_list<R: Read + Drop, W: Write + Drop>(
     alloc: Global,
     input: &mut Source<R>,
@@ -127,6 +133,8 @@ pub fn run_list<R: Read + Drop, W: Write + Drop>(
 
 /// Reads a dump and writes it in its canonical spelling: head and revision 0 once a record of another number or the end
 /// has come, and each later revision when it has been judged. A refusal leaves what was written before it.
+///
+/// The memory of what was read isn't given back: it is for a process that ends behind it.
 pub fn run_canon<R: Read + Drop, W: Write + Drop>(
     alloc: Global,
     input: &mut Source<R>,

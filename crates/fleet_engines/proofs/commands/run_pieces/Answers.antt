@@ -21,22 +21,22 @@ returns-in_err-engine-clause-peer g c =
 pub returns-clause-ok : goal.returns-clause-ok
 returns-clause-ok g c =
     let start = g.W.Write.contents c.args.output.now.inner in
-    let later = g.W.Write.contents c.read_dump.new.output.inner in
+    let later = g.W.Write.contents c.read_dump-answer.new.output.inner in
     let n = c.in_ok-engine.ensures.new in
     let there = first_reached c.in_ok-engine.engine.product c.new-2.result (told_of c.in_ok-engine.engine.history) start c.new-2.ensures n.1 in
-    on_ok_weaker c.read_dump.result
+    on_ok_weaker c.read_dump-answer.result
     (λ k some. subst (λ z. IfSome (g.R.Read.remaining c.args.input.now.inner) (λ bytes. Accepted z bytes start later)) n.0 (k some start there))
-    c.read_dump.ensures.ok
+    c.read_dump-answer.ensures.ok
 
 pub returns-clause-refused : goal.returns-clause-refused
 returns-clause-refused g c =
     let start = g.W.Write.contents c.args.output.now.inner in
-    let later = g.W.Write.contents c.read_dump.new.output.inner in
+    let later = g.W.Write.contents c.read_dump-answer.new.output.inner in
     let n = c.in_ok-engine.ensures.new in
     let there = first_reached c.in_ok-engine.engine.product c.new-2.result (told_of c.in_ok-engine.engine.history) start c.new-2.ensures n.1 in
-    IfErr-weaker c.read_dump.result _ _
+    IfErr-weaker c.read_dump-answer.result _ _
     (λ e d. elim d [
       | inl failed ↦ inl failed
       | inr k ↦ inr (λ some. subst (λ z. IfSome (g.R.Read.remaining c.args.input.now.inner) (λ bytes. Refused z bytes start later e)) n.0 (k some start there))
     ])
-    c.read_dump.ensures.refused
+    c.read_dump-answer.ensures.refused
