@@ -391,6 +391,8 @@ class History:
     def __init__(self, dump):
         self.identity, self.trees, self.written, self.fault = None, [{(): node(b'dir', {}, None, 0)}], [], None
         self.first_props, self.is_begun = {}, False
+        # each revision's properties, revision 0's as its last record has them, and its changes
+        self.props, self.changes = [{}], [[]]
         # the revision whose records come, not judged yet: its number, its properties, its changes
         self.open = None
         try:
@@ -425,12 +427,14 @@ class History:
             return
         number, props, nodes = self.open
         if number == 0 and not self.is_begun:
-            self.first_props = props
+            self.first_props = self.props[0] = props
         elif number != len(self.trees):
             raise Refused(16)
         else:
             changes = combined(nodes)
             self.trees.append(applied(self.trees, changes))
+            self.props.append(props)
+            self.changes.append(changes)
             self.written.append(revision_of(number, props, changes))
         self.open = None
 
