@@ -349,7 +349,8 @@ class Server:
     def at_get_dir(self, params):
         path, number, has_props, has_entries = params.path(), params.maybe(int), params.bool(), params.bool()
         if params.is_more():
-            wanted(all(is_a(it, Word) for it in params.next(list)))
+            # (the fields that are asked for: all are given)
+            params.next(list)
 
         def answered():
             found, tree = self.node(path, number), self.trees[self.number(number)]
