@@ -114,12 +114,20 @@ impl<'a, R: HeldFiles> Folders for HostFolders<'a, R> {
 
     ghost failures = { λ folders. folders.failures };
 
-    fn open(&mut self, alloc: Global, folder: &str) -> Result<HostDisk<StdFiles<R::File>>, FolderFault> {
+    fn open(
+        &mut self,
+        alloc: Global,
+        folder: &str,
+    ) -> Result<HostDisk<StdFiles<R::File>>, FolderFault> {
         let rt = self.rt;
         self.answered(HostDisk::open(rt, alloc, folder))
     }
 
-    fn create(&mut self, alloc: Global, folder: &str) -> Result<HostDisk<StdFiles<R::File>>, FolderFault> {
+    fn create(
+        &mut self,
+        alloc: Global,
+        folder: &str,
+    ) -> Result<HostDisk<StdFiles<R::File>>, FolderFault> {
         let rt = self.rt;
         self.answered(made(rt, alloc, folder))
     }
@@ -154,7 +162,11 @@ fn make_folder<R: Files>(rt: &R, folder: &str) -> io::Result<()> {
 }
 
 // The files of a folder, both of which are made where they are missing, but where one of them isn't empty.
-fn made<R: HeldFiles>(rt: &R, alloc: Global, folder: &str) -> io::Result<HostDisk<StdFiles<R::File>>>
+fn made<R: HeldFiles>(
+    rt: &R,
+    alloc: Global,
+    folder: &str,
+) -> io::Result<HostDisk<StdFiles<R::File>>>
     ensures unfailed { IfOk result (λ disk. failures_of disk ≡ 0) }
     ensures files { IfOk result (λ disk. HasFiles disk ⊎ HasBytes R.has_bytes disk) }
 {

@@ -25,4 +25,4 @@ returns-in-Err-open_store-clause-refused g c =
     opened_over (DiskFails g.F.Place.Disk.failures before now) (g.F.Folders.honest c.args.folders.now) (g.F.Place.Disk.honest c.in-Ok.disk)
     c.args.folder.now (g.F.Folders.holds c.args.folders.now c.args.folder.now) (g.F.Place.Disk.reads c.in-Ok.disk) refusal c.in-Ok.ensures.honest c.in-Ok.ensures.reads
     (open_refused g.F.Place.Disk.failures (g.F.Place.Disk.honest c.in-Ok.disk) c.args.folder.now (g.F.Place.Disk.reads c.in-Ok.disk) c.in-Ok.disk c.in-Err-open_store._disk refusal
-      e.no_other e.device e.damaged e.missing before now)
+    e.no_other e.device e.damaged e.missing before now)
