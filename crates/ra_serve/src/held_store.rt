@@ -26,8 +26,8 @@ pub struct HeldStore<D: Disk + Drop> {
     alloc: Global,
 }
 
-// The refusal of the port that a store's is.
-fn port_fault(fault: StoreFault) -> PortFault
+/// The refusal of a port that a store's is.
+pub fn port_fault(fault: StoreFault) -> PortFault
     ensures { result ≡ port_fault fault }
 {
     match fault {

@@ -13,7 +13,7 @@
 pub use counted::{Unserved, serve_to};
 pub use fault::{End, PortFault, ServeFault};
 pub use held_repo::HeldRepo;
-pub use held_store::HeldStore;
+pub use held_store::{HeldStore, port_fault};
 pub use port::{Replay, RepoPort};
 pub use session::serve;
 

@@ -81,17 +81,19 @@ impl Server {
     }
 
     /// Accepts so many connections and talks over each in a thread of its own; returns once all have ended. One that
-    /// can't be accepted (49), or gets no thread (70), counts too: its session ends so.
+    /// can't be accepted (49), or gets no thread (70), counts too: its session ends so. Behind the last one the port is
+    /// let go, so that whoever comes later is refused at once.
     pub fn run<R: Threads + Wait + Sync, S: Session + Sync>(
-        &self,
+        self,
         rt: &R,
         alloc: Global,
         connections: u64,
         session: &S,
     ) {
-        thread::scope(thread::scope_env(), rt, |scope| {
+        let Server { listener, port: _ } = self;
+        thread::scope(thread::scope_env(), rt, move |scope| {
             for connection in 0..connections {
-                let Ok((stream, _)) = self.listener.accept() else {
+                let Ok((stream, _)) = listener.accept() else {
                     session.ended(connection, Err(SocketFault::PeerFailed));
                     continue;
                 };
@@ -102,6 +104,7 @@ impl Server {
                     session.ended(connection, Err(SocketFault::OutOfMemory));
                 }
             }
+            drop(listener);
         });
     }
 }

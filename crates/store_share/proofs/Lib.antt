@@ -2,3 +2,4 @@ pub mod Chained
 pub mod Changing
 pub mod Seen
 pub mod Showing
+pub mod Crosses

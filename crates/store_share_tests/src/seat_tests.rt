@@ -1,0 +1,298 @@
+//! Seats of one share, and what they read beside threads that commit.
+
+ghost use Rattle.std.specs.Prelude.{◌≡◌};
+ghost use Rattle.store_share.specs.Opened.{cells_of};
+
+use crate::made::{copied, disk, log, log_name};
+use dump_load::ChangeSet;
+use fleet_disk::{Disk, MemDisk};
+use node_base::RevNo;
+use path_tree::Tree;
+use repo_core::Expected;
+use repo_store::{RepoStore, StoreFault};
+use std::alloc::Global;
+use std::marker::Brand;
+use std::process::Abort;
+use std::rt::HostRuntime;
+use std::sync::Wait;
+use std::thread;
+use std::thread::Threads;
+use store_share::{MasterShare, OpenedStore, ReaderSeat, RowName};
+
+// The number of a refusal, 0 where there is none.
+fn number_of<T: Drop>(answer: Result<T, StoreFault>) -> u8 {
+    match answer {
+        Ok(_) => 0,
+        Err(fault) => fault.number(),
+    }
+}
+
+// A seat.
+fn seat<R: Wait + Abort, L: RowName, D: Disk>(
+    rt: &R,
+    alloc: Global,
+    share: &MasterShare<L, D>,
+) -> ReaderSeat<L> {
+    share.enter_reader(rt, alloc).expect(rt, "a seat")
+}
+
+// Commits the copy over this revision.
+fn commit_copy<R: Wait + Abort, L: RowName, D: Disk>(
+    rt: &R,
+    alloc: Global,
+    share: &MasterShare<L, D>,
+    base: RevNo,
+) -> u8 {
+    let mut seat = seat(rt, alloc, share);
+    let set = copied(rt, alloc, b"b");
+    let props = log(rt, alloc, b"two");
+    number_of(share.commit(rt, alloc, &mut seat, base, set, props, None))
+}
+
+// Whether two sets change the same paths in the same way.
+fn are_same(one: &ChangeSet, other: &ChangeSet) -> bool {
+    if one.changes().len() != other.changes().len() {
+        return false;
+    }
+    for (change, found) in one.changes().iter().zip(other.changes().iter()) {
+        if change.path != found.path || change.action != found.action {
+            return false;
+        }
+    }
+    true
+}
+
+// Whether two trees have the same paths, so many.
+fn have_same(alloc: Global, one: &Tree, other: &Tree, count: usize) -> bool {
+    let (Ok(these), Ok(those)) = (one.list(alloc), other.list(alloc)) else {
+        return false;
+    };
+    for (entry, found) in these.iter().zip(those.iter()) {
+        if entry.path.len() != found.path.len() || entry.node.changed != found.node.changed {
+            return false;
+        }
+    }
+    these.len() == count && those.len() == count
+}
+
+// Whether two seats fetch the same set of revision 2, and read the same tree of it; revision 3 is none (21).
+fn fetch_the_same<R: Wait + Abort, L: RowName>(
+    rt: &R,
+    alloc: Global,
+    share: &MasterShare<L, MemDisk>,
+    mut one: ReaderSeat<L>,
+    mut other: ReaderSeat<L>,
+) -> bool {
+    let (set, _props) = share
+        .fetch(rt, alloc, &mut one, RevNo::new(2))
+        .expect(rt, "a set");
+    let (found, _props) = share
+        .fetch(rt, alloc, &mut other, RevNo::new(2))
+        .expect(rt, "a set");
+    let read = share
+        .read_at(&mut one, RevNo::new(2))
+        .expect(rt, "a revision");
+    let there = share
+        .read_at(&mut other, RevNo::new(2))
+        .expect(rt, "a revision");
+    are_same(&set, &found)
+        && are_same(&set, &read.set)
+        && have_same(alloc, &read.tree, &there.tree, 3)
+        && number_of(share.fetch(rt, alloc, &mut one, RevNo::new(3))) == 21
+}
+
+// Whether a revision that a thread of its own commits is the same for two seats that were there before.
+fn is_the_same<R: Threads + Wait + Abort + Sync, L: RowName + Send + Sync>(
+    rt: &R,
+    alloc: Global,
+    share: &MasterShare<L, MemDisk>,
+) -> bool {
+    let one = seat(rt, alloc, share);
+    let other = seat(rt, alloc, share);
+    let (number, before) = thread::join(
+        rt,
+        move || commit_copy(rt, alloc, share, RevNo::new(1)),
+        move || one.seen() == RevNo::new(1),
+    );
+    let one = seat(rt, alloc, share);
+    number == 0 && before && fetch_the_same(rt, alloc, share, one, other)
+}
+
+// The log of revision 1.
+fn has_log<R: Wait, L: RowName>(rt: &R, share: &MasterShare<L, MemDisk>, text: &[u8]) -> bool {
+    match share.fetch_props(rt, RevNo::new(1)) {
+        Ok(props) => props.get(b"svn:log") == Some(text),
+        Err(_) => false,
+    }
+}
+
+// Whether a change of one property, and then of all, is seen at once.
+fn sees_changes<R: Wait + Abort, L: RowName>(
+    rt: &R,
+    alloc: Global,
+    share: &MasterShare<L, MemDisk>,
+) -> bool {
+    let name = log_name(rt, alloc);
+    let before = has_log(rt, share, b"hi");
+    let any = Expected::DontCare;
+    let changed = number_of(share.change_prop(rt, alloc, RevNo::new(1), &name, Some(b"ho"), &any));
+    let between = has_log(rt, share, b"ho");
+    let put = number_of(share.put_props(rt, alloc, RevNo::new(1), log(rt, alloc, b"hu")));
+    before && changed == 0 && between && put == 0 && has_log(rt, share, b"hu")
+}
+
+// Whether what is refused, with its number, leaves the newest revision and its properties.
+fn refuses<R: Wait + Abort, L: RowName>(
+    rt: &R,
+    alloc: Global,
+    share: &MasterShare<L, MemDisk>,
+) -> bool {
+    let mut seat = seat(rt, alloc, share);
+    let name = log_name(rt, alloc);
+    let behind = commit_copy(rt, alloc, share, RevNo::ZERO);
+    let found = number_of(share.change_prop(
+        rt,
+        alloc,
+        RevNo::new(1),
+        &name,
+        Some(b"ho"),
+        &Expected::Absent,
+    ));
+    let above = number_of(share.put_props(rt, alloc, RevNo::new(2), log(rt, alloc, b"hu")));
+    let none = number_of(share.fetch_props(rt, RevNo::new(2)));
+    (behind, found, above, none) == (25, 22, 21, 21)
+        && has_log(rt, share, b"hi")
+        && share.latest(rt, &mut seat) == RevNo::new(1)
+        && share.read_at(&mut seat, RevNo::new(2)).is_none()
+}
+
+// Whether no revision that a reader is told as the newest is below one before, or lacks its tree, over so many looks.
+fn never_falls<R: Wait + Abort, L: RowName>(
+    rt: &R,
+    share: &MasterShare<L, MemDisk>,
+    mut seat: ReaderSeat<L>,
+    looks: u32,
+) -> bool {
+    let mut last = RevNo::new(1);
+    let mut all = true;
+    for _ in 0..looks {
+        let now = share.latest(rt, &mut seat);
+        all = all && last <= now && share.read_at(&mut seat, now).is_some();
+        last = now;
+    }
+    all
+}
+
+// Whether a reader beside a thread that commits never sees the newest revision fall.
+fn reads_beside<R: Threads + Wait + Abort + Sync, L: RowName + Send + Sync>(
+    rt: &R,
+    alloc: Global,
+    share: &MasterShare<L, MemDisk>,
+) -> bool {
+    let reader = seat(rt, alloc, share);
+    let (number, all) = thread::join(
+        rt,
+        move || commit_copy(rt, alloc, share, RevNo::new(1)),
+        move || never_falls(rt, share, reader, 200),
+    );
+    number == 0 && all
+}
+
+// Whether a seat that meets one that has seen more has seen as much then, and reads it.
+fn sees_what_another_saw<R: Wait + Abort, L: RowName>(
+    rt: &R,
+    alloc: Global,
+    share: &MasterShare<L, MemDisk>,
+) -> bool {
+    let mut one = seat(rt, alloc, share);
+    let committed = commit_copy(rt, alloc, share, RevNo::new(1));
+    let mut other = seat(rt, alloc, share);
+    let before = one.seen() == RevNo::new(1) && other.seen() == RevNo::new(2);
+    one.meet(&mut other);
+    committed == 0
+        && before
+        && one.seen() == RevNo::new(2)
+        && other.seen() == RevNo::new(2)
+        && share.read_at(&mut one, RevNo::new(2)).is_some()
+}
+
+// What is asked of a share.
+#[derive(Clone, Copy, Drop)]
+enum Case {
+    Same,
+    Changes,
+    Refusals,
+    Beside,
+    Meets,
+}
+
+fn judged<R: Threads + Wait + Abort + Sync, L: RowName + Send + Sync>(
+    rt: &R,
+    alloc: Global,
+    share: &MasterShare<L, MemDisk>,
+    case: Case,
+) -> bool {
+    match case {
+        Case::Same => is_the_same(rt, alloc, share),
+        Case::Changes => sees_changes(rt, alloc, share),
+        Case::Refusals => refuses(rt, alloc, share),
+        Case::Beside => reads_beside(rt, alloc, share),
+        Case::Meets => sees_what_another_saw(rt, alloc, share),
+    }
+}
+
+// The same of an opened store.
+fn judged_of<R: Threads + Wait + Abort + Sync, L: RowName + Send + Sync>(
+    rt: &R,
+    alloc: Global,
+    opened: OpenedStore<MemDisk>,
+    case: Case,
+) -> bool
+    requires { cells_of opened ≡ L.cells }
+{
+    let share = opened.named::<L>();
+    let answer = judged(rt, alloc, &share, case);
+    let store = share.close().into_store();
+    let _disk = store.into_disk();
+    answer
+}
+
+// An opened store of revisions 0 and 1.
+fn opened(rt: &impl Abort, alloc: Global) -> OpenedStore<MemDisk> {
+    let store = RepoStore::open(alloc, disk(rt, alloc))
+        .map_err(|refused| refused.0)
+        .expect(rt, "a store");
+    OpenedStore::of(alloc, store)
+        .map_err(|refused| refused.0)
+        .expect(rt, "a row")
+}
+
+fn passes<R: Threads + Wait + Abort + Sync>(rt: &R, alloc: Global, case: Case) -> bool {
+    let opened = opened(rt, alloc);
+    judged_of::<R, Brand>(rt, alloc, opened, case)
+}
+
+#[test]
+fn two_seats_fetch_what_a_third_thread_committed(rt: HostRuntime) {
+    assert!(rt; passes(&rt, rt.alloc(), Case::Same));
+}
+
+#[test]
+fn changes_of_properties_are_seen(rt: HostRuntime) {
+    assert!(rt; passes(&rt, rt.alloc(), Case::Changes));
+}
+
+#[test]
+fn a_refusal_leaves_all_as_it_was(rt: HostRuntime) {
+    assert!(rt; passes(&rt, rt.alloc(), Case::Refusals));
+}
+
+#[test]
+fn the_newest_never_falls_beside_a_commit(rt: HostRuntime) {
+    assert!(rt; passes(&rt, rt.alloc(), Case::Beside));
+}
+
+#[test]
+fn seats_that_meet_have_seen_the_same(rt: HostRuntime) {
+    assert!(rt; passes(&rt, rt.alloc(), Case::Meets));
+}

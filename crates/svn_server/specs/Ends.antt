@@ -1,0 +1,22 @@
+-- What a server hears of the end of a session, and the root that it serves.
+use Rattle.std.specs.Prelude.{ℕ, List, ◌++◌, codes, Result, Ok, Err}
+use Rattle.std.specs.Fmt.{decimal}
+use Rattle.ra_serve.specs.declared.fault.End.{End}
+use Rattle.ra_serve.specs.declared.fault.End.TheVariants.{Input, Opening, Items}
+use Rattle.ra_serve.specs.declared.fault.ServeFault.{ServeFault}
+use Rattle.ra_serve.specs.declared.fault.ServeFault.TheVariants.{ReadFailed, WriteFailed, OutOfMemory}
+use Rattle.sockets.specs.declared.fault.SocketFault.{SocketFault}
+use Rattle.sockets.specs.declared.fault.SocketFault.TheVariants as socket
+
+-- a stream that fails and a client that sends what isn't items are a peer that failed
+abbrev pub heard : Result End ServeFault → Result (Unit {0}) SocketFault
+heard (Ok Input) = Ok tt
+heard (Ok Opening) = Ok tt
+heard (Ok (Items f)) = Err socket.PeerFailed
+heard (Err ReadFailed) = Err socket.PeerFailed
+heard (Err WriteFailed) = Err socket.PeerFailed
+heard (Err OutOfMemory) = Err socket.OutOfMemory
+
+-- the root that is served on a port
+abbrev pub url : ℕ → List ℕ
+url port = codes "svn://127.0.0.1:" ++ (decimal port ++ codes "/")
