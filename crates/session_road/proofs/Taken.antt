@@ -69,10 +69,10 @@ keeps P old new v (Err e) h k p = k
 
 -- ---- items
 
-pub hears_authorised : {R : Type 0} {g : InputGhosts R} → WrittenIsTaken → WrittenComes → (old new : ItemStream R g) (r : Result (Unit {0}) ClientFault) → TakesItem same authorised_said old new r → HearsFrom (spell authorised) (λ u. u ≡ tt) old new r
+pub hears_authorised : {R : Type 0} {g : InputGhosts R} → WrittenIsTaken → WrittenComes → (old new : ItemStream R g) (r : Result (Unit {0}) ClientFault) → TakesItem same authorised_said old new r → HearsFrom (spell authorised) (λ (u : Unit {0}). u ≡ tt) old new r
 hears_authorised taken comes old new r h more there = carry_item taken comes same authorised_said authorised tt authorised_fits refl old new r more there h
 
-pub hears_done : {R : Type 0} {g : InputGhosts R} → WrittenIsTaken → WrittenComes → (old new : ItemStream R g) (r : Result (Unit {0}) ClientFault) → TakesItem same done_said old new r → HearsFrom (spell done) (λ u. u ≡ tt) old new r
+pub hears_done : {R : Type 0} {g : InputGhosts R} → WrittenIsTaken → WrittenComes → (old new : ItemStream R g) (r : Result (Unit {0}) ClientFault) → TakesItem same done_said old new r → HearsFrom (spell done) (λ (u : Unit {0}). u ≡ tt) old new r
 hears_done taken comes old new r h more there = carry_item taken comes same done_said done tt done_fits refl old new r more there h
 
 pub hears_props : {R : Type 0} {g : InputGhosts R} → WrittenIsTaken → WrittenComes → (m : PropMap) → IsProps m → (old new : ItemStream R g) (r : Result PropMap ClientFault) → TakesItem same revprops_said old new r → HearsFrom (spell (revprops m)) (λ found. found ≡ m) old new r
@@ -130,7 +130,7 @@ split {R} {g} x n b more now l h =
     let e : suc b - n ≡ suc (suc b - (n + 1)) = omega (arith, l) in
     to_come_behind (revision_bytes x n) (edits x (n + 1) (suc b - (n + 1))) more now (subst (λ k. IsToCome {g = g} (edits x n k ++ more) now) e h)
 
-pub goes_on : {R : Type 0} {g : InputGhosts R} (x : Repository) (a b number count : ℕ) (old mid new : ItemStream R g) (before after : List (List Change × PropMap)) → number ≡ a + count → number ≤ b → Going x a b old mid count before → HearsFrom (revision_bytes x number) (λ _. HasMore (IsRevisionOf x number) before after) mid new (Ok tt) → Going x a b old new (count + 1) after
+pub goes_on : {R : Type 0} {g : InputGhosts R} (x : Repository) (a b number count : ℕ) (old mid new : ItemStream R g) (before after : List (List Change × PropMap)) → number ≡ a + count → number ≤ b → Going x a b old mid count before → HearsFrom (revision_bytes x number) (λ (u : Unit {0}). HasMore (IsRevisionOf x number) before after) mid new (Ok tt) → Going x a b old new (count + 1) after
 goes_on {R} {g} x a b number count old mid new before after e l going h more there =
     let i = going more there in
     let m = h (edits x (number + 1) (suc b - (number + 1)) ++ more) (split x number b more mid l (subst (λ k. IsToCome {g = g} (edits x k (suc b - k) ++ more) mid) (sym e) i.to_come)) in
@@ -149,7 +149,7 @@ stops {R} {g} x a b number count old mid new before P Q f e l later going h more
     (λ z. fails_later (g.failures (reader_of old)) (g.failures (reader_of mid)) (g.failures (reader_of new)) (g.reads (reader_of new)) later z)
     (h (edits x (number + 1) (suc b - (number + 1)) ++ more) (split x number b more mid l (subst (λ k. IsToCome {g = g} (edits x k (suc b - k) ++ more) mid) (sym e) i.to_come)))
 
-pub ends : {R : Type 0} {g : InputGhosts R} (x : Repository) (a b count : ℕ) (old now : ItemStream R g) (found : List (List Change × PropMap)) → count ≡ suc b - a → Going x a b old now count found → HearsFrom (edits x a (suc b - a)) (λ _. IsRange x a b found) old now (Ok tt)
+pub ends : {R : Type 0} {g : InputGhosts R} (x : Repository) (a b count : ℕ) (old now : ItemStream R g) (found : List (List Change × PropMap)) → count ≡ suc b - a → Going x a b old now count found → HearsFrom (edits x a (suc b - a)) (λ (u : Unit {0}). IsRange x a b found) old now (Ok tt)
 ends {R} {g} x a b count old now found e going more there =
     let i = going more there in
     let none : suc b - (a + count) ≡ 0 = omega (arith, e) in
@@ -161,14 +161,18 @@ pub range_answer : (mirror : Bool) (x : Repository) (a b : ℕ) → a < length x
 range_answer mirror x a b h k = rw (both_there mirror x a b h k) refl
 
 -- the revisions of a range, and that this was all
-pub told_heard : {R V : Type 0} {g : InputGhosts R} (items_of : V → List (List Change × PropMap)) (x : Repository) (a b : ℕ) (old mid new : ItemStream R g) (found : V) (r : Result V ClientFault) → IsLater old mid → HearsFrom (edits x a (suc b - a)) (λ u. IsRange x a b (items_of found)) old mid (Ok tt) → HearsFrom (spell done) (λ all. all ≡ found) mid new r → HearsFrom (edits x a (suc b - a) ++ spell done) (λ all. IsRange x a b (items_of all)) old new r
-told_heard items_of x a b old mid new found r later h k = went (edits x a (suc b - a)) (spell done) (λ u. IsRange x a b (items_of found)) (λ all. IsRange x a b (items_of all)) old mid new tt r later h (λ range. known_of (spell done) (λ all. all ≡ found) (λ all. IsRange x a b (items_of all)) mid new r (λ v e. subst (λ z. IsRange x a b (items_of z)) (sym e) range) k)
+pub told_heard : {R V : Type 0} {g : InputGhosts R} (items_of : V → List (List Change × PropMap)) (x : Repository) (a b : ℕ) (old mid new : ItemStream R g) (found : V) (r : Result V ClientFault) → IsLater old mid → HearsFrom (edits x a (suc b - a)) (λ (u : Unit {0}). IsRange x a b (items_of found)) old mid (Ok tt) → HearsFrom (spell done) (λ all. all ≡ found) mid new r → HearsFrom (edits x a (suc b - a) ++ spell done) (λ all. IsRange x a b (items_of all)) old new r
+told_heard items_of x a b old mid new found r later h k = went (edits x a (suc b - a)) (spell done) (λ (u : Unit {0}). IsRange x a b (items_of found)) (λ all. IsRange x a b (items_of all)) old mid new tt r later h (λ range. known_of (spell done) (λ all. all ≡ found) (λ all. IsRange x a b (items_of all)) mid new r (λ v e. subst (λ z. IsRange x a b (items_of z)) (sym e) range) k)
+
+pub told_unheard : {R V : Type 0} {g : InputGhosts R} (items_of : V → List (List Change × PropMap)) (x : Repository) (a b : ℕ) (old new : ItemStream R g) (found : V) (f : ClientFault) → HearsFrom (edits x a (suc b - a)) (λ (u : Unit {0}). IsRange x a b (items_of found)) old new (Err f) → HearsFrom (edits x a (suc b - a) ++ spell done) (λ all. IsRange x a b (items_of all)) old new (Err f)
+told_unheard items_of x a b old new found f h = stopped (edits x a (suc b - a)) (spell done) (λ (u : Unit {0}). IsRange x a b (items_of found)) (λ all. IsRange x a b (items_of all)) old new f h
 
 pub answer_heard : {R V : Type 0} {g : InputGhosts R} → WrittenIsTaken → WrittenComes → (Q : V → Type 0) (mirror : Bool) (x : Repository) (a b : ℕ) (old mid new : ItemStream R g) (r : Result V ClientFault) → a < length x.revisions → b < length x.revisions → TakesItem same authorised_said old mid (Ok tt) → HearsFrom (edits x a (suc b - a) ++ spell done) Q mid new r → HearsFrom (answer mirror x (command_in (command_item (ReplayRange a b))) None) Q old new r
-answer_heard taken comes Q mirror x a b old mid new r begun there h k = subst (λ bytes. HearsFrom bytes Q old new r) (sym (range_answer mirror x a b begun there)) (went (spell authorised) (edits x a (suc b - a) ++ spell done) (λ u. u ≡ tt) Q old mid new tt r h.1.later (hears_authorised taken comes old mid (Ok tt) h) (λ _. k))
+answer_heard taken comes Q mirror x a b old mid new r begun there h k = subst (λ bytes. HearsFrom bytes Q old new r) (sym (range_answer mirror x a b begun there)) (went (spell authorised) (edits x a (suc b - a) ++ spell done) (λ (u : Unit {0}). u ≡ tt) Q old mid new tt r h.1.later (hears_authorised taken comes old mid (Ok tt) h) (λ _. k))
 
-pub answer_unheard : {R V : Type 0} {g : InputGhosts R} → WrittenIsTaken → WrittenComes → (Q : V → Type 0) (mirror : Bool) (x : Repository) (a b : ℕ) (old new : ItemStream R g) (f : ClientFault) → a < length x.revisions → b < length x.revisions → TakesItem same authorised_said old new (Err f) → HearsFrom (answer mirror x (command_in (command_item (ReplayRange a b))) None) Q old new (Err f)
-answer_unheard taken comes Q mirror x a b old new f begun there h = subst (λ bytes. HearsFrom bytes Q old new (Err f)) (sym (range_answer mirror x a b begun there)) (stopped (spell authorised) (edits x a (suc b - a) ++ spell done) (λ u. u ≡ tt) Q old new f (hears_authorised taken comes old new (Err f) h))
+pub answer_unheard : {R V : Type 0} {g : InputGhosts R} → WrittenIsTaken → WrittenComes → (items_of : V → List (List Change × PropMap)) (mirror : Bool) (x : Repository) (a b : ℕ) (old new : ItemStream R g) (f : ClientFault) → a < length x.revisions → b < length x.revisions → TakesItem same authorised_said old new (Err f) → HearsFrom (answer mirror x (command_in (command_item (ReplayRange a b))) None) (λ all. IsRange x a b (items_of all)) old new (Err f)
+answer_unheard {R} {V} {g} taken comes items_of mirror x a b old new f begun there h = subst (λ bytes. HearsFrom {A = V} bytes (λ all. IsRange x a b (items_of all)) old new (Err f)) (sym (range_answer mirror x a b begun there)) (stopped (spell authorised) (edits x a (suc b - a) ++ spell done) (λ (u : Unit {0}). u ≡ tt) (λ all. IsRange x a b (items_of all)) old new f (hears_authorised taken comes old new (Err f) h))
+
 
 -- ---- counts of failures
 

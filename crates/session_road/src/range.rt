@@ -1,5 +1,5 @@
 //! A range of revisions as it comes from a server.
-ghost use Rattle.std.specs.Prelude.{◌≡◌, ◌≤◌, ◌<◌, ◌-◌, ◌++◌, suc, Bool, None, [], length, OnOk, IfErr};
+ghost use Rattle.std.specs.Prelude.{◌≡◌, ◌≤◌, ◌<◌, ◌-◌, ◌++◌, suc, Bool, None, [], ◌∷◌, length, OnOk, IfErr};
 ghost use Rattle.ra_client.specs.Steps.{IsLater};
 ghost use Rattle.ra_item.specs.Items.{spell};
 ghost use Rattle.ra_serve.specs.Answers.{answer, edits, revision_bytes};
