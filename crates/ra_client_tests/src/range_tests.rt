@@ -27,7 +27,11 @@ fn passes(items: &mut Cut<'_>, count: usize) -> bool {
 
 // Whether these are a log alone; revision 0 has none.
 fn has_props(props: &Props, number: usize) -> bool {
-    let log = if number == 0 { None } else { Some(b"hi".as_slice()) };
+    let log = if number == 0 {
+        None
+    } else {
+        Some(b"hi".as_slice())
+    };
     props.get(b"svn:log") == log && props.len() == number.min(1)
 }
 

@@ -173,7 +173,6 @@ answer_heard taken comes Q mirror x a b old mid new r begun there h k = subst (�
 pub answer_unheard : {R V : Type 0} {g : InputGhosts R} → WrittenIsTaken → WrittenComes → (items_of : V → List (List Change × PropMap)) (mirror : Bool) (x : Repository) (a b : ℕ) (old new : ItemStream R g) (f : ClientFault) → a < length x.revisions → b < length x.revisions → TakesItem same authorised_said old new (Err f) → HearsFrom (answer mirror x (command_in (command_item (ReplayRange a b))) None) (λ all. IsRange x a b (items_of all)) old new (Err f)
 answer_unheard {R} {V} {g} taken comes items_of mirror x a b old new f begun there h = subst (λ bytes. HearsFrom {A = V} bytes (λ all. IsRange x a b (items_of all)) old new (Err f)) (sym (range_answer mirror x a b begun there)) (stopped (spell authorised) (edits x a (suc b - a) ++ spell done) (λ (u : Unit {0}). u ≡ tt) (λ all. IsRange x a b (items_of all)) old new f (hears_authorised taken comes old new (Err f) h))
 
-
 -- ---- counts of failures
 
 pub later_on : {R A : Type 0} {g : InputGhosts R} (old mid new : ItemStream R g) (r : Result A ClientFault) → IsLater old mid → OnOk r (IsLater mid new) → OnOk r (IsLater old new)
