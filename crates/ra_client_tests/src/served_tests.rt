@@ -24,8 +24,8 @@ const IDENTITY: &str = "6a1f0c3e-0000-4000-8000-000000000001";
 const ASKED: &[u8] =
     b"( get-latest-rev ( ) ) ( replay-range ( 0 0 0 true ) ) ( replay-range ( 1 1 0 true ) ) ( replay-range ( 2 2 0 true ) ) ( rev-proplist ( 9 ) ) ( rev-proplist ( 2 ) ) ";
 
-/// A log.
-pub(crate) fn log(rt: &impl Abort, alloc: Global) -> Result<Props, Fail> {
+// A log.
+fn log(rt: &impl Abort, alloc: Global) -> Result<Props, Fail> {
     let mut props = Props::empty();
     let value = PropValue::new(Vec::from_slice(alloc, b"hi")?).expect(rt, "a value");
     props.set(alloc, PropName::parse(alloc, b"svn:log")?, value)?;

@@ -1,11 +1,10 @@
 //! A mirror that is begun and brought up to date by what a server writes.
 
-use crate::served_tests::{log, repo, served};
+use crate::served_tests::{repo, served};
 use crate::sessions::{WHOLE, open};
-use crate::sets::{first, same_tree, second};
-use dump_load::ChangeSet;
+use crate::sets::same_tree;
 use fleet_disk::MemDisk;
-use node_base::{PropValue, Props, RevNo};
+use node_base::{PropValue, RevNo};
 use repo_core::Repo;
 use repo_store::RepoStore;
 use std::alloc::Global;
@@ -202,12 +201,14 @@ fn well_left(synced: Left) -> Option<MemDisk> {
 }
 
 // The same over a master in a store, which is asked without a wire.
-fn by_folder(rt: &impl Abort, alloc: Global) -> Option<MemDisk> {
-    let begun = run_by(rt, alloc, empty(rt, alloc), folder(rt, alloc), true);
+fn by_folder(rt: &impl Abort, alloc: Global, source: &Repo) -> Option<MemDisk> {
+    let master = folder(rt, alloc, source);
+    let begun = run_by(rt, alloc, empty(rt, alloc), master, true);
     if !has_told(&begun, &BEGUN) {
         return None;
     }
-    well_left(run_by(rt, alloc, begun.disk, folder(rt, alloc), false))
+    let master = folder(rt, alloc, source);
+    well_left(run_by(rt, alloc, begun.disk, master, false))
 }
 
 #[test]
@@ -226,40 +227,36 @@ fn left_mirror(alloc: Global, left: Option<MemDisk>, source: &Repo) -> bool {
     }
 }
 
-// Commits a set with these properties at the head of a store.
+// Commits a revision of a repository at the head of a store.
 fn commit(
     rt: &impl Abort,
     alloc: Global,
     store: &mut RepoStore<MemDisk>,
-    set: ChangeSet,
-    props: Props,
+    source: &Repo,
+    number: RevNo,
 ) {
+    let Some(set) = source.set(number) else {
+        rt.abort()
+    };
+    let Some(props) = source.props(number) else {
+        rt.abort()
+    };
+    let set = set.share(alloc).expect(rt, "memory");
+    let props = props.share().expect(rt, "memory");
     let head = store.repo().head();
     let _committed = store
         .commit(alloc, head, set, props, None)
         .expect(rt, "a revision");
 }
 
-// Commits both revisions to a store.
-fn fill(rt: &impl Abort, alloc: Global, store: &mut RepoStore<MemDisk>) -> Result<(), Fail> {
-    let set = first(rt, alloc)?;
-    commit(rt, alloc, store, set, log(rt, alloc)?);
-    let set = second(rt, alloc)?;
-    commit(rt, alloc, store, set, log(rt, alloc)?);
-    Ok(())
-}
-
-// The repository that is served, in a store.
-fn folder(rt: &impl Abort, alloc: Global) -> HeldMaster<MemDisk> {
-    let identity = Uuid::parse_str("6a1f0c3e-0000-4000-8000-000000000001").expect(
-        rt,
-        "an identity",
-    );
-    let mut store = match RepoStore::create(alloc, MemDisk::new(alloc), identity) {
+// A repository of two revisions in a store.
+fn folder(rt: &impl Abort, alloc: Global, source: &Repo) -> HeldMaster<MemDisk> {
+    let mut store = match RepoStore::create(alloc, MemDisk::new(alloc), source.identity()) {
         Ok(store) => store,
         Err(_) => rt.abort(),
     };
-    assert!(rt; fill(rt, alloc, &mut store).is_ok());
+    commit(rt, alloc, &mut store, source, RevNo::new(1));
+    commit(rt, alloc, &mut store, source, RevNo::new(2));
     HeldMaster::new(store)
 }
 
@@ -319,8 +316,9 @@ fn left_the_same(
 
 #[test]
 fn a_mirror_over_the_wire_is_one_by_folder(rt: HostRuntime) -> Result<(), Fail> {
+    let source = repo(&rt, rt.alloc())?;
     let one = by_wire(&rt, rt.alloc())?;
-    let other = by_folder(&rt, rt.alloc());
+    let other = by_folder(&rt, rt.alloc(), &source);
     assert!(rt; left_the_same(&rt, rt.alloc(), one, other));
     Ok(())
 }
