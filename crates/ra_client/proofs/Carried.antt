@@ -67,12 +67,12 @@ excused own failed edit.BadToken k h = absurd h
 excused own failed edit.BadShape k h = absurd h
 excused own failed edit.Refused k h = absurd h
 
-excused_more : (before after : Type 0) (f : ClientFault) → (before → after) → IsExcused before f → IsExcused after f
+pub excused_more : (before after : Type 0) (f : ClientFault) → (before → after) → IsExcused before f → IsExcused after f
 excused_more before after f k (inl h) = inl h
 excused_more before after f k (inr h) = inr (h.0, k h.1)
 
 -- what is so of a value stays so, and what excuses a refusal
-match_more : {A : Type 0} (P Q : A → Type 0) (before after : Type 0) (r : Result A ClientFault) → ((v : A) → P v → Q v) → (before → after) → MatchResult r P (IsExcused before) → MatchResult r Q (IsExcused after)
+pub match_more : {A : Type 0} (P Q : A → Type 0) (before after : Type 0) (r : Result A ClientFault) → ((v : A) → P v → Q v) → (before → after) → MatchResult r P (IsExcused before) → MatchResult r Q (IsExcused after)
 match_more P Q before after (Ok v) k l h = k v h
 match_more P Q before after (Err f) k l h = excused_more before after f l h
 
@@ -100,7 +100,7 @@ carry_item {R} {A} {T} {g} taken comes view what x v fits e old new r more there
 
 -- ---- one behind another
 
-to_come_behind : {R : Type 0} {g : InputGhosts R} (one two more : List ℕ) (s : ItemStream R g) → IsToCome ((one ++ two) ++ more) s → IsToCome (one ++ (two ++ more)) s
+pub to_come_behind : {R : Type 0} {g : InputGhosts R} (one two more : List ℕ) (s : ItemStream R g) → IsToCome ((one ++ two) ++ more) s → IsToCome (one ++ (two ++ more)) s
 to_come_behind {R} {g} one two more s h = subst (λ z. IsToCome {g = g} z s) (append_assoc one two more) h
 
 carry_follows : {R A B : Type 0} {g : InputGhosts R} (one two : List ℕ) (P : A → Type 0) (Q : B → Type 0) (first : ItemStream R g → ItemStream R g → Result A ClientFault → Type 0) (second : A → ItemStream R g → ItemStream R g → Result B ClientFault → Type 0) → ((old new : ItemStream R g) (v : A) → first old new (Ok v) → IsLater old new) → Carries {g = g} one P first → ((v : A) → P v → Carries {g = g} two Q (second v)) → Carries {g = g} (one ++ two) Q (Follows first second)
@@ -116,7 +116,7 @@ carry_gives : {R A : Type 0} {g : InputGhosts R} (bytes : List ℕ) (P : Unit {0
 carry_gives bytes P v step f old new (Ok w) more there h = (h.1, (f old new (Ok tt) more there h.0).1)
 carry_gives bytes P v step f old new (Err k) more there h = f old new (Err k) more there h
 
-carry_edit : {R : Type 0} {g : InputGhosts R} (trees : List PathMap) (s : List Change) → MayBeSent trees s → Carries {g = g} (edit_bytes (drive trees s)) (λ set. (q : Path) → effect trees set q ≡ effect trees s q) (TakesEdit trees)
+pub carry_edit : {R : Type 0} {g : InputGhosts R} (trees : List PathMap) (s : List Change) → MayBeSent trees s → Carries {g = g} (edit_bytes (drive trees s)) (λ set. (q : Path) → effect trees set q ≡ effect trees s q) (TakesEdit trees)
 carry_edit trees s may old new (Ok set) more there h = let k = h.0.1 s more may there.0 in (k.0, (k.1, h.1.goes_on))
 carry_edit trees s may old new (Err (fault.Edit e)) more there h = excused (λ k. k ≡ editor.OutOfMemory) (counts_of old new) e (λ k z. z) (h.0.1 s more may there.0 there.1)
 carry_edit trees s may old new (Err fault.Refused) more there h = absurd h.0
@@ -130,13 +130,13 @@ item_later view what old new v h = h.1.later
 edit_later : {R : Type 0} {g : InputGhosts R} (trees : List PathMap) (old new : ItemStream R g) (set : List Change) → TakesEdit trees old new (Ok set) → IsLater old new
 edit_later trees old new set h = h.1.later
 
-authorised_fits : Within authorised
+pub authorised_fits : Within authorised
 authorised_fits = record { fits = ((refl, omega arith), ((tt, (omega arith, tt)), tt)); depth = omega arith; bytes = omega (arith, success_short (list [] ∷ Text [] ∷ []), short) }
   where
     short : length (spell_all (row (list [] ∷ Text [] ∷ []))) ≤ 100
     short = omega (arith, length-decimal-le 1 0 (omega arith) (omega arith) (omega arith), length-append (decimal 0) (58 ∷ 32 ∷ []), length-append (decimal 0 ++ 58 ∷ 32 ∷ []) [])
 
-done_fits : Within done
+pub done_fits : Within done
 done_fits = record { fits = ((refl, omega arith), (tt, tt)); depth = omega arith; bytes = omega arith }
 
 carry_answer : {R A : Type 0} {g : InputGhosts R} → WrittenIsTaken → WrittenComes → (bytes : List ℕ) (Q : A → Type 0) (answer : ItemStream R g → ItemStream R g → Result A ClientFault → Type 0) → Carries {g = g} bytes Q answer → Carries {g = g} (spell authorised ++ bytes) Q (TakesAnswer answer)

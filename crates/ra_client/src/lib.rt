@@ -12,6 +12,7 @@
 
 pub use fault::ClientFault;
 pub use port::ClientPort;
+pub use take::{take_authorised, take_done, take_revprops, take_set};
 
 mod answer;
 mod ask;

@@ -25,6 +25,17 @@ pub(crate) struct Lent<'a> {
     breaks: bool,
 }
 
+impl<'a> Lent<'a> {
+    /// Bytes with the end of input behind them.
+    pub(crate) fn new(bytes: &'a [u8], size: usize) -> Lent<'a> {
+        Lent {
+            bytes,
+            size,
+            breaks: false,
+        }
+    }
+}
+
 impl Read for Lent<'_> {
     fn read(&mut self, buf: &mut [u8]) -> io::Result<usize> {
         if self.breaks && self.bytes.is_empty() {

@@ -12,7 +12,7 @@ use std::process::Abort;
 use std::rt::HostRuntime;
 use std::test::Fail;
 use sync_core::{SyncFault, Token};
-use sync_job::{AloneMirror, JobPorts, Report, run_init, run_sync};
+use sync_job::{AloneMirror, HeldMaster, JobPorts, MasterPort, Report, run_init, run_sync};
 use uuid::Uuid;
 
 // What an initialisation asks of its master, and what a synchronisation does.
@@ -21,16 +21,29 @@ const BEGINS: &[u8] = b"( rev-proplist ( 0 ) ) ";
 const GOES_ON: &[u8] =
     b"( get-latest-rev ( ) ) ( replay-range ( 1 1 0 true ) ) ( rev-proplist ( 1 ) ) ( replay-range ( 2 2 0 true ) ) ( rev-proplist ( 2 ) ) ";
 
-// Nobody is told what a job has done.
-#[derive(Drop)]
-struct Nobody {}
+// What a job tells while it runs: a line of the command.
+#[derive(Clone, Copy, PartialEq, Eq)]
+enum Line {
+    Committed(u16),
+    Copied(u16),
+}
 
-impl Report for Nobody {
+// All that it told.
+#[derive(Drop)]
+struct Lines {
+    told: Vec<Line>,
+}
+
+impl Report for Lines {
     ghost heard = { λ now first told. Unit {0} };
 
-    fn committed(&mut self, _number: RevNo) {}
+    fn committed(&mut self, number: RevNo) {
+        let _lost = self.told.push(Line::Committed(number.get()));
+    }
 
-    fn copied(&mut self, _number: RevNo) {}
+    fn copied(&mut self, number: RevNo) {
+        let _lost = self.told.push(Line::Copied(number.get()));
+    }
 }
 
 // A disk with a repository of another identity.
@@ -62,23 +75,58 @@ fn token(rt: &impl Abort, alloc: Global) -> Token {
     Token::new(bytes).expect(rt, "a token")
 }
 
-// Runs a job at the mirror of a disk, whose master says these bytes; the first run begins the mirror.
-fn run(rt: &impl Abort, alloc: Global, disk: MemDisk, bytes: &[u8], first: bool) -> (MemDisk, u8) {
-    let Ok(master) = open(alloc, bytes, &WHOLE) else {
-        return (disk, 60);
-    };
+// What a job leaves: the disk of its mirror, the number of its refusal, 0 for none, and its lines.
+#[derive(Drop)]
+struct Left {
+    disk: MemDisk,
+    number: u8,
+    told: Vec<Line>,
+}
+
+// What is left where a job doesn't begin.
+fn unbegun(alloc: Global, disk: MemDisk, number: u8) -> Left {
+    Left {
+        disk,
+        number,
+        told: Vec::new(alloc),
+    }
+}
+
+// Runs a job at the mirror of a disk; the first run begins the mirror.
+fn run_by<M: MasterPort + Drop>(
+    rt: &impl Abort,
+    alloc: Global,
+    disk: MemDisk,
+    master: M,
+    first: bool,
+) -> Left {
     let store = match RepoStore::open(alloc, disk) {
         Ok(store) => store,
-        Err((fault, disk)) => return (disk, fault.number()),
+        Err((fault, disk)) => return unbegun(alloc, disk, fault.number()),
     };
-    let mut ports = JobPorts::new(alloc, master, AloneMirror::new(store), Nobody {});
+    let lines = Lines {
+        told: Vec::new(alloc),
+    };
+    let mut ports = JobPorts::new(alloc, master, AloneMirror::new(store), lines);
     let answer = if first {
         run_init(alloc, &mut ports, url(rt, alloc))
     } else {
         run_sync(alloc, &mut ports, token(rt, alloc), false)
     };
-    let (_master, mirror, _nobody) = ports.into_parts();
-    (mirror.into_disk(), number_of(answer))
+    let (_master, mirror, lines) = ports.into_parts();
+    Left {
+        disk: mirror.into_disk(),
+        number: number_of(answer),
+        told: lines.told,
+    }
+}
+
+// The same, whose master says these bytes.
+fn run(rt: &impl Abort, alloc: Global, disk: MemDisk, bytes: &[u8], first: bool) -> Left {
+    match open(alloc, bytes, &WHOLE) {
+        Ok(master) => run_by(rt, alloc, disk, master, first),
+        Err(_) => unbegun(alloc, disk, 60),
+    }
 }
 
 // Whether a mirror has the trees and the logs of a repository.
@@ -116,27 +164,172 @@ fn holds_mirror(alloc: Global, disk: MemDisk, source: &Repo) -> bool {
     }
 }
 
+// What the first job of a mirror tells, and what a synchronisation does.
+const BEGUN: [Line; 1] = [Line::Copied(0)];
+
+const SYNCED: [Line; 4] = [
+    Line::Committed(1),
+    Line::Copied(1),
+    Line::Committed(2),
+    Line::Copied(2),
+];
+
+// Whether a job ended well and told this.
+fn has_told(left: &Left, lines: &[Line]) -> bool {
+    left.number == 0 && left.told.as_slice() == lines
+}
+
+// A mirror that was begun and synchronised over what a server writes; none where that told something else.
+fn by_wire(rt: &impl Abort, alloc: Global) -> Result<Option<MemDisk>, Fail> {
+    let begins = served(rt, alloc, BEGINS)?;
+    let goes_on = served(rt, alloc, GOES_ON)?;
+    let begun = run(rt, alloc, empty(rt, alloc), begins.as_slice(), true);
+    if !has_told(&begun, &BEGUN) {
+        return Ok(None);
+    }
+    let synced = run(rt, alloc, begun.disk, goes_on.as_slice(), false);
+    Ok(well_left(synced))
+}
+
+// The disk of a job that told of both revisions.
+fn well_left(synced: Left) -> Option<MemDisk> {
+    if has_told(&synced, &SYNCED) {
+        Some(synced.disk)
+    } else {
+        None
+    }
+}
+
+// The same over a master in a store, which is asked without a wire.
+fn by_folder(rt: &impl Abort, alloc: Global, source: &Repo) -> Option<MemDisk> {
+    let master = folder(rt, alloc, source);
+    let begun = run_by(rt, alloc, empty(rt, alloc), master, true);
+    if !has_told(&begun, &BEGUN) {
+        return None;
+    }
+    let master = folder(rt, alloc, source);
+    well_left(run_by(rt, alloc, begun.disk, master, false))
+}
+
 #[test]
 fn a_mirror_is_brought_up_to_date(rt: HostRuntime) -> Result<(), Fail> {
     let source = repo(&rt, rt.alloc())?;
-    let begins = served(&rt, rt.alloc(), BEGINS)?;
-    let goes_on = served(&rt, rt.alloc(), GOES_ON)?;
-    let disk = empty(&rt, rt.alloc());
-    let (disk, begun) = run(&rt, rt.alloc(), disk, begins.as_slice(), true);
-    let (disk, synced) = run(&rt, rt.alloc(), disk, goes_on.as_slice(), false);
-    assert!(rt; begun == 0 && synced == 0);
-    assert!(rt; holds_mirror(rt.alloc(), disk, &source));
+    let left = by_wire(&rt, rt.alloc())?;
+    assert!(rt; left_mirror(rt.alloc(), left, &source));
     Ok(())
 }
 
-// The master's bytes end behind the first revision's edit.
+// Whether a disk is left that holds a mirror of a repository.
+fn left_mirror(alloc: Global, left: Option<MemDisk>, source: &Repo) -> bool {
+    match left {
+        Some(disk) => holds_mirror(alloc, disk, source),
+        None => false,
+    }
+}
+
+// Commits a revision of a repository at the head of a store.
+fn commit(
+    rt: &impl Abort,
+    alloc: Global,
+    store: &mut RepoStore<MemDisk>,
+    source: &Repo,
+    number: RevNo,
+) {
+    let Some(set) = source.set(number) else {
+        rt.abort()
+    };
+    let Some(props) = source.props(number) else {
+        rt.abort()
+    };
+    let set = set.share(alloc).expect(rt, "memory");
+    let props = props.share().expect(rt, "memory");
+    let head = store.repo().head();
+    let _committed = store
+        .commit(alloc, head, set, props, None)
+        .expect(rt, "a revision");
+}
+
+// A repository of two revisions in a store.
+fn folder(rt: &impl Abort, alloc: Global, source: &Repo) -> HeldMaster<MemDisk> {
+    let mut store = match RepoStore::create(alloc, MemDisk::new(alloc), source.identity()) {
+        Ok(store) => store,
+        Err(_) => rt.abort(),
+    };
+    commit(rt, alloc, &mut store, source, RevNo::new(1));
+    commit(rt, alloc, &mut store, source, RevNo::new(2));
+    HeldMaster::new(store)
+}
+
+// The store of a disk.
+fn opened(rt: &impl Abort, alloc: Global, disk: MemDisk) -> RepoStore<MemDisk> {
+    match RepoStore::open(alloc, disk) {
+        Ok(store) => store,
+        Err(_) => rt.abort(),
+    }
+}
+
+// Whether two repositories have the same tree and the same properties of a revision.
+fn is_alike(alloc: Global, one: &Repo, other: &Repo, number: RevNo) -> bool {
+    let (Some(tree), Some(there)) = (one.tree(number), other.tree(number)) else {
+        return false;
+    };
+    let (Some(props), Some(found)) = (one.props(number), other.props(number)) else {
+        return false;
+    };
+    same_tree(alloc, tree, there) && props.equals(found)
+}
+
+// Whether two repositories at revision 2 have the same trees and properties.
+fn are_alike(alloc: Global, one: &Repo, other: &Repo) -> bool {
+    one.head().get() == 2
+        && other.head().get() == 2
+        && is_alike(alloc, one, other, RevNo::new(0))
+        && is_alike(alloc, one, other, RevNo::new(1))
+        && is_alike(alloc, one, other, RevNo::new(2))
+}
+
+// Whether two disks hold such repositories.
+fn hold_the_same(rt: &impl Abort, alloc: Global, one: MemDisk, other: MemDisk) -> bool {
+    let one = opened(rt, alloc, one);
+    let other = opened(rt, alloc, other);
+    let alike = are_alike(alloc, one.repo(), other.repo());
+    let _one = one.into_disk();
+    let _other = other.into_disk();
+    alike
+}
+
+// Whether both were left, and hold the same.
+fn left_the_same(
+    rt: &impl Abort,
+    alloc: Global,
+    one: Option<MemDisk>,
+    other: Option<MemDisk>,
+) -> bool {
+    let Some(one) = one else {
+        return false;
+    };
+    match other {
+        Some(other) => hold_the_same(rt, alloc, one, other),
+        None => false,
+    }
+}
+
+#[test]
+fn a_mirror_over_the_wire_is_one_by_folder(rt: HostRuntime) -> Result<(), Fail> {
+    let source = repo(&rt, rt.alloc())?;
+    let one = by_wire(&rt, rt.alloc())?;
+    let other = by_folder(&rt, rt.alloc(), &source);
+    assert!(rt; left_the_same(&rt, rt.alloc(), one, other));
+    Ok(())
+}
+
 #[test]
 fn a_master_that_goes_silent_is_told(rt: HostRuntime) -> Result<(), Fail> {
     let begins = served(&rt, rt.alloc(), BEGINS)?;
     let goes_on = served(&rt, rt.alloc(), b"( get-latest-rev ( ) ) ")?;
     let disk = empty(&rt, rt.alloc());
-    let (disk, begun) = run(&rt, rt.alloc(), disk, begins.as_slice(), true);
-    let (_disk, synced) = run(&rt, rt.alloc(), disk, goes_on.as_slice(), false);
-    assert!(rt; begun == 0 && synced == 60);
+    let begun = run(&rt, rt.alloc(), disk, begins.as_slice(), true);
+    let synced = run(&rt, rt.alloc(), begun.disk, goes_on.as_slice(), false);
+    assert!(rt; begun.number == 0 && synced.number == 60);
     Ok(())
 }
