@@ -5,5 +5,6 @@ pub mod Lines
 pub mod Mirroring
 pub mod Opening
 pub mod Refusing
+pub mod Served
 pub mod Showing
 pub mod Spelled

@@ -5,14 +5,14 @@ use Rattle.clap.specs.Kinds.{Kinds, HasKind}
 use Rattle.clap.specs.Values.{kind_of}
 use Rattle.clap.specs.Words.{Row}
 use Rattle.clap.specs.declared.error.Error.{Error}
-use Rattle.fleet_main.specs.declared.command_line.Command.{Command}
+use Rattle.fleet_main.specs.declared.command_line.Planned.{Planned}
 use Rattle.fleet_main.specs.declared.command_line.Usage.{Usage}
 use Rattle.fleet_main.specs.declared.command_line.Usage.TheVariants.{Shown, Wrong, OutOfMemory}
 use Rattle.fleet_main.specs.Lines.{HasNoLineFeed, IsLineOf}
 use Rattle.fleet_main.specs.Terminal.{HasNoControl}
 use Rattle.sync_core.specs.Tokens.{is_token}
-use Rattle.fleet_main.specs.Values.{HasReturn, HasValue, SpellsMicros, SpellsRange, identity_read, is_on_server}
-use Rattle.fleet_main.specs.Usages.{IsRefusedAt, IsTold, IsUsageAt, IsUsageOf, IsValueLine, IsOverTwo, IsSyncRefused, no_identity, no_range, no_moment, no_message, no_folders, no_copied_range, on_server, named_twice, no_token}
+use Rattle.fleet_main.specs.Values.{HasReturn, HasValue, SpellsMicros, SpellsRange, SpellsUpTo, identity_read, is_on_server}
+use Rattle.fleet_main.specs.Usages.{IsRefusedAt, IsTold, IsUsageAt, IsUsageOf, IsValueLine, IsOverTwo, IsSyncRefused, no_identity, no_range, no_moment, no_message, no_folders, no_copied_range, no_port, no_connections, on_server, named_twice, no_token}
 
 pub identity_refused : (rows : List Row) (value read told : List ℕ) (u : Usage) → HasValue rows (codes "uuid") value → read ≡ value → told ≡ value
     → identity_read read ≡ None → IsTold (codes "svnfleet create") told (codes "a UUID of the form 8-4-4-4-12 in hexadecimal digits") u → IsRefusedAt (Some (codes "create", rows)) u
@@ -48,7 +48,7 @@ value_at help kinds named read (Shown text) none same h = absurd h
 value_at help kinds named read (Wrong text) none same h = inr (none, subst (λ n. IsRefusedAt n (Wrong text)) same h)
 value_at help kinds named read OutOfMemory none same h = tt
 
-pub values_at : (help : List ℕ) (kinds : Kinds) (named read : Option (List ℕ × List Row)) (r : Result Command Usage) → kinds ≡ [] → read ≡ named
+pub values_at : (help : List ℕ) (kinds : Kinds) (named read : Option (List ℕ × List Row)) (r : Result Planned Usage) → kinds ≡ [] → read ≡ named
     → IfErr r (IsRefusedAt read) → IfErr r (IsUsageAt help kinds named)
 values_at help kinds named read (Ok c) none same h = tt
 values_at help kinds named read (Err u) none same h = value_at help kinds named read u none same h
@@ -104,3 +104,16 @@ pub copied_range_refused : (rows : List Row) (value : List ℕ) (u : Usage) → 
 copied_range_refused rows value (Shown text) has none h = absurd h
 copied_range_refused rows value (Wrong text) has none h = (codes "copy-revprops", rows, refl, no_copied_range value refl has none h)
 copied_range_refused rows value OutOfMemory has none h = tt
+
+-- a port and a number of connections
+pub port_refused : (rows : List Row) (value : List ℕ) (u : Usage) → HasValue rows (codes "port") value → ((n : ℕ) → SpellsUpTo 65535 value n → ⊥)
+    → IsTold (codes "svnfleet serve") value (codes "a port from 1 to 65535") u → IsRefusedAt (Some (codes "serve", rows)) u
+port_refused rows value (Shown text) has none h = absurd h
+port_refused rows value (Wrong text) has none h = (codes "serve", rows, refl, no_port value refl has none h)
+port_refused rows value OutOfMemory has none h = tt
+
+pub connections_refused : (rows : List Row) (value : List ℕ) (u : Usage) → HasValue rows (codes "connections") value → ((n : ℕ) → SpellsUpTo 1024 value n → ⊥)
+    → IsTold (codes "svnfleet serve") value (codes "a number of connections from 1 to 1024") u → IsRefusedAt (Some (codes "serve", rows)) u
+connections_refused rows value (Shown text) has none h = absurd h
+connections_refused rows value (Wrong text) has none h = (codes "serve", rows, refl, no_connections value refl has none h)
+connections_refused rows value OutOfMemory has none h = tt

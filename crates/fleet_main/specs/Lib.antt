@@ -4,6 +4,7 @@ pub mod Host
 pub mod Laws
 pub mod Lines
 pub mod Opening
+pub mod Serving
 pub mod Terminal
 pub mod Usages
 pub mod Values

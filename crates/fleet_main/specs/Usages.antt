@@ -8,7 +8,7 @@ use Rattle.clap.specs.declared.error.kind.ErrorKind.TheVariants as kind
 use Rattle.fleet_main.specs.Lines.{HasNoLineFeed, IsLineOf}
 use Rattle.fleet_main.specs.Terminal.{HasNoControl}
 use Rattle.sync_core.specs.Tokens.{is_token}
-use Rattle.fleet_main.specs.Values.{HasReturn, HasValue, SpellsMicros, SpellsRange, identity_read, is_on_server}
+use Rattle.fleet_main.specs.Values.{HasReturn, HasValue, SpellsMicros, SpellsRange, SpellsUpTo, identity_read, is_on_server}
 use Rattle.fleet_main.specs.declared.command_line.Usage.{Usage}
 use Rattle.fleet_main.specs.declared.command_line.Usage.TheVariants.{Shown, Wrong, OutOfMemory}
 
@@ -55,7 +55,7 @@ IsSyncRefused rows help OutOfMemory = Unit {0}
 abbrev pub IsOverTwo : List ℕ → Type 0
 IsOverTwo name = (name ≡ codes "initialize") ⊎ (name ≡ codes "synchronize") ⊎ (name ≡ codes "copy-revprops")
 
--- the value of a subcommand that isn't taken: it spells no identity, no range, no moment or no token, is a message with a carriage return, or a source that is none
+-- the value of a subcommand that isn't taken: it spells no identity, no range, no moment or no token, is a message with a carriage return, a source that is none, or no port or number of connections
 pub data IsValueRefused (name : List ℕ) (rows : List Row) (line : List ℕ) : Type 0 where
   no_identity : (value : List ℕ) → name ≡ codes "create" → HasValue rows (codes "uuid") value → identity_read value ≡ None
       → IsValueLine (codes "svnfleet create") value (codes "a UUID of the form 8-4-4-4-12 in hexadecimal digits") line → IsValueRefused name rows line
@@ -68,6 +68,10 @@ pub data IsValueRefused (name : List ℕ) (rows : List Row) (line : List ℕ) : 
   no_folders : IsOverTwo name → IsSyncValueRefused rows (codes "svnfleet " ++ name) line → IsValueRefused name rows line
   no_copied_range : (value : List ℕ) → name ≡ codes "copy-revprops" → HasValue rows (codes "revisions") value → ((lo hi : ℕ) → SpellsRange value lo hi → ⊥)
       → IsValueLine (codes "svnfleet copy-revprops") value (codes "a range LO:HI of revisions from 0 to 65535, LO not above HI") line → IsValueRefused name rows line
+  no_port : (value : List ℕ) → name ≡ codes "serve" → HasValue rows (codes "port") value → ((n : ℕ) → SpellsUpTo 65535 value n → ⊥)
+      → IsValueLine (codes "svnfleet serve") value (codes "a port from 1 to 65535") line → IsValueRefused name rows line
+  no_connections : (value : List ℕ) → name ≡ codes "serve" → HasValue rows (codes "connections") value → ((n : ℕ) → SpellsUpTo 1024 value n → ⊥)
+      → IsValueLine (codes "svnfleet serve") value (codes "a number of connections from 1 to 1024") line → IsValueRefused name rows line
 
 -- of a subcommand with its values: a value is refused; else memory ran out
 abbrev pub IsRefusedAt : Option (List ℕ × List Row) → Usage → Type 0

@@ -12,6 +12,9 @@ use Rattle.sync_core.specs.Tokens.{is_token}
 use Rattle.fleet_main.specs.Words.{word_of}
 use Rattle.fleet_main.specs.declared.command_line.Command.{Command}
 use Rattle.fleet_main.specs.declared.command_line.Command.TheVariants.{List as ListIt, Canon, Create, Load, Dump, MakeDir, Initialize, Synchronize, CopyRevprops, Info}
+use Rattle.fleet_main.specs.declared.command_line.Service.{Service}
+use Rattle.fleet_main.specs.declared.command_line.Planned.{Planned}
+use Rattle.fleet_main.specs.declared.command_line.Planned.TheVariants.{Run, Serve}
 
 -- the identity that 8-4-4-4-12 hexadecimal digits spell, in any case, with hyphens between them
 abbrev pub identity_read : List ℕ → Option (List ℕ)
@@ -29,6 +32,10 @@ pub record SpellsRange (value : List ℕ) (lo hi : ℕ) : Type 0 where
 -- microseconds after 1970 began, in decimal digits, up to the end of 2099
 abbrev pub SpellsMicros : List ℕ → ℕ → Type 0
 SpellsMicros value micros = (decimal value ≡ Some micros) × (micros ≤ 4102444799999999)
+
+-- a number from 1 up to the most, in decimal digits
+abbrev pub SpellsUpTo : ℕ → List ℕ → ℕ → Type 0
+SpellsUpTo most value n = (decimal value ≡ Some n) × (1 ≤ n) × (n ≤ most)
 
 -- what a value says, where there is one: a range, or all where it is left out
 abbrev pub IsRangeOf : Option (List ℕ) → Option RevRange → Type 0
@@ -67,6 +74,10 @@ IsTokenOf (Some value) token = (token ≡ value) × (is_token value ≡ true)
 abbrev pub is_given : List Row → List ℕ → Bool
 is_given rows name = option_map_or (λ value. bytes_eq value (codes "true")) (first_of name rows) false
 
+-- the first value of that name spells the number
+abbrev pub HasNumber : List Row → List ℕ → ℕ → ℕ → Type 0
+HasNumber rows name most n = (value : List ℕ) × HasValue rows name value × SpellsUpTo most value n
+
 -- a command's folder, identity, range, path, message and moment are those of the values under their names
 abbrev pub HasValuesOf : List Row → Command → Type 0
 HasValuesOf rows ListIt = Unit {0}
@@ -89,3 +100,14 @@ HasValuesOf rows (Info mirror) = HasValue rows (codes "MIRROR") (string_bytes mi
 -- of a subcommand with its values: the command has its name and its values
 abbrev pub IsCommandOf : Option (List ℕ × List Row) → Command → Type 0
 IsCommandOf named command = (rows : List Row) × (named ≡ Some (word_of command, rows)) × HasValuesOf rows command
+
+-- a server's folder, port and number of connections are those of the values under their names
+abbrev pub HasServiceOf : List Row → Service → Type 0
+HasServiceOf rows service =
+    HasValue rows (codes "DIR") (string_bytes service.folder) × HasNumber rows (codes "port") 65535 service.port
+    × HasNumber rows (codes "connections") 1024 service.connections
+
+-- of a subcommand with its values: it is that command, or `serve` with the server's values
+abbrev pub IsPlannedOf : Option (List ℕ × List Row) → Planned → Type 0
+IsPlannedOf named (Run command) = IsCommandOf named command
+IsPlannedOf named (Serve service) = (rows : List Row) × (named ≡ Some (codes "serve", rows)) × HasServiceOf rows service

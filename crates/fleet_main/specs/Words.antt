@@ -67,6 +67,13 @@ copy_revprops_app = with_rule (with_rule (two_folders_app (codes "copy-revprops"
 abbrev pub info_app : App
 info_app = with_rule (new_app (codes "info")) (word_rule (codes "MIRROR"))
 
+-- a folder, a port and a number of connections
+abbrev pub serve_place_app : App
+serve_place_app = with_rule (new_app (codes "serve")) (word_rule (codes "DIR"))
+
+abbrev pub serve_app : App
+serve_app = with_rule (with_rule serve_place_app (named_rule (codes "port"))) (named_rule (codes "connections"))
+
 -- the program by itself
 abbrev pub bare_app : App
 bare_app = on_top (λ s. record s { has_version = true; subcommand_required = true }) (new_app (codes "svnfleet"))
@@ -87,9 +94,13 @@ histories_app = with_subcommand (with_subcommand folders_app dump_app.top) mkdir
 abbrev pub mirrors_app : App
 mirrors_app = with_subcommand (with_subcommand histories_app initialize_app.top) synchronize_app.top
 
+-- and with that which tells of a mirror
+abbrev pub told_app : App
+told_app = with_subcommand (with_subcommand mirrors_app copy_revprops_app.top) info_app.top
+
 -- the program and its subcommands, of which it wants one
 abbrev pub svnfleet_app : App
-svnfleet_app = with_subcommand (with_subcommand mirrors_app copy_revprops_app.top) info_app.top
+svnfleet_app = with_subcommand told_app serve_app.top
 
 -- the word that names a command
 abbrev pub word_of : Command → List ℕ

@@ -12,12 +12,13 @@ ghost use Rattle.fleet_main.specs.Lines.{HasNoLineFeed, IsLineOf, first_lines, h
 ghost use Rattle.fleet_main.specs.Terminal.{HasNoControl};
 ghost use Rattle.fleet_main.specs.Usages.{IsRefusedAt, IsSyncRefused, IsTold, IsUsageAt, IsUsageOf};
 ghost use Rattle.fleet_main.specs.Values.{HasFolders, HasReturn, HasValue, IsCommandOf, IsTokenOf, SpellsMicros};
-ghost use Rattle.fleet_main.specs.Values.{IsRangeGiven, SpellsRange, identity_read, is_given, is_on_server};
+ghost use Rattle.fleet_main.specs.Values.{HasNumber, HasServiceOf, IsPlannedOf, IsRangeGiven, SpellsRange};
+ghost use Rattle.fleet_main.specs.Values.{SpellsUpTo, identity_read, is_given, is_on_server};
 ghost use Rattle.fleet_main.specs.Words.{canon_app, copied_range_rule, copy_revprops_app, create_app, dump_app};
 ghost use Rattle.fleet_main.specs.Words.{flag_rule, folders_app, histories_app, info_app, initialize_app, list_app};
 ghost use Rattle.fleet_main.specs.Words.{load_app, mirrors_app, mkdir_app, mkdir_place_app, named_rule, optional_rule};
-ghost use Rattle.fleet_main.specs.Words.{range_rule, streams_app, svnfleet_app, synchronize_app, two_folders_app};
-ghost use Rattle.fleet_main.specs.Words.{word_rule};
+ghost use Rattle.fleet_main.specs.Words.{range_rule, serve_app, serve_place_app, streams_app, svnfleet_app};
+ghost use Rattle.fleet_main.specs.Words.{synchronize_app, told_app, two_folders_app, word_rule};
 ghost use Rattle.sync_core.specs.Tokens.{is_token};
 ghost use Rattle.node_base.specs.Numbers.{rev_read};
 ghost use Rattle.repo_core.specs.Dates.{IsMoment};
@@ -86,6 +87,26 @@ pub enum Command {
     Info {
         mirror: String,
     },
+}
+
+/// A folder's repository that is to be served on a port of 127.0.0.1, over so many connections.
+#[derive(Drop)]
+pub struct Service {
+    /// The folder of the repository.
+    pub folder: String,
+    /// The port, from 1 to 65535.
+    pub port: u16,
+    /// The number of connections, from 1 to 1024.
+    pub connections: u16,
+}
+
+/// What words ask for.
+#[derive(Drop)]
+pub enum Planned {
+    /// A command, which ends by itself.
+    Run(Command),
+    /// A server.
+    Serve(Service),
 }
 
 /// Why the words name no command.
@@ -380,6 +401,36 @@ fn info<'a>(alloc: Global) -> Result<clap::Command<'a>, AllocError>
     Ok(whole)
 }
 
+// The command and the place that it takes.
+fn serve_place<'a>(alloc: Global) -> Result<clap::Command<'a>, AllocError>
+    ensures app { IfOk result (λ c. app_of c ≡ serve_place_app) }
+    ensures local { IfOk result (λ c. (fields_of c).has_globals ≡ false) }
+{
+    let folder = word(alloc, "DIR", "The folder of the repository");
+    let top = clap::Command::new(alloc, "serve")
+        .about("Serves a folder's repository to svnsync and other clients on this machine")
+        .after_help(texts::SERVE);
+    let whole = top.arg(folder)?;
+    Ok(whole)
+}
+
+fn serve<'a>(alloc: Global) -> Result<clap::Command<'a>, AllocError>
+    ensures app { IfOk result (λ c. app_of c ≡ serve_app) }
+    ensures local { IfOk result (λ c. (fields_of c).has_globals ≡ false) }
+{
+    let port = valued(alloc, "port", "P", "The port of 127.0.0.1, from 1 to 65535");
+    let connections = valued(
+        alloc,
+        "connections",
+        "N",
+        "The number of connections, from 1 to 1024, after which it ends",
+    );
+    let top = serve_place(alloc)?;
+    let placed = top.arg(port)?;
+    let whole = placed.arg(connections)?;
+    Ok(whole)
+}
+
 // The program with the commands over streams alone.
 fn over_streams<'a>(alloc: Global) -> Result<clap::Command<'a>, AllocError>
     ensures app { IfOk result (λ c. app_of c ≡ streams_app) }
@@ -436,8 +487,9 @@ fn over_mirrors<'a>(alloc: Global) -> Result<clap::Command<'a>, AllocError>
     Ok(whole)
 }
 
-fn svnfleet<'a>(alloc: Global) -> Result<clap::Command<'a>, AllocError>
-    ensures app { IfOk result (λ c. app_of c ≡ svnfleet_app) }
+// And with that which tells of a mirror.
+fn over_told<'a>(alloc: Global) -> Result<clap::Command<'a>, AllocError>
+    ensures app { IfOk result (λ c. app_of c ≡ told_app) }
     ensures local { IfOk result (λ c. (fields_of c).has_globals ≡ false) }
 {
     let copy_revprops = copy_revprops(alloc)?;
@@ -448,19 +500,29 @@ fn svnfleet<'a>(alloc: Global) -> Result<clap::Command<'a>, AllocError>
     Ok(whole)
 }
 
-/// The command that the words name, the program's name first, with the values that they give it. Usage where they name
+fn svnfleet<'a>(alloc: Global) -> Result<clap::Command<'a>, AllocError>
+    ensures app { IfOk result (λ c. app_of c ≡ svnfleet_app) }
+    ensures local { IfOk result (λ c. (fields_of c).has_globals ≡ false) }
+{
+    let serve = serve(alloc)?;
+    let top = over_told(alloc)?;
+    let whole = top.subcommand(serve)?;
+    Ok(whole)
+}
+
+/// The command or the server that the words name, the program's name first, with the values that they give it. Usage where they name
 /// none: help or the version only where it was asked for, and else what is wrong, in the words or in the value of an
-/// identity, a range, a moment or a message, in one line without control characters that names the help of the command
-/// at hand.
-pub fn plan(alloc: Global, words: &[String]) -> Result<Command, Usage>
-    ensures named { IfOk result (IsCommandOf (subcommand_of svnfleet_app (map string_bytes words.now))) }
+/// identity, a range, a moment, a message, a port or a number of connections, in one line without control characters
+/// that names the help of the command at hand.
+pub fn plan(alloc: Global, words: &[String]) -> Result<Planned, Usage>
+    ensures named { IfOk result (IsPlannedOf (subcommand_of svnfleet_app (map string_bytes words.now))) }
     ensures faultless { IfOk result (λ _. fault_of svnfleet_app (map string_bytes words.now) ≡ []) }
     ensures usage { IfErr result (IsUsageAt (help_of (map string_bytes words.now))
         (fault_of svnfleet_app (map string_bytes words.now)) (subcommand_of svnfleet_app
         (map string_bytes words.now))) }
 {
     match matches_of(alloc, words) {
-        Ok(matches) => named(alloc, &matches),
+        Ok(matches) => asked(alloc, &matches),
         Err(error) => Err(usage_of(alloc, words, &error)),
     }
 }
@@ -472,6 +534,23 @@ fn matches_of<'a>(alloc: Global, words: &'a [String]) -> Result<ArgMatches<'a>, 
 {
     let top = svnfleet(alloc)?;
     top.try_get_matches_from(words)
+}
+
+// What a subcommand's name and its values say.
+fn asked(alloc: Global, matches: &ArgMatches<'_>) -> Result<Planned, Usage>
+    ensures named { IfOk result (IsPlannedOf (subcommand_rows_of matches.now)) }
+    ensures usage { IfErr result (IsRefusedAt (subcommand_rows_of matches.now)) }
+{
+    match entered(matches) {
+        Some(("serve", given)) => match serve_named(alloc, given) {
+            Ok(service) => Ok(Planned::Serve(service)),
+            Err(usage) => Err(usage),
+        },
+        _ => match named(alloc, matches) {
+            Ok(command) => Ok(Planned::Run(command)),
+            Err(usage) => Err(usage),
+        },
+    }
 }
 
 // The command that a subcommand's name and its values say.
@@ -683,6 +762,54 @@ fn info_named(alloc: Global, given: &ArgMatches<'_>) -> Result<Command, Usage>
     })
 }
 
+fn serve_named(alloc: Global, given: &ArgMatches<'_>) -> Result<Service, Usage>
+    ensures named { IfOk result (HasServiceOf (rows_of (found_of given.now))) }
+    ensures usage { IfErr result (IsRefusedAt (Some (codes "serve", rows_of (found_of given.now)))) }
+{
+    match port_of(alloc, given) {
+        Ok(port) => match connections_of(alloc, given) {
+            Ok(connections) => Ok(Service {
+                folder: text(alloc, given, "DIR")?,
+                port,
+                connections,
+            }),
+            Err(usage) => Err(usage),
+        },
+        Err(usage) => Err(usage),
+    }
+}
+
+fn port_of(alloc: Global, given: &ArgMatches<'_>) -> Result<u16, Usage>
+    ensures port { IfOk result (HasNumber (rows_of (found_of given.now)) (codes "port") 65535) }
+    ensures usage { IfErr result (IsRefusedAt (Some (codes "serve", rows_of (found_of given.now)))) }
+{
+    let Some(value) = value(given, "port") else {
+        return Err(Usage::OutOfMemory);
+    };
+    match up_to(value, 65_535) {
+        Some(port) => Ok(port),
+        None => Err(wrong(alloc, "svnfleet serve", value, "a port from 1 to 65535")),
+    }
+}
+
+fn connections_of(alloc: Global, given: &ArgMatches<'_>) -> Result<u16, Usage>
+    ensures connections { IfOk result (HasNumber (rows_of (found_of given.now)) (codes "connections") 1024) }
+    ensures usage { IfErr result (IsRefusedAt (Some (codes "serve", rows_of (found_of given.now)))) }
+{
+    let Some(value) = value(given, "connections") else {
+        return Err(Usage::OutOfMemory);
+    };
+    match up_to(value, 1024) {
+        Some(connections) => Ok(connections),
+        None => Err(wrong(
+            alloc,
+            "svnfleet serve",
+            value,
+            "a number of connections from 1 to 1024",
+        )),
+    }
+}
+
 // The folders of a mirror and its source, which are two.
 fn folders(alloc: Global, help: &str, given: &ArgMatches<'_>) -> Result<(String, String), Usage>
     ensures folders { IfOk result (λ p. HasFolders (rows_of (found_of given.now)) (string_bytes p.0)
@@ -813,6 +940,18 @@ fn moment_of(value: &str) -> Option<Moment>
     ensures none { IfNone result ((micros : ℕ) → SpellsMicros value.now micros → ⊥) }
 {
     Moment::from_micros(read_decimal(value.as_bytes())?)
+}
+
+// The number from 1 up to the most that decimal digits spell.
+fn up_to(value: &str, most: u16) -> Option<u16>
+    ensures some { IfSome result (SpellsUpTo most value.now) }
+    ensures none { IfNone result ((n : ℕ) → SpellsUpTo most value.now n → ⊥) }
+{
+    let number = read_decimal(value.as_bytes())?;
+    if number == 0 || number > u64::from(most) {
+        return None;
+    }
+    u16::try_from(number).ok()
 }
 
 // What the program tells of an error that clap found in the words.

@@ -32,8 +32,8 @@ use uuid::Uuid;
 // The status of a command that was refused.
 const REFUSED: u8 = 1;
 
-// What a stop leaves now keeps the repository.
-fn kept<D: Disk + Drop>(store: &RepoStore<D>)
+/// What a stop leaves now keeps the repository.
+pub(crate) fn kept<D: Disk + Drop>(store: &RepoStore<D>)
     ensures { D.honest (disk_of store.now) → ¬ HasFailed store.now → (left : Image)
         → D.may_leave (disk_of store.now) left → Keeps (repository_of store.now) left }
 {
@@ -448,8 +448,9 @@ pub fn run<F: Folders, R: Read + Drop, W: Write + Drop, E: Write + Drop>(
     }
 }
 
-// A line that can't be written is lost: the status tells.
-fn refused<E: Write + Drop>(refusal: &Refusal, errors: &mut Sink<E>) -> u8
+/// The status of a command that was refused, with the refusal's line. One that can't be written is lost: the status
+/// tells.
+pub(crate) fn refused<E: Write + Drop>(refusal: &Refusal, errors: &mut Sink<E>) -> u8
     ensures status { result ≡ 1 }
     ensures line { (errors.new.failed ≡ true)
         ⊎ Appends (E.contents errors.old.inner) (E.contents errors.new.inner) (fault_line refusal.now) }

@@ -40,4 +40,5 @@ fn is_command(word: &str) -> bool
         || word == "synchronize"
         || word == "copy-revprops"
         || word == "info"
+        || word == "serve"
 }

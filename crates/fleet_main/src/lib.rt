@@ -3,23 +3,25 @@
 //! ```text
 //! fill_streams(&mut HostDescriptors::new(&rt))?;
 //! match plan(alloc, &words) {
-//!     Ok(command) => run(alloc, &mut HostFolders::new(&rt), command, &mut input, &mut output, &mut errors),
+//!     Ok(Planned::Run(command)) => run(alloc, &mut folders, command, &mut input, output, &mut errors),
+//!     Ok(Planned::Serve(service)) => serve(&rt, alloc, &mut folders, &service, output, &mut errors),
 //!     Err(Usage::Shown(text)) => show(text),
 //!     Err(Usage::Wrong(line)) => tell(line, 2),
 //!     Err(Usage::OutOfMemory) => tell("svnfleet: 70 out of memory", 1),
 //! }
 //! ```
 //!
-//! `plan` gives the command that the words name, with the values that they spell, or else says what is wrong with them;
+//! `plan` gives the command or the server that the words name, with the values that they spell, or else says what is wrong with them;
 //! it shows a text only where help or the version was asked for. The status of `run` is 0 only where the command is
 //! done and what it wrote is handed on, and 1 with the refusal's line; of a folder whose disk keeps the rules it says
 //! what was there before, what the command made of it, and what a stop leaves.
 #![tactic(auto)]
 
-pub use command_line::{Command, Usage, plan};
+pub use command_line::{Command, Planned, Service, Usage, plan};
 pub use execute::run;
 pub use fleet_engines::{Sink, Source};
 pub use folders::{FolderFault, Folders, HostFolders};
+pub use serving::serve;
 pub use store_engines::RevRange;
 pub use streams::{Descriptors, HostDescriptors, fill_streams};
 
@@ -28,6 +30,7 @@ mod execute;
 mod folders;
 mod help;
 pub mod law;
+mod serving;
 mod streams;
 mod terminal;
 mod texts;

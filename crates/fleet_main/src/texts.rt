@@ -67,3 +67,15 @@ Prints the source of MIRROR as `initialize` was given it, the identity of that r
 revision that is copied whole, a line each.
 The status is 0; 1 with a line where the folder can't be opened, its repository is no mirror (51) or its
 properties were changed by hand (57), or the device fails; 2 where the words are wrong.";
+
+/// Of `serve`.
+pub const SERVE: &str = "\
+Serves the repository to Subversion's svnsync and svnrdump over svn://, on 127.0.0.1 alone, so to this machine:
+it asks for no password. Prints `listening on 127.0.0.1:P` once it listens, and ends when N connections have
+ended, those that failed among them; a client may make more than one. Another repository is begun as a copy by
+`svnsync init file:///PATH svn://127.0.0.1:P/`, and brought up to DIR by `svnsync sync file:///PATH`.
+Nothing is committed to DIR. Properties of revisions that a client changes are changed in DIR, unless it is a
+mirror, which is served read-only (24). Each change that was answered stands after a stop.
+The folder is held while it serves: another command over it is refused with 31.
+The status is 0; 1 with a line where the folder can't be opened, or the port can't be listened on or the line
+not be written (49); 2 where the words are wrong.";

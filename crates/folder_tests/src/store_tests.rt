@@ -3,7 +3,7 @@
 
 use crate::memory::MemFolders;
 use fleet_disk::{Disk, DiskFile, Fuse, FuseDisk, MemDisk, Pick};
-use fleet_main::{Command, Folders, Sink, Source, plan, run};
+use fleet_main::{Command, Folders, Planned, Sink, Source, plan, run};
 use node_base::{PropName, RevNo};
 use repo_core::Expected;
 use std::alloc::{AllocError, Global};
@@ -90,7 +90,8 @@ fn named(alloc: Global, words: &[&str]) -> Result<Command, Fail> {
         all.push(String::from_str(alloc, *word)?)?;
     }
     match plan(alloc, &all) {
-        Ok(command) => Ok(command),
+        Ok(Planned::Run(command)) => Ok(command),
+        Ok(_) => Err(Fail::new("a server")),
         Err(_) => Err(Fail::new("no command")),
     }
 }

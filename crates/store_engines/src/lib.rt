@@ -15,6 +15,7 @@ pub use begin::{create_store, open_store};
 pub use dump::run_dump;
 pub use load::run_load;
 pub use make_dir::run_mkdir;
+pub use mirror::is_mirror;
 pub use range::RevRange;
 pub use repo_store::{log_refusal, repo_refusal, store_refusal};
 

@@ -1,8 +1,11 @@
-//! svnfleet: lists and rewrites the dumps of Subversion repositories, and keeps repositories and mirrors of them in
-//! folders.
+//! svnfleet: lists and rewrites the dumps of Subversion repositories, keeps repositories and mirrors of them in folders,
+//! and serves these to Subversion's clients.
 #![tactic(auto)]
 
-use fleet_main::{HostDescriptors, HostFolders, Sink, Source, Usage, fill_streams, plan, run};
+use fleet_main::{
+    Command, HostDescriptors, HostFolders, Planned, Service, Sink, Source, Usage, fill_streams,
+    plan, run, serve,
+};
 use std::io::{BufWriter, ErrorKind};
 use std::process::ExitCode;
 use std::{env, io};
@@ -57,22 +60,8 @@ fn worded(rt: &HostRuntime) -> u8 {
 
 fn planned(rt: &HostRuntime, words: &[String]) -> u8 {
     match plan(rt.alloc(), words) {
-        Ok(command) => {
-            let Ok(buffer) = BufWriter::with_capacity(rt.alloc(), 65_536, rt.stdout()) else {
-                return told(rt, "svnfleet: 70 out of memory", 1);
-            };
-            let mut input = Source::new(rt.stdin());
-            let mut errors = Sink::new(rt.stderr());
-            let (status, _output) = run(
-                rt.alloc(),
-                &mut HostFolders::new(rt),
-                command,
-                &mut input,
-                Sink::new(buffer),
-                &mut errors,
-            );
-            status
-        }
+        Ok(Planned::Run(command)) => ran(rt, command),
+        Ok(Planned::Serve(service)) => served(rt, &service),
         Err(Usage::Shown(text)) => match rt.print(text) {
             Ok(()) => 0,
             Err(_) => told(rt, "svnfleet: 49 stream failed", 1),
@@ -80,4 +69,34 @@ fn planned(rt: &HostRuntime, words: &[String]) -> u8 {
         Err(Usage::Wrong(text)) => told(rt, text.as_str(), 2),
         Err(Usage::OutOfMemory) => told(rt, "svnfleet: 70 out of memory", 1),
     }
+}
+
+fn ran(rt: &HostRuntime, command: Command) -> u8 {
+    let Ok(buffer) = BufWriter::with_capacity(rt.alloc(), 65_536, rt.stdout()) else {
+        return told(rt, "svnfleet: 70 out of memory", 1);
+    };
+    let mut input = Source::new(rt.stdin());
+    let mut errors = Sink::new(rt.stderr());
+    let (status, _output) = run(
+        rt.alloc(),
+        &mut HostFolders::new(rt),
+        command,
+        &mut input,
+        Sink::new(buffer),
+        &mut errors,
+    );
+    status
+}
+
+fn served(rt: &HostRuntime, service: &Service) -> u8 {
+    let mut errors = Sink::new(rt.stderr());
+    let (status, _output) = serve(
+        rt,
+        rt.alloc(),
+        &mut HostFolders::new(rt),
+        service,
+        Sink::new(rt.stdout()),
+        &mut errors,
+    );
+    status
 }

@@ -1,12 +1,12 @@
 //! What the words of a command line come to.
 
-use fleet_main::{Command, RevRange, Usage, plan};
+use fleet_main::{Command, Planned, RevRange, Usage, plan};
 use node_base::RevNo;
 use std::alloc::Global;
 use std::test::Fail;
 use uuid::Uuid;
 
-fn planned(alloc: Global, parts: &[&str]) -> Result<Result<Command, Usage>, Fail> {
+fn planned(alloc: Global, parts: &[&str]) -> Result<Result<Planned, Usage>, Fail> {
     let mut words = Vec::new(alloc);
     words.push(String::from_str(alloc, "svnfleet")?)?;
     for part in parts {
@@ -18,8 +18,8 @@ fn planned(alloc: Global, parts: &[&str]) -> Result<Result<Command, Usage>, Fail
 // What words come to, in one word.
 fn meaning(alloc: Global, parts: &[&str]) -> Result<&'static str, Fail> {
     match planned(alloc, parts)? {
-        Ok(Command::List) => Ok("list"),
-        Ok(Command::Canon) => Ok("canon"),
+        Ok(Planned::Run(Command::List)) => Ok("list"),
+        Ok(Planned::Run(Command::Canon)) => Ok("canon"),
         Ok(_) => Ok("another"),
         Err(Usage::Wrong(_)) => Ok("wrong"),
         Err(Usage::Shown(_)) => Ok("shown"),
@@ -41,7 +41,7 @@ fn words_name_a_command(rt: HostRuntime) -> Result<(), Fail> {
 // Whether words are answered by a creation in the folder `repo` with this identity.
 fn creates(alloc: Global, parts: &[&str], wanted: Uuid) -> Result<bool, Fail> {
     match planned(alloc, parts)? {
-        Ok(Command::Create { folder, identity }) => {
+        Ok(Planned::Run(Command::Create { folder, identity })) => {
             Ok(folder.as_str() == "repo" && identity == wanted)
         }
         _ => Ok(false),
@@ -64,7 +64,7 @@ fn words_create(rt: HostRuntime) -> Result<(), Fail> {
 // By a load into the folder `repo`.
 fn loads(alloc: Global, parts: &[&str]) -> Result<bool, Fail> {
     match planned(alloc, parts)? {
-        Ok(Command::Load { folder }) => Ok(folder.as_str() == "repo"),
+        Ok(Planned::Run(Command::Load { folder })) => Ok(folder.as_str() == "repo"),
         _ => Ok(false),
     }
 }
@@ -72,7 +72,9 @@ fn loads(alloc: Global, parts: &[&str]) -> Result<bool, Fail> {
 // By a dump of the folder `repo`, of this range.
 fn dumps(alloc: Global, parts: &[&str], wanted: Option<RevRange>) -> Result<bool, Fail> {
     match planned(alloc, parts)? {
-        Ok(Command::Dump { folder, range }) => Ok(folder.as_str() == "repo" && range == wanted),
+        Ok(Planned::Run(Command::Dump { folder, range })) => Ok(
+            folder.as_str() == "repo" && range == wanted,
+        ),
         _ => Ok(false),
     }
 }
@@ -90,12 +92,14 @@ fn words_load_and_dump(rt: HostRuntime) -> Result<(), Fail> {
 fn makes_directory(alloc: Global, parts: &[&str], date: &str) -> Result<bool, Fail> {
     match planned(alloc, parts)? {
         Ok(
-            Command::MakeDir {
-                folder,
-                path,
-                message,
-                moment,
-            },
+            Planned::Run(
+                Command::MakeDir {
+                    folder,
+                    path,
+                    message,
+                    moment,
+                },
+            ),
         ) => {
             let dated = moment.date_text(alloc)?;
             let named = folder.as_str() == "repo" && path.as_str() == "a/b";

@@ -1,0 +1,63 @@
+# Part of tests/command/run: what `serve` says and refuses, without a client that speaks the protocol.
+
+# wrong_value NAME LINE WORDS..: the words are wrong, with this line
+wrong_value() {
+    name=$1 line=$2
+    shift 2
+    ./svnfleet "$@" >"$work/out" 2>"$work/errors" </dev/null
+    check "$name: status 2" test $? -eq 2
+    check "$name: its line" test "$(cat "$work/errors")" = "$line"
+}
+wrong_value 'port 0' 'svnfleet: "0" is not a port from 1 to 65535 (svnfleet serve --help tells more)' serve r --port 0 --connections 1
+wrong_value 'port 65536' 'svnfleet: "65536" is not a port from 1 to 65535 (svnfleet serve --help tells more)' serve r --port 65536 --connections 1
+wrong_value '0 connections' 'svnfleet: "0" is not a number of connections from 1 to 1024 (svnfleet serve --help tells more)' serve r --port 1 --connections 0
+wrong_value '1025 connections' 'svnfleet: "1025" is not a number of connections from 1 to 1024 (svnfleet serve --help tells more)' serve r --port 1 --connections 1025
+
+# free_port: a port of 127.0.0.1 that nobody has
+free_port() {
+    python3 -c 'import socket; s = socket.socket(); s.bind(("127.0.0.1", 0)); print(s.getsockname()[1])'
+}
+# connects PORT: a connection can be opened, and is closed at once
+connects() {
+    timeout 20 python3 -c 'import socket, sys; socket.create_connection(("127.0.0.1", int(sys.argv[1])), 10).close()' "$1"
+}
+# listens FILE PORT: waits until the file says where a server listens
+listens() {
+    waited=0
+    until test "$(cat "$1")" = "listening on 127.0.0.1:$2" || [ "$waited" -ge 600 ]; do
+        sleep 0.1
+        waited=$((waited + 1))
+    done
+    test "$(cat "$1")" = "listening on 127.0.0.1:$2"
+}
+
+mkdir "$work/unserved"
+refused 'serve of a missing folder' 34 serve "$work/none" --port 3690 --connections 1
+refused 'serve of an empty folder' 34 serve "$work/unserved" --port 3690 --connections 1
+refused 'serve of no folder' 34 serve '' --port 3690 --connections 1
+refused 'serve of a file' 31 serve examples/first.dump --port 3690 --connections 1
+check 'an empty folder stays so' test -z "$(ls "$work/unserved")"
+
+./svnfleet create "$work/served" --uuid $uuid </dev/null
+./svnfleet load "$work/served" <examples/first.dump >"$work/out"
+port=$(free_port)
+timeout 120 ./svnfleet serve "$work/served" --port "$port" --connections 2 >"$work/serving" 2>"$work/serving.errors" </dev/null &
+server=$!
+check 'serve says where it listens' listens "$work/serving" "$port"
+refused 'load beside a server' 31 load "$work/served"
+refused 'dump beside a server' 31 dump "$work/served"
+refused 'a server beside a server' 31 serve "$work/served" --port "$port" --connections 1
+refused 'serve on a port that is taken' 49 serve "$work/repo" --port "$port" --connections 1
+check 'a first connection' connects "$port"
+check 'a second connection' connects "$port"
+wait $server
+check 'serve ends with its connections' test $? -eq 0
+check 'serve: its line alone' test "$(cat "$work/serving")" = "listening on 127.0.0.1:$port"
+check 'serve: nothing on standard error' test ! -s "$work/serving.errors"
+./svnfleet dump "$work/served" >"$work/out" </dev/null
+check 'serve: the repository stays' test "$(grep -c '^Revision-number: ' "$work/out")" -eq 3
+if [ -c /dev/full ]; then
+    timeout 120 ./svnfleet serve "$work/served" --port "$(free_port)" --connections 1 >/dev/full 2>"$work/errors" </dev/null
+    check 'serve to a full disk: status 1' test $? -eq 1
+    check 'serve to a full disk: its number' test "$(cat "$work/errors")" = 'svnfleet: 49 stream failed'
+fi
