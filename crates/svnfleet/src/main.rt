@@ -7,11 +7,26 @@ use fleet_main::{
     plan, run, serve,
 };
 use std::io::{BufWriter, ErrorKind};
+use std::net::{Net, TcpListener, TcpStream};
 use std::process::ExitCode;
+use std::sync::Wait;
+use std::thread::Threads;
 use std::{env, io};
 
+// What is left to do.
+#[derive(Drop)]
+enum Left {
+    // Nothing: the status.
+    Status(u8),
+    // To serve, which starts threads and waits.
+    Serve(Service),
+}
+
 fn main(rt: HostRuntime) -> ExitCode {
-    ExitCode::from(status(&rt))
+    match asked(&rt) {
+        Left::Status(status) => ExitCode::from(status),
+        Left::Serve(service) => ExitCode::from(served(&rt, &rt, &service)),
+    }
 }
 
 // The words that the program was given, its name first.
@@ -30,44 +45,51 @@ fn told(rt: &HostRuntime, line: &str, status: u8) -> u8 {
 }
 
 // No file is opened before the standard streams are there.
-fn status(rt: &HostRuntime) -> u8 {
+fn asked(rt: &HostRuntime) -> Left {
     match fill_streams(&mut HostDescriptors::new(rt)) {
         Ok(()) => worded(rt),
         Err(error) => {
             if error.kind() == ErrorKind::OutOfMemory {
-                return told(rt, "svnfleet: 70 out of memory", 1);
+                return Left::Status(told(rt, "svnfleet: 70 out of memory", 1));
             }
-            told(rt, "svnfleet: 31 device failed", 1)
+            Left::Status(told(rt, "svnfleet: 31 device failed", 1))
         }
     }
 }
 
-fn worded(rt: &HostRuntime) -> u8 {
+fn worded(rt: &HostRuntime) -> Left {
     match words(rt) {
         Ok(words) => planned(rt, &words),
         Err(error) => {
             if error.kind() == ErrorKind::OutOfMemory {
-                return told(rt, "svnfleet: 70 out of memory", 1);
+                return Left::Status(told(rt, "svnfleet: 70 out of memory", 1));
             }
-            told(
+            Left::Status(told(
                 rt,
                 "svnfleet: a word is not UTF-8 (svnfleet --help tells more)",
                 2,
-            )
+            ))
         }
     }
 }
 
-fn planned(rt: &HostRuntime, words: &[String]) -> u8 {
+fn planned(rt: &HostRuntime, words: &[String]) -> Left {
     match plan(rt.alloc(), words) {
-        Ok(Planned::Run(command)) => ran(rt, command),
-        Ok(Planned::Serve(service)) => served(rt, &service),
-        Err(Usage::Shown(text)) => match rt.print(text) {
+        Ok(Planned::Run(command)) => Left::Status(ran(rt, command)),
+        Ok(Planned::Serve(service)) => Left::Serve(service),
+        Err(usage) => Left::Status(used(rt, &usage)),
+    }
+}
+
+// Shows help, or tells what is wrong with the words.
+fn used(rt: &HostRuntime, usage: &Usage) -> u8 {
+    match usage {
+        Usage::Shown(text) => match rt.print(text) {
             Ok(()) => 0,
             Err(_) => told(rt, "svnfleet: 49 stream failed", 1),
         },
-        Err(Usage::Wrong(text)) => told(rt, text.as_str(), 2),
-        Err(Usage::OutOfMemory) => told(rt, "svnfleet: 70 out of memory", 1),
+        Usage::Wrong(text) => told(rt, text.as_str(), 2),
+        Usage::OutOfMemory => told(rt, "svnfleet: 70 out of memory", 1),
     }
 }
 
@@ -88,10 +110,15 @@ fn ran(rt: &HostRuntime, command: Command) -> u8 {
     status
 }
 
-fn served(rt: &HostRuntime, service: &Service) -> u8 {
+// By the threads and sockets of a handle.
+fn served<R: Net<Listener = TcpListener, Stream = TcpStream> + Threads + Wait + Sync>(
+    rt: &HostRuntime,
+    threads: &R,
+    service: &Service,
+) -> u8 {
     let mut errors = Sink::new(rt.stderr());
     let (status, _output) = serve(
-        rt,
+        threads,
         rt.alloc(),
         &mut HostFolders::new(rt),
         service,
