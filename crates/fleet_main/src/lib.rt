@@ -11,10 +11,11 @@
 //! }
 //! ```
 //!
-//! `plan` gives the command or the server that the words name, with the values that they spell, or else says what is wrong with them;
-//! it shows a text only where help or the version was asked for. The status of `run` is 0 only where the command is
-//! done and what it wrote is handed on, and 1 with the refusal's line; of a folder whose disk keeps the rules it says
-//! what was there before, what the command made of it, and what a stop leaves.
+//! `plan` gives the command or the server that the words name, with the values that they spell, or else says what is
+//! wrong with them; it shows a text only where help or the version was asked for. The status of `run` is 0 only where
+//! the command is done and what it wrote is handed on, and 1 with the refusal's line; of a folder whose disk keeps the
+//! rules it says what was there before, what the command made of it, and what a stop leaves. So does `serve`, up to
+//! where the serving begins: it alone starts threads and waits.
 #![tactic(auto)]
 
 pub use command_line::{Command, Planned, Service, Usage, plan};
