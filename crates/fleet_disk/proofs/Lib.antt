@@ -1,3 +1,2 @@
-pub mod InFolder
 pub mod Kept
 pub mod Moments

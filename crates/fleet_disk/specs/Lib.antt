@@ -4,6 +4,5 @@ pub mod Host
 pub mod Image
 pub mod Memory
 pub mod MemoryLaws
-pub mod Rests
 pub mod Rules
 pub mod Stopped

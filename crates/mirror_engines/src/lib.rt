@@ -2,8 +2,8 @@
 //! source, bring it up to the source, copy properties of its revisions again, and tell how it stands.
 //!
 //! ```text
-//! let Ok(source) = open_store(alloc, HostDisk::open(&rt, alloc, "source")?) else { .. };
-//! let Ok(mirror) = open_store(alloc, HostDisk::open(&rt, alloc, "mirror")?) else { .. };
+//! let source = open_store(alloc, HostDisk::open(&rt, alloc, "source")?)?;
+//! let mirror = open_store(alloc, HostDisk::open(&rt, alloc, "mirror")?)?;
 //! let (mirror, output, done) = run_initialize(alloc, mirror, &source, url, output);
 //! done?;
 //! let (mirror, mut output, done) = run_synchronize(alloc, mirror, &source, token, false, output);
