@@ -16,8 +16,8 @@ pub(crate) const READING: &[u8] = b"( get-latest-rev ( ) ) ( replay-range ( 0 2 
     ( check-path ( 3:b/x ( 2 ) ) ) ( get-dir ( 0: ( 2 ) false true ( ) ) ) ( rev-proplist ( 1 ) ) \
     ( check-path ( 1:t ( 3 ) ) ) ( replay ( 3 0 true ) ) ( rev-proplist ( 3 ) ) ";
 
-/// All that a port tells a client that sends this behind its opening, where the root is this one. None where the session
-/// ends in another way than with its input.
+/// All that a port tells a client that sends this behind its opening, where the root is this one. None where the
+/// session ends in another way than with its input.
 pub(crate) fn told<P: RepoPort>(
     rt: &impl Abort,
     alloc: Global,
@@ -34,8 +34,8 @@ pub(crate) fn told<P: RepoPort>(
     }
 }
 
-/// What a store of one's own tells clients that come one behind another and send this: all that it says, in a row. It is
-/// the store with the copy where that is wanted.
+/// What a store of one's own tells clients that come one behind another and send this: all that it says, in a row. It
+/// is the store with the copy where that is wanted.
 pub(crate) fn told_by_store(
     rt: &impl Abort,
     alloc: Global,

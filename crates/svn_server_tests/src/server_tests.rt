@@ -2,8 +2,6 @@
 
 use crate::clients::{CLIENT, READING, told_by_store};
 use crate::made::long_store;
-use fleet_disk::MemDisk;
-use repo_store::RepoStore;
 use sockets::{Server, dial};
 use std::alloc::Global;
 use std::io::{Read, Write};
@@ -40,16 +38,16 @@ fn free_port<R: Net<Listener = TcpListener, Stream = TcpStream> + Abort>(rt: &R)
     Server::bind(rt, 0).expect(rt, "a port").port()
 }
 
-// Serves so many connections. Whether it ended well, and said where it listened.
+// Serves the store with the copy to so many connections. Whether it ended well, and said where it listened.
 fn serves<R: Net<Listener = TcpListener, Stream = TcpStream> + Threads + Wait + Sync + Abort>(
     rt: &R,
     alloc: Global,
-    store: RepoStore<MemDisk>,
     mirror: bool,
     port: u16,
     connections: u64,
     listens: &Barrier,
 ) -> bool {
+    let store = long_store(rt, alloc);
     let mut output = Told {
         rt,
         line: Vec::new(alloc),
@@ -76,12 +74,11 @@ fn heard<R: Net<Listener = TcpListener, Stream = TcpStream> + Abort>(
     told
 }
 
-// What a server of a store tells clients that come one behind another and send this, in a row. None where it doesn't end
-// well.
+// What a server of that store tells clients that come one behind another and send this, in a row. None where it
+// doesn't end well.
 fn heard_of<R: Net<Listener = TcpListener, Stream = TcpStream> + Threads + Wait + Sync + Abort>(
     rt: &R,
     alloc: Global,
-    store: RepoStore<MemDisk>,
     mirror: bool,
     port: u16,
     asked: &[&[u8]],
@@ -91,7 +88,7 @@ fn heard_of<R: Net<Listener = TcpListener, Stream = TcpStream> + Threads + Wait 
     let connections = asked.len() as u64;
     let (served, told) = thread::join(
         rt,
-        move || serves(rt, alloc, store, mirror, port, connections, barrier),
+        move || serves(rt, alloc, mirror, port, connections, barrier),
         move || {
             barrier.wait(rt);
             heard_each(rt, alloc, port, asked)
@@ -121,8 +118,7 @@ fn tells_as_store<
 >(rt: &R, alloc: Global, mirror: bool, asked: &[&[u8]], last: &[u8]) -> bool {
     let port = free_port(rt);
     let url = format!(in alloc; "svn://127.0.0.1:{port}/").expect(rt, "memory");
-    let store = long_store(rt, alloc);
-    match heard_of(rt, alloc, store, mirror, port, asked) {
+    match heard_of(rt, alloc, mirror, port, asked) {
         None => false,
         Some(told) => {
             told.ends_with(last)
