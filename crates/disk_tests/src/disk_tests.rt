@@ -1,6 +1,6 @@
 //! Stops, folders and fuses: disks by what is read of them.
 
-use fleet_disk::{Disk, DiskFault, DiskFile, Fuse, FuseDisk, HostDisk, MemDisk, Pick};
+use fleet_disk::{Disk, DiskFault, DiskFile, Fuse, FuseDisk, HostDisk, MemDisk, OverDisk, Pick};
 use std::alloc::Global;
 use std::{fs, io};
 
@@ -96,6 +96,13 @@ fn is_so(answer: Result<bool, DiskFault>) -> bool {
 #[test]
 fn a_disk_in_memory(rt: HostRuntime) {
     let mut disk = MemDisk::new(rt.alloc());
+    assert!(rt; is_so(goes_round(&mut disk)));
+}
+
+// The calls of a host that go to a disk in memory.
+#[test]
+fn a_disk_over_calls(rt: HostRuntime) {
+    let mut disk = HostDisk::new(OverDisk::new(MemDisk::new(rt.alloc())));
     assert!(rt; is_so(goes_round(&mut disk)));
 }
 

@@ -1,7 +1,7 @@
 //! A disk over a host that remembers what was asked of it, and that may fail.
 ghost use Rattle.std.specs.Prelude.{◌≡◌, ⊤, IfOk};
 
-use fleet_disk::{Disk, DiskFile, HeldFiles, HostDisk};
+use fleet_disk::{Disk, DiskFile, HeldFiles, HostDisk, StdFiles};
 use std::alloc::Allocator;
 use std::cell::Cell;
 use std::fs::{Metadata, OpenFile, OpenOptions};
@@ -16,6 +16,7 @@ struct Asked {
     fails: Cell<bool>,
     holds: Cell<u32>,
     syncs: Cell<u32>,
+    gate_syncs: Cell<u32>,
     folder_syncs: Cell<u32>,
     cut_to: Cell<u64>,
     sought: Cell<u64>,
@@ -42,6 +43,7 @@ fn unsupported() -> io::Error {
 #[derive(Drop)]
 struct FakeFile<'a> {
     asked: &'a Asked,
+    is_gate: bool,
 }
 
 impl<'a> Read for FakeFile<'a> {
@@ -89,6 +91,11 @@ impl<'a> OpenFile for FakeFile<'a> {
     }
 
     fn sync_data(&self) -> io::Result<()> {
+        if self.is_gate {
+            self.asked
+                .gate_syncs
+                .set(self.asked.gate_syncs.get().saturating_add(1));
+        }
         self.asked
             .syncs
             .set(self.asked.syncs.get().saturating_add(1));
@@ -107,7 +114,10 @@ impl<'a> Files for FakeHost<'a> {
     type Dir = FakeFile<'a>;
 
     fn open_file(&self, _how: &OpenOptions, _path: &str) -> io::Result<FakeFile<'a>> {
-        Ok(FakeFile { asked: self.asked })
+        Ok(FakeFile {
+            asked: self.asked,
+            is_gate: false,
+        })
     }
 
     fn open_dir(&self, _path: &str) -> io::Result<FakeFile<'a>> {
@@ -148,9 +158,18 @@ impl<'a> Files for FakeHost<'a> {
 }
 
 impl<'a> HeldFiles for FakeHost<'a> {
+    ghost is_at = { λ file path. ⊤ };
+
     ghost is_held = { λ file. ⊤ };
 
     ghost has_bytes = { λ file. ⊤ };
+
+    fn open_at(&self, path: &str, _make: bool) -> io::Result<FakeFile<'a>> {
+        Ok(FakeFile {
+            asked: self.asked,
+            is_gate: path.ends_with("gate"),
+        })
+    }
 
     fn is_empty(&self, file: &FakeFile<'a>) -> io::Result<bool> {
         file.asked.answer(true)
@@ -169,6 +188,7 @@ fn nothing_asked() -> Asked {
         fails: Cell::new(false),
         holds: Cell::new(0),
         syncs: Cell::new(0),
+        gate_syncs: Cell::new(0),
         folder_syncs: Cell::new(0),
         cut_to: Cell::new(0),
         sought: Cell::new(0),
@@ -183,7 +203,7 @@ fn was_asked(asked: &Asked, holds: u32, syncs: u32, folder_syncs: u32) -> bool {
 }
 
 // Whether a first sync reaches both files, and a second none.
-fn syncs_both<'a>(disk: &mut HostDisk<FakeFile<'a>>, asked: &Asked) -> bool {
+fn syncs_both<'a>(disk: &mut HostDisk<StdFiles<FakeFile<'a>>>, asked: &Asked) -> bool {
     was_asked(asked, 1, 0, 1)
         && disk.sync().is_ok()
         && was_asked(asked, 1, 2, 1)
@@ -202,16 +222,17 @@ fn what_a_folder_is_asked(rt: HostRuntime) -> Result<(), Fail> {
 }
 
 // Whether a cut of the gate and the sync behind it ask for that of one file.
-fn cuts_one<'a>(disk: &mut HostDisk<FakeFile<'a>>, asked: &Asked) -> bool {
+fn cuts_one<'a>(disk: &mut HostDisk<StdFiles<FakeFile<'a>>>, asked: &Asked) -> bool {
     disk.sync().is_ok()
         && disk.cut(DiskFile::Gate, 5).is_ok()
         && disk.sync().is_ok()
         && asked.cut_to.get() == 5
+        && asked.gate_syncs.get() == 2
         && was_asked(asked, 1, 3, 1)
 }
 
 // Whether writes of both files and the sync behind them ask for that, at the place that is given.
-fn writes_both<'a>(disk: &mut HostDisk<FakeFile<'a>>, asked: &Asked) -> bool {
+fn writes_both<'a>(disk: &mut HostDisk<StdFiles<FakeFile<'a>>>, asked: &Asked) -> bool {
     disk.write_at(DiskFile::Journal, 9, b"abc").is_ok()
         && asked.sought.get() == 9
         && disk.write_at(DiskFile::Gate, 9, b"abc").is_ok()
@@ -242,7 +263,7 @@ fn a_folder_that_is_held(rt: HostRuntime) {
 }
 
 // Whether each call of a disk is refused.
-fn refuses_all<'a>(disk: &mut HostDisk<FakeFile<'a>>) -> bool {
+fn refuses_all<'a>(disk: &mut HostDisk<StdFiles<FakeFile<'a>>>) -> bool {
     disk.sync().is_err()
         && disk.len(DiskFile::Gate).is_err()
         && disk.cut(DiskFile::Gate, 0).is_err()

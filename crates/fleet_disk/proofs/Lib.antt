@@ -1,2 +1,3 @@
+pub mod InFolder
 pub mod Kept
 pub mod Moments

@@ -1,19 +1,26 @@
--- What is known of a disk of the host.
-use Rattle.std.specs.Prelude.{◌⊎◌, ℕ, IsSome, IfSome, IsSomeAnd}
+-- What is known of the files of a folder of the host, and of a disk over them.
+use Rattle.std.specs.Prelude.{◌⊎◌, ◌++◌, ℕ, List, codes, IsSome, IfSome, IsSomeAnd}
+use Rattle.fleet_disk.specs.declared.calls.HostCalls.{Ghosts}
+use Rattle.fleet_disk.specs.declared.files.StdFiles.{StdFiles}
 use Rattle.fleet_disk.specs.declared.host.HostDisk.{HostDisk}
 
 -- how often a call of the host has failed
-abbrev pub failures_of : {F : Type 0} → HostDisk F → ℕ
-failures_of disk = disk.failures
+abbrev pub failures_of : {F : Type 0} {G : Ghosts (StdFiles F)} → HostDisk (StdFiles F) G → ℕ
+failures_of disk = disk.host.failures
 
 -- both files are open
-abbrev pub HasFiles : {F : Type 0} → HostDisk F → Type 0
-HasFiles disk = IsSome disk.journal × IsSome disk.gate
+abbrev pub HasFiles : {F : Type 0} {G : Ghosts (StdFiles F)} → HostDisk (StdFiles F) G → Type 0
+HasFiles disk = IsSome disk.host.journal × IsSome disk.host.gate
 
 -- p holds of the file that is its journal, where it has one
-abbrev pub IsHeld : {F : Type 0} → (F → Type 0) → HostDisk F → Type 0
-IsHeld p disk = IfSome disk.journal (λ f. p f.file)
+abbrev pub IsHeld : {F : Type 0} {G : Ghosts (StdFiles F)} → (F → Type 0) → HostDisk (StdFiles F) G → Type 0
+IsHeld p disk = IfSome disk.host.journal p
 
 -- p holds of a file of it
-abbrev pub HasBytes : {F : Type 0} → (F → Type 0) → HostDisk F → Type 0
-HasBytes p disk = IsSomeAnd disk.journal (λ f. p f.file) ⊎ IsSomeAnd disk.gate (λ f. p f.file)
+abbrev pub HasBytes : {F : Type 0} {G : Ghosts (StdFiles F)} → (F → Type 0) → HostDisk (StdFiles F) G → Type 0
+HasBytes p disk = IsSomeAnd disk.host.journal p ⊎ IsSomeAnd disk.host.gate p
+
+-- each file that is open is the one of that name in the folder
+pub record IsIn {F : Type 0} {G : Ghosts (StdFiles F)} (is_at : F → List ℕ → Type 0) (folder : List ℕ) (disk : HostDisk (StdFiles F) G) : Type 0 where
+  pub journal : IfSome disk.host.journal (λ f. is_at f (folder ++ codes "/journal"))
+  pub gate : IfSome disk.host.gate (λ f. is_at f (folder ++ codes "/gate"))

@@ -4,5 +4,6 @@ pub mod Host
 pub mod Image
 pub mod Memory
 pub mod MemoryLaws
+pub mod Rests
 pub mod Rules
 pub mod Stopped

@@ -1,7 +1,10 @@
 -- The facts of a disk in memory.
-use Rattle.std.specs.Prelude.{ℕ, List, length}
+use Rattle.std.specs.Prelude.{◌≡◌, ℕ, List, [], ◌∷◌, ◌++◌, length, Vec}
+use Rattle.std.specs.declared.alloc.Global.{Global}
+use Rattle.fleet_disk.specs.declared.disk.DiskFile.{DiskFile}
 use Rattle.fleet_disk.specs.declared.memory.MemDisk.{MemDisk}
 use Rattle.fleet_disk.specs.declared.call.DiskCall.{DiskCall}
+use Rattle.fleet_disk.specs.declared.call.DiskCall.TheVariants.{Write}
 use Rattle.fleet_disk.specs.declared.call.Pick.{Pick}
 use Rattle.fleet_disk.specs.Contents.{image_of}
 use Rattle.fleet_disk.specs.Image.{Image}
@@ -22,3 +25,11 @@ MayLeave disk image = Leaves (image_of disk.first) (image_of disk.first) disk.ca
 -- the image that a pick leaves of it
 abbrev pub picked_of : Pick → MemDisk → Image
 picked_of pick disk = picked pick (image_of disk.first) (image_of disk.first) disk.calls.items
+
+-- a stop at some moment since the call of this number may have left this image of it
+abbrev pub WasLeft : MemDisk → ℕ → Image → Type 0
+WasLeft disk t image = LeftSince (image_of disk.first) disk.calls.items t image
+
+-- it remembers one call more, a write of these bytes there
+abbrev pub RemembersWrite : DiskFile → ℕ → List ℕ → MemDisk → MemDisk → Type 0
+RemembersWrite file at bytes old new = (kept : Vec ℕ Global) × (kept.items ≡ bytes) × (calls_of new ≡ calls_of old ++ Write file at kept ∷ [])

@@ -1,7 +1,9 @@
 //! A disk whose calls fail after a number of them.
-ghost use Rattle.std.specs.Prelude.{◌≡◌, ◌≤◌, ◌<◌, ◌+◌, ℕ, IsTrue, IsFalse};
-ghost use Rattle.fleet_disk.specs.Fused.{inner_of, passing_of, fuse_of};
-ghost use Rattle.fleet_disk.specs.Rules.{Rose};
+ghost use Rattle.std.specs.Prelude.{◌≡◌, ◌≤◌, ◌<◌, ◌+◌, ◌-◌, ◌↔◌, ℕ, length, take, IfOk, OnOk, IsTrue, IsFalse};
+ghost use Rattle.fleet_disk.specs.Fused.{inner_of, passing_of, fuse_of, blown, FailsNext, HasBlown, HasPassed};
+ghost use Rattle.fleet_disk.specs.Image.{Image, bytes_of};
+ghost use Rattle.fleet_disk.specs.Rules.{overwritten, IsRead, Torn, CutBack, OnFile, Follows, Within, Only, Elapses};
+ghost use Rattle.fleet_disk.specs.Rules.{HasCause, Rose};
 
 use crate::disk::{Disk, DiskFault, DiskFile};
 
@@ -59,6 +61,10 @@ impl<D: Disk> FuseDisk<D> {
         ensures later { self.old.failures ≤ self.new.failures }
         ensures rose { IsFalse result → Rose self.old.failures self.new.failures }
         ensures same { IsTrue result → self.new.failures ≡ self.old.failures }
+        ensures fails { IsFalse result → FailsNext self.old }
+        ensures passes { IsTrue result → ¬ FailsNext self.old }
+        ensures blows { IsFalse result → (self.new.left ≡ self.old.left) × (self.new.fuse ≡ blown self.old.fuse) }
+        ensures burns { IsTrue result → (self.new.left ≡ self.old.left - 1) × (self.new.fuse ≡ self.old.fuse) }
     {
         if self.left > 0 {
             self.left -= 1;
@@ -93,35 +99,98 @@ impl<D: Disk> Disk for FuseDisk<D> {
 
     ghost reads_left = { λ disk. D.reads_left disk.inner };
 
-    fn read(&mut self, file: DiskFile, at: u64, buf: &mut [u8]) -> Result<usize, DiskFault> {
+    fn read(&mut self, file: DiskFile, at: u64, buf: &mut [u8]) -> Result<usize, DiskFault>
+        ensures within { IfOk result (λ n. n ≤ length buf.old) }
+        ensures bytes { D.honest self.old.inner → IfOk result (λ n. IsRead
+            (bytes_of file (D.reads self.old.inner)) at n buf.old buf.new) }
+        ensures reads { D.honest self.old.inner → D.reads self.new.inner ≡ D.reads self.old.inner }
+        ensures left { D.honest self.old.inner → Within (D.may_leave self.new.inner) (D.may_leave self.old.inner) }
+        ensures time { D.honest self.old.inner → Elapses (D.clock self.old.inner) (D.clock self.new.inner)
+            (D.left_since self.old.inner) (D.left_since self.new.inner) (D.may_leave self.new.inner) }
+        ensures honest { D.honest self.old.inner ↔ D.honest self.new.inner }
+        ensures cause { HasCause (D.failures self.old.inner + self.old.failures)
+            (D.failures self.new.inner + self.new.failures) result }
+        ensures blows { FailsNext self.old → HasBlown self.old self.new result }
+        ensures passes { ¬ FailsNext self.old → HasPassed D.failures self.old self.new result }
+    {
         if !self.passes() {
             return Err(DiskFault::DeviceFailed);
         }
         self.inner.read(file, at, buf)
     }
 
-    fn len(&mut self, file: DiskFile) -> Result<u64, DiskFault> {
+    fn len(&mut self, file: DiskFile) -> Result<u64, DiskFault>
+        ensures bytes { D.honest self.old.inner
+            → IfOk result (λ n. n ≡ length (bytes_of file (D.reads self.old.inner))) }
+        ensures reads { D.honest self.old.inner → D.reads self.new.inner ≡ D.reads self.old.inner }
+        ensures left { D.honest self.old.inner → Within (D.may_leave self.new.inner) (D.may_leave self.old.inner) }
+        ensures time { D.honest self.old.inner → Elapses (D.clock self.old.inner) (D.clock self.new.inner)
+            (D.left_since self.old.inner) (D.left_since self.new.inner) (D.may_leave self.new.inner) }
+        ensures honest { D.honest self.old.inner ↔ D.honest self.new.inner }
+        ensures cause { HasCause (D.failures self.old.inner + self.old.failures)
+            (D.failures self.new.inner + self.new.failures) result }
+        ensures blows { FailsNext self.old → HasBlown self.old self.new result }
+        ensures passes { ¬ FailsNext self.old → HasPassed D.failures self.old self.new result }
+    {
         if !self.passes() {
             return Err(DiskFault::DeviceFailed);
         }
         self.inner.len(file)
     }
 
-    fn write_at(&mut self, file: DiskFile, at: u64, bytes: &[u8]) -> Result<(), DiskFault> {
+    fn write_at(&mut self, file: DiskFile, at: u64, bytes: &[u8]) -> Result<(), DiskFault>
+        requires { D.honest self.old.inner → at ≤ length (bytes_of file (D.reads self.old.inner)) }
+        ensures written { D.honest self.old.inner → OnOk result (OnFile file (λ old new.
+            new ≡ overwritten at bytes.now old) (D.reads self.old.inner) (D.reads self.new.inner)) }
+        ensures left { D.honest self.old.inner → Follows (OnFile file (Torn at (length bytes.now)))
+            (D.may_leave self.old.inner) (D.may_leave self.new.inner) }
+        ensures time { D.honest self.old.inner → Elapses (D.clock self.old.inner) (D.clock self.new.inner)
+            (D.left_since self.old.inner) (D.left_since self.new.inner) (D.may_leave self.new.inner) }
+        ensures honest { D.honest self.old.inner ↔ D.honest self.new.inner }
+        ensures cause { HasCause (D.failures self.old.inner + self.old.failures)
+            (D.failures self.new.inner + self.new.failures) result }
+        ensures blows { FailsNext self.old → HasBlown self.old self.new result }
+        ensures passes { ¬ FailsNext self.old → HasPassed D.failures self.old self.new result }
+    {
         if !self.passes() {
             return Err(DiskFault::DeviceFailed);
         }
         self.inner.write_at(file, at, bytes)
     }
 
-    fn cut(&mut self, file: DiskFile, len: u64) -> Result<(), DiskFault> {
+    fn cut(&mut self, file: DiskFile, len: u64) -> Result<(), DiskFault>
+        requires { D.honest self.old.inner → len ≤ length (bytes_of file (D.reads self.old.inner)) }
+        ensures cut { D.honest self.old.inner → OnOk result (OnFile file (λ old new.
+            new ≡ take len old) (D.reads self.old.inner) (D.reads self.new.inner)) }
+        ensures left { D.honest self.old.inner → Follows (OnFile file (CutBack len)) (D.may_leave self.old.inner)
+            (D.may_leave self.new.inner) }
+        ensures time { D.honest self.old.inner → Elapses (D.clock self.old.inner) (D.clock self.new.inner)
+            (D.left_since self.old.inner) (D.left_since self.new.inner) (D.may_leave self.new.inner) }
+        ensures honest { D.honest self.old.inner ↔ D.honest self.new.inner }
+        ensures cause { HasCause (D.failures self.old.inner + self.old.failures)
+            (D.failures self.new.inner + self.new.failures) result }
+        ensures blows { FailsNext self.old → HasBlown self.old self.new result }
+        ensures passes { ¬ FailsNext self.old → HasPassed D.failures self.old self.new result }
+    {
         if !self.passes() {
             return Err(DiskFault::DeviceFailed);
         }
         self.inner.cut(file, len)
     }
 
-    fn sync(&mut self) -> Result<(), DiskFault> {
+    fn sync(&mut self) -> Result<(), DiskFault>
+        ensures durable { D.honest self.old.inner
+            → OnOk result (Only (D.reads self.old.inner) (D.may_leave self.new.inner)) }
+        ensures reads { D.honest self.old.inner → D.reads self.new.inner ≡ D.reads self.old.inner }
+        ensures left { D.honest self.old.inner → Within (D.may_leave self.new.inner) (D.may_leave self.old.inner) }
+        ensures time { D.honest self.old.inner → Elapses (D.clock self.old.inner) (D.clock self.new.inner)
+            (D.left_since self.old.inner) (D.left_since self.new.inner) (D.may_leave self.new.inner) }
+        ensures honest { D.honest self.old.inner ↔ D.honest self.new.inner }
+        ensures cause { HasCause (D.failures self.old.inner + self.old.failures)
+            (D.failures self.new.inner + self.new.failures) result }
+        ensures blows { FailsNext self.old → HasBlown self.old self.new result }
+        ensures passes { ¬ FailsNext self.old → HasPassed D.failures self.old self.new result }
+    {
         if !self.passes() {
             return Err(DiskFault::DeviceFailed);
         }

@@ -3,7 +3,9 @@
 //! A `Disk` has a file `journal` and a file `gate`, which are read, written, cut and synced. Between two syncs each
 //! written range may hold any bytes after a stop, a length lies between the least and the greatest since the last
 //! sync, and other bytes stay; after a sync that answers Ok a stop leaves what a read gives. `MemDisk` is such a disk
-//! in memory, which can be stopped; `FuseDisk` makes the calls of another fail; `HostDisk` is a folder of the host.
+//! in memory, which can be stopped; `FuseDisk` makes the calls of another fail; `HostDisk` is a disk over the calls of
+//! a host on the files of a folder (`HostCalls`), which are those of `StdFiles` or, for tests, of another disk
+//! (`OverDisk`).
 //!
 //! Each call of a disk says what it does to what a read gives, to the images that a stop may leave now, and to those
 //! that a stop at some moment since a given clock might have left; a call is refused only where the device's count
@@ -17,14 +19,21 @@
 #![tactic(auto)]
 
 mod call;
+mod calls;
 mod contents;
 mod disk;
+mod files;
+mod folder;
 mod fuse;
 mod host;
 mod memory;
+mod over;
 
 pub use call::{DiskCall, Pick};
+pub use calls::HostCalls;
 pub use disk::{Disk, DiskFault, DiskFile};
+pub use files::{HeldFiles, StdFiles};
 pub use fuse::{Fuse, FuseDisk};
-pub use host::{HeldFiles, HostDisk};
+pub use host::HostDisk;
 pub use memory::MemDisk;
+pub use over::OverDisk;

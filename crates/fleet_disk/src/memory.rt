@@ -1,18 +1,19 @@
 //! A disk in memory, which remembers its calls and can be stopped.
-ghost use Rattle.std.specs.Prelude.{◌≡◌, ◌≤◌, ◌+◌, ◌-◌, ◌++◌, ℕ, [], ◌∷◌, length, IfOk, OnOk, OnErr, Vec, ⊤};
+ghost use Rattle.std.specs.Prelude.{◌≡◌, ◌≤◌, ◌↔◌, ◌+◌, ◌-◌, ◌++◌, ℕ, [], ◌∷◌, length, take, IfOk, OnOk, OnErr, Vec, ⊤};
 ghost use Rattle.fleet_disk.specs.Contents.{image_of};
 ghost use Rattle.fleet_disk.specs.Image.{Image, bytes_of};
 ghost use Rattle.fleet_disk.specs.Memory.{read_after, written, on_file, Leaves, LeftSince};
 ghost use Rattle.std.specs.declared.alloc.Global.{Global};
-ghost use Rattle.fleet_disk.specs.Rules.{IsRead, Only, Rose};
+ghost use Rattle.fleet_disk.specs.Rules.{overwritten, IsRead, Only, Rose, Torn, CutBack, OnFile, Follows, Within};
+ghost use Rattle.fleet_disk.specs.Rules.{Elapses, HasCause};
 
 use crate::call::{DiskCall, Pick};
 use crate::contents::Contents;
 use crate::disk::{Disk, DiskFault, DiskFile};
 use std::alloc::{AllocError, Global};
 
-/// A disk in memory. It keeps what it had at first and each call since, so that a stop can leave any of the images
-/// that the rules allow. A growth that is refused in it is a failure of the device.
+/// A disk in memory. It keeps what it had at first and each call since that was answered Ok, so that a stop can leave
+/// any of the images that the rules allow. A growth that is refused in it is a failure of the device.
 #[derive(Drop)]
 pub struct MemDisk {
     alloc: Global,
@@ -136,7 +137,7 @@ impl MemDisk {
 
 impl Disk for MemDisk {
     ghost use Rattle.fleet_disk.specs.MemoryLaws.{counted_now, only_left, read_is_left};
-    ghost use Rattle.fleet_disk.specs.Stopped.{calls_of, now_of, MayLeave};
+    ghost use Rattle.fleet_disk.specs.Stopped.{calls_of, now_of, MayLeave, RemembersWrite, WasLeft};
     ghost use Rattle.std.proofs.Common.{subst};
 
     ghost honest = { λ disk. ⊤ };
@@ -147,7 +148,7 @@ impl Disk for MemDisk {
 
     ghost clock = { λ disk. length (calls_of disk) };
 
-    ghost left_since = { λ disk t image. LeftSince (image_of disk.first) disk.calls.items t image };
+    ghost left_since = { WasLeft };
 
     ghost failures = { λ disk. disk.failures };
 
@@ -158,7 +159,20 @@ impl Disk for MemDisk {
     ghost reads_left = { λ disk honest. subst (λ (c : Image).
         MayLeave disk c) disk.kept (read_is_left (image_of disk.first) disk.calls.items) };
 
-    fn read(&mut self, file: DiskFile, at: u64, buf: &mut [u8]) -> Result<usize, DiskFault> {
+    fn read(&mut self, file: DiskFile, at: u64, buf: &mut [u8]) -> Result<usize, DiskFault>
+        ensures within { IfOk result (λ n. n ≤ length buf.old) }
+        ensures bytes { ⊤ → IfOk result (λ n. IsRead
+            (bytes_of file (now_of self.old)) at n buf.old buf.new) }
+        ensures reads { ⊤ → now_of self.new ≡ now_of self.old }
+        ensures left { ⊤ → Within (MayLeave self.new) (MayLeave self.old) }
+        ensures time { ⊤ → Elapses (length (calls_of self.old)) (length (calls_of self.new)) (WasLeft self.old)
+            (WasLeft self.new) (MayLeave self.new) }
+        ensures honest { ⊤ ↔ ⊤ }
+        ensures cause { HasCause self.old.failures self.new.failures result }
+        ensures remembers { OnOk result
+            (calls_of self.new ≡ calls_of self.old ++ DiskCall.Read file at (length buf.old) ∷ []) }
+        ensures forgets { OnErr result (calls_of self.new ≡ calls_of self.old) }
+    {
         let len = buf.len();
         if self.calls.reserve(1).is_err() {
             return Err(self.fail());
@@ -167,7 +181,17 @@ impl Disk for MemDisk {
         Ok(copy_from(self.files.bytes(file), at as usize, buf))
     }
 
-    fn len(&mut self, file: DiskFile) -> Result<u64, DiskFault> {
+    fn len(&mut self, file: DiskFile) -> Result<u64, DiskFault>
+        ensures bytes { ⊤ → IfOk result (λ n. n ≡ length (bytes_of file (now_of self.old))) }
+        ensures reads { ⊤ → now_of self.new ≡ now_of self.old }
+        ensures left { ⊤ → Within (MayLeave self.new) (MayLeave self.old) }
+        ensures time { ⊤ → Elapses (length (calls_of self.old)) (length (calls_of self.new)) (WasLeft self.old)
+            (WasLeft self.new) (MayLeave self.new) }
+        ensures honest { ⊤ ↔ ⊤ }
+        ensures cause { HasCause self.old.failures self.new.failures result }
+        ensures remembers { OnOk result (calls_of self.new ≡ calls_of self.old ++ DiskCall.Len file ∷ []) }
+        ensures forgets { OnErr result (calls_of self.new ≡ calls_of self.old) }
+    {
         if self.calls.reserve(1).is_err() {
             return Err(self.fail());
         }
@@ -175,14 +199,37 @@ impl Disk for MemDisk {
         Ok(self.files.bytes(file).len() as u64)
     }
 
-    fn write_at(&mut self, file: DiskFile, at: u64, bytes: &[u8]) -> Result<(), DiskFault> {
+    fn write_at(&mut self, file: DiskFile, at: u64, bytes: &[u8]) -> Result<(), DiskFault>
+        requires { ⊤ → at ≤ length (bytes_of file (now_of self.old)) }
+        ensures written { ⊤ → OnOk result (OnFile file (λ old new.
+            new ≡ overwritten at bytes.now old) (now_of self.old) (now_of self.new)) }
+        ensures left { ⊤ → Follows (OnFile file (Torn at (length bytes.now))) (MayLeave self.old)
+            (MayLeave self.new) }
+        ensures time { ⊤ → Elapses (length (calls_of self.old)) (length (calls_of self.new)) (WasLeft self.old)
+            (WasLeft self.new) (MayLeave self.new) }
+        ensures honest { ⊤ ↔ ⊤ }
+        ensures cause { HasCause self.old.failures self.new.failures result }
+        ensures remembers { OnOk result (RemembersWrite file at bytes.now self.old self.new) }
+        ensures forgets { OnErr result (calls_of self.new ≡ calls_of self.old) }
+    {
         match self.write(file, at, bytes) {
             Ok(()) => Ok(()),
             Err(_) => Err(self.fail()),
         }
     }
 
-    fn cut(&mut self, file: DiskFile, len: u64) -> Result<(), DiskFault> {
+    fn cut(&mut self, file: DiskFile, len: u64) -> Result<(), DiskFault>
+        requires { ⊤ → len ≤ length (bytes_of file (now_of self.old)) }
+        ensures cut { ⊤ → OnOk result (OnFile file (λ old new.
+            new ≡ take len old) (now_of self.old) (now_of self.new)) }
+        ensures left { ⊤ → Follows (OnFile file (CutBack len)) (MayLeave self.old) (MayLeave self.new) }
+        ensures time { ⊤ → Elapses (length (calls_of self.old)) (length (calls_of self.new)) (WasLeft self.old)
+            (WasLeft self.new) (MayLeave self.new) }
+        ensures honest { ⊤ ↔ ⊤ }
+        ensures cause { HasCause self.old.failures self.new.failures result }
+        ensures remembers { OnOk result (calls_of self.new ≡ calls_of self.old ++ DiskCall.Cut file len ∷ []) }
+        ensures forgets { OnErr result (calls_of self.new ≡ calls_of self.old) }
+    {
         if self.calls.reserve(1).is_err() {
             return Err(self.fail());
         }
@@ -191,7 +238,17 @@ impl Disk for MemDisk {
         Ok(())
     }
 
-    fn sync(&mut self) -> Result<(), DiskFault> {
+    fn sync(&mut self) -> Result<(), DiskFault>
+        ensures durable { ⊤ → OnOk result (Only (now_of self.old) (MayLeave self.new)) }
+        ensures reads { ⊤ → now_of self.new ≡ now_of self.old }
+        ensures left { ⊤ → Within (MayLeave self.new) (MayLeave self.old) }
+        ensures time { ⊤ → Elapses (length (calls_of self.old)) (length (calls_of self.new)) (WasLeft self.old)
+            (WasLeft self.new) (MayLeave self.new) }
+        ensures honest { ⊤ ↔ ⊤ }
+        ensures cause { HasCause self.old.failures self.new.failures result }
+        ensures remembers { OnOk result (calls_of self.new ≡ calls_of self.old ++ DiskCall.Sync ∷ []) }
+        ensures forgets { OnErr result (calls_of self.new ≡ calls_of self.old) }
+    {
         if self.calls.reserve(1).is_err() {
             return Err(self.fail());
         }

@@ -478,7 +478,7 @@ fn dump_has_the_changed_property(rt: HostRuntime) -> Result<(), Fail> {
     let alloc = rt.alloc();
     let mut store = match open_store(alloc, with_one_file(alloc)?) {
         Ok(store) => store,
-        Err(refusal) => return Err(Fail::new(refusal)),
+        Err((refusal, _disk)) => return Err(Fail::new(refusal)),
     };
     let name = PropName::parse(alloc, b"svn:log")?;
     store.change_prop(

@@ -60,7 +60,7 @@ fn built(alloc: Global, trees: &[Tree], edit: &str) -> Result<ChangeSet, Fail> {
 fn with_edit(alloc: Global, disk: MemDisk, edit: &str) -> Result<MemDisk, Fail> {
     let mut store = match open_store(alloc, disk) {
         Ok(store) => store,
-        Err(refusal) => return Err(Fail::new(refusal)),
+        Err((refusal, _disk)) => return Err(Fail::new(refusal)),
     };
     let head = store.repo().head();
     let set = built(alloc, store.repo().trees(), edit)?;

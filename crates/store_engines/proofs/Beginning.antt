@@ -74,3 +74,13 @@ pub stops_first : (f : StoreFault) (entry : ℕ) → (f ≡ Log (log.Damaged ent
 stops_first f entry (inl e) = inl (ap store_refusal e)
 stops_first f entry (inr (inl e)) = inr (inl (ap store_refusal e))
 stops_first f entry (inr (inr e)) = inr (inr (ap store_refusal e))
+
+pub no_memory : (f : StoreFault) → IsCreateFault f → store_refusal f ≡ refusal.OutOfMemory → f ≡ Log log.OutOfMemory
+no_memory (Repo f) k e = absurd k
+no_memory (Log f) (inl d) e = let n : ◌≡◌ {A = ℕ} 31 70 = ap refusal_number (sym (ap log_refusal d) ∙ e) in let no : ⊥ = omega (arith, n) in absurd no
+no_memory (Log f) (inr (inl d)) e = let n : ◌≡◌ {A = ℕ} 35 70 = ap refusal_number (sym (ap log_refusal d) ∙ e) in let no : ⊥ = omega (arith, n) in absurd no
+no_memory (Log f) (inr (inr d)) e = ap Log d
+
+pub stops_or : {P : Type 0} (f : StoreFault) → (f ≡ Log log.DeviceFailed) ⊎ P → (store_refusal f ≡ refusal.DeviceFailed) ⊎ P
+stops_or f (inl e) = inl (ap store_refusal e)
+stops_or f (inr p) = inr p

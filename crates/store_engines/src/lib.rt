@@ -2,7 +2,7 @@
 //! into it, dump it, and commit a directory.
 //!
 //! ```text
-//! let mut store = open_store(alloc, HostDisk::open(&rt, alloc, "folder")?)?;
+//! let Ok(mut store) = open_store(alloc, HostDisk::open(&rt, alloc, "folder")?) else { .. };
 //! run_load(alloc, &mut store, &mut Source::new(input), &mut Sink::new(output))?;
 //! run_dump(alloc, &store, None, &mut Sink::new(output))?;
 //! ```

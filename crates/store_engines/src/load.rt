@@ -17,7 +17,7 @@ ghost use Rattle.repo_core.specs.Refusals.{IsDue};
 ghost use Rattle.repo_core.specs.declared.fault.RepoFault.{RepoFault as RepoFaultOf};
 ghost use Rattle.fleet_disk.specs.Image.{Image};
 ghost use Rattle.repo_store.specs.Journal.{Keeps};
-ghost use Rattle.repo_store.specs.Words.{disk_of, repository_of, revisions_of, HasFailed};
+ghost use Rattle.repo_store.specs.Words.{disk_of, repository_of, revisions_of, HasFailed, IsKept};
 ghost use Rattle.fleet_engines.specs.Grouping.{is_no_identity, records_of_rev};
 ghost use Rattle.fleet_engines.specs.Histories.{rev_of};
 ghost use Rattle.fleet_engines.specs.Revisions.{Rev, Makes, IsUnfit, is_zero, is_past_zero};
@@ -430,7 +430,8 @@ fn load_stream<D: Disk + Drop, R: Read + Drop, W: Write + Drop>(
 /// A record of revision 0 gives its properties while there is no other revision; each other revision is the one after
 /// the head, else WrongNumber (16). A mirror is refused (24) before anything is read. A fault of the text (1 to 10), of
 /// a revision (2, 8, 10 to 17), of the store (31, 32, 36, 70) or of a stream (49) ends the load, and what was loaded
-/// before it stays.
+/// before it stays. Whatever is answered, 31 too, a stop then leaves what keeps every revision that was told, or that
+/// with the one that was being loaded.
 pub fn run_load<D: Disk + Drop, R: Read + Drop, W: Write + Drop>(
     alloc: Global,
     store: &mut RepoStore<D>,
@@ -454,8 +455,11 @@ pub fn run_load<D: Disk + Drop, R: Read + Drop, W: Write + Drop>(
     ensures durable { D.honest (disk_of store.new) → ¬ HasFailed store.new → (image : Image)
         → D.may_leave (disk_of store.new) image
         → Keeps (repository_of store.new) image }
+    ensures kept { IsKept store.new }
     ensures peer { BothFlagged result input.old.failed input.new.failed output.old.failed output.new.failed }
 {
     refuse_mirror(store.repo())?;
-    load_stream(alloc, store, input, output)
+    let done = load_stream(alloc, store, input, output);
+    let _repo = store.repo();
+    done
 }

@@ -1,5 +1,5 @@
 use Rattle.std.proofs.Common.{◌∙◌, sym}
-use Rattle.store_engines.proofs.Beginning.{open_refused, is_damaged, is_missing, stops, stops_first}
+use Rattle.store_engines.proofs.Beginning.{open_refused, is_damaged, is_missing, stops, stops_first, stops_or}
 use Rattle.store_engines.proofs.Devices.{device_was}
 use Rattle.store_engines.proofs.begin.open_store.Goals as goal
 
@@ -18,6 +18,8 @@ returns-in-Err-clause-refused g c h identity x k = rw c.store_refusal.ensures.va
 pub returns-in-Err-clause-first : goal.returns-in-Err-clause-first
 returns-in-Err-clause-first g c h entry d = rw c.store_refusal.ensures.value (stops_first c.in-Err.fault entry (c.in-Err.ensures.first h entry d))
 
+pub returns-in-Err-clause-kept : goal.returns-in-Err-clause-kept
+returns-in-Err-clause-kept g c h = rw c.store_refusal.ensures.value (stops_or c.in-Err.fault (c.in-Err.ensures.kept h))
+
 pub returns-in-Err-clause-device : goal.returns-in-Err-clause-device
-returns-in-Err-clause-device g c =
-    (c.in-Err._disk, c.in-Err.ensures.honest_err, c.in-Err.ensures.later_err, λ e. c.in-Err.ensures.device (device_was c.in-Err.fault (sym c.store_refusal.ensures.value ∙ e)), c.in-Err.ensures.any_moment_err)
+returns-in-Err-clause-device g c e = c.in-Err.ensures.device (device_was c.in-Err.fault (sym c.store_refusal.ensures.value ∙ e))

@@ -16,12 +16,12 @@ returns-in_err-refuse_mirror-clause-device g c =
     rw (p.1, p.2) (unserved c.args.store.now (Err c.in_err-refuse_mirror.field-0.0) (ap is_device c.in_err-refuse_mirror.ensures.refused.0) (λ h w image left. c.repo.ensures.keeps h w image (g.met.D.Disk.only_now (disk_of c.args.store.now) image h left)))
 
 pub returns-clause-device : goal.returns-clause-device
-returns-clause-device g c = c.load_stream.ensures.device (λ h w image left. c.repo.ensures.keeps h w image (g.met.D.Disk.only_now (disk_of c.args.store.now) image h left))
+returns-clause-device g c = c.load_stream-done.ensures.device (λ h w image left. c.repo.ensures.keeps h w image (g.met.D.Disk.only_now (disk_of c.args.store.now) image h left))
 
 pub returns-clause-durable : goal.returns-clause-durable
 returns-clause-durable g c h w image left =
-    let served = c.load_stream.ensures.device (λ h w image left. c.repo.ensures.keeps h w image (g.met.D.Disk.only_now (disk_of c.args.store.now) image h left)) in
-    let disk = disk_of c.load_stream.new.store in
+    let served = c.load_stream-done.ensures.device (λ h w image left. c.repo.ensures.keeps h w image (g.met.D.Disk.only_now (disk_of c.args.store.now) image h left)) in
+    let disk = disk_of c.load_stream-done.new.store in
     served.safe h w image (g.met.D.Disk.counts_now disk (g.D.Disk.clock disk) image h (omega arith) left)
 
 pub returns-in_err-refuse_mirror-clause-entries : goal.returns-in_err-refuse_mirror-clause-entries
@@ -35,4 +35,4 @@ returns-in_err-refuse_mirror-clause-entries g c =
     (λ bytes. nothing (filter is_no_identity (records_of (dump bytes))) [] first (Err e) other tt (λ h w image left. c.repo.ensures.keeps h w image (g.met.D.Disk.only_now (disk_of first) image h left))))
 
 pub returns-clause-entries : goal.returns-clause-entries
-returns-clause-entries g c = c.load_stream.ensures.entries (λ h w image left. c.repo.ensures.keeps h w image (g.met.D.Disk.only_now (disk_of c.args.store.now) image h left))
+returns-clause-entries g c = c.load_stream-done.ensures.entries (λ h w image left. c.repo.ensures.keeps h w image (g.met.D.Disk.only_now (disk_of c.args.store.now) image h left))

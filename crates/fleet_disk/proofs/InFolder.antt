@@ -1,0 +1,17 @@
+-- The files of a folder.
+use Rattle.std.proofs.Common.{◌≡◌, ℕ, List, ◌++◌, codes, IfSome, sym, subst}
+use Rattle.fleet_disk.specs.Host.{IsIn}
+use Rattle.fleet_disk.specs.declared.calls.HostCalls.{Ghosts}
+use Rattle.fleet_disk.specs.declared.files.StdFiles.{StdFiles}
+use Rattle.fleet_disk.specs.declared.host.HostDisk.{HostDisk}
+
+-- a disk over files that were opened at these paths
+pub in_folder : {F : Type 0} {G : Ghosts (StdFiles F)} (is_at : F → List ℕ → Type 0) (folder journal gate : List ℕ) (files : StdFiles F) (disk : HostDisk (StdFiles F) G)
+    → disk.host ≡ files → journal ≡ folder ++ codes "/journal" → gate ≡ folder ++ codes "/gate"
+    → IfSome files.journal (λ f. is_at f journal) → IfSome files.gate (λ f. is_at f gate) → IsIn is_at folder disk
+in_folder {F} is_at folder journal gate files disk host first second held shut = record {
+  journal = subst (λ (x : StdFiles F). IfSome x.journal (λ f. is_at f (folder ++ codes "/journal"))) (sym host)
+      (subst (λ (path : List ℕ). IfSome files.journal (λ f. is_at f path)) first held);
+  gate = subst (λ (x : StdFiles F). IfSome x.gate (λ f. is_at f (folder ++ codes "/gate"))) (sym host)
+      (subst (λ (path : List ℕ). IfSome files.gate (λ f. is_at f path)) second shut);
+}
