@@ -31,5 +31,9 @@ module _ (L D : RattleType) (l : name.Ghosts L.Denot) (d : disk.Ghosts D.Denot) 
   book_send : IsSend L → IsSend D → IsSend (MasterBook.the_row L D l d)
   book_send s t = let a = store_send D d t in search (sendable, number.the_send, notes.the_field_send) depth 20
 
+  -- as a field of another type
+  pub book_field_send : IsSend L → IsSend D → IsSend (MasterBook.the_field L D l d).row
+  book_field_send s t = let a = store_send D d t in search (sendable, number.the_send, notes.the_field_send) depth 20
+
   pub share_sync : IsSend L → IsSend D → IsSync (MasterShare.the_row L D l d)
   share_sync s t = let a = book_send s t in let b = row_sync in search (sendable, crosses) depth 20

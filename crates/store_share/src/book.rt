@@ -1,5 +1,6 @@
 //! What lies under the lock of a shared store.
-ghost use Rattle.std.specs.Prelude.{◌≡◌, ◌<◌, ◌≤◌, ◌+◌, ◌⊎◌, ℕ, length, true, false, Some, None, IsSome, IfOk, IfErr};
+ghost use Rattle.std.specs.Prelude.{◌≡◌, ◌<◌, ◌≤◌, ◌+◌, ◌⊎◌, ◌↔◌, ℕ, length, true, false, Some, None};
+ghost use Rattle.std.specs.Prelude.{is_some, IsSome, IsTrue, IfOk, IfErr};
 ghost use Rattle.std.specs.Option.{option_copied, option_map};
 ghost use Rattle.gate_log.specs.declared.fault.LogFault.TheVariants as log;
 ghost use Rattle.repo_core.specs.Dates.{dated};
@@ -7,7 +8,8 @@ ghost use Rattle.repo_core.specs.Refusals.{by_repository, change_fault, commit_f
 ghost use Rattle.repo_core.specs.Repository.{props_at};
 ghost use Rattle.repo_core.specs.declared.entry.Entry.TheVariants.{Revised, Mapped};
 ghost use Rattle.repo_core.specs.declared.fault.RepoFault.TheVariants as core;
-ghost use Rattle.repo_store.specs.Words.{entry_in, identity_of, repository_of, revisions_of, IsReadyFor};
+ghost use Rattle.repo_store.specs.Words.{doubt_of, entry_in, identity_of, repository_of, revisions_of};
+ghost use Rattle.repo_store.specs.Words.{HasFailed, IsKept, IsReadyFor};
 ghost use Rattle.repo_store.specs.declared.fault.StoreFault.TheVariants as fault;
 ghost use Rattle.rev_row.specs.Row.{cells_in, known_at, rev_at};
 ghost use Rattle.store_share.specs.Facts.{shown_prop};
@@ -23,7 +25,7 @@ use fleet_disk::Disk;
 use gate_log::LogFault;
 use node_base::{PropName, Props, RevNo};
 use repo_core::laws::sets_make_trees;
-use repo_core::{Entry, Expected, Moment, RepoFault};
+use repo_core::{Entry, Expected, Moment, Repo, RepoFault};
 use repo_store::{RepoStore, Staged, StoreFault};
 use rev_row::{RevRow, RowNotes};
 use std::alloc::Global;
@@ -71,6 +73,26 @@ impl<L: RowName, D: Disk> MasterBook<L, D> {
         ensures { result ≡ store_of self }
     {
         self.store
+    }
+
+    /// The repository, as the calls so far have left it: with a revision that isn't shown where a cell refused its box.
+    /// A stop keeps it, and the row shows it up to the head.
+    pub fn repo(&self) -> &Repo
+        ensures value { result.now ≡ repository_of (store_of self.now) }
+        ensures kept { IsKept (store_of self.now) }
+        ensures doubted { HasFailed (store_of self.now) ↔ IsTrue (is_some (doubt_of (store_of self.now))) }
+        ensures shown { Shows (head_of self.now + 1) (notes_of self.now) (repository_of (store_of self.now)) }
+        ensures newest { is_stuck self.now ≡ false → head_of self.now + 1 ≡ length (revisions_of (store_of self.now)) }
+    {
+        let _ = &self.notes;
+        self.store.repo()
+    }
+
+    /// A cell refused its box: each change is refused (32) from then on.
+    pub fn is_stuck(&self) -> bool
+        ensures { result ≡ is_stuck self.now }
+    {
+        self.is_stuck
     }
 
     /// The repository's identity.

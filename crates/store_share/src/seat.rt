@@ -1,13 +1,14 @@
 //! The seat of a reader.
-ghost use Rattle.std.specs.Prelude.{◌≡◌, ◌≤◌, ◌⊎◌, ℕ, Some, length};
+ghost use Rattle.std.specs.Prelude.{◌≡◌, ◌≤◌, ◌⊎◌, ℕ, Some, IfSome, IfNone, length};
 ghost use Rattle.rev_row.specs.Row.{cells_in, known_at};
+ghost use Rattle.rev_row.specs.declared.rev.Rev.{Rev as RevOf};
 ghost use Rattle.store_share.specs.Chains.{IsChain};
 ghost use Rattle.store_share.specs.Facts.{number_prop};
 ghost use Rattle.store_share.specs.Shown.{number_known};
 
 use crate::name::RowName;
 use node_base::RevNo;
-use rev_row::RowNotes;
+use rev_row::{Rev, RevRow, RowNotes};
 use std::marker::PhantomData;
 
 /// The seat of a reader: the greatest revision that it has seen, and what it knows of the row. It knows each revision
@@ -39,6 +40,20 @@ impl<L: RowName> ReaderSeat<L> {
         ensures { ∥ IsChain (known_by self.now) (seen_by self.now) ∥₁ }
     {
         let _ = &self.notes;
+    }
+
+    /// The revision of that number in the seat's row, where the seat has seen it or its cell shows it. It waits for
+    /// nobody, and takes no memory. What the seat has seen it reads for good.
+    pub fn read_in<'a>(&mut self, row: &'a RevRow, number: RevNo) -> Option<&'a Rev>
+        requires { row.now ≡ L.cells }
+        ensures there { number ≤ seen_by self.old → IfNone result ⊥ }
+        ensures value { (x : RevOf) → number ≤ seen_by self.old → known_by self.old number ≡ Some x
+            → IfSome result (λ r. r.now ≡ x) }
+        ensures number { IfSome result (λ r. (r.now.number ≡ number) × (known_by self.new number ≡ Some r.now)) }
+        ensures seen { seen_by self.new ≡ seen_by self.old }
+        ensures kept { (r : ℕ) (x : RevOf) → known_by self.old r ≡ Some x → known_by self.new r ≡ Some x }
+    {
+        row.see(number, &mut self.notes)
     }
 
     /// What either has seen both have seen from then on. What they read of these is the same, and what it was.

@@ -79,7 +79,7 @@ impl<L: RowName, D: Disk> MasterShare<L, D> {
         ensures seen { seen_by reader.new ≡ seen_by reader.old }
         ensures kept { (r : ℕ) (x : RevOf) → known_by reader.old r ≡ Some x → known_by reader.new r ≡ Some x }
     {
-        self.row.see(number, &mut reader.notes)
+        reader.read_in(&self.row, number)
     }
 
     /// Commits a set of changes against the head. The revision is on the disk and in its cell when its number is

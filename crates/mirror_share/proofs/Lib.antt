@@ -1,0 +1,5 @@
+pub mod Exits
+pub mod Holders
+pub mod Placing
+pub mod Stepping
+pub mod Crosses

@@ -1,0 +1,17 @@
+use Rattle.std.proofs.Common.{sym, ◌∙◌}
+use Rattle.repo_store.specs.Words.{disk_of}
+use Rattle.store_share.specs.Book.{store_of}
+use Rattle.sync_core.specs.Calls.{call_of}
+use Rattle.mirror_share.specs.Seats.{place_of}
+use Rattle.mirror_share.proofs.Exits.{told_stepped, unplanned_stepped}
+use Rattle.mirror_share.proofs.book.MirrorBook.step.Goals as goal
+
+pub returns-in-Ok-Tell-clause-stepped : goal.returns-in-Ok-Tell-clause-stepped
+returns-in-Ok-Tell-clause-stepped g c =
+    told_stepped c.args.self.now (place_of c.args.seat.now) c.seat.result c.repo-2.result.now (call_of c.args.call.now) c.in-Ok-Tell.field-0 c.in-Ok-Tell.standing (λ image honest left. g.met.D.Disk.only_now (disk_of (store_of c.args.self.now.book)) image honest left)
+    c.repo.ensures.kept c.repo.ensures.shown c.repo.ensures.newest (sym c.is_stuck.ensures ∙ c.if-is_stuck.false) c.repo-2.ensures.value c.seat.ensures c.in-Ok-Tell.field-0-is c.in-Ok-Tell.ensures.planned
+
+pub returns-in-Err-clause-stepped : goal.returns-in-Err-clause-stepped
+returns-in-Err-clause-stepped g c =
+    unplanned_stepped c.args.self.now (place_of c.args.seat.now) c.seat.result c.repo-2.result.now (call_of c.args.call.now) c.in-Err.fault (λ image honest left. g.met.D.Disk.only_now (disk_of (store_of c.args.self.now.book)) image honest left) c.repo.ensures.kept
+    (sym c.is_stuck.ensures ∙ c.if-is_stuck.false) c.repo-2.ensures.value c.seat.ensures c.in-Err.ensures.refused

@@ -1,0 +1,10 @@
+pub mod Book
+pub mod Entries
+pub mod Facts
+pub mod Holding
+pub mod Jobs
+pub mod Places
+pub mod Ports
+pub mod Seats
+pub mod Stepped
+pub mod Steps

@@ -1,0 +1,30 @@
+-- One step of a shared mirror's book.
+use Rattle.std.specs.Prelude.{◌≡◌, ◌≤◌, ◌⊎◌, ◌↔◌, ◌++◌, ℕ, length, Result, OnOk}
+use Rattle.fleet_disk.specs.Image.{Image}
+use Rattle.fleet_disk.specs.Rules.{LeavesOnly}
+use Rattle.fleet_disk.specs.declared.disk.Disk.{Ghosts}
+use Rattle.repo_store.specs.Words.{disk_of, repository_of, revisions_of}
+use Rattle.store_share.specs.Book.{head_of, notes_of}
+use Rattle.store_share.specs.Shown.{Shows}
+use Rattle.sync_core.specs.Mirror.{Call}
+use Rattle.sync_core.specs.declared.fault.SyncFault.{SyncFault}
+use Rattle.sync_core.specs.declared.reply.Reply.{Reply as Given}
+use Rattle.mirror_share.specs.declared.book.MirrorBook.{MirrorBook}
+use Rattle.mirror_share.specs.Book.{master_of, store_in, is_stuck_in, now_of, opening_of, calls_of, jobs_of}
+use Rattle.mirror_share.specs.Steps.{KeepsNow, StepsShown, taken_by}
+
+-- a seat's call, and its answer
+pub record Stepped {L D : Type 0} {r : _} {g : Ghosts D} (old new : MirrorBook L D r g) (seat : ℕ) (call : Call) (result : Result Given SyncFault) : Type 0 where
+  -- it is a step of the table of the calls, or nothing changes, or the device fails, or a cell refuses its box
+  pub step : StepsShown (is_stuck_in old) (now_of old) seat call result (is_stuck_in new) (now_of new)
+  -- a stop at any moment of it leaves what keeps the mirror before it or after it, and one from now on what stands now
+  pub any_moment : g.honest (disk_of (store_in old)) → LeavesOnly g.clock g.left_since (disk_of (store_in old)) (disk_of (store_in new)) (λ c. KeepsNow (now_of old) c ⊎ KeepsNow (now_of new) c)
+  pub durable : g.honest (disk_of (store_in new)) → (image : Image) → g.may_leave (disk_of (store_in new)) image → KeepsNow (now_of new) image
+  pub honest : g.honest (disk_of (store_in old)) ↔ g.honest (disk_of (store_in new))
+  -- where it was done, the cells show all revisions; and what they show they go on to show
+  pub shown : OnOk result (Shows (length (revisions_of (store_in new))) (notes_of (master_of new)) (repository_of (store_in new)))
+  pub head : head_of (master_of old) ≤ head_of (master_of new)
+  -- the calls that were done are kept in order
+  pub calls : is_stuck_in new ≡ is_stuck_in old → calls_of new ≡ calls_of old ++ taken_by call result
+  pub opening : opening_of new ≡ opening_of old
+  pub jobs : jobs_of new ≡ jobs_of old

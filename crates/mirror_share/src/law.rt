@@ -1,0 +1,15 @@
+//! What steps of a shared mirror come to.
+ghost use Rattle.mirror_share.specs.Holding.{OthersLeaveIt, HolderIsServed};
+
+use sync_core::law::the_holder_goes_on;
+
+/// Does nothing: its contract says how a seat that holds the lock goes on, whichever seats' steps come between its own.
+/// While it holds, no other seat's call but a look is done, so no steal is, and none changes how the mirror stands. A
+/// lawful call of its job is never refused for its lock (59) or its turn (61); a look tells what its last look and its
+/// own calls since left; and unless it gave the lock back it holds on.
+pub fn a_holder_goes_on()
+    ensures others { OthersLeaveIt }
+    ensures served { HolderIsServed }
+{
+    the_holder_goes_on();
+}

@@ -1,0 +1,108 @@
+//! A shared mirror as the port of a job.
+ghost use Rattle.std.specs.Prelude.{◌≡◌, ◌≤◌, ◌⊎◌, ◌↔◌, ℕ, Some, IfOk, IfErr};
+ghost use Rattle.std.specs.Option.{option_map};
+ghost use Rattle.node_base.specs.declared.refusal.Refusal.TheVariants as refusal;
+ghost use Rattle.repo_core.specs.Repository.{tree_at};
+ghost use Rattle.store_share.specs.Seats.{known_by, seen_by};
+ghost use Rattle.sync_core.specs.Calls.{call_of};
+ghost use Rattle.sync_core.specs.declared.fault.SyncFault.TheVariants as fault;
+ghost use Rattle.sync_job.specs.Mirrors.{MirrorNow, IsFit, Moves, Stays};
+
+use crate::seat::JobSeat;
+use crate::share::MirrorShare;
+use fleet_disk::Disk;
+use node_base::{Refusal, RevNo};
+use path_tree::Tree;
+use std::alloc::{AllocError, Global};
+use std::sync::Wait;
+use store_share::{ReaderSeat, RowName};
+use sync_core::{MirrorCall, Reply, SyncFault};
+use sync_job::MirrorPort;
+
+/// A shared mirror as one job sees it, from a job's seat and a reader's. Each call is one step of the book under the
+/// lock; trees are read without it.
+#[derive(Drop)]
+pub struct SeatMirror<'a, R: Wait, L: RowName, D: Disk> {
+    rt: &'a R,
+    share: &'a MirrorShare<L, D>,
+    seat: JobSeat<L>,
+    reader: ReaderSeat<L>,
+}
+
+impl<'a, R: Wait, L: RowName, D: Disk> SeatMirror<'a, R, L, D> {
+    ghost use Rattle.mirror_share.specs.Ports.{seat_of};
+
+    /// The port of the job that has this seat. Only want of memory (70) refuses it, and the seat is handed back then.
+    pub fn new(
+        rt: &'a R,
+        alloc: Global,
+        share: &'a MirrorShare<L, D>,
+        seat: JobSeat<L>,
+    ) -> Result<SeatMirror<'a, R, L, D>, JobSeat<L>>
+        ensures seat { IfOk result (λ p. seat_of p ≡ seat) }
+        ensures back { IfErr result (λ s. s ≡ seat) }
+    {
+        match share.enter_reader(rt, alloc) {
+            Ok(reader) => Ok(SeatMirror {
+                rt,
+                share,
+                seat,
+                reader,
+            }),
+            Err(_) => Err(seat),
+        }
+    }
+
+    /// The seat of the job.
+    pub fn into_seat(self) -> JobSeat<L>
+        ensures { result ≡ seat_of self.entry }
+    {
+        self.seat
+    }
+}
+
+impl<R: Wait, L: RowName, D: Disk> MirrorPort for SeatMirror<'_, R, L, D> {
+    ghost use Rattle.std.specs.Prelude.{ℕ};
+    ghost use Rattle.mirror_share.specs.Ports.{reader_of, seat_of, NowhereStands};
+    ghost use Rattle.mirror_share.specs.Seats.{place_of};
+
+    ghost stands = { λ _ m. NowhereStands m };
+
+    ghost seat = { λ p. place_of (seat_of p) };
+
+    ghost honest = { λ _. ⊥ };
+
+    ghost clock = { λ _. 0 };
+
+    ghost left_since = { λ _ _ _. ⊥ };
+
+    ghost kept_now = { λ port m image honest stands left. absurd honest };
+
+    fn step(&mut self, alloc: Global, call: &MirrorCall<'_>) -> Result<Reply, SyncFault> {
+        self.share.step(self.rt, alloc, &self.seat, call)
+    }
+
+    /// The tree of the revision that the reader's seat knows under that number; the newest is asked for where the seat
+    /// hasn't seen it. NoSuchRevision (21) where nothing is shown there, OutOfMemory (70).
+    fn tree(&mut self, number: RevNo) -> Result<Tree, SyncFault>
+        ensures known { IfOk result (λ t. option_map (λ x. x.tree) (known_by (reader_of self.new) number) ≡ Some t) }
+        ensures seen { seen_by (reader_of self.old) ≤ seen_by (reader_of self.new) }
+        ensures kept { (r : ℕ) → r ≤ seen_by (reader_of self.old)
+            → known_by (reader_of self.new) r ≡ known_by (reader_of self.old) r }
+        ensures refused { IfErr result (λ f. (f ≡ fault.Other refusal.NoSuchRevision) ⊎ (f ≡ fault.OutOfMemory)) }
+        ensures seat { place_of (seat_of self.new) ≡ place_of (seat_of self.old) }
+        ensures honest { ⊥ ↔ ⊥ }
+        ensures tree { (m : MirrorNow) → NowhereStands m → IfOk result
+            (λ t. tree_at m.repository.revisions number ≡ Some t) }
+        ensures stays { (m : MirrorNow) → NowhereStands m → Stays NowhereStands (λ _. 0) (λ _ _ _. ⊥) ⊥ self.old self.new
+            m }
+    {
+        if self.reader.seen() < number {
+            let _newest = self.share.latest(self.rt, &mut self.reader);
+        }
+        match self.share.read_at(&mut self.reader, number) {
+            Some(rev) => Ok(rev.tree.share()?),
+            None => Err(SyncFault::Other(Refusal::NoSuchRevision)),
+        }
+    }
+}

@@ -1,0 +1,119 @@
+//! A mirror behind its lock, with its row beside it.
+ghost use Rattle.std.specs.Prelude.{◌≡◌, ◌≤◌, ◌⊎◌, ℕ, Some, IfOk, IfErr, IfSome, IfNone};
+ghost use Rattle.gate_log.specs.declared.fault.LogFault.TheVariants as log;
+ghost use Rattle.repo_core.specs.declared.fault.RepoFault.TheVariants as core;
+ghost use Rattle.repo_store.specs.declared.fault.StoreFault.TheVariants as fault;
+ghost use Rattle.rev_row.specs.declared.rev.Rev.{Rev as RevOf};
+ghost use Rattle.store_share.specs.Opened.{cells_of};
+ghost use Rattle.store_share.specs.Seats.{known_by, seen_by};
+ghost use Rattle.sync_core.specs.Calls.{call_of};
+ghost use Rattle.sync_job.specs.Mirrors.{IsFit};
+ghost use Rattle.mirror_share.specs.Places.{IsRunningFault};
+
+use crate::book::MirrorBook;
+use crate::seat::JobSeat;
+use fleet_disk::Disk;
+use node_base::{Props, RevNo};
+use repo_store::StoreFault;
+use rev_row::{Rev, RevRow};
+use std::alloc::{AllocError, Global};
+use std::sync::{Mutex, Wait};
+use store_share::{OpenedStore, ReaderSeat, RowName};
+use sync_core::{MirrorCall, Reply, SyncFault, Token};
+
+/// A mirror on a disk that several threads share.
+#[derive(Drop)]
+pub struct MirrorShare<L: RowName, D: Disk> {
+    book: Mutex<MirrorBook<L, D>>,
+    row: RevRow,
+    ghost row_is: { row ≡ L.cells },
+}
+
+impl<L: RowName, D: Disk> MirrorShare<L, D> {
+    /// The share of an opened store under the row's name. Nobody runs there, and no seat holds the sync lock, whatever
+    /// token that has.
+    pub fn of(alloc: Global, opened: OpenedStore<D>) -> MirrorShare<L, D>
+        requires { cells_of opened ≡ L.cells }
+    {
+        let (book, row) = opened.into_book::<L>();
+        MirrorShare {
+            book: Mutex::new(MirrorBook::open(alloc, book)),
+            row,
+        }
+    }
+
+    /// The book.
+    pub fn close(self) -> MirrorBook<L, D> {
+        let MirrorShare { book, row: _ } = self;
+        book.into_inner()
+    }
+
+    /// A seat for the job of that token. HolderRunning (55) where a job of that token runs, OutOfMemory (70).
+    pub fn enter_job<R: Wait>(
+        &self,
+        rt: &R,
+        alloc: Global,
+        token: &Token,
+    ) -> Result<JobSeat<L>, SyncFault>
+        ensures { IfErr result (IsRunningFault token.now) }
+    {
+        self.book.lock(rt).enter_job(alloc, token)
+    }
+
+    /// The job leaves. Where it holds the sync lock there is no holder from then on, and the lock stays.
+    pub fn leave<R: Wait>(&self, rt: &R, seat: JobSeat<L>) {
+        self.book.lock(rt).leave(seat);
+    }
+
+    /// One call of a job, as the book takes it ([`MirrorBook::step`]).
+    pub fn step<R: Wait>(
+        &self,
+        rt: &R,
+        alloc: Global,
+        seat: &JobSeat<L>,
+        call: &MirrorCall<'_>,
+    ) -> Result<Reply, SyncFault>
+        ensures { IfOk result (IsFit (call_of call.now)) }
+    {
+        self.book.lock(rt).step(alloc, &self.row, seat, call)
+    }
+
+    /// The seat of a reader, who has seen what is shown now. Only want of memory (70) refuses it.
+    pub fn enter_reader<R: Wait>(
+        &self,
+        rt: &R,
+        alloc: Global,
+    ) -> Result<ReaderSeat<L>, AllocError> {
+        let notes = self.row.notes(alloc)?;
+        Ok(self.book.lock(rt).seat_reader(notes))
+    }
+
+    /// The newest revision, which the reader has seen then. It never falls for a reader.
+    pub fn latest<R: Wait>(&self, rt: &R, reader: &mut ReaderSeat<L>) -> RevNo
+        ensures most { seen_by reader.old ≤ result }
+        ensures seen { seen_by reader.new ≡ result }
+        ensures kept { (r : ℕ) → r ≤ seen_by reader.old → known_by reader.new r ≡ known_by reader.old r }
+    {
+        self.book.lock(rt).latest(reader)
+    }
+
+    /// The revision of that number, where the reader has seen it or its cell shows it. It waits for nobody, and takes
+    /// no memory. What the reader has seen it reads for good.
+    pub fn read_at<'a>(&'a self, reader: &mut ReaderSeat<L>, number: RevNo) -> Option<&'a Rev>
+        ensures there { number ≤ seen_by reader.old → IfNone result ⊥ }
+        ensures value { (x : RevOf) → number ≤ seen_by reader.old → known_by reader.old number ≡ Some x
+            → IfSome result (λ r. r.now ≡ x) }
+        ensures number { IfSome result (λ r. (r.now.number ≡ number) × (known_by reader.new number ≡ Some r.now)) }
+        ensures seen { seen_by reader.new ≡ seen_by reader.old }
+        ensures kept { (r : ℕ) (x : RevOf) → known_by reader.old r ≡ Some x → known_by reader.new r ≡ Some x }
+    {
+        reader.read_in(&self.row, number)
+    }
+
+    /// The properties that a revision has now. NoSuchRevision (21) above the head, OutOfMemory (70).
+    pub fn rev_props<R: Wait>(&self, rt: &R, number: RevNo) -> Result<Props, StoreFault>
+        ensures { IfErr result (λ e. (e ≡ fault.Repo core.NoSuchRevision) ⊎ (e ≡ fault.Log log.OutOfMemory)) }
+    {
+        self.book.lock(rt).rev_props(number)
+    }
+}
