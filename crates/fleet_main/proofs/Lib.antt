@@ -4,7 +4,9 @@ pub mod Dumping
 pub mod Lines
 pub mod Mirroring
 pub mod Opening
+pub mod Pulled
 pub mod Refusing
 pub mod Served
 pub mod Showing
+pub mod Sources
 pub mod Spelled

@@ -11,7 +11,7 @@ use Rattle.fleet_main.specs.declared.command_line.Usage.TheVariants.{Shown, Wron
 use Rattle.fleet_main.specs.Lines.{HasNoLineFeed, IsLineOf}
 use Rattle.fleet_main.specs.Terminal.{HasNoControl}
 use Rattle.sync_core.specs.Tokens.{is_token}
-use Rattle.fleet_main.specs.Values.{HasReturn, HasValue, SpellsMicros, SpellsRange, SpellsUpTo, identity_read, is_on_server}
+use Rattle.fleet_main.specs.Values.{HasReturn, HasValue, SpellsMicros, SpellsRange, SpellsServer, SpellsUpTo, identity_read, is_on_server}
 use Rattle.fleet_main.specs.Usages.{IsRefusedAt, IsTold, IsUsageAt, IsUsageOf, IsValueLine, IsOverTwo, IsSyncRefused, no_identity, no_range, no_moment, no_message, no_folders, no_copied_range, no_port, no_connections, on_server, named_twice, no_token}
 
 pub identity_refused : (rows : List Row) (value read told : List ℕ) (u : Usage) → HasValue rows (codes "uuid") value → read ≡ value → told ≡ value
@@ -71,12 +71,13 @@ pub value_line : (help value wanted wrong line : List ℕ) → IfSome (debug_str
     → IsLineOf help wrong line → HasNoControl line → HasNoLineFeed line → IsValueLine help value wanted line
 value_line help value wanted wrong line h is clean one = (clean, one, told_of help (codes " is not ") wanted wrong line (debug_str value) h is)
 
--- a source on a server
-pub server_refused : (rows : List Row) (help value read told : List ℕ) (u : Usage) → HasValue rows (codes "SOURCE") value → read ≡ value → told ≡ value → is_on_server read ≡ true → IsTold help told (codes "a folder") u
-    → IsSyncRefused rows help u
-server_refused rows help value read told (Shown text) has r t on h = absurd h
-server_refused rows help value read told (Wrong text) has r t on h = on_server told (has ∙ ap (λ v. Some v) (sym t)) (ap is_on_server (t ∙ sym r) ∙ on) h
-server_refused rows help value read told OutOfMemory has r t on h = tt
+-- a source that begins as one on a server, and is none
+pub server_refused : (rows : List Row) (help value read asked told : List ℕ) (u : Usage) → HasValue rows (codes "SOURCE") value → read ≡ value → asked ≡ value → told ≡ value → is_on_server read ≡ true
+    → ((n : ℕ) → SpellsServer asked n → ⊥) → IsTold help told (codes "a folder or svn://127.0.0.1:P/ with a port P from 1 to 65535") u → IsSyncRefused rows help u
+server_refused rows help value read asked told (Shown text) has r a t on none h = absurd h
+server_refused rows help value read asked told (Wrong text) has r a t on none h =
+    on_server told (has ∙ ap (λ v. Some v) (sym t)) (ap is_on_server (t ∙ sym r) ∙ on) (subst (λ v. (n : ℕ) → SpellsServer v n → ⊥) (a ∙ sym t) none) h
+server_refused rows help value read asked told OutOfMemory has r a t on none h = tt
 
 -- one folder named twice
 pub twice_refused : (rows : List Row) (help mirror value read other told : List ℕ) (u : Usage) → HasValue rows (codes "MIRROR") mirror → HasValue rows (codes "SOURCE") value → read ≡ mirror → other ≡ value → told ≡ value

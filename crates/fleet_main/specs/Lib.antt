@@ -4,6 +4,7 @@ pub mod Host
 pub mod Laws
 pub mod Lines
 pub mod Opening
+pub mod Pulling
 pub mod Serving
 pub mod Terminal
 pub mod Usages

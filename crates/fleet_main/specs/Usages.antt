@@ -8,7 +8,7 @@ use Rattle.clap.specs.declared.error.kind.ErrorKind.TheVariants as kind
 use Rattle.fleet_main.specs.Lines.{HasNoLineFeed, IsLineOf}
 use Rattle.fleet_main.specs.Terminal.{HasNoControl}
 use Rattle.sync_core.specs.Tokens.{is_token}
-use Rattle.fleet_main.specs.Values.{HasReturn, HasValue, SpellsMicros, SpellsRange, SpellsUpTo, identity_read, is_on_server}
+use Rattle.fleet_main.specs.Values.{HasReturn, HasValue, SpellsMicros, SpellsRange, SpellsServer, SpellsUpTo, identity_read, is_on_server}
 use Rattle.fleet_main.specs.declared.command_line.Usage.{Usage}
 use Rattle.fleet_main.specs.declared.command_line.Usage.TheVariants.{Shown, Wrong, OutOfMemory}
 
@@ -37,9 +37,10 @@ IsTold help value wanted (Shown text) = ⊥
 IsTold help value wanted (Wrong text) = IsValueLine help value wanted (string_bytes text)
 IsTold help value wanted OutOfMemory = Unit {0}
 
--- the value of a command over a mirror and its source that isn't taken: the source is one on a server, or the mirror's folder, or the token is none
+-- the value of a command over a mirror and its source that isn't taken: the source begins as one on a server and is none, or it is the mirror's folder, or the token is none
 pub data IsSyncValueRefused (rows : List Row) (help line : List ℕ) : Type 0 where
-  on_server : (value : List ℕ) → HasValue rows (codes "SOURCE") value → is_on_server value ≡ true → IsValueLine help value (codes "a folder") line → IsSyncValueRefused rows help line
+  on_server : (value : List ℕ) → HasValue rows (codes "SOURCE") value → is_on_server value ≡ true → ((n : ℕ) → SpellsServer value n → ⊥)
+      → IsValueLine help value (codes "a folder or svn://127.0.0.1:P/ with a port P from 1 to 65535") line → IsSyncValueRefused rows help line
   named_twice : (mirror value : List ℕ) → HasValue rows (codes "MIRROR") mirror → HasValue rows (codes "SOURCE") value → bytes_eq mirror value ≡ true
       → IsValueLine help value (codes "another folder than the mirror's") line → IsSyncValueRefused rows help line
   no_token : (value : List ℕ) → HasValue rows (codes "token") value → is_token value ≡ false

@@ -9,12 +9,17 @@ use Rattle.repo_core.specs.Dates.{IsMoment}
 use Rattle.store_engines.specs.Ranges.{first_in, last_in}
 use Rattle.store_engines.specs.declared.range.RevRange.{RevRange}
 use Rattle.sync_core.specs.Tokens.{is_token}
-use Rattle.fleet_main.specs.Words.{word_of}
+use Rattle.fleet_main.specs.Words.{word_of, word_of_task}
 use Rattle.fleet_main.specs.declared.command_line.Command.{Command}
 use Rattle.fleet_main.specs.declared.command_line.Command.TheVariants.{List as ListIt, Canon, Create, Load, Dump, MakeDir, Initialize, Synchronize, CopyRevprops, Info}
 use Rattle.fleet_main.specs.declared.command_line.Service.{Service}
+use Rattle.fleet_main.specs.declared.command_line.Place.{Place}
+use Rattle.fleet_main.specs.declared.command_line.Place.TheVariants.{Folder, Server}
 use Rattle.fleet_main.specs.declared.command_line.Planned.{Planned}
-use Rattle.fleet_main.specs.declared.command_line.Planned.TheVariants.{Run, Serve}
+use Rattle.fleet_main.specs.declared.command_line.Planned.TheVariants.{Run, Serve, Pull as PullIt}
+use Rattle.fleet_main.specs.declared.command_line.Pull.{Pull}
+use Rattle.fleet_main.specs.declared.command_line.Task.{Task}
+use Rattle.fleet_main.specs.declared.command_line.Task.TheVariants as task
 
 -- the identity that 8-4-4-4-12 hexadecimal digits spell, in any case, with hyphens between them
 abbrev pub identity_read : List ℕ → Option (List ℕ)
@@ -60,6 +65,19 @@ is_on_server source = starts_with nat_eq source (codes "svn://")
 abbrev pub HasFolders : List Row → List ℕ → List ℕ → Type 0
 HasFolders rows mirror source =
     HasValue rows (codes "MIRROR") mirror × HasValue rows (codes "SOURCE") source × (is_on_server source ≡ false) × (bytes_eq mirror source ≡ false)
+
+-- a source on a server, with that text where its port stands
+abbrev pub server_url : List ℕ → List ℕ
+server_url digits = codes "svn://127.0.0.1:" ++ (digits ++ codes "/")
+
+-- `svn://127.0.0.1:P/`, with a port from 1 to 65535 in decimal digits
+abbrev pub SpellsServer : List ℕ → ℕ → Type 0
+SpellsServer url port = (digits : List ℕ) × (url ≡ server_url digits) × SpellsUpTo 65535 digits port
+
+-- the folder of a mirror and its source: another folder, or on a server
+abbrev pub HasSource : List Row → List ℕ → Place → Type 0
+HasSource rows mirror (Folder source) = HasFolders rows mirror (string_bytes source)
+HasSource rows mirror (Server url port) = HasValue rows (codes "MIRROR") mirror × HasValue rows (codes "SOURCE") (string_bytes url) × SpellsServer (string_bytes url) port
 
 -- the range that is given
 abbrev pub IsRangeGiven : List Row → RevRange → Type 0
@@ -107,7 +125,20 @@ HasServiceOf rows service =
     HasValue rows (codes "DIR") (string_bytes service.folder) × HasNumber rows (codes "port") 65535 service.port
     × HasNumber rows (codes "connections") 1024 service.connections
 
--- of a subcommand with its values: it is that command, or `serve` with the server's values
+-- a task's token, range and whether it steals are those of the values under their names
+abbrev pub HasTaskOf : List Row → Task → Type 0
+HasTaskOf rows task.Initialize = Unit {0}
+HasTaskOf rows (task.Synchronize token steal) = IsTokenOf (first_of (codes "token") rows) token × (steal ≡ is_given rows (codes "steal-lock"))
+HasTaskOf rows (task.CopyRevprops token range) = IsTokenOf (first_of (codes "token") rows) token × IsRangeGiven rows range
+
+-- a mirror's folder and its source on a server are those of the values under their names, and what is to be done
+abbrev pub HasPullOf : List Row → Pull → Type 0
+HasPullOf rows pull =
+    HasValue rows (codes "MIRROR") (string_bytes pull.mirror) × HasValue rows (codes "SOURCE") (string_bytes pull.url)
+    × SpellsServer (string_bytes pull.url) pull.port × HasTaskOf rows pull.task
+
+-- of a subcommand with its values: it is that command, or `serve` with the server's values, or a command over a mirror whose source is on a server
 abbrev pub IsPlannedOf : Option (List ℕ × List Row) → Planned → Type 0
 IsPlannedOf named (Run command) = IsCommandOf named command
 IsPlannedOf named (Serve service) = (rows : List Row) × (named ≡ Some (codes "serve", rows)) × HasServiceOf rows service
+IsPlannedOf named (PullIt pull) = (rows : List Row) × (named ≡ Some (word_of_task pull.task, rows)) × HasPullOf rows pull

@@ -5,6 +5,8 @@ use Rattle.clap.specs.Simple.{on_top}
 use Rattle.clap.specs.declared.builder.action.ArgAction.TheVariants.{Set, SetTrue}
 use Rattle.fleet_main.specs.declared.command_line.Command.{Command}
 use Rattle.fleet_main.specs.declared.command_line.Command.TheVariants.{List as ListIt, Canon, Create, Load, Dump, MakeDir, Initialize, Synchronize, CopyRevprops, Info}
+use Rattle.fleet_main.specs.declared.command_line.Task.{Task}
+use Rattle.fleet_main.specs.declared.command_line.Task.TheVariants as task
 
 abbrev pub list_app : App
 list_app = new_app (codes "list")
@@ -114,3 +116,9 @@ word_of (Initialize mirror source) = codes "initialize"
 word_of (Synchronize mirror source token steal) = codes "synchronize"
 word_of (CopyRevprops mirror source token range) = codes "copy-revprops"
 word_of (Info mirror) = codes "info"
+
+-- the command that does a task over a mirror and its source
+abbrev pub word_of_task : Task → List ℕ
+word_of_task task.Initialize = codes "initialize"
+word_of_task (task.Synchronize token steal) = codes "synchronize"
+word_of_task (task.CopyRevprops token range) = codes "copy-revprops"

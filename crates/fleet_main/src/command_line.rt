@@ -12,13 +12,14 @@ ghost use Rattle.fleet_main.specs.Lines.{HasNoLineFeed, IsLineOf, first_lines, h
 ghost use Rattle.fleet_main.specs.Terminal.{HasNoControl};
 ghost use Rattle.fleet_main.specs.Usages.{IsRefusedAt, IsSyncRefused, IsTold, IsUsageAt, IsUsageOf};
 ghost use Rattle.fleet_main.specs.Values.{HasFolders, HasReturn, HasValue, IsCommandOf, IsTokenOf, SpellsMicros};
-ghost use Rattle.fleet_main.specs.Values.{HasNumber, HasServiceOf, IsPlannedOf, IsRangeGiven, SpellsRange};
-ghost use Rattle.fleet_main.specs.Values.{SpellsUpTo, identity_read, is_given, is_on_server};
+ghost use Rattle.fleet_main.specs.Values.{HasNumber, HasServiceOf, HasTaskOf, IsPlannedOf, IsRangeGiven, SpellsRange};
+ghost use Rattle.fleet_main.specs.Values.{HasSource, SpellsServer, SpellsUpTo, identity_read, is_given, is_on_server};
+ghost use Rattle.fleet_main.specs.Values.{server_url};
 ghost use Rattle.fleet_main.specs.Words.{canon_app, copied_range_rule, copy_revprops_app, create_app, dump_app};
 ghost use Rattle.fleet_main.specs.Words.{flag_rule, folders_app, histories_app, info_app, initialize_app, list_app};
 ghost use Rattle.fleet_main.specs.Words.{load_app, mirrors_app, mkdir_app, mkdir_place_app, named_rule, optional_rule};
 ghost use Rattle.fleet_main.specs.Words.{range_rule, serve_app, serve_place_app, streams_app, svnfleet_app};
-ghost use Rattle.fleet_main.specs.Words.{synchronize_app, told_app, two_folders_app, word_rule};
+ghost use Rattle.fleet_main.specs.Words.{synchronize_app, told_app, two_folders_app, word_of_task, word_rule};
 ghost use Rattle.sync_core.specs.Tokens.{is_token};
 ghost use Rattle.node_base.specs.Numbers.{rev_read};
 ghost use Rattle.repo_core.specs.Dates.{IsMoment};
@@ -100,6 +101,30 @@ pub struct Service {
     pub connections: u16,
 }
 
+/// What is done over a mirror and its source.
+#[derive(Debug, Drop)]
+pub enum Task {
+    /// Make it the mirror of the source.
+    Initialize,
+    /// Bring it up to the source, under a job's token, over a lock that stands where it is to steal.
+    Synchronize { token: Token, steal: bool },
+    /// Copy the properties of a range of revisions again, under a job's token.
+    CopyRevprops { token: Token, range: RevRange },
+}
+
+/// What is to be done over a mirror whose source is on a server, on a port of 127.0.0.1.
+#[derive(Debug, Drop)]
+pub struct Pull {
+    /// The folder of the mirror.
+    pub mirror: String,
+    /// The source's URL as it was given, `svn://127.0.0.1:P/`.
+    pub url: String,
+    /// The port, from 1 to 65535.
+    pub port: u16,
+    /// What is to be done.
+    pub task: Task,
+}
+
 /// What words ask for.
 #[derive(Drop)]
 pub enum Planned {
@@ -107,6 +132,17 @@ pub enum Planned {
     Run(Command),
     /// A server.
     Serve(Service),
+    /// A command over a mirror whose source is on a server.
+    Pull(Pull),
+}
+
+// Where a mirror's source is.
+#[derive(Drop)]
+enum Place {
+    // In a folder.
+    Folder(String),
+    // On a server: its URL, and the port in that.
+    Server { url: String, port: u16 },
 }
 
 /// Why the words name no command.
@@ -318,7 +354,11 @@ fn two_folders<'a>(
     ensures local { IfOk result (λ c. (fields_of c).has_globals ≡ false) }
 {
     let mirror = word(alloc, "MIRROR", "The folder of the mirror");
-    let source = word(alloc, "SOURCE", "The folder of its source");
+    let source = word(
+        alloc,
+        "SOURCE",
+        "The folder of its source, or svn://127.0.0.1:P/ where `svnfleet serve` has it",
+    );
     let top = clap::Command::new(alloc, name)
         .about(about)
         .after_help(after);
@@ -510,10 +550,10 @@ fn svnfleet<'a>(alloc: Global) -> Result<clap::Command<'a>, AllocError>
     Ok(whole)
 }
 
-/// The command or the server that the words name, the program's name first, with the values that they give it. Usage where they name
-/// none: help or the version only where it was asked for, and else what is wrong, in the words or in the value of an
-/// identity, a range, a moment, a message, a port or a number of connections, in one line without control characters
-/// that names the help of the command at hand.
+/// The command or the server that the words name, the program's name first, with the values that they give it. Usage
+/// where they name none: help or the version only where it was asked for, and else what is wrong, in the words or in the value of an
+/// identity, a range, a moment, a message, a source, a port or a number of connections, in one line without control
+/// characters that names the help of the command at hand.
 pub fn plan(alloc: Global, words: &[String]) -> Result<Planned, Usage>
     ensures named { IfOk result (IsPlannedOf (subcommand_of svnfleet_app (map string_bytes words.now))) }
     ensures faultless { IfOk result (λ _. fault_of svnfleet_app (map string_bytes words.now) ≡ []) }
@@ -546,6 +586,9 @@ fn asked(alloc: Global, matches: &ArgMatches<'_>) -> Result<Planned, Usage>
             Ok(service) => Ok(Planned::Serve(service)),
             Err(usage) => Err(usage),
         },
+        Some(("initialize", given)) => initialize_named(alloc, given),
+        Some(("synchronize", given)) => synchronize_named(alloc, given),
+        Some(("copy-revprops", given)) => copy_revprops_named(alloc, given),
         _ => match named(alloc, matches) {
             Ok(command) => Ok(Planned::Run(command)),
             Err(usage) => Err(usage),
@@ -553,7 +596,7 @@ fn asked(alloc: Global, matches: &ArgMatches<'_>) -> Result<Planned, Usage>
     }
 }
 
-// The command that a subcommand's name and its values say.
+// The command that a subcommand's name and its values say, but for those over a mirror and its source.
 fn named(alloc: Global, matches: &ArgMatches<'_>) -> Result<Command, Usage>
     ensures named { IfOk result (IsCommandOf (subcommand_rows_of matches.now)) }
     ensures usage { IfErr result (IsRefusedAt (subcommand_rows_of matches.now)) }
@@ -565,9 +608,6 @@ fn named(alloc: Global, matches: &ArgMatches<'_>) -> Result<Command, Usage>
         Some(("load", given)) => load_named(alloc, given),
         Some(("dump", given)) => dump_named(alloc, given),
         Some(("mkdir", given)) => mkdir_named(alloc, given),
-        Some(("initialize", given)) => initialize_named(alloc, given),
-        Some(("synchronize", given)) => synchronize_named(alloc, given),
-        Some(("copy-revprops", given)) => copy_revprops_named(alloc, given),
         Some(("info", given)) => info_named(alloc, given),
         _ => Err(Usage::OutOfMemory),
     }
@@ -685,52 +725,83 @@ fn mkdir_named(alloc: Global, given: &ArgMatches<'_>) -> Result<Command, Usage>
     }
 }
 
-fn initialize_named(alloc: Global, given: &ArgMatches<'_>) -> Result<Command, Usage>
-    ensures named { IfOk result (IsCommandOf (Some (codes "initialize", rows_of (found_of given.now)))) }
+fn initialize_named(alloc: Global, given: &ArgMatches<'_>) -> Result<Planned, Usage>
+    ensures named { IfOk result (IsPlannedOf (Some (codes "initialize", rows_of (found_of given.now)))) }
     ensures usage { IfErr result (IsRefusedAt (Some (codes "initialize", rows_of (found_of given.now)))) }
 {
-    match folders(alloc, "svnfleet initialize", given) {
-        Ok((mirror, source)) => Ok(Command::Initialize { mirror, source }),
+    match places(alloc, "svnfleet initialize", given) {
+        Ok((mirror, source)) => Ok(over(mirror, source, Task::Initialize)),
         Err(usage) => Err(usage),
     }
 }
 
-fn synchronize_named(alloc: Global, given: &ArgMatches<'_>) -> Result<Command, Usage>
-    ensures named { IfOk result (IsCommandOf (Some (codes "synchronize", rows_of (found_of given.now)))) }
+fn synchronize_named(alloc: Global, given: &ArgMatches<'_>) -> Result<Planned, Usage>
+    ensures named { IfOk result (IsPlannedOf (Some (codes "synchronize", rows_of (found_of given.now)))) }
     ensures usage { IfErr result (IsRefusedAt (Some (codes "synchronize", rows_of (found_of given.now)))) }
 {
-    match folders(alloc, "svnfleet synchronize", given) {
+    match places(alloc, "svnfleet synchronize", given) {
         Ok((mirror, source)) => match token_of(alloc, "svnfleet synchronize", given) {
-            Ok(token) => Ok(Command::Synchronize {
-                mirror,
-                source,
-                token,
-                steal: is_given(given, "steal-lock"),
-            }),
+            Ok(token) => {
+                let steal = is_given(given, "steal-lock");
+                Ok(over(mirror, source, Task::Synchronize { token, steal }))
+            }
             Err(usage) => Err(usage),
         },
         Err(usage) => Err(usage),
     }
 }
 
-fn copy_revprops_named(alloc: Global, given: &ArgMatches<'_>) -> Result<Command, Usage>
-    ensures named { IfOk result (IsCommandOf (Some (codes "copy-revprops", rows_of (found_of given.now)))) }
+fn copy_revprops_named(alloc: Global, given: &ArgMatches<'_>) -> Result<Planned, Usage>
+    ensures named { IfOk result (IsPlannedOf (Some (codes "copy-revprops", rows_of (found_of given.now)))) }
     ensures usage { IfErr result (IsRefusedAt (Some (codes "copy-revprops", rows_of (found_of given.now)))) }
 {
-    match folders(alloc, "svnfleet copy-revprops", given) {
+    match places(alloc, "svnfleet copy-revprops", given) {
         Ok((mirror, source)) => match token_of(alloc, "svnfleet copy-revprops", given) {
             Ok(token) => match copied_range_of(alloc, given) {
-                Ok(range) => Ok(Command::CopyRevprops {
-                    mirror,
-                    source,
-                    token,
-                    range,
-                }),
+                Ok(range) => Ok(over(mirror, source, Task::CopyRevprops { token, range })),
                 Err(usage) => Err(usage),
             },
             Err(usage) => Err(usage),
         },
         Err(usage) => Err(usage),
+    }
+}
+
+// What is planned to do a task over a mirror and its source.
+fn over(mirror: String, source: Place, task: Task) -> Planned
+    ensures { (rows : List Row) → HasSource rows (string_bytes mirror) source → HasTaskOf rows task
+        → IsPlannedOf (Some (word_of_task task, rows)) result }
+{
+    match source {
+        Place::Folder(source) => Planned::Run(over_folders_of(mirror, source, task)),
+        Place::Server { url, port } => Planned::Pull(Pull {
+            mirror,
+            url,
+            port,
+            task,
+        }),
+    }
+}
+
+// The command that does a task over a mirror and another folder.
+fn over_folders_of(mirror: String, source: String, task: Task) -> Command
+    ensures { (rows : List Row) → HasFolders rows (string_bytes mirror) (string_bytes source) → HasTaskOf rows task
+        → IsCommandOf (Some (word_of_task task, rows)) result }
+{
+    match task {
+        Task::Initialize => Command::Initialize { mirror, source },
+        Task::Synchronize { token, steal } => Command::Synchronize {
+            mirror,
+            source,
+            token,
+            steal,
+        },
+        Task::CopyRevprops { token, range } => Command::CopyRevprops {
+            mirror,
+            source,
+            token,
+            range,
+        },
     }
 }
 
@@ -786,7 +857,7 @@ fn port_of(alloc: Global, given: &ArgMatches<'_>) -> Result<u16, Usage>
     let Some(value) = value(given, "port") else {
         return Err(Usage::OutOfMemory);
     };
-    match up_to(value, 65_535) {
+    match up_to(value.as_bytes(), 65_535) {
         Some(port) => Ok(port),
         None => Err(wrong(alloc, "svnfleet serve", value, "a port from 1 to 65535")),
     }
@@ -799,7 +870,7 @@ fn connections_of(alloc: Global, given: &ArgMatches<'_>) -> Result<u16, Usage>
     let Some(value) = value(given, "connections") else {
         return Err(Usage::OutOfMemory);
     };
-    match up_to(value, 1024) {
+    match up_to(value.as_bytes(), 1024) {
         Some(connections) => Ok(connections),
         None => Err(wrong(
             alloc,
@@ -810,16 +881,23 @@ fn connections_of(alloc: Global, given: &ArgMatches<'_>) -> Result<u16, Usage>
     }
 }
 
-// The folders of a mirror and its source, which are two.
-fn folders(alloc: Global, help: &str, given: &ArgMatches<'_>) -> Result<(String, String), Usage>
-    ensures folders { IfOk result (λ p. HasFolders (rows_of (found_of given.now)) (string_bytes p.0)
-        (string_bytes p.1)) }
+// The folder of a mirror, and where its source is: in another folder or on a server.
+fn places(alloc: Global, help: &str, given: &ArgMatches<'_>) -> Result<(String, Place), Usage>
+    ensures places { IfOk result (λ p. HasSource (rows_of (found_of given.now)) (string_bytes p.0) p.1) }
     ensures usage { IfErr result (IsSyncRefused (rows_of (found_of given.now)) help.now) }
 {
     let mirror = text(alloc, given, "MIRROR")?;
     let source = text(alloc, given, "SOURCE")?;
     if is_on_server(source.as_str()) {
-        return Err(wrong(alloc, help, source.as_str(), "a folder"));
+        return match port_in(source.as_str()) {
+            Some(port) => Ok((mirror, Place::Server { url: source, port })),
+            None => Err(wrong(
+                alloc,
+                help,
+                source.as_str(),
+                "a folder or svn://127.0.0.1:P/ with a port P from 1 to 65535",
+            )),
+        };
     }
     if mirror.as_str() == source.as_str() {
         return Err(wrong(
@@ -829,7 +907,7 @@ fn folders(alloc: Global, help: &str, given: &ArgMatches<'_>) -> Result<(String,
             "another folder than the mirror's",
         ));
     }
-    Ok((mirror, source))
+    Ok((mirror, Place::Folder(source)))
 }
 
 // Whether a source is one on a server.
@@ -837,6 +915,26 @@ fn is_on_server(source: &str) -> bool
     ensures { result ≡ is_on_server source.now }
 {
     source.as_bytes().starts_with(b"svn://")
+}
+
+// The port in the URL of a server.
+fn port_in(source: &str) -> Option<u16>
+    ensures some { IfSome result (SpellsServer source.now) }
+    ensures none { IfNone result ((n : ℕ) → SpellsServer source.now n → ⊥) }
+{
+    match digits_in(source) {
+        Some(digits) => up_to(digits, 65_535),
+        None => None,
+    }
+}
+
+// What stands where the URL of a server has its port.
+fn digits_in(source: &str) -> Option<&[u8]>
+    ensures some { IfSome result (λ digits. source.now ≡ server_url digits.now) }
+    ensures none { IfNone result ((digits : List ℕ) → source.now ≡ server_url digits → ⊥) }
+{
+    let rest = source.as_bytes().strip_prefix(b"svn://127.0.0.1:")?;
+    rest.strip_suffix(b"/")
 }
 
 // The token that is given, or `job`.
@@ -943,11 +1041,11 @@ fn moment_of(value: &str) -> Option<Moment>
 }
 
 // The number from 1 up to the most that decimal digits spell.
-fn up_to(value: &str, most: u16) -> Option<u16>
+fn up_to(value: &[u8], most: u16) -> Option<u16>
     ensures some { IfSome result (SpellsUpTo most value.now) }
     ensures none { IfNone result ((n : ℕ) → SpellsUpTo most value.now n → ⊥) }
 {
-    let number = read_decimal(value.as_bytes())?;
+    let number = read_decimal(value)?;
     if number == 0 || number > u64::from(most) {
         return None;
     }

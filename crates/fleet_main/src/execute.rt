@@ -27,6 +27,7 @@ use std::alloc::Global;
 use std::io::{Read, Write};
 use store_engines::{RevRange, run_dump, run_load, run_mkdir};
 use sync_core::Token;
+use sync_job::LentMaster;
 use uuid::Uuid;
 
 // The status of a command that was refused.
@@ -236,7 +237,8 @@ fn worked<D: Disk + Drop, W: Write + Drop>(
     ensures unfailed { OnOk result.1 (result.0.failed ≡ output.failed) }
     ensures peer { IfErr result.1 (λ e. e ≡ Refusal.PeerFailed → result.0.failed ≡ true) }
 {
-    let (mirror, output, done) = run_work(alloc, mirror, &source, work, output);
+    let master = LentMaster::new(&source);
+    let (mirror, output, done) = run_work(alloc, mirror, master, work, output);
     let _disk = mirror.into_disk();
     let _source = source.into_disk();
     (output, done)
@@ -272,8 +274,8 @@ fn initialize<F: Folders, W: Write + Drop>(
     }
 }
 
-// The value of `svn:sync-from-url`.
-fn url_of(alloc: Global, source: &str) -> Result<PropValue, Refusal>
+/// The value of `svn:sync-from-url`.
+pub(crate) fn url_of(alloc: Global, source: &str) -> Result<PropValue, Refusal>
     ensures url { IfOk result (λ url. url ≡ source.now) }
     ensures refused { IfErr result (λ e. (e ≡ Refusal.OutOfMemory)
         ⊎ ((e ≡ Refusal.TooLong) × (65536 < length source.now))) }

@@ -12,7 +12,7 @@ ghost use Rattle.fleet_main.specs.Doing.{IsOpenedIn};
 ghost use Rattle.fleet_main.specs.Host.{IsFaultOf, host_failures};
 ghost use Rattle.fleet_main.specs.Opening.{DiskFails, NotBegun, NotOpened, folder_refusal};
 
-use fleet_disk::{Disk, HeldFiles, HostDisk};
+use fleet_disk::{Disk, HeldFiles, HostDisk, StdFiles};
 use node_base::Refusal;
 use repo_store::RepoStore;
 use std::alloc::Global;
@@ -105,7 +105,7 @@ impl<'a, R: HeldFiles> HostFolders<'a, R> {
 }
 
 impl<'a, R: HeldFiles> Folders for HostFolders<'a, R> {
-    type Place = HostDisk<R::File>;
+    type Place = HostDisk<StdFiles<R::File>>;
 
     // Nothing shows it of the host.
     ghost honest = { λ folders. ⊥ };
@@ -114,12 +114,20 @@ impl<'a, R: HeldFiles> Folders for HostFolders<'a, R> {
 
     ghost failures = { λ folders. folders.failures };
 
-    fn open(&mut self, alloc: Global, folder: &str) -> Result<HostDisk<R::File>, FolderFault> {
+    fn open(
+        &mut self,
+        alloc: Global,
+        folder: &str,
+    ) -> Result<HostDisk<StdFiles<R::File>>, FolderFault> {
         let rt = self.rt;
         self.answered(HostDisk::open(rt, alloc, folder))
     }
 
-    fn create(&mut self, alloc: Global, folder: &str) -> Result<HostDisk<R::File>, FolderFault> {
+    fn create(
+        &mut self,
+        alloc: Global,
+        folder: &str,
+    ) -> Result<HostDisk<StdFiles<R::File>>, FolderFault> {
         let rt = self.rt;
         self.answered(made(rt, alloc, folder))
     }
@@ -154,7 +162,11 @@ fn make_folder<R: Files>(rt: &R, folder: &str) -> io::Result<()> {
 }
 
 // The files of a folder, both of which are made where they are missing, but where one of them isn't empty.
-fn made<R: HeldFiles>(rt: &R, alloc: Global, folder: &str) -> io::Result<HostDisk<R::File>>
+fn made<R: HeldFiles>(
+    rt: &R,
+    alloc: Global,
+    folder: &str,
+) -> io::Result<HostDisk<StdFiles<R::File>>>
     ensures unfailed { IfOk result (λ disk. failures_of disk ≡ 0) }
     ensures files { IfOk result (λ disk. HasFiles disk ⊎ HasBytes R.has_bytes disk) }
 {
@@ -192,7 +204,10 @@ pub fn created<F: Folders>(
     ensures no_peer { IfErr result (λ e. e ≡ Refusal.PeerFailed → ⊥) }
 {
     match folders.create(alloc, folder) {
-        Ok(disk) => create_store(alloc, disk, identity),
+        Ok(disk) => match create_store(alloc, disk, identity) {
+            Ok(store) => Ok(store),
+            Err((refusal, _disk)) => Err(refusal),
+        },
         Err(fault) => Err(folder_refusal(fault)),
     }
 }
@@ -216,7 +231,10 @@ pub fn opened<F: Folders>(
         return Err(Refusal::NoRepository);
     }
     match folders.open(alloc, folder) {
-        Ok(disk) => open_store(alloc, disk),
+        Ok(disk) => match open_store(alloc, disk) {
+            Ok(store) => Ok(store),
+            Err((refusal, _disk)) => Err(refusal),
+        },
         Err(fault) => Err(folder_refusal(fault)),
     }
 }

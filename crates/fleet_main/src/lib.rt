@@ -4,6 +4,7 @@
 //! fill_streams(&mut HostDescriptors::new(&rt))?;
 //! match plan(alloc, &words) {
 //!     Ok(Planned::Run(command)) => run(alloc, &mut folders, command, &mut input, output, &mut errors),
+//!     Ok(Planned::Pull(asked)) => pull(&rt, alloc, &mut folders, asked, output, &mut errors),
 //!     Ok(Planned::Serve(service)) => serve(&rt, alloc, &mut folders, &service, output, &mut errors),
 //!     Err(Usage::Shown(text)) => show(text),
 //!     Err(Usage::Wrong(line)) => tell(line, 2),
@@ -14,14 +15,15 @@
 //! `plan` gives the command or the server that the words name, with the values that they spell, or else says what is
 //! wrong with them; it shows a text only where help or the version was asked for. The status of `run` is 0 only where
 //! the command is done and what it wrote is handed on, and 1 with the refusal's line; of a folder whose disk keeps the
-//! rules it says what was there before, what the command made of it, and what a stop leaves. So does `serve`, up to
-//! where the serving begins: it alone starts threads and waits.
+//! rules it says what was there before, what the command made of it, and what a stop leaves. So does `pull`, of a mirror
+//! whose source is on a server, and so does `serve`, up to where the serving begins: it alone starts threads and waits.
 #![tactic(auto)]
 
-pub use command_line::{Command, Planned, Service, Usage, plan};
+pub use command_line::{Command, Planned, Pull, Service, Task, Usage, plan};
 pub use execute::run;
 pub use fleet_engines::{Sink, Source};
 pub use folders::{FolderFault, Folders, HostFolders};
+pub use pulling::pull;
 pub use serving::serve;
 pub use store_engines::RevRange;
 pub use streams::{Descriptors, HostDescriptors, fill_streams};
@@ -31,6 +33,7 @@ mod execute;
 mod folders;
 mod help;
 pub mod law;
+mod pulling;
 mod serving;
 mod streams;
 mod terminal;

@@ -1,19 +1,21 @@
-//! The engines of the commands over a mirror, over any two disks and any writer: they make a repository the mirror of a
-//! source, bring it up to the source, copy properties of its revisions again, and tell how it stands.
+//! The engines of the commands over a mirror, over any disk, any master and any writer: they make a repository the
+//! mirror of a master, bring it up to that, copy properties of its revisions again, and tell how it stands.
 //!
 //! ```text
-//! let source = open_store(alloc, HostDisk::open(&rt, alloc, "source")?)?;
-//! let mirror = open_store(alloc, HostDisk::open(&rt, alloc, "mirror")?)?;
-//! let (mirror, output, done) = run_initialize(alloc, mirror, &source, url, output);
+//! let Ok(source) = open_store(alloc, HostDisk::open(&rt, alloc, "source")?) else { .. };
+//! let Ok(mirror) = open_store(alloc, HostDisk::open(&rt, alloc, "mirror")?) else { .. };
+//! let (mirror, output, done) = run_initialize(alloc, mirror, LentMaster::new(&source), url, output);
 //! done?;
-//! let (mirror, mut output, done) = run_synchronize(alloc, mirror, &source, token, false, output);
+//! let master = LentMaster::new(&source);
+//! let (mirror, mut output, done) = run_synchronize(alloc, mirror, master, token, false, output);
 //! done?;
 //! run_info(&mirror, &mut output)?;
 //! ```
 //!
-//! A run is one of `sync_job`, over a mirror that is held alone and a source that is lent. What it has done is printed
-//! line by line, each handed on as soon as what it tells stands. A line that can't be written stops no run: it is told
-//! at the end (49), where the run wasn't refused, and no line is written behind it.
+//! A run is one of `sync_job`, over a mirror that is held alone and a master of any kind: a store that is lent, as
+//! above, or a server. What it has done is printed line by line, each handed on as soon as what it tells stands. A line
+//! that can't be written stops no run: it is told at the end (49), where the run wasn't refused, and no line is written
+//! behind it.
 #![tactic(auto)]
 
 pub use info::run_info;

@@ -15,16 +15,16 @@ use std::alloc::Global;
 use std::io::Write;
 use sync_core::{SyncFault, Token};
 use sync_job::{
-    AloneMirror, JobPorts, LentMaster, run_copy_revprops as run_copy, run_init, run_sync,
+    AloneMirror, JobPorts, MasterPort, run_copy_revprops as run_copy, run_init, run_sync,
 };
 
-/// Makes a repository without revisions the mirror of a source, which is reached by that URL. The mirror's store and
+/// Makes a repository without revisions the mirror of a master, which is reached by that URL. The mirror's store and
 /// the writer come back as the run has left them, with its answer: a refusal of the job, and where it wasn't refused
 /// but a line couldn't be written PeerFailed (49).
-pub fn run_initialize<D: Disk + Drop, E: Disk + Drop, W: Write + Drop>(
+pub fn run_initialize<D: Disk + Drop, M: MasterPort + Drop, W: Write + Drop>(
     alloc: Global,
     mirror: RepoStore<D>,
-    source: &RepoStore<E>,
+    master: M,
     url: PropValue,
     output: Sink<W>,
 ) -> (RepoStore<D>, Sink<W>, Result<(), Refusal>)
@@ -33,23 +33,18 @@ pub fn run_initialize<D: Disk + Drop, E: Disk + Drop, W: Write + Drop>(
     ensures unfailed { OnOk result.2 (result.1.failed ≡ output.failed) }
     ensures peer { IfErr result.2 (λ e. e ≡ Refusal.PeerFailed → result.1.failed ≡ true) }
 {
-    let mut ports = JobPorts::new(
-        alloc,
-        LentMaster::new(source),
-        held(mirror),
-        Printer::new(output),
-    );
+    let mut ports = JobPorts::new(alloc, master, held(mirror), Printer::new(output));
     let ended = run_init(alloc, &mut ports, url);
-    let (_source, mirror, printer) = ports.into_parts();
+    let (_master, mirror, printer) = ports.into_parts();
     let answer = answer_of(ended, printer.is_lost());
     (mirror.into_store(), printer.into_sink(), answer)
 }
 
-/// Brings a mirror up to its source, under a job's token. Where it is to steal, it takes a lock that stands.
-pub fn run_synchronize<D: Disk + Drop, E: Disk + Drop, W: Write + Drop>(
+/// Brings a mirror up to its master, under a job's token. Where it is to steal, it takes a lock that stands.
+pub fn run_synchronize<D: Disk + Drop, M: MasterPort + Drop, W: Write + Drop>(
     alloc: Global,
     mirror: RepoStore<D>,
-    source: &RepoStore<E>,
+    master: M,
     token: Token,
     steal: bool,
     output: Sink<W>,
@@ -59,23 +54,18 @@ pub fn run_synchronize<D: Disk + Drop, E: Disk + Drop, W: Write + Drop>(
     ensures unfailed { OnOk result.2 (result.1.failed ≡ output.failed) }
     ensures peer { IfErr result.2 (λ e. e ≡ Refusal.PeerFailed → result.1.failed ≡ true) }
 {
-    let mut ports = JobPorts::new(
-        alloc,
-        LentMaster::new(source),
-        held(mirror),
-        Printer::new(output),
-    );
+    let mut ports = JobPorts::new(alloc, master, held(mirror), Printer::new(output));
     let ended = run_sync(alloc, &mut ports, token, steal);
-    let (_source, mirror, printer) = ports.into_parts();
+    let (_master, mirror, printer) = ports.into_parts();
     let answer = answer_of(ended, printer.is_lost());
     (mirror.into_store(), printer.into_sink(), answer)
 }
 
 /// Copies the properties of the revisions from `low` to `high` to a mirror again, under a job's token.
-pub fn run_copy_revprops<D: Disk + Drop, E: Disk + Drop, W: Write + Drop>(
+pub fn run_copy_revprops<D: Disk + Drop, M: MasterPort + Drop, W: Write + Drop>(
     alloc: Global,
     mirror: RepoStore<D>,
-    source: &RepoStore<E>,
+    master: M,
     token: Token,
     low: RevNo,
     high: RevNo,
@@ -86,23 +76,18 @@ pub fn run_copy_revprops<D: Disk + Drop, E: Disk + Drop, W: Write + Drop>(
     ensures unfailed { OnOk result.2 (result.1.failed ≡ output.failed) }
     ensures peer { IfErr result.2 (λ e. e ≡ Refusal.PeerFailed → result.1.failed ≡ true) }
 {
-    let mut ports = JobPorts::new(
-        alloc,
-        LentMaster::new(source),
-        held(mirror),
-        Printer::new(output),
-    );
+    let mut ports = JobPorts::new(alloc, master, held(mirror), Printer::new(output));
     let ended = run_copy(alloc, &mut ports, token, low, high);
-    let (_source, mirror, printer) = ports.into_parts();
+    let (_master, mirror, printer) = ports.into_parts();
     let answer = answer_of(ended, printer.is_lost());
     (mirror.into_store(), printer.into_sink(), answer)
 }
 
-/// Runs the work over a mirror's store and a source: as `run_initialize`, `run_synchronize` and `run_copy_revprops`.
-pub fn run_work<D: Disk + Drop, E: Disk + Drop, W: Write + Drop>(
+/// Runs the work over a mirror's store and a master: as `run_initialize`, `run_synchronize` and `run_copy_revprops`.
+pub fn run_work<D: Disk + Drop, M: MasterPort + Drop, W: Write + Drop>(
     alloc: Global,
     mirror: RepoStore<D>,
-    source: &RepoStore<E>,
+    master: M,
     work: Work,
     output: Sink<W>,
 ) -> (RepoStore<D>, Sink<W>, Result<(), Refusal>)
@@ -112,12 +97,12 @@ pub fn run_work<D: Disk + Drop, E: Disk + Drop, W: Write + Drop>(
     ensures peer { IfErr result.2 (λ e. e ≡ Refusal.PeerFailed → result.1.failed ≡ true) }
 {
     match work {
-        Work::Initialize { url } => run_initialize(alloc, mirror, source, url, output),
+        Work::Initialize { url } => run_initialize(alloc, mirror, master, url, output),
         Work::Synchronize { token, steal } => {
-            run_synchronize(alloc, mirror, source, token, steal, output)
+            run_synchronize(alloc, mirror, master, token, steal, output)
         }
         Work::CopyRevprops { token, low, high } => {
-            run_copy_revprops(alloc, mirror, source, token, low, high, output)
+            run_copy_revprops(alloc, mirror, master, token, low, high, output)
         }
     }
 }

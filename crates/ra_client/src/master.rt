@@ -2,7 +2,7 @@
 
 ghost use Rattle.std.specs.Prelude.{◌≡◌, IfOk};
 ghost use Rattle.uuid.specs.Text.{hyphenated_text, lower};
-ghost use Rattle.ra_client.specs.Masters.{of_client, of_edit, of_editor};
+ghost use Rattle.ra_client.specs.Masters.{of_edit, of_editor};
 
 use crate::fault::ClientFault;
 use crate::port::ClientPort;
@@ -30,7 +30,7 @@ impl<I: Input + Drop, O: Output + Drop> MasterPort for ClientPort<I, O> {
     fn latest(&mut self, _alloc: Global) -> Result<RevNo, MasterFault> {
         match ClientPort::latest(self) {
             Ok(number) => Ok(number),
-            Err(fault) => Err(told(fault)),
+            Err(fault) => Err(MasterFault::from(fault)),
         }
     }
 
@@ -45,14 +45,14 @@ impl<I: Input + Drop, O: Output + Drop> MasterPort for ClientPort<I, O> {
         }
         match ClientPort::fetch(self, number, trees) {
             Ok(revision) => Ok(revision),
-            Err(fault) => Err(told(fault)),
+            Err(fault) => Err(MasterFault::from(fault)),
         }
     }
 
     fn fetch_props(&mut self, _alloc: Global, number: RevNo) -> Result<Props, MasterFault> {
         match ClientPort::fetch_props(self, number) {
             Ok(props) => Ok(props),
-            Err(fault) => Err(told(fault)),
+            Err(fault) => Err(MasterFault::from(fault)),
         }
     }
 }
@@ -69,13 +69,17 @@ fn identity_text(alloc: Global, identity: &Uuid) -> Result<PropValue, AllocError
     }
 }
 
-// What a job is told of a client's refusal: the refusal of the table, or that the server refused.
-fn told(fault: ClientFault) -> MasterFault
-    ensures { result ≡ of_client fault }
-{
-    match fault {
-        ClientFault::Edit(fault) => told_of_edit(fault),
-        ClientFault::Refused | ClientFault::BadAnswer => MasterFault::Other,
+/// What a job is told of a client's refusal: the refusal of the table, or that the server refused.
+impl From<ClientFault> for MasterFault {
+    ghost use Rattle.ra_client.specs.Masters.{of_client};
+
+    ghost from_gives = { λ f m. m ≡ of_client f };
+
+    fn from(fault: ClientFault) -> MasterFault {
+        match fault {
+            ClientFault::Edit(fault) => told_of_edit(fault),
+            ClientFault::Refused | ClientFault::BadAnswer => MasterFault::Other,
+        }
     }
 }
 

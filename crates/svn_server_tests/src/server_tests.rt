@@ -34,19 +34,14 @@ impl<R: Wait> Write for Told<'_, R> {
 }
 
 // A port that was free just now.
-fn free_port<R: Net<Listener = TcpListener, Stream = TcpStream> + Abort>(rt: &R) -> u16 {
+pub(crate) fn free_port<R: Net<Listener = TcpListener, Stream = TcpStream> + Abort>(rt: &R) -> u16 {
     Server::bind(rt, 0).expect(rt, "a port").port()
 }
 
 // Serves the store with the copy to so many connections. Whether it ended well, and said where it listened.
-fn serves<R: Net<Listener = TcpListener, Stream = TcpStream> + Threads + Wait + Sync + Abort>(
-    rt: &R,
-    alloc: Global,
-    mirror: bool,
-    port: u16,
-    connections: u64,
-    listens: &Barrier,
-) -> bool {
+pub(crate) fn serves<
+    R: Net<Listener = TcpListener, Stream = TcpStream> + Threads + Wait + Sync + Abort,
+>(rt: &R, alloc: Global, mirror: bool, port: u16, connections: u64, listens: &Barrier) -> bool {
     let store = long_store(rt, alloc);
     let mut output = Told {
         rt,

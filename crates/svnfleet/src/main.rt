@@ -2,9 +2,10 @@
 //! and serves these to Subversion's clients.
 #![tactic(auto)]
 
+use fleet_disk::HeldFiles;
 use fleet_main::{
-    Command, HostDescriptors, HostFolders, Planned, Service, Sink, Source, Usage, fill_streams,
-    plan, run, serve,
+    Command, HostDescriptors, HostFolders, Planned, Pull, Service, Sink, Source, Usage,
+    fill_streams, plan, pull, run, serve,
 };
 use std::io::{BufWriter, ErrorKind};
 use std::net::{Net, TcpListener, TcpStream};
@@ -75,7 +76,8 @@ fn worded(rt: &HostRuntime) -> Left {
 
 fn planned(rt: &HostRuntime, words: &[String]) -> Left {
     match plan(rt.alloc(), words) {
-        Ok(Planned::Run(command)) => Left::Status(ran(rt, command)),
+        Ok(Planned::Run(command)) => Left::Status(ran(rt, rt, command)),
+        Ok(Planned::Pull(asked)) => Left::Status(pulled(rt, rt, asked)),
         Ok(Planned::Serve(service)) => Left::Serve(service),
         Err(usage) => Left::Status(used(rt, &usage)),
     }
@@ -93,7 +95,8 @@ fn used(rt: &HostRuntime, usage: &Usage) -> u8 {
     }
 }
 
-fn ran(rt: &HostRuntime, command: Command) -> u8 {
+// By the files of a handle.
+fn ran<R: HeldFiles>(rt: &HostRuntime, files: &R, command: Command) -> u8 {
     let Ok(buffer) = BufWriter::with_capacity(rt.alloc(), 65_536, rt.stdout()) else {
         return told(rt, "svnfleet: 70 out of memory", 1);
     };
@@ -101,7 +104,7 @@ fn ran(rt: &HostRuntime, command: Command) -> u8 {
     let mut errors = Sink::new(rt.stderr());
     let (status, _output) = run(
         rt.alloc(),
-        &mut HostFolders::new(rt),
+        &mut HostFolders::new(files),
         command,
         &mut input,
         Sink::new(buffer),
@@ -110,17 +113,37 @@ fn ran(rt: &HostRuntime, command: Command) -> u8 {
     status
 }
 
-// By the threads and sockets of a handle.
-fn served<R: Net<Listener = TcpListener, Stream = TcpStream> + Threads + Wait + Sync>(
+// By the files and sockets of a handle.
+fn pulled<R: HeldFiles + Net<Stream = TcpStream>>(rt: &HostRuntime, handle: &R, asked: Pull) -> u8 {
+    let Ok(buffer) = BufWriter::with_capacity(rt.alloc(), 65_536, rt.stdout()) else {
+        return told(rt, "svnfleet: 70 out of memory", 1);
+    };
+    let mut errors = Sink::new(rt.stderr());
+    let (status, _output) = pull(
+        handle,
+        rt.alloc(),
+        &mut HostFolders::new(handle),
+        asked,
+        Sink::new(buffer),
+        &mut errors,
+    );
+    status
+}
+
+// By the files, threads and sockets of a handle.
+fn served<R: HeldFiles + Net<Listener = TcpListener, Stream = TcpStream> + Threads + Wait + Sync>(
     rt: &HostRuntime,
-    threads: &R,
+    handle: &R,
     service: &Service,
-) -> u8 {
+) -> u8
+where
+    R::File: Send,
+{
     let mut errors = Sink::new(rt.stderr());
     let (status, _output) = serve(
-        threads,
+        handle,
         rt.alloc(),
-        &mut HostFolders::new(rt),
+        &mut HostFolders::new(handle),
         service,
         Sink::new(rt.stdout()),
         &mut errors,

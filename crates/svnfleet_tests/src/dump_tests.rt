@@ -1,5 +1,6 @@
 //! Whole runs of `list` and `canon` over memory.
 
+use fleet_disk::HeldFiles;
 use fleet_main::{Command, HostFolders, Sink, Source, run};
 use std::alloc::{AllocError, Global};
 use std::test::Fail;
@@ -40,13 +41,23 @@ pub(crate) fn joined(alloc: Global, parts: &[&str]) -> Result<Vec<u8>, AllocErro
 }
 
 fn outcome_of(rt: &HostRuntime, command: Command, parts: &[&str]) -> Result<Ran, Fail> {
-    let bytes = joined(rt.alloc(), parts)?;
+    outcome_over(rt.alloc(), rt, command, parts)
+}
+
+// By the files of a handle.
+fn outcome_over<R: HeldFiles>(
+    alloc: Global,
+    files: &R,
+    command: Command,
+    parts: &[&str],
+) -> Result<Ran, Fail> {
+    let bytes = joined(alloc, parts)?;
     let mut input = Source::new(bytes.as_slice());
-    let output = Sink::new(Vec::new(rt.alloc()));
-    let mut errors = Sink::new(Vec::new(rt.alloc()));
-    let mut folders = HostFolders::new(rt);
+    let output = Sink::new(Vec::new(alloc));
+    let mut errors = Sink::new(Vec::new(alloc));
+    let mut folders = HostFolders::new(files);
     let (status, output) = run(
-        rt.alloc(),
+        alloc,
         &mut folders,
         command,
         &mut input,

@@ -1,6 +1,7 @@
 //! Runs whose reader or writer fails, and the engines without a status.
 
 use crate::dump_tests::{HEAD, ONE_FILE, ZERO, joined};
+use fleet_disk::HeldFiles;
 use fleet_engines::{
     Sink, Source, records_dont_matter, revisions_are_grouped, run_canon, run_list,
 };
@@ -41,15 +42,16 @@ impl Write for Closed {
 }
 
 // Runs `canon` from a reader to a writer, which it answers: whether it ends with status 1 and one line, that a stream failed.
-fn tells<R: Read + Drop, W: Write + Drop>(
-    rt: &HostRuntime,
+fn tells<H: HeldFiles, R: Read + Drop, W: Write + Drop>(
+    alloc: Global,
+    files: &H,
     input: &mut Source<R>,
     output: Sink<W>,
 ) -> (bool, Sink<W>) {
-    let mut errors = Sink::new(Vec::new(rt.alloc()));
-    let mut folders = HostFolders::new(rt);
+    let mut errors = Sink::new(Vec::new(alloc));
+    let mut folders = HostFolders::new(files);
     let (status, output) = run(
-        rt.alloc(),
+        alloc,
         &mut folders,
         Command::Canon,
         input,
@@ -70,7 +72,7 @@ fn failed_reader_is_told(rt: HostRuntime) -> Result<(), Fail> {
     let mut broken = Source::new(Broken {
         bytes: whole.as_slice(),
     });
-    let (told, output) = tells(&rt, &mut broken, Sink::new(Vec::new(rt.alloc())));
+    let (told, output) = tells(rt.alloc(), &rt, &mut broken, Sink::new(Vec::new(rt.alloc())));
     assert!(rt; told && broken.failed);
     assert!(rt; output.into_inner().as_slice() == written.as_slice());
     Ok(())
@@ -80,7 +82,7 @@ fn failed_reader_is_told(rt: HostRuntime) -> Result<(), Fail> {
 fn failed_writer_is_told(rt: HostRuntime) -> Result<(), Fail> {
     let whole = joined(rt.alloc(), &[HEAD, ZERO, ONE_FILE])?;
     let mut input = Source::new(whole.as_slice());
-    let (told, output) = tells(&rt, &mut input, Sink::new(Closed));
+    let (told, output) = tells(rt.alloc(), &rt, &mut input, Sink::new(Closed));
     assert!(rt; told && output.failed && !input.failed);
     Ok(())
 }

@@ -1,7 +1,7 @@
 use Rattle.std.proofs.Common.{Some, sym, ap, subst, ◌∙◌, IfErr}
 use Rattle.clap.specs.Words.{rows_of, found_of, subcommand_rows_of}
 use Rattle.fleet_main.specs.Usages.{IsRefusedAt}
-use Rattle.fleet_main.proofs.command_line.named.Goals as goal
+use Rattle.fleet_main.proofs.command_line.asked.Goals as goal
 
 pub returns-in-Some-initialize-default-clause-usage : goal.returns-in-Some-initialize-default-clause-usage
 returns-in-Some-initialize-default-clause-usage c =

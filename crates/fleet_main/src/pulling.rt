@@ -1,0 +1,186 @@
+//! A mirror over a source that a server has.
+ghost use Rattle.std.specs.Prelude.{◌≡◌, ◌⊎◌, true, IfErr, IfOk, OnOk};
+ghost use Rattle.std.specs.Io.KnownBytes.{Appends};
+ghost use Rattle.node_base.specs.declared.refusal.Refusal.{Refusal as RefusalOf};
+ghost use Rattle.node_base.specs.Refusals.{fault_line};
+ghost use Rattle.mirror_engines.specs.Runs.{IsWorked};
+ghost use Rattle.fleet_main.specs.Doing.{EndsWith, HandsOn, IsWorkedOver, OfStanding, UnopenedOr, WorkedOn};
+ghost use Rattle.fleet_main.specs.Opening.{DiskFails};
+ghost use Rattle.fleet_main.specs.Pulling.{IsPulled, NotKeptFor, NotPulled, NotPulledOn, NotPulledOver, work_as};
+
+use crate::command_line::{Pull, Task};
+use crate::execute::{kept, refused, url_of};
+use crate::folders::{Folders, opened};
+use fleet_disk::Disk;
+use fleet_engines::Sink;
+use mirror_engines::Work;
+use node_base::Refusal;
+use repo_store::RepoStore;
+use std::alloc::Global;
+use std::io::Write;
+use std::net::{Net, TcpStream};
+use svn_client::run_work_from;
+
+// The work that a task is.
+fn work_of(alloc: Global, url: &str, task: Task) -> Result<Work, Refusal>
+    ensures work { IfOk result (λ w. w ≡ work_as url.now task) }
+    ensures refused { (text : _) → IfErr result (NotKeptFor task url.now text text) }
+{
+    match task {
+        Task::Initialize => match url_of(alloc, url) {
+            Ok(url) => Ok(Work::Initialize { url }),
+            Err(refusal) => Err(refusal),
+        },
+        Task::Synchronize { token, steal } => Ok(Work::Synchronize { token, steal }),
+        Task::CopyRevprops { token, range } => Ok(Work::CopyRevprops {
+            token,
+            low: range.first(),
+            high: range.last(),
+        }),
+    }
+}
+
+fn pull_opened<R: Net<Stream = TcpStream>, D: Disk + Drop, W: Write + Drop>(
+    rt: &R,
+    alloc: Global,
+    mirror: RepoStore<D>,
+    port: u16,
+    url: &str,
+    work: Work,
+    output: Sink<W>,
+) -> (Sink<W>, Result<(), Refusal>)
+    ensures done { OnOk result.1 (WorkedOn (IsWorked work) (W.contents output.inner)
+        (W.contents result.0.inner) mirror) }
+    ensures refused { IfErr result.1 (λ e. NotPulledOn (IsWorked work) (W.contents output.inner)
+        (W.contents result.0.inner) result.0.failed e mirror) }
+    ensures unfailed { OnOk result.1 (result.0.failed ≡ output.failed) }
+{
+    let (mirror, output, done) = run_work_from(
+        rt,
+        alloc,
+        mirror,
+        port,
+        url.as_bytes(),
+        work,
+        output,
+    );
+    let _disk = mirror.into_disk();
+    (output, done)
+}
+
+// The mirror's folder is opened first.
+fn pull_folder<R: Net<Stream = TcpStream>, F: Folders, W: Write + Drop>(
+    rt: &R,
+    alloc: Global,
+    folders: &mut F,
+    mirror: &str,
+    port: u16,
+    url: &str,
+    work: Work,
+    output: Sink<W>,
+) -> (Sink<W>, Result<(), Refusal>)
+    ensures done { OnOk result.1 (OfStanding F.Place.Disk (F.honest folders.old) (F.holds folders.old mirror.now)
+        (IsWorkedOver (IsWorked work) (W.contents output.inner) (W.contents result.0.inner))) }
+    ensures refused { IfErr result.1 (λ e. UnopenedOr F.Place.Disk
+        (DiskFails F.Place.failures (F.failures folders.old) (F.failures folders.new)) (F.honest folders.old) mirror.now
+        (F.holds folders.old mirror.now) (W.contents output.inner) (W.contents result.0.inner) e
+        (NotPulledOver (F.honest folders.old) (IsWorked work) (W.contents output.inner) (W.contents result.0.inner)
+        result.0.failed e)) }
+    ensures unfailed { OnOk result.1 (result.0.failed ≡ output.failed) }
+{
+    match opened(alloc, folders, mirror) {
+        Ok(store) => {
+            kept(&store);
+            pull_opened(rt, alloc, store, port, url, work, output)
+        }
+        Err(refusal) => (output, Err(refusal)),
+    }
+}
+
+// By what words ask for.
+fn pull_asked<R: Net<Stream = TcpStream>, F: Folders, W: Write + Drop>(
+    rt: &R,
+    alloc: Global,
+    folders: &mut F,
+    pull: Pull,
+    output: Sink<W>,
+) -> (Sink<W>, Result<(), Refusal>)
+    ensures done { OnOk result.1 (IsPulled F.Place.Disk F.honest F.holds folders.old pull (W.contents output.inner)
+        (W.contents result.0.inner)) }
+    ensures refused { IfErr result.1 (NotPulled F.Place.Disk F.failures F.honest F.holds folders.old folders.new pull
+        (W.contents output.inner) (W.contents result.0.inner) result.0.failed) }
+    ensures unfailed { OnOk result.1 (result.0.failed ≡ output.failed) }
+{
+    let Pull {
+        mirror,
+        url,
+        port,
+        task,
+    } = pull;
+    let mirror = mirror.as_str();
+    let url = url.as_str();
+    match work_of(alloc, url, task) {
+        Ok(work) => pull_folder(rt, alloc, folders, mirror, port, url, work, output),
+        Err(refusal) => (output, Err(refusal)),
+    }
+}
+
+// The answer, when what was written is handed on.
+fn pull_flushed<R: Net<Stream = TcpStream>, F: Folders, W: Write + Drop>(
+    rt: &R,
+    alloc: Global,
+    folders: &mut F,
+    pull: Pull,
+    output: Sink<W>,
+) -> (Sink<W>, Result<(), Refusal>)
+    ensures done { OnOk result.1 (HandsOn (IsPulled F.Place.Disk F.honest F.holds folders.old pull
+        (W.contents output.inner)) (W.contents result.0.inner)) }
+    ensures refused { IfErr result.1 (EndsWith (IsPulled F.Place.Disk F.honest F.holds folders.old pull
+        (W.contents output.inner)) (NotPulled F.Place.Disk F.failures F.honest F.holds folders.old folders.new pull
+        (W.contents output.inner)) (W.contents result.0.inner) result.0.failed) }
+    ensures unfailed { OnOk result.1 (result.0.failed ≡ output.failed) }
+{
+    let (output, done) = pull_asked(rt, alloc, folders, pull, output);
+    let mut output = output;
+    let flushed = output.flush();
+    match done {
+        Ok(()) => (output, flushed),
+        Err(refusal) => (output, Err(refusal)),
+    }
+}
+
+/// Does over a folder's mirror and a source that a server on a port of 127.0.0.1 has what `run` does over two folders:
+/// the mirror's folder is opened first, then the connection. The status is 0 where it is done and what it wrote is
+/// handed on, or 1 where it was refused, and then the refusal's line is on `errors`: what refuses an opening, TooLong
+/// (8) for a URL that no property takes, PeerFailed (49) where nobody listens on the port or the writer failed,
+/// MasterFailed (60) where the server fails, refuses, or sends what is no answer; else what the run is refused for. The
+/// writer comes back.
+///
+/// Of honest folders it says besides what repository the mirror's files kept, and that a stop at any moment leaves it as
+/// the first so many calls of the run made it. What the server has no clause says: it is as it answers.
+pub fn pull<R: Net<Stream = TcpStream>, F: Folders, W: Write + Drop, E: Write + Drop>(
+    rt: &R,
+    alloc: Global,
+    folders: &mut F,
+    pull: Pull,
+    output: Sink<W>,
+    errors: &mut Sink<E>,
+) -> (u8, Sink<W>)
+    ensures status { (result.0 ≡ 0) ⊎ (result.0 ≡ 1) }
+    ensures done { result.0 ≡ 0 → HandsOn (IsPulled F.Place.Disk F.honest F.holds folders.old pull
+        (W.contents output.inner)) (W.contents result.1.inner) }
+    ensures unfailed { result.0 ≡ 0 → result.1.failed ≡ output.failed }
+    ensures silent { result.0 ≡ 0 → E.contents errors.new.inner ≡ E.contents errors.old.inner }
+    ensures refused { result.0 ≡ 1 → (e : RefusalOf)
+        × EndsWith (IsPulled F.Place.Disk F.honest F.holds folders.old pull (W.contents output.inner))
+        (NotPulled F.Place.Disk F.failures F.honest F.holds folders.old folders.new pull (W.contents output.inner))
+        (W.contents result.1.inner) result.1.failed e
+        × ((errors.new.failed ≡ true) ⊎ Appends (E.contents errors.old.inner) (E.contents errors.new.inner)
+        (fault_line e)) }
+{
+    let (output, done) = pull_flushed(rt, alloc, folders, pull, output);
+    match done {
+        Ok(()) => (0, output),
+        Err(refusal) => (refused(&refusal, errors), output),
+    }
+}

@@ -1,0 +1,31 @@
+-- What a run over a mirror's store and a server says and leaves.
+use Rattle.std.specs.Prelude.{◌≡◌, ◌⊎◌, ℕ, List, Option, Result, Ok, Err, string_bytes}
+use Rattle.fleet_disk.specs.declared.disk.Disk.{Ghosts}
+use Rattle.fleet_engines.specs.declared.stream.Sink.{Sink}
+use Rattle.node_base.specs.declared.refusal.Refusal.{Refusal}
+use Rattle.node_base.specs.declared.refusal.Refusal.TheVariants as refusal
+use Rattle.repo_store.specs.declared.store.RepoStore.{RepoStore}
+use Rattle.sync_core.specs.declared.fault.SyncFault.{SyncFault}
+use Rattle.sync_job.specs.Masters.{fault_text}
+use Rattle.sync_job.specs.Said.{Spoken}
+use Rattle.mirror_engines.specs.Runs.{Serves}
+use Rattle.ra_client.specs.Masters.{of_client}
+use Rattle.ra_client.specs.declared.fault.ClientFault.{ClientFault}
+
+-- there is no connection: nobody listens, or memory ran out
+abbrev pub IsUnreached : Refusal → Type 0
+IsUnreached e = (e ≡ refusal.PeerFailed) ⊎ (e ≡ refusal.OutOfMemory)
+
+-- it is told as a job tells that its master failed, in that fault's words
+abbrev pub TellsMaster : ClientFault → Refusal → Type 0
+TellsMaster f e = (text : _) × (e ≡ refusal.MasterFailed text) × (string_bytes text ≡ fault_text (of_client f))
+
+-- a run of a job over a mirror's store and a session: the session wasn't opened, for what the server sent or want of memory, and then the mirror is as it was and nothing is written; or it is a run like one over any master
+pub data RunsOver {D W : Type 0} {G : Ghosts D} (contents : W → Option (List ℕ)) (IsRun : List Spoken → Result (Unit {0}) SyncFault → Type 0) (old new : RepoStore D G) (before now : Sink W) (result : Result (Unit {0}) Refusal) : Type 0 where
+  Unopened : (e : Refusal) → result ≡ Err e → (e ≡ refusal.OutOfMemory) ⊎ ((f : ClientFault) × TellsMaster f e) → new ≡ old → now ≡ before → RunsOver contents IsRun old new before now result
+  Ran : Serves IsRun old new (contents before.inner) (contents now.inner) now.failed result → RunsOver contents IsRun old new before now result
+
+-- the same over a connection, which may not come about
+pub data RunsFrom {D W : Type 0} {G : Ghosts D} (contents : W → Option (List ℕ)) (IsRun : List Spoken → Result (Unit {0}) SyncFault → Type 0) (old new : RepoStore D G) (before now : Sink W) (result : Result (Unit {0}) Refusal) : Type 0 where
+  Unreached : (e : Refusal) → result ≡ Err e → IsUnreached e → new ≡ old → now ≡ before → RunsFrom contents IsRun old new before now result
+  Reached : RunsOver contents IsRun old new before now result → RunsFrom contents IsRun old new before now result
