@@ -66,6 +66,14 @@ check 'manual: an incremental dump' typed "$(printf '%s\n' "$block" | tail -n 1)
 check 'manual: it loads the four' test "$(grep -c '^Loaded' said)" -eq 4
 check 'manual: a mirror' typed "$(block_of "$top/docs/svnfleet.1" 'initialize mirror')"
 check 'manual: a mirror is brought up' grep -qx 'Committed revision 20.' said
+port=$(python3 -c 'import socket; it = socket.socket(); it.bind(("127.0.0.1", 0)); print(it.getsockname()[1])')
+"$program" serve archive --port "$port" --connections 2 >lines </dev/null &
+serving=$!
+for _ in $(seq 100); do grep -q listening lines && break; sleep 0.1; done
+check 'manual: a mirror over svn://' typed "$(block_of "$top/docs/svnfleet.1" 'initialize copy' | sed "s/3690/$port/")"
+check 'manual: it is brought up' grep -qx 'Committed revision 20.' said
+wait $serving
+check 'manual: the server ends well' test $? -eq 0
 check 'manual: a journal is loaded' typed "$(block_of "$top/docs/svnfleet.1" 'load new' | sed "s/UUID/$identity/")"
 check 'manual: it has all' grep -qx 'Loaded revision 20.' said
 cd "$work" || exit 1

@@ -153,8 +153,8 @@ class Params:
 
 # ---- edits
 
-def parts(change, old, token):
-    """What a change gives a node that had these properties."""
+def parts(change, old, token, chunks):
+    """What a change gives a node that had these properties; its text in these chunks."""
     kind = change.kind
     if change.props is not None:
         name = b'change-file-prop' if kind == b'file' else b'change-dir-prop'
@@ -165,9 +165,8 @@ def parts(change, old, token):
             yield command(name, token, it, [change.props[it]])
     if change.text is not None:
         yield command(b'apply-textdelta', token, [])
-        yield command(b'textdelta-chunk', token, b'SVN\0')
-        for at in range(0, len(change.text), PIECE):
-            yield command(b'textdelta-chunk', token, window(change.text[at:at + PIECE]))
+        for chunk in chunks(change.text):
+            yield command(b'textdelta-chunk', token, chunk)
         yield command(b'textdelta-end', token)
 
 
@@ -185,11 +184,18 @@ def window(text):
     return b'\0\0' + length + groups(len(instruction)) + length + instruction + text
 
 
+def plain_chunks(text):
+    """A text as a server sends it: the version, then a window of at most 65,536 bytes in each chunk."""
+    yield b'SVN\0'
+    for at in range(0, len(text), PIECE):
+        yield window(text[at:at + PIECE])
+
+
 class Edit:
     """The commands that show a revision's changes over the trees before it."""
 
-    def __init__(self, trees, changes):
-        self.trees, self.base, self.given = trees, [len(trees) - 1] if trees else [], 0
+    def __init__(self, trees, changes, chunks=plain_chunks):
+        self.trees, self.base, self.given, self.chunks = trees, [len(trees) - 1] if trees else [], 0, chunks
         self.open, self.said = [], [command(b'target-rev', len(trees))]
         self.enter((), b'open-root', self.base)
         for at, change in enumerate(changes):
@@ -237,11 +243,11 @@ class Edit:
         if kind == b'dir':
             if path:
                 self.enter(path, name, *params)
-            self.said += parts(change, old, self.open[-1][1])
+            self.said += parts(change, old, self.open[-1][1], self.chunks)
             return
         token = self.token()
         self.said.append(command(name, b'/'.join(path), self.open[-1][1], token, *params))
-        self.said += parts(change, old, token)
+        self.said += parts(change, old, token, self.chunks)
         sum = [hashlib.md5(change.text).hexdigest().encode()] if change.text is not None else []
         self.said.append(command(b'close-file', token, sum))
 
