@@ -1,5 +1,6 @@
 """What the runs over seeds share: a program's run beside what was computed, and the loop over the seeds."""
 import concurrent.futures
+import functools
 import os
 import re
 import subprocess
@@ -44,13 +45,13 @@ def ran(program, words, given, wanted, pieces=None):
         raise Differs(f'{" ".join(words)}: {found[0]} and not {wanted[0]}, {len(output)} bytes and not {len(wanted[1])}')
 
 
-def over_seeds(tried, words):
-    """Tries PROGRAM SEEDS [FIRST] side by side, prints what differs and the closing line; the status."""
+def over_seeds(tried, words, *given):
+    """Tries PROGRAM SEEDS [FIRST] side by side, each with what is given, prints what differs and the closing line; the status."""
     if len(words) not in (3, 4) or not all(it.isdigit() for it in words[2:]):
         sys.exit(f'{os.path.basename(words[0])} PROGRAM SEEDS [FIRST]')
     program, (seeds, first), passed, failed = os.path.realpath(words[1]), map(int, [*words[2:], '0'][:2]), 0, 0
     with concurrent.futures.ProcessPoolExecutor(max(1, len(os.sched_getaffinity(0)))) as pool:
-        for well, wrong in pool.map(tried, [program] * seeds, range(first, first + seeds), chunksize=8):
+        for well, wrong in pool.map(functools.partial(tried, program, *given), range(first, first + seeds), chunksize=8):
             passed += well
             failed += len(wrong)
             for it in wrong:

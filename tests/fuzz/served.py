@@ -1,0 +1,50 @@
+"""A server of the program's, and what a client of it gets."""
+import socket
+import subprocess
+from random import SystemRandom
+
+from trials import Differs
+
+
+def free_port():
+    """A port that nobody has, below those that the host gives to clients."""
+    while True:
+        port = SystemRandom().randrange(20000, 32000)
+        with socket.socket() as it:
+            try:
+                it.bind(('127.0.0.1', port))
+                return port
+            except OSError:
+                pass
+
+
+def got(port, data, pieces):
+    """What comes back where these bytes are sent and no more, and whether it was cut off."""
+    found = b''
+    with socket.create_connection(('127.0.0.1', port), timeout=60) as line:
+        line.setsockopt(socket.IPPROTO_TCP, socket.TCP_NODELAY, 1)
+        try:
+            for at in range(0, len(data), pieces):
+                line.sendall(data[at:at + pieces])
+            line.shutdown(socket.SHUT_WR)
+            while piece := line.recv(1 << 16):
+                found += piece
+        except OSError as error:
+            if isinstance(error, TimeoutError):
+                raise
+            return found, True
+    return found, False
+
+
+def listening(program, folder, connections):
+    """A port and the server that listens on it; where somebody else was given the port meanwhile, another one."""
+    for _ in range(5):
+        port = free_port()
+        words = [program, 'serve', folder, '--port', str(port), '--connections', str(connections)]
+        started = subprocess.Popen(words, stdout=subprocess.PIPE, stderr=subprocess.PIPE)
+        if started.stdout.readline() == b'listening on 127.0.0.1:%d\n' % port:
+            return port, started
+        errors = started.communicate(timeout=60)[1]
+        if errors != b'svnfleet: 49 stream failed\n':
+            break
+    raise Differs(f'serve: its line, {errors!r}')
