@@ -44,8 +44,8 @@ fn create<F: Folders>(
     ensures no_peer { IfErr result (λ e. e ≡ Refusal.PeerFailed → ⊥) }
 {
     match created(alloc, folders, folder, identity) {
-        Ok(store) => {
-            closed(folders, folder, store);
+        Ok(begun) => {
+            closed(folders, folder, begun);
             Ok(())
         }
         Err(refusal) => Err(refusal),
@@ -70,9 +70,9 @@ fn load<F: Folders, R: Read + Drop, W: Write + Drop>(
 {
     match opened(alloc, folders, folder) {
         Ok(store) => {
-            let mut store = store;
-            let done = run_load(alloc, &mut store, input, output);
-            closed(folders, folder, store);
+            let mut loaded = store;
+            let done = run_load(alloc, &mut loaded, input, output);
+            closed(folders, folder, loaded);
             done
         }
         Err(refusal) => Err(refusal),

@@ -204,8 +204,8 @@ pub fn opened<F: Folders>(
     match folders.open(alloc, folder) {
         Ok(disk) => match open_store(alloc, disk) {
             Ok(store) => Ok(store),
-            Err((refusal, disk)) => {
-                folders.close(folder, disk);
+            Err((refusal, left)) => {
+                folders.close(folder, left);
                 Err(refusal)
             }
         },
