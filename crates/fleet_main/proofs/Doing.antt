@@ -26,84 +26,110 @@ use Rattle.store_engines.specs.Loads.{Loaded, ServesOne, ServesRecords, Refused 
 use Rattle.store_engines.specs.Mirrors.{is_mirror}
 use Rattle.store_engines.specs.Ranges.{count_wanted, first_wanted, last_wanted}
 use Rattle.store_engines.specs.declared.range.RevRange.{RevRange}
-use Rattle.fleet_main.specs.Doing.{EndsWith, HandsOn, IsBegun, IsCommittedTo, IsDumped, IsKept, IsLoadedFrom, IsOpenedIn, NotCommittedTo, NotDumped, NotLoadedFrom, OfStanding, UnopenedOr, not_done, not_handed_on}
+use Rattle.fleet_main.specs.Doing.{EndsWith, HandsOn, IsBegun, IsBegunIn, IsCommittedTo, IsDumped, IsKept, IsLoadedFrom, IsOpenedIn, IsOpenedOn, NotCommittedTo, NotDumped, NotLoadedFrom, OfStanding, UnopenedOr, not_done, not_handed_on}
+use Rattle.fleet_main.specs.Loans.{TakesBack}
+use Rattle.fleet_main.specs.declared.lending.Folders.{Ghosts as FolderGhosts}
+use Rattle.fleet_main.proofs.Loans.{one_back}
 
 -- of a store whose disk is honest and hasn't failed a stop leaves what keeps its repository
 abbrev pub KeptThen : {D : Type 0} {G : Ghosts D} → RepoStore D G → Type 0
 KeptThen {G} store = G.honest (disk_of store) → ¬ HasFailed store → (left : Image) → G.may_leave (disk_of store) left → Keeps (repository_of store) left
 
-pub kept_opened : {D : Type 0} {G : Ghosts D} (honest : Type 0) (held : Image) (store : RepoStore D G) → IsOpenedIn G honest held store → KeptThen store → IsKept honest store
-kept_opened honest held store o k h = (o.rules h, k (o.rules h) o.working)
+pub kept_opened : {D : Type 0} {G : Ghosts D} (honest : Type 0) (given : D) (store : RepoStore D G) → IsOpenedOn G honest given store → KeptThen store → IsKept honest store
+kept_opened honest given store o k h = (o.rules h, k (o.rules h) o.working)
 
 -- so also after a call, unless the device failed in it
-kept_served : {D : Type 0} {G : Ghosts D} (r : Result (Unit {0}) Refusal) (honest : Type 0) (held : Image) (old new : RepoStore D G) → IsOpenedIn G honest held old → Serves old new r → KeptThen new
+kept_served : {D : Type 0} {G : Ghosts D} (r : Result (Unit {0}) Refusal) (honest : Type 0) (given : D) (old new : RepoStore D G) → IsOpenedOn G honest given old → Serves old new r → KeptThen new
     → (IsErrOf r refusal.DeviceFailed → ⊥) → IsKept honest new
-kept_served r honest held old new o s k d h =
+kept_served r honest given old new o s k d h =
     let rules = s.honest.0 (o.rules h) in
     (rules, k rules (λ f. ⊎_elim o.working d (s.working.0 f)))
 
-kept_ok : {D : Type 0} {G : Ghosts D} (honest : Type 0) (held : Image) (old new : RepoStore D G) → IsOpenedIn G honest held old → Serves old new (Ok tt) → KeptThen new → IsKept honest new
-kept_ok honest held old new o s k = kept_served (Ok tt) honest held old new o s k (λ e. true≢false (ap is_ok e))
+kept_ok : {D : Type 0} {G : Ghosts D} (honest : Type 0) (given : D) (old new : RepoStore D G) → IsOpenedOn G honest given old → Serves old new (Ok tt) → KeptThen new → IsKept honest new
+kept_ok honest given old new o s k = kept_served (Ok tt) honest given old new o s k (λ e. true≢false (ap is_ok e))
 
 abbrev refusal_in : Result (Unit {0}) Refusal → Refusal
 refusal_in (Ok u) = refusal.OutOfMemory
 refusal_in (Err e) = e
 
-kept_err : {D : Type 0} {G : Ghosts D} (e : Refusal) (honest : Type 0) (held : Image) (old new : RepoStore D G) → IsOpenedIn G honest held old → Serves old new (Err e) → KeptThen new
+kept_err : {D : Type 0} {G : Ghosts D} (e : Refusal) (honest : Type 0) (given : D) (old new : RepoStore D G) → IsOpenedOn G honest given old → Serves old new (Err e) → KeptThen new
     → e ≢ refusal.DeviceFailed → IsKept honest new
-kept_err e honest held old new o s k d = kept_served (Err e) honest held old new o s k (λ f. d (ap refusal_in f))
+kept_err e honest given old new o s k d = kept_served (Err e) honest given old new o s k (λ f. d (ap refusal_in f))
 
--- a load of the store that is opened
-pub load_done : {D : Type 0} {G : Ghosts D} (r : Result (Unit {0}) Refusal) (honest : Type 0) (held : Image) (bytes before now : Option (List ℕ)) (old new : RepoStore D G) → IsOpenedIn G honest held old
-    → OnOk r (IfSome bytes (λ read. Loaded (repository_of old) read (repository_of new) before now)) → OnOk r (is_mirror (revisions_of old) ≡ false) → Serves old new r
-    → IfSome bytes (λ read. ServesRecords (filter is_no_identity (records_of (dump read))) old new r []) → KeptThen new
-    → OnOk r (OfStanding G honest held (IsLoadedFrom honest bytes before now))
-load_done (Ok t) honest held bytes before now old new o l m s records k = (old, new, o, (m, l, (s, records), kept_ok honest held old new o s k))
-load_done (Err e) honest held bytes before now old new o l m s records k = tt
+-- what is done over the folders as they are, as they are while the disk is lent, and as they are once it is back
+module _ {F D : Type 0} (G : Ghosts D) (H : FolderGhosts F D) (folders then later : F) (folder : List ℕ) where
+  -- to the store that is opened
+  pub standing : (P : RepoStore D G → RepoStore D G → Type 0) (old new : RepoStore D G) → IsOpenedIn G H folders then folder old → TakesBack G H then later folder (disk_of new)
+      → (G.honest (disk_of old) → G.honest (disk_of new)) → P old new → OfStanding G H folders later folder P
+  standing P old new o t rules p = record {
+    given = o.0;
+    old = old;
+    new = new;
+    opened = o.2;
+    done = p;
+    back = one_back G H folders then later folder o.0 (disk_of new) o.1 (λ h. rules (o.2.rules h)) t;
+  }
 
-pub load_refused : {D : Type 0} {G : Ghosts D} (r : Result (Unit {0}) Refusal) (fails honest : Type 0) (folder : List ℕ) (held : Image) (bytes left rest before now : Option (List ℕ)) (failed : Bool) (old new : RepoStore D G)
-    → IsOpenedIn G honest held old
-    → IfErr r (λ e. is_mirror (revisions_of old) ≡ false → IfSome bytes (λ read. LoadRefused (repository_of old) read new before now failed e))
-    → (is_mirror (revisions_of old) ≡ true → IfErr r (λ e. (e ≡ refusal.ReadOnly) × (repository_of new ≡ repository_of old) × (left ≡ rest) × (now ≡ before))) → Serves old new r
-    → IfSome bytes (λ read. ServesRecords (filter is_no_identity (records_of (dump read))) old new r []) → KeptThen new
-    → IfErr r (λ e. UnopenedOr G fails honest folder held before now e (NotLoadedFrom honest bytes before now failed e))
-load_refused (Ok t) fails honest folder held bytes left rest before now failed old new o h m s records k = tt
-load_refused (Err e) fails honest folder held bytes left rest before now failed old new o h m s records k =
-    inr (old, new, o, (h, (λ is. let n = m is in (n.0, n.1, n.3)), (s, records), kept_err e honest held old new o s k))
+  -- a load
+  pub load_done : (r : Result (Unit {0}) Refusal) (bytes before now : Option (List ℕ)) (old new : RepoStore D G) → IsOpenedIn G H folders then folder old
+      → OnOk r (IfSome bytes (λ read. Loaded (repository_of old) read (repository_of new) before now)) → OnOk r (is_mirror (revisions_of old) ≡ false) → Serves old new r
+      → IfSome bytes (λ read. ServesRecords (filter is_no_identity (records_of (dump read))) old new r []) → KeptThen new → TakesBack G H then later folder (disk_of new)
+      → OnOk r (OfStanding G H folders later folder (IsLoadedFrom (H.honest folders) bytes before now))
+  load_done (Ok t) bytes before now old new o l m s records k back =
+      standing (IsLoadedFrom (H.honest folders) bytes before now) old new o back s.honest.0 (m, l, (s, records), kept_ok (H.honest folders) o.0 old new o.2 s k)
+  load_done (Err e) bytes before now old new o l m s records k back = tt
 
--- a commit of a directory to it
-pub directory_done : {D : Type 0} {G : Ghosts D} (r : Result (Unit {0}) Refusal) (honest : Type 0) (held : Image) (bytes message : List ℕ) (moment : DateTime) (before now : Option (List ℕ)) (old new : RepoStore D G)
-    → IsOpenedIn G honest held old → OnOk r (IsCommitted (repository_of old) bytes message moment (repository_of new) before now) → Serves old new r
-    → ((place : Path) → path_read bytes ≡ Ok place → ServesOne (directory_entry (revisions_of old) place message moment) old new r) → KeptThen new
-    → OnOk r (OfStanding G honest held (IsCommittedTo honest bytes message moment before now))
-directory_done (Ok t) honest held bytes message moment before now old new o d s entry k = (old, new, o, (d, (s, entry), kept_ok honest held old new o s k))
-directory_done (Err e) honest held bytes message moment before now old new o d s entry k = tt
+  pub load_refused : (r : Result (Unit {0}) Refusal) (bytes left rest before now : Option (List ℕ)) (failed : Bool) (old new : RepoStore D G) → IsOpenedIn G H folders then folder old
+      → IfErr r (λ e. is_mirror (revisions_of old) ≡ false → IfSome bytes (λ read. LoadRefused (repository_of old) read new before now failed e))
+      → (is_mirror (revisions_of old) ≡ true → IfErr r (λ e. (e ≡ refusal.ReadOnly) × (repository_of new ≡ repository_of old) × (left ≡ rest) × (now ≡ before))) → Serves old new r
+      → IfSome bytes (λ read. ServesRecords (filter is_no_identity (records_of (dump read))) old new r []) → KeptThen new → TakesBack G H then later folder (disk_of new)
+      → IfErr r (λ e. UnopenedOr G H folders later folder before now e (NotLoadedFrom (H.honest folders) bytes before now failed e))
+  load_refused (Ok t) bytes left rest before now failed old new o h m s records k back = tt
+  load_refused (Err e) bytes left rest before now failed old new o h m s records k back =
+      inr (standing (NotLoadedFrom (H.honest folders) bytes before now failed e) old new o back s.honest.0
+      (h, (λ is. let n = m is in (n.0, n.1, n.3)), (s, records), kept_err e (H.honest folders) o.0 old new o.2 s k))
 
-pub directory_refused : {D : Type 0} {G : Ghosts D} (r : Result (Unit {0}) Refusal) (fails honest : Type 0) (folder : List ℕ) (held : Image) (bytes message : List ℕ) (moment : DateTime) (before now : Option (List ℕ)) (failed : Bool)
-    (old new : RepoStore D G) → IsOpenedIn G honest held old → IfErr r (NotCommitted (repository_of old) bytes message moment new before now failed) → Serves old new r
-    → ((place : Path) → path_read bytes ≡ Ok place → ServesOne (directory_entry (revisions_of old) place message moment) old new r) → KeptThen new
-    → IfErr r (λ e. UnopenedOr G fails honest folder held before now e (NotCommittedTo honest bytes message moment before now failed e))
-directory_refused (Ok t) fails honest folder held bytes message moment before now failed old new o d s entry k = tt
-directory_refused (Err e) fails honest folder held bytes message moment before now failed old new o d s entry k = inr (old, new, o, (d, (s, entry), kept_err e honest held old new o s k))
+  -- a commit of a directory
+  pub directory_done : (r : Result (Unit {0}) Refusal) (bytes message : List ℕ) (moment : DateTime) (before now : Option (List ℕ)) (old new : RepoStore D G) → IsOpenedIn G H folders then folder old
+      → OnOk r (IsCommitted (repository_of old) bytes message moment (repository_of new) before now) → Serves old new r
+      → ((place : Path) → path_read bytes ≡ Ok place → ServesOne (directory_entry (revisions_of old) place message moment) old new r) → KeptThen new → TakesBack G H then later folder (disk_of new)
+      → OnOk r (OfStanding G H folders later folder (IsCommittedTo (H.honest folders) bytes message moment before now))
+  directory_done (Ok t) bytes message moment before now old new o d s entry k back =
+      standing (IsCommittedTo (H.honest folders) bytes message moment before now) old new o back s.honest.0 (d, (s, entry), kept_ok (H.honest folders) o.0 old new o.2 s k)
+  directory_done (Err e) bytes message moment before now old new o d s entry k back = tt
 
--- a dump of it
-pub dump_done : {D T : Type 0} {G : Ghosts D} (r : Result T Refusal) (honest : Type 0) (held : Image) (range : Option RevRange) (before now : Option (List ℕ)) (store : RepoStore D G) → IsOpenedIn G honest held store
-    → OnOk r (last_wanted (repository_of store) range < length (revisions_of store))
-    → OnOk r (Appends before now (dump_of (repository_of store) (first_wanted range) (count_wanted (repository_of store) range))) → KeptThen store
-    → OnOk r (OfStanding G honest held (IsDumped honest range before now))
-dump_done (Ok t) honest held range before now store o there written k = (store, store, o, (refl, there, written, kept_opened honest held store o k))
-dump_done (Err e) honest held range before now store o there written k = tt
+  pub directory_refused : (r : Result (Unit {0}) Refusal) (bytes message : List ℕ) (moment : DateTime) (before now : Option (List ℕ)) (failed : Bool) (old new : RepoStore D G) → IsOpenedIn G H folders then folder old
+      → IfErr r (NotCommitted (repository_of old) bytes message moment new before now failed) → Serves old new r
+      → ((place : Path) → path_read bytes ≡ Ok place → ServesOne (directory_entry (revisions_of old) place message moment) old new r) → KeptThen new → TakesBack G H then later folder (disk_of new)
+      → IfErr r (λ e. UnopenedOr G H folders later folder before now e (NotCommittedTo (H.honest folders) bytes message moment before now failed e))
+  directory_refused (Ok t) bytes message moment before now failed old new o d s entry k back = tt
+  directory_refused (Err e) bytes message moment before now failed old new o d s entry k back =
+      inr (standing (NotCommittedTo (H.honest folders) bytes message moment before now failed e) old new o back s.honest.0 (d, (s, entry), kept_err e (H.honest folders) o.0 old new o.2 s k))
 
-pub dump_refused : {D T : Type 0} {G : Ghosts D} (r : Result T Refusal) (fails honest : Type 0) (folder : List ℕ) (held : Image) (range : Option RevRange) (before now : Option (List ℕ)) (failed : Bool) (store : RepoStore D G)
-    → IsOpenedIn G honest held store → IfErr r (DumpStops (repository_of store) range before now failed) → KeptThen store
-    → IfErr r (λ e. UnopenedOr G fails honest folder held before now e (NotDumped honest range before now failed e))
-dump_refused (Ok t) fails honest folder held range before now failed store o h k = tt
-dump_refused (Err e) fails honest folder held range before now failed store o h k = inr (store, store, o, (refl, h, kept_opened honest held store o k))
+  -- a dump
+  pub dump_done : {T : Type 0} (r : Result T Refusal) (range : Option RevRange) (before now : Option (List ℕ)) (store : RepoStore D G) → IsOpenedIn G H folders then folder store
+      → OnOk r (last_wanted (repository_of store) range < length (revisions_of store))
+      → OnOk r (Appends before now (dump_of (repository_of store) (first_wanted range) (count_wanted (repository_of store) range))) → KeptThen store → TakesBack G H then later folder (disk_of store)
+      → OnOk r (OfStanding G H folders later folder (IsDumped (H.honest folders) range before now))
+  dump_done (Ok t) range before now store o there written k back =
+      standing (IsDumped (H.honest folders) range before now) store store o back (λ h. h) (refl, there, written, kept_opened (H.honest folders) o.0 store o.2 k)
+  dump_done (Err e) range before now store o there written k back = tt
 
--- a repository is begun
-pub begun : {D : Type 0} {G : Ghosts D} (honest : Type 0) (held : Image) (identity : List ℕ) (store : RepoStore D G) → (honest → held ≡ no_bytes) → repository_of store ≡ fresh identity → ¬ HasFailed store
-    → (honest → G.honest (disk_of store)) → KeptThen store → IsBegun G honest held identity
-begun honest held identity store empty made working rules k = (empty, (store, made, λ h. (rules h, k (rules h) working)))
+  pub dump_refused : {T : Type 0} (r : Result T Refusal) (range : Option RevRange) (before now : Option (List ℕ)) (failed : Bool) (store : RepoStore D G) → IsOpenedIn G H folders then folder store
+      → IfErr r (DumpStops (repository_of store) range before now failed) → KeptThen store → TakesBack G H then later folder (disk_of store)
+      → IfErr r (λ e. UnopenedOr G H folders later folder before now e (NotDumped (H.honest folders) range before now failed e))
+  dump_refused (Ok t) range before now failed store o h k back = tt
+  dump_refused (Err e) range before now failed store o h k back =
+      inr (standing (NotDumped (H.honest folders) range before now failed e) store store o back (λ h. h) (refl, h, kept_opened (H.honest folders) o.0 store o.2 k))
+
+  -- a repository is begun
+  pub begun : (identity : List ℕ) (store : RepoStore D G) → IsBegunIn G H folders then folder identity store → TakesBack G H then later folder (disk_of store) → IsBegun G H folders later folder identity
+  begun identity store b back = record {
+    given = b.0;
+    store = store;
+    begun = b.2;
+    back = one_back G H folders then later folder b.0 (disk_of store) b.1 (λ h. (b.2.kept h).0) back;
+  }
 
 -- what is done is handed on
 pub handed_on : {T : Type 0} (r : Result T Refusal) (P : Option (List ℕ) → Type 0) (written now : Option (List ℕ)) → P written → HandedOn written now → OnOk r (HandsOn P now)
@@ -119,25 +145,25 @@ pub refused_then : (r : Result (Unit {0}) Refusal) (P : Option (List ℕ) → Ty
     → N written old e → HandedOn written now → Flagged r old new → EndsWith P N now new e
 refused_then r P N written now old new e h k f = not_done written old h k (failed_stays r old new f)
 
--- a folder by its text
-pub done_at : {T D : Type 0} (G : Ghosts D) (r : Result T Refusal) (honest : Type 0) (holds : List ℕ → Image) (P : RepoStore D G → RepoStore D G → Type 0) (a b : List ℕ) → a ≡ b
-    → OnOk r (OfStanding G honest (holds a) P) → OnOk r (OfStanding G honest (holds b) P)
-done_at G r honest holds P a b same h = subst (λ t. OnOk r (OfStanding G honest (holds t) P)) same h
+-- what is so of an answer, beside what is so anyway
+pub ok_and : {T : Type 0} (r : Result T Refusal) (A B : Type 0) → OnOk r A → B → OnOk r (A × B)
+ok_and (Ok t) A B a b = (a, b)
+ok_and (Err e) A B a b = tt
 
-pub refused_at : {T D : Type 0} (G : Ghosts D) (r : Result T Refusal) (fails honest : Type 0) (holds : List ℕ → Image) (before now : Option (List ℕ)) (N : Refusal → RepoStore D G → RepoStore D G → Type 0) (a b : List ℕ) → a ≡ b
-    → IfErr r (λ e. UnopenedOr G fails honest a (holds a) before now e (N e)) → IfErr r (λ e. UnopenedOr G fails honest b (holds b) before now e (N e))
-refused_at G r fails honest holds before now N a b same h = subst (λ t. IfErr r (λ e. UnopenedOr G fails honest t (holds t) before now e (N e))) same h
+pub err_and : {T : Type 0} (r : Result T Refusal) (P : Refusal → Type 0) (B : Type 0) → IfErr r P → B → IfErr r (λ e. P e × B)
+err_and (Ok t) P B p b = tt
+err_and (Err e) P B p b = (p, b)
+
+-- a folder by its text
+pub done_at : {T : Type 0} (r : Result T Refusal) (Q : List ℕ → Type 0) (a b : List ℕ) → a ≡ b → OnOk r (Q a) → OnOk r (Q b)
+done_at r Q a b same h = subst (λ t. OnOk r (Q t)) same h
+
+pub refused_at : {T : Type 0} (r : Result T Refusal) (Q : List ℕ → Refusal → Type 0) (a b : List ℕ) → a ≡ b → IfErr r (Q a) → IfErr r (Q b)
+refused_at r Q a b same h = subst (λ t. IfErr r (Q t)) same h
 
 -- a directory by the texts of its folder, path and message
-pub committed_at : {T D : Type 0} (G : Ghosts D) (r : Result T Refusal) (honest : Type 0) (holds : List ℕ → Image) (P : List ℕ → List ℕ → RepoStore D G → RepoStore D G → Type 0) (a b c d i j : List ℕ) → a ≡ b → c ≡ d → i ≡ j
-    → OnOk r (OfStanding G honest (holds a) (P c i)) → OnOk r (OfStanding G honest (holds b) (P d j))
-committed_at G r honest holds P a b c d i j folder path message h =
-    done_at G r honest holds (P d j) a b folder (subst (λ m. OnOk r (OfStanding G honest (holds a) (P d m))) message (subst (λ p. OnOk r (OfStanding G honest (holds a) (P p i))) path h))
+pub committed_at : {T : Type 0} (r : Result T Refusal) (Q : List ℕ → List ℕ → List ℕ → Type 0) (a b c d i j : List ℕ) → a ≡ b → c ≡ d → i ≡ j → OnOk r (Q a c i) → OnOk r (Q b d j)
+committed_at r Q a b c d i j folder path message h = subst (λ t. OnOk r (Q t d j)) folder (subst (λ m. OnOk r (Q a d m)) message (subst (λ p. OnOk r (Q a p i)) path h))
 
-pub not_committed_at : {T D : Type 0} (G : Ghosts D) (r : Result T Refusal) (fails honest : Type 0) (holds : List ℕ → Image) (before now : Option (List ℕ))
-    (N : List ℕ → List ℕ → Refusal → RepoStore D G → RepoStore D G → Type 0) (a b c d i j : List ℕ)
-    → a ≡ b → c ≡ d → i ≡ j → IfErr r (λ e. UnopenedOr G fails honest a (holds a) before now e (N c i e)) → IfErr r (λ e. UnopenedOr G fails honest b (holds b) before now e (N d j e))
-not_committed_at G r fails honest holds before now N a b c d i j folder path message h =
-    refused_at G r fails honest holds before now (N d j) a b folder
-    (subst (λ m. IfErr r (λ e. UnopenedOr G fails honest a (holds a) before now e (N d m e))) message
-    (subst (λ p. IfErr r (λ e. UnopenedOr G fails honest a (holds a) before now e (N p i e))) path h))
+pub not_committed_at : {T : Type 0} (r : Result T Refusal) (Q : List ℕ → List ℕ → List ℕ → Refusal → Type 0) (a b c d i j : List ℕ) → a ≡ b → c ≡ d → i ≡ j → IfErr r (Q a c i) → IfErr r (Q b d j)
+not_committed_at r Q a b c d i j folder path message h = subst (λ t. IfErr r (Q t d j)) folder (subst (λ m. IfErr r (Q a d m)) message (subst (λ p. IfErr r (Q a p i)) path h))

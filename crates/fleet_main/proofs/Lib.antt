@@ -2,6 +2,7 @@ pub mod Above
 pub mod Doing
 pub mod Dumping
 pub mod Lines
+pub mod Loans
 pub mod Mirroring
 pub mod Opening
 pub mod Pulled

@@ -4,12 +4,11 @@ use Rattle.std.specs.Result.{OnOk}
 use Rattle.std.specs.List.{flat_map}
 use Rattle.std.specs.Io.KnownBytes.{Appends}
 use Rattle.std.proofs.lemmas.Bool.{true≢false}
-use Rattle.fleet_disk.specs.Image.{Image}
 use Rattle.fleet_disk.specs.declared.disk.Disk.{Ghosts}
 use Rattle.node_base.specs.declared.refusal.Refusal.{Refusal}
 use Rattle.node_base.specs.declared.refusal.Refusal.TheVariants as refusal
 use Rattle.repo_core.specs.Repository.{head_of, props_at}
-use Rattle.repo_store.specs.Words.{revisions_of, HasFailed}
+use Rattle.repo_store.specs.Words.{disk_of, revisions_of, HasFailed}
 use Rattle.repo_store.specs.declared.store.RepoStore.{RepoStore}
 use Rattle.sync_core.specs.declared.fault.SyncFault.{SyncFault}
 use Rattle.sync_job.specs.Fronts.{accepted_in, counted_in}
@@ -18,9 +17,12 @@ use Rattle.sync_job.specs.declared.report.Told.{Told}
 use Rattle.mirror_engines.specs.Infos.{info_fault, info_text}
 use Rattle.mirror_engines.specs.Lines.{line_of, IsPrinted, Printed, Lost}
 use Rattle.mirror_engines.specs.Runs.{answer_of, Serves}
-use Rattle.fleet_main.specs.Doing.{IsKept, IsOpenedIn, IsToldOf, IsWorkedOver, NoSourceOr, NotKept, NotToldOf, NotWorkedOn, NotWorkedOver, OfBoth, OfStanding, OverSource, UnopenedBoth, UnopenedOr, WorkedOn, no_mirror, no_source, both}
-use Rattle.fleet_main.specs.Opening.{DiskFails, NotOpened}
-use Rattle.fleet_main.proofs.Doing.{KeptThen, kept_opened}
+use Rattle.fleet_main.specs.Doing.{IsKept, IsOpenedIn, IsToldOf, IsWorkedOver, NoSourceOr, NotKept, NotToldOf, NotWorkedOn, NotWorkedOver, OfBoth, OfStanding, OverSource, UnopenedBoth, UnopenedOr, WorkedOn, no_source, both}
+use Rattle.fleet_main.specs.Loans.{TakesBack, only_of}
+use Rattle.fleet_main.specs.declared.lending.Folders.{Ghosts as FolderGhosts}
+use Rattle.fleet_main.proofs.Doing.{KeptThen, kept_opened, standing}
+use Rattle.fleet_main.proofs.Loans.{one_back, one_more_back}
+use Rattle.fleet_main.proofs.Opening.{not_opened_under, opened_under, rose_between}
 
 -- a run that answers well has ended so, and lost no line
 well_ended : (ended : Result (Unit {0}) SyncFault) (lost : Bool) → Ok tt ≡ answer_of ended lost → (ended ≡ Ok tt) × (lost ≡ false)
@@ -33,62 +35,105 @@ all_printed before now failed lost told none (Printed l a) = a
 all_printed before now failed lost told none (Lost l f) = absurd (true≢false (sym l ∙ none))
 
 pub worked_done : {D : Type 0} {G : Ghosts D} (IsRun : List Spoken → Result (Unit {0}) SyncFault → Type 0) (r : Result (Unit {0}) Refusal) (old new : RepoStore D G) (before now : Option (List ℕ)) (failed : Bool)
-    → Serves IsRun old new before now failed r → OnOk r (WorkedOn IsRun before now old)
+    → Serves IsRun old new before now failed r → OnOk r (WorkedOn IsRun before now old new)
 worked_done IsRun (Ok u) old new before now failed s =
     let e = well_ended s.ended s.lost s.answer in
-    λ works. (new, record { said = s.said; run = subst (λ x. IsRun s.said x) e.0 s.run; printed = all_printed before now failed s.lost (told_in s.said) e.1 s.printed; left = s.left works })
+    λ works. record { said = s.said; run = subst (λ x. IsRun s.said x) e.0 s.run; printed = all_printed before now failed s.lost (told_in s.said) e.1 s.printed; left = s.left works }
 worked_done IsRun (Err x) old new before now failed s = tt
 
 pub worked_refused : {D : Type 0} {G : Ghosts D} (IsRun : List Spoken → Result (Unit {0}) SyncFault → Type 0) (r : Result (Unit {0}) Refusal) (old new : RepoStore D G) (before now : Option (List ℕ)) (failed : Bool)
-    → Serves IsRun old new before now failed r → IfErr r (λ e. NotWorkedOn IsRun before now failed e old)
+    → Serves IsRun old new before now failed r → IfErr r (λ e. NotWorkedOn IsRun before now failed e old new)
 worked_refused IsRun (Ok u) old new before now failed s = tt
 worked_refused IsRun (Err x) old new before now failed s =
-    λ works. (new, record { said = s.said; ended = s.ended; run = s.run; lost = s.lost; printed = s.printed; answer = s.answer; left = s.left works })
+    λ works. record { said = s.said; ended = s.ended; run = s.run; lost = s.lost; printed = s.printed; answer = s.answer; left = s.left works }
 
--- over the source that is opened
-pub source_done : {D F : Type 0} {G : Ghosts D} (honest : F → Type 0) (holds : F → List ℕ → Image) (folders : F) (source : List ℕ) (IsRun : List Spoken → Result (Unit {0}) SyncFault → Type 0) (r : Result (Unit {0}) Refusal)
-    (old master : RepoStore D G) (before now : Option (List ℕ)) → IsOpenedIn G (honest folders) (holds folders source) master → KeptThen master → OnOk r (WorkedOn IsRun before now old)
-    → OnOk r (OverSource G honest holds folders source old (IsWorkedOver IsRun before now))
-source_done honest holds folders source IsRun (Ok u) old master before now o k w = λ works. let x = w works in (x.0, master, o, x.1, kept_opened (honest folders) (holds folders source) master o k)
-source_done honest holds folders source IsRun (Err e) old master before now o k w = tt
+pub worked_rules : {D : Type 0} {G : Ghosts D} (IsRun : List Spoken → Result (Unit {0}) SyncFault → Type 0) (r : Result (Unit {0}) Refusal) (old new : RepoStore D G) (before now : Option (List ℕ)) (failed : Bool)
+    → Serves IsRun old new before now failed r → ¬ HasFailed old → G.honest (disk_of old) → G.honest (disk_of new)
+worked_rules IsRun r old new before now failed s works h = (s.left works).honest.0 h
 
-pub source_refused : {D F : Type 0} {G : Ghosts D} (failures : F → ℕ) (honest : F → Type 0) (holds : F → List ℕ → Image) (folders later : F) (source : List ℕ) (IsRun : List Spoken → Result (Unit {0}) SyncFault → Type 0)
-    (r : Result (Unit {0}) Refusal) (old master : RepoStore D G) (before now : Option (List ℕ)) (failed : Bool) → IsOpenedIn G (honest folders) (holds folders source) master → KeptThen master
-    → IfErr r (λ e. NotWorkedOn IsRun before now failed e old) → IfErr r (λ e. NoSourceOr G failures honest holds folders later source old before now e (NotWorkedOver IsRun before now failed e))
-source_refused failures honest holds folders later source IsRun (Ok u) old master before now failed o k w = tt
-source_refused failures honest holds folders later source IsRun (Err e) old master before now failed o k w =
-    inr (λ works. let x = w works in (x.0, master, o, x.1, kept_opened (honest folders) (holds folders source) master o k))
+-- over the source that is opened, whose disk is back then
+module _ {F D : Type 0} (G : Ghosts D) (H : FolderGhosts F D) (folders then later : F) (source : List ℕ) (old new master : RepoStore D G) (P : RepoStore D G → RepoStore D G → Type 0) where
+  over_source : IsOpenedIn G H folders then source master → KeptThen master → TakesBack G H then later source (disk_of master) → (¬ HasFailed old → P old new) → OverSource G H folders later source old new P
+  over_source o k t w = record {
+    given = o.0;
+    master = master;
+    opened = o.2;
+    kept = kept_opened (H.honest folders) o.0 master o.2 k;
+    back = one_back G H folders then later source o.0 (disk_of master) o.1 o.2.rules t;
+    done = w;
+  }
 
--- and over the mirror that is opened before it
-pub both_done : {D F : Type 0} {G : Ghosts D} (honest : F → Type 0) (holds : F → List ℕ → Image) (folders between : F) (mirror source : List ℕ) (P : RepoStore D G → RepoStore D G → Type 0) (r : Result (Unit {0}) Refusal)
-    (old : RepoStore D G) → IsOpenedIn G (honest folders) (holds folders mirror) old → OnOk r (OverSource G honest holds between source old P) → OnOk r (OfBoth G honest holds folders mirror source P)
-both_done honest holds folders between mirror source P (Ok u) old o w = let x = w o.working in (between, old, x.0, x.1, o, x.2, x.3, x.4)
-both_done honest holds folders between mirror source P (Err e) old o w = tt
+pub source_done : {F D : Type 0} (G : Ghosts D) (H : FolderGhosts F D) (folders then later : F) (source : List ℕ) (IsRun : List Spoken → Result (Unit {0}) SyncFault → Type 0) (r : Result (Unit {0}) Refusal)
+    (old new master : RepoStore D G) (before now : Option (List ℕ)) → IsOpenedIn G H folders then source master → KeptThen master → TakesBack G H then later source (disk_of master) → OnOk r (WorkedOn IsRun before now old new)
+    → OnOk r (OverSource G H folders later source old new (IsWorkedOver IsRun before now))
+source_done G H folders then later source IsRun (Ok u) old new master before now o k t w = over_source G H folders then later source old new master (IsWorkedOver IsRun before now) o k t w
+source_done G H folders then later source IsRun (Err e) old new master before now o k t w = tt
 
-both_or : {D F : Type 0} {G : Ghosts D} (failures : F → ℕ) (honest : F → Type 0) (holds : F → List ℕ → Image) (folders between later : F) (mirror source : List ℕ) (P : RepoStore D G → RepoStore D G → Type 0) (before now : Option (List ℕ))
-    (e : Refusal) (old : RepoStore D G) → IsOpenedIn G (honest folders) (holds folders mirror) old → KeptThen old → NoSourceOr G failures honest holds between later source old before now e P
-    → UnopenedBoth G failures honest holds folders later mirror source before now e P
-both_or failures honest holds folders between later mirror source P before now e old o k (inl n) = no_source between old o (kept_opened (honest folders) (holds folders mirror) old o k) n.0 n.1
-both_or failures honest holds folders between later mirror source P before now e old o k (inr w) = let x = w o.working in both (between, old, x.0, x.1, o, x.2, x.3, x.4)
+pub source_refused : {F D : Type 0} (G : Ghosts D) (H : FolderGhosts F D) (folders then later : F) (source : List ℕ) (IsRun : List Spoken → Result (Unit {0}) SyncFault → Type 0) (r : Result (Unit {0}) Refusal)
+    (old new master : RepoStore D G) (before now : Option (List ℕ)) (failed : Bool) → IsOpenedIn G H folders then source master → KeptThen master → TakesBack G H then later source (disk_of master)
+    → IfErr r (λ e. NotWorkedOn IsRun before now failed e old new) → IfErr r (λ e. NoSourceOr G H folders later source old new before now e (NotWorkedOver IsRun before now failed e))
+source_refused G H folders then later source IsRun (Ok u) old new master before now failed o k t w = tt
+source_refused G H folders then later source IsRun (Err e) old new master before now failed o k t w =
+    inr (over_source G H folders then later source old new master (NotWorkedOver IsRun before now failed e) o k t w)
 
-pub both_refused : {D F : Type 0} {G : Ghosts D} (failures : F → ℕ) (honest : F → Type 0) (holds : F → List ℕ → Image) (folders between later : F) (mirror source : List ℕ) (P : Refusal → RepoStore D G → RepoStore D G → Type 0)
-    (r : Result (Unit {0}) Refusal) (before now : Option (List ℕ)) (old : RepoStore D G) → IsOpenedIn G (honest folders) (holds folders mirror) old → KeptThen old
-    → IfErr r (λ e. NoSourceOr G failures honest holds between later source old before now e (P e)) → IfErr r (λ e. UnopenedBoth G failures honest holds folders later mirror source before now e (P e))
-both_refused failures honest holds folders between later mirror source P (Ok u) before now old o k w = tt
-both_refused failures honest holds folders between later mirror source P (Err e) before now old o k w = both_or failures honest holds folders between later mirror source (P e) before now e old o k w
+-- and over the mirror that is opened before it, and whose disk is back last
+module _ {F D : Type 0} (G : Ghosts D) (H : FolderGhosts F D) (folders then between later : F) (mirror source : List ℕ) (old new : RepoStore D G) where
+  both_stand : (P : RepoStore D G → RepoStore D G → Type 0) → IsOpenedIn G H folders then mirror old → OverSource G H then between source old new P → TakesBack G H between later mirror (disk_of new)
+      → (¬ HasFailed old → G.honest (disk_of old) → G.honest (disk_of new)) → OfBoth G H folders later mirror source P
+  both_stand P o w t rules = record {
+    given = o.0;
+    old = old;
+    new = new;
+    given_source = w.given;
+    master = w.master;
+    opened = o.2;
+    opened_source = opened_under G (H.honest then) (H.honest folders) w.given w.master o.1.honest w.opened;
+    done = w.done o.2.working;
+    kept = λ h. w.kept (o.1.honest h);
+    back = one_more_back G H folders then between later mirror o.0 (disk_of new) (only_of source w.given (disk_of w.master)) o.1 w.back (λ h. rules o.2.working (o.2.rules h)) t;
+  }
+
+  pub both_done : (P : RepoStore D G → RepoStore D G → Type 0) (r : Result (Unit {0}) Refusal) → IsOpenedIn G H folders then mirror old → OnOk r (OverSource G H then between source old new P)
+      → TakesBack G H between later mirror (disk_of new) → (¬ HasFailed old → G.honest (disk_of old) → G.honest (disk_of new)) → OnOk r (OfBoth G H folders later mirror source P)
+  both_done P (Ok u) o w t rules = both_stand P o w t rules
+  both_done P (Err e) o w t rules = tt
+
+  both_or : (P : RepoStore D G → RepoStore D G → Type 0) (before now : Option (List ℕ)) (e : Refusal) → IsOpenedIn G H folders then mirror old → KeptThen new → NoSourceOr G H then between source old new before now e P
+      → TakesBack G H between later mirror (disk_of new) → (¬ HasFailed old → G.honest (disk_of old) → G.honest (disk_of new)) → UnopenedBoth G H folders later mirror source before now e P
+  both_or P before now e o k (inl n) t rules =
+      no_source (record {
+        given = o.0;
+        store = old;
+        loans = n.0.0;
+        opened = o.2;
+        kept = kept_opened (H.honest folders) o.0 old o.2 (subst KeptThen n.1 k);
+        why = not_opened_under G (H.honest then) (H.honest folders) _ _ source n.0.0 e o.1.honest
+            (rose_between (H.failures folders) (H.failures then) (H.failures between) (H.failures later) o.1.later t.later) n.0.1;
+        back = one_more_back G H folders then between later mirror o.0 (disk_of old) n.0.0 o.1 n.0.2 o.2.rules (subst (λ (s : RepoStore D G). TakesBack G H between later mirror (disk_of s)) n.1 t);
+      }) n.2
+  both_or P before now e o k (inr w) t rules = both (both_stand P o w t rules)
+
+  pub both_refused : (P : Refusal → RepoStore D G → RepoStore D G → Type 0) (r : Result (Unit {0}) Refusal) (before now : Option (List ℕ)) → IsOpenedIn G H folders then mirror old → KeptThen new
+      → IfErr r (λ e. NoSourceOr G H then between source old new before now e (P e)) → TakesBack G H between later mirror (disk_of new) → (¬ HasFailed old → G.honest (disk_of old) → G.honest (disk_of new))
+      → IfErr r (λ e. UnopenedBoth G H folders later mirror source before now e (P e))
+  both_refused P (Ok u) before now o k w t rules = tt
+  both_refused P (Err e) before now o k w t rules = both_or (P e) before now e o k w t rules
 
 -- how a mirror stands is told
-pub told_done : {D : Type 0} {G : Ghosts D} (r : Result (Unit {0}) Refusal) (honest : Type 0) (held : Image) (before now : Option (List ℕ)) (store : RepoStore D G) → IsOpenedIn G honest held store
-    → OnOk r (info_fault (props_at (revisions_of store) 0) (head_of (revisions_of store)) ≡ None) → OnOk r (Appends before now (info_text (props_at (revisions_of store) 0))) → KeptThen store
-    → OnOk r (OfStanding G honest held (IsToldOf honest before now))
-told_done (Ok u) honest held before now store o fine text k = (store, store, o, (refl, fine, text, kept_opened honest held store o k))
-told_done (Err e) honest held before now store o fine text k = tt
+module _ {F D : Type 0} (G : Ghosts D) (H : FolderGhosts F D) (folders then later : F) (folder : List ℕ) (before now : Option (List ℕ)) (store : RepoStore D G) where
+  pub told_done : (r : Result (Unit {0}) Refusal) → IsOpenedIn G H folders then folder store → OnOk r (info_fault (props_at (revisions_of store) 0) (head_of (revisions_of store)) ≡ None)
+      → OnOk r (Appends before now (info_text (props_at (revisions_of store) 0))) → KeptThen store → TakesBack G H then later folder (disk_of store)
+      → OnOk r (OfStanding G H folders later folder (IsToldOf (H.honest folders) before now))
+  told_done (Ok u) o fine text k t =
+      standing G H folders then later folder (IsToldOf (H.honest folders) before now) store store o t (λ h. h) (refl, fine, text, kept_opened (H.honest folders) o.0 store o.2 k)
+  told_done (Err e) o fine text k t = tt
 
-pub told_refused : {D : Type 0} {G : Ghosts D} (r : Result (Unit {0}) Refusal) (fails honest : Type 0) (folder : List ℕ) (held : Image) (before now : Option (List ℕ)) (failed : Bool) (store : RepoStore D G) → IsOpenedIn G honest held store
-    → IfErr r (λ e. ((info_fault (props_at (revisions_of store) 0) (head_of (revisions_of store)) ≡ Some e) × (now ≡ before)) ⊎ ((e ≡ refusal.PeerFailed) × (failed ≡ true))) → KeptThen store
-    → IfErr r (λ e. UnopenedOr G fails honest folder held before now e (NotToldOf honest before now failed e))
-told_refused (Ok u) fails honest folder held before now failed store o h k = tt
-told_refused (Err e) fails honest folder held before now failed store o h k = inr (store, store, o, (refl, h, kept_opened honest held store o k))
+  pub told_refused : (r : Result (Unit {0}) Refusal) (failed : Bool) → IsOpenedIn G H folders then folder store
+      → IfErr r (λ e. ((info_fault (props_at (revisions_of store) 0) (head_of (revisions_of store)) ≡ Some e) × (now ≡ before)) ⊎ ((e ≡ refusal.PeerFailed) × (failed ≡ true))) → KeptThen store
+      → TakesBack G H then later folder (disk_of store) → IfErr r (λ e. UnopenedOr G H folders later folder before now e (NotToldOf (H.honest folders) before now failed e))
+  told_refused (Ok u) failed o h k t = tt
+  told_refused (Err e) failed o h k t =
+      inr (standing G H folders then later folder (NotToldOf (H.honest folders) before now failed e) store store o t (λ h. h) (refl, h, kept_opened (H.honest folders) o.0 store o.2 k))
 
 -- two folders by their texts
 pub both_at : {T : Type 0} (r : Result T Refusal) (Q : List ℕ → List ℕ → Type 0) (a b c d : List ℕ) → a ≡ b → c ≡ d → OnOk r (Q a c) → OnOk r (Q b d)

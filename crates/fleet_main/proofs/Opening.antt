@@ -1,58 +1,146 @@
--- Why no repository is begun or opened: by the fault of a folder, and by that of a store.
-use Rattle.std.proofs.Common.{◌≡◌, ◌≢◌, ◌≤◌, ◌↔◌, ◌⊎◌, ℕ, List, Result, Ok, Err, inl, inr, refl, ◌∙◌, subst, IfErr, IfOk}
+-- Why no repository is begun or opened, by the fault of a folder and by that of a store, and what is left then.
+use Rattle.std.proofs.Common.{◌≡◌, ◌≢◌, ◌≤◌, ◌↔◌, ◌⊎◌, ℕ, List, [], inl, inr, refl, sym, subst, arith}
 use Rattle.fleet_disk.specs.Image.{Image, no_bytes}
-use Rattle.fleet_disk.specs.Rules.{LeavesOnly, Rose}
+use Rattle.fleet_disk.specs.Rules.{LeavesOnly, Only, Rose}
 use Rattle.fleet_disk.specs.declared.disk.Disk.{Ghosts}
-use Rattle.gate_log.specs.Standing.{HasNoEntry}
+use Rattle.gate_log.specs.Looks.{Looks}
+use Rattle.gate_log.specs.Standing.{HasNoEntry, IsBlank, IsEither, StandsAlike}
 use Rattle.node_base.specs.declared.refusal.Refusal.{Refusal}
 use Rattle.node_base.specs.declared.refusal.Refusal.TheVariants as refusal
-use Rattle.repo_store.specs.Journal.{IsDamaged, Keeps, KeepsAlike}
-use Rattle.repo_store.specs.Words.{disk_of, repository_of, HasFailed}
+use Rattle.repo_core.specs.Repository.{fresh}
+use Rattle.repo_store.specs.Journal.{beginning_of, IsDamaged, Keeps, KeepsAlike, ReopensTo}
+use Rattle.repo_store.specs.Words.{disk_of, identity_of, repository_of, revisions_of, HasFailed}
 use Rattle.repo_store.specs.declared.store.RepoStore.{RepoStore}
 use Rattle.store_engines.specs.Refusals.{IsCreateRefusal, IsOpenRefusal}
-use Rattle.fleet_main.specs.Doing.{IsOpenedIn}
-use Rattle.fleet_main.specs.Opening.{DiskFails, NotBegun, NotOpened, folder_refusal, begin_fails, begin_no_memory, there_already, open_fails, open_no_memory, nameless, no_entry, damaged}
-use Rattle.fleet_main.specs.declared.folders.FolderFault.{FolderFault}
-use Rattle.fleet_main.specs.declared.folders.FolderFault.TheVariants as fault
+use Rattle.fleet_main.specs.Doing.{IsBegunOn, IsKept, IsOpenedOn}
+use Rattle.fleet_main.specs.Loans.{AreBack, IsLent, Loan, TakesBack, only_of}
+use Rattle.fleet_main.specs.Opening.{IsUnbegun, IsUnopened, NotBegun, NotBegunIn, NotOpened, NotOpenedIn, WhyUnbegun, WhyUnopened, folder_refusal}
+use Rattle.fleet_main.specs.Opening.{begin_fails, begin_no_memory, there_already, host_fails, host_no_memory, not_on, open_fails, open_no_memory, no_entry, damaged, nameless, no_disk, no_memory, unopened}
+use Rattle.fleet_main.specs.declared.lending.Folders.{Ghosts as FolderGhosts}
+use Rattle.fleet_main.specs.declared.lending.FolderFault.{FolderFault}
+use Rattle.fleet_main.specs.declared.lending.FolderFault.TheVariants as fault
+use Rattle.fleet_main.proofs.Loans.{one_back}
+
+-- by the refusal of a creation
+why_unbegun : {D : Type 0} (G : Ghosts D) (honest : Type 0) (given back : D) (e : Refusal) → (honest → G.honest given) → IsCreateRefusal e → (e ≡ refusal.DeviceFailed → Rose (G.failures given) (G.failures back))
+    → (e ≡ refusal.OutOfMemory → back ≡ given) → (G.honest given → e ≡ refusal.ThereAlready → G.reads given ≢ no_bytes) → WhyUnbegun G honest given back e
+why_unbegun G honest given back e rules (inl h) device memory there = begin_fails h (device h)
+why_unbegun G honest given back e rules (inr (inl h)) device memory there = there_already h (λ o. there (rules o) h)
+why_unbegun G honest given back e rules (inr (inr h)) device memory there = begin_no_memory h (memory h)
+
+pub unbegun : {D : Type 0} (G : Ghosts D) (honest : Type 0) (identity : List ℕ) (given back : D) (e : Refusal) → (honest → G.honest given) → IsCreateRefusal e → (e ≡ refusal.DeviceFailed → Rose (G.failures given) (G.failures back))
+    → (e ≡ refusal.OutOfMemory → back ≡ given) → (G.honest given → e ≡ refusal.ThereAlready → G.reads given ≢ no_bytes)
+    → (G.honest given → G.reads given ≢ no_bytes → Looks G.honest G.reads G.may_leave G.clock G.left_since G.failures given back)
+    → (G.honest given → Only no_bytes (G.may_leave given) → LeavesOnly G.clock G.left_since given back (λ image. IsBlank image ⊎ IsEither [] (beginning_of identity) image))
+    → IsUnbegun G honest identity given back e
+unbegun G honest identity given back e rules no_other device memory there looks moment = record {
+  why = why_unbegun G honest given back e rules no_other device memory there;
+  stays = λ h. looks (rules h);
+  any_moment = λ h. moment (rules h);
+}
 
 -- by the refusal of an opening
-pub open_refused : {D : Type 0} (failures : D → ℕ) (honest : Type 0) (folder : List ℕ) (held : Image) (given later : D) (e : Refusal) → IsOpenRefusal e → (e ≡ refusal.DeviceFailed → Rose (failures given) (failures later))
-    → (honest → (entry : ℕ) → e ≡ refusal.Damaged entry → IsDamaged entry held) → (honest → e ≡ refusal.NoRepository → HasNoEntry held)
-    → (before now : ℕ) → NotOpened (DiskFails failures before now) honest folder held e
-open_refused failures honest folder held given later e (inl h) device bad missing before now = open_fails h (inr (given, later, device h))
-open_refused failures honest folder held given later e (inr (inl (entry, h))) device bad missing before now = damaged entry h (λ o. bad o entry h)
-open_refused failures honest folder held given later e (inr (inr (inl h))) device bad missing before now = no_entry h (λ o. missing o h)
-open_refused failures honest folder held given later e (inr (inr (inr h))) device bad missing before now = open_no_memory h
+why_unopened : {D : Type 0} (G : Ghosts D) (honest : Type 0) (given back : D) (e : Refusal) → (honest → G.honest given) → IsOpenRefusal e → (e ≡ refusal.DeviceFailed → Rose (G.failures given) (G.failures back))
+    → (G.honest given → (entry : ℕ) → e ≡ refusal.Damaged entry → IsDamaged entry (G.reads given)) → (G.honest given → e ≡ refusal.NoRepository → HasNoEntry (G.reads given)) → WhyUnopened G honest given back e
+why_unopened G honest given back e rules (inl h) device bad missing = open_fails h (device h)
+why_unopened G honest given back e rules (inr (inl (entry, h))) device bad missing = damaged entry h (λ o. bad (rules o) entry h)
+why_unopened G honest given back e rules (inr (inr (inl h))) device bad missing = no_entry h (λ o. missing (rules o) h)
+why_unopened G honest given back e rules (inr (inr (inr h))) device bad missing = open_no_memory h
 
--- the folder gives no disk
-pub folder_not_begun : {D : Type 0} (failures : D → ℕ) (honest : Type 0) (held : Image) (f : FolderFault) (e : Refusal) (before now : ℕ) → e ≡ folder_refusal f
-    → (f ≡ fault.DeviceFailed → Rose before now) → NotBegun (DiskFails failures before now) honest held e
-folder_not_begun failures honest held fault.DeviceFailed e before now same rose = begin_fails same (inl (rose refl))
-folder_not_begun failures honest held fault.OutOfMemory e before now same rose = begin_no_memory same
+unless_failed : (e : Refusal) (P : Type 0) → (e ≡ refusal.DeviceFailed) ⊎ P → e ≢ refusal.DeviceFailed → P
+unless_failed e P (inl h) other = absurd (other h)
+unless_failed e P (inr p) other = p
 
-pub folder_not_opened : {D : Type 0} (failures : D → ℕ) (honest : Type 0) (folder : List ℕ) (held : Image) (f : FolderFault) (e : Refusal) (before now : ℕ) → e ≡ folder_refusal f
-    → (f ≡ fault.DeviceFailed → Rose before now) → NotOpened (DiskFails failures before now) honest folder held e
-folder_not_opened failures honest folder held fault.DeviceFailed e before now same rose = open_fails same (inl (rose refl))
-folder_not_opened failures honest folder held fault.OutOfMemory e before now same rose = open_no_memory same
-
-pub opened_over : (fails honest given : Type 0) (folder : List ℕ) (held read : Image) (e : Refusal) → (honest → given) → (honest → read ≡ held) → NotOpened fails given folder read e → NotOpened fails honest folder held e
-opened_over fails honest given folder held read e o r (open_fails h f) = open_fails h f
-opened_over fails honest given folder held read e o r (open_no_memory h) = open_no_memory h
-opened_over fails honest given folder held read e o r (nameless h f) = nameless h f
-opened_over fails honest given folder held read e o r (no_entry h n) = no_entry h (λ a. subst HasNoEntry (r a) (n (o a)))
-opened_over fails honest given folder held read e o r (damaged entry h d) = damaged entry h (λ a. subst (IsDamaged entry) (r a) (d (o a)))
-
--- a store that is opened on the disk that a folder gives
-pub opened_in : {D : Type 0} (G : Ghosts D) (r : Result (RepoStore D G) Refusal) (honest : Type 0) (held : Image) (disk : D) → (honest → G.honest disk) → (honest → G.reads disk ≡ held)
-    → (G.honest disk → IfOk r (λ store. Keeps (repository_of store) (G.reads disk))) → IfOk r (λ store. ¬ HasFailed store) → IfOk r (λ store. G.honest disk ↔ G.honest (disk_of store))
-    → (G.honest disk → IfOk r (λ store. LeavesOnly G.clock G.left_since disk (disk_of store) (λ image. G.may_leave disk image ⊎ KeepsAlike (G.reads disk) image)))
-    → IfOk r (IsOpenedIn G honest held)
-opened_in G (Ok store) honest held disk o s keeps working rules moment = record {
-  given = disk;
-  reads = λ h. (o h, s h);
-  keeps = λ h. subst (Keeps (repository_of store)) (s h) (keeps (o h));
-  rules = λ h. rules.0 (o h);
-  working = working;
-  any_moment = λ h. subst (λ read. LeavesOnly G.clock G.left_since disk (disk_of store) (λ image. G.may_leave disk image ⊎ KeepsAlike read image)) (s h) (moment (o h));
+pub is_unopened : {D : Type 0} (G : Ghosts D) (honest : Type 0) (given back : D) (e : Refusal) → (honest → G.honest given) → IsOpenRefusal e → (e ≡ refusal.DeviceFailed → Rose (G.failures given) (G.failures back))
+    → (G.honest given → (entry : ℕ) → e ≡ refusal.Damaged entry → IsDamaged entry (G.reads given)) → (G.honest given → e ≡ refusal.NoRepository → HasNoEntry (G.reads given))
+    → (G.honest given → (e ≡ refusal.DeviceFailed) ⊎ ((image : Image) → G.may_leave back image → (image ≡ G.reads given) ⊎ StandsAlike (G.reads given) image))
+    → (G.honest given → LeavesOnly G.clock G.left_since given back (λ image. G.may_leave given image ⊎ KeepsAlike (G.reads given) image)) → IsUnopened G honest given back e
+is_unopened G honest given back e rules no_other device bad missing kept moment = record {
+  why = why_unopened G honest given back e rules no_other device bad missing;
+  left = λ h other. unless_failed e _ (kept (rules h)) other;
+  any_moment = λ h. moment (rules h);
 }
-opened_in G (Err e) honest held disk o s keeps working rules moment = tt
+
+-- a store that is begun
+pub begun_on : {D : Type 0} (G : Ghosts D) (honest : Type 0) (identity : List ℕ) (given : D) (store : RepoStore D G) → (honest → G.honest given) → (G.honest given → G.reads given ≡ no_bytes) → repository_of store ≡ fresh identity
+    → (G.honest given ↔ G.honest (disk_of store)) → (G.honest given → (image : Image) → G.may_leave (disk_of store) image → Keeps (fresh identity) image)
+    → (G.honest given → Only no_bytes (G.may_leave given) → LeavesOnly G.clock G.left_since given (disk_of store) (λ image. IsBlank image ⊎ IsEither [] (beginning_of identity) image)) → IsBegunOn G honest identity given store
+begun_on G honest identity given store rules empty made both durable moment = record {
+  sound = rules;
+  empty = λ h. empty (rules h);
+  made = made;
+  kept = λ h. (both.0 (rules h), λ left may. subst (λ r. Keeps r left) (sym made) (durable (rules h) left may));
+  any_moment = λ h. moment (rules h);
+}
+
+-- a store that is opened
+pub opened_on : {D : Type 0} (G : Ghosts D) (honest : Type 0) (given : D) (store : RepoStore D G) → (honest → G.honest given) → (G.honest given → ReopensTo (identity_of store) (revisions_of store) (G.reads given))
+    → (G.honest given → Keeps (repository_of store) (G.reads given)) → ¬ HasFailed store → (G.honest given ↔ G.honest (disk_of store))
+    → (G.honest given → LeavesOnly G.clock G.left_since given (disk_of store) (λ image. G.may_leave given image ⊎ KeepsAlike (G.reads given) image)) → IsOpenedOn G honest given store
+opened_on G honest given store rules stands keeps working both moment = record {
+  stands = λ h. stands (rules h);
+  keeps = λ h. keeps (rules h);
+  sound = rules;
+  rules = λ h. both.0 (rules h);
+  working = working;
+  any_moment = λ h. moment (rules h);
+}
+
+-- a smaller premise
+pub opened_under : {D : Type 0} (G : Ghosts D) (honest less : Type 0) (given : D) (store : RepoStore D G) → (less → honest) → IsOpenedOn G honest given store → IsOpenedOn G less given store
+opened_under G honest less given store so o = record {
+  stands = λ h. o.stands (so h);
+  keeps = λ h. o.keeps (so h);
+  sound = λ h. o.sound (so h);
+  rules = λ h. o.rules (so h);
+  working = o.working;
+  any_moment = λ h. o.any_moment (so h);
+}
+
+why_under : {D : Type 0} (G : Ghosts D) (honest less : Type 0) (given back : D) (e : Refusal) → (less → honest) → WhyUnopened G honest given back e → WhyUnopened G less given back e
+why_under G honest less given back e so (open_fails h r) = open_fails h r
+why_under G honest less given back e so (open_no_memory h) = open_no_memory h
+why_under G honest less given back e so (no_entry h n) = no_entry h (λ o. n (so o))
+why_under G honest less given back e so (damaged entry h d) = damaged entry h (λ o. d (so o))
+
+unopened_under : {D : Type 0} (G : Ghosts D) (honest less : Type 0) (given back : D) (e : Refusal) → (less → honest) → IsUnopened G honest given back e → IsUnopened G less given back e
+unopened_under G honest less given back e so u = record {
+  why = why_under G honest less given back e so u.why;
+  left = λ h. u.left (so h);
+  any_moment = λ h. u.any_moment (so h);
+}
+
+pub not_opened_under : {D : Type 0} (G : Ghosts D) (honest less fails more : Type 0) (folder : List ℕ) (loans : List (Loan D)) (e : Refusal) → (less → honest) → (fails → more) → NotOpened G honest fails folder loans e
+    → NotOpened G less more folder loans e
+not_opened_under G honest less fails more folder loans e so also (nameless h n l) = nameless h n l
+not_opened_under G honest less fails more folder loans e so also (no_disk h f l) = no_disk h (also f) l
+not_opened_under G honest less fails more folder loans e so also (no_memory h l) = no_memory h l
+not_opened_under G honest less fails more folder loans e so also (unopened given back l u) = unopened given back l (unopened_under G honest less given back e so u)
+
+-- a count that rose meanwhile rose
+pub rose_between : (a b c d : ℕ) → a ≤ b → c ≤ d → Rose b c → Rose a d
+rose_between a b c d first last (inl rose) = inl (omega (arith, first, last, rose))
+rose_between a b c d first last (inr full) = inr (omega (arith, last, full))
+
+module _ {F D : Type 0} (G : Ghosts D) (H : FolderGhosts F D) (folders then later : F) (folder : List ℕ) where
+  -- the folder lends no disk
+  pub begin_unlent : (identity : List ℕ) (f : FolderFault) (e : Refusal) → e ≡ folder_refusal f → (f ≡ fault.DeviceFailed → Rose (H.failures folders) (H.failures later)) → AreBack G H folders later []
+      → NotBegunIn G H folders later folder identity e
+  begin_unlent identity fault.DeviceFailed e same rose a = ([], host_fails same (rose refl) refl, a)
+  begin_unlent identity fault.OutOfMemory e same rose a = ([], host_no_memory same refl, a)
+
+  pub open_unlent : (f : FolderFault) (e : Refusal) → e ≡ folder_refusal f → (f ≡ fault.DeviceFailed → Rose (H.failures folders) (H.failures later)) → AreBack G H folders later [] → NotOpenedIn G H folders later folder e
+  open_unlent fault.DeviceFailed e same rose a = ([], no_disk same (rose refl) refl, a)
+  open_unlent fault.OutOfMemory e same rose a = ([], no_memory same refl, a)
+
+  pub open_nameless : (e : Refusal) → e ≡ refusal.NoRepository → folder ≡ [] → AreBack G H folders later [] → NotOpenedIn G H folders later folder e
+  open_nameless e same none a = ([], nameless same none refl, a)
+
+  -- or takes it back
+  pub begin_refused : (identity : List ℕ) (given back : D) (e : Refusal) → IsLent G H folders then folder given → TakesBack G H then later folder back → (G.honest given ↔ G.honest back)
+      → IsUnbegun G (H.honest folders) identity given back e → NotBegunIn G H folders later folder identity e
+  begin_refused identity given back e l t both u = (only_of folder given back, not_on given back refl u, one_back G H folders then later folder given back l (λ h. both.0 (l.rules h)) t)
+
+  pub open_refused : (given back : D) (e : Refusal) → IsLent G H folders then folder given → TakesBack G H then later folder back → (G.honest given ↔ G.honest back) → IsUnopened G (H.honest folders) given back e
+      → NotOpenedIn G H folders later folder e
+  open_refused given back e l t both u = (only_of folder given back, unopened given back refl u, one_back G H folders then later folder given back l (λ h. both.0 (l.rules h)) t)

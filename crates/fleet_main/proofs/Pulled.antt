@@ -1,10 +1,10 @@
 -- What is done over the mirror that stands in a folder and a server, step by step.
 use Rattle.std.proofs.Common.{◌≡◌, ◌⊎◌, ℕ, Bool, List, Option, Result, Ok, Err, inl, inr, refl, sym, ap, subst, ◌∙◌, IfErr}
 use Rattle.std.specs.Result.{OnOk}
-use Rattle.fleet_disk.specs.Image.{Image}
 use Rattle.fleet_disk.specs.declared.disk.Disk.{Ghosts}
 use Rattle.fleet_engines.specs.declared.stream.Sink.{Sink}
 use Rattle.node_base.specs.declared.refusal.Refusal.{Refusal}
+use Rattle.repo_store.specs.Words.{disk_of, HasFailed}
 use Rattle.repo_store.specs.declared.store.RepoStore.{RepoStore}
 use Rattle.sync_core.specs.declared.fault.SyncFault.{SyncFault}
 use Rattle.sync_job.specs.Said.{Spoken}
@@ -12,10 +12,12 @@ use Rattle.mirror_engines.specs.Runs.{IsWorked}
 use Rattle.mirror_engines.specs.declared.work.Work.{Work}
 use Rattle.svn_client.specs.Runs.{RunsFrom, RunsOver, Unreached, Reached, Unopened, Ran}
 use Rattle.fleet_main.specs.Doing.{IsOpenedIn, IsWorkedOver, NotWorkedOn, NotWorkedOver, OfStanding, UnopenedOr, WorkedOn}
+use Rattle.fleet_main.specs.Loans.{TakesBack}
 use Rattle.fleet_main.specs.Pulling.{NotKeptFor, NotPulledOn, NotPulledOver, work_as}
 use Rattle.fleet_main.specs.declared.command_line.Task.{Task}
-use Rattle.fleet_main.proofs.Doing.{KeptThen, done_at, kept_opened, refused_at as refused_by_text}
-use Rattle.fleet_main.proofs.Mirroring.{or_second, worked_done, worked_refused}
+use Rattle.fleet_main.specs.declared.lending.Folders.{Ghosts as FolderGhosts}
+use Rattle.fleet_main.proofs.Doing.{KeptThen, kept_opened, standing}
+use Rattle.fleet_main.proofs.Mirroring.{or_second, worked_done, worked_refused, worked_rules}
 
 -- an answer that is a refusal says nothing of what is done
 none_done : (r : Result (Unit {0}) Refusal) (e : Refusal) (P : Type 0) → r ≡ Err e → OnOk r P
@@ -26,63 +28,68 @@ refused_as : (r : Result (Unit {0}) Refusal) (e : Refusal) (P : Refusal → Type
 refused_as r e P is h = subst (λ x. IfErr x P) (sym is) h
 
 over_done : {D W : Type 0} {G : Ghosts D} (contents : W → Option (List ℕ)) (IsRun : List Spoken → Result (Unit {0}) SyncFault → Type 0) (r : Result (Unit {0}) Refusal) (old new : RepoStore D G) (before now : Sink W)
-    → RunsOver contents IsRun old new before now r → OnOk r (WorkedOn IsRun (contents before.inner) (contents now.inner) old)
+    → RunsOver contents IsRun old new before now r → OnOk r (WorkedOn IsRun (contents before.inner) (contents now.inner) old new)
 over_done contents IsRun r old new before now (Unopened e is why same out) = none_done r e _ is
 over_done contents IsRun r old new before now (Ran s) = worked_done IsRun r old new (contents before.inner) (contents now.inner) now.failed s
 
 pub pulled_done : {D W : Type 0} {G : Ghosts D} (contents : W → Option (List ℕ)) (IsRun : List Spoken → Result (Unit {0}) SyncFault → Type 0) (r : Result (Unit {0}) Refusal) (old new : RepoStore D G) (before now : Sink W)
-    → RunsFrom contents IsRun old new before now r → OnOk r (WorkedOn IsRun (contents before.inner) (contents now.inner) old)
+    → RunsFrom contents IsRun old new before now r → OnOk r (WorkedOn IsRun (contents before.inner) (contents now.inner) old new)
 pulled_done contents IsRun r old new before now (Unreached e is why same out) = none_done r e _ is
 pulled_done contents IsRun r old new before now (Reached o) = over_done contents IsRun r old new before now o
 
-not_worked : {D : Type 0} {G : Ghosts D} (IsRun : List Spoken → Result (Unit {0}) SyncFault → Type 0) (r : Result (Unit {0}) Refusal) (before now : Option (List ℕ)) (failed : Bool) (old : RepoStore D G)
-    → IfErr r (λ e. NotWorkedOn IsRun before now failed e old) → IfErr r (λ e. NotPulledOn IsRun before now failed e old)
-not_worked IsRun (Ok u) before now failed old h = tt
-not_worked IsRun (Err e) before now failed old h = inr h
+not_worked : {D : Type 0} {G : Ghosts D} (IsRun : List Spoken → Result (Unit {0}) SyncFault → Type 0) (r : Result (Unit {0}) Refusal) (before now : Option (List ℕ)) (failed : Bool) (old new : RepoStore D G)
+    → IfErr r (λ e. NotWorkedOn IsRun before now failed e old new) → IfErr r (λ e. NotPulledOn IsRun before now failed e old new)
+not_worked IsRun (Ok u) before now failed old new h = tt
+not_worked IsRun (Err e) before now failed old new h = inr h
 
 over_refused : {D W : Type 0} {G : Ghosts D} (contents : W → Option (List ℕ)) (IsRun : List Spoken → Result (Unit {0}) SyncFault → Type 0) (r : Result (Unit {0}) Refusal) (old new : RepoStore D G) (before now : Sink W)
-    → RunsOver contents IsRun old new before now r → IfErr r (λ e. NotPulledOn IsRun (contents before.inner) (contents now.inner) now.failed e old)
+    → RunsOver contents IsRun old new before now r → IfErr r (λ e. NotPulledOn IsRun (contents before.inner) (contents now.inner) now.failed e old new)
 over_refused contents IsRun r old new before now (Unopened e is (inl memory) same out) =
-    refused_as r e (λ x. NotPulledOn IsRun (contents before.inner) (contents now.inner) now.failed x old) is (inl (inl (inr memory), ap (λ (s : Sink _). contents s.inner) out))
+    refused_as r e (λ x. NotPulledOn IsRun (contents before.inner) (contents now.inner) now.failed x old new) is (inl (inl (inr memory), ap (λ (s : Sink _). contents s.inner) out, same))
 over_refused contents IsRun r old new before now (Unopened e is (inr why) same out) =
-    refused_as r e (λ x. NotPulledOn IsRun (contents before.inner) (contents now.inner) now.failed x old) is (inl (inr why, ap (λ (s : Sink _). contents s.inner) out))
+    refused_as r e (λ x. NotPulledOn IsRun (contents before.inner) (contents now.inner) now.failed x old new) is (inl (inr why, ap (λ (s : Sink _). contents s.inner) out, same))
 over_refused contents IsRun r old new before now (Ran s) =
-    not_worked IsRun r (contents before.inner) (contents now.inner) now.failed old (worked_refused IsRun r old new (contents before.inner) (contents now.inner) now.failed s)
+    not_worked IsRun r (contents before.inner) (contents now.inner) now.failed old new (worked_refused IsRun r old new (contents before.inner) (contents now.inner) now.failed s)
 
 pub pulled_refused : {D W : Type 0} {G : Ghosts D} (contents : W → Option (List ℕ)) (IsRun : List Spoken → Result (Unit {0}) SyncFault → Type 0) (r : Result (Unit {0}) Refusal) (old new : RepoStore D G) (before now : Sink W)
-    → RunsFrom contents IsRun old new before now r → IfErr r (λ e. NotPulledOn IsRun (contents before.inner) (contents now.inner) now.failed e old)
+    → RunsFrom contents IsRun old new before now r → IfErr r (λ e. NotPulledOn IsRun (contents before.inner) (contents now.inner) now.failed e old new)
 pulled_refused contents IsRun r old new before now (Unreached e is why same out) =
-    refused_as r e (λ x. NotPulledOn IsRun (contents before.inner) (contents now.inner) now.failed x old) is (inl (inl why, ap (λ (s : Sink _). contents s.inner) out))
+    refused_as r e (λ x. NotPulledOn IsRun (contents before.inner) (contents now.inner) now.failed x old new) is (inl (inl why, ap (λ (s : Sink _). contents s.inner) out, same))
 pulled_refused contents IsRun r old new before now (Reached o) = over_refused contents IsRun r old new before now o
 
--- of the mirror that is opened
-pub standing_done : {D : Type 0} {G : Ghosts D} (IsRun : List Spoken → Result (Unit {0}) SyncFault → Type 0) (r : Result (Unit {0}) Refusal) (honest : Type 0) (held : Image) (before now : Option (List ℕ)) (store : RepoStore D G)
-    → IsOpenedIn G honest held store → OnOk r (WorkedOn IsRun before now store) → OnOk r (OfStanding G honest held (IsWorkedOver IsRun before now))
-standing_done IsRun (Ok u) honest held before now store o w = let x = w o.working in (store, x.0, o, x.1)
-standing_done IsRun (Err e) honest held before now store o w = tt
+over_rules : {D W : Type 0} {G : Ghosts D} (contents : W → Option (List ℕ)) (IsRun : List Spoken → Result (Unit {0}) SyncFault → Type 0) (r : Result (Unit {0}) Refusal) (old new : RepoStore D G) (before now : Sink W)
+    → RunsOver contents IsRun old new before now r → ¬ HasFailed old → G.honest (disk_of old) → G.honest (disk_of new)
+over_rules {G = G} contents IsRun r old new before now (Unopened e is why same out) works h = subst (λ (s : RepoStore _ G). G.honest (disk_of s)) (sym same) h
+over_rules contents IsRun r old new before now (Ran s) works h = worked_rules IsRun r old new (contents before.inner) (contents now.inner) now.failed s works h
 
-standing_not : {D : Type 0} {G : Ghosts D} (IsRun : List Spoken → Result (Unit {0}) SyncFault → Type 0) (e : Refusal) (honest : Type 0) (held : Image) (before now : Option (List ℕ)) (failed : Bool) (store : RepoStore D G)
-    → IsOpenedIn G honest held store → KeptThen store → NotPulledOn IsRun before now failed e store → OfStanding G honest held (NotPulledOver honest IsRun before now failed e)
-standing_not IsRun e honest held before now failed store o k (inl n) = (store, store, o, inl (n.0, n.1, refl, kept_opened honest held store o k))
-standing_not IsRun e honest held before now failed store o k (inr w) = let x = w o.working in (store, x.0, o, inr x.1)
+pub pulled_rules : {D W : Type 0} {G : Ghosts D} (contents : W → Option (List ℕ)) (IsRun : List Spoken → Result (Unit {0}) SyncFault → Type 0) (r : Result (Unit {0}) Refusal) (old new : RepoStore D G) (before now : Sink W)
+    → RunsFrom contents IsRun old new before now r → ¬ HasFailed old → G.honest (disk_of old) → G.honest (disk_of new)
+pulled_rules {G = G} contents IsRun r old new before now (Unreached e is why same out) works h = subst (λ (s : RepoStore _ G). G.honest (disk_of s)) (sym same) h
+pulled_rules contents IsRun r old new before now (Reached o) works h = over_rules contents IsRun r old new before now o works h
 
-pub standing_refused : {D : Type 0} {G : Ghosts D} (IsRun : List Spoken → Result (Unit {0}) SyncFault → Type 0) (r : Result (Unit {0}) Refusal) (fails honest : Type 0) (folder : List ℕ) (held : Image) (before now : Option (List ℕ)) (failed : Bool)
-    (store : RepoStore D G) → IsOpenedIn G honest held store → KeptThen store → IfErr r (λ e. NotPulledOn IsRun before now failed e store)
-    → IfErr r (λ e. UnopenedOr G fails honest folder held before now e (NotPulledOver honest IsRun before now failed e))
-standing_refused IsRun (Ok u) fails honest folder held before now failed store o k h = tt
-standing_refused IsRun (Err e) fails honest folder held before now failed store o k h = inr (standing_not IsRun e honest held before now failed store o k h)
+-- of the mirror that is opened, and whose disk is back then
+module _ {F D : Type 0} (G : Ghosts D) (H : FolderGhosts F D) (folders then later : F) (folder : List ℕ) (IsRun : List Spoken → Result (Unit {0}) SyncFault → Type 0) (before now : Option (List ℕ)) (old new : RepoStore D G) where
+  pub standing_done : (r : Result (Unit {0}) Refusal) → IsOpenedIn G H folders then folder old → OnOk r (WorkedOn IsRun before now old new) → TakesBack G H then later folder (disk_of new)
+      → (¬ HasFailed old → G.honest (disk_of old) → G.honest (disk_of new)) → OnOk r (OfStanding G H folders later folder (IsWorkedOver IsRun before now))
+  standing_done (Ok u) o w t rules = standing G H folders then later folder (IsWorkedOver IsRun before now) old new o t (rules o.2.working) (w o.2.working)
+  standing_done (Err e) o w t rules = tt
+
+  not_over : (e : Refusal) (failed : Bool) → IsOpenedIn G H folders then folder old → KeptThen new → NotPulledOn IsRun before now failed e old new → NotPulledOver (H.honest folders) IsRun before now failed e old new
+  not_over e failed o k (inl n) = inl (n.0, n.1, n.2, kept_opened (H.honest folders) o.0 old o.2 (subst KeptThen n.2 k))
+  not_over e failed o k (inr w) = inr (w o.2.working)
+
+  pub standing_refused : (r : Result (Unit {0}) Refusal) (failed : Bool) → IsOpenedIn G H folders then folder old → KeptThen new → IfErr r (λ e. NotPulledOn IsRun before now failed e old new)
+      → TakesBack G H then later folder (disk_of new) → (¬ HasFailed old → G.honest (disk_of old) → G.honest (disk_of new))
+      → IfErr r (λ e. UnopenedOr G H folders later folder before now e (NotPulledOver (H.honest folders) IsRun before now failed e))
+  standing_refused (Ok u) failed o k w t rules = tt
+  standing_refused (Err e) failed o k w t rules =
+      inr (standing G H folders then later folder (NotPulledOver (H.honest folders) IsRun before now failed e) old new o t (rules o.2.working) (not_over e failed o k w))
 
 -- by the texts that words give: of the mirror's folder and of the URL
-pub asked_done : {D : Type 0} (G : Ghosts D) (r : Result (Unit {0}) Refusal) (honest : Type 0) (holds : List ℕ → Image) (task : Task) (w : Work) (a b u v : List ℕ) (before now : Option (List ℕ)) → a ≡ b → w ≡ work_as u task → u ≡ v
-    → OnOk r (OfStanding G honest (holds a) (IsWorkedOver (IsWorked w) before now)) → OnOk r (OfStanding G honest (holds b) (IsWorkedOver (IsWorked (work_as v task)) before now))
-asked_done G r honest holds task w a b u v before now folder is url h =
-    done_at G r honest holds (IsWorkedOver (IsWorked (work_as v task)) before now) a b folder
-    (subst (λ x. OnOk r (OfStanding G honest (holds a) (IsWorkedOver (IsWorked x) before now))) (is ∙ ap (λ x. work_as x task) url) h)
+pub asked_done : (r : Result (Unit {0}) Refusal) (Q : List ℕ → Work → Type 0) (task : Task) (w : Work) (a b u v : List ℕ) → a ≡ b → w ≡ work_as u task → u ≡ v → OnOk r (Q a w) → OnOk r (Q b (work_as v task))
+asked_done r Q task w a b u v folder is url h = subst (λ t. OnOk r (Q t (work_as v task))) folder (subst (λ x. OnOk r (Q a x)) (is ∙ ap (λ x. work_as x task) url) h)
 
-pub asked_refused : {D : Type 0} (G : Ghosts D) (r : Result (Unit {0}) Refusal) (fails honest : Type 0) (holds : List ℕ → Image) (task : Task) (w : Work) (a b u v : List ℕ) (before now : Option (List ℕ)) (failed : Bool) → a ≡ b
-    → w ≡ work_as u task → u ≡ v → IfErr r (λ e. UnopenedOr G fails honest a (holds a) before now e (NotPulledOver honest (IsWorked w) before now failed e))
-    → IfErr r (λ e. NotKeptFor task v before now e ⊎ UnopenedOr G fails honest b (holds b) before now e (NotPulledOver honest (IsWorked (work_as v task)) before now failed e))
-asked_refused G r fails honest holds task w a b u v before now failed folder is url h =
-    or_second r (λ e. NotKeptFor task v before now e) (λ e. UnopenedOr G fails honest b (holds b) before now e (NotPulledOver honest (IsWorked (work_as v task)) before now failed e))
-    (refused_by_text G r fails honest holds before now (λ e. NotPulledOver honest (IsWorked (work_as v task)) before now failed e) a b folder
-    (subst (λ x. IfErr r (λ e. UnopenedOr G fails honest a (holds a) before now e (NotPulledOver honest (IsWorked x) before now failed e))) (is ∙ ap (λ x. work_as x task) url) h))
+pub asked_refused : (r : Result (Unit {0}) Refusal) (N : Refusal → Type 0) (Q : List ℕ → Work → Refusal → Type 0) (task : Task) (w : Work) (a b u v : List ℕ) → a ≡ b → w ≡ work_as u task → u ≡ v → IfErr r (Q a w)
+    → IfErr r (λ e. N e ⊎ Q b (work_as v task) e)
+asked_refused r N Q task w a b u v folder is url h =
+    or_second r N (Q b (work_as v task)) (subst (λ t. IfErr r (Q t (work_as v task))) folder (subst (λ x. IfErr r (Q a x)) (is ∙ ap (λ x. work_as x task) url) h))

@@ -1,24 +1,38 @@
 -- What `serve` does over the repository that stands in a folder, step by step.
-use Rattle.std.proofs.Common.{◌≡◌, ◌⊎◌, ℕ, List, Option, Result, Ok, Err, inr, refl, IfErr}
+use Rattle.std.proofs.Common.{◌≡◌, ◌≢◌, ◌⊎◌, ℕ, List, Option, Result, Ok, Err, inr, refl, ◌∙◌, IfErr}
 use Rattle.std.specs.Result.{OnOk}
-use Rattle.std.specs.Io.KnownBytes.{Appends}
-use Rattle.fleet_disk.specs.Image.{Image}
 use Rattle.fleet_disk.specs.declared.disk.Disk.{Ghosts}
 use Rattle.node_base.specs.declared.refusal.Refusal.{Refusal}
-use Rattle.node_base.specs.declared.refusal.Refusal.TheVariants as refusal
 use Rattle.repo_store.specs.declared.store.RepoStore.{RepoStore}
-use Rattle.sockets.specs.Lines.{listening}
-use Rattle.fleet_main.specs.Doing.{IsOpenedIn, OfStanding, UnopenedOr}
-use Rattle.fleet_main.specs.Serving.{IsServed, NotServed}
+use Rattle.svn_server.specs.Served.{IsOfStore}
+use Rattle.fleet_main.specs.Doing.{IsOpenedIn}
+use Rattle.fleet_main.specs.Loans.{TakesBack}
+use Rattle.fleet_main.specs.Serving.{IsServerFault, NotServedIn, OfServed}
+use Rattle.fleet_main.specs.declared.lending.Folders.{Ghosts as FolderGhosts}
 use Rattle.fleet_main.proofs.Doing.{KeptThen, kept_opened}
 
-pub served_done : {D : Type 0} {G : Ghosts D} (r : Result (Unit {0}) Refusal) (honest : Type 0) (held : Image) (port : ℕ) (before now : Option (List ℕ)) (store : RepoStore D G) → IsOpenedIn G honest held store
-    → OnOk r (Appends before now (listening port)) → KeptThen store → OnOk r (OfStanding G honest held (IsServed honest port before now))
-served_done (Ok u) honest held port before now store o told k = (store, store, o, (refl, told, kept_opened honest held store o k))
-served_done (Err e) honest held port before now store o told k = tt
+module _ {F D : Type 0} (G : Ghosts D) (H : FolderGhosts F D) (folders then later : F) (folder : List ℕ) (store : RepoStore D G) (back : D) where
+  of_served : (P : Type 0) → IsOpenedIn G H folders then folder store → KeptThen store → IsOfStore G back → TakesBack G H then later folder back → P → OfServed G H folders later folder P
+  of_served P o k left t p = record {
+    given = o.0;
+    old = store;
+    back = back;
+    opened = o.2;
+    done = p;
+    kept = kept_opened (H.honest folders) o.0 store o.2 k;
+    lent = o.1.given;
+    there = λ h. t.back (o.1.honest h) (o.1.lent h);
+    left = left;
+    others = λ h other far. t.others (o.1.honest h) (o.1.lent h) other far ∙ o.1.others h other far;
+    honest = λ h rules. t.honest (o.1.honest h) rules;
+  }
 
-pub served_refused : {D : Type 0} {G : Ghosts D} (r : Result (Unit {0}) Refusal) (fails honest : Type 0) (folder : List ℕ) (held : Image) (before now : Option (List ℕ)) (store : RepoStore D G) → IsOpenedIn G honest held store
-    → IfErr r (λ e. (e ≡ refusal.OutOfMemory) ⊎ (e ≡ refusal.PeerFailed)) → KeptThen store
-    → IfErr r (λ e. UnopenedOr G fails honest folder held before now e (NotServed honest e))
-served_refused (Ok u) fails honest folder held before now store o why k = tt
-served_refused (Err e) fails honest folder held before now store o why k = inr (store, store, o, (refl, why, kept_opened honest held store o k))
+  pub served_done : (r : Result (Unit {0}) Refusal) (P : Type 0) → IsOpenedIn G H folders then folder store → KeptThen store → IsOfStore G back → TakesBack G H then later folder back → OnOk r P
+      → OnOk r (OfServed G H folders later folder P)
+  served_done (Ok u) P o k left t p = of_served P o k left t p
+  served_done (Err e) P o k left t p = tt
+
+  pub served_refused : (r : Result (Unit {0}) Refusal) (before now : Option (List ℕ)) → IsOpenedIn G H folders then folder store → KeptThen store → IsOfStore G back → TakesBack G H then later folder back → IfErr r IsServerFault
+      → IfErr r (NotServedIn G H folders later folder before now)
+  served_refused (Ok u) before now o k left t why = tt
+  served_refused (Err e) before now o k left t why = inr (of_served (IsServerFault e) o k left t why)

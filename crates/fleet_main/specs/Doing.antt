@@ -1,19 +1,20 @@
 -- What a command does, and why it doesn't.
-use Rattle.std.specs.Prelude.{◌≡◌, ◌≢◌, ◌⊎◌, ◌<◌, ℕ, Bool, true, false, List, [], length, Option, Some, None, IfSome, Result, Ok, Err, string_bytes}
+use Rattle.std.specs.Prelude.{◌≡◌, ◌≢◌, ◌⊎◌, ◌<◌, ℕ, Bool, true, false, List, [], ◌∷◌, length, Option, Some, None, IfSome, Result, Ok, Err, string_bytes}
 use Rattle.std.specs.List.{filter, flat_map}
 use Rattle.std.specs.Io.KnownBytes.{Appends, Keeps as HandedOn}
 use Rattle.jiff.specs.Types.{DateTime}
 use Rattle.dump_text.specs.Streams.{dump, records_of}
 use Rattle.fleet_disk.specs.Image.{Image, no_bytes}
-use Rattle.fleet_disk.specs.Rules.{LeavesOnly}
+use Rattle.fleet_disk.specs.Rules.{LeavesOnly, Only, Rose}
 use Rattle.fleet_disk.specs.declared.disk.Disk.{Ghosts}
+use Rattle.gate_log.specs.Standing.{IsBlank, IsEither}
 use Rattle.node_base.specs.Path.{Path}
 use Rattle.node_base.specs.PathText.{path_read}
 use Rattle.node_base.specs.declared.refusal.Refusal.{Refusal}
 use Rattle.node_base.specs.declared.refusal.Refusal.TheVariants as refusal
 use Rattle.repo_core.specs.Repository.{fresh, head_of, props_at}
-use Rattle.repo_store.specs.Journal.{Keeps, KeepsAlike}
-use Rattle.repo_store.specs.Words.{disk_of, repository_of, revisions_of, HasFailed}
+use Rattle.repo_store.specs.Journal.{beginning_of, Keeps, KeepsAlike, ReopensTo}
+use Rattle.repo_store.specs.Words.{disk_of, identity_of, repository_of, revisions_of, HasFailed}
 use Rattle.repo_store.specs.declared.store.RepoStore.{RepoStore}
 use Rattle.fleet_engines.specs.declared.product.Product.TheVariants as product
 use Rattle.fleet_engines.specs.Grouping.{is_no_identity}
@@ -31,32 +32,59 @@ use Rattle.sync_job.specs.Said.{Spoken, told_in}
 use Rattle.mirror_engines.specs.Infos.{info_fault, info_text}
 use Rattle.mirror_engines.specs.Lines.{line_of, IsPrinted}
 use Rattle.mirror_engines.specs.Runs.{answer_of, IsCopied, IsInitialised, IsSynchronised, Leaves}
-use Rattle.fleet_main.specs.Opening.{DiskFails, NotBegun, NotOpened}
+use Rattle.fleet_main.specs.Loans.{AreBack, IsLent, Loan, lent_by, only_of}
+use Rattle.fleet_main.specs.Opening.{NotBegunIn, NotOpened, NotOpenedIn}
+use Rattle.fleet_main.specs.declared.lending.Folders.{Ghosts as FolderGhosts}
 use Rattle.fleet_main.specs.declared.command_line.Command.{Command}
 use Rattle.fleet_main.specs.declared.command_line.Command.TheVariants.{List as ListIt, Canon, Create, Load, Dump, MakeDir, Initialize, Synchronize, CopyRevprops, Info}
 
--- a store is opened over what a folder's files held: on a disk that the folder gave, whose bytes these were, and that keeps the rules if the folders do
-pub record IsOpenedIn {D : Type 0} (G : Ghosts D) (honest : Type 0) (held : Image) (store : RepoStore D G) : Type 0 where
-  pub given : D
-  pub reads : honest → G.honest given × (G.reads given ≡ held)
-  -- the store has the repository that those bytes keep, with the sets of changes that they tell
-  pub keeps : honest → Keeps (repository_of store) held
+-- a store is opened on a disk that a folder lent, and that keeps the rules if the folders do
+pub record IsOpenedOn {D : Type 0} (G : Ghosts D) (honest : Type 0) (given : D) (store : RepoStore D G) : Type 0 where
+  -- the store has the repository that the disk's files keep, with the sets of changes that they tell
+  pub stands : honest → ReopensTo (identity_of store) (revisions_of store) (G.reads given)
+  pub keeps : honest → Keeps (repository_of store) (G.reads given)
+  pub sound : honest → G.honest given
   pub rules : honest → G.honest (disk_of store)
   pub working : ¬ HasFailed store
-  -- a stop at any moment of the opening leaves what it could leave before, or what keeps all that the bytes keep
-  pub any_moment : honest → LeavesOnly G.clock G.left_since given (disk_of store) (λ image. G.may_leave given image ⊎ KeepsAlike held image)
+  -- a stop at any moment of the opening leaves what it could leave before, or what keeps all that the files keep
+  pub any_moment : honest → LeavesOnly G.clock G.left_since given (disk_of store) (λ image. G.may_leave given image ⊎ KeepsAlike (G.reads given) image)
+
+-- a folder's disk is lent, and a store is opened on it
+abbrev pub IsOpenedIn : {F D : Type 0} (G : Ghosts D) → FolderGhosts F D → F → F → List ℕ → RepoStore D G → Type 0
+IsOpenedIn {F} {D} G H folders later folder store = (given : D) × IsLent G H folders later folder given × IsOpenedOn G (H.honest folders) given store
 
 -- a stop leaves what keeps the store's repository
 abbrev pub IsKept : {D : Type 0} {G : Ghosts D} → Type 0 → RepoStore D G → Type 0
 IsKept {G} honest store = honest → G.honest (disk_of store) × ((left : Image) → G.may_leave (disk_of store) left → Keeps (repository_of store) left)
 
--- the store that is opened there, and what it is later, have P
-abbrev pub OfStanding : {D : Type 0} (G : Ghosts D) → Type 0 → Image → (RepoStore D G → RepoStore D G → Type 0) → Type 0
-OfStanding {D} G honest held P = (old : RepoStore D G) × (new : RepoStore D G) × IsOpenedIn G honest held old × P old new
+-- a store is opened on a folder's disk; of it and what it is later P is so, and the folder has the later one's disk then, while other folders stay
+pub record OfStanding {F D : Type 0} (G : Ghosts D) (H : FolderGhosts F D) (folders later : F) (folder : List ℕ) (P : RepoStore D G → RepoStore D G → Type 0) : Type 0 where
+  pub given : D
+  pub old : RepoStore D G
+  pub new : RepoStore D G
+  pub opened : IsOpenedOn G (H.honest folders) given old
+  pub done : P old new
+  pub back : AreBack G H folders later (only_of folder given (disk_of new))
 
--- a repository is begun: the files held nothing, and a store has revision 0 alone with the identity, which a stop leaves
-abbrev pub IsBegun : {D : Type 0} → Ghosts D → Type 0 → Image → List ℕ → Type 0
-IsBegun {D} G honest held identity = (honest → held ≡ no_bytes) × ((store : RepoStore D G) × (repository_of store ≡ fresh identity) × IsKept honest store)
+-- a store is begun on a disk of two empty files that a folder lent: it has revision 0 alone, with the identity, which a stop leaves
+pub record IsBegunOn {D : Type 0} (G : Ghosts D) (honest : Type 0) (identity : List ℕ) (given : D) (store : RepoStore D G) : Type 0 where
+  pub sound : honest → G.honest given
+  pub empty : honest → G.reads given ≡ no_bytes
+  pub made : repository_of store ≡ fresh identity
+  pub kept : IsKept honest store
+  -- a stop at any moment leaves no entry, or one that begins the repository
+  pub any_moment : honest → Only no_bytes (G.may_leave given) → LeavesOnly G.clock G.left_since given (disk_of store) (λ image. IsBlank image ⊎ IsEither [] (beginning_of identity) image)
+
+-- a folder's disk is lent, and a store is begun on it
+abbrev pub IsBegunIn : {F D : Type 0} (G : Ghosts D) → FolderGhosts F D → F → F → List ℕ → List ℕ → RepoStore D G → Type 0
+IsBegunIn {F} {D} G H folders later folder identity store = (given : D) × IsLent G H folders later folder given × IsBegunOn G (H.honest folders) identity given store
+
+-- a repository is begun in a folder, which has the store's disk then, while other folders stay
+pub record IsBegun {F D : Type 0} (G : Ghosts D) (H : FolderGhosts F D) (folders later : F) (folder identity : List ℕ) : Type 0 where
+  pub given : D
+  pub store : RepoStore D G
+  pub begun : IsBegunOn G (H.honest folders) identity given store
+  pub back : AreBack G H folders later (only_of folder given (disk_of store))
 
 -- what a load of these bytes did to a store and its device
 abbrev pub ServesLoad : {D : Type 0} {G : Ghosts D} → Option (List ℕ) → RepoStore D G → RepoStore D G → Result (Unit {0}) Refusal → Type 0
@@ -100,11 +128,18 @@ NotCommittedTo honest bytes message moment before now failed e old new =
 abbrev pub NotDumped : {D : Type 0} {G : Ghosts D} → Type 0 → Option RevRange → Option (List ℕ) → Option (List ℕ) → Bool → Refusal → RepoStore D G → RepoStore D G → Type 0
 NotDumped honest range before now failed e old new = (new ≡ old) × DumpStops (repository_of old) range before now failed e × IsKept honest old
 
--- both folders' repositories are opened, the mirror's first and the source's as that has left the folders; of the mirror's store that is opened and what it is later P is so, and a stop leaves what keeps the source's repository
-abbrev pub OfBoth : {D F : Type 0} (G : Ghosts D) → (F → Type 0) → (F → List ℕ → Image) → F → List ℕ → List ℕ → (RepoStore D G → RepoStore D G → Type 0) → Type 0
-OfBoth {D} {F} G honest holds folders mirror source P =
-    (between : F) × (old : RepoStore D G) × (new : RepoStore D G) × (master : RepoStore D G) × IsOpenedIn G (honest folders) (holds folders mirror) old
-    × IsOpenedIn G (honest between) (holds between source) master × P old new × IsKept (honest between) master
+-- both folders' stores are opened, the mirror's first; of the mirror's and what it is later P is so, and a stop leaves what keeps the source's repository; each folder has its store's disk then, while other folders stay
+pub record OfBoth {F D : Type 0} (G : Ghosts D) (H : FolderGhosts F D) (folders later : F) (mirror source : List ℕ) (P : RepoStore D G → RepoStore D G → Type 0) : Type 0 where
+  pub given : D
+  pub old : RepoStore D G
+  pub new : RepoStore D G
+  pub given_source : D
+  pub master : RepoStore D G
+  pub opened : IsOpenedOn G (H.honest folders) given old
+  pub opened_source : IsOpenedOn G (H.honest folders) given_source master
+  pub done : P old new
+  pub kept : IsKept (H.honest folders) master
+  pub back : AreBack G H folders later (lent_by mirror given (disk_of new) ∷ only_of source given_source (disk_of master))
 
 -- the work is done over a mirror's store: what was said through its ports, in order, is that of a run that ends well, each line of what was told is printed, and what is left of the mirror
 pub record IsWorkedOver {D : Type 0} {G : Ghosts D} (IsRun : List Spoken → Result (Unit {0}) SyncFault → Type 0) (before now : Option (List ℕ)) (old new : RepoStore D G) : Type 0 where
@@ -124,22 +159,26 @@ pub record NotWorkedOver {D : Type 0} {G : Ghosts D} (IsRun : List Spoken → Re
   pub left : Leaves old new (accepted_in said) (counted_in said)
 
 -- the work is done over that store, if it works
-abbrev pub WorkedOn : {D : Type 0} {G : Ghosts D} → (List Spoken → Result (Unit {0}) SyncFault → Type 0) → Option (List ℕ) → Option (List ℕ) → RepoStore D G → Type 0
-WorkedOn {D} {G} IsRun before now old = ¬ HasFailed old → (new : RepoStore D G) × IsWorkedOver IsRun before now old new
+abbrev pub WorkedOn : {D : Type 0} {G : Ghosts D} → (List Spoken → Result (Unit {0}) SyncFault → Type 0) → Option (List ℕ) → Option (List ℕ) → RepoStore D G → RepoStore D G → Type 0
+WorkedOn IsRun before now old new = ¬ HasFailed old → IsWorkedOver IsRun before now old new
 
 -- or isn't done
-abbrev pub NotWorkedOn : {D : Type 0} {G : Ghosts D} → (List Spoken → Result (Unit {0}) SyncFault → Type 0) → Option (List ℕ) → Option (List ℕ) → Bool → Refusal → RepoStore D G → Type 0
-NotWorkedOn {D} {G} IsRun before now failed e old = ¬ HasFailed old → (new : RepoStore D G) × NotWorkedOver IsRun before now failed e old new
+abbrev pub NotWorkedOn : {D : Type 0} {G : Ghosts D} → (List Spoken → Result (Unit {0}) SyncFault → Type 0) → Option (List ℕ) → Option (List ℕ) → Bool → Refusal → RepoStore D G → RepoStore D G → Type 0
+NotWorkedOn IsRun before now failed e old new = ¬ HasFailed old → NotWorkedOver IsRun before now failed e old new
 
--- the source's repository is opened, and of the mirror's store, if it works, and what it is later P is so
-abbrev pub OverSource : {D F : Type 0} (G : Ghosts D) → (F → Type 0) → (F → List ℕ → Image) → F → List ℕ → RepoStore D G → (RepoStore D G → RepoStore D G → Type 0) → Type 0
-OverSource {D} {F} G honest holds folders source old P =
-    ¬ HasFailed old → (new : RepoStore D G) × (master : RepoStore D G) × IsOpenedIn G (honest folders) (holds folders source) master × P old new × IsKept (honest folders) master
+-- the source's store is opened, and its folder has its disk then; of the mirror's store, if it works, and what it is later P is so
+pub record OverSource {F D : Type 0} (G : Ghosts D) (H : FolderGhosts F D) (folders later : F) (source : List ℕ) (old new : RepoStore D G) (P : RepoStore D G → RepoStore D G → Type 0) : Type 0 where
+  pub given : D
+  pub master : RepoStore D G
+  pub opened : IsOpenedOn G (H.honest folders) given master
+  pub kept : IsKept (H.honest folders) master
+  pub back : AreBack G H folders later (only_of source given (disk_of master))
+  pub done : ¬ HasFailed old → P old new
 
--- or it isn't opened, and nothing is written
-abbrev pub NoSourceOr : {D F : Type 0} (G : Ghosts D) → (F → ℕ) → (F → Type 0) → (F → List ℕ → Image) → F → F → List ℕ → RepoStore D G → Option (List ℕ) → Option (List ℕ) → Refusal → (RepoStore D G → RepoStore D G → Type 0) → Type 0
-NoSourceOr G failures honest holds folders later source old before now e P =
-    (NotOpened (DiskFails G.failures (failures folders) (failures later)) (honest folders) source (holds folders source) e × (now ≡ before)) ⊎ OverSource G honest holds folders source old P
+-- or it isn't opened, the mirror's store stays, and nothing is written
+abbrev pub NoSourceOr : {F D : Type 0} (G : Ghosts D) → FolderGhosts F D → F → F → List ℕ → RepoStore D G → RepoStore D G → Option (List ℕ) → Option (List ℕ) → Refusal → (RepoStore D G → RepoStore D G → Type 0) → Type 0
+NoSourceOr G H folders later source old new before now e P =
+    (NotOpenedIn G H folders later source e × (new ≡ old) × (now ≡ before)) ⊎ OverSource G H folders later source old new P
 
 -- how a mirror stands is told, and the store stays, which a stop leaves
 abbrev pub IsToldOf : {D : Type 0} {G : Ghosts D} → Type 0 → Option (List ℕ) → Option (List ℕ) → RepoStore D G → RepoStore D G → Type 0
@@ -151,64 +190,67 @@ abbrev pub NotToldOf : {D : Type 0} {G : Ghosts D} → Type 0 → Option (List �
 NotToldOf honest before now failed e old new =
     (new ≡ old) × (((info_fault (props_at (revisions_of old) 0) (head_of (revisions_of old)) ≡ Some e) × (now ≡ before)) ⊎ ((e ≡ refusal.PeerFailed) × (failed ≡ true))) × IsKept honest old
 
--- a command is done over what folders hold, with these bytes to read: of a writer that held `before`, what it holds now
-abbrev pub IsDone : {D F : Type 0} → Ghosts D → (F → Type 0) → (F → List ℕ → Image) → F → Command → Option (List ℕ) → Option (List ℕ) → Option (List ℕ) → Type 0
-IsDone G honest holds folders ListIt bytes before now = IfSome bytes (λ read. Accepted product.List read before now)
-IsDone G honest holds folders Canon bytes before now = IfSome bytes (λ read. Accepted product.Canon read before now)
-IsDone G honest holds folders (Create folder identity) bytes before now = IsBegun G (honest folders) (holds folders (string_bytes folder)) identity × (now ≡ before)
-IsDone G honest holds folders (Load folder) bytes before now = OfStanding G (honest folders) (holds folders (string_bytes folder)) (IsLoadedFrom (honest folders) bytes before now)
-IsDone G honest holds folders (Dump folder range) bytes before now = OfStanding G (honest folders) (holds folders (string_bytes folder)) (IsDumped (honest folders) range before now)
-IsDone G honest holds folders (MakeDir folder path message moment) bytes before now =
-    OfStanding G (honest folders) (holds folders (string_bytes folder)) (IsCommittedTo (honest folders) (string_bytes path) (string_bytes message) moment before now)
-IsDone G honest holds folders (Initialize mirror source) bytes before now =
-    OfBoth G honest holds folders (string_bytes mirror) (string_bytes source) (IsWorkedOver (IsInitialised (string_bytes source)) before now)
-IsDone G honest holds folders (Synchronize mirror source token steal) bytes before now =
-    OfBoth G honest holds folders (string_bytes mirror) (string_bytes source) (IsWorkedOver (IsSynchronised token steal) before now)
-IsDone G honest holds folders (CopyRevprops mirror source token range) bytes before now =
-    OfBoth G honest holds folders (string_bytes mirror) (string_bytes source) (IsWorkedOver (IsCopied token (first_in range) (last_in range)) before now)
-IsDone G honest holds folders (Info mirror) bytes before now = OfStanding G (honest folders) (holds folders (string_bytes mirror)) (IsToldOf (honest folders) before now)
+-- a command is done over folders, with these bytes to read: of a writer that held `before`, what it holds now
+abbrev pub IsDone : {F D : Type 0} → Ghosts D → FolderGhosts F D → F → F → Command → Option (List ℕ) → Option (List ℕ) → Option (List ℕ) → Type 0
+IsDone G H folders later ListIt bytes before now = IfSome bytes (λ read. Accepted product.List read before now) × AreBack G H folders later []
+IsDone G H folders later Canon bytes before now = IfSome bytes (λ read. Accepted product.Canon read before now) × AreBack G H folders later []
+IsDone G H folders later (Create folder identity) bytes before now = IsBegun G H folders later (string_bytes folder) identity × (now ≡ before)
+IsDone G H folders later (Load folder) bytes before now = OfStanding G H folders later (string_bytes folder) (IsLoadedFrom (H.honest folders) bytes before now)
+IsDone G H folders later (Dump folder range) bytes before now = OfStanding G H folders later (string_bytes folder) (IsDumped (H.honest folders) range before now)
+IsDone G H folders later (MakeDir folder path message moment) bytes before now =
+    OfStanding G H folders later (string_bytes folder) (IsCommittedTo (H.honest folders) (string_bytes path) (string_bytes message) moment before now)
+IsDone G H folders later (Initialize mirror source) bytes before now =
+    OfBoth G H folders later (string_bytes mirror) (string_bytes source) (IsWorkedOver (IsInitialised (string_bytes source)) before now)
+IsDone G H folders later (Synchronize mirror source token steal) bytes before now =
+    OfBoth G H folders later (string_bytes mirror) (string_bytes source) (IsWorkedOver (IsSynchronised token steal) before now)
+IsDone G H folders later (CopyRevprops mirror source token range) bytes before now =
+    OfBoth G H folders later (string_bytes mirror) (string_bytes source) (IsWorkedOver (IsCopied token (first_in range) (last_in range)) before now)
+IsDone G H folders later (Info mirror) bytes before now = OfStanding G H folders later (string_bytes mirror) (IsToldOf (H.honest folders) before now)
 
 -- the repository isn't opened, and nothing is written; or of the one that stands there P is so
-abbrev pub UnopenedOr : {D : Type 0} (G : Ghosts D) → Type 0 → Type 0 → List ℕ → Image → Option (List ℕ) → Option (List ℕ) → Refusal → (RepoStore D G → RepoStore D G → Type 0) → Type 0
-UnopenedOr G fails honest folder held before now e P = (NotOpened fails honest folder held e × (now ≡ before)) ⊎ OfStanding G honest held P
+abbrev pub UnopenedOr : {F D : Type 0} (G : Ghosts D) → FolderGhosts F D → F → F → List ℕ → Option (List ℕ) → Option (List ℕ) → Refusal → (RepoStore D G → RepoStore D G → Type 0) → Type 0
+UnopenedOr G H folders later folder before now e P = (NotOpenedIn G H folders later folder e × (now ≡ before)) ⊎ OfStanding G H folders later folder P
 
--- of a command over a mirror and its source: the mirror's repository isn't opened; or it is and the source's isn't, and a stop leaves what keeps the mirror's; nothing is written in both; or of both P is so
-pub data UnopenedBoth {D F : Type 0} (G : Ghosts D) (failures : F → ℕ) (honest : F → Type 0) (holds : F → List ℕ → Image) (folders later : F) (mirror source : List ℕ) (before now : Option (List ℕ)) (e : Refusal)
-    (P : RepoStore D G → RepoStore D G → Type 0) : Type 0 where
-  no_mirror : NotOpened (DiskFails G.failures (failures folders) (failures later)) (honest folders) mirror (holds folders mirror) e → now ≡ before → UnopenedBoth G failures honest holds folders later mirror source before now e P
-  no_source : (between : F) (store : RepoStore D G) → IsOpenedIn G (honest folders) (holds folders mirror) store → IsKept (honest folders) store
-      → NotOpened (DiskFails G.failures (failures between) (failures later)) (honest between) source (holds between source) e → now ≡ before → UnopenedBoth G failures honest holds folders later mirror source before now e P
-  both : OfBoth G honest holds folders mirror source P → UnopenedBoth G failures honest holds folders later mirror source before now e P
+-- the source's repository isn't opened, the mirror's is, and a stop leaves what keeps it
+pub record HasNoSource {F D : Type 0} (G : Ghosts D) (H : FolderGhosts F D) (folders later : F) (mirror source : List ℕ) (e : Refusal) : Type 0 where
+  pub given : D
+  pub store : RepoStore D G
+  pub loans : List (Loan D)
+  pub opened : IsOpenedOn G (H.honest folders) given store
+  pub kept : IsKept (H.honest folders) store
+  pub why : NotOpened G (H.honest folders) (Rose (H.failures folders) (H.failures later)) source loans e
+  pub back : AreBack G H folders later (lent_by mirror given (disk_of store) ∷ loans)
+
+-- of a command over a mirror and its source: the mirror's repository isn't opened, or the source's, and nothing is written in both; or of both P is so
+pub data UnopenedBoth {F D : Type 0} (G : Ghosts D) (H : FolderGhosts F D) (folders later : F) (mirror source : List ℕ) (before now : Option (List ℕ)) (e : Refusal) (P : RepoStore D G → RepoStore D G → Type 0) : Type 0 where
+  no_mirror : NotOpenedIn G H folders later mirror e → now ≡ before → UnopenedBoth G H folders later mirror source before now e P
+  no_source : HasNoSource G H folders later mirror source e → now ≡ before → UnopenedBoth G H folders later mirror source before now e P
+  both : OfBoth G H folders later mirror source P → UnopenedBoth G H folders later mirror source before now e P
 
 -- the words of a source that are no value of a property, being too long, aren't kept; or memory ran out
 abbrev pub NotKept : List ℕ → Option (List ℕ) → Option (List ℕ) → Refusal → Type 0
 NotKept source before now e = ((e ≡ refusal.OutOfMemory) ⊎ ((e ≡ refusal.TooLong) × (65536 < length source))) × (now ≡ before)
 
--- a command isn't done: why, and what is written then
-abbrev pub IsNotDone : {D F : Type 0} → Ghosts D → (F → ℕ) → (F → Type 0) → (F → List ℕ → Image) → F → F → Command → Option (List ℕ) → Option (List ℕ) → Option (List ℕ) → Bool → Refusal → Type 0
-IsNotDone G failures honest holds folders later ListIt bytes before now failed e = (failed ≡ true) ⊎ IfSome bytes (λ read. Refused product.List read before now e)
-IsNotDone G failures honest holds folders later Canon bytes before now failed e = (failed ≡ true) ⊎ IfSome bytes (λ read. Refused product.Canon read before now e)
-IsNotDone G failures honest holds folders later (Create folder identity) bytes before now failed e =
-    NotBegun (DiskFails G.failures (failures folders) (failures later)) (honest folders) (holds folders (string_bytes folder)) e × (now ≡ before)
-IsNotDone G failures honest holds folders later (Load folder) bytes before now failed e =
-    UnopenedOr G (DiskFails G.failures (failures folders) (failures later)) (honest folders) (string_bytes folder) (holds folders (string_bytes folder)) before now e
-    (NotLoadedFrom (honest folders) bytes before now failed e)
-IsNotDone G failures honest holds folders later (Dump folder range) bytes before now failed e =
-    UnopenedOr G (DiskFails G.failures (failures folders) (failures later)) (honest folders) (string_bytes folder) (holds folders (string_bytes folder)) before now e
-    (NotDumped (honest folders) range before now failed e)
-IsNotDone G failures honest holds folders later (MakeDir folder path message moment) bytes before now failed e =
-    UnopenedOr G (DiskFails G.failures (failures folders) (failures later)) (honest folders) (string_bytes folder) (holds folders (string_bytes folder)) before now e
-    (NotCommittedTo (honest folders) (string_bytes path) (string_bytes message) moment before now failed e)
-IsNotDone G failures honest holds folders later (Initialize mirror source) bytes before now failed e =
-    NotKept (string_bytes source) before now e
-    ⊎ UnopenedBoth G failures honest holds folders later (string_bytes mirror) (string_bytes source) before now e (NotWorkedOver (IsInitialised (string_bytes source)) before now failed e)
-IsNotDone G failures honest holds folders later (Synchronize mirror source token steal) bytes before now failed e =
-    UnopenedBoth G failures honest holds folders later (string_bytes mirror) (string_bytes source) before now e (NotWorkedOver (IsSynchronised token steal) before now failed e)
-IsNotDone G failures honest holds folders later (CopyRevprops mirror source token range) bytes before now failed e =
-    UnopenedBoth G failures honest holds folders later (string_bytes mirror) (string_bytes source) before now e (NotWorkedOver (IsCopied token (first_in range) (last_in range)) before now failed e)
-IsNotDone G failures honest holds folders later (Info mirror) bytes before now failed e =
-    UnopenedOr G (DiskFails G.failures (failures folders) (failures later)) (honest folders) (string_bytes mirror) (holds folders (string_bytes mirror)) before now e
-    (NotToldOf (honest folders) before now failed e)
+-- a command isn't done: why, what is written then, and what is left of the folders
+abbrev pub IsNotDone : {F D : Type 0} → Ghosts D → FolderGhosts F D → F → F → Command → Option (List ℕ) → Option (List ℕ) → Option (List ℕ) → Bool → Refusal → Type 0
+IsNotDone G H folders later ListIt bytes before now failed e = ((failed ≡ true) ⊎ IfSome bytes (λ read. Refused product.List read before now e)) × AreBack G H folders later []
+IsNotDone G H folders later Canon bytes before now failed e = ((failed ≡ true) ⊎ IfSome bytes (λ read. Refused product.Canon read before now e)) × AreBack G H folders later []
+IsNotDone G H folders later (Create folder identity) bytes before now failed e = NotBegunIn G H folders later (string_bytes folder) identity e × (now ≡ before)
+IsNotDone G H folders later (Load folder) bytes before now failed e =
+    UnopenedOr G H folders later (string_bytes folder) before now e (NotLoadedFrom (H.honest folders) bytes before now failed e)
+IsNotDone G H folders later (Dump folder range) bytes before now failed e =
+    UnopenedOr G H folders later (string_bytes folder) before now e (NotDumped (H.honest folders) range before now failed e)
+IsNotDone G H folders later (MakeDir folder path message moment) bytes before now failed e =
+    UnopenedOr G H folders later (string_bytes folder) before now e (NotCommittedTo (H.honest folders) (string_bytes path) (string_bytes message) moment before now failed e)
+IsNotDone G H folders later (Initialize mirror source) bytes before now failed e =
+    (NotKept (string_bytes source) before now e × AreBack G H folders later [])
+    ⊎ UnopenedBoth G H folders later (string_bytes mirror) (string_bytes source) before now e (NotWorkedOver (IsInitialised (string_bytes source)) before now failed e)
+IsNotDone G H folders later (Synchronize mirror source token steal) bytes before now failed e =
+    UnopenedBoth G H folders later (string_bytes mirror) (string_bytes source) before now e (NotWorkedOver (IsSynchronised token steal) before now failed e)
+IsNotDone G H folders later (CopyRevprops mirror source token range) bytes before now failed e =
+    UnopenedBoth G H folders later (string_bytes mirror) (string_bytes source) before now e (NotWorkedOver (IsCopied token (first_in range) (last_in range)) before now failed e)
+IsNotDone G H folders later (Info mirror) bytes before now failed e =
+    UnopenedOr G H folders later (string_bytes mirror) before now e (NotToldOf (H.honest folders) before now failed e)
 
 -- what was written is handed on
 pub record HandsOn (P : Option (List ℕ) → Type 0) (now : Option (List ℕ)) : Type 0 where

@@ -3,8 +3,8 @@ use Rattle.std.specs.Prelude.{◌≡◌, ◌≢◌, ℕ}
 use Rattle.std.specs.IoError.{error_kind}
 use Rattle.std.specs.declared.io.ErrorKind.TheVariants as kind
 use Rattle.std.specs.declared.io.Error.{Error}
-use Rattle.fleet_main.specs.declared.folders.FolderFault.{FolderFault}
-use Rattle.fleet_main.specs.declared.folders.FolderFault.TheVariants.{DeviceFailed, OutOfMemory}
+use Rattle.fleet_main.specs.declared.lending.FolderFault.{FolderFault}
+use Rattle.fleet_main.specs.declared.lending.FolderFault.TheVariants.{DeviceFailed, OutOfMemory}
 use Rattle.fleet_main.specs.declared.folders.HostFolders.{HostFolders}
 
 -- how often the host has failed

@@ -2,7 +2,9 @@ pub mod Above
 pub mod Doing
 pub mod Host
 pub mod Laws
+pub mod Lending
 pub mod Lines
+pub mod Loans
 pub mod Opening
 pub mod Pulling
 pub mod Serving

@@ -1,6 +1,5 @@
 -- What a command does over the mirror that stands in a folder and a source on a server, and why it doesn't.
-use Rattle.std.specs.Prelude.{◌≡◌, ◌⊎◌, ℕ, Bool, List, Option, Result, string_bytes}
-use Rattle.fleet_disk.specs.Image.{Image}
+use Rattle.std.specs.Prelude.{◌≡◌, ◌⊎◌, ℕ, Bool, List, [], Option, Result, string_bytes}
 use Rattle.fleet_disk.specs.declared.disk.Disk.{Ghosts}
 use Rattle.node_base.specs.declared.refusal.Refusal.{Refusal}
 use Rattle.repo_store.specs.declared.store.RepoStore.{RepoStore}
@@ -13,7 +12,8 @@ use Rattle.mirror_engines.specs.declared.work.Work.TheVariants as work
 use Rattle.ra_client.specs.declared.fault.ClientFault.{ClientFault}
 use Rattle.svn_client.specs.Runs.{IsUnreached, TellsMaster}
 use Rattle.fleet_main.specs.Doing.{IsKept, IsWorkedOver, NotKept, NotWorkedOn, NotWorkedOver, OfStanding, UnopenedOr}
-use Rattle.fleet_main.specs.Opening.{DiskFails}
+use Rattle.fleet_main.specs.Loans.{AreBack}
+use Rattle.fleet_main.specs.declared.lending.Folders.{Ghosts as FolderGhosts}
 use Rattle.fleet_main.specs.declared.command_line.Pull.{Pull}
 use Rattle.fleet_main.specs.declared.command_line.Task.{Task}
 use Rattle.fleet_main.specs.declared.command_line.Task.TheVariants as task
@@ -28,11 +28,11 @@ work_as url (task.CopyRevprops token range) = work.CopyRevprops token (first_in 
 abbrev pub NotReached : Refusal → Type 0
 NotReached e = IsUnreached e ⊎ ((f : ClientFault) × TellsMaster f e)
 
--- a run isn't done over that store: there is no session, and nothing is written; or, if it works, the run is refused
-abbrev pub NotPulledOn : {D : Type 0} {G : Ghosts D} → (List Spoken → Result (Unit {0}) SyncFault → Type 0) → Option (List ℕ) → Option (List ℕ) → Bool → Refusal → RepoStore D G → Type 0
-NotPulledOn IsRun before now failed e old = (NotReached e × (now ≡ before)) ⊎ NotWorkedOn IsRun before now failed e old
+-- a run isn't done over that store: there is no session, the store stays, and nothing is written; or, if it works, the run is refused
+abbrev pub NotPulledOn : {D : Type 0} {G : Ghosts D} → (List Spoken → Result (Unit {0}) SyncFault → Type 0) → Option (List ℕ) → Option (List ℕ) → Bool → Refusal → RepoStore D G → RepoStore D G → Type 0
+NotPulledOn IsRun before now failed e old new = (NotReached e × (now ≡ before) × (new ≡ old)) ⊎ NotWorkedOn IsRun before now failed e old new
 
--- the same of the mirror that is opened: without a session it stays, and a stop leaves what keeps it
+-- the same of the mirror that is opened: without a session a stop leaves what keeps it
 abbrev pub NotPulledOver : {D : Type 0} {G : Ghosts D} → Type 0 → (List Spoken → Result (Unit {0}) SyncFault → Type 0) → Option (List ℕ) → Option (List ℕ) → Bool → Refusal → RepoStore D G → RepoStore D G → Type 0
 NotPulledOver honest IsRun before now failed e old new = (NotReached e × (now ≡ before) × (new ≡ old) × IsKept honest old) ⊎ NotWorkedOver IsRun before now failed e old new
 
@@ -42,13 +42,13 @@ NotKeptFor task.Initialize url before now e = NotKept url before now e
 NotKeptFor _ url before now e = ⊥
 
 -- the mirror that stands in the folder is worked on as it was asked, over the server
-abbrev pub IsPulled : {D F : Type 0} → Ghosts D → (F → Type 0) → (F → List ℕ → Image) → F → Pull → Option (List ℕ) → Option (List ℕ) → Type 0
-IsPulled G honest holds folders pull before now =
-    OfStanding G (honest folders) (holds folders (string_bytes pull.mirror)) (IsWorkedOver (IsWorked (work_as (string_bytes pull.url) pull.task)) before now)
+abbrev pub IsPulled : {F D : Type 0} → Ghosts D → FolderGhosts F D → F → F → Pull → Option (List ℕ) → Option (List ℕ) → Type 0
+IsPulled G H folders later pull before now =
+    OfStanding G H folders later (string_bytes pull.mirror) (IsWorkedOver (IsWorked (work_as (string_bytes pull.url) pull.task)) before now)
 
 -- it isn't: the URL can't be kept, or the mirror isn't opened, and nothing is written; or there is no session, or the run isn't done
-abbrev pub NotPulled : {D F : Type 0} → Ghosts D → (F → ℕ) → (F → Type 0) → (F → List ℕ → Image) → F → F → Pull → Option (List ℕ) → Option (List ℕ) → Bool → Refusal → Type 0
-NotPulled G failures honest holds folders later pull before now failed e =
-    NotKeptFor pull.task (string_bytes pull.url) before now e
-    ⊎ UnopenedOr G (DiskFails G.failures (failures folders) (failures later)) (honest folders) (string_bytes pull.mirror) (holds folders (string_bytes pull.mirror)) before now e
-    (NotPulledOver (honest folders) (IsWorked (work_as (string_bytes pull.url) pull.task)) before now failed e)
+abbrev pub NotPulled : {F D : Type 0} → Ghosts D → FolderGhosts F D → F → F → Pull → Option (List ℕ) → Option (List ℕ) → Bool → Refusal → Type 0
+NotPulled G H folders later pull before now failed e =
+    (NotKeptFor pull.task (string_bytes pull.url) before now e × AreBack G H folders later [])
+    ⊎ UnopenedOr G H folders later (string_bytes pull.mirror) before now e
+    (NotPulledOver (H.honest folders) (IsWorked (work_as (string_bytes pull.url) pull.task)) before now failed e)

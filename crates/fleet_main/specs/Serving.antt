@@ -1,31 +1,43 @@
 -- What `serve` does over the repository that stands in a folder, and why it doesn't.
 use Rattle.std.specs.Prelude.{◌≡◌, ◌⊎◌, ℕ, Bool, List, Option, string_bytes}
 use Rattle.std.specs.Io.KnownBytes.{Appends}
-use Rattle.fleet_disk.specs.Image.{Image}
 use Rattle.fleet_disk.specs.declared.disk.Disk.{Ghosts}
 use Rattle.node_base.specs.declared.refusal.Refusal.{Refusal}
 use Rattle.node_base.specs.declared.refusal.Refusal.TheVariants as refusal
 use Rattle.repo_store.specs.declared.store.RepoStore.{RepoStore}
 use Rattle.sockets.specs.Lines.{listening}
-use Rattle.fleet_main.specs.Doing.{IsKept, OfStanding, UnopenedOr}
-use Rattle.fleet_main.specs.Opening.{DiskFails}
+use Rattle.svn_server.specs.Served.{IsOfStore}
+use Rattle.fleet_main.specs.Doing.{IsKept, IsOpenedOn}
+use Rattle.fleet_main.specs.Lending.{There, IsGiven, OthersStay}
+use Rattle.fleet_main.specs.Opening.{NotOpenedIn}
 use Rattle.fleet_main.specs.declared.command_line.Service.{Service}
+use Rattle.fleet_main.specs.declared.lending.Folders.{Ghosts as FolderGhosts}
 
--- where the server listens was told; as it began a stop left what keeps the repository. What clients change isn't said
-abbrev pub IsServed : {D : Type 0} {G : Ghosts D} → Type 0 → ℕ → Option (List ℕ) → Option (List ℕ) → RepoStore D G → RepoStore D G → Type 0
-IsServed honest port before now old new = (new ≡ old) × Appends before now (listening port) × IsKept honest old
+-- a store is opened on a folder's disk, P is so of it, and as it began a stop left what keeps its repository. Then clients may have changed it: the folder has a store's disk, of which a stop leaves what the store keeps, and other folders stay
+pub record OfServed {F D : Type 0} (G : Ghosts D) (H : FolderGhosts F D) (folders later : F) (folder : List ℕ) (P : Type 0) : Type 0 where
+  pub given : D
+  pub old : RepoStore D G
+  pub back : D
+  pub opened : IsOpenedOn G (H.honest folders) given old
+  pub done : P
+  pub kept : IsKept (H.honest folders) old
+  pub lent : H.honest folders → IsGiven G (H.disk folders folder) given
+  pub there : H.honest folders → H.disk later folder ≡ There back
+  pub left : IsOfStore G back
+  pub others : H.honest folders → OthersStay folder (H.disk folders) (H.disk later)
+  pub honest : H.honest folders → G.honest back → H.honest later
 
--- it isn't served: the port can't be listened on, or where isn't told, or memory ran out
-abbrev pub NotServed : {D : Type 0} {G : Ghosts D} → Type 0 → Refusal → RepoStore D G → RepoStore D G → Type 0
-NotServed honest e old new = (new ≡ old) × ((e ≡ refusal.OutOfMemory) ⊎ (e ≡ refusal.PeerFailed)) × IsKept honest old
+-- the repository of a folder is served, and where was told
+abbrev pub IsServedFrom : {F D : Type 0} → Ghosts D → FolderGhosts F D → F → F → Service → Option (List ℕ) → Option (List ℕ) → Type 0
+IsServedFrom G H folders later service before now = OfServed G H folders later (string_bytes service.folder) (Appends before now (listening service.port))
 
--- the repository of a folder is served
-abbrev pub IsServedFrom : {D F : Type 0} → Ghosts D → (F → Type 0) → (F → List ℕ → Image) → F → Service → Option (List ℕ) → Option (List ℕ) → Type 0
-IsServedFrom G honest holds folders service before now =
-    OfStanding G (honest folders) (holds folders (string_bytes service.folder)) (IsServed (honest folders) service.port before now)
+-- a server fails: the port can't be listened on, or where isn't told, or memory ran out
+abbrev pub IsServerFault : Refusal → Type 0
+IsServerFault e = (e ≡ refusal.OutOfMemory) ⊎ (e ≡ refusal.PeerFailed)
 
--- it isn't: it isn't opened, and nothing is written; or the server fails
-abbrev pub NotServedFrom : {D F : Type 0} → Ghosts D → (F → ℕ) → (F → Type 0) → (F → List ℕ → Image) → F → F → Service → Option (List ℕ) → Option (List ℕ) → Bool → Refusal → Type 0
-NotServedFrom G failures honest holds folders later service before now failed e =
-    UnopenedOr G (DiskFails G.failures (failures folders) (failures later)) (honest folders) (string_bytes service.folder) (holds folders (string_bytes service.folder)) before now e
-    (NotServed (honest folders) e)
+-- it isn't served: it isn't opened, and nothing is written; or the server fails
+abbrev pub NotServedIn : {F D : Type 0} → Ghosts D → FolderGhosts F D → F → F → List ℕ → Option (List ℕ) → Option (List ℕ) → Refusal → Type 0
+NotServedIn G H folders later folder before now e = (NotOpenedIn G H folders later folder e × (now ≡ before)) ⊎ OfServed G H folders later folder (IsServerFault e)
+
+abbrev pub NotServedFrom : {F D : Type 0} → Ghosts D → FolderGhosts F D → F → F → Service → Option (List ℕ) → Option (List ℕ) → Bool → Refusal → Type 0
+NotServedFrom G H folders later service before now failed e = NotServedIn G H folders later (string_bytes service.folder) before now e

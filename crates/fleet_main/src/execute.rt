@@ -1,21 +1,21 @@
 //! One command, from its words to its status.
-ghost use Rattle.std.specs.Prelude.{◌≡◌, ◌⊎◌, ◌||◌, ◌<◌, length, true, IfErr, IfOk, OnOk, string_bytes};
+ghost use Rattle.std.specs.Prelude.{◌≡◌, ◌⊎◌, ◌||◌, ◌<◌, [], length, true, IfErr, IfOk, OnOk, string_bytes};
 ghost use Rattle.std.specs.Io.KnownBytes.{Appends};
-ghost use Rattle.fleet_disk.specs.Image.{Image};
 ghost use Rattle.node_base.specs.declared.refusal.Refusal.{Refusal as RefusalOf};
 ghost use Rattle.node_base.specs.Refusals.{fault_line};
-ghost use Rattle.repo_store.specs.Journal.{Keeps};
-ghost use Rattle.repo_store.specs.Words.{disk_of, repository_of, HasFailed};
+ghost use Rattle.repo_store.specs.Words.{disk_of, HasFailed};
 ghost use Rattle.fleet_engines.specs.Runs.{BothFlagged, Flagged};
 ghost use Rattle.mirror_engines.specs.Runs.{IsInitialised, IsWorked};
 ghost use Rattle.fleet_main.specs.Doing.{EndsWith, HandsOn, IsBegun, IsCommittedTo, IsDone, IsDumped, IsLoadedFrom};
 ghost use Rattle.fleet_main.specs.Doing.{IsNotDone, IsToldOf, IsWorkedOver, NoSourceOr, NotCommittedTo, NotDumped};
 ghost use Rattle.fleet_main.specs.Doing.{NotKept, NotLoadedFrom, NotToldOf, NotWorkedOn, NotWorkedOver, OfBoth};
 ghost use Rattle.fleet_main.specs.Doing.{OfStanding, OverSource, UnopenedBoth, UnopenedOr, WorkedOn};
-ghost use Rattle.fleet_main.specs.Opening.{DiskFails, NotBegun};
+ghost use Rattle.fleet_main.specs.Loans.{AreBack};
+ghost use Rattle.fleet_main.specs.Opening.{NotBegunIn};
 
 use crate::command_line::Command;
-use crate::folders::{Folders, created, opened};
+use crate::folders::{closed, created, opened};
+use crate::lending::Folders;
 use fleet_disk::Disk;
 use fleet_engines::{Sink, Source, run_canon, run_list};
 use mirror_engines::{Work, run_info, run_work};
@@ -33,28 +33,19 @@ use uuid::Uuid;
 // The status of a command that was refused.
 const REFUSED: u8 = 1;
 
-/// What a stop leaves now keeps the repository.
-pub(crate) fn kept<D: Disk + Drop>(store: &RepoStore<D>)
-    ensures { D.honest (disk_of store.now) → ¬ HasFailed store.now → (left : Image)
-        → D.may_leave (disk_of store.now) left → Keeps (repository_of store.now) left }
-{
-    let _repo = store.repo();
-}
-
 fn create<F: Folders>(
     alloc: Global,
     folders: &mut F,
     folder: &str,
     identity: Uuid,
 ) -> Result<(), Refusal>
-    ensures done { OnOk result (IsBegun F.Place.Disk (F.honest folders.old) (F.holds folders.old folder.now) identity) }
-    ensures refused { IfErr result (NotBegun (DiskFails F.Place.failures (F.failures folders.old)
-        (F.failures folders.new)) (F.honest folders.old) (F.holds folders.old folder.now)) }
+    ensures done { OnOk result (IsBegun F.Place.Disk F.Folders folders.old folders.new folder.now identity) }
+    ensures refused { IfErr result (NotBegunIn F.Place.Disk F.Folders folders.old folders.new folder.now identity) }
     ensures no_peer { IfErr result (λ e. e ≡ Refusal.PeerFailed → ⊥) }
 {
     match created(alloc, folders, folder, identity) {
-        Ok(store) => {
-            kept(&store);
+        Ok(begun) => {
+            closed(folders, folder, begun);
             Ok(())
         }
         Err(refusal) => Err(refusal),
@@ -68,21 +59,20 @@ fn load<F: Folders, R: Read + Drop, W: Write + Drop>(
     input: &mut Source<R>,
     output: &mut Sink<W>,
 ) -> Result<(), Refusal>
-    ensures done { OnOk result (OfStanding F.Place.Disk (F.honest folders.old) (F.holds folders.old folder.now)
+    ensures done { OnOk result (OfStanding F.Place.Disk F.Folders folders.old folders.new folder.now
         (IsLoadedFrom (F.honest folders.old) (R.remaining input.old.inner) (W.contents output.old.inner)
         (W.contents output.new.inner))) }
-    ensures refused { IfErr result (λ e. UnopenedOr F.Place.Disk
-        (DiskFails F.Place.failures (F.failures folders.old) (F.failures folders.new)) (F.honest folders.old) folder.now
-        (F.holds folders.old folder.now) (W.contents output.old.inner) (W.contents output.new.inner) e
+    ensures refused { IfErr result (λ e. UnopenedOr F.Place.Disk F.Folders folders.old folders.new folder.now
+        (W.contents output.old.inner) (W.contents output.new.inner) e
         (NotLoadedFrom (F.honest folders.old) (R.remaining input.old.inner) (W.contents output.old.inner)
         (W.contents output.new.inner) output.new.failed e)) }
     ensures peer { BothFlagged result input.old.failed input.new.failed output.old.failed output.new.failed }
 {
     match opened(alloc, folders, folder) {
         Ok(store) => {
-            let mut store = store;
-            let done = run_load(alloc, &mut store, input, output);
-            kept(&store);
+            let mut loaded = store;
+            let done = run_load(alloc, &mut loaded, input, output);
+            closed(folders, folder, loaded);
             done
         }
         Err(refusal) => Err(refusal),
@@ -96,19 +86,19 @@ fn dump<F: Folders, W: Write + Drop>(
     range: Option<RevRange>,
     output: &mut Sink<W>,
 ) -> Result<(), Refusal>
-    ensures done { OnOk result (OfStanding F.Place.Disk (F.honest folders.old) (F.holds folders.old folder.now)
+    ensures done { OnOk result (OfStanding F.Place.Disk F.Folders folders.old folders.new folder.now
         (IsDumped (F.honest folders.old) range (W.contents output.old.inner) (W.contents output.new.inner))) }
-    ensures refused { IfErr result (λ e. UnopenedOr F.Place.Disk
-        (DiskFails F.Place.failures (F.failures folders.old) (F.failures folders.new)) (F.honest folders.old) folder.now
-        (F.holds folders.old folder.now) (W.contents output.old.inner) (W.contents output.new.inner) e
+    ensures refused { IfErr result (λ e. UnopenedOr F.Place.Disk F.Folders folders.old folders.new folder.now
+        (W.contents output.old.inner) (W.contents output.new.inner) e
         (NotDumped (F.honest folders.old) range (W.contents output.old.inner) (W.contents output.new.inner)
         output.new.failed e)) }
     ensures peer { Flagged result output.old.failed output.new.failed }
 {
     match opened(alloc, folders, folder) {
         Ok(store) => {
-            kept(&store);
-            run_dump(alloc, &store, range, output)
+            let done = run_dump(alloc, &store, range, output);
+            closed(folders, folder, store);
+            done
         }
         Err(refusal) => Err(refusal),
     }
@@ -123,12 +113,11 @@ fn make_dir<F: Folders, W: Write + Drop>(
     moment: Moment,
     output: &mut Sink<W>,
 ) -> Result<(), Refusal>
-    ensures done { OnOk result (OfStanding F.Place.Disk (F.honest folders.old) (F.holds folders.old folder.now)
+    ensures done { OnOk result (OfStanding F.Place.Disk F.Folders folders.old folders.new folder.now
         (IsCommittedTo (F.honest folders.old) path.now message.now moment (W.contents output.old.inner)
         (W.contents output.new.inner))) }
-    ensures refused { IfErr result (λ e. UnopenedOr F.Place.Disk
-        (DiskFails F.Place.failures (F.failures folders.old) (F.failures folders.new)) (F.honest folders.old) folder.now
-        (F.holds folders.old folder.now) (W.contents output.old.inner) (W.contents output.new.inner) e
+    ensures refused { IfErr result (λ e. UnopenedOr F.Place.Disk F.Folders folders.old folders.new folder.now
+        (W.contents output.old.inner) (W.contents output.new.inner) e
         (NotCommittedTo (F.honest folders.old) path.now message.now moment (W.contents output.old.inner)
         (W.contents output.new.inner) output.new.failed e)) }
     ensures peer { Flagged result output.old.failed output.new.failed }
@@ -137,7 +126,7 @@ fn make_dir<F: Folders, W: Write + Drop>(
         Ok(store) => {
             let mut store = store;
             let done = run_mkdir(alloc, &mut store, path, message, moment, output);
-            kept(&store);
+            closed(folders, folder, store);
             done
         }
         Err(refusal) => Err(refusal),
@@ -150,19 +139,19 @@ fn info<F: Folders, W: Write + Drop>(
     mirror: &str,
     output: &mut Sink<W>,
 ) -> Result<(), Refusal>
-    ensures done { OnOk result (OfStanding F.Place.Disk (F.honest folders.old) (F.holds folders.old mirror.now)
+    ensures done { OnOk result (OfStanding F.Place.Disk F.Folders folders.old folders.new mirror.now
         (IsToldOf (F.honest folders.old) (W.contents output.old.inner) (W.contents output.new.inner))) }
-    ensures refused { IfErr result (λ e. UnopenedOr F.Place.Disk
-        (DiskFails F.Place.failures (F.failures folders.old) (F.failures folders.new)) (F.honest folders.old) mirror.now
-        (F.holds folders.old mirror.now) (W.contents output.old.inner) (W.contents output.new.inner) e
+    ensures refused { IfErr result (λ e. UnopenedOr F.Place.Disk F.Folders folders.old folders.new mirror.now
+        (W.contents output.old.inner) (W.contents output.new.inner) e
         (NotToldOf (F.honest folders.old) (W.contents output.old.inner) (W.contents output.new.inner)
         output.new.failed e)) }
     ensures peer { Flagged result output.old.failed output.new.failed }
 {
     match opened(alloc, folders, mirror) {
         Ok(store) => {
-            kept(&store);
-            run_info(&store, output)
+            let done = run_info(&store, output);
+            closed(folders, mirror, store);
+            done
         }
         Err(refusal) => Err(refusal),
     }
@@ -177,24 +166,25 @@ fn mirrored<F: Folders, W: Write + Drop>(
     work: Work,
     output: Sink<W>,
 ) -> (Sink<W>, Result<(), Refusal>)
-    ensures done { OnOk result.1 (OfBoth F.Place.Disk F.honest F.holds folders.old mirror.now source.now
+    ensures done { OnOk result.1 (OfBoth F.Place.Disk F.Folders folders.old folders.new mirror.now source.now
         (IsWorkedOver (IsWorked work) (W.contents output.inner) (W.contents result.0.inner))) }
-    ensures refused { IfErr result.1 (λ e. UnopenedBoth F.Place.Disk F.failures F.honest F.holds folders.old folders.new
-        mirror.now source.now (W.contents output.inner) (W.contents result.0.inner) e
+    ensures refused { IfErr result.1 (λ e. UnopenedBoth F.Place.Disk F.Folders folders.old folders.new mirror.now
+        source.now (W.contents output.inner) (W.contents result.0.inner) e
         (NotWorkedOver (IsWorked work) (W.contents output.inner) (W.contents result.0.inner) result.0.failed e)) }
     ensures unfailed { OnOk result.1 (result.0.failed ≡ output.failed) }
     ensures peer { IfErr result.1 (λ e. e ≡ Refusal.PeerFailed → result.0.failed ≡ true) }
 {
     match opened(alloc, folders, mirror) {
         Ok(store) => {
-            kept(&store);
-            mirrored_from(alloc, folders, store, source, work, output)
+            let (store, output, done) = mirrored_from(alloc, folders, store, source, work, output);
+            closed(folders, mirror, store);
+            (output, done)
         }
         Err(refusal) => (output, Err(refusal)),
     }
 }
 
-// Then the source's; and the work is done.
+// Then the source's; and the work is done. The mirror's store comes back.
 fn mirrored_from<F: Folders, W: Write + Drop>(
     alloc: Global,
     folders: &mut F,
@@ -202,46 +192,43 @@ fn mirrored_from<F: Folders, W: Write + Drop>(
     source: &str,
     work: Work,
     output: Sink<W>,
-) -> (Sink<W>, Result<(), Refusal>)
-    ensures done { OnOk result.1 (OverSource F.Place.Disk F.honest F.holds folders.old source.now mirror
-        (IsWorkedOver (IsWorked work) (W.contents output.inner) (W.contents result.0.inner))) }
-    ensures refused { IfErr result.1 (λ e. NoSourceOr F.Place.Disk F.failures F.honest F.holds folders.old folders.new
-        source.now mirror (W.contents output.inner) (W.contents result.0.inner) e
-        (NotWorkedOver (IsWorked work) (W.contents output.inner) (W.contents result.0.inner) result.0.failed e)) }
-    ensures unfailed { OnOk result.1 (result.0.failed ≡ output.failed) }
-    ensures peer { IfErr result.1 (λ e. e ≡ Refusal.PeerFailed → result.0.failed ≡ true) }
+) -> (RepoStore<F::Place>, Sink<W>, Result<(), Refusal>)
+    ensures done { OnOk result.2 (OverSource F.Place.Disk F.Folders folders.old folders.new source.now mirror result.0
+        (IsWorkedOver (IsWorked work) (W.contents output.inner) (W.contents result.1.inner))) }
+    ensures refused { IfErr result.2 (λ e. NoSourceOr F.Place.Disk F.Folders folders.old folders.new source.now mirror
+        result.0 (W.contents output.inner) (W.contents result.1.inner) e
+        (NotWorkedOver (IsWorked work) (W.contents output.inner) (W.contents result.1.inner) result.1.failed e)) }
+    ensures rules { ¬ HasFailed mirror → F.Place.honest (disk_of mirror) → F.Place.honest (disk_of result.0) }
+    ensures unfailed { OnOk result.2 (result.1.failed ≡ output.failed) }
+    ensures peer { IfErr result.2 (λ e. e ≡ Refusal.PeerFailed → result.1.failed ≡ true) }
 {
     match opened(alloc, folders, source) {
         Ok(store) => {
-            kept(&store);
-            worked(alloc, mirror, store, work, output)
+            let (mirror, output, done) = worked(alloc, mirror, &store, work, output);
+            closed(folders, source, store);
+            (mirror, output, done)
         }
-        Err(refusal) => {
-            let _disk = mirror.into_disk();
-            (output, Err(refusal))
-        }
+        Err(refusal) => (mirror, output, Err(refusal)),
     }
 }
 
 fn worked<D: Disk + Drop, W: Write + Drop>(
     alloc: Global,
     mirror: RepoStore<D>,
-    source: RepoStore<D>,
+    source: &RepoStore<D>,
     work: Work,
     output: Sink<W>,
-) -> (Sink<W>, Result<(), Refusal>)
-    ensures done { OnOk result.1 (WorkedOn (IsWorked work) (W.contents output.inner)
-        (W.contents result.0.inner) mirror) }
-    ensures refused { IfErr result.1 (λ e. NotWorkedOn (IsWorked work) (W.contents output.inner)
-        (W.contents result.0.inner) result.0.failed e mirror) }
-    ensures unfailed { OnOk result.1 (result.0.failed ≡ output.failed) }
-    ensures peer { IfErr result.1 (λ e. e ≡ Refusal.PeerFailed → result.0.failed ≡ true) }
+) -> (RepoStore<D>, Sink<W>, Result<(), Refusal>)
+    ensures done { OnOk result.2 (WorkedOn (IsWorked work) (W.contents output.inner) (W.contents result.1.inner) mirror
+        result.0) }
+    ensures refused { IfErr result.2 (λ e. NotWorkedOn (IsWorked work) (W.contents output.inner)
+        (W.contents result.1.inner) result.1.failed e mirror result.0) }
+    ensures rules { ¬ HasFailed mirror → D.honest (disk_of mirror) → D.honest (disk_of result.0) }
+    ensures unfailed { OnOk result.2 (result.1.failed ≡ output.failed) }
+    ensures peer { IfErr result.2 (λ e. e ≡ Refusal.PeerFailed → result.1.failed ≡ true) }
 {
-    let master = LentMaster::new(&source);
-    let (mirror, output, done) = run_work(alloc, mirror, master, work, output);
-    let _disk = mirror.into_disk();
-    let _source = source.into_disk();
-    (output, done)
+    let master = LentMaster::new(source);
+    run_work(alloc, mirror, master, work, output)
 }
 
 fn initialize<F: Folders, W: Write + Drop>(
@@ -251,10 +238,11 @@ fn initialize<F: Folders, W: Write + Drop>(
     source: &str,
     output: Sink<W>,
 ) -> (Sink<W>, Result<(), Refusal>)
-    ensures done { OnOk result.1 (OfBoth F.Place.Disk F.honest F.holds folders.old mirror.now source.now
+    ensures done { OnOk result.1 (OfBoth F.Place.Disk F.Folders folders.old folders.new mirror.now source.now
         (IsWorkedOver (IsInitialised source.now) (W.contents output.inner) (W.contents result.0.inner))) }
-    ensures refused { IfErr result.1 (λ e. NotKept source.now (W.contents output.inner) (W.contents result.0.inner) e
-        ⊎ UnopenedBoth F.Place.Disk F.failures F.honest F.holds folders.old folders.new mirror.now source.now
+    ensures refused { IfErr result.1 (λ e. (NotKept source.now (W.contents output.inner) (W.contents result.0.inner) e
+        × AreBack F.Place.Disk F.Folders folders.old folders.new [])
+        ⊎ UnopenedBoth F.Place.Disk F.Folders folders.old folders.new mirror.now source.now
         (W.contents output.inner) (W.contents result.0.inner) e
         (NotWorkedOver (IsInitialised source.now) (W.contents output.inner) (W.contents result.0.inner)
         result.0.failed e)) }
@@ -300,11 +288,10 @@ fn run_one<F: Folders, R: Read + Drop, W: Write + Drop>(
     input: &mut Source<R>,
     output: Sink<W>,
 ) -> (Sink<W>, Result<(), Refusal>)
-    ensures done { OnOk result.1 (IsDone F.Place.Disk F.honest F.holds folders.old command
+    ensures done { OnOk result.1 (IsDone F.Place.Disk F.Folders folders.old folders.new command
         (R.remaining input.old.inner) (W.contents output.inner) (W.contents result.0.inner)) }
-    ensures refused { IfErr result.1 (IsNotDone F.Place.Disk F.failures F.honest F.holds folders.old
-        folders.new command (R.remaining input.old.inner) (W.contents output.inner) (W.contents result.0.inner)
-        result.0.failed) }
+    ensures refused { IfErr result.1 (IsNotDone F.Place.Disk F.Folders folders.old folders.new command
+        (R.remaining input.old.inner) (W.contents output.inner) (W.contents result.0.inner) result.0.failed) }
     ensures unfailed { OnOk result.1 ((input.new.failed ≡ input.old.failed) × (result.0.failed ≡ output.failed)) }
     ensures peer { IfErr result.1 (λ e. e ≡ Refusal.PeerFailed → (input.new.failed || result.0.failed) ≡ true) }
 {
@@ -395,11 +382,11 @@ fn run_flushed<F: Folders, R: Read + Drop, W: Write + Drop>(
     input: &mut Source<R>,
     output: Sink<W>,
 ) -> (Sink<W>, Result<(), Refusal>)
-    ensures done { OnOk result.1 (HandsOn (IsDone F.Place.Disk F.honest F.holds folders.old command
+    ensures done { OnOk result.1 (HandsOn (IsDone F.Place.Disk F.Folders folders.old folders.new command
         (R.remaining input.old.inner) (W.contents output.inner)) (W.contents result.0.inner)) }
-    ensures refused { IfErr result.1 (EndsWith (IsDone F.Place.Disk F.honest F.holds folders.old command
+    ensures refused { IfErr result.1 (EndsWith (IsDone F.Place.Disk F.Folders folders.old folders.new command
         (R.remaining input.old.inner) (W.contents output.inner))
-        (IsNotDone F.Place.Disk F.failures F.honest F.holds folders.old folders.new command
+        (IsNotDone F.Place.Disk F.Folders folders.old folders.new command
         (R.remaining input.old.inner) (W.contents output.inner)) (W.contents result.0.inner) result.0.failed) }
     ensures unfailed { OnOk result.1 ((input.new.failed ≡ input.old.failed) × (result.0.failed ≡ output.failed)) }
     ensures peer { IfErr result.1 (λ e. e ≡ Refusal.PeerFailed → (input.new.failed || result.0.failed) ≡ true) }
@@ -417,10 +404,9 @@ fn run_flushed<F: Folders, R: Read + Drop, W: Write + Drop>(
 /// refused, and then the refusal's line is on `errors`. What was written before a refusal is flushed before its line.
 /// The writer comes back as the command has left it.
 ///
-/// Of honest folders it says besides what repository the folder's files kept, what the command made of it, and what a
-/// stop leaves: after a `create` that is done, and at each moment of the others. Of the commands over a mirror and its
-/// source it says this of both, the mirror's folder as it was and the source's as the opening of the mirror's has left
-/// it.
+/// Of honest folders it says besides what repository the folder's disk kept, what the command made of it, and what a
+/// stop leaves at each moment and afterwards: the folder has that disk again in the end, and every other folder what it
+/// had. Of the commands over a mirror and its source it says this of both. Folders that were honest still are.
 pub fn run<F: Folders, R: Read + Drop, W: Write + Drop, E: Write + Drop>(
     alloc: Global,
     folders: &mut F,
@@ -430,14 +416,14 @@ pub fn run<F: Folders, R: Read + Drop, W: Write + Drop, E: Write + Drop>(
     errors: &mut Sink<E>,
 ) -> (u8, Sink<W>)
     ensures status { (result.0 ≡ 0) ⊎ (result.0 ≡ 1) }
-    ensures done { result.0 ≡ 0 → HandsOn (IsDone F.Place.Disk F.honest F.holds folders.old command
+    ensures done { result.0 ≡ 0 → HandsOn (IsDone F.Place.Disk F.Folders folders.old folders.new command
         (R.remaining input.old.inner) (W.contents output.inner)) (W.contents result.1.inner) }
     ensures unfailed { result.0 ≡ 0 → (input.new.failed ≡ input.old.failed) × (result.1.failed ≡ output.failed) }
     ensures silent { result.0 ≡ 0 → E.contents errors.new.inner ≡ E.contents errors.old.inner }
     ensures refused { result.0 ≡ 1 → (e : RefusalOf)
-        × EndsWith (IsDone F.Place.Disk F.honest F.holds folders.old command
+        × EndsWith (IsDone F.Place.Disk F.Folders folders.old folders.new command
         (R.remaining input.old.inner) (W.contents output.inner))
-        (IsNotDone F.Place.Disk F.failures F.honest F.holds folders.old folders.new command
+        (IsNotDone F.Place.Disk F.Folders folders.old folders.new command
         (R.remaining input.old.inner) (W.contents output.inner)) (W.contents result.1.inner) result.1.failed e
         × (e ≡ Refusal.PeerFailed → (input.new.failed || result.1.failed) ≡ true)
         × ((errors.new.failed ≡ true) ⊎ Appends (E.contents errors.old.inner) (E.contents errors.new.inner)

@@ -1,17 +1,18 @@
 //! Folders, each the place of a repository.
-ghost use Rattle.std.specs.Prelude.{◌≡◌, ◌≢◌, ◌↔◌, ◌⊎◌, ℕ, List, Some, None, Ok, Err, IfOk, IfErr, IsErrAnd, OnErr};
-ghost use Rattle.std.specs.Prelude.{OnOk};
+ghost use Rattle.std.specs.Prelude.{◌≡◌, ◌⊎◌, Ok, IfOk, IfErr, IsErrAnd, OnOk};
 ghost use Rattle.fleet_disk.specs.Host.{failures_of, HasBytes, HasFiles};
-ghost use Rattle.fleet_disk.specs.Image.{Image, no_bytes};
+ghost use Rattle.fleet_disk.specs.Image.{Image};
 ghost use Rattle.fleet_disk.specs.Rules.{Rose};
-ghost use Rattle.repo_core.specs.Repository.{fresh};
-ghost use Rattle.repo_store.specs.Journal.{Keeps, ReopensTo};
-ghost use Rattle.repo_store.specs.Words.{disk_of, identity_of, repository_of, revisions_of, HasFailed};
+ghost use Rattle.repo_store.specs.Journal.{Keeps};
+ghost use Rattle.repo_store.specs.Words.{disk_of, repository_of, HasFailed};
 ghost use Rattle.fleet_main.specs.Above.{IsAbove};
-ghost use Rattle.fleet_main.specs.Doing.{IsOpenedIn};
+ghost use Rattle.fleet_main.specs.Doing.{IsBegunIn, IsOpenedIn};
 ghost use Rattle.fleet_main.specs.Host.{IsFaultOf, host_failures};
-ghost use Rattle.fleet_main.specs.Opening.{DiskFails, NotBegun, NotOpened, folder_refusal};
+ghost use Rattle.fleet_main.specs.Lending.{Missing};
+ghost use Rattle.fleet_main.specs.Loans.{TakesBack};
+ghost use Rattle.fleet_main.specs.Opening.{NotBegunIn, NotOpenedIn, folder_refusal};
 
+use crate::lending::{FolderFault, Folders};
 use fleet_disk::{Disk, HeldFiles, HostDisk, StdFiles};
 use node_base::Refusal;
 use repo_store::RepoStore;
@@ -22,48 +23,6 @@ use std::rt::Files;
 use std::{fs, io};
 use store_engines::{create_store, open_store};
 use uuid::Uuid;
-
-/// Why a folder gives no disk.
-#[derive(Clone, Copy, Debug, PartialEq, Eq)]
-pub enum FolderFault {
-    /// The host failed (31).
-    DeviceFailed,
-    /// Memory ran out (70).
-    OutOfMemory,
-}
-
-/// Where folders are, each of them the place of a disk.
-///
-/// What the clauses say of bytes holds of honest folders. A folder gives no disk only where the count of failures rose,
-/// or where memory ran out, honest or not.
-pub trait Folders {
-    /// The disk of a folder.
-    type Place: Disk + Drop;
-
-    /// The disks that it gives keep the rules.
-    ghost honest: { Self → Type 0 };
-
-    /// What a read of a folder's files gives; of those that aren't there nothing.
-    ghost holds: { Self → List ℕ → Image };
-
-    /// How often the host has failed.
-    ghost failures: { Self → ℕ };
-
-    /// The disk of a folder as it stands; nothing is made.
-    fn open(&mut self, alloc: Global, folder: &str) -> Result<Self::Place, FolderFault>
-        ensures honest { honest self.old → IfOk result (λ disk. Self.Place.honest disk) }
-        ensures reads { honest self.old → IfOk result (λ disk. Self.Place.reads disk ≡ holds self.old folder.now) }
-        ensures cause { IfErr result (λ e. e ≡ FolderFault.DeviceFailed
-            → Rose (failures self.old) (failures self.new)) };
-
-    /// The same of a folder that is made where it is missing, as its files are where they are empty; the folder above
-    /// has to be there.
-    fn create(&mut self, alloc: Global, folder: &str) -> Result<Self::Place, FolderFault>
-        ensures honest { honest self.old → IfOk result (λ disk. Self.Place.honest disk) }
-        ensures reads { honest self.old → IfOk result (λ disk. Self.Place.reads disk ≡ holds self.old folder.now) }
-        ensures cause { IfErr result (λ e. e ≡ FolderFault.DeviceFailed
-            → Rose (failures self.old) (failures self.new)) };
-}
 
 /// The folders of the host.
 ///
@@ -110,7 +69,7 @@ impl<'a, R: HeldFiles> Folders for HostFolders<'a, R> {
     // Nothing shows it of the host.
     ghost honest = { λ folders. ⊥ };
 
-    ghost holds = { λ folders folder. no_bytes };
+    ghost disk = { λ folders folder. Missing };
 
     ghost failures = { λ folders. folders.failures };
 
@@ -131,6 +90,12 @@ impl<'a, R: HeldFiles> Folders for HostFolders<'a, R> {
         let rt = self.rt;
         self.answered(made(rt, alloc, folder))
     }
+
+    fn close(&mut self, _folder: &str, place: HostDisk<StdFiles<R::File>>) {
+        drop(place);
+    }
+
+    ghost keeps_rules = { λ folders folder place honest there. absurd honest };
 }
 
 // The folder that a folder is in, as its words say it.
@@ -185,46 +150,52 @@ fn folder_refusal(fault: FolderFault) -> Refusal
     }
 }
 
-/// Begins a repository in a folder, which is made where it is missing. ThereAlready (35) where the folder has one,
-/// DeviceFailed (31) where the host or the folder's disk fails, OutOfMemory (70).
+/// Gives a folder the disk of its store back. What a stop leaves of a store that works keeps its repository.
+pub fn closed<F: Folders>(folders: &mut F, folder: &str, store: RepoStore<F::Place>)
+    ensures back { TakesBack F.Place.Disk F.Folders folders.old folders.new folder.now (disk_of store) }
+    ensures kept { F.Place.honest (disk_of store) → ¬ HasFailed store → (left : Image)
+        → F.Place.may_leave (disk_of store) left → Keeps (repository_of store) left }
+{
+    let _repo = store.repo();
+    folders.close(folder, store.into_disk());
+}
+
+/// Begins a repository in a folder, which is made where it is missing; the folder's disk is lent then. ThereAlready (35)
+/// where the folder has one, DeviceFailed (31) where the host or the folder's disk fails, OutOfMemory (70). After a
+/// refusal the folder has its disk.
 pub fn created<F: Folders>(
     alloc: Global,
     folders: &mut F,
     folder: &str,
     identity: Uuid,
 ) -> Result<RepoStore<F::Place>, Refusal>
-    ensures made { IfOk result (λ store. repository_of store ≡ fresh identity) }
-    ensures working { IfOk result (λ store. ¬ HasFailed store) }
-    ensures honest { F.honest folders.old → IfOk result (λ store. F.Place.honest (disk_of store)) }
-    ensures empty { F.honest folders.old → IfOk result (λ _. F.holds folders.old folder.now ≡ no_bytes) }
-    ensures durable { F.honest folders.old
-        → IfOk result (λ store. (left : Image) → F.Place.may_leave (disk_of store) left → Keeps (fresh identity) left) }
-    ensures refused { IfErr result (NotBegun (DiskFails F.Place.failures (F.failures folders.old)
-        (F.failures folders.new)) (F.honest folders.old) (F.holds folders.old folder.now)) }
+    ensures begun { IfOk result (IsBegunIn F.Place.Disk F.Folders folders.old folders.new folder.now identity) }
+    ensures refused { IfErr result (NotBegunIn F.Place.Disk F.Folders folders.old folders.new folder.now identity) }
     ensures no_peer { IfErr result (λ e. e ≡ Refusal.PeerFailed → ⊥) }
 {
     match folders.create(alloc, folder) {
         Ok(disk) => match create_store(alloc, disk, identity) {
             Ok(store) => Ok(store),
-            Err((refusal, _disk)) => Err(refusal),
+            Err((refusal, disk)) => {
+                folders.close(folder, disk);
+                Err(refusal)
+            }
         },
         Err(fault) => Err(folder_refusal(fault)),
     }
 }
 
-/// Opens the repository of a folder, with the sets of changes that its entries tell. NoRepository (34) where the folder
-/// has no name or no entry is in its files, Damaged (33) with the first entry that is, DeviceFailed (31) where the host
-/// or the folder's disk fails, OutOfMemory (70).
+/// Opens the repository of a folder, with the sets of changes that its entries tell; the folder's disk is lent then.
+/// NoRepository (34) where the folder has no name or no entry is in its files, Damaged (33) with the first entry that
+/// is, DeviceFailed (31) where the host or the folder's disk fails, OutOfMemory (70). After a refusal the folder has its
+/// disk.
 pub fn opened<F: Folders>(
     alloc: Global,
     folders: &mut F,
     folder: &str,
 ) -> Result<RepoStore<F::Place>, Refusal>
-    ensures stands { F.honest folders.old
-        → IfOk result (λ store. ReopensTo (identity_of store) (revisions_of store) (F.holds folders.old folder.now)) }
-    ensures opened { IfOk result (IsOpenedIn F.Place.Disk (F.honest folders.old) (F.holds folders.old folder.now)) }
-    ensures refused { IfErr result (NotOpened (DiskFails F.Place.failures (F.failures folders.old)
-        (F.failures folders.new)) (F.honest folders.old) folder.now (F.holds folders.old folder.now)) }
+    ensures opened { IfOk result (IsOpenedIn F.Place.Disk F.Folders folders.old folders.new folder.now) }
+    ensures refused { IfErr result (NotOpenedIn F.Place.Disk F.Folders folders.old folders.new folder.now) }
     ensures no_peer { IfErr result (λ e. e ≡ Refusal.PeerFailed → ⊥) }
 {
     if folder.is_empty() {
@@ -233,7 +204,10 @@ pub fn opened<F: Folders>(
     match folders.open(alloc, folder) {
         Ok(disk) => match open_store(alloc, disk) {
             Ok(store) => Ok(store),
-            Err((refusal, _disk)) => Err(refusal),
+            Err((refusal, left)) => {
+                folders.close(folder, left);
+                Err(refusal)
+            }
         },
         Err(fault) => Err(folder_refusal(fault)),
     }

@@ -22,7 +22,8 @@
 pub use command_line::{Command, Planned, Pull, Service, Task, Usage, plan};
 pub use execute::run;
 pub use fleet_engines::{Sink, Source};
-pub use folders::{FolderFault, Folders, HostFolders};
+pub use folders::HostFolders;
+pub use lending::{FolderFault, Folders};
 pub use pulling::pull;
 pub use serving::serve;
 pub use store_engines::RevRange;
@@ -33,6 +34,7 @@ mod execute;
 mod folders;
 mod help;
 pub mod law;
+mod lending;
 mod pulling;
 mod serving;
 mod streams;

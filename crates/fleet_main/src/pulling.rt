@@ -1,16 +1,17 @@
 //! A mirror over a source that a server has.
 ghost use Rattle.std.specs.Prelude.{◌≡◌, ◌⊎◌, true, IfErr, IfOk, OnOk};
+ghost use Rattle.repo_store.specs.Words.{disk_of, HasFailed};
 ghost use Rattle.std.specs.Io.KnownBytes.{Appends};
 ghost use Rattle.node_base.specs.declared.refusal.Refusal.{Refusal as RefusalOf};
 ghost use Rattle.node_base.specs.Refusals.{fault_line};
 ghost use Rattle.mirror_engines.specs.Runs.{IsWorked};
 ghost use Rattle.fleet_main.specs.Doing.{EndsWith, HandsOn, IsWorkedOver, OfStanding, UnopenedOr, WorkedOn};
-ghost use Rattle.fleet_main.specs.Opening.{DiskFails};
 ghost use Rattle.fleet_main.specs.Pulling.{IsPulled, NotKeptFor, NotPulled, NotPulledOn, NotPulledOver, work_as};
 
 use crate::command_line::{Pull, Task};
-use crate::execute::{kept, refused, url_of};
-use crate::folders::{Folders, opened};
+use crate::execute::{refused, url_of};
+use crate::folders::{closed, opened};
+use crate::lending::Folders;
 use fleet_disk::Disk;
 use fleet_engines::Sink;
 use mirror_engines::Work;
@@ -40,6 +41,7 @@ fn work_of(alloc: Global, url: &str, task: Task) -> Result<Work, Refusal>
     }
 }
 
+// The mirror's store comes back.
 fn pull_opened<R: Net<Stream = TcpStream>, D: Disk + Drop, W: Write + Drop>(
     rt: &R,
     alloc: Global,
@@ -48,24 +50,15 @@ fn pull_opened<R: Net<Stream = TcpStream>, D: Disk + Drop, W: Write + Drop>(
     url: &str,
     work: Work,
     output: Sink<W>,
-) -> (Sink<W>, Result<(), Refusal>)
-    ensures done { OnOk result.1 (WorkedOn (IsWorked work) (W.contents output.inner)
-        (W.contents result.0.inner) mirror) }
-    ensures refused { IfErr result.1 (λ e. NotPulledOn (IsWorked work) (W.contents output.inner)
-        (W.contents result.0.inner) result.0.failed e mirror) }
-    ensures unfailed { OnOk result.1 (result.0.failed ≡ output.failed) }
+) -> (RepoStore<D>, Sink<W>, Result<(), Refusal>)
+    ensures done { OnOk result.2 (WorkedOn (IsWorked work) (W.contents output.inner) (W.contents result.1.inner) mirror
+        result.0) }
+    ensures refused { IfErr result.2 (λ e. NotPulledOn (IsWorked work) (W.contents output.inner)
+        (W.contents result.1.inner) result.1.failed e mirror result.0) }
+    ensures rules { ¬ HasFailed mirror → D.honest (disk_of mirror) → D.honest (disk_of result.0) }
+    ensures unfailed { OnOk result.2 (result.1.failed ≡ output.failed) }
 {
-    let (mirror, output, done) = run_work_from(
-        rt,
-        alloc,
-        mirror,
-        port,
-        url.as_bytes(),
-        work,
-        output,
-    );
-    let _disk = mirror.into_disk();
-    (output, done)
+    run_work_from(rt, alloc, mirror, port, url.as_bytes(), work, output)
 }
 
 // The mirror's folder is opened first.
@@ -79,19 +72,19 @@ fn pull_folder<R: Net<Stream = TcpStream>, F: Folders, W: Write + Drop>(
     work: Work,
     output: Sink<W>,
 ) -> (Sink<W>, Result<(), Refusal>)
-    ensures done { OnOk result.1 (OfStanding F.Place.Disk (F.honest folders.old) (F.holds folders.old mirror.now)
+    ensures done { OnOk result.1 (OfStanding F.Place.Disk F.Folders folders.old folders.new mirror.now
         (IsWorkedOver (IsWorked work) (W.contents output.inner) (W.contents result.0.inner))) }
-    ensures refused { IfErr result.1 (λ e. UnopenedOr F.Place.Disk
-        (DiskFails F.Place.failures (F.failures folders.old) (F.failures folders.new)) (F.honest folders.old) mirror.now
-        (F.holds folders.old mirror.now) (W.contents output.inner) (W.contents result.0.inner) e
+    ensures refused { IfErr result.1 (λ e. UnopenedOr F.Place.Disk F.Folders folders.old folders.new mirror.now
+        (W.contents output.inner) (W.contents result.0.inner) e
         (NotPulledOver (F.honest folders.old) (IsWorked work) (W.contents output.inner) (W.contents result.0.inner)
         result.0.failed e)) }
     ensures unfailed { OnOk result.1 (result.0.failed ≡ output.failed) }
 {
     match opened(alloc, folders, mirror) {
         Ok(store) => {
-            kept(&store);
-            pull_opened(rt, alloc, store, port, url, work, output)
+            let (store, output, done) = pull_opened(rt, alloc, store, port, url, work, output);
+            closed(folders, mirror, store);
+            (output, done)
         }
         Err(refusal) => (output, Err(refusal)),
     }
@@ -105,9 +98,9 @@ fn pull_asked<R: Net<Stream = TcpStream>, F: Folders, W: Write + Drop>(
     pull: Pull,
     output: Sink<W>,
 ) -> (Sink<W>, Result<(), Refusal>)
-    ensures done { OnOk result.1 (IsPulled F.Place.Disk F.honest F.holds folders.old pull (W.contents output.inner)
+    ensures done { OnOk result.1 (IsPulled F.Place.Disk F.Folders folders.old folders.new pull (W.contents output.inner)
         (W.contents result.0.inner)) }
-    ensures refused { IfErr result.1 (NotPulled F.Place.Disk F.failures F.honest F.holds folders.old folders.new pull
+    ensures refused { IfErr result.1 (NotPulled F.Place.Disk F.Folders folders.old folders.new pull
         (W.contents output.inner) (W.contents result.0.inner) result.0.failed) }
     ensures unfailed { OnOk result.1 (result.0.failed ≡ output.failed) }
 {
@@ -133,10 +126,10 @@ fn pull_flushed<R: Net<Stream = TcpStream>, F: Folders, W: Write + Drop>(
     pull: Pull,
     output: Sink<W>,
 ) -> (Sink<W>, Result<(), Refusal>)
-    ensures done { OnOk result.1 (HandsOn (IsPulled F.Place.Disk F.honest F.holds folders.old pull
+    ensures done { OnOk result.1 (HandsOn (IsPulled F.Place.Disk F.Folders folders.old folders.new pull
         (W.contents output.inner)) (W.contents result.0.inner)) }
-    ensures refused { IfErr result.1 (EndsWith (IsPulled F.Place.Disk F.honest F.holds folders.old pull
-        (W.contents output.inner)) (NotPulled F.Place.Disk F.failures F.honest F.holds folders.old folders.new pull
+    ensures refused { IfErr result.1 (EndsWith (IsPulled F.Place.Disk F.Folders folders.old folders.new pull
+        (W.contents output.inner)) (NotPulled F.Place.Disk F.Folders folders.old folders.new pull
         (W.contents output.inner)) (W.contents result.0.inner) result.0.failed) }
     ensures unfailed { OnOk result.1 (result.0.failed ≡ output.failed) }
 {
@@ -156,8 +149,9 @@ fn pull_flushed<R: Net<Stream = TcpStream>, F: Folders, W: Write + Drop>(
 /// MasterFailed (60) where the server fails, refuses, or sends what is no answer; else what the run is refused for. The
 /// writer comes back.
 ///
-/// Of honest folders it says besides what repository the mirror's files kept, and that a stop at any moment leaves it as
-/// the first so many calls of the run made it. What the server has no clause says: it is as it answers.
+/// Of honest folders it says besides what repository the mirror's disk kept, that a stop at any moment leaves it as the
+/// first so many calls of the run made it, and that its folder has that disk again in the end, and every other folder
+/// what it had. Folders that were honest still are. What the server has no clause says: it is as it answers.
 pub fn pull<R: Net<Stream = TcpStream>, F: Folders, W: Write + Drop, E: Write + Drop>(
     rt: &R,
     alloc: Global,
@@ -167,13 +161,13 @@ pub fn pull<R: Net<Stream = TcpStream>, F: Folders, W: Write + Drop, E: Write + 
     errors: &mut Sink<E>,
 ) -> (u8, Sink<W>)
     ensures status { (result.0 ≡ 0) ⊎ (result.0 ≡ 1) }
-    ensures done { result.0 ≡ 0 → HandsOn (IsPulled F.Place.Disk F.honest F.holds folders.old pull
+    ensures done { result.0 ≡ 0 → HandsOn (IsPulled F.Place.Disk F.Folders folders.old folders.new pull
         (W.contents output.inner)) (W.contents result.1.inner) }
     ensures unfailed { result.0 ≡ 0 → result.1.failed ≡ output.failed }
     ensures silent { result.0 ≡ 0 → E.contents errors.new.inner ≡ E.contents errors.old.inner }
     ensures refused { result.0 ≡ 1 → (e : RefusalOf)
-        × EndsWith (IsPulled F.Place.Disk F.honest F.holds folders.old pull (W.contents output.inner))
-        (NotPulled F.Place.Disk F.failures F.honest F.holds folders.old folders.new pull (W.contents output.inner))
+        × EndsWith (IsPulled F.Place.Disk F.Folders folders.old folders.new pull (W.contents output.inner))
+        (NotPulled F.Place.Disk F.Folders folders.old folders.new pull (W.contents output.inner))
         (W.contents result.1.inner) result.1.failed e
         × ((errors.new.failed ≡ true) ⊎ Appends (E.contents errors.old.inner) (E.contents errors.new.inner)
         (fault_line e)) }

@@ -3,16 +3,19 @@ ghost use Rattle.std.specs.Prelude.{◌≡◌, ◌⊎◌, true, IfErr, OnOk};
 ghost use Rattle.std.specs.Io.KnownBytes.{Appends};
 ghost use Rattle.node_base.specs.declared.refusal.Refusal.{Refusal as RefusalOf};
 ghost use Rattle.node_base.specs.Refusals.{fault_line};
-ghost use Rattle.repo_store.specs.Words.{revisions_of};
+ghost use Rattle.repo_store.specs.Words.{disk_of, repository_of, revisions_of, HasFailed};
 ghost use Rattle.sockets.specs.Lines.{listening};
 ghost use Rattle.store_engines.specs.Mirrors.{is_mirror};
-ghost use Rattle.fleet_main.specs.Doing.{EndsWith, HandsOn, OfStanding, UnopenedOr};
-ghost use Rattle.fleet_main.specs.Opening.{DiskFails};
-ghost use Rattle.fleet_main.specs.Serving.{IsServed, IsServedFrom, NotServed, NotServedFrom};
+ghost use Rattle.svn_server.specs.Served.{IsOfStore};
+ghost use Rattle.fleet_disk.specs.Image.{Image};
+ghost use Rattle.repo_store.specs.Journal.{Keeps};
+ghost use Rattle.fleet_main.specs.Doing.{EndsWith, HandsOn};
+ghost use Rattle.fleet_main.specs.Serving.{IsServedFrom, IsServerFault, NotServedFrom, NotServedIn, OfServed};
 
 use crate::command_line::Service;
-use crate::execute::{kept, refused};
-use crate::folders::{Folders, opened};
+use crate::execute::refused;
+use crate::folders::opened;
+use crate::lending::Folders;
 use fleet_disk::Disk;
 use fleet_engines::Sink;
 use node_base::Refusal;
@@ -28,14 +31,16 @@ use svn_server::serve_store;
 
 // Whether a store's repository takes no changes, being a mirror.
 fn takes_none<D: Disk + Drop>(store: &RepoStore<D>) -> bool
-    ensures { result ≡ is_mirror (revisions_of store.now) }
+    ensures mirror { result ≡ is_mirror (revisions_of store.now) }
+    ensures kept { D.honest (disk_of store.now) → ¬ HasFailed store.now → (left : Image)
+        → D.may_leave (disk_of store.now) left → Keeps (repository_of store.now) left }
 {
     is_mirror(store.repo())
 }
 
 // The refusal that a server's fault is.
 fn socket_refusal(fault: SocketFault) -> Refusal
-    ensures { (result ≡ Refusal.OutOfMemory) ⊎ (result ≡ Refusal.PeerFailed) }
+    ensures { IsServerFault result }
 {
     match fault {
         SocketFault::PeerFailed => Refusal::PeerFailed,
@@ -55,14 +60,18 @@ fn serve_opened<
     port: u16,
     connections: u16,
     output: &mut Sink<W>,
-) -> Result<(), Refusal>
-    ensures told { OnOk result (Appends (W.contents output.old.inner) (W.contents output.new.inner) (listening port)) }
-    ensures refused { IfErr result (λ e. (e ≡ Refusal.OutOfMemory) ⊎ (e ≡ Refusal.PeerFailed)) }
+) -> (D, Result<(), Refusal>)
+    ensures told { OnOk result.1 (Appends (W.contents output.old.inner) (W.contents output.new.inner)
+        (listening port)) }
+    ensures back { IsOfStore D.Disk result.0 }
+    ensures kept { D.honest (disk_of store) → ¬ HasFailed store → (left : Image) → D.may_leave (disk_of store) left
+        → Keeps (repository_of store) left }
+    ensures refused { IfErr result.1 IsServerFault }
     ensures unfailed { output.new.failed ≡ output.old.failed }
 {
     let mirror = takes_none(&store);
     let connections = u64::from(connections);
-    match serve_store(
+    let (disk, done) = serve_store(
         rt,
         alloc,
         store,
@@ -70,9 +79,10 @@ fn serve_opened<
         port,
         connections,
         &mut output.inner,
-    ) {
-        Ok(()) => Ok(()),
-        Err(fault) => Err(socket_refusal(fault)),
+    );
+    match done {
+        Ok(()) => (disk, Ok(())),
+        Err(fault) => (disk, Err(socket_refusal(fault))),
     }
 }
 
@@ -91,18 +101,17 @@ fn serve_folder<
 ) -> Result<(), Refusal>
 where
     F::Place: Send,
-    ensures done { OnOk result (OfStanding F.Place.Disk (F.honest folders.old) (F.holds folders.old folder.now)
-        (IsServed (F.honest folders.old) port (W.contents output.old.inner) (W.contents output.new.inner))) }
-    ensures refused { IfErr result (λ e. UnopenedOr F.Place.Disk
-        (DiskFails F.Place.failures (F.failures folders.old) (F.failures folders.new)) (F.honest folders.old) folder.now
-        (F.holds folders.old folder.now) (W.contents output.old.inner) (W.contents output.new.inner) e
-        (NotServed (F.honest folders.old) e)) }
+    ensures done { OnOk result (OfServed F.Place.Disk F.Folders folders.old folders.new folder.now
+        (Appends (W.contents output.old.inner) (W.contents output.new.inner) (listening port))) }
+    ensures refused { IfErr result (NotServedIn F.Place.Disk F.Folders folders.old folders.new folder.now
+        (W.contents output.old.inner) (W.contents output.new.inner)) }
     ensures unfailed { output.new.failed ≡ output.old.failed }
 {
     match opened(alloc, folders, folder) {
         Ok(store) => {
-            kept(&store);
-            serve_opened(rt, alloc, store, port, connections, output)
+            let (disk, done) = serve_opened(rt, alloc, store, port, connections, output);
+            folders.close(folder, disk);
+            done
         }
         Err(refusal) => Err(refusal),
     }
@@ -122,9 +131,9 @@ fn serve_asked<
 ) -> Result<(), Refusal>
 where
     F::Place: Send,
-    ensures done { OnOk result (IsServedFrom F.Place.Disk F.honest F.holds folders.old service.now
+    ensures done { OnOk result (IsServedFrom F.Place.Disk F.Folders folders.old folders.new service.now
         (W.contents output.old.inner) (W.contents output.new.inner)) }
-    ensures refused { IfErr result (NotServedFrom F.Place.Disk F.failures F.honest F.holds folders.old folders.new
+    ensures refused { IfErr result (NotServedFrom F.Place.Disk F.Folders folders.old folders.new
         service.now (W.contents output.old.inner) (W.contents output.new.inner) output.new.failed) }
     ensures unfailed { output.new.failed ≡ output.old.failed }
 {
@@ -154,10 +163,10 @@ fn serve_flushed<
 ) -> (Sink<W>, Result<(), Refusal>)
 where
     F::Place: Send,
-    ensures done { OnOk result.1 (HandsOn (IsServedFrom F.Place.Disk F.honest F.holds folders.old service.now
+    ensures done { OnOk result.1 (HandsOn (IsServedFrom F.Place.Disk F.Folders folders.old folders.new service.now
         (W.contents output.inner)) (W.contents result.0.inner)) }
-    ensures refused { IfErr result.1 (EndsWith (IsServedFrom F.Place.Disk F.honest F.holds folders.old service.now
-        (W.contents output.inner)) (NotServedFrom F.Place.Disk F.failures F.honest F.holds folders.old folders.new
+    ensures refused { IfErr result.1 (EndsWith (IsServedFrom F.Place.Disk F.Folders folders.old folders.new service.now
+        (W.contents output.inner)) (NotServedFrom F.Place.Disk F.Folders folders.old folders.new
         service.now (W.contents output.inner)) (W.contents result.0.inner) result.0.failed) }
     ensures unfailed { OnOk result.1 (result.0.failed ≡ output.failed) }
 {
@@ -175,8 +184,9 @@ where
 /// refused, and then the refusal's line is on `errors`: what refuses an opening, PeerFailed (49) where it can't listen
 /// there or can't say so, OutOfMemory (70). A session that ends badly ends itself alone. The writer comes back.
 ///
-/// Of honest folders it says besides what repository the folder's files kept, and that a stop left it as the server
-/// began. What clients were told and what they changed no clause says.
+/// Of honest folders it says besides what repository the folder's disk kept, that a stop left it as the server began, and
+/// that the folder has a store's disk again in the end, and every other folder what it had. What clients were told and
+/// what they changed no clause says.
 pub fn serve<
     R: Net<Listener = TcpListener, Stream = TcpStream> + Threads + Wait + Sync,
     F: Folders,
@@ -193,13 +203,13 @@ pub fn serve<
 where
     F::Place: Send,
     ensures status { (result.0 ≡ 0) ⊎ (result.0 ≡ 1) }
-    ensures done { result.0 ≡ 0 → HandsOn (IsServedFrom F.Place.Disk F.honest F.holds folders.old service.now
+    ensures done { result.0 ≡ 0 → HandsOn (IsServedFrom F.Place.Disk F.Folders folders.old folders.new service.now
         (W.contents output.inner)) (W.contents result.1.inner) }
     ensures unfailed { result.0 ≡ 0 → result.1.failed ≡ output.failed }
     ensures silent { result.0 ≡ 0 → E.contents errors.new.inner ≡ E.contents errors.old.inner }
     ensures refused { result.0 ≡ 1 → (e : RefusalOf)
-        × EndsWith (IsServedFrom F.Place.Disk F.honest F.holds folders.old service.now (W.contents output.inner))
-        (NotServedFrom F.Place.Disk F.failures F.honest F.holds folders.old folders.new service.now
+        × EndsWith (IsServedFrom F.Place.Disk F.Folders folders.old folders.new service.now (W.contents output.inner))
+        (NotServedFrom F.Place.Disk F.Folders folders.old folders.new service.now
         (W.contents output.inner)) (W.contents result.1.inner) result.1.failed e
         × ((errors.new.failed ≡ true) ⊎ Appends (E.contents errors.old.inner) (E.contents errors.new.inner)
         (fault_line e)) }

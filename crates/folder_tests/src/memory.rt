@@ -1,20 +1,19 @@
 //! Folders in memory, for tests: the disk of a folder is lent, so that it is there when a command has ended.
-ghost use Rattle.std.specs.Option.{option_map_or};
-ghost use Rattle.std.specs.Prelude.{◌≡◌, IfSome, None, cond};
-ghost use Rattle.std.specs.Str.{bytes_eq};
-ghost use Rattle.fleet_disk.specs.Image.{no_bytes};
+ghost use Rattle.std.specs.Prelude.{◌≡◌, ◌≤◌, IfSome, None};
+ghost use Rattle.fleet_disk.specs.Rules.{Rose};
+ghost use Rattle.folder_tests.specs.Slots.{at_name, missing};
 
 use fleet_disk::{Disk, DiskFault, DiskFile};
 use fleet_main::{FolderFault, Folders};
 use std::alloc::Global;
 
-/// A disk that is lent.
+/// A disk that is somebody else's.
 #[derive(Drop)]
-pub struct Lent<'a, D: Disk> {
+pub struct OthersDisk<'a, D: Disk> {
     disk: &'a mut D,
 }
 
-impl<'a, D: Disk> Disk for Lent<'a, D> {
+impl<'a, D: Disk> Disk for OthersDisk<'a, D> {
     ghost honest = { λ lent. D.honest lent.disk.now };
 
     ghost reads = { λ lent. D.reads lent.disk.now };
@@ -54,73 +53,106 @@ impl<'a, D: Disk> Disk for Lent<'a, D> {
     }
 }
 
-/// A folder of one name, and one that has every other name, each over a disk that it gives once. They are honest where the disks
-/// are.
+/// Folders of one name or two, each over a disk. They are honest where the disks are.
 #[derive(Drop)]
 pub struct MemFolders<'a, D: Disk> {
-    /// The name of the first.
-    pub name: &'a str,
-    /// Its disk, until it is given.
-    pub named: Option<&'a mut D>,
-    /// The disk of the other, where there is one, until it is given.
-    pub other: Option<&'a mut D>,
-    /// How often a disk was asked for that isn't there.
-    pub failures: u64,
+    name: &'a str,
+    named: Option<OthersDisk<'a, D>>,
+    other_name: &'a str,
+    other: Option<OthersDisk<'a, D>>,
+    failures: u64,
 }
 
 impl<'a, D: Disk> MemFolders<'a, D> {
     /// A folder of that name over a disk, and no other.
     pub fn new(name: &'a str, disk: &'a mut D) -> MemFolders<'a, D>
-        ensures named { IfSome result.named (λ lent. lent.now ≡ disk.old) }
+        ensures named { IfSome result.named (λ lent. lent.disk.now ≡ disk.old) }
         ensures other { result.other ≡ None }
     {
         MemFolders {
             name,
-            named: Some(disk),
+            named: Some(OthersDisk { disk }),
+            other_name: name,
             other: None,
             failures: 0,
         }
     }
 
-    /// A folder of that name over a disk, and over another disk one that has every other name.
-    pub fn with_other(name: &'a str, disk: &'a mut D, other: &'a mut D) -> MemFolders<'a, D>
-        ensures named { IfSome result.named (λ lent. lent.now ≡ disk.old) }
-        ensures other { IfSome result.other (λ lent. lent.now ≡ other.old) }
+    /// Two folders of these names, each over a disk.
+    pub fn two(
+        name: &'a str,
+        disk: &'a mut D,
+        other_name: &'a str,
+        other: &'a mut D,
+    ) -> MemFolders<'a, D>
+        ensures named { IfSome result.named (λ lent. lent.disk.now ≡ disk.old) }
+        ensures other { IfSome result.other (λ lent. lent.disk.now ≡ other.old) }
     {
         MemFolders {
             name,
-            named: Some(disk),
-            other: Some(other),
+            named: Some(OthersDisk { disk }),
+            other_name,
+            other: Some(OthersDisk { disk: other }),
             failures: 0,
         }
+    }
+
+    // Counts a failure.
+    fn fail(&mut self) -> FolderFault
+        ensures rose { Rose self.old.failures self.new.failures }
+        ensures later { self.old.failures ≤ self.new.failures }
+        ensures named { self.new.named ≡ self.old.named }
+        ensures other { self.new.other ≡ self.old.other }
+        ensures name { self.new.name ≡ self.old.name }
+        ensures other_name { self.new.other_name ≡ self.old.other_name }
+    {
+        self.failures = self.failures.saturating_add(1);
+        FolderFault::DeviceFailed
     }
 }
 
 impl<'a, D: Disk + Drop> Folders for MemFolders<'a, D> {
-    type Place = Lent<'a, D>;
+    ghost use Rattle.folder_tests.specs.SlotLaws.{has_too};
 
-    ghost honest = { λ folders. IfSome folders.named (λ disk. D.honest disk.now) × IfSome folders.other (λ disk. D.honest disk.now) };
+    type Place = OthersDisk<'a, D>;
 
-    ghost holds = { λ folders folder. option_map_or (λ disk. D.reads disk.now) (cond (bytes_eq folder folders.name.now) folders.named folders.other) no_bytes };
+    ghost honest = { λ folders. IfSome folders.named (λ lent. D.honest lent.disk.now) × IfSome folders.other (λ lent. D.honest lent.disk.now) };
+
+    ghost disk = { λ folders. at_name folders.name.now folders.named (at_name folders.other_name.now folders.other missing) };
 
     ghost failures = { λ folders. folders.failures };
 
-    fn open(&mut self, _alloc: Global, folder: &str) -> Result<Lent<'a, D>, FolderFault> {
-        let given = if folder == self.name {
-            self.named.take()
-        } else {
-            self.other.take()
-        };
-        match given {
-            Some(disk) => Ok(Lent { disk }),
-            None => {
-                self.failures = self.failures.saturating_add(1);
-                Err(FolderFault::DeviceFailed)
-            }
+    fn open(&mut self, _alloc: Global, folder: &str) -> Result<OthersDisk<'a, D>, FolderFault> {
+        if folder == self.name {
+            return match self.named.take() {
+                Some(disk) => Ok(disk),
+                None => Err(self.fail()),
+            };
         }
+        if folder == self.other_name {
+            return match self.other.take() {
+                Some(disk) => Ok(disk),
+                None => Err(self.fail()),
+            };
+        }
+        Err(self.fail())
     }
 
-    fn create(&mut self, alloc: Global, folder: &str) -> Result<Lent<'a, D>, FolderFault> {
+    fn create(&mut self, alloc: Global, folder: &str) -> Result<OthersDisk<'a, D>, FolderFault> {
         self.open(alloc, folder)
     }
+
+    fn close(&mut self, folder: &str, place: OthersDisk<'a, D>) {
+        if folder == self.name {
+            self.named = Some(place);
+            return;
+        }
+        if folder == self.other_name {
+            self.other = Some(place);
+            return;
+        }
+        drop(place);
+    }
+
+    ghost keeps_rules = { λ folders folder place honest there. has_too (λ lent. D.honest lent.disk.now) folders.name.now folders.other_name.now folder folders.named folders.other place honest.0 honest.1 there };
 }

@@ -373,7 +373,7 @@ fn folders_are_told_apart(rt: HostRuntime) -> Result<(), Fail> {
     let alloc = rt.alloc();
     let mut disk = with_one_file(alloc)?;
     let mut empty = MemDisk::new(alloc);
-    let mut folders = MemFolders::with_other("repo", &mut disk, &mut empty);
+    let mut folders = MemFolders::two("repo", &mut disk, "repo2", &mut empty);
     let nothing = [];
     let mut input = Source::new(nothing.as_slice());
     let elsewhere = refused(&["dump", "repo2"], &[], "svnfleet: 34 no repository\n");

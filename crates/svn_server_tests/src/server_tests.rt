@@ -48,7 +48,7 @@ pub(crate) fn serves<
         line: Vec::new(alloc),
         listens,
     };
-    let answer = serve_store(rt, alloc, store, mirror, port, connections, &mut output);
+    let (_disk, answer) = serve_store(rt, alloc, store, mirror, port, connections, &mut output);
     let line = format!(in alloc; "listening on 127.0.0.1:{port}\n").expect(rt, "memory");
     answer == Ok(()) && output.line.as_slice() == line.as_bytes()
 }

@@ -1,28 +1,28 @@
-use Rattle.std.proofs.Common.{Ok, Err, subst}
-use Rattle.repo_store.specs.Journal.{ReopensTo}
-use Rattle.repo_store.specs.Words.{identity_of, revisions_of}
-use Rattle.fleet_main.specs.Opening.{DiskFails}
-use Rattle.fleet_main.proofs.Opening.{opened_in, opened_over, open_refused}
+use Rattle.std.proofs.Common.{refl, rules}
+use Rattle.fleet_main.proofs.Loans.{none_lent, not_lent}
+use Rattle.fleet_main.proofs.Opening.{is_unopened, open_nameless, open_refused, open_unlent, opened_on}
 use Rattle.fleet_main.proofs.folders.opened.Goals as goal
-
-pub returns-in-Ok-open_store-clause-stands : goal.returns-in-Ok-open_store-clause-stands
-returns-in-Ok-open_store-clause-stands g c honest =
-    let store = c.in-Ok-open_store.store in
-    subst (ReopensTo (identity_of store) (revisions_of store)) (c.in-Ok.ensures.reads honest) (c.in-Ok-open_store.ensures.stands (c.in-Ok.ensures.honest honest))
 
 pub returns-in-Ok-open_store-clause-opened : goal.returns-in-Ok-open_store-clause-opened
 returns-in-Ok-open_store-clause-opened g c =
-    let e = c.in-Ok-open_store.ensures in
-    opened_in g.F.Place.Disk (Ok c.in-Ok-open_store.store) (g.F.Folders.honest c.args.folders.now) (g.F.Folders.holds c.args.folders.now c.args.folder.now) c.in-Ok.disk c.in-Ok.ensures.honest c.in-Ok.ensures.reads
-    e.keeps e.working e.honest e.any_moment
+    let l = c.in-Ok.ensures in
+    let e = c.in-Ok-open_store.ensures in (
+      c.in-Ok.disk,
+      record { given = l.given; rules = l.rules; lent = l.lent; others = l.others; honest = c.open.ensures.honest; later = c.open.ensures.later },
+      opened_on g.F.Place.Disk (g.F.Folders.honest c.args.folders.now) c.in-Ok.disk c.in-Ok-open_store.store l.rules e.stands e.keeps e.working e.honest e.any_moment,
+    )
 
 pub returns-in-Err-open_store-clause-refused : goal.returns-in-Err-open_store-clause-refused
 returns-in-Err-open_store-clause-refused g c =
-    let before = g.F.Folders.failures c.args.folders.now in
-    let now = g.F.Folders.failures c.open.new.self in
+    let l = c.in-Ok.ensures in
     let e = c.in-Err-open_store.ensures in
-    let refusal = c.in-Err-open_store.refusal in
-    opened_over (DiskFails g.F.Place.Disk.failures before now) (g.F.Folders.honest c.args.folders.now) (g.F.Place.Disk.honest c.in-Ok.disk)
-    c.args.folder.now (g.F.Folders.holds c.args.folders.now c.args.folder.now) (g.F.Place.Disk.reads c.in-Ok.disk) refusal c.in-Ok.ensures.honest c.in-Ok.ensures.reads
-    (open_refused g.F.Place.Disk.failures (g.F.Place.Disk.honest c.in-Ok.disk) c.args.folder.now (g.F.Place.Disk.reads c.in-Ok.disk) c.in-Ok.disk c.in-Err-open_store._disk refusal
-    e.no_other e.device e.damaged e.missing before now)
+    let t = c.close.ensures in
+    open_refused g.F.Place.Disk g.F.Folders c.args.folders.now c.open.new.self c.close.new.self c.args.folder.now c.in-Ok.disk c.in-Err-open_store.left c.in-Err-open_store.refusal
+    (record { given = l.given; rules = l.rules; lent = l.lent; others = l.others; honest = c.open.ensures.honest; later = c.open.ensures.later })
+    (record { back = t.back; others = t.others; honest = t.honest; later = t.later }) e.honest_err
+    (is_unopened g.F.Place.Disk (g.F.Folders.honest c.args.folders.now) c.in-Ok.disk c.in-Err-open_store.left c.in-Err-open_store.refusal l.rules e.no_other e.device e.damaged e.missing e.kept e.any_moment_err)
+
+pub returns-in-Err-clause-refused : goal.returns-in-Err-clause-refused
+returns-in-Err-clause-refused g c =
+    open_unlent g.F.Place.Disk g.F.Folders c.args.folders.now c.open.new.self c.open.new.self c.args.folder.now c.in-Err.fault c.folder_refusal.result c.folder_refusal.ensures.value c.in-Err.ensures.cause
+    (not_lent g.F.Place.Disk g.F.Folders c.args.folders.now c.open.new.self c.in-Err.ensures.same c.open.ensures.honest c.open.ensures.later)

@@ -1,0 +1,72 @@
+//! Folders that lend their disks and take them back.
+ghost use Rattle.std.specs.Prelude.{◌≡◌, ◌≢◌, ◌≤◌, ℕ, List, IfOk, IfErr, OnOk, OnErr};
+ghost use Rattle.fleet_disk.specs.Rules.{Rose};
+ghost use Rattle.fleet_main.specs.Lending.{AllStay, FolderDisk, IsGiven, Lent, OthersStay, There};
+
+use fleet_disk::Disk;
+use std::alloc::Global;
+
+/// Why a folder lends no disk.
+#[derive(Clone, Copy, Debug, PartialEq, Eq)]
+pub enum FolderFault {
+    /// The host failed (31).
+    DeviceFailed,
+    /// Memory ran out (70).
+    OutOfMemory,
+}
+
+/// Folders, each of which lends its disk and takes it back.
+///
+/// While a disk is lent its folder has none; when it is back, the folder's disk is what came back. What the clauses say
+/// of disks holds of honest folders. A folder lends no disk only where the count of failures rose, or where memory ran
+/// out, honest or not.
+pub trait Folders {
+    /// The disk of a folder.
+    type Place: Disk + Drop;
+
+    /// Nobody else changes the folders, each has one name, and their disks keep the rules.
+    ghost honest: { Self → Type 0 };
+
+    /// What a folder has for a disk.
+    ghost disk: { Self → List ℕ → FolderDisk Self.Place };
+
+    /// How often the host has failed.
+    ghost failures: { Self → ℕ };
+
+    /// Lends the disk of a folder as it stands; nothing is made. A disk that is lent isn't lent again.
+    fn open(&mut self, alloc: Global, folder: &str) -> Result<Self::Place, FolderFault>
+        ensures given { honest self.old → IfOk result (IsGiven Self.Place.Disk (disk self.old folder.now)) }
+        ensures rules { honest self.old → IfOk result (λ place. Self.Place.honest place) }
+        ensures lent { honest self.old → OnOk result (disk self.new folder.now ≡ Lent) }
+        ensures others { honest self.old → OnOk result (OthersStay folder.now (disk self.old) (disk self.new)) }
+        ensures same { honest self.old → OnErr result (AllStay (disk self.old) (disk self.new)) }
+        ensures honest { honest self.old → honest self.new }
+        ensures later { failures self.old ≤ failures self.new }
+        ensures cause { IfErr result (λ e. e ≡ FolderFault.DeviceFailed
+            → Rose (failures self.old) (failures self.new)) };
+
+    /// The same of a folder that is made where it is missing, as its files are where they are empty; the folder above
+    /// has to be there.
+    fn create(&mut self, alloc: Global, folder: &str) -> Result<Self::Place, FolderFault>
+        ensures given { honest self.old → IfOk result (IsGiven Self.Place.Disk (disk self.old folder.now)) }
+        ensures rules { honest self.old → IfOk result (λ place. Self.Place.honest place) }
+        ensures lent { honest self.old → OnOk result (disk self.new folder.now ≡ Lent) }
+        ensures others { honest self.old → OnOk result (OthersStay folder.now (disk self.old) (disk self.new)) }
+        ensures same { honest self.old → OnErr result (AllStay (disk self.old) (disk self.new)) }
+        ensures honest { honest self.old → honest self.new }
+        ensures later { failures self.old ≤ failures self.new }
+        ensures cause { IfErr result (λ e. e ≡ FolderFault.DeviceFailed
+            → Rose (failures self.old) (failures self.new)) };
+
+    /// Takes the disk of a folder back.
+    fn close(&mut self, folder: &str, place: Self::Place)
+        ensures back { honest self.old → disk self.old folder.now ≡ Lent → disk self.new folder.now ≡ There place }
+        ensures others { honest self.old → disk self.old folder.now ≡ Lent
+            → OthersStay folder.now (disk self.old) (disk self.new) }
+        ensures honest { honest self.old → Self.Place.honest place → honest self.new }
+        ensures later { failures self.old ≤ failures self.new };
+
+    /// The disks that are there keep the rules.
+    ghost keeps_rules: { (folders : Self) (folder : List ℕ) (place : Self.Place) → honest folders
+        → disk folders folder ≡ There place → Self.Place.honest place };
+}
