@@ -1,5 +1,7 @@
 pub mod Exits
 pub mod Holders
 pub mod Placing
+pub mod Refusing
+pub mod Seeing
 pub mod Stepping
 pub mod Crosses

@@ -3,6 +3,12 @@
 #![tactic(auto)]
 
 #[cfg(test)]
+mod crowd;
+#[cfg(test)]
+mod crowd_tests;
+#[cfg(test)]
+mod growth_tests;
+#[cfg(test)]
 mod job_tests;
 #[cfg(test)]
 mod made;

@@ -15,3 +15,9 @@ pub returns-in-Err-clause-stepped : goal.returns-in-Err-clause-stepped
 returns-in-Err-clause-stepped g c =
     unplanned_stepped c.args.self.now (place_of c.args.seat.now) c.seat.result c.repo-2.result.now (call_of c.args.call.now) c.in-Err.fault (λ image honest left. g.met.D.Disk.only_now (disk_of (store_of c.args.self.now.book)) image honest left) c.repo.ensures.kept
     (sym c.is_stuck.ensures ∙ c.if-is_stuck.false) c.repo-2.ensures.value c.seat.ensures c.in-Err.ensures.refused
+
+pub returns-in-Ok-Write-clause-refused : goal.returns-in-Ok-Write-clause-refused
+returns-in-Ok-Write-clause-refused g c = ?
+
+pub returns-in-Err-clause-refused : goal.returns-in-Err-clause-refused
+returns-in-Err-clause-refused g c = ?
