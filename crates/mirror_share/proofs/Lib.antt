@@ -1,5 +1,6 @@
 pub mod Exits
 pub mod Holders
+pub mod Locks
 pub mod Placing
 pub mod Refusing
 pub mod Seeing

@@ -1,5 +1,6 @@
 -- Why a call of a shared mirror is refused.
 use Rattle.std.proofs.Common.{◌≡◌, ◌⊎◌, inl, inr, ◌<◌, ◌+◌, ℕ, Bool, true, false, List, [], ◌∷◌, length, Option, Some, None, Result, Ok, Err, refl, sym, subst, arith}
+use Rattle.std.proofs.lemmas.Bool.Decides.{nat_tests}
 use Rattle.std.specs.Prelude.{IfErr, ◌==◌, ◌&&◌, ◌||◌, not, nat_le, nat_lt, is_some, is_none}
 use Rattle.std.specs.Option.{option_map, option_and_then}
 use Rattle.std.specs.FinMap as finite
@@ -14,7 +15,7 @@ use Rattle.repo_core.specs.declared.entry.Entry.{Entry}
 use Rattle.repo_core.specs.declared.fault.RepoFault.{RepoFault}
 use Rattle.repo_core.specs.declared.fault.RepoFault.TheVariants as repo
 use Rattle.sync_core.specs.Names.{copying_name, lock_name, merged_name, is_absent, is_number, precedes, reaches}
-use Rattle.sync_core.specs.Mirror.{Mirror, Standing, Call, Init, TakeLock, StealLock, ReleaseLock, SetCopying, Commit, PutProps, SetMerged, ClearCopying, Look, Refusal, OfRepository, refusal, unmet, holds, standing_of, entry_of, first_map, mirror_with}
+use Rattle.sync_core.specs.Mirror.{Mirror, Call, Init, TakeLock, StealLock, ReleaseLock, SetCopying, Commit, PutProps, SetMerged, ClearCopying, Look, Refusal, OfRepository, refusal, unmet, holds, standing_of, entry_of, first_map, mirror_with}
 use Rattle.sync_core.specs.Mirror as mirror
 use Rattle.sync_core.specs.Plain.{AnswersErr, IsRefused, IsTold}
 use Rattle.sync_core.specs.Plans.{IsPlanned}
@@ -25,6 +26,7 @@ use Rattle.sync_core.specs.declared.planning.Planned.TheVariants.{Write}
 use Rattle.sync_core.specs.declared.fault.SyncFault.{SyncFault}
 use Rattle.sync_core.specs.declared.fault.SyncFault.TheVariants as fault
 use Rattle.sync_core.specs.declared.reply.Reply.{Reply as Given}
+use Rattle.sync_core.specs.declared.standing.Standing.{Standing}
 use Rattle.sync_job.specs.Kept.{IsWrite}
 use Rattle.sync_job.specs.Mirrors.{MirrorNow, mirror_in, IsDue, ByTable, IsCause, Due, Broken, Accepted, Doubted, Unchanged}
 use Rattle.sync_job.specs.Mirrors as cause
@@ -63,8 +65,7 @@ missed r holder seat Look n e = absurd (cc)
 
 -- revision 0 is there
 zero_there : (x : List Revision) → 0 < length x → nat_le (length x) 0 ≡ false
-zero_there [] some = absurd (omega (arith, some))
-zero_there (y ∷ ys) some = refl
+zero_there x some = grind (arith, nat_tests)
 
 at_zero : (x : List Revision) (p : PropMap) (e : RepoFault) → 0 < length x → first_of (fault_if (nat_le (length x) 0) repo.NoSuchRevision ∷ fault_if (not (within_limits p)) repo.TooLong ∷ []) ≡ Some e → e ≡ repo.TooLong
 at_zero x p e some h = second (nat_le (length x) 0) (not (within_limits p)) repo.NoSuchRevision repo.TooLong e (zero_there x some) h
@@ -90,8 +91,8 @@ forbidden x Look e some h = absurd (cc)
 -- a refusal by the table misses a need, or is the repository's
 split : (n : Option Need) (d : Option RepoFault) (why : Refusal) → first_of (option_map mirror.Missed n ∷ option_map OfRepository d ∷ []) ≡ Some why
     → ((k : Need) × (n ≡ Some k) × (why ≡ mirror.Missed k)) ⊎ ((e : RepoFault) × (d ≡ Some e) × (why ≡ OfRepository e))
-split (Some k) d why h = inl (k, (refl, sym (some_is (mirror.Missed k) why h)))
-split None (Some e) why h = inr (e, (refl, sym (some_is (OfRepository e) why h)))
+split (Some k) d why h = inl (k, refl, sym (some_is (mirror.Missed k) why h))
+split None (Some e) why h = inr (e, refl, sym (some_is (OfRepository e) why h))
 split None None why h = absurd (cc)
 
 of_why : (m : Mirror) (seat : ℕ) (call : Call) (why : Refusal) (f : SyncFault) → 0 < length m.revisions → refusal m seat call ≡ Some why → IsTold (finite.get (props_at m.revisions 0) lock_name) why f → IsRefusalOf call f

@@ -50,11 +50,11 @@ pub record IsLeaveOf {L D : Type 0} {r : _} {g : Ghosts D} (share : MirrorShare 
   pub same : (master_of new ≡ master_of old) × (calls_of new ≡ calls_of old)
 
 -- of a book that a stop keeps the reader knows what its repository has up to its head
-pub record IsShownTo {L D : Type 0} {r : _} {g : Ghosts D} (share : MirrorShare L D r g) (reader : ReaderSeat L r) (head : ℕ) : Type 0 where
+pub record IsShownTo {L D : Type 0} {r : _} {g : Ghosts D} (share : MirrorShare L D r g) (reader : ReaderSeat L r) (last : ℕ) : Type 0 where
   pub book : MirrorBook L D r g
   pub kept : IsKept (store_in book)
-  pub head : head_of (master_of book) ≡ head
-  pub known : (i : ℕ) → i ≤ head → known_by reader i ≡ rev_at (repository_of (store_in book)) i
+  pub head : head_of (master_of book) ≡ last
+  pub known : (i : ℕ) → i ≤ last → known_by reader i ≡ rev_at (repository_of (store_in book)) i
 
 -- the newest revision: the greater of what the reader had seen and of what a book shows
 pub record IsNewest {L D : Type 0} {r : _} {g : Ghosts D} (share : MirrorShare L D r g) (seen : ℕ) (reader : ReaderSeat L r) (newest : ℕ) : Type 0 where
@@ -64,7 +64,7 @@ pub record IsNewest {L D : Type 0} {r : _} {g : Ghosts D} (share : MirrorShare L
   pub one : (newest ≡ seen) ⊎ (newest ≡ head)
 
 -- the properties that a book's repository has at a number up to its head
-pub record HasProps {L D : Type 0} {r : _} {g : Ghosts D} (share : MirrorShare L D r g) (number : ℕ) (props : PropMap) : Type 0 where
+pub record HasProps {L D : Type 0} {r : _} {g : Ghosts D} (share : MirrorShare L D r g) (number : ℕ) (map : PropMap) : Type 0 where
   pub book : MirrorBook L D r g
   pub within : number ≤ head_of (master_of book)
-  pub props : props ≡ props_at (revisions_of (store_in book)) number
+  pub props : map ≡ props_at (revisions_of (store_in book)) number

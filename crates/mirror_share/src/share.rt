@@ -118,11 +118,7 @@ impl<L: RowName, D: Disk> MirrorShare<L, D> {
     }
 
     /// The seat of a reader, who has seen what is shown now. Only want of memory (70) refuses it.
-    pub fn enter_reader<R: Wait>(
-        &self,
-        rt: &R,
-        alloc: Global,
-    ) -> Result<ReaderSeat<L>, AllocError>
+    pub fn enter_reader<R: Wait>(&self, rt: &R, alloc: Global) -> Result<ReaderSeat<L>, AllocError>
         ensures { IfOk result (λ s. IsShownTo self.now s (seen_by s)) }
     {
         let notes = self.row.notes(alloc)?;
