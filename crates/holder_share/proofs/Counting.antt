@@ -1,6 +1,7 @@
 -- Counts of numbers.
 use Rattle.std.proofs.Common.{◌≡◌, ℕ, ◌+◌, refl, sym, ap, ◌∙◌, arith}
-use Rattle.sync_core.specs.Names.{Number, Absent, Misspelt, Spelt, Huge}
+use Rattle.sync_core.specs.declared.number.Number.{Number}
+use Rattle.sync_core.specs.declared.number.Number.TheVariants.{Absent, Misspelt, Spelt, Huge}
 use Rattle.sync_core.specs.declared.numbers.Numbers.{Numbers}
 use Rattle.holder_share.specs.Counts.{Counts, count_of, counts_of, counts_as}
 

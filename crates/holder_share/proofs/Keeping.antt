@@ -1,6 +1,7 @@
 -- What a step leaves of a mirror whose holder is counted.
 use Rattle.std.proofs.Common.{◌≡◌, ◌≢◌, ◌⊎◌, inl, inr, ◌<◌, ◌≤◌, ◌+◌, ℕ, Bool, true, false, List, [], ◌∷◌, ◌++◌, length, Option, Some, None, is_some, Result, Ok, Err, refl, sym, ap, subst, ◌∙◌, arith}
-use Rattle.std.specs.Prelude.{MatchOption}
+use Rattle.std.specs.Prelude.{MatchOption, IfOk, ◌==◌, is_none}
+use Rattle.std.proofs.lemmas.Bool.Decides.{nat_tests}
 use Rattle.std.specs.Option.{option_map_or}
 use Rattle.std.specs.Fmt.{decimal}
 use Rattle.std.specs.FinMap.{get, insert, remove}
@@ -9,11 +10,11 @@ use Rattle.node_base.specs.Props.{PropMap, is_sync, without_sync}
 use Rattle.node_base.specs.declared.refusal.Refusal.TheVariants as refusal_is
 use Rattle.dump_load.specs.Trees.{effect_tree}
 use Rattle.repo_core.specs.Repository.{Revision, trees_of, props_at}
-use Rattle.sync_core.specs.Names.{url_name, merged_name, copying_name, lock_name, Absent}
+use Rattle.sync_core.specs.Names.{url_name, merged_name, copying_name, lock_name}
 use Rattle.sync_core.specs.Holding as core
 use Rattle.sync_core.specs.Holding.{HasLock, TakesLock, known_by}
 use Rattle.sync_core.specs.Jobs.{Job, CopyProps, Begun, Locked, Lawful, begun, refused_to}
-use Rattle.sync_core.specs.Mirror.{Mirror, Call, Init, TakeLock, StealLock, ReleaseLock, SetCopying, Commit, PutProps, SetMerged, ClearCopying, Look, refusal, standing_of, accepted, revisions_by, holder_after}
+use Rattle.sync_core.specs.Mirror.{Mirror, Call, Init, TakeLock, StealLock, ReleaseLock, SetCopying, Commit, PutProps, SetMerged, ClearCopying, Look, refusal, standing_of, accepted, revisions_by, holder_after, holds}
 use Rattle.sync_core.specs.Mirror as mirror_reply
 use Rattle.sync_core.specs.Moves.{numbers_of}
 use Rattle.sync_core.specs.Plain.{reply_of}
@@ -106,7 +107,7 @@ refused_holder before after m new seat call f (Hides b a is i) = ap (λ n. n.hol
 refused_holder before after m new seat call f (Stuck b a is same) = ap (λ n. n.holder) same
 
 -- the lock that a seat takes is its own
-abbrev TookLock : ℕ → Call → MirrorNow → Result Given SyncFault → Type 0
+abbrev pub TookLock : ℕ → Call → MirrorNow → Result Given SyncFault → Type 0
 TookLock seat call new (Ok r) = TakesLock call → new.holder ≡ Some seat
 TookLock seat call new (Err f) = Unit {0}
 
@@ -177,13 +178,13 @@ lock_given m seat call t s free = let h = lock-is-given m seat (begun (CopyProps
 no_init : (m : Mirror) (seat : ℕ) (url uuid : List ℕ) (props : PropMap) → refusal m seat (Init url uuid props) ≡ None → Has m → {A : Type 0} → A
 no_init m seat url uuid props free h =
     let n = meets (standing_of m.revisions) m.holder seat (Init url uuid props) (no_need m seat (Init url uuid props) free) in
-    let e : is_some {A = List ℕ} None ≡ true = ap is_some (sym n.0) ∙ h.0 in absurd (cc)
+    let e : is_some {T = List ℕ} None ≡ true = ap is_some (sym n.0) ∙ h.0 in absurd (cc)
 
 accepted_keeps : (m : Mirror) (seat : ℕ) (call : Call) → IsSized m.revisions → (is_some m.holder ≡ true → Has m) → refusal m seat call ≡ None → is_some (holder_after m.holder seat call) ≡ true → Has (accepted m seat call)
 accepted_keeps m seat (Init url uuid props) s has free held = no_init m seat url uuid props free (has held)
 accepted_keeps m seat (TakeLock token) s has free held = lock_given m seat (TakeLock token) tt s free
 accepted_keeps m seat (StealLock token) s has free held = lock_given m seat (StealLock token) tt s free
-accepted_keeps m seat ReleaseLock s has free held = let n : is_some {A = ℕ} None ≡ true = held in absurd (cc)
+accepted_keeps m seat ReleaseLock s has free held = let n : is_some {T = ℕ} None ≡ true = held in absurd (cc)
 accepted_keeps m seat (SetCopying n) s has free held = work_keeps m seat (SetCopying n) tt s (has held)
 accepted_keeps m seat (Commit n set props) s has free held = work_keeps m seat (Commit n set props) tt s (has held)
 accepted_keeps m seat (PutProps n props) s has free held = work_keeps m seat (PutProps n props) tt s (has held)
@@ -236,6 +237,25 @@ beside before after m new seat k call result s l holder differs (Hides b a is i)
     (others-leave-it holder-is-alone before after m new k seat blank_job call result (held_by m k s holder (l.url b held, l.lock b held)) differs (Hides b a is i)).0
 beside before after m new seat k call result s l holder differs (Stuck b a is same) = ap mirror_in same
 
+-- a seat that doesn't hold, where somebody holds
+pub other_holds : (h : Option ℕ) (seat : ℕ) → is_none h ≡ false → holds h seat ≡ false → (k : ℕ) × (h ≡ Some k) × (seat ≢ k)
+other_holds None seat a b = absurd (cc)
+other_holds (Some k) seat a b = (k, refl, λ e. (let n : (k == seat) ≡ true = grind (arith, nat_tests) in absurd (cc)))
+
+pub beside_held : (before after : Bool) (m new : MirrorNow) (seat : ℕ) (call : Call) (result : Result Given SyncFault) → IsSized m.repository.revisions → IsLocked before m.repository.revisions m.holder → is_none m.holder ≡ false → holds m.holder seat ≡ false
+    → StepsShown before m seat call result after new → mirror_in new ≡ mirror_in m
+beside_held before after m new seat call result s l a b step = let k = other_holds m.holder seat a b in beside before after m new seat k.0 call result s l k.1 k.2 step
+
+-- the holder, where a seat doesn't hold and nobody else does
+pub own_or_none : (h : Option ℕ) (seat : ℕ) → (h ≡ Some seat) ⊎ (h ≡ None) → holds h seat ≡ false → h ≡ None
+own_or_none None seat own b = refl
+own_or_none (Some k) seat (inl e) b = let j : k ≡ seat = cc in let n : (k == seat) ≡ true = grind (arith, nat_tests) in absurd (cc)
+own_or_none (Some k) seat (inr e) b = absurd (cc)
+
+pub held_is : (h : Option ℕ) (seat : ℕ) → holds h seat ≡ true → h ≡ Some seat
+held_is None seat b = absurd (cc)
+held_is (Some k) seat b = let j : k ≡ seat = grind (arith, nat_tests) in ap Some j
+
 -- so the counts stay
 pub counted_beside : (before after : Bool) (m new : MirrorNow) (seat : ℕ) (call : Call) (result : Result Given SyncFault) (k : Counts) (held : ℕ) → mirror_in new ≡ mirror_in m → StepsShown before m seat call result after new
     → IsCounted before m.repository.revisions m.holder k held → IsCounted after new.repository.revisions new.holder k held
@@ -273,9 +293,8 @@ has_lock stuck m seat job k held s l c holder knows works = record {
 }
 
 -- a look tells what is counted
-abbrev Tells : Counts → Result Given SyncFault → Type 0
-Tells k (Ok r) = TellsCounts k r
-Tells k (Err f) = Unit {0}
+abbrev pub Tells : Counts → Result Given SyncFault → Type 0
+Tells k result = IfOk result (λ (r : Given). TellsCounts k r)
 
 told_reply : (m : MirrorNow) (call : Call) (k : Counts) (r : Given) → k ≡ counts_of (numbers_of (standing_of m.repository.revisions)) → reply_of r ≡ mirror_reply.granted (mirror_in m) call → TellsCounts k r
 told_reply m call k given.Done e reply = tt

@@ -3,9 +3,9 @@ use Rattle.std.specs.Prelude.{◌≡◌, ℕ, ◌+◌, true, false, Option, Resu
 use Rattle.std.specs.Option.{option_map_or}
 use Rattle.sync_core.specs.Holding.{known_by}
 use Rattle.sync_core.specs.Jobs.{Job, Locked}
-use Rattle.sync_core.specs.Mirror.{Standing}
 use Rattle.sync_core.specs.Moves.{numbers_of}
-use Rattle.sync_core.specs.Names.{Number, Absent, Misspelt, Spelt, Huge}
+use Rattle.sync_core.specs.declared.number.Number.{Number}
+use Rattle.sync_core.specs.declared.number.Number.TheVariants.{Absent, Misspelt, Spelt, Huge}
 use Rattle.sync_core.specs.declared.numbers.Numbers.{Numbers}
 use Rattle.sync_core.specs.declared.reply.Reply.{Reply as Given}
 use Rattle.sync_core.specs.declared.reply.Reply.TheVariants as given

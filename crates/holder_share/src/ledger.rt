@@ -60,12 +60,7 @@ fn take_number<L: Count>(book: &mut Book<L>, share: &mut Share<L>, old: Number)
 }
 
 /// Counts another newest revision.
-pub(crate) fn set_head<L: Count>(
-    book: &mut Book<L>,
-    share: &mut Share<L>,
-    old: RevNo,
-    new: RevNo,
-)
+pub(crate) fn set_head<L: Count>(book: &mut Book<L>, share: &mut Share<L>, old: RevNo, new: RevNo)
     requires whole { (share.old.parts ≡ L.all) × (L.all ≡ L.parts) × (0 < L.all) }
     requires total { book.old.total ≡ old }
     ensures total { book.new.total ≡ new }

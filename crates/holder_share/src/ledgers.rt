@@ -104,7 +104,12 @@ impl<N: HolderName> Ledgers<N> {
         self.whole_copying.show();
         self.whole_head.show();
         set_number(&mut self.merged, &mut hand.merged, old.merged, new.merged);
-        set_number(&mut self.copying, &mut hand.copying, old.copying, new.copying);
+        set_number(
+            &mut self.copying,
+            &mut hand.copying,
+            old.copying,
+            new.copying,
+        );
         set_head(&mut self.head, &mut hand.head, old.head, new.head);
     }
 

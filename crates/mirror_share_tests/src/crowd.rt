@@ -152,7 +152,7 @@ pub(crate) fn committer<R: Wait + Abort, L: RowName>(
     let mut reader = share.enter_reader(rt, alloc).expect(rt, "a seat");
     let mut done = 0;
     for _ in 0..TRIES {
-        if done == EACH {
+        if done >= EACH {
             return 0;
         }
         match commits(rt, alloc, share, &mut reader, &[letter, b'a' + done % EACH]) {

@@ -7,10 +7,11 @@ ghost use Rattle.store_share.specs.Opened.{cells_of};
 use crate::crowd::{ALL, Board, Stopping, committer, job, ran, reader};
 use crate::made::{blank, called, created, log, opened, seat, value};
 use crate::run_tests::{Order, ran as ran_alone};
+use dump_load::ChangeSet;
 use fleet_disk::{Disk, Fuse, FuseDisk, MemDisk, Pick};
 use mirror_share::MirrorShare;
 use node_base::RevNo;
-use path_tree::Tree;
+use repo_core::Repo;
 use repo_store::RepoStore;
 use std::alloc::Global;
 use std::marker::Brand;
@@ -147,39 +148,50 @@ fn master(rt: &impl Abort, alloc: Global) -> OpenedStore<MemDisk> {
         .expect(rt, "a row")
 }
 
-// Whether two trees have the same paths and kinds.
-fn are_same(alloc: Global, one: &Tree, other: &Tree) -> bool {
-    let (Ok(these), Ok(those)) = (one.list(alloc), other.list(alloc)) else {
-        return false;
-    };
-    if these.len() != those.len() {
+// Whether two sets change the same paths in the same way.
+fn are_same(one: &ChangeSet, other: &ChangeSet) -> bool {
+    if one.changes().len() != other.changes().len() {
         return false;
     }
-    for (entry, found) in these.iter().zip(those.iter()) {
-        if entry.path != found.path || entry.node.changed != found.node.changed {
+    for (change, found) in one.changes().iter().zip(other.changes().iter()) {
+        if change.path != found.path || change.action != found.action {
             return false;
         }
     }
     true
 }
 
-// The head of a mirror whose trees are a front of the master's; None where they aren't.
+// Whether two repositories have the same set at a revision, and as many nodes in its tree.
+fn have_same(alloc: Global, one: &Repo, other: &Repo, number: RevNo) -> bool {
+    let (Some(set), Some(found)) = (one.set(number), other.set(number)) else {
+        return false;
+    };
+    let (Some(tree), Some(there)) = (one.tree(number), other.tree(number)) else {
+        return false;
+    };
+    let (Ok(these), Ok(those)) = (tree.list(alloc), there.list(alloc)) else {
+        return false;
+    };
+    are_same(set, found) && these.len() == those.len()
+}
+
+// The head of a mirror whose revisions are a front of the master's; None where they aren't.
 fn front_of<D: Disk>(
     alloc: Global,
     mirror: &RepoStore<D>,
     master: &RepoStore<MemDisk>,
 ) -> Option<RevNo> {
-    let trees = mirror.repo().trees();
-    let all = master.repo().trees();
-    if trees.len() > all.len() {
-        return None;
-    }
-    for (tree, there) in trees.iter().zip(all.iter()) {
-        if !are_same(alloc, tree, there) {
+    let head = mirror.repo().head();
+    for i in 0..head.get() {
+        if !have_same(alloc, mirror.repo(), master.repo(), RevNo::new(i)) {
             return None;
         }
     }
-    Some(mirror.repo().head())
+    if have_same(alloc, mirror.repo(), master.repo(), head) {
+        Some(head)
+    } else {
+        None
+    }
 }
 
 // Whether each of the threads did as it is to, and, where the machine doesn't stop, one more run at each mirror too.

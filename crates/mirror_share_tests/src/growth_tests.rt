@@ -117,6 +117,23 @@ fn made<R: Wait, L: RowName>(
     }
 }
 
+// A call behind one that was done.
+fn then<R: Wait, L: RowName>(
+    before: Came,
+    rt: &R,
+    alloc: Global,
+    share: &MirrorShare<L, MemDisk>,
+    seat: &JobSeat<L>,
+    reader: &mut ReaderSeat<L>,
+    call: &MirrorCall<'_>,
+) -> Came {
+    if before == Came::Done {
+        made(rt, alloc, share, seat, reader, call)
+    } else {
+        before
+    }
+}
+
 // The calls of a mirror of one revision, up to one that isn't done.
 fn lives<R: Wait, L: RowName>(
     rt: &R,
@@ -131,34 +148,33 @@ fn lives<R: Wait, L: RowName>(
     let props = log(alloc)?;
     let set = added(alloc)?;
     let token = token(alloc)?;
-    let calls = [
-        MirrorCall::Init {
-            url: &url,
-            uuid: &uuid,
-            props: &props,
-        },
-        MirrorCall::TakeLock(&token),
-        MirrorCall::SetCopying(number),
-        MirrorCall::Commit {
-            number,
-            set: &set,
-            props: &props,
-        },
-        MirrorCall::PutProps {
-            number,
-            props: &props,
-        },
-        MirrorCall::SetMerged(number),
-        MirrorCall::ClearCopying,
-        MirrorCall::ReleaseLock,
-    ];
-    for call in calls.iter() {
-        let came = made(rt, alloc, share, seat, reader, call);
-        if came != Came::Done {
-            return Some(came);
-        }
-    }
-    Some(Came::Done)
+    let init = MirrorCall::Init {
+        url: &url,
+        uuid: &uuid,
+        props: &props,
+    };
+    let commit = MirrorCall::Commit {
+        number,
+        set: &set,
+        props: &props,
+    };
+    let put = MirrorCall::PutProps {
+        number,
+        props: &props,
+    };
+    let take = MirrorCall::TakeLock(&token);
+    let copying = MirrorCall::SetCopying(number);
+    let merged = MirrorCall::SetMerged(number);
+    let begun = made(rt, alloc, share, seat, reader, &init);
+    let taken = then(begun, rt, alloc, share, seat, reader, &take);
+    let announced = then(taken, rt, alloc, share, seat, reader, &copying);
+    let committed = then(announced, rt, alloc, share, seat, reader, &commit);
+    let copied = then(committed, rt, alloc, share, seat, reader, &put);
+    let merged_then = then(copied, rt, alloc, share, seat, reader, &merged);
+    let clear = MirrorCall::ClearCopying;
+    let cleared = then(merged_then, rt, alloc, share, seat, reader, &clear);
+    let release = MirrorCall::ReleaseLock;
+    Some(then(cleared, rt, alloc, share, seat, reader, &release))
 }
 
 // Whether a reader who has seen the commit reads it.
