@@ -241,7 +241,7 @@ fn sees<R: Wait, L: RowName>(
     told: u64,
     last: RevNo,
 ) -> Option<RevNo> {
-    let number = RevNo::new(told as u16);
+    let number = RevNo::new((told % 65_536) as u16);
     let there = match share.read_at(reader, number) {
         Some(rev) => rev.number == number,
         None => false,
