@@ -3,10 +3,6 @@
 #![tactic(auto)]
 
 #[cfg(test)]
-mod crowd;
-#[cfg(test)]
-mod crowd_tests;
-#[cfg(test)]
 mod growth_tests;
 #[cfg(test)]
 mod job_tests;
