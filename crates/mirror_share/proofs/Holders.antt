@@ -44,7 +44,7 @@ made_by r (Some e) = refl
 mirror_as : (x y : List Revision) (h : Option ℕ) → x ≡ y → ◌≡◌ {A = Mirror} (record { revisions = x; holder = h }) (record { revisions = y; holder = h })
 mirror_as x y h e = ap (λ z. record { revisions = z; holder = h }) e
 
-after_accepted : (m new : MirrorNow) (seat : ℕ) (call : Call) (r : Given) → IsAccepted m seat call r new → mirror_in new ≡ accepted (mirror_in m) seat call
+pub after_accepted : (m new : MirrorNow) (seat : ℕ) (call : Call) (r : Given) → IsAccepted m seat call r new → mirror_in new ≡ accepted (mirror_in m) seat call
 after_accepted m new seat call r a =
     ap mirror_in a.mirror ∙ mirror_as (repository_by m.repository call).revisions (revisions_by m.repository.revisions call) (holder_after m.holder seat call) (made_by m.repository (entry_of m.repository.revisions call))
 

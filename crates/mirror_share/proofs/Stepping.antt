@@ -192,7 +192,7 @@ not_granted m (SetMerged n) why h = cc
 not_granted m ClearCopying why h = cc
 not_granted m Look why h = cc
 
-refused_why : (m : Mirror) (call : Call) (why : Refusal) (o : Option Refusal) → Refused why ≡ option_map_or Refused o (granted m call) → o ≡ Some why
+pub refused_why : (m : Mirror) (call : Call) (why : Refusal) (o : Option Refusal) → Refused why ≡ option_map_or Refused o (granted m call) → o ≡ Some why
 refused_why m call why None h = absurd (not_granted m call why h)
 refused_why m call why (Some w) h = cc
 

@@ -3,8 +3,11 @@ pub mod Entries
 pub mod Facts
 pub mod Holding
 pub mod Jobs
+pub mod Locked
 pub mod Places
 pub mod Ports
+pub mod Refused
 pub mod Seats
+pub mod Seen
 pub mod Stepped
 pub mod Steps

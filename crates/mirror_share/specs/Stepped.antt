@@ -1,14 +1,15 @@
 -- One step of a shared mirror's book.
-use Rattle.std.specs.Prelude.{◌≡◌, ◌≤◌, ◌⊎◌, ◌↔◌, ◌++◌, ℕ, length, Result, OnOk}
+use Rattle.std.specs.Prelude.{◌≡◌, ◌≤◌, ◌⊎◌, ◌↔◌, ◌++◌, ◌+◌, ℕ, length, false, Result, OnOk}
 use Rattle.fleet_disk.specs.Image.{Image}
 use Rattle.fleet_disk.specs.Rules.{LeavesOnly}
 use Rattle.fleet_disk.specs.declared.disk.Disk.{Ghosts}
-use Rattle.repo_store.specs.Words.{disk_of, repository_of, revisions_of}
+use Rattle.repo_store.specs.Words.{disk_of, repository_of, revisions_of, IsKept}
 use Rattle.store_share.specs.Book.{head_of, notes_of}
 use Rattle.store_share.specs.Shown.{Shows}
 use Rattle.sync_core.specs.Mirror.{Call}
 use Rattle.sync_core.specs.declared.fault.SyncFault.{SyncFault}
 use Rattle.sync_core.specs.declared.reply.Reply.{Reply as Given}
+use Rattle.sync_job.specs.Fronts.{replayed}
 use Rattle.mirror_share.specs.declared.book.MirrorBook.{MirrorBook}
 use Rattle.mirror_share.specs.Book.{master_of, store_in, is_stuck_in, now_of, opening_of, calls_of, jobs_of}
 use Rattle.mirror_share.specs.Steps.{KeepsNow, StepsShown, taken_by}
@@ -28,3 +29,16 @@ pub record Stepped {L D : Type 0} {r : _} {g : Ghosts D} (old new : MirrorBook L
   pub calls : is_stuck_in new ≡ is_stuck_in old → calls_of new ≡ calls_of old ++ taken_by call result
   pub opening : opening_of new ≡ opening_of old
   pub jobs : jobs_of new ≡ jobs_of old
+
+-- a step from that book
+pub record IsStepFrom {L D : Type 0} {r : _} {g : Ghosts D} (old : MirrorBook L D r g) (seat : ℕ) (call : Call) (result : Result Given SyncFault) : Type 0 where
+  pub new : MirrorBook L D r g
+  pub stepped : Stepped old new seat call result
+
+-- what a book keeps: its repository is the one at the opening after the calls, a stop keeps it, and the row shows it up to the
+-- head, which is the newest revision unless a cell refused its box
+pub record IsWhole {L D : Type 0} {r : _} {g : Ghosts D} (book : MirrorBook L D r g) : Type 0 where
+  pub replay : repository_of (store_in book) ≡ replayed (opening_of book) (calls_of book)
+  pub kept : IsKept (store_in book)
+  pub shown : Shows (head_of (master_of book) + 1) (notes_of (master_of book)) (repository_of (store_in book))
+  pub newest : is_stuck_in book ≡ false → head_of (master_of book) + 1 ≡ length (revisions_of (store_in book))

@@ -1,9 +1,9 @@
 //! What lies under the lock of a shared mirror.
-ghost use Rattle.std.specs.Prelude.{◌≡◌, ◌<◌, ◌≤◌, ◌⊎◌, ℕ, [], map, false, Some, None, IfOk, IfErr, OnErr};
+ghost use Rattle.std.specs.Prelude.{◌≡◌, ◌<◌, ◌≤◌, ◌⊎◌, ℕ, [], map, false, Some, None, IfOk, IfErr, OnOk, OnErr};
 ghost use Rattle.gate_log.specs.declared.fault.LogFault.TheVariants as log;
 ghost use Rattle.repo_core.specs.Repository.{props_at};
 ghost use Rattle.repo_core.specs.declared.fault.RepoFault.TheVariants as core;
-ghost use Rattle.repo_store.specs.Words.{repository_of, revisions_of};
+ghost use Rattle.repo_store.specs.Words.{repository_of, revisions_of, IsKept};
 ghost use Rattle.repo_store.specs.declared.fault.StoreFault.TheVariants as fault;
 ghost use Rattle.rev_row.specs.Row.{cells_in, rev_at};
 ghost use Rattle.store_share.specs.Book.{head_of, store_of};
@@ -16,6 +16,8 @@ ghost use Rattle.sync_job.specs.Fronts.{replayed};
 ghost use Rattle.sync_job.specs.Mirrors.{IsFit, mirror_in};
 ghost use Rattle.mirror_share.specs.Facts.{replay_prop};
 ghost use Rattle.mirror_share.specs.Places.{job_at, IsEntryFault};
+ghost use Rattle.mirror_share.specs.Refused.{IsRefusalOf};
+ghost use Rattle.mirror_share.specs.Seen.{HasSeenCommit, HasSeenHead};
 ghost use Rattle.mirror_share.specs.Seats.{place_of};
 
 use crate::entries::take;
@@ -50,7 +52,7 @@ pub struct MirrorBook<L: RowName, D: Disk> {
 impl<L: RowName, D: Disk> MirrorBook<L, D> {
     ghost use Rattle.mirror_share.specs.Book.{calls_of, holder_of, is_stuck_in, jobs_of, master_of, now_of, opening_of};
     ghost use Rattle.mirror_share.specs.Book.{store_in};
-    ghost use Rattle.mirror_share.specs.Stepped.{Stepped};
+    ghost use Rattle.mirror_share.specs.Stepped.{IsStepFrom, IsWhole, Stepped};
 
     /// The book of a mirror that is opened, at which nobody runs.
     pub fn open(alloc: Global, book: MasterBook<L, D>) -> MirrorBook<L, D>
@@ -73,6 +75,35 @@ impl<L: RowName, D: Disk> MirrorBook<L, D> {
         ensures { result ≡ master_of self }
     {
         self.book
+    }
+
+    /// Does nothing: its contract says what each book keeps. Its repository is the one at the opening after the calls, a
+    /// stop keeps it, and the row shows it up to the head, which is the newest revision unless a cell refused its box.
+    pub fn is_whole(&self)
+        ensures { IsWhole self.now }
+    {
+        let _ = self.book.repo();
+    }
+
+    /// The repository, as the calls so far have left it.
+    pub fn repo(&self) -> &Repo
+        ensures { result.now ≡ repository_of (store_in self.now) }
+    {
+        self.book.repo()
+    }
+
+    /// The running seat whose call took the sync lock.
+    pub fn holder(&self) -> Option<Seat>
+        ensures { result ≡ holder_of self.now }
+    {
+        self.holder
+    }
+
+    /// A cell refused its box: each call is refused (32) from then on.
+    pub fn is_stuck(&self) -> bool
+        ensures { result ≡ is_stuck_in self.now }
+    {
+        self.book.is_stuck()
     }
 
     /// A seat for the job of that token. HolderRunning (55) where a job of that token runs, OutOfMemory (70).
@@ -120,14 +151,45 @@ impl<L: RowName, D: Disk> MirrorBook<L, D> {
         requires { row.now ≡ L.cells }
         ensures stepped { Stepped self.old self.new (place_of seat.now) (call_of call.now) result }
         ensures fits { IfOk result (IsFit (call_of call.now)) }
+        ensures refused { IfErr result (IsRefusalOf (call_of call.now)) }
     {
-        let _ = self.book.repo();
+        let _head = self.book.repo().head();
         if self.book.is_stuck() {
             return Err(SyncFault::Other(Refusal::Failed));
         }
         match plan(alloc, self.book.repo(), self.holder, seat.seat(), call) {
             Ok(Planned::Tell(standing)) => Ok(Reply::Seen(standing)),
             Ok(Planned::Write(entry)) => self.write(alloc, row, seat.seat(), call, entry),
+            Err(fault) => Err(fault),
+        }
+    }
+
+    /// One call of a job, as [`MirrorBook::step`]; where it is taken the reader has seen all that the book shows then: a
+    /// revision that was committed, with its set, and the head that a look tells.
+    pub fn step_by(
+        &mut self,
+        alloc: Global,
+        row: &RevRow,
+        seat: &JobSeat<L>,
+        reader: &mut ReaderSeat<L>,
+        call: &MirrorCall<'_>,
+    ) -> Result<Reply, SyncFault>
+        requires { row.now ≡ L.cells }
+        ensures stepped { IsStepFrom self.old (place_of seat.now) (call_of call.now) result }
+        ensures fits { IfOk result (IsFit (call_of call.now)) }
+        ensures refused { IfErr result (IsRefusalOf (call_of call.now)) }
+        ensures commit { OnOk result (HasSeenCommit (call_of call.now) (known_by reader.new) (seen_by reader.new)) }
+        ensures head { IfOk result (λ r. HasSeenHead r (seen_by reader.new)) }
+        ensures later { seen_by reader.old ≤ seen_by reader.new }
+        ensures kept { (r : ℕ) → r ≤ seen_by reader.old → known_by reader.new r ≡ known_by reader.old r }
+    {
+        let _head = self.book.repo().head();
+        match self.step(alloc, row, seat, call) {
+            Ok(reply) => {
+                let _ = self.book.repo();
+                let _newest = self.latest(reader);
+                Ok(reply)
+            }
             Err(fault) => Err(fault),
         }
     }
@@ -142,7 +204,9 @@ impl<L: RowName, D: Disk> MirrorBook<L, D> {
         ensures kept { (r : ℕ) → r ≤ seen_by reader.old → known_by reader.new r ≡ known_by reader.old r }
         ensures same { (now_of self.new ≡ now_of self.old) × (is_stuck_in self.new ≡ is_stuck_in self.old)
             × (calls_of self.new ≡ calls_of self.old) }
+        ensures safe { IsKept (store_in self.old) }
     {
+        let _ = self.book.repo();
         self.book.latest(reader)
     }
 
@@ -154,7 +218,9 @@ impl<L: RowName, D: Disk> MirrorBook<L, D> {
             → known_by result r ≡ rev_at (repository_of (store_in self.old)) r }
         ensures same { (now_of self.new ≡ now_of self.old) × (is_stuck_in self.new ≡ is_stuck_in self.old)
             × (calls_of self.new ≡ calls_of self.old) }
+        ensures safe { IsKept (store_in self.old) }
     {
+        let _ = self.book.repo();
         self.book.seat_reader(notes)
     }
 

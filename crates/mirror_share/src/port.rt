@@ -1,5 +1,5 @@
 //! A shared mirror as the port of a job.
-ghost use Rattle.std.specs.Prelude.{◌≡◌, ◌≤◌, ◌⊎◌, ◌↔◌, ℕ, Some, IfOk, IfErr};
+ghost use Rattle.std.specs.Prelude.{◌≡◌, ◌≤◌, ◌⊎◌, ◌↔◌, ℕ, Some, IfOk, IfErr, OnOk};
 ghost use Rattle.std.specs.Option.{option_map};
 ghost use Rattle.node_base.specs.declared.refusal.Refusal.TheVariants as refusal;
 ghost use Rattle.repo_core.specs.Repository.{tree_at};
@@ -7,6 +7,8 @@ ghost use Rattle.store_share.specs.Seats.{known_by, seen_by};
 ghost use Rattle.sync_core.specs.Calls.{call_of};
 ghost use Rattle.sync_core.specs.declared.fault.SyncFault.TheVariants as fault;
 ghost use Rattle.sync_job.specs.Mirrors.{MirrorNow, IsFit, Moves, Stays};
+ghost use Rattle.mirror_share.specs.Refused.{IsRefusalOf};
+ghost use Rattle.mirror_share.specs.Seen.{HasSeenCommit, HasSeenHead};
 
 use crate::seat::JobSeat;
 use crate::share::MirrorShare;
@@ -30,7 +32,8 @@ pub struct SeatMirror<'a, R: Wait, L: RowName, D: Disk> {
 }
 
 impl<'a, R: Wait, L: RowName, D: Disk> SeatMirror<'a, R, L, D> {
-    ghost use Rattle.mirror_share.specs.Ports.{seat_of};
+    ghost use Rattle.mirror_share.specs.Locked.{IsShownTo};
+    ghost use Rattle.mirror_share.specs.Ports.{reader_of, seat_of, share_of};
 
     /// The port of the job that has this seat. Only want of memory (70) refuses it, and the seat is handed back then.
     pub fn new(
@@ -40,6 +43,8 @@ impl<'a, R: Wait, L: RowName, D: Disk> SeatMirror<'a, R, L, D> {
         seat: JobSeat<L>,
     ) -> Result<SeatMirror<'a, R, L, D>, JobSeat<L>>
         ensures seat { IfOk result (λ p. seat_of p ≡ seat) }
+        ensures share { IfOk result (λ p. share_of p ≡ share.now) }
+        ensures reader { IfOk result (λ p. IsShownTo share.now (reader_of p) (seen_by (reader_of p))) }
         ensures back { IfErr result (λ s. s ≡ seat) }
     {
         match share.enter_reader(rt, alloc) {
@@ -63,7 +68,8 @@ impl<'a, R: Wait, L: RowName, D: Disk> SeatMirror<'a, R, L, D> {
 
 impl<R: Wait, L: RowName, D: Disk> MirrorPort for SeatMirror<'_, R, L, D> {
     ghost use Rattle.std.specs.Prelude.{ℕ};
-    ghost use Rattle.mirror_share.specs.Ports.{reader_of, seat_of, NowhereStands};
+    ghost use Rattle.mirror_share.specs.Locked.{IsStepOf};
+    ghost use Rattle.mirror_share.specs.Ports.{reader_of, seat_of, share_of, NowhereStands};
     ghost use Rattle.mirror_share.specs.Seats.{place_of};
 
     ghost stands = { λ _ m. NowhereStands m };
@@ -78,8 +84,26 @@ impl<R: Wait, L: RowName, D: Disk> MirrorPort for SeatMirror<'_, R, L, D> {
 
     ghost kept_now = { λ port m image honest stands left. absurd honest };
 
-    fn step(&mut self, alloc: Global, call: &MirrorCall<'_>) -> Result<Reply, SyncFault> {
-        self.share.step(self.rt, alloc, &self.seat, call)
+    /// One step of the book; where it is taken the reader has seen all that is shown then: a revision that was committed,
+    /// with its set, and the head that a look tells.
+    fn step(&mut self, alloc: Global, call: &MirrorCall<'_>) -> Result<Reply, SyncFault>
+        ensures fits { IfOk result (IsFit (call_of call.now)) }
+        ensures refused { IfErr result (IsRefusalOf (call_of call.now)) }
+        ensures stepped { IsStepOf (share_of self.old) (place_of (seat_of self.old)) (call_of call.now) result }
+        ensures commit { OnOk result (HasSeenCommit (call_of call.now) (known_by (reader_of self.new))
+            (seen_by (reader_of self.new))) }
+        ensures head { IfOk result (λ r. HasSeenHead r (seen_by (reader_of self.new))) }
+        ensures seen { seen_by (reader_of self.old) ≤ seen_by (reader_of self.new) }
+        ensures kept { (r : ℕ) → r ≤ seen_by (reader_of self.old)
+            → known_by (reader_of self.new) r ≡ known_by (reader_of self.old) r }
+        ensures share { share_of self.new ≡ share_of self.old }
+        ensures seat { place_of (seat_of self.new) ≡ place_of (seat_of self.old) }
+        ensures honest { ⊥ ↔ ⊥ }
+        ensures moves { (m : MirrorNow) → NowhereStands m → Moves NowhereStands (λ _. 0) (λ _ _ _. ⊥) ⊥ self.old self.new
+            m (place_of (seat_of self.old)) (call_of call.now) result }
+    {
+        self.share
+            .step_by(self.rt, alloc, &self.seat, &mut self.reader, call)
     }
 
     /// The tree of the revision that the reader's seat knows under that number; the newest is asked for where the seat

@@ -1,5 +1,5 @@
 //! A mirror behind its lock, with its row beside it.
-ghost use Rattle.std.specs.Prelude.{◌≡◌, ◌≤◌, ◌⊎◌, ℕ, Some, IfOk, IfErr, IfSome, IfNone};
+ghost use Rattle.std.specs.Prelude.{◌≡◌, ◌≤◌, ◌⊎◌, ℕ, Some, IfOk, IfErr, IfSome, IfNone, OnOk};
 ghost use Rattle.gate_log.specs.declared.fault.LogFault.TheVariants as log;
 ghost use Rattle.repo_core.specs.declared.fault.RepoFault.TheVariants as core;
 ghost use Rattle.repo_store.specs.declared.fault.StoreFault.TheVariants as fault;
@@ -9,6 +9,9 @@ ghost use Rattle.store_share.specs.Seats.{known_by, seen_by};
 ghost use Rattle.sync_core.specs.Calls.{call_of};
 ghost use Rattle.sync_job.specs.Mirrors.{IsFit};
 ghost use Rattle.mirror_share.specs.Places.{IsRunningFault};
+ghost use Rattle.mirror_share.specs.Refused.{IsRefusalOf};
+ghost use Rattle.mirror_share.specs.Seats.{place_of};
+ghost use Rattle.mirror_share.specs.Seen.{HasSeenCommit, HasSeenHead};
 
 use crate::book::MirrorBook;
 use crate::seat::JobSeat;
@@ -30,10 +33,14 @@ pub struct MirrorShare<L: RowName, D: Disk> {
 }
 
 impl<L: RowName, D: Disk> MirrorShare<L, D> {
+    ghost use Rattle.mirror_share.specs.Locked.{row_of, HasProps, IsEntryOf, IsLeaveOf, IsNewest, IsShownTo, IsStepOf};
+    ghost use Rattle.mirror_share.specs.Stepped.{IsWhole};
+
     /// The share of an opened store under the row's name. Nobody runs there, and no seat holds the sync lock, whatever
     /// token that has.
     pub fn of(alloc: Global, opened: OpenedStore<D>) -> MirrorShare<L, D>
         requires { cells_of opened ≡ L.cells }
+        ensures row { row_of result ≡ cells_of opened }
     {
         let (book, row) = opened.into_book::<L>();
         MirrorShare {
@@ -42,10 +49,14 @@ impl<L: RowName, D: Disk> MirrorShare<L, D> {
         }
     }
 
-    /// The book.
-    pub fn close(self) -> MirrorBook<L, D> {
+    /// The book, with all that a book keeps.
+    pub fn close(self) -> MirrorBook<L, D>
+        ensures { IsWhole result }
+    {
         let MirrorShare { book, row: _ } = self;
-        book.into_inner()
+        let book = book.into_inner();
+        book.is_whole();
+        book
     }
 
     /// A seat for the job of that token. HolderRunning (55) where a job of that token runs, OutOfMemory (70).
@@ -55,13 +66,16 @@ impl<L: RowName, D: Disk> MirrorShare<L, D> {
         alloc: Global,
         token: &Token,
     ) -> Result<JobSeat<L>, SyncFault>
-        ensures { IfErr result (IsRunningFault token.now) }
+        ensures entered { IfOk result (λ s. IsEntryOf self.now token.now (place_of s)) }
+        ensures refused { IfErr result (IsRunningFault token.now) }
     {
         self.book.lock(rt).enter_job(alloc, token)
     }
 
     /// The job leaves. Where it holds the sync lock there is no holder from then on, and the lock stays.
-    pub fn leave<R: Wait>(&self, rt: &R, seat: JobSeat<L>) {
+    pub fn leave<R: Wait>(&self, rt: &R, seat: JobSeat<L>)
+        ensures { IsLeaveOf self.now (place_of seat) }
+    {
         self.book.lock(rt).leave(seat);
     }
 
@@ -73,17 +87,40 @@ impl<L: RowName, D: Disk> MirrorShare<L, D> {
         seat: &JobSeat<L>,
         call: &MirrorCall<'_>,
     ) -> Result<Reply, SyncFault>
-        ensures { IfOk result (IsFit (call_of call.now)) }
+        ensures fits { IfOk result (IsFit (call_of call.now)) }
+        ensures refused { IfErr result (IsRefusalOf (call_of call.now)) }
+        ensures stepped { IsStepOf self.now (place_of seat.now) (call_of call.now) result }
     {
         self.book.lock(rt).step(alloc, &self.row, seat, call)
     }
 
-    /// The seat of a reader, who has seen what is shown now. Only want of memory (70) refuses it.
-    pub fn enter_reader<R: Wait>(
+    /// One call of a job, as [`MirrorShare::step`]; where it is taken the reader has seen all that is shown then: a
+    /// revision that was committed, with its set, and the head that a look tells.
+    pub fn step_by<R: Wait>(
         &self,
         rt: &R,
         alloc: Global,
-    ) -> Result<ReaderSeat<L>, AllocError> {
+        seat: &JobSeat<L>,
+        reader: &mut ReaderSeat<L>,
+        call: &MirrorCall<'_>,
+    ) -> Result<Reply, SyncFault>
+        ensures fits { IfOk result (IsFit (call_of call.now)) }
+        ensures refused { IfErr result (IsRefusalOf (call_of call.now)) }
+        ensures stepped { IsStepOf self.now (place_of seat.now) (call_of call.now) result }
+        ensures commit { OnOk result (HasSeenCommit (call_of call.now) (known_by reader.new) (seen_by reader.new)) }
+        ensures head { IfOk result (λ r. HasSeenHead r (seen_by reader.new)) }
+        ensures later { seen_by reader.old ≤ seen_by reader.new }
+        ensures kept { (r : ℕ) → r ≤ seen_by reader.old → known_by reader.new r ≡ known_by reader.old r }
+    {
+        self.book
+            .lock(rt)
+            .step_by(alloc, &self.row, seat, reader, call)
+    }
+
+    /// The seat of a reader, who has seen what is shown now. Only want of memory (70) refuses it.
+    pub fn enter_reader<R: Wait>(&self, rt: &R, alloc: Global) -> Result<ReaderSeat<L>, AllocError>
+        ensures { IfOk result (λ s. IsShownTo self.now s (seen_by s)) }
+    {
         let notes = self.row.notes(alloc)?;
         Ok(self.book.lock(rt).seat_reader(notes))
     }
@@ -93,6 +130,7 @@ impl<L: RowName, D: Disk> MirrorShare<L, D> {
         ensures most { seen_by reader.old ≤ result }
         ensures seen { seen_by reader.new ≡ result }
         ensures kept { (r : ℕ) → r ≤ seen_by reader.old → known_by reader.new r ≡ known_by reader.old r }
+        ensures newest { IsNewest self.now (seen_by reader.old) reader.new result }
     {
         self.book.lock(rt).latest(reader)
     }
@@ -112,7 +150,8 @@ impl<L: RowName, D: Disk> MirrorShare<L, D> {
 
     /// The properties that a revision has now. NoSuchRevision (21) above the head, OutOfMemory (70).
     pub fn rev_props<R: Wait>(&self, rt: &R, number: RevNo) -> Result<Props, StoreFault>
-        ensures { IfErr result (λ e. (e ≡ fault.Repo core.NoSuchRevision) ⊎ (e ≡ fault.Log log.OutOfMemory)) }
+        ensures props { IfOk result (HasProps self.now number) }
+        ensures refused { IfErr result (λ e. (e ≡ fault.Repo core.NoSuchRevision) ⊎ (e ≡ fault.Log log.OutOfMemory)) }
     {
         self.book.lock(rt).rev_props(number)
     }

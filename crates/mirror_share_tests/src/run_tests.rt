@@ -23,7 +23,7 @@ use sync_job::{JobPorts, LentMaster, run_copy_revprops, run_init, run_sync};
 
 // What a job is to do.
 #[derive(Clone, Copy, Drop)]
-enum Order {
+pub(crate) enum Order {
     Initialise,
     Synchronise,
     Steal,
@@ -31,7 +31,7 @@ enum Order {
 }
 
 // The number of the refusal of a run, 0 where it ends well.
-fn ran<R: Wait + Abort, L: RowName>(
+pub(crate) fn ran<R: Wait + Abort, L: RowName>(
     rt: &R,
     alloc: Global,
     share: &MirrorShare<L, MemDisk>,

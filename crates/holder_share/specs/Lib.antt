@@ -1,0 +1,4 @@
+pub mod Books
+pub mod Carried
+pub mod Counts
+pub mod Seats

@@ -1,0 +1,39 @@
+-- What a call through the lock was, where it answers by what the book answered.
+use Rattle.std.proofs.Common.{◌≡◌, ◌≤◌, ℕ, List, Option, Some, None, Result, Ok, Err, sym, subst}
+use Rattle.std.specs.Prelude.{IfOk}
+use Rattle.fleet_disk.specs.declared.disk.Disk.{Ghosts}
+use Rattle.node_base.specs.Props.{PropMap}
+use Rattle.repo_core.specs.Repository.{props_at}
+use Rattle.repo_store.specs.Words.{repository_of, revisions_of, IsKept}
+use Rattle.repo_store.specs.declared.fault.StoreFault.{StoreFault}
+use Rattle.rev_row.specs.Row.{rev_at}
+use Rattle.store_share.specs.Book.{head_of}
+use Rattle.store_share.specs.Seats.{known_by, seen_by}
+use Rattle.store_share.specs.declared.seat.ReaderSeat.{ReaderSeat}
+use Rattle.sync_core.specs.declared.fault.SyncFault.{SyncFault}
+use Rattle.mirror_share.specs.declared.book.MirrorBook.{MirrorBook}
+use Rattle.mirror_share.specs.declared.seat.JobSeat.{JobSeat}
+use Rattle.mirror_share.specs.declared.share.MirrorShare.{MirrorShare}
+use Rattle.mirror_share.specs.Book.{master_of, store_in, jobs_of}
+use Rattle.mirror_share.specs.Locked.{HasProps, IsEntryOf, IsShownTo}
+use Rattle.mirror_share.specs.Places.{job_at}
+use Rattle.mirror_share.specs.Seats.{place_of}
+
+module _ {L D : Type 0} {r : _} {g : Ghosts D} where
+  pub entered : (share : MirrorShare L D r g) (old new : MirrorBook L D r g) (token : List ℕ) (result : Result (JobSeat L) SyncFault)
+      → IfOk result (λ (s : JobSeat L). (i : ℕ) → job_at (jobs_of old) i ≡ Some token → ⊥)
+      → IfOk result (λ (s : JobSeat L). job_at (jobs_of old) (place_of s) ≡ None)
+      → IfOk result (λ (s : JobSeat L). job_at (jobs_of new) (place_of s) ≡ Some token)
+      → IfOk result (λ (s : JobSeat L). IsEntryOf share token (place_of s))
+  entered share old new token (Ok s) alone free there = record { old = old; new = new; alone = alone; free = free; there = there }
+  entered share old new token (Err f) alone free there = tt
+
+  pub has_props : (share : MirrorShare L D r g) (book : MirrorBook L D r g) (number : ℕ) (result : Result PropMap StoreFault)
+      → IfOk result (λ (p : PropMap). (number ≤ head_of (master_of book)) × (p ≡ props_at (revisions_of (store_in book)) number))
+      → IfOk result (λ (p : PropMap). HasProps share number p)
+  has_props share book number (Ok p) it = record { book = book; within = it.0; props = it.1 }
+  has_props share book number (Err f) it = tt
+
+  pub shown_to : (share : MirrorShare L D r g) (book : MirrorBook L D r g) (reader : ReaderSeat L r) → IsKept (store_in book) → seen_by reader ≡ head_of (master_of book)
+      → ((i : ℕ) → i ≤ head_of (master_of book) → known_by reader i ≡ rev_at (repository_of (store_in book)) i) → IsShownTo share reader (seen_by reader)
+  shown_to share book reader kept seen known = record { book = book; kept = kept; head = sym seen; known = λ i h. known i (subst (λ n. i ≤ n) seen h) }

@@ -1,0 +1,5 @@
+use Rattle.mirror_share.proofs.Locks.{has_props}
+use Rattle.mirror_share.proofs.share.MirrorShare.rev_props.Goals as goal
+
+pub returns-clause-props : goal.returns-clause-props
+returns-clause-props g c = has_props c.args.self.now c.deref.result.now c.args.number c.rev_props.result c.rev_props.ensures.props

@@ -1,0 +1,70 @@
+-- What a call of a share was, of the book as the lock had it. What the book was before and after isn't known to who calls: there
+-- were two books, each with all that a book keeps.
+use Rattle.std.specs.Prelude.{◌≡◌, ◌≤◌, ◌⊎◌, ◌+◌, ◌<◌, ℕ, List, Option, Some, None, false, length, Result, IfOk}
+use Rattle.fleet_disk.specs.declared.disk.Disk.{Ghosts}
+use Rattle.node_base.specs.Props.{PropMap}
+use Rattle.repo_core.specs.Repository.{props_at}
+use Rattle.repo_store.specs.Words.{repository_of, revisions_of, IsKept}
+use Rattle.rev_row.specs.Row.{rev_at}
+use Rattle.store_share.specs.declared.seat.ReaderSeat.{ReaderSeat}
+use Rattle.store_share.specs.Book.{head_of, notes_of}
+use Rattle.store_share.specs.Seats.{known_by, seen_by}
+use Rattle.store_share.specs.Shown.{Shows}
+use Rattle.sync_core.specs.Mirror.{Call}
+use Rattle.sync_core.specs.World.{holder_left}
+use Rattle.sync_core.specs.declared.fault.SyncFault.{SyncFault}
+use Rattle.sync_core.specs.declared.reply.Reply.{Reply as Given}
+use Rattle.sync_job.specs.Fronts.{replayed}
+use Rattle.mirror_share.specs.declared.book.MirrorBook.{MirrorBook}
+use Rattle.mirror_share.specs.declared.seat.JobSeat.{JobSeat}
+use Rattle.mirror_share.specs.declared.share.MirrorShare.{MirrorShare}
+use Rattle.mirror_share.specs.Book.{master_of, store_in, is_stuck_in, holder_of, opening_of, calls_of, jobs_of}
+use Rattle.mirror_share.specs.Places.{job_at}
+use Rattle.mirror_share.specs.Seats.{place_of}
+use Rattle.mirror_share.specs.Stepped.{Stepped}
+
+-- the cells of a share's row
+abbrev pub row_of : {L D : Type 0} {r : _} {g : _} → MirrorShare L D r g → List ℕ
+row_of share = share.row
+
+-- a step of the share's book
+pub record IsStepOf {L D : Type 0} {r : _} {g : Ghosts D} (share : MirrorShare L D r g) (seat : ℕ) (call : Call) (result : Result Given SyncFault) : Type 0 where
+  pub old : MirrorBook L D r g
+  pub new : MirrorBook L D r g
+  pub stepped : Stepped old new seat call result
+
+-- a job came in: none of its token ran, and it has a place that nobody had
+pub record IsEntryOf {L D : Type 0} {r : _} {g : Ghosts D} (share : MirrorShare L D r g) (token : List ℕ) (seat : ℕ) : Type 0 where
+  pub old : MirrorBook L D r g
+  pub new : MirrorBook L D r g
+  pub alone : (i : ℕ) → job_at (jobs_of old) i ≡ Some token → ⊥
+  pub free : job_at (jobs_of old) seat ≡ None
+  pub there : job_at (jobs_of new) seat ≡ Some token
+
+-- a job left: its place is free, and it holds no lock
+pub record IsLeaveOf {L D : Type 0} {r : _} {g : Ghosts D} (share : MirrorShare L D r g) (seat : ℕ) : Type 0 where
+  pub old : MirrorBook L D r g
+  pub new : MirrorBook L D r g
+  pub left : job_at (jobs_of new) seat ≡ None
+  pub holder : holder_of new ≡ holder_left (holder_of old) seat
+  pub same : (master_of new ≡ master_of old) × (calls_of new ≡ calls_of old)
+
+-- of a book that a stop keeps the reader knows what its repository has up to its head
+pub record IsShownTo {L D : Type 0} {r : _} {g : Ghosts D} (share : MirrorShare L D r g) (reader : ReaderSeat L r) (last : ℕ) : Type 0 where
+  pub book : MirrorBook L D r g
+  pub kept : IsKept (store_in book)
+  pub head : head_of (master_of book) ≡ last
+  pub known : (i : ℕ) → i ≤ last → known_by reader i ≡ rev_at (repository_of (store_in book)) i
+
+-- the newest revision: the greater of what the reader had seen and of what a book shows
+pub record IsNewest {L D : Type 0} {r : _} {g : Ghosts D} (share : MirrorShare L D r g) (seen : ℕ) (reader : ReaderSeat L r) (newest : ℕ) : Type 0 where
+  pub head : ℕ
+  pub shown : IsShownTo share reader head
+  pub most : head ≤ newest
+  pub one : (newest ≡ seen) ⊎ (newest ≡ head)
+
+-- the properties that a book's repository has at a number up to its head
+pub record HasProps {L D : Type 0} {r : _} {g : Ghosts D} (share : MirrorShare L D r g) (number : ℕ) (map : PropMap) : Type 0 where
+  pub book : MirrorBook L D r g
+  pub within : number ≤ head_of (master_of book)
+  pub props : map ≡ props_at (revisions_of (store_in book)) number
