@@ -1,0 +1,5 @@
+pub mod Crosses
+pub mod Ending
+pub mod Forgetting
+pub mod Giving
+pub mod Ordering

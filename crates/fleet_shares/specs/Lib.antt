@@ -1,0 +1,9 @@
+pub mod Answers
+pub mod Faults
+pub mod Given
+pub mod Jobs
+pub mod Lines
+pub mod Orders
+pub mod Ports
+pub mod Ran
+pub mod Runners

@@ -1,0 +1,39 @@
+//! The jobs of a fleet over shares: a master and up to four mirrors on disks, brought up by workers in threads.
+//!
+//! [`FleetShares`] has a master's share and a slot for each of four mirrors, and [`SharesRunner`] runs the jobs of
+//! orders over it: a job enters its mirror, runs over the ports [`SharedMaster`] and `mirror_share::SeatMirror`, and
+//! leaves. Who keeps an `Arc` of the shares beside the fleet has them back when it is finished:
+//!
+//! ```text
+//! let shares = Arc::new(alloc, FleetShares::<M, L0, L1, L2, L3, D>::of(alloc, opened))?;
+//! let runner = SharesRunner::new(alloc, Arc::try_clone(&shares)?);
+//! let mut fleet = Fleet::start(rt, alloc, runner, workers, Unheld)?;
+//! let number = fleet.give(rt, order)?;
+//! let outcomes = fleet.finish(rt)?;
+//! let stores = Arc::into_inner(shares).map(FleetShares::close);
+//! ```
+//!
+//! [`run_shared`] does this for a list of orders, and answers each by its own answer; [`stores_of`] closes the shares.
+#![tactic(auto)]
+
+pub use answers::{Answered, answer_all};
+pub use lines::{answer_lines, are_done, refuse_at};
+pub use master::SharedMaster;
+pub use orders::sync_orders;
+pub use run::{run_shared, stores_of};
+pub use runner::SharesRunner;
+pub use shares::FleetShares;
+pub use stores::{FleetStores, OpenedFleet};
+pub use unheld::Unheld;
+
+mod answers;
+mod job;
+mod lines;
+mod master;
+mod orders;
+mod run;
+mod runner;
+mod shares;
+mod stores;
+mod unheard;
+mod unheld;

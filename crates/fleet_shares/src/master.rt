@@ -1,0 +1,133 @@
+//! A shared master as the port of a job.
+ghost use Rattle.std.specs.Prelude.{◌≡◌, ◌≤◌, ◌-◌, ◌⊎◌, length, take, Some, IfOk, IfErr, OnErr};
+ghost use Rattle.std.specs.Option.{option_map};
+ghost use Rattle.node_base.specs.declared.refusal.Refusal.TheVariants as refusal;
+ghost use Rattle.store_share.specs.Seats.{known_by, seen_by};
+ghost use Rattle.sync_core.specs.World.{Origin, moment_of, map_at};
+ghost use Rattle.sync_core.specs.World.{Makes as MakesTree};
+ghost use Rattle.sync_job.specs.Masters.{IsTrue};
+ghost use Rattle.sync_job.specs.declared.master.MasterFault.TheVariants as fault;
+ghost use Rattle.fleet_shares.specs.Faults.{master_fault};
+
+use dump_load::ChangeSet;
+use fleet_disk::Disk;
+use node_base::{PropValue, Props, Refusal, RevNo};
+use path_tree::Tree;
+use repo_store::StoreFault;
+use std::alloc::{AllocError, Global};
+use std::sync::Wait;
+use store_share::{MasterShare, ReaderSeat, RowName};
+use sync_job::{MasterFault, MasterPort};
+use uuid::Uuid;
+
+/// A shared master as one job sees it, from a reader's seat. What it tells of a revision is what its seat, and so every
+/// reader, has seen there for good; its newest revision never falls.
+#[derive(Drop)]
+pub struct SharedMaster<'a, R: Wait, L: RowName, D: Disk> {
+    rt: &'a R,
+    share: &'a MasterShare<L, D>,
+    seat: ReaderSeat<L>,
+}
+
+impl<'a, R: Wait, L: RowName, D: Disk> SharedMaster<'a, R, L, D> {
+    /// The port over a share, whose seat has seen what is shown now. Only want of memory (70) refuses it.
+    pub fn new(
+        rt: &'a R,
+        alloc: Global,
+        share: &'a MasterShare<L, D>,
+    ) -> Result<SharedMaster<'a, R, L, D>, AllocError> {
+        Ok(SharedMaster {
+            rt,
+            share,
+            seat: share.enter_reader(rt, alloc)?,
+        })
+    }
+}
+
+impl<R: Wait, L: RowName, D: Disk> MasterPort for SharedMaster<'_, R, L, D> {
+    ghost use Rattle.fleet_shares.specs.Ports.{seat_of, IsNowhere};
+
+    // Others change the master between two calls of a job, and no clause knows what is under a lock.
+    ghost is_at = { λ _ o. IsNowhere o };
+
+    fn identity(&mut self, alloc: Global) -> Result<PropValue, MasterFault>
+        ensures seat { seat_of self.new ≡ seat_of self.old }
+        ensures refused { IfErr result (λ f. f ≡ fault.Refused refusal.OutOfMemory) }
+        ensures told { IsTrue IsNowhere IsNowhere (λ o. IfOk result (λ v. v ≡ o.identity)) }
+    {
+        match identity_text(alloc, self.share.identity(self.rt)) {
+            Ok(text) => Ok(text),
+            Err(_) => Err(MasterFault::Refused(Refusal::OutOfMemory)),
+        }
+    }
+
+    /// The newest revision, which the seat has seen then. It is never refused, and never falls.
+    fn latest(&mut self, _alloc: Global) -> Result<RevNo, MasterFault>
+        ensures most { IfOk result (λ n. seen_by (seat_of self.old) ≤ n) }
+        ensures seen { IfOk result (λ n. seen_by (seat_of self.new) ≡ n) }
+        ensures taken { OnErr result ⊥ }
+        ensures kept { (r : _) → r ≤ seen_by (seat_of self.old)
+            → known_by (seat_of self.new) r ≡ known_by (seat_of self.old) r }
+        ensures told { IsTrue IsNowhere IsNowhere (λ o. IfOk result (λ n. n ≡ length o.trees - 1)) }
+    {
+        Ok(self.share.latest(self.rt, &mut self.seat))
+    }
+
+    /// The changes of the revision that the seat has seen then under that number, and the properties that it has now.
+    /// NoSuchRevision (21) above the head, OutOfMemory (70).
+    fn fetch(
+        &mut self,
+        alloc: Global,
+        number: RevNo,
+        trees: &[Tree],
+    ) -> Result<(ChangeSet, Props), MasterFault>
+        ensures within { IfOk result (λ p. number ≤ seen_by (seat_of self.new)) }
+        ensures changes { IfOk result
+            (λ p. option_map (λ x. x.set) (known_by (seat_of self.new) number) ≡ Some p.0) }
+        ensures kept { (r : _) → r ≤ seen_by (seat_of self.old)
+            → known_by (seat_of self.new) r ≡ known_by (seat_of self.old) r }
+        ensures seen { seen_by (seat_of self.old) ≤ seen_by (seat_of self.new) }
+        ensures refused { IfErr result (λ f. (f ≡ fault.Refused refusal.NoSuchRevision)
+            ⊎ (f ≡ fault.Refused refusal.OutOfMemory)) }
+        ensures set { IsTrue IsNowhere IsNowhere
+            (λ o. take number o.trees ≡ trees.now → IfOk result
+            (λ r. MakesTree o number r.0 × (map_at o (moment_of o) number ≡ Some r.1))) }
+    {
+        let _ = trees;
+        match self.share.fetch(self.rt, alloc, &mut self.seat, number) {
+            Ok(revision) => Ok(revision),
+            Err(fault) => Err(master_fault(fault)),
+        }
+    }
+
+    /// The properties that the revision has now. NoSuchRevision (21) above the head, OutOfMemory (70).
+    fn fetch_props(&mut self, _alloc: Global, number: RevNo) -> Result<Props, MasterFault>
+        ensures seat { seat_of self.new ≡ seat_of self.old }
+        ensures refused { IfErr result (λ f. (f ≡ fault.Refused refusal.NoSuchRevision)
+            ⊎ (f ≡ fault.Refused refusal.OutOfMemory)) }
+        ensures told { IsTrue IsNowhere IsNowhere
+            (λ o. IfOk result (λ p. map_at o (moment_of o) number ≡ Some p)) }
+    {
+        match self.share.fetch_props(self.rt, number) {
+            Ok(props) => Ok(props),
+            Err(fault) => Err(master_fault(fault)),
+        }
+    }
+}
+
+// What a store's fault is at a master's port.
+fn master_fault(fault: StoreFault) -> MasterFault
+    ensures { result ≡ master_fault fault }
+{
+    MasterFault::Refused(Refusal::from(fault))
+}
+
+// An identity as a mirror's properties spell it.
+fn identity_text(alloc: Global, identity: Uuid) -> Result<PropValue, AllocError> {
+    let mut buffer = [0u8; 36];
+    let text = identity.hyphenated().encode_lower(&mut buffer);
+    match PropValue::new(Vec::from_slice(alloc, text.as_bytes())?) {
+        Ok(value) => Ok(value),
+        Err(_) => Err(AllocError),
+    }
+}

@@ -1,0 +1,57 @@
+//! Orders that are run over shares.
+ghost use Rattle.std.specs.Prelude.{IfOk};
+ghost use Rattle.std.specs.List.{AllZip};
+ghost use Rattle.std.specs.Arc.{arc_value};
+ghost use Rattle.fleet_shares.specs.Given.{IsAnswered};
+ghost use Rattle.fleet_shares.specs.Runners.{slots_of, MayAnswer};
+
+use crate::answers::{Answered, answer_all};
+use crate::runner::SharesRunner;
+use crate::shares::FleetShares;
+use crate::stores::FleetStores;
+use fleet_disk::Disk;
+use fleet_jobs::{Fleet, Order, StartGate};
+use std::alloc::{AllocError, Global};
+use std::sync::{Arc, Wait};
+use std::thread::Threads;
+use store_share::RowName;
+
+/// Runs orders over shares by that many workers, each a thread, and answers each in its place: the mirror's newest
+/// revision after its job, or why it was refused. NoRepository (34) where its slot is empty, Failed (32) where no worker
+/// was left for it. Only want of memory (70), that of a thread among it, refuses the whole, before any order is run.
+pub fn run_shared<
+    R: Threads + Wait + Clone + Send + Drop + 'static,
+    M: RowName + Send + Sync + 'static,
+    L0: RowName + Send + Sync + 'static,
+    L1: RowName + Send + Sync + 'static,
+    L2: RowName + Send + Sync + 'static,
+    L3: RowName + Send + Sync + 'static,
+    D: Disk + Drop + Send + 'static,
+    G: StartGate + Send + Sync + Drop + 'static,
+>(
+    rt: &R,
+    alloc: Global,
+    shares: &Arc<FleetShares<M, L0, L1, L2, L3, D>>,
+    orders: Vec<Order>,
+    workers: usize,
+    gate: G,
+) -> Result<Vec<Answered>, AllocError>
+    ensures { IfOk result (λ answers. AllZip (IsAnswered (MayAnswer (arc_value shares.now))
+        (slots_of (arc_value shares.now))) orders.items answers.items) }
+{
+    let notes = Vec::with_capacity(alloc, orders.len())?;
+    let answers = Vec::with_capacity(alloc, orders.len())?;
+    let runner = SharesRunner::new(alloc, Arc::try_clone(shares)?);
+    let fleet = Fleet::start(rt, alloc, runner, workers, gate)?;
+    Ok(answer_all(rt, fleet, orders, notes, answers))
+}
+
+/// The stores of shares that nobody else keeps any more, as once their fleet is finished. None where somebody does.
+pub fn stores_of<M: RowName, L0: RowName, L1: RowName, L2: RowName, L3: RowName, D: Disk>(
+    shares: Arc<FleetShares<M, L0, L1, L2, L3, D>>,
+) -> Option<FleetStores<D>> {
+    match Arc::into_inner(shares) {
+        Some(shares) => Some(shares.close()),
+        None => None,
+    }
+}
