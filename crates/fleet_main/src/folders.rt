@@ -1,5 +1,5 @@
 //! Folders, each the place of a repository.
-ghost use Rattle.std.specs.Prelude.{◌≡◌, ◌⊎◌, Ok, IfOk, IfErr, IsErrAnd, OnOk};
+ghost use Rattle.std.specs.Prelude.{◌≡◌, ◌≤◌, ◌⊎◌, Ok, IfOk, IfErr, IsErrAnd, OnOk};
 ghost use Rattle.fleet_disk.specs.Host.{failures_of, HasBytes, HasFiles};
 ghost use Rattle.fleet_disk.specs.Image.{Image};
 ghost use Rattle.fleet_disk.specs.Rules.{Rose};
@@ -47,6 +47,7 @@ impl<'a, R: HeldFiles> HostFolders<'a, R> {
         ensures ok { IfOk result (λ value. answer ≡ Ok value) }
         ensures err { IfErr result (λ e. IsErrAnd answer (IsFaultOf e)) }
         ensures cause { IfErr result (λ e. e ≡ FolderFault.DeviceFailed → Rose self.old.failures self.new.failures) }
+        ensures later { self.old.failures ≤ self.new.failures }
         ensures uncounted { IfErr result (λ e. e ≡ FolderFault.OutOfMemory → self.new.failures ≡ self.old.failures) }
         ensures unfailed { OnOk result (self.new.failures ≡ self.old.failures) }
     {

@@ -1,9 +1,8 @@
-use Rattle.std.proofs.Common.{string_bytes, inl, []}
+use Rattle.std.proofs.Common.{string_bytes, []}
 use Rattle.mirror_engines.specs.Runs.{IsWorked}
 use Rattle.fleet_main.specs.Doing.{IsWorkedOver, OfStanding, UnopenedOr}
 use Rattle.fleet_main.specs.Loans.{AreBack}
 use Rattle.fleet_main.specs.Pulling.{NotKeptFor, NotPulledOver}
-use Rattle.fleet_main.proofs.Loans.{none_lent}
 use Rattle.fleet_main.proofs.Pulled.{asked_done, asked_refused}
 use Rattle.fleet_main.proofs.pulling.pull_asked.Goals as goal
 
@@ -22,6 +21,3 @@ returns-in-Ok-clause-refused g c =
     (NotPulledOver (g.F.Folders.honest c.args.folders.now) (IsWorked w) (g.W.Write.contents c.args.output.inner) (g.W.Write.contents c.pull_folder.result.0.inner) c.pull_folder.result.0.failed e))
     c.args.pull.task c.in-Ok.work c.as_str-mirror.result.now (string_bytes c.args.pull.mirror) c.as_str-url.result.now (string_bytes c.args.pull.url) c.as_str-mirror.ensures.value c.in-Ok.ensures.work c.as_str-url.ensures.value
     c.pull_folder.ensures.refused
-
-pub returns-in-Err-clause-refused : goal.returns-in-Err-clause-refused
-returns-in-Err-clause-refused g c = inl (c.in-Err.ensures.refused _, none_lent g.F.Place.Disk g.F.Folders c.args.folders.now)
