@@ -72,7 +72,12 @@ fn failed_reader_is_told(rt: HostRuntime) -> Result<(), Fail> {
     let mut broken = Source::new(Broken {
         bytes: whole.as_slice(),
     });
-    let (told, output) = tells(rt.alloc(), &rt, &mut broken, Sink::new(Vec::new(rt.alloc())));
+    let (told, output) = tells(
+        rt.alloc(),
+        &rt,
+        &mut broken,
+        Sink::new(Vec::new(rt.alloc())),
+    );
     assert!(rt; told && broken.failed);
     assert!(rt; output.into_inner().as_slice() == written.as_slice());
     Ok(())
