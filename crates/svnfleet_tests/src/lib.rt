@@ -1,8 +1,8 @@
-//! Tests of the command line and of whole runs of `list` and `canon` over memory.
+//! Tests of the command line, and of runs of `list` and `canon` whose streams fail.
 #![tactic(auto)]
 
 #[cfg(test)]
-mod dump_tests;
+mod dumps;
 #[cfg(test)]
 mod stream_tests;
 #[cfg(test)]

@@ -1,6 +1,6 @@
 //! Runs whose reader or writer fails, and the engines without a status.
 
-use crate::dump_tests::{HEAD, ONE_FILE, ZERO, joined};
+use crate::dumps::{HEAD, ONE_FILE, ZERO, joined};
 use fleet_disk::HeldFiles;
 use fleet_engines::{
     Sink, Source, records_dont_matter, revisions_are_grouped, run_canon, run_list,
