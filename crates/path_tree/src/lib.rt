@@ -12,6 +12,5 @@ mod error;
 pub mod limits;
 mod listing;
 mod node_calls;
-pub mod plain;
 mod reach;
 mod tree;

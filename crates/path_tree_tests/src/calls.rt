@@ -1,7 +1,7 @@
 //! The calls of both bodies by the texts of paths, for tests.
 
 use node_base::{NodePath, Props, RevNo, Text};
-use path_tree::{Entry, Tree, TreeError, plain};
+use path_tree::{Entry, Tree, TreeError};
 use std::alloc::Global;
 use std::test::Fail;
 
@@ -92,12 +92,12 @@ impl Calls for Tree {
     }
 }
 
-impl Calls for plain::Tree {
-    fn fresh(alloc: Global) -> Result<plain::Tree, Fail> {
-        Ok(plain::Tree::empty(alloc)?)
+impl Calls for plain_tree::Tree {
+    fn fresh(alloc: Global) -> Result<plain_tree::Tree, Fail> {
+        Ok(plain_tree::Tree::empty(alloc)?)
     }
 
-    fn again(&self) -> Result<plain::Tree, Fail> {
+    fn again(&self) -> Result<plain_tree::Tree, Fail> {
         Ok(self.share()?)
     }
 
@@ -133,7 +133,7 @@ impl Calls for plain::Tree {
         &mut self,
         alloc: Global,
         at: &str,
-        from: &plain::Tree,
+        from: &plain_tree::Tree,
         source: &str,
         number: u16,
     ) -> Result<u8, Fail> {

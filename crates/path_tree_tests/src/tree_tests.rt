@@ -1,7 +1,7 @@
 //! Both bodies on the same calls, and the refusals in their order.
 
 use crate::calls::{Call, Calls, answers};
-use path_tree::{Tree, plain};
+use path_tree::Tree;
 use std::alloc::Global;
 use std::test::Fail;
 
@@ -34,7 +34,7 @@ fn has(lines: &String, front: &str, count: usize) -> bool {
 #[test]
 fn both_bodies_list_the_same(rt: HostRuntime) -> Result<(), Fail> {
     let lines = doubled::<Tree>(rt.alloc())?;
-    assert!(rt; is_same(&lines, &doubled::<plain::Tree>(rt.alloc())?));
+    assert!(rt; is_same(&lines, &doubled::<plain_tree::Tree>(rt.alloc())?));
     Ok(())
 }
 
@@ -103,9 +103,9 @@ fn refusals_come_in_their_order(rt: HostRuntime) -> Result<(), Fail> {
 
 #[test]
 fn plain_refusals_come_in_their_order(rt: HostRuntime) -> Result<(), Fail> {
-    assert!(rt; refuses_adds::<plain::Tree>(rt.alloc())?);
-    assert!(rt; refuses_changes::<plain::Tree>(rt.alloc())?);
-    assert!(rt; refuses_copies::<plain::Tree>(rt.alloc())?);
+    assert!(rt; refuses_adds::<plain_tree::Tree>(rt.alloc())?);
+    assert!(rt; refuses_changes::<plain_tree::Tree>(rt.alloc())?);
+    assert!(rt; refuses_copies::<plain_tree::Tree>(rt.alloc())?);
     Ok(())
 }
 
@@ -131,7 +131,7 @@ fn refuses_deep_copies<T: Calls>(alloc: Global) -> Result<bool, Fail> {
 #[test]
 fn copy_past_the_limits_is_refused(rt: HostRuntime) -> Result<(), Fail> {
     assert!(rt; refuses_deep_copies::<Tree>(rt.alloc())?);
-    assert!(rt; refuses_deep_copies::<plain::Tree>(rt.alloc())?);
+    assert!(rt; refuses_deep_copies::<plain_tree::Tree>(rt.alloc())?);
     Ok(())
 }
 
@@ -159,6 +159,6 @@ fn copy_into_itself_keeps_the_source(rt: HostRuntime) -> Result<(), Fail> {
     let before = "D 2\nD 2 a\nF 2 a f\n";
     let after = "D 5\nD 5 a\nD 4 a b\nF 4 a b f\n";
     assert!(rt; lists::<Tree>(rt.alloc(), before, after)?);
-    assert!(rt; lists::<plain::Tree>(rt.alloc(), before, after)?);
+    assert!(rt; lists::<plain_tree::Tree>(rt.alloc(), before, after)?);
     Ok(())
 }

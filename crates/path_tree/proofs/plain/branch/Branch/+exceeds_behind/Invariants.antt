@@ -1,5 +1,0 @@
-use Rattle.std.proofs.Common.{length}
-use Rattle.path_tree.proofs.plain.branch.Branch.+exceeds_behind.Given as goal
-
-abbrev pub decreases-exceeds_behind : goal.decreases-exceeds_behind
-decreases-exceeds_behind l = length l.path.now

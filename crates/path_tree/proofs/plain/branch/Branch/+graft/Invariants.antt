@@ -1,5 +1,0 @@
-use Rattle.std.proofs.Common.{length}
-use Rattle.path_tree.proofs.plain.branch.Branch.+graft.Given as goal
-
-abbrev pub decreases-graft : goal.decreases-graft
-decreases-graft l = length l.above.now

@@ -1,7 +1,0 @@
-use Rattle.std.proofs.Common.{sym, ap, ◌∙◌, []}
-use Rattle.std.specs.FinMap.{get}
-use Rattle.path_tree.specs.JoinedLemmas.{get-joined_root}
-use Rattle.path_tree.proofs.plain.branch.Branch.node.Goals as goal
-
-pub returns : goal.returns
-returns c = ap (λ m. get m []) (sym c.self.view_is) ∙ get-joined_root c.self.inside.node c.self.inside.children.items

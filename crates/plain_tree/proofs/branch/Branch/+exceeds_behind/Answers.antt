@@ -1,0 +1,8 @@
+use Rattle.std.proofs.Common.{inl, inr, sym}
+use Rattle.path_tree.proofs.Lengths.{long_behind}
+use Rattle.plain_tree.proofs.branch.Branch.+exceeds_behind.Goals as goal
+
+pub returns-then-names-gt64 : goal.returns-then-names-gt64
+returns-then-names-gt64 t c =
+    sym (long_behind c.args.names c.args.bytes c.args.path.now c.self.inside.node c.self.inside.children.items c.self.invariant c.args.self.now c.self.view_is
+    (elim c.then-names-gt64.either [ inl h ↦ inl h | inr h ↦ inr h.1 ]))
