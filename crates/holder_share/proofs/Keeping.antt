@@ -36,7 +36,7 @@ use Rattle.sync_job.specs.Mirrors.{MirrorNow, mirror_in, IsAccepted, Accepted, D
 use Rattle.mirror_share.specs.Holding.{IsServed, job_after}
 use Rattle.mirror_share.specs.Steps.{StepsShown, Shown, Hides, Stuck}
 use Rattle.mirror_share.proofs.Holders.{after_accepted, others-leave-it, holder-is-served}
-use Rattle.holder_share.specs.Books.{IsCounted, IsLocked}
+use Rattle.holder_share.specs.Books.{IsBookKept, IsCounted, IsLocked}
 use Rattle.holder_share.specs.Counts.{Counts, KnowsCounts, TellsCounts, count_of, counts_as, counts_of, holder_count}
 use Rattle.holder_share.proofs.Counting.{same_numbers, same_counts}
 
@@ -362,3 +362,8 @@ goes_on before after m new seat job call result k k2 held held2 s l c c2 same ho
     subst (λ r. KnowsCounts (job_after job call r) k2) (sym is) (subst (KnowsCounts (refused_to job call)) (sym (same a)) (still_knows job call k knows lawful goes))
 goes_on before after m new seat job call result k k2 held held2 s l c c2 same holder knows lawful goes (Stuck b a is x) =
     subst (λ r. KnowsCounts (job_after job call r) k2) (sym is) (subst (KnowsCounts (refused_to job call)) (sym (same a)) (still_knows job call k knows lawful goes))
+
+-- a book that stays as it is keeps what it kept
+pub kept_alike : (before after : Bool) (m new : MirrorNow) (k : Counts) (held : ℕ) (has : Bool) → new ≡ m → after ≡ before → IsBookKept before m.repository.revisions m.holder k held has → IsBookKept after new.repository.revisions new.holder k held has
+kept_alike before after m new k held has same stuck kept =
+    subst (λ (n : MirrorNow). IsBookKept after n.repository.revisions n.holder k held has) (sym same) (subst (λ b. IsBookKept b m.repository.revisions m.holder k held has) (sym stuck) kept)

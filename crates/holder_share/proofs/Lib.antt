@@ -1,3 +1,5 @@
 pub mod Carrying
 pub mod Counting
 pub mod Keeping
+pub mod Locks
+pub mod Serving
