@@ -137,7 +137,38 @@ fn is_well<
     one == 0 && other == 0
 }
 
-// What a crowd leaves: the stores, and the last commit that was told of each mirror; none where it didn't go well.
+// The last commit that was told of each mirror; None where it didn't go well.
+fn told_by<
+    R: Threads + Wait + Abort + Sync,
+    M: RowName + Send + Sync,
+    A: RowName + Send + Sync,
+    B: RowName + Send + Sync,
+    D: Disk + Send,
+>(
+    rt: &R,
+    alloc: Global,
+    master: &MasterShare<M, MemDisk>,
+    one: &MirrorShare<A, D>,
+    other: &MirrorShare<B, D>,
+    stops: bool,
+) -> Option<(RevNo, RevNo)> {
+    let board = Board::new(stops);
+    let other_board = Board::new(stops);
+    let crowd = Crowd {
+        master,
+        one,
+        other,
+        board: &board,
+        other_board: &other_board,
+    };
+    if is_well(rt, alloc, &crowd, stops) {
+        Some((board.told(), other_board.told()))
+    } else {
+        None
+    }
+}
+
+// What a crowd leaves: the stores, and the last commit that was told of each mirror; None where it didn't go well.
 struct Left<D: Disk> {
     master: RepoStore<MemDisk>,
     one: RepoStore<D>,
@@ -166,20 +197,7 @@ fn together<
     let master = master.named::<M>();
     let one = MirrorShare::<A, D>::of(alloc, one);
     let other = MirrorShare::<B, D>::of(alloc, other);
-    let board = Board::new(stops);
-    let other_board = Board::new(stops);
-    let crowd = Crowd {
-        master: &master,
-        one: &one,
-        other: &other,
-        board: &board,
-        other_board: &other_board,
-    };
-    let told = if is_well(rt, alloc, &crowd, stops) {
-        Some((board.told(), other_board.told()))
-    } else {
-        None
-    };
+    let told = told_by(rt, alloc, &master, &one, &other, stops);
     Left {
         master: master.close().into_store(),
         one: one.close().into_book().into_store(),

@@ -219,13 +219,13 @@ KnowsIn job hand = MatchOption hand ⊥ (λ k. KnowsCounts job k)
 
 -- a look whose answer can't be kept tells nothing, and the seat has counted nothing else
 still_knows : (job : Job) (k : Counts) (s : Standing) (hand : Option Counts) → KnowsCounts job k → TellsCounts k (given.Seen s) → KnowsIn (job_after job Look (Ok (given.Seen s))) hand → KnowsIn job hand
-still_knows job k s None knows tells then = absurd then
-still_knows job k s (Some j) knows tells then = subst (KnowsCounts job) (sym tells ∙ then.counts refl) knows
+still_knows job k s None knows tells after = absurd after
+still_knows job k s (Some j) knows tells after = subst (KnowsCounts job) (sym tells ∙ after.counts refl) knows
 
 has_looked : (job : Job) (k : Counts) (s : Standing) (a : Answer) (hand : Option Counts) → KnowsCounts job k → TellsCounts k (given.Seen s) → IsHeard (Ok (given.Seen s)) a → KnowsIn (job_after job Look (Ok (given.Seen s))) hand
     → KnowsIn (hears_call job Look a) hand
-has_looked job k s a hand knows tells (inl e) then = subst (λ j. KnowsIn j hand) (sym (ap (λ x. hears_call job Look x) e)) then
-has_looked job k s a hand knows tells (inr e) then = subst (λ j. KnowsIn j hand) (sym (ap (λ x. hears_call job Look x) e)) (still_knows job k s hand knows tells then)
+has_looked job k s a hand knows tells (inl e) after = subst (λ j. KnowsIn j hand) (sym (ap (λ x. hears_call job Look x) e)) after
+has_looked job k s a hand knows tells (inr e) after = subst (λ j. KnowsIn j hand) (sym (ap (λ x. hears_call job Look x) e)) (still_knows job k s hand knows tells after)
 
 seen_look : (call : Call) → IsLook call → call ≡ Look
 seen_look Look l = refl
@@ -241,18 +241,18 @@ seen_look ClearCopying l = absurd l
 
 knows_then : (job : Job) (call : Call) (result : Result Given SyncFault) (a : Answer) (k : Counts) (hand : Option Counts) → KnowsCounts job k → IfOk result (IsFit call) → IsHeard result a → IfOk result (TellsCounts k)
     → KnowsIn (job_after job call result) hand → KnowsIn (hears_call job call a) hand
-knows_then job call (Ok given.Done) a k hand knows fit e tells then = subst (λ j. KnowsIn j hand) (sym (ap (λ x. hears_call job call x) e)) then
-knows_then job call (Err f) a k hand knows fit e tells then = subst (λ j. KnowsIn j hand) (sym (hears_refusal job call f a e)) then
-knows_then job Look (Ok (given.Seen s)) a k hand knows fit e tells then = has_looked job k s a hand knows tells e then
-knows_then job (Init url uuid props) (Ok (given.Seen s)) a k hand knows fit e tells then = absurd fit
-knows_then job (TakeLock token) (Ok (given.Seen s)) a k hand knows fit e tells then = absurd fit
-knows_then job (StealLock token) (Ok (given.Seen s)) a k hand knows fit e tells then = absurd fit
-knows_then job ReleaseLock (Ok (given.Seen s)) a k hand knows fit e tells then = absurd fit
-knows_then job (SetCopying n) (Ok (given.Seen s)) a k hand knows fit e tells then = absurd fit
-knows_then job (Commit n set props) (Ok (given.Seen s)) a k hand knows fit e tells then = absurd fit
-knows_then job (PutProps n props) (Ok (given.Seen s)) a k hand knows fit e tells then = absurd fit
-knows_then job (SetMerged n) (Ok (given.Seen s)) a k hand knows fit e tells then = absurd fit
-knows_then job ClearCopying (Ok (given.Seen s)) a k hand knows fit e tells then = absurd fit
+knows_then job call (Ok given.Done) a k hand knows fit e tells after = subst (λ j. KnowsIn j hand) (sym (ap (λ x. hears_call job call x) e)) after
+knows_then job call (Err f) a k hand knows fit e tells after = subst (λ j. KnowsIn j hand) (sym (hears_refusal job call f a e)) after
+knows_then job Look (Ok (given.Seen s)) a k hand knows fit e tells after = has_looked job k s a hand knows tells e after
+knows_then job (Init url uuid props) (Ok (given.Seen s)) a k hand knows fit e tells after = absurd fit
+knows_then job (TakeLock token) (Ok (given.Seen s)) a k hand knows fit e tells after = absurd fit
+knows_then job (StealLock token) (Ok (given.Seen s)) a k hand knows fit e tells after = absurd fit
+knows_then job ReleaseLock (Ok (given.Seen s)) a k hand knows fit e tells after = absurd fit
+knows_then job (SetCopying n) (Ok (given.Seen s)) a k hand knows fit e tells after = absurd fit
+knows_then job (Commit n set props) (Ok (given.Seen s)) a k hand knows fit e tells after = absurd fit
+knows_then job (PutProps n props) (Ok (given.Seen s)) a k hand knows fit e tells after = absurd fit
+knows_then job (SetMerged n) (Ok (given.Seen s)) a k hand knows fit e tells after = absurd fit
+knows_then job ClearCopying (Ok (given.Seen s)) a k hand knows fit e tells after = absurd fit
 
 -- what a call comes to: it is served where the job has its lock, and leaves the job and its seat so
 abbrev Comes : Job → Call → Result Given SyncFault → Answer → Option Counts → Type 0
@@ -262,19 +262,19 @@ comes_work : (job : Job) (call : Call) (result : Result Given SyncFault) (a : An
     → IsCarried hand next call result → Comes job call result a next
 comes_work job call result a None next l goes lawful has fit e c = absurd (has.held l)
 comes_work job call result a (Some k) next l goes lawful has fit e c =
-    (λ x. c.served job (has.held l) lawful, has_known (hears_call job call a) next (knows_then job call result a k next (has.held l) fit e c.tells (c.stays job (has.held l) lawful goes)))
+    ((λ x. c.served job (has.held l) lawful), has_known (hears_call job call a) next (knows_then job call result a k next (has.held l) fit e c.tells (c.stays job (has.held l) lawful goes)))
 
 comes_release : (job : Job) (result : Result Given SyncFault) (a : Answer) (hand next : Option Counts) → job.stage ≡ Locked → Has job hand → IfOk result (IsFit ReleaseLock) → IsHeard result a → IsCarried hand next ReleaseLock result
     → Comes job ReleaseLock result a next
 comes_release job result a None next l has fit e c = absurd (has.held l)
-comes_release job result a (Some k) next l has fit e c = (λ x. c.served job (has.held l) l, has_ended job ReleaseLock result a next tt fit e)
+comes_release job result a (Some k) next l has fit e c = ((λ x. c.served job (has.held l) l), has_ended job ReleaseLock result a next tt fit e)
 
 comes_asked : (job : Job) (call : Call) (result : Result Given SyncFault) (a : Answer) (hand next : Option Counts) → TakesLock call → job.stage ≡ Begun → Has job hand → IfOk result (IsFit call) → IsHeard result a → IsCarried hand next call result
     → Comes job call result a next
-comes_asked job call result a hand next t b has fit e c = (λ l. begun_not job l b, has_asked job call result a next t (has.fresh b) fit e (c.takes t))
+comes_asked job call result a hand next t b has fit e c = ((λ l. begun_not job l b), has_asked job call result a next t (has.fresh b) fit e (c.takes t))
 
 comes : (job : Job) (call : Call) (result : Result Given SyncFault) (a : Answer) (hand next : Option Counts) → Lawful job call → Has job hand → IfOk result (IsFit call) → IsHeard result a → IsCarried hand next call result → Comes job call result a next
-comes job (Init url uuid props) result a hand next lawful has fit e c = (λ l. begun_not job l lawful.begun, has_ended job (Init url uuid props) result a next tt fit e)
+comes job (Init url uuid props) result a hand next lawful has fit e c = ((λ l. begun_not job l lawful.begun), has_ended job (Init url uuid props) result a next tt fit e)
 comes job (TakeLock token) result a hand next lawful has fit e c = comes_asked job (TakeLock token) result a hand next tt lawful.begun has fit e c
 comes job (StealLock token) result a hand next lawful has fit e c = comes_asked job (StealLock token) result a hand next tt lawful.begun has fit e c
 comes job ReleaseLock result a hand next lawful has fit e c = comes_release job result a hand next lawful has fit e c

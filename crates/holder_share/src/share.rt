@@ -129,11 +129,7 @@ impl<N: HolderName, D: Disk> HolderShare<N, D> {
 
     /// The revision of that number, where the reader has seen it or its cell shows it. It waits for nobody, and takes
     /// no memory. What the reader has seen it reads for good.
-    pub fn read_at<'a>(
-        &'a self,
-        reader: &mut ReaderSeat<N::Row>,
-        number: RevNo,
-    ) -> Option<&'a Rev>
+    pub fn read_at<'a>(&'a self, reader: &mut ReaderSeat<N::Row>, number: RevNo) -> Option<&'a Rev>
         ensures there { number ≤ seen_by reader.old → IfNone result ⊥ }
         ensures value { (x : RevOf) → number ≤ seen_by reader.old → known_by reader.old number ≡ Some x
             → IfSome result (λ r. r.now ≡ x) }

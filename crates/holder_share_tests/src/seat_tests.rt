@@ -79,10 +79,22 @@ fn carries<R: Wait + Abort, N: HolderName>(
         called(rt, alloc, share, &mut holder, &MirrorCall::TakeLock(&a)),
     );
     holder.is_alone(&mut other);
-    let before = is_at(share.step(rt, alloc, &mut holder, &MirrorCall::Look), 0, b"0");
+    let before = is_at(
+        share.step(rt, alloc, &mut holder, &MirrorCall::Look),
+        0,
+        b"0",
+    );
     let all = copies(rt, alloc, share, &mut holder, &mut other);
-    let after = is_at(share.step(rt, alloc, &mut holder, &MirrorCall::Look), 1, b"1");
-    let beside = is_at(share.step(rt, alloc, &mut other, &MirrorCall::Look), 1, b"1");
+    let after = is_at(
+        share.step(rt, alloc, &mut holder, &MirrorCall::Look),
+        1,
+        b"1",
+    );
+    let beside = is_at(
+        share.step(rt, alloc, &mut other, &MirrorCall::Look),
+        1,
+        b"1",
+    );
     let released = called(rt, alloc, share, &mut holder, &MirrorCall::ReleaseLock);
     let taken = called(rt, alloc, share, &mut other, &MirrorCall::TakeLock(&b));
     share.leave(rt, holder);
@@ -107,7 +119,13 @@ fn leaves<R: Wait + Abort, N: HolderName>(
     let back = number_of(share.enter_job(rt, alloc, &a));
     let held = called(rt, alloc, share, &mut other, &MirrorCall::TakeLock(&b));
     let stolen = called(rt, alloc, share, &mut other, &MirrorCall::StealLock(&b));
-    let early = called(rt, alloc, share, &mut other, &MirrorCall::SetMerged(RevNo::new(1)));
+    let early = called(
+        rt,
+        alloc,
+        share,
+        &mut other,
+        &MirrorCall::SetMerged(RevNo::new(1)),
+    );
     share.leave(rt, other);
     (begun, taken, running) == (0, 0, 55) && (back, held) == (0, 54) && (stolen, early) == (0, 61)
 }
