@@ -207,7 +207,7 @@ fn together<
 }
 
 // A crowd at mirrors on two disks.
-fn gathered<R: Threads + Wait + Abort + Sync, D: Disk + Send>(
+fn gathered<R: Threads + Wait + Abort + Sync, D: Disk + Drop + Send>(
     rt: &R,
     alloc: Global,
     disks: (D, D),

@@ -73,7 +73,7 @@ pub(crate) fn blank(rt: &impl Abort, alloc: Global, identity: &str) -> MemDisk {
 }
 
 /// A store that is opened on a disk.
-pub(crate) fn opened<D: Disk>(rt: &impl Abort, alloc: Global, disk: D) -> OpenedStore<D> {
+pub(crate) fn opened<D: Disk + Drop>(rt: &impl Abort, alloc: Global, disk: D) -> OpenedStore<D> {
     let store = RepoStore::open(alloc, disk)
         .map_err(|refused| refused.0)
         .expect(rt, "a store");
