@@ -1,6 +1,6 @@
 -- What a step leaves of a mirror whose holder is counted.
 use Rattle.std.proofs.Common.{◌≡◌, ◌≢◌, ◌⊎◌, inl, inr, ◌<◌, ◌≤◌, ◌+◌, ℕ, Bool, true, false, List, [], ◌∷◌, ◌++◌, length, Option, Some, None, is_some, Result, Ok, Err, refl, sym, ap, subst, ◌∙◌, arith}
-use Rattle.std.specs.Prelude.{MatchOption, IfOk, ◌==◌, is_none}
+use Rattle.std.specs.Prelude.{IfOk, ◌==◌, is_none}
 use Rattle.std.proofs.lemmas.Bool.Decides.{nat_tests}
 use Rattle.std.specs.Option.{option_map_or}
 use Rattle.std.specs.Fmt.{decimal}
@@ -11,7 +11,6 @@ use Rattle.node_base.specs.declared.refusal.Refusal.TheVariants as refusal_is
 use Rattle.dump_load.specs.Trees.{effect_tree}
 use Rattle.repo_core.specs.Repository.{Revision, trees_of, props_at}
 use Rattle.sync_core.specs.Names.{url_name, merged_name, copying_name, lock_name}
-use Rattle.sync_core.specs.Holding as core
 use Rattle.sync_core.specs.Holding.{HasLock, TakesLock, known_by}
 use Rattle.sync_core.specs.Jobs.{Job, CopyProps, Begun, Locked, Lawful, begun, refused_to}
 use Rattle.sync_core.specs.Mirror.{Mirror, Call, Init, TakeLock, StealLock, ReleaseLock, SetCopying, Commit, PutProps, SetMerged, ClearCopying, Look, refusal, standing_of, accepted, revisions_by, holder_after, holds}
@@ -20,7 +19,6 @@ use Rattle.sync_core.specs.Moves.{numbers_of}
 use Rattle.sync_core.specs.Plain.{reply_of}
 use Rattle.sync_core.specs.declared.fault.SyncFault.{SyncFault}
 use Rattle.sync_core.specs.declared.fault.SyncFault.TheVariants as fault
-use Rattle.sync_core.specs.declared.numbers.Numbers.{Numbers}
 use Rattle.sync_core.specs.declared.reply.Reply.{Reply as Given}
 use Rattle.sync_core.specs.declared.reply.Reply.TheVariants as given
 use Rattle.sync_core.specs.declared.standing.Standing.{Standing}
@@ -32,12 +30,12 @@ use Rattle.sync_core.proofs.Holding.{holder-is-alone, holder-stays, lock-is-give
 use Rattle.sync_core.proofs.Holding as law
 use Rattle.sync_core.proofs.Kept.{no_need}
 use Rattle.sync_core.proofs.Table.{meets}
-use Rattle.sync_job.specs.Mirrors.{MirrorNow, mirror_in, IsAccepted, Accepted, Doubted, Unchanged}
+use Rattle.sync_job.specs.Mirrors.{MirrorNow, mirror_in, Accepted, Doubted, Unchanged}
 use Rattle.mirror_share.specs.Holding.{IsServed, job_after}
 use Rattle.mirror_share.specs.Steps.{StepsShown, Shown, Hides, Stuck}
 use Rattle.mirror_share.proofs.Holders.{after_accepted, others-leave-it, holder-is-served}
 use Rattle.holder_share.specs.Books.{IsBookKept, IsCounted, IsLocked}
-use Rattle.holder_share.specs.Counts.{Counts, KnowsCounts, TellsCounts, count_of, counts_as, counts_of, holder_count}
+use Rattle.holder_share.specs.Counts.{Counts, KnowsCounts, TellsCounts, count_of, counts_of, holder_count}
 use Rattle.holder_share.proofs.Counting.{same_numbers, same_counts}
 
 abbrev pub IsSized : List Revision → Type 0

@@ -1,5 +1,5 @@
 -- A run of a job at a seat meets no refusal for its lock or its turn.
-use Rattle.std.proofs.Common.{◌≡◌, ◌≢◌, ◌⊎◌, inl, inr, ℕ, Bool, true, false, List, [], ◌∷◌, Option, Some, None, Result, Ok, Err, refl, sym, ap, subst, ◌∙◌}
+use Rattle.std.proofs.Common.{◌≡◌, ◌≢◌, inl, inr, ℕ, true, false, List, [], ◌∷◌, Option, Some, None, Result, Ok, Err, refl, sym, ap, subst, ◌∙◌}
 use Rattle.std.specs.Prelude.{map, IfOk, IsSome, MatchOption, OnOk}
 use Rattle.sync_core.specs.Copies.{Outcome, outcome_of}
 use Rattle.sync_core.specs.Copies as told
