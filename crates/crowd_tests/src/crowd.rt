@@ -3,8 +3,8 @@
 
 use crate::board::{Board, Telling};
 use crate::made::{added, log, number_of, seat, token};
+use crate::master::SeatMaster;
 use fleet_disk::{Disk, MemDisk};
-use fleet_shares::SharedMaster;
 use mirror_share::{MirrorShare, SeatMirror};
 use node_base::RevNo;
 use std::alloc::Global;
@@ -115,7 +115,11 @@ pub(crate) fn ran<R: Wait + Abort, M: RowName, L: RowName, D: Disk>(
     name: &[u8],
     steal: bool,
 ) -> u8 {
-    let source = SharedMaster::new(rt, alloc, master).expect(rt, "a seat");
+    let source = SeatMaster {
+        rt,
+        share: master,
+        reader: master.enter_reader(rt, alloc).expect(rt, "a seat"),
+    };
     ran_from(rt, alloc, source, share, board, name, steal)
 }
 

@@ -12,3 +12,5 @@ mod crowd_tests;
 mod fronts;
 #[cfg(test)]
 mod made;
+#[cfg(test)]
+mod master;
