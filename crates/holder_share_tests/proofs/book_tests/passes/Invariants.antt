@@ -1,8 +1,8 @@
 use Rattle.store_share.specs.Opened.{cells_of}
 use Rattle.holder_share_tests.proofs.book_tests.passes.Given as goal
 
-abbrev pub ghosts-judged-L : goal.ghosts-judged-L
-ghosts-judged-L g a = record { cells = cells_of a.opened }
+abbrev pub ghosts-judged-L-RowName : goal.ghosts-judged-L-RowName
+ghosts-judged-L-RowName g a = record { cells = cells_of a.opened }
 
 abbrev pub ghosts-judged-M-Ledger : goal.ghosts-judged-M-Ledger
 ghosts-judged-M-Ledger g a = record { name = a.blanks.merged.name; parts = a.blanks.merged.parts }

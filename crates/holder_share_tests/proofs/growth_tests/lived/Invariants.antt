@@ -1,8 +1,8 @@
 use Rattle.store_share.specs.Opened.{cells_of}
 use Rattle.holder_share_tests.proofs.growth_tests.lived.Given as goal
 
-abbrev pub ghosts-life-L : goal.ghosts-life-L
-ghosts-life-L g a = record { cells = cells_of a.opened }
+abbrev pub ghosts-life-L-RowName : goal.ghosts-life-L-RowName
+ghosts-life-L-RowName g a = record { cells = cells_of a.opened }
 
 abbrev pub ghosts-life-M-Ledger : goal.ghosts-life-M-Ledger
 ghosts-life-M-Ledger g a = record { name = a.blanks.merged.name; parts = a.blanks.merged.parts }
