@@ -1,13 +1,13 @@
 -- What a seat carries through a call, by who has the hand.
-use Rattle.std.proofs.Common.{◌≡◌, ◌≢◌, ◌⊎◌, inl, inr, ◌+◌, ℕ, Bool, true, false, Option, Some, None, Result, Ok, Err, refl, sym, ap, subst, ◌∙◌}
-use Rattle.std.specs.Prelude.{IfOk, IsSome, IsErr, MatchOption, OnOk}
+use Rattle.std.proofs.Common.{◌≡◌, ℕ, Bool, true, Option, Some, None, Result, Ok, Err, refl, sym, subst, ◌∙◌}
+use Rattle.std.specs.Prelude.{IsSome, IsErr, MatchOption, OnOk}
 use Rattle.sync_core.specs.Holding.{TakesLock}
-use Rattle.sync_core.specs.Jobs.{Job, Lawful}
-use Rattle.sync_core.specs.Mirror.{Call, ReleaseLock}
+use Rattle.sync_core.specs.Jobs.{Job}
+use Rattle.sync_core.specs.Mirror.{Call}
 use Rattle.sync_core.specs.declared.fault.SyncFault.{SyncFault}
 use Rattle.sync_core.specs.declared.reply.Reply.{Reply as Given}
 use Rattle.sync_job.specs.Mirrors.{MirrorNow}
-use Rattle.mirror_share.specs.Holding.{IsServed, job_after}
+use Rattle.mirror_share.specs.Holding.{job_after}
 use Rattle.mirror_share.specs.Steps.{StepsShown}
 use Rattle.holder_share.specs.Books.{IsCounted, IsLocked}
 use Rattle.holder_share.specs.Carried.{HasHand, IsCarried}

@@ -1,9 +1,9 @@
 -- Counts of numbers.
-use Rattle.std.proofs.Common.{◌≡◌, ℕ, ◌+◌, refl, sym, ap, ◌∙◌, arith}
+use Rattle.std.proofs.Common.{◌≡◌, ℕ, refl, ap, ◌∙◌, arith}
 use Rattle.sync_core.specs.declared.number.Number.{Number}
 use Rattle.sync_core.specs.declared.number.Number.TheVariants.{Absent, Misspelt, Spelt, Huge}
 use Rattle.sync_core.specs.declared.numbers.Numbers.{Numbers}
-use Rattle.holder_share.specs.Counts.{Counts, count_of, counts_of, counts_as}
+use Rattle.holder_share.specs.Counts.{count_of, counts_of, counts_as}
 
 -- numbers that count alike are the same
 same_number : (a b : Number) → count_of a ≡ count_of b → a ≡ b

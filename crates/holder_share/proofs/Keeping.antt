@@ -1,6 +1,6 @@
 -- What a step leaves of a mirror whose holder is counted.
 use Rattle.std.proofs.Common.{◌≡◌, ◌≢◌, ◌⊎◌, inl, inr, ◌<◌, ◌≤◌, ◌+◌, ℕ, Bool, true, false, List, [], ◌∷◌, ◌++◌, length, Option, Some, None, is_some, Result, Ok, Err, refl, sym, ap, subst, ◌∙◌, arith}
-use Rattle.std.specs.Prelude.{MatchOption, IfOk, ◌==◌, is_none}
+use Rattle.std.specs.Prelude.{IfOk, ◌==◌, is_none}
 use Rattle.std.proofs.lemmas.Bool.Decides.{nat_tests}
 use Rattle.std.specs.Option.{option_map_or}
 use Rattle.std.specs.Fmt.{decimal}
@@ -11,7 +11,6 @@ use Rattle.node_base.specs.declared.refusal.Refusal.TheVariants as refusal_is
 use Rattle.dump_load.specs.Trees.{effect_tree}
 use Rattle.repo_core.specs.Repository.{Revision, trees_of, props_at}
 use Rattle.sync_core.specs.Names.{url_name, merged_name, copying_name, lock_name}
-use Rattle.sync_core.specs.Holding as core
 use Rattle.sync_core.specs.Holding.{HasLock, TakesLock, known_by}
 use Rattle.sync_core.specs.Jobs.{Job, CopyProps, Begun, Locked, Lawful, begun, refused_to}
 use Rattle.sync_core.specs.Mirror.{Mirror, Call, Init, TakeLock, StealLock, ReleaseLock, SetCopying, Commit, PutProps, SetMerged, ClearCopying, Look, refusal, standing_of, accepted, revisions_by, holder_after, holds}
@@ -20,7 +19,6 @@ use Rattle.sync_core.specs.Moves.{numbers_of}
 use Rattle.sync_core.specs.Plain.{reply_of}
 use Rattle.sync_core.specs.declared.fault.SyncFault.{SyncFault}
 use Rattle.sync_core.specs.declared.fault.SyncFault.TheVariants as fault
-use Rattle.sync_core.specs.declared.numbers.Numbers.{Numbers}
 use Rattle.sync_core.specs.declared.reply.Reply.{Reply as Given}
 use Rattle.sync_core.specs.declared.reply.Reply.TheVariants as given
 use Rattle.sync_core.specs.declared.standing.Standing.{Standing}
@@ -32,12 +30,12 @@ use Rattle.sync_core.proofs.Holding.{holder-is-alone, holder-stays, lock-is-give
 use Rattle.sync_core.proofs.Holding as law
 use Rattle.sync_core.proofs.Kept.{no_need}
 use Rattle.sync_core.proofs.Table.{meets}
-use Rattle.sync_job.specs.Mirrors.{MirrorNow, mirror_in, IsAccepted, Accepted, Doubted, Unchanged}
+use Rattle.sync_job.specs.Mirrors.{MirrorNow, mirror_in, Accepted, Doubted, Unchanged}
 use Rattle.mirror_share.specs.Holding.{IsServed, job_after}
 use Rattle.mirror_share.specs.Steps.{StepsShown, Shown, Hides, Stuck}
 use Rattle.mirror_share.proofs.Holders.{after_accepted, others-leave-it, holder-is-served}
-use Rattle.holder_share.specs.Books.{IsCounted, IsLocked}
-use Rattle.holder_share.specs.Counts.{Counts, KnowsCounts, TellsCounts, count_of, counts_as, counts_of, holder_count}
+use Rattle.holder_share.specs.Books.{IsBookKept, IsCounted, IsLocked}
+use Rattle.holder_share.specs.Counts.{Counts, KnowsCounts, TellsCounts, count_of, counts_of, holder_count}
 use Rattle.holder_share.proofs.Counting.{same_numbers, same_counts}
 
 abbrev pub IsSized : List Revision → Type 0
@@ -362,3 +360,8 @@ goes_on before after m new seat job call result k k2 held held2 s l c c2 same ho
     subst (λ r. KnowsCounts (job_after job call r) k2) (sym is) (subst (KnowsCounts (refused_to job call)) (sym (same a)) (still_knows job call k knows lawful goes))
 goes_on before after m new seat job call result k k2 held held2 s l c c2 same holder knows lawful goes (Stuck b a is x) =
     subst (λ r. KnowsCounts (job_after job call r) k2) (sym is) (subst (KnowsCounts (refused_to job call)) (sym (same a)) (still_knows job call k knows lawful goes))
+
+-- a book that stays as it is keeps what it kept
+pub kept_alike : (before after : Bool) (m new : MirrorNow) (k : Counts) (held : ℕ) (has : Bool) → new ≡ m → after ≡ before → IsBookKept before m.repository.revisions m.holder k held has → IsBookKept after new.repository.revisions new.holder k held has
+kept_alike before after m new k held has same stuck kept =
+    subst (λ (n : MirrorNow). IsBookKept after n.repository.revisions n.holder k held has) (sym same) (subst (λ b. IsBookKept b m.repository.revisions m.holder k held has) (sym stuck) kept)

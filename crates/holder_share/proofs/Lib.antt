@@ -1,3 +1,6 @@
 pub mod Carrying
 pub mod Counting
+pub mod Crosses
 pub mod Keeping
+pub mod Locks
+pub mod Serving

@@ -1,5 +1,5 @@
 -- How a mirror's numbers are counted, and what a job knows that counts alike.
-use Rattle.std.specs.Prelude.{◌≡◌, ℕ, ◌+◌, true, false, Option, Result, Ok, Err}
+use Rattle.std.specs.Prelude.{◌≡◌, ℕ, ◌+◌, true, false, Option}
 use Rattle.std.specs.Option.{option_map_or}
 use Rattle.sync_core.specs.Holding.{known_by}
 use Rattle.sync_core.specs.Jobs.{Job, Locked}

@@ -1,5 +1,5 @@
 -- What a seat is to its caller.
-use Rattle.std.specs.Prelude.{ℕ, Option}
+use Rattle.std.specs.Prelude.{Option}
 use Rattle.std.specs.Option.{option_map}
 use Rattle.mirror_share.specs.declared.seat.JobSeat.{JobSeat}
 use Rattle.holder_share.specs.Counts.{Counts, counts_as}

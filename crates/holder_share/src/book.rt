@@ -9,9 +9,10 @@ ghost use Rattle.sync_core.specs.Holding.{TakesLock};
 ghost use Rattle.sync_core.specs.Jobs.{Job, Lawful};
 ghost use Rattle.sync_core.specs.Mirror.{ReleaseLock, holds, standing_of};
 ghost use Rattle.sync_job.specs.Mirrors.{IsFit, mirror_in};
-ghost use Rattle.mirror_share.specs.Book.{holder_of, is_stuck_in, jobs_of, master_of, now_of, store_in};
+ghost use Rattle.mirror_share.specs.Book.{calls_of, holder_of, is_stuck_in, jobs_of, master_of, now_of, opening_of, store_in};
 ghost use Rattle.mirror_share.specs.Holding.{IsServed, job_after};
-ghost use Rattle.mirror_share.specs.Places.{IsRunningFault};
+ghost use Rattle.mirror_share.specs.Places.{IsRunningFault, job_at};
+ghost use Rattle.mirror_share.specs.Refused.{IsRefusalOf};
 ghost use Rattle.mirror_share.specs.Seats.{place_of};
 ghost use Rattle.mirror_share.specs.Stepped.{Stepped};
 ghost use Rattle.holder_share.specs.Books.{IsBookKept, IsCounted, IsLocked};
@@ -36,9 +37,9 @@ use sync_core::{MirrorCall, Numbers, Reply, Seat, SyncFault, Token, own_of};
 /// A mirror's book, with the ledgers of its numbers and of its holder. While nobody holds the lock the book has the hand.
 #[derive(Drop)]
 pub struct HolderBook<N: HolderName, D: Disk> {
-    book: MirrorBook<N::Row, D>,
-    ledgers: Ledgers<N>,
-    spare: Option<Hand<N>>,
+    pub(crate) book: MirrorBook<N::Row, D>,
+    pub(crate) ledgers: Ledgers<N>,
+    pub(crate) spare: Option<Hand<N>>,
     ghost merged: { is_stuck_in book ≡ false → ledgers.merged.total ≡ count_of (standing_of (revisions_of (store_in book))).merged },
     ghost copying: { is_stuck_in book ≡ false → ledgers.copying.total ≡ count_of (standing_of (revisions_of (store_in book))).copying },
     ghost head: { is_stuck_in book ≡ false → ledgers.head.total ≡ (standing_of (revisions_of (store_in book))).head },
@@ -49,6 +50,9 @@ pub struct HolderBook<N: HolderName, D: Disk> {
 }
 
 impl<N: HolderName, D: Disk> HolderBook<N, D> {
+    ghost use Rattle.holder_share.specs.Words.{mirror_of, counted_in, held_in, has_hand};
+    ghost use Rattle.mirror_share.specs.Stepped.{IsWhole};
+
     /// The book of a mirror that is opened, at which nobody runs, with ledgers that are blank.
     pub fn open(alloc: Global, book: MasterBook<N::Row, D>, blanks: Blanks) -> HolderBook<N, D>
         requires merged { (blanks.merged.name ≡ N.Merged.name) × (blanks.merged.parts ≡ N.Merged.parts)
@@ -59,6 +63,11 @@ impl<N: HolderName, D: Disk> HolderBook<N, D> {
             × (N.Head.all ≡ N.Head.parts) × (0 < N.Head.all) }
         requires holder { (blanks.holder.name ≡ N.Holder.name) × (blanks.holder.parts ≡ N.Holder.parts)
             × (N.Holder.all ≡ N.Holder.parts) × (0 < N.Holder.all) }
+        ensures book { master_of (mirror_of result) ≡ book }
+        ensures opening { (opening_of (mirror_of result) ≡ repository_of (store_of book))
+            × (calls_of (mirror_of result) ≡ []) }
+        ensures nobody { (holder_of (mirror_of result) ≡ None)
+            × ((i : ℕ) → job_at (jobs_of (mirror_of result)) i ≡ None) }
     {
         let book = MirrorBook::open(alloc, book);
         let numbers = numbers_in(book.repo());
@@ -70,8 +79,20 @@ impl<N: HolderName, D: Disk> HolderBook<N, D> {
         }
     }
 
+    /// Does nothing: its contract says what each book keeps, beside what a mirror's book does. The ledgers count the mirror's
+    /// numbers and its holder, and the book has the hand just where nobody holds the lock.
+    pub fn is_whole(&self)
+        ensures whole { IsWhole (mirror_of self.now) }
+        ensures kept { IsBookKept (is_stuck_in (mirror_of self.now)) (revisions_of (store_in (mirror_of self.now)))
+            (holder_of (mirror_of self.now)) (counted_in self.now) (held_in self.now) (has_hand self.now) }
+    {
+        self.book.is_whole();
+    }
+
     /// The mirror's book.
-    pub fn into_book(self) -> MirrorBook<N::Row, D> {
+    pub fn into_book(self) -> MirrorBook<N::Row, D>
+        ensures { result ≡ mirror_of self }
+    {
         let HolderBook {
             book,
             ledgers: _,
@@ -89,9 +110,21 @@ impl<N: HolderName, D: Disk> HolderBook<N, D> {
         let job = self.book.enter_job(alloc, token)?;
         Ok(HolderSeat::new(job))
     }
+
     /// The job leaves, and the hand goes back to the book where the seat has it: there is no holder from then on, and the
-    /// lock stays.
-    pub fn leave(&mut self, seat: HolderSeat<N>) {
+    /// lock stays. Its place is free. (A seat without the hand whose place holds the lock can't be; it would stay.)
+    pub fn leave(&mut self, seat: HolderSeat<N>)
+        ensures left { holds (holder_of (mirror_of self.old)) (place_of (job_of seat)) ≡ false
+            → job_at (jobs_of (mirror_of self.new)) (place_of (job_of seat)) ≡ None }
+        ensures hand { IsSome (hand_of seat) → job_at (jobs_of (mirror_of self.new)) (place_of (job_of seat)) ≡ None }
+        ensures holder { holder_of (mirror_of self.new)
+            ≡ option_map_or (λ _. None) (hand_of seat) (holder_of (mirror_of self.old)) }
+        ensures others { (j : ℕ) → (j ≡ place_of (job_of seat) → ⊥)
+            → job_at (jobs_of (mirror_of self.new)) j ≡ job_at (jobs_of (mirror_of self.old)) j }
+        ensures same { (master_of (mirror_of self.new) ≡ master_of (mirror_of self.old))
+            × (calls_of (mirror_of self.new) ≡ calls_of (mirror_of self.old))
+            × (opening_of (mirror_of self.new) ≡ opening_of (mirror_of self.old)) }
+    {
         let HolderBook {
             book,
             ledgers,
@@ -111,6 +144,7 @@ impl<N: HolderName, D: Disk> HolderBook<N, D> {
     ) -> Result<Reply, SyncFault>
         requires { row.now ≡ N.Row.cells }
         ensures fits { IfOk result (IsFit (call_of call.now)) }
+        ensures refused { IfErr result (IsRefusalOf (call_of call.now)) }
         ensures seat { job_of seat.new ≡ job_of seat.old }
         ensures carried { IsCarried (hand_of seat.old) (hand_of seat.new) (call_of call.now) result }
     {
@@ -152,6 +186,7 @@ fn step_with<N: HolderName, D: Disk>(
         (counts_as ledgers.old.merged.total ledgers.old.copying.total ledgers.old.head.total) ledgers.old.holder.total }
     ensures stepped { Stepped book.old book.new (place_of seat.now) (call_of call.now) result }
     ensures fits { IfOk result (IsFit (call_of call.now)) }
+    ensures refused { IfErr result (IsRefusalOf (call_of call.now)) }
     ensures old { counts_in hand.old ≡ counts_as ledgers.old.merged.total ledgers.old.copying.total ledgers.old.head.total }
     ensures new { counts_in hand.new ≡ counts_as ledgers.new.merged.total ledgers.new.copying.total ledgers.new.head.total }
     ensures counted { IsCounted (is_stuck_in book.new) (revisions_of (store_in book.new)) (holder_of book.new)
@@ -200,6 +235,7 @@ fn with_hand<N: HolderName, D: Disk>(
     requires none { (spare.old ≡ None) × (hand.old ≡ None) }
     ensures stepped { Stepped book.old book.new (place_of seat.now) (call_of call.now) result }
     ensures fits { IfOk result (IsFit (call_of call.now)) }
+    ensures refused { IfErr result (IsRefusalOf (call_of call.now)) }
     ensures old { counts_in own ≡ counts_as ledgers.old.merged.total ledgers.old.copying.total ledgers.old.head.total }
     ensures counted { IsCounted (is_stuck_in book.new) (revisions_of (store_in book.new)) (holder_of book.new)
         (counts_as ledgers.new.merged.total ledgers.new.copying.total ledgers.new.head.total) ledgers.new.holder.total }
@@ -231,6 +267,7 @@ fn step_beside<N: HolderName, D: Disk>(
     requires held { is_none (holder_of book.old) ≡ false }
     requires locked { IsLocked (is_stuck_in book.old) (revisions_of (store_in book.old)) (holder_of book.old) }
     ensures fits { IfOk result (IsFit (call_of call.now)) }
+    ensures refused { IfErr result (IsRefusalOf (call_of call.now)) }
     ensures same { mirror_in (now_of book.new) ≡ mirror_in (now_of book.old) }
     ensures unstuck { is_stuck_in book.new ≡ false → is_stuck_in book.old ≡ false }
     ensures takes { TakesLock (call_of call.now) → IsErr result }
@@ -260,6 +297,7 @@ fn step_of<N: HolderName, D: Disk>(
         (counts_as ledgers.new.merged.total ledgers.new.copying.total ledgers.new.head.total) ledgers.new.holder.total
         (is_some spare.new) }
     ensures fits { IfOk result (IsFit (call_of call.now)) }
+    ensures refused { IfErr result (IsRefusalOf (call_of call.now)) }
     ensures seat { job_of seat.new ≡ job_of seat.old }
     ensures carried { IsCarried (hand_of seat.old) (hand_of seat.new) (call_of call.now) result }
 {
@@ -278,7 +316,7 @@ fn step_of<N: HolderName, D: Disk>(
     }
 }
 
-// The job leaves. (A seat without the hand whose place holds the lock can't be; it would stay in its place.)
+// The job leaves.
 fn leave_of<N: HolderName, D: Disk>(
     book: &mut MirrorBook<N::Row, D>,
     ledgers: &mut Ledgers<N>,
@@ -291,6 +329,14 @@ fn leave_of<N: HolderName, D: Disk>(
     ensures kept { IsBookKept (is_stuck_in book.new) (revisions_of (store_in book.new)) (holder_of book.new)
         (counts_as ledgers.new.merged.total ledgers.new.copying.total ledgers.new.head.total) ledgers.new.holder.total
         (is_some spare.new) }
+    ensures left { holds (holder_of book.old) (place_of (job_of seat)) ≡ false
+        → job_at (jobs_of book.new) (place_of (job_of seat)) ≡ None }
+    ensures hand { IsSome (hand_of seat) → job_at (jobs_of book.new) (place_of (job_of seat)) ≡ None }
+    ensures holder { holder_of book.new ≡ option_map_or (λ _. None) (hand_of seat) (holder_of book.old) }
+    ensures others { (j : ℕ) → (j ≡ place_of (job_of seat) → ⊥)
+        → job_at (jobs_of book.new) j ≡ job_at (jobs_of book.old) j }
+    ensures same { (master_of book.new ≡ master_of book.old) × (calls_of book.new ≡ calls_of book.old)
+        × (opening_of book.new ≡ opening_of book.old) }
 {
     let HolderSeat { job, hand } = seat;
     match hand {

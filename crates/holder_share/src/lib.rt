@@ -4,7 +4,8 @@
 //! its job is never refused for its lock (59) or its turn (61), whoever calls between.
 //!
 //! [`HolderBook`] is `mirror_share`'s book with the ledgers; [`HolderShare`] the lock round it, with the row beside it; a
-//! job has a [`HolderSeat`]. The name of a share has a ledger for each number and the cells of its row ([`HolderName`]).
+//! job has a [`HolderSeat`], by itself or in a port ([`HolderMirror`]), and a reader a `store_share::ReaderSeat`. The name
+//! of a share has a ledger for each number and the cells of its row ([`HolderName`]).
 //!
 //! ```text
 //! let share = HolderShare::<N, D>::of(alloc, opened, blanks);
@@ -17,15 +18,19 @@
 pub use blanks::Blanks;
 pub use book::HolderBook;
 pub use name::{Count, HolderName, HolderNames};
+pub use port::HolderMirror;
 pub use seat::HolderSeat;
 pub use share::HolderShare;
 
 mod blanks;
 mod book;
 mod hand;
+pub mod law;
 mod ledger;
 mod ledgers;
 mod name;
+mod port;
+mod readers;
 mod seat;
 mod share;
 mod whole;

@@ -1,9 +1,13 @@
 //! A mirror behind its lock, with its row beside it, whose holder carries its numbers.
-ghost use Rattle.std.specs.Prelude.{◌≡◌, ◌<◌, None, IfOk, IfErr};
+ghost use Rattle.std.specs.Prelude.{◌≡◌, ◌≤◌, ◌<◌, ℕ, Some, None, IfOk, IfErr, IfSome, IfNone};
+ghost use Rattle.rev_row.specs.declared.rev.Rev.{Rev as RevOf};
 ghost use Rattle.store_share.specs.Opened.{cells_of};
+ghost use Rattle.store_share.specs.Seats.{known_by, seen_by};
 ghost use Rattle.sync_core.specs.Calls.{call_of};
 ghost use Rattle.sync_job.specs.Mirrors.{IsFit};
 ghost use Rattle.mirror_share.specs.Places.{IsRunningFault};
+ghost use Rattle.mirror_share.specs.Refused.{IsRefusalOf};
+ghost use Rattle.mirror_share.specs.Seats.{place_of};
 ghost use Rattle.holder_share.specs.Carried.{IsCarried};
 
 use crate::blanks::Blanks;
@@ -11,10 +15,11 @@ use crate::book::HolderBook;
 use crate::name::HolderName;
 use crate::seat::HolderSeat;
 use fleet_disk::Disk;
-use rev_row::RevRow;
-use std::alloc::Global;
+use node_base::RevNo;
+use rev_row::{Rev, RevRow};
+use std::alloc::{AllocError, Global};
 use std::sync::{Mutex, Wait};
-use store_share::OpenedStore;
+use store_share::{OpenedStore, ReaderSeat};
 use sync_core::{MirrorCall, Reply, SyncFault, Token};
 
 /// A mirror on a disk that several threads share, whose holder carries its numbers.
@@ -26,7 +31,10 @@ pub struct HolderShare<N: HolderName, D: Disk> {
 }
 
 impl<N: HolderName, D: Disk> HolderShare<N, D> {
+    ghost use Rattle.holder_share.specs.Locked.{IsLeaveOf, IsNewest, IsShownTo};
     ghost use Rattle.holder_share.specs.Seats.{hand_of, job_of};
+    ghost use Rattle.holder_share.specs.Words.{mirror_of, row_of};
+    ghost use Rattle.mirror_share.specs.Stepped.{IsWhole};
 
     /// The share of an opened store under the names of the row and of the ledgers. Nobody runs there.
     pub fn of(alloc: Global, opened: OpenedStore<D>, blanks: Blanks) -> HolderShare<N, D>
@@ -39,6 +47,7 @@ impl<N: HolderName, D: Disk> HolderShare<N, D> {
             × (N.Head.all ≡ N.Head.parts) × (0 < N.Head.all) }
         requires holder { (blanks.holder.name ≡ N.Holder.name) × (blanks.holder.parts ≡ N.Holder.parts)
             × (N.Holder.all ≡ N.Holder.parts) × (0 < N.Holder.all) }
+        ensures row { row_of result ≡ cells_of opened }
     {
         let (book, row) = opened.into_book::<N::Row>();
         HolderShare {
@@ -47,10 +56,14 @@ impl<N: HolderName, D: Disk> HolderShare<N, D> {
         }
     }
 
-    /// The book.
-    pub fn close(self) -> HolderBook<N, D> {
+    /// The book, with all that a book keeps.
+    pub fn close(self) -> HolderBook<N, D>
+        ensures { IsWhole (mirror_of result) }
+    {
         let HolderShare { book, row: _ } = self;
-        book.into_inner()
+        let book = book.into_inner();
+        book.is_whole();
+        book
     }
 
     /// A seat for the job of that token, which holds nothing. HolderRunning (55) where a job of that token runs,
@@ -68,7 +81,9 @@ impl<N: HolderName, D: Disk> HolderShare<N, D> {
     }
 
     /// The job leaves: there is no holder from then on where it held the lock, and the lock stays.
-    pub fn leave<R: Wait>(&self, rt: &R, seat: HolderSeat<N>) {
+    pub fn leave<R: Wait>(&self, rt: &R, seat: HolderSeat<N>)
+        ensures { IsLeaveOf self.now (place_of (job_of seat)) (hand_of seat) }
+    {
         self.book.lock(rt).leave(seat);
     }
 
@@ -83,9 +98,45 @@ impl<N: HolderName, D: Disk> HolderShare<N, D> {
         call: &MirrorCall<'_>,
     ) -> Result<Reply, SyncFault>
         ensures fits { IfOk result (IsFit (call_of call.now)) }
+        ensures refused { IfErr result (IsRefusalOf (call_of call.now)) }
         ensures seat { job_of seat.new ≡ job_of seat.old }
         ensures carried { IsCarried (hand_of seat.old) (hand_of seat.new) (call_of call.now) result }
     {
         self.book.lock(rt).step(alloc, &self.row, seat, call)
+    }
+
+    /// The seat of a reader, who has seen what is shown now. Only want of memory (70) refuses it.
+    pub fn enter_reader<R: Wait>(
+        &self,
+        rt: &R,
+        alloc: Global,
+    ) -> Result<ReaderSeat<N::Row>, AllocError>
+        ensures { IfOk result (λ s. IsShownTo self.now s (seen_by s)) }
+    {
+        let notes = self.row.notes(alloc)?;
+        Ok(self.book.lock(rt).seat_reader(notes))
+    }
+
+    /// The newest revision, which the reader has seen then. It never falls for a reader.
+    pub fn latest<R: Wait>(&self, rt: &R, reader: &mut ReaderSeat<N::Row>) -> RevNo
+        ensures most { seen_by reader.old ≤ result }
+        ensures seen { seen_by reader.new ≡ result }
+        ensures kept { (r : ℕ) → r ≤ seen_by reader.old → known_by reader.new r ≡ known_by reader.old r }
+        ensures newest { IsNewest self.now (seen_by reader.old) reader.new result }
+    {
+        self.book.lock(rt).latest(reader)
+    }
+
+    /// The revision of that number, where the reader has seen it or its cell shows it. It waits for nobody, and takes
+    /// no memory. What the reader has seen it reads for good.
+    pub fn read_at<'a>(&'a self, reader: &mut ReaderSeat<N::Row>, number: RevNo) -> Option<&'a Rev>
+        ensures there { number ≤ seen_by reader.old → IfNone result ⊥ }
+        ensures value { (x : RevOf) → number ≤ seen_by reader.old → known_by reader.old number ≡ Some x
+            → IfSome result (λ r. r.now ≡ x) }
+        ensures number { IfSome result (λ r. (r.now.number ≡ number) × (known_by reader.new number ≡ Some r.now)) }
+        ensures seen { seen_by reader.new ≡ seen_by reader.old }
+        ensures kept { (r : ℕ) (x : RevOf) → known_by reader.old r ≡ Some x → known_by reader.new r ≡ Some x }
+    {
+        reader.read_in(&self.row, number)
     }
 }

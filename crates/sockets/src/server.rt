@@ -1,7 +1,8 @@
 //! The server.
-ghost use Rattle.std.specs.Prelude.{OnOk, string_bytes};
+ghost use Rattle.std.specs.Prelude.{◌≡◌, IfErr, OnOk, string_bytes};
 ghost use Rattle.std.specs.Io.KnownBytes.{Appends};
 ghost use Rattle.sockets.specs.Lines.{listening};
+ghost use Rattle.sockets.specs.declared.fault.SocketFault.TheVariants as socket;
 
 use crate::fault::SocketFault;
 use std::alloc::Global;
@@ -57,11 +58,15 @@ pub struct Server {
 }
 
 impl Server {
+    ghost use Rattle.sockets.specs.Servers.{port_of};
+
     /// Listens on that port of 127.0.0.1; on one that is free where it is 0. PeerFailed (49) where it can't.
     pub fn bind<R: Net<Listener = TcpListener, Stream = TcpStream>>(
         rt: &R,
         port: u16,
-    ) -> Result<Server, SocketFault> {
+    ) -> Result<Server, SocketFault>
+        ensures { IfErr result (λ f. f ≡ socket.PeerFailed) }
+    {
         let here = SocketAddr::V4(SocketAddrV4::new(Ipv4Addr::LOCALHOST, port));
         let Ok(listener) = TcpListener::bind(rt, here) else {
             return Err(SocketFault::PeerFailed);
@@ -76,7 +81,9 @@ impl Server {
     }
 
     /// The port.
-    pub fn port(&self) -> u16 {
+    pub fn port(&self) -> u16
+        ensures { result ≡ port_of self.now }
+    {
         self.port
     }
 

@@ -1,8 +1,8 @@
-use Rattle.std.proofs.Common.{◌≡◌, ◌<◌, ◌≤◌, false, length, sym, ap, subst, ◌∙◌}
+use Rattle.std.proofs.Common.{◌<◌, ◌≤◌, length, sym, ap, subst, ◌∙◌}
 use Rattle.repo_core.specs.Repository.{Repository}
 use Rattle.sync_core.specs.Calls.{call_of}
 use Rattle.sync_core.specs.Mirror.{holds}
-use Rattle.mirror_share.specs.Book.{holder_of, is_stuck_in, now_of}
+use Rattle.mirror_share.specs.Book.{is_stuck_in, now_of}
 use Rattle.mirror_share.specs.Seats.{place_of}
 use Rattle.holder_share.proofs.Keeping.{beside_held}
 use Rattle.holder_share.proofs.book.step_beside.Goals as goal

@@ -1,0 +1,16 @@
+//! Tests of shares by many threads at once: committers at a master, jobs at two mirrors of it and readers, and a machine
+//! that stops amid them.
+#![tactic(auto)]
+
+#[cfg(test)]
+mod board;
+#[cfg(test)]
+mod crowd;
+#[cfg(test)]
+mod crowd_tests;
+#[cfg(test)]
+mod fronts;
+#[cfg(test)]
+mod made;
+#[cfg(test)]
+mod master;

@@ -1,0 +1,129 @@
+//! A shared mirror whose holder carries its numbers, as the port of a job.
+ghost use Rattle.std.specs.Prelude.{◌≡◌, ◌≤◌, ◌⊎◌, ◌↔◌, ℕ, Some, IfOk, IfErr};
+ghost use Rattle.std.specs.Option.{option_map};
+ghost use Rattle.node_base.specs.declared.refusal.Refusal.TheVariants as refusal;
+ghost use Rattle.repo_core.specs.Repository.{tree_at};
+ghost use Rattle.store_share.specs.Seats.{known_by, seen_by};
+ghost use Rattle.sync_core.specs.Calls.{call_of};
+ghost use Rattle.sync_core.specs.declared.fault.SyncFault.TheVariants as fault;
+ghost use Rattle.sync_job.specs.Mirrors.{MirrorNow, IsFit, Moves, Stays};
+ghost use Rattle.mirror_share.specs.Refused.{IsRefusalOf};
+ghost use Rattle.holder_share.specs.Carried.{IsCarried};
+
+use crate::name::HolderName;
+use crate::seat::HolderSeat;
+use crate::share::HolderShare;
+use fleet_disk::Disk;
+use node_base::{Refusal, RevNo};
+use path_tree::Tree;
+use std::alloc::{AllocError, Global};
+use std::sync::Wait;
+use store_share::ReaderSeat;
+use sync_core::{MirrorCall, Reply, SyncFault};
+use sync_job::MirrorPort;
+
+/// A shared mirror as one job sees it, from a job's seat, which carries the mirror's numbers while it holds the lock, and
+/// a reader's. Each call is one step of the book under the lock; trees are read without it.
+#[derive(Drop)]
+pub struct HolderMirror<'a, R: Wait, N: HolderName, D: Disk> {
+    rt: &'a R,
+    share: &'a HolderShare<N, D>,
+    seat: HolderSeat<N>,
+    reader: ReaderSeat<N::Row>,
+}
+
+impl<'a, R: Wait, N: HolderName, D: Disk> HolderMirror<'a, R, N, D> {
+    ghost use Rattle.holder_share.specs.Locked.{IsShownTo};
+    ghost use Rattle.holder_share.specs.Ports.{reader_of, seat_of, share_of};
+
+    /// The port of the job that has this seat. Only want of memory (70) refuses it, and the seat is handed back then.
+    pub fn new(
+        rt: &'a R,
+        alloc: Global,
+        share: &'a HolderShare<N, D>,
+        seat: HolderSeat<N>,
+    ) -> Result<HolderMirror<'a, R, N, D>, HolderSeat<N>>
+        ensures seat { IfOk result (λ p. seat_of p ≡ seat) }
+        ensures share { IfOk result (λ p. share_of p ≡ share.now) }
+        ensures reader { IfOk result (λ p. IsShownTo share.now (reader_of p) (seen_by (reader_of p))) }
+        ensures back { IfErr result (λ s. s ≡ seat) }
+    {
+        match share.enter_reader(rt, alloc) {
+            Ok(reader) => Ok(HolderMirror {
+                rt,
+                share,
+                seat,
+                reader,
+            }),
+            Err(_) => Err(seat),
+        }
+    }
+
+    /// The seat of the job.
+    pub fn into_seat(self) -> HolderSeat<N>
+        ensures { result ≡ seat_of self.entry }
+    {
+        self.seat
+    }
+}
+
+impl<R: Wait, N: HolderName, D: Disk> MirrorPort for HolderMirror<'_, R, N, D> {
+    ghost use Rattle.std.specs.Prelude.{ℕ};
+    ghost use Rattle.mirror_share.specs.Ports.{NowhereStands};
+    ghost use Rattle.mirror_share.specs.Seats.{place_of};
+    ghost use Rattle.holder_share.specs.Ports.{reader_of, seat_of, share_of};
+    ghost use Rattle.holder_share.specs.Seats.{hand_of, job_of};
+
+    ghost stands = { λ _ m. NowhereStands m };
+
+    ghost seat = { λ p. place_of (job_of (seat_of p)) };
+
+    ghost honest = { λ _. ⊥ };
+
+    ghost clock = { λ _. 0 };
+
+    ghost left_since = { λ _ _ _. ⊥ };
+
+    ghost kept_now = { λ port m image honest stands left. absurd honest };
+
+    /// One step of the book. While the seat holds the lock it carries what the mirror's numbers are through it, so that a
+    /// lawful call of its job isn't refused for the lock (59) or the turn (61).
+    fn step(&mut self, alloc: Global, call: &MirrorCall<'_>) -> Result<Reply, SyncFault>
+        ensures fits { IfOk result (IsFit (call_of call.now)) }
+        ensures refused { IfErr result (IsRefusalOf (call_of call.now)) }
+        ensures carried { IsCarried (hand_of (seat_of self.old)) (hand_of (seat_of self.new)) (call_of call.now) result }
+        ensures share { share_of self.new ≡ share_of self.old }
+        ensures reader { reader_of self.new ≡ reader_of self.old }
+        ensures seat { place_of (job_of (seat_of self.new)) ≡ place_of (job_of (seat_of self.old)) }
+        ensures honest { ⊥ ↔ ⊥ }
+        ensures moves { (m : MirrorNow) → NowhereStands m → Moves NowhereStands (λ _. 0) (λ _ _ _. ⊥) ⊥ self.old self.new
+            m (place_of (job_of (seat_of self.old))) (call_of call.now) result }
+    {
+        self.share.step(self.rt, alloc, &mut self.seat, call)
+    }
+
+    /// The tree of the revision that the reader's seat knows under that number; the newest is asked for where the seat
+    /// hasn't seen it. NoSuchRevision (21) where nothing is shown there, OutOfMemory (70).
+    fn tree(&mut self, number: RevNo) -> Result<Tree, SyncFault>
+        ensures known { IfOk result (λ t. option_map (λ x. x.tree) (known_by (reader_of self.new) number) ≡ Some t) }
+        ensures seen { seen_by (reader_of self.old) ≤ seen_by (reader_of self.new) }
+        ensures kept { (r : ℕ) → r ≤ seen_by (reader_of self.old)
+            → known_by (reader_of self.new) r ≡ known_by (reader_of self.old) r }
+        ensures refused { IfErr result (λ f. (f ≡ fault.Other refusal.NoSuchRevision) ⊎ (f ≡ fault.OutOfMemory)) }
+        ensures hand { seat_of self.new ≡ seat_of self.old }
+        ensures seat { place_of (job_of (seat_of self.new)) ≡ place_of (job_of (seat_of self.old)) }
+        ensures honest { ⊥ ↔ ⊥ }
+        ensures tree { (m : MirrorNow) → NowhereStands m → IfOk result
+            (λ t. tree_at m.repository.revisions number ≡ Some t) }
+        ensures stays { (m : MirrorNow) → NowhereStands m → Stays NowhereStands (λ _. 0) (λ _ _ _. ⊥) ⊥ self.old self.new
+            m }
+    {
+        if self.reader.seen() < number {
+            let _newest = self.share.latest(self.rt, &mut self.reader);
+        }
+        match self.share.read_at(&mut self.reader, number) {
+            Some(rev) => Ok(rev.tree.share()?),
+            None => Err(SyncFault::Other(Refusal::NoSuchRevision)),
+        }
+    }
+}
