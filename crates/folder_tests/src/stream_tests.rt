@@ -10,7 +10,6 @@ use fleet_main::{Command, HostFolders, run};
 use std::alloc::Global;
 use std::io;
 use std::io::{Read, Write};
-use std::test::Fail;
 
 // A reader that fails after some bytes.
 #[derive(Drop)]
@@ -66,9 +65,9 @@ fn tells<H: HeldFiles, R: Read + Drop, W: Write + Drop>(
 }
 
 #[test]
-fn failed_reader_is_told(rt: HostRuntime) -> Result<(), Fail> {
-    let whole = joined(rt.alloc(), &[HEAD, ZERO, ONE_FILE])?;
-    let written = joined(rt.alloc(), &[HEAD, ZERO])?;
+fn failed_reader_is_told(rt: HostRuntime) {
+    let whole = joined(&rt, rt.alloc(), &[HEAD, ZERO, ONE_FILE]);
+    let written = joined(&rt, rt.alloc(), &[HEAD, ZERO]);
     let mut broken = Source::new(Broken {
         bytes: whole.as_slice(),
     });
@@ -80,16 +79,14 @@ fn failed_reader_is_told(rt: HostRuntime) -> Result<(), Fail> {
     );
     assert!(rt; told && broken.failed);
     assert!(rt; output.into_inner().as_slice() == written.as_slice());
-    Ok(())
 }
 
 #[test]
-fn failed_writer_is_told(rt: HostRuntime) -> Result<(), Fail> {
-    let whole = joined(rt.alloc(), &[HEAD, ZERO, ONE_FILE])?;
+fn failed_writer_is_told(rt: HostRuntime) {
+    let whole = joined(&rt, rt.alloc(), &[HEAD, ZERO, ONE_FILE]);
     let mut input = Source::new(whole.as_slice());
     let (told, output) = tells(rt.alloc(), &rt, &mut input, Sink::new(Closed));
     assert!(rt; told && output.failed && !input.failed);
-    Ok(())
 }
 
 // Whether `list` writes these bytes.
@@ -107,8 +104,8 @@ fn copies(alloc: Global, bytes: &[u8]) -> bool {
 }
 
 #[test]
-fn commands_answer_without_a_status(rt: HostRuntime) -> Result<(), Fail> {
-    let whole = joined(rt.alloc(), &[HEAD, ZERO, ONE_FILE])?;
+fn commands_answer_without_a_status(rt: HostRuntime) {
+    let whole = joined(&rt, rt.alloc(), &[HEAD, ZERO, ONE_FILE]);
     assert!(rt;
         lists(
             rt.alloc(),
@@ -117,7 +114,6 @@ fn commands_answer_without_a_status(rt: HostRuntime) -> Result<(), Fail> {
         )
     );
     assert!(rt; copies(rt.alloc(), whole.as_slice()));
-    Ok(())
 }
 
 #[test]

@@ -1,0 +1,131 @@
+//! What the words of a command line come to.
+
+use fleet_main::{Command, Planned, RevRange, Usage, plan};
+use node_base::RevNo;
+use std::alloc::Global;
+use std::process::Abort;
+use uuid::Uuid;
+
+// Adds a word.
+fn add_word(rt: &impl Abort, alloc: Global, all: &mut Vec<String>, word: &str) {
+    let word = String::from_str(alloc, word).expect(rt, "memory");
+    all.push(word).expect(rt, "memory");
+}
+
+fn planned(rt: &impl Abort, alloc: Global, parts: &[&str]) -> Result<Planned, Usage> {
+    let mut words = Vec::new(alloc);
+    add_word(rt, alloc, &mut words, "svnfleet");
+    for part in parts {
+        add_word(rt, alloc, &mut words, *part);
+    }
+    plan(alloc, &words)
+}
+
+// What words come to, in one word.
+fn meaning(rt: &impl Abort, alloc: Global, parts: &[&str]) -> &'static str {
+    match planned(rt, alloc, parts) {
+        Ok(Planned::Run(Command::List)) => "list",
+        Ok(Planned::Run(Command::Canon)) => "canon",
+        Ok(_) => "another",
+        Err(Usage::Wrong(_)) => "wrong",
+        Err(Usage::Shown(_)) => "shown",
+        Err(Usage::OutOfMemory) => "no memory",
+    }
+}
+
+#[test]
+fn words_name_a_command(rt: HostRuntime) {
+    assert_eq!(rt; meaning(&rt, rt.alloc(), &["list"]), "list");
+    assert_eq!(rt; meaning(&rt, rt.alloc(), &["canon"]), "canon");
+    assert_eq!(rt; meaning(&rt, rt.alloc(), &["frob"]), "wrong");
+    assert_eq!(rt; meaning(&rt, rt.alloc(), &[]), "wrong");
+    assert_eq!(rt; meaning(&rt, rt.alloc(), &["--help"]), "shown");
+    assert_eq!(rt; meaning(&rt, rt.alloc(), &["--version"]), "shown");
+}
+
+// Whether words are answered by a creation in the folder `repo` with this identity.
+fn creates(rt: &impl Abort, alloc: Global, parts: &[&str], wanted: Uuid) -> bool {
+    match planned(rt, alloc, parts) {
+        Ok(Planned::Run(Command::Create { folder, identity })) => {
+            folder.as_str() == "repo" && identity == wanted
+        }
+        _ => false,
+    }
+}
+
+#[test]
+fn words_create(rt: HostRuntime) {
+    let Ok(identity) = Uuid::parse_str("6a1f0c3e-0000-4000-8000-00000000abcd") else {
+        rt.abort()
+    };
+    for spelled in [
+        "6a1f0c3e-0000-4000-8000-00000000abcd",
+        "6A1F0C3E-0000-4000-8000-00000000ABCD",
+    ] {
+        let words = ["create", "repo", "--uuid", spelled];
+        assert!(rt; creates(&rt, rt.alloc(), &words, identity), "{spelled}");
+    }
+}
+
+// By a load into the folder `repo`.
+fn loads(rt: &impl Abort, alloc: Global, parts: &[&str]) -> bool {
+    match planned(rt, alloc, parts) {
+        Ok(Planned::Run(Command::Load { folder })) => folder.as_str() == "repo",
+        _ => false,
+    }
+}
+
+// By a dump of the folder `repo`, of this range.
+fn dumps(rt: &impl Abort, alloc: Global, parts: &[&str], wanted: Option<RevRange>) -> bool {
+    match planned(rt, alloc, parts) {
+        Ok(Planned::Run(Command::Dump { folder, range })) => {
+            folder.as_str() == "repo" && range == wanted
+        }
+        _ => false,
+    }
+}
+
+#[test]
+fn words_load_and_dump(rt: HostRuntime) {
+    assert!(rt; loads(&rt, rt.alloc(), &["load", "repo"]));
+    assert!(rt; dumps(&rt, rt.alloc(), &["dump", "repo"], None));
+    let range = RevRange::new(RevNo::new(3), RevNo::new(65_535));
+    assert!(rt;
+        range.is_some() && dumps(&rt, rt.alloc(), &["dump", "-r", "3:65535", "repo"], range)
+    );
+}
+
+// By a directory `a/b` in the folder `repo`, with the message `hi` and a moment of this date.
+fn makes_directory(rt: &impl Abort, alloc: Global, parts: &[&str], date: &str) -> bool {
+    match planned(rt, alloc, parts) {
+        Ok(
+            Planned::Run(
+                Command::MakeDir {
+                    folder,
+                    path,
+                    message,
+                    moment,
+                },
+            ),
+        ) => {
+            let dated = moment.date_text(alloc).expect(rt, "memory");
+            let named = folder.as_str() == "repo" && path.as_str() == "a/b";
+            named && message.as_str() == "hi" && dated.as_str() == date
+        }
+        _ => false,
+    }
+}
+
+#[test]
+fn words_make_a_directory(rt: HostRuntime) {
+    let words = [
+        "mkdir",
+        "repo",
+        "a/b",
+        "--moment",
+        "1000000000123456",
+        "--message",
+        "hi",
+    ];
+    assert!(rt; makes_directory(&rt, rt.alloc(), &words, "2001-09-09T01:46:40.123456Z"));
+}
