@@ -4,6 +4,7 @@
 ghost use Rattle.std.specs.Prelude.{◌≡◌, ◌<◌};
 ghost use Rattle.store_share.specs.Opened.{cells_of};
 
+use crate::made::called;
 use dump_load::{Change, ChangeSet};
 use fleet_disk::{DiskFile, MemDisk};
 use holder_share::{Blanks, Count, HolderName, HolderNames, HolderSeat, HolderShare};
@@ -100,16 +101,12 @@ fn made<R: Wait, N: HolderName>(
     call: &MirrorCall<'_>,
 ) -> Came {
     let before = told(rt, alloc, share, seat);
-    let number = match share.step(rt, alloc, seat, call) {
-        Ok(_) => return Came::Done,
-        Err(fault) => fault.number(),
-    };
+    let number = called(rt, alloc, share, seat, call);
+    if number == 0 {
+        return Came::Done;
+    }
     let stands = before == told(rt, alloc, share, seat) || before.is_none();
-    let again = match share.step(rt, alloc, seat, call) {
-        Ok(_) => 0,
-        Err(fault) => fault.number(),
-    };
-    match (number, again) {
+    match (number, called(rt, alloc, share, seat, call)) {
         (70, 0) if stands => Came::Done,
         (31, 32) if stands => Came::Over,
         _ => Came::Wrong,

@@ -4,6 +4,7 @@ use Rattle.fleet_disk.proofs.memory.MemDisk.TheSendSync as disk
 use Rattle.fleet_disk.specs.contracts.memory.MemDiskDisk.TheImpl.{ghosts}
 use Rattle.store_share.proofs.Crosses as master
 use Rattle.mirror_share.proofs.Crosses as mirror
+use Rattle.crowd_tests.proofs.board.Board.TheSendSync as board
 use Rattle.crowd_tests.proofs.crowd_tests.goes.Goals as goal
 
 pub map_indices-requires-sync-F : goal.map_indices-requires-sync-F
@@ -13,4 +14,4 @@ map_indices-requires-sync-F g c κs within =
     let one = mirror.share_sync _ _ g.A.RowName g.D.Disk b.send-A b.send-D in
     let other = mirror.share_sync _ _ g.B.RowName g.D.Disk b.send-B b.send-D in
     let r = b.sync-R in
-    search (sendable, crosses) depth 20
+    search (sendable, crosses, board.the_sync) depth 30
