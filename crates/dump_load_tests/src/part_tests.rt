@@ -61,6 +61,14 @@ fn changes_that_are_a_set(rt: HostRuntime) {
     assert!(rt; is_set(&rt, rt.alloc(), "add q dir", false, false));
 }
 
+// How many paths changes have.
+fn paths_of(rt: &impl Abort, alloc: Global, lines: &str) -> usize {
+    match in_path_order(changes(rt, alloc, lines)) {
+        Ok(all) => count_paths(&all),
+        Err(_) => 0,
+    }
+}
+
 // Whether a share of a set has so many changes.
 fn shares(alloc: Global, set: &ChangeSet, count: usize) -> bool {
     match set.share(alloc) {
@@ -71,9 +79,9 @@ fn shares(alloc: Global, set: &ChangeSet, count: usize) -> bool {
 
 #[test]
 fn a_set_and_its_changes(rt: HostRuntime) {
-    let all = ordered(&rt, rt.alloc(), "add b - t 1\ndelete c");
-    assert!(rt; count_paths(&all) == 2);
-    let set = ChangeSet::from_changes(all).expect(&rt, "a set");
+    let lines = "add b - t 1\ndelete c";
+    assert!(rt; paths_of(&rt, rt.alloc(), lines) == 2);
+    let set = ChangeSet::from_changes(ordered(&rt, rt.alloc(), lines)).expect(&rt, "a set");
     assert!(rt; shares(rt.alloc(), &set, 2));
     assert!(rt; ChangeSet::empty(rt.alloc()).changes().is_empty());
 }
