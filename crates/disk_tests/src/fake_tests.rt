@@ -2,13 +2,13 @@
 ghost use Rattle.std.specs.Prelude.{◌≡◌, ⊤, IfOk};
 
 use fleet_disk::{Disk, DiskFile, HeldFiles, HostDisk, StdFiles};
-use std::alloc::Allocator;
+use std::alloc::{Allocator, Global};
 use std::cell::Cell;
 use std::fs::{Metadata, OpenFile, OpenOptions};
 use std::io;
 use std::io::{ErrorKind, Read, Seek, SeekFrom, Write};
+use std::process::Abort;
 use std::rt::Files;
-use std::test::Fail;
 
 // What was asked of the files of a host.
 #[derive(Drop)]
@@ -195,6 +195,12 @@ fn nothing_asked() -> Asked {
     }
 }
 
+// The disk of a folder whose host is asked so.
+fn made<'a>(rt: &impl Abort, alloc: Global, asked: &'a Asked) -> HostDisk<StdFiles<FakeFile<'a>>> {
+    let host = FakeHost { asked };
+    HostDisk::create(&host, alloc, "folder").expect(rt, "a disk")
+}
+
 // Whether so many files were held, and so many syncs made of a file and of the folder.
 fn was_asked(asked: &Asked, holds: u32, syncs: u32, folder_syncs: u32) -> bool {
     asked.holds.get() == holds
@@ -214,11 +220,10 @@ fn syncs_both<'a>(disk: &mut HostDisk<StdFiles<FakeFile<'a>>>, asked: &Asked) ->
 // A first sync reaches both files, a later one those that were changed since, and making them the folder. One file is
 // held.
 #[test]
-fn what_a_folder_is_asked(rt: HostRuntime) -> Result<(), Fail> {
+fn what_a_folder_is_asked(rt: HostRuntime) {
     let asked = nothing_asked();
-    let mut disk = HostDisk::create(&FakeHost { asked: &asked }, rt.alloc(), "folder")?;
+    let mut disk = made(&rt, rt.alloc(), &asked);
     assert!(rt; syncs_both(&mut disk, &asked));
-    Ok(())
 }
 
 // Whether a cut of the gate and the sync behind it ask for that of one file.
@@ -243,12 +248,11 @@ fn writes_both<'a>(disk: &mut HostDisk<StdFiles<FakeFile<'a>>>, asked: &Asked) -
 
 // A sync reaches the file that was changed since the last, at the place that was given.
 #[test]
-fn what_a_change_is_asked(rt: HostRuntime) -> Result<(), Fail> {
+fn what_a_change_is_asked(rt: HostRuntime) {
     let asked = nothing_asked();
-    let mut disk = HostDisk::create(&FakeHost { asked: &asked }, rt.alloc(), "folder")?;
+    let mut disk = made(&rt, rt.alloc(), &asked);
     assert!(rt; cuts_one(&mut disk, &asked));
     assert!(rt; writes_both(&mut disk, &asked));
-    Ok(())
 }
 
 // A folder whose journal is held by another is neither made nor opened.
@@ -273,10 +277,9 @@ fn refuses_all<'a>(disk: &mut HostDisk<StdFiles<FakeFile<'a>>>) -> bool {
 
 // A host that fails is a device that does.
 #[test]
-fn a_folder_that_fails(rt: HostRuntime) -> Result<(), Fail> {
+fn a_folder_that_fails(rt: HostRuntime) {
     let asked = nothing_asked();
-    let mut disk = HostDisk::create(&FakeHost { asked: &asked }, rt.alloc(), "folder")?;
+    let mut disk = made(&rt, rt.alloc(), &asked);
     asked.fails.set(true);
     assert!(rt; refuses_all(&mut disk));
-    Ok(())
 }

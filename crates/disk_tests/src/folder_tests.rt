@@ -1,15 +1,9 @@
 //! A folder of the host that has files already as its disk is made.
+use crate::disk_tests::empty_folder;
 use fleet_disk::{Disk, DiskFile, HostDisk};
 use std::fs::OpenOptions;
 use std::io::Write;
-use std::test::Fail;
 use std::{fs, io};
-
-// A folder of that name with no file.
-fn empty_folder(rt: &HostRuntime, folder: &str) -> io::Result<()> {
-    let _missing = fs::remove_dir_all(rt, folder);
-    fs::create_dir(rt, folder)
-}
 
 fn write_file(rt: &HostRuntime, path: &str, bytes: &[u8]) -> io::Result<()> {
     let mut file = OpenOptions::new().write(true).create(true).open(rt, path)?;
@@ -21,48 +15,62 @@ fn is_missing(rt: &HostRuntime, path: &str) -> bool {
     fs::metadata(rt, path).is_err()
 }
 
+// Whether so many bytes are at the path.
+fn has_bytes(rt: &HostRuntime, path: &str, count: u64) -> bool {
+    match fs::metadata(rt, path) {
+        Ok(found) => found.len() == count,
+        Err(_) => false,
+    }
+}
+
+// Whether a folder's disk, which is made now, has so many bytes of a file.
+fn is_made_beside(rt: &HostRuntime, folder: &str, file: DiskFile, count: u64) -> bool {
+    match HostDisk::create(rt, rt.alloc(), folder) {
+        Ok(mut disk) => disk.len(file) == Ok(count),
+        Err(_) => false,
+    }
+}
+
 // Beside a file with bytes nothing is made, whichever of the two it is.
 #[test]
-fn beside_a_foreign_journal(rt: HostRuntime) -> Result<(), Fail> {
+fn beside_a_foreign_journal(rt: HostRuntime) -> io::Result<()> {
     let folder = "fleet_disk_foreign_journal";
     empty_folder(&rt, folder)?;
     write_file(&rt, "fleet_disk_foreign_journal/journal", b"foreign")?;
-    let mut disk = HostDisk::create(&rt, rt.alloc(), folder)?;
-    assert_eq!(rt; disk.len(DiskFile::Journal)?, 7);
+    assert!(rt; is_made_beside(&rt, folder, DiskFile::Journal, 7));
     assert!(rt; is_missing(&rt, "fleet_disk_foreign_journal/gate"));
-    fs::remove_dir_all(&rt, folder)?;
-    Ok(())
+    fs::remove_dir_all(&rt, folder)
 }
 
 #[test]
-fn beside_a_foreign_gate(rt: HostRuntime) -> Result<(), Fail> {
+fn beside_a_foreign_gate(rt: HostRuntime) -> io::Result<()> {
     let folder = "fleet_disk_foreign_gate";
     empty_folder(&rt, folder)?;
     write_file(&rt, "fleet_disk_foreign_gate/gate", b"foreign")?;
-    let mut disk = HostDisk::create(&rt, rt.alloc(), folder)?;
-    assert_eq!(rt; disk.len(DiskFile::Gate)?, 7);
+    assert!(rt; is_made_beside(&rt, folder, DiskFile::Gate, 7));
     assert!(rt; is_missing(&rt, "fleet_disk_foreign_gate/journal"));
-    fs::remove_dir_all(&rt, folder)?;
-    Ok(())
+    fs::remove_dir_all(&rt, folder)
+}
+
+// Whether both files of a folder, whose disk is made now, are written.
+fn is_written(rt: &HostRuntime, folder: &str) -> bool {
+    match HostDisk::create(rt, rt.alloc(), folder) {
+        Ok(mut disk) => {
+            disk.write_at(DiskFile::Gate, 0, b"x").is_ok()
+                && disk.write_at(DiskFile::Journal, 0, b"xy").is_ok()
+        }
+        Err(_) => false,
+    }
 }
 
 // What a stopped begin leaves, an empty journal, is completed.
 #[test]
-fn beside_an_empty_journal(rt: HostRuntime) -> Result<(), Fail> {
+fn beside_an_empty_journal(rt: HostRuntime) -> io::Result<()> {
     let folder = "fleet_disk_empty_journal";
     empty_folder(&rt, folder)?;
     write_file(&rt, "fleet_disk_empty_journal/journal", b"")?;
-    let mut disk = HostDisk::create(&rt, rt.alloc(), folder)?;
-    disk.write_at(DiskFile::Gate, 0, b"x")?;
-    disk.write_at(DiskFile::Journal, 0, b"xy")?;
-    assert_eq!(rt;
-        fs::metadata(&rt, "fleet_disk_empty_journal/gate")?.len(),
-        1
-    );
-    assert_eq!(rt;
-        fs::metadata(&rt, "fleet_disk_empty_journal/journal")?.len(),
-        2
-    );
-    fs::remove_dir_all(&rt, folder)?;
-    Ok(())
+    assert!(rt; is_written(&rt, folder));
+    assert!(rt; has_bytes(&rt, "fleet_disk_empty_journal/gate", 1));
+    assert!(rt; has_bytes(&rt, "fleet_disk_empty_journal/journal", 2));
+    fs::remove_dir_all(&rt, folder)
 }

@@ -3,8 +3,8 @@
 use crate::disk_tests::empty_folder;
 use fleet_disk::{Disk, DiskFile, Fuse, FuseDisk, HostDisk, MemDisk, Pick};
 use gate_log::{GateLog, LogFault, one_verdict};
-use std::alloc::{AllocError, Global};
-use std::test::Fail;
+use std::alloc::Global;
+use std::process::Abort;
 use std::{fs, io};
 
 const PICKS: [Pick; 4] = [Pick::Old, Pick::New, Pick::Fill(1), Pick::Fill(0x37)];
@@ -81,44 +81,54 @@ fn not_opened<D: Disk + Drop>(alloc: Global, disk: D) -> Option<LogFault> {
     opened(alloc, disk).err()
 }
 
+// A log on a disk with nothing on it.
+fn begun<D: Disk + Drop>(rt: &impl Abort, alloc: Global, disk: D) -> GateLog<D> {
+    created(alloc, disk).expect(rt, "a log")
+}
+
+// The log of a disk.
+fn found<D: Disk + Drop>(rt: &impl Abort, alloc: Global, disk: D) -> GateLog<D> {
+    opened(alloc, disk).expect(rt, "a log")
+}
+
+// The disk as a stop leaves it.
+fn crashed(rt: &impl Abort, disk: &MemDisk, pick: Pick) -> MemDisk {
+    disk.crash(pick).expect(rt, "memory")
+}
+
 // A disk with one entry, all of it synced.
-fn one_entry(alloc: Global) -> Result<MemDisk, LogFault> {
-    let mut log = created(alloc, MemDisk::new(alloc))?;
-    let _receipt = log.append(b"first")?;
-    Ok(log.into_disk().crash(Pick::New)?)
+fn one_entry(rt: &impl Abort, alloc: Global) -> MemDisk {
+    let mut log = begun(rt, alloc, MemDisk::new(alloc));
+    assert!(rt; added(&mut log, b"first") == Some(0));
+    crashed(rt, &log.into_disk(), Pick::New)
 }
 
 // How many calls the opening of such a disk makes.
-fn opening_calls(alloc: Global, disk: &MemDisk) -> Result<u64, LogFault> {
-    let log = opened(alloc, disk.crash(Pick::New)?)?;
-    Ok(log.into_disk().calls().len() as u64)
+fn opening_calls(rt: &impl Abort, alloc: Global, disk: &MemDisk) -> u64 {
+    let log = found(rt, alloc, crashed(rt, disk, Pick::New));
+    log.into_disk().calls().len() as u64
 }
 
 // A log over a disk with one entry, of which so many calls pass behind its opening.
-fn fused(alloc: Global, calls: u64, fuse: Fuse) -> Result<GateLog<FuseDisk<MemDisk>>, LogFault> {
-    let disk = one_entry(alloc)?;
-    let before = opening_calls(alloc, &disk)?;
-    opened(
-        alloc,
-        FuseDisk::new(disk, before.saturating_add(calls), fuse),
-    )
+fn fused(rt: &impl Abort, alloc: Global, calls: u64, fuse: Fuse) -> GateLog<FuseDisk<MemDisk>> {
+    let disk = one_entry(rt, alloc);
+    let before = opening_calls(rt, alloc, &disk);
+    let fused = FuseDisk::new(disk, before.saturating_add(calls), fuse);
+    found(rt, alloc, fused)
 }
 
 // The disk after this many calls of appends of `second`, `third` and `fourth`, stopped.
-fn stopped(alloc: Global, calls: u64, pick: Pick) -> Result<MemDisk, LogFault> {
-    let mut log = fused(alloc, calls, Fuse::ForGood)?;
+fn stopped(rt: &impl Abort, alloc: Global, calls: u64, pick: Pick) -> MemDisk {
+    let mut log = fused(rt, alloc, calls, Fuse::ForGood);
     let _all = added(&mut log, b"second").is_some()
         && added(&mut log, b"third").is_some()
         && added(&mut log, b"fourth").is_some();
-    Ok(log.into_disk().into_inner().crash(pick)?)
+    crashed(rt, &log.into_disk().into_inner(), pick)
 }
 
 // Whether a disk that was stopped after so many calls opens with so many entries.
-fn stands(alloc: Global, calls: u64, pick: Pick, count: u64) -> bool {
-    match stopped(alloc, calls, pick) {
-        Ok(disk) => opens_with(alloc, disk, count),
-        Err(_) => false,
-    }
+fn stands(rt: &impl Abort, alloc: Global, calls: u64, pick: Pick, count: u64) -> bool {
+    opens_with(alloc, stopped(rt, alloc, calls, pick), count)
 }
 
 #[test]
@@ -126,7 +136,7 @@ fn an_append_stopped_after_each_call(rt: HostRuntime) {
     for (calls, row) in STANDING.iter().enumerate() {
         for (pick, wanted) in PICKS.iter().zip(row) {
             assert!(rt;
-                stands(rt.alloc(), calls as u64, *pick, *wanted),
+                stands(&rt, rt.alloc(), calls as u64, *pick, *wanted),
                 "after {calls} calls"
             );
         }
@@ -140,7 +150,7 @@ fn three_appends_stopped_after_each_call(rt: HostRuntime) {
         for (pick, wanted) in PICKS.iter().zip(row.iter()) {
             let count = wanted.saturating_add(calls / 5);
             assert!(rt;
-                stands(rt.alloc(), calls, *pick, count),
+                stands(&rt, rt.alloc(), calls, *pick, count),
                 "after {calls} calls"
             );
         }
@@ -165,12 +175,11 @@ fn takes_a_second<D: Disk + Drop>(alloc: Global, disk: D) -> bool {
 }
 
 #[test]
-fn the_third_call_fails(rt: HostRuntime) -> Result<(), Fail> {
-    let mut log = fused(rt.alloc(), 2, Fuse::Once)?;
+fn the_third_call_fails(rt: HostRuntime) {
+    let mut log = fused(&rt, rt.alloc(), 2, Fuse::Once);
     assert!(rt; not_added(&mut log) == Some(LogFault::DeviceFailed));
     assert!(rt; has_failed_for_good(rt.alloc(), &mut log));
     assert!(rt; takes_a_second(rt.alloc(), log.into_disk()));
-    Ok(())
 }
 
 // Whether a read of a log with one entry fails, and then an append for that.
@@ -181,11 +190,10 @@ fn fails_to_read<D: Disk>(alloc: Global, log: &mut GateLog<D>) -> bool {
 }
 
 #[test]
-fn a_read_fails(rt: HostRuntime) -> Result<(), Fail> {
-    let mut log = fused(rt.alloc(), 0, Fuse::Once)?;
+fn a_read_fails(rt: HostRuntime) {
+    let mut log = fused(&rt, rt.alloc(), 0, Fuse::Once);
     assert!(rt; fails_to_read(rt.alloc(), &mut log));
     assert!(rt; opens_with(rt.alloc(), log.into_disk(), 1));
-    Ok(())
 }
 
 // Whether a creation ends where this call of it fails, and another on the disk that it hands back ends so.
@@ -212,8 +220,8 @@ fn a_create_whose_call_fails_hands_the_disk_back(rt: HostRuntime) {
 }
 
 // A disk whose second entry and its slot lie behind a closed gate.
-fn torn(alloc: Global) -> Result<MemDisk, LogFault> {
-    stopped(alloc, 3, Pick::New)
+fn torn(rt: &impl Abort, alloc: Global) -> MemDisk {
+    stopped(rt, alloc, 3, Pick::New)
 }
 
 // Whether an opening ends where this call of it fails, and the disk that it hands back opens then.
@@ -225,29 +233,28 @@ fn is_opened_again(alloc: Global, disk: MemDisk, calls: u64) -> bool {
 }
 
 #[test]
-fn an_opening_whose_call_fails_hands_the_disk_back(rt: HostRuntime) -> Result<(), Fail> {
-    let alloc = rt.alloc();
-    let torn = torn(alloc)?;
-    for calls in 0..opening_calls(alloc, &torn)? {
-        assert!(rt;
-            is_opened_again(alloc, torn.crash(Pick::New)?, calls),
-            "call {calls}"
-        );
+fn an_opening_whose_call_fails_hands_the_disk_back(rt: HostRuntime) {
+    let torn = torn(&rt, rt.alloc());
+    for calls in 0..opening_calls(&rt, rt.alloc(), &torn) {
+        let disk = crashed(&rt, &torn, Pick::New);
+        assert!(rt; is_opened_again(rt.alloc(), disk, calls), "call {calls}");
     }
-    Ok(())
 }
 
-// What an opening answers behind a creation that was stopped after so many calls; None where either ends well.
-fn found_after(alloc: Global, calls: u64, pick: Pick) -> Result<Option<LogFault>, AllocError> {
+// The disk behind a creation that was stopped after so many calls; None where it wasn't.
+fn begun_until(alloc: Global, calls: u64) -> Option<MemDisk> {
     let fused = FuseDisk::new(MemDisk::new(alloc), calls, Fuse::ForGood);
     match GateLog::create(alloc, fused) {
-        Ok(_) => Ok(None),
-        Err((fault, disk)) => {
-            if fault == LogFault::DeviceFailed {
-                return Ok(not_opened(alloc, disk.into_inner().crash(pick)?));
-            }
-            Ok(None)
-        }
+        Ok(_) => None,
+        Err((fault, disk)) => (fault == LogFault::DeviceFailed).then_some(disk.into_inner()),
+    }
+}
+
+// What an opening answers behind such a creation; None where either ends well.
+fn found_after(rt: &impl Abort, alloc: Global, calls: u64, pick: Pick) -> Option<LogFault> {
+    match begun_until(alloc, calls) {
+        Some(disk) => not_opened(alloc, crashed(rt, &disk, pick)),
+        None => None,
     }
 }
 
@@ -261,8 +268,8 @@ const FOUND: [LogFault; 4] = [
 ];
 
 // Whether that is so.
-fn is_found(alloc: Global, calls: u64, pick: Pick, wanted: LogFault) -> bool {
-    found_after(alloc, calls, pick) == Ok(Some(wanted))
+fn is_found(rt: &impl Abort, alloc: Global, calls: u64, pick: Pick, wanted: LogFault) -> bool {
+    found_after(rt, alloc, calls, pick) == Some(wanted)
 }
 
 #[test]
@@ -270,54 +277,49 @@ fn a_create_stopped_after_each_call(rt: HostRuntime) {
     for calls in 0u64..3 {
         for pick in PICKS {
             assert!(rt;
-                is_found(rt.alloc(), calls, pick, LogFault::NoRepository),
+                is_found(&rt, rt.alloc(), calls, pick, LogFault::NoRepository),
                 "{calls} calls"
             );
         }
     }
     for (pick, wanted) in PICKS.iter().zip(FOUND.iter()) {
-        assert!(rt; is_found(rt.alloc(), 3, *pick, *wanted));
+        assert!(rt; is_found(&rt, rt.alloc(), 3, *pick, *wanted));
     }
 }
 
-// Whether an opening that is stopped after so many calls leaves a disk that opens with its one entry.
-fn is_left_open(alloc: Global, disk: MemDisk, calls: u64, pick: Pick) -> Result<bool, AllocError> {
+// The disk behind an opening that was stopped after so many calls; None where it wasn't.
+fn opened_until(alloc: Global, disk: MemDisk, calls: u64) -> Option<MemDisk> {
     match GateLog::open(alloc, FuseDisk::new(disk, calls, Fuse::ForGood)) {
-        Ok(_) => Ok(false),
-        Err((fault, disk)) => {
-            let left = disk.into_inner().crash(pick)?;
-            Ok(fault == LogFault::DeviceFailed && opens_with(alloc, left, 1))
+        Ok(_) => None,
+        Err((fault, disk)) => (fault == LogFault::DeviceFailed).then_some(disk.into_inner()),
+    }
+}
+
+// Whether that leaves a disk that opens with its one entry.
+fn is_left_open(rt: &impl Abort, alloc: Global, torn: &MemDisk, calls: u64, pick: Pick) -> bool {
+    match opened_until(alloc, crashed(rt, torn, Pick::New), calls) {
+        Some(disk) => opens_with(alloc, crashed(rt, &disk, pick), 1),
+        None => false,
+    }
+}
+
+#[test]
+fn an_opening_stopped_after_each_call(rt: HostRuntime) {
+    let torn = torn(&rt, rt.alloc());
+    for calls in 0..opening_calls(&rt, rt.alloc(), &torn) {
+        for pick in &PICKS {
+            assert!(rt;
+                is_left_open(&rt, rt.alloc(), &torn, calls, *pick),
+                "after {calls} calls"
+            );
         }
     }
 }
 
-// Whether that is so for each pick.
-fn is_left_open_by_all(alloc: Global, torn: &MemDisk, calls: u64) -> Result<bool, AllocError> {
-    for pick in PICKS {
-        if !is_left_open(alloc, torn.crash(Pick::New)?, calls, pick)? {
-            return Ok(false);
-        }
-    }
-    Ok(true)
-}
-
 #[test]
-fn an_opening_stopped_after_each_call(rt: HostRuntime) -> Result<(), Fail> {
-    let torn = torn(rt.alloc())?;
-    for calls in 0..opening_calls(rt.alloc(), &torn)? {
-        assert!(rt;
-            is_left_open_by_all(rt.alloc(), &torn, calls)?,
-            "after {calls} calls"
-        );
-    }
-    Ok(())
-}
-
-#[test]
-fn an_opening_cuts_what_is_behind(rt: HostRuntime) -> Result<(), Fail> {
-    let disk = opened(rt.alloc(), torn(rt.alloc())?)?.into_disk();
+fn an_opening_cuts_what_is_behind(rt: HostRuntime) {
+    let disk = found(&rt, rt.alloc(), torn(&rt, rt.alloc())).into_disk();
     assert!(rt; has_files(&disk, b"first", ONE_GATE));
-    Ok(())
 }
 
 // The gate of an entry of five bytes.
@@ -340,16 +342,15 @@ fn takes_two(log: &mut GateLog<MemDisk>) -> bool {
 }
 
 #[test]
-fn the_bytes_and_the_calls(rt: HostRuntime) -> Result<(), Fail> {
-    let mut log = created(rt.alloc(), MemDisk::new(rt.alloc()))?;
+fn the_bytes_and_the_calls(rt: HostRuntime) {
+    let mut log = begun(&rt, rt.alloc(), MemDisk::new(rt.alloc()));
     assert!(rt; takes_two(&mut log));
     let disk = log.into_disk();
     assert!(rt;
         disk.bytes(DiskFile::Journal).len() == 424 && disk.bytes(DiskFile::Gate) == LONG_GATE
     );
     // Two questions, a write and a sync begin the log; each append makes five calls.
-    assert_eq!(rt; disk.calls().len(), 14);
-    Ok(())
+    assert!(rt; disk.calls().len() == 14);
 }
 
 // Whether a log has room for so many bytes and no more.
@@ -359,11 +360,10 @@ fn has_room_for(log: &mut GateLog<MemDisk>, count: usize) -> bool {
 }
 
 #[test]
-fn the_limit(rt: HostRuntime) -> Result<(), Fail> {
-    let mut log = created(rt.alloc(), MemDisk::new(rt.alloc()))?;
+fn the_limit(rt: HostRuntime) {
+    let mut log = begun(&rt, rt.alloc(), MemDisk::new(rt.alloc()));
     assert!(rt; has_room_for(&mut log, 1 << 56));
     assert!(rt; added(&mut log, b"first") == Some(0) && has_room_for(&mut log, (1 << 56) - 5));
-    Ok(())
 }
 
 #[test]
@@ -374,11 +374,14 @@ fn the_numbers(rt: HostRuntime) {
     assert!(rt; LogFault::OutOfMemory.number() == 70);
 }
 
+// Whether a fault is told so.
+fn is_told(alloc: Global, fault: LogFault, text: &str) -> bool {
+    format!(in alloc; "{fault}").is_ok_and(|told| told.as_str() == text)
+}
+
 #[test]
-fn a_damaged_entry_is_told(rt: HostRuntime) -> Result<(), Fail> {
-    let text = format!(in rt.alloc(); "{}", LogFault::Damaged(7))?;
-    assert!(rt; text.as_str() == "entry 7 is damaged");
-    Ok(())
+fn a_damaged_entry_is_told(rt: HostRuntime) {
+    assert!(rt; is_told(rt.alloc(), LogFault::Damaged(7), "entry 7 is damaged"));
 }
 
 #[test]
@@ -386,24 +389,21 @@ fn the_law_is_called() {
     one_verdict();
 }
 
-// Why the journal of two entries isn't opened with this gate file; None where it is.
-fn damage_of(alloc: Global, gate: &[u8]) -> Result<Option<LogFault>, AllocError> {
-    Ok(not_opened(alloc, MemDisk::with_bytes(alloc, b"firstsecond", gate)?))
-}
-
-// Whether it is refused so.
+// Whether the journal of two entries with this gate file is refused so.
 fn is_damaged(alloc: Global, gate: &[u8], wanted: LogFault) -> bool {
-    damage_of(alloc, gate) == Ok(Some(wanted))
+    match MemDisk::with_bytes(alloc, b"firstsecond", gate) {
+        Ok(disk) => not_opened(alloc, disk) == Some(wanted),
+        Err(_) => false,
+    }
 }
 
 // The gate of two entries of five and six bytes.
 const WHOLE: &[u8] = b"\x01\0\0\0\0\0\0\0\x05\x01\0\0\0\0\0\0\0\x0B\0";
 
 #[test]
-fn whole_entries(rt: HostRuntime) -> Result<(), Fail> {
-    let disk = MemDisk::with_bytes(rt.alloc(), b"firstsecond", WHOLE)?;
+fn whole_entries(rt: HostRuntime) {
+    let disk = MemDisk::with_bytes(rt.alloc(), b"firstsecond", WHOLE).expect(&rt, "memory");
     assert!(rt; opens_with(rt.alloc(), disk, 2));
-    Ok(())
 }
 
 // A length that doesn't rise, one past the journal's end, a cut length, no next gate, a closed first gate.

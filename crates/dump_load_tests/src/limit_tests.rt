@@ -5,7 +5,7 @@ use dump_text::NodeRecord;
 use node_base::{Action, NodeKind, NodePath, RevNo, Source};
 use path_tree::Tree;
 use std::alloc::Global;
-use std::test::Fail;
+use std::process::Abort;
 
 const FILE: Option<NodeKind> = Some(NodeKind::File);
 
@@ -28,26 +28,37 @@ fn record(
 }
 
 // A path of one name, a letter and four digits.
-fn numbered_path(alloc: Global, number: u16) -> Result<NodePath, Fail> {
-    let mut text = b"f".to_vec(alloc)?;
-    for unit in [1000u16, 100, 10, 1] {
-        text.push(b'0' + (number / unit % 10) as u8)?;
+fn numbered_path(rt: &impl Abort, alloc: Global, number: u16) -> NodePath {
+    let text = format!(in alloc; "f{number:04}").expect(rt, "memory");
+    NodePath::parse(alloc, text.as_bytes()).expect(rt, "a path")
+}
+
+// Adds records of so many files.
+fn add_many(
+    rt: &impl Abort,
+    alloc: Global,
+    all: &mut Vec<NodeRecord>,
+    count: u16,
+    action: Action,
+    kind: Option<NodeKind>,
+) {
+    for number in 0..count {
+        let one = record(numbered_path(rt, alloc, number), action, kind, None);
+        all.push(one).expect(rt, "memory");
     }
-    Ok(NodePath::parse(alloc, text.as_slice())?)
 }
 
 // Records of so many files.
 fn many(
+    rt: &impl Abort,
     alloc: Global,
     count: u16,
     action: Action,
     kind: Option<NodeKind>,
-) -> Result<Vec<NodeRecord>, Fail> {
+) -> Vec<NodeRecord> {
     let mut all = Vec::new(alloc);
-    for number in 0..count {
-        all.push(record(numbered_path(alloc, number)?, action, kind, None))?;
-    }
-    Ok(all)
+    add_many(rt, alloc, &mut all, count, action, kind);
+    all
 }
 
 // How many changes records make, or the number of their refusal.
@@ -58,165 +69,177 @@ fn changes_of(alloc: Global, records: Vec<NodeRecord>) -> Result<usize, u8> {
     }
 }
 
-// How many changes so many records make, or the number of their refusal.
-fn changes_of_many(
+// How many changes so many added files make, or the number of their refusal.
+fn changes_of_adds(
+    rt: &impl Abort,
     alloc: Global,
     count: u16,
-    action: Action,
     kind: Option<NodeKind>,
-) -> Result<Result<usize, u8>, Fail> {
-    Ok(changes_of(alloc, many(alloc, count, action, kind)?))
+) -> Result<usize, u8> {
+    changes_of(alloc, many(rt, alloc, count, Action::Add, kind))
 }
 
 #[test]
-fn so_many_paths(rt: HostRuntime) -> Result<(), Fail> {
-    let full = changes_of_many(rt.alloc(), 4_096, Action::Add, FILE)?;
-    assert_eq!(rt; full, Ok(4_096));
-    let over = changes_of_many(rt.alloc(), 4_097, Action::Add, FILE)?;
-    assert_eq!(rt; over, Err(8));
-    Ok(())
+fn so_many_paths(rt: HostRuntime) {
+    assert!(rt; changes_of_adds(&rt, rt.alloc(), 4_096, FILE) == Ok(4_096));
+    assert!(rt; changes_of_adds(&rt, rt.alloc(), 4_097, FILE) == Err(8));
+}
+
+// So many modifications.
+fn modifications(rt: &impl Abort, alloc: Global, count: u16) -> Vec<Change> {
+    let mut all = Vec::new(alloc);
+    for one in many(rt, alloc, count, Action::Modify, None) {
+        all.push(Change::from_record(one)).expect(rt, "memory");
+    }
+    all
 }
 
 // How many changes so many modifications are a set of as they come, or the number of the refusal.
-fn modified(alloc: Global, count: u16) -> Result<Result<usize, u8>, Fail> {
-    let mut all = Vec::new(alloc);
-    for one in many(alloc, count, Action::Modify, None)? {
-        all.push(Change::from_record(one))?;
-    }
-    match ChangeSet::from_changes(all) {
-        Ok(set) => Ok(Ok(set.changes().len())),
-        Err(fault) => Ok(Err(fault.number())),
+fn modified(rt: &impl Abort, alloc: Global, count: u16) -> Result<usize, u8> {
+    match ChangeSet::from_changes(modifications(rt, alloc, count)) {
+        Ok(set) => Ok(set.changes().len()),
+        Err(fault) => Err(fault.number()),
     }
 }
 
 #[test]
-fn so_many_changes(rt: HostRuntime) -> Result<(), Fail> {
-    assert_eq!(rt; modified(rt.alloc(), 4_096)?, Ok(4_096));
-    assert_eq!(rt; modified(rt.alloc(), 4_097)?, Err(8));
-    Ok(())
+fn so_many_changes(rt: HostRuntime) {
+    assert!(rt; modified(&rt, rt.alloc(), 4_096) == Ok(4_096));
+    assert!(rt; modified(&rt, rt.alloc(), 4_097) == Err(8));
 }
 
 // The same of so many modifications, of which one path is changed twice.
-fn changes_of_one_twice(alloc: Global, count: u16) -> Result<Result<usize, u8>, Fail> {
-    let mut twice = many(alloc, count, Action::Modify, None)?;
-    let path = numbered_path(alloc, 7)?;
-    twice.push(record(path, Action::Modify, None, None))?;
-    Ok(changes_of(alloc, twice))
+fn changes_of_one_twice(rt: &impl Abort, alloc: Global, count: u16) -> Result<usize, u8> {
+    let mut twice = many(rt, alloc, count, Action::Modify, None);
+    let again = record(numbered_path(rt, alloc, 7), Action::Modify, None, None);
+    twice.push(again).expect(rt, "memory");
+    changes_of(alloc, twice)
 }
 
 #[test]
-fn many_paths_before_what_is_wrong_with_them(rt: HostRuntime) -> Result<(), Fail> {
-    let kindless = changes_of_many(rt.alloc(), 4_097, Action::Add, None)?;
-    assert_eq!(rt; kindless, Err(8));
-    assert_eq!(rt; changes_of_one_twice(rt.alloc(), 4_097)?, Err(8));
-    assert_eq!(rt; changes_of_one_twice(rt.alloc(), 4_096)?, Err(15));
-    Ok(())
+fn many_paths_before_what_is_wrong_with_them(rt: HostRuntime) {
+    assert!(rt; changes_of_adds(&rt, rt.alloc(), 4_097, None) == Err(8));
+    assert!(rt; changes_of_one_twice(&rt, rt.alloc(), 4_097) == Err(8));
+    assert!(rt; changes_of_one_twice(&rt, rt.alloc(), 4_096) == Err(15));
 }
 
 // The same of so many paths, each deleted and added.
-fn changes_of_pairs(alloc: Global, count: u16) -> Result<Result<usize, u8>, Fail> {
-    let mut pairs = many(alloc, count, Action::Delete, None)?;
-    for added in many(alloc, count, Action::Add, FILE)? {
-        pairs.push(added)?;
-    }
-    Ok(changes_of(alloc, pairs))
+fn changes_of_pairs(rt: &impl Abort, alloc: Global, count: u16) -> Result<usize, u8> {
+    let mut pairs = many(rt, alloc, count, Action::Delete, None);
+    add_many(rt, alloc, &mut pairs, count, Action::Add, FILE);
+    changes_of(alloc, pairs)
 }
 
 #[test]
-fn more_records_than_paths(rt: HostRuntime) -> Result<(), Fail> {
-    assert_eq!(rt; changes_of_pairs(rt.alloc(), 4_096)?, Ok(4_096));
-    Ok(())
+fn more_records_than_paths(rt: HostRuntime) {
+    assert!(rt; changes_of_pairs(&rt, rt.alloc(), 4_096) == Ok(4_096));
 }
 
 // A path of names of one letter each, repeated so many times.
-fn long_path(alloc: Global, letters: &[u8], times: usize) -> Result<NodePath, Fail> {
+fn long_path(rt: &impl Abort, alloc: Global, letters: &[u8], times: usize) -> NodePath {
     let mut text = Vec::new(alloc);
     for (place, letter) in letters.iter().enumerate() {
         if place > 0 {
-            text.push(b'/')?;
+            text.push(b'/').expect(rt, "memory");
         }
         for _ in 0..times {
-            text.push(*letter)?;
+            text.push(*letter).expect(rt, "memory");
         }
     }
-    Ok(NodePath::parse(alloc, text.as_slice())?)
+    NodePath::parse(alloc, text.as_slice()).expect(rt, "a path")
+}
+
+// Records of directories one in another.
+fn directories(rt: &impl Abort, alloc: Global, letters: &[u8], times: usize) -> Vec<NodeRecord> {
+    let mut stated = Vec::new(alloc);
+    for depth in 1..=letters.len() {
+        let path = long_path(rt, alloc, &letters[..depth], times);
+        stated
+            .push(record(path, Action::Add, DIR, None))
+            .expect(rt, "memory");
+    }
+    stated
 }
 
 // Revision 0, and revision 1 with directories one in another.
-fn nested(alloc: Global, letters: &[u8], times: usize) -> Result<Vec<Tree>, Fail> {
-    let mut stated = Vec::new(alloc);
-    for depth in 1..=letters.len() {
-        let path = long_path(alloc, &letters[..depth], times)?;
-        stated.push(record(path, Action::Add, DIR, None))?;
-    }
+fn nested(rt: &impl Abort, alloc: Global, letters: &[u8], times: usize) -> Vec<Tree> {
     let mut trees = Vec::new(alloc);
-    trees.push(Tree::empty(alloc)?)?;
-    let (_, tree) = load_revision(alloc, trees.as_slice(), RevNo::new(1), stated)?;
-    trees.push(tree)?;
-    Ok(trees)
+    trees
+        .push(Tree::empty(alloc).expect(rt, "memory"))
+        .expect(rt, "memory");
+    let stated = directories(rt, alloc, letters, times);
+    let loaded = load_revision(alloc, trees.as_slice(), RevNo::new(1), stated);
+    let (_, tree) = loaded.expect(rt, "a revision");
+    trees.push(tree).expect(rt, "memory");
+    trees
 }
 
 // The number of the refusal of a copy of the outermost of these directories, or 0.
 fn copy(
+    rt: &impl Abort,
     alloc: Global,
     trees: &[Tree],
     from: NodePath,
     to: NodePath,
     kind: Option<NodeKind>,
-) -> Result<u8, Fail> {
-    if trees.len() > 65_535 {
-        return Ok(255);
-    }
+) -> u8 {
+    assert!(rt; trees.len() <= 65_535);
     let source = Source {
         path: from,
         revision: RevNo::new(1),
     };
     let mut stated = Vec::new(alloc);
-    stated.push(record(to, Action::Add, kind, Some(source)))?;
+    stated
+        .push(record(to, Action::Add, kind, Some(source)))
+        .expect(rt, "memory");
     match load_revision(alloc, trees, RevNo::new(2), stated) {
-        Ok(_) => Ok(0),
-        Err(fault) => Ok(fault.number()),
+        Ok(_) => 0,
+        Err(fault) => fault.number(),
     }
 }
 
 // The same of a copy of the directory a to a path of these letters, each 255 times.
-fn long_copy(alloc: Global, trees: &[Tree], to: &[u8], kind: Option<NodeKind>) -> Result<u8, Fail> {
-    let from = long_path(alloc, b"a", 255)?;
-    copy(alloc, trees, from, long_path(alloc, to, 255)?, kind)
+fn long_copy(
+    rt: &impl Abort,
+    alloc: Global,
+    trees: &[Tree],
+    to: &[u8],
+    kind: Option<NodeKind>,
+) -> u8 {
+    let from = long_path(rt, alloc, b"a", 255);
+    copy(rt, alloc, trees, from, long_path(rt, alloc, to, 255), kind)
 }
 
 #[test]
-fn copies_past_1024_bytes(rt: HostRuntime) -> Result<(), Fail> {
-    let trees = nested(rt.alloc(), b"abc", 255)?;
-    assert_eq!(rt; long_copy(rt.alloc(), trees.as_slice(), b"ad", DIR)?, 0);
-    assert_eq!(rt; long_copy(rt.alloc(), trees.as_slice(), b"abd", None)?, 8);
-    assert_eq!(rt; long_copy(rt.alloc(), trees.as_slice(), b"abd", FILE)?, 17);
-    Ok(())
+fn copies_past_1024_bytes(rt: HostRuntime) {
+    let trees = nested(&rt, rt.alloc(), b"abc", 255);
+    assert!(rt; long_copy(&rt, rt.alloc(), trees.as_slice(), b"ad", DIR) == 0);
+    assert!(rt; long_copy(&rt, rt.alloc(), trees.as_slice(), b"abd", None) == 8);
+    assert!(rt; long_copy(&rt, rt.alloc(), trees.as_slice(), b"abd", FILE) == 17);
 }
 
+const LETTERS: &[u8] = b"ddddddddddddddddddddddddddddddddd";
+
+const OTHER: &[u8] = b"ddddddddddddddddddddddddddddddddc";
+
 // The number of the refusal of a copy of so many directories to a path of 33 names.
-fn deep_copy(alloc: Global, levels: usize) -> Result<u8, Fail> {
-    let letters = [b'd'; 33];
-    if levels > letters.len() {
-        return Ok(255);
-    }
-    let trees = nested(alloc, &letters[..levels], 1)?;
-    let mut to = [b'd'; 33];
-    to[32] = b'c';
-    let from = long_path(alloc, b"d", 1)?;
+fn deep_copy(rt: &impl Abort, alloc: Global, levels: usize) -> u8 {
+    assert!(rt; levels <= LETTERS.len());
+    let trees = nested(rt, alloc, &LETTERS[..levels], 1);
+    let from = long_path(rt, alloc, b"d", 1);
     copy(
+        rt,
         alloc,
         trees.as_slice(),
         from,
-        long_path(alloc, &to, 1)?,
+        long_path(rt, alloc, OTHER, 1),
         DIR,
     )
 }
 
 #[test]
-fn copies_past_64_names(rt: HostRuntime) -> Result<(), Fail> {
-    let alloc = rt.alloc();
-    assert_eq!(rt; deep_copy(alloc, 32)?, 0);
-    assert_eq!(rt; deep_copy(alloc, 33)?, 8);
-    Ok(())
+fn copies_past_64_names(rt: HostRuntime) {
+    assert!(rt; LETTERS.len() == 33 && OTHER.len() == 33);
+    assert!(rt; deep_copy(&rt, rt.alloc(), 32) == 0);
+    assert!(rt; deep_copy(&rt, rt.alloc(), 33) == 8);
 }

@@ -2,18 +2,17 @@
 
 use crate::spelled::{answer, records, two_trees};
 use dump_load::{ChangeSet, load_revision};
-use dump_text::{RevRecord, write_revision};
+use dump_text::{NodeRecord, RevRecord, write_revision};
 use node_base::{Action, NodeKind, Props, RevNo, Text};
 use std::alloc::Global;
-use std::test::Fail;
+use std::process::Abort;
 
 // The set of revision 2 that records make.
-fn set_of(alloc: Global, lines: &str) -> Result<ChangeSet, Fail> {
-    let trees = two_trees(alloc)?;
-    if trees.len() > 65_535 {
-        return Err(Fail::new("too many trees"));
-    }
-    Ok(ChangeSet::from_records(alloc, trees.as_slice(), records(alloc, lines)?)?)
+fn set_of(rt: &impl Abort, alloc: Global, lines: &str) -> ChangeSet {
+    let trees = two_trees(rt, alloc);
+    assert!(rt; trees.len() <= 65_535);
+    let stated = records(rt, alloc, lines);
+    ChangeSet::from_records(alloc, trees.as_slice(), stated).expect(rt, "a set")
 }
 
 // Whether a set is one change of this action and of a directory.
@@ -24,55 +23,44 @@ fn is_one(set: &ChangeSet, action: Action) -> bool {
     }
 }
 
+// The records of a set.
+fn records_of(rt: &impl Abort, alloc: Global, set: &ChangeSet) -> Vec<NodeRecord> {
+    set.to_records(alloc).expect(rt, "memory")
+}
+
 #[test]
-fn a_deletion_and_an_add_are_one_replace(rt: HostRuntime) -> Result<(), Fail> {
-    let set = set_of(rt.alloc(), "delete t file\nadd t - t 1")?;
+fn a_deletion_and_an_add_are_one_replace(rt: HostRuntime) {
+    let set = set_of(&rt, rt.alloc(), "delete t file\nadd t - t 1");
     assert!(rt; is_one(&set, Action::Replace));
-    assert_eq!(rt; set.to_records(rt.alloc())?.len(), 1);
-    Ok(())
+    assert!(rt; records_of(&rt, rt.alloc(), &set).len() == 1);
 }
 
-// The number of the refusal of a text for the directory t.
-fn text_for_directory(alloc: Global) -> Result<u8, Fail> {
-    let mut stated = records(alloc, "change t")?;
-    let text = Text::empty(alloc)?;
+// The number of the refusal of the record that a line spells with a text.
+fn answer_with_text(rt: &impl Abort, alloc: Global, line: &str) -> u8 {
+    let mut stated = records(rt, alloc, line);
+    let text = Text::empty(alloc).expect(rt, "memory");
     if let Some(first) = stated.get_mut(0) {
         first.text = Some(text);
     }
-    answer(alloc, stated)
-}
-
-// The number of the refusal of a deletion with a text.
-fn text_of_deleted(alloc: Global) -> Result<u8, Fail> {
-    let mut stated = records(alloc, "delete t/x")?;
-    let text = Text::empty(alloc)?;
-    if let Some(first) = stated.get_mut(0) {
-        first.text = Some(text);
-    }
-    answer(alloc, stated)
+    answer(rt, alloc, stated)
 }
 
 #[test]
-fn what_dump_text_cant_say(rt: HostRuntime) -> Result<(), Fail> {
-    assert_eq!(rt; text_of_deleted(rt.alloc())?, 2);
-    assert_eq!(rt;
-        answer(rt.alloc(), records(rt.alloc(), "change t - t 1")?)?,
-        2
-    );
-    Ok(())
+fn what_dump_text_cant_say(rt: HostRuntime) {
+    assert!(rt; answer_with_text(&rt, rt.alloc(), "delete t/x") == 2);
+    let stated = records(&rt, rt.alloc(), "change t - t 1");
+    assert!(rt; answer(&rt, rt.alloc(), stated) == 2);
 }
 
 #[test]
-fn a_text_for_a_directory(rt: HostRuntime) -> Result<(), Fail> {
-    assert_eq!(rt; text_for_directory(rt.alloc())?, 17);
-    Ok(())
+fn a_text_for_a_directory(rt: HostRuntime) {
+    assert!(rt; answer_with_text(&rt, rt.alloc(), "change t") == 17);
 }
 
 #[test]
-fn a_number_out_of_turn(rt: HostRuntime) -> Result<(), Fail> {
+fn a_number_out_of_turn(rt: HostRuntime) {
     let loaded = load_revision(rt.alloc(), &[], RevNo::new(1), Vec::new(rt.alloc()));
     assert!(rt; loaded.is_err_and(|fault| fault.number() == 16));
-    Ok(())
 }
 
 // The second revision of a copied directory without one of its files, as it is written.
@@ -101,21 +89,20 @@ Node-action: delete
 }
 
 // Revision 2 of a set, as it is written.
-fn written(alloc: Global, set: &ChangeSet) -> Result<Vec<u8>, Fail> {
+fn written(rt: &impl Abort, alloc: Global, set: &ChangeSet) -> Vec<u8> {
     let mut written = Vec::new(alloc);
     let revision = RevRecord {
         number: RevNo::new(2),
         props: Props::empty(),
-        nodes: set.to_records(alloc)?,
+        nodes: records_of(rt, alloc, set),
     };
-    write_revision(&mut written, &revision)?;
-    Ok(written)
+    write_revision(&mut written, &revision).expect(rt, "memory");
+    written
 }
 
 #[test]
-fn a_copied_directory_is_written(rt: HostRuntime) -> Result<(), Fail> {
-    let set = set_of(rt.alloc(), "delete b/x\nadd b - t 1")?;
-    let bytes = written(rt.alloc(), &set)?;
+fn a_copied_directory_is_written(rt: HostRuntime) {
+    let set = set_of(&rt, rt.alloc(), "delete b/x\nadd b - t 1");
+    let bytes = written(&rt, rt.alloc(), &set);
     assert!(rt; bytes.len() == 203 && bytes.as_slice() == copied_directory());
-    Ok(())
 }

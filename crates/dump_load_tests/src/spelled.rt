@@ -5,7 +5,7 @@ use dump_text::NodeRecord;
 use node_base::{Action, NodeKind, NodePath, RevNo, Source};
 use path_tree::Tree;
 use std::alloc::Global;
-use std::test::Fail;
+use std::process::Abort;
 
 // The first word, and what follows it.
 fn word(text: &str) -> (&str, &str) {
@@ -16,27 +16,25 @@ fn word(text: &str) -> (&str, &str) {
 }
 
 // The path of a text, in which `/` is the root.
-pub(crate) fn path(alloc: Global, text: &str) -> Result<NodePath, Fail> {
+pub(crate) fn path(rt: &impl Abort, alloc: Global, text: &str) -> NodePath {
     if text == "/" {
-        return Ok(NodePath::root(alloc));
+        return NodePath::root(alloc);
     }
-    Ok(NodePath::parse(alloc, text.as_bytes())?)
+    NodePath::parse(alloc, text.as_bytes()).expect(rt, "a path")
 }
 
-fn action(word: &str) -> Result<Action, Fail> {
+fn action(rt: &impl Abort, word: &str) -> Action {
     if word == "add" {
-        return Ok(Action::Add);
+        return Action::Add;
     }
     if word == "change" {
-        return Ok(Action::Modify);
+        return Action::Modify;
     }
     if word == "delete" {
-        return Ok(Action::Delete);
+        return Action::Delete;
     }
-    if word == "replace" {
-        return Ok(Action::Replace);
-    }
-    Err(Fail::new("no action"))
+    assert!(rt; word == "replace");
+    Action::Replace
 }
 
 fn kind(word: &str) -> Option<NodeKind> {
@@ -50,71 +48,78 @@ fn kind(word: &str) -> Option<NodeKind> {
 }
 
 // The source that a path and a revision name; no words, no source.
-fn source(alloc: Global, words: &str) -> Result<Option<Source>, Fail> {
+fn source(rt: &impl Abort, alloc: Global, words: &str) -> Option<Source> {
     if words.is_empty() {
-        return Ok(None);
+        return None;
     }
     let (from, number) = word(words);
-    Ok(Some(Source {
-        path: path(alloc, from)?,
-        revision: RevNo::parse(number.as_bytes()).ok_or("no revision")?,
-    }))
+    let revision = RevNo::parse(number.as_bytes()).expect(rt, "a revision");
+    Some(Source {
+        path: path(rt, alloc, from),
+        revision,
+    })
 }
 
 // The record without parts that a line spells: an action, a path, and maybe a kind or `-`, a source's path and its
 // revision.
-fn record(alloc: Global, line: &str) -> Result<NodeRecord, Fail> {
+fn record(rt: &impl Abort, alloc: Global, line: &str) -> NodeRecord {
     let (first, rest) = word(line);
     let (second, rest) = word(rest);
     let (third, from) = word(rest);
-    Ok(NodeRecord {
-        path: path(alloc, second)?,
+    NodeRecord {
+        path: path(rt, alloc, second),
         kind: kind(third),
-        action: action(first)?,
-        source: source(alloc, from)?,
+        action: action(rt, first),
+        source: source(rt, alloc, from),
         props: None,
         text: None,
-    })
+    }
 }
 
 // The records that lines spell.
-pub(crate) fn records(alloc: Global, lines: &str) -> Result<Vec<NodeRecord>, Fail> {
+pub(crate) fn records(rt: &impl Abort, alloc: Global, lines: &str) -> Vec<NodeRecord> {
     let mut all = Vec::new(alloc);
     for line in lines.lines() {
-        all.push(record(alloc, line)?)?;
+        all.push(record(rt, alloc, line)).expect(rt, "memory");
     }
-    Ok(all)
+    all
+}
+
+// Adds the tree that records make of those before.
+fn add(rt: &impl Abort, alloc: Global, trees: &mut Vec<Tree>, stated: Vec<NodeRecord>) {
+    let number = trees.len();
+    assert!(rt; number <= 65_535);
+    let loaded = load_revision(alloc, trees.as_slice(), RevNo::new(number as u16), stated);
+    let (_, tree) = loaded.expect(rt, "a revision");
+    trees.push(tree).expect(rt, "memory");
 }
 
 // Revision 0, and revision 1 with a directory t and the files t/x and t/y.
-pub(crate) fn two_trees(alloc: Global) -> Result<Vec<Tree>, Fail> {
+pub(crate) fn two_trees(rt: &impl Abort, alloc: Global) -> Vec<Tree> {
     let mut trees = Vec::new(alloc);
-    let (_, root) = load_revision(alloc, &[], RevNo::ZERO, Vec::new(alloc))?;
-    trees.push(root)?;
-    let first = records(alloc, "add t/y file\nadd t dir\nadd t/x file")?;
-    let (_, tree) = load_revision(alloc, trees.as_slice(), RevNo::new(1), first)?;
-    trees.push(tree)?;
-    Ok(trees)
+    add(rt, alloc, &mut trees, Vec::new(alloc));
+    let first = records(rt, alloc, "add t/y file\nadd t dir\nadd t/x file");
+    add(rt, alloc, &mut trees, first);
+    trees
 }
 
 // The tree that revision 2 makes of these records.
 pub(crate) fn second(
+    rt: &impl Abort,
     alloc: Global,
     stated: Vec<NodeRecord>,
-) -> Result<Result<Tree, ChangeFault>, Fail> {
-    let trees = two_trees(alloc)?;
-    if trees.len() > 65_535 {
-        return Ok(Err(ChangeFault::WrongNumber));
-    }
+) -> Result<Tree, ChangeFault> {
+    let trees = two_trees(rt, alloc);
+    assert!(rt; trees.len() <= 65_535);
     let loaded = load_revision(alloc, trees.as_slice(), RevNo::new(2), stated);
-    Ok(loaded.map(|(_, tree)| tree))
+    loaded.map(|(_, tree)| tree)
 }
 
 // The number of the refusal of revision 2 with these records, or 0.
-pub(crate) fn answer(alloc: Global, stated: Vec<NodeRecord>) -> Result<u8, Fail> {
-    match second(alloc, stated)? {
-        Ok(_) => Ok(0),
-        Err(fault) => Ok(fault.number()),
+pub(crate) fn answer(rt: &impl Abort, alloc: Global, stated: Vec<NodeRecord>) -> u8 {
+    match second(rt, alloc, stated) {
+        Ok(_) => 0,
+        Err(fault) => fault.number(),
     }
 }
 
@@ -136,21 +141,21 @@ fn mark(word: &str) -> Option<(NodeKind, u16)> {
 }
 
 // Whether a tree has at a path what a line tells, a mark and the path.
-fn has(alloc: Global, tree: &Tree, line: &str) -> Result<bool, Fail> {
+fn has(rt: &impl Abort, alloc: Global, tree: &Tree, line: &str) -> bool {
     let (told, text) = word(line);
-    let path = path(alloc, text)?;
+    let path = path(rt, alloc, text);
     match tree.get(path.names()) {
-        Some(node) => Ok(mark(told) == Some((node.kind(), node.changed.get()))),
-        None => Ok(told == "none"),
+        Some(node) => mark(told) == Some((node.kind(), node.changed.get())),
+        None => told == "none",
     }
 }
 
 // Whether that is so of each line.
-pub(crate) fn is_as_told(alloc: Global, tree: &Tree, lines: &str) -> Result<bool, Fail> {
+pub(crate) fn is_as_told(rt: &impl Abort, alloc: Global, tree: &Tree, lines: &str) -> bool {
     for line in lines.lines() {
-        if !has(alloc, tree, line)? {
-            return Ok(false);
+        if !has(rt, alloc, tree, line) {
+            return false;
         }
     }
-    Ok(true)
+    true
 }

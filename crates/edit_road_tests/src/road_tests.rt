@@ -1,7 +1,8 @@
 //! Sets that are sent one behind the other, and received one by one.
 
 use crate::sets::{
-    bare, comes_next, commit, copied, dir, file, props, refusal, rewritten, sent, set_of,
+    add, bare, comes_next, copied, dir, file, one_tree, props, refusal, rewritten, sent, set_of,
+    two_trees,
 };
 use crate::streams_for_tests::items_from;
 use dump_load::ChangeSet;
@@ -10,7 +11,6 @@ use path_tree::Tree;
 use std::alloc::Global;
 use std::process::Abort;
 use std::rt::HostRuntime;
-use std::test::Fail;
 
 // Two sets, and the trees before each.
 #[derive(Drop)]
@@ -22,43 +22,43 @@ struct History {
 }
 
 // A directory with a property, a short text, and one of more than a window.
-fn first_set(rt: &impl Abort, alloc: Global) -> Result<ChangeSet, Fail> {
-    let long = Vec::from_elem(alloc, b'x', 70_000)?;
+fn first_set(rt: &impl Abort, alloc: Global) -> ChangeSet {
+    let long = Vec::from_elem(alloc, b'x', 70_000).expect(rt, "memory");
+    let mut top = dir(rt, alloc, "t");
+    top.props = Some(props(rt, alloc, &[("p", "1")]));
     let mut changes = Vec::new(alloc);
-    let mut top = dir(alloc, "t")?;
-    top.props = props(alloc, &[("p", "1")])?;
-    changes.push(top)?;
-    changes.push(file(alloc, "t/x", b"hello\n")?)?;
-    changes.push(file(alloc, "t/y", long.as_slice())?)?;
-    Ok(set_of(rt, changes))
+    add(rt, &mut changes, top);
+    add(rt, &mut changes, file(rt, alloc, "t/x", b"hello\n"));
+    add(rt, &mut changes, file(rt, alloc, "t/y", long.as_slice()));
+    set_of(rt, changes)
 }
 
 // A copy in which a file goes and another comes, other properties, and a text given anew.
-fn second_set(rt: &impl Abort, alloc: Global) -> Result<ChangeSet, Fail> {
+fn second_set(rt: &impl Abort, alloc: Global) -> ChangeSet {
+    let mut top = bare(rt, alloc, "t", Action::Modify);
+    top.props = Some(props(rt, alloc, &[("q", "2"), ("r", "")]));
     let mut changes = Vec::new(alloc);
-    changes.push(copied(alloc, "b", "t")?)?;
-    changes.push(bare(alloc, "b/x", Action::Delete)?)?;
-    changes.push(file(alloc, "b/z", b"")?)?;
-    let mut top = bare(alloc, "t", Action::Modify)?;
-    top.props = props(alloc, &[("q", "2"), ("r", "")])?;
-    changes.push(top)?;
-    changes.push(rewritten(alloc, "t/x", b"hello, world\n")?)?;
-    Ok(set_of(rt, changes))
+    add(rt, &mut changes, copied(rt, alloc, "b", "t"));
+    add(rt, &mut changes, bare(rt, alloc, "b/x", Action::Delete));
+    add(rt, &mut changes, file(rt, alloc, "b/z", b""));
+    add(rt, &mut changes, top);
+    add(
+        rt,
+        &mut changes,
+        rewritten(rt, alloc, "t/x", b"hello, world\n"),
+    );
+    set_of(rt, changes)
 }
 
-fn make_history(rt: &impl Abort, alloc: Global) -> Result<History, Fail> {
-    let first = first_set(rt, alloc)?;
-    let mut begun = Vec::new(alloc);
-    commit(alloc, &mut begun, &ChangeSet::empty(alloc))?;
-    let mut grown = Vec::new(alloc);
-    commit(alloc, &mut grown, &ChangeSet::empty(alloc))?;
-    commit(alloc, &mut grown, &first)?;
-    Ok(History {
-        begun,
+fn make_history(rt: &impl Abort, alloc: Global) -> History {
+    let first = first_set(rt, alloc);
+    let grown = two_trees(rt, alloc, &first);
+    History {
+        begun: one_tree(rt, alloc),
         first,
         grown,
-        second: second_set(rt, alloc)?,
-    })
+        second: second_set(rt, alloc),
+    }
 }
 
 // Both sets, one behind the other.
@@ -77,14 +77,12 @@ fn come_back(alloc: Global, history: &History, bytes: &[u8], size: usize) -> boo
 }
 
 #[test]
-fn sets_come_back_one_by_one(rt: HostRuntime) -> Result<(), Fail> {
-    let alloc = rt.alloc();
-    let history = make_history(&rt, alloc)?;
-    let bytes = both(&rt, alloc, &history);
+fn sets_come_back_one_by_one(rt: HostRuntime) {
+    let history = make_history(&rt, rt.alloc());
+    let bytes = both(&rt, rt.alloc(), &history);
     for size in [bytes.len(), 4_099, 7, 1] {
-        assert!(rt; come_back(alloc, &history, bytes.as_slice(), size));
+        assert!(rt; come_back(rt.alloc(), &history, bytes.as_slice(), size));
     }
-    Ok(())
 }
 
 // Whether no change at all comes back as a set that makes the same tree.

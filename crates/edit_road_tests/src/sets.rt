@@ -17,67 +17,83 @@ use std::alloc::Global;
 use std::cmp::Ordering;
 use std::io::Write;
 use std::process::Abort;
-use std::test::Fail;
 
-fn text_of(alloc: Global, bytes: &[u8]) -> Result<Option<Text>, Fail> {
-    Ok(Some(Text::new(alloc, Vec::from_slice(alloc, bytes)?)?))
+fn text_of(rt: &impl Abort, alloc: Global, bytes: &[u8]) -> Text {
+    let bytes = Vec::from_slice(alloc, bytes).expect(rt, "memory");
+    Text::new(alloc, bytes).expect(rt, "a text")
+}
+
+// Gives a map a property.
+fn put(rt: &impl Abort, alloc: Global, props: &mut Props, name: &str, value: &str) {
+    let name = PropName::parse(alloc, name.as_bytes()).expect(rt, "a property's name");
+    let bytes = Vec::from_slice(alloc, value.as_bytes()).expect(rt, "memory");
+    let value = PropValue::new(bytes).expect(rt, "a property's value");
+    props.set(alloc, name, value).expect(rt, "a property");
 }
 
 /// Properties by name and value.
-pub(crate) fn props(alloc: Global, pairs: &[(&str, &str)]) -> Result<Option<Props>, Fail> {
+pub(crate) fn props(rt: &impl Abort, alloc: Global, pairs: &[(&str, &str)]) -> Props {
     let mut props = Props::empty();
     for (name, value) in pairs {
-        let name = PropName::parse(alloc, name.as_bytes())?;
-        let value = PropValue::new(Vec::from_slice(alloc, value.as_bytes())?)?;
-        props.set(alloc, name, value)?;
+        put(rt, alloc, &mut props, *name, *value);
     }
-    Ok(Some(props))
+    props
 }
 
 /// A change without parts.
-pub(crate) fn bare(alloc: Global, at: &str, action: Action) -> Result<Change, Fail> {
-    Ok(Change {
-        path: NodePath::parse(alloc, at.as_bytes())?,
+pub(crate) fn bare(rt: &impl Abort, alloc: Global, at: &str, action: Action) -> Change {
+    Change {
+        path: NodePath::parse(alloc, at.as_bytes()).expect(rt, "a path"),
         action,
         kind: None,
         source: None,
         props: None,
         text: None,
-    })
+    }
 }
 
 /// A directory that is added.
-pub(crate) fn dir(alloc: Global, at: &str) -> Result<Change, Fail> {
-    let mut change = bare(alloc, at, Action::Add)?;
+pub(crate) fn dir(rt: &impl Abort, alloc: Global, at: &str) -> Change {
+    let mut change = bare(rt, alloc, at, Action::Add);
     change.kind = Some(NodeKind::Dir);
-    change.props = props(alloc, &[])?;
-    Ok(change)
+    change.props = Some(Props::empty());
+    change
 }
 
 /// A file that is added.
-pub(crate) fn file(alloc: Global, at: &str, bytes: &[u8]) -> Result<Change, Fail> {
-    let mut change = bare(alloc, at, Action::Add)?;
+pub(crate) fn file(rt: &impl Abort, alloc: Global, at: &str, bytes: &[u8]) -> Change {
+    let mut change = bare(rt, alloc, at, Action::Add);
     change.kind = Some(NodeKind::File);
-    change.props = props(alloc, &[])?;
-    change.text = text_of(alloc, bytes)?;
-    Ok(change)
+    change.props = Some(Props::empty());
+    change.text = Some(text_of(rt, alloc, bytes));
+    change
 }
 
 /// A file whose text is given anew.
-pub(crate) fn rewritten(alloc: Global, at: &str, bytes: &[u8]) -> Result<Change, Fail> {
-    let mut change = bare(alloc, at, Action::Modify)?;
-    change.text = text_of(alloc, bytes)?;
-    Ok(change)
+pub(crate) fn rewritten(rt: &impl Abort, alloc: Global, at: &str, bytes: &[u8]) -> Change {
+    let mut change = bare(rt, alloc, at, Action::Modify);
+    change.text = Some(text_of(rt, alloc, bytes));
+    change
+}
+
+/// A source.
+pub(crate) fn source(rt: &impl Abort, alloc: Global, from: &str, revision: u16) -> Source {
+    Source {
+        path: NodePath::parse(alloc, from.as_bytes()).expect(rt, "a path"),
+        revision: RevNo::new(revision),
+    }
 }
 
 /// A copy from revision 1.
-pub(crate) fn copied(alloc: Global, at: &str, from: &str) -> Result<Change, Fail> {
-    let mut change = bare(alloc, at, Action::Add)?;
-    change.source = Some(Source {
-        path: NodePath::parse(alloc, from.as_bytes())?,
-        revision: RevNo::new(1),
-    });
-    Ok(change)
+pub(crate) fn copied(rt: &impl Abort, alloc: Global, at: &str, from: &str) -> Change {
+    let mut change = bare(rt, alloc, at, Action::Add);
+    change.source = Some(source(rt, alloc, from, 1));
+    change
+}
+
+/// One change more.
+pub(crate) fn add(rt: &impl Abort, changes: &mut Vec<Change>, change: Change) {
+    changes.push(change).expect(rt, "memory");
 }
 
 /// The set of these changes.
@@ -85,14 +101,32 @@ pub(crate) fn set_of(rt: &impl Abort, changes: Vec<Change>) -> ChangeSet {
     ChangeSet::from_changes(changes).expect(rt, "a normal set")
 }
 
+/// The set of one change.
+pub(crate) fn set_of_one(rt: &impl Abort, alloc: Global, change: Change) -> ChangeSet {
+    let mut changes = Vec::new(alloc);
+    add(rt, &mut changes, change);
+    set_of(rt, changes)
+}
+
 /// Adds the tree of the revision that a set makes.
-pub(crate) fn commit(alloc: Global, trees: &mut Vec<Tree>, set: &ChangeSet) -> Result<(), Fail> {
-    if trees.len() > 65_535 {
-        return Ok(());
-    }
-    let tree = apply(alloc, trees.as_slice(), set)?;
-    trees.push(tree)?;
-    Ok(())
+pub(crate) fn commit(rt: &impl Abort, alloc: Global, trees: &mut Vec<Tree>, set: &ChangeSet) {
+    assert!(rt; trees.len() <= 65_535);
+    let tree = apply(alloc, trees.as_slice(), set).expect(rt, "a tree");
+    trees.push(tree).expect(rt, "memory");
+}
+
+/// Revision 0 alone.
+pub(crate) fn one_tree(rt: &impl Abort, alloc: Global) -> Vec<Tree> {
+    let mut trees = Vec::new(alloc);
+    commit(rt, alloc, &mut trees, &ChangeSet::empty(alloc));
+    trees
+}
+
+/// Revision 0, and revision 1 that a set makes.
+pub(crate) fn two_trees(rt: &impl Abort, alloc: Global, set: &ChangeSet) -> Vec<Tree> {
+    let mut trees = one_tree(rt, alloc);
+    commit(rt, alloc, &mut trees, set);
+    trees
 }
 
 fn bytes_of(node: &Node) -> Option<&[u8]> {

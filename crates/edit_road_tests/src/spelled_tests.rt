@@ -1,14 +1,16 @@
 //! Sets whose bytes are spelled out by hand.
 
-use crate::sets::{bare, comes_next, commit, copied, dir, file, props, sent, set_of};
+use crate::sets::{
+    add, bare, comes_next, commit, copied, dir, file, one_tree, props, sent, set_of, set_of_one,
+    source, two_trees,
+};
 use crate::streams_for_tests::items_from;
 use dump_load::{Change, ChangeSet};
-use node_base::{Action, NodePath, RevNo, Source};
+use node_base::Action;
 use path_tree::Tree;
 use std::alloc::Global;
 use std::process::Abort;
 use std::rt::HostRuntime;
-use std::test::Fail;
 
 /// A file that is added, with its text.
 pub(crate) const ADDED: &[u8] =
@@ -27,83 +29,73 @@ pub(crate) const FULL: &[u8] =
 const OTHER: &[u8] =
     b"( target-rev ( 007 ) x )\n( open-root ( ( 6 9 ) 0: ) ) ( change-dir-prop ( 0: 1:p ( 3:one ) ) ) ( open-dir ( 1:d 0: 1:x ( 6 ) y ) ) ( change-dir-prop ( 1:x 1:q ( ) ) ) ( add-file ( 3:d/f 1:x 3:\xff\x00  ( 1:g 03 ) ) ) ( change-file-prop ( 3:\xff\x00  1:r ( 2:\x00\n 1:z ) ) ) ( apply-textdelta ( 3:\xff\x00  ( 4:base ) ) ) ( textdelta-chunk ( 3:\xff\x00  9:SVN\x00\x80\x00\x00\x06\x01 ) ) ( textdelta-chunk ( 3:\xff\x00  0: ) ) ( textdelta-chunk ( 3:\xff\x00  8:\x06\x86hello\n ) ) ( textdelta-end ( 3:\xff\x00  ) ) ( close-file ( 3:\xff\x00  ( 32:B1946AC92492D2347C6235B4D2611184 ) ) ) ( delete-entry ( 3:d/x ( 6 ) 1:x ) ) ( add-dir ( 3:d/y 1:x 3:\xff\x00  ( ) ) ) ( close-dir ( 3:\xff\x00  ) ) ( close-dir ( 1:x ) ) ( open-file ( 1:e 0: 1:x ( 6 ) ) ) ( change-file-prop ( 1:x 1:s ( ) ) ) ( close-file ( 1:x ( ) ) ) ( close-dir ( 0: ) ) ( close-edit ( ) ) ( finish-replay ( ) ) ";
 
-/// The tree of a root alone, and the set that adds a file.
-pub(crate) fn one_file(rt: &impl Abort, alloc: Global) -> Result<(Vec<Tree>, ChangeSet), Fail> {
-    let mut trees = Vec::new(alloc);
-    commit(alloc, &mut trees, &ChangeSet::empty(alloc))?;
+// A directory with two files.
+fn two_files(rt: &impl Abort, alloc: Global) -> ChangeSet {
     let mut changes = Vec::new(alloc);
-    changes.push(file(alloc, "a", b"hello\n")?)?;
-    Ok((trees, set_of(rt, changes)))
+    add(rt, &mut changes, dir(rt, alloc, "t"));
+    add(rt, &mut changes, file(rt, alloc, "t/x", b"x"));
+    add(rt, &mut changes, file(rt, alloc, "t/y", b"y"));
+    set_of(rt, changes)
 }
 
-// Two revisions, and the set that copies a directory without one of its files.
-fn one_copy(rt: &impl Abort, alloc: Global) -> Result<(Vec<Tree>, ChangeSet), Fail> {
+// A copy of it without one of its files.
+fn one_copy(rt: &impl Abort, alloc: Global) -> ChangeSet {
     let mut changes = Vec::new(alloc);
-    changes.push(dir(alloc, "t")?)?;
-    changes.push(file(alloc, "t/x", b"x")?)?;
-    changes.push(file(alloc, "t/y", b"y")?)?;
-    let mut trees = Vec::new(alloc);
-    commit(alloc, &mut trees, &ChangeSet::empty(alloc))?;
-    commit(alloc, &mut trees, &set_of(rt, changes))?;
-    let mut changes = Vec::new(alloc);
-    changes.push(copied(alloc, "b", "t")?)?;
-    changes.push(bare(alloc, "b/x", Action::Delete)?)?;
-    Ok((trees, set_of(rt, changes)))
+    add(rt, &mut changes, copied(rt, alloc, "b", "t"));
+    add(rt, &mut changes, bare(rt, alloc, "b/x", Action::Delete));
+    set_of(rt, changes)
+}
+
+// A change with other properties.
+fn with_props(rt: &impl Abort, alloc: Global, change: Change, pairs: &[(&str, &str)]) -> Change {
+    let mut change = change;
+    change.props = Some(props(rt, alloc, pairs));
+    change
 }
 
 // What revision 1 of the longer history adds.
-fn begun(alloc: Global) -> Result<Vec<Change>, Fail> {
+fn begun(rt: &impl Abort, alloc: Global) -> ChangeSet {
+    let top = with_props(rt, alloc, dir(rt, alloc, "d"), &[("q", "2")]);
+    let other = with_props(rt, alloc, file(rt, alloc, "e", b""), &[("s", "4")]);
     let mut changes = Vec::new(alloc);
-    let mut top = dir(alloc, "d")?;
-    top.props = props(alloc, &[("q", "2")])?;
-    changes.push(top)?;
-    changes.push(file(alloc, "d/x", b"")?)?;
-    let mut other = file(alloc, "e", b"")?;
-    other.props = props(alloc, &[("s", "4")])?;
-    changes.push(other)?;
-    changes.push(file(alloc, "g", b"")?)?;
-    Ok(changes)
+    add(rt, &mut changes, top);
+    add(rt, &mut changes, file(rt, alloc, "d/x", b""));
+    add(rt, &mut changes, other);
+    add(rt, &mut changes, file(rt, alloc, "g", b""));
+    set_of(rt, changes)
 }
 
 // A change of what is there that gives it properties.
-fn given(alloc: Global, at: &str, pairs: &[(&str, &str)]) -> Result<Change, Fail> {
-    let mut change = bare(alloc, at, Action::Modify)?;
-    change.props = props(alloc, pairs)?;
-    Ok(change)
+fn given(rt: &impl Abort, alloc: Global, at: &str, pairs: &[(&str, &str)]) -> Change {
+    with_props(rt, alloc, bare(rt, alloc, at, Action::Modify), pairs)
+}
+
+// A copy of a file with another text and a property.
+fn copy(rt: &impl Abort, alloc: Global) -> Change {
+    let mut copy = file(rt, alloc, "d/f", b"hello\n");
+    copy.source = Some(source(rt, alloc, "g", 3));
+    with_props(rt, alloc, copy, &[("r", "\x00\n")])
 }
 
 // What revision 7 of it changes.
-fn changed(alloc: Global) -> Result<Vec<Change>, Fail> {
-    let mut copy = file(alloc, "d/f", b"hello\n")?;
-    copy.props = props(alloc, &[("r", "\x00\n")])?;
-    copy.source = Some(Source {
-        path: NodePath::parse(alloc, b"g")?,
-        revision: RevNo::new(3),
-    });
+fn changed(rt: &impl Abort, alloc: Global) -> ChangeSet {
     let mut changes = Vec::new(alloc);
-    changes.push(given(alloc, "", &[("p", "one")])?)?;
-    changes.push(given(alloc, "d", &[])?)?;
-    changes.push(copy)?;
-    changes.push(bare(alloc, "d/x", Action::Delete)?)?;
-    changes.push(dir(alloc, "d/y")?)?;
-    changes.push(given(alloc, "e", &[])?)?;
-    Ok(changes)
+    add(rt, &mut changes, given(rt, alloc, "", &[("p", "one")]));
+    add(rt, &mut changes, given(rt, alloc, "d", &[]));
+    add(rt, &mut changes, copy(rt, alloc));
+    add(rt, &mut changes, bare(rt, alloc, "d/x", Action::Delete));
+    add(rt, &mut changes, dir(rt, alloc, "d/y"));
+    add(rt, &mut changes, given(rt, alloc, "e", &[]));
+    set_of(rt, changes)
 }
 
 /// Seven revisions, and the set behind them with every command.
-pub(crate) fn every_command(
-    rt: &impl Abort,
-    alloc: Global,
-) -> Result<(Vec<Tree>, ChangeSet), Fail> {
-    let first = set_of(rt, begun(alloc)?);
-    let empty = ChangeSet::empty(alloc);
-    let mut trees = Vec::new(alloc);
-    commit(alloc, &mut trees, &empty)?;
-    commit(alloc, &mut trees, &first)?;
+pub(crate) fn every_command(rt: &impl Abort, alloc: Global) -> (Vec<Tree>, ChangeSet) {
+    let mut trees = two_trees(rt, alloc, &begun(rt, alloc));
     for _ in 2..7 {
-        commit(alloc, &mut trees, &empty)?;
+        commit(rt, alloc, &mut trees, &ChangeSet::empty(alloc));
     }
-    Ok((trees, set_of(rt, changed(alloc)?)))
+    (trees, changed(rt, alloc))
 }
 
 // Whether a set is sent as these bytes.
@@ -122,29 +114,25 @@ fn is_received_from(alloc: Global, trees: &[Tree], set: &ChangeSet, bytes: &[u8]
 }
 
 #[test]
-fn an_added_file(rt: HostRuntime) -> Result<(), Fail> {
-    let alloc = rt.alloc();
-    let (trees, set) = one_file(&rt, alloc)?;
-    assert!(rt; is_sent_as(alloc, &trees, &set, ADDED));
-    assert!(rt; is_received_from(alloc, &trees, &set, ADDED));
-    Ok(())
+fn an_added_file(rt: HostRuntime) {
+    let trees = one_tree(&rt, rt.alloc());
+    let set = set_of_one(&rt, rt.alloc(), file(&rt, rt.alloc(), "a", b"hello\n"));
+    assert!(rt; is_sent_as(rt.alloc(), trees.as_slice(), &set, ADDED));
+    assert!(rt; is_received_from(rt.alloc(), trees.as_slice(), &set, ADDED));
 }
 
 #[test]
-fn a_copied_directory(rt: HostRuntime) -> Result<(), Fail> {
-    let alloc = rt.alloc();
-    let (trees, set) = one_copy(&rt, alloc)?;
-    assert!(rt; is_sent_as(alloc, &trees, &set, COPIED));
-    assert!(rt; is_received_from(alloc, &trees, &set, COPIED));
-    Ok(())
+fn a_copied_directory(rt: HostRuntime) {
+    let trees = two_trees(&rt, rt.alloc(), &two_files(&rt, rt.alloc()));
+    let set = one_copy(&rt, rt.alloc());
+    assert!(rt; is_sent_as(rt.alloc(), trees.as_slice(), &set, COPIED));
+    assert!(rt; is_received_from(rt.alloc(), trees.as_slice(), &set, COPIED));
 }
 
 #[test]
-fn a_set_with_every_command(rt: HostRuntime) -> Result<(), Fail> {
-    let alloc = rt.alloc();
-    let (trees, set) = every_command(&rt, alloc)?;
-    assert!(rt; is_sent_as(alloc, &trees, &set, FULL));
-    assert!(rt; is_received_from(alloc, &trees, &set, FULL));
-    assert!(rt; is_received_from(alloc, &trees, &set, OTHER));
-    Ok(())
+fn a_set_with_every_command(rt: HostRuntime) {
+    let (trees, set) = every_command(&rt, rt.alloc());
+    assert!(rt; is_sent_as(rt.alloc(), trees.as_slice(), &set, FULL));
+    assert!(rt; is_received_from(rt.alloc(), trees.as_slice(), &set, FULL));
+    assert!(rt; is_received_from(rt.alloc(), trees.as_slice(), &set, OTHER));
 }

@@ -1,8 +1,8 @@
 //! The calls that an editor was shown, in lines.
 use delta_editor::{Bytes, Call, Source};
 use node_base::{NodePath, PropName, RevNo};
-use std::alloc::Global;
-use std::test::Fail;
+use std::alloc::{AllocError, Global};
+use std::process::Abort;
 
 // An entry that is added, with what it is copied from.
 fn added(
@@ -11,14 +11,14 @@ fn added(
     up: &NodePath,
     path: &NodePath,
     source: &Option<Source>,
-) -> Result<String, Fail> {
+) -> Result<String, AllocError> {
     match source {
-        Some(from) => Ok(format!(in alloc;
+        Some(from) => format!(in alloc;
             "{word} /{up} /{path} from /{} {}",
             from.path,
             from.revision.get()
-        )?),
-        None => Ok(format!(in alloc; "{word} /{up} /{path}")?),
+        ),
+        None => format!(in alloc; "{word} /{up} /{path}"),
     }
 }
 
@@ -29,17 +29,17 @@ fn known(
     up: &NodePath,
     path: &NodePath,
     base: &Option<RevNo>,
-) -> Result<String, Fail> {
+) -> Result<String, AllocError> {
     match base {
-        Some(base) => Ok(format!(in alloc; "{word} /{up} /{path} {}", base.get())?),
-        None => Ok(format!(in alloc; "{word} /{up} /{path} none")?),
+        Some(base) => format!(in alloc; "{word} /{up} /{path} {}", base.get()),
+        None => format!(in alloc; "{word} /{up} /{path} none"),
     }
 }
 
-fn open_root(alloc: Global, base: &Option<RevNo>) -> Result<String, Fail> {
+fn open_root(alloc: Global, base: &Option<RevNo>) -> Result<String, AllocError> {
     match base {
-        Some(base) => Ok(format!(in alloc; "open_root {}", base.get())?),
-        None => Ok(format!(in alloc; "open_root none")?),
+        Some(base) => format!(in alloc; "open_root {}", base.get()),
+        None => format!(in alloc; "open_root none"),
     }
 }
 
@@ -60,27 +60,31 @@ fn prop(
     path: &NodePath,
     name: &PropName,
     value: &Option<Bytes>,
-) -> Result<String, Fail> {
+) -> Result<String, AllocError> {
     let value = value_of(value);
-    Ok(format!(in alloc; "{word} /{path} {} {value}", name.as_str())?)
+    format!(in alloc; "{word} /{path} {} {value}", name.as_str())
 }
 
-fn close_file(alloc: Global, path: &NodePath, sum: &Option<[u8; 16]>) -> Result<String, Fail> {
+fn close_file(
+    alloc: Global,
+    path: &NodePath,
+    sum: &Option<[u8; 16]>,
+) -> Result<String, AllocError> {
     match sum {
-        Some(sum) => Ok(format!(in alloc; "close_file /{path} {sum:?}")?),
-        None => Ok(format!(in alloc; "close_file /{path} none")?),
+        Some(sum) => format!(in alloc; "close_file /{path} {sum:?}"),
+        None => format!(in alloc; "close_file /{path} none"),
     }
 }
 
 // What is said of one path alone.
-fn at(alloc: Global, word: &str, path: &NodePath) -> Result<String, Fail> {
-    Ok(format!(in alloc; "{word} /{path}")?)
+fn at(alloc: Global, word: &str, path: &NodePath) -> Result<String, AllocError> {
+    format!(in alloc; "{word} /{path}")
 }
 
 // A call in one line: parent, path and what else it says.
-fn line(alloc: Global, call: &Call) -> Result<String, Fail> {
+fn line(alloc: Global, call: &Call) -> Result<String, AllocError> {
     match call {
-        Call::Target(revision) => Ok(format!(in alloc; "target {}", revision.get())?),
+        Call::Target(revision) => format!(in alloc; "target {}", revision.get()),
         Call::OpenRoot(base) => open_root(alloc, base),
         Call::AddDir(up, path, source) => added(alloc, "add_dir", up, path, source),
         Call::OpenDir(up, path, base) => known(alloc, "open_dir", up, path, base),
@@ -91,21 +95,22 @@ fn line(alloc: Global, call: &Call) -> Result<String, Fail> {
         Call::FileProp(path, name, value) => prop(alloc, "file_prop", path, name, value),
         Call::TextStart(path) => at(alloc, "text_start", path),
         Call::TextPiece(path, piece) => {
-            Ok(format!(in alloc; "text_piece /{path} {}", text_of(piece.as_slice()))?)
+            format!(in alloc; "text_piece /{path} {}", text_of(piece.as_slice()))
         }
         Call::TextEnd(path) => at(alloc, "text_end", path),
         Call::CloseFile(path, sum) => close_file(alloc, path, sum),
         Call::CloseDir(path) => at(alloc, "close_dir", path),
-        Call::CloseEdit => Ok(String::from_str(alloc, "close_edit")?),
+        Call::CloseEdit => String::from_str(alloc, "close_edit"),
     }
 }
 
 /// Whether the calls are these, line by line.
-pub(crate) fn are(alloc: Global, calls: &[Call], wanted: &str) -> Result<bool, Fail> {
+pub(crate) fn are(rt: &impl Abort, alloc: Global, calls: &[Call], wanted: &str) -> bool {
     let mut all = String::new(alloc);
     for call in calls {
-        all.push_str(line(alloc, call)?.as_str())?;
-        all.push_str("\n")?;
+        let line = line(alloc, call).expect(rt, "memory");
+        all.push_str(line.as_str()).expect(rt, "memory");
+        all.push_str("\n").expect(rt, "memory");
     }
-    Ok(all.as_str() == wanted)
+    all.as_str() == wanted
 }

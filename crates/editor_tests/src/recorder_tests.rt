@@ -4,7 +4,6 @@ use delta_editor::{Call, Editor, EditorFault, OpenDir, Recorder, Source, law};
 use node_base::{NodePath, PropName, RevNo, TreeFault};
 use std::alloc::Global;
 use std::process::Abort;
-use std::test::Fail;
 
 fn path(rt: &impl Abort, alloc: Global, text: &str) -> NodePath {
     NodePath::parse(alloc, text.as_bytes()).expect(rt, "a path")
@@ -40,13 +39,12 @@ fn show_copy<E: Editor>(rt: &impl Abort, alloc: Global, editor: E) -> E::Done {
 }
 
 #[test]
-fn records_a_copy_less_one_file(rt: HostRuntime) -> Result<(), Fail> {
+fn records_a_copy_less_one_file(rt: HostRuntime) {
     let alloc = rt.alloc();
     let calls = show_copy(&rt, alloc, Recorder::new(alloc));
     let wanted =
         "target 2\nopen_root 1\nadd_dir / /b from /t 1\ndelete_entry /b /b/x 1\nclose_dir /b\nclose_dir /\nclose_edit\n";
-    assert!(rt; are(alloc, calls.as_slice(), wanted)?);
-    Ok(())
+    assert!(rt; are(&rt, alloc, calls.as_slice(), wanted));
 }
 
 // A file's properties `p` = `1`, `q` = `2` become `q` = `2`, `r` = `3`.
@@ -72,13 +70,12 @@ fn property_changes(rt: &impl Abort, alloc: Global) -> Vec<Call> {
 }
 
 #[test]
-fn records_property_changes(rt: HostRuntime) -> Result<(), Fail> {
+fn records_property_changes(rt: HostRuntime) {
     let alloc = rt.alloc();
     let calls = property_changes(&rt, alloc);
     let wanted =
         "target 2\nopen_root 1\nopen_file / /a 1\nfile_prop /a p none\nfile_prop /a q 2\nfile_prop /a r 3\nclose_file /a none\nclose_dir /\nclose_edit\n";
-    assert!(rt; are(alloc, calls.as_slice(), wanted)?);
-    Ok(())
+    assert!(rt; are(&rt, alloc, calls.as_slice(), wanted));
 }
 
 // A file with a text in two pieces, and with a sum. The sum's bytes are the caller's word.
@@ -113,13 +110,12 @@ fn texts_and_directories(rt: &impl Abort, alloc: Global) -> (Vec<Call>, usize) {
 }
 
 #[test]
-fn records_texts_and_directories(rt: HostRuntime) -> Result<(), Fail> {
+fn records_texts_and_directories(rt: HostRuntime) {
     let alloc = rt.alloc();
     let (calls, count) = texts_and_directories(&rt, alloc);
     let wanted =
         "open_root none\nopen_dir / /d none\ndir_prop / n v\nadd_file /d /d/f\ntext_start /d/f\ntext_piece /d/f ab\ntext_piece /d/f c\ntext_end /d/f\nclose_file /d/f [7, 7, 7, 7, 7, 7, 7, 7, 7, 7, 7, 7, 7, 7, 7, 7]\nclose_dir /d\nclose_dir /\nclose_edit\n";
-    assert!(rt; count == 11 && are(alloc, calls.as_slice(), wanted)?);
-    Ok(())
+    assert!(rt; count == 11 && are(&rt, alloc, calls.as_slice(), wanted));
 }
 
 #[test]
@@ -138,46 +134,42 @@ fn is_given_up(rt: HostRuntime) {
 }
 
 // Whether a refusal has this number and this text.
-fn is_told(alloc: Global, fault: &EditorFault, number: u8, text: &str) -> Result<bool, Fail> {
-    let told = format!(in alloc; "{fault}")?;
-    Ok(fault.number() == number && told.as_str() == text)
+fn is_told(alloc: Global, fault: EditorFault, number: u8, text: &str) -> bool {
+    fault.number() == number && format!(in alloc; "{fault}").is_ok_and(|told| told.as_str() == text)
 }
 
+const OF_PLACES: [(TreeFault, u8, &str); 7] = [
+    (TreeFault::TooLong, 8, "limit exceeded"),
+    (TreeFault::BadPath, 10, "bad path"),
+    (TreeFault::NoSuchPath, 11, "no such path"),
+    (TreeFault::PathThere, 12, "path already exists"),
+    (TreeFault::NotDir, 13, "not a directory"),
+    (TreeFault::NoSource, 14, "no such copy source"),
+    (TreeFault::KindMismatch, 17, "node kind mismatch"),
+];
+
+const OTHERS: [(EditorFault, u8, &str); 4] = [
+    (
+        EditorFault::OutOfOrder,
+        15,
+        "changes of one path do not combine",
+    ),
+    (EditorFault::WrongNumber, 16, "revision out of sequence"),
+    (EditorFault::PeerFailed, 49, "stream failed"),
+    (EditorFault::OutOfMemory, 70, "out of memory"),
+];
+
 #[test]
-fn refusals_have_their_numbers(rt: HostRuntime) -> Result<(), Fail> {
-    let table = [
-        (EditorFault::from(TreeFault::TooLong), 8, "limit exceeded"),
-        (EditorFault::from(TreeFault::BadPath), 10, "bad path"),
-        (EditorFault::from(TreeFault::NoSuchPath), 11, "no such path"),
-        (
-            EditorFault::from(TreeFault::PathThere),
-            12,
-            "path already exists",
-        ),
-        (EditorFault::from(TreeFault::NotDir), 13, "not a directory"),
-        (
-            EditorFault::from(TreeFault::NoSource),
-            14,
-            "no such copy source",
-        ),
-        (
-            EditorFault::OutOfOrder,
-            15,
-            "changes of one path do not combine",
-        ),
-        (EditorFault::WrongNumber, 16, "revision out of sequence"),
-        (
-            EditorFault::from(TreeFault::KindMismatch),
-            17,
-            "node kind mismatch",
-        ),
-        (EditorFault::PeerFailed, 49, "stream failed"),
-        (EditorFault::OutOfMemory, 70, "out of memory"),
-    ];
-    for (fault, number, text) in table {
-        assert!(rt; is_told(rt.alloc(), &fault, number, text)?, "{text}");
+fn refusals_have_their_numbers(rt: HostRuntime) {
+    for (fault, number, text) in &OF_PLACES {
+        assert!(rt;
+            is_told(rt.alloc(), EditorFault::from(*fault), *number, *text),
+            "{text}"
+        );
     }
-    Ok(())
+    for (fault, number, text) in &OTHERS {
+        assert!(rt; is_told(rt.alloc(), *fault, *number, *text), "{text}");
+    }
 }
 
 #[test]

@@ -14,7 +14,7 @@ use Rattle.node_base.specs.declared.refusal.Refusal.{Refusal}
 use Rattle.node_base.specs.declared.refusal.Refusal.TheVariants as refusal
 use Rattle.repo_core.specs.Repository.{fresh}
 use Rattle.repo_store.specs.Journal.{Keeps}
-use Rattle.repo_store.specs.Words.{disk_of, repository_of, revisions_of, HasFailed}
+use Rattle.repo_store.specs.Words.{disk_of, repository_of, revisions_of, HasFailed, IsKept as IsStored}
 use Rattle.repo_store.specs.declared.store.RepoStore.{RepoStore}
 use Rattle.fleet_engines.specs.Grouping.{is_no_identity}
 use Rattle.fleet_engines.specs.Runs.{Flagged}
@@ -26,7 +26,7 @@ use Rattle.store_engines.specs.Loads.{Loaded, ServesOne, ServesRecords, Refused 
 use Rattle.store_engines.specs.Mirrors.{is_mirror}
 use Rattle.store_engines.specs.Ranges.{count_wanted, first_wanted, last_wanted}
 use Rattle.store_engines.specs.declared.range.RevRange.{RevRange}
-use Rattle.fleet_main.specs.Doing.{EndsWith, HandsOn, IsBegun, IsBegunIn, IsCommittedTo, IsDumped, IsKept, IsLoadedFrom, IsOpenedIn, IsOpenedOn, NotCommittedTo, NotDumped, NotLoadedFrom, OfStanding, UnopenedOr, not_done, not_handed_on}
+use Rattle.fleet_main.specs.Doing.{EndsWith, HandsOn, IsBegun, IsBegunIn, IsCommittedTo, IsDumped, IsKept, IsKeptOr, IsLoadedFrom, IsOpenedIn, IsOpenedOn, NotCommittedTo, NotDumped, NotLoadedFrom, OfStanding, UnopenedOr, not_done, not_handed_on}
 use Rattle.fleet_main.specs.Loans.{TakesBack}
 use Rattle.fleet_main.specs.declared.lending.Folders.{Ghosts as FolderGhosts}
 use Rattle.fleet_main.proofs.Loans.{one_back}
@@ -56,6 +56,9 @@ kept_err : {D : Type 0} {G : Ghosts D} (e : Refusal) (honest : Type 0) (given : 
     → e ≢ refusal.DeviceFailed → IsKept honest new
 kept_err e honest given old new o s k d = kept_served (Err e) honest given old new o s k (λ f. d (ap refusal_in f))
 
+kept_or : {D : Type 0} {G : Ghosts D} (r : Result (Unit {0}) Refusal) (honest : Type 0) (given : D) (old new : RepoStore D G) → IsOpenedOn G honest given old → Serves old new r → IsStored new → IsKeptOr honest new
+kept_or r honest given old new o s k h = let rules = s.honest.0 (o.rules h) in (rules, k rules)
+
 -- what is done over the folders as they are, as they are while the disk is lent, and as they are once it is back
 module _ {F D : Type 0} (G : Ghosts D) (H : FolderGhosts F D) (folders then later : F) (folder : List ℕ) where
   -- to the store that is opened
@@ -82,12 +85,12 @@ module _ {F D : Type 0} (G : Ghosts D) (H : FolderGhosts F D) (folders then late
   pub load_refused : (r : Result (Unit {0}) Refusal) (bytes left rest before now : Option (List ℕ)) (failed : Bool) (old new : RepoStore D G) → IsOpenedIn G H folders then folder old
       → IfErr r (λ e. is_mirror (revisions_of old) ≡ false → IfSome bytes (λ read. LoadRefused (repository_of old) read new before now failed e))
       → (is_mirror (revisions_of old) ≡ true → IfErr r (λ e. (e ≡ refusal.ReadOnly) × (repository_of new ≡ repository_of old) × (left ≡ rest) × (now ≡ before))) → Serves old new r
-      → IfSome bytes (λ read. ServesRecords (filter is_no_identity (records_of (dump read))) old new r []) → KeptThen new → TakesBack G H then later folder (disk_of new)
+      → IfSome bytes (λ read. ServesRecords (filter is_no_identity (records_of (dump read))) old new r []) → KeptThen new → IsStored new → TakesBack G H then later folder (disk_of new)
       → IfErr r (λ e. UnopenedOr G H folders later folder before now e (NotLoadedFrom (H.honest folders) bytes before now failed e))
-  load_refused (Ok t) bytes left rest before now failed old new o h m s records k back = tt
-  load_refused (Err e) bytes left rest before now failed old new o h m s records k back =
+  load_refused (Ok t) bytes left rest before now failed old new o h m s records k d back = tt
+  load_refused (Err e) bytes left rest before now failed old new o h m s records k d back =
       inr (standing (NotLoadedFrom (H.honest folders) bytes before now failed e) old new o back s.honest.0
-      (h, (λ is. let n = m is in (n.0, n.1, n.3)), (s, records), kept_err e (H.honest folders) o.0 old new o.2 s k))
+      (h, (λ is. let n = m is in (n.0, n.1, n.3)), (s, records), kept_err e (H.honest folders) o.0 old new o.2 s k, kept_or (Err e) (H.honest folders) o.0 old new o.2 s d))
 
   -- a commit of a directory
   pub directory_done : (r : Result (Unit {0}) Refusal) (bytes message : List ℕ) (moment : DateTime) (before now : Option (List ℕ)) (old new : RepoStore D G) → IsOpenedIn G H folders then folder old
@@ -100,11 +103,11 @@ module _ {F D : Type 0} (G : Ghosts D) (H : FolderGhosts F D) (folders then late
 
   pub directory_refused : (r : Result (Unit {0}) Refusal) (bytes message : List ℕ) (moment : DateTime) (before now : Option (List ℕ)) (failed : Bool) (old new : RepoStore D G) → IsOpenedIn G H folders then folder old
       → IfErr r (NotCommitted (repository_of old) bytes message moment new before now failed) → Serves old new r
-      → ((place : Path) → path_read bytes ≡ Ok place → ServesOne (directory_entry (revisions_of old) place message moment) old new r) → KeptThen new → TakesBack G H then later folder (disk_of new)
+      → ((place : Path) → path_read bytes ≡ Ok place → ServesOne (directory_entry (revisions_of old) place message moment) old new r) → KeptThen new → IsStored new → TakesBack G H then later folder (disk_of new)
       → IfErr r (λ e. UnopenedOr G H folders later folder before now e (NotCommittedTo (H.honest folders) bytes message moment before now failed e))
-  directory_refused (Ok t) bytes message moment before now failed old new o d s entry k back = tt
-  directory_refused (Err e) bytes message moment before now failed old new o d s entry k back =
-      inr (standing (NotCommittedTo (H.honest folders) bytes message moment before now failed e) old new o back s.honest.0 (d, (s, entry), kept_err e (H.honest folders) o.0 old new o.2 s k))
+  directory_refused (Ok t) bytes message moment before now failed old new o d s entry k f back = tt
+  directory_refused (Err e) bytes message moment before now failed old new o d s entry k f back =
+      inr (standing (NotCommittedTo (H.honest folders) bytes message moment before now failed e) old new o back s.honest.0 (d, (s, entry), kept_err e (H.honest folders) o.0 old new o.2 s k, kept_or (Err e) (H.honest folders) o.0 old new o.2 s f))
 
   -- a dump
   pub dump_done : {T : Type 0} (r : Result T Refusal) (range : Option RevRange) (before now : Option (List ℕ)) (store : RepoStore D G) → IsOpenedIn G H folders then folder store

@@ -13,8 +13,8 @@ use Rattle.node_base.specs.PathText.{path_read}
 use Rattle.node_base.specs.declared.refusal.Refusal.{Refusal}
 use Rattle.node_base.specs.declared.refusal.Refusal.TheVariants as refusal
 use Rattle.repo_core.specs.Repository.{fresh, head_of, props_at}
-use Rattle.repo_store.specs.Journal.{beginning_of, Keeps, KeepsAlike, ReopensTo}
-use Rattle.repo_store.specs.Words.{disk_of, identity_of, repository_of, revisions_of, HasFailed}
+use Rattle.repo_store.specs.Journal.{beginning_of, Keeps, KeepsAlike, KeepsOr, ReopensTo}
+use Rattle.repo_store.specs.Words.{disk_of, doubt_of, identity_of, repository_of, revisions_of, HasFailed}
 use Rattle.repo_store.specs.declared.store.RepoStore.{RepoStore}
 use Rattle.fleet_engines.specs.declared.product.Product.TheVariants as product
 use Rattle.fleet_engines.specs.Grouping.{is_no_identity}
@@ -56,6 +56,10 @@ IsOpenedIn {F} {D} G H folders later folder store = (given : D) × IsLent G H fo
 -- a stop leaves what keeps the store's repository
 abbrev pub IsKept : {D : Type 0} {G : Ghosts D} → Type 0 → RepoStore D G → Type 0
 IsKept {G} honest store = honest → G.honest (disk_of store) × ((left : Image) → G.may_leave (disk_of store) left → Keeps (repository_of store) left)
+
+-- whatever was answered, a stop leaves what keeps the store's repository, or, where the device failed, that or the one after the entry that was begun
+abbrev pub IsKeptOr : {D : Type 0} {G : Ghosts D} → Type 0 → RepoStore D G → Type 0
+IsKeptOr {G} honest store = honest → G.honest (disk_of store) × ((left : Image) → G.may_leave (disk_of store) left → KeepsOr (repository_of store) (doubt_of store) left)
 
 -- a store is opened on a folder's disk; of it and what it is later P is so, and the folder has the later one's disk then, while other folders stay
 pub record OfStanding {F D : Type 0} (G : Ghosts D) (H : FolderGhosts F D) (folders later : F) (folder : List ℕ) (P : RepoStore D G → RepoStore D G → Type 0) : Type 0 where
@@ -112,18 +116,18 @@ IsDumped honest range before now old new =
     (new ≡ old) × (last_wanted (repository_of old) range < length (revisions_of old))
     × Appends before now (dump_of (repository_of old) (first_wanted range) (count_wanted (repository_of old) range)) × IsKept honest old
 
--- a mirror isn't loaded; and of another one what was read is refused; unless the device failed, a stop leaves what is loaded
+-- a mirror isn't loaded; and of another one what was read is refused; unless the device failed, a stop leaves what is loaded, and where it did, that or one entry more
 abbrev pub NotLoadedFrom : {D : Type 0} {G : Ghosts D} → Type 0 → Option (List ℕ) → Option (List ℕ) → Option (List ℕ) → Bool → Refusal → RepoStore D G → RepoStore D G → Type 0
 NotLoadedFrom honest bytes before now failed e old new =
     (is_mirror (revisions_of old) ≡ false → IfSome bytes (λ read. LoadRefused (repository_of old) read new before now failed e))
     × (is_mirror (revisions_of old) ≡ true → (e ≡ refusal.ReadOnly) × (repository_of new ≡ repository_of old) × (now ≡ before))
-    × ServesLoad bytes old new (Err e) × (e ≢ refusal.DeviceFailed → IsKept honest new)
+    × ServesLoad bytes old new (Err e) × (e ≢ refusal.DeviceFailed → IsKept honest new) × IsKeptOr honest new
 
--- the directory isn't committed to it; unless the device failed, a stop leaves what the store has
+-- the directory isn't committed to it; unless the device failed, a stop leaves what the store has, and where it did, that or one entry more
 abbrev pub NotCommittedTo : {D : Type 0} {G : Ghosts D} → Type 0 → List ℕ → List ℕ → DateTime → Option (List ℕ) → Option (List ℕ) → Bool → Refusal → RepoStore D G → RepoStore D G → Type 0
 NotCommittedTo honest bytes message moment before now failed e old new =
     NotCommitted (repository_of old) bytes message moment new before now failed e × ServesDirectory bytes message moment old new (Err e)
-    × (e ≢ refusal.DeviceFailed → IsKept honest new)
+    × (e ≢ refusal.DeviceFailed → IsKept honest new) × IsKeptOr honest new
 
 abbrev pub NotDumped : {D : Type 0} {G : Ghosts D} → Type 0 → Option RevRange → Option (List ℕ) → Option (List ℕ) → Bool → Refusal → RepoStore D G → RepoStore D G → Type 0
 NotDumped honest range before now failed e old new = (new ≡ old) × DumpStops (repository_of old) range before now failed e × IsKept honest old

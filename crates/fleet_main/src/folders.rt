@@ -4,7 +4,7 @@ ghost use Rattle.fleet_disk.specs.Host.{failures_of, HasBytes, HasFiles};
 ghost use Rattle.fleet_disk.specs.Image.{Image};
 ghost use Rattle.fleet_disk.specs.Rules.{Rose};
 ghost use Rattle.repo_store.specs.Journal.{Keeps};
-ghost use Rattle.repo_store.specs.Words.{disk_of, repository_of, HasFailed};
+ghost use Rattle.repo_store.specs.Words.{disk_of, repository_of, HasFailed, IsKept};
 ghost use Rattle.fleet_main.specs.Above.{IsAbove};
 ghost use Rattle.fleet_main.specs.Doing.{IsBegunIn, IsOpenedIn};
 ghost use Rattle.fleet_main.specs.Host.{IsFaultOf, host_failures};
@@ -151,11 +151,13 @@ fn folder_refusal(fault: FolderFault) -> Refusal
     }
 }
 
-/// Gives a folder the disk of its store back. What a stop leaves of a store that works keeps its repository.
+/// Gives a folder the disk of its store back. What a stop leaves of a store that works keeps its repository; of one whose
+/// device failed, that or the one after the entry in doubt.
 pub fn closed<F: Folders>(folders: &mut F, folder: &str, store: RepoStore<F::Place>)
     ensures back { TakesBack F.Place.Disk F.Folders folders.old folders.new folder.now (disk_of store) }
     ensures kept { F.Place.honest (disk_of store) → ¬ HasFailed store → (left : Image)
         → F.Place.may_leave (disk_of store) left → Keeps (repository_of store) left }
+    ensures either { IsKept store }
 {
     let _repo = store.repo();
     folders.close(folder, store.into_disk());

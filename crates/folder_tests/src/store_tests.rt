@@ -6,10 +6,10 @@ use fleet_disk::{Disk, DiskFile, Fuse, FuseDisk, MemDisk, Pick};
 use fleet_main::{Command, Folders, Planned, Sink, Source, plan, run};
 use node_base::{PropName, RevNo};
 use repo_core::Expected;
-use std::alloc::{AllocError, Global};
+use std::alloc::Global;
 use std::io;
 use std::io::Read;
-use std::test::Fail;
+use std::process::Abort;
 use store_engines::open_store;
 
 // The version block, 31 bytes.
@@ -57,12 +57,17 @@ const DUMP: [&str; 2] = ["dump", "repo"];
 
 const DUMP_ONE: [&str; 4] = ["dump", "repo", "-r", "1:1"];
 
-fn joined(alloc: Global, parts: &[&str]) -> Result<Vec<u8>, AllocError> {
+fn joined(rt: &impl Abort, alloc: Global, parts: &[&str]) -> Vec<u8> {
     let mut all = Vec::new(alloc);
     for part in parts {
-        all.extend_from_slice(part.as_bytes())?;
+        all.extend_from_slice(part.as_bytes()).expect(rt, "memory");
     }
-    Ok(all)
+    all
+}
+
+// A text with other words in the place of some.
+fn replaced(rt: &impl Abort, alloc: Global, text: &str, some: &str, others: &str) -> String {
+    text.replace(alloc, some, others).expect(rt, "memory")
 }
 
 // Whether the bytes are these parts, one behind another.
@@ -82,17 +87,27 @@ fn holds(disk: &MemDisk, parts: &[&str], gate: &[u8]) -> bool {
     are(disk.bytes(DiskFile::Journal), parts) && disk.bytes(DiskFile::Gate) == gate
 }
 
-// The command that words name.
-fn named(alloc: Global, words: &[&str]) -> Result<Command, Fail> {
+// Adds a word.
+fn add_word(rt: &impl Abort, alloc: Global, all: &mut Vec<String>, word: &str) {
+    let word = String::from_str(alloc, word).expect(rt, "memory");
+    all.push(word).expect(rt, "memory");
+}
+
+// The program's name, and these words.
+fn words_of(rt: &impl Abort, alloc: Global, words: &[&str]) -> Vec<String> {
     let mut all = Vec::new(alloc);
-    all.push(String::from_str(alloc, "svnfleet")?)?;
+    add_word(rt, alloc, &mut all, "svnfleet");
     for word in words {
-        all.push(String::from_str(alloc, *word)?)?;
+        add_word(rt, alloc, &mut all, *word);
     }
-    match plan(alloc, &all) {
-        Ok(Planned::Run(command)) => Ok(command),
-        Ok(_) => Err(Fail::new("a server")),
-        Err(_) => Err(Fail::new("no command")),
+    all
+}
+
+// The command that words name.
+fn named(rt: &impl Abort, alloc: Global, words: &[&str]) -> Command {
+    match plan(alloc, &words_of(rt, alloc, words)) {
+        Ok(Planned::Run(command)) => command,
+        _ => rt.abort(),
     }
 }
 
@@ -143,14 +158,15 @@ fn came_to(ran: &Ran, step: &Step<'_>) -> bool {
 
 // Whether a step over the folder `repo` on this disk comes to what it says.
 pub(crate) fn comes<D: Disk + Drop>(
+    rt: &impl Abort,
     alloc: Global,
     disk: &mut D,
     step: &Step<'_>,
-) -> Result<bool, Fail>
+) -> bool
     requires { D.honest disk.old }
 {
-    let bytes = joined(alloc, step.input)?;
-    let command = named(alloc, step.words)?;
+    let bytes = joined(rt, alloc, step.input);
+    let command = named(rt, alloc, step.words);
     let mut folders = MemFolders::new("repo", disk);
     let ran = run_over(
         alloc,
@@ -158,22 +174,28 @@ pub(crate) fn comes<D: Disk + Drop>(
         command,
         &mut Source::new(bytes.as_slice()),
     );
-    Ok(came_to(&ran, step))
+    came_to(&ran, step)
+}
+
+// The disk as a stop leaves it.
+fn crashed(rt: &impl Abort, disk: &MemDisk, pick: Pick) -> MemDisk {
+    disk.crash(pick).expect(rt, "memory")
 }
 
 // The first step that doesn't come to what it says. Behind each step the machine stops, and all that isn't synced is lost.
 fn first_wrong(
+    rt: &impl Abort,
     alloc: Global,
     disk: &mut MemDisk,
     steps: &[Step<'_>],
-) -> Result<Option<usize>, Fail> {
+) -> Option<usize> {
     for (number, step) in steps.iter().enumerate() {
-        if !comes(alloc, disk, step)? {
-            return Ok(Some(number));
+        if !comes(rt, alloc, disk, step) {
+            return Some(number);
         }
-        *disk = disk.crash(Pick::Old)?;
+        *disk = crashed(rt, disk, Pick::Old);
     }
-    Ok(None)
+    None
 }
 
 // A step that is done.
@@ -201,25 +223,28 @@ fn refused<'a>(words: &'a [&'a str], input: &'a [&'a str], errors: &'a str) -> S
 }
 
 // A disk with revision 0 alone.
-pub(crate) fn begun(alloc: Global) -> Result<MemDisk, Fail> {
+pub(crate) fn begun(rt: &impl Abort, alloc: Global) -> MemDisk {
     let mut disk = MemDisk::new(alloc);
-    if !comes(alloc, &mut disk, &done(&CREATE, &[], &[]))? {
-        return Err(Fail::new("no repository"));
-    }
-    Ok(disk)
+    assert!(rt; comes(rt, alloc, &mut disk, &done(&CREATE, &[], &[])));
+    disk
 }
 
 // A disk with the file's revision, all of it synced.
-pub(crate) fn with_one_file(alloc: Global) -> Result<MemDisk, Fail> {
-    let mut disk = begun(alloc)?;
-    if !comes(alloc, &mut disk, &done(&LOAD, &[HEAD, ONE_FILE], &[LOADED]))? {
-        return Err(Fail::new("no revision"));
-    }
-    Ok(disk.crash(Pick::Old)?)
+pub(crate) fn with_one_file(rt: &impl Abort, alloc: Global) -> MemDisk {
+    let mut disk = begun(rt, alloc);
+    assert!(rt;
+        comes(
+            rt,
+            alloc,
+            &mut disk,
+            &done(&LOAD, &[HEAD, ONE_FILE], &[LOADED])
+        )
+    );
+    crashed(rt, &disk, Pick::Old)
 }
 
 #[test]
-fn create_begins_a_repository(rt: HostRuntime) -> Result<(), Fail> {
+fn create_begins_a_repository(rt: HostRuntime) {
     let alloc = rt.alloc();
     let mut disk = MemDisk::new(alloc);
     let steps = [
@@ -229,16 +254,15 @@ fn create_begins_a_repository(rt: HostRuntime) -> Result<(), Fail> {
         refused(&CREATE, &[], "svnfleet: 35 repository already there\n"),
         done(&DUMP, &[], &[HEAD, IDENTITY, ZERO]),
     ];
-    assert_eq!(rt; first_wrong(alloc, &mut disk, &steps)?, None);
+    assert_eq!(rt; first_wrong(&rt, alloc, &mut disk, &steps), None);
     let gate = [1, 0, 0, 0, 0, 0, 0, 0, 0x95, 0];
     assert!(rt; holds(&disk, &[HEAD, IDENTITY, ZERO], &gate));
-    Ok(())
 }
 
 #[test]
-fn load_commits_each_revision(rt: HostRuntime) -> Result<(), Fail> {
+fn load_commits_each_revision(rt: HostRuntime) {
     let alloc = rt.alloc();
-    let mut disk = begun(alloc)?;
+    let mut disk = begun(&rt, alloc);
     let steps = [
         done(&LOAD, &[HEAD, ONE_FILE], &[LOADED]),
         done(&DUMP, &[], &[HEAD, IDENTITY, ZERO, ONE_FILE]),
@@ -249,19 +273,18 @@ fn load_commits_each_revision(rt: HostRuntime) -> Result<(), Fail> {
             "svnfleet: 21 no such revision\n",
         ),
     ];
-    assert_eq!(rt; first_wrong(alloc, &mut disk, &steps)?, None);
+    assert_eq!(rt; first_wrong(&rt, alloc, &mut disk, &steps), None);
     // 149 bytes, and 424 with the next entry
     let gate = [
         1, 0, 0, 0, 0, 0, 0, 0, 0x95, 1, 0, 0, 0, 0, 0, 0, 1, 0xA8, 0,
     ];
     assert!(rt; holds(&disk, &[HEAD, IDENTITY, ZERO, ONE_FILE], &gate));
-    Ok(())
 }
 
 #[test]
-fn load_goes_on_from_the_head(rt: HostRuntime) -> Result<(), Fail> {
+fn load_goes_on_from_the_head(rt: HostRuntime) {
     let alloc = rt.alloc();
-    let mut disk = begun(alloc)?;
+    let mut disk = begun(&rt, alloc);
     let late = "svnfleet: 16 revision out of sequence\n";
     let steps = [
         done(&LOAD, &[HEAD, IDENTITY, ZERO, ONE_FILE], &[LOADED]),
@@ -270,54 +293,75 @@ fn load_goes_on_from_the_head(rt: HostRuntime) -> Result<(), Fail> {
         done(&LOAD, &[HEAD, NO_FILE], &[LOADED_TWO]),
         done(&DUMP, &[], &[HEAD, IDENTITY, ZERO, ONE_FILE, NO_FILE]),
     ];
-    assert_eq!(rt; first_wrong(alloc, &mut disk, &steps)?, None);
+    assert_eq!(rt; first_wrong(&rt, alloc, &mut disk, &steps), None);
     // revision 0's properties were given once more
     let journal = disk.bytes(DiskFile::Journal);
     assert!(rt; are(journal, &[HEAD, IDENTITY, ZERO, ZERO, ONE_FILE, NO_FILE]));
-    Ok(())
 }
 
 // Whether a load of these parts into a new repository prints that and is refused with this line, where the journal has these
 // entries then.
 fn ends(
+    rt: &impl Abort,
     alloc: Global,
     parts: &[&str],
     output: &[&str],
     errors: &str,
     journal: &[&str],
-) -> Result<bool, Fail> {
-    let mut disk = begun(alloc)?;
+) -> bool {
+    let mut disk = begun(rt, alloc);
     let step = Step {
         words: &LOAD,
         input: parts,
         output,
         errors,
     };
-    let same = comes(alloc, &mut disk, &step)?;
-    let left = disk.crash(Pick::Old)?;
-    Ok(same && are(left.bytes(DiskFile::Journal), journal))
+    let same = comes(rt, alloc, &mut disk, &step);
+    let left = crashed(rt, &disk, Pick::Old);
+    same && are(left.bytes(DiskFile::Journal), journal)
 }
 
 // Whether a load of this revision 1 is refused with this line, and commits nothing.
-fn commits_nothing(alloc: Global, revision: &str, line: &str) -> Result<bool, Fail> {
-    ends(alloc, &[HEAD, revision], &[], line, &[HEAD, IDENTITY, ZERO])
+fn commits_nothing(rt: &impl Abort, alloc: Global, revision: &str, line: &str) -> bool {
+    ends(
+        rt,
+        alloc,
+        &[HEAD, revision],
+        &[],
+        line,
+        &[HEAD, IDENTITY, ZERO],
+    )
 }
 
 #[test]
-fn load_commits_no_half_revision(rt: HostRuntime) -> Result<(), Fail> {
+fn load_commits_no_half_revision(rt: HostRuntime) {
     let alloc = rt.alloc();
-    let other = ONE_FILE.replace(alloc, "hello", "hellp")?;
-    assert!(rt; commits_nothing(alloc, other.as_str(), "svnfleet: 6 checksum mismatch\n")?);
-    let cut = ONE_FILE.strip_suffix("lo\n\n\n").ok_or("end")?;
-    assert!(rt; commits_nothing(alloc, cut, "svnfleet: 7 unexpected end of input\n")?);
-    let longer = ONE_FILE.replace(alloc, "Content-length: 16", "Content-length: 17")?;
-    assert!(rt; commits_nothing(alloc, longer.as_str(), "svnfleet: 4 lengths do not agree\n")?);
-    Ok(())
+    let other = replaced(&rt, alloc, ONE_FILE, "hello", "hellp");
+    assert!(rt;
+        commits_nothing(
+            &rt,
+            alloc,
+            other.as_str(),
+            "svnfleet: 6 checksum mismatch\n"
+        )
+    );
+    let cut = ONE_FILE.strip_suffix("lo\n\n\n").expect(&rt, "an end");
+    assert!(rt; commits_nothing(&rt, alloc, cut, "svnfleet: 7 unexpected end of input\n"));
+    let longer = replaced(
+        &rt,
+        alloc,
+        ONE_FILE,
+        "Content-length: 16",
+        "Content-length: 17",
+    );
+    let line = "svnfleet: 4 lengths do not agree\n";
+    assert!(rt; commits_nothing(&rt, alloc, longer.as_str(), line));
 }
 
 // Whether a load of the file's revision and this one is refused with this line, and keeps the first.
-fn keeps_the_first(alloc: Global, revision: &str, line: &str) -> Result<bool, Fail> {
+fn keeps_the_first(rt: &impl Abort, alloc: Global, revision: &str, line: &str) -> bool {
     ends(
+        rt,
         alloc,
         &[HEAD, ONE_FILE, revision],
         &[LOADED],
@@ -327,17 +371,16 @@ fn keeps_the_first(alloc: Global, revision: &str, line: &str) -> Result<bool, Fa
 }
 
 #[test]
-fn load_keeps_what_was_committed(rt: HostRuntime) -> Result<(), Fail> {
+fn load_keeps_what_was_committed(rt: HostRuntime) {
     let alloc = rt.alloc();
-    let absent = NO_FILE.replace(alloc, "Node-path: a", "Node-path: b")?;
-    assert!(rt; keeps_the_first(alloc, absent.as_str(), "svnfleet: 11 no such path\n")?);
+    let absent = replaced(&rt, alloc, NO_FILE, "Node-path: a", "Node-path: b");
+    assert!(rt; keeps_the_first(&rt, alloc, absent.as_str(), "svnfleet: 11 no such path\n"));
     let line = "svnfleet: 7 unexpected end of input\n";
-    let cut = NO_FILE.strip_suffix("delete\n\n\n\n").ok_or("end")?;
-    assert!(rt; keeps_the_first(alloc, cut, line)?);
+    let cut = NO_FILE.strip_suffix("delete\n\n\n\n").expect(&rt, "an end");
+    assert!(rt; keeps_the_first(&rt, alloc, cut, line));
     // the end of revision 1 isn't known yet
     let parts = [HEAD, ONE_FILE, "Node"];
-    assert!(rt; ends(alloc, &parts, &[], line, &[HEAD, IDENTITY, ZERO])?);
-    Ok(())
+    assert!(rt; ends(&rt, alloc, &parts, &[], line, &[HEAD, IDENTITY, ZERO]));
 }
 
 // A reader that mustn't be asked.
@@ -351,49 +394,45 @@ impl Read for Unread {
 }
 
 #[test]
-fn mirrors_take_no_change(rt: HostRuntime) -> Result<(), Fail> {
+fn mirrors_take_no_change(rt: HostRuntime) {
     let alloc = rt.alloc();
-    let mut disk = begun(alloc)?;
+    let mut disk = begun(&rt, alloc);
     let line = "svnfleet: 24 the mirror is read-only\n";
     let words = ["mkdir", "repo", "/", "--message", "hi", "--moment", "1"];
     let steps = [
         done(&LOAD, &[HEAD, MIRROR, ONE_FILE], &[LOADED]),
         refused(&words, &[], line),
     ];
-    assert_eq!(rt; first_wrong(alloc, &mut disk, &steps)?, None);
+    assert_eq!(rt; first_wrong(&rt, alloc, &mut disk, &steps), None);
     let mut folders = MemFolders::new("repo", &mut disk);
     let mut unread = Source::new(Unread);
-    let ran = run_over(alloc, &mut folders, named(alloc, &LOAD)?, &mut unread);
+    let command = named(&rt, alloc, &LOAD);
+    let ran = run_over(alloc, &mut folders, command, &mut unread);
     assert!(rt; came_to(&ran, &refused(&LOAD, &[], line)) && !unread.failed);
-    Ok(())
 }
 
 #[test]
-fn folders_are_told_apart(rt: HostRuntime) -> Result<(), Fail> {
+fn folders_are_told_apart(rt: HostRuntime) {
     let alloc = rt.alloc();
-    let mut disk = with_one_file(alloc)?;
+    let mut disk = with_one_file(&rt, alloc);
     let mut empty = MemDisk::new(alloc);
     let mut folders = MemFolders::two("repo", &mut disk, "repo2", &mut empty);
     let nothing = [];
     let mut input = Source::new(nothing.as_slice());
     let elsewhere = refused(&["dump", "repo2"], &[], "svnfleet: 34 no repository\n");
-    let first = run_over(
-        alloc,
-        &mut folders,
-        named(alloc, elsewhere.words)?,
-        &mut input,
-    );
+    let command = named(&rt, alloc, elsewhere.words);
+    let first = run_over(alloc, &mut folders, command, &mut input);
     assert!(rt; came_to(&first, &elsewhere));
     let here = done(&DUMP_ONE, &[], &[HEAD, IDENTITY, ONE_FILE]);
-    let second = run_over(alloc, &mut folders, named(alloc, here.words)?, &mut input);
+    let command = named(&rt, alloc, here.words);
+    let second = run_over(alloc, &mut folders, command, &mut input);
     assert!(rt; came_to(&second, &here));
-    Ok(())
 }
 
 #[test]
-fn mkdir_commits_one_directory(rt: HostRuntime) -> Result<(), Fail> {
+fn mkdir_commits_one_directory(rt: HostRuntime) {
     let alloc = rt.alloc();
-    let mut disk = begun(alloc)?;
+    let mut disk = begun(&rt, alloc);
     let words = [
         "mkdir",
         "repo",
@@ -409,152 +448,155 @@ fn mkdir_commits_one_directory(rt: HostRuntime) -> Result<(), Fail> {
         refused(&words, &[], "svnfleet: 12 path already exists\n"),
         done(&DUMP, &[], &[HEAD, IDENTITY, ZERO, DIRECTORY]),
     ];
-    assert_eq!(rt; first_wrong(alloc, &mut disk, &steps)?, None);
-    Ok(())
+    assert_eq!(rt; first_wrong(&rt, alloc, &mut disk, &steps), None);
 }
 
 // Whether a directory at this path with this message is refused with this line.
 fn is_refused(
+    rt: &impl Abort,
     alloc: Global,
     disk: &mut MemDisk,
     path: &str,
     message: &str,
     line: &str,
-) -> Result<bool, Fail> {
+) -> bool {
     let words = ["mkdir", "repo", path, "--message", message, "--moment", "1"];
-    comes(alloc, disk, &refused(&words, &[], line))
+    comes(rt, alloc, disk, &refused(&words, &[], line))
 }
 
+const PATHS: [(&str, &str); 7] = [
+    ("", "svnfleet: 10 bad path\n"),
+    ("/b", "svnfleet: 10 bad path\n"),
+    ("b/", "svnfleet: 10 bad path\n"),
+    ("b/../c", "svnfleet: 10 bad path\n"),
+    ("b/c", "svnfleet: 11 no such path\n"),
+    ("a/c", "svnfleet: 13 not a directory\n"),
+    ("a", "svnfleet: 12 path already exists\n"),
+];
+
 #[test]
-fn mkdir_judges_its_path(rt: HostRuntime) -> Result<(), Fail> {
+fn mkdir_judges_its_path(rt: HostRuntime) {
     let alloc = rt.alloc();
-    let mut disk = with_one_file(alloc)?;
-    for (path, line) in [
-        ("", "svnfleet: 10 bad path\n"),
-        ("/b", "svnfleet: 10 bad path\n"),
-        ("b/", "svnfleet: 10 bad path\n"),
-        ("b/../c", "svnfleet: 10 bad path\n"),
-        ("b/c", "svnfleet: 11 no such path\n"),
-        ("a/c", "svnfleet: 13 not a directory\n"),
-        ("a", "svnfleet: 12 path already exists\n"),
-    ] {
-        assert!(rt; is_refused(alloc, &mut disk, path, "hi", line)?, "{path}");
+    let mut disk = with_one_file(&rt, alloc);
+    for (path, line) in &PATHS {
+        assert!(rt;
+            is_refused(&rt, alloc, &mut disk, *path, "hi", *line),
+            "{path}"
+        );
     }
-    assert!(rt;
-        are(
-            disk.bytes(DiskFile::Journal),
-            &[HEAD, IDENTITY, ZERO, ONE_FILE]
-        )
-    );
-    Ok(())
+    let journal = disk.bytes(DiskFile::Journal);
+    assert!(rt; are(journal, &[HEAD, IDENTITY, ZERO, ONE_FILE]));
 }
 
-#[test]
-fn mkdir_judges_its_message_last(rt: HostRuntime) -> Result<(), Fail> {
-    let alloc = rt.alloc();
-    let mut disk = begun(alloc)?;
-    let long = "x".repeat(alloc, 65_537)?;
-    let line = "svnfleet: 11 no such path\n";
-    assert!(rt; is_refused(alloc, &mut disk, "b/c", long.as_str(), line)?);
-    let line = "svnfleet: 8 limit exceeded\n";
-    assert!(rt; is_refused(alloc, &mut disk, "b", long.as_str(), line)?);
-    let most = "x".repeat(alloc, 65_536)?;
-    let words = [
-        "mkdir",
-        "repo",
-        "b",
-        "--message",
-        most.as_str(),
-        "--moment",
-        "1",
-    ];
-    let step = done(&words, &[], &["Committed revision 1.\n"]);
-    assert!(rt; comes(alloc, &mut disk, &step)?);
-    Ok(())
+// A message of so many bytes.
+fn message(rt: &impl Abort, alloc: Global, count: usize) -> String {
+    "x".repeat(alloc, count).expect(rt, "memory")
 }
 
-#[test]
-fn dump_has_the_changed_property(rt: HostRuntime) -> Result<(), Fail> {
-    let alloc = rt.alloc();
-    let mut store = match open_store(alloc, with_one_file(alloc)?) {
-        Ok(store) => store,
-        Err((refusal, _disk)) => return Err(Fail::new(refusal)),
-    };
-    let name = PropName::parse(alloc, b"svn:log")?;
-    store.change_prop(
+// Whether a directory with this message is committed.
+fn is_committed(rt: &impl Abort, alloc: Global, disk: &mut MemDisk, message: &str) -> bool {
+    let words = ["mkdir", "repo", "b", "--message", message, "--moment", "1"];
+    comes(
+        rt,
         alloc,
-        RevNo::new(1),
-        &name,
-        Some(b"ho"),
-        &Expected::DontCare,
-    )?;
-    let mut disk = store.into_disk();
-    assert_eq!(rt; disk.bytes(DiskFile::Journal).len(), 517);
-    assert_eq!(rt; disk.bytes(DiskFile::Gate).len(), 28);
-    let changed = ONE_FILE.replace(alloc, "hi", "ho")?;
+        disk,
+        &done(&words, &[], &["Committed revision 1.\n"]),
+    )
+}
+
+#[test]
+fn mkdir_judges_its_message_last(rt: HostRuntime) {
+    let alloc = rt.alloc();
+    let mut disk = begun(&rt, alloc);
+    let long = message(&rt, alloc, 65_537);
+    let line = "svnfleet: 11 no such path\n";
+    assert!(rt; is_refused(&rt, alloc, &mut disk, "b/c", long.as_str(), line));
+    let line = "svnfleet: 8 limit exceeded\n";
+    assert!(rt; is_refused(&rt, alloc, &mut disk, "b", long.as_str(), line));
+    assert!(rt; is_committed(&rt, alloc, &mut disk, message(&rt, alloc, 65_536).as_str()));
+}
+
+// The file's repository with another log.
+fn relogged(rt: &impl Abort, alloc: Global) -> MemDisk {
+    let Ok(mut store) = open_store(alloc, with_one_file(rt, alloc)) else {
+        rt.abort()
+    };
+    let name = PropName::parse(alloc, b"svn:log").expect(rt, "a name");
+    let one = RevNo::new(1);
+    let changed = store.change_prop(alloc, one, &name, Some(b"ho"), &Expected::DontCare);
+    assert!(rt; changed.is_ok());
+    store.into_disk()
+}
+
+#[test]
+fn dump_has_the_changed_property(rt: HostRuntime) {
+    let alloc = rt.alloc();
+    let mut disk = relogged(&rt, alloc);
+    assert!(rt; disk.bytes(DiskFile::Journal).len() == 517);
+    assert!(rt; disk.bytes(DiskFile::Gate).len() == 28);
+    let changed = replaced(&rt, alloc, ONE_FILE, "hi", "ho");
     let one = [HEAD, IDENTITY, changed.as_str()];
     let all = [HEAD, IDENTITY, ZERO, changed.as_str()];
     let steps = [done(&DUMP_ONE, &[], &one), done(&DUMP, &[], &all)];
-    assert_eq!(rt; first_wrong(alloc, &mut disk, &steps)?, None);
-    Ok(())
+    assert_eq!(rt; first_wrong(&rt, alloc, &mut disk, &steps), None);
+}
+
+// The file's repository with another byte in its text.
+fn damaged(rt: &impl Abort, alloc: Global) -> MemDisk {
+    let disk = with_one_file(rt, alloc);
+    let other = replaced(rt, alloc, ONE_FILE, "hello", "hellp");
+    let journal = joined(rt, alloc, &[HEAD, IDENTITY, ZERO, other.as_str()]);
+    let gate = disk.bytes(DiskFile::Gate);
+    MemDisk::with_bytes(alloc, journal.as_slice(), gate).expect(rt, "memory")
 }
 
 #[test]
-fn damaged_entry_is_told(rt: HostRuntime) -> Result<(), Fail> {
-    let alloc = rt.alloc();
-    let disk = with_one_file(alloc)?;
-    let other = ONE_FILE.replace(alloc, "hello", "hellp")?;
-    let journal = joined(alloc, &[HEAD, IDENTITY, ZERO, other.as_str()])?;
-    let mut damaged = MemDisk::with_bytes(alloc, &journal, disk.bytes(DiskFile::Gate))?;
+fn damaged_entry_is_told(rt: HostRuntime) {
+    let mut disk = damaged(&rt, rt.alloc());
     let line = "svnfleet: 33 entry 1 is damaged\n";
     let steps = [
         refused(&DUMP, &[], line),
         refused(&LOAD, &[HEAD, NO_FILE], line),
     ];
-    assert_eq!(rt; first_wrong(alloc, &mut damaged, &steps)?, None);
-    Ok(())
+    assert_eq!(rt; first_wrong(&rt, rt.alloc(), &mut disk, &steps), None);
 }
 
 // How many calls the opening of a disk makes: a dump makes no others.
-fn opening_calls(alloc: Global, disk: &MemDisk) -> Result<u64, Fail> {
-    let mut copy = disk.crash(Pick::New)?;
-    if !comes(
-        alloc,
-        &mut copy,
-        &done(&DUMP_ONE, &[], &[HEAD, IDENTITY, ONE_FILE]),
-    )? {
-        return Err(Fail::new("no dump"));
-    }
-    Ok(copy.calls().len() as u64)
+fn opening_calls(rt: &impl Abort, alloc: Global, disk: &MemDisk) -> u64 {
+    let mut copy = crashed(rt, disk, Pick::New);
+    let step = done(&DUMP_ONE, &[], &[HEAD, IDENTITY, ONE_FILE]);
+    assert!(rt; comes(rt, alloc, &mut copy, &step));
+    copy.calls().len() as u64
 }
 
-// The disk after this many calls of the load of one more revision, stopped; None where the load came to something else.
-fn stopped(alloc: Global, calls: u64, pick: Pick) -> Result<Option<MemDisk>, Fail> {
-    let disk = with_one_file(alloc)?;
-    let before = opening_calls(alloc, &disk)?;
-    let mut fused = FuseDisk::new(disk, before.saturating_add(calls), Fuse::ForGood);
+// The disk of the file's repository, of which so many calls pass behind its opening.
+fn fused(rt: &impl Abort, alloc: Global, calls: u64) -> FuseDisk<MemDisk> {
+    let disk = with_one_file(rt, alloc);
+    let before = opening_calls(rt, alloc, &disk);
+    FuseDisk::new(disk, before.saturating_add(calls), Fuse::ForGood)
+}
+
+// The disk after this many calls of the load of one more revision, stopped.
+fn stopped(rt: &impl Abort, alloc: Global, calls: u64, pick: Pick) -> MemDisk {
+    let mut fused = fused(rt, alloc, calls);
     let step = if calls < 5 {
         refused(&LOAD, &[HEAD, NO_FILE], "svnfleet: 31 device failed\n")
     } else {
         done(&LOAD, &[HEAD, NO_FILE], &[LOADED_TWO])
     };
-    if !comes(alloc, &mut fused, &step)? {
-        return Ok(None);
-    }
-    Ok(Some(fused.into_inner().crash(pick)?))
+    assert!(rt; comes(rt, alloc, &mut fused, &step));
+    crashed(rt, &fused.into_inner(), pick)
 }
 
 // Whether a disk opens at revision 1, or at revision 2 where there is a second.
-fn opens_at(alloc: Global, disk: &mut MemDisk, second: bool) -> Result<bool, Fail> {
+fn opens_at(rt: &impl Abort, alloc: Global, disk: &mut MemDisk, second: bool) -> bool {
     if second {
         let all = [HEAD, IDENTITY, ZERO, ONE_FILE, NO_FILE];
-        return comes(alloc, disk, &done(&DUMP, &[], &all));
+        return comes(rt, alloc, disk, &done(&DUMP, &[], &all));
     }
     let all = [HEAD, IDENTITY, ZERO, ONE_FILE];
-    Ok(
-        comes(alloc, disk, &done(&DUMP, &[], &all))?
-            && comes(alloc, disk, &done(&LOAD, &[HEAD, NO_FILE], &[LOADED_TWO]))?,
-    )
+    let next = done(&LOAD, &[HEAD, NO_FILE], &[LOADED_TWO]);
+    comes(rt, alloc, disk, &done(&DUMP, &[], &all)) && comes(rt, alloc, disk, &next)
 }
 
 const PICKS: [Pick; 4] = [Pick::Old, Pick::New, Pick::Fill(1), Pick::Fill(0x37)];
@@ -570,35 +612,38 @@ const STANDING: [[bool; 4]; 6] = [
 ];
 
 #[test]
-fn load_is_stopped_after_each_call(rt: HostRuntime) -> Result<(), Fail> {
+fn load_is_stopped_after_each_call(rt: HostRuntime) {
     let alloc = rt.alloc();
     for (calls, row) in STANDING.iter().enumerate() {
         for (pick, second) in PICKS.iter().zip(row.iter()) {
-            let Some(mut left) = stopped(alloc, calls as u64, *pick)? else {
-                return Err(Fail::new("the load came to something else"));
-            };
-            assert!(rt; opens_at(alloc, &mut left, *second)?, "after {calls} calls");
+            let mut left = stopped(&rt, alloc, calls as u64, *pick);
+            assert!(rt;
+                opens_at(&rt, alloc, &mut left, *second),
+                "after {calls} calls"
+            );
         }
     }
-    Ok(())
 }
 
 #[test]
-fn failed_device_ends_a_load(rt: HostRuntime) -> Result<(), Fail> {
+fn failed_device_ends_a_load(rt: HostRuntime) {
     let alloc = rt.alloc();
-    let disk = with_one_file(alloc)?;
-    let before = opening_calls(alloc, &disk)?;
     // a commit makes five calls: the write of the second revision fails
-    let mut fused = FuseDisk::new(disk, before.saturating_add(5), Fuse::ForGood);
-    let again = ONE_FILE.replace(alloc, "Revision-number: 1", "Revision-number: 3")?;
+    let mut fused = fused(&rt, alloc, 5);
+    let again = replaced(
+        &rt,
+        alloc,
+        ONE_FILE,
+        "Revision-number: 1",
+        "Revision-number: 3",
+    );
     let step = Step {
         words: &LOAD,
         input: &[HEAD, NO_FILE, again.as_str()],
         output: &[LOADED_TWO],
         errors: "svnfleet: 31 device failed\n",
     };
-    assert!(rt; comes(alloc, &mut fused, &step)?);
-    let mut left = fused.into_inner().crash(Pick::Old)?;
-    assert!(rt; opens_at(alloc, &mut left, true)?);
-    Ok(())
+    assert!(rt; comes(&rt, alloc, &mut fused, &step));
+    let mut left = crashed(&rt, &fused.into_inner(), Pick::Old);
+    assert!(rt; opens_at(&rt, alloc, &mut left, true));
 }

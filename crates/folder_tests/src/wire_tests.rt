@@ -12,7 +12,7 @@ use path_tree::Tree;
 use ra_edit::receive::receive;
 use ra_edit::stream::ItemStream;
 use std::alloc::Global;
-use std::test::Fail;
+use std::process::Abort;
 use store_engines::open_store;
 
 // Revision 1 adds directory `t` with files `t/x` and `t/y` of one byte.
@@ -44,62 +44,61 @@ const DUMP_TWO: [&str; 4] = ["dump", "repo", "-r", "2:2"];
 const LIST: [&str; 1] = ["list"];
 
 // The set that an edit's bytes are built to, over these trees.
-fn built(alloc: Global, trees: &[Tree], edit: &str) -> Result<ChangeSet, Fail> {
-    if trees.len() > 65_535 {
-        return Err(Fail::new("too many trees"));
-    }
-    let editor = BuildEditor::new(alloc, trees)?;
+fn built(rt: &impl Abort, alloc: Global, trees: &[Tree], edit: &str) -> ChangeSet {
+    assert!(rt; trees.len() <= 65_535);
+    let editor = BuildEditor::new(alloc, trees).expect(rt, "memory");
     let mut items = ItemStream::new(alloc, CountedReader::new(edit.as_bytes()));
     match receive(alloc, &mut items, editor) {
-        Ok(built) => Ok(built.into_set()),
-        Err(_) => Err(Fail::new("no edit")),
+        Ok(built) => built.into_set(),
+        Err(_) => rt.abort(),
     }
 }
 
 // The disk with the revision that an edit's bytes are built to.
-fn with_edit(alloc: Global, disk: MemDisk, edit: &str) -> Result<MemDisk, Fail> {
-    let mut store = match open_store(alloc, disk) {
-        Ok(store) => store,
-        Err((refusal, _disk)) => return Err(Fail::new(refusal)),
+fn with_edit(rt: &impl Abort, alloc: Global, disk: MemDisk, edit: &str) -> MemDisk {
+    let Ok(mut store) = open_store(alloc, disk) else {
+        rt.abort()
     };
     let head = store.repo().head();
-    let set = built(alloc, store.repo().trees(), edit)?;
-    store.commit(alloc, head, set, Props::empty(), None)?;
-    Ok(store.into_disk())
+    let set = built(rt, alloc, store.repo().trees(), edit);
+    let committed = store.commit(alloc, head, set, Props::empty(), None);
+    assert!(rt; committed.is_ok());
+    store.into_disk()
 }
 
 #[test]
-fn a_copied_directory_is_built_again(rt: HostRuntime) -> Result<(), Fail> {
+fn a_copied_directory_is_built_again(rt: HostRuntime) {
     let alloc = rt.alloc();
-    let mut first = begun(alloc)?;
+    let mut first = begun(&rt, alloc);
+    let step = done(&LOAD, &[HEAD, TWO_FILES], &[LOADED]);
+    assert!(rt; comes(&rt, alloc, &mut first, &step));
+    let mut disk = with_edit(&rt, alloc, first, COPIED);
+    let step = done(&DUMP_TWO, &[], &[HEAD, IDENTITY, COPY]);
+    assert!(rt; COPY.len() == 203 && comes(&rt, alloc, &mut disk, &step));
+    let history = [HEAD, TWO_FILES, COPY];
     assert!(rt;
         comes(
-            alloc,
-            &mut first,
-            &done(&LOAD, &[HEAD, TWO_FILES], &[LOADED])
-        )?
-    );
-    let mut disk = with_edit(alloc, first, COPIED)?;
-    assert_eq!(rt; COPY.len(), 203);
-    assert!(rt;
-        comes(
+            &rt,
             alloc,
             &mut disk,
-            &done(&DUMP_TWO, &[], &[HEAD, IDENTITY, COPY])
-        )?
+            &done(&LIST, &history, &[COPY_LISTED])
+        )
     );
-    let history = [HEAD, TWO_FILES, COPY];
-    assert!(rt; comes(alloc, &mut disk, &done(&LIST, &history, &[COPY_LISTED]))?);
-    Ok(())
 }
 
 #[test]
-fn an_edit_without_a_change_changes_the_root(rt: HostRuntime) -> Result<(), Fail> {
+fn an_edit_without_a_change_changes_the_root(rt: HostRuntime) {
     let alloc = rt.alloc();
-    let mut disk = with_edit(alloc, with_one_file(alloc)?, NOTHING)?;
+    let mut disk = with_edit(&rt, alloc, with_one_file(&rt, alloc), NOTHING);
     let dumped = [HEAD, IDENTITY, BARE_ROOT];
-    assert!(rt; comes(alloc, &mut disk, &done(&DUMP_TWO, &[], &dumped))?);
+    assert!(rt; comes(&rt, alloc, &mut disk, &done(&DUMP_TWO, &[], &dumped)));
     let history = [HEAD, ONE_FILE, BARE_ROOT];
-    assert!(rt; comes(alloc, &mut disk, &done(&LIST, &history, &[BARE_LISTED]))?);
-    Ok(())
+    assert!(rt;
+        comes(
+            &rt,
+            alloc,
+            &mut disk,
+            &done(&LIST, &history, &[BARE_LISTED])
+        )
+    );
 }

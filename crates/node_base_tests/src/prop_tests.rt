@@ -2,8 +2,8 @@
 
 use crate::block_tests::put;
 use node_base::{Node, PropFault, PropName, PropValue, Props, Text, TextFault};
-use std::alloc::{AllocError, Global};
-use std::test::Fail;
+use std::alloc::Global;
+use std::process::Abort;
 
 // Whether a map has so many entries.
 fn has(props: &Props, count: usize) -> bool {
@@ -11,168 +11,225 @@ fn has(props: &Props, count: usize) -> bool {
 }
 
 // `b` and `svn:sync-a`.
-fn two(alloc: Global) -> Result<Props, Fail> {
+fn two(rt: &impl Abort, alloc: Global) -> Props {
     let mut props = Props::empty();
-    put(alloc, &mut props, b"b", b"1")?;
-    put(alloc, &mut props, b"svn:sync-a", b"2")?;
-    Ok(props)
+    put(rt, alloc, &mut props, b"b", b"1");
+    put(rt, alloc, &mut props, b"svn:sync-a", b"2");
+    props
 }
 
 #[test]
-fn owners_keep_their_own_maps(rt: HostRuntime) -> Result<(), Fail> {
-    let mut props = two(rt.alloc())?;
-    let shared = props.share()?;
+fn owners_keep_their_own_maps(rt: HostRuntime) {
+    let mut props = two(&rt, rt.alloc());
+    let shared = props.share().expect(&rt, "memory");
     assert!(rt; shared.equals(&props));
-    put(rt.alloc(), &mut props, b"a", b"3")?;
+    put(&rt, rt.alloc(), &mut props, b"a", b"3");
     assert!(rt; !shared.equals(&props) && has(&props, 3) && has(&shared, 2));
-    Ok(())
 }
 
 #[test]
-fn names_are_looked_up(rt: HostRuntime) -> Result<(), Fail> {
-    let props = two(rt.alloc())?;
+fn names_are_looked_up(rt: HostRuntime) {
+    let props = two(&rt, rt.alloc());
     assert!(rt; props.get(b"b") == Some(b"1".as_slice()));
     assert!(rt; props.get(b"c").is_none() && !props.contains(b"a") && has(&props, 2));
-    Ok(())
 }
 
 #[test]
-fn names_are_removed(rt: HostRuntime) -> Result<(), Fail> {
-    let mut props = two(rt.alloc())?;
-    let shared = props.share()?;
-    props.remove(rt.alloc(), b"b")?;
-    props.remove(rt.alloc(), b"b")?;
+fn names_are_removed(rt: HostRuntime) {
+    let mut props = two(&rt, rt.alloc());
+    let shared = props.share().expect(&rt, "memory");
+    props.remove(rt.alloc(), b"b").expect(&rt, "memory");
+    props.remove(rt.alloc(), b"b").expect(&rt, "memory");
     assert!(rt; has(&props, 1) && has(&shared, 2));
     assert!(rt; Props::empty().is_empty() && !props.is_empty());
-    Ok(())
 }
 
-#[test]
-fn sync_names_stay_with_their_mirror(rt: HostRuntime) -> Result<(), Fail> {
-    let own = two(rt.alloc())?;
-    let plain = own.without_sync(rt.alloc())?;
-    assert!(rt; plain.len() == 1 && plain.contains(b"b"));
-    assert!(rt; own.copied_beside(rt.alloc(), &plain)?.equals(&own));
-    assert!(rt; plain.copied_beside(rt.alloc(), &own)?.equals(&plain));
-    Ok(())
-}
-
-// The fault that bytes are refused as a name with. Want of memory is passed on.
-fn name_fault(alloc: Global, bytes: &[u8]) -> Result<Option<PropFault>, PropFault> {
-    match PropName::parse(alloc, bytes) {
-        Ok(_) => Ok(None),
-        Err(PropFault::OutOfMemory) => Err(PropFault::OutOfMemory),
-        Err(fault) => Ok(Some(fault)),
+// Whether a map beside which this one is copied is left as that one.
+fn is_copied(alloc: Global, props: &Props, beside: &Props, left: &Props) -> bool {
+    match props.copied_beside(alloc, beside) {
+        Ok(copied) => copied.equals(left),
+        Err(_) => false,
     }
 }
 
-// A name of so many bytes, and its copy: whether both are as long.
-fn is_name(alloc: Global, count: usize) -> Result<bool, Fail> {
-    let bytes = vec![in alloc; b'n'; count]?;
-    let name = PropName::parse(alloc, bytes.as_slice())?;
-    Ok(name.len() == count && name.copy(alloc)?.len() == count)
+#[test]
+fn sync_names_stay_with_their_mirror(rt: HostRuntime) {
+    let own = two(&rt, rt.alloc());
+    let plain = own.without_sync(rt.alloc()).expect(&rt, "memory");
+    assert!(rt; plain.len() == 1 && plain.contains(b"b"));
+    assert!(rt; is_copied(rt.alloc(), &own, &plain, &own));
+    assert!(rt; is_copied(rt.alloc(), &plain, &own, &plain));
+}
+
+// The fault that bytes are refused as a name with.
+fn name_fault(alloc: Global, bytes: &[u8]) -> Option<PropFault> {
+    PropName::parse(alloc, bytes).err()
+}
+
+// Whether a name and its copy are so long.
+fn is_as_long(alloc: Global, name: &PropName, count: usize) -> bool {
+    match name.copy(alloc) {
+        Ok(copy) => name.len() == count && copy.len() == count,
+        Err(_) => false,
+    }
+}
+
+// So many letters.
+fn letters(rt: &impl Abort, alloc: Global, count: usize) -> Vec<u8> {
+    Vec::from_elem(alloc, b'n', count).expect(rt, "memory")
+}
+
+// Whether a name of so many bytes is one, and is copied.
+fn is_name(rt: &impl Abort, alloc: Global, count: usize) -> bool {
+    match PropName::parse(alloc, letters(rt, alloc, count).as_slice()) {
+        Ok(name) => is_as_long(alloc, &name, count),
+        Err(_) => false,
+    }
 }
 
 #[test]
-fn names_have_limits(rt: HostRuntime) -> Result<(), Fail> {
-    assert!(rt; is_name(rt.alloc(), 255)?);
-    let long = vec![in rt.alloc(); b'n'; 256]?;
-    let fault = name_fault(rt.alloc(), long.as_slice())?;
-    assert_eq!(rt; fault, Some(PropFault::TooLong));
-    Ok(())
+fn names_have_limits(rt: HostRuntime) {
+    assert!(rt; is_name(&rt, rt.alloc(), 255));
+    let long = letters(&rt, rt.alloc(), 256);
+    assert!(rt; name_fault(rt.alloc(), long.as_slice()) == Some(PropFault::TooLong));
 }
 
 // Whether bytes are a name, which is these bytes.
-fn names_itself(alloc: Global, bytes: &[u8]) -> Result<bool, PropFault> {
-    Ok(PropName::parse(alloc, bytes)?.as_bytes() == bytes)
+fn names_itself(alloc: Global, bytes: &[u8]) -> bool {
+    match PropName::parse(alloc, bytes) {
+        Ok(name) => name.as_bytes() == bytes,
+        Err(_) => false,
+    }
 }
+
+const NAMES: [&[u8]; 5] = [b".", b"..", b"a/b", b" ", b"\xf0\x9f\x98\x80"];
+
+const OTHERS: [&[u8]; 4] = [b"", b"\n", b"a\x7f", b"\xff"];
 
 #[test]
-fn names_follow_the_rule(rt: HostRuntime) -> Result<(), Fail> {
-    for text in [b".".as_slice(), b"..", b"a/b", b" ", b"\xf0\x9f\x98\x80"] {
-        assert!(rt; names_itself(rt.alloc(), text)?);
+fn names_follow_the_rule(rt: HostRuntime) {
+    for text in &NAMES {
+        assert!(rt; names_itself(rt.alloc(), *text));
     }
-    for text in [b"".as_slice(), b"\n", b"a\x7f", b"\xff"] {
-        assert_eq!(rt; name_fault(rt.alloc(), text)?, Some(PropFault::BadProps));
+    for text in &OTHERS {
+        assert!(rt; name_fault(rt.alloc(), *text) == Some(PropFault::BadProps));
     }
-    Ok(())
 }
 
-// How long the copy of a value of so many bytes is.
-fn copied(alloc: Global, count: usize) -> Result<usize, PropFault> {
-    let value = PropValue::new(vec![in alloc; 0; count]?)?;
-    Ok(value.copy(alloc)?.len())
+// How long the copy of a value is.
+fn copied(alloc: Global, value: PropValue) -> Option<usize> {
+    match value.copy(alloc) {
+        Ok(copy) => Some(copy.len()),
+        Err(_) => None,
+    }
+}
+
+// How long the copy of a value of so many bytes is, or why there is no value.
+fn valued(rt: &impl Abort, alloc: Global, count: usize) -> Result<Option<usize>, PropFault> {
+    match PropValue::new(letters(rt, alloc, count)) {
+        Ok(value) => Ok(copied(alloc, value)),
+        Err(fault) => Err(fault),
+    }
 }
 
 #[test]
 fn values_have_limits(rt: HostRuntime) {
-    assert_eq!(rt; copied(rt.alloc(), 65_536), Ok(65_536));
-    assert_eq!(rt; copied(rt.alloc(), 65_537), Err(PropFault::TooLong));
+    assert!(rt; valued(&rt, rt.alloc(), 65_536) == Ok(Some(65_536)));
+    assert!(rt; valued(&rt, rt.alloc(), 65_537) == Err(PropFault::TooLong));
+}
+
+// A text of these bytes.
+fn text(rt: &impl Abort, alloc: Global, bytes: &[u8]) -> Text {
+    let bytes = Vec::from_slice(alloc, bytes).expect(rt, "memory");
+    Text::new(alloc, bytes).expect(rt, "a text")
 }
 
 // Whether a text has these bytes, and the sum of a text of them.
-fn is_text(alloc: Global, text: &Text, bytes: &[u8]) -> Result<bool, TextFault> {
-    let fresh = Text::new(alloc, bytes.to_vec(alloc)?)?;
-    Ok(text.as_slice() == bytes && text.sum() == fresh.sum())
+fn is_text(rt: &impl Abort, alloc: Global, found: &Text, bytes: &[u8]) -> bool {
+    let fresh = text(rt, alloc, bytes);
+    found.as_slice() == bytes && found.sum() == fresh.sum()
 }
 
 #[test]
-fn texts_grow_apart(rt: HostRuntime) -> Result<(), Fail> {
-    let mut text = Text::new(rt.alloc(), b"one".to_vec(rt.alloc())?)?;
-    let shared = text.share()?;
-    text.append(rt.alloc(), b" two")?;
-    text.append(rt.alloc(), b"")?;
-    assert!(rt; is_text(rt.alloc(), &text, b"one two")? && shared.len() == 3);
-    Ok(())
+fn texts_grow_apart(rt: HostRuntime) {
+    let mut grown = text(&rt, rt.alloc(), b"one");
+    let shared = grown.share().expect(&rt, "memory");
+    grown.append(rt.alloc(), b" two").expect(&rt, "memory");
+    grown.append(rt.alloc(), b"").expect(&rt, "memory");
+    assert!(rt; is_text(&rt, rt.alloc(), &grown, b"one two") && shared.len() == 3);
 }
 
 // How long a text of so many bytes is, or why it isn't made.
-fn made(alloc: Global, count: usize) -> Result<usize, TextFault> {
-    Ok(Text::new(alloc, vec![in alloc; b'x'; count]?)?.len())
+fn made(rt: &impl Abort, alloc: Global, count: usize) -> Result<usize, TextFault> {
+    match Text::new(alloc, letters(rt, alloc, count)) {
+        Ok(text) => Ok(text.len()),
+        Err(fault) => Err(fault),
+    }
 }
 
-// How long it is with another byte behind it.
-fn grown(alloc: Global, count: usize) -> Result<usize, TextFault> {
-    let mut text = Text::new(alloc, vec![in alloc; b'x'; count]?)?;
-    text.append(alloc, b"y")?;
-    Ok(text.len())
+// How long a text is with another byte behind it.
+fn appended(alloc: Global, text: Text) -> Result<usize, TextFault> {
+    let mut text = text;
+    match text.append(alloc, b"y") {
+        Ok(()) => Ok(text.len()),
+        Err(fault) => Err(fault),
+    }
+}
+
+// The same of a text of so many bytes.
+fn grown(rt: &impl Abort, alloc: Global, count: usize) -> Result<usize, TextFault> {
+    match Text::new(alloc, letters(rt, alloc, count)) {
+        Ok(text) => appended(alloc, text),
+        Err(fault) => Err(fault),
+    }
 }
 
 #[test]
 fn texts_have_a_limit(rt: HostRuntime) {
-    assert_eq!(rt; made(rt.alloc(), 1_048_576), Ok(1_048_576));
-    assert_eq!(rt; made(rt.alloc(), 1_048_577), Err(TextFault::TooLong));
-    assert_eq!(rt; grown(rt.alloc(), 1_048_575), Ok(1_048_576));
-    assert_eq!(rt; grown(rt.alloc(), 1_048_576), Err(TextFault::TooLong));
+    assert!(rt; made(&rt, rt.alloc(), 1_048_576) == Ok(1_048_576));
+    assert!(rt; made(&rt, rt.alloc(), 1_048_577) == Err(TextFault::TooLong));
+    assert!(rt; grown(&rt, rt.alloc(), 1_048_575) == Ok(1_048_576));
+    assert!(rt; grown(&rt, rt.alloc(), 1_048_576) == Err(TextFault::TooLong));
 }
 
 // A node with an empty text.
-fn empty_file(alloc: Global) -> Result<Node, AllocError> {
+fn empty_file(rt: &impl Abort, alloc: Global) -> Node {
     let mut node = Node::new_dir();
-    node.text = Some(Text::empty(alloc)?);
-    Ok(node)
+    node.text = Some(Text::empty(alloc).expect(rt, "memory"));
+    node
+}
+
+// How long the text of a node is.
+fn text_len(node: &Node) -> Option<usize> {
+    match &node.text {
+        Some(text) => Some(text.len()),
+        None => None,
+    }
 }
 
 #[test]
-fn texts_of_nodes_grow(rt: HostRuntime) -> Result<(), Fail> {
+fn texts_of_nodes_grow(rt: HostRuntime) {
     let mut dir = Node::new_dir();
-    dir.append_text(rt.alloc(), b"a")?;
-    assert!(rt; dir.text.is_none());
-    let mut file = empty_file(rt.alloc())?;
-    file.append_text(rt.alloc(), b"a")?;
-    assert!(rt; file.text.is_some_and(|text| text.len() == 1));
-    Ok(())
+    dir.append_text(rt.alloc(), b"a").expect(&rt, "memory");
+    assert!(rt; text_len(&dir).is_none());
+    let mut file = empty_file(&rt, rt.alloc());
+    file.append_text(rt.alloc(), b"a").expect(&rt, "memory");
+    assert!(rt; text_len(&file) == Some(1));
+}
+
+// Puts a value at the name `n` of a node, or takes it away.
+fn put_n(rt: &impl Abort, alloc: Global, node: &mut Node, value: Option<PropValue>) {
+    let name = PropName::parse(alloc, b"n").expect(rt, "a name");
+    node.put_prop(alloc, name, value).expect(rt, "memory");
 }
 
 #[test]
-fn properties_of_nodes_are_put(rt: HostRuntime) -> Result<(), Fail> {
+fn properties_of_nodes_are_put(rt: HostRuntime) {
     let mut node = Node::new_dir();
-    let value = PropValue::new(b"v".to_vec(rt.alloc())?)?;
-    let name = PropName::parse(rt.alloc(), b"n")?;
-    node.put_prop(rt.alloc(), name, Some(value))?;
+    let value = Vec::from_slice(rt.alloc(), b"v").expect(&rt, "memory");
+    let value = PropValue::new(value).expect(&rt, "a value");
+    put_n(&rt, rt.alloc(), &mut node, Some(value));
     assert!(rt; node.props.get(b"n") == Some(b"v".as_slice()));
-    let name = PropName::parse(rt.alloc(), b"n")?;
-    node.put_prop(rt.alloc(), name, None)?;
+    put_n(&rt, rt.alloc(), &mut node, None);
     assert!(rt; node.props.is_empty());
-    Ok(())
 }

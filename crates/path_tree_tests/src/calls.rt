@@ -2,184 +2,244 @@
 
 use node_base::{NodePath, Props, RevNo, Text};
 use path_tree::{Entry, Tree, TreeError};
-use std::alloc::Global;
-use std::test::Fail;
+use std::alloc::{AllocError, Global};
+use std::process::Abort;
 
-/// The calls that both bodies have, by the texts of paths. A call answers the number of its refusal, and 0 where it is
-/// done.
+/// The calls that both bodies have.
 pub(crate) trait Calls: Sized + Drop {
-    fn fresh(alloc: Global) -> Result<Self, Fail>;
+    fn fresh(alloc: Global) -> Result<Self, AllocError>;
 
-    fn again(&self) -> Result<Self, Fail>;
+    fn again(&self) -> Result<Self, AllocError>;
 
-    fn file(&mut self, alloc: Global, at: &str, number: u16) -> Result<u8, Fail>;
+    fn file(&mut self, alloc: Global, at: &NodePath, text: Text, number: RevNo) -> u8;
 
-    fn dir(&mut self, alloc: Global, at: &str, number: u16) -> Result<u8, Fail>;
+    fn dir(&mut self, alloc: Global, at: &NodePath, number: RevNo) -> u8;
 
-    fn props(&mut self, alloc: Global, at: &str, number: u16) -> Result<u8, Fail>;
+    fn props(&mut self, alloc: Global, at: &NodePath, number: RevNo) -> u8;
 
-    fn text(&mut self, alloc: Global, at: &str, number: u16) -> Result<u8, Fail>;
+    fn text(&mut self, alloc: Global, at: &NodePath, text: Text, number: RevNo) -> u8;
 
-    fn gone(&mut self, alloc: Global, at: &str, number: u16) -> Result<u8, Fail>;
+    fn gone(&mut self, alloc: Global, at: &NodePath, number: RevNo) -> u8;
 
     fn copy(
         &mut self,
         alloc: Global,
-        at: &str,
+        at: &NodePath,
         from: &Self,
-        source: &str,
-        number: u16,
-    ) -> Result<u8, Fail>;
+        source: &NodePath,
+        number: RevNo,
+    ) -> u8;
 
-    fn lines(&self, alloc: Global) -> Result<String, Fail>;
+    fn entries(&self, alloc: Global) -> Result<Vec<Entry<'_>>, AllocError>;
 }
 
 impl Calls for Tree {
-    fn fresh(alloc: Global) -> Result<Tree, Fail> {
-        Ok(Tree::empty(alloc)?)
+    fn fresh(alloc: Global) -> Result<Tree, AllocError> {
+        Tree::empty(alloc)
     }
 
-    fn again(&self) -> Result<Tree, Fail> {
-        Ok(self.share()?)
+    fn again(&self) -> Result<Tree, AllocError> {
+        self.share()
     }
 
-    fn file(&mut self, alloc: Global, at: &str, number: u16) -> Result<u8, Fail> {
-        let text = bytes(alloc)?;
-        done(self.put_file(
-            alloc,
-            &path(alloc, at)?,
-            text,
-            Props::empty(),
-            RevNo::new(number),
-        ))
+    fn file(&mut self, alloc: Global, at: &NodePath, text: Text, number: RevNo) -> u8 {
+        done(self.put_file(alloc, at, text, Props::empty(), number))
     }
 
-    fn dir(&mut self, alloc: Global, at: &str, number: u16) -> Result<u8, Fail> {
-        done(self.put_dir(alloc, &path(alloc, at)?, Props::empty(), RevNo::new(number)))
+    fn dir(&mut self, alloc: Global, at: &NodePath, number: RevNo) -> u8 {
+        done(self.put_dir(alloc, at, Props::empty(), number))
     }
 
-    fn props(&mut self, alloc: Global, at: &str, number: u16) -> Result<u8, Fail> {
-        done(self.set_props(alloc, &path(alloc, at)?, Props::empty(), RevNo::new(number)))
+    fn props(&mut self, alloc: Global, at: &NodePath, number: RevNo) -> u8 {
+        done(self.set_props(alloc, at, Props::empty(), number))
     }
 
-    fn text(&mut self, alloc: Global, at: &str, number: u16) -> Result<u8, Fail> {
-        let text = bytes(alloc)?;
-        done(self.set_text(alloc, &path(alloc, at)?, text, RevNo::new(number)))
+    fn text(&mut self, alloc: Global, at: &NodePath, text: Text, number: RevNo) -> u8 {
+        done(self.set_text(alloc, at, text, number))
     }
 
-    fn gone(&mut self, alloc: Global, at: &str, number: u16) -> Result<u8, Fail> {
-        done(self.remove(alloc, &path(alloc, at)?, RevNo::new(number)))
+    fn gone(&mut self, alloc: Global, at: &NodePath, number: RevNo) -> u8 {
+        done(self.remove(alloc, at, number))
     }
 
     fn copy(
         &mut self,
         alloc: Global,
-        at: &str,
+        at: &NodePath,
         from: &Tree,
-        source: &str,
-        number: u16,
-    ) -> Result<u8, Fail> {
-        let source = path(alloc, source)?;
-        done(self.copy_in(alloc, &path(alloc, at)?, from, &source, RevNo::new(number)))
+        source: &NodePath,
+        number: RevNo,
+    ) -> u8 {
+        done(self.copy_in(alloc, at, from, source, number))
     }
 
-    fn lines(&self, alloc: Global) -> Result<String, Fail> {
-        let mut lines = String::new(alloc);
-        for entry in &self.list(alloc)? {
-            add_line(alloc, entry, &mut lines)?;
-        }
-        Ok(lines)
+    fn entries(&self, alloc: Global) -> Result<Vec<Entry<'_>>, AllocError> {
+        self.list(alloc)
     }
 }
 
 impl Calls for plain_tree::Tree {
-    fn fresh(alloc: Global) -> Result<plain_tree::Tree, Fail> {
-        Ok(plain_tree::Tree::empty(alloc)?)
+    fn fresh(alloc: Global) -> Result<plain_tree::Tree, AllocError> {
+        plain_tree::Tree::empty(alloc)
     }
 
-    fn again(&self) -> Result<plain_tree::Tree, Fail> {
-        Ok(self.share()?)
+    fn again(&self) -> Result<plain_tree::Tree, AllocError> {
+        self.share()
     }
 
-    fn file(&mut self, alloc: Global, at: &str, number: u16) -> Result<u8, Fail> {
-        let text = bytes(alloc)?;
-        done(self.put_file(
-            alloc,
-            &path(alloc, at)?,
-            text,
-            Props::empty(),
-            RevNo::new(number),
-        ))
+    fn file(&mut self, alloc: Global, at: &NodePath, text: Text, number: RevNo) -> u8 {
+        done(self.put_file(alloc, at, text, Props::empty(), number))
     }
 
-    fn dir(&mut self, alloc: Global, at: &str, number: u16) -> Result<u8, Fail> {
-        done(self.put_dir(alloc, &path(alloc, at)?, Props::empty(), RevNo::new(number)))
+    fn dir(&mut self, alloc: Global, at: &NodePath, number: RevNo) -> u8 {
+        done(self.put_dir(alloc, at, Props::empty(), number))
     }
 
-    fn props(&mut self, alloc: Global, at: &str, number: u16) -> Result<u8, Fail> {
-        done(self.set_props(alloc, &path(alloc, at)?, Props::empty(), RevNo::new(number)))
+    fn props(&mut self, alloc: Global, at: &NodePath, number: RevNo) -> u8 {
+        done(self.set_props(alloc, at, Props::empty(), number))
     }
 
-    fn text(&mut self, alloc: Global, at: &str, number: u16) -> Result<u8, Fail> {
-        let text = bytes(alloc)?;
-        done(self.set_text(alloc, &path(alloc, at)?, text, RevNo::new(number)))
+    fn text(&mut self, alloc: Global, at: &NodePath, text: Text, number: RevNo) -> u8 {
+        done(self.set_text(alloc, at, text, number))
     }
 
-    fn gone(&mut self, alloc: Global, at: &str, number: u16) -> Result<u8, Fail> {
-        done(self.remove(alloc, &path(alloc, at)?, RevNo::new(number)))
+    fn gone(&mut self, alloc: Global, at: &NodePath, number: RevNo) -> u8 {
+        done(self.remove(alloc, at, number))
     }
 
     fn copy(
         &mut self,
         alloc: Global,
-        at: &str,
+        at: &NodePath,
         from: &plain_tree::Tree,
-        source: &str,
-        number: u16,
-    ) -> Result<u8, Fail> {
-        let source = path(alloc, source)?;
-        done(self.copy_in(alloc, &path(alloc, at)?, from, &source, RevNo::new(number)))
+        source: &NodePath,
+        number: RevNo,
+    ) -> u8 {
+        done(self.copy_in(alloc, at, from, source, number))
     }
 
-    fn lines(&self, alloc: Global) -> Result<String, Fail> {
-        let mut lines = String::new(alloc);
-        for entry in &self.list(alloc)? {
-            add_line(alloc, entry, &mut lines)?;
-        }
-        Ok(lines)
+    fn entries(&self, alloc: Global) -> Result<Vec<Entry<'_>>, AllocError> {
+        self.list(alloc)
     }
 }
 
 /// The path that a text spells.
-pub(crate) fn path(alloc: Global, text: &str) -> Result<NodePath, Fail> {
-    Ok(NodePath::parse(alloc, text.as_bytes())?)
+pub(crate) fn path(rt: &impl Abort, alloc: Global, text: &str) -> NodePath {
+    NodePath::parse(alloc, text.as_bytes()).expect(rt, "a path")
 }
 
-fn bytes(alloc: Global) -> Result<Text, Fail> {
-    Ok(Text::new(alloc, b"one".to_vec(alloc)?)?)
+/// The text `one`.
+pub(crate) fn one(rt: &impl Abort, alloc: Global) -> Text {
+    let bytes = Vec::from_slice(alloc, b"one").expect(rt, "memory");
+    Text::new(alloc, bytes).expect(rt, "a text")
 }
 
-/// The number of a call's refusal, and 0 where it is done. Want of memory is passed on.
-pub(crate) fn done(answer: Result<(), TreeError>) -> Result<u8, Fail> {
+/// The number of a call's refusal, and 0 where it is done.
+pub(crate) fn done(answer: Result<(), TreeError>) -> u8 {
     match answer {
-        Ok(()) => Ok(0),
-        Err(TreeError::OutOfMemory) => Err(Fail::from(TreeError::OutOfMemory)),
-        Err(error) => Ok(error.number()),
+        Ok(()) => 0,
+        Err(error) => error.number(),
     }
 }
 
-// The kind, the revision that changed it, and the names.
-fn add_line(alloc: Global, entry: &Entry, lines: &mut String) -> Result<(), Fail> {
+/// Adds this to a text.
+pub(crate) fn add(rt: &impl Abort, text: &mut String, more: &str) {
+    text.push_str(more).expect(rt, "memory");
+}
+
+/// A tree of the root alone.
+pub(crate) fn fresh<T: Calls>(rt: &impl Abort, alloc: Global) -> T {
+    T::fresh(alloc).expect(rt, "memory")
+}
+
+/// A share of a tree.
+pub(crate) fn again<T: Calls>(rt: &impl Abort, tree: &T) -> T {
+    tree.again().expect(rt, "memory")
+}
+
+/// What a tree answers where a path of another tree is copied to this one.
+pub(crate) fn copied<T: Calls>(
+    rt: &impl Abort,
+    alloc: Global,
+    tree: &mut T,
+    at: &str,
+    from: &T,
+    source: &str,
+    number: u16,
+) -> u8 {
+    let source = path(rt, alloc, source);
+    tree.copy(
+        alloc,
+        &path(rt, alloc, at),
+        from,
+        &source,
+        RevNo::new(number),
+    )
+}
+
+/// What it answers where its own root is copied.
+pub(crate) fn copy_root<T: Calls>(
+    rt: &impl Abort,
+    alloc: Global,
+    tree: &mut T,
+    at: &str,
+    number: u16,
+) -> u8 {
+    let before = again(rt, tree);
+    copied(rt, alloc, tree, at, &before, "", number)
+}
+
+/// What it answers where a file is made.
+pub(crate) fn filed<T: Calls>(
+    rt: &impl Abort,
+    alloc: Global,
+    tree: &mut T,
+    at: &str,
+    number: u16,
+) -> u8 {
+    let text = one(rt, alloc);
+    tree.file(alloc, &path(rt, alloc, at), text, RevNo::new(number))
+}
+
+// What it answers where a text is put.
+fn texted<T: Calls>(rt: &impl Abort, alloc: Global, tree: &mut T, at: &str, number: u16) -> u8 {
+    let text = one(rt, alloc);
+    tree.text(alloc, &path(rt, alloc, at), text, RevNo::new(number))
+}
+
+/// What it answers where a directory is made.
+pub(crate) fn made<T: Calls>(
+    rt: &impl Abort,
+    alloc: Global,
+    tree: &mut T,
+    at: &str,
+    number: u16,
+) -> u8 {
+    tree.dir(alloc, &path(rt, alloc, at), RevNo::new(number))
+}
+
+// Adds the kind, the revision that changed it, and the names.
+fn add_line(rt: &impl Abort, alloc: Global, entry: &Entry, lines: &mut String) {
     let node = entry.node;
     let number = node.changed.get();
     let kind = if node.text.is_some() { "F" } else { "D" };
-    lines.push_str(format!(in alloc; "{kind} {number}")?.as_str())?;
+    let front = format!(in alloc; "{kind} {number}").expect(rt, "memory");
+    add(rt, lines, front.as_str());
     for name in &entry.path {
-        lines.push_str(" ")?;
-        lines.push_str(name.as_str())?;
+        add(rt, lines, " ");
+        add(rt, lines, name.as_str());
     }
-    lines.push_str("\n")?;
-    Ok(())
+    add(rt, lines, "\n");
+}
+
+/// A line for each node of a tree.
+pub(crate) fn lines<T: Calls>(rt: &impl Abort, alloc: Global, tree: &T) -> String {
+    let entries = tree.entries(alloc).expect(rt, "memory");
+    let mut lines = String::new(alloc);
+    for entry in &entries {
+        add_line(rt, alloc, entry, &mut lines);
+    }
+    lines
 }
 
 /// A call by the text of its path. A copy's source is of the tree before the first of the calls.
@@ -195,34 +255,36 @@ pub(crate) enum Call {
 
 // What a tree answers to a call of that number.
 fn answer<T: Calls>(
+    rt: &impl Abort,
     alloc: Global,
     tree: &mut T,
     before: &T,
     call: Call,
     number: u16,
-) -> Result<u8, Fail> {
+) -> u8 {
     match call {
-        Call::File(at) => tree.file(alloc, at, number),
-        Call::Dir(at) => tree.dir(alloc, at, number),
-        Call::Props(at) => tree.props(alloc, at, number),
-        Call::Text(at) => tree.text(alloc, at, number),
-        Call::Gone(at) => tree.gone(alloc, at, number),
-        Call::Copy(at, source) => tree.copy(alloc, at, before, source, number),
+        Call::File(at) => filed(rt, alloc, tree, at, number),
+        Call::Dir(at) => made(rt, alloc, tree, at, number),
+        Call::Props(at) => tree.props(alloc, &path(rt, alloc, at), RevNo::new(number)),
+        Call::Text(at) => texted(rt, alloc, tree, at, number),
+        Call::Gone(at) => tree.gone(alloc, &path(rt, alloc, at), RevNo::new(number)),
+        Call::Copy(at, source) => copied(rt, alloc, tree, at, before, source, number),
     }
 }
 
 /// Whether a tree answers so to calls one after another, of that number.
 pub(crate) fn answers<T: Calls>(
+    rt: &impl Abort,
     alloc: Global,
     tree: &mut T,
-    calls: &[Call],
+    calls: &[(Call, u8)],
     number: u16,
-    want: &[u8],
-) -> Result<bool, Fail> {
-    let before = tree.again()?;
-    let mut told = Vec::new(alloc);
-    for call in calls {
-        told.push(answer(alloc, tree, &before, *call, number)?)?;
+) -> bool {
+    let before = again(rt, tree);
+    for (call, want) in calls {
+        if answer(rt, alloc, tree, &before, *call, number) != *want {
+            return false;
+        }
     }
-    Ok(told.as_slice() == want)
+    true
 }

@@ -1,24 +1,27 @@
 //! A node that is built bit by bit, and why that is refused.
 
-use crate::calls::{done, path};
-use node_base::{NodePath, PropName, PropValue, Props, Refusal, RevNo, Text, TreeFault};
+use crate::calls::{done, fresh, one, path};
+use node_base::{NodePath, PropName, PropValue, Props, Refusal, RevNo, TreeFault};
 use path_tree::{Tree, TreeError};
 use std::alloc::Global;
-use std::test::Fail;
+use std::process::Abort;
+
+// Puts a file with the text `one`, and a directory.
+fn fill(rt: &impl Abort, alloc: Global, tree: &mut Tree) -> bool {
+    let file = path(rt, alloc, "f");
+    let dir = path(rt, alloc, "d");
+    tree.put_file(alloc, &file, one(rt, alloc), Props::empty(), RevNo::new(1))
+        .is_ok()
+        && tree
+            .put_dir(alloc, &dir, Props::empty(), RevNo::new(1))
+            .is_ok()
+}
 
 // A file with the text `one`, and a directory.
-fn small(alloc: Global) -> Result<Tree, Fail> {
-    let mut tree = Tree::empty(alloc)?;
-    let text = Text::new(alloc, b"one".to_vec(alloc)?)?;
-    tree.put_file(
-        alloc,
-        &path(alloc, "f")?,
-        text,
-        Props::empty(),
-        RevNo::new(1),
-    )?;
-    tree.put_dir(alloc, &path(alloc, "d")?, Props::empty(), RevNo::new(1))?;
-    Ok(tree)
+fn small(rt: &impl Abort, alloc: Global) -> Tree {
+    let mut tree = fresh::<Tree>(rt, alloc);
+    assert!(rt; fill(rt, alloc, &mut tree));
+    tree
 }
 
 // Whether a file has that text.
@@ -29,149 +32,147 @@ fn reads(tree: &Tree, file: &NodePath, text: &[u8]) -> bool {
     }
 }
 
+// Whether a text grows by a piece, and another one is begun and built of two.
+fn is_built(alloc: Global, tree: &mut Tree, file: &NodePath) -> bool {
+    tree.append_text(alloc, file, b" more").is_ok()
+        && reads(tree, file, b"one more")
+        && tree.start_text(alloc, file).is_ok()
+        && tree.append_text(alloc, file, b"t").is_ok()
+        && tree.append_text(alloc, file, b"wo").is_ok()
+        && reads(tree, file, b"two")
+}
+
 #[test]
-fn a_text_is_built_in_pieces(rt: HostRuntime) -> Result<(), Fail> {
-    let alloc = rt.alloc();
-    let mut tree = small(alloc)?;
-    let before = tree.share()?;
-    let file = path(alloc, "f")?;
-    tree.append_text(alloc, &file, b" more")?;
-    assert!(rt; reads(&tree, &file, b"one more"));
-    tree.start_text(alloc, &file)?;
-    tree.append_text(alloc, &file, b"t")?;
-    tree.append_text(alloc, &file, b"wo")?;
-    assert!(rt; reads(&tree, &file, b"two") && reads(&before, &file, b"one"));
-    Ok(())
+fn a_text_is_built_in_pieces(rt: HostRuntime) {
+    let mut tree = small(&rt, rt.alloc());
+    let before = tree.share().expect(&rt, "memory");
+    let file = path(&rt, rt.alloc(), "f");
+    assert!(rt; is_built(rt.alloc(), &mut tree, &file));
+    assert!(rt; reads(&before, &file, b"one"));
+}
+
+// The name of a property.
+fn name(rt: &impl Abort, alloc: Global, text: &[u8]) -> PropName {
+    PropName::parse(alloc, text).expect(rt, "a name")
 }
 
 // Puts a value at a name.
-fn put(tree: &mut Tree, alloc: Global, at: &str, name: &[u8]) -> Result<u8, Fail> {
-    let name = PropName::parse(alloc, name)?;
-    let value = PropValue::new(b"v".to_vec(alloc)?)?;
-    done(tree.put_prop(alloc, &path(alloc, at)?, name, Some(value)))
+fn put(rt: &impl Abort, alloc: Global, tree: &mut Tree, at: &str, text: &[u8]) -> u8 {
+    let bytes = Vec::from_slice(alloc, b"v").expect(rt, "memory");
+    let value = PropValue::new(bytes).expect(rt, "a value");
+    done(tree.put_prop(
+        alloc,
+        &path(rt, alloc, at),
+        name(rt, alloc, text),
+        Some(value),
+    ))
 }
 
 // Takes the value at a name away.
-fn clear(tree: &mut Tree, alloc: Global, at: &str, name: &[u8]) -> Result<u8, Fail> {
-    let name = PropName::parse(alloc, name)?;
-    done(tree.put_prop(alloc, &path(alloc, at)?, name, None))
+fn clear(rt: &impl Abort, alloc: Global, tree: &mut Tree, at: &str, text: &[u8]) -> u8 {
+    done(tree.put_prop(alloc, &path(rt, alloc, at), name(rt, alloc, text), None))
 }
 
 // Whether a node has so many properties.
-fn has(tree: &Tree, alloc: Global, at: &str, count: usize) -> Result<bool, Fail> {
-    let node = path(alloc, at)?;
-    Ok(tree.get(node.names()).map(|node| node.props.len()) == Some(count))
+fn has(rt: &impl Abort, alloc: Global, tree: &Tree, at: &str, count: usize) -> bool {
+    match tree.get(path(rt, alloc, at).names()) {
+        Some(node) => node.props.len() == count,
+        None => false,
+    }
 }
 
-// Two properties of a directory that is shared, and then one of them.
-fn builds_properties(alloc: Global) -> Result<bool, Fail> {
-    let mut tree = small(alloc)?;
-    let before = tree.share()?;
-    let answers = [
-        put(&mut tree, alloc, "d", b"a")?,
-        put(&mut tree, alloc, "d", b"b")?,
-        clear(&mut tree, alloc, "d", b"a")?,
-    ];
-    Ok(answers == [0, 0, 0] && has(&tree, alloc, "d", 1)? && has(&before, alloc, "d", 0)?)
+// Whether two properties of a directory are put, and then one of them goes.
+fn builds_properties(rt: &impl Abort, alloc: Global, tree: &mut Tree) -> bool {
+    put(rt, alloc, tree, "d", b"a") == 0
+        && put(rt, alloc, tree, "d", b"b") == 0
+        && clear(rt, alloc, tree, "d", b"a") == 0
+        && has(rt, alloc, tree, "d", 1)
 }
 
 #[test]
-fn properties_are_built_one_by_one(rt: HostRuntime) -> Result<(), Fail> {
-    assert!(rt; builds_properties(rt.alloc())?);
-    Ok(())
+fn properties_are_built_one_by_one(rt: HostRuntime) {
+    let mut tree = small(&rt, rt.alloc());
+    let before = tree.share().expect(&rt, "memory");
+    assert!(rt; builds_properties(&rt, rt.alloc(), &mut tree));
+    assert!(rt; has(&rt, rt.alloc(), &before, "d", 0));
 }
 
 // A file with 256 properties.
-fn full(alloc: Global) -> Result<Tree, Fail> {
-    let mut tree = small(alloc)?;
+fn full(rt: &impl Abort, alloc: Global) -> Tree {
+    let mut tree = small(rt, alloc);
     for number in 0u16..256 {
-        let name = format!(in alloc; "p{number}")?;
-        let _ = put(&mut tree, alloc, "f", name.as_str().as_bytes())?;
+        let name = format!(in alloc; "p{number}").expect(rt, "memory");
+        assert!(rt; put(rt, alloc, &mut tree, "f", name.as_str().as_bytes()) == 0);
     }
-    Ok(tree)
+    tree
 }
 
-// What a file with 256 properties answers where one is put, and how many it then has.
-fn answers_when_full(alloc: Global, name: &[u8], want: u8, count: usize) -> Result<bool, Fail> {
-    let mut tree = full(alloc)?;
-    Ok(put(&mut tree, alloc, "f", name)? == want && has(&tree, alloc, "f", count)?)
-}
-
-#[test]
-fn one_property_more_is_refused(rt: HostRuntime) -> Result<(), Fail> {
-    assert!(rt; answers_when_full(rt.alloc(), b"q", 8, 256)?);
-    assert!(rt; answers_when_full(rt.alloc(), b"p7", 0, 256)?);
-    assert!(rt; answers_when_full(rt.alloc(), b"svn:sync-x", 0, 257)?);
-    Ok(())
+// Whether a file with 256 properties answers so where one is put, and then has so many.
+fn answers_when_full(rt: &impl Abort, alloc: Global, name: &[u8], want: u8, count: usize) -> bool {
+    let mut tree = full(rt, alloc);
+    put(rt, alloc, &mut tree, "f", name) == want && has(rt, alloc, &tree, "f", count)
 }
 
 #[test]
-fn a_property_that_is_absent_is_taken_away(rt: HostRuntime) -> Result<(), Fail> {
-    let mut tree = full(rt.alloc())?;
-    assert!(rt; clear(&mut tree, rt.alloc(), "f", b"q")? == 0);
-    assert!(rt; has(&tree, rt.alloc(), "f", 256)?);
-    Ok(())
+fn one_property_more_is_refused(rt: HostRuntime) {
+    assert!(rt; answers_when_full(&rt, rt.alloc(), b"q", 8, 256));
+    assert!(rt; answers_when_full(&rt, rt.alloc(), b"p7", 0, 256));
+    assert!(rt; answers_when_full(&rt, rt.alloc(), b"svn:sync-x", 0, 257));
+}
+
+#[test]
+fn a_property_that_is_absent_is_taken_away(rt: HostRuntime) {
+    let mut tree = full(&rt, rt.alloc());
+    assert!(rt; clear(&rt, rt.alloc(), &mut tree, "f", b"q") == 0);
+    assert!(rt; has(&rt, rt.alloc(), &tree, "f", 256));
 }
 
 // A property of what is absent, and of what is below a file.
-fn refuses_props(alloc: Global) -> Result<bool, Fail> {
-    let mut tree = small(alloc)?;
-    let answers = [
-        put(&mut tree, alloc, "x", b"a")?,
-        clear(&mut tree, alloc, "f/x", b"a")?,
-    ];
-    Ok(answers == [11, 13])
+fn refuses_props(rt: &impl Abort, alloc: Global) -> bool {
+    let mut tree = small(rt, alloc);
+    put(rt, alloc, &mut tree, "x", b"a") == 11 && clear(rt, alloc, &mut tree, "f/x", b"a") == 13
 }
 
 // A text of what is absent, and of a directory twice.
-fn refuses_texts(alloc: Global) -> Result<bool, Fail> {
-    let mut tree = small(alloc)?;
-    let absent = path(alloc, "x/y")?;
-    let dir = path(alloc, "d")?;
-    let answers = [
-        done(tree.start_text(alloc, &absent))?,
-        done(tree.start_text(alloc, &dir))?,
-        done(tree.append_text(alloc, &dir, b"a"))?,
-    ];
-    Ok(answers == [11, 17, 17])
+fn refuses_texts(rt: &impl Abort, alloc: Global) -> bool {
+    let mut tree = small(rt, alloc);
+    let absent = path(rt, alloc, "x/y");
+    let dir = path(rt, alloc, "d");
+    done(tree.start_text(alloc, &absent)) == 11
+        && done(tree.start_text(alloc, &dir)) == 17
+        && done(tree.append_text(alloc, &dir, b"a")) == 17
 }
 
 #[test]
-fn places_are_refused_first(rt: HostRuntime) -> Result<(), Fail> {
-    assert!(rt; refuses_props(rt.alloc())?);
-    assert!(rt; refuses_texts(rt.alloc())?);
-    Ok(())
+fn places_are_refused_first(rt: HostRuntime) {
+    assert!(rt; refuses_props(&rt, rt.alloc()));
+    assert!(rt; refuses_texts(&rt, rt.alloc()));
 }
 
 // Pieces that make the text `one` a mebibyte, one byte more, and nothing more.
-fn refuses_a_byte_more(alloc: Global) -> Result<bool, Fail> {
-    let mut tree = small(alloc)?;
-    let file = path(alloc, "f")?;
-    let piece = vec![in alloc; b'x'; 1_048_573]?;
-    let answers = [
-        done(tree.append_text(alloc, &file, piece.as_slice()))?,
-        done(tree.append_text(alloc, &file, b"x"))?,
-        done(tree.append_text(alloc, &file, b""))?,
-    ];
-    Ok(answers == [0, 8, 0])
+fn refuses_a_byte_more(rt: &impl Abort, alloc: Global) -> bool {
+    let mut tree = small(rt, alloc);
+    let file = path(rt, alloc, "f");
+    let piece = Vec::from_elem(alloc, b'x', 1_048_573).expect(rt, "memory");
+    done(tree.append_text(alloc, &file, piece.as_slice())) == 0
+        && done(tree.append_text(alloc, &file, b"x")) == 8
+        && done(tree.append_text(alloc, &file, b"")) == 0
 }
 
 #[test]
-fn a_text_past_the_limit_is_refused(rt: HostRuntime) -> Result<(), Fail> {
-    assert!(rt; refuses_a_byte_more(rt.alloc())?);
-    Ok(())
+fn a_text_past_the_limit_is_refused(rt: HostRuntime) {
+    assert!(rt; refuses_a_byte_more(&rt, rt.alloc()));
 }
 
 // Whether an error prints so.
-fn prints(alloc: Global, error: TreeError, text: &str) -> Result<bool, Fail> {
-    Ok(format!(in alloc; "{error}")?.as_str() == text)
+fn prints(alloc: Global, error: TreeError, text: &str) -> bool {
+    format!(in alloc; "{error}").is_ok_and(|told| told.as_str() == text)
 }
 
 #[test]
-fn errors_tell_the_refusal(rt: HostRuntime) -> Result<(), Fail> {
+fn errors_tell_the_refusal(rt: HostRuntime) {
     let error = TreeError::Fault(TreeFault::NotDir);
-    assert!(rt; prints(rt.alloc(), error, "not a directory")?);
+    assert!(rt; prints(rt.alloc(), error, "not a directory"));
     assert!(rt; Refusal::from(error).number() == 13);
     assert!(rt; Refusal::from(TreeError::OutOfMemory).number() == 70);
-    Ok(())
 }

@@ -1,20 +1,19 @@
 //! Both bodies on the same calls, and the refusals in their order.
 
-use crate::calls::{Call, Calls, answers};
+use crate::calls::{Call, Calls, add, again, answers, copied, copy_root, fresh, lines, made};
 use path_tree::Tree;
 use std::alloc::Global;
-use std::test::Fail;
+use std::process::Abort;
 
 // Revision 1 adds a file, and each later one a copy of the root before it.
-fn doubled<T: Calls>(alloc: Global) -> Result<String, Fail> {
-    let mut tree = T::fresh(alloc)?;
-    let _ = tree.file(alloc, "f", 1)?;
+fn doubled<T: Calls>(rt: &impl Abort, alloc: Global) -> String {
+    let mut tree = fresh::<T>(rt, alloc);
+    assert!(rt; answers(rt, alloc, &mut tree, &[(Call::File("f"), 0)], 1));
     for number in 2u16..12 {
-        let before = tree.again()?;
-        let at = format!(in alloc; "c{number}")?;
-        let _ = tree.copy(alloc, at.as_str(), &before, "", number)?;
+        let at = format!(in alloc; "c{number}").expect(rt, "memory");
+        assert!(rt; copy_root(rt, alloc, &mut tree, at.as_str(), number) == 0);
     }
-    tree.lines(alloc)
+    lines(rt, alloc, &tree)
 }
 
 fn is_same(one: &String, other: &String) -> bool {
@@ -32,133 +31,131 @@ fn has(lines: &String, front: &str, count: usize) -> bool {
 }
 
 #[test]
-fn both_bodies_list_the_same(rt: HostRuntime) -> Result<(), Fail> {
-    let lines = doubled::<Tree>(rt.alloc())?;
-    assert!(rt; is_same(&lines, &doubled::<plain_tree::Tree>(rt.alloc())?));
-    Ok(())
+fn both_bodies_list_the_same(rt: HostRuntime) {
+    let listed = doubled::<Tree>(&rt, rt.alloc());
+    assert!(rt; is_same(&listed, &doubled::<plain_tree::Tree>(&rt, rt.alloc())));
 }
 
 #[test]
-fn a_copy_keeps_the_numbers_below_its_top(rt: HostRuntime) -> Result<(), Fail> {
-    let lines = doubled::<Tree>(rt.alloc())?;
-    assert!(rt; has(&lines, "", 2048));
-    assert!(rt; has(&lines, "F 1 ", 1024));
-    assert!(rt; has(&lines, "F", 1024));
-    Ok(())
+fn a_copy_keeps_the_numbers_below_its_top(rt: HostRuntime) {
+    let listed = doubled::<Tree>(&rt, rt.alloc());
+    assert!(rt; has(&listed, "", 2048));
+    assert!(rt; has(&listed, "F 1 ", 1024));
+    assert!(rt; has(&listed, "F", 1024));
 }
 
 // A file, and a directory in a directory.
-fn small<T: Calls>(alloc: Global) -> Result<T, Fail> {
-    let mut tree = T::fresh(alloc)?;
-    let calls = [Call::File("f"), Call::Dir("d"), Call::Dir("d/e")];
-    let _ = answers(alloc, &mut tree, &calls, 1, &[0, 0, 0])?;
-    Ok(tree)
+fn small<T: Calls>(rt: &impl Abort, alloc: Global) -> T {
+    let mut tree = fresh::<T>(rt, alloc);
+    let calls = [
+        (Call::File("f"), 0),
+        (Call::Dir("d"), 0),
+        (Call::Dir("d/e"), 0),
+    ];
+    assert!(rt; answers(rt, alloc, &mut tree, &calls, 1));
+    tree
 }
 
 // Whether the small tree refuses these calls by these numbers and lists what it listed before.
-fn refuses<T: Calls>(alloc: Global, calls: &[Call], want: &[u8]) -> Result<bool, Fail> {
-    let mut tree = small::<T>(alloc)?;
-    let before = tree.lines(alloc)?;
-    let as_wanted = answers(alloc, &mut tree, calls, 2, want)?;
-    Ok(as_wanted && is_same(&tree.lines(alloc)?, &before))
+fn refuses<T: Calls>(rt: &impl Abort, alloc: Global, calls: &[(Call, u8)]) -> bool {
+    let mut tree = small::<T>(rt, alloc);
+    let before = lines(rt, alloc, &tree);
+    answers(rt, alloc, &mut tree, calls, 2) && is_same(&lines(rt, alloc, &tree), &before)
 }
 
 // The root, a front that is absent, a front that is a file, the first of both, and a path that is there.
-fn refuses_adds<T: Calls>(alloc: Global) -> Result<bool, Fail> {
-    let calls = [
-        Call::Dir(""),
-        Call::File("x/y"),
-        Call::Dir("f/y/z"),
-        Call::Dir("x/f/z"),
-        Call::File("d/e"),
-    ];
-    refuses::<T>(alloc, &calls, &[10, 11, 13, 11, 12])
-}
+const ADDS: [(Call, u8); 5] = [
+    (Call::Dir(""), 10),
+    (Call::File("x/y"), 11),
+    (Call::Dir("f/y/z"), 13),
+    (Call::Dir("x/f/z"), 11),
+    (Call::File("d/e"), 12),
+];
 
 // Properties and a text of what is absent, a text of a directory, the root removed, and what is absent removed.
-fn refuses_changes<T: Calls>(alloc: Global) -> Result<bool, Fail> {
-    let calls = [
-        Call::Props("x"),
-        Call::Text("f/x"),
-        Call::Text("d"),
-        Call::Gone(""),
-        Call::Gone("d/x"),
-    ];
-    refuses::<T>(alloc, &calls, &[11, 13, 17, 10, 11])
-}
+const CHANGES: [(Call, u8); 5] = [
+    (Call::Props("x"), 11),
+    (Call::Text("f/x"), 13),
+    (Call::Text("d"), 17),
+    (Call::Gone(""), 10),
+    (Call::Gone("d/x"), 11),
+];
 
 // A path that is there comes before a source that is absent.
-fn refuses_copies<T: Calls>(alloc: Global) -> Result<bool, Fail> {
-    let calls = [Call::Copy("d/e", "x"), Call::Copy("y", "x")];
-    refuses::<T>(alloc, &calls, &[12, 14])
+const COPIES: [(Call, u8); 2] = [(Call::Copy("d/e", "x"), 12), (Call::Copy("y", "x"), 14)];
+
+#[test]
+fn refusals_come_in_their_order(rt: HostRuntime) {
+    assert!(rt; refuses::<Tree>(&rt, rt.alloc(), &ADDS));
+    assert!(rt; refuses::<Tree>(&rt, rt.alloc(), &CHANGES));
+    assert!(rt; refuses::<Tree>(&rt, rt.alloc(), &COPIES));
 }
 
 #[test]
-fn refusals_come_in_their_order(rt: HostRuntime) -> Result<(), Fail> {
-    assert!(rt; refuses_adds::<Tree>(rt.alloc())?);
-    assert!(rt; refuses_changes::<Tree>(rt.alloc())?);
-    assert!(rt; refuses_copies::<Tree>(rt.alloc())?);
-    Ok(())
+fn plain_refusals_come_in_their_order(rt: HostRuntime) {
+    assert!(rt; refuses::<plain_tree::Tree>(&rt, rt.alloc(), &ADDS));
+    assert!(rt; refuses::<plain_tree::Tree>(&rt, rt.alloc(), &CHANGES));
+    assert!(rt; refuses::<plain_tree::Tree>(&rt, rt.alloc(), &COPIES));
 }
 
-#[test]
-fn plain_refusals_come_in_their_order(rt: HostRuntime) -> Result<(), Fail> {
-    assert!(rt; refuses_adds::<plain_tree::Tree>(rt.alloc())?);
-    assert!(rt; refuses_changes::<plain_tree::Tree>(rt.alloc())?);
-    assert!(rt; refuses_copies::<plain_tree::Tree>(rt.alloc())?);
-    Ok(())
+// A path of 64 names, in which a directory is made for each of the first 63.
+fn deep<T: Calls>(rt: &impl Abort, alloc: Global, tree: &mut T) -> String {
+    let mut deep = String::new(alloc);
+    for _ in 0u8..63 {
+        add(rt, &mut deep, "a");
+        assert!(rt; made(rt, alloc, tree, deep.as_str(), 2) == 0);
+        add(rt, &mut deep, "/");
+    }
+    add(rt, &mut deep, "b");
+    deep
 }
 
 // Whether of copies to a path of 64 names that of what has something below it is refused, and that of what has nothing
 // isn't.
-fn refuses_deep_copies<T: Calls>(alloc: Global) -> Result<bool, Fail> {
-    let mut tree = small::<T>(alloc)?;
-    let from = tree.again()?;
-    let mut deep = String::new(alloc);
-    for _ in 0u8..63 {
-        deep.push_str("a")?;
-        let _ = tree.dir(alloc, deep.as_str(), 2)?;
-        deep.push_str("/")?;
-    }
-    deep.push_str("b")?;
-    let answers = [
-        tree.copy(alloc, deep.as_str(), &from, "d", 3)?,
-        tree.copy(alloc, deep.as_str(), &from, "f", 3)?,
-    ];
-    Ok(answers == [8, 0])
+fn refuses_deep_copies<T: Calls>(rt: &impl Abort, alloc: Global) -> bool {
+    let mut tree = small::<T>(rt, alloc);
+    let from = again(rt, &tree);
+    let deep = deep(rt, alloc, &mut tree);
+    copied(rt, alloc, &mut tree, deep.as_str(), &from, "d", 3) == 8
+        && copied(rt, alloc, &mut tree, deep.as_str(), &from, "f", 3) == 0
 }
 
 #[test]
-fn copy_past_the_limits_is_refused(rt: HostRuntime) -> Result<(), Fail> {
-    assert!(rt; refuses_deep_copies::<Tree>(rt.alloc())?);
-    assert!(rt; refuses_deep_copies::<plain_tree::Tree>(rt.alloc())?);
-    Ok(())
+fn copy_past_the_limits_is_refused(rt: HostRuntime) {
+    assert!(rt; refuses_deep_copies::<Tree>(&rt, rt.alloc()));
+    assert!(rt; refuses_deep_copies::<plain_tree::Tree>(&rt, rt.alloc()));
 }
 
 // A directory with a file.
-fn source<T: Calls>(alloc: Global) -> Result<T, Fail> {
-    let mut tree = T::fresh(alloc)?;
-    let _ = answers(alloc, &mut tree, &[Call::Dir("a")], 1, &[0])?;
-    let _ = answers(alloc, &mut tree, &[Call::File("a/f")], 2, &[0])?;
-    Ok(tree)
+fn source<T: Calls>(rt: &impl Abort, alloc: Global) -> T {
+    let mut tree = fresh::<T>(rt, alloc);
+    assert!(rt; answers(rt, alloc, &mut tree, &[(Call::Dir("a"), 0)], 1));
+    assert!(rt; answers(rt, alloc, &mut tree, &[(Call::File("a/f"), 0)], 2));
+    tree
 }
 
-// Whether a tree lists these lines before, and those after a copy of a directory into itself, a change in the copy, and
-// a removal from the source.
-fn lists<T: Calls>(alloc: Global, before: &str, after: &str) -> Result<bool, Fail> {
-    let mut tree = source::<T>(alloc)?;
-    let shared = tree.again()?;
-    let _ = answers(alloc, &mut tree, &[Call::Copy("a/b", "a")], 3, &[0])?;
-    let _ = answers(alloc, &mut tree, &[Call::Text("a/b/f")], 4, &[0])?;
-    let _ = answers(alloc, &mut tree, &[Call::Gone("a/f")], 5, &[0])?;
-    Ok(shared.lines(alloc)?.as_str() == before && tree.lines(alloc)?.as_str() == after)
+// A copy of the directory into itself, a change in the copy, and a removal from the source.
+fn is_changed<T: Calls>(rt: &impl Abort, alloc: Global, tree: &mut T) -> bool {
+    answers(rt, alloc, tree, &[(Call::Copy("a/b", "a"), 0)], 3)
+        && answers(rt, alloc, tree, &[(Call::Text("a/b/f"), 0)], 4)
+        && answers(rt, alloc, tree, &[(Call::Gone("a/f"), 0)], 5)
+}
+
+const BEFORE: &str = "D 2\nD 2 a\nF 2 a f\n";
+
+const AFTER: &str = "D 5\nD 5 a\nD 4 a b\nF 4 a b f\n";
+
+// Whether a tree lists what it is to list before these, and after them.
+fn is_listed<T: Calls>(rt: &impl Abort, alloc: Global) -> bool {
+    let mut tree = source::<T>(rt, alloc);
+    let shared = again(rt, &tree);
+    is_changed(rt, alloc, &mut tree)
+        && lines(rt, alloc, &shared).as_str() == BEFORE
+        && lines(rt, alloc, &tree).as_str() == AFTER
 }
 
 #[test]
-fn copy_into_itself_keeps_the_source(rt: HostRuntime) -> Result<(), Fail> {
-    let before = "D 2\nD 2 a\nF 2 a f\n";
-    let after = "D 5\nD 5 a\nD 4 a b\nF 4 a b f\n";
-    assert!(rt; lists::<Tree>(rt.alloc(), before, after)?);
-    assert!(rt; lists::<plain_tree::Tree>(rt.alloc(), before, after)?);
-    Ok(())
+fn copy_into_itself_keeps_the_source(rt: HostRuntime) {
+    assert!(rt; is_listed::<Tree>(&rt, rt.alloc()));
+    assert!(rt; is_listed::<plain_tree::Tree>(&rt, rt.alloc()));
 }

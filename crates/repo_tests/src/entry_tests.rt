@@ -1,53 +1,110 @@
 //! Entries that a store takes and writes, and those that it refuses.
 
-use crate::store_tests::{FIRST, SECOND, commit, is_journal, opened, refusal, second_disk};
+use crate::store_tests::{FIRST, SECOND, commit, found, is_journal, refusal, second_disk};
 use fleet_disk::MemDisk;
 use node_base::{Props, RevNo};
 use repo_store::RepoStore;
 use std::alloc::Global;
-use std::test::Fail;
+use std::process::Abort;
 
-// What a journal opens to whose second entry is this one, shorter than 256 bytes: the refusal, or 0.
-fn opens_to(alloc: Global, second: &[u8]) -> Result<u8, Fail> {
-    let mut journal = Vec::from_slice(alloc, FIRST)?;
-    journal.extend_from_slice(second)?;
-    let [_, _, _, _, _, _, high, low] = (journal.len() as u64).to_be_bytes();
-    let mut gate = Vec::from_slice(alloc, b"\x01\0\0\0\0\0\0\0\x95\x01\0\0\0\0\0\0")?;
-    gate.extend_from_slice(&[high, low, 0])?;
-    Ok(refusal(alloc, MemDisk::with_bytes(alloc, &journal, &gate)?))
+// The first entry, and this one.
+fn journal_of(rt: &impl Abort, alloc: Global, second: &[u8]) -> Vec<u8> {
+    let mut journal = Vec::from_slice(alloc, FIRST).expect(rt, "memory");
+    journal.extend_from_slice(second).expect(rt, "memory");
+    journal
 }
 
-#[test]
-fn entries_that_are_none(rt: HostRuntime) -> Result<(), Fail> {
-    let zero = b"Revision-number: 0\nProp-content-length: 10\nContent-length: 10\n\nPROPS-END\n\n";
-    assert_eq!(rt; opens_to(rt.alloc(), zero)?, 0);
-    // Another number, an empty line too many, a missing length, two revisions, a node of revision 0.
-    let two = b"Revision-number: 2\nProp-content-length: 10\nContent-length: 10\n\nPROPS-END\n\n";
-    assert_eq!(rt; opens_to(rt.alloc(), two)?, 33);
-    let long =
-        b"Revision-number: 0\nProp-content-length: 10\nContent-length: 10\n\nPROPS-END\n\n\n";
-    assert_eq!(rt; opens_to(rt.alloc(), long)?, 33);
-    let short = b"Revision-number: 0\nProp-content-length: 10\n\nPROPS-END\n\n";
-    assert_eq!(rt; opens_to(rt.alloc(), short)?, 33);
-    let node =
-        b"Revision-number: 0\nProp-content-length: 10\nContent-length: 10\n\nPROPS-END\n\nNode-path: a\nNode-kind: dir\nNode-action: change\n\n\n\n";
-    assert_eq!(rt; opens_to(rt.alloc(), node)?, 33);
-    Ok(())
+// The gate of the first entry, and of one that ends at so many bytes.
+fn gate_of(rt: &impl Abort, alloc: Global, end: u64) -> Vec<u8> {
+    let mut gate = Vec::from_slice(alloc, b"\x01\0\0\0\0\0\0\0\x95\x01").expect(rt, "memory");
+    gate.extend_from_slice(&end.to_be_bytes())
+        .expect(rt, "memory");
+    gate.push(0).expect(rt, "memory");
+    gate
 }
 
+// What a journal opens to whose second entry is this one: the refusal, or 0.
+fn opens_to(rt: &impl Abort, alloc: Global, second: &[u8]) -> u8 {
+    let journal = journal_of(rt, alloc, second);
+    let gate = gate_of(rt, alloc, journal.len() as u64);
+    let disk = MemDisk::with_bytes(alloc, journal.as_slice(), gate.as_slice());
+    refusal(alloc, disk.expect(rt, "memory"))
+}
+
+// The first of these entries that opens to another number.
+fn first_wrong<'a>(
+    rt: &impl Abort,
+    alloc: Global,
+    table: &'a [(&'a [u8], u8, &'a str)],
+) -> Option<&'a str> {
+    for (entry, number, shows) in table {
+        if opens_to(rt, alloc, *entry) != *number {
+            return Some(*shows);
+        }
+    }
+    None
+}
+
+const ENTRIES: [(&[u8], u8, &str); 5] = [
+    (
+        b"Revision-number: 0\nProp-content-length: 10\nContent-length: 10\n\nPROPS-END\n\n",
+        0,
+        "properties of revision 0",
+    ),
+    (
+        b"Revision-number: 2\nProp-content-length: 10\nContent-length: 10\n\nPROPS-END\n\n",
+        33,
+        "another number",
+    ),
+    (
+        b"Revision-number: 0\nProp-content-length: 10\nContent-length: 10\n\nPROPS-END\n\n\n",
+        33,
+        "an empty line too many",
+    ),
+    (
+        b"Revision-number: 0\nProp-content-length: 10\n\nPROPS-END\n\n",
+        33,
+        "a missing length",
+    ),
+    (
+        b"Revision-number: 0\nProp-content-length: 10\nContent-length: 10\n\nPROPS-END\n\n\
+            Node-path: a\nNode-kind: dir\nNode-action: change\n\n\n\n",
+        33,
+        "a node of revision 0",
+    ),
+];
+
 #[test]
-fn sets_that_make_no_tree(rt: HostRuntime) -> Result<(), Fail> {
-    // A directory is added; a path that isn't there is deleted; a kind is missing.
-    let add =
-        b"Revision-number: 1\nProp-content-length: 10\nContent-length: 10\n\nPROPS-END\n\nNode-path: a\nNode-kind: dir\nNode-action: add\nProp-content-length: 10\nContent-length: 10\n\nPROPS-END\n\n\n";
-    assert_eq!(rt; opens_to(rt.alloc(), add)?, 0);
-    let gone =
-        b"Revision-number: 1\nProp-content-length: 10\nContent-length: 10\n\nPROPS-END\n\nNode-path: a\nNode-action: delete\n\n\n\n";
-    assert_eq!(rt; opens_to(rt.alloc(), gone)?, 33);
-    let kindless =
-        b"Revision-number: 1\nProp-content-length: 10\nContent-length: 10\n\nPROPS-END\n\nNode-path: a\nNode-action: add\nProp-content-length: 10\nContent-length: 10\n\nPROPS-END\n\n\n";
-    assert_eq!(rt; opens_to(rt.alloc(), kindless)?, 33);
-    Ok(())
+fn entries_that_are_none(rt: HostRuntime) {
+    assert_eq!(rt; first_wrong(&rt, rt.alloc(), &ENTRIES), None);
+}
+
+const SETS: [(&[u8], u8, &str); 3] = [
+    (
+        b"Revision-number: 1\nProp-content-length: 10\nContent-length: 10\n\nPROPS-END\n\n\
+            Node-path: a\nNode-kind: dir\nNode-action: add\nProp-content-length: 10\n\
+            Content-length: 10\n\nPROPS-END\n\n\n",
+        0,
+        "a directory is added",
+    ),
+    (
+        b"Revision-number: 1\nProp-content-length: 10\nContent-length: 10\n\nPROPS-END\n\n\
+            Node-path: a\nNode-action: delete\n\n\n\n",
+        33,
+        "a path that isn't there is deleted",
+    ),
+    (
+        b"Revision-number: 1\nProp-content-length: 10\nContent-length: 10\n\nPROPS-END\n\n\
+            Node-path: a\nNode-action: add\nProp-content-length: 10\n\
+            Content-length: 10\n\nPROPS-END\n\n\n",
+        33,
+        "a kind is missing",
+    ),
+];
+
+#[test]
+fn sets_that_make_no_tree(rt: HostRuntime) {
+    assert_eq!(rt; first_wrong(&rt, rt.alloc(), &SETS), None);
 }
 
 // Refusals of a change as numbers: 0 where it is taken.
@@ -65,11 +122,16 @@ fn export(alloc: Global, store: &RepoStore<MemDisk>, at: u16) -> u8 {
     }
 }
 
+// Whether a store of one file refuses the same file again, and what is above its head.
+fn refuses(rt: &impl Abort, alloc: Global, store: &mut RepoStore<MemDisk>) -> bool {
+    commit(rt, alloc, store, "a") == 12
+        && put(alloc, store, 2) == 21
+        && export(alloc, store, 2) == 21
+}
+
 #[test]
-fn what_a_store_refuses(rt: HostRuntime) -> Result<(), Fail> {
-    let mut store = opened(rt.alloc(), second_disk(&rt, rt.alloc())?)?;
-    assert_eq!(rt; commit(&rt, rt.alloc(), &mut store, "a"), 12);
-    assert!(rt; put(rt.alloc(), &mut store, 2) == 21 && export(rt.alloc(), &store, 2) == 21);
+fn what_a_store_refuses(rt: HostRuntime) {
+    let mut store = found(&rt, rt.alloc(), second_disk(&rt, rt.alloc()));
+    assert!(rt; refuses(&rt, rt.alloc(), &mut store));
     assert!(rt; is_journal(&store.into_disk(), &[FIRST, SECOND]));
-    Ok(())
 }

@@ -2,16 +2,15 @@
 
 use crate::made::{DIR, FILE, LOG, Stated, log_of, name, path, set, value};
 use dump_load::ChangeSet;
-use node_base::{Action, Props, RevNo};
+use node_base::{Action, NodeKind, Props, RevNo};
 use repo_core::{Expected, Moment, Repo, RepoFault};
 use std::alloc::Global;
 use std::process::Abort;
-use std::test::Fail;
 use uuid::Uuid;
 
-pub(crate) fn empty_repo(alloc: Global) -> Result<Repo, Fail> {
-    let identity = Uuid::parse_str("6a1f0c3e-0000-4000-8000-000000000001")?;
-    Ok(Repo::new(alloc, identity)?)
+pub(crate) fn empty_repo(rt: &impl Abort, alloc: Global) -> Repo {
+    let identity = Uuid::parse_str("6a1f0c3e-0000-4000-8000-000000000001");
+    Repo::new(alloc, identity.expect(rt, "an identity")).expect(rt, "memory")
 }
 
 // The number of a refusal, and 0 where the call was taken.
@@ -35,11 +34,17 @@ pub(crate) fn commit(
 }
 
 // Revision 1 adds the file a, and its log is hi.
-pub(crate) fn first_repo(rt: &impl Abort, alloc: Global) -> Result<Repo, Fail> {
-    let mut repo = empty_repo(alloc)?;
-    let set = set(rt, alloc, &[("a", Action::Add, FILE, None)]);
-    repo.commit(alloc, RevNo::ZERO, set, log_of(rt, alloc, b"hi"), None)?;
-    Ok(repo)
+pub(crate) fn first_repo(rt: &impl Abort, alloc: Global) -> Repo {
+    logged(rt, alloc, FILE, None)
+}
+
+// Revision 1 adds a node a, its log is hi, and it has this moment.
+fn logged(rt: &impl Abort, alloc: Global, kind: Option<NodeKind>, moment: Option<Moment>) -> Repo {
+    let mut repo = empty_repo(rt, alloc);
+    let set = set(rt, alloc, &[("a", Action::Add, kind, None)]);
+    let log = log_of(rt, alloc, b"hi");
+    assert!(rt; number(repo.commit(alloc, RevNo::ZERO, set, log, moment)) == 0);
+    repo
 }
 
 // Whether this is the head.
@@ -79,81 +84,48 @@ fn is_told(alloc: Global, repo: &mut Repo, base: u16, text: &str) -> bool {
 }
 
 #[test]
-fn a_commit_is_made_against_the_head(rt: HostRuntime) -> Result<(), Fail> {
-    let mut repo = first_repo(&rt, rt.alloc())?;
-    assert_eq!(rt; commit(&rt, rt.alloc(), &mut repo, 2, &[]), 21);
-    assert_eq!(rt; commit(&rt, rt.alloc(), &mut repo, 0, &[]), 25);
+fn a_commit_is_made_against_the_head(rt: HostRuntime) {
+    let mut repo = first_repo(&rt, rt.alloc());
+    assert!(rt; commit(&rt, rt.alloc(), &mut repo, 2, &[]) == 21);
+    assert!(rt; commit(&rt, rt.alloc(), &mut repo, 0, &[]) == 25);
     assert!(rt;
         is_told(rt.alloc(), &mut repo, 0, "the base is not the head 1") && has_head(&repo, 1)
     );
-    Ok(())
 }
 
-// Whether a moment's text is the one that is told; None: there is no such moment.
-fn dates(alloc: Global, micros: u64, text: Option<&str>) -> Result<bool, Fail> {
+// Whether a moment's text is the one that is told.
+fn dates(alloc: Global, micros: u64, text: &str) -> bool {
     match Moment::from_micros(micros) {
-        None => Ok(text.is_none()),
-        Some(moment) => Ok(text == Some(moment.date_text(alloc)?.as_str())),
+        None => false,
+        Some(moment) => moment
+            .date_text(alloc)
+            .is_ok_and(|told| told.as_str() == text),
     }
 }
 
 #[test]
-fn first_and_last_moments(rt: HostRuntime) -> Result<(), Fail> {
-    let alloc = rt.alloc();
-    assert!(rt; dates(alloc, 0, Some("1970-01-01T00:00:00.000000Z"))?);
-    assert!(rt;
-        dates(
-            alloc,
-            4_102_444_799_999_999,
-            Some("2099-12-31T23:59:59.999999Z")
-        )?
-    );
-    assert!(rt; dates(alloc, 4_102_444_800_000_000, None)?);
-    Ok(())
+fn first_and_last_moments(rt: HostRuntime) {
+    let last = 4_102_444_799_999_999;
+    assert!(rt; dates(rt.alloc(), 0, "1970-01-01T00:00:00.000000Z"));
+    assert!(rt; dates(rt.alloc(), last, "2099-12-31T23:59:59.999999Z"));
+    assert!(rt; Moment::from_micros(4_102_444_800_000_000).is_none());
 }
 
 #[test]
-fn moments_between(rt: HostRuntime) -> Result<(), Fail> {
-    let alloc = rt.alloc();
-    assert!(rt;
-        dates(
-            alloc,
-            951_782_400_000_000,
-            Some("2000-02-29T00:00:00.000000Z")
-        )?
-    );
-    assert!(rt;
-        dates(
-            alloc,
-            1_000_000_000_123_456,
-            Some("2001-09-09T01:46:40.123456Z")
-        )?
-    );
-    Ok(())
-}
-
-// An empty repository with a directory, its log and this moment.
-fn dated(rt: &impl Abort, alloc: Global, moment: Option<Moment>) -> Result<Repo, Fail> {
-    let mut repo = empty_repo(alloc)?;
-    let added = set(rt, alloc, &[("a", Action::Add, DIR, None)]);
-    repo.commit(alloc, RevNo::ZERO, added, log_of(rt, alloc, b"hi"), moment)?;
-    Ok(repo)
+fn moments_between(rt: HostRuntime) {
+    let (leap, later) = (951_782_400_000_000, 1_000_000_000_123_456);
+    assert!(rt; dates(rt.alloc(), leap, "2000-02-29T00:00:00.000000Z"));
+    assert!(rt; dates(rt.alloc(), later, "2001-09-09T01:46:40.123456Z"));
 }
 
 #[test]
-fn a_commit_with_a_moment_has_its_date(rt: HostRuntime) -> Result<(), Fail> {
-    let mut repo = dated(&rt, rt.alloc(), Moment::from_micros(1_000_000_000_123_456))?;
+fn a_commit_with_a_moment_has_its_date(rt: HostRuntime) {
+    let moment = Moment::from_micros(1_000_000_000_123_456);
+    let mut repo = logged(&rt, rt.alloc(), DIR, moment);
     assert!(rt; has(&repo, 1, b"svn:date", Some(b"2001-09-09T01:46:40.123456Z")));
     assert!(rt; has(&repo, 1, LOG, Some(b"hi")));
-    let again = commit(
-        &rt,
-        rt.alloc(),
-        &mut repo,
-        1,
-        &[("a", Action::Add, DIR, None)],
-    );
-    assert_eq!(rt; again, 12);
-    Ok(())
+    let again = [("a", Action::Add, DIR, None)];
+    assert!(rt; commit(&rt, rt.alloc(), &mut repo, 1, &again) == 12);
 }
 
 // A change of the log of revision 1, with a value that is expected or that is to be absent.
@@ -166,7 +138,7 @@ fn relog(
 ) -> Result<(), RepoFault> {
     let expected = match expected {
         None => Expected::Absent,
-        Some(bytes) => Expected::Value(Vec::from_slice(alloc, bytes)?),
+        Some(bytes) => Expected::Value(Vec::from_slice(alloc, bytes).expect(rt, "memory")),
     };
     let name = name(rt, alloc, LOG);
     repo.change_prop(alloc, RevNo::new(1), &name, Some(log), &expected)
@@ -187,12 +159,11 @@ fn finds(
 }
 
 #[test]
-fn a_change_finds_what_it_expects(rt: HostRuntime) -> Result<(), Fail> {
-    let mut repo = first_repo(&rt, rt.alloc())?;
+fn a_change_finds_what_it_expects(rt: HostRuntime) {
+    let mut repo = first_repo(&rt, rt.alloc());
     assert!(rt; finds(&rt, rt.alloc(), &mut repo, None, b"hi") && has(&repo, 1, LOG, Some(b"hi")));
     assert!(rt; relog(&rt, rt.alloc(), &mut repo, b"ho", Some(b"hi")).is_ok());
     assert!(rt; finds(&rt, rt.alloc(), &mut repo, Some(b"hi"), b"ho"));
-    Ok(())
 }
 
 // Takes the log of revision 1 away, whatever it is.
@@ -202,14 +173,12 @@ fn unlog(rt: &impl Abort, alloc: Global, repo: &mut Repo) -> u8 {
 }
 
 #[test]
-fn a_change_that_expects_nothing(rt: HostRuntime) -> Result<(), Fail> {
-    let mut repo = first_repo(&rt, rt.alloc())?;
+fn a_change_that_expects_nothing(rt: HostRuntime) {
+    let mut repo = first_repo(&rt, rt.alloc());
     assert!(rt; unlog(&rt, rt.alloc(), &mut repo) == 0 && has(&repo, 1, LOG, None));
-    let missing = relog(&rt, rt.alloc(), &mut repo, b"ho", Some(b"hi"));
-    assert_eq!(rt; number(missing), 22);
-    relog(&rt, rt.alloc(), &mut repo, b"ho", None)?;
+    assert!(rt; number(relog(&rt, rt.alloc(), &mut repo, b"ho", Some(b"hi"))) == 22);
+    assert!(rt; number(relog(&rt, rt.alloc(), &mut repo, b"ho", None)) == 0);
     assert!(rt; has(&repo, 1, LOG, Some(b"ho")));
-    Ok(())
 }
 
 // The number that refuses a change of a property of a revision to a value of so many bytes, which is to be absent.
@@ -227,19 +196,21 @@ fn refused(
     number(repo.change_prop(alloc, RevNo::new(at), &name, value, &Expected::Absent))
 }
 
+// Changes of the log of a revision to a value of so many bytes, and their answers.
+const LOGS: [(u16, usize, u8); 4] = [
+    (2, 65_537, 21),
+    (1, 65_537, 22),
+    (0, 65_537, 8),
+    (0, 65_536, 0),
+];
+
 #[test]
-fn refusals_of_a_change_in_their_order(rt: HostRuntime) -> Result<(), Fail> {
-    let mut repo = first_repo(&rt, rt.alloc())?;
-    for (at, len, wanted) in [
-        (2u16, 65_537usize, 21u8),
-        (1, 65_537, 22),
-        (0, 65_537, 8),
-        (0, 65_536, 0),
-    ] {
-        let found = refused(&rt, rt.alloc(), &mut repo, at, LOG, len);
-        assert_eq!(rt; found, wanted, "revision {at}, {len} bytes");
+fn refusals_of_a_change_in_their_order(rt: HostRuntime) {
+    let mut repo = first_repo(&rt, rt.alloc());
+    for (at, len, wanted) in &LOGS {
+        let found = refused(&rt, rt.alloc(), &mut repo, *at, LOG, *len);
+        assert!(rt; found == *wanted, "revision {at}, {len} bytes");
     }
-    Ok(())
 }
 
 // As many properties as there may be, and none of them the date.
@@ -259,16 +230,12 @@ fn full_props(rt: &impl Abort, alloc: Global) -> Props {
 }
 
 #[test]
-fn one_property_too_many(rt: HostRuntime) -> Result<(), Fail> {
-    let mut repo = empty_repo(rt.alloc())?;
-    repo.put_props(RevNo::ZERO, full_props(&rt, rt.alloc()))?;
-    assert_eq!(rt; refused(&rt, rt.alloc(), &mut repo, 0, LOG, 1), 8);
-    assert_eq!(rt;
-        refused(&rt, rt.alloc(), &mut repo, 0, b"svn:sync-lock", 1),
-        0
-    );
-    assert_eq!(rt; refused(&rt, rt.alloc(), &mut repo, 0, b"p7", 1), 22);
-    Ok(())
+fn one_property_too_many(rt: HostRuntime) {
+    let mut repo = empty_repo(&rt, rt.alloc());
+    assert!(rt; put(&mut repo, 0, full_props(&rt, rt.alloc())) == 0);
+    assert!(rt; refused(&rt, rt.alloc(), &mut repo, 0, LOG, 1) == 8);
+    assert!(rt; refused(&rt, rt.alloc(), &mut repo, 0, b"svn:sync-lock", 1) == 0);
+    assert!(rt; refused(&rt, rt.alloc(), &mut repo, 0, b"p7", 1) == 22);
 }
 
 // The refusal of a commit of this set with a full map and a date.
@@ -278,14 +245,13 @@ fn overfull(rt: &impl Abort, alloc: Global, repo: &mut Repo, set: ChangeSet) -> 
 }
 
 #[test]
-fn a_date_too_many_comes_last(rt: HostRuntime) -> Result<(), Fail> {
-    let mut repo = first_repo(&rt, rt.alloc())?;
+fn a_date_too_many_comes_last(rt: HostRuntime) {
+    let mut repo = first_repo(&rt, rt.alloc());
     let none = ChangeSet::empty(rt.alloc());
-    assert_eq!(rt; overfull(&rt, rt.alloc(), &mut repo, none), 8);
+    assert!(rt; overfull(&rt, rt.alloc(), &mut repo, none) == 8);
     let again = set(&rt, rt.alloc(), &[("a", Action::Add, FILE, None)]);
-    assert_eq!(rt; overfull(&rt, rt.alloc(), &mut repo, again), 12);
+    assert!(rt; overfull(&rt, rt.alloc(), &mut repo, again) == 12);
     assert!(rt; has_head(&repo, 1));
-    Ok(())
 }
 
 // Puts a whole map: the number of the refusal, or 0.
@@ -294,25 +260,24 @@ fn put(repo: &mut Repo, at: u16, props: Props) -> u8 {
 }
 
 #[test]
-fn a_whole_map_takes_the_place_of_another(rt: HostRuntime) -> Result<(), Fail> {
-    let mut repo = first_repo(&rt, rt.alloc())?;
-    assert_eq!(rt; put(&mut repo, 2, Props::empty()), 21);
+fn a_whole_map_takes_the_place_of_another(rt: HostRuntime) {
+    let mut repo = first_repo(&rt, rt.alloc());
+    assert!(rt; put(&mut repo, 2, Props::empty()) == 21);
     assert!(rt; put(&mut repo, 1, Props::empty()) == 0 && has(&repo, 1, LOG, None));
     let begun = log_of(&rt, rt.alloc(), b"begun");
     assert!(rt; put(&mut repo, 0, begun) == 0 && has(&repo, 0, LOG, Some(b"begun")));
-    Ok(())
 }
 
 // Revision 1 adds the directory t with the files t/x and t/y.
-fn with_directory(rt: &impl Abort, alloc: Global) -> Result<Repo, Fail> {
-    let mut repo = empty_repo(alloc)?;
+fn with_directory(rt: &impl Abort, alloc: Global) -> Repo {
+    let mut repo = empty_repo(rt, alloc);
     let stated = [
         ("t", Action::Add, DIR, None),
         ("t/x", Action::Add, FILE, None),
         ("t/y", Action::Add, FILE, None),
     ];
-    assert_eq!(rt; commit(rt, alloc, &mut repo, 0, &stated), 0);
-    Ok(repo)
+    assert!(rt; commit(rt, alloc, &mut repo, 0, &stated) == 0);
+    repo
 }
 
 // Commits a copy of t of a revision into it: the number of the refusal, or 0.
@@ -327,14 +292,13 @@ fn copy(rt: &impl Abort, alloc: Global, repo: &mut Repo, from: u16) -> u8 {
 }
 
 #[test]
-fn a_copy_into_itself_keeps_the_source(rt: HostRuntime) -> Result<(), Fail> {
-    let mut repo = with_directory(&rt, rt.alloc())?;
-    assert_eq!(rt; copy(&rt, rt.alloc(), &mut repo, 2), 14);
-    assert_eq!(rt; copy(&rt, rt.alloc(), &mut repo, 1), 0);
+fn a_copy_into_itself_keeps_the_source(rt: HostRuntime) {
+    let mut repo = with_directory(&rt, rt.alloc());
+    assert!(rt; copy(&rt, rt.alloc(), &mut repo, 2) == 14);
+    assert!(rt; copy(&rt, rt.alloc(), &mut repo, 1) == 0);
     assert!(rt;
         there(&rt, rt.alloc(), &repo, 2, "t/in/x") && !there(&rt, rt.alloc(), &repo, 2, "t/in/in")
     );
-    Ok(())
 }
 
 // Whether a repository has nothing of a revision.
@@ -343,10 +307,9 @@ fn has_none(repo: &Repo, revision: RevNo) -> bool {
 }
 
 #[test]
-fn what_is_above_the_head(rt: HostRuntime) -> Result<(), Fail> {
-    let repo = first_repo(&rt, rt.alloc())?;
+fn what_is_above_the_head(rt: HostRuntime) {
+    let repo = first_repo(&rt, rt.alloc());
     assert!(rt; has_none(&repo, RevNo::new(2)));
-    Ok(())
 }
 
 // How many changes made the tree of a revision.
@@ -358,28 +321,27 @@ fn changes(repo: &Repo, revision: u16) -> Option<usize> {
 }
 
 #[test]
-fn the_changes_of_a_revision(rt: HostRuntime) -> Result<(), Fail> {
-    let repo = with_directory(&rt, rt.alloc())?;
+fn the_changes_of_a_revision(rt: HostRuntime) {
+    let repo = with_directory(&rt, rt.alloc());
     assert!(rt; changes(&repo, 0) == Some(0));
     assert!(rt; changes(&repo, 1) == Some(3) && repo.trees().len() == 2);
-    Ok(())
 }
 
-// Commits nothing, against each head up to the last.
-fn fill(alloc: Global, repo: &mut Repo) -> Result<(), RepoFault> {
+// Commits nothing, against each head up to the last. Whether all of them are taken.
+fn fill(alloc: Global, repo: &mut Repo) -> bool {
     for head in 0..65_535u16 {
         let none = ChangeSet::empty(alloc);
-        repo.commit(alloc, RevNo::new(head), none, Props::empty(), None)?;
+        if number(repo.commit(alloc, RevNo::new(head), none, Props::empty(), None)) != 0 {
+            return false;
+        }
     }
-    Ok(())
+    true
 }
 
 #[test]
-fn a_repository_that_is_full(rt: HostRuntime) -> Result<(), Fail> {
-    let mut repo = empty_repo(rt.alloc())?;
-    fill(rt.alloc(), &mut repo)?;
+fn a_repository_that_is_full(rt: HostRuntime) {
+    let mut repo = empty_repo(&rt, rt.alloc());
+    assert!(rt; fill(rt.alloc(), &mut repo) && has_head(&repo, 65_535));
+    assert!(rt; commit(&rt, rt.alloc(), &mut repo, 65_535, &[]) == 23);
     assert!(rt; has_head(&repo, 65_535));
-    assert_eq!(rt; commit(&rt, rt.alloc(), &mut repo, 65_535, &[]), 23);
-    assert!(rt; has_head(&repo, 65_535));
-    Ok(())
 }

@@ -6,12 +6,12 @@ use node_base::{Action, Props, RevNo};
 use repo_core::{Entry, Expected, Repo, Staged};
 use std::alloc::Global;
 use std::process::Abort;
-use std::test::Fail;
 
 // A directory b is staged behind revision 1.
-fn staged(rt: &impl Abort, alloc: Global, repo: &Repo) -> Result<Staged, Fail> {
+fn staged(rt: &impl Abort, alloc: Global, repo: &Repo) -> Staged {
     let added = set(rt, alloc, &[("b", Action::Add, DIR, None)]);
-    Ok(repo.stage_commit(alloc, RevNo::new(1), added, Props::empty(), None)?)
+    let staged = repo.stage_commit(alloc, RevNo::new(1), added, Props::empty(), None);
+    staged.expect(rt, "a staged revision")
 }
 
 // Whether the tree that is staged has something at a path.
@@ -23,13 +23,12 @@ fn has(rt: &impl Abort, alloc: Global, staged: &Staged, text: &str) -> bool {
 }
 
 #[test]
-fn what_was_staged_and_dropped_changes_nothing(rt: HostRuntime) -> Result<(), Fail> {
-    let repo = first_repo(&rt, rt.alloc())?;
-    let staged = staged(&rt, rt.alloc(), &repo)?;
+fn what_was_staged_and_dropped_changes_nothing(rt: HostRuntime) {
+    let repo = first_repo(&rt, rt.alloc());
+    let staged = staged(&rt, rt.alloc(), &repo);
     assert!(rt; has(&rt, rt.alloc(), &staged, "b"));
     drop(staged);
     assert!(rt; has_head(&repo, 1) && !there(&rt, rt.alloc(), &repo, 1, "b"));
-    Ok(())
 }
 
 // Whether an entry is the revision of that number with so many changes.
@@ -60,32 +59,49 @@ fn is_map(entry: &Entry, at: u16) -> bool {
 }
 
 #[test]
-fn what_is_staged_is_an_entry(rt: HostRuntime) -> Result<(), Fail> {
-    let repo = first_repo(&rt, rt.alloc())?;
-    assert!(rt; is_revision(staged(&rt, rt.alloc(), &repo)?.entry(), 2, 1));
-    Ok(())
+fn what_is_staged_is_an_entry(rt: HostRuntime) {
+    let repo = first_repo(&rt, rt.alloc());
+    assert!(rt; is_revision(staged(&rt, rt.alloc(), &repo).entry(), 2, 1));
+}
+
+// The log of revision 1 is to go.
+fn unlogged(rt: &impl Abort, alloc: Global, repo: &Repo) -> Staged {
+    let log = name(rt, alloc, LOG);
+    let staged = repo.stage_change_prop(alloc, RevNo::new(1), &log, None, &Expected::DontCare);
+    staged.expect(rt, "a staged change")
+}
+
+// Revision 0 is to have no properties.
+fn emptied(rt: &impl Abort, repo: &Repo) -> Staged {
+    let staged = repo.stage_put_props(RevNo::ZERO, Props::empty());
+    staged.expect(rt, "staged properties")
 }
 
 #[test]
-fn what_is_staged_of_properties_is_an_entry(rt: HostRuntime) -> Result<(), Fail> {
-    let repo = first_repo(&rt, rt.alloc())?;
-    let log = name(&rt, rt.alloc(), LOG);
-    let one = RevNo::new(1);
-    let changed = repo.stage_change_prop(rt.alloc(), one, &log, None, &Expected::DontCare)?;
-    assert!(rt; is_map(changed.entry(), 1));
-    let put = repo.stage_put_props(RevNo::ZERO, Props::empty())?;
+fn what_is_staged_of_properties_is_an_entry(rt: HostRuntime) {
+    let repo = first_repo(&rt, rt.alloc());
+    assert!(rt; is_map(unlogged(&rt, rt.alloc(), &repo).entry(), 1));
+    let put = emptied(&rt, &repo);
     assert!(rt; is_map(put.entry(), 0) && put.tree().is_none());
-    Ok(())
+}
+
+// Whether a directory b is staged behind revision 1, and installed.
+fn is_installed(rt: &impl Abort, alloc: Global, repo: &mut Repo) -> bool {
+    let added = set(rt, alloc, &[("b", Action::Add, DIR, None)]);
+    match repo.stage_commit(alloc, RevNo::new(1), added, Props::empty(), None) {
+        Ok(staged) => {
+            repo.install(staged);
+            true
+        }
+        Err(_) => false,
+    }
 }
 
 #[test]
-fn what_was_staged_is_installed(rt: HostRuntime) -> Result<(), Fail> {
-    let mut repo = first_repo(&rt, rt.alloc())?;
-    let added = set(&rt, rt.alloc(), &[("b", Action::Add, DIR, None)]);
-    let staged = repo.stage_commit(rt.alloc(), RevNo::new(1), added, Props::empty(), None)?;
-    repo.install(staged);
+fn what_was_staged_is_installed(rt: HostRuntime) {
+    let mut repo = first_repo(&rt, rt.alloc());
+    assert!(rt; is_installed(&rt, rt.alloc(), &mut repo));
     repo.is_repository();
     assert!(rt; there(&rt, rt.alloc(), &repo, 2, "b"));
-    assert!(rt; repo.identity() == empty_repo(rt.alloc())?.identity());
-    Ok(())
+    assert!(rt; repo.identity() == empty_repo(&rt, rt.alloc()).identity());
 }

@@ -2,14 +2,13 @@
 ghost use Rattle.repo_store.specs.Changes.{IsNumbered};
 ghost use Rattle.repo_store.specs.Words.{revisions_of};
 
-use crate::made::{log_of, set_of_file};
+use crate::made::{LOG, log_of, name, set_of_file};
 use fleet_disk::{Disk, DiskFile, Fuse, FuseDisk, MemDisk, Pick};
-use node_base::{PropName, Refusal, RevNo};
+use node_base::{Refusal, RevNo};
 use repo_core::{Entry, Expected};
 use repo_store::{RepoStore, StoreFault};
 use std::alloc::Global;
 use std::process::Abort;
-use std::test::Fail;
 use uuid::Uuid;
 
 const PICKS: [Pick; 4] = [Pick::Old, Pick::New, Pick::Fill(1), Pick::Fill(0x37)];
@@ -31,17 +30,28 @@ const TWO_GATES: &[u8] = b"\x01\0\0\0\0\0\0\0\x95\x01\0\0\0\0\0\0\x01\xA8\0";
 
 const ONE_GATE: &[u8] = b"\x01\0\0\0\0\0\0\0\x95\0";
 
-pub(crate) fn identity() -> Result<Uuid, Fail> {
-    Ok(Uuid::parse_str("6a1f0c3e-0000-4000-8000-000000000001")?)
+fn identity(rt: &impl Abort) -> Uuid {
+    Uuid::parse_str("6a1f0c3e-0000-4000-8000-000000000001").expect(rt, "an identity")
 }
 
-fn created<D: Disk + Drop>(alloc: Global, disk: D) -> Result<RepoStore<D>, Fail> {
-    let made = RepoStore::create(alloc, disk, identity()?);
-    Ok(made.map_err(|refused| refused.0)?)
+// The store of a new disk in memory.
+fn created(rt: &impl Abort, alloc: Global) -> RepoStore<MemDisk> {
+    match RepoStore::create(alloc, MemDisk::new(alloc), identity(rt)) {
+        Ok(store) => store,
+        Err(_) => rt.abort(),
+    }
 }
 
 pub(crate) fn opened<D: Disk + Drop>(alloc: Global, disk: D) -> Result<RepoStore<D>, StoreFault> {
     RepoStore::open(alloc, disk).map_err(|refused| refused.0)
+}
+
+// The store of a disk.
+pub(crate) fn found<D: Disk + Drop>(rt: &impl Abort, alloc: Global, disk: D) -> RepoStore<D> {
+    match RepoStore::open(alloc, disk) {
+        Ok(store) => store,
+        Err(_) => rt.abort(),
+    }
 }
 
 // Why a disk isn't opened, or 0.
@@ -68,10 +78,15 @@ pub(crate) fn commit<D: Disk>(
 }
 
 // The first two entries, all synced.
-pub(crate) fn second_disk(rt: &impl Abort, alloc: Global) -> Result<MemDisk, Fail> {
-    let mut store = created(alloc, MemDisk::new(alloc))?;
-    assert_eq!(rt; commit(rt, alloc, &mut store, "a"), 0);
-    Ok(store.into_disk().crash(Pick::New)?)
+pub(crate) fn second_disk(rt: &impl Abort, alloc: Global) -> MemDisk {
+    let mut store = created(rt, alloc);
+    assert!(rt; commit(rt, alloc, &mut store, "a") == 0);
+    crashed(rt, &store.into_disk(), Pick::New)
+}
+
+// The disk as a stop leaves it.
+fn crashed(rt: &impl Abort, disk: &MemDisk, pick: Pick) -> MemDisk {
+    disk.crash(pick).expect(rt, "memory")
 }
 
 // Whether this is the head of a store.
@@ -105,13 +120,12 @@ fn holds(disk: &MemDisk, entries: &[&[u8]], gate: &[u8]) -> bool {
 }
 
 #[test]
-fn a_new_repository(rt: HostRuntime) -> Result<(), Fail> {
-    let store = created(rt.alloc(), MemDisk::new(rt.alloc()))?;
+fn a_new_repository(rt: HostRuntime) {
+    let store = created(&rt, rt.alloc());
     assert!(rt; has_head(&store, 0));
     let disk = store.into_disk();
     assert!(rt; holds(&disk, &[FIRST], ONE_GATE));
     assert!(rt; opens_at(rt.alloc(), disk, 0));
-    Ok(())
 }
 
 // Whether this is the text of revision 1.
@@ -131,11 +145,10 @@ fn opens_with_file<D: Disk + Drop>(alloc: Global, disk: D, revision: u16) -> boo
 }
 
 #[test]
-fn a_commit_is_an_entry(rt: HostRuntime) -> Result<(), Fail> {
-    let disk = second_disk(&rt, rt.alloc())?;
+fn a_commit_is_an_entry(rt: HostRuntime) {
+    let disk = second_disk(&rt, rt.alloc());
     assert!(rt; holds(&disk, &[FIRST, SECOND], TWO_GATES));
     assert!(rt; opens_with_file(rt.alloc(), disk, 1));
-    Ok(())
 }
 
 // Whether the text of revision 1 has as many bytes as before, and begins with the other properties.
@@ -147,25 +160,31 @@ fn exports_other(alloc: Global, store: &RepoStore<MemDisk>) -> bool {
 }
 
 // A store whose log of revision 1 was changed.
-fn relogged(rt: &impl Abort, alloc: Global) -> Result<RepoStore<MemDisk>, Fail> {
-    let mut store = opened(alloc, second_disk(rt, alloc)?)?;
-    let name = PropName::parse(alloc, b"svn:log")?;
+fn relogged(rt: &impl Abort, alloc: Global) -> RepoStore<MemDisk> {
+    let mut store = found(rt, alloc, second_disk(rt, alloc));
+    assert!(rt; relog(rt, alloc, &mut store));
+    store
+}
+
+// Whether the log of revision 1 is changed.
+fn relog(rt: &impl Abort, alloc: Global, store: &mut RepoStore<MemDisk>) -> bool {
+    let log = name(rt, alloc, LOG);
     let one = RevNo::new(1);
-    store.change_prop(alloc, one, &name, Some(b"ho"), &Expected::DontCare)?;
-    Ok(store)
+    store
+        .change_prop(alloc, one, &log, Some(b"ho"), &Expected::DontCare)
+        .is_ok()
 }
 
 #[test]
-fn a_property_is_an_entry(rt: HostRuntime) -> Result<(), Fail> {
-    let store = relogged(&rt, rt.alloc())?;
+fn a_property_is_an_entry(rt: HostRuntime) {
+    let store = relogged(&rt, rt.alloc());
     assert!(rt; exports_other(rt.alloc(), &store));
     let disk = store.into_disk();
     assert!(rt;
         is_journal(&disk, &[FIRST, SECOND, THIRD]) && disk.bytes(DiskFile::Gate).len() == 28
     );
-    let again = opened(rt.alloc(), disk)?;
+    let again = found(&rt, rt.alloc(), disk);
     assert!(rt; exports_other(rt.alloc(), &again));
-    Ok(())
 }
 
 // Makes an entry ready, and drops it or installs it. Whether that is answered well.
@@ -207,41 +226,45 @@ fn staged_log(
 }
 
 #[test]
-fn entries_are_staged_and_installed(rt: HostRuntime) -> Result<(), Fail> {
-    let mut store = created(rt.alloc(), MemDisk::new(rt.alloc()))?;
+fn entries_are_staged_and_installed(rt: HostRuntime) {
+    let mut store = created(&rt, rt.alloc());
     assert!(rt; staged_file(&rt, rt.alloc(), &mut store));
     assert!(rt; staged_log(&rt, rt.alloc(), &mut store, false));
-    let mut store = opened(rt.alloc(), store.into_disk())?;
+    let mut store = found(&rt, rt.alloc(), store.into_disk());
     assert!(rt; exports(rt.alloc(), &store, SECOND));
     assert!(rt; staged_log(&rt, rt.alloc(), &mut store, true));
     assert!(rt; is_journal(&store.into_disk(), &[FIRST, SECOND, THIRD]));
-    Ok(())
 }
 
-// The refusal of a disk with these entries and the gate of both.
-fn damage(alloc: Global, journal: &[u8]) -> Result<StoreFault, Fail> {
-    match opened(alloc, MemDisk::with_bytes(alloc, journal, TWO_GATES)?) {
-        Ok(_) => Err(Fail::new("a damaged entry is opened")),
-        Err(fault) => Ok(fault),
+// Why a disk with this journal and the gate of both entries isn't opened.
+fn damage(alloc: Global, journal: &[u8]) -> Option<StoreFault> {
+    match MemDisk::with_bytes(alloc, journal, TWO_GATES) {
+        Ok(disk) => opened(alloc, disk).err(),
+        Err(_) => None,
     }
 }
 
-#[test]
-fn a_damaged_entry(rt: HostRuntime) -> Result<(), Fail> {
-    let mut journal = Vec::from_slice(rt.alloc(), FIRST)?;
-    journal.extend_from_slice(SECOND)?;
-    // The o of hello.
+// Both entries, with another byte in the place of the o of hello.
+fn damaged(rt: &impl Abort, alloc: Global) -> Vec<u8> {
+    let mut journal = Vec::from_slice(alloc, FIRST).expect(rt, "memory");
+    journal.extend_from_slice(SECOND).expect(rt, "memory");
     if let Some(byte) = journal.as_mut_slice().get_mut(149 + 271) {
         *byte = b'p';
     }
-    let fault = damage(rt.alloc(), journal.as_slice())?;
-    assert_eq!(rt; fault.number(), 33);
-    assert_eq!(rt;
-        format!(in rt.alloc(); "{fault}")?.as_str(),
-        "entry 1 is damaged"
-    );
-    assert_eq!(rt; Refusal::from(fault).number(), 33);
-    Ok(())
+    journal
+}
+
+// Whether a fault is told so.
+fn is_told(alloc: Global, fault: &StoreFault, text: &str) -> bool {
+    format!(in alloc; "{fault}").is_ok_and(|told| told.as_str() == text)
+}
+
+#[test]
+fn a_damaged_entry(rt: HostRuntime) {
+    let journal = damaged(&rt, rt.alloc());
+    let fault = damage(rt.alloc(), journal.as_slice()).expect(&rt, "a damaged entry");
+    assert!(rt; fault.number() == 33 && is_told(rt.alloc(), &fault, "entry 1 is damaged"));
+    assert!(rt; Refusal::from(fault).number() == 33);
 }
 
 // What stands after so many calls of a commit, for each pick: the gate's write decides.
@@ -255,29 +278,24 @@ const STANDING: [[u16; 4]; 6] = [
 ];
 
 // How many calls the opening of a disk makes.
-fn opening_calls(alloc: Global, disk: &MemDisk) -> Result<u64, Fail> {
-    let store = opened(alloc, disk.crash(Pick::New)?)?;
-    Ok(store.into_disk().calls().len() as u64)
+fn opening_calls(rt: &impl Abort, alloc: Global, disk: &MemDisk) -> u64 {
+    let store = found(rt, alloc, crashed(rt, disk, Pick::New));
+    store.into_disk().calls().len() as u64
 }
 
 // A store over a disk with two entries, of which so many calls pass behind its opening.
-fn fused(
-    rt: &impl Abort,
-    alloc: Global,
-    calls: u64,
-    fuse: Fuse,
-) -> Result<RepoStore<FuseDisk<MemDisk>>, Fail> {
-    let disk = second_disk(rt, alloc)?;
-    let before = opening_calls(alloc, &disk)?;
+fn fused(rt: &impl Abort, alloc: Global, calls: u64, fuse: Fuse) -> RepoStore<FuseDisk<MemDisk>> {
+    let disk = second_disk(rt, alloc);
+    let before = opening_calls(rt, alloc, &disk);
     let fused = FuseDisk::new(disk, before.saturating_add(calls), fuse);
-    Ok(opened(alloc, fused)?)
+    found(rt, alloc, fused)
 }
 
 // The disk after this many calls of the commits of b and c, stopped.
-fn stopped(rt: &impl Abort, alloc: Global, calls: u64, pick: Pick) -> Result<MemDisk, Fail> {
-    let mut store = fused(rt, alloc, calls, Fuse::ForGood)?;
+fn stopped(rt: &impl Abort, alloc: Global, calls: u64, pick: Pick) -> MemDisk {
+    let mut store = fused(rt, alloc, calls, Fuse::ForGood);
     let _both = commit(rt, alloc, &mut store, "b") == 0 && commit(rt, alloc, &mut store, "c") == 0;
-    Ok(store.into_disk().into_inner().crash(pick)?)
+    crashed(rt, &store.into_disk().into_inner(), pick)
 }
 
 // The heads after so many calls of the two commits: the second begins behind the fifth.
@@ -290,11 +308,11 @@ fn heads(calls: u64) -> ([u16; 4], u16) {
 }
 
 #[test]
-fn a_commit_stopped_after_each_call(rt: HostRuntime) -> Result<(), Fail> {
+fn a_commit_stopped_after_each_call(rt: HostRuntime) {
     for calls in 0u64..11 {
         let (row, more) = heads(calls);
         for (pick, wanted) in PICKS.iter().zip(row.iter()) {
-            let disk = stopped(&rt, rt.alloc(), calls, *pick)?;
+            let disk = stopped(&rt, rt.alloc(), calls, *pick);
             let head = wanted.saturating_add(more);
             assert!(rt;
                 opens_with_file(rt.alloc(), disk, head),
@@ -302,7 +320,6 @@ fn a_commit_stopped_after_each_call(rt: HostRuntime) -> Result<(), Fail> {
             );
         }
     }
-    Ok(())
 }
 
 // Whether a revision of this number may stand on the disk or not.
@@ -313,49 +330,53 @@ fn is_in_doubt<D: Disk>(store: &RepoStore<D>, revision: u16) -> bool {
     }
 }
 
-#[test]
-fn the_third_call_fails(rt: HostRuntime) -> Result<(), Fail> {
-    let mut store = fused(&rt, rt.alloc(), 2, Fuse::Once)?;
-    assert_eq!(rt; commit(&rt, rt.alloc(), &mut store, "b"), 31);
-    assert_eq!(rt; commit(&rt, rt.alloc(), &mut store, "b"), 32);
-    assert!(rt; store.has_failed() && has_head(&store, 1));
-    assert!(rt; is_in_doubt(&store, 2));
-    let mut store = opened(rt.alloc(), store.into_disk())?;
-    assert!(rt; has_head(&store, 1) && commit(&rt, rt.alloc(), &mut store, "b") == 0);
-    Ok(())
+// Whether a commit fails at its third call, and each later one for that.
+fn fails(rt: &impl Abort, alloc: Global, store: &mut RepoStore<FuseDisk<MemDisk>>) -> bool {
+    commit(rt, alloc, store, "b") == 31
+        && commit(rt, alloc, store, "b") == 32
+        && store.has_failed()
+        && has_head(store, 1)
 }
 
-// How a creation over another repository is refused, and whether that stays.
-fn created_over(alloc: Global, disk: MemDisk) -> Result<(u8, bool), Fail> {
-    match RepoStore::create(alloc, disk, identity()?) {
-        Ok(_) => Ok((0, false)),
-        Err((fault, disk)) => Ok((fault.number(), is_journal(&disk, &[FIRST, SECOND]))),
+#[test]
+fn the_third_call_fails(rt: HostRuntime) {
+    let mut store = fused(&rt, rt.alloc(), 2, Fuse::Once);
+    assert!(rt; fails(&rt, rt.alloc(), &mut store));
+    assert!(rt; is_in_doubt(&store, 2));
+    let mut store = found(&rt, rt.alloc(), store.into_disk());
+    assert!(rt; has_head(&store, 1) && commit(&rt, rt.alloc(), &mut store, "b") == 0);
+}
+
+// Whether a creation over another repository is refused, and leaves that.
+fn is_refused_over(rt: &impl Abort, alloc: Global, disk: MemDisk) -> bool {
+    match RepoStore::create(alloc, disk, identity(rt)) {
+        Ok(_) => false,
+        Err((fault, disk)) => fault.number() == 35 && is_journal(&disk, &[FIRST, SECOND]),
     }
 }
 
 #[test]
-fn a_store_where_one_is(rt: HostRuntime) -> Result<(), Fail> {
-    let over = created_over(rt.alloc(), second_disk(&rt, rt.alloc())?)?;
-    assert!(rt; over == (35, true));
-    assert_eq!(rt; refusal(rt.alloc(), MemDisk::new(rt.alloc())), 34);
-    Ok(())
+fn a_store_where_one_is(rt: HostRuntime) {
+    assert!(rt; is_refused_over(&rt, rt.alloc(), second_disk(&rt, rt.alloc())));
+    assert!(rt; refusal(rt.alloc(), MemDisk::new(rt.alloc())) == 34);
 }
 
 // The number of the refusal of a creation whose calls after the first ones fail once, and 0 where it isn't refused.
-fn creation(alloc: Global, calls: u64) -> Result<u8, Fail> {
+fn creation(rt: &impl Abort, alloc: Global, calls: u64) -> u8 {
     let disk = FuseDisk::new(MemDisk::new(alloc), calls, Fuse::Once);
-    let made = RepoStore::create(alloc, disk, identity()?);
-    match made.map_err(|refused| refused.0) {
-        Ok(_) => Ok(0),
-        Err(fault) => Ok(fault.number()),
+    match RepoStore::create(alloc, disk, identity(rt)) {
+        Ok(_) => 0,
+        Err((fault, _disk)) => fault.number(),
     }
 }
 
 #[test]
-fn a_create_whose_call_fails(rt: HostRuntime) -> Result<(), Fail> {
+fn a_create_whose_call_fails(rt: HostRuntime) {
     // Four calls begin the log, and five append the first entry.
     for calls in 0u64..9 {
-        assert_eq!(rt; creation(rt.alloc(), calls)?, 31);
+        assert!(rt;
+            creation(&rt, rt.alloc(), calls) == 31,
+            "after {calls} calls"
+        );
     }
-    Ok(())
 }

@@ -15,7 +15,7 @@ returns-in-Ok-clause-refused g c =
     let bytes = g.R.Read.remaining c.args.input.now.inner in
     load_refused g.F.Place.Disk g.F.Folders c.args.folders.now c.opened.new.folders c.closed.new.folders c.args.folder.now c.run_load-done.result bytes (g.R.Read.remaining c.run_load-done.new.input.inner) bytes
     (g.W.Write.contents c.args.output.now.inner) (g.W.Write.contents c.run_load-done.new.output.inner) c.run_load-done.new.output.failed c.in-Ok.store c.run_load-done.new.store
-    c.in-Ok.ensures.opened e.refused e.mirror e.device e.entries c.closed.ensures.kept c.closed.ensures.back
+    c.in-Ok.ensures.opened e.refused e.mirror e.device e.entries c.closed.ensures.kept c.closed.ensures.either c.closed.ensures.back
 
 pub returns-in-Err-clause-refused : goal.returns-in-Err-clause-refused
 returns-in-Err-clause-refused g c = inl (c.in-Err.ensures.refused, refl)

@@ -14,7 +14,7 @@ returns-in-Ok-clause-refused g c =
     let e = c.run_mkdir-done.ensures in
     directory_refused g.F.Place.Disk g.F.Folders c.args.folders.now c.opened.new.folders c.closed.new.folders c.args.folder.now c.run_mkdir-done.result c.args.path.now c.args.message.now c.args.moment
     (g.W.Write.contents c.args.output.now.inner) (g.W.Write.contents c.run_mkdir-done.new.output.inner) c.run_mkdir-done.new.output.failed c.in-Ok.store c.run_mkdir-done.new.store
-    c.in-Ok.ensures.opened e.refused e.device e.entry c.closed.ensures.kept c.closed.ensures.back
+    c.in-Ok.ensures.opened e.refused e.device e.entry c.closed.ensures.kept c.closed.ensures.either c.closed.ensures.back
 
 pub returns-in-Err-clause-refused : goal.returns-in-Err-clause-refused
 returns-in-Err-clause-refused g c = inl (c.in-Err.ensures.refused, refl)
