@@ -62,6 +62,20 @@ impl<D: Disk + Drop> FleetStores<D> {
         }
     }
 
+    /// The master's store.
+    pub fn into_master(self) -> RepoStore<D>
+        ensures { result ≡ self.master }
+    {
+        let FleetStores {
+            master,
+            first: _,
+            second: _,
+            third: _,
+            fourth: _,
+        } = self;
+        master
+    }
+
     /// Puts a mirror's store into the slot of that number, of four, in place of what is there.
     pub fn put(self, slot: usize, store: RepoStore<D>) -> FleetStores<D>
         requires { slot < 4 }
