@@ -1,6 +1,6 @@
 //! What the words of `fleet` say.
 ghost use Rattle.std.specs.Prelude.{◌≡◌, ◌≤◌, ◌∷◌, ◌++◌, [], None, Some, IfErr, IfOk, OnOk, bytes_eq, codes, length};
-ghost use Rattle.std.specs.Prelude.{map, string_bytes};
+ghost use Rattle.std.specs.Prelude.{map, slice_get, string_bytes};
 ghost use Rattle.std.specs.List.{list_any};
 ghost use Rattle.std.specs.Option.{option_map};
 ghost use Rattle.clap.specs.Words.{all_of, found_of, rows_of};
@@ -70,7 +70,7 @@ fn fleet_of(alloc: Global, master: &str, mirrors: &[&str], workers: u16) -> Resu
     ensures named { IfOk result (NamesFleet master.now (map (λ v. v.now) mirrors.now) workers) }
     ensures usage { IfErr result (AreRefused master.now (map (λ v. v.now) mirrors.now)) }
 {
-    if let Some(fifth) = mirrors.get(4) {
+    if let Some(fifth) = fifth(mirrors) {
         return Err(wrong(alloc, "svnfleet fleet", fifth, "one of 1 to 4 mirrors"));
     }
     if let Some(again) = named_twice(master, mirrors) {
@@ -80,6 +80,12 @@ fn fleet_of(alloc: Global, master: &str, mirrors: &[&str], workers: u16) -> Resu
         return Err(Usage::OutOfMemory);
     }
     copied(alloc, master, mirrors, workers)
+}
+
+fn fifth<'a>(mirrors: &[&'a str]) -> Option<&'a str>
+    ensures { option_map (λ s. s.now) result ≡ slice_get (map (λ v. v.now) mirrors.now) 4 }
+{
+    mirrors.get(4).copied()
 }
 
 // The first of the folders that is named again.
