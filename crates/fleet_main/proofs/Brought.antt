@@ -127,7 +127,7 @@ module _ {F D : Type 0} (G : Ghosts D) (H : FolderGhosts F D) where
     given = λ h. (
       (a.given h).0,
       each_both (λ l. l.folder ≢ folder) (λ l. IsGiven G (H.disk then l.folder) l.given) (λ l. IsGiven G (H.disk before l.folder) l.given)
-      (λ l far g. subst (λ d. IsGiven G d l.given) (a.others h l.folder (far, tt)) g) rest apart (b.given (a.honest h)),
+          (λ l far g. subst (λ d. IsGiven G d l.given) (a.others h l.folder (far, tt)) g) rest apart (b.given (a.honest h)),
     );
     back = λ h. (
       b.others (a.honest h) folder (each_map (λ l. l.folder ≢ folder) (λ l. folder ≢ l.folder) (λ l far same. far (sym same)) rest apart) ∙ (a.back h).0,
@@ -170,7 +170,7 @@ module _ {F D : Type 0} (G : Ghosts D) (H : FolderGhosts F D) where
     lent_back e given back why a apart come = record {
       each = (
         not_opened_under G (H.honest folders) (H.honest folders) _ _ name (only_of name given back) e (λ h. h)
-        (rose_between (H.failures folders) (H.failures folders) (H.failures then) (H.failures now) (omega arith) come.later) why,
+            (rose_between (H.failures folders) (H.failures folders) (H.failures then) (H.failures now) (omega arith) come.later) why,
         rest_under a.honest a.later come,
       );
       back = λ rules. then_one folders then now name given back (loans_of names cs) a (come.back rules.1)

@@ -20,7 +20,7 @@ use crate::folders::{closed, opened};
 use crate::lending::Folders;
 use fleet_disk::Disk;
 use fleet_engines::Sink;
-use fleet_shares::{Answered, FleetStores, answer_lines, are_done, run_fleet};
+use fleet_shares::{Answered, FleetStores, Unheld, answer_lines, are_done, run_fleet};
 use node_base::Refusal;
 use repo_store::RepoStore;
 use std::alloc::{AllocError, Global};
@@ -85,7 +85,7 @@ where
         stores result.0 result.1 }
 {
     let Some((name, names)) = names.split_first() else {
-        return run_fleet(rt, alloc, stores, refusals, workers);
+        return run_fleet(rt, alloc, stores, refusals, workers, Unheld);
     };
     let name = name.as_str();
     let slot = refusals.len();

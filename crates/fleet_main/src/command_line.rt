@@ -493,11 +493,7 @@ fn fleet_folders<'a>(alloc: Global) -> Result<clap::Command<'a>, AllocError>
     ensures local { IfOk result (λ c. (fields_of c).has_globals ≡ false) }
 {
     let master = word(alloc, "MASTER", "The folder of the master");
-    let mirrors = many_words(
-        alloc,
-        "MIRROR",
-        "The folders of its mirrors, from 1 to 4",
-    );
+    let mirrors = many_words(alloc, "MIRROR", "The folders of its mirrors, from 1 to 4");
     let top = clap::Command::new(alloc, "fleet")
         .about("Brings several mirrors up to their source at once")
         .after_help(texts::FLEET);

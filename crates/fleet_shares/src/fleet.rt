@@ -13,9 +13,8 @@ use crate::run::{run_shared, stores_of};
 use crate::shares::FleetShares;
 use crate::stores::{FleetStores, OpenedFleet};
 use crate::told::tell_all;
-use crate::unheld::Unheld;
 use fleet_disk::Disk;
-use fleet_jobs::Order;
+use fleet_jobs::{Order, StartGate};
 use node_base::Refusal;
 use std::alloc::{AllocError, Global};
 use std::marker::Brand;
@@ -31,12 +30,14 @@ use store_share::RowName;
 pub fn run_fleet<
     R: Threads + Wait + Clone + Send + Drop + 'static,
     D: Disk + Drop + Send + 'static,
+    G: StartGate + Send + Sync + Drop + 'static,
 >(
     rt: &R,
     alloc: Global,
     stores: FleetStores<D>,
     refusals: Vec<Option<Refusal>>,
     workers: usize,
+    gate: G,
 ) -> (FleetStores<D>, Result<Vec<Answered>, AllocError>)
     ensures slots { SameSlots stores result.0 }
     ensures answers { IfOk result.1 (λ answers. AreTold 0 (stands 0 refusals.items result.0) answers.items) }
@@ -50,7 +51,7 @@ pub fn run_fleet<
         Ok(told) => told,
         Err(refused) => return (stores, Err(refused)),
     };
-    let (stores, answers) = run_orders(rt, alloc, stores, orders, workers);
+    let (stores, answers) = run_orders(rt, alloc, stores, orders, workers, gate);
     match answers {
         Ok(answers) => {
             let told = tell_all(&stores, refusals, answers, told);
@@ -64,23 +65,21 @@ pub fn run_fleet<
 fn run_orders<
     R: Threads + Wait + Clone + Send + Drop + 'static,
     D: Disk + Drop + Send + 'static,
+    G: StartGate + Send + Sync + Drop + 'static,
 >(
     rt: &R,
     alloc: Global,
     stores: FleetStores<D>,
     orders: Vec<Order>,
     workers: usize,
+    gate: G,
 ) -> (FleetStores<D>, Result<Vec<Answered>, AllocError>)
     ensures slots { SameSlots stores result.0 }
     ensures answers { IfOk result.1 (λ answers. AllZip (IsAnswerOver stores) orders.items answers.items) }
 {
     match opened_fleet(alloc, stores) {
-        Ok(opened) => run_opened::<R, Brand, Brand, Brand, Brand, Brand, D>(
-            rt,
-            alloc,
-            opened,
-            orders,
-            workers,
+        Ok(opened) => run_opened::<R, Brand, Brand, Brand, Brand, Brand, D, G>(
+            rt, alloc, opened, orders, workers, gate,
         ),
         Err(stores) => (stores, Err(AllocError)),
     }
@@ -95,12 +94,14 @@ fn run_opened<
     L2: RowName + Send + Sync + 'static,
     L3: RowName + Send + Sync + 'static,
     D: Disk + Drop + Send + 'static,
+    G: StartGate + Send + Sync + Drop + 'static,
 >(
     rt: &R,
     alloc: Global,
     opened: OpenedFleet<D>,
     orders: Vec<Order>,
     workers: usize,
+    gate: G,
 ) -> (FleetStores<D>, Result<Vec<Answered>, AllocError>)
     requires master { cells_of opened.master ≡ M.cells }
     requires first { IfSome opened.first (λ o. cells_of o ≡ L0.cells) }
@@ -114,7 +115,7 @@ fn run_opened<
     let shares = FleetShares::<M, L0, L1, L2, L3, D>::of(alloc, opened);
     match Arc::new(alloc, shares) {
         Ok(shares) => {
-            let answers = run_shared(rt, alloc, &shares, orders, workers, Unheld);
+            let answers = run_shared(rt, alloc, &shares, orders, workers, gate);
             (stores_of(rt, shares), answers)
         }
         Err(failed) => (failed.value.close(), Err(AllocError)),

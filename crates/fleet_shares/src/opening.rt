@@ -74,9 +74,7 @@ fn whole<D: Disk + Drop>(
             third,
             fourth,
         }),
-        (first, second, third, fourth) => Err(
-            left(store_in(master), first, second, third, fourth),
-        ),
+        (first, second, third, fourth) => Err(left(store_in(master), first, second, third, fourth)),
     }
 }
 

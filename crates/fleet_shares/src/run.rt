@@ -50,15 +50,10 @@ pub fn run_shared<
 
 /// The stores of shares, once nobody else keeps them any more, as once their fleet is finished. Waits while somebody
 /// does.
-pub fn stores_of<
-    R: Wait,
-    M: RowName,
-    L0: RowName,
-    L1: RowName,
-    L2: RowName,
-    L3: RowName,
-    D: Disk,
->(rt: &R, shares: Arc<FleetShares<M, L0, L1, L2, L3, D>>) -> FleetStores<D>
+pub fn stores_of<R: Wait, M: RowName, L0: RowName, L1: RowName, L2: RowName, L3: RowName, D: Disk>(
+    rt: &R,
+    shares: Arc<FleetShares<M, L0, L1, L2, L3, D>>,
+) -> FleetStores<D>
     ensures slots { HasStores (is_some (arc_value shares).first) (is_some (arc_value shares).second)
         (is_some (arc_value shares).third) (is_some (arc_value shares).fourth) result }
 {
