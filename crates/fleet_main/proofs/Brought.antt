@@ -18,7 +18,7 @@ use Rattle.repo_store.specs.declared.store.RepoStore.{RepoStore}
 use Rattle.fleet_shares.specs.Stores.{store_at}
 use Rattle.fleet_shares.specs.Told.{head_at, stand, stands, AreTold, SameSlots}
 use Rattle.fleet_shares.specs.declared.stores.FleetStores.{FleetStores}
-use Rattle.fleet_main.specs.Bringing.{Came, Unopened, Stood, loan_of, loans_of, standing, HasCome, HaveCome, AreBrought, OfFleet, NotBrought}
+use Rattle.fleet_main.specs.Bringing.{Came, Refused, Stood, loan_of, loans_of, standing, HasCome, HaveCome, AreBrought, OfFleet, NotBrought}
 use Rattle.fleet_main.specs.Doing.{IsOpenedIn}
 use Rattle.fleet_main.specs.Lending.{IsGiven}
 use Rattle.fleet_main.specs.Loans.{AreBack, Each, Loan, TakesBack, lent_by, only_of}
@@ -57,8 +57,8 @@ module _ {D : Type 0} where
 
 module _ {D : Type 0} {G : Ghosts D} where
   loan_folder : (Q : List ℕ → Type 0) (n : List ℕ) (c : Came G) → Q n → Each (λ l. Q l.folder) (loan_of n c)
-  loan_folder Q n (Unopened e None) q = tt
-  loan_folder Q n (Unopened e (Some lent)) q = (q, tt)
+  loan_folder Q n (Refused e None) q = tt
+  loan_folder Q n (Refused e (Some lent)) q = (q, tt)
   loan_folder Q n (Stood given old new) q = (q, tt)
 
   another : (name n : List ℕ) → bytes_eq name n ≡ false → n ≢ name
@@ -140,8 +140,8 @@ module _ {F D : Type 0} (G : Ghosts D) (H : FolderGhosts F D) where
 
   -- a smaller premise
   come_under : (honest less fails more : Type 0) → (less → honest) → (fails → more) → (folder : List ℕ) (c : Came G) → HasCome G honest fails folder c → HasCome G less more folder c
-  come_under honest less fails more so also folder (Unopened e lent) h = not_opened_under G honest less fails more folder (loan_of {G = G} folder (Unopened e lent)) e so also h
-  come_under honest less fails more so also folder (Stood given old new) h = (opened_under G honest less given old so h.0, ((λ l. h.1 (so l)), h.2))
+  come_under honest less fails more so also folder (Refused e lent) h = not_opened_under G honest less fails more folder (loan_of {G = G} folder (Refused e lent)) e so also h
+  come_under honest less fails more so also folder (Stood given old new) h = (opened_under G honest less given old so h.0, (λ l. h.1 (so l)), h.2)
 
   all_under : (honest less fails more : Type 0) → (less → honest) → (fails → more) → (ns : List (List ℕ)) (cs : List (Came G)) → AllZip (HasCome G honest fails) ns cs → AllZip (HasCome G less more) ns cs
   all_under honest less fails more so also [] [] h = tt
@@ -155,7 +155,7 @@ module _ {F D : Type 0} (G : Ghosts D) (H : FolderGhosts F D) where
     rest_under so first come = all_under _ _ _ _ so (rose_between (H.failures folders) (H.failures then) (H.failures now) (H.failures now) first (omega arith)) names cs come.each
 
     unlent : (e : Refusal) → NotOpened G (H.honest folders) (Rose (H.failures folders) (H.failures then)) name [] e → AreBack G H folders then [] → HaveCome G H then now names cs
-        → HaveCome G H folders now (name ∷ names) (Unopened e None ∷ cs)
+        → HaveCome G H folders now (name ∷ names) (Refused e None ∷ cs)
     unlent e why a come = record {
       each = (
         not_opened_under G (H.honest folders) (H.honest folders) _ _ name [] e (λ h. h) (rose_between (H.failures folders) (H.failures folders) (H.failures then) (H.failures now) (omega arith) come.later) why,
@@ -166,7 +166,7 @@ module _ {F D : Type 0} (G : Ghosts D) (H : FolderGhosts F D) where
     }
 
     lent_back : (e : Refusal) (given back : D) → NotOpened G (H.honest folders) (Rose (H.failures folders) (H.failures then)) name (only_of name given back) e → AreBack G H folders then (only_of name given back)
-        → first_twice (name ∷ names) ≡ None → HaveCome G H then now names cs → HaveCome G H folders now (name ∷ names) (Unopened e (Some (given, back)) ∷ cs)
+        → first_twice (name ∷ names) ≡ None → HaveCome G H then now names cs → HaveCome G H folders now (name ∷ names) (Refused e (Some (given, back)) ∷ cs)
     lent_back e given back why a apart come = record {
       each = (
         not_opened_under G (H.honest folders) (H.honest folders) _ _ name (only_of name given back) e (λ h. h)
@@ -180,14 +180,14 @@ module _ {F D : Type 0} (G : Ghosts D) (H : FolderGhosts F D) where
 
     -- a repository isn't opened, and then others come
     unopened_by : (e : Refusal) (loans : List (Loan D)) → NotOpened G (H.honest folders) (Rose (H.failures folders) (H.failures then)) name loans e → AreBack G H folders then loans
-        → first_twice (name ∷ names) ≡ None → HaveCome G H then now names cs → (lent : Option (D × D)) × HaveCome G H folders now (name ∷ names) (Unopened e lent ∷ cs)
+        → first_twice (name ∷ names) ≡ None → HaveCome G H then now names cs → (lent : Option (D × D)) × HaveCome G H folders now (name ∷ names) (Refused e lent ∷ cs)
     unopened_by e loans (nameless h n l) a apart come = (None, unlent e (nameless h n refl) (subst (AreBack G H folders then) l a) come)
     unopened_by e loans (no_disk h f l) a apart come = (None, unlent e (no_disk h f refl) (subst (AreBack G H folders then) l a) come)
     unopened_by e loans (no_memory h l) a apart come = (None, unlent e (no_memory h refl) (subst (AreBack G H folders then) l a) come)
     unopened_by e loans (unopened given back l u) a apart come = (Some (given, back), lent_back e given back (unopened given back refl u) (subst (AreBack G H folders then) l a) apart come)
 
     pub unopened_then : (e : Refusal) → NotOpenedIn G H folders then name e → first_twice (name ∷ names) ≡ None → HaveCome G H then now names cs
-        → (lent : Option (D × D)) × HaveCome G H folders now (name ∷ names) (Unopened e lent ∷ cs)
+        → (lent : Option (D × D)) × HaveCome G H folders now (name ∷ names) (Refused e lent ∷ cs)
     unopened_then e n apart come = unopened_by e n.0 n.1 n.2 apart come
 
     -- a store is opened, others come, and it is back
@@ -195,7 +195,7 @@ module _ {F D : Type 0} (G : Ghosts D) (H : FolderGhosts F D) where
         → HaveCome G H folders last (name ∷ names) (Stood o.0 old new ∷ cs)
     stood_then last old new o k kept come t = record {
       each = (
-        (o.2, (kept_opened (H.honest folders) o.0 old o.2 k, kept)),
+        (o.2, kept_opened (H.honest folders) o.0 old o.2 k, kept),
         all_under _ _ _ _ o.1.honest (rose_between (H.failures folders) (H.failures then) (H.failures now) (H.failures last) o.1.later t.later) names cs come.each,
       );
       back = λ rules. one_more_back G H folders then now last name o.0 (disk_of new) (loans_of names cs) o.1 (come.back rules.1) (λ h. rules.0) t;
@@ -220,7 +220,7 @@ module _ {F D : Type 0} (G : Ghosts D) (H : FolderGhosts F D) where
     brought_refused e old new n apart pushed b =
         let u = unopened_then folders then now name names b.came e n apart b.come in
         record {
-          came = Unopened e u.0 ∷ b.came;
+          came = Refused e u.0 ∷ b.came;
           come = u.1;
           slots = λ slot less. b.slots slot (before_last slot (length refusals) (length more) (ap length pushed ∙ length-append refusals (Some e ∷ [])) less);
           told = told_by answers _ _

@@ -23,13 +23,13 @@ use Rattle.fleet_main.specs.declared.lending.Folders.{Ghosts as FolderGhosts}
 
 -- what came of a folder: no repository was opened there, on no disk or on one that came back; or one was, on the disk that was lent, and what store came back
 pub data Came {D : Type 0} (G : Ghosts D) : Type 0 where
-  Unopened : Refusal → Option (D × D) → Came G
+  Refused : Refusal → Option (D × D) → Came G
   Stood : D → RepoStore D G → RepoStore D G → Came G
 
 -- the folder's disk as it was lent and as it came back, where it was lent
 abbrev pub loan_of : {D : Type 0} {G : Ghosts D} → List ℕ → Came G → List (Loan D)
-loan_of folder (Unopened e None) = []
-loan_of folder (Unopened e (Some lent)) = only_of folder lent.0 lent.1
+loan_of folder (Refused e None) = []
+loan_of folder (Refused e (Some lent)) = only_of folder lent.0 lent.1
 loan_of folder (Stood given old new) = only_of folder given (disk_of new)
 
 abbrev pub loans_of : {D : Type 0} {G : Ghosts D} → List (List ℕ) → List (Came G) → List (Loan D)
@@ -39,7 +39,7 @@ loans_of (n ∷ ns) (c ∷ cs) = loan_of n c ++ loans_of ns cs
 
 -- the repository isn't opened, and why; or the store was opened on the disk, and a stop left what keeps it as the run began; what came back is a store, of which a stop leaves what it keeps
 abbrev pub HasCome : {D : Type 0} (G : Ghosts D) → Type 0 → Type 0 → List ℕ → Came G → Type 0
-HasCome G honest fails folder (Unopened e lent) = NotOpened G honest fails folder (loan_of {G = G} folder (Unopened e lent)) e
+HasCome G honest fails folder (Refused e lent) = NotOpened G honest fails folder (loan_of {G = G} folder (Refused e lent)) e
 HasCome G honest fails folder (Stood given old new) = IsOpenedOn G honest given old × IsKept honest old × StoreIsKept new
 
 -- of each of these folders, and where the disks that came back keep the rules, each is in its folder, and all other folders have what they had
@@ -50,7 +50,7 @@ pub record HaveCome {F D : Type 0} (G : Ghosts D) (H : FolderGhosts F D) (before
 
 -- how a mirror stands: its refusal, or the newest revision of the store that came back
 abbrev pub standing : {D : Type 0} {G : Ghosts D} → Came G → Result ℕ Refusal
-standing (Unopened e lent) = Err e
+standing (Refused e lent) = Err e
 standing (Stood given old new) = Ok (head_of (revisions_of new))
 
 -- the mirrors of these folders are opened behind those that were before, with what was refused of these; all are run; and the mirrors of these folders are closed
