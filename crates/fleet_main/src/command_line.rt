@@ -16,17 +16,17 @@ ghost use Rattle.fleet_main.specs.Values.{HasNumber, HasServiceOf, HasTaskOf, Is
 ghost use Rattle.fleet_main.specs.Values.{HasSource, SpellsServer, SpellsUpTo, identity_read, is_given, is_on_server};
 ghost use Rattle.fleet_main.specs.Values.{server_url};
 ghost use Rattle.fleet_main.specs.Words.{canon_app, copied_range_rule, copy_revprops_app, create_app, dump_app};
-ghost use Rattle.fleet_main.specs.Words.{flag_rule, fleet_app, fleet_folders_app, folders_app, histories_app};
+ghost use Rattle.fleet_main.specs.Words.{flag_rule, fleet_app, folders_app, histories_app};
 ghost use Rattle.fleet_main.specs.Words.{info_app, initialize_app, list_app};
 ghost use Rattle.fleet_main.specs.Words.{load_app, mirrors_app, mkdir_app, mkdir_place_app, named_rule, optional_rule};
 ghost use Rattle.fleet_main.specs.Words.{range_rule, serve_app, serve_place_app, streams_app, svnfleet_app};
-ghost use Rattle.fleet_main.specs.Words.{synchronize_app, told_app, two_folders_app, word_of_task, word_rule, words_rule};
+ghost use Rattle.fleet_main.specs.Words.{synchronize_app, told_app, two_folders_app, word_of_task, word_rule};
 ghost use Rattle.sync_core.specs.Tokens.{is_token};
 ghost use Rattle.node_base.specs.Numbers.{rev_read};
 ghost use Rattle.repo_core.specs.Dates.{IsMoment};
 ghost use Rattle.store_engines.specs.Ranges.{first_in, last_in};
 
-use crate::fleet_named::fleet_named;
+use crate::fleet_named::{fleet_command, fleet_named};
 use crate::fleet_words::Fleet;
 use crate::help::help_of;
 use crate::terminal::line_of;
@@ -191,7 +191,7 @@ fn canon<'a>(alloc: Global) -> clap::Command<'a>
 }
 
 // A word that has to be there.
-fn word<'a>(alloc: Global, name: &'a str, help: &'a str) -> Arg<'a>
+pub(crate) fn word<'a>(alloc: Global, name: &'a str, help: &'a str) -> Arg<'a>
     ensures rule { rule_of result ≡ word_rule name.now }
     ensures local { result.global ≡ false }
 {
@@ -202,7 +202,7 @@ fn word<'a>(alloc: Global, name: &'a str, help: &'a str) -> Arg<'a>
 }
 
 // An option with a long name and one value, which has to be there.
-fn valued<'a>(alloc: Global, name: &'a str, value: &'a str, help: &'a str) -> Arg<'a>
+pub(crate) fn valued<'a>(alloc: Global, name: &'a str, value: &'a str, help: &'a str) -> Arg<'a>
     ensures rule { rule_of result ≡ named_rule name.now }
     ensures local { result.global ≡ false }
 {
@@ -476,47 +476,6 @@ fn serve<'a>(alloc: Global) -> Result<clap::Command<'a>, AllocError>
     Ok(whole)
 }
 
-// Words, one at least.
-fn many_words<'a>(alloc: Global, name: &'a str, help: &'a str) -> Arg<'a>
-    ensures rule { rule_of result ≡ words_rule name.now }
-    ensures local { result.global ≡ false }
-{
-    Arg::new(alloc, name)
-        .required(true)
-        .action(ArgAction::Append)
-        .help(help)
-}
-
-// The command and the places that it takes.
-fn fleet_folders<'a>(alloc: Global) -> Result<clap::Command<'a>, AllocError>
-    ensures app { IfOk result (λ c. app_of c ≡ fleet_folders_app) }
-    ensures local { IfOk result (λ c. (fields_of c).has_globals ≡ false) }
-{
-    let master = word(alloc, "MASTER", "The folder of the master");
-    let mirrors = many_words(alloc, "MIRROR", "The folders of its mirrors, from 1 to 4");
-    let top = clap::Command::new(alloc, "fleet")
-        .about("Brings several mirrors up to their source at once")
-        .after_help(texts::FLEET);
-    let placed = top.arg(master)?;
-    let whole = placed.arg(mirrors)?;
-    Ok(whole)
-}
-
-fn fleet<'a>(alloc: Global) -> Result<clap::Command<'a>, AllocError>
-    ensures app { IfOk result (λ c. app_of c ≡ fleet_app) }
-    ensures local { IfOk result (λ c. (fields_of c).has_globals ≡ false) }
-{
-    let workers = valued(
-        alloc,
-        "workers",
-        "K",
-        "The number of mirrors that are brought up at a time, from 1 to 64",
-    );
-    let top = fleet_folders(alloc)?;
-    let whole = top.arg(workers)?;
-    Ok(whole)
-}
-
 // The program with the commands over streams alone.
 fn over_streams<'a>(alloc: Global) -> Result<clap::Command<'a>, AllocError>
     ensures app { IfOk result (λ c. app_of c ≡ streams_app) }
@@ -591,7 +550,7 @@ fn svnfleet<'a>(alloc: Global) -> Result<clap::Command<'a>, AllocError>
     ensures local { IfOk result (λ c. (fields_of c).has_globals ≡ false) }
 {
     let serve = serve(alloc)?;
-    let fleet = fleet(alloc)?;
+    let fleet = fleet_command(alloc)?;
     let top = over_told(alloc)?;
     let some = top.subcommand(serve)?;
     let whole = some.subcommand(fleet)?;
