@@ -1,7 +1,7 @@
 -- What is told of each mirror is so of its answer and of its store.
-use Rattle.std.proofs.Common.{◌≡◌, ◌⊎◌, inl, inr, ℕ, ◌+◌, Bool, true, false, List, [], ◌∷◌, length, map, Option, Some, None, Result, Ok, Err, IfOk, Vec, is_some, refl, sym, ap, subst, ◌∙◌, absurd}
+use Rattle.std.proofs.Common.{◌≡◌, ◌⊎◌, inl, inr, ℕ, ◌+◌, Bool, true, false, List, [], ◌∷◌, ◌++◌, append_assoc, length, map, Option, Some, None, Result, Ok, Err, IfOk, IfSome, Vec, is_some, refl, sym, ap, subst, ◌∙◌}
 use Rattle.std.specs.List.{AllZip, range_with_len}
-use Rattle.std.specs.Option.{option_map}
+use Rattle.std.specs.Option.{option_map, option_to_list}
 use Rattle.std.specs.declared.alloc.Global.{Global}
 use Rattle.std.proofs.lemmas.Bool.{true≢false}
 use Rattle.fleet_jobs.specs.Answers.{Answer}
@@ -11,12 +11,14 @@ use Rattle.repo_core.specs.Repository.{head_of}
 use Rattle.repo_store.specs.Words.{revisions_of}
 use Rattle.repo_store.specs.declared.store.RepoStore.{RepoStore}
 use Rattle.fleet_shares.specs.Given.{IsAnswerAt}
-use Rattle.fleet_shares.specs.Opening.{HasOpened}
+use Rattle.store_share.specs.Opened.{cells_of}
+use Rattle.store_share.specs.declared.opened.OpenedStore.{OpenedStore}
+use Rattle.fleet_shares.specs.Opening.{cells_at, HasOpened}
 use Rattle.fleet_shares.specs.Orders.{sync_order}
 use Rattle.fleet_shares.specs.Ran.{HasEnded, IsAnswerIn}
 use Rattle.fleet_shares.specs.Runners.{has_at}
 use Rattle.fleet_shares.specs.Stores.{store_at}
-use Rattle.fleet_shares.specs.Told.{head_at, stand, stands, tell, tells, AreTold, IsAnswerOver, IsTold, SameSlots}
+use Rattle.fleet_shares.specs.Told.{head_at, stand, stands, tell, tell_next, tells, AreTold, IsAnswerOver, IsTold, SameSlots}
 use Rattle.fleet_shares.specs.declared.stores.FleetStores.{FleetStores}
 use Rattle.fleet_shares.specs.declared.stores.OpenedFleet.{OpenedFleet}
 use Rattle.fleet_shares.proofs.Forgetting.{all_so}
@@ -63,3 +65,30 @@ pub answered_over : {D : Type 0} {g : _} {E : Type 0} (stores : FleetStores D g)
     → IfOk r (λ xs. AllZip (IsAnswerIn opened) os xs.items) → IfOk r (λ xs. AllZip (IsAnswerOver stores) os xs.items)
 answered_over stores opened os (Ok xs) same h = all_so _ _ (over_stores stores opened same) os xs.items h
 answered_over stores opened os (Err e) same h = tt
+
+pub of_ok : {T E : Type 0} (r : Result T E) (x : T) (P : T → Type 0) → r ≡ Ok x → IfOk r P → P x
+of_ok {T} {E} r x P e h = subst (λ (k : Result T E). IfOk k P) e h
+
+-- a slot's row is named by its own cells
+pub own_cells : {D : Type 0} {g : _} (slot : Option (OpenedStore D g)) → IfSome slot (λ o. cells_of o ≡ cells_at slot)
+own_cells None = tt
+own_cells (Some opened) = refl
+
+-- one more is told
+told_next : (ss : List (Result ℕ Refusal)) (s : Result ℕ Refusal) (before after : List Answer) (o : Option Answer) → (o ≡ None → (before ≡ []) × (after ≡ [])) → before ≡ option_to_list o ++ after
+    → tells (s ∷ ss) before ≡ tell_next s o ∷ tells ss after
+told_next ss s before after None none is = ap (tells (s ∷ ss)) (none refl).0 ∙ ap (λ xs. tell_next s None ∷ tells ss xs) (sym (none refl).1)
+told_next ss s before after (Some a) none is = ap (tells (s ∷ ss)) is
+
+pub told_step : {D : Type 0} {g : _} (stores : FleetStores D g) (told pushed : List Answer) (n len m : ℕ) (head : Option ℕ) (s : Result ℕ Refusal) (r : Option Refusal) (items rs : List (Option Refusal))
+    (before after : List Answer) (o : Option Answer) (answer : Answer) (all : List Answer) → told ++ tells (stands n items stores) before ≡ all → items ≡ r ∷ rs → (o ≡ None → (before ≡ []) × (after ≡ []))
+    → before ≡ option_to_list o ++ after → len ≡ n → head ≡ head_at stores len → s ≡ stand r head → answer ≡ tell_next s o → pushed ≡ told ++ answer ∷ [] → m ≡ n + 1
+    → pushed ++ tells (stands m rs stores) after ≡ all
+told_step stores told pushed n len m head s r items rs before after o answer all was left none next counted heads standing told_one more count =
+    let is = told_one ∙ ap (λ x. tell_next x o) (standing ∙ ap (stand r) (heads ∙ ap (head_at stores) counted)) in
+    ap (λ x. x ++ tells (stands m rs stores) after) more
+    ∙ (append_assoc told (answer ∷ []) (tells (stands m rs stores) after)
+    ∙ (ap (λ x. told ++ x ∷ tells (stands m rs stores) after) is
+    ∙ (ap (λ k. told ++ tell_next (stand r (head_at stores n)) o ∷ tells (stands k rs stores) after) count
+    ∙ (ap (λ l. told ++ l) (sym (told_next (stands (n + 1) rs stores) (stand r (head_at stores n)) before after o none next))
+    ∙ (ap (λ l. told ++ tells (stands n l stores) before) (sym left) ∙ was)))))

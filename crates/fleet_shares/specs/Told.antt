@@ -35,11 +35,16 @@ tell (Err e) answer = Err (Other e)
 tell (Ok head) (Ok n) = Ok head
 tell (Ok head) (Err f) = Err f
 
--- each in turn; one that has no answer has failed (32)
+-- one that has no answer has failed (32)
+abbrev pub tell_next : Result ℕ Refusal → Option Answer → Answer
+tell_next standing None = Err (Other Failed)
+tell_next standing (Some answer) = tell standing answer
+
+-- each in turn
 abbrev pub tells : List (Result ℕ Refusal) → List Answer → List Answer
 tells [] answers = []
-tells (s ∷ ss) [] = Err (Other Failed) ∷ tells ss []
-tells (s ∷ ss) (a ∷ more) = tell s a ∷ tells ss more
+tells (s ∷ ss) [] = tell_next s None ∷ tells ss []
+tells (s ∷ ss) (a ∷ more) = tell_next s (Some a) ∷ tells ss more
 
 -- what may be told of a mirror by how it stands in the end: its refusal; or that revision once its order's job has run well, or why that was refused, or that no worker was left for it (32), or that memory ran out (70)
 abbrev pub IsTold : Order → Result ℕ Refusal → Answer → Type 0

@@ -1,6 +1,6 @@
 //! What is told of each mirror once its job has ended.
 ghost use Rattle.std.specs.Prelude.{◌≡◌, ◌≤◌, [], vec_len, vec_capacity};
-ghost use Rattle.fleet_shares.specs.Told.{head_at, stand, stands, tell, tells};
+ghost use Rattle.fleet_shares.specs.Told.{head_at, stand, stands, tell, tell_next, tells};
 
 use crate::answers::Answered;
 use crate::stores::FleetStores;
@@ -23,11 +23,7 @@ pub(crate) fn tell_all<D: Disk + Drop>(
     let mut rest = answers.into_iter();
     for refusal in refusals {
         let standing = stand(refusal, stores.head_at(told.len()));
-        let answer = match rest.next() {
-            Some(answer) => tell(standing, answer),
-            None => Err(SyncFault::Other(Refusal::Failed)),
-        };
-        told.push_reserved(answer);
+        told.push_reserved(tell_next(standing, rest.next()));
     }
     told
 }
@@ -42,6 +38,16 @@ fn stand(refusal: Option<Refusal>, head: Option<RevNo>) -> Result<RevNo, Refusal
             Some(head) => Ok(head),
             None => Err(Refusal::NoRepository),
         },
+    }
+}
+
+// What is told of a mirror that stands so, where there is an answer for it. One that has none has failed (32).
+fn tell_next(standing: Result<RevNo, Refusal>, answer: Option<Answered>) -> Answered
+    ensures { result ≡ tell_next standing answer }
+{
+    match answer {
+        Some(answer) => tell(standing, answer),
+        None => Err(SyncFault::Other(Refusal::Failed)),
     }
 }
 
