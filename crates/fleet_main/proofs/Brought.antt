@@ -15,10 +15,11 @@ use Rattle.node_base.specs.declared.refusal.Refusal.TheVariants as refusal
 use Rattle.repo_core.specs.Repository.{head_of}
 use Rattle.repo_store.specs.Words.{disk_of, revisions_of, IsKept as StoreIsKept}
 use Rattle.repo_store.specs.declared.store.RepoStore.{RepoStore}
+use Rattle.fleet_shares.specs.Lines.{lines_of}
 use Rattle.fleet_shares.specs.Stores.{store_at}
 use Rattle.fleet_shares.specs.Told.{head_at, stand, stands, AreTold, SameSlots}
 use Rattle.fleet_shares.specs.declared.stores.FleetStores.{FleetStores}
-use Rattle.fleet_main.specs.Bringing.{Came, Refused, Stood, loan_of, loans_of, standing, HasCome, HaveCome, AreBrought, OfFleet, NotBrought}
+use Rattle.fleet_main.specs.Bringing.{Came, Refused, Stood, loan_of, loans_of, standing, HasCome, HaveCome, AreBrought, IsTelling, OfFleet, NotBrought}
 use Rattle.fleet_main.specs.Doing.{IsOpenedIn}
 use Rattle.fleet_main.specs.Lending.{IsGiven}
 use Rattle.fleet_main.specs.Loans.{AreBack, Each, Loan, TakesBack, lent_by, only_of}
@@ -41,6 +42,9 @@ neither : (a b : Bool) → (a || b) ≡ false → (a ≡ false) × (b ≡ false)
 neither true b e = absurd (true≢false e)
 neither false b e = (refl, e)
 
+another : (name n : List ℕ) → bytes_eq name n ≡ false → n ≢ name
+another name n e same = true≢false (sym ((bytes_eq-Decides name n).1 (sym same)) ∙ e)
+
 -- of loans
 module _ {D : Type 0} where
   each_map : (P Q : Loan D → Type 0) → ((l : Loan D) → P l → Q l) → (ls : List (Loan D)) → Each P ls → Each Q ls
@@ -60,9 +64,6 @@ module _ {D : Type 0} {G : Ghosts D} where
   loan_folder Q n (Refused e None) q = tt
   loan_folder Q n (Refused e (Some lent)) q = (q, tt)
   loan_folder Q n (Stood given old new) q = (q, tt)
-
-  another : (name n : List ℕ) → bytes_eq name n ≡ false → n ≢ name
-  another name n e same = true≢false (sym ((bytes_eq-Decides name n).1 (sym same)) ∙ e)
 
   -- a name that stands once is no other folder's
   loans_apart : (name : List ℕ) (ns : List (List ℕ)) (cs : List (Came G)) → list_any (bytes_eq name) ns ≡ false → Each (λ l. l.folder ≢ name) (loans_of ns cs)
@@ -111,9 +112,9 @@ to_none k n less = omega (arith, less)
 
 module _ {F D : Type 0} (G : Ghosts D) (H : FolderGhosts F D) where
   -- where one folder is left as it was, and then others
-  then_none : (before then now : F) (rest : List (Loan D)) → AreBack G H before then [] → AreBack G H then now rest → AreBack G H before now rest
-  then_none before then now rest a b = record {
-    given = λ h. each_map (λ l. IsGiven G (H.disk then l.folder) l.given) (λ l. IsGiven G (H.disk before l.folder) l.given) (λ l g. subst (λ d. IsGiven G d l.given) (a.others h l.folder tt) g) rest (b.given (a.honest h));
+  then_none : (before mid now : F) (rest : List (Loan D)) → AreBack G H before mid [] → AreBack G H mid now rest → AreBack G H before now rest
+  then_none before mid now rest a b = record {
+    given = λ h. each_map (λ l. IsGiven G (H.disk mid l.folder) l.given) (λ l. IsGiven G (H.disk before l.folder) l.given) (λ l g. subst (λ d. IsGiven G d l.given) (a.others h l.folder tt) g) rest (b.given (a.honest h));
     back = λ h. b.back (a.honest h);
     others = λ h other far. b.others (a.honest h) other far ∙ a.others h other tt;
     honest = λ h. b.honest (a.honest h);
@@ -121,12 +122,12 @@ module _ {F D : Type 0} (G : Ghosts D) (H : FolderGhosts F D) where
   }
 
   -- or is back before others are lent
-  then_one : (before then now : F) (folder : List ℕ) (given back : D) (rest : List (Loan D)) → AreBack G H before then (only_of folder given back) → AreBack G H then now rest
+  then_one : (before mid now : F) (folder : List ℕ) (given back : D) (rest : List (Loan D)) → AreBack G H before mid (only_of folder given back) → AreBack G H mid now rest
       → Each (λ l. l.folder ≢ folder) rest → AreBack G H before now (lent_by folder given back ∷ rest)
-  then_one before then now folder given back rest a b apart = record {
+  then_one before mid now folder given back rest a b apart = record {
     given = λ h. (
       (a.given h).0,
-      each_both (λ l. l.folder ≢ folder) (λ l. IsGiven G (H.disk then l.folder) l.given) (λ l. IsGiven G (H.disk before l.folder) l.given)
+      each_both (λ l. l.folder ≢ folder) (λ l. IsGiven G (H.disk mid l.folder) l.given) (λ l. IsGiven G (H.disk before l.folder) l.given)
           (λ l far g. subst (λ d. IsGiven G d l.given) (a.others h l.folder (far, tt)) g) rest apart (b.given (a.honest h)),
     );
     back = λ h. (
@@ -149,56 +150,56 @@ module _ {F D : Type 0} (G : Ghosts D) (H : FolderGhosts F D) where
   all_under honest less fails more so also (n ∷ ns) [] h = absurd h
   all_under honest less fails more so also (n ∷ ns) (c ∷ cs) h = (come_under honest less fails more so also n c h.0, all_under honest less fails more so also ns cs h.1)
 
-  module _ (folders then now : F) (name : List ℕ) (names : List (List ℕ)) (cs : List (Came G)) where
-    rest_under : (H.honest folders → H.honest then) → H.failures folders ≤ H.failures then → HaveCome G H then now names cs
+  module _ (folders mid now : F) (name : List ℕ) (names : List (List ℕ)) (cs : List (Came G)) where
+    rest_under : (H.honest folders → H.honest mid) → H.failures folders ≤ H.failures mid → HaveCome G H mid now names cs
         → AllZip (HasCome G (H.honest folders) (Rose (H.failures folders) (H.failures now))) names cs
-    rest_under so first come = all_under _ _ _ _ so (rose_between (H.failures folders) (H.failures then) (H.failures now) (H.failures now) first (omega arith)) names cs come.each
+    rest_under so first come = all_under _ _ _ _ so (rose_between (H.failures folders) (H.failures mid) (H.failures now) (H.failures now) first (omega arith)) names cs come.each
 
-    unlent : (e : Refusal) → NotOpened G (H.honest folders) (Rose (H.failures folders) (H.failures then)) name [] e → AreBack G H folders then [] → HaveCome G H then now names cs
+    unlent : (e : Refusal) → NotOpened G (H.honest folders) (Rose (H.failures folders) (H.failures mid)) name [] e → AreBack G H folders mid [] → HaveCome G H mid now names cs
         → HaveCome G H folders now (name ∷ names) (Refused e None ∷ cs)
     unlent e why a come = record {
       each = (
-        not_opened_under G (H.honest folders) (H.honest folders) _ _ name [] e (λ h. h) (rose_between (H.failures folders) (H.failures folders) (H.failures then) (H.failures now) (omega arith) come.later) why,
+        not_opened_under G (H.honest folders) (H.honest folders) _ _ name [] e (λ h. h) (rose_between (H.failures folders) (H.failures folders) (H.failures mid) (H.failures now) (omega arith) come.later) why,
         rest_under a.honest a.later come,
       );
-      back = λ rules. then_none folders then now (loans_of names cs) a (come.back rules);
+      back = λ rules. then_none folders mid now (loans_of names cs) a (come.back rules);
       later = omega (arith, a.later, come.later);
     }
 
-    lent_back : (e : Refusal) (given back : D) → NotOpened G (H.honest folders) (Rose (H.failures folders) (H.failures then)) name (only_of name given back) e → AreBack G H folders then (only_of name given back)
-        → first_twice (name ∷ names) ≡ None → HaveCome G H then now names cs → HaveCome G H folders now (name ∷ names) (Refused e (Some (given, back)) ∷ cs)
+    lent_back : (e : Refusal) (given back : D) → NotOpened G (H.honest folders) (Rose (H.failures folders) (H.failures mid)) name (only_of name given back) e → AreBack G H folders mid (only_of name given back)
+        → first_twice (name ∷ names) ≡ None → HaveCome G H mid now names cs → HaveCome G H folders now (name ∷ names) (Refused e (Some (given, back)) ∷ cs)
     lent_back e given back why a apart come = record {
       each = (
         not_opened_under G (H.honest folders) (H.honest folders) _ _ name (only_of name given back) e (λ h. h)
-            (rose_between (H.failures folders) (H.failures folders) (H.failures then) (H.failures now) (omega arith) come.later) why,
+            (rose_between (H.failures folders) (H.failures folders) (H.failures mid) (H.failures now) (omega arith) come.later) why,
         rest_under a.honest a.later come,
       );
-      back = λ rules. then_one folders then now name given back (loans_of names cs) a (come.back rules.1)
+      back = λ rules. then_one folders mid now name given back (loans_of names cs) a (come.back rules.1)
           (loans_apart name names cs (not_first (list_any (bytes_eq name) names) name (first_twice names) apart).0);
       later = omega (arith, a.later, come.later);
     }
 
     -- a repository isn't opened, and then others come
-    unopened_by : (e : Refusal) (loans : List (Loan D)) → NotOpened G (H.honest folders) (Rose (H.failures folders) (H.failures then)) name loans e → AreBack G H folders then loans
-        → first_twice (name ∷ names) ≡ None → HaveCome G H then now names cs → (lent : Option (D × D)) × HaveCome G H folders now (name ∷ names) (Refused e lent ∷ cs)
-    unopened_by e loans (nameless h n l) a apart come = (None, unlent e (nameless h n refl) (subst (AreBack G H folders then) l a) come)
-    unopened_by e loans (no_disk h f l) a apart come = (None, unlent e (no_disk h f refl) (subst (AreBack G H folders then) l a) come)
-    unopened_by e loans (no_memory h l) a apart come = (None, unlent e (no_memory h refl) (subst (AreBack G H folders then) l a) come)
-    unopened_by e loans (unopened given back l u) a apart come = (Some (given, back), lent_back e given back (unopened given back refl u) (subst (AreBack G H folders then) l a) apart come)
+    unopened_by : (e : Refusal) (loans : List (Loan D)) → NotOpened G (H.honest folders) (Rose (H.failures folders) (H.failures mid)) name loans e → AreBack G H folders mid loans
+        → first_twice (name ∷ names) ≡ None → HaveCome G H mid now names cs → (lent : Option (D × D)) × HaveCome G H folders now (name ∷ names) (Refused e lent ∷ cs)
+    unopened_by e loans (nameless h n l) a apart come = (None, unlent e (nameless h n refl) (subst (AreBack G H folders mid) l a) come)
+    unopened_by e loans (no_disk h f l) a apart come = (None, unlent e (no_disk h f refl) (subst (AreBack G H folders mid) l a) come)
+    unopened_by e loans (no_memory h l) a apart come = (None, unlent e (no_memory h refl) (subst (AreBack G H folders mid) l a) come)
+    unopened_by e loans (unopened given back l u) a apart come = (Some (given, back), lent_back e given back (unopened given back refl u) (subst (AreBack G H folders mid) l a) apart come)
 
-    pub unopened_then : (e : Refusal) → NotOpenedIn G H folders then name e → first_twice (name ∷ names) ≡ None → HaveCome G H then now names cs
+    pub unopened_then : (e : Refusal) → NotOpenedIn G H folders mid name e → first_twice (name ∷ names) ≡ None → HaveCome G H mid now names cs
         → (lent : Option (D × D)) × HaveCome G H folders now (name ∷ names) (Refused e lent ∷ cs)
     unopened_then e n apart come = unopened_by e n.0 n.1 n.2 apart come
 
     -- a store is opened, others come, and it is back
-    pub stood_then : (last : F) (old new : RepoStore D G) (o : IsOpenedIn G H folders then name old) → KeptThen old → StoreIsKept new → HaveCome G H then now names cs → TakesBack G H now last name (disk_of new)
+    pub stood_then : (last : F) (old new : RepoStore D G) (o : IsOpenedIn G H folders mid name old) → KeptThen old → StoreIsKept new → HaveCome G H mid now names cs → TakesBack G H now last name (disk_of new)
         → HaveCome G H folders last (name ∷ names) (Stood o.0 old new ∷ cs)
     stood_then last old new o k kept come t = record {
       each = (
         (o.2, kept_opened (H.honest folders) o.0 old o.2 k, kept),
-        all_under _ _ _ _ o.1.honest (rose_between (H.failures folders) (H.failures then) (H.failures now) (H.failures last) o.1.later t.later) names cs come.each,
+        all_under _ _ _ _ o.1.honest (rose_between (H.failures folders) (H.failures mid) (H.failures now) (H.failures last) o.1.later t.later) names cs come.each,
       );
-      back = λ rules. one_more_back G H folders then now last name o.0 (disk_of new) (loans_of names cs) o.1 (come.back rules.1) (λ h. rules.0) t;
+      back = λ rules. one_more_back G H folders mid now last name o.0 (disk_of new) (loans_of names cs) o.1 (come.back rules.1) (λ h. rules.0) t;
       later = omega (arith, o.1.later, come.later, t.later);
     }
 
@@ -213,12 +214,12 @@ module _ {F D : Type 0} (G : Ghosts D) (H : FolderGhosts F D) where
         told = told_by answers _ _ (sym (append-nil (stands 0 refusals new))) told;
       })
 
-  module _ {E : Type 0} (folders then now : F) (name : List ℕ) (names : List (List ℕ)) (refusals more : List (Option Refusal)) (answers : Result (Vec Answer Global) E) where
+  module _ {E : Type 0} (folders mid now : F) (name : List ℕ) (names : List (List ℕ)) (refusals more : List (Option Refusal)) (answers : Result (Vec Answer Global) E) where
     -- one isn't opened
-    pub brought_refused : (e : Refusal) (old new : FleetStores D G) → NotOpenedIn G H folders then name e → first_twice (name ∷ names) ≡ None → more ≡ refusals ++ Some e ∷ []
-        → AreBrought G H then now names more old new answers → AreBrought G H folders now (name ∷ names) refusals old new answers
+    pub brought_refused : (e : Refusal) (old new : FleetStores D G) → NotOpenedIn G H folders mid name e → first_twice (name ∷ names) ≡ None → more ≡ refusals ++ Some e ∷ []
+        → AreBrought G H mid now names more old new answers → AreBrought G H folders now (name ∷ names) refusals old new answers
     brought_refused e old new n apart pushed b =
-        let u = unopened_then folders then now name names b.came e n apart b.come in
+        let u = unopened_then folders mid now name names b.came e n apart b.come in
         record {
           came = Refused e u.0 ∷ b.came;
           come = u.1;
@@ -230,8 +231,8 @@ module _ {F D : Type 0} (G : Ghosts D) (H : FolderGhosts F D) where
         }
 
     -- one is opened, in the slot behind the others
-    pub brought_opened : (last : F) (store : RepoStore D G) (old put new left : FleetStores D G) → IsOpenedIn G H folders then name store → KeptThen store → more ≡ refusals ++ None ∷ []
-        → store_at put (length refusals) ≡ Some store → ((other : ℕ) → other ≢ length refusals → store_at put other ≡ store_at old other) → AreBrought G H then now names more put new answers
+    pub brought_opened : (last : F) (store : RepoStore D G) (old put new left : FleetStores D G) → IsOpenedIn G H folders mid name store → KeptThen store → more ≡ refusals ++ None ∷ []
+        → store_at put (length refusals) ≡ Some store → ((other : ℕ) → other ≢ length refusals → store_at put other ≡ store_at old other) → AreBrought G H mid now names more put new answers
         → IfSome (store_at new (length refusals)) (λ s. TakesBack G H now last name (disk_of s) × StoreIsKept s) → ((other : ℕ) → other ≢ length refusals → store_at left other ≡ store_at new other)
         → AreBrought G H folders last (name ∷ names) refusals old left answers
     brought_opened last store old put new left o k pushed there others b back others_left =
@@ -240,7 +241,7 @@ module _ {F D : Type 0} (G : Ghosts D) (H : FolderGhosts F D) where
         let came_back = subst (λ x. IfSome x (λ s. TakesBack G H now last name (disk_of s) × StoreIsKept s)) s.1 back in
         record {
           came = Stood o.0 store s.0 ∷ b.came;
-          come = stood_then folders then now name names b.came last store s.0 o k came_back.1 b.come came_back.0;
+          come = stood_then folders mid now name names b.came last store s.0 o k came_back.1 b.come came_back.0;
           slots = λ slot less.
               ap is_some (others_left slot (not_last slot (length refusals) less))
               ∙ (b.slots slot (before_last slot (length refusals) (length more) counted less) ∙ ap is_some (others slot (not_last slot (length refusals) less)));
@@ -252,16 +253,31 @@ module _ {F D : Type 0} (G : Ghosts D) (H : FolderGhosts F D) where
               ∙ ap (λ ss. ss ++ Ok (head_of (revisions_of s.0)) ∷ map standing b.came) (stands_same 0 refusals new left (λ n less. sym (others_left n (not_last n (length refusals) (to_none n (length refusals) less))))))))) b.told;
         }
 
+    pub brought_opened_at : (last : F) (store : RepoStore D G) (old put new left : FleetStores D G) (slot : ℕ) → slot ≡ length refusals → IsOpenedIn G H folders mid name store → KeptThen store
+        → more ≡ refusals ++ None ∷ [] → store_at put slot ≡ Some store → ((other : ℕ) → other ≢ slot → store_at put other ≡ store_at old other) → AreBrought G H mid now names more put new answers
+        → IfSome (store_at new slot) (λ s. TakesBack G H now last name (disk_of s) × StoreIsKept s) → ((other : ℕ) → other ≢ slot → store_at left other ≡ store_at new other)
+        → AreBrought G H folders last (name ∷ names) refusals old left answers
+    brought_opened_at last store old put new left slot at o k pushed there others b back others_left =
+        brought_opened last store old put new left o k pushed (subst (λ n. store_at put n ≡ Some store) at there)
+        (subst (λ n. (other : ℕ) → other ≢ n → store_at put other ≡ store_at old other) at others) b
+        (subst (λ n. IfSome (store_at new n) (λ s. TakesBack G H now last name (disk_of s) × StoreIsKept s)) at back)
+        (subst (λ n. (other : ℕ) → other ≢ n → store_at left other ≡ store_at new other) at others_left)
+
+  -- of folders by their texts
+  pub brought_at : {E : Type 0} (folders later : F) (ns ms : List (List ℕ)) (refusals : List (Option Refusal)) (old new : FleetStores D G) (answers : Result (Vec Answer Global) E) → ns ≡ ms
+      → AreBrought G H folders later ns refusals old new answers → AreBrought G H folders later ms refusals old new answers
+  brought_at folders later ns ms refusals old new answers same b = subst (λ k. AreBrought G H folders later k refusals old new answers) same b
+
   -- the master is back last
-  pub fleet_stood : {E : Type 0} (folders then now last : F) (master : List ℕ) (names : List (List ℕ)) (refusals : List (Option Refusal)) (store new_store : RepoStore D G) (old new : FleetStores D G)
-      (answers : Result (Vec Answer Global) E) (o : IsOpenedIn G H folders then master store) → KeptThen store → StoreIsKept new_store → refusals ≡ [] → AreBrought G H then now names refusals old new answers
+  pub fleet_stood : {E : Type 0} (folders mid now last : F) (master : List ℕ) (names : List (List ℕ)) (refusals : List (Option Refusal)) (store new_store : RepoStore D G) (old new : FleetStores D G)
+      (answers : Result (Vec Answer Global) E) (o : IsOpenedIn G H folders mid master store) → KeptThen store → StoreIsKept new_store → refusals ≡ [] → AreBrought G H mid now names refusals old new answers
       → TakesBack G H now last master (disk_of new_store) → OfFleet G H folders last master names (λ standings. IfOk answers (λ told. AreTold 0 standings told.items))
-  fleet_stood folders then now last master names refusals store new_store old new answers o k kept none b t = record {
+  fleet_stood folders mid now last master names refusals store new_store old new answers o k kept none b t = record {
     given = o.0;
     old = store;
     new = new_store;
     came = b.came;
-    come = stood_then folders then now master names b.came last store new_store o k kept b.come t;
+    come = stood_then folders mid now master names b.came last store new_store o k kept b.come t;
     done = told_by answers _ _ (ap (λ rs. stands 0 rs new ++ map standing b.came) none) b.told;
   }
 
@@ -272,10 +288,30 @@ module _ {F D : Type 0} (G : Ghosts D) (H : FolderGhosts F D) where
   pub fleet_done : {E : Type 0} (folders later : F) (master : List ℕ) (names : List (List ℕ)) (answers : Result (Vec Answer Global) E) (r : Result (Vec Answer Global) Refusal) → IfOk r (λ told. answers ≡ Ok told)
       → OfFleet G H folders later master names (λ standings. IfOk answers (λ told. AreTold 0 standings told.items))
       → IfOk r (λ told. OfFleet G H folders later master names (λ standings. AreTold 0 standings told.items))
-  fleet_done folders later master names answers (Ok told) e b = fleet_as folders later master names _ _ (λ ss h. subst (λ (a : Result (Vec Answer Global) E). IfOk a (λ t. AreTold 0 ss t.items)) e h) b
+  fleet_done {E = E} folders later master names answers (Ok told) e b = fleet_as folders later master names _ _ (λ ss h. subst (λ (a : Result (Vec Answer Global) E). IfOk a (λ t. AreTold 0 ss t.items)) e h) b
   fleet_done folders later master names answers (Err x) e b = tt
 
   pub fleet_refused : {E : Type 0} (folders later : F) (master : List ℕ) (names : List (List ℕ)) (answers : Result (Vec Answer Global) E) (r : Result (Vec Answer Global) Refusal) → IfErr r (λ e. e ≡ refusal.OutOfMemory)
       → OfFleet G H folders later master names (λ standings. IfOk answers (λ told. AreTold 0 standings told.items)) → IfErr r (NotBrought G H folders later master names)
   fleet_refused folders later master names answers (Ok told) e b = tt
   fleet_refused folders later master names answers (Err x) e b = inr (e, inr (fleet_as folders later master names _ _ (λ ss h. tt) b))
+
+  -- what is told is written in the lines
+  pub telling : (folders later : F) (m master : List ℕ) (ms names : List (List ℕ)) (told : List Answer) (written : List ℕ) (before now : Option (List ℕ)) (done : Bool) → m ≡ master → ms ≡ names
+      → OfFleet G H folders later m ms (λ standings. AreTold 0 standings told) → done ≡ list_all is_ok told → written ≡ lines_of ms told → Appends before now written
+      → OfFleet G H folders later master names (IsTelling names done before now)
+  telling folders later m master ms names told written before now done same all b each lines more =
+      subst (λ k. OfFleet G H folders later k names (IsTelling names done before now)) same
+      (subst (λ k. OfFleet G H folders later m k (IsTelling k done before now)) all
+      (fleet_as folders later m ms _ _ (λ ss h. (told, h, sym each, subst (Appends before now) lines more)) b))
+
+  -- or isn't told
+  pub untold : (folders later : F) (m master : List ℕ) (ms names : List (List ℕ)) (told : List Answer) → m ≡ master → ms ≡ names → OfFleet G H folders later m ms (λ standings. AreTold 0 standings told)
+      → OfFleet G H folders later master names (λ standings. Unit {0})
+  untold folders later m master ms names told same all b =
+      subst (λ k. OfFleet G H folders later k names (λ standings. Unit {0})) same
+      (subst (λ k. OfFleet G H folders later m k (λ standings. Unit {0})) all (fleet_as folders later m ms _ _ (λ ss h. tt) b))
+
+  -- by the texts of the words
+  pub not_brought_at : (folders later : F) (m master : List ℕ) (ms names : List (List ℕ)) (e : Refusal) → m ≡ master → ms ≡ names → NotBrought G H folders later m ms e → NotBrought G H folders later master names e
+  not_brought_at folders later m master ms names e same all b = subst (λ k. NotBrought G H folders later k names e) same (subst (λ k. NotBrought G H folders later m k e) all b)

@@ -6,6 +6,7 @@ use Rattle.clap.specs.Values.{kind_of}
 use Rattle.clap.specs.Words.{Row}
 use Rattle.clap.specs.declared.error.Error.{Error}
 use Rattle.fleet_main.specs.declared.command_line.Planned.{Planned}
+use Rattle.fleet_main.specs.declared.fleet_words.Fleet.{Fleet}
 use Rattle.fleet_main.specs.declared.command_line.Usage.{Usage}
 use Rattle.fleet_main.specs.declared.command_line.Usage.TheVariants.{Shown, Wrong, OutOfMemory}
 use Rattle.fleet_main.specs.Lines.{HasNoLineFeed, IsLineOf}
@@ -142,3 +143,8 @@ pub fleet_refused : (rows : List Row) (master : List ℕ) (mirrors : List (List 
 fleet_refused rows master mirrors (Shown text) has have h = absurd h
 fleet_refused rows master mirrors (Wrong text) has have h = (codes "fleet", rows, refl, no_fleet master mirrors refl has have h)
 fleet_refused rows master mirrors OutOfMemory has have h = tt
+
+pub folders_at : (rows : List Row) (master : List ℕ) (mirrors : List (List ℕ)) (r : Result Fleet Usage) → HasValue rows (codes "MASTER") master → HasValues rows (codes "MIRROR") mirrors
+    → IfErr r (AreRefused master mirrors) → IfErr r (IsRefusedAt (Some (codes "fleet", rows)))
+folders_at rows master mirrors (Ok fleet) has have h = tt
+folders_at rows master mirrors (Err u) has have h = fleet_refused rows master mirrors u has have h
