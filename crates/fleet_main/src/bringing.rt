@@ -174,7 +174,7 @@ where
         Ok(told) => match answer_lines(alloc, mirrors, told.as_slice()) {
             Ok(lines) => match output.bytes(lines.as_bytes()) {
                 Ok(()) => Ok(are_done(told.as_slice())),
-                Err(refusal) => Err(refusal),
+                Err(_) => Err(Refusal::PeerFailed),
             },
             Err(_) => Err(Refusal::OutOfMemory),
         },
