@@ -1,4 +1,5 @@
 pub mod Above
+pub mod Brought
 pub mod Doing
 pub mod Dumping
 pub mod Lines

@@ -1,18 +1,20 @@
 -- What is told of a value that is refused, and of an error.
-use Rattle.std.proofs.Common.{◌≡◌, ℕ, List, [], Option, Some, None, Result, Ok, Err, inl, inr, refl, sym, ap, ◌∙◌, subst, IfErr, IfSome, ◌++◌, true, false, bytes_eq, codes}
+use Rattle.std.proofs.Common.{◌≡◌, ℕ, List, [], ◌∷◌, Option, Some, None, Result, Ok, Err, inl, inr, refl, sym, ap, ◌∙◌, subst, IfErr, IfSome, ◌++◌, slice_get, true, false, bytes_eq, codes}
 use Rattle.std.specs.Fmt.{debug_str, ◌++?◌}
 use Rattle.clap.specs.Kinds.{Kinds, HasKind}
 use Rattle.clap.specs.Values.{kind_of}
 use Rattle.clap.specs.Words.{Row}
 use Rattle.clap.specs.declared.error.Error.{Error}
 use Rattle.fleet_main.specs.declared.command_line.Planned.{Planned}
+use Rattle.fleet_main.specs.declared.fleet_words.Fleet.{Fleet}
 use Rattle.fleet_main.specs.declared.command_line.Usage.{Usage}
 use Rattle.fleet_main.specs.declared.command_line.Usage.TheVariants.{Shown, Wrong, OutOfMemory}
 use Rattle.fleet_main.specs.Lines.{HasNoLineFeed, IsLineOf}
 use Rattle.fleet_main.specs.Terminal.{HasNoControl}
 use Rattle.sync_core.specs.Tokens.{is_token}
-use Rattle.fleet_main.specs.Values.{HasReturn, HasValue, SpellsMicros, SpellsRange, SpellsServer, SpellsUpTo, identity_read, is_on_server}
-use Rattle.fleet_main.specs.Usages.{IsRefusedAt, IsTold, IsUsageAt, IsUsageOf, IsValueLine, IsOverTwo, IsSyncRefused, no_identity, no_range, no_moment, no_message, no_folders, no_copied_range, no_port, no_connections, on_server, named_twice, no_token}
+use Rattle.fleet_main.specs.Twice.{first_twice}
+use Rattle.fleet_main.specs.Values.{HasReturn, HasValue, HasValues, SpellsMicros, SpellsRange, SpellsServer, SpellsUpTo, identity_read, is_on_server}
+use Rattle.fleet_main.specs.Usages.{AreRefused, IsRefusedAt, IsTold, IsUsageAt, IsUsageOf, IsValueLine, IsOverTwo, IsSyncRefused, no_identity, no_range, no_moment, no_message, no_folders, no_copied_range, no_port, no_connections, no_workers, no_fleet, a_fifth, named_again, on_server, named_twice, no_token}
 
 pub identity_refused : (rows : List Row) (value read told : List ℕ) (u : Usage) → HasValue rows (codes "uuid") value → read ≡ value → told ≡ value
     → identity_read read ≡ None → IsTold (codes "svnfleet create") told (codes "a UUID of the form 8-4-4-4-12 in hexadecimal digits") u → IsRefusedAt (Some (codes "create", rows)) u
@@ -118,3 +120,31 @@ pub connections_refused : (rows : List Row) (value : List ℕ) (u : Usage) → H
 connections_refused rows value (Shown text) has none h = absurd h
 connections_refused rows value (Wrong text) has none h = (codes "serve", rows, refl, no_connections value refl has none h)
 connections_refused rows value OutOfMemory has none h = tt
+
+-- a number of workers, and the folders of a fleet
+pub workers_refused : (rows : List Row) (value : List ℕ) (u : Usage) → HasValue rows (codes "workers") value → ((n : ℕ) → SpellsUpTo 64 value n → ⊥)
+    → IsTold (codes "svnfleet fleet") value (codes "a number of workers from 1 to 64") u → IsRefusedAt (Some (codes "fleet", rows)) u
+workers_refused rows value (Shown text) has none h = absurd h
+workers_refused rows value (Wrong text) has none h = (codes "fleet", rows, refl, no_workers value refl has none h)
+workers_refused rows value OutOfMemory has none h = tt
+
+pub fifth_refused : (master : List ℕ) (mirrors : List (List ℕ)) (value : List ℕ) (u : Usage) → slice_get mirrors 4 ≡ Some value → IsTold (codes "svnfleet fleet") value (codes "one of 1 to 4 mirrors") u → AreRefused master mirrors u
+fifth_refused master mirrors value (Shown text) is h = absurd h
+fifth_refused master mirrors value (Wrong text) is h = a_fifth value is h
+fifth_refused master mirrors value OutOfMemory is h = tt
+
+pub again_refused : (master : List ℕ) (mirrors : List (List ℕ)) (value : List ℕ) (u : Usage) → first_twice (master ∷ mirrors) ≡ Some value → IsTold (codes "svnfleet fleet") value (codes "a folder of its own") u → AreRefused master mirrors u
+again_refused master mirrors value (Shown text) is h = absurd h
+again_refused master mirrors value (Wrong text) is h = named_again value is h
+again_refused master mirrors value OutOfMemory is h = tt
+
+pub fleet_refused : (rows : List Row) (master : List ℕ) (mirrors : List (List ℕ)) (u : Usage) → HasValue rows (codes "MASTER") master → HasValues rows (codes "MIRROR") mirrors → AreRefused master mirrors u
+    → IsRefusedAt (Some (codes "fleet", rows)) u
+fleet_refused rows master mirrors (Shown text) has have h = absurd h
+fleet_refused rows master mirrors (Wrong text) has have h = (codes "fleet", rows, refl, no_fleet master mirrors refl has have h)
+fleet_refused rows master mirrors OutOfMemory has have h = tt
+
+pub folders_at : (rows : List Row) (master : List ℕ) (mirrors : List (List ℕ)) (r : Result Fleet Usage) → HasValue rows (codes "MASTER") master → HasValues rows (codes "MIRROR") mirrors
+    → IfErr r (AreRefused master mirrors) → IfErr r (IsRefusedAt (Some (codes "fleet", rows)))
+folders_at rows master mirrors (Ok fleet) has have h = tt
+folders_at rows master mirrors (Err u) has have h = fleet_refused rows master mirrors u has have h

@@ -1,4 +1,5 @@
 pub mod Above
+pub mod Bringing
 pub mod Doing
 pub mod Host
 pub mod Laws
@@ -9,6 +10,7 @@ pub mod Opening
 pub mod Pulling
 pub mod Serving
 pub mod Terminal
+pub mod Twice
 pub mod Usages
 pub mod Values
 pub mod Words

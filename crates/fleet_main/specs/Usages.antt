@@ -1,5 +1,5 @@
 -- What the program tells where the words name no command.
-use Rattle.std.specs.Prelude.{◌≡◌, ◌≢◌, ◌⊎◌, ℕ, List, true, false, [], ◌++◌, Option, Some, None, IfSome, bytes_eq, string_bytes, codes}
+use Rattle.std.specs.Prelude.{◌≡◌, ◌≢◌, ◌⊎◌, ℕ, List, true, false, [], ◌∷◌, ◌++◌, slice_get, Option, Some, None, IfSome, bytes_eq, string_bytes, codes}
 use Rattle.std.specs.Fmt.{debug_str}
 use Rattle.clap.specs.Kinds.{Kinds, IsAmong}
 use Rattle.clap.specs.Words.{Row}
@@ -8,7 +8,8 @@ use Rattle.clap.specs.declared.error.kind.ErrorKind.TheVariants as kind
 use Rattle.fleet_main.specs.Lines.{HasNoLineFeed, IsLineOf}
 use Rattle.fleet_main.specs.Terminal.{HasNoControl}
 use Rattle.sync_core.specs.Tokens.{is_token}
-use Rattle.fleet_main.specs.Values.{HasReturn, HasValue, SpellsMicros, SpellsRange, SpellsServer, SpellsUpTo, identity_read, is_on_server}
+use Rattle.fleet_main.specs.Twice.{first_twice}
+use Rattle.fleet_main.specs.Values.{HasReturn, HasValue, HasValues, SpellsMicros, SpellsRange, SpellsServer, SpellsUpTo, identity_read, is_on_server}
 use Rattle.fleet_main.specs.declared.command_line.Usage.{Usage}
 use Rattle.fleet_main.specs.declared.command_line.Usage.TheVariants.{Shown, Wrong, OutOfMemory}
 
@@ -56,7 +57,18 @@ IsSyncRefused rows help OutOfMemory = Unit {0}
 abbrev pub IsOverTwo : List ℕ → Type 0
 IsOverTwo name = (name ≡ codes "initialize") ⊎ (name ≡ codes "synchronize") ⊎ (name ≡ codes "copy-revprops")
 
--- the value of a subcommand that isn't taken: it spells no identity, no range, no moment or no token, is a message with a carriage return, a source that is none, or no port or number of connections
+-- the folder of a fleet that isn't taken: a fifth mirror, or the first that is named again
+pub data IsFolderRefused (master : List ℕ) (mirrors : List (List ℕ)) (line : List ℕ) : Type 0 where
+  a_fifth : (value : List ℕ) → slice_get mirrors 4 ≡ Some value → IsValueLine (codes "svnfleet fleet") value (codes "one of 1 to 4 mirrors") line → IsFolderRefused master mirrors line
+  named_again : (value : List ℕ) → first_twice (master ∷ mirrors) ≡ Some value → IsValueLine (codes "svnfleet fleet") value (codes "a folder of its own") line → IsFolderRefused master mirrors line
+
+-- of such folders: one is refused; else memory ran out
+abbrev pub AreRefused : List ℕ → List (List ℕ) → Usage → Type 0
+AreRefused master mirrors (Shown text) = ⊥
+AreRefused master mirrors (Wrong text) = IsFolderRefused master mirrors (string_bytes text)
+AreRefused master mirrors OutOfMemory = Unit {0}
+
+-- the value of a subcommand that isn't taken: it spells no identity, no range, no moment or no token, is a message with a carriage return, a source that is none, no port or number of connections, no number of workers, or a folder of a fleet that isn't taken
 pub data IsValueRefused (name : List ℕ) (rows : List Row) (line : List ℕ) : Type 0 where
   no_identity : (value : List ℕ) → name ≡ codes "create" → HasValue rows (codes "uuid") value → identity_read value ≡ None
       → IsValueLine (codes "svnfleet create") value (codes "a UUID of the form 8-4-4-4-12 in hexadecimal digits") line → IsValueRefused name rows line
@@ -73,6 +85,10 @@ pub data IsValueRefused (name : List ℕ) (rows : List Row) (line : List ℕ) : 
       → IsValueLine (codes "svnfleet serve") value (codes "a port from 1 to 65535") line → IsValueRefused name rows line
   no_connections : (value : List ℕ) → name ≡ codes "serve" → HasValue rows (codes "connections") value → ((n : ℕ) → SpellsUpTo 1024 value n → ⊥)
       → IsValueLine (codes "svnfleet serve") value (codes "a number of connections from 1 to 1024") line → IsValueRefused name rows line
+  no_workers : (value : List ℕ) → name ≡ codes "fleet" → HasValue rows (codes "workers") value → ((n : ℕ) → SpellsUpTo 64 value n → ⊥)
+      → IsValueLine (codes "svnfleet fleet") value (codes "a number of workers from 1 to 64") line → IsValueRefused name rows line
+  no_fleet : (master : List ℕ) (mirrors : List (List ℕ)) → name ≡ codes "fleet" → HasValue rows (codes "MASTER") master → HasValues rows (codes "MIRROR") mirrors
+      → IsFolderRefused master mirrors line → IsValueRefused name rows line
 
 -- of a subcommand with its values: a value is refused; else memory ran out
 abbrev pub IsRefusedAt : Option (List ℕ × List Row) → Usage → Type 0

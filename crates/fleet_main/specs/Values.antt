@@ -1,14 +1,15 @@
 -- What the values of a command's words spell.
-use Rattle.std.specs.Prelude.{◌≡◌, ◌≢◌, ◌≤◌, ℕ, List, ◌∷◌, ◌++◌, ◌==◌, nat_eq, Option, Bool, true, false, Some, None, bytes_eq, string_bytes, codes}
+use Rattle.std.specs.Prelude.{◌≡◌, ◌≢◌, ◌≤◌, ℕ, List, [], ◌∷◌, ◌++◌, ◌==◌, length, map, nat_eq, Option, Bool, true, false, Some, None, bytes_eq, string_bytes, codes}
 use Rattle.std.specs.List.{list_any, starts_with}
 use Rattle.std.specs.Option.{option_map_or}
 use Rattle.uuid.specs.Text.{parsed_hyphenated}
-use Rattle.clap.specs.Words.{Row, first_of}
+use Rattle.clap.specs.Words.{Row, all_of, first_of}
 use Rattle.node_base.specs.Numbers.{decimal, rev_read}
 use Rattle.repo_core.specs.Dates.{IsMoment}
 use Rattle.store_engines.specs.Ranges.{first_in, last_in}
 use Rattle.store_engines.specs.declared.range.RevRange.{RevRange}
 use Rattle.sync_core.specs.Tokens.{is_token}
+use Rattle.fleet_main.specs.Twice.{first_twice}
 use Rattle.fleet_main.specs.Words.{word_of, word_of_task}
 use Rattle.fleet_main.specs.declared.command_line.Command.{Command}
 use Rattle.fleet_main.specs.declared.command_line.Command.TheVariants.{List as ListIt, Canon, Create, Load, Dump, MakeDir, Initialize, Synchronize, CopyRevprops, Info}
@@ -16,8 +17,9 @@ use Rattle.fleet_main.specs.declared.command_line.Service.{Service}
 use Rattle.fleet_main.specs.declared.command_line.Place.{Place}
 use Rattle.fleet_main.specs.declared.command_line.Place.TheVariants.{Folder, Server}
 use Rattle.fleet_main.specs.declared.command_line.Planned.{Planned}
-use Rattle.fleet_main.specs.declared.command_line.Planned.TheVariants.{Run, Serve, Pull as PullIt}
+use Rattle.fleet_main.specs.declared.command_line.Planned.TheVariants.{Run, Serve, Fleet as FleetIt, Pull as PullIt}
 use Rattle.fleet_main.specs.declared.command_line.Pull.{Pull}
+use Rattle.fleet_main.specs.declared.fleet_words.Fleet.{Fleet}
 use Rattle.fleet_main.specs.declared.command_line.Task.{Task}
 use Rattle.fleet_main.specs.declared.command_line.Task.TheVariants as task
 
@@ -137,8 +139,25 @@ HasPullOf rows pull =
     HasValue rows (codes "MIRROR") (string_bytes pull.mirror) × HasValue rows (codes "SOURCE") (string_bytes pull.url)
     × SpellsServer (string_bytes pull.url) pull.port × HasTaskOf rows pull.task
 
--- of a subcommand with its values: it is that command, or `serve` with the server's values, or a command over a mirror whose source is on a server
+-- the values under that name are these
+abbrev pub HasValues : List Row → List ℕ → List (List ℕ) → Type 0
+HasValues rows name values = all_of name rows ≡ Some values
+
+-- a fleet of that master, these mirrors and so many workers: one to four mirrors, and no folder twice
+abbrev pub NamesFleet : List ℕ → List (List ℕ) → ℕ → Fleet → Type 0
+NamesFleet master mirrors workers fleet =
+    (string_bytes fleet.master ≡ master) × (map string_bytes fleet.mirrors.items ≡ mirrors) × (fleet.workers ≡ workers)
+    × (1 ≤ length mirrors) × (length mirrors ≤ 4) × (first_twice (master ∷ mirrors) ≡ None)
+
+-- its master, mirrors and number of workers are those of the values under their names
+abbrev pub HasFleetOf : List Row → Fleet → Type 0
+HasFleetOf rows fleet =
+    (master : List ℕ) × (mirrors : List (List ℕ)) × (workers : ℕ) × HasValue rows (codes "MASTER") master × HasValues rows (codes "MIRROR") mirrors
+    × HasNumber rows (codes "workers") 64 workers × NamesFleet master mirrors workers fleet
+
+-- of a subcommand with its values: it is that command, or `serve` with the server's values, or `fleet` with its own, or a command over a mirror whose source is on a server
 abbrev pub IsPlannedOf : Option (List ℕ × List Row) → Planned → Type 0
 IsPlannedOf named (Run command) = IsCommandOf named command
 IsPlannedOf named (Serve service) = (rows : List Row) × (named ≡ Some (codes "serve", rows)) × HasServiceOf rows service
+IsPlannedOf named (FleetIt fleet) = (rows : List Row) × (named ≡ Some (codes "fleet", rows)) × HasFleetOf rows fleet
 IsPlannedOf named (PullIt pull) = (rows : List Row) × (named ≡ Some (word_of_task pull.task, rows)) × HasPullOf rows pull

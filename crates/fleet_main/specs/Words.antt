@@ -2,7 +2,7 @@
 use Rattle.std.specs.Prelude.{ℕ, List, true, Some, codes}
 use Rattle.clap.specs.Words.{App, Rule, new_app, new_rule, with_rule, with_subcommand}
 use Rattle.clap.specs.Simple.{on_top}
-use Rattle.clap.specs.declared.builder.action.ArgAction.TheVariants.{Set, SetTrue}
+use Rattle.clap.specs.declared.builder.action.ArgAction.TheVariants.{Append, Set, SetTrue}
 use Rattle.fleet_main.specs.declared.command_line.Command.{Command}
 use Rattle.fleet_main.specs.declared.command_line.Command.TheVariants.{List as ListIt, Canon, Create, Load, Dump, MakeDir, Initialize, Synchronize, CopyRevprops, Info}
 use Rattle.fleet_main.specs.declared.command_line.Task.{Task}
@@ -17,6 +17,10 @@ canon_app = new_app (codes "canon")
 -- a word that has to be there
 abbrev pub word_rule : List ℕ → Rule
 word_rule name = record (new_rule name) { required = true; action = Some Set }
+
+-- words, one at least
+abbrev pub words_rule : List ℕ → Rule
+words_rule name = record (new_rule name) { required = true; action = Some Append }
 
 -- an option with a long name and one value, which has to be there
 abbrev pub named_rule : List ℕ → Rule
@@ -76,6 +80,13 @@ serve_place_app = with_rule (new_app (codes "serve")) (word_rule (codes "DIR"))
 abbrev pub serve_app : App
 serve_app = with_rule (with_rule serve_place_app (named_rule (codes "port"))) (named_rule (codes "connections"))
 
+-- a master and its mirrors, and a number of workers
+abbrev pub fleet_folders_app : App
+fleet_folders_app = with_rule (with_rule (new_app (codes "fleet")) (word_rule (codes "MASTER"))) (words_rule (codes "MIRROR"))
+
+abbrev pub fleet_app : App
+fleet_app = with_rule fleet_folders_app (named_rule (codes "workers"))
+
 -- the program by itself
 abbrev pub bare_app : App
 bare_app = on_top (λ s. record s { has_version = true; subcommand_required = true }) (new_app (codes "svnfleet"))
@@ -102,7 +113,7 @@ told_app = with_subcommand (with_subcommand mirrors_app copy_revprops_app.top) i
 
 -- the program and its subcommands, of which it wants one
 abbrev pub svnfleet_app : App
-svnfleet_app = with_subcommand told_app serve_app.top
+svnfleet_app = with_subcommand (with_subcommand told_app serve_app.top) fleet_app.top
 
 -- the word that names a command
 abbrev pub word_of : Command → List ℕ

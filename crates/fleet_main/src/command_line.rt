@@ -16,7 +16,8 @@ ghost use Rattle.fleet_main.specs.Values.{HasNumber, HasServiceOf, HasTaskOf, Is
 ghost use Rattle.fleet_main.specs.Values.{HasSource, SpellsServer, SpellsUpTo, identity_read, is_given, is_on_server};
 ghost use Rattle.fleet_main.specs.Values.{server_url};
 ghost use Rattle.fleet_main.specs.Words.{canon_app, copied_range_rule, copy_revprops_app, create_app, dump_app};
-ghost use Rattle.fleet_main.specs.Words.{flag_rule, folders_app, histories_app, info_app, initialize_app, list_app};
+ghost use Rattle.fleet_main.specs.Words.{flag_rule, fleet_app, folders_app, histories_app};
+ghost use Rattle.fleet_main.specs.Words.{info_app, initialize_app, list_app};
 ghost use Rattle.fleet_main.specs.Words.{load_app, mirrors_app, mkdir_app, mkdir_place_app, named_rule, optional_rule};
 ghost use Rattle.fleet_main.specs.Words.{range_rule, serve_app, serve_place_app, streams_app, svnfleet_app};
 ghost use Rattle.fleet_main.specs.Words.{synchronize_app, told_app, two_folders_app, word_of_task, word_rule};
@@ -25,6 +26,8 @@ ghost use Rattle.node_base.specs.Numbers.{rev_read};
 ghost use Rattle.repo_core.specs.Dates.{IsMoment};
 ghost use Rattle.store_engines.specs.Ranges.{first_in, last_in};
 
+use crate::fleet_named::{fleet_command, fleet_named};
+use crate::fleet_words::Fleet;
 use crate::help::help_of;
 use crate::terminal::line_of;
 use crate::texts;
@@ -132,6 +135,8 @@ pub enum Planned {
     Run(Command),
     /// A server.
     Serve(Service),
+    /// Mirrors that are brought up at once.
+    Fleet(Fleet),
     /// A command over a mirror whose source is on a server.
     Pull(Pull),
 }
@@ -186,7 +191,7 @@ fn canon<'a>(alloc: Global) -> clap::Command<'a>
 }
 
 // A word that has to be there.
-fn word<'a>(alloc: Global, name: &'a str, help: &'a str) -> Arg<'a>
+pub(crate) fn word<'a>(alloc: Global, name: &'a str, help: &'a str) -> Arg<'a>
     ensures rule { rule_of result ≡ word_rule name.now }
     ensures local { result.global ≡ false }
 {
@@ -197,7 +202,7 @@ fn word<'a>(alloc: Global, name: &'a str, help: &'a str) -> Arg<'a>
 }
 
 // An option with a long name and one value, which has to be there.
-fn valued<'a>(alloc: Global, name: &'a str, value: &'a str, help: &'a str) -> Arg<'a>
+pub(crate) fn valued<'a>(alloc: Global, name: &'a str, value: &'a str, help: &'a str) -> Arg<'a>
     ensures rule { rule_of result ≡ named_rule name.now }
     ensures local { result.global ≡ false }
 {
@@ -545,8 +550,10 @@ fn svnfleet<'a>(alloc: Global) -> Result<clap::Command<'a>, AllocError>
     ensures local { IfOk result (λ c. (fields_of c).has_globals ≡ false) }
 {
     let serve = serve(alloc)?;
+    let fleet = fleet_command(alloc)?;
     let top = over_told(alloc)?;
-    let whole = top.subcommand(serve)?;
+    let some = top.subcommand(serve)?;
+    let whole = some.subcommand(fleet)?;
     Ok(whole)
 }
 
@@ -586,6 +593,10 @@ fn asked(alloc: Global, matches: &ArgMatches<'_>) -> Result<Planned, Usage>
             Ok(service) => Ok(Planned::Serve(service)),
             Err(usage) => Err(usage),
         },
+        Some(("fleet", given)) => match fleet_named(alloc, given) {
+            Ok(fleet) => Ok(Planned::Fleet(fleet)),
+            Err(usage) => Err(usage),
+        },
         Some(("initialize", given)) => initialize_named(alloc, given),
         Some(("synchronize", given)) => synchronize_named(alloc, given),
         Some(("copy-revprops", given)) => copy_revprops_named(alloc, given),
@@ -621,7 +632,7 @@ fn entered<'a, 'b>(matches: &'b ArgMatches<'a>) -> Option<(&'a str, &'b ArgMatch
 }
 
 // A copy of the value of that name, which clap has seen to be there.
-fn text(alloc: Global, given: &ArgMatches<'_>, name: &str) -> Result<String, Usage>
+pub(crate) fn text(alloc: Global, given: &ArgMatches<'_>, name: &str) -> Result<String, Usage>
     ensures value { IfOk result (λ s. HasValue (rows_of (found_of given.now)) name.now (string_bytes s)) }
     ensures memory { IfErr result (λ u. u ≡ Usage.OutOfMemory) }
 {
@@ -632,14 +643,14 @@ fn text(alloc: Global, given: &ArgMatches<'_>, name: &str) -> Result<String, Usa
 }
 
 // The value of that name, where there is one.
-fn value<'a>(given: &ArgMatches<'a>, name: &str) -> Option<&'a str>
+pub(crate) fn value<'a>(given: &ArgMatches<'a>, name: &str) -> Option<&'a str>
     ensures { option_map (λ s. s.now) result ≡ first_of name.now (rows_of (found_of given.now)) }
 {
     given.get_str(name)
 }
 
 // What is wrong with a value, in a line.
-fn wrong(alloc: Global, help: &str, value: &str, wanted: &str) -> Usage
+pub(crate) fn wrong(alloc: Global, help: &str, value: &str, wanted: &str) -> Usage
     ensures { IsTold help.now value.now wanted.now result }
 {
     let Ok(wrong) = format!(in alloc; "{value:?} is not {wanted}") else {
@@ -1041,7 +1052,7 @@ fn moment_of(value: &str) -> Option<Moment>
 }
 
 // The number from 1 up to the most that decimal digits spell.
-fn up_to(value: &[u8], most: u16) -> Option<u16>
+pub(crate) fn up_to(value: &[u8], most: u16) -> Option<u16>
     ensures some { IfSome result (SpellsUpTo most value.now) }
     ensures none { IfNone result ((n : ℕ) → SpellsUpTo most value.now n → ⊥) }
 {

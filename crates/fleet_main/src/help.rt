@@ -41,4 +41,5 @@ fn is_command(word: &str) -> bool
         || word == "copy-revprops"
         || word == "info"
         || word == "serve"
+        || word == "fleet"
 }

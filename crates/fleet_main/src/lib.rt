@@ -6,22 +6,26 @@
 //!     Ok(Planned::Run(command)) => run(alloc, &mut folders, command, &mut input, output, &mut errors),
 //!     Ok(Planned::Pull(asked)) => pull(&rt, alloc, &mut folders, asked, output, &mut errors),
 //!     Ok(Planned::Serve(service)) => serve(&rt, alloc, &mut folders, &service, output, &mut errors),
+//!     Ok(Planned::Fleet(asked)) => fleet(&rt, alloc, &mut folders, &asked, output, &mut errors),
 //!     Err(Usage::Shown(text)) => show(text),
 //!     Err(Usage::Wrong(line)) => tell(line, 2),
 //!     Err(Usage::OutOfMemory) => tell("svnfleet: 70 out of memory", 1),
 //! }
 //! ```
 //!
-//! `plan` gives the command or the server that the words name, with the values that they spell, or else says what is
+//! `plan` gives the command, the server or the fleet that the words name, with the values that they spell, or else says what is
 //! wrong with them; it shows a text only where help or the version was asked for. The status of `run` is 0 only where
 //! the command is done and what it wrote is handed on, and 1 with the refusal's line; of a folder whose disk keeps the
 //! rules it says what was there before, what the command made of it, and what a stop leaves. So does `pull`, of a mirror
-//! whose source is on a server, and so does `serve`, up to where the serving begins: it alone starts threads and waits.
+//! whose source is on a server, and so do `serve` and `fleet`, up to where the serving or the runs begin: these two start
+//! threads and wait.
 #![tactic(auto)]
 
+pub use bringing::fleet;
 pub use command_line::{Command, Planned, Pull, Service, Task, Usage, plan};
 pub use execute::run;
 pub use fleet_engines::{Sink, Source};
+pub use fleet_words::Fleet;
 pub use folders::HostFolders;
 pub use lending::{FolderFault, Folders};
 pub use pulling::pull;
@@ -29,8 +33,11 @@ pub use serving::serve;
 pub use store_engines::RevRange;
 pub use streams::{Descriptors, HostDescriptors, fill_streams};
 
+mod bringing;
 mod command_line;
 mod execute;
+mod fleet_named;
+mod fleet_words;
 mod folders;
 mod help;
 pub mod law;

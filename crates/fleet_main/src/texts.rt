@@ -84,3 +84,14 @@ mirror, which is served read-only (24). Each change that was answered stands aft
 The folder is held while it serves: another command over it is refused with 31.
 The status is 0; 1 with a line where the folder can't be opened, or the port can't be listened on or the line
 not be written (49); 2 where the words are wrong.";
+
+/// Of `fleet`.
+pub const FLEET: &str = "\
+Does for each MIRROR what `synchronize MIRROR MASTER --token fleet-N` does, N being its place among the mirrors, K of
+them at a time, each in a thread, over one MASTER that is read once. Prints a line for each MIRROR, in the order in which
+they are named, once all have ended: `MIRROR: head N` with its newest revision, or `MIRROR: NUMBER TEXT` where it was
+refused, as when its folder can't be opened, or its lock is held by a run that was stopped (54), of which
+`synchronize --steal-lock` takes it. A mirror that is refused stops no other. No folder may be named twice. All folders
+are held while it runs.
+The status is 0; 1 where a mirror was refused, or, with a line on standard error and nothing printed, where MASTER
+can't be opened, or where memory ran out; 2 where the words are wrong.";

@@ -34,7 +34,7 @@ answer_at true false May Ended a e f h = absurd (true≢false e)
 answer_at true true May Ended a e f (inl m) = inl (f refl m)
 answer_at true true May Ended a e f (inr x) = inr x
 
-all_so : (P Q : Order → Answer → Type 0) → ((o : Order) (a : Answer) → P o a → Q o a) → (os : List Order) (as' : List Answer) → AllZip P os as' → AllZip Q os as'
+pub all_so : (P Q : Order → Answer → Type 0) → ((o : Order) (a : Answer) → P o a → Q o a) → (os : List Order) (as' : List Answer) → AllZip P os as' → AllZip Q os as'
 all_so P Q f [] [] h = tt
 all_so P Q f [] (a ∷ as') h = absurd h
 all_so P Q f (o ∷ os) [] h = absurd h

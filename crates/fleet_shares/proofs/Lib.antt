@@ -3,3 +3,5 @@ pub mod Ending
 pub mod Forgetting
 pub mod Giving
 pub mod Ordering
+pub mod Slots
+pub mod Telling

@@ -3,7 +3,10 @@ pub mod Faults
 pub mod Given
 pub mod Jobs
 pub mod Lines
+pub mod Opening
 pub mod Orders
 pub mod Ports
 pub mod Ran
 pub mod Runners
+pub mod Stores
+pub mod Told

@@ -10,13 +10,15 @@
 //! let mut fleet = Fleet::start(rt, alloc, runner, workers, Unheld)?;
 //! let number = fleet.give(rt, order)?;
 //! let outcomes = fleet.finish(rt)?;
-//! let stores = Arc::into_inner(shares).map(FleetShares::close);
+//! let stores = stores_of(rt, shares);
 //! ```
 //!
 //! [`run_shared`] does this for a list of orders, and answers each by its own answer; [`stores_of`] closes the shares.
+//! [`run_fleet`] does all of it for an order a mirror, from stores to what is told of each.
 #![tactic(auto)]
 
 pub use answers::{Answered, answer_all};
+pub use fleet::run_fleet;
 pub use lines::{answer_lines, are_done, refuse_at};
 pub use master::SharedMaster;
 pub use orders::sync_orders;
@@ -27,13 +29,16 @@ pub use stores::{FleetStores, OpenedFleet};
 pub use unheld::Unheld;
 
 mod answers;
+mod fleet;
 mod job;
 mod lines;
 mod master;
+mod opening;
 mod orders;
 mod run;
 mod runner;
 mod shares;
 mod stores;
+mod told;
 mod unheard;
 mod unheld;

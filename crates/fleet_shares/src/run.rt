@@ -1,8 +1,9 @@
 //! Orders that are run over shares.
-ghost use Rattle.std.specs.Prelude.{IfOk};
+ghost use Rattle.std.specs.Prelude.{IfOk, is_some};
 ghost use Rattle.std.specs.List.{AllZip};
 ghost use Rattle.std.specs.Arc.{arc_value};
 ghost use Rattle.fleet_shares.specs.Given.{IsAnswered};
+ghost use Rattle.fleet_shares.specs.Opening.{HasStores};
 ghost use Rattle.fleet_shares.specs.Runners.{slots_of, MayAnswer};
 
 use crate::answers::{Answered, answer_all};
@@ -13,6 +14,7 @@ use fleet_disk::Disk;
 use fleet_jobs::{Fleet, Order, StartGate};
 use std::alloc::{AllocError, Global};
 use std::sync::{Arc, Wait};
+use std::thread;
 use std::thread::Threads;
 use store_share::RowName;
 
@@ -46,12 +48,22 @@ pub fn run_shared<
     Ok(answer_all(rt, fleet, orders, notes, answers))
 }
 
-/// The stores of shares that nobody else keeps any more, as once their fleet is finished. None where somebody does.
-pub fn stores_of<M: RowName, L0: RowName, L1: RowName, L2: RowName, L3: RowName, D: Disk>(
+/// The stores of shares, once nobody else keeps them any more, as once their fleet is finished. Waits while somebody
+/// does.
+pub fn stores_of<R: Wait, M: RowName, L0: RowName, L1: RowName, L2: RowName, L3: RowName, D: Disk>(
+    rt: &R,
     shares: Arc<FleetShares<M, L0, L1, L2, L3, D>>,
-) -> Option<FleetStores<D>> {
-    match Arc::into_inner(shares) {
-        Some(shares) => Some(shares.close()),
-        None => None,
+) -> FleetStores<D>
+    ensures slots { HasStores (is_some (arc_value shares).first) (is_some (arc_value shares).second)
+        (is_some (arc_value shares).third) (is_some (arc_value shares).fourth) result }
+{
+    let mut kept = shares;
+    for _ in rt.forever() {
+        match Arc::try_unwrap(kept) {
+            Ok(shares) => return shares.close(),
+            Err(shares) => kept = shares,
+        }
+        thread::yield_now();
     }
+    unreachable!()
 }

@@ -4,8 +4,8 @@
 
 use fleet_disk::HeldFiles;
 use fleet_main::{
-    Command, HostDescriptors, HostFolders, Planned, Pull, Service, Sink, Source, Usage,
-    fill_streams, plan, pull, run, serve,
+    Command, Fleet, HostDescriptors, HostFolders, Planned, Pull, Service, Sink, Source, Usage,
+    fill_streams, fleet, plan, pull, run, serve,
 };
 use std::io::{BufWriter, ErrorKind};
 use std::net::{Net, TcpListener, TcpStream};
@@ -21,12 +21,15 @@ enum Left {
     Status(u8),
     // To serve, which starts threads and waits.
     Serve(Service),
+    // To bring mirrors up, which does too.
+    Fleet(Fleet),
 }
 
 fn main(rt: HostRuntime) -> ExitCode {
     match asked(&rt) {
         Left::Status(status) => ExitCode::from(status),
         Left::Serve(service) => ExitCode::from(served(&rt, &rt, &service)),
+        Left::Fleet(asked) => ExitCode::from(brought(&rt, &rt, &asked)),
     }
 }
 
@@ -79,6 +82,7 @@ fn planned(rt: &HostRuntime, words: &[String]) -> Left {
         Ok(Planned::Run(command)) => Left::Status(ran(rt, rt, command)),
         Ok(Planned::Pull(asked)) => Left::Status(pulled(rt, rt, asked)),
         Ok(Planned::Serve(service)) => Left::Serve(service),
+        Ok(Planned::Fleet(asked)) => Left::Fleet(asked),
         Err(usage) => Left::Status(used(rt, &usage)),
     }
 }
@@ -145,6 +149,27 @@ where
         rt.alloc(),
         &mut HostFolders::new(handle),
         service,
+        Sink::new(rt.stdout()),
+        &mut errors,
+    );
+    status
+}
+
+// By the files and threads of a handle.
+fn brought<R: HeldFiles + Threads + Wait + Clone + Send + Drop + 'static>(
+    rt: &HostRuntime,
+    handle: &R,
+    asked: &Fleet,
+) -> u8
+where
+    R::File: Send + 'static,
+{
+    let mut errors = Sink::new(rt.stderr());
+    let (status, _output) = fleet(
+        handle,
+        rt.alloc(),
+        &mut HostFolders::new(handle),
+        asked,
         Sink::new(rt.stdout()),
         &mut errors,
     );

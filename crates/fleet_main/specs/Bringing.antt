@@ -1,0 +1,94 @@
+-- What `fleet` does over the repositories that stand in folders, and why it doesn't.
+use Rattle.std.specs.Prelude.{◌≡◌, ◌≤◌, ◌<◌, ◌⊎◌, ◌++◌, ℕ, Bool, true, List, [], ◌∷◌, length, map, Option, Some, None, Result, Ok, Err, IfOk, Vec, is_some, is_ok, string_bytes}
+use Rattle.std.specs.Io.KnownBytes.{Appends}
+use Rattle.std.specs.List.{list_all, AllZip}
+use Rattle.std.specs.declared.alloc.Global.{Global}
+use Rattle.fleet_disk.specs.Rules.{Rose}
+use Rattle.fleet_disk.specs.declared.disk.Disk.{Ghosts}
+use Rattle.fleet_jobs.specs.Answers.{Answer}
+use Rattle.node_base.specs.declared.refusal.Refusal.{Refusal}
+use Rattle.node_base.specs.declared.refusal.Refusal.TheVariants as refusal
+use Rattle.repo_core.specs.Repository.{head_of}
+use Rattle.repo_store.specs.Words.{disk_of, revisions_of, IsKept as StoreIsKept}
+use Rattle.repo_store.specs.declared.store.RepoStore.{RepoStore}
+use Rattle.fleet_shares.specs.Lines.{lines_of}
+use Rattle.fleet_shares.specs.Stores.{store_at}
+use Rattle.fleet_shares.specs.Told.{stands, AreTold}
+use Rattle.fleet_shares.specs.declared.stores.FleetStores.{FleetStores}
+use Rattle.fleet_main.specs.Doing.{IsKept, IsOpenedOn}
+use Rattle.fleet_main.specs.Loans.{AreBack, Each, Loan, only_of}
+use Rattle.fleet_main.specs.Opening.{NotOpened, NotOpenedIn}
+use Rattle.fleet_main.specs.declared.fleet_words.Fleet.{Fleet}
+use Rattle.fleet_main.specs.declared.lending.Folders.{Ghosts as FolderGhosts}
+
+-- what came of a folder: no repository was opened there, on no disk or on one that came back; or one was, on the disk that was lent, and what store came back
+pub data Came {D : Type 0} (G : Ghosts D) : Type 0 where
+  Refused : Refusal → Option (D × D) → Came G
+  Stood : D → RepoStore D G → RepoStore D G → Came G
+
+-- the folder's disk as it was lent and as it came back, where it was lent
+abbrev pub loan_of : {D : Type 0} {G : Ghosts D} → List ℕ → Came G → List (Loan D)
+loan_of folder (Refused e None) = []
+loan_of folder (Refused e (Some lent)) = only_of folder lent.0 lent.1
+loan_of folder (Stood given old new) = only_of folder given (disk_of new)
+
+abbrev pub loans_of : {D : Type 0} {G : Ghosts D} → List (List ℕ) → List (Came G) → List (Loan D)
+loans_of [] came = []
+loans_of (n ∷ ns) [] = []
+loans_of (n ∷ ns) (c ∷ cs) = loan_of n c ++ loans_of ns cs
+
+-- the repository isn't opened, and why; or the store was opened on the disk, and a stop left what keeps it as the run began; what came back is a store, of which a stop leaves what it keeps
+abbrev pub HasCome : {D : Type 0} (G : Ghosts D) → Type 0 → Type 0 → List ℕ → Came G → Type 0
+HasCome G honest fails folder (Refused e lent) = NotOpened G honest fails folder (loan_of {G = G} folder (Refused e lent)) e
+HasCome G honest fails folder (Stood given old new) = IsOpenedOn G honest given old × IsKept honest old × StoreIsKept new
+
+-- of each of these folders, and where the disks that came back keep the rules, each is in its folder, and all other folders have what they had
+pub record HaveCome {F D : Type 0} (G : Ghosts D) (H : FolderGhosts F D) (before now : F) (folders : List (List ℕ)) (came : List (Came G)) : Type 0 where
+  pub each : AllZip (HasCome G (H.honest before) (Rose (H.failures before) (H.failures now))) folders came
+  pub back : Each (λ l. G.honest l.back) (loans_of folders came) → AreBack G H before now (loans_of folders came)
+  pub later : H.failures before ≤ H.failures now
+
+-- how a mirror stands: its refusal, or the newest revision of the store that came back
+abbrev pub standing : {D : Type 0} {G : Ghosts D} → Came G → Result ℕ Refusal
+standing (Refused e lent) = Err e
+standing (Stood given old new) = Ok (head_of (revisions_of new))
+
+-- the mirrors of these folders are opened behind those that were before, with what was refused of these; all are run; and the mirrors of these folders are closed
+pub record AreBrought {F D E : Type 0} (G : Ghosts D) (H : FolderGhosts F D) (before now : F) (folders : List (List ℕ)) (refusals : List (Option Refusal)) (old new : FleetStores D G) (answers : Result (Vec Answer Global) E) : Type 0 where
+  pub came : List (Came G)
+  pub come : HaveCome G H before now folders came
+  pub slots : (slot : ℕ) → slot < length refusals → is_some (store_at new slot) ≡ is_some (store_at old slot)
+  pub told : IfOk answers (λ told. AreTold 0 (stands 0 refusals new ++ map standing came) told.items)
+
+-- a master was opened and then its mirrors; all are back, and of how the mirrors stand then P is so
+pub record OfFleet {F D : Type 0} (G : Ghosts D) (H : FolderGhosts F D) (folders later : F) (master : List ℕ) (mirrors : List (List ℕ)) (P : List (Result ℕ Refusal) → Type 0) : Type 0 where
+  pub given : D
+  pub old : RepoStore D G
+  pub new : RepoStore D G
+  pub came : List (Came G)
+  pub come : HaveCome G H folders later (master ∷ mirrors) (Stood given old new ∷ came)
+  pub done : P (map standing came)
+
+-- what is told of each mirror is written in its line, and whether none is a refusal
+abbrev pub IsTelling : List (List ℕ) → Bool → Option (List ℕ) → Option (List ℕ) → List (Result ℕ Refusal) → Type 0
+IsTelling mirrors done before now standings = (answers : List Answer) × AreTold 0 standings answers × (list_all is_ok answers ≡ done) × Appends before now (lines_of mirrors answers)
+
+-- the fleet is run, and whether no mirror was refused
+abbrev pub IsFleetRun : {F D : Type 0} → Ghosts D → FolderGhosts F D → F → F → Fleet → Option (List ℕ) → Bool → Option (List ℕ) → Type 0
+IsFleetRun G H folders later fleet before done now =
+    OfFleet G H folders later (string_bytes fleet.master) (map string_bytes fleet.mirrors.items) (IsTelling (map string_bytes fleet.mirrors.items) done before now)
+
+-- whichever
+abbrev pub IsSomeRun : {F D : Type 0} → Ghosts D → FolderGhosts F D → F → F → Fleet → Option (List ℕ) → Option (List ℕ) → Type 0
+IsSomeRun G H folders later fleet before now = (done : Bool) × IsFleetRun G H folders later fleet before done now
+
+-- it isn't run: the master isn't opened, and no mirror's folder; or memory runs out, before anything is opened or once all is; nothing is written then
+abbrev pub NotBrought : {F D : Type 0} → Ghosts D → FolderGhosts F D → F → F → List ℕ → List (List ℕ) → Refusal → Type 0
+NotBrought G H folders later master mirrors e =
+    NotOpenedIn G H folders later master e ⊎ ((e ≡ refusal.OutOfMemory) × (AreBack G H folders later [] ⊎ OfFleet G H folders later master mirrors (λ standings. Unit {0})))
+
+-- or what is told can't be written
+abbrev pub NotFleetRun : {F D : Type 0} → Ghosts D → FolderGhosts F D → F → F → Fleet → Option (List ℕ) → Option (List ℕ) → Bool → Refusal → Type 0
+NotFleetRun G H folders later fleet before now failed e =
+    (NotBrought G H folders later (string_bytes fleet.master) (map string_bytes fleet.mirrors.items) e × (now ≡ before))
+    ⊎ (OfFleet G H folders later (string_bytes fleet.master) (map string_bytes fleet.mirrors.items) (λ standings. Unit {0}) × (e ≡ refusal.PeerFailed) × (failed ≡ true))

@@ -1,0 +1,94 @@
+-- What is told of each mirror is so of its answer and of its store.
+use Rattle.std.proofs.Common.{◌≡◌, ◌⊎◌, inl, inr, ℕ, ◌+◌, Bool, true, false, List, [], ◌∷◌, ◌++◌, append_assoc, length, map, Option, Some, None, Result, Ok, Err, IfOk, IfSome, Vec, is_some, refl, sym, ap, subst, ◌∙◌}
+use Rattle.std.specs.List.{AllZip, range_with_len}
+use Rattle.std.specs.Option.{option_map, option_to_list}
+use Rattle.std.specs.declared.alloc.Global.{Global}
+use Rattle.std.proofs.lemmas.Bool.{true≢false}
+use Rattle.fleet_jobs.specs.Answers.{Answer}
+use Rattle.fleet_jobs.specs.declared.order.Order.{Order}
+use Rattle.node_base.specs.declared.refusal.Refusal.{Refusal}
+use Rattle.repo_core.specs.Repository.{head_of}
+use Rattle.repo_store.specs.Words.{revisions_of}
+use Rattle.repo_store.specs.declared.store.RepoStore.{RepoStore}
+use Rattle.fleet_shares.specs.Given.{IsAnswerAt}
+use Rattle.store_share.specs.Opened.{cells_of}
+use Rattle.store_share.specs.declared.opened.OpenedStore.{OpenedStore}
+use Rattle.fleet_shares.specs.Opening.{cells_at, HasOpened}
+use Rattle.fleet_shares.specs.Orders.{sync_order}
+use Rattle.fleet_shares.specs.Ran.{HasEnded, IsAnswerIn}
+use Rattle.fleet_shares.specs.Runners.{has_at}
+use Rattle.fleet_shares.specs.Stores.{store_at}
+use Rattle.fleet_shares.specs.Told.{head_at, stand, stands, tell, tell_next, tells, AreTold, IsAnswerOver, IsTold, SameSlots}
+use Rattle.fleet_shares.specs.declared.stores.FleetStores.{FleetStores}
+use Rattle.fleet_shares.specs.declared.stores.OpenedFleet.{OpenedFleet}
+use Rattle.fleet_shares.proofs.Forgetting.{all_so}
+use Rattle.fleet_shares.proofs.Slots.{has_some}
+
+-- of a slot's store, with no refusal
+told_of : {D : Type 0} {g : _} (order : Order) (store : Option (RepoStore D g)) (has : Bool) (a : Answer) → is_some store ≡ has → IsAnswerAt has (HasEnded order a) a
+    → IsTold order (stand None (option_map (λ s. head_of (revisions_of s)) store)) (tell (stand None (option_map (λ s. head_of (revisions_of s)) store)) a)
+told_of order None has a e h = refl
+told_of order (Some s) false a e h = absurd (true≢false e)
+told_of order (Some s) true (Ok n) e (inl ended) = inl (ended, refl)
+told_of order (Some s) true (Ok n) e (inr (inl failed)) = cc
+told_of order (Some s) true (Ok n) e (inr (inr memory)) = cc
+told_of order (Some s) true (Err f) e (inl ended) = inl (ended, tt)
+told_of order (Some s) true (Err f) e (inr x) = inr x
+
+module _ {D : Type 0} {g : _} (old new : FleetStores D g) (same : SameSlots old new) where
+  told_one : (slot : ℕ) (r : Option Refusal) (a : Answer) → IsAnswerOver old (sync_order slot) a → IsTold (sync_order slot) (stand r (head_at new slot)) (tell (stand r (head_at new slot)) a)
+  told_one slot (Some e) a h = refl
+  told_one slot None a h = told_of (sync_order slot) (store_at new slot) (is_some (store_at old slot)) a (same slot) h
+
+  told_all : (slot : ℕ) (rs : List (Option Refusal)) (answers : List Answer) → AllZip (IsAnswerOver old) (map sync_order (range_with_len slot (length rs))) answers
+      → AreTold slot (stands slot rs new) (tells (stands slot rs new) answers)
+  told_all slot [] [] h = tt
+  told_all slot [] (a ∷ more) h = absurd h
+  told_all slot (r ∷ rs) [] h = absurd h
+  told_all slot (r ∷ rs) (a ∷ more) h = (told_one slot r a h.0, told_all (slot + 1) rs more h.1)
+
+  -- of the orders of all slots
+  pub all_told : (rs : List (Option Refusal)) (count : ℕ) (orders : List Order) (answers told : List Answer) → count ≡ length rs → orders ≡ map sync_order (range_with_len 0 count)
+      → AllZip (IsAnswerOver old) orders answers → told ≡ tells (stands 0 rs new) answers → AreTold 0 (stands 0 rs new) told
+  all_told rs count orders answers told counted ordered h e =
+      subst (AreTold 0 (stands 0 rs new)) (sym e)
+      (told_all 0 rs answers (subst (λ os. AllZip (IsAnswerOver old) os answers) (ordered ∙ ap (λ n. map sync_order (range_with_len 0 n)) counted) h))
+
+-- the answers over opened stores are those over the stores
+over_stores : {D : Type 0} {g : _} (stores : FleetStores D g) (opened : OpenedFleet D g) → HasOpened (is_some stores.first) (is_some stores.second) (is_some stores.third) (is_some stores.fourth) opened
+    → (o : Order) (a : Answer) → IsAnswerIn opened o a → IsAnswerOver stores o a
+over_stores stores opened same o a h =
+    subst (λ b. IsAnswerAt b (HasEnded o a) a) (sym (has_some stores _ _ _ _ (sym same.0, sym same.1, sym same.2, sym same.3) o.mirror)) h
+
+pub answered_over : {D : Type 0} {g : _} {E : Type 0} (stores : FleetStores D g) (opened : OpenedFleet D g) (os : List Order) (r : Result (Vec Answer Global) E)
+    → HasOpened (is_some stores.first) (is_some stores.second) (is_some stores.third) (is_some stores.fourth) opened
+    → IfOk r (λ xs. AllZip (IsAnswerIn opened) os xs.items) → IfOk r (λ xs. AllZip (IsAnswerOver stores) os xs.items)
+answered_over stores opened os (Ok xs) same h = all_so _ _ (over_stores stores opened same) os xs.items h
+answered_over stores opened os (Err e) same h = tt
+
+pub of_ok : {T E : Type 0} (r : Result T E) (x : T) (P : T → Type 0) → r ≡ Ok x → IfOk r P → P x
+of_ok {T} {E} r x P e h = subst (λ (k : Result T E). IfOk k P) e h
+
+-- a slot's row is named by its own cells
+pub own_cells : {D : Type 0} {g : _} (slot : Option (OpenedStore D g)) → IfSome slot (λ o. cells_of o ≡ cells_at slot)
+own_cells None = tt
+own_cells (Some opened) = refl
+
+-- one more is told
+told_next : (ss : List (Result ℕ Refusal)) (s : Result ℕ Refusal) (before after : List Answer) (o : Option Answer) → (o ≡ None → (before ≡ []) × (after ≡ [])) → before ≡ option_to_list o ++ after
+    → tells (s ∷ ss) before ≡ tell_next s o ∷ tells ss after
+told_next ss s before after None none is = ap (tells (s ∷ ss)) (none refl).0 ∙ ap (λ xs. tell_next s None ∷ tells ss xs) (sym (none refl).1)
+told_next ss s before after (Some a) none is = ap (tells (s ∷ ss)) is
+
+pub told_step : {D : Type 0} {g : _} (stores : FleetStores D g) (told pushed : List Answer) (n len m : ℕ) (head : Option ℕ) (s : Result ℕ Refusal) (r : Option Refusal) (items rs : List (Option Refusal))
+    (before after : List Answer) (o : Option Answer) (answer : Answer) (all : List Answer) → told ++ tells (stands n items stores) before ≡ all → items ≡ r ∷ rs → (o ≡ None → (before ≡ []) × (after ≡ []))
+    → before ≡ option_to_list o ++ after → len ≡ n → head ≡ head_at stores len → s ≡ stand r head → answer ≡ tell_next s o → pushed ≡ told ++ answer ∷ [] → m ≡ n + 1
+    → pushed ++ tells (stands m rs stores) after ≡ all
+told_step stores told pushed n len m head s r items rs before after o answer all was left none next counted heads standing told_one more count =
+    let is = told_one ∙ ap (λ x. tell_next x o) (standing ∙ ap (stand r) (heads ∙ ap (head_at stores) counted)) in
+    ap (λ x. x ++ tells (stands m rs stores) after) more
+    ∙ (append_assoc told (answer ∷ []) (tells (stands m rs stores) after)
+    ∙ (ap (λ x. told ++ x ∷ tells (stands m rs stores) after) is
+    ∙ (ap (λ k. told ++ tell_next (stand r (head_at stores n)) o ∷ tells (stands k rs stores) after) count
+    ∙ (ap (λ l. told ++ l) (sym (told_next (stands (n + 1) rs stores) (stand r (head_at stores n)) before after o none next))
+    ∙ (ap (λ l. told ++ tells (stands n l stores) before) (sym left) ∙ was)))))

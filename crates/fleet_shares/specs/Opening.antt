@@ -1,0 +1,25 @@
+-- Stores that are opened for a fleet.
+use Rattle.std.specs.Prelude.{◌≡◌, ℕ, Bool, true, List, [], Option, Some, None, Result, Ok, Err, is_some}
+use Rattle.repo_store.specs.declared.store.RepoStore.{RepoStore}
+use Rattle.store_share.specs.Opened.{cells_of}
+use Rattle.store_share.specs.declared.opened.OpenedStore.{OpenedStore}
+use Rattle.fleet_shares.specs.declared.stores.FleetStores.{FleetStores}
+use Rattle.fleet_shares.specs.declared.stores.OpenedFleet.{OpenedFleet}
+
+-- whether a slot has a store, opened or left as it was
+abbrev pub has_store : {D : Type 0} {g : _} → Result (Option (OpenedStore D g)) (RepoStore D g) → Bool
+has_store (Ok opened) = is_some opened
+has_store (Err store) = true
+
+-- which mirrors there are among opened stores
+abbrev pub HasOpened : {D : Type 0} {g : _} → Bool → Bool → Bool → Bool → OpenedFleet D g → Type 0
+HasOpened a b c d opened = (is_some opened.first ≡ a) × (is_some opened.second ≡ b) × (is_some opened.third ≡ c) × (is_some opened.fourth ≡ d)
+
+-- and among stores
+abbrev pub HasStores : {D : Type 0} {g : _} → Bool → Bool → Bool → Bool → FleetStores D g → Type 0
+HasStores a b c d stores = (is_some stores.first ≡ a) × (is_some stores.second ≡ b) × (is_some stores.third ≡ c) × (is_some stores.fourth ≡ d)
+
+-- the cells of a slot's row
+abbrev pub cells_at : {D : Type 0} {g : _} → Option (OpenedStore D g) → List ℕ
+cells_at None = []
+cells_at (Some opened) = cells_of opened

@@ -1,0 +1,67 @@
+-- What is told of each mirror of a fleet.
+use Rattle.std.specs.Prelude.{◌≡◌, ℕ, ◌+◌, true, List, [], ◌∷◌, Option, Some, None, Result, Ok, Err, IfOk, is_some}
+use Rattle.std.specs.Option.{option_map}
+use Rattle.fleet_jobs.specs.Answers.{Answer}
+use Rattle.fleet_jobs.specs.declared.order.Order.{Order}
+use Rattle.node_base.specs.declared.refusal.Refusal.{Refusal}
+use Rattle.node_base.specs.declared.refusal.Refusal.TheVariants.{Failed, NoRepository}
+use Rattle.repo_core.specs.Repository.{head_of}
+use Rattle.repo_store.specs.Words.{revisions_of}
+use Rattle.sync_core.specs.declared.fault.SyncFault.TheVariants.{Other}
+use Rattle.fleet_shares.specs.Given.{IsAnswerAt}
+use Rattle.fleet_shares.specs.Orders.{sync_order}
+use Rattle.fleet_shares.specs.Ran.{HasEnded}
+use Rattle.fleet_shares.specs.Stores.{store_at}
+use Rattle.fleet_shares.specs.declared.stores.FleetStores.{FleetStores}
+
+-- the newest revision of the store in a slot
+abbrev pub head_at : {D : Type 0} {g : _} → FleetStores D g → ℕ → Option ℕ
+head_at stores slot = option_map (λ s. head_of (revisions_of s)) (store_at stores slot)
+
+-- how a mirror stands: its folder was refused; else the newest revision of its slot's store, or there is none
+abbrev pub stand : Option Refusal → Option ℕ → Result ℕ Refusal
+stand (Some e) head = Err e
+stand None (Some head) = Ok head
+stand None None = Err NoRepository
+
+-- each in turn, from that slot on
+abbrev pub stands : {D : Type 0} {g : _} → ℕ → List (Option Refusal) → FleetStores D g → List (Result ℕ Refusal)
+stands slot [] stores = []
+stands slot (r ∷ rs) stores = stand r (head_at stores slot) ∷ stands (slot + 1) rs stores
+
+-- what is told of it: the refusal; else, of a job that ran well, the revision at which it stands, and of another why it was refused
+abbrev pub tell : Result ℕ Refusal → Answer → Answer
+tell (Err e) answer = Err (Other e)
+tell (Ok head) (Ok n) = Ok head
+tell (Ok head) (Err f) = Err f
+
+-- one that has no answer has failed (32)
+abbrev pub tell_next : Result ℕ Refusal → Option Answer → Answer
+tell_next standing None = Err (Other Failed)
+tell_next standing (Some answer) = tell standing answer
+
+-- each in turn
+abbrev pub tells : List (Result ℕ Refusal) → List Answer → List Answer
+tells [] answers = []
+tells (s ∷ ss) [] = tell_next s None ∷ tells ss []
+tells (s ∷ ss) (a ∷ more) = tell_next s (Some a) ∷ tells ss more
+
+-- what may be told of a mirror by how it stands in the end: its refusal; or that revision once its order's job has run well, or why that was refused, or that no worker was left for it (32), or that memory ran out (70)
+abbrev pub IsTold : Order → Result ℕ Refusal → Answer → Type 0
+IsTold order (Err e) answer = answer ≡ Err (Other e)
+IsTold order (Ok head) answer = IsAnswerAt true (HasEnded order answer × IfOk answer (λ n. n ≡ head)) answer
+
+-- one answer for each, where the order of a mirror is that of its slot, from this one on
+abbrev pub AreTold : ℕ → List (Result ℕ Refusal) → List Answer → Type 0
+AreTold slot [] [] = Unit {0}
+AreTold slot [] (a ∷ more) = ⊥
+AreTold slot (s ∷ ss) [] = ⊥
+AreTold slot (s ∷ ss) (a ∷ more) = IsTold (sync_order slot) s a × AreTold (slot + 1) ss more
+
+-- the answer of an order, by whether its slot has a store
+abbrev pub IsAnswerOver : {D : Type 0} {g : _} → FleetStores D g → Order → Answer → Type 0
+IsAnswerOver stores order answer = IsAnswerAt (is_some (store_at stores order.mirror)) (HasEnded order answer) answer
+
+-- a mirror's store where there was one
+abbrev pub SameSlots : {D : Type 0} {g : _} → FleetStores D g → FleetStores D g → Type 0
+SameSlots old new = (slot : ℕ) → is_some (store_at new slot) ≡ is_some (store_at old slot)

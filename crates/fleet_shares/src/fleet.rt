@@ -1,0 +1,123 @@
+//! Mirrors that are brought up to a master at once.
+ghost use Rattle.std.specs.Prelude.{◌≡◌, IfOk, IfSome, is_some};
+ghost use Rattle.std.specs.List.{AllZip};
+ghost use Rattle.store_share.specs.Opened.{cells_of};
+ghost use Rattle.fleet_shares.specs.Opening.{HasStores};
+ghost use Rattle.fleet_shares.specs.Ran.{IsAnswerIn};
+ghost use Rattle.fleet_shares.specs.Told.{stands, AreTold, IsAnswerOver, SameSlots};
+
+use crate::answers::Answered;
+use crate::opening::opened_fleet;
+use crate::orders::sync_orders;
+use crate::run::{run_shared, stores_of};
+use crate::shares::FleetShares;
+use crate::stores::{FleetStores, OpenedFleet};
+use crate::told::tell_all;
+use fleet_disk::Disk;
+use fleet_jobs::{Order, StartGate};
+use node_base::Refusal;
+use std::alloc::{AllocError, Global};
+use std::marker::Brand;
+use std::sync::{Arc, Wait};
+use std::thread::Threads;
+use store_share::RowName;
+
+/// Brings each mirror up to the master by an order of its own, by that many workers, each a thread, and answers each in
+/// its place: the newest revision of its store as it comes back, or why its job was refused. The mirror of a place is the
+/// store of the slot with its number; where `refusals` has a refusal in a place, that is its answer. Failed (32) where no
+/// worker was left for it, OutOfMemory (70). The stores come back. Only want of memory (70), that of a thread among it,
+/// refuses the whole, before any order is run.
+pub fn run_fleet<
+    R: Threads + Wait + Clone + Send + Drop + 'static,
+    D: Disk + Drop + Send + 'static,
+    G: StartGate + Send + Sync + Drop + 'static,
+>(
+    rt: &R,
+    alloc: Global,
+    stores: FleetStores<D>,
+    refusals: Vec<Option<Refusal>>,
+    workers: usize,
+    gate: G,
+) -> (FleetStores<D>, Result<Vec<Answered>, AllocError>)
+    ensures slots { SameSlots stores result.0 }
+    ensures answers { IfOk result.1 (λ answers. AreTold 0 (stands 0 refusals.items result.0) answers.items) }
+{
+    let count = refusals.len();
+    let orders = match sync_orders(alloc, count) {
+        Ok(orders) => orders,
+        Err(refused) => return (stores, Err(refused)),
+    };
+    let told = match Vec::with_capacity(alloc, count) {
+        Ok(told) => told,
+        Err(refused) => return (stores, Err(refused)),
+    };
+    let (stores, answers) = run_orders(rt, alloc, stores, orders, workers, gate);
+    match answers {
+        Ok(answers) => {
+            let told = tell_all(&stores, refusals, answers, told);
+            (stores, Ok(told))
+        }
+        Err(refused) => (stores, Err(refused)),
+    }
+}
+
+// Runs orders over stores, which come back.
+fn run_orders<
+    R: Threads + Wait + Clone + Send + Drop + 'static,
+    D: Disk + Drop + Send + 'static,
+    G: StartGate + Send + Sync + Drop + 'static,
+>(
+    rt: &R,
+    alloc: Global,
+    stores: FleetStores<D>,
+    orders: Vec<Order>,
+    workers: usize,
+    gate: G,
+) -> (FleetStores<D>, Result<Vec<Answered>, AllocError>)
+    ensures slots { SameSlots stores result.0 }
+    ensures answers { IfOk result.1 (λ answers. AllZip (IsAnswerOver stores) orders.items answers.items) }
+{
+    match opened_fleet(alloc, stores) {
+        Ok(opened) => run_opened::<R, Brand, Brand, Brand, Brand, Brand, D, G>(
+            rt, alloc, opened, orders, workers, gate,
+        ),
+        Err(stores) => (stores, Err(AllocError)),
+    }
+}
+
+// Runs them over opened stores under the names of their rows.
+fn run_opened<
+    R: Threads + Wait + Clone + Send + Drop + 'static,
+    M: RowName + Send + Sync + 'static,
+    L0: RowName + Send + Sync + 'static,
+    L1: RowName + Send + Sync + 'static,
+    L2: RowName + Send + Sync + 'static,
+    L3: RowName + Send + Sync + 'static,
+    D: Disk + Drop + Send + 'static,
+    G: StartGate + Send + Sync + Drop + 'static,
+>(
+    rt: &R,
+    alloc: Global,
+    opened: OpenedFleet<D>,
+    orders: Vec<Order>,
+    workers: usize,
+    gate: G,
+) -> (FleetStores<D>, Result<Vec<Answered>, AllocError>)
+    requires master { cells_of opened.master ≡ M.cells }
+    requires first { IfSome opened.first (λ o. cells_of o ≡ L0.cells) }
+    requires second { IfSome opened.second (λ o. cells_of o ≡ L1.cells) }
+    requires third { IfSome opened.third (λ o. cells_of o ≡ L2.cells) }
+    requires fourth { IfSome opened.fourth (λ o. cells_of o ≡ L3.cells) }
+    ensures slots { HasStores (is_some opened.first) (is_some opened.second) (is_some opened.third)
+        (is_some opened.fourth) result.0 }
+    ensures answers { IfOk result.1 (λ answers. AllZip (IsAnswerIn opened) orders.items answers.items) }
+{
+    let shares = FleetShares::<M, L0, L1, L2, L3, D>::of(alloc, opened);
+    match Arc::new(alloc, shares) {
+        Ok(shares) => {
+            let answers = run_shared(rt, alloc, &shares, orders, workers, gate);
+            (stores_of(rt, shares), answers)
+        }
+        Err(failed) => (failed.value.close(), Err(AllocError)),
+    }
+}
