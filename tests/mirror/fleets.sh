@@ -88,9 +88,9 @@ if [ -c /dev/full ]; then
 fi
 
 # folders that another command has open
-python3 -c 'import socket; s = socket.socket(); s.bind(("127.0.0.1", 0)); print(s.getsockname()[1])' >port
 for held in master m1; do
-    timeout 60 "$program" serve $held --port "$(cat port)" --connections 1 >"$work/serving" 2>"$work/serving.errors" </dev/null &
+    port=$(python3 -c 'import socket; s = socket.socket(); s.bind(("127.0.0.1", 0)); print(s.getsockname()[1])')
+    timeout 60 "$program" serve $held --port "$port" --connections 1 >"$work/serving" 2>"$work/serving.errors" </dev/null &
     server=$!
     waited=0
     until [ -s "$work/serving" ] || [ "$waited" -ge 300 ]; do
