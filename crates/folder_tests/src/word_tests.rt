@@ -129,3 +129,45 @@ fn words_make_a_directory(rt: HostRuntime) {
     ];
     assert!(rt; makes_directory(&rt, rt.alloc(), &words, "2001-09-09T01:46:40.123456Z"));
 }
+
+// Whether names are these, one by one.
+fn are_named(names: &[String], wanted: &[&str]) -> bool {
+    if names.len() != wanted.len() {
+        return false;
+    }
+    for place in 0..names.len() {
+        if names[place].as_str() != wanted[place] {
+            return false;
+        }
+    }
+    true
+}
+
+// By a fleet of the master `m` with these mirrors, by so many workers.
+fn brings_up(
+    rt: &impl Abort,
+    alloc: Global,
+    parts: &[&str],
+    mirrors: &[&str],
+    workers: u16,
+) -> bool {
+    match planned(rt, alloc, parts) {
+        Ok(Planned::Fleet(fleet)) => {
+            let named = are_named(fleet.mirrors.as_slice(), mirrors);
+            named && fleet.master.as_str() == "m" && fleet.workers == workers
+        }
+        _ => false,
+    }
+}
+
+#[test]
+fn words_name_a_fleet(rt: HostRuntime) {
+    let two = ["fleet", "m", "--workers", "2", "m1", "m2"];
+    assert!(rt; brings_up(&rt, rt.alloc(), &two, &["m1", "m2"], 2));
+    let four = ["fleet", "--workers=064", "m", "a", "b", "c", "d"];
+    assert!(rt; brings_up(&rt, rt.alloc(), &four, &["a", "b", "c", "d"], 64));
+    assert_eq!(rt;
+        meaning(&rt, rt.alloc(), &["fleet", "m", "--workers", "1", "a", "a"]),
+        "wrong"
+    );
+}
