@@ -1,8 +1,8 @@
 //! Two mirrors' jobs that run beside one another.
 
-use crate::made::{are, master, mirror, unrefused};
+use crate::made::{are, fleet_of, unrefused};
 use fleet_jobs::StartGate;
-use fleet_shares::{FleetStores, run_fleet};
+use fleet_shares::run_fleet;
 use std::alloc::Global;
 use std::process::Abort;
 use std::sync::atomic::{AtomicU64, Ordering};
@@ -59,10 +59,7 @@ fn run_beside<R: Threads + Wait + Abort + Clock + Clone + Send + Sync + Drop + '
         clock: rt.clone().expect(rt, "memory"),
         seen: Arc::try_clone(&seen).expect(rt, "memory"),
     };
-    let master = master(rt, alloc, 2);
-    let first = mirror(rt, alloc, &master);
-    let second = mirror(rt, alloc, &master);
-    let stores = FleetStores::of(master).put(0, first).put(1, second);
+    let stores = fleet_of(rt, alloc, 2, 2);
     let (_stores, told) = run_fleet(rt, alloc, stores, unrefused(rt, alloc, 2), 2, gate);
     let ended = seen.ended.load(Ordering::SeqCst);
     are(&told, &[2, 2]) && ended == 2 && seen.waited.load(Ordering::SeqCst) == 1

@@ -48,7 +48,7 @@ pub(crate) fn blank(rt: &impl Abort, alloc: Global) -> RepoStore<MemDisk> {
 }
 
 /// A master with so many revisions, each of which adds a directory.
-pub(crate) fn master(rt: &impl Abort, alloc: Global, count: u8) -> RepoStore<MemDisk> {
+fn master(rt: &impl Abort, alloc: Global, count: u8) -> RepoStore<MemDisk> {
     let mut store = created(rt, alloc, MASTER);
     for i in 0..count {
         let set = added(rt, alloc, b'a' + (i & 15));
@@ -61,11 +61,7 @@ pub(crate) fn master(rt: &impl Abort, alloc: Global, count: u8) -> RepoStore<Mem
 }
 
 /// A mirror of a master, which has no revision of it yet.
-pub(crate) fn mirror(
-    rt: &impl Abort,
-    alloc: Global,
-    master: &RepoStore<MemDisk>,
-) -> RepoStore<MemDisk> {
+fn mirror(rt: &impl Abort, alloc: Global, master: &RepoStore<MemDisk>) -> RepoStore<MemDisk> {
     let bytes = Vec::from_slice(alloc, b"master").expect(rt, "memory");
     let url = PropValue::new(bytes).expect(rt, "a property's value");
     let lent = LentMaster::new(master);
@@ -73,6 +69,23 @@ pub(crate) fn mirror(
     let (store, _output, done) = run_initialize(alloc, blank(rt, alloc), lent, url, output);
     done.expect(rt, "a mirror");
     store
+}
+
+/// A master of so many revisions with mirrors in the first so many slots.
+pub(crate) fn fleet_of<R: Abort>(
+    rt: &R,
+    alloc: Global,
+    revisions: u8,
+    mirrors: usize,
+) -> FleetStores<MemDisk> {
+    let mut stores = FleetStores::of(master(rt, alloc, revisions));
+    for slot in 0..mirrors {
+        if slot < 4 {
+            let store = mirror(rt, alloc, &stores.master);
+            stores = stores.put(slot, store);
+        }
+    }
+    stores
 }
 
 /// So many places without a refusal.

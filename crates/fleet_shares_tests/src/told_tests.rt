@@ -1,31 +1,13 @@
 //! What is told of each mirror, and what comes back.
 
-use crate::made::{are, blank, master, mirror, refused, stand_at, unrefused};
-use fleet_disk::MemDisk;
-use fleet_shares::{FleetStores, Unheld, run_fleet};
+use crate::made::{are, blank, fleet_of, refused, stand_at, unrefused};
+use fleet_shares::{Unheld, run_fleet};
 use node_base::Refusal;
 use std::alloc::Global;
 use std::process::Abort;
 use std::sync::Wait;
 use std::test::Fail;
 use std::thread::Threads;
-
-// A master of so many revisions with mirrors in the first so many slots.
-fn fleet_of<R: Abort>(
-    rt: &R,
-    alloc: Global,
-    revisions: u8,
-    mirrors: usize,
-) -> FleetStores<MemDisk> {
-    let mut stores = FleetStores::of(master(rt, alloc, revisions));
-    for slot in 0..mirrors {
-        if slot < 4 {
-            let store = mirror(rt, alloc, &stores.master);
-            stores = stores.put(slot, store);
-        }
-    }
-    stores
-}
 
 // Whether so many mirrors of a master of so many revisions are all brought up by so many workers.
 fn brings_up<R: Threads + Wait + Abort + Clone + Send + Drop + 'static>(
