@@ -90,6 +90,7 @@ fi
 # folders that another command has open
 for held in master m1; do
     port=$(python3 -c 'import socket; s = socket.socket(); s.bind(("127.0.0.1", 0)); print(s.getsockname()[1])')
+    : >"$work/serving"
     timeout 60 "$program" serve $held --port "$port" --connections 1 >"$work/serving" 2>"$work/serving.errors" </dev/null &
     server=$!
     waited=0
