@@ -14,7 +14,7 @@ class Edit:
 
     def __init__(self, path, folder):
         self.name = os.path.basename(path)[: -len(".edit")]
-        self.pairs, self.why, self.function = [], None, None
+        self.pairs, self.why, self.function, self.path = [], None, None, None
         file = old = None
         with open(path, encoding="utf-8") as it:
             for line in it.read().split("\n"):
@@ -33,6 +33,8 @@ class Edit:
         places = {place_in(folder, file, old) for file, old, _ in self.pairs if in_file(folder, file, old)}
         if len(places) == 1:
             self.function = places.pop()
+        if self.function:
+            self.path = path_of(folder, self.function)
 
     def apply(self, folder, texts):
         """Puts the changed texts into texts, over what is there. Says in `why` where that can't be."""
@@ -100,34 +102,49 @@ def owner_of(header):
     return names[1] + names[0] + "".join(re.findall(r"\w+", of_trait))
 
 
+def module_of(file):
+    return [it for it in re.sub(r"^src/|(/?(lib|main|mod))?\.rt$", "", file).split("/") if it]
+
+
+def declaring(folder, file, name):
+    """The file that declares a type: this one where it does, or where none does."""
+    declares = re.compile(rf"^(?:pub(?:\([a-z]+\))? )?(?:struct|enum) {name}\b", re.M)
+    files = [file]
+    for at, _, names in sorted(os.walk(f"{folder}/src")):
+        files += [os.path.relpath(f"{at}/{it}", folder) for it in sorted(names) if it.endswith(".rt")]
+    for one in files:
+        with open(f"{folder}/{one}", encoding="utf-8") as it:
+            if declares.search(it.read()):
+                return one
+    return file
+
+
 def path_of(folder, function):
-    """A function's path below its crate, as the prover names it: its module, its type, its name."""
+    """A function's path below its crate, as the prover names it: its module, its type, its name. A type's own methods are
+    named by the module that declares it, whichever file they stand in."""
     file, _, name, first, _ = function
     with open(f"{folder}/{file}", encoding="utf-8") as it:
         lines = it.read().split("\n")[: first - 1]
-    parts = [it for it in re.sub(r"^src/|(/?(lib|main|mod))?\.rt$", "", file).split("/") if it]
     begun = [n for n, line in enumerate(lines) if re.match(r"(?:unsafe )?impl\b|(?:pub(?:\([a-z]+\))? )?trait\b", line)]
-    if begun and "}" not in lines[begun[-1] :]:
-        parts.append(owner_of("\n".join(lines[begun[-1] :]).partition("{")[0]))
-    return "::".join([*parts, name])
+    if not begun or "}" in lines[begun[-1] :]:
+        return "::".join([*module_of(file), name])
+    header = "\n".join(lines[begun[-1] :]).partition("{")[0]
+    owner = owner_of(header)
+    is_own = header.startswith("impl") and " for " not in without_brackets(" ".join(header.split()))
+    return "::".join([*module_of(declaring(folder, file, owner) if is_own else file), owner, name])
 
 
-def is_of(function, line):
-    """Whether a line of the prover tells an error of this function: in its text, or in its proof."""
-    file, of_type, name, first, last = function
+def is_of(edit, line):
+    """Whether a line of the prover tells an error of the function that an edit changes: in its text, or in its proof."""
+    file, _, _, first, last = edit.function
     at = re.match(r"(?:note: )?(?:\./)?(\S+?):(\d+):\d+: (.*)", line)
     if not at:
         return False
     said = at[3]
     if at[1] == file and first <= int(at[2]) <= last:
-        return "not proved" in said or said.startswith("error")
-    parts = at[1].split("/")
-    module = re.sub(r"^src/|(/?(lib|main|mod))?\.rt$", "", file).split("/")
-    module = [it for it in module if it]
-    if parts[0] != "proofs" or not said.startswith("error"):
-        return False
-    inner = parts[1:-1]
-    return inner[: len(module)] == module and inner[-1].lstrip("+") == name and (of_type in inner or not of_type or len(inner) <= len(module) + 1)
+        return "not proved" in said or "found no proof" in said or said.startswith("error")
+    parts = [it.lstrip("+") for it in at[1].split("/")]
+    return parts[0] == "proofs" and said.startswith("error") and parts[1:-1] == edit.path.split("::")
 
 
 def is_judged(status, lines):

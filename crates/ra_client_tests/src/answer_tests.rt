@@ -1,13 +1,13 @@
 //! What is asked and answered.
 
-use crate::sessions::{Line, Port, SINGLE, WHOLE, is_said, open, session};
+use crate::sessions::{Line, Port, SINGLE, WHOLE, is_said, open, told};
 use crate::sets::{history, makes_next};
 use dump_load::ChangeSet;
 use node_base::{Props, RevNo};
 use path_tree::Tree;
 use std::alloc::Global;
+use std::process::Abort;
 use std::rt::HostRuntime;
-use std::test::Fail;
 
 const LATEST: &[u8] = b"( success ( ( ) 0: ) ) ( success ( 3 ) ) ";
 
@@ -88,23 +88,21 @@ fn all_told(alloc: Global, trees: &[Tree], bytes: &[u8], line: &Line) -> bool {
         && is_said(port.into_output().bytes(), ASKED)
 }
 
-fn all_answers(alloc: Global) -> Result<Vec<u8>, Fail> {
-    let mut bytes = session(alloc, LATEST)?;
-    bytes.extend_from_slice(PROPS)?;
-    bytes.extend_from_slice(EMPTY)?;
-    bytes.extend_from_slice(ADDED)?;
-    bytes.extend_from_slice(COPIED)?;
-    Ok(bytes)
+fn all_answers(rt: &impl Abort, alloc: Global) -> Vec<u8> {
+    let mut bytes = told(rt, alloc, LATEST);
+    for more in [PROPS, EMPTY, ADDED, COPIED] {
+        bytes.extend_from_slice(more).expect(rt, "memory");
+    }
+    bytes
 }
 
 #[test]
-fn commands_are_answered(rt: HostRuntime) -> Result<(), Fail> {
+fn commands_are_answered(rt: HostRuntime) {
     let alloc = rt.alloc();
-    let trees = history(&rt, alloc)?;
-    let bytes = all_answers(alloc)?;
+    let trees = history(&rt, alloc);
+    let bytes = all_answers(&rt, alloc);
     assert!(rt; all_told(alloc, &trees, bytes.as_slice(), &WHOLE));
     assert!(rt; all_told(alloc, &trees, bytes.as_slice(), &SINGLE));
-    Ok(())
 }
 
 const GREATEST: &[u8] = b"( success ( ( ) 0: ) ) ( success ( 65535 9 ) 9 )\n";
@@ -117,8 +115,7 @@ fn greatest(alloc: Global, bytes: &[u8]) -> Option<u16> {
 }
 
 #[test]
-fn the_last_number_is_taken(rt: HostRuntime) -> Result<(), Fail> {
-    let bytes = session(rt.alloc(), GREATEST)?;
+fn the_last_number_is_taken(rt: HostRuntime) {
+    let bytes = told(&rt, rt.alloc(), GREATEST);
     assert!(rt; greatest(rt.alloc(), bytes.as_slice()) == Some(65_535));
-    Ok(())
 }

@@ -1,13 +1,12 @@
 //! Readers and writers that fail within an answer.
 
 use crate::answer_tests::COPIED;
-use crate::sessions::{BROKEN, Line, OPENED, number_of, open, session};
+use crate::sessions::{BROKEN, Line, OPENED, number_of, open, told};
 use crate::sets::history;
 use node_base::RevNo;
 use path_tree::Tree;
 use std::alloc::Global;
 use std::rt::HostRuntime;
-use std::test::Fail;
 
 // What a fetch of revision 2 is refused for over these bytes.
 fn fetched(alloc: Global, trees: &[Tree], bytes: &[u8], line: &Line) -> Option<u8> {
@@ -28,12 +27,11 @@ fn all_break(alloc: Global, trees: &[Tree], bytes: &[u8]) -> bool {
 }
 
 #[test]
-fn a_reader_that_fails_is_told(rt: HostRuntime) -> Result<(), Fail> {
+fn a_reader_that_fails_is_told(rt: HostRuntime) {
     let alloc = rt.alloc();
-    let trees = history(&rt, alloc)?;
-    let bytes = session(alloc, COPIED)?;
+    let trees = history(&rt, alloc);
+    let bytes = told(&rt, alloc, COPIED);
     assert!(rt; all_break(alloc, &trees, bytes.as_slice()));
-    Ok(())
 }
 
 // What a fetch is refused for where so many writes pass; none where the opening is.
@@ -60,10 +58,9 @@ fn all_fail(alloc: Global, trees: &[Tree], bytes: &[u8]) -> bool {
 }
 
 #[test]
-fn a_writer_that_fails_is_told(rt: HostRuntime) -> Result<(), Fail> {
+fn a_writer_that_fails_is_told(rt: HostRuntime) {
     let alloc = rt.alloc();
-    let trees = history(&rt, alloc)?;
-    let bytes = session(alloc, COPIED)?;
+    let trees = history(&rt, alloc);
+    let bytes = told(&rt, alloc, COPIED);
     assert!(rt; all_fail(alloc, &trees, bytes.as_slice()));
-    Ok(())
 }

@@ -1,6 +1,6 @@
 //! What answers are refused for, and what follows a refusal.
 
-use crate::sessions::{Line, Port, SINGLE, WHOLE, is_said, number_of, open, session};
+use crate::sessions::{Line, Port, SINGLE, WHOLE, is_said, number_of, open, told};
 use crate::sets::history;
 use delta_editor::EditorFault;
 use node_base::RevNo;
@@ -8,50 +8,76 @@ use path_tree::Tree;
 use ra_client::ClientFault;
 use ra_edit::edit_fault::EditFault;
 use std::alloc::Global;
+use std::process::Abort;
 use std::rt::HostRuntime;
-use std::test::Fail;
 
 const ASKED: &[u8] = b"( replay-range ( 2 2 0 true ) ) ";
 
-// What a fetch of revision 2 is refused for.
-fn refused(alloc: Global, trees: &[Tree], bytes: &[u8], line: &Line) -> Option<ClientFault> {
+// What a fetch of revision 2 is refused for, and then two other calls.
+fn faults(port: &mut Port<'_>, trees: &[Tree]) -> Option<(ClientFault, ClientFault, ClientFault)> {
     let before = trees.get(..2)?;
-    let mut port = open(alloc, bytes, line).ok()?;
     let first = port.fetch(RevNo::new(2), before).err()?;
-    // behind a refusal that is no answer nothing is asked
     let later = port.fetch_props(RevNo::new(2)).err()?;
     let last = port.latest().err()?;
-    let goes_on = first == ClientFault::Refused;
-    let stands = goes_on || (later == first && last == first);
-    let said = goes_on || is_said(port.into_output().bytes(), ASKED);
-    (stands && said).then_some(first)
+    Some((first, later, last))
+}
+
+// The first of these, where the others are as they are to be: behind a refusal that is no answer nothing is asked.
+fn first_of(faults: (ClientFault, ClientFault, ClientFault), said: &[u8]) -> Option<ClientFault> {
+    let (first, later, last) = faults;
+    if first == ClientFault::Refused {
+        return Some(first);
+    }
+    (later == first && last == first && is_said(said, ASKED)).then_some(first)
+}
+
+// What a fetch of revision 2 is refused for over a port.
+fn refused_over(port: Port<'_>, trees: &[Tree]) -> Option<ClientFault> {
+    let mut port = port;
+    match faults(&mut port, trees) {
+        Some(all) => first_of(all, port.into_output().bytes()),
+        None => None,
+    }
+}
+
+// The same over bytes.
+fn refused(alloc: Global, trees: &[Tree], bytes: &[u8], line: &Line) -> Option<ClientFault> {
+    match open(alloc, bytes, line) {
+        Ok(port) => refused_over(port, trees),
+        Err(_) => None,
+    }
 }
 
 // The same, where it comes to one whether the bytes come at once or one at a time.
-fn refusal(alloc: Global, trees: &[Tree], answers: &[u8]) -> Option<ClientFault> {
-    let bytes = session(alloc, answers).ok()?;
+fn refusal(rt: &impl Abort, alloc: Global, trees: &[Tree], answers: &[u8]) -> Option<ClientFault> {
+    let bytes = told(rt, alloc, answers);
     let whole = refused(alloc, trees, bytes.as_slice(), &WHOLE);
     let single = refused(alloc, trees, bytes.as_slice(), &SINGLE);
     if whole == single { whole } else { None }
 }
 
-fn is_fault(alloc: Global, trees: &[Tree], answers: &[u8], fault: EditFault) -> bool {
-    refusal(alloc, trees, answers) == Some(ClientFault::Edit(fault))
+fn is_fault(
+    rt: &impl Abort,
+    alloc: Global,
+    trees: &[Tree],
+    answers: &[u8],
+    fault: EditFault,
+) -> bool {
+    refusal(rt, alloc, trees, answers) == Some(ClientFault::Edit(fault))
 }
 
-fn is_bad(alloc: Global, trees: &[Tree], answers: &[u8]) -> bool {
-    refusal(alloc, trees, answers) == Some(ClientFault::BadAnswer)
+fn is_bad(rt: &impl Abort, alloc: Global, trees: &[Tree], answers: &[u8]) -> bool {
+    refusal(rt, alloc, trees, answers) == Some(ClientFault::BadAnswer)
 }
 
 const OTHER_NUMBER: &[u8] =
     b"( success ( ( ) 0: ) ) ( revprops ( ) ) ( target-rev ( 3 ) ) ( open-root ( ( 2 ) 2:t0 ) ) ( close-dir ( 2:t0 ) ) ( finish-replay ( ) ) ( success ( ) ) ";
 
 #[test]
-fn an_edit_of_another_number_is_refused(rt: HostRuntime) -> Result<(), Fail> {
-    let trees = history(&rt, rt.alloc())?;
+fn an_edit_of_another_number_is_refused(rt: HostRuntime) {
+    let trees = history(&rt, rt.alloc());
     let fault = EditFault::Editor(EditorFault::WrongNumber);
-    assert!(rt; is_fault(rt.alloc(), &trees, OTHER_NUMBER, fault));
-    Ok(())
+    assert!(rt; is_fault(&rt, rt.alloc(), &trees, OTHER_NUMBER, fault));
 }
 
 const COPYING: &[u8] =
@@ -70,16 +96,15 @@ const NO_PATH: &[u8] =
     b"( success ( ( ) 0: ) ) ( revprops ( ) ) ( target-rev ( 2 ) ) ( open-root ( ( 1 ) 2:t0 ) ) ( delete-entry ( 1:z ( 1 ) 2:t0 ) ) ";
 
 #[test]
-fn an_edit_that_is_none_is_refused(rt: HostRuntime) -> Result<(), Fail> {
+fn an_edit_that_is_none_is_refused(rt: HostRuntime) {
     let alloc = rt.alloc();
-    let trees = history(&rt, alloc)?;
-    assert!(rt; is_fault(alloc, &trees, COPYING, EditFault::CopyWindow));
-    assert!(rt; is_fault(alloc, &trees, OTHER_SUM, EditFault::BadSum));
-    assert!(rt; is_fault(alloc, &trees, OTHER_TOKEN, EditFault::BadToken));
-    assert!(rt; is_fault(alloc, &trees, GIVEN_UP, EditFault::Refused));
+    let trees = history(&rt, alloc);
+    assert!(rt; is_fault(&rt, alloc, &trees, COPYING, EditFault::CopyWindow));
+    assert!(rt; is_fault(&rt, alloc, &trees, OTHER_SUM, EditFault::BadSum));
+    assert!(rt; is_fault(&rt, alloc, &trees, OTHER_TOKEN, EditFault::BadToken));
+    assert!(rt; is_fault(&rt, alloc, &trees, GIVEN_UP, EditFault::Refused));
     let fault = EditFault::Editor(EditorFault::NoSuchPath);
-    assert!(rt; is_fault(alloc, &trees, NO_PATH, fault));
-    Ok(())
+    assert!(rt; is_fault(&rt, alloc, &trees, NO_PATH, fault));
 }
 
 // The input ends inside an item, between items inside an edit, and where an item of the answer is due.
@@ -90,14 +115,13 @@ const ENDS_IN_EDIT: &[u8] = b"( success ( ( ) 0: ) ) ( revprops ( ) ) ( target-r
 const ENDS_BEFORE: &[u8] = b"( success ( ( ) 0: ) ) ";
 
 #[test]
-fn an_input_that_ends_is_told(rt: HostRuntime) -> Result<(), Fail> {
+fn an_input_that_ends_is_told(rt: HostRuntime) {
     let alloc = rt.alloc();
-    let trees = history(&rt, alloc)?;
-    assert!(rt; is_fault(alloc, &trees, ENDS_INSIDE, EditFault::Truncated));
-    assert!(rt; is_fault(alloc, &trees, ENDS_IN_EDIT, EditFault::BadShape));
-    assert!(rt; is_bad(alloc, &trees, ENDS_BEFORE));
-    assert!(rt; is_bad(alloc, &trees, b""));
-    Ok(())
+    let trees = history(&rt, alloc);
+    assert!(rt; is_fault(&rt, alloc, &trees, ENDS_INSIDE, EditFault::Truncated));
+    assert!(rt; is_fault(&rt, alloc, &trees, ENDS_IN_EDIT, EditFault::BadShape));
+    assert!(rt; is_bad(&rt, alloc, &trees, ENDS_BEFORE));
+    assert!(rt; is_bad(&rt, alloc, &trees, b""));
 }
 
 // Somebody is asked for, no properties come, and something else is said behind the edit.
@@ -114,15 +138,14 @@ const JUNK: &[u8] =
 const BAD_BYTE: &[u8] = b"( success ( ( ) 0: ) ) ( revprops ( ) ) ( target-rev ( 2 ) ) * ";
 
 #[test]
-fn another_form_is_refused(rt: HostRuntime) -> Result<(), Fail> {
+fn another_form_is_refused(rt: HostRuntime) {
     let alloc = rt.alloc();
-    let trees = history(&rt, alloc)?;
-    assert!(rt; is_bad(alloc, &trees, ASKS));
-    assert!(rt; is_bad(alloc, &trees, NO_PROPS));
-    assert!(rt; is_bad(alloc, &trees, LONG_NAME));
-    assert!(rt; is_bad(alloc, &trees, JUNK));
-    assert!(rt; is_fault(alloc, &trees, BAD_BYTE, EditFault::BadItem));
-    Ok(())
+    let trees = history(&rt, alloc);
+    assert!(rt; is_bad(&rt, alloc, &trees, ASKS));
+    assert!(rt; is_bad(&rt, alloc, &trees, NO_PROPS));
+    assert!(rt; is_bad(&rt, alloc, &trees, LONG_NAME));
+    assert!(rt; is_bad(&rt, alloc, &trees, JUNK));
+    assert!(rt; is_fault(&rt, alloc, &trees, BAD_BYTE, EditFault::BadItem));
 }
 
 // ---- what is no end of a session
@@ -130,39 +153,51 @@ fn another_form_is_refused(rt: HostRuntime) -> Result<(), Fail> {
 const NO_REVISION: &[u8] =
     b"( success ( ( ) 0: ) ) ( failure ( ( 21 16:no such revision 0: 0 ) ) ) ( failure ( ( 48 17:bad command shape 0: 0 ) ) ) ( success ( ( ) 0: ) ) ( success ( 2 ) ) ";
 
-// The newest revision, where the two calls before it are answered by a failure.
-fn newest_behind(alloc: Global, trees: &[Tree], bytes: &[u8], line: &Line) -> Option<u16> {
-    let before = trees.get(..2)?;
-    let mut port = open(alloc, bytes, line).ok()?;
-    let first = port.fetch(RevNo::new(2), before).err()?;
-    let second = port.fetch_props(RevNo::new(2)).err()?;
-    let is_told = first == ClientFault::Refused && second == ClientFault::Refused;
-    let newest = port.latest().ok()?;
-    is_told.then_some(newest.get())
+// Whether two calls are answered by a failure, and then the newest revision is 2.
+fn goes_on(port: &mut Port<'_>, trees: &[Tree]) -> bool {
+    let Some(before) = trees.get(..2) else {
+        return false;
+    };
+    port.fetch(RevNo::new(2), before).err() == Some(ClientFault::Refused)
+        && port.fetch_props(RevNo::new(2)).err() == Some(ClientFault::Refused)
+        && port.latest().is_ok_and(|newest| newest.get() == 2)
+}
+
+// Whether that is so over bytes.
+fn goes_on_over(alloc: Global, trees: &[Tree], bytes: &[u8], line: &Line) -> bool {
+    match open(alloc, bytes, line) {
+        Ok(mut port) => goes_on(&mut port, trees),
+        Err(_) => false,
+    }
 }
 
 #[test]
-fn a_session_goes_on_behind_a_failure(rt: HostRuntime) -> Result<(), Fail> {
+fn a_session_goes_on_behind_a_failure(rt: HostRuntime) {
     let alloc = rt.alloc();
-    let trees = history(&rt, alloc)?;
-    let bytes = session(alloc, NO_REVISION)?;
-    assert!(rt; newest_behind(alloc, &trees, bytes.as_slice(), &WHOLE) == Some(2));
-    assert!(rt; newest_behind(alloc, &trees, bytes.as_slice(), &SINGLE) == Some(2));
-    Ok(())
+    let trees = history(&rt, alloc);
+    let bytes = told(&rt, alloc, NO_REVISION);
+    assert!(rt; goes_on_over(alloc, &trees, bytes.as_slice(), &WHOLE));
+    assert!(rt; goes_on_over(alloc, &trees, bytes.as_slice(), &SINGLE));
 }
 
 // ---- other commands
 
-fn number_told(alloc: Global, answers: &[u8]) -> Option<u8> {
-    let bytes = session(alloc, answers).ok()?;
-    let mut port = open(alloc, bytes.as_slice(), &WHOLE).ok()?;
-    Some(number_of(port.latest()))
+// The number of what the newest revision is refused for over these answers, 0 where it isn't.
+fn number_told(rt: &impl Abort, alloc: Global, answers: &[u8]) -> u8 {
+    let bytes = told(rt, alloc, answers);
+    match open(alloc, bytes.as_slice(), &WHOLE) {
+        Ok(mut port) => number_of(port.latest()),
+        Err(_) => 0,
+    }
 }
 
-fn props_told(alloc: Global, answers: &[u8]) -> Option<u8> {
-    let bytes = session(alloc, answers).ok()?;
-    let mut port = open(alloc, bytes.as_slice(), &WHOLE).ok()?;
-    Some(number_of(port.fetch_props(RevNo::new(1))))
+// The same of properties.
+fn props_told(rt: &impl Abort, alloc: Global, answers: &[u8]) -> u8 {
+    let bytes = told(rt, alloc, answers);
+    match open(alloc, bytes.as_slice(), &WHOLE) {
+        Ok(mut port) => number_of(port.fetch_props(RevNo::new(1))),
+        Err(_) => 0,
+    }
 }
 
 const PAST: &[u8] = b"( success ( ( ) 0: ) ) ( success ( 65536 ) ) ";
@@ -171,19 +206,18 @@ const WORD: &[u8] = b"( success ( ( ) 0: ) ) ( success ( none ) ) ";
 
 const NO_LIST: &[u8] = b"( success ( ( ) 0: ) ) ( success ( 1 ) ) ";
 
+const NO_VALUE: &[u8] = b"( success ( ( ) 0: ) ) ( success ( ( ( 1:a ) ) ) ) ";
+
+const CUT: &[u8] = b"( success ( ( ) 0: ) ) ( success ( ( ( 1:a";
+
 #[test]
 fn other_answers_are_refused(rt: HostRuntime) {
     let alloc = rt.alloc();
-    assert!(rt; number_told(alloc, PAST) == Some(60));
-    assert!(rt; number_told(alloc, WORD) == Some(60));
-    assert!(rt; props_told(alloc, NO_LIST) == Some(60));
-    assert!(rt;
-        props_told(
-            alloc,
-            b"( success ( ( ) 0: ) ) ( success ( ( ( 1:a ) ) ) ) "
-        ) == Some(60)
-    );
-    assert!(rt; props_told(alloc, b"( success ( ( ) 0: ) ) ( success ( ( ( 1:a") == Some(7));
+    assert!(rt; number_told(&rt, alloc, PAST) == 60);
+    assert!(rt; number_told(&rt, alloc, WORD) == 60);
+    assert!(rt; props_told(&rt, alloc, NO_LIST) == 60);
+    assert!(rt; props_told(&rt, alloc, NO_VALUE) == 60);
+    assert!(rt; props_told(&rt, alloc, CUT) == 7);
 }
 
 // A port that is lent is asked as one that is held.
@@ -191,13 +225,16 @@ fn is_over(port: &mut Port<'_>) -> bool {
     number_of(port.latest()) == 60 && number_of(port.latest()) == 60
 }
 
+// Whether that is so over these bytes.
+fn stays_over(alloc: Global, bytes: &[u8]) -> bool {
+    match open(alloc, bytes, &WHOLE) {
+        Ok(mut port) => is_over(&mut port),
+        Err(_) => false,
+    }
+}
+
 #[test]
-fn a_refusal_stays(rt: HostRuntime) -> Result<(), Fail> {
-    let bytes = session(rt.alloc(), WORD)?;
-    let Ok(mut port) = open(rt.alloc(), bytes.as_slice(), &WHOLE) else {
-        assert!(rt; false);
-        return Ok(());
-    };
-    assert!(rt; is_over(&mut port));
-    Ok(())
+fn a_refusal_stays(rt: HostRuntime) {
+    let bytes = told(&rt, rt.alloc(), WORD);
+    assert!(rt; stays_over(rt.alloc(), bytes.as_slice()));
 }

@@ -4,6 +4,7 @@ use crate::answer_tests::fetched;
 use crate::sessions::{Line, Port, SAID, SINGLE, URL, WHOLE, is_said, number_of, open};
 use crate::sets::{first, makes_next, second};
 use byte_streams::CountedReader;
+use dump_load::ChangeSet;
 use node_base::{PropName, PropValue, Props, RevNo};
 use path_tree::Tree;
 use ra_client::ClientFault;
@@ -15,7 +16,6 @@ use std::io;
 use std::io::Read;
 use std::process::Abort;
 use std::rt::HostRuntime;
-use std::test::Fail;
 use uuid::Uuid;
 
 const IDENTITY: &str = "6a1f0c3e-0000-4000-8000-000000000001";
@@ -25,47 +25,48 @@ const ASKED: &[u8] =
     b"( get-latest-rev ( ) ) ( replay-range ( 0 0 0 true ) ) ( replay-range ( 1 1 0 true ) ) ( replay-range ( 2 2 0 true ) ) ( rev-proplist ( 9 ) ) ( rev-proplist ( 2 ) ) ";
 
 // A log.
-fn log(rt: &impl Abort, alloc: Global) -> Result<Props, Fail> {
+fn log(rt: &impl Abort, alloc: Global) -> Props {
+    let bytes = Vec::from_slice(alloc, b"hi").expect(rt, "memory");
+    let value = PropValue::new(bytes).expect(rt, "a value");
+    let name = PropName::parse(alloc, b"svn:log").expect(rt, "a name");
     let mut props = Props::empty();
-    let value = PropValue::new(Vec::from_slice(alloc, b"hi")?).expect(rt, "a value");
-    props.set(alloc, PropName::parse(alloc, b"svn:log")?, value)?;
-    Ok(props)
+    props.set(alloc, name, value).expect(rt, "a property");
+    props
+}
+
+// Commits a set with a log.
+fn commit(rt: &impl Abort, alloc: Global, repo: &mut Repo, set: ChangeSet) {
+    let head = repo.head();
+    let _number = repo
+        .commit(alloc, head, set, log(rt, alloc), None)
+        .expect(rt, "a commit");
 }
 
 /// A repository of two revisions.
-pub(crate) fn repo(rt: &impl Abort, alloc: Global) -> Result<Repo, Fail> {
+pub(crate) fn repo(rt: &impl Abort, alloc: Global) -> Repo {
     let identity = Uuid::parse_str(IDENTITY).expect(rt, "an identity");
-    let mut repo = Repo::new(alloc, identity)?;
-    repo.commit(
-        alloc,
-        RevNo::new(0),
-        first(rt, alloc)?,
-        log(rt, alloc)?,
-        None,
-    )
-    .expect(rt, "a commit");
-    repo.commit(
-        alloc,
-        RevNo::new(1),
-        second(rt, alloc)?,
-        log(rt, alloc)?,
-        None,
-    )
-    .expect(rt, "a commit");
-    Ok(repo)
+    let mut repo = Repo::new(alloc, identity).expect(rt, "memory");
+    commit(rt, alloc, &mut repo, first(rt, alloc));
+    commit(rt, alloc, &mut repo, second(rt, alloc));
+    repo
+}
+
+// What a client says in a session in which it asks this.
+fn said(rt: &impl Abort, alloc: Global, asked: &[u8]) -> Vec<u8> {
+    let mut all = Vec::from_slice(alloc, SAID).expect(rt, "memory");
+    all.extend_from_slice(asked).expect(rt, "memory");
+    all
 }
 
 /// What a server of it writes in a session in which this is asked.
-pub(crate) fn served(rt: &impl Abort, alloc: Global, asked: &[u8]) -> Result<Vec<u8>, Fail> {
-    let mut port = HeldRepo::new(alloc, repo(rt, alloc)?, false);
-    let mut all = Vec::from_slice(alloc, SAID)?;
-    all.extend_from_slice(asked)?;
+pub(crate) fn served(rt: &impl Abort, alloc: Global, asked: &[u8]) -> Vec<u8> {
+    let mut port = HeldRepo::new(alloc, repo(rt, alloc), false);
+    let all = said(rt, alloc, asked);
     let mut items = ItemStream::new(alloc, CountedReader::new(all.as_slice()));
-    let (out, _) = serve(alloc, &mut port, URL, &mut items, Vec::new(alloc)).expect(
-        rt,
-        "a session",
-    );
-    Ok(out)
+    match serve(alloc, &mut port, URL, &mut items, Vec::new(alloc)) {
+        Ok((out, _)) => out,
+        Err(_) => rt.abort(),
+    }
 }
 
 // Whether a revision makes its tree.
@@ -100,11 +101,10 @@ fn newest(port: &mut Port<'_>) -> Option<u16> {
 }
 
 #[test]
-fn a_client_takes_what_is_served(rt: HostRuntime) -> Result<(), Fail> {
+fn a_client_takes_what_is_served(rt: HostRuntime) {
     let alloc = rt.alloc();
-    let held = repo(&rt, alloc)?;
-    let bytes = served(&rt, alloc, ASKED)?;
+    let held = repo(&rt, alloc);
+    let bytes = served(&rt, alloc, ASKED);
     assert!(rt; is_told(alloc, held.trees(), bytes.as_slice(), &WHOLE));
     assert!(rt; is_told(alloc, held.trees(), bytes.as_slice(), &SINGLE));
-    Ok(())
 }

@@ -5,6 +5,7 @@ use ra_client::{ClientFault, ClientPort};
 use std::alloc::{AllocError, Global};
 use std::io;
 use std::io::{ErrorKind, Read};
+use std::process::Abort;
 
 /// The URL that the client asks for.
 pub(crate) const URL: &[u8] = b"svn://127.0.0.1:3690/";
@@ -97,6 +98,11 @@ pub(crate) fn session(alloc: Global, answers: &[u8]) -> Result<Vec<u8>, AllocErr
     let mut bytes = Vec::from_slice(alloc, OPENED)?;
     bytes.extend_from_slice(answers)?;
     Ok(bytes)
+}
+
+/// The same, where memory doesn't run out.
+pub(crate) fn told(rt: &impl Abort, alloc: Global, answers: &[u8]) -> Vec<u8> {
+    session(alloc, answers).expect(rt, "memory")
 }
 
 /// Whether what a client wrote is its opening, and then this.

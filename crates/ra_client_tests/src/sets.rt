@@ -6,44 +6,53 @@ use path_tree::{Entry, Tree};
 use std::alloc::Global;
 use std::cmp::Ordering;
 use std::process::Abort;
-use std::test::Fail;
 
-fn bare(alloc: Global, at: &str, action: Action) -> Result<Change, Fail> {
-    Ok(Change {
-        path: NodePath::parse(alloc, at.as_bytes())?,
+fn path(rt: &impl Abort, alloc: Global, text: &str) -> NodePath {
+    NodePath::parse(alloc, text.as_bytes()).expect(rt, "a path")
+}
+
+fn bare(rt: &impl Abort, alloc: Global, at: &str, action: Action) -> Change {
+    Change {
+        path: path(rt, alloc, at),
         action,
         kind: None,
         source: None,
         props: None,
         text: None,
-    })
+    }
 }
 
 // A directory that is added.
-fn dir(alloc: Global, at: &str) -> Result<Change, Fail> {
-    let mut change = bare(alloc, at, Action::Add)?;
+fn dir(rt: &impl Abort, alloc: Global, at: &str) -> Change {
+    let mut change = bare(rt, alloc, at, Action::Add);
     change.kind = Some(NodeKind::Dir);
     change.props = Some(Props::empty());
-    Ok(change)
+    change
 }
 
 // A file that is added.
-fn file(alloc: Global, at: &str, bytes: &[u8]) -> Result<Change, Fail> {
-    let mut change = bare(alloc, at, Action::Add)?;
+fn file(rt: &impl Abort, alloc: Global, at: &str, bytes: &[u8]) -> Change {
+    let bytes = Vec::from_slice(alloc, bytes).expect(rt, "memory");
+    let mut change = bare(rt, alloc, at, Action::Add);
     change.kind = Some(NodeKind::File);
     change.props = Some(Props::empty());
-    change.text = Some(Text::new(alloc, Vec::from_slice(alloc, bytes)?)?);
-    Ok(change)
+    change.text = Some(Text::new(alloc, bytes).expect(rt, "a text"));
+    change
 }
 
 // A copy from revision 1.
-fn copied(alloc: Global, at: &str, from: &str) -> Result<Change, Fail> {
-    let mut change = bare(alloc, at, Action::Add)?;
+fn copied(rt: &impl Abort, alloc: Global, at: &str, from: &str) -> Change {
+    let mut change = bare(rt, alloc, at, Action::Add);
     change.source = Some(Source {
-        path: NodePath::parse(alloc, from.as_bytes())?,
+        path: path(rt, alloc, from),
         revision: RevNo::new(1),
     });
-    Ok(change)
+    change
+}
+
+// One change more.
+fn add(rt: &impl Abort, changes: &mut Vec<Change>, change: Change) {
+    changes.push(change).expect(rt, "memory");
 }
 
 fn set_of(rt: &impl Abort, changes: Vec<Change>) -> ChangeSet {
@@ -51,39 +60,36 @@ fn set_of(rt: &impl Abort, changes: Vec<Change>) -> ChangeSet {
 }
 
 /// Adds a directory with two files.
-pub(crate) fn first(rt: &impl Abort, alloc: Global) -> Result<ChangeSet, Fail> {
+pub(crate) fn first(rt: &impl Abort, alloc: Global) -> ChangeSet {
     let mut changes = Vec::new(alloc);
-    changes.push(dir(alloc, "t")?)?;
-    changes.push(file(alloc, "t/x", b"hello\n")?)?;
-    changes.push(file(alloc, "t/y", b"")?)?;
-    Ok(set_of(rt, changes))
+    add(rt, &mut changes, dir(rt, alloc, "t"));
+    add(rt, &mut changes, file(rt, alloc, "t/x", b"hello\n"));
+    add(rt, &mut changes, file(rt, alloc, "t/y", b""));
+    set_of(rt, changes)
 }
 
 /// Copies it without one of them.
-pub(crate) fn second(rt: &impl Abort, alloc: Global) -> Result<ChangeSet, Fail> {
+pub(crate) fn second(rt: &impl Abort, alloc: Global) -> ChangeSet {
     let mut changes = Vec::new(alloc);
-    changes.push(copied(alloc, "b", "t")?)?;
-    changes.push(bare(alloc, "b/x", Action::Delete)?)?;
-    Ok(set_of(rt, changes))
+    add(rt, &mut changes, copied(rt, alloc, "b", "t"));
+    add(rt, &mut changes, bare(rt, alloc, "b/x", Action::Delete));
+    set_of(rt, changes)
 }
 
-/// Adds the tree of the revision that a set makes.
-pub(crate) fn commit(alloc: Global, trees: &mut Vec<Tree>, set: &ChangeSet) -> Result<(), Fail> {
-    if trees.len() > 65_535 {
-        return Ok(());
-    }
-    let tree = apply(alloc, trees.as_slice(), set)?;
-    trees.push(tree)?;
-    Ok(())
+// Adds the tree of the revision that a set makes.
+fn commit(rt: &impl Abort, alloc: Global, trees: &mut Vec<Tree>, set: &ChangeSet) {
+    assert!(rt; trees.len() <= 65_535);
+    let tree = apply(alloc, trees.as_slice(), set).expect(rt, "a tree");
+    trees.push(tree).expect(rt, "memory");
 }
 
 /// The trees of revisions 0 to 2.
-pub(crate) fn history(rt: &impl Abort, alloc: Global) -> Result<Vec<Tree>, Fail> {
+pub(crate) fn history(rt: &impl Abort, alloc: Global) -> Vec<Tree> {
     let mut trees = Vec::new(alloc);
-    commit(alloc, &mut trees, &ChangeSet::empty(alloc))?;
-    commit(alloc, &mut trees, &first(rt, alloc)?)?;
-    commit(alloc, &mut trees, &second(rt, alloc)?)?;
-    Ok(trees)
+    commit(rt, alloc, &mut trees, &ChangeSet::empty(alloc));
+    commit(rt, alloc, &mut trees, &first(rt, alloc));
+    commit(rt, alloc, &mut trees, &second(rt, alloc));
+    trees
 }
 
 fn bytes_of(node: &Node) -> Option<&[u8]> {

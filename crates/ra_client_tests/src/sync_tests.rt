@@ -10,7 +10,6 @@ use repo_store::RepoStore;
 use std::alloc::Global;
 use std::process::Abort;
 use std::rt::HostRuntime;
-use std::test::Fail;
 use sync_core::{SyncFault, Token};
 use sync_job::{AloneMirror, HeldMaster, JobPorts, MasterPort, Report, run_init, run_sync};
 use uuid::Uuid;
@@ -180,15 +179,14 @@ fn has_told(left: &Left, lines: &[Line]) -> bool {
 }
 
 // A mirror that was begun and synchronised over what a server writes; none where that told something else.
-fn by_wire(rt: &impl Abort, alloc: Global) -> Result<Option<MemDisk>, Fail> {
-    let begins = served(rt, alloc, BEGINS)?;
-    let goes_on = served(rt, alloc, GOES_ON)?;
+fn by_wire(rt: &impl Abort, alloc: Global) -> Option<MemDisk> {
+    let begins = served(rt, alloc, BEGINS);
     let begun = run(rt, alloc, empty(rt, alloc), begins.as_slice(), true);
     if !has_told(&begun, &BEGUN) {
-        return Ok(None);
+        return None;
     }
-    let synced = run(rt, alloc, begun.disk, goes_on.as_slice(), false);
-    Ok(well_left(synced))
+    let goes_on = served(rt, alloc, GOES_ON);
+    well_left(run(rt, alloc, begun.disk, goes_on.as_slice(), false))
 }
 
 // The disk of a job that told of both revisions.
@@ -212,11 +210,10 @@ fn by_folder(rt: &impl Abort, alloc: Global, source: &Repo) -> Option<MemDisk> {
 }
 
 #[test]
-fn a_mirror_is_brought_up_to_date(rt: HostRuntime) -> Result<(), Fail> {
-    let source = repo(&rt, rt.alloc())?;
-    let left = by_wire(&rt, rt.alloc())?;
+fn a_mirror_is_brought_up_to_date(rt: HostRuntime) {
+    let source = repo(&rt, rt.alloc());
+    let left = by_wire(&rt, rt.alloc());
     assert!(rt; left_mirror(rt.alloc(), left, &source));
-    Ok(())
 }
 
 // Whether a disk is left that holds a mirror of a repository.
@@ -315,21 +312,19 @@ fn left_the_same(
 }
 
 #[test]
-fn a_mirror_over_the_wire_is_one_by_folder(rt: HostRuntime) -> Result<(), Fail> {
-    let source = repo(&rt, rt.alloc())?;
-    let one = by_wire(&rt, rt.alloc())?;
+fn a_mirror_over_the_wire_is_one_by_folder(rt: HostRuntime) {
+    let source = repo(&rt, rt.alloc());
+    let one = by_wire(&rt, rt.alloc());
     let other = by_folder(&rt, rt.alloc(), &source);
     assert!(rt; left_the_same(&rt, rt.alloc(), one, other));
-    Ok(())
 }
 
 #[test]
-fn a_master_that_goes_silent_is_told(rt: HostRuntime) -> Result<(), Fail> {
-    let begins = served(&rt, rt.alloc(), BEGINS)?;
-    let goes_on = served(&rt, rt.alloc(), b"( get-latest-rev ( ) ) ")?;
+fn a_master_that_goes_silent_is_told(rt: HostRuntime) {
+    let begins = served(&rt, rt.alloc(), BEGINS);
+    let goes_on = served(&rt, rt.alloc(), b"( get-latest-rev ( ) ) ");
     let disk = empty(&rt, rt.alloc());
     let begun = run(&rt, rt.alloc(), disk, begins.as_slice(), true);
     let synced = run(&rt, rt.alloc(), begun.disk, goes_on.as_slice(), false);
     assert!(rt; begun.number == 0 && synced.number == 60);
-    Ok(())
 }
