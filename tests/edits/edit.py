@@ -10,11 +10,11 @@ BY_NAME = r"has no field|is not in scope|has no `|was not admitted|can't be name
 
 
 class Edit:
-    """One edit: the changed texts by file, and the one function that it changes, where there is one."""
+    """One edit: the changed texts by file, the functions that it changes with their paths, and the one where it is one."""
 
     def __init__(self, path, folder):
         self.name = os.path.basename(path)[: -len(".edit")]
-        self.pairs, self.why, self.function, self.path = [], None, None, None
+        self.pairs, self.why, self.function, self.places = [], None, None, []
         file = old = None
         with open(path, encoding="utf-8") as it:
             for line in it.read().split("\n"):
@@ -31,10 +31,9 @@ class Edit:
             self.why = self.why or "it has no pair of old and new"
             return
         places = {place_in(folder, file, old) for file, old, _ in self.pairs if in_file(folder, file, old)}
-        if len(places) == 1:
-            self.function = places.pop()
-        if self.function:
-            self.path = path_of(folder, self.function)
+        self.places = [(it, path_of(folder, it)) for it in sorted(places - {None})]
+        if len(places) == 1 and self.places:
+            self.function = self.places[0][0]
 
     def apply(self, folder, texts):
         """Puts the changed texts into texts, over what is there. Says in `why` where that can't be."""
@@ -135,16 +134,15 @@ def path_of(folder, function):
 
 
 def is_of(edit, line):
-    """Whether a line of the prover tells an error of the function that an edit changes: in its text, or in its proof."""
-    file, _, _, first, last = edit.function
+    """Whether a line of the prover tells an error of a function that an edit changes: in its text, or in its proof."""
     at = re.match(r"(?:note: )?(?:\./)?(\S+?):(\d+):\d+: (.*)", line)
     if not at:
         return False
-    said = at[3]
-    if at[1] == file and first <= int(at[2]) <= last:
+    where, number, said = at[1], int(at[2]), at[3]
+    if any(where == file and first <= number <= last for (file, _, _, first, last), _ in edit.places):
         return "not proved" in said or "found no proof" in said or said.startswith("error")
-    parts = [it.lstrip("+") for it in at[1].split("/")]
-    return parts[0] == "proofs" and said.startswith("error") and parts[1:-1] == edit.path.split("::")
+    parts = [it.lstrip("+") for it in where.split("/")]
+    return parts[0] == "proofs" and said.startswith("error") and "::".join(parts[1:-1]) in [path for _, path in edit.places]
 
 
 def is_judged(status, lines):
