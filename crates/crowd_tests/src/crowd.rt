@@ -2,7 +2,7 @@
 //! as it is to, else the number of a refusal that wasn't to come, or that it missed something.
 
 use crate::board::{Board, Telling};
-use crate::made::{added, log, number_of, seat, token};
+use crate::made::{MASTER, added, log, number_of, seat, token, value};
 use crate::master::SeatMaster;
 use fleet_disk::{Disk, MemDisk};
 use mirror_share::{MirrorShare, SeatMirror};
@@ -12,6 +12,7 @@ use std::process::Abort;
 use std::sync::Wait;
 use std::thread;
 use store_share::{MasterShare, ReaderSeat, RowName};
+use sync_core::MirrorCall;
 use sync_job::{JobPorts, MasterPort, run_sync};
 
 /// How many directories each committer adds.
@@ -26,10 +27,11 @@ pub(crate) const MISSED: u8 = 255;
 // How often a committer tries to add one directory: each time another was faster.
 const TRIES: u32 = 100;
 
-// How often a job runs, and a reader looks; both end before by what they see.
+// How often a job runs; it ends before by what it sees.
 const RUNS: u32 = 1_000_000;
 
-const LOOKS: u32 = 1_000_000_000;
+/// How often a reader looks; it ends before by what it sees.
+pub(crate) const LOOKS: u32 = 1_000_000_000;
 
 // The number of a commit's refusal; 0 where the committer reads its revision then.
 fn commits<R: Wait + Abort, L: RowName>(
@@ -82,6 +84,23 @@ pub(crate) fn committer<R: Wait + Abort, L: RowName>(
         }
     }
     0
+}
+
+/// Makes a mirror one of the master.
+pub(crate) fn begins<R: Wait + Abort, L: RowName, D: Disk>(
+    rt: &R,
+    alloc: Global,
+    share: &MirrorShare<L, D>,
+) -> bool {
+    let call = MirrorCall::Init {
+        url: &value(rt, alloc, b"master"),
+        uuid: &value(rt, alloc, MASTER.as_bytes()),
+        props: &log(rt, alloc),
+    };
+    let seat = seat(rt, alloc, share, b"i");
+    let number = number_of(share.step(rt, alloc, &seat, &call));
+    share.leave(rt, seat);
+    number == 0
 }
 
 /// One run of a job from a master: the number of its refusal, 0 where it ends well.
@@ -161,9 +180,9 @@ pub(crate) fn job<R: Wait + Abort, M: RowName, L: RowName, D: Disk>(
     answer
 }
 
-// The newest revision, where one that was told is read without the lock, and the newest is no less than it and than the
-// last.
-fn sees<R: Wait, L: RowName, D: Disk>(
+/// The newest revision, where one that was told is read without the lock, and the newest is no less than it and than the
+/// last.
+pub(crate) fn sees<R: Wait, L: RowName, D: Disk>(
     rt: &R,
     share: &MirrorShare<L, D>,
     reader: &mut ReaderSeat<L>,

@@ -5,9 +5,9 @@ ghost use Rattle.std.specs.Prelude.{◌≡◌};
 ghost use Rattle.store_share.specs.Opened.{cells_of};
 
 use crate::board::Board;
-use crate::crowd::{ALL, committer, job, ran, ran_from, reader};
+use crate::crowd::{ALL, begins, committer, job, ran, ran_from, reader};
 use crate::fronts::front_of;
-use crate::made::{MASTER, MIRROR, blank, log, number_of, opened, seat, value};
+use crate::made::{MASTER, MIRROR, blank, opened};
 use fleet_disk::{Disk, Fuse, FuseDisk, MemDisk, Pick};
 use mirror_share::MirrorShare;
 use node_base::RevNo;
@@ -20,7 +20,6 @@ use std::sync::Wait;
 use std::thread;
 use std::thread::Threads;
 use store_share::{MasterShare, OpenedStore, RowName};
-use sync_core::MirrorCall;
 use sync_job::LentMaster;
 
 // A disk that stops after a number of calls.
@@ -88,23 +87,6 @@ fn goes<
         }
     }
     0
-}
-
-// Makes a mirror one of the master.
-fn begins<R: Wait + Abort, L: RowName, D: Disk>(
-    rt: &R,
-    alloc: Global,
-    share: &MirrorShare<L, D>,
-) -> bool {
-    let call = MirrorCall::Init {
-        url: &value(rt, alloc, b"master"),
-        uuid: &value(rt, alloc, MASTER.as_bytes()),
-        props: &log(rt, alloc),
-    };
-    let seat = seat(rt, alloc, share, b"i");
-    let number = number_of(share.step(rt, alloc, &seat, &call));
-    share.leave(rt, seat);
-    number == 0
 }
 
 // Whether each of the threads did as it is to, and, where the machine doesn't stop, one more run at each mirror too.
