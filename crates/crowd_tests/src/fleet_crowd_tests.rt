@@ -13,7 +13,7 @@ use fleet_shares::{FleetShares, FleetStores, OpenedFleet, stores_of};
 use mirror_share::MirrorShare;
 use node_base::RevNo;
 use repo_store::RepoStore;
-use std::alloc::Global;
+use std::alloc::{AllocError, Global};
 use std::marker::Brand;
 use std::process::Abort;
 use std::rt::HostRuntime;
@@ -77,7 +77,7 @@ fn together<
     let shares = FleetShares::<M, L0, L1, L2, L3, MemDisk>::of(alloc, fleet);
     let begun = begins_in(rt, alloc, &shares.first) && begins_in(rt, alloc, &shares.second);
     let shares = Arc::new(alloc, shares)
-        .map_err(|failed| failed.error)
+        .map_err(|_failed| AllocError)
         .expect(rt, "memory");
     let is_well = begun && goes(rt, alloc, &shares) == 0 && brings_up(rt, alloc, &shares);
     (stores_of(rt, shares), is_well)
