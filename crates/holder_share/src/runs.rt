@@ -18,8 +18,8 @@ use sync_job::{JobPorts, MasterPort, Report, run_copy_revprops, run_sync};
 
 /// Brings a shared mirror up to its master, from a seat that doesn't hold the lock: as `sync_job::run_sync`. From the
 /// answer to its lock call to its release none of its calls is refused for the lock (59) or the turn (61), a look tells
-/// what its last look and its own calls since left, and behind each of its calls the seat has the hand: no other seat
-/// has it then ([`crate::HolderSeat::is_alone`]), and one that took the lock or stole it would.
+/// what its last look and its own calls since left, and behind each of its calls the seat has the hand: no other seat's
+/// call takes the lock or steals it then ([`crate::HolderShare::step_beside`]).
 pub fn run_sync_at<'a, W: Wait, N: HolderName, D: Disk, M: MasterPort + Drop, R: Report + Drop>(
     alloc: Global,
     ports: &mut JobPorts<M, HolderMirror<'a, W, N, D>, R>,
@@ -36,7 +36,14 @@ pub fn run_sync_at<'a, W: Wait, N: HolderName, D: Disk, M: MasterPort + Drop, R:
 
 /// Copies the properties of the revisions from `low` to `high` to a shared mirror again, from a seat that doesn't hold
 /// the lock: as `sync_job::run_copy_revprops`, and what [`run_sync_at`] says of its calls.
-pub fn run_copy_revprops_at<'a, W: Wait, N: HolderName, D: Disk, M: MasterPort + Drop, R: Report + Drop>(
+pub fn run_copy_revprops_at<
+    'a,
+    W: Wait,
+    N: HolderName,
+    D: Disk,
+    M: MasterPort + Drop,
+    R: Report + Drop,
+>(
     alloc: Global,
     ports: &mut JobPorts<M, HolderMirror<'a, W, N, D>, R>,
     token: Token,
