@@ -100,7 +100,13 @@ fn carries<R: Wait + Abort, N: HolderName>(
     let taken = called(rt, alloc, share, &mut other, &MirrorCall::TakeLock(&b));
     share.leave(rt, holder);
     share.leave(rt, other);
-    numbers == (0, 0) && stolen == 55 && (released, taken) == (0, 0) && before && all && after && beside
+    numbers == (0, 0)
+        && stolen == 55
+        && (released, taken) == (0, 0)
+        && before
+        && all
+        && after
+        && beside
 }
 
 // Where the holder leaves, its token comes in again, and the lock stays until it is stolen.
