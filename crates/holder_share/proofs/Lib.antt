@@ -1,3 +1,4 @@
+pub mod Asking
 pub mod Carrying
 pub mod Counting
 pub mod Crosses

@@ -287,17 +287,24 @@ comes job Look result a hand next lawful has fit e c = comes_work job Look resul
 
 -- the list of a run
 
+some_in : (job : Job) (hand : Option Counts) → KnowsIn job hand → IsSome hand
+some_in job None h = absurd h
+some_in job (Some k) h = refl
+
 are_served : (IsNumber : Job → ℕ → Type 0) (job : Job) (hand : Option Counts) (es : List Happening) → Has job hand → AreRight IsNumber job (map said_as es) → AreCalls hand es → AreServed job es
 are_served IsNumber job hand [] has right calls = tt
 are_served IsNumber job hand (Called call result a next ∷ es) has right calls =
-    let c = comes job call result a hand next right.0.0 has calls.0 calls.1 calls.2 in (c.0, are_served IsNumber (hears_call job call a) next es c.1 right.1 calls.3)
+    let c = comes job call result a hand next right.0.0 has calls.0 calls.1 calls.2 in (c.0, λ l. some_in (hears_call job call a) next (c.1.held l), are_served IsNumber (hears_call job call a) next es c.1 right.1 calls.3)
 are_served IsNumber job hand (Spoke spoken ∷ es) has right calls = are_served IsNumber (hears job spoken) hand es (has_spoken job spoken hand calls.0 has) right.1 calls.1
 
 begins : (order : Order) → Has (begun order) None
 begins order = record { fresh = λ b. refl; held = λ l. (let f : Begun ≡ Locked = l in absurd (cc)) }
 
+pub run_served : (IsNumber : Job → ℕ → Type 0) (order : Order) (es : List Happening) → AreRight IsNumber (begun order) (map said_as es) → AreCalls None es → AreServed (begun order) es
+run_served IsNumber order es right calls = are_served IsNumber (begun order) None es (begins order) right calls
+
 pub sync-is-served : SyncIsServed
-sync-is-served token steal es right calls = are_served IsCopying (begun (Sync token steal)) None es (begins (Sync token steal)) right calls
+sync-is-served token steal es right calls = run_served IsCopying (Sync token steal) es right calls
 
 pub copy-is-served : CopyIsServed
-copy-is-served token low high es right calls = are_served (IsWithin low high) (begun (CopyProps token)) None es (begins (CopyProps token)) right calls
+copy-is-served token low high es right calls = run_served (IsWithin low high) (CopyProps token) es right calls

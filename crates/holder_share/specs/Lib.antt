@@ -1,3 +1,4 @@
+pub mod Asked
 pub mod Books
 pub mod Carried
 pub mod Counts

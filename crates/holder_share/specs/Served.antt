@@ -1,5 +1,5 @@
 -- A run of a job at a seat: what was said in it, and what each of its calls was at the seat.
-use Rattle.std.specs.Prelude.{◌≡◌, ℕ, Bool, List, [], ◌∷◌, map, Option, None, Result, IfOk}
+use Rattle.std.specs.Prelude.{◌≡◌, ℕ, Bool, List, [], ◌∷◌, ◌++◌, map, Option, None, Result, IfOk, IsSome}
 use Rattle.sync_core.specs.Copies.{outcome_of}
 use Rattle.sync_core.specs.Deeds.{Calls}
 use Rattle.sync_core.specs.Holding.{IsQuestion}
@@ -38,11 +38,12 @@ AreCalls hand [] = Unit {0}
 AreCalls hand (Called call result told next ∷ es) = IfOk result (IsFit call) × IsHeard result told × IsCarried hand next call result × AreCalls next es
 AreCalls hand (Spoke spoken ∷ es) = IsNoCall spoken × AreCalls hand es
 
--- from the answer to its lock call to its release no call of the job is refused for the lock (59) or the turn (61), and a look tells
--- what its last look and its own calls since left
+-- from the answer to its lock call to its release no call of the job is refused for the lock (59) or the turn (61), a look tells what
+-- its last look and its own calls since left, and behind each of its calls the seat has the hand, so that no other seat's lock call is done
 abbrev pub AreServed : Job → List Happening → Type 0
 AreServed job [] = Unit {0}
-AreServed job (Called call result told next ∷ es) = (job.stage ≡ Locked → IsServed job result) × AreServed (hears job (Says (Calls call) (outcome_of told))) es
+AreServed job (Called call result told next ∷ es) =
+    (job.stage ≡ Locked → IsServed job result) × ((hears job (Says (Calls call) (outcome_of told))).stage ≡ Locked → IsSome next) × AreServed (hears job (Says (Calls call) (outcome_of told))) es
 AreServed job (Spoke spoken ∷ es) = AreServed (hears job spoken) es
 
 -- so it is in a run that synchronises, at a seat that begins without the hand
@@ -52,3 +53,10 @@ SyncIsServed = (token : List ℕ) (steal : Bool) (es : List Happening) → AreRi
 -- and in one that copies properties again
 abbrev pub CopyIsServed : Type 0
 CopyIsServed = (token : List ℕ) (low high : ℕ) (es : List Happening) → AreRight (IsWithin low high) (begun (CopyProps token)) (map said_as es) → AreCalls None es → AreServed (begun (CopyProps token)) es
+
+-- what was said in a run at a seat that began without the hand: each of its calls was one at the seat, in order, and it is served
+pub record IsServedIn (job : Job) (old new : List Spoken) : Type 0 where
+  pub happened : List Happening
+  pub adds : new ≡ old ++ map said_as happened
+  pub calls : AreCalls None happened
+  pub served : AreServed job happened

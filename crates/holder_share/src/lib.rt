@@ -19,6 +19,7 @@ pub use blanks::Blanks;
 pub use book::HolderBook;
 pub use name::{Count, HolderName, HolderNames};
 pub use port::HolderMirror;
+pub use runs::{run_copy_revprops_at, run_sync_at};
 pub use seat::HolderSeat;
 pub use share::HolderShare;
 
@@ -31,6 +32,7 @@ mod ledgers;
 mod name;
 mod port;
 mod readers;
+mod runs;
 mod seat;
 mod share;
 mod whole;

@@ -1,12 +1,12 @@
 //! A shared mirror whose holder carries its numbers, as the port of a job.
-ghost use Rattle.std.specs.Prelude.{◌≡◌, ◌≤◌, ◌⊎◌, ◌↔◌, ℕ, Some, IfOk, IfErr};
+ghost use Rattle.std.specs.Prelude.{◌≡◌, ◌≤◌, ◌↔◌, ◌++◌, ◌∷◌, [], ℕ, List, Some, IfOk, IfErr};
 ghost use Rattle.std.specs.Option.{option_map};
-ghost use Rattle.node_base.specs.declared.refusal.Refusal.TheVariants as refusal;
 ghost use Rattle.repo_core.specs.Repository.{tree_at};
 ghost use Rattle.store_share.specs.Seats.{known_by, seen_by};
 ghost use Rattle.sync_core.specs.Calls.{call_of};
-ghost use Rattle.sync_core.specs.declared.fault.SyncFault.TheVariants as fault;
+ghost use Rattle.sync_job.specs.Asked.{Asked, asked_as};
 ghost use Rattle.sync_job.specs.Mirrors.{MirrorNow, IsFit, Moves, Stays};
+ghost use Rattle.sync_job.specs.Telling.{IsTreeFault};
 ghost use Rattle.mirror_share.specs.Refused.{IsRefusalOf};
 ghost use Rattle.holder_share.specs.Carried.{IsCarried};
 
@@ -71,6 +71,7 @@ impl<R: Wait, N: HolderName, D: Disk> MirrorPort for HolderMirror<'_, R, N, D> {
     ghost use Rattle.std.specs.Prelude.{ℕ};
     ghost use Rattle.mirror_share.specs.Ports.{NowhereStands};
     ghost use Rattle.mirror_share.specs.Seats.{place_of};
+    ghost use Rattle.holder_share.specs.Asked.{WasAsked};
     ghost use Rattle.holder_share.specs.Ports.{reader_of, seat_of, share_of};
     ghost use Rattle.holder_share.specs.Seats.{hand_of, job_of};
 
@@ -83,6 +84,8 @@ impl<R: Wait, N: HolderName, D: Disk> MirrorPort for HolderMirror<'_, R, N, D> {
     ghost clock = { λ _. 0 };
 
     ghost left_since = { λ _ _ _. ⊥ };
+
+    ghost asked = { λ now first calls. WasAsked now first calls };
 
     ghost kept_now = { λ port m image honest stands left. absurd honest };
 
@@ -98,6 +101,8 @@ impl<R: Wait, N: HolderName, D: Disk> MirrorPort for HolderMirror<'_, R, N, D> {
         ensures honest { ⊥ ↔ ⊥ }
         ensures moves { (m : MirrorNow) → NowhereStands m → Moves NowhereStands (λ _. 0) (λ _ _ _. ⊥) ⊥ self.old self.new
             m (place_of (job_of (seat_of self.old))) (call_of call.now) result }
+        ensures asked { (first : _) (calls : List Asked) → WasAsked self.old first calls
+            → WasAsked self.new first (calls ++ asked_as (call_of call.now) result ∷ []) }
     {
         self.share.step(self.rt, alloc, &mut self.seat, call)
     }
@@ -109,7 +114,7 @@ impl<R: Wait, N: HolderName, D: Disk> MirrorPort for HolderMirror<'_, R, N, D> {
         ensures seen { seen_by (reader_of self.old) ≤ seen_by (reader_of self.new) }
         ensures kept { (r : ℕ) → r ≤ seen_by (reader_of self.old)
             → known_by (reader_of self.new) r ≡ known_by (reader_of self.old) r }
-        ensures refused { IfErr result (λ f. (f ≡ fault.Other refusal.NoSuchRevision) ⊎ (f ≡ fault.OutOfMemory)) }
+        ensures refused { IfErr result IsTreeFault }
         ensures hand { seat_of self.new ≡ seat_of self.old }
         ensures seat { place_of (job_of (seat_of self.new)) ≡ place_of (job_of (seat_of self.old)) }
         ensures honest { ⊥ ↔ ⊥ }
@@ -117,6 +122,8 @@ impl<R: Wait, N: HolderName, D: Disk> MirrorPort for HolderMirror<'_, R, N, D> {
             (λ t. tree_at m.repository.revisions number ≡ Some t) }
         ensures stays { (m : MirrorNow) → NowhereStands m → Stays NowhereStands (λ _. 0) (λ _ _ _. ⊥) ⊥ self.old self.new
             m }
+        ensures asked { (first : _) (calls : List Asked) → WasAsked self.old first calls
+            → WasAsked self.new first calls }
     {
         if self.reader.seen() < number {
             let _newest = self.share.latest(self.rt, &mut self.reader);

@@ -1,9 +1,10 @@
 //! A mirror behind its lock, with its row beside it, whose holder carries its numbers.
-ghost use Rattle.std.specs.Prelude.{◌≡◌, ◌≤◌, ◌<◌, ℕ, Some, None, IfOk, IfErr, IfSome, IfNone};
+ghost use Rattle.std.specs.Prelude.{◌≡◌, ◌≤◌, ◌<◌, ℕ, Some, None, IfOk, IfErr, IfSome, IfNone, IsErr, IsSome};
 ghost use Rattle.rev_row.specs.declared.rev.Rev.{Rev as RevOf};
 ghost use Rattle.store_share.specs.Opened.{cells_of};
 ghost use Rattle.store_share.specs.Seats.{known_by, seen_by};
 ghost use Rattle.sync_core.specs.Calls.{call_of};
+ghost use Rattle.sync_core.specs.Holding.{TakesLock};
 ghost use Rattle.sync_job.specs.Mirrors.{IsFit};
 ghost use Rattle.mirror_share.specs.Places.{IsRunningFault};
 ghost use Rattle.mirror_share.specs.Refused.{IsRefusalOf};
@@ -103,6 +104,24 @@ impl<N: HolderName, D: Disk> HolderShare<N, D> {
         ensures carried { IsCarried (hand_of seat.old) (hand_of seat.new) (call_of call.now) result }
     {
         self.book.lock(rt).step(alloc, &self.row, seat, call)
+    }
+
+    /// The same of a seat beside another one: while that one has the hand, no call of this one takes the lock or steals it.
+    pub fn step_beside<R: Wait>(
+        &self,
+        rt: &R,
+        alloc: Global,
+        holder: &mut HolderSeat<N>,
+        seat: &mut HolderSeat<N>,
+        call: &MirrorCall<'_>,
+    ) -> Result<Reply, SyncFault>
+        ensures fits { IfOk result (IsFit (call_of call.now)) }
+        ensures refused { IfErr result (IsRefusalOf (call_of call.now)) }
+        ensures alone { IsSome (hand_of holder.old) → TakesLock (call_of call.now) → IsErr result }
+    {
+        let answer = self.step(rt, alloc, seat, call);
+        holder.is_alone(seat);
+        answer
     }
 
     /// The seat of a reader, who has seen what is shown now. Only want of memory (70) refuses it.

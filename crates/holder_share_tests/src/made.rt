@@ -1,4 +1,6 @@
 //! The masters and mirrors that the tests share.
+ghost use Rattle.std.specs.Prelude.{◌≡◌, None};
+ghost use Rattle.holder_share.specs.Seats.{hand_of};
 
 use dump_load::{Change, ChangeSet};
 use fleet_disk::MemDisk;
@@ -98,7 +100,9 @@ pub(crate) fn seat<R: Wait + Abort, N: HolderName>(
     alloc: Global,
     share: &HolderShare<N, MemDisk>,
     text: &[u8],
-) -> HolderSeat<N> {
+) -> HolderSeat<N>
+    ensures { hand_of result ≡ None }
+{
     share
         .enter_job(rt, alloc, &token(rt, alloc, text))
         .expect(rt, "a seat")

@@ -6,7 +6,10 @@ ghost use Rattle.store_share.specs.Opened.{cells_of};
 
 use crate::made::{REVISIONS, begun, master, number_of, opened, seat, token};
 use fleet_disk::MemDisk;
-use holder_share::{Blanks, Count, HolderMirror, HolderName, HolderNames, HolderShare, law};
+use holder_share::{
+    Blanks, Count, HolderMirror, HolderName, HolderNames, HolderShare, law, run_copy_revprops_at,
+    run_sync_at,
+};
 use node_base::RevNo;
 use repo_store::RepoStore;
 use std::alloc::Global;
@@ -17,7 +20,7 @@ use std::sync::Wait;
 use std::thread;
 use std::thread::Threads;
 use store_share::{OpenedStore, RowName};
-use sync_job::{JobPorts, LentMaster, Report, run_copy_revprops, run_sync};
+use sync_job::{JobPorts, LentMaster, Report};
 
 // How often a job runs at most; it ends before by what it sees.
 const RUNS: u32 = 100_000;
@@ -53,8 +56,8 @@ fn ran<R: Wait + Abort, N: HolderName>(
     let mut ports = JobPorts::new(alloc, LentMaster::new(source), mirror, Untold {});
     let token = token(rt, alloc, name);
     let answer = match steal {
-        Some(steal) => run_sync(alloc, &mut ports, token, steal),
-        None => run_copy_revprops(alloc, &mut ports, token, RevNo::ZERO, RevNo::new(REVISIONS)),
+        Some(steal) => run_sync_at(alloc, &mut ports, token, steal),
+        None => run_copy_revprops_at(alloc, &mut ports, token, RevNo::ZERO, RevNo::new(REVISIONS)),
     };
     let (_source, mirror, _report) = ports.into_parts();
     share.leave(rt, mirror.into_seat());

@@ -78,7 +78,8 @@ fn carries<R: Wait + Abort, N: HolderName>(
         begun(rt, alloc, share, &mut holder),
         called(rt, alloc, share, &mut holder, &MirrorCall::TakeLock(&a)),
     );
-    holder.is_alone(&mut other);
+    let steal = MirrorCall::StealLock(&b);
+    let stolen = number_of(share.step_beside(rt, alloc, &mut holder, &mut other, &steal));
     let before = is_at(
         share.step(rt, alloc, &mut holder, &MirrorCall::Look),
         0,
@@ -99,7 +100,13 @@ fn carries<R: Wait + Abort, N: HolderName>(
     let taken = called(rt, alloc, share, &mut other, &MirrorCall::TakeLock(&b));
     share.leave(rt, holder);
     share.leave(rt, other);
-    numbers == (0, 0) && (released, taken) == (0, 0) && before && all && after && beside
+    numbers == (0, 0)
+        && stolen == 55
+        && (released, taken) == (0, 0)
+        && before
+        && all
+        && after
+        && beside
 }
 
 // Where the holder leaves, its token comes in again, and the lock stays until it is stolen.

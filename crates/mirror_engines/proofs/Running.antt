@@ -28,7 +28,7 @@ use Rattle.sync_job.specs.declared.alone.AloneMirror.{AloneMirror}
 use Rattle.sync_job.specs.declared.report.Told.{Told}
 use Rattle.mirror_engines.specs.Lines.{IsPrinted, Printed, Lost, line_of}
 use Rattle.mirror_engines.specs.Ports.{HasPrinted, is_lost, sink_of}
-use Rattle.mirror_engines.specs.Runs.{answer_of, told_as, IsUnheard, Leaves, Serves}
+use Rattle.mirror_engines.specs.Runs.{answer_of, told_as, IsUnheard, Leaves, Serves, TellsDevice}
 use Rattle.mirror_engines.specs.declared.printer.Printer.{Printer}
 
 -- a line more
@@ -88,9 +88,9 @@ pub serves : {D : Type 0} {G : Ghosts D} {W : Type 0} (contents : W → Option (
     (End : List Spoken → Type 0) (before after : AloneMirror D G) (p q : Printer W) (said : List Spoken) (ended : Result (Unit {0}) SyncFault)
     → (Runs N order [] said IsUnheard IsUnheard End → IsRun said ended) → Runs N order [] said (HasPrinted contents p) (HasPrinted contents q) End → is_lost p ≡ false
     → (¬ HasFailed (store_of before) → StandsAt (store_of before) None (begun (repository_of (store_of before)))) → holder_of before ≡ None
-    → Moving [] said (WentAt stands_alone clock_alone left_alone honest_alone before after)
+    → Moving [] said (WentAt stands_alone clock_alone left_alone honest_alone before after) → TellsDevice (store_of before) (store_of after) said (answer_of ended (is_lost q))
     → Serves IsRun (store_of before) (store_of after) (contents (sink_of p).inner) (contents (sink_of q).inner) (sink_of q).failed (answer_of ended (is_lost q))
-serves contents IsRun N order End before after p q said ended is run l there holder moving =
+serves contents IsRun N order End before after p q said ended is run l there holder moving device =
     record {
       said = said;
       ended = ended;
@@ -102,6 +102,7 @@ serves contents IsRun N order End before after p q said ended is run l there hol
       left = λ works. leaves before after (accepted_in said) (counted_in said)
           (subst (λ h. StandsAt (store_of before) h (begun (repository_of (store_of before)))) (sym holder) (there works))
           (subst (λ xs. WentAt stands_alone clock_alone left_alone honest_alone before after (accepted_in xs) (counted_in xs)) (sym moving.adds) moving.went);
+      device = device;
     }
 
 -- the writer has failed in a run only where a line was lost
@@ -166,9 +167,9 @@ pub whole : {D : Type 0} {G : Ghosts D} {W : Type 0} (contents : W → Option (L
     → store_of held ≡ store → (¬ HasFailed store → StandsAt store None (begun (repository_of store))) → holder_of held ≡ None → sink_of first ≡ output → is_lost first ≡ false
     → start ≡ [] → before ≡ held → p ≡ first
     → Runs N order start said (HasPrinted contents p) (HasPrinted contents q) End → Moving start said (WentAt stands_alone clock_alone left_alone honest_alone before after)
-    → left ≡ after → report ≡ q → lost ≡ is_lost report → answer ≡ answer_of ended lost → new ≡ store_of left → sink ≡ sink_of report
+    → TellsDevice (store_of before) (store_of after) said (answer_of ended (is_lost q)) → left ≡ after → report ≡ q → lost ≡ is_lost report → answer ≡ answer_of ended lost → new ≡ store_of left → sink ≡ sink_of report
     → (Runs N order [] said IsUnheard IsUnheard End → IsRun said ended) → Whole contents IsRun store new output sink answer
-whole contents IsRun N order End store new output sink held before after left first p q report start said ended lost answer at stands holder out none begins same_mirror same_report run moving left_is report_is lost_is answer_is new_is sink_is is =
+whole contents IsRun N order End store new output sink held before after left first p q report start said ended lost answer at stands holder out none begins same_mirror same_report run moving device left_is report_is lost_is answer_is new_is sink_is is =
     record {
       ran = subst (λ x. Serves IsRun x new (contents output.inner) (contents sink.inner) sink.failed answer) e_store
           (subst (λ x. Serves IsRun (store_of before) x (contents output.inner) (contents sink.inner) sink.failed answer) e_new
@@ -178,7 +179,7 @@ whole contents IsRun N order End store new output sink held before after left fi
           (serves contents IsRun N order End before after p q said ended is run_on fresh_report
           (subst (λ x. ¬ HasFailed x → StandsAt x None (begun (repository_of x))) (sym e_store) stands)
           (ap holder_of same_mirror ∙ holder)
-          (subst (λ x. Moving x said (WentAt stands_alone clock_alone left_alone honest_alone before after)) begins moving))))));
+          (subst (λ x. Moving x said (WentAt stands_alone clock_alone left_alone honest_alone before after)) begins moving) device)))));
       unfailed = subst (λ x. OnOk x (sink.failed ≡ output.failed)) e_answer
           (subst (λ (x : Sink _). OnOk (answer_of ended (is_lost q)) (x.failed ≡ output.failed)) e_sink
           (subst (λ (x : Sink _). OnOk (answer_of ended (is_lost q)) ((sink_of q).failed ≡ x.failed)) e_output (unfailed contents q p (told_in said) ended printed)));

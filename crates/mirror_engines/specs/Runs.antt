@@ -1,21 +1,24 @@
 -- What a run over a mirror's store says, prints and leaves.
-use Rattle.std.specs.Prelude.{◌≡◌, ◌↔◌, ◌==◌, ℕ, Bool, true, false, List, [], Option, None, Result, Ok, Err, if◌then◌else◌}
+use Rattle.std.specs.Prelude.{◌≡◌, ◌↔◌, ◌==◌, ◌≤◌, ℕ, Bool, true, false, List, [], Option, None, Result, Ok, Err, IfErr, if◌then◌else◌}
 use Rattle.fleet_disk.specs.Image.{Image}
 use Rattle.fleet_disk.specs.Rules.{LeavesOnly}
 use Rattle.fleet_disk.specs.declared.disk.Disk.{Ghosts}
 use Rattle.node_base.specs.declared.refusal.Refusal.{Refusal}
-use Rattle.node_base.specs.declared.refusal.Refusal.TheVariants.{PeerFailed, OutOfTurn}
+use Rattle.node_base.specs.declared.refusal.Refusal.TheVariants.{DeviceFailed, Failed, PeerFailed, OutOfTurn}
 use Rattle.node_base.specs.Refusals.{refusal_number}
 use Rattle.repo_store.specs.Words.{disk_of, repository_of, HasFailed}
 use Rattle.repo_store.specs.declared.store.RepoStore.{RepoStore}
+use Rattle.sync_core.specs.Copies.{Refused}
+use Rattle.sync_core.specs.Deeds.{Deed}
 use Rattle.sync_core.specs.Faults.{refusal_of}
 use Rattle.sync_core.specs.Mirror.{Call}
 use Rattle.sync_core.specs.declared.fault.SyncFault.{SyncFault}
 use Rattle.sync_job.specs.Alone.{StandsAt, begun}
+use Rattle.sync_job.specs.Devices.{FailsSince, HasFailedSince}
 use Rattle.sync_job.specs.Fronts.{HasCome, KeepsFront, accepted_in, counted_in}
 use Rattle.sync_job.specs.Mirrors.{MirrorNow}
-use Rattle.sync_job.specs.Runs.{IsSyncRun, IsInitRun, IsCopyRun}
-use Rattle.sync_job.specs.Said.{Spoken, told_in}
+use Rattle.sync_job.specs.Runs.{IsSaid, IsSyncRun, IsInitRun, IsCopyRun}
+use Rattle.sync_job.specs.Said.{Spoken, Says, told_in}
 use Rattle.sync_job.specs.declared.report.Told.{Told}
 use Rattle.mirror_engines.specs.Lines.{IsPrinted}
 use Rattle.mirror_engines.specs.declared.work.Work.{Work}
@@ -43,6 +46,15 @@ pub record Leaves {D : Type 0} {G : Ghosts D} (old new : RepoStore D G) (accepte
   -- a stop at any moment of the run leaves the mirror as it was, or the repository after a front of the calls
   pub any_moment : G.honest (disk_of old) → LeavesOnly G.clock G.left_since (disk_of old) (disk_of new) (KeepsFront (begun (repository_of old)) counted)
 
+-- what a run tells of its mirror's device: it answers 31, or one of its calls was answered so, only where the device has failed in it;
+-- it answers 32, or leaves a store that is broken, only where it has, or had failed before
+pub record TellsDevice {D : Type 0} {G : Ghosts D} (old new : RepoStore D G) (said : List Spoken) (result : Result (Unit {0}) Refusal) : Type 0 where
+  pub later : G.failures (disk_of old) ≤ G.failures (disk_of new)
+  pub device : IfErr result (λ e. e ≡ DeviceFailed → FailsSince old new)
+  pub calls : (d : Deed) (text : List ℕ) → IsSaid (Says d (Refused 31 text)) said → FailsSince old new
+  pub failed : IfErr result (λ e. e ≡ Failed → HasFailedSince old new)
+  pub broken : HasFailed new → HasFailedSince old new
+
 -- a run of a job over a mirror's store: all that was said through its ports, in order, and how the job ended; of what was told the lines that are printed, the answer, and what is left of the mirror
 pub record Serves {D : Type 0} {G : Ghosts D} (IsRun : List Spoken → Result (Unit {0}) SyncFault → Type 0) (old new : RepoStore D G) (before now : Option (List ℕ)) (failed : Bool) (result : Result (Unit {0}) Refusal) : Type 0 where
   pub said : List Spoken
@@ -52,6 +64,7 @@ pub record Serves {D : Type 0} {G : Ghosts D} (IsRun : List Spoken → Result (U
   pub printed : IsPrinted before now failed lost (told_in said)
   pub answer : result ≡ answer_of ended lost
   pub left : ¬ HasFailed old → Leaves old new (accepted_in said) (counted_in said)
+  pub device : TellsDevice old new said result
 
 -- the rules of a run, of which nobody is told
 abbrev pub IsUnheard : Unit {0} → List Told → Type 0

@@ -1,3 +1,4 @@
+pub mod Asking
 pub mod Exits
 pub mod Holders
 pub mod Locks

@@ -1,9 +1,14 @@
 -- A shared mirror as a port.
+use Rattle.std.specs.Prelude.{◌≡◌, List}
+use Rattle.std.specs.List.{AllByRecursion}
 use Rattle.store_share.specs.declared.seat.ReaderSeat.{ReaderSeat}
+use Rattle.sync_job.specs.Asked.{Asked}
 use Rattle.sync_job.specs.Mirrors.{MirrorNow}
 use Rattle.mirror_share.specs.declared.port.SeatMirror.{SeatMirror}
 use Rattle.mirror_share.specs.declared.seat.JobSeat.{JobSeat}
 use Rattle.mirror_share.specs.declared.share.MirrorShare.{MirrorShare}
+use Rattle.mirror_share.specs.Locked.{IsStepOf}
+use Rattle.mirror_share.specs.Seats.{place_of}
 
 -- of no mirror it is known that it stands there: others may call it between the calls of the job
 abbrev pub NowhereStands : MirrorNow → Type 0
@@ -20,3 +25,9 @@ reader_of port = port.reader
 -- the share
 abbrev pub share_of : {R L D : Type 0} {r : _} {g : _} → SeatMirror R L D r g → MirrorShare L D r g
 share_of port = port.share.now
+
+-- since the port was as the first, at the same share and seat, these calls were made, each a step of the share's book
+pub record WasAsked {R L D : Type 0} {r : _} {g : _} (now first : SeatMirror R L D r g) (calls : List Asked) : Type 0 where
+  pub share : share_of now ≡ share_of first
+  pub seat : place_of (seat_of now) ≡ place_of (seat_of first)
+  pub steps : AllByRecursion (λ a. IsStepOf (share_of first) (place_of (seat_of first)) a.call a.result) calls

@@ -1,12 +1,12 @@
 //! A shared mirror as the port of a job.
-ghost use Rattle.std.specs.Prelude.{◌≡◌, ◌≤◌, ◌⊎◌, ◌↔◌, ℕ, Some, IfOk, IfErr, OnOk};
+ghost use Rattle.std.specs.Prelude.{◌≡◌, ◌≤◌, ◌↔◌, ◌++◌, ◌∷◌, [], ℕ, List, Some, IfOk, IfErr, OnOk};
 ghost use Rattle.std.specs.Option.{option_map};
-ghost use Rattle.node_base.specs.declared.refusal.Refusal.TheVariants as refusal;
 ghost use Rattle.repo_core.specs.Repository.{tree_at};
 ghost use Rattle.store_share.specs.Seats.{known_by, seen_by};
 ghost use Rattle.sync_core.specs.Calls.{call_of};
-ghost use Rattle.sync_core.specs.declared.fault.SyncFault.TheVariants as fault;
+ghost use Rattle.sync_job.specs.Asked.{Asked, asked_as};
 ghost use Rattle.sync_job.specs.Mirrors.{MirrorNow, IsFit, Moves, Stays};
+ghost use Rattle.sync_job.specs.Telling.{IsTreeFault};
 ghost use Rattle.mirror_share.specs.Refused.{IsRefusalOf};
 ghost use Rattle.mirror_share.specs.Seen.{HasSeenCommit, HasSeenHead};
 
@@ -69,7 +69,7 @@ impl<'a, R: Wait, L: RowName, D: Disk> SeatMirror<'a, R, L, D> {
 impl<R: Wait, L: RowName, D: Disk> MirrorPort for SeatMirror<'_, R, L, D> {
     ghost use Rattle.std.specs.Prelude.{ℕ};
     ghost use Rattle.mirror_share.specs.Locked.{IsStepOf};
-    ghost use Rattle.mirror_share.specs.Ports.{reader_of, seat_of, share_of, NowhereStands};
+    ghost use Rattle.mirror_share.specs.Ports.{reader_of, seat_of, share_of, NowhereStands, WasAsked};
     ghost use Rattle.mirror_share.specs.Seats.{place_of};
 
     ghost stands = { λ _ m. NowhereStands m };
@@ -81,6 +81,8 @@ impl<R: Wait, L: RowName, D: Disk> MirrorPort for SeatMirror<'_, R, L, D> {
     ghost clock = { λ _. 0 };
 
     ghost left_since = { λ _ _ _. ⊥ };
+
+    ghost asked = { λ now first calls. WasAsked now first calls };
 
     ghost kept_now = { λ port m image honest stands left. absurd honest };
 
@@ -101,6 +103,8 @@ impl<R: Wait, L: RowName, D: Disk> MirrorPort for SeatMirror<'_, R, L, D> {
         ensures honest { ⊥ ↔ ⊥ }
         ensures moves { (m : MirrorNow) → NowhereStands m → Moves NowhereStands (λ _. 0) (λ _ _ _. ⊥) ⊥ self.old self.new
             m (place_of (seat_of self.old)) (call_of call.now) result }
+        ensures asked { (first : _) (calls : List Asked) → WasAsked self.old first calls
+            → WasAsked self.new first (calls ++ asked_as (call_of call.now) result ∷ []) }
     {
         self.share
             .step_by(self.rt, alloc, &self.seat, &mut self.reader, call)
@@ -113,13 +117,15 @@ impl<R: Wait, L: RowName, D: Disk> MirrorPort for SeatMirror<'_, R, L, D> {
         ensures seen { seen_by (reader_of self.old) ≤ seen_by (reader_of self.new) }
         ensures kept { (r : ℕ) → r ≤ seen_by (reader_of self.old)
             → known_by (reader_of self.new) r ≡ known_by (reader_of self.old) r }
-        ensures refused { IfErr result (λ f. (f ≡ fault.Other refusal.NoSuchRevision) ⊎ (f ≡ fault.OutOfMemory)) }
+        ensures refused { IfErr result IsTreeFault }
         ensures seat { place_of (seat_of self.new) ≡ place_of (seat_of self.old) }
         ensures honest { ⊥ ↔ ⊥ }
         ensures tree { (m : MirrorNow) → NowhereStands m → IfOk result
             (λ t. tree_at m.repository.revisions number ≡ Some t) }
         ensures stays { (m : MirrorNow) → NowhereStands m → Stays NowhereStands (λ _. 0) (λ _ _ _. ⊥) ⊥ self.old self.new
             m }
+        ensures asked { (first : _) (calls : List Asked) → WasAsked self.old first calls
+            → WasAsked self.new first calls }
     {
         if self.reader.seen() < number {
             let _newest = self.share.latest(self.rt, &mut self.reader);

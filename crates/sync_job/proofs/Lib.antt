@@ -1,4 +1,5 @@
 pub mod Causes
+pub mod Devices
 pub mod Endings
 pub mod Fronts
 pub mod Nearer
@@ -7,4 +8,5 @@ pub mod Releases
 pub mod Rounds
 pub mod Saids
 pub mod Stores
+pub mod Telling
 pub mod Worlds

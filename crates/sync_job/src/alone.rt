@@ -1,5 +1,5 @@
 //! A mirror held alone.
-ghost use Rattle.std.specs.Prelude.{◌≡◌, ◌↔◌, None, IfOk};
+ghost use Rattle.std.specs.Prelude.{◌≡◌, ◌↔◌, ◌∷◌, [], None, IfOk};
 ghost use Rattle.fleet_disk.specs.Image.{Image};
 ghost use Rattle.repo_store.specs.Journal.{Keeps};
 ghost use Rattle.repo_store.specs.Words.{disk_of, repository_of, revisions_of, HasFailed};
@@ -7,6 +7,8 @@ ghost use Rattle.sync_core.specs.Calls.{call_of};
 ghost use Rattle.sync_core.specs.Mirror.{mirror_with};
 ghost use Rattle.sync_core.specs.Plans.{IsToWrite};
 ghost use Rattle.sync_job.specs.Alone.{StandsAt, Moved, begun, holder_of, store_of};
+ghost use Rattle.sync_job.specs.Asked.{asked_as};
+ghost use Rattle.sync_job.specs.Devices.{WasAsked};
 ghost use Rattle.sync_job.specs.Mirrors.{MirrorNow, IsFit};
 
 use crate::faults::fault_of;
@@ -76,6 +78,7 @@ impl<D: Disk + Drop> AloneMirror<D> {
         ensures honest { D.honest (disk_of self.old.store) ↔ D.honest (disk_of self.new.store) }
         ensures moved { (m : MirrorNow) → StandsAt self.old.store self.old.holder m
             → Moved self.old.store self.new.store self.old.holder self.new.holder (call_of call.now) result m }
+        ensures asked { WasAsked self.new.store self.old.store (asked_as (call_of call.now) result ∷ []) }
     {
         let staged = match self.store.stage(alloc, entry) {
             Ok(staged) => staged,
@@ -94,6 +97,7 @@ impl<D: Disk + Drop> AloneMirror<D> {
 impl<D: Disk + Drop> MirrorPort for AloneMirror<D> {
     ghost use Rattle.repo_store.specs.Words.{disk_of};
     ghost use Rattle.sync_job.specs.Alone.{StandsAt};
+    ghost use Rattle.sync_job.specs.Devices.{WasAsked};
 
     ghost stands = { λ a m. StandsAt a.store a.holder m };
 
@@ -104,6 +108,8 @@ impl<D: Disk + Drop> MirrorPort for AloneMirror<D> {
     ghost clock = { λ a. D.clock (disk_of a.store) };
 
     ghost left_since = { λ a t image. D.left_since (disk_of a.store) t image };
+
+    ghost asked = { λ now first calls. WasAsked now.store first.store calls };
 
     ghost kept_now = { λ a m image honest stands left. stands.images honest image
         (D.only_now (disk_of a.store) image honest left) };

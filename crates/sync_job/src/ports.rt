@@ -17,6 +17,7 @@ ghost use Rattle.sync_core.specs.World.{Origin, map_at, moment_of};
 ghost use Rattle.sync_core.specs.World.{Makes as MakesTree};
 ghost use Rattle.sync_job.specs.Rooms.{IsReady, KeepsRoom};
 ghost use Rattle.sync_job.specs.Said.{Acted, Fits, IsQuestion, Tells, told_of};
+ghost use Rattle.sync_job.specs.Telling.{IsOther, KeepsTelling};
 ghost use Rattle.sync_job.specs.Worlds.{IsAnswerAt, Happens, TakesTrees};
 
 use crate::master::{MasterFault, MasterPort};
@@ -95,6 +96,8 @@ impl<M: MasterPort + Drop, N: MirrorPort + Drop, R: Report + Drop> JobPorts<M, N
         ensures mirror { WentAt N.stands N.clock N.left_since N.honest (mirror_of self.old) (mirror_of self.new)
             (accepted_by (deed_of action.now) (outcome_of result))
             (counted_by (deed_of action.now) (outcome_of result)) }
+        ensures asked { KeepsTelling N.asked (mirror_of self.old) (mirror_of self.new) (calls_of self.old)
+            (calls_of self.new) }
         ensures happens { Happens (M.is_at (master_of self.old)) (M.is_at (master_of self.new))
             (N.stands (mirror_of self.old)) (N.stands (mirror_of self.new)) (N.seat (mirror_of self.old))
             (N.seat (mirror_of self.new)) (deed_of action.now) result trees.old.items trees.new.items }
@@ -119,6 +122,8 @@ impl<M: MasterPort + Drop, N: MirrorPort + Drop, R: Report + Drop> JobPorts<M, N
         ensures mirror { WentAt N.stands N.clock N.left_since N.honest (mirror_of self.old) (mirror_of self.new)
             (accepted_by (Calls (call_of call.now)) (outcome_of result))
             (counted_by (Calls (call_of call.now)) (outcome_of result)) }
+        ensures asked { KeepsTelling N.asked (mirror_of self.old) (mirror_of self.new) (calls_of self.old)
+            (calls_of self.new) }
         ensures happens { (trees : List PathMap) → Happens (M.is_at (master_of self.old)) (M.is_at (master_of self.new))
             (N.stands (mirror_of self.old)) (N.stands (mirror_of self.new)) (N.seat (mirror_of self.old))
             (N.seat (mirror_of self.new)) (Calls (call_of call.now)) result trees trees }
@@ -220,6 +225,8 @@ impl<M: MasterPort + Drop, N: MirrorPort + Drop, R: Report + Drop> JobPorts<M, N
             (R.heard (report_of self.old)) (R.heard (report_of self.new)) }
         ensures mirror { WentAt N.stands N.clock N.left_since N.honest (mirror_of self.old) (mirror_of self.new)
             (accepted_by AsksIdentity (outcome_of result)) (counted_by AsksIdentity (outcome_of result)) }
+        ensures asked { KeepsTelling N.asked (mirror_of self.old) (mirror_of self.new) (calls_of self.old)
+            (calls_of self.new) }
         ensures happens { (trees : List PathMap) → Happens (M.is_at (master_of self.old)) (M.is_at (master_of self.new))
             (N.stands (mirror_of self.old)) (N.stands (mirror_of self.new)) (N.seat (mirror_of self.old))
             (N.seat (mirror_of self.new)) AsksIdentity result trees trees }
@@ -240,6 +247,8 @@ impl<M: MasterPort + Drop, N: MirrorPort + Drop, R: Report + Drop> JobPorts<M, N
             (R.heard (report_of self.new)) }
         ensures mirror { WentAt N.stands N.clock N.left_since N.honest (mirror_of self.old) (mirror_of self.new)
             (accepted_by AsksLatest (outcome_of result)) (counted_by AsksLatest (outcome_of result)) }
+        ensures asked { KeepsTelling N.asked (mirror_of self.old) (mirror_of self.new) (calls_of self.old)
+            (calls_of self.new) }
         ensures happens { (trees : List PathMap) → Happens (M.is_at (master_of self.old)) (M.is_at (master_of self.new))
             (N.stands (mirror_of self.old)) (N.stands (mirror_of self.new)) (N.seat (mirror_of self.old))
             (N.seat (mirror_of self.new)) AsksLatest result trees trees }
@@ -260,6 +269,8 @@ impl<M: MasterPort + Drop, N: MirrorPort + Drop, R: Report + Drop> JobPorts<M, N
             (R.heard (report_of self.old)) (R.heard (report_of self.new)) }
         ensures mirror { WentAt N.stands N.clock N.left_since N.honest (mirror_of self.old) (mirror_of self.new)
             (accepted_by (Fetches number) (outcome_of result)) (counted_by (Fetches number) (outcome_of result)) }
+        ensures asked { KeepsTelling N.asked (mirror_of self.old) (mirror_of self.new) (calls_of self.old)
+            (calls_of self.new) }
         ensures happens { Happens (M.is_at (master_of self.old)) (M.is_at (master_of self.new))
             (N.stands (mirror_of self.old)) (N.stands (mirror_of self.new)) (N.seat (mirror_of self.old))
             (N.seat (mirror_of self.new)) (Fetches number) result trees.old.items trees.new.items }
@@ -289,6 +300,8 @@ impl<M: MasterPort + Drop, N: MirrorPort + Drop, R: Report + Drop> JobPorts<M, N
         ensures mirror { WentAt N.stands N.clock N.left_since N.honest (mirror_of self.old) (mirror_of self.new)
             (accepted_by (FetchesProps number) (outcome_of result))
             (counted_by (FetchesProps number) (outcome_of result)) }
+        ensures asked { KeepsTelling N.asked (mirror_of self.old) (mirror_of self.new) (calls_of self.old)
+            (calls_of self.new) }
         ensures happens { (trees : List PathMap) → Happens (M.is_at (master_of self.old)) (M.is_at (master_of self.new))
             (N.stands (mirror_of self.old)) (N.stands (mirror_of self.new)) (N.seat (mirror_of self.old))
             (N.seat (mirror_of self.new)) (FetchesProps number) result trees trees }
@@ -314,6 +327,8 @@ impl<M: MasterPort + Drop, N: MirrorPort + Drop, R: Report + Drop> JobPorts<M, N
             (R.heard (report_of self.new))) }
         ensures mirror { WentAt N.stands N.clock N.left_since N.honest (mirror_of self.old) (mirror_of self.new) [] [] }
         ensures master { master_of self.new ≡ master_of self.old }
+        ensures asked { KeepsTelling N.asked (mirror_of self.old) (mirror_of self.new) (calls_of self.old)
+            (calls_of self.new) }
         ensures trees { TakesTrees (N.stands (mirror_of self.old)) (N.stands (mirror_of self.new))
             (N.seat (mirror_of self.old)) (N.seat (mirror_of self.new)) trees.old.items trees.new.items result }
         ensures many { result ≡ None → number ≤ length trees.new.items }
@@ -345,6 +360,8 @@ impl<M: MasterPort + Drop, N: MirrorPort + Drop, R: Report + Drop> JobPorts<M, N
             (R.heard (report_of self.new))) }
         ensures mirror { WentAt N.stands N.clock N.left_since N.honest (mirror_of self.old) (mirror_of self.new) [] [] }
         ensures master { master_of self.new ≡ master_of self.old }
+        ensures asked { KeepsTelling N.asked (mirror_of self.old) (mirror_of self.new) (calls_of self.old)
+            (calls_of self.new) }
         ensures trees { TakesTrees (N.stands (mirror_of self.old)) (N.stands (mirror_of self.new))
             (N.seat (mirror_of self.old)) (N.seat (mirror_of self.new)) trees.old.items trees.new.items result }
         ensures one { result ≡ None → length trees.new.items ≡ length trees.old.items + 1 }
@@ -400,7 +417,8 @@ fn twice(alloc: Global, answer: Answer) -> (Answer, Answer)
 
 // The same of a fault.
 fn fault_twice(alloc: Global, fault: SyncFault) -> (SyncFault, SyncFault)
-    ensures { refused_as result.0 ≡ refused_as result.1 }
+    ensures same { refused_as result.0 ≡ refused_as result.1 }
+    ensures fault { (result.1 ≡ fault) ⊎ (result.1 ≡ NoMemory) }
 {
     match fault.copy(alloc) {
         Ok(kept) => (kept, fault),
@@ -411,6 +429,7 @@ fn fault_twice(alloc: Global, fault: SyncFault) -> (SyncFault, SyncFault)
 // The master's fault as an answer.
 fn failed(alloc: Global, fault: MasterFault) -> Answer
     ensures can { CanBe result }
+    ensures other { IsOther (outcome_of result) }
     ensures fits { (d : Deed) → IsQuestion d → Fits d result }
     ensures at { (o : Origin) (d : Deed) → IsQuestion d → IsAnswerAt o d result }
 {
@@ -422,6 +441,7 @@ fn failed(alloc: Global, fault: MasterFault) -> Answer
 
 fn identity_answer(alloc: Global, answer: Result<PropValue, MasterFault>) -> Answer
     ensures can { CanBe result }
+    ensures other { IsOther (outcome_of result) }
     ensures fits { Fits AsksIdentity result }
     ensures at { (o : Origin) → IfOk answer (λ v. v ≡ o.identity) → IsAnswerAt o AsksIdentity result }
 {
@@ -433,6 +453,7 @@ fn identity_answer(alloc: Global, answer: Result<PropValue, MasterFault>) -> Ans
 
 fn latest_answer(alloc: Global, answer: Result<RevNo, MasterFault>) -> Answer
     ensures can { CanBe result }
+    ensures other { IsOther (outcome_of result) }
     ensures fits { Fits AsksLatest result }
     ensures at { (o : Origin) → IfOk answer (λ n. n ≡ length o.trees - 1) → IsAnswerAt o AsksLatest result }
 {
@@ -451,6 +472,7 @@ fn revision_answer(
     answer: Result<(ChangeSet, Props), MasterFault>,
 ) -> Answer
     ensures can { CanBe result }
+    ensures other { IsOther (outcome_of result) }
     ensures fits { Fits (Fetches number) result }
     ensures at { (o : Origin) → IfOk answer (λ r. MakesTree o number r.0 × (map_at o (moment_of o) number ≡ Some r.1))
         → IsAnswerAt o (Fetches number) result }
@@ -464,6 +486,7 @@ fn revision_answer(
 
 fn map_answer(alloc: Global, number: RevNo, answer: Result<Props, MasterFault>) -> Answer
     ensures can { CanBe result }
+    ensures other { IsOther (outcome_of result) }
     ensures fits { Fits (FetchesProps number) result }
     ensures at { (o : Origin) → IfOk answer (λ p. map_at o (moment_of o) number ≡ Some p)
         → IsAnswerAt o (FetchesProps number) result }

@@ -10,6 +10,7 @@ ghost use Rattle.sync_job.specs.Words.{calls_of, master_of, mirror_of, report_of
 ghost use Rattle.sync_job.specs.Worlds.{Happens, IsEvents};
 ghost use Rattle.sync_core.specs.Jobs.{Order, begun};
 ghost use Rattle.sync_job.specs.Rooms.{IsReady, IsUnlocked, KeepsRoom};
+ghost use Rattle.sync_job.specs.Telling.{KeepsTelling};
 ghost use Rattle.sync_job.specs.Runs.{Ran, answer_to, IsSyncRun, IsInitRun, IsCopyRun};
 
 use crate::master::MasterPort;
@@ -33,6 +34,8 @@ pub fn run_sync<M: MasterPort + Drop, N: MirrorPort + Drop, R: Report + Drop>(
         (R.heard (report_of ports.new)) result }
     ensures mirror { Moving (calls_of ports.old) (calls_of ports.new)
         (WentAt N.stands N.clock N.left_since N.honest (mirror_of ports.old) (mirror_of ports.new)) }
+    ensures asked { KeepsTelling N.asked (mirror_of ports.old) (mirror_of ports.new) (calls_of ports.old)
+        (calls_of ports.new) }
     ensures world { IsEvents (M.is_at (master_of ports.old)) (M.is_at (master_of ports.new))
         (N.stands (mirror_of ports.old)) (N.stands (mirror_of ports.new)) (N.seat (mirror_of ports.old)) }
 {
@@ -51,6 +54,8 @@ pub fn run_init<M: MasterPort + Drop, N: MirrorPort + Drop, R: Report + Drop>(
         (R.heard (report_of ports.new)) result }
     ensures mirror { Moving (calls_of ports.old) (calls_of ports.new)
         (WentAt N.stands N.clock N.left_since N.honest (mirror_of ports.old) (mirror_of ports.new)) }
+    ensures asked { KeepsTelling N.asked (mirror_of ports.old) (mirror_of ports.new) (calls_of ports.old)
+        (calls_of ports.new) }
     ensures world { IsEvents (M.is_at (master_of ports.old)) (M.is_at (master_of ports.new))
         (N.stands (mirror_of ports.old)) (N.stands (mirror_of ports.new)) (N.seat (mirror_of ports.old)) }
 {
@@ -71,6 +76,8 @@ pub fn run_copy_revprops<M: MasterPort + Drop, N: MirrorPort + Drop, R: Report +
         (R.heard (report_of ports.new)) result }
     ensures mirror { Moving (calls_of ports.old) (calls_of ports.new)
         (WentAt N.stands N.clock N.left_since N.honest (mirror_of ports.old) (mirror_of ports.new)) }
+    ensures asked { KeepsTelling N.asked (mirror_of ports.old) (mirror_of ports.new) (calls_of ports.old)
+        (calls_of ports.new) }
     ensures world { IsEvents (M.is_at (master_of ports.old)) (M.is_at (master_of ports.new))
         (N.stands (mirror_of ports.old)) (N.stands (mirror_of ports.new)) (N.seat (mirror_of ports.old)) }
 {
@@ -101,6 +108,8 @@ fn run_job<M: MasterPort + Drop, N: MirrorPort + Drop, R: Report + Drop>(
         (R.heard (report_of ports.new)) result }
     ensures mirror { Moving (calls_of ports.old) (calls_of ports.new)
         (WentAt N.stands N.clock N.left_since N.honest (mirror_of ports.old) (mirror_of ports.new)) }
+    ensures asked { KeepsTelling N.asked (mirror_of ports.old) (mirror_of ports.new) (calls_of ports.old)
+        (calls_of ports.new) }
     ensures world { (order : Order) → Follows (begun order) state
         → IsEvents (M.is_at (master_of ports.old)) (M.is_at (master_of ports.new))
         (N.stands (mirror_of ports.old)) (N.stands (mirror_of ports.new)) (N.seat (mirror_of ports.old)) }
@@ -139,6 +148,8 @@ fn next<M: MasterPort + Drop, N: MirrorPort + Drop, R: Report + Drop>(
     ensures mirror { IfSome result
         (λ a. WentAt N.stands N.clock N.left_since N.honest (mirror_of ports.old) (mirror_of ports.new)
         (accepted_by (deed_in state.now) (outcome_of a)) (counted_by (deed_in state.now) (outcome_of a))) }
+    ensures asked { KeepsTelling N.asked (mirror_of ports.old) (mirror_of ports.new) (calls_of ports.old)
+        (calls_of ports.new) }
     ensures goes { IfSome result (λ _. deed_in state.now ≢ Ends) }
     ensures master { result ≡ None → master_of ports.new ≡ master_of ports.old }
     ensures happens { IfSome result (λ a. Happens (M.is_at (master_of ports.old)) (M.is_at (master_of ports.new))

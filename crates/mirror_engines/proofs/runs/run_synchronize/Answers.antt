@@ -1,7 +1,9 @@
 use Rattle.sync_core.specs.Jobs.{Initialise, Sync, CopyProps}
-use Rattle.sync_job.specs.Runs.{IsCopying, IsZero, IsWithin, EndsSync, EndsInit, EndsCopy}
+use Rattle.sync_job.specs.Runs.{IsCopying, IsZero, IsWithin, EndsSync, EndsInit, EndsCopy, no_number}
 use Rattle.sync_job.specs.Words.{calls_of, mirror_of, report_of}
+use Rattle.mirror_engines.specs.Ports.{is_lost}
 use Rattle.mirror_engines.specs.Runs.{IsCopied, IsInitialised, IsSynchronised}
+use Rattle.mirror_engines.proofs.Devices.{tells_device, sync_ends}
 use Rattle.mirror_engines.proofs.Running.{whole}
 use Rattle.mirror_engines.proofs.runs.run_synchronize.Goals as goal
 
@@ -12,6 +14,8 @@ returns g c =
     (calls_of c.new-ports.result) (calls_of c.run_sync-ended.new.ports) c.run_sync-ended.result c.is_lost.result c.answer_of-answer.result
     c.held.ensures.store c.held.ensures.stands c.held.ensures.holder c.new.ensures.sink c.new.ensures.lost
     c.new-ports.ensures.calls c.new-ports.ensures.parts.1 c.new-ports.ensures.parts.2
-    c.run_sync-ended.ensures.run c.run_sync-ended.ensures.mirror c.into_parts-master.ensures.1 c.into_parts-master.ensures.2
+    c.run_sync-ended.ensures.run c.run_sync-ended.ensures.mirror
+    (tells_device IsCopying no_number (Sync c.args.token c.args.steal) (EndsSync (Sync c.args.token c.args.steal) c.run_sync-ended.result) (mirror_of c.new-ports.result) (mirror_of c.run_sync-ended.new.ports) (calls_of c.new-ports.result) (calls_of c.run_sync-ended.new.ports) c.run_sync-ended.result (is_lost (report_of c.run_sync-ended.new.ports)) _ _ c.new-ports.ensures.calls c.run_sync-ended.ensures.run (λ es. sync_ends (Sync c.args.token c.args.steal) c.run_sync-ended.result es) c.run_sync-ended.ensures.asked)
+    c.into_parts-master.ensures.1 c.into_parts-master.ensures.2
     c.is_lost.ensures c.answer_of-answer.ensures c.into_store.ensures c.into_sink.ensures (λ r. r) in
     record { ran = w.ran; unfailed = w.unfailed; peer = w.peer }

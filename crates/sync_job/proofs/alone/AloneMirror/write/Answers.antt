@@ -2,6 +2,7 @@ use Rattle.std.proofs.Common.{subst}
 use Rattle.repo_store.specs.Changes.{IsTaken, IsBroken}
 use Rattle.repo_store.specs.Words.{disk_of}
 use Rattle.sync_core.specs.Calls.{call_of}
+use Rattle.sync_job.proofs.Devices.{asked_broken, asked_unstaged, asked_written}
 use Rattle.sync_job.proofs.Stores.{not_staged, written, doubtful}
 use Rattle.sync_job.proofs.alone.AloneMirror.write.Goals as goal
 
@@ -13,3 +14,12 @@ returns-in-Ok-install-clause-moved g c = λ m s. written c.args.self.now.store c
 
 pub returns-in-Err-install-clause-moved : goal.returns-in-Err-install-clause-moved
 returns-in-Err-install-clause-moved g c = λ m s. doubtful c.args.self.now.store c.stage.new.self c.install.new.self c.args.self.now.holder (call_of c.args.call.now) c.args.entry c.in-Ok.staged c.in-Err-install.fault c.fault_of-in-Err-install.result m s c.requires.planned c.in-Ok.ensures.stages (subst (λ e. IsBroken e c.stage.new.self c.install.new.self c.in-Err-install.fault) c.in-Ok.ensures.stages.says c.in-Err-install.ensures.installed) c.fault_of-in-Err-install.ensures
+
+pub returns-in-Err-clause-asked : goal.returns-in-Err-clause-asked
+returns-in-Err-clause-asked g c = asked_unstaged c.args.self.now.store c.stage.new.self (call_of c.args.call.now) _ _ _ c.fault_of.result c.in-Err.ensures.stages c.fault_of.ensures
+
+pub returns-in-Ok-install-clause-asked : goal.returns-in-Ok-install-clause-asked
+returns-in-Ok-install-clause-asked g c = asked_written c.args.self.now.store c.stage.new.self c.install.new.self (call_of c.args.call.now) _ _ _ _ _ c.in-Ok.ensures.stages c.in-Ok-install.ensures.installed
+
+pub returns-in-Err-install-clause-asked : goal.returns-in-Err-install-clause-asked
+returns-in-Err-install-clause-asked g c = asked_broken c.args.self.now.store c.stage.new.self c.install.new.self (call_of c.args.call.now) _ _ _ _ c.in-Err-install.fault c.fault_of-in-Err-install.result c.in-Ok.ensures.stages c.in-Err-install.ensures.installed

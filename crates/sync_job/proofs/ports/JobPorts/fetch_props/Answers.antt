@@ -1,0 +1,14 @@
+use Rattle.std.proofs.Common.{ap, map, refl}
+use Rattle.sync_core.specs.Deeds.{FetchesProps}
+use Rattle.sync_job.specs.Said.{spoken}
+use Rattle.sync_job.specs.Words.{calls_of, mirror_of}
+use Rattle.sync_job.proofs.Telling.{asks_master, says_none}
+use Rattle.sync_job.proofs.ports.JobPorts.fetch_props.Goals as goal
+
+pub returns-then-is_err-clause-asked : goal.returns-then-is_err-clause-asked
+returns-then-is_err-clause-asked g c = says_none g.N.MirrorPort.asked (mirror_of c.args.self.now) (mirror_of c.args.self.now) (calls_of c.args.self.now) _ refl (ap (map spoken) c.reserve.ensures.items)
+
+pub returns-clause-asked : goal.returns-clause-asked
+returns-clause-asked g c =
+    asks_master g.N.MirrorPort.asked (mirror_of c.args.self.now) (FetchesProps c.args.number) _ c.map_answer-answer.result c.twice-first.result.0 c.twice-first.result.1 c.args.self.now.calls.items c.reserve.new.self.items c.push_reserved.new.self.items
+    tt refl c.map_answer-answer.ensures.other c.twice-first.ensures.same c.twice-first.ensures.answer c.reserve.ensures.items c.push_reserved.ensures.items
