@@ -41,7 +41,7 @@ use sync_core::Token;
 use uuid::Uuid;
 
 /// What the program is told to do.
-#[derive(Debug, Drop)]
+#[derive(Drop)]
 pub enum Command {
     /// Print the newest tree of a dump.
     List,
@@ -105,7 +105,7 @@ pub struct Service {
 }
 
 /// What is done over a mirror and its source.
-#[derive(Debug, Drop)]
+#[derive(Drop)]
 pub enum Task {
     /// Make it the mirror of the source.
     Initialize,
@@ -116,7 +116,7 @@ pub enum Task {
 }
 
 /// What is to be done over a mirror whose source is on a server, on a port of 127.0.0.1.
-#[derive(Debug, Drop)]
+#[derive(Drop)]
 pub struct Pull {
     /// The folder of the mirror.
     pub mirror: String,
@@ -151,7 +151,7 @@ enum Place {
 }
 
 /// Why the words name no command.
-#[derive(Debug, Drop)]
+#[derive(Drop)]
 pub enum Usage {
     /// Help or the version was asked for: the text for standard output.
     Shown(String),
