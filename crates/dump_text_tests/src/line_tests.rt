@@ -7,18 +7,18 @@ use std::process::Abort;
 
 // Whether lines behind the version block are refused with this number.
 fn is_judged(rt: &impl Abort, alloc: Global, lines: &str, number: u32) -> bool {
-    let mut bytes = Vec::from_slice(alloc, b"SVN-fs-dump-format-version: 2\n\n").expect(rt, "memory");
-    bytes.extend_from_slice(lines.as_bytes()).expect(rt, "memory");
+    let mut bytes = Vec::from_slice(alloc, b"SVN-fs-dump-format-version: 2\n\n").expect(
+        rt, "memory",
+    );
+    bytes
+        .extend_from_slice(lines.as_bytes())
+        .expect(rt, "memory");
     let (_, found) = answer(alloc, bytes.as_slice(), 4096);
     found == number
 }
 
 // The first lines that aren't refused with the number beside them.
-fn first_other<'a>(
-    rt: &impl Abort,
-    alloc: Global,
-    table: &'a [(&'a str, u32)],
-) -> Option<&'a str> {
+fn first_other<'a>(rt: &impl Abort, alloc: Global, table: &'a [(&'a str, u32)]) -> Option<&'a str> {
     for (lines, number) in table {
         if !is_judged(rt, alloc, lines, *number) {
             return Some(*lines);
