@@ -2,84 +2,82 @@
 
 use crate::piece_tests::{answer, gives};
 use dump_text::{DumpFault, DumpReader};
-use std::alloc::{AllocError, Global};
-
-// The refusal of lines behind the version block.
-fn refusal(alloc: Global, lines: &str) -> Result<u32, AllocError> {
-    let mut bytes = b"SVN-fs-dump-format-version: 2\n\n".to_vec(alloc)?;
-    bytes.extend_from_slice(lines.as_bytes())?;
-    Ok(answer(alloc, bytes.as_slice(), 4096).1)
-}
+use std::alloc::Global;
+use std::process::Abort;
 
 // Whether lines behind the version block are refused with this number.
-fn is_judged(alloc: Global, lines: &str, number: u32) -> bool {
-    refusal(alloc, lines) == Ok(number)
+fn is_judged(rt: &impl Abort, alloc: Global, lines: &str, number: u32) -> bool {
+    let mut bytes = Vec::from_slice(alloc, b"SVN-fs-dump-format-version: 2\n\n").expect(
+        rt, "memory",
+    );
+    bytes
+        .extend_from_slice(lines.as_bytes())
+        .expect(rt, "memory");
+    let (_, found) = answer(alloc, bytes.as_slice(), 4096);
+    found == number
 }
+
+// The first lines that aren't refused with the number beside them.
+fn first_other<'a>(rt: &impl Abort, alloc: Global, table: &'a [(&'a str, u32)]) -> Option<&'a str> {
+    for (lines, number) in table {
+        if !is_judged(rt, alloc, lines, *number) {
+            return Some(*lines);
+        }
+    }
+    None
+}
+
+const HEADER_LINES: [(&str, u32); 14] = [
+    ("Revision-number: 1\nRevision-number: x\n", 2),
+    ("Revision-number:1\n", 2),
+    ("Node-kind: link\n", 2),
+    ("Node-action: modify\n", 2),
+    ("Text-content-md5: 00\n", 2),
+    ("Text-delta: false\nText-delta: true\n", 2),
+    ("UUID: 6a1f0c3e000040008000000000000001\n", 2),
+    ("Revision-number: 18446744073709551617\n", 3),
+    ("Revision-number: 65536\n", 3),
+    ("Node-path: a/../b\n", 10),
+    ("Node-path: //a\n", 10),
+    ("Node-copyfrom-path: a//b\n", 10),
+    ("Text-delta: true\n", 9),
+    ("X-y: 1\nX-y: 1\n", 7),
+];
 
 #[test]
 fn header_lines_are_judged(rt: HostRuntime) {
-    assert!(rt; is_judged(rt.alloc(), "Revision-number: 1\nRevision-number: x\n", 2));
-    assert!(rt; is_judged(rt.alloc(), "Revision-number:1\n", 2));
-    assert!(rt; is_judged(rt.alloc(), "Node-kind: link\n", 2));
-    assert!(rt; is_judged(rt.alloc(), "Node-action: modify\n", 2));
-    assert!(rt; is_judged(rt.alloc(), "Text-content-md5: 00\n", 2));
-    assert!(rt; is_judged(rt.alloc(), "Text-delta: false\nText-delta: true\n", 2));
-    assert!(rt; is_judged(rt.alloc(), "UUID: 6a1f0c3e000040008000000000000001\n", 2));
-    assert!(rt; is_judged(rt.alloc(), "Revision-number: 18446744073709551617\n", 3));
-    assert!(rt; is_judged(rt.alloc(), "Revision-number: 65536\n", 3));
-    assert!(rt; is_judged(rt.alloc(), "Node-path: a/../b\n", 10));
-    assert!(rt; is_judged(rt.alloc(), "Node-path: //a\n", 10));
-    assert!(rt; is_judged(rt.alloc(), "Node-copyfrom-path: a//b\n", 10));
-    assert!(rt; is_judged(rt.alloc(), "Text-delta: true\n", 9));
-    assert!(rt; is_judged(rt.alloc(), "X-y: 1\nX-y: 1\n", 7));
+    assert!(rt; first_other(&rt, rt.alloc(), &HEADER_LINES).is_none());
 }
+
+const EMPTY_LINES: [(&str, u32); 8] = [
+    ("Node-path: a\nNode-action: add\n\n", 2),
+    ("Revision-number: 1\nProp-delta: true\n\n", 2),
+    (
+        "Revision-number: 1\n\nNode-path: a\nNode-action: change\nNode-copyfrom-rev: 1\nNode-copyfrom-path: b\n\n",
+        2,
+    ),
+    (
+        "Revision-number: 1\n\nUUID: 6a1f0c3e-0000-4000-8000-000000000001\n\n",
+        2,
+    ),
+    (
+        "Revision-number: 1\nProp-content-length: 33554433\nContent-length: 9\n\n",
+        4,
+    ),
+    (
+        "Revision-number: 1\nProp-content-length: 33554433\nContent-length: 33554433\n\n",
+        8,
+    ),
+    ("Revision-number: 1\nProp-content-length: 0\n\n", 5),
+    (
+        "Revision-number: 1\nProp-content-length: 30\n\nPROPS-END\n",
+        5,
+    ),
+];
 
 #[test]
 fn empty_lines_judge(rt: HostRuntime) {
-    assert!(rt; is_judged(rt.alloc(), "Node-path: a\nNode-action: add\n\n", 2));
-    assert!(rt; is_judged(rt.alloc(), "Revision-number: 1\nProp-delta: true\n\n", 2));
-    assert!(rt;
-        is_judged(
-            rt.alloc(),
-            "Revision-number: 1\n\nNode-path: a\nNode-action: change\nNode-copyfrom-rev: 1\nNode-copyfrom-path: b\n\n",
-            2
-        )
-    );
-    assert!(rt;
-        is_judged(
-            rt.alloc(),
-            "Revision-number: 1\n\nUUID: 6a1f0c3e-0000-4000-8000-000000000001\n\n",
-            2
-        )
-    );
-    assert!(rt;
-        is_judged(
-            rt.alloc(),
-            "Revision-number: 1\nProp-content-length: 33554433\nContent-length: 9\n\n",
-            4
-        )
-    );
-    assert!(rt;
-        is_judged(
-            rt.alloc(),
-            "Revision-number: 1\nProp-content-length: 33554433\nContent-length: 33554433\n\n",
-            8
-        )
-    );
-    assert!(rt;
-        is_judged(
-            rt.alloc(),
-            "Revision-number: 1\nProp-content-length: 0\n\n",
-            5
-        )
-    );
-    assert!(rt;
-        is_judged(
-            rt.alloc(),
-            "Revision-number: 1\nProp-content-length: 30\n\nPROPS-END\n",
-            5
-        )
-    );
+    assert!(rt; first_other(&rt, rt.alloc(), &EMPTY_LINES).is_none());
 }
 
 // Whether bytes are refused with this number before any record.

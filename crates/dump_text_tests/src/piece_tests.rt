@@ -4,7 +4,32 @@ ghost use Rattle.std.specs.Prelude.{◌<◌};
 
 use dump_text::{DumpReader, DumpRecord, RevRecord, write_head, write_revision};
 use std::alloc::Global;
-use std::test::Fail;
+use std::process::Abort;
+
+// The number of the first refusal of bytes in pieces of a size, or 0.
+fn first_refusal(
+    reader: &mut DumpReader,
+    out: &mut Vec<DumpRecord>,
+    bytes: &[u8],
+    size: usize,
+) -> u32
+    requires { 0 < size }
+{
+    for piece in bytes.chunks(size) {
+        if let Err(fault) = reader.feed(piece, out) {
+            return fault.number();
+        }
+    }
+    0
+}
+
+// The number of the refusal at the end, or 0.
+fn end_of(reader: DumpReader) -> u32 {
+    match reader.finish() {
+        Ok(()) => 0,
+        Err(fault) => fault.number(),
+    }
+}
 
 // What a reader says of bytes in pieces of a size: the records that came, and the number of the refusal or 0.
 pub(crate) fn answer(alloc: Global, bytes: &[u8], size: usize) -> (usize, u32)
@@ -12,15 +37,9 @@ pub(crate) fn answer(alloc: Global, bytes: &[u8], size: usize) -> (usize, u32)
 {
     let mut reader = DumpReader::new(alloc);
     let mut out = Vec::new(alloc);
-    for piece in bytes.chunks(size) {
-        if let Err(fault) = reader.feed(piece, &mut out) {
-            return (out.len(), fault.number());
-        }
-    }
-    match reader.finish() {
-        Ok(()) => (out.len(), 0),
-        Err(fault) => (out.len(), fault.number()),
-    }
+    let fed = first_refusal(&mut reader, &mut out, bytes, size);
+    let ended = end_of(reader);
+    (out.len(), if fed == 0 { ended } else { fed })
 }
 
 // Two revisions, the second with a copy.
@@ -115,111 +134,88 @@ fn each_truncation_answers_the_same_byte_by_byte(rt: HostRuntime) {
     }
 }
 
-// What a reader says of a front in one piece and the rest byte by byte: the records that came, and the number of the
-// refusal or 0.
+// The number of the first refusal of a front in one piece and the rest byte by byte, or 0.
+fn refusal_behind(
+    reader: &mut DumpReader,
+    out: &mut Vec<DumpRecord>,
+    front: &[u8],
+    rest: &[u8],
+) -> u32 {
+    match reader.feed(front, out) {
+        Ok(()) => first_refusal(reader, out, rest, 1),
+        Err(fault) => fault.number(),
+    }
+}
+
+// What a reader says of these: the records that came, and the number of the refusal or 0.
 fn answer_from(alloc: Global, front: &[u8], rest: &[u8]) -> (usize, u32) {
     let mut reader = DumpReader::new(alloc);
     let mut out = Vec::new(alloc);
-    if let Err(fault) = reader.feed(front, &mut out) {
-        return (out.len(), fault.number());
-    }
-    for piece in rest.chunks(1) {
-        if let Err(fault) = reader.feed(piece, &mut out) {
-            return (out.len(), fault.number());
-        }
-    }
-    match reader.finish() {
-        Ok(()) => (out.len(), 0),
-        Err(fault) => (out.len(), fault.number()),
-    }
+    let fed = refusal_behind(&mut reader, &mut out, front, rest);
+    let ended = end_of(reader);
+    (out.len(), if fed == 0 { ended } else { fed })
 }
 
-// Whether each change of a byte to one of these values is answered the same in one piece and byte by byte from there
-// on.
-fn changes_agree(alloc: Global, values: &[u8]) -> Result<bool, Fail> {
-    let mut dump = two_revisions().to_vec(alloc)?;
-    for at in 0..dump.len() {
-        for value in values {
-            let old = change(&mut dump, at, *value);
-            let (front, rest) = dump.as_slice().split_at(at.min(dump.len()));
-            if answer(alloc, dump.as_slice(), 4096) != answer_from(alloc, front, rest) {
-                return Ok(false);
+// Whether a change of one byte is answered the same in one piece and byte by byte from there on.
+fn agrees_with(rt: &impl Abort, alloc: Global, at: usize, value: u8) -> bool {
+    let mut dump = Vec::from_slice(alloc, two_revisions()).expect(rt, "memory");
+    if let Some(place) = dump.get_mut(at) {
+        *place = value;
+    }
+    let (front, rest) = dump.as_slice().split_at(at.min(dump.len()));
+    answer(alloc, dump.as_slice(), 4096) == answer_from(alloc, front, rest)
+}
+
+// The place and the value of the first change of a byte, to one of 32 values, that isn't.
+fn wrong_change(rt: &impl Abort, alloc: Global, first: u8) -> Option<(usize, u8)> {
+    for at in 0..two_revisions().len() {
+        for value in first..=first.saturating_add(31) {
+            if !agrees_with(rt, alloc, at, value) {
+                return Some((at, value));
             }
-            change(&mut dump, at, old);
         }
     }
-    Ok(true)
-}
-
-// Puts a byte, and gives the one that stood there.
-fn change(bytes: &mut Vec<u8>, at: usize, value: u8) -> u8 {
-    match bytes.get_mut(at) {
-        Some(byte) => std::mem::replace(byte, value),
-        None => value,
-    }
-}
-
-// The bytes from the first to the last.
-fn values(alloc: Global, first: u8, last: u8) -> Result<Vec<u8>, Fail> {
-    let mut all = Vec::new(alloc);
-    for value in first..=last {
-        all.push(value)?;
-    }
-    Ok(all)
-}
-
-// Whether each change of a byte to one of 32 values is answered the same both ways.
-fn agrees_from(alloc: Global, first: u8) -> Result<bool, Fail> {
-    let values = values(alloc, first, first.saturating_add(31))?;
-    changes_agree(alloc, values.as_slice())
+    None
 }
 
 #[test]
-fn each_change_of_a_byte_agrees_from_0(rt: HostRuntime) -> Result<(), Fail> {
-    assert!(rt; agrees_from(rt.alloc(), 0)?);
-    Ok(())
+fn each_change_of_a_byte_agrees_from_0(rt: HostRuntime) {
+    assert!(rt; wrong_change(&rt, rt.alloc(), 0).is_none());
 }
 
 #[test]
-fn each_change_of_a_byte_agrees_from_32(rt: HostRuntime) -> Result<(), Fail> {
-    assert!(rt; agrees_from(rt.alloc(), 32)?);
-    Ok(())
+fn each_change_of_a_byte_agrees_from_32(rt: HostRuntime) {
+    assert!(rt; wrong_change(&rt, rt.alloc(), 32).is_none());
 }
 
 #[test]
-fn each_change_of_a_byte_agrees_from_64(rt: HostRuntime) -> Result<(), Fail> {
-    assert!(rt; agrees_from(rt.alloc(), 64)?);
-    Ok(())
+fn each_change_of_a_byte_agrees_from_64(rt: HostRuntime) {
+    assert!(rt; wrong_change(&rt, rt.alloc(), 64).is_none());
 }
 
 #[test]
-fn each_change_of_a_byte_agrees_from_96(rt: HostRuntime) -> Result<(), Fail> {
-    assert!(rt; agrees_from(rt.alloc(), 96)?);
-    Ok(())
+fn each_change_of_a_byte_agrees_from_96(rt: HostRuntime) {
+    assert!(rt; wrong_change(&rt, rt.alloc(), 96).is_none());
 }
 
 #[test]
-fn each_change_of_a_byte_agrees_from_128(rt: HostRuntime) -> Result<(), Fail> {
-    assert!(rt; agrees_from(rt.alloc(), 128)?);
-    Ok(())
+fn each_change_of_a_byte_agrees_from_128(rt: HostRuntime) {
+    assert!(rt; wrong_change(&rt, rt.alloc(), 128).is_none());
 }
 
 #[test]
-fn each_change_of_a_byte_agrees_from_160(rt: HostRuntime) -> Result<(), Fail> {
-    assert!(rt; agrees_from(rt.alloc(), 160)?);
-    Ok(())
+fn each_change_of_a_byte_agrees_from_160(rt: HostRuntime) {
+    assert!(rt; wrong_change(&rt, rt.alloc(), 160).is_none());
 }
 
 #[test]
-fn each_change_of_a_byte_agrees_from_192(rt: HostRuntime) -> Result<(), Fail> {
-    assert!(rt; agrees_from(rt.alloc(), 192)?);
-    Ok(())
+fn each_change_of_a_byte_agrees_from_192(rt: HostRuntime) {
+    assert!(rt; wrong_change(&rt, rt.alloc(), 192).is_none());
 }
 
 #[test]
-fn each_change_of_a_byte_agrees_from_224(rt: HostRuntime) -> Result<(), Fail> {
-    assert!(rt; agrees_from(rt.alloc(), 224)?);
-    Ok(())
+fn each_change_of_a_byte_agrees_from_224(rt: HostRuntime) {
+    assert!(rt; wrong_change(&rt, rt.alloc(), 224).is_none());
 }
 
 // A canonical dump with an identity, a copy and a deletion.
@@ -285,52 +281,55 @@ Node-action: delete
 
 // Writes the identity, and puts each revision with its nodes.
 fn take(
+    rt: &impl Abort,
     alloc: Global,
     record: DumpRecord,
     written: &mut Vec<u8>,
     revisions: &mut Vec<RevRecord>,
-) -> Result<(), Fail> {
+) {
     match record {
-        DumpRecord::Identity(uuid) => write_head(written, Some(&uuid))?,
-        DumpRecord::Revision(number, props) => revisions.push(RevRecord {
-            number,
-            props,
-            nodes: Vec::new(alloc),
-        })?,
+        DumpRecord::Identity(uuid) => write_head(written, Some(&uuid)).expect(rt, "memory"),
+        DumpRecord::Revision(number, props) => {
+            let nodes = Vec::new(alloc);
+            let revision = RevRecord {
+                number,
+                props,
+                nodes,
+            };
+            revisions.push(revision).expect(rt, "memory");
+        }
         DumpRecord::Node(node) => {
             if let Some(last) = revisions.last_mut() {
-                last.nodes.push(node)?;
+                last.nodes.push(node).expect(rt, "memory");
             }
         }
     }
-    Ok(())
 }
 
 // The records of the canonical dump.
-fn records(alloc: Global) -> Result<Vec<DumpRecord>, Fail> {
+fn records(rt: &impl Abort, alloc: Global) -> Vec<DumpRecord> {
     let mut reader = DumpReader::new(alloc);
     let mut records = Vec::new(alloc);
-    reader.feed(canonical(), &mut records)?;
-    reader.finish()?;
-    Ok(records)
+    reader.feed(canonical(), &mut records).expect(rt, "a dump");
+    reader.finish().expect(rt, "a whole dump");
+    records
 }
 
-// These records, written again.
-fn written(alloc: Global, records: Vec<DumpRecord>) -> Result<Vec<u8>, Fail> {
+// The canonical dump, read and written again.
+fn written(rt: &impl Abort, alloc: Global) -> Vec<u8> {
     let mut written = Vec::new(alloc);
     let mut revisions = Vec::new(alloc);
-    for record in records {
-        take(alloc, record, &mut written, &mut revisions)?;
+    for record in records(rt, alloc) {
+        take(rt, alloc, record, &mut written, &mut revisions);
     }
     for revision in &revisions {
-        write_revision(&mut written, revision)?;
+        write_revision(&mut written, revision).expect(rt, "memory");
     }
-    Ok(written)
+    written
 }
 
 #[test]
-fn canonical_bytes_are_written_again(rt: HostRuntime) -> Result<(), Fail> {
-    let again = written(rt.alloc(), records(rt.alloc())?)?;
+fn canonical_bytes_are_written_again(rt: HostRuntime) {
+    let again = written(&rt, rt.alloc());
     assert!(rt; again.as_slice() == canonical());
-    Ok(())
 }

@@ -24,7 +24,7 @@ use Rattle.fleet_main.specs.Doing.{IsOpenedIn}
 use Rattle.fleet_main.specs.Lending.{IsGiven}
 use Rattle.fleet_main.specs.Loans.{AreBack, Each, Loan, TakesBack, lent_by, only_of}
 use Rattle.fleet_main.specs.Opening.{NotOpened, NotOpenedIn, nameless, no_disk, no_memory, unopened}
-use Rattle.fleet_main.specs.Twice.{first_twice}
+use Rattle.command_words.specs.Twice.{first_twice}
 use Rattle.fleet_main.specs.declared.lending.Folders.{Ghosts as FolderGhosts}
 use Rattle.fleet_main.proofs.Doing.{KeptThen, kept_opened}
 use Rattle.fleet_main.proofs.Loans.{none_lent, one_more_back}

@@ -2,13 +2,8 @@ pub mod Above
 pub mod Brought
 pub mod Doing
 pub mod Dumping
-pub mod Lines
 pub mod Loans
 pub mod Mirroring
 pub mod Opening
 pub mod Pulled
-pub mod Refusing
 pub mod Served
-pub mod Showing
-pub mod Sources
-pub mod Spelled

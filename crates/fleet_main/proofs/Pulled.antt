@@ -14,7 +14,7 @@ use Rattle.svn_client.specs.Runs.{RunsFrom, RunsOver, Unreached, Reached, Unopen
 use Rattle.fleet_main.specs.Doing.{IsOpenedIn, IsWorkedOver, NotWorkedOn, NotWorkedOver, OfStanding, UnopenedOr, WorkedOn}
 use Rattle.fleet_main.specs.Loans.{TakesBack}
 use Rattle.fleet_main.specs.Pulling.{NotKeptFor, NotPulledOn, NotPulledOver, work_as}
-use Rattle.fleet_main.specs.declared.command_line.Task.{Task}
+use Rattle.command_words.specs.declared.command_line.Task.{Task}
 use Rattle.fleet_main.specs.declared.lending.Folders.{Ghosts as FolderGhosts}
 use Rattle.fleet_main.proofs.Doing.{KeptThen, kept_opened, standing}
 use Rattle.fleet_main.proofs.Mirroring.{or_second, worked_done, worked_refused, worked_rules}

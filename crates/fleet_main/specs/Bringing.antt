@@ -18,7 +18,7 @@ use Rattle.fleet_shares.specs.declared.stores.FleetStores.{FleetStores}
 use Rattle.fleet_main.specs.Doing.{IsKept, IsOpenedOn}
 use Rattle.fleet_main.specs.Loans.{AreBack, Each, Loan, only_of}
 use Rattle.fleet_main.specs.Opening.{NotOpened, NotOpenedIn}
-use Rattle.fleet_main.specs.declared.fleet_words.Fleet.{Fleet}
+use Rattle.command_words.specs.declared.fleet_words.Fleet.{Fleet}
 use Rattle.fleet_main.specs.declared.lending.Folders.{Ghosts as FolderGhosts}
 
 -- what came of a folder: no repository was opened there, on no disk or on one that came back; or one was, on the disk that was lent, and what store came back

@@ -35,8 +35,8 @@ use Rattle.mirror_engines.specs.Runs.{answer_of, IsCopied, IsInitialised, IsSync
 use Rattle.fleet_main.specs.Loans.{AreBack, IsLent, Loan, lent_by, only_of}
 use Rattle.fleet_main.specs.Opening.{NotBegunIn, NotOpened, NotOpenedIn}
 use Rattle.fleet_main.specs.declared.lending.Folders.{Ghosts as FolderGhosts}
-use Rattle.fleet_main.specs.declared.command_line.Command.{Command}
-use Rattle.fleet_main.specs.declared.command_line.Command.TheVariants.{List as ListIt, Canon, Create, Load, Dump, MakeDir, Initialize, Synchronize, CopyRevprops, Info}
+use Rattle.command_words.specs.declared.command_line.Command.{Command}
+use Rattle.command_words.specs.declared.command_line.Command.TheVariants.{List as ListIt, Canon, Create, Load, Dump, MakeDir, Initialize, Synchronize, CopyRevprops, Info}
 
 -- a store is opened on a disk that a folder lent, and that keeps the rules if the folders do
 pub record IsOpenedOn {D : Type 0} (G : Ghosts D) (honest : Type 0) (given : D) (store : RepoStore D G) : Type 0 where

@@ -4,13 +4,7 @@ pub mod Doing
 pub mod Host
 pub mod Laws
 pub mod Lending
-pub mod Lines
 pub mod Loans
 pub mod Opening
 pub mod Pulling
 pub mod Serving
-pub mod Terminal
-pub mod Twice
-pub mod Usages
-pub mod Values
-pub mod Words

@@ -14,9 +14,9 @@ use Rattle.svn_client.specs.Runs.{IsUnreached, TellsMaster}
 use Rattle.fleet_main.specs.Doing.{IsKept, IsWorkedOver, NotKept, NotWorkedOn, NotWorkedOver, OfStanding, UnopenedOr}
 use Rattle.fleet_main.specs.Loans.{AreBack}
 use Rattle.fleet_main.specs.declared.lending.Folders.{Ghosts as FolderGhosts}
-use Rattle.fleet_main.specs.declared.command_line.Pull.{Pull}
-use Rattle.fleet_main.specs.declared.command_line.Task.{Task}
-use Rattle.fleet_main.specs.declared.command_line.Task.TheVariants as task
+use Rattle.command_words.specs.declared.command_line.Pull.{Pull}
+use Rattle.command_words.specs.declared.command_line.Task.{Task}
+use Rattle.command_words.specs.declared.command_line.Task.TheVariants as task
 
 -- the work that a task is over a source of that URL
 abbrev pub work_as : List ℕ → Task → Work

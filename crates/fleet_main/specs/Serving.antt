@@ -10,7 +10,7 @@ use Rattle.svn_server.specs.Served.{IsOfStore}
 use Rattle.fleet_main.specs.Doing.{IsKept, IsOpenedOn}
 use Rattle.fleet_main.specs.Lending.{There, IsGiven, OthersStay}
 use Rattle.fleet_main.specs.Opening.{NotOpenedIn}
-use Rattle.fleet_main.specs.declared.command_line.Service.{Service}
+use Rattle.command_words.specs.declared.command_line.Service.{Service}
 use Rattle.fleet_main.specs.declared.lending.Folders.{Ghosts as FolderGhosts}
 
 -- a store is opened on a folder's disk, P is so of it, and as it began a stop left what keeps its repository. Then clients may have changed it: the folder has a store's disk, of which a stop leaves what the store keeps, and other folders stay

@@ -12,12 +12,12 @@ ghost use Rattle.fleet_shares.specs.Told.{AreTold};
 ghost use Rattle.fleet_main.specs.Bringing.{AreBrought, IsFleetRun, IsSomeRun, NotBrought, NotFleetRun, OfFleet};
 ghost use Rattle.fleet_main.specs.Doing.{EndsWith, HandsOn};
 ghost use Rattle.fleet_main.specs.Loans.{TakesBack};
-ghost use Rattle.fleet_main.specs.Twice.{first_twice};
+ghost use Rattle.command_words.specs.Twice.{first_twice};
 
 use crate::execute::refused;
-use crate::fleet_words::Fleet;
 use crate::folders::{closed, opened};
 use crate::lending::Folders;
+use command_words::Fleet;
 use fleet_disk::Disk;
 use fleet_engines::Sink;
 use fleet_shares::{Answered, FleetStores, Unheld, answer_lines, are_done, run_fleet};

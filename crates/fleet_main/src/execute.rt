@@ -13,9 +13,9 @@ ghost use Rattle.fleet_main.specs.Doing.{OfStanding, OverSource, UnopenedBoth, U
 ghost use Rattle.fleet_main.specs.Loans.{AreBack};
 ghost use Rattle.fleet_main.specs.Opening.{NotBegunIn};
 
-use crate::command_line::Command;
 use crate::folders::{closed, created, opened};
 use crate::lending::Folders;
+use command_words::Command;
 use fleet_disk::Disk;
 use fleet_engines::{Sink, Source, run_canon, run_list};
 use mirror_engines::{Work, run_info, run_work};

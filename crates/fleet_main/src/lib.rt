@@ -1,4 +1,4 @@
-//! The program's command line, and each command from its words to its status.
+//! Each command of the program, from what its words ask for to its status.
 //!
 //! ```text
 //! fill_streams(&mut HostDescriptors::new(&rt))?;
@@ -13,19 +13,16 @@
 //! }
 //! ```
 //!
-//! `plan` gives the command, the server or the fleet that the words name, with the values that they spell, or else says what is
-//! wrong with them; it shows a text only where help or the version was asked for. The status of `run` is 0 only where
-//! the command is done and what it wrote is handed on, and 1 with the refusal's line; of a folder whose disk keeps the
-//! rules it says what was there before, what the command made of it, and what a stop leaves. So does `pull`, of a mirror
-//! whose source is on a server, and so do `serve` and `fleet`, up to where the serving or the runs begin: these two start
-//! threads and wait.
+//! `plan` and what it gives are those of `command_words`. The status of `run` is 0 only where the command is done and
+//! what it wrote is handed on, and 1 with the refusal's line; of a folder whose disk keeps the rules it says what was
+//! there before, what the command made of it, and what a stop leaves. So does `pull`, of a mirror whose source is on a
+//! server, and so do `serve` and `fleet`, up to where the serving or the runs begin: these two start threads and wait.
 #![tactic(auto)]
 
 pub use bringing::fleet;
-pub use command_line::{Command, Planned, Pull, Service, Task, Usage, plan};
+pub use command_words::{Command, Fleet, Planned, Pull, Service, Task, Usage, plan};
 pub use execute::run;
 pub use fleet_engines::{Sink, Source};
-pub use fleet_words::Fleet;
 pub use folders::HostFolders;
 pub use lending::{FolderFault, Folders};
 pub use pulling::pull;
@@ -34,16 +31,10 @@ pub use store_engines::RevRange;
 pub use streams::{Descriptors, HostDescriptors, fill_streams};
 
 mod bringing;
-mod command_line;
 mod execute;
-mod fleet_named;
-mod fleet_words;
 mod folders;
-mod help;
 pub mod law;
 mod lending;
 mod pulling;
 mod serving;
 mod streams;
-mod terminal;
-mod texts;

@@ -8,10 +8,10 @@ ghost use Rattle.mirror_engines.specs.Runs.{IsWorked};
 ghost use Rattle.fleet_main.specs.Doing.{EndsWith, HandsOn, IsWorkedOver, OfStanding, UnopenedOr, WorkedOn};
 ghost use Rattle.fleet_main.specs.Pulling.{IsPulled, NotKeptFor, NotPulled, NotPulledOn, NotPulledOver, work_as};
 
-use crate::command_line::{Pull, Task};
 use crate::execute::{refused, url_of};
 use crate::folders::{closed, opened};
 use crate::lending::Folders;
+use command_words::{Pull, Task};
 use fleet_disk::Disk;
 use fleet_engines::Sink;
 use mirror_engines::Work;

@@ -12,10 +12,10 @@ ghost use Rattle.repo_store.specs.Journal.{Keeps};
 ghost use Rattle.fleet_main.specs.Doing.{EndsWith, HandsOn};
 ghost use Rattle.fleet_main.specs.Serving.{IsServedFrom, IsServerFault, NotServedFrom, NotServedIn, OfServed};
 
-use crate::command_line::Service;
 use crate::execute::refused;
 use crate::folders::opened;
 use crate::lending::Folders;
+use command_words::Service;
 use fleet_disk::Disk;
 use fleet_engines::Sink;
 use node_base::Refusal;

@@ -271,23 +271,24 @@ fn all_closed(count: usize) -> Counts {
     }
 }
 
+// Whether a drive of so many calls, which opens so many things, is given up where its editor refuses any one of them, and
+// not where it refuses none.
+fn is_counted(alloc: Global, bytes: &[u8], calls: usize, opened: usize) -> bool {
+    let mut refused = all_closed(opened);
+    refused.refused = 1;
+    let mut ended = all_closed(opened);
+    ended.ended = 1;
+    each_call_may_be_refused(alloc, bytes, calls)
+        && counted(alloc, bytes, false, calls.saturating_sub(1)) == (15, refused)
+        && counted(alloc, bytes, false, calls) == (0, ended)
+}
+
 #[test]
 fn a_refused_call_is_the_last_one(rt: HostRuntime) {
     let alloc = rt.alloc();
-    let cases: [(&[u8], usize, usize); 3] = [
-        (FULL, 20, 5),
-        (b"( target-rev ( 2 ) ) ( finish-replay ( ) ) ", 4, 1),
-        (b"( close-edit ( ) ) ( finish-replay ( ) ) ", 3, 1),
-    ];
-    for (bytes, calls, opened) in cases {
-        assert!(rt; each_call_may_be_refused(alloc, bytes, calls));
-        let mut wanted = all_closed(opened);
-        wanted.refused = 1;
-        assert!(rt; counted(alloc, bytes, false, calls.saturating_sub(1)) == (15, wanted));
-        wanted.refused = 0;
-        wanted.ended = 1;
-        assert!(rt; counted(alloc, bytes, false, calls) == (0, wanted));
-    }
+    assert!(rt; is_counted(alloc, FULL, 20, 5));
+    assert!(rt; is_counted(alloc, b"( target-rev ( 2 ) ) ( finish-replay ( ) ) ", 4, 1));
+    assert!(rt; is_counted(alloc, b"( close-edit ( ) ) ( finish-replay ( ) ) ", 3, 1));
 }
 
 // Whether any beginning of a drive is given up, where the input ends or where the reader fails behind it.
@@ -308,56 +309,63 @@ fn what_is_open_is_discarded_where_a_drive_stops(rt: HostRuntime) {
     assert!(rt; fronts_are_given_up(rt.alloc(), FULL));
 }
 
+// Drives, the number of each refusal, and how many things had been opened and closed by then.
+const DISCARDED: [(&[u8], u8, usize, usize); 8] = [
+    (b"( close-dir ( 1:r ) ) ", 46, 0, 0),
+    (
+        b"( open-root ( ( ) 1:r ) ) ( finish-replay ( ) ) ",
+        46,
+        1,
+        0,
+    ),
+    (b"( open-root ( ( ) 1:r ) ) ( frob ( ) ) ", 48, 1, 0),
+    (
+        b"( open-root ( ( ) 1:r ) ) ( open-dir ( 1:d 1:r 1:d ( ) ) ) ( open-file ( 3:d/f 1:d 1:f ( ) ) ) ( close-dir ( 1:r ) ) ",
+        46,
+        3,
+        0,
+    ),
+    (
+        b"( open-root ( ( ) 1:r ) ) ( open-file ( 1:f 1:r 1:f ( ) ) ) ( apply-textdelta ( 1:f ( ) ) ) ( finish-replay ( ) ) ",
+        46,
+        2,
+        0,
+    ),
+    (
+        b"( open-root ( ( ) 1:r ) ) ( open-file ( 1:f 1:r 1:f ( ) ) ) ( apply-textdelta ( 1:f ( ) ) ) ( textdelta-chunk ( 1:f 4:SVN\x00 ) ) ( textdelta-end ( 1:f ) ) ( close-file ( 1:f ( 32:b1946ac92492d2347c6235b4d2611184 ) ) ) ",
+        6,
+        2,
+        0,
+    ),
+    (
+        b"( open-root ( ( ) 1:r ) ) ( open-dir ( 1:d 1:r 1:d ( ) ) ) ( close-dir ( 1:d ) ) ( abort-edit ( ) ) ",
+        60,
+        2,
+        1,
+    ),
+    (
+        b"( open-root ( ( ) 1:r ) ) ( close-dir ( 1:r ) ) ( close-edit ( ) ) ( close-edit ( ) ) ",
+        48,
+        1,
+        1,
+    ),
+];
+
+// Whether a drive is refused so, and what is open is discarded once.
+fn is_discarded(alloc: Global, bytes: &[u8], number: u8, opened: usize, closed: usize) -> bool {
+    let wanted = Counts {
+        opened,
+        closed,
+        discarded: opened.saturating_sub(closed),
+        aborted: 1,
+        ..NOTHING
+    };
+    counted(alloc, bytes, false, usize::MAX) == (number, wanted)
+}
+
 #[test]
 fn what_is_open_is_discarded_at_a_refusal(rt: HostRuntime) {
-    let cases: [(&[u8], u8, usize, usize); 8] = [
-        (b"( close-dir ( 1:r ) ) ", 46, 0, 0),
-        (
-            b"( open-root ( ( ) 1:r ) ) ( finish-replay ( ) ) ",
-            46,
-            1,
-            0,
-        ),
-        (b"( open-root ( ( ) 1:r ) ) ( frob ( ) ) ", 48, 1, 0),
-        (
-            b"( open-root ( ( ) 1:r ) ) ( open-dir ( 1:d 1:r 1:d ( ) ) ) ( open-file ( 3:d/f 1:d 1:f ( ) ) ) ( close-dir ( 1:r ) ) ",
-            46,
-            3,
-            0,
-        ),
-        (
-            b"( open-root ( ( ) 1:r ) ) ( open-file ( 1:f 1:r 1:f ( ) ) ) ( apply-textdelta ( 1:f ( ) ) ) ( finish-replay ( ) ) ",
-            46,
-            2,
-            0,
-        ),
-        (
-            b"( open-root ( ( ) 1:r ) ) ( open-file ( 1:f 1:r 1:f ( ) ) ) ( apply-textdelta ( 1:f ( ) ) ) ( textdelta-chunk ( 1:f 4:SVN\x00 ) ) ( textdelta-end ( 1:f ) ) ( close-file ( 1:f ( 32:b1946ac92492d2347c6235b4d2611184 ) ) ) ",
-            6,
-            2,
-            0,
-        ),
-        (
-            b"( open-root ( ( ) 1:r ) ) ( open-dir ( 1:d 1:r 1:d ( ) ) ) ( close-dir ( 1:d ) ) ( abort-edit ( ) ) ",
-            60,
-            2,
-            1,
-        ),
-        (
-            b"( open-root ( ( ) 1:r ) ) ( close-dir ( 1:r ) ) ( close-edit ( ) ) ( close-edit ( ) ) ",
-            48,
-            1,
-            1,
-        ),
-    ];
-    for (bytes, number, opened, closed) in cases {
-        let wanted = Counts {
-            opened,
-            closed,
-            discarded: opened.saturating_sub(closed),
-            aborted: 1,
-            ..NOTHING
-        };
-        assert!(rt; counted(rt.alloc(), bytes, false, usize::MAX) == (number, wanted));
+    for (bytes, number, opened, closed) in &DISCARDED {
+        assert!(rt; is_discarded(rt.alloc(), bytes, *number, *opened, *closed));
     }
 }

@@ -7,8 +7,8 @@ use ra_edit::edit_fault::EditFault;
 use ra_edit::receive::receive;
 use ra_edit::wire::WireEditor;
 use std::alloc::Global;
+use std::process::Abort;
 use std::rt::HostRuntime;
-use std::test::Fail;
 
 // A file that is added, with its text.
 const ADDED: &[u8] =
@@ -27,80 +27,68 @@ const NOTHING: &[u8] = b"( target-rev ( 2 ) ) ( finish-replay ( ) ) ";
 const UNCHANGED: &[u8] =
     b"( target-rev ( 2 ) ) ( open-root ( ( ) 2:t0 ) ) ( close-dir ( 2:t0 ) ) ( finish-replay ( ) ) ";
 
-// What a drive comes to: 0 or the number of its refusal, and the commands that it was passed on as up to there.
-#[derive(Drop)]
-struct Outcome {
-    number: u8,
-    written: Vec<u8>,
-}
-
-// What a drive in pieces of a size comes to.
-fn received(alloc: Global, bytes: &[u8], size: usize) -> Outcome {
-    let mut written = Vec::new(alloc);
-    let number = match WireEditor::new(alloc, Failing::never(&mut written)) {
+// What a drive in pieces of a size comes to, 0 or the number of its refusal. The commands that it was passed on as up to
+// there are written.
+fn received(alloc: Global, bytes: &[u8], size: usize, written: &mut Vec<u8>) -> u8 {
+    match WireEditor::new(alloc, Failing::never(written)) {
         Ok(editor) => match receive(alloc, &mut items_from(alloc, bytes, size, false), editor) {
             Ok(_) => 0,
             Err(fault) => fault.number(),
         },
         Err(fault) => fault.number(),
-    };
-    Outcome { number, written }
+    }
 }
 
-// What a drive comes to, where it is the same whole and one byte at a time.
-fn either_way(alloc: Global, bytes: &[u8]) -> Option<Outcome> {
-    let whole = received(alloc, bytes, bytes.len());
-    let single = received(alloc, bytes, 1);
-    if whole.number == single.number && whole.written == single.written {
-        Some(whole)
-    } else {
-        None
-    }
+// The same, where it is the same whole and one byte at a time.
+fn either_way(alloc: Global, bytes: &[u8], written: &mut Vec<u8>) -> Option<u8> {
+    let number = received(alloc, bytes, bytes.len(), written);
+    let mut single = Vec::new(alloc);
+    let same = received(alloc, bytes, 1, &mut single) == number
+        && single.as_slice() == written.as_slice();
+    same.then_some(number)
 }
 
 // Whether bytes give this, whole and one byte at a time.
 fn gives(alloc: Global, bytes: &[u8], number: u8) -> bool {
-    match either_way(alloc, bytes) {
-        Some(found) => found.number == number,
-        None => false,
-    }
+    let mut written = Vec::new(alloc);
+    either_way(alloc, bytes, &mut written) == Some(number)
 }
 
 // Whether a drive is passed on as these commands, whole and one byte at a time.
 fn passes_on(alloc: Global, bytes: &[u8], wanted: &[u8]) -> bool {
-    match either_way(alloc, bytes) {
-        Some(found) => found.number == 0 && found.written.as_slice() == wanted,
-        None => false,
-    }
+    let mut written = Vec::new(alloc);
+    either_way(alloc, bytes, &mut written) == Some(0) && written.as_slice() == wanted
 }
 
-// Whether each of these gives what stands beside it.
-fn all_give(alloc: Global, cases: &[(&[u8], u8)]) -> bool {
-    for (bytes, number) in cases {
+// The place of the first of these that doesn't give what stands beside it.
+fn first_other(alloc: Global, cases: &[(&[u8], u8)]) -> Option<usize> {
+    for (case, (bytes, number)) in cases.iter().enumerate() {
         if !gives(alloc, bytes, *number) {
-            return false;
+            return Some(case);
         }
     }
-    true
+    None
 }
+
+// Drives, and what each is passed on as.
+const PASSED_ON: [(&[u8], &[u8]); 6] = [
+    (ADDED, ADDED),
+    (EMPTY, EMPTY),
+    (COPY, COPY),
+    (NOTHING, UNCHANGED),
+    (
+        b"( close-edit ( ) ) ( finish-replay ( ) ) ",
+        b"( open-root ( ( ) 2:t0 ) ) ( close-dir ( 2:t0 ) ) ( finish-replay ( ) ) ",
+    ),
+    (
+        b"( open-root ( ( ) 1:r ) ) ( open-file ( 1:f 1:r 1:f ( ) x ) ) ( change-dir-prop ( 1:r 1:p ( 1:v ) ) ) ( close-file ( 1:f ( ) ) ) ( close-dir ( 1:r ) ) ( close-edit ( ) ) ( finish-replay ( ) y ) z) ",
+        b"( open-root ( ( ) 2:t0 ) ) ( open-file ( 1:f 2:t0 2:t1 ( ) ) ) ( change-dir-prop ( 2:t0 1:p ( 1:v ) ) ) ( close-file ( 2:t1 ( ) ) ) ( close-dir ( 2:t0 ) ) ( finish-replay ( ) ) ",
+    ),
+];
 
 #[test]
 fn drives_are_received(rt: HostRuntime) {
-    let cases: [(&[u8], &[u8]); 6] = [
-        (ADDED, ADDED),
-        (EMPTY, EMPTY),
-        (COPY, COPY),
-        (NOTHING, UNCHANGED),
-        (
-            b"( close-edit ( ) ) ( finish-replay ( ) ) ",
-            b"( open-root ( ( ) 2:t0 ) ) ( close-dir ( 2:t0 ) ) ( finish-replay ( ) ) ",
-        ),
-        (
-            b"( open-root ( ( ) 1:r ) ) ( open-file ( 1:f 1:r 1:f ( ) x ) ) ( change-dir-prop ( 1:r 1:p ( 1:v ) ) ) ( close-file ( 1:f ( ) ) ) ( close-dir ( 1:r ) ) ( close-edit ( ) ) ( finish-replay ( ) y ) z) ",
-            b"( open-root ( ( ) 2:t0 ) ) ( open-file ( 1:f 2:t0 2:t1 ( ) ) ) ( change-dir-prop ( 2:t0 1:p ( 1:v ) ) ) ( close-file ( 2:t1 ( ) ) ) ( close-dir ( 2:t0 ) ) ( finish-replay ( ) ) ",
-        ),
-    ];
-    for (bytes, wanted) in cases {
+    for (bytes, wanted) in &PASSED_ON {
         assert!(rt; passes_on(rt.alloc(), bytes, wanted));
     }
 }
@@ -126,12 +114,8 @@ fn name_of(call: &Call) -> &'static str {
     }
 }
 
-// Whether a drive in pieces of a size is received as calls of these names.
-fn calls_are(alloc: Global, bytes: &[u8], size: usize, names: &[&str]) -> bool {
-    let mut items = items_from(alloc, bytes, size, false);
-    let Ok(calls) = receive(alloc, &mut items, Recorder::new(alloc)) else {
-        return false;
-    };
+// Whether calls have these names.
+fn are_named(calls: &[Call], names: &[&str]) -> bool {
     for (call, name) in calls.iter().zip(names.iter()) {
         if name_of(call) != *name {
             return false;
@@ -140,152 +124,167 @@ fn calls_are(alloc: Global, bytes: &[u8], size: usize, names: &[&str]) -> bool {
     calls.len() == names.len()
 }
 
-#[test]
-fn calls_come_in_their_order(rt: HostRuntime) {
-    let added: [&str; 9] = [
-        "target",
-        "open_root",
-        "add_file",
-        "text_start",
-        "text_piece",
-        "text_end",
-        "close_file",
-        "close_dir",
-        "close_edit",
-    ];
-    let copied: [&str; 7] = [
-        "target",
-        "open_root",
-        "add_dir",
-        "delete_entry",
-        "close_dir",
-        "close_dir",
-        "close_edit",
-    ];
-    let unchanged: [&str; 4] = ["target", "open_root", "close_dir", "close_edit"];
-    let cases: [(&[u8], &[&str]); 3] = [
-        (ADDED, added.as_slice()),
-        (COPY, copied.as_slice()),
-        (NOTHING, unchanged.as_slice()),
-    ];
-    for (bytes, names) in cases {
-        assert!(rt; calls_are(rt.alloc(), bytes, bytes.len(), names));
-        assert!(rt; calls_are(rt.alloc(), bytes, 1, names));
+// Whether a drive in pieces of a size is received as calls of these names.
+fn calls_are(alloc: Global, bytes: &[u8], size: usize, names: &[&str]) -> bool {
+    let mut items = items_from(alloc, bytes, size, false);
+    match receive(alloc, &mut items, Recorder::new(alloc)) {
+        Ok(calls) => are_named(&calls, names),
+        Err(_) => false,
     }
 }
+
+const ADDED_CALLS: [&str; 9] = [
+    "target",
+    "open_root",
+    "add_file",
+    "text_start",
+    "text_piece",
+    "text_end",
+    "close_file",
+    "close_dir",
+    "close_edit",
+];
+
+const COPY_CALLS: [&str; 7] = [
+    "target",
+    "open_root",
+    "add_dir",
+    "delete_entry",
+    "close_dir",
+    "close_dir",
+    "close_edit",
+];
+
+const NO_CALLS: [&str; 4] = ["target", "open_root", "close_dir", "close_edit"];
+
+#[test]
+fn calls_come_in_their_order(rt: HostRuntime) {
+    let alloc = rt.alloc();
+    assert!(rt; calls_are(alloc, ADDED, ADDED.len(), &ADDED_CALLS));
+    assert!(rt; calls_are(alloc, ADDED, 1, &ADDED_CALLS));
+    assert!(rt; calls_are(alloc, COPY, COPY.len(), &COPY_CALLS));
+    assert!(rt; calls_are(alloc, COPY, 1, &COPY_CALLS));
+    assert!(rt; calls_are(alloc, NOTHING, NOTHING.len(), &NO_CALLS));
+    assert!(rt; calls_are(alloc, NOTHING, 1, &NO_CALLS));
+}
+
+const TOKENS: [(&[u8], u8); 8] = [
+    (
+        b"( open-root ( ( ) 1:r ) ) ( add-dir ( 1:a 1:r 1:r ( ) ) ) ",
+        46,
+    ),
+    (
+        b"( open-root ( ( ) 1:r ) ) ( add-dir ( 1:a 1:r 1:a ( ) ) ) ( close-dir ( 1:r ) ) ",
+        46,
+    ),
+    (b"( open-root ( ( ) 1:r ) ) ( finish-replay ( ) ) ", 46),
+    (b"( open-root ( ( ) 1:r ) ) ( close-edit ( ) ) ", 46),
+    (b"( close-dir ( 1:r ) ) ", 46),
+    (
+        b"( open-root ( ( ) 1:r ) ) ( change-dir-prop ( 1:s 1:p ( ) ) ) ",
+        46,
+    ),
+    (
+        b"( open-root ( ( ) 1:r ) ) ( textdelta-chunk ( 1:r 0: ) ) ",
+        46,
+    ),
+    (
+        b"( open-root ( ( ) 1:r ) ) ( open-file ( 1:f 1:r 1:f ( ) ) ) ( close-dir ( 1:r ) ) ",
+        46,
+    ),
+];
 
 #[test]
 fn tokens_are_refused(rt: HostRuntime) {
-    let cases: [(&[u8], u8); 8] = [
-        (
-            b"( open-root ( ( ) 1:r ) ) ( add-dir ( 1:a 1:r 1:r ( ) ) ) ",
-            46,
-        ),
-        (
-            b"( open-root ( ( ) 1:r ) ) ( add-dir ( 1:a 1:r 1:a ( ) ) ) ( close-dir ( 1:r ) ) ",
-            46,
-        ),
-        (b"( open-root ( ( ) 1:r ) ) ( finish-replay ( ) ) ", 46),
-        (b"( open-root ( ( ) 1:r ) ) ( close-edit ( ) ) ", 46),
-        (b"( close-dir ( 1:r ) ) ", 46),
-        (
-            b"( open-root ( ( ) 1:r ) ) ( change-dir-prop ( 1:s 1:p ( ) ) ) ",
-            46,
-        ),
-        (
-            b"( open-root ( ( ) 1:r ) ) ( textdelta-chunk ( 1:r 0: ) ) ",
-            46,
-        ),
-        (
-            b"( open-root ( ( ) 1:r ) ) ( open-file ( 1:f 1:r 1:f ( ) ) ) ( close-dir ( 1:r ) ) ",
-            46,
-        ),
-    ];
-    assert!(rt; all_give(rt.alloc(), &cases));
+    assert_eq!(rt; first_other(rt.alloc(), &TOKENS), None);
 }
+
+const SHAPES: [(&[u8], u8); 19] = [
+    (b"", 48),
+    (b"( target-rev ( 1 ) ) ( open-root ", 7),
+    (b"( target-rev ( 1 ) ) ) ", 41),
+    (b"( target-rev ( 1 ) ) ", 48),
+    (b"( target-rev ( 1 ) ) ( target-rev ( 1 ) ) ", 48),
+    (b"( target-rev ( 65536 ) ) ", 48),
+    (b"( open-root ( ( ) 1:r ) ) ( open-root ( ( ) 1:s ) ) ", 48),
+    (b"( frob ( ) ) ", 48),
+    (b"( finish-replay ) ", 48),
+    (b"word ", 48),
+    (
+        b"( open-root ( ( ) 1:r ) ) ( delete-entry ( 2:/a ( ) 1:r ) ) ",
+        48,
+    ),
+    (
+        b"( open-root ( ( ) 1:r ) ) ( open-file ( 1:f 1:r 1:f ( ) ) ) ( textdelta-chunk ( 1:f 0: ) ) ",
+        48,
+    ),
+    (
+        b"( open-root ( ( ) 1:r ) ) ( open-file ( 1:f 1:r 1:f ( ) ) ) ( close-file ( 1:f ( 2:00 ) ) ) ",
+        48,
+    ),
+    (b"( close-edit ( ) ) ( close-edit ( ) ) ", 48),
+    (b"( close-edit ( ) ) ( abort-edit ( ) ) ", 48),
+    (b"( open-root ( ( ) 1:r ) ) ( target-rev ( 1 ) ) ", 48),
+    (
+        b"( open-root ( ( ) 1:r ) ) ( open-file ( 1:f 1:r 1:f ( ) ) ) ( textdelta-end ( 1:f ) ) ",
+        48,
+    ),
+    (b"( abort-edit ( ) ) ", 60),
+    (b"( failure ( ( 21 1:x 0: 0 ) ) ) ", 60),
+];
 
 #[test]
 fn shapes_are_refused(rt: HostRuntime) {
-    let cases: [(&[u8], u8); 21] = [
-        (b"", 48),
-        (b"( target-rev ( 1 ) ) ( open-root ", 7),
-        (b"( target-rev ( 1 ) ) ) ", 41),
-        (b"( target-rev ( 1 ) ) ", 48),
-        (b"( target-rev ( 1 ) ) ( target-rev ( 1 ) ) ", 48),
-        (b"( target-rev ( 65536 ) ) ", 48),
-        (b"( open-root ( ( ) 1:r ) ) ( open-root ( ( ) 1:s ) ) ", 48),
-        (b"( frob ( ) ) ", 48),
-        (b"( finish-replay ) ", 48),
-        (b"word ", 48),
-        (
-            b"( open-root ( ( ) 1:r ) ) ( delete-entry ( 2:/a ( ) 1:r ) ) ",
-            48,
-        ),
-        (
-            b"( open-root ( ( ) 1:r ) ) ( open-file ( 1:f 1:r 1:f ( ) ) ) ( textdelta-chunk ( 1:f 0: ) ) ",
-            48,
-        ),
-        (
-            b"( open-root ( ( ) 1:r ) ) ( open-file ( 1:f 1:r 1:f ( ) ) ) ( close-file ( 1:f ( 2:00 ) ) ) ",
-            48,
-        ),
-        (b"( close-edit ( ) ) ( close-edit ( ) ) ", 48),
-        (b"( close-edit ( ) ) ( abort-edit ( ) ) ", 48),
-        (b"( open-root ( ( ) 1:r ) ) ( target-rev ( 1 ) ) ", 48),
-        (
-            b"( open-root ( ( ) 1:r ) ) ( open-file ( 1:f 1:r 1:f ( ) ) ) ( textdelta-end ( 1:f ) ) ",
-            48,
-        ),
-        (ADDED.get(..UNENDED).unwrap_or(b""), 48),
-        (ADDED.get(..ADDED.len().saturating_sub(1)).unwrap_or(b""), 7),
-        (b"( abort-edit ( ) ) ", 60),
-        (b"( failure ( ( 21 1:x 0: 0 ) ) ) ", 60),
-    ];
-    assert!(rt; all_give(rt.alloc(), &cases));
+    assert_eq!(rt; first_other(rt.alloc(), &SHAPES), None);
+    let unended = ADDED.get(..UNENDED).unwrap_or(b"");
+    assert!(rt; gives(rt.alloc(), unended, 48));
+    let cut = ADDED.get(..ADDED.len().saturating_sub(1)).unwrap_or(b"");
+    assert!(rt; gives(rt.alloc(), cut, 7));
 }
 
-// What is given of a file's text, behind its opening.
-fn text_gives(alloc: Global, text: &[u8], number: u8) -> Result<bool, Fail> {
-    let mut bytes =
-        b"( open-root ( ( ) 1:r ) ) ( open-file ( 1:f 1:r 1:f ( ) ) ) ( apply-textdelta ( 1:f ( ) ) ) ".to_vec(
-            alloc,
-        )?;
-    bytes.extend_from_slice(text)?;
-    Ok(gives(alloc, bytes.as_slice(), number))
+// What stands in front of a file's text.
+const OPENED: &[u8] =
+    b"( open-root ( ( ) 1:r ) ) ( open-file ( 1:f 1:r 1:f ( ) ) ) ( apply-textdelta ( 1:f ( ) ) ) ";
+
+// Whether a text behind its opening gives this.
+fn text_gives(rt: &impl Abort, alloc: Global, text: &[u8], number: u8) -> bool {
+    let mut bytes = Vec::from_slice(alloc, OPENED).expect(rt, "memory");
+    bytes.extend_from_slice(text).expect(rt, "memory");
+    gives(alloc, bytes.as_slice(), number)
 }
+
+const TEXTS: [(&[u8], u8); 9] = [
+    (b"( textdelta-chunk ( 1:f 4:SVN\x01 ) ) ", 44),
+    (b"( textdelta-end ( 1:f ) ) ", 44),
+    (
+        b"( textdelta-chunk ( 1:f 6:SVN\x00\x00\x01 ) ) ( textdelta-chunk ( 1:f 3:\x01\x01\x01 ) ) ",
+        45,
+    ),
+    (
+        b"( textdelta-chunk ( 1:f 9:SVN\x00\x00\x00\x86\xa0\x01 ) ) ( textdelta-chunk ( 1:f 2:\x01\x01 ) ) ",
+        8,
+    ),
+    (b"( close-file ( 1:f ( ) ) ) ", 48),
+    (b"( apply-textdelta ( 1:f ( ) ) ) ", 48),
+    (
+        b"( textdelta-chunk ( 1:f 4:SVN\x00 ) ) ( textdelta-end ( 1:f ) ) ( apply-textdelta ( 1:f ( ) ) ) ",
+        48,
+    ),
+    (
+        b"( textdelta-chunk ( 1:f 4:SVN\x00 ) ) ( textdelta-end ( 1:f ) ) ( textdelta-chunk ( 1:f 0: ) ) ",
+        48,
+    ),
+    (
+        b"( textdelta-chunk ( 1:f 4:SVN\x00 ) ) ( textdelta-end ( 1:f ) ) ( close-file ( 1:f ( 32:b1946ac92492d2347c6235b4d2611184 ) ) ) ",
+        6,
+    ),
+];
 
 #[test]
-fn texts_are_refused(rt: HostRuntime) -> Result<(), Fail> {
-    let cases: [(&[u8], u8); 9] = [
-        (b"( textdelta-chunk ( 1:f 4:SVN\x01 ) ) ", 44),
-        (b"( textdelta-end ( 1:f ) ) ", 44),
-        (
-            b"( textdelta-chunk ( 1:f 6:SVN\x00\x00\x01 ) ) ( textdelta-chunk ( 1:f 3:\x01\x01\x01 ) ) ",
-            45,
-        ),
-        (
-            b"( textdelta-chunk ( 1:f 9:SVN\x00\x00\x00\x86\xa0\x01 ) ) ( textdelta-chunk ( 1:f 2:\x01\x01 ) ) ",
-            8,
-        ),
-        (b"( close-file ( 1:f ( ) ) ) ", 48),
-        (b"( apply-textdelta ( 1:f ( ) ) ) ", 48),
-        (
-            b"( textdelta-chunk ( 1:f 4:SVN\x00 ) ) ( textdelta-end ( 1:f ) ) ( apply-textdelta ( 1:f ( ) ) ) ",
-            48,
-        ),
-        (
-            b"( textdelta-chunk ( 1:f 4:SVN\x00 ) ) ( textdelta-end ( 1:f ) ) ( textdelta-chunk ( 1:f 0: ) ) ",
-            48,
-        ),
-        (
-            b"( textdelta-chunk ( 1:f 4:SVN\x00 ) ) ( textdelta-end ( 1:f ) ) ( close-file ( 1:f ( 32:b1946ac92492d2347c6235b4d2611184 ) ) ) ",
-            6,
-        ),
-    ];
-    for (text, number) in cases {
-        assert!(rt; text_gives(rt.alloc(), text, number)?);
+fn texts_are_refused(rt: HostRuntime) {
+    for (text, number) in &TEXTS {
+        assert!(rt; text_gives(&rt, rt.alloc(), text, *number));
     }
-    Ok(())
 }
 
 // Whether a beginning of a drive ends between two items. No string of the drives that are cut has a bracket in it.
@@ -301,15 +300,17 @@ fn is_between(front: &[u8]) -> bool {
     open == 0 && (front.is_empty() || front.ends_with(b" "))
 }
 
-// Whether each beginning of a drive is refused for its end, behind a beginning of what it is passed on as.
+// Whether a beginning of a drive is refused for its end, behind a beginning of what the drive is passed on as.
+fn front_agrees(alloc: Global, bytes: &[u8], front: &[u8]) -> bool {
+    let mut written = Vec::new(alloc);
+    let number = if is_between(front) { 48 } else { 7 };
+    either_way(alloc, front, &mut written) == Some(number) && bytes.starts_with(written.as_slice())
+}
+
+// Whether that is so of each.
 fn fronts_agree(alloc: Global, bytes: &[u8]) -> bool {
     for end in 0..bytes.len() {
-        let front = bytes.get(..end).unwrap_or(b"");
-        let number = if is_between(front) { 48 } else { 7 };
-        let Some(found) = either_way(alloc, front) else {
-            return false;
-        };
-        if found.number != number || !bytes.starts_with(found.written.as_slice()) {
+        if !front_agrees(alloc, bytes, bytes.get(..end).unwrap_or(b"")) {
             return false;
         }
     }
@@ -321,31 +322,36 @@ fn a_drive_that_is_cut_is_refused(rt: HostRuntime) {
     assert!(rt; fronts_agree(rt.alloc(), ADDED) && fronts_agree(rt.alloc(), COPY));
 }
 
-// Whether each change of a byte, to any value, gives the same and is passed on the same, whole and one byte at a time.
-fn changes_agree(alloc: Global, bytes: &[u8]) -> Result<bool, Fail> {
-    let mut changed = bytes.to_vec(alloc)?;
-    for (at, was) in bytes.iter().enumerate() {
-        for b in 0..=u8::MAX {
-            changed[at] = b;
-            if either_way(alloc, &changed).is_none() {
-                return Ok(false);
+// Whether a change of one byte gives the same and is passed on the same, whole and one byte at a time.
+fn agrees_with(rt: &impl Abort, alloc: Global, bytes: &[u8], at: usize, value: u8) -> bool {
+    let mut changed = Vec::from_slice(alloc, bytes).expect(rt, "memory");
+    if let Some(place) = changed.get_mut(at) {
+        *place = value;
+    }
+    let mut written = Vec::new(alloc);
+    either_way(alloc, &changed, &mut written).is_some()
+}
+
+// Whether that is so of each, to any value.
+fn changes_agree(rt: &impl Abort, alloc: Global, bytes: &[u8]) -> bool {
+    for at in 0..bytes.len() {
+        for value in 0..=u8::MAX {
+            if !agrees_with(rt, alloc, bytes, at, value) {
+                return false;
             }
         }
-        changed[at] = *was;
     }
-    Ok(true)
+    true
 }
 
 #[test]
-fn the_cutting_of_a_text_does_not_matter(rt: HostRuntime) -> Result<(), Fail> {
-    assert!(rt; changes_agree(rt.alloc(), ADDED)?);
-    Ok(())
+fn the_cutting_of_a_text_does_not_matter(rt: HostRuntime) {
+    assert!(rt; changes_agree(&rt, rt.alloc(), ADDED));
 }
 
 #[test]
-fn the_cutting_of_a_copy_does_not_matter(rt: HostRuntime) -> Result<(), Fail> {
-    assert!(rt; changes_agree(rt.alloc(), COPY)?);
-    Ok(())
+fn the_cutting_of_a_copy_does_not_matter(rt: HostRuntime) {
+    assert!(rt; changes_agree(&rt, rt.alloc(), COPY));
 }
 
 #[test]

@@ -3,12 +3,12 @@
 use crate::streams_for_tests::{Failing, items_from};
 use crate::wire_tests::{CHUNK, CLOSED, FRONT};
 use delta_editor::{Call, Recorder};
+use ra_edit::edit_fault::EditFault;
 use ra_edit::receive::receive;
 use ra_edit::wire::WireEditor;
 use std::alloc::Global;
 use std::process::Abort;
 use std::rt::HostRuntime;
-use std::test::Fail;
 
 /// Every command, as it is written.
 pub(crate) const FULL: &[u8] =
@@ -46,15 +46,20 @@ fn contents_are_as_they_were_written(rt: HostRuntime) {
     assert!(rt; passed_on(&rt, alloc, CUT, 1).as_slice() == IN_PIECES);
 }
 
+// The number of a fault, where there is one.
+fn number_of(fault: Option<EditFault>) -> Option<u8> {
+    match fault {
+        Some(fault) => Some(fault.number()),
+        None => None,
+    }
+}
+
 // What a drive is refused for where its reader fails behind it, and where it is read from again.
 fn broken(alloc: Global, bytes: &[u8]) -> (Option<u8>, Option<u8>) {
     let mut items = items_from(alloc, bytes, 7, true);
-    let first = receive(alloc, &mut items, Recorder::new(alloc)).err();
-    let second = receive(alloc, &mut items, Recorder::new(alloc)).err();
-    (
-        first.map(|fault| fault.number()),
-        second.map(|fault| fault.number()),
-    )
+    let first = number_of(receive(alloc, &mut items, Recorder::new(alloc)).err());
+    let second = number_of(receive(alloc, &mut items, Recorder::new(alloc)).err());
+    (first, second)
 }
 
 // Whether a reader that fails behind any beginning of a drive is said to have failed.
@@ -76,11 +81,7 @@ fn a_reader_that_fails_is_told(rt: HostRuntime) {
 
 // What a drive is refused for where the writer behind its editor fails behind so many calls, and where its stream is
 // read from again. The writer has a beginning of the drive.
-fn unwritten(
-    rt: &impl Abort,
-    alloc: Global,
-    left: usize,
-) -> Result<(Option<u8>, Option<u8>), Fail> {
+fn unwritten(rt: &impl Abort, alloc: Global, left: usize) -> (Option<u8>, Option<u8>) {
     let mut bytes = Vec::new(alloc);
     let out = Failing {
         bytes: &mut bytes,
@@ -89,40 +90,44 @@ fn unwritten(
     };
     let editor = WireEditor::new(alloc, out).expect(rt, "room");
     let mut items = items_from(alloc, FULL, 7, false);
-    let first = receive(alloc, &mut items, editor).err();
-    let second = receive(alloc, &mut items, Recorder::new(alloc)).err();
-    if !FULL.starts_with(bytes.as_slice()) {
-        return Ok((None, None));
+    let first = number_of(receive(alloc, &mut items, editor).err());
+    let second = number_of(receive(alloc, &mut items, Recorder::new(alloc)).err());
+    if FULL.starts_with(bytes.as_slice()) {
+        (first, second)
+    } else {
+        (None, None)
     }
-    Ok((
-        first.map(|fault| fault.number()),
-        second.map(|fault| fault.number()),
-    ))
+}
+
+// Whether a writer that fails behind fewer than 20 calls is told.
+fn all_unwritten(rt: &impl Abort, alloc: Global) -> bool {
+    for left in 0..20 {
+        if unwritten(rt, alloc, left) != (Some(49), Some(32)) {
+            return false;
+        }
+    }
+    true
 }
 
 #[test]
-fn a_writer_that_fails_is_told(rt: HostRuntime) -> Result<(), Fail> {
-    let alloc = rt.alloc();
-    let mut fine = true;
-    for left in 0..20 {
-        fine = fine && unwritten(&rt, alloc, left)? == (Some(49), Some(32));
-    }
-    assert!(rt; fine);
-    assert!(rt; unwritten(&rt, alloc, 20)? == (None, Some(48)));
-    Ok(())
+fn a_writer_that_fails_is_told(rt: HostRuntime) {
+    assert!(rt; all_unwritten(&rt, rt.alloc()));
+    assert!(rt; unwritten(&rt, rt.alloc(), 20) == (None, Some(48)));
 }
 
 // A text of 1,048,576 bytes `x` in 17 chunks.
-fn mebibyte(alloc: Global) -> Result<Vec<u8>, Fail> {
-    let piece = Vec::from_elem(alloc, b'x', 65_536)?;
-    let mut bytes = FRONT.to_vec(alloc)?;
+fn mebibyte(rt: &impl Abort, alloc: Global) -> Vec<u8> {
+    let piece = Vec::from_elem(alloc, b'x', 65_536).expect(rt, "memory");
+    let mut bytes = Vec::from_slice(alloc, FRONT).expect(rt, "memory");
     for _ in 0..16 {
-        bytes.extend_from_slice(CHUNK)?;
-        bytes.extend_from_slice(piece.as_slice())?;
-        bytes.extend_from_slice(b" ) ) ")?;
+        bytes.extend_from_slice(CHUNK).expect(rt, "memory");
+        bytes
+            .extend_from_slice(piece.as_slice())
+            .expect(rt, "memory");
+        bytes.extend_from_slice(b" ) ) ").expect(rt, "memory");
     }
-    bytes.extend_from_slice(CLOSED)?;
-    Ok(bytes)
+    bytes.extend_from_slice(CLOSED).expect(rt, "memory");
+    bytes
 }
 
 // How many pieces of 65,536 bytes `x` there are among calls, and how many other calls.
@@ -139,17 +144,19 @@ fn pieces(calls: &[Call]) -> (usize, usize) {
     (whole, calls.len().saturating_sub(whole))
 }
 
-#[test]
-fn a_mebibyte_is_sixteen_pieces(rt: HostRuntime) -> Result<(), Fail> {
-    let alloc = rt.alloc();
-    let bytes = mebibyte(alloc)?;
-    for size in [bytes.len(), 4_099, 1] {
-        let mut items = items_from(alloc, bytes.as_slice(), size, false);
-        let found = match receive(alloc, &mut items, Recorder::new(alloc)) {
-            Ok(calls) => pieces(&calls),
-            Err(_) => (0, 0),
-        };
-        assert!(rt; found == (16, 8));
+// The same of a drive in pieces of a size, or nothing where it is refused.
+fn pieces_of(alloc: Global, bytes: &[u8], size: usize) -> (usize, usize) {
+    let mut items = items_from(alloc, bytes, size, false);
+    match receive(alloc, &mut items, Recorder::new(alloc)) {
+        Ok(calls) => pieces(&calls),
+        Err(_) => (0, 0),
     }
-    Ok(())
+}
+
+#[test]
+fn a_mebibyte_is_sixteen_pieces(rt: HostRuntime) {
+    let bytes = mebibyte(&rt, rt.alloc());
+    assert!(rt; pieces_of(rt.alloc(), &bytes, bytes.len()) == (16, 8));
+    assert!(rt; pieces_of(rt.alloc(), &bytes, 4_099) == (16, 8));
+    assert!(rt; pieces_of(rt.alloc(), &bytes, 1) == (16, 8));
 }

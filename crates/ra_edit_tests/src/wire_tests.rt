@@ -8,7 +8,6 @@ use ra_edit::wire::WireEditor;
 use std::alloc::Global;
 use std::process::Abort;
 use std::rt::HostRuntime;
-use std::test::Fail;
 
 fn path(rt: &impl Abort, alloc: Global, text: &str) -> NodePath {
     NodePath::parse(alloc, text.as_bytes()).expect(rt, "a path")
@@ -56,25 +55,24 @@ const EMPTY: &[u8] =
     b"( textdelta-end ( 2:t1 ) ) ( close-file ( 2:t1 ( 32:d41d8cd98f00b204e9800998ecf8427e ) ) ) ( close-dir ( 2:t0 ) ) ( finish-replay ( ) ) ";
 
 // The bytes of a file's text, behind bytes that were there before.
-fn written(rt: &impl Abort, alloc: Global, text: &[u8]) -> Result<Vec<u8>, Fail> {
-    let before = b"x ".to_vec(alloc)?;
+fn written(rt: &impl Abort, alloc: Global, text: &[u8]) -> Vec<u8> {
+    let before = Vec::from_slice(alloc, b"x ").expect(rt, "memory");
     let editor = WireEditor::new(alloc, before).expect(rt, "room");
-    Ok(show_text(rt, alloc, editor, text).into_inner())
+    show_text(rt, alloc, editor, text).into_inner()
 }
 
-fn is_written(rt: &impl Abort, alloc: Global, text: &[u8], behind: &[u8]) -> Result<bool, Fail> {
-    let mut wanted = b"x ".to_vec(alloc)?;
-    wanted.extend_from_slice(FRONT)?;
-    wanted.extend_from_slice(behind)?;
-    Ok(written(rt, alloc, text)? == wanted)
+fn is_written(rt: &impl Abort, alloc: Global, text: &[u8], behind: &[u8]) -> bool {
+    let mut wanted = Vec::from_slice(alloc, b"x ").expect(rt, "memory");
+    wanted.extend_from_slice(FRONT).expect(rt, "memory");
+    wanted.extend_from_slice(behind).expect(rt, "memory");
+    let found = written(rt, alloc, text);
+    found == wanted
 }
 
 #[test]
-fn a_file_is_added(rt: HostRuntime) -> Result<(), Fail> {
-    let alloc = rt.alloc();
-    assert!(rt; is_written(&rt, alloc, b"hello\n", HELLO)?);
-    assert!(rt; is_written(&rt, alloc, b"", EMPTY)?);
-    Ok(())
+fn a_file_is_added(rt: HostRuntime) {
+    assert!(rt; is_written(&rt, rt.alloc(), b"hello\n", HELLO));
+    assert!(rt; is_written(&rt, rt.alloc(), b"", EMPTY));
 }
 
 /// What stands in front of a window's new data in its chunk.
@@ -85,19 +83,24 @@ pub(crate) const CHUNK: &[u8] =
 pub(crate) const CLOSED: &[u8] =
     b"( textdelta-end ( 2:t1 ) ) ( close-file ( 2:t1 ( 32:b561f87202d04959e37588ee05cf5b10 ) ) ) ( close-dir ( 2:t0 ) ) ( finish-replay ( ) ) ";
 
-#[test]
-fn a_mebibyte_is_seventeen_chunks(rt: HostRuntime) -> Result<(), Fail> {
-    let alloc = rt.alloc();
-    let text = Vec::from_elem(alloc, b'x', 1_048_576)?;
+// A text as the chunks of its windows, and what stands behind them.
+fn in_chunks(rt: &impl Abort, alloc: Global, text: &[u8]) -> Vec<u8> {
     let mut behind = Vec::new(alloc);
     for piece in text.chunks(65_536) {
-        behind.extend_from_slice(CHUNK)?;
-        behind.extend_from_slice(piece)?;
-        behind.extend_from_slice(b" ) ) ")?;
+        behind.extend_from_slice(CHUNK).expect(rt, "memory");
+        behind.extend_from_slice(piece).expect(rt, "memory");
+        behind.extend_from_slice(b" ) ) ").expect(rt, "memory");
     }
-    behind.extend_from_slice(CLOSED)?;
-    assert!(rt; is_written(&rt, alloc, text.as_slice(), behind.as_slice())?);
-    Ok(())
+    behind.extend_from_slice(CLOSED).expect(rt, "memory");
+    behind
+}
+
+#[test]
+fn a_mebibyte_is_seventeen_chunks(rt: HostRuntime) {
+    let alloc = rt.alloc();
+    let text = Vec::from_elem(alloc, b'x', 1_048_576).expect(&rt, "memory");
+    let behind = in_chunks(&rt, alloc, &text);
+    assert!(rt; is_written(&rt, alloc, text.as_slice(), behind.as_slice()));
 }
 
 /// Where a directory is copied from and to, and the file that is deleted in the copy.
@@ -165,13 +168,12 @@ pub(crate) const COPY: &[u8] =
     b"( target-rev ( 2 ) ) ( open-root ( ( 1 ) 2:t0 ) ) ( add-dir ( 1:b 2:t0 2:t1 ( 2:/t 1 ) ) ) ( delete-entry ( 3:b/x ( 1 ) 2:t1 ) ) ( close-dir ( 2:t1 ) ) ( close-dir ( 2:t0 ) ) ( finish-replay ( ) ) ";
 
 #[test]
-fn a_copy_less_one_file(rt: HostRuntime) -> Result<(), Fail> {
+fn a_copy_less_one_file(rt: HostRuntime) {
     let alloc = rt.alloc();
     let editor = WireEditor::new(alloc, Vec::new(alloc)).expect(&rt, "room");
     let paths = CopyPaths::new(alloc).expect(&rt, "paths");
     let written = show_copy(editor, &paths).expect(&rt, "written");
     assert!(rt; written.into_inner().as_slice() == COPY);
-    Ok(())
 }
 
 // Whether a writer that fails behind so many writes of such a size leaves a beginning of the bytes, and 49 is answered.

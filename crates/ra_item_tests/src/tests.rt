@@ -4,7 +4,7 @@ use ra_item::law;
 use ra_item::reader::ItemReader;
 use ra_item::writer::{write_close, write_item, write_number, write_open, write_text, write_word};
 use std::alloc::Global;
-use std::test::Fail;
+use std::process::Abort;
 
 // The two directions of an opening, each item with its space.
 const SERVER: [&[u8]; 4] = [
@@ -65,280 +65,352 @@ fn end_of(reader: ItemReader) -> u32 {
     }
 }
 
-fn write_items(alloc: Global, items: &[Item]) -> Result<Vec<u8>, Fail> {
+fn write_items(rt: &impl Abort, alloc: Global, items: &[Item]) -> Vec<u8> {
     let mut written = Vec::new(alloc);
     for item in items {
-        write_item(&mut written, item)?;
+        write_item(&mut written, item).expect(rt, "memory");
     }
-    Ok(written)
+    written
 }
 
 // What bytes in pieces of a size come to.
-fn outcome_of(alloc: Global, bytes: &[u8], size: usize) -> Result<Outcome, Fail> {
+fn outcome_of(rt: &impl Abort, alloc: Global, bytes: &[u8], size: usize) -> Outcome {
     let mut reader = ItemReader::new(alloc);
     let mut items = Vec::new(alloc);
     let fed = feed_all(&mut reader, &mut items, bytes, size);
     let ended = end_of(reader);
-    Ok(Outcome {
-        written: write_items(alloc, &items)?,
+    Outcome {
+        written: write_items(rt, alloc, &items),
         count: items.len(),
         number: if fed == 0 { ended } else { fed },
-    })
+    }
 }
 
-fn joined(alloc: Global, parts: &[&[u8]]) -> Result<Vec<u8>, Fail> {
+// The first so many parts, joined.
+fn joined(rt: &impl Abort, alloc: Global, parts: &[&[u8]], count: usize) -> Vec<u8> {
     let mut bytes = Vec::new(alloc);
-    for part in parts {
-        bytes.extend_from_slice(part)?;
+    for part in parts.iter().take(count) {
+        bytes.extend_from_slice(part).expect(rt, "memory");
     }
-    Ok(bytes)
+    bytes
 }
 
 // The number of the refusal, or 0, where bytes come to the same whole and byte by byte.
-fn refusal(alloc: Global, bytes: &[u8]) -> Result<Option<u32>, Fail> {
-    let whole = outcome_of(alloc, bytes, bytes.len())?;
-    let single = outcome_of(alloc, bytes, 1)?;
-    if whole.is(&single.written, single.count, single.number) {
-        Ok(Some(whole.number))
-    } else {
-        Ok(None)
-    }
+fn refusal(rt: &impl Abort, alloc: Global, bytes: &[u8]) -> Option<u32> {
+    let whole = outcome_of(rt, alloc, bytes, bytes.len());
+    let single = outcome_of(rt, alloc, bytes, 1);
+    let same = whole.is(&single.written, single.count, single.number);
+    same.then_some(whole.number)
 }
 
 // Whether bytes are refused so, whole and byte by byte; 0 where they are not.
-fn refuses(alloc: Global, bytes: &[u8], number: u32) -> Result<bool, Fail> {
-    Ok(refusal(alloc, bytes)? == Some(number))
+fn refuses(rt: &impl Abort, alloc: Global, bytes: &[u8], number: u32) -> bool {
+    refusal(rt, alloc, bytes) == Some(number)
+}
+
+// Whether bytes in pieces of a size come to so many items, which are written so, and are refused so.
+fn come_to(
+    rt: &impl Abort,
+    alloc: Global,
+    bytes: &[u8],
+    size: usize,
+    wanted: (&[u8], usize, u32),
+) -> bool {
+    let (written, count, number) = wanted;
+    let found = outcome_of(rt, alloc, bytes, size);
+    found.is(written, count, number)
 }
 
 // Whether a front of a part behind so many others gives these alone.
-fn is_front(alloc: Global, before: &[u8], count: usize, front: &[u8]) -> Result<bool, Fail> {
-    let mut bytes = Vec::from_slice(alloc, before)?;
-    bytes.extend_from_slice(front)?;
+fn is_front(rt: &impl Abort, alloc: Global, before: &[u8], count: usize, front: &[u8]) -> bool {
+    let mut bytes = Vec::from_slice(alloc, before).expect(rt, "memory");
+    bytes.extend_from_slice(front).expect(rt, "memory");
     let number = if front.is_empty() { 0 } else { 7 };
-    let found = outcome_of(alloc, &bytes, 1)?;
-    Ok(found.is(before, count, number) && refuses(alloc, &bytes, number)?)
+    come_to(rt, alloc, &bytes, 1, (before, count, number)) && refuses(rt, alloc, &bytes, number)
 }
 
 // The length of the first front of a part that gives more or less than the parts before it.
 fn wrong_front(
+    rt: &impl Abort,
     alloc: Global,
     before: &[u8],
     count: usize,
     part: &[u8],
-) -> Result<Option<usize>, Fail> {
+) -> Option<usize> {
     for end in 0..part.len() {
-        if !is_front(alloc, before, count, part.get(..end).ok_or("end")?)? {
-            return Ok(Some(end));
+        if !is_front(rt, alloc, before, count, part.get(..end).unwrap_or(b"")) {
+            return Some(end);
         }
     }
-    Ok(None)
+    None
+}
+
+// The same behind the first so many parts.
+fn wrong_behind(
+    rt: &impl Abort,
+    alloc: Global,
+    parts: &[&[u8]],
+    count: usize,
+    part: &[u8],
+) -> Option<usize> {
+    let before = joined(rt, alloc, parts, count);
+    wrong_front(rt, alloc, &before, count, part)
+}
+
+// Whether all parts, in pieces of five bytes, are read whole.
+fn is_whole(rt: &impl Abort, alloc: Global, parts: &[&[u8]]) -> bool {
+    let bytes = joined(rt, alloc, parts, parts.len());
+    come_to(rt, alloc, &bytes, 5, (bytes.as_slice(), parts.len(), 0))
 }
 
 // Each front of the parts gives the parts that it has whole, and ends well only behind one: else the number of the part
 // and the length of its first front that doesn't.
-fn wrong_fronts(alloc: Global, parts: &[&[u8]]) -> Result<Option<(usize, usize)>, Fail> {
-    let mut before = Vec::new(alloc);
+fn wrong_fronts(rt: &impl Abort, alloc: Global, parts: &[&[u8]]) -> Option<(usize, usize)> {
     for (count, part) in parts.iter().enumerate() {
-        if let Some(end) = wrong_front(alloc, &before, count, part)? {
-            return Ok(Some((count, end)));
+        if let Some(end) = wrong_behind(rt, alloc, parts, count, part) {
+            return Some((count, end));
         }
-        before.extend_from_slice(part)?;
     }
-    if outcome_of(alloc, &before, 5)?.is(&before, parts.len(), 0) {
-        Ok(None)
+    if is_whole(rt, alloc, parts) {
+        None
     } else {
-        Ok(Some((parts.len(), 0)))
+        Some((parts.len(), 0))
     }
+}
+
+// Whether bytes with one of them changed come to the same whole and byte by byte.
+fn agrees_with(rt: &impl Abort, alloc: Global, bytes: &[u8], at: usize, value: u8) -> bool {
+    let mut changed = Vec::from_slice(alloc, bytes).expect(rt, "memory");
+    if let Some(place) = changed.get_mut(at) {
+        *place = value;
+    }
+    refusal(rt, alloc, &changed).is_some()
 }
 
 // The first value of one byte for which bytes come to another thing whole than byte by byte.
-fn wrong_value(alloc: Global, bytes: &[u8], at: usize) -> Result<Option<u8>, Fail> {
-    for b in 0..=255u8 {
-        let mut changed = Vec::from_slice(alloc, bytes)?;
-        if let Some(place) = changed.get_mut(at) {
-            *place = b;
-        }
-        if refusal(alloc, &changed)?.is_none() {
-            return Ok(Some(b));
+fn wrong_value(rt: &impl Abort, alloc: Global, bytes: &[u8], at: usize) -> Option<u8> {
+    for value in 0..=255u8 {
+        if !agrees_with(rt, alloc, bytes, at, value) {
+            return Some(value);
         }
     }
-    Ok(None)
+    None
 }
 
 // Each change of one byte to any value is answered alike, whole and byte by byte: else its place and value.
-fn wrong_change(alloc: Global, bytes: &[u8]) -> Result<Option<(usize, u8)>, Fail> {
+fn wrong_change(rt: &impl Abort, alloc: Global, bytes: &[u8]) -> Option<(usize, u8)> {
     for at in 0..bytes.len() {
-        if let Some(b) = wrong_value(alloc, bytes, at)? {
-            return Ok(Some((at, b)));
+        if let Some(value) = wrong_value(rt, alloc, bytes, at) {
+            return Some((at, value));
         }
     }
-    Ok(None)
+    None
+}
+
+// The same of the parts, joined.
+fn wrong_change_of(rt: &impl Abort, alloc: Global, parts: &[&[u8]]) -> Option<(usize, u8)> {
+    let bytes = joined(rt, alloc, parts, parts.len());
+    wrong_change(rt, alloc, &bytes)
 }
 
 #[test]
-fn an_opening_and_its_fronts(rt: HostRuntime) -> Result<(), Fail> {
-    assert_eq!(rt; wrong_fronts(rt.alloc(), &SERVER)?, None);
-    assert_eq!(rt; wrong_fronts(rt.alloc(), &CLIENT)?, None);
-    Ok(())
+fn an_opening_and_its_fronts(rt: HostRuntime) {
+    assert_eq!(rt; wrong_fronts(&rt, rt.alloc(), &SERVER), None);
+    assert_eq!(rt; wrong_fronts(&rt, rt.alloc(), &CLIENT), None);
 }
 
 #[test]
-fn an_editor_drive_and_its_fronts(rt: HostRuntime) -> Result<(), Fail> {
-    assert_eq!(rt; wrong_fronts(rt.alloc(), &DRIVE)?, None);
-    Ok(())
+fn an_editor_drive_and_its_fronts(rt: HostRuntime) {
+    assert_eq!(rt; wrong_fronts(&rt, rt.alloc(), &DRIVE), None);
 }
 
 #[test]
-fn changed_bytes_of_an_opening(rt: HostRuntime) -> Result<(), Fail> {
-    let alloc = rt.alloc();
-    assert_eq!(rt; wrong_change(alloc, &joined(alloc, &SERVER)?)?, None);
-    assert_eq!(rt; wrong_change(alloc, &joined(alloc, &CLIENT)?)?, None);
-    Ok(())
+fn changed_bytes_of_an_opening(rt: HostRuntime) {
+    assert_eq!(rt; wrong_change_of(&rt, rt.alloc(), &SERVER), None);
+    assert_eq!(rt; wrong_change_of(&rt, rt.alloc(), &CLIENT), None);
 }
 
 #[test]
-fn changed_bytes_of_a_drive(rt: HostRuntime) -> Result<(), Fail> {
-    let alloc = rt.alloc();
-    assert_eq!(rt; wrong_change(alloc, &joined(alloc, &DRIVE)?)?, None);
-    Ok(())
+fn changed_bytes_of_a_drive(rt: HostRuntime) {
+    assert_eq!(rt; wrong_change_of(&rt, rt.alloc(), &DRIVE), None);
 }
+
+// Bytes, and the number that they are refused with; 0 where they are not.
+const REFUSALS: [(&[u8], u32); 26] = [
+    (b"", 0),
+    (b" \n ", 0),
+    (b"\n( )\n 3:ab) x-1 007 ", 0),
+    (b"18446744073709551615 ", 0),
+    (b"0000000000000000000000018446744073709551615 ", 0),
+    (b"18446744073709551616 ", 41),
+    (b"18446744073709551616:", 41),
+    (b"99999999999999999999 ", 41),
+    (b"-1 ", 41),
+    (b"3:abcd ", 41),
+    (b"3:ab", 7),
+    (b"3:abc", 7),
+    (b"003:abc ", 0),
+    (b"word", 7),
+    (b"12", 7),
+    (b"( ", 7),
+    (b"( )", 7),
+    (b"()", 41),
+    (b"( a)", 41),
+    (b") ", 41),
+    (b"12a ", 41),
+    (b"a_b ", 41),
+    (b"a\tb", 41),
+    (b"1048577:", 8),
+    (b"1048577 ", 0),
+    (b"18446744073709551615:", 8),
+];
 
 // The number of the first case that isn't refused as it says.
-fn wrong_refusal(alloc: Global, cases: &[(&[u8], u32)]) -> Result<Option<usize>, Fail> {
+fn wrong_refusal(rt: &impl Abort, alloc: Global, cases: &[(&[u8], u32)]) -> Option<usize> {
     for (case, (bytes, number)) in cases.iter().enumerate() {
-        if !refuses(alloc, bytes, *number)? {
-            return Ok(Some(case));
+        if !refuses(rt, alloc, bytes, *number) {
+            return Some(case);
         }
     }
-    Ok(None)
+    None
 }
 
 #[test]
-fn refusals(rt: HostRuntime) -> Result<(), Fail> {
-    let alloc = rt.alloc();
-    let cases: [(&[u8], u32); 26] = [
-        (b"", 0),
-        (b" \n ", 0),
-        (b"\n( )\n 3:ab) x-1 007 ", 0),
-        (b"18446744073709551615 ", 0),
-        (b"0000000000000000000000018446744073709551615 ", 0),
-        (b"18446744073709551616 ", 41),
-        (b"18446744073709551616:", 41),
-        (b"99999999999999999999 ", 41),
-        (b"-1 ", 41),
-        (b"3:abcd ", 41),
-        (b"3:ab", 7),
-        (b"3:abc", 7),
-        (b"003:abc ", 0),
-        (b"word", 7),
-        (b"12", 7),
-        (b"( ", 7),
-        (b"( )", 7),
-        (b"()", 41),
-        (b"( a)", 41),
-        (b") ", 41),
-        (b"12a ", 41),
-        (b"a_b ", 41),
-        (b"a\tb", 41),
-        (b"1048577:", 8),
-        (b"1048577 ", 0),
-        (b"18446744073709551615:", 8),
-    ];
-    assert_eq!(rt; wrong_refusal(alloc, &cases)?, None);
-    Ok(())
+fn refusals(rt: HostRuntime) {
+    assert_eq!(rt; wrong_refusal(&rt, rt.alloc(), &REFUSALS), None);
 }
 
-// So many copies of a byte string.
-fn times(alloc: Global, part: &[u8], count: usize) -> Result<Vec<u8>, Fail> {
+// So many copies of a byte string, and these bytes behind them.
+fn times(rt: &impl Abort, alloc: Global, part: &[u8], count: usize, last: &[u8]) -> Vec<u8> {
     let mut bytes = Vec::new(alloc);
     for _ in 0..count {
-        bytes.extend_from_slice(part)?;
+        bytes.extend_from_slice(part).expect(rt, "memory");
     }
-    Ok(bytes)
+    bytes.extend_from_slice(last).expect(rt, "memory");
+    bytes
+}
+
+// So many copies of a byte string, what stands behind them, and the number that all of it is refused with.
+type Repeated<'a> = (&'a [u8], usize, &'a [u8], u32);
+
+const LONG_WORDS: [Repeated<'static>; 4] = [
+    (b"a", 64, b" ", 0),
+    (b"a", 64, b"$", 41),
+    (b"a", 65, b" ", 8),
+    (b"a", 64, b"a", 8),
+];
+
+const DEEP_LISTS: [Repeated<'static>; 4] = [
+    (b"( ", 16, b"", 7),
+    (b"( ", 16, b"(", 42),
+    (b"( ", 15, b"( ", 7),
+    (b"( ", 16, b"1 ", 7),
+];
+
+// Whether one of these is refused so.
+fn is_refused_repeated(rt: &impl Abort, alloc: Global, case: &Repeated<'_>) -> bool {
+    let (part, count, last, number) = case;
+    let bytes = times(rt, alloc, part, *count, last);
+    refuses(rt, alloc, &bytes, *number)
+}
+
+// The number of the first that isn't.
+fn wrong_repeated(rt: &impl Abort, alloc: Global, cases: &[Repeated<'_>]) -> Option<usize> {
+    for (number, case) in cases.iter().enumerate() {
+        if !is_refused_repeated(rt, alloc, case) {
+            return Some(number);
+        }
+    }
+    None
 }
 
 #[test]
-fn long_words(rt: HostRuntime) -> Result<(), Fail> {
-    let cases: [(usize, u8, u32); 4] = [
-        (64, b' ', 0),
-        (64, b'$', 41),
-        (65, b' ', 8),
-        (64, b'a', 8),
-    ];
-    for (count, last, number) in cases {
-        let mut bytes = times(rt.alloc(), b"a", count)?;
-        bytes.push(last)?;
-        assert_eq!(rt; refusal(rt.alloc(), &bytes)?, Some(number));
-    }
-    Ok(())
+fn long_words(rt: HostRuntime) {
+    assert_eq!(rt; wrong_repeated(&rt, rt.alloc(), &LONG_WORDS), None);
 }
 
 #[test]
-fn deep_lists(rt: HostRuntime) -> Result<(), Fail> {
-    let cases: [(usize, &[u8], u32); 4] = [
-        (16, b"", 7),
-        (16, b"(", 42),
-        (15, b"( ", 7),
-        (16, b"1 ", 7),
-    ];
-    for (count, last, number) in cases {
-        let mut bytes = times(rt.alloc(), b"( ", count)?;
-        bytes.extend_from_slice(last)?;
-        assert_eq!(rt; refusal(rt.alloc(), &bytes)?, Some(number));
-    }
-    Ok(())
+fn deep_lists(rt: HostRuntime) {
+    assert_eq!(rt; wrong_repeated(&rt, rt.alloc(), &DEEP_LISTS), None);
+}
+
+// Whether sixteen lists, each within the one before, are read and written again.
+fn is_deepest(rt: &impl Abort, alloc: Global) -> bool {
+    let closed = times(rt, alloc, b") ", 16, b"");
+    let bytes = times(rt, alloc, b"( ", 16, &closed);
+    come_to(rt, alloc, &bytes, 3, (bytes.as_slice(), 1, 0))
 }
 
 #[test]
-fn the_deepest_list(rt: HostRuntime) -> Result<(), Fail> {
-    let mut bytes = times(rt.alloc(), b"( ", 16)?;
-    bytes.extend_from_slice(&times(rt.alloc(), b") ", 16)?)?;
-    assert!(rt; outcome_of(rt.alloc(), &bytes, 3)?.is(&bytes, 1, 0));
-    Ok(())
+fn the_deepest_list(rt: HostRuntime) {
+    assert!(rt; is_deepest(&rt, rt.alloc()));
 }
 
 // A length with its colon, so many blanks, and these bytes behind them.
-fn long_text(alloc: Global, announced: &[u8], count: usize, last: &[u8]) -> Result<Vec<u8>, Fail> {
-    let mut bytes = Vec::from_slice(alloc, announced)?;
-    bytes.extend_from_slice(&Vec::from_elem(alloc, b' ', count)?)?;
-    bytes.extend_from_slice(last)?;
-    Ok(bytes)
+fn long_text(
+    rt: &impl Abort,
+    alloc: Global,
+    announced: &[u8],
+    count: usize,
+    last: &[u8],
+) -> Vec<u8> {
+    let blanks = Vec::from_elem(alloc, b' ', count).expect(rt, "memory");
+    let mut bytes = Vec::from_slice(alloc, announced).expect(rt, "memory");
+    bytes.extend_from_slice(&blanks).expect(rt, "memory");
+    bytes.extend_from_slice(last).expect(rt, "memory");
+    bytes
+}
+
+// The number that bytes in pieces of a size are refused with, or 0.
+fn number_of(rt: &impl Abort, alloc: Global, bytes: &[u8], size: usize) -> u32 {
+    let found = outcome_of(rt, alloc, bytes, size);
+    found.number
+}
+
+// The number that such a string is refused with, or 0.
+fn number_of_text(
+    rt: &impl Abort,
+    alloc: Global,
+    announced: &[u8],
+    count: usize,
+    last: &[u8],
+) -> u32 {
+    let bytes = long_text(rt, alloc, announced, count, last);
+    number_of(rt, alloc, &bytes, 65_536)
 }
 
 #[test]
-fn strings_of_a_mebibyte(rt: HostRuntime) -> Result<(), Fail> {
-    let cases: [(&[u8], usize, &[u8], u32); 4] = [
-        (b"1048576:", 1_048_576, b"", 7),
-        (b"1048576:", 1_048_576, b"\n", 0),
-        (b"1048576:", 1_048_576, b"x", 41),
-        (b"1048577:", 1_048_577, b" ", 8),
-    ];
-    for (announced, count, last, number) in cases {
-        let bytes = long_text(rt.alloc(), announced, count, last)?;
-        assert_eq!(rt; outcome_of(rt.alloc(), &bytes, 65_536)?.number, number);
-    }
-    Ok(())
+fn strings_of_a_mebibyte(rt: HostRuntime) {
+    let alloc = rt.alloc();
+    assert!(rt; number_of_text(&rt, alloc, b"1048576:", 1_048_576, b"") == 7);
+    assert!(rt; number_of_text(&rt, alloc, b"1048576:", 1_048_576, b"\n") == 0);
+    assert!(rt; number_of_text(&rt, alloc, b"1048576:", 1_048_576, b"x") == 41);
+    assert!(rt; number_of_text(&rt, alloc, b"1048577:", 1_048_577, b" ") == 8);
 }
 
 // A list with so many bytes before its last bracket, 31 strings of a mebibyte in it.
-fn long_list(alloc: Global, count: usize, last: &[u8]) -> Result<Vec<u8>, Fail> {
-    let mut bytes = Vec::from_slice(alloc, b"( ")?;
-    let text = long_text(alloc, b"1048576:", 1_048_576, b" ")?;
-    bytes.extend_from_slice(&times(alloc, &text, 31)?)?;
+fn long_list(rt: &impl Abort, alloc: Global, count: usize, last: &[u8]) -> Vec<u8> {
+    let text = long_text(rt, alloc, b"1048576:", 1_048_576, b" ");
+    let texts = times(rt, alloc, &text, 31, b"");
+    let mut bytes = Vec::from_slice(alloc, b"( ").expect(rt, "memory");
+    bytes.extend_from_slice(&texts).expect(rt, "memory");
     let rest = count.saturating_sub(bytes.len());
-    bytes.extend_from_slice(&Vec::from_elem(alloc, b'\n', rest)?)?;
-    bytes.extend_from_slice(last)?;
-    Ok(bytes)
+    let blanks = Vec::from_elem(alloc, b'\n', rest).expect(rt, "memory");
+    bytes.extend_from_slice(&blanks).expect(rt, "memory");
+    bytes.extend_from_slice(last).expect(rt, "memory");
+    bytes
+}
+
+// The number that such a list is refused with, or 0.
+fn number_of_list(rt: &impl Abort, alloc: Global, count: usize, last: &[u8]) -> u32 {
+    let bytes = long_list(rt, alloc, count, last);
+    number_of(rt, alloc, &bytes, 100_000)
 }
 
 #[test]
-fn lists_at_the_limit(rt: HostRuntime) -> Result<(), Fail> {
-    let cases: [(usize, &[u8], u32); 2] = [(33_554_431, b") ", 0), (33_554_432, b")", 8)];
-    for (count, last, number) in cases {
-        let bytes = long_list(rt.alloc(), count, last)?;
-        assert_eq!(rt; outcome_of(rt.alloc(), &bytes, 100_000)?.number, number);
-    }
-    Ok(())
+fn lists_at_the_limit(rt: HostRuntime) {
+    assert!(rt; number_of_list(&rt, rt.alloc(), 33_554_431, b") ") == 0);
+    assert!(rt; number_of_list(&rt, rt.alloc(), 33_554_432, b")") == 8);
 }
 
 // Whether a piece is refused so, with two items before and nothing kept.
@@ -353,51 +425,58 @@ fn is_refused(
 }
 
 #[test]
-fn after_a_refusal(rt: HostRuntime) -> Result<(), Fail> {
+fn after_a_refusal(rt: HostRuntime) {
     let mut reader = ItemReader::new(rt.alloc());
     let mut items = Vec::new(rt.alloc());
     assert!(rt; is_refused(&mut reader, &mut items, b"1 2 $ 3 ", ItemFault::BadItem));
     assert!(rt; is_refused(&mut reader, &mut items, b"", ItemFault::Failed));
     assert!(rt; is_refused(&mut reader, &mut items, b"4 ", ItemFault::Failed));
     assert!(rt; reader.finish().err() == Some(ItemFault::Failed));
-    Ok(())
 }
 
+// Pieces, and how many bytes a reader keeps behind each. An announced length keeps nothing; a word and a number in a
+// list keep themselves and their spaces.
+const HELD: [(&[u8], usize); 6] = [
+    (b"", 0),
+    (b"1 ( 5:", 0),
+    (b"xyz", 3),
+    (b"ab ( abc\n 0012\n ) ", 19),
+    (b"1048576:", 19),
+    (b"xy", 21),
+];
+
 // The number of the first piece behind which a reader keeps another number of bytes than stands beside it.
-fn wrong_held(alloc: Global, cases: &[(&[u8], usize)]) -> Result<Option<usize>, Fail> {
-    let mut reader = ItemReader::new(alloc);
-    let mut items = Vec::new(alloc);
+fn wrong_held(
+    rt: &impl Abort,
+    reader: &mut ItemReader,
+    items: &mut Vec<Item>,
+    cases: &[(&[u8], usize)],
+) -> Option<usize> {
     for (case, (piece, held)) in cases.iter().enumerate() {
-        reader.feed(piece, &mut items)?;
+        reader.feed(piece, items).expect(rt, "items");
         if reader.held() != *held {
-            return Ok(Some(case));
+            return Some(case);
         }
     }
-    Ok(None)
+    None
 }
 
 #[test]
-fn bytes_held(rt: HostRuntime) -> Result<(), Fail> {
-    // An announced length keeps nothing; a word and a number in a list keep themselves and their spaces.
-    let cases: [(&[u8], usize); 6] = [
-        (b"", 0),
-        (b"1 ( 5:", 0),
-        (b"xyz", 3),
-        (b"ab ( abc\n 0012\n ) ", 19),
-        (b"1048576:", 19),
-        (b"xy", 21),
-    ];
-    assert_eq!(rt; wrong_held(rt.alloc(), &cases)?, None);
-    Ok(())
+fn bytes_held(rt: HostRuntime) {
+    let mut reader = ItemReader::new(rt.alloc());
+    let mut items = Vec::new(rt.alloc());
+    assert_eq!(rt; wrong_held(&rt, &mut reader, &mut items, &HELD), None);
 }
 
 // A list of a number, a string and a word.
-fn three_parts(alloc: Global) -> Result<Item, Fail> {
+fn three_parts(rt: &impl Abort, alloc: Global) -> Item {
+    let text = Item::text(alloc, b"").expect(rt, "a string");
+    let word = Item::word(alloc, b"a-1").expect(rt, "a word");
     let mut parts = Vec::new(alloc);
-    parts.push(Item::number(0))?;
-    parts.push(Item::text(alloc, b"")?)?;
-    parts.push(Item::word(alloc, b"a-1")?)?;
-    Ok(Item::list(parts)?)
+    parts.push(Item::number(0)).expect(rt, "memory");
+    parts.push(text).expect(rt, "memory");
+    parts.push(word).expect(rt, "memory");
+    Item::list(parts).expect(rt, "a list")
 }
 
 // Whether an item is one of these three.
@@ -410,12 +489,9 @@ fn is_part(item: &Item) -> bool {
     }
 }
 
-// How many of these there are in a list that has nothing else.
-fn count_parts(list: Item) -> usize {
-    let Content::List(parts) = list.into_content() else {
-        return 0;
-    };
-    for part in &parts {
+// How many of these there are among items that are all of these.
+fn count_of(parts: &[Item]) -> usize {
+    for part in parts {
         if !is_part(part) {
             return 0;
         }
@@ -423,33 +499,32 @@ fn count_parts(list: Item) -> usize {
     parts.len()
 }
 
+// How many of these there are in a list that has nothing else.
+fn count_parts(list: Item) -> usize {
+    match list.into_content() {
+        Content::List(parts) => count_of(&parts),
+        _ => 0,
+    }
+}
+
 #[test]
-fn made_items(rt: HostRuntime) -> Result<(), Fail> {
-    let alloc = rt.alloc();
-    let list = three_parts(alloc)?;
-    let mut written = Vec::new(alloc);
-    write_item(&mut written, &list)?;
+fn made_items(rt: HostRuntime) {
+    let list = three_parts(&rt, rt.alloc());
+    let mut written = Vec::new(rt.alloc());
+    write_item(&mut written, &list).expect(&rt, "memory");
     assert!(rt; written.as_slice() == b"( 0 0: a-1 ) ".as_slice());
     assert!(rt; count_parts(list) == 3);
-    Ok(())
-}
-
-// A list that is written part by part.
-fn parts_written(alloc: Global) -> Result<Vec<u8>, Fail> {
-    let mut written = Vec::new(alloc);
-    write_open(&mut written)?;
-    write_number(&mut written, 18_446_744_073_709_551_615)?;
-    write_word(&mut written, b"w")?;
-    write_text(&mut written, b"( )")?;
-    write_close(&mut written)?;
-    Ok(written)
 }
 
 #[test]
-fn written_parts(rt: HostRuntime) -> Result<(), Fail> {
-    let written = parts_written(rt.alloc())?;
+fn written_parts(rt: HostRuntime) {
+    let mut written = Vec::new(rt.alloc());
+    write_open(&mut written).expect(&rt, "memory");
+    write_number(&mut written, 18_446_744_073_709_551_615).expect(&rt, "memory");
+    write_word(&mut written, b"w").expect(&rt, "memory");
+    write_text(&mut written, b"( )").expect(&rt, "memory");
+    write_close(&mut written).expect(&rt, "memory");
     assert!(rt; written.as_slice() == b"( 18446744073709551615 w 3:( ) ) ".as_slice());
-    Ok(())
 }
 
 // Whether bytes are refused as a word, for this.
@@ -458,34 +533,38 @@ fn is_no_word(alloc: Global, bytes: &[u8], fault: ItemFault) -> bool {
 }
 
 #[test]
-fn refused_makers(rt: HostRuntime) -> Result<(), Fail> {
+fn refused_makers(rt: HostRuntime) {
     let alloc = rt.alloc();
-    let cases: [&[u8]; 4] = [b"", b"1a", b"a b", b"-"];
-    for word in cases {
-        assert!(rt; is_no_word(alloc, word, ItemFault::BadItem));
-    }
-    let letters = times(alloc, b"a", 65)?;
+    assert!(rt; is_no_word(alloc, b"", ItemFault::BadItem));
+    assert!(rt; is_no_word(alloc, b"1a", ItemFault::BadItem));
+    assert!(rt; is_no_word(alloc, b"a b", ItemFault::BadItem));
+    assert!(rt; is_no_word(alloc, b"-", ItemFault::BadItem));
+    let letters = times(&rt, alloc, b"a", 65, b"");
     assert!(rt; is_no_word(alloc, &letters, ItemFault::TooLong));
-    let text = times(alloc, b"a", 1_048_577)?;
+    let text = times(&rt, alloc, b"a", 1_048_577, b"");
     assert!(rt; Item::text(alloc, &text).err() == Some(ItemFault::TooLong));
-    Ok(())
 }
 
 // A list of one item.
-fn list_of(alloc: Global, item: Item) -> Result<Item, ItemFault> {
+fn list_of(rt: &impl Abort, alloc: Global, item: Item) -> Result<Item, ItemFault> {
     let mut items = Vec::new(alloc);
-    items.push(item)?;
+    items.push(item).expect(rt, "memory");
     Item::list(items)
 }
 
-#[test]
-fn a_list_made_too_deep(rt: HostRuntime) -> Result<(), Fail> {
+// Sixteen lists, each within the one before.
+fn deepest(rt: &impl Abort, alloc: Global) -> Item {
     let mut item = Item::number(1);
     for _ in 0..16 {
-        item = list_of(rt.alloc(), item)?;
+        item = list_of(rt, alloc, item).expect(rt, "a list");
     }
-    assert!(rt; list_of(rt.alloc(), item).err() == Some(ItemFault::TooDeep));
-    Ok(())
+    item
+}
+
+#[test]
+fn a_list_made_too_deep(rt: HostRuntime) {
+    let item = deepest(&rt, rt.alloc());
+    assert!(rt; list_of(&rt, rt.alloc(), item).err() == Some(ItemFault::TooDeep));
 }
 
 #[test]

@@ -1,8 +1,8 @@
 //! Windows spelled out by hand, whole and one byte at a time.
 
 use std::alloc::Global;
+use std::process::Abort;
 use std::rt::HostRuntime;
-use std::test::Fail;
 use svndiff::fault::WindowFault;
 use svndiff::law;
 use svndiff::reader::WindowReader;
@@ -15,194 +15,206 @@ const HELLO: [u8; 16] = *b"SVN\x00\x00\x00\x06\x01\x06\x86hello\n";
 const TWO: [u8; 26] =
     *b"SVN\x00\x82\x2c\x00\x02\x02\x02\x81\x81ab\x80\x00\x00\x80\x80\x01\x02\x01\x80\x01cZ";
 
-// Takes a piece, stretch by stretch.
-fn take(reader: &mut WindowReader, piece: &[u8], text: &mut Vec<u8>) -> Result<u32, Fail> {
+// Takes a piece, stretch by stretch, and gives the number of the refusal or 0.
+fn take(rt: &impl Abort, reader: &mut WindowReader, piece: &[u8], text: &mut Vec<u8>) -> u32 {
     let mut rest = piece;
     while rest.len() > 0 {
         match reader.next(rest) {
             Ok(stretch) => {
-                text.extend_from_slice(stretch.bytes)?;
+                text.extend_from_slice(stretch.bytes).expect(rt, "memory");
                 rest = stretch.rest;
             }
-            Err(fault) => return Ok(fault.number()),
+            Err(fault) => return fault.number(),
         }
     }
-    Ok(0)
+    0
 }
 
-// What bytes in pieces of a size give: the text, and the number of the refusal or 0.
-fn outcome(alloc: Global, bytes: &[u8], size: usize) -> Result<(Vec<u8>, u32), Fail> {
+// The text that bytes in pieces of a size give, behind what is there, and the number of the refusal or 0.
+fn outcome(rt: &impl Abort, bytes: &[u8], size: usize, text: &mut Vec<u8>) -> u32 {
     let mut reader = WindowReader::new();
-    let mut text = Vec::new(alloc);
-    let mut number = 0;
     for piece in bytes.chunks(size.max(1)) {
-        if number == 0 {
-            number = take(&mut reader, piece, &mut text)?;
+        let number = take(rt, &mut reader, piece, text);
+        if number != 0 {
+            return number;
         }
     }
-    if number == 0
-        && let Err(fault) = reader.finish()
-    {
-        number = fault.number();
+    match reader.finish() {
+        Ok(()) => 0,
+        Err(fault) => fault.number(),
     }
-    Ok((text, number))
+}
+
+// Whether bytes in pieces of a size give a text, or a refusal behind it.
+fn gives_by(
+    rt: &impl Abort,
+    alloc: Global,
+    bytes: &[u8],
+    size: usize,
+    text: &[u8],
+    number: u32,
+) -> bool {
+    let mut found = Vec::new(alloc);
+    outcome(rt, bytes, size, &mut found) == number && found.as_slice() == text
 }
 
 // Whether bytes give a text, or a refusal behind it, whole and one byte at a time.
-fn gives(alloc: Global, bytes: &[u8], text: &[u8], number: u32) -> Result<bool, Fail> {
-    let whole = outcome(alloc, bytes, bytes.len())?;
-    let single = outcome(alloc, bytes, 1)?;
-    Ok(
-        whole.0.as_slice() == text
-            && whole.1 == number
-            && single.0.as_slice() == text
-            && single.1 == number,
-    )
+fn gives(rt: &impl Abort, alloc: Global, bytes: &[u8], text: &[u8], number: u32) -> bool {
+    gives_by(rt, alloc, bytes, bytes.len(), text, number)
+        && gives_by(rt, alloc, bytes, 1, text, number)
 }
 
 // Whether the bytes of a window are refused so behind the head.
-fn refuses(alloc: Global, window: &[u8], number: u32) -> Result<bool, Fail> {
-    let mut bytes = b"SVN\x00".to_vec(alloc)?;
-    bytes.extend_from_slice(window)?;
-    gives(alloc, bytes.as_slice(), b"", number)
+fn refuses(rt: &impl Abort, alloc: Global, window: &[u8], number: u32) -> bool {
+    let mut bytes = Vec::from_slice(alloc, b"SVN\x00").expect(rt, "memory");
+    bytes.extend_from_slice(window).expect(rt, "memory");
+    gives(rt, alloc, bytes.as_slice(), b"", number)
 }
 
 // Whether a text is written with these bytes in front of it, and is read again.
-fn is_written(alloc: Global, size: usize, front: &[u8]) -> Result<bool, Fail> {
-    let text = Vec::from_elem(alloc, b'x', size)?;
+fn is_written(rt: &impl Abort, alloc: Global, size: usize, front: &[u8]) -> bool {
+    let text = Vec::from_elem(alloc, b'x', size).expect(rt, "memory");
     let mut written = Vec::new(alloc);
-    write_text(&mut written, text.as_slice())?;
-    let mut wanted = front.to_vec(alloc)?;
-    wanted.extend_from_slice(text.as_slice())?;
-    Ok(written == wanted && gives(alloc, written.as_slice(), text.as_slice(), 0)?)
+    write_text(&mut written, text.as_slice()).expect(rt, "memory");
+    written.as_slice().strip_prefix(front) == Some(text.as_slice())
+        && gives(rt, alloc, written.as_slice(), text.as_slice(), 0)
 }
 
 #[test]
-fn texts_are_written_and_read(rt: HostRuntime) -> Result<(), Fail> {
+fn texts_are_written_and_read(rt: HostRuntime) {
     let alloc = rt.alloc();
-    assert!(rt; gives(alloc, &HELLO, b"hello\n", 0)?);
-    assert!(rt; is_written(alloc, 0, b"SVN\x00")?);
-    assert!(rt; is_written(alloc, 64, b"SVN\x00\x00\x00\x40\x02\x40\x80\x40")?);
-    Ok(())
+    assert!(rt; gives(&rt, alloc, &HELLO, b"hello\n", 0));
+    assert!(rt; is_written(&rt, alloc, 0, b"SVN\x00"));
+    assert!(rt; is_written(&rt, alloc, 64, b"SVN\x00\x00\x00\x40\x02\x40\x80\x40"));
 }
 
 #[test]
-fn a_window_of_65_536_bytes(rt: HostRuntime) -> Result<(), Fail> {
-    let alloc = rt.alloc();
+fn a_window_of_65_536_bytes(rt: HostRuntime) {
     let front = b"SVN\x00\x00\x00\x84\x80\x00\x04\x84\x80\x00\x80\x84\x80\x00";
-    assert!(rt; is_written(alloc, 65_536, front)?);
-    Ok(())
+    assert!(rt; is_written(&rt, rt.alloc(), 65_536, front));
 }
 
 #[test]
-fn a_mebibyte_has_sixteen_windows(rt: HostRuntime) -> Result<(), Fail> {
+fn a_mebibyte_has_sixteen_windows(rt: HostRuntime) {
     let alloc = rt.alloc();
-    let text = Vec::from_elem(alloc, b'x', 1_048_576)?;
+    let text = Vec::from_elem(alloc, b'x', 1_048_576).expect(&rt, "memory");
     let mut written = Vec::new(alloc);
-    write_head(&mut written)?;
-    write_windows(&mut written, text.as_slice())?;
+    write_head(&mut written).expect(&rt, "memory");
+    write_windows(&mut written, text.as_slice()).expect(&rt, "memory");
     assert!(rt; written.len() == 4 + 16 * (13 + 65_536));
-    assert!(rt; gives(alloc, written.as_slice(), text.as_slice(), 0)?);
-    written.extend_from_slice(b"\x00\x00\x01\x01\x01\x81x")?;
-    assert!(rt; gives(alloc, written.as_slice(), text.as_slice(), 8)?);
-    Ok(())
+    assert!(rt; gives(&rt, alloc, written.as_slice(), text.as_slice(), 0));
+    written
+        .extend_from_slice(b"\x00\x00\x01\x01\x01\x81x")
+        .expect(&rt, "memory");
+    assert!(rt; gives(&rt, alloc, written.as_slice(), text.as_slice(), 8));
 }
 
 #[test]
-fn windows_in_other_spellings(rt: HostRuntime) -> Result<(), Fail> {
+fn windows_in_other_spellings(rt: HostRuntime) {
     let alloc = rt.alloc();
-    assert!(rt; gives(alloc, &TWO[..25], b"abc", 0)?);
-    assert!(rt; gives(alloc, b"SVN\x00\x00\x00\x00\x00\x00", b"", 0)?);
-    assert!(rt;
-        gives(
-            alloc,
-            b"SVN\x00\x81\x80\x80\x80\x80\x80\x80\x80\x80\x00\x00\x00\x00\x00",
-            b"",
-            0
-        )?
-    );
-    Ok(())
+    assert!(rt; gives(&rt, alloc, &TWO[..25], b"abc", 0));
+    assert!(rt; gives(&rt, alloc, b"SVN\x00\x00\x00\x00\x00\x00", b"", 0));
+    let long = b"SVN\x00\x81\x80\x80\x80\x80\x80\x80\x80\x80\x00\x00\x00\x00\x00";
+    assert!(rt; gives(&rt, alloc, long, b"", 0));
+}
+
+// Windows that are refused behind the head, with the number of each.
+const COPIES: [(&[u8], u32); 3] = [
+    (b"\x00\x00\x06\x01\x06\x06hello\n", 45),
+    (b"\x00\x00\x06\x01\x06\x46hello\n", 45),
+    (b"\x00\x01\x06\x01\x06\x86hello\n", 45),
+];
+
+const BAD_INSTRUCTIONS: [(&[u8], u32); 4] = [
+    (b"\x00\x00\x06\x01\x06\xc6hello\n", 44),
+    (b"\x00\x00\x06\x02\x06\x80\x00hello\n", 44),
+    (b"\x00\x00\x06\x01\x06\x80\x06hello\n", 44),
+    (b"\x00\x00\x05\x01\x06\x86hello\n", 44),
+];
+
+const BAD_NUMBERS: [(&[u8], u32); 3] = [
+    (
+        b"\x80\x80\x80\x80\x80\x80\x80\x80\x80\x80\x00\x00\x00\x00\x00",
+        44,
+    ),
+    (b"\x82\x80\x80\x80\x80\x80\x80\x80\x80\x00", 44),
+    (b"\x00\x01\x86\xa0\x01\x00\x00", 8),
+];
+
+// The place of the first window that isn't refused so.
+fn first_taken(rt: &impl Abort, alloc: Global, cases: &[(&[u8], u32)]) -> Option<usize> {
+    for (case, (window, number)) in cases.iter().enumerate() {
+        if !refuses(rt, alloc, window, *number) {
+            return Some(case);
+        }
+    }
+    None
 }
 
 #[test]
-fn copies_are_refused(rt: HostRuntime) -> Result<(), Fail> {
-    let alloc = rt.alloc();
-    assert!(rt; refuses(alloc, b"\x00\x00\x06\x01\x06\x06hello\n", 45)?);
-    assert!(rt; refuses(alloc, b"\x00\x00\x06\x01\x06\x46hello\n", 45)?);
-    assert!(rt; refuses(alloc, b"\x00\x01\x06\x01\x06\x86hello\n", 45)?);
-    Ok(())
+fn copies_are_refused(rt: HostRuntime) {
+    assert_eq!(rt; first_taken(&rt, rt.alloc(), &COPIES), None);
 }
 
 #[test]
-fn bad_instructions_are_refused(rt: HostRuntime) -> Result<(), Fail> {
-    let alloc = rt.alloc();
-    assert!(rt; refuses(alloc, b"\x00\x00\x06\x01\x06\xc6hello\n", 44)?);
-    assert!(rt; refuses(alloc, b"\x00\x00\x06\x02\x06\x80\x00hello\n", 44)?);
-    assert!(rt; refuses(alloc, b"\x00\x00\x06\x01\x06\x80\x06hello\n", 44)?);
-    assert!(rt; refuses(alloc, b"\x00\x00\x05\x01\x06\x86hello\n", 44)?);
-    Ok(())
+fn bad_instructions_are_refused(rt: HostRuntime) {
+    assert_eq!(rt; first_taken(&rt, rt.alloc(), &BAD_INSTRUCTIONS), None);
 }
 
 #[test]
-fn bad_numbers_are_refused(rt: HostRuntime) -> Result<(), Fail> {
-    let alloc = rt.alloc();
-    assert!(rt;
-        refuses(
-            alloc,
-            b"\x80\x80\x80\x80\x80\x80\x80\x80\x80\x80\x00\x00\x00\x00\x00",
-            44
-        )?
-    );
-    assert!(rt; refuses(alloc, b"\x82\x80\x80\x80\x80\x80\x80\x80\x80\x00", 44)?);
-    assert!(rt; refuses(alloc, b"\x00\x01\x86\xa0\x01\x00\x00", 8)?);
-    assert!(rt; gives(alloc, b"SVN\x01", b"", 44)?);
-    Ok(())
+fn bad_numbers_are_refused(rt: HostRuntime) {
+    assert_eq!(rt; first_taken(&rt, rt.alloc(), &BAD_NUMBERS), None);
+    assert!(rt; gives(&rt, rt.alloc(), b"SVN\x01", b"", 44));
 }
 
 // Whether bytes give the same whole and one byte at a time.
-fn agrees(alloc: Global, bytes: &[u8]) -> Result<bool, Fail> {
-    let whole = outcome(alloc, bytes, bytes.len())?;
-    let single = outcome(alloc, bytes, 1)?;
-    Ok(whole.0 == single.0 && whole.1 == single.1)
+fn agrees(rt: &impl Abort, alloc: Global, bytes: &[u8]) -> bool {
+    let mut whole = Vec::new(alloc);
+    let number = outcome(rt, bytes, bytes.len(), &mut whole);
+    gives_by(rt, alloc, bytes, 1, whole.as_slice(), number)
 }
 
 // Whether bytes that are cut anywhere give the same whole and one byte at a time.
-fn fronts_agree(alloc: Global, bytes: &[u8]) -> Result<bool, Fail> {
+fn fronts_agree(rt: &impl Abort, alloc: Global, bytes: &[u8]) -> bool {
     for n in 0..bytes.len() {
-        if !agrees(alloc, &bytes[..n])? {
-            return Ok(false);
+        if !agrees(rt, alloc, &bytes[..n]) {
+            return false;
         }
     }
-    Ok(true)
+    true
 }
 
 #[test]
-fn truncations_agree(rt: HostRuntime) -> Result<(), Fail> {
-    assert!(rt; fronts_agree(rt.alloc(), &HELLO)?);
-    assert!(rt; fronts_agree(rt.alloc(), &TWO)?);
-    Ok(())
+fn truncations_agree(rt: HostRuntime) {
+    assert!(rt; fronts_agree(&rt, rt.alloc(), &HELLO));
+    assert!(rt; fronts_agree(&rt, rt.alloc(), &TWO));
 }
 
-// Whether bytes with any one of them changed give the same whole and one byte at a time.
-fn changes_agree(alloc: Global, bytes: &[u8]) -> Result<bool, Fail> {
-    let mut changed = bytes.to_vec(alloc)?;
-    for (at, was) in bytes.iter().enumerate() {
-        for b in 0..=u8::MAX {
-            changed[at] = b;
-            if !agrees(alloc, &changed)? {
-                return Ok(false);
+// Whether bytes with one of them changed give the same whole and one byte at a time.
+fn agrees_with(rt: &impl Abort, alloc: Global, bytes: &[u8], at: usize, value: u8) -> bool {
+    let mut changed = Vec::from_slice(alloc, bytes).expect(rt, "memory");
+    if let Some(place) = changed.get_mut(at) {
+        *place = value;
+    }
+    agrees(rt, alloc, changed.as_slice())
+}
+
+// Whether that is so with any one of them changed to any value.
+fn changes_agree(rt: &impl Abort, alloc: Global, bytes: &[u8]) -> bool {
+    for at in 0..bytes.len() {
+        for value in 0..=u8::MAX {
+            if !agrees_with(rt, alloc, bytes, at, value) {
+                return false;
             }
         }
-        changed[at] = *was;
     }
-    Ok(true)
+    true
 }
 
 #[test]
-fn changed_bytes_agree(rt: HostRuntime) -> Result<(), Fail> {
-    assert!(rt; changes_agree(rt.alloc(), &HELLO)?);
-    assert!(rt; changes_agree(rt.alloc(), &TWO)?);
-    Ok(())
+fn changed_bytes_agree(rt: HostRuntime) {
+    assert!(rt; changes_agree(&rt, rt.alloc(), &HELLO));
+    assert!(rt; changes_agree(&rt, rt.alloc(), &TWO));
 }
 
 #[test]

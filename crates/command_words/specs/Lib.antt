@@ -1,0 +1,6 @@
+pub mod Lines
+pub mod Terminal
+pub mod Twice
+pub mod Usages
+pub mod Values
+pub mod Words

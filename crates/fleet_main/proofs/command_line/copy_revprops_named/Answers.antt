@@ -1,9 +1,0 @@
-use Rattle.std.proofs.Common.{codes, rules}
-use Rattle.fleet_main.proofs.Refusing.{folders_refused}
-use Rattle.fleet_main.proofs.command_line.copy_revprops_named.Goals as goal
-
-pub returns-in-Err-token_of-clause-usage : goal.returns-in-Err-token_of-clause-usage
-returns-in-Err-token_of-clause-usage c = folders_refused (codes "copy-revprops") _ _ (search rules) c.in-Err-token_of.ensures.usage
-
-pub returns-in-Err-clause-usage : goal.returns-in-Err-clause-usage
-returns-in-Err-clause-usage c = folders_refused (codes "copy-revprops") _ _ (search rules) c.in-Err.ensures.usage

@@ -1,6 +1,0 @@
-use Rattle.std.proofs.Common.{sym}
-use Rattle.fleet_main.proofs.Refusing.{identity_refused}
-use Rattle.fleet_main.proofs.command_line.create_named.Goals as goal
-
-pub returns-clause-usage : goal.returns-clause-usage
-returns-clause-usage c = identity_refused _ _ _ _ _ c.in_ok-value.ensures.value c.as_str.ensures.value c.as_str-in-None.ensures.value (sym c.in-None.ensures) c.wrong.ensures

@@ -1,5 +1,0 @@
-use Rattle.std.proofs.Common.{length}
-use Rattle.fleet_main.proofs.fleet_named.+first_twice.Given as goal
-
-abbrev pub decreases-first_twice : goal.decreases-first_twice
-decreases-first_twice l = length l.names.now

@@ -1,5 +1,0 @@
-use Rattle.std.proofs.Common.{length}
-use Rattle.fleet_main.proofs.fleet_named.+push_copies.Given as goal
-
-abbrev pub decreases-push_copies : goal.decreases-push_copies
-decreases-push_copies l = length l.names.now

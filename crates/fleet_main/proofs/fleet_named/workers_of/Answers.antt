@@ -1,7 +1,0 @@
-use Rattle.std.proofs.Common.{ℕ, sym, subst}
-use Rattle.fleet_main.specs.Values.{SpellsUpTo}
-use Rattle.fleet_main.proofs.Refusing.{workers_refused}
-use Rattle.fleet_main.proofs.fleet_named.workers_of.Goals as goal
-
-pub returns-in-None-clause-usage : goal.returns-in-None-clause-usage
-returns-in-None-clause-usage c = workers_refused _ _ _ (sym c.in-Some.ensures) (subst (λ v. (n : ℕ) → SpellsUpTo 64 v n → ⊥) c.as_bytes.ensures.value c.in-None.ensures.none) c.wrong.ensures
