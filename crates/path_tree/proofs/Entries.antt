@@ -1,5 +1,5 @@
 -- A listing in path order, child by child.
-use Rattle.std.proofs.Common.{Bor, ◌≡◌, ℕ, ◌-◌, take, arith, length-append, ◌+◌, List, [], ◌∷◌, ◌++◌, length, refl, sym, ap, ◌∙◌, append_assoc, append-nil}
+use Rattle.std.proofs.Common.{Bor, ◌≡◌, ℕ, ◌-◌, take, arith, length-append, suc, ◌+◌, ◌<◌, List, [], ◌∷◌, ◌++◌, length, drop, get_or, refl, sym, ap, ◌∙◌, append_assoc, append-nil, add-one, drop-cons}
 use Rattle.std.proofs.lemmas.List.{take-map, length-map}
 use Rattle.std.proofs.Math.Seq.{take-append_seam}
 use Rattle.std.specs.FinMap.{entries}
@@ -52,6 +52,15 @@ module _ (p : Path) (out : List Entry) where
       ∙ append_assoc (shown out) ((shown_names e.path.items, e.node.now) ∷ []) (under p (below cs))
       ∙ (λ i. shown out ++ ((ep ∙ sym (append-nil p)) i, ex i) ∷ under p (below cs))
       ∙ ap (λ es. shown out ++ under p es) (sym (entries-joined x cs s) ∙ ap entries is)
+
+  pub list_child : (cs : List (Name × PathMap)) (i : ℕ) (c : Name × PathMap) → i < length cs → c ≡ get_or cs i c → (new : List Entry) → shown new ≡ shown out ++ under (p ++ c.0 ∷ []) (entries c.1) → shown new ++ under p (below (drop (i + 1) cs)) ≡ shown out ++ under p (below (drop i cs))
+  list_child cs i c here is new e =
+      let split : drop i cs ≡ c ∷ drop (i + 1) cs = rw (add-one i) (drop-cons cs i c here ∙ ap (λ y. y ∷ drop (suc i) cs) (sym is)) in
+      ap (λ z. z ++ under p (below (drop (i + 1) cs))) e
+      ∙ append_assoc (shown out) (under (p ++ c.0 ∷ []) (entries c.1)) (under p (below (drop (i + 1) cs)))
+      ∙ ap (λ z. shown out ++ (z ++ under p (below (drop (i + 1) cs)))) (sym (under-behind p c.0 (entries c.1)))
+      ∙ ap (λ z. shown out ++ z) (sym (under-append p (behind c.0 (entries c.1)) (below (drop (i + 1) cs))))
+      ∙ ap (λ z. shown out ++ under p (below z)) (sym split)
 
 -- a child's entries, behind its name
 pub list_of_child : (p : Path) (out new : List (Path × Node)) (x : Name) (m : PathMap) → new ≡ out ++ under (p ++ x ∷ []) (entries m) → new ≡ out ++ under p (behind x (entries m))

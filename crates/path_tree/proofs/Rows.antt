@@ -1,15 +1,16 @@
 -- A name among children, one of whom stands between those before it and those behind it.
-use Rattle.std.proofs.Common.{◌≡◌, true, false, cond, not, T, List, [], ◌∷◌, ◌++◌, Some, Result, IfOk, refl, sym, ap, subst, ◌∙◌}
+use Rattle.std.proofs.Common.{◌≡◌, Bool, true, false, None, cond, not, T, List, [], ◌∷◌, ◌++◌, Option, Some, Result, IfOk, refl, sym, ap, subst, ◌∙◌}
 use Rattle.std.specs.declared.cmp.Ordering.{Ordering}
 use Rattle.std.specs.declared.cmp.Ordering.TheVariants.{Less, Equal, Greater}
 use Rattle.std.specs.Ordering.{is_eq, is_lt, ordering_reverse}
 use Rattle.std.specs.FinMap.{find}
-use Rattle.std.specs.FinMap.Entries.{below_all, by_order, put, where_key}
+use Rattle.std.specs.Cmp.{eq_by_cmp_equiv}
+use Rattle.std.specs.FinMap.Entries.{below_all, by_order, put, where_key, find-put, is_sorted-put, find-where_key, is_sorted-where_key}
 use Rattle.node_base.specs.Path.{Name, name_cmp, names_total, names_exact, same_name}
 use Rattle.path_tree.specs.Joined.{AreChildren}
 use Rattle.path_tree.specs.JoinedLemmas.{both_true, true_both, less_than}
 use Rattle.path_tree.specs.Rows.{differs}
-use Rattle.path_tree.proofs.Place.{find_below, below_less, keep_larger, equal_below}
+use Rattle.path_tree.proofs.Place.{Swaps, find_below, below_less, keep_larger, equal_below}
 
 -- the order seen from the other side
 turned : (x y : Name) (r : Ordering) → name_cmp y x ≡ r → name_cmp x y ≡ ordering_reverse r
@@ -128,6 +129,22 @@ module _ {X : Type 0} where
 
     pub rises_behind : (l r : List (Name × X)) → AreChildren (l ++ c ∷ r) → AreChildren r
     rises_behind l r s = (both_true _ _ (rising_back l (c ∷ r) s)).1
+
+-- ---- what becomes of children where one is put or taken away
+
+module _ {X : Type 0} (cs new : List (Name × X)) (x : Name) (s : AreChildren cs) where
+  pub swaps_with : (m : X) → new ≡ put name_cmp x m cs → Swaps cs new x (Some m)
+  swaps_with m is = subst (λ z. Swaps cs z x (Some m)) (sym is) (record { rising = is_sorted-put name_cmp names_total x m cs s; found = λ y. find-put name_cmp names_total y x m cs })
+
+  other_or_none : (b : Bool) (o : Option X) → cond (not b) o None ≡ cond b None o
+  other_or_none true o = refl
+  other_or_none false o = refl
+
+  pub swaps_without : new ≡ where_key name_cmp (differs x) cs → Swaps cs new x None
+  swaps_without is = subst (λ z. Swaps cs z x None) (sym is) (record {
+    rising = is_sorted-where_key name_cmp (differs x) cs s;
+    found = λ y. find-where_key name_cmp (differs x) y (λ z e. ap (λ w. differs x w) (sym (names_exact y z e))) cs ∙ other_or_none (same_name x y) (find name_cmp y cs) ∙ ap (λ b. cond b None (find name_cmp y cs)) ((eq_by_cmp_equiv names_total).symm x y);
+  })
 
 -- ---- what is made of the parts of a row, where `is` tells that they are the row
 

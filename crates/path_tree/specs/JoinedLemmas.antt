@@ -1,12 +1,13 @@
 -- What a joined map has at a path, and its entries.
-use Rattle.std.proofs.Common.{◌≡◌, suc, Bool, true, false, cond, ◌&&◌, T, List, [], ◌∷◌, ◌++◌, length, Option, Some, None, refl, sym, ap, ◌∙◌}
+use Rattle.std.proofs.Common.{◌≡◌, suc, ◌+◌, ◌≤◌, max, Bool, true, false, cond, ◌&&◌, T, List, [], ◌∷◌, ◌++◌, length, Option, Some, None, refl, sym, ap, ◌∙◌, arith, length-append}
 use Rattle.std.specs.Option.{option_and_then, option_or}
 use Rattle.std.specs.declared.cmp.Ordering.{Ordering}
 use Rattle.std.specs.declared.cmp.Ordering.TheVariants.{Less, Equal, Greater}
 use Rattle.std.specs.Ordering.{is_lt, ordering_then}
-use Rattle.std.specs.FinMap.{find, is_sorted, get, entries, get-entries, get-from_entries, get-from_sorted, same_map, entries_sorted, entries-from_sorted, from_sorted, from_entries}
+use Rattle.std.specs.FinMap.{find, is_sorted, get, entries, get-entries, get-from_entries, get-from_sorted, same_map, entries_sorted, entries-from_sorted, from_sorted, from_entries, len, len-entries}
 use Rattle.std.specs.FinMap.Entries.{below_all}
 use Rattle.std.proofs.lemmas.Cmp.{tied_itself}
+use denote.Param.Weighed.{most}
 use Rattle.node_base.specs.Path.{Name, Path, name_cmp, path_cmp, names_total, paths_total, paths_exact, same_name, same_path}
 use Rattle.node_base.proofs.PathLemmas.{same_path-cons, name_of_same}
 use Rattle.node_base.specs.declared.node.Node.{Node}
@@ -139,3 +140,11 @@ entries-joined n cs h = entries-from_entries (([], n) ∷ below cs) (true_both _
 pub length-behind : (n : Name) (es : List (Path × Node)) → length (behind n es) ≡ length es
 length-behind n [] = refl
 length-behind n (e ∷ es) = ap suc (length-behind n es)
+
+most_le-below : (cs : List (Name × PathMap)) → most (λ c. max 0 (max (len c.1 + 1) 0)) cs ≤ length (below cs) + 1
+most_le-below [] = omega arith
+most_le-below (c ∷ cs) = omega (arith, most_le-below cs, length-append (behind c.0 (entries c.1)) (below cs), length-behind c.0 (entries c.1), len-entries c.1)
+
+-- no child has as many nodes as the whole
+pub most_lt-joined : (n : Node) (cs : List (Name × PathMap)) → AreChildren cs → max (most (λ c. max 0 (max (len c.1 + 1) 0)) cs) 0 ≤ len (joined n cs)
+most_lt-joined n cs h = omega (arith, most_le-below cs, len-entries (joined n cs), ap length (entries-joined n cs h))

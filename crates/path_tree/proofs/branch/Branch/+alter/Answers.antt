@@ -1,7 +1,7 @@
 use Rattle.std.proofs.Common.{Some, sym, ap, ◌∙◌, arith, length-take, length-drop}
 use Rattle.path_tree.specs.Edits.{edit_here}
 use Rattle.path_tree.specs.Rows.{in_row}
-use Rattle.path_tree.proofs.Place.{swaps_put}
+use Rattle.path_tree.proofs.Rows.{swaps_with}
 use Rattle.path_tree.proofs.Edits.{first_and_rest, grafts_deep, not_absent, some_in_child}
 use Rattle.path_tree.proofs.branch.Branch.+alter.Goals as goal
 
@@ -12,13 +12,13 @@ alter-requires t c = (
 )
 
 pub invariant_of-self : goal.invariant_of-self
-invariant_of-self t c = (swaps_put (in_row c.self.inside.children) _ c.first-item.result c.self.invariant c.alter.new.self c.in_ok-self-inside-in-Some.ensures).rising
+invariant_of-self t c = (swaps_with (in_row c.self.inside.children) _ c.first-item.result c.self.invariant c.alter.new.self c.in_ok-self-inside-in-Some.ensures).rising
 
 pub returns-in_ok-self-inside-in-Some-clause-ok : goal.returns-in_ok-self-inside-in-Some-clause-ok
 returns-in_ok-self-inside-in-Some-clause-ok t c =
     let cs = in_row c.self.inside.children in
     let x = c.first-item.result in
-    grafts_deep c.self.inside.node cs _ x c.in_ok-child-in-Some.child c.alter.new.self c.self.invariant (swaps_put cs _ x c.self.invariant c.alter.new.self c.in_ok-self-inside-in-Some.ensures) (c.in-Some.ensures ∙ ap Some (sym c.in_ok-child-in-Some.ensures))
+    grafts_deep c.self.inside.node cs _ x c.in_ok-child-in-Some.child c.alter.new.self c.self.invariant (swaps_with cs _ x c.self.invariant c.alter.new.self c.in_ok-self-inside-in-Some.ensures) (c.in-Some.ensures ∙ ap Some (sym c.in_ok-child-in-Some.ensures))
     _ c.args.path.now (first_and_rest c.args.path.now x c.first-item.is (omega arith)) c.args.self.now c.self.view_is (edit_here c.args.edit) c.in_ok-alter-in-Some.ensures.ok
 
 pub unreachable-requires : goal.unreachable-requires

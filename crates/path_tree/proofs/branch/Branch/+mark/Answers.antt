@@ -1,7 +1,7 @@
 use Rattle.std.proofs.Common.{Some, sym, ap, subst, ◌∙◌, arith}
 use Rattle.path_tree.specs.Joined.{AreChildren}
 use Rattle.path_tree.specs.Rows.{in_row}
-use Rattle.path_tree.proofs.Place.{swaps_put}
+use Rattle.path_tree.proofs.Rows.{swaps_with}
 use Rattle.path_tree.proofs.Edits.{first_and_rest, no_path}
 use Rattle.path_tree.proofs.Marks.{marks_here, marks_in_child, marks_no_child}
 use Rattle.path_tree.proofs.branch.Branch.+mark.Goals as goal
@@ -13,9 +13,9 @@ invariant_of-self t c =
     elim c.if-path-lt1.branch [
       | in-empty w ↦ subst (λ s. AreChildren (in_row s.children)) (sym w.self-inside-is) c.self.invariant
       | in-len1-up+in-Some+in_ok-child-in-Some+in_ok-mark-in-Some+in_ok-self-inside-in-Some+in-Some-1 w ↦
-          subst (λ s. AreChildren (in_row s.children)) (sym w.self-inside-is) (swaps_put cs _ w.first-item.result c.self.invariant w.mark.new.self w.in_ok-self-inside-in-Some.ensures).rising
+          subst (λ s. AreChildren (in_row s.children)) (sym w.self-inside-is) (swaps_with cs _ w.first-item.result c.self.invariant w.mark.new.self w.in_ok-self-inside-in-Some.ensures).rising
       | in-len1-up+in-Some+in_ok-child-in-Some+in_ok-mark-in-Some+in_ok-self-inside-in-Some+in-None-1 w ↦
-          subst (λ s. AreChildren (in_row s.children)) (sym w.self-inside-is) (swaps_put cs _ w.first-item.result c.self.invariant w.mark.new.self w.in_ok-self-inside-in-Some.ensures).rising
+          subst (λ s. AreChildren (in_row s.children)) (sym w.self-inside-is) (swaps_with cs _ w.first-item.result c.self.invariant w.mark.new.self w.in_ok-self-inside-in-Some.ensures).rising
       | in-len1-up+in-None w ↦ subst (λ s. AreChildren (in_row s.children)) (sym w.self-inside-is) c.self.invariant
     ]
 
@@ -28,12 +28,12 @@ returns-clause-ok t c =
       | in-len1-up+in-Some+in_ok-child-in-Some+in_ok-mark-in-Some+in_ok-self-inside-in-Some+in-Some-1 w ↦
           let x = w.first-item.result in
           rw w.self-inside-is
-          (marks_in_child n c.args.self.now c.args.number cs _ x w.in_ok-child-in-Some.child w.mark.new.self c.self.invariant (swaps_put cs _ x c.self.invariant w.mark.new.self w.in_ok-self-inside-in-Some.ensures)
+          (marks_in_child n c.args.self.now c.args.number cs _ x w.in_ok-child-in-Some.child w.mark.new.self c.self.invariant (swaps_with cs _ x c.self.invariant w.mark.new.self w.in_ok-self-inside-in-Some.ensures)
           (w.in-Some.ensures ∙ ap Some (sym w.in_ok-child-in-Some.ensures)) c.self.view_is _ c.args.path.now (first_and_rest c.args.path.now x w.first-item.is (omega arith)) w.in_ok-mark-in-Some.ensures.ok)
       | in-len1-up+in-Some+in_ok-child-in-Some+in_ok-mark-in-Some+in_ok-self-inside-in-Some+in-None-1 w ↦
           let x = w.first-item.result in
           rw w.self-inside-is
-          (marks_in_child n c.args.self.now c.args.number cs _ x w.in_ok-child-in-Some.child w.mark.new.self c.self.invariant (swaps_put cs _ x c.self.invariant w.mark.new.self w.in_ok-self-inside-in-Some.ensures)
+          (marks_in_child n c.args.self.now c.args.number cs _ x w.in_ok-child-in-Some.child w.mark.new.self c.self.invariant (swaps_with cs _ x c.self.invariant w.mark.new.self w.in_ok-self-inside-in-Some.ensures)
           (w.in-Some.ensures ∙ ap Some (sym w.in_ok-child-in-Some.ensures)) c.self.view_is _ c.args.path.now (first_and_rest c.args.path.now x w.first-item.is (omega arith)) w.in_ok-mark-in-Some.ensures.ok)
       | in-len1-up+in-None w ↦
           rw w.self-inside-is

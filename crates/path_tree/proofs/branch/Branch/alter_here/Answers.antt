@@ -6,7 +6,7 @@ use Rattle.node_base.specs.Tree.{changed_at, with_given}
 use Rattle.node_base.specs.NodeEdits.{with_piece}
 use Rattle.path_tree.specs.Edits.{edit_here}
 use Rattle.path_tree.specs.Rows.{in_row}
-use Rattle.path_tree.proofs.Place.{swaps_put, swaps_without}
+use Rattle.path_tree.proofs.Rows.{swaps_with, swaps_without}
 use Rattle.path_tree.proofs.Edits.{edits_as, edited_here, grafts_as, graft_in_child, on_ok}
 use Rattle.path_tree.proofs.branch.Branch.alter_here.Goals as goal
 
@@ -26,7 +26,7 @@ returns-in-Piece-clause-ok c =
     c.append_text.ensures.ok
 
 pub invariant_of-self-in-Graft : goal.invariant_of-self-in-Graft
-invariant_of-self-in-Graft c = (swaps_put (in_row c.self-in-Graft.inside.children) _ (arc_value c.in-Graft.child).0 c.self-in-Graft.invariant (arc_value c.in-Graft.child).1 c.in_ok-self-inside-in-Graft.ensures).rising
+invariant_of-self-in-Graft c = (swaps_with (in_row c.self-in-Graft.inside.children) _ (arc_value c.in-Graft.child).0 c.self-in-Graft.invariant (arc_value c.in-Graft.child).1 c.in_ok-self-inside-in-Graft.ensures).rising
 
 pub returns-in_ok-self-inside-in-Graft-clause-ok : goal.returns-in_ok-self-inside-in-Graft-clause-ok
 returns-in_ok-self-inside-in-Graft-clause-ok c = λ q.
@@ -34,7 +34,7 @@ returns-in_ok-self-inside-in-Graft-clause-ok c = λ q.
     let x = (arc_value c.in-Graft.child).0 in
     let cs = in_row c.self-in-Graft.inside.children in
     grafts_as _ _ c.args.self.now (x ∷ []) (x ∷ []) (get m) c.self-in-Graft.view_is refl
-    (graft_in_child c.self-in-Graft.inside.node cs _ x (Some m) c.self-in-Graft.invariant (swaps_put cs _ x c.self-in-Graft.invariant m c.in_ok-self-inside-in-Graft.ensures) [] (get m) (λ q. refl)) q
+    (graft_in_child c.self-in-Graft.inside.node cs _ x (Some m) c.self-in-Graft.invariant (swaps_with cs _ x c.self-in-Graft.invariant m c.in_ok-self-inside-in-Graft.ensures) [] (get m) (λ q. refl)) q
     ∙ ap (λ e. edit_here e (get c.args.self.now) q) (sym c.in-Graft.is)
 
 pub invariant_of-self-in-Prune : goal.invariant_of-self-in-Prune
