@@ -11,7 +11,8 @@ use Rattle.node_base.specs.Tree.{PathMap, grafted, edited, blocked, alone}
 use Rattle.node_base.specs.declared.fault.TreeFault.TheVariants.{NoSuchPath, NotDir}
 use Rattle.path_tree.specs.Joined.{AreChildren, child_at, joined}
 use Rattle.path_tree.specs.JoinedLemmas.{get-joined, get-joined_root}
-use Rattle.path_tree.proofs.Place.{Children, Swaps}
+use Rattle.path_tree.specs.Rows.{Children}
+use Rattle.path_tree.proofs.Place.{Swaps}
 
 -- what stands in a map that may be missing
 abbrev pub maybe_at : Option PathMap → Path → Option Node

@@ -10,6 +10,7 @@ use Rattle.path_tree.specs.Joined.{behind, below, joined, AreChildren, under}
 use Rattle.path_tree.specs.declared.listing.Entry.{Entry}
 use Rattle.path_tree.specs.Listed.{shown, shown_names}
 use Rattle.path_tree.specs.JoinedLemmas.{entries-joined}
+use Rattle.path_tree.specs.RowLemmas.{below-append}
 
 shown-append : (es fs : List Entry) → shown (es ++ fs) ≡ shown es ++ shown fs
 shown-append [] fs = refl
@@ -60,3 +61,15 @@ module _ (p : Path) (out : List Entry) where
       ∙ ap (λ z. shown out ++ (z ++ under p (below (drop (i + 1) cs)))) (sym (under-behind p c.0 (entries c.1)))
       ∙ ap (λ z. shown out ++ z) (sym (under-append p (behind c.0 (entries c.1)) (below (drop (i + 1) cs))))
       ∙ ap (λ z. shown out ++ under p (below z)) (sym split)
+
+-- a child's entries, behind its name
+pub list_of_child : (p : Path) (out new : List (Path × Node)) (x : Name) (m : PathMap) → new ≡ out ++ under (p ++ x ∷ []) (entries m) → new ≡ out ++ under p (behind x (entries m))
+list_of_child p out new x m e = e ∙ ap (λ z. out ++ z) (sym (under-behind p x (entries m)))
+
+-- those before a child, the child, and those behind it
+pub list_of_row : (p : Path) (start front middle end : List (Path × Node)) (l : List (Name × PathMap)) (c : Name × PathMap) (r : List (Name × PathMap)) → front ≡ start ++ under p (below l) → middle ≡ front ++ under p (behind c.0 (entries c.1)) → end ≡ middle ++ under p (below r)
+    → end ≡ start ++ under p (below (l ++ c ∷ r))
+list_of_row p start front middle end l c r e f g =
+    g ∙ ap (λ z. z ++ under p (below r)) (f ∙ ap (λ z. z ++ under p (behind c.0 (entries c.1))) e ∙ append_assoc start (under p (below l)) (under p (behind c.0 (entries c.1))))
+    ∙ append_assoc start (under p (below l) ++ under p (behind c.0 (entries c.1))) (under p (below r))
+    ∙ ap (λ z. start ++ z) (append_assoc (under p (below l)) (under p (behind c.0 (entries c.1))) (under p (below r)) ∙ sym (ap (under p) (below-append l (c ∷ r)) ∙ under-append p (below l) (below (c ∷ r)) ∙ ap (λ z. under p (below l) ++ z) (under-append p (behind c.0 (entries c.1)) (below r))))

@@ -2,13 +2,11 @@ pub mod Altered
 pub mod Copies
 pub mod Edits
 pub mod Faults
-pub mod Exchanges
 pub mod Fronts
 pub mod Lengths
 pub mod Entries
 pub mod Kept
 pub mod Marks
 pub mod Place
-pub mod Pointers
 pub mod Reaches
-pub mod Search
+pub mod Rows

@@ -1,13 +1,12 @@
 -- What a number on the fronts of a path does to the whole map.
-use Rattle.std.proofs.Common.{◌≡◌, ℕ, [], ◌∷◌, Some, None, is_some, refl, sym, ap, ◌∙◌}
+use Rattle.std.proofs.Common.{◌≡◌, ℕ, [], ◌∷◌, Some, None, refl, sym, ap, ◌∙◌}
 use Rattle.std.specs.FinMap.{find, get}
 use Rattle.node_base.specs.Path.{Name, Path, name_cmp, is_front}
 use Rattle.node_base.specs.declared.node.Node.{Node}
 use Rattle.node_base.specs.Tree.{PathMap, edited, marked, with_number}
 use Rattle.path_tree.specs.Joined.{AreChildren, joined}
-use Rattle.path_tree.specs.Reach.{reach_to}
-use Rattle.path_tree.proofs.Place.{Children, Swaps}
-use Rattle.path_tree.proofs.Reaches.{reach-same, some-edited}
+use Rattle.path_tree.specs.Rows.{Children}
+use Rattle.path_tree.proofs.Place.{Swaps}
 use Rattle.path_tree.proofs.Edits.{edits_as, edited_here, edited_no_child, edited_in_child, front_itself, front_elsewhere}
 
 -- new is old with the number on the fronts of the path
@@ -30,7 +29,3 @@ module _ (n : Node) (self : PathMap) (number : ℕ) where
   marks_no_child cs x s none is p path e =
       edits_as _ _ self (λ q. is_front q (x ∷ p)) (λ q. is_front q path) (with_number number) is (λ q. ap (is_front q) (sym e))
       (edited_no_child n (λ q. is_front q (x ∷ p)) (with_number number) x (front_elsewhere x p) cs s none)
-
--- a number changes no path
-pub reach_marked : (x : Name) (old new : PathMap) (p : Path) (number : ℕ) → Marks old new p number → reach_to (x, new) ≡ reach_to (x, old)
-reach_marked x old new p number h = reach-same x new old (λ q. ap is_some (h q) ∙ some-edited (get old) (λ r. is_front r p) (with_number number) q)

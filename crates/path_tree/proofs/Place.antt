@@ -7,22 +7,15 @@ use Rattle.std.specs.List.{insert, remove}
 use Rattle.std.specs.Cmp.{eq_by_cmp_equiv}
 use Rattle.std.specs.FinMap.Entries.{below_all, by_order, put, where_key, find-put, is_sorted-put, find-where_key, is_sorted-where_key}
 use Rattle.node_base.specs.Path.{Name, name_cmp, names_total, names_exact, same_name}
-use Rattle.node_base.specs.Tree.{PathMap}
 use Rattle.path_tree.specs.Joined.{AreChildren, place}
 use Rattle.path_tree.specs.JoinedLemmas.{both_true, true_both, less_than, find_absent}
+use Rattle.path_tree.specs.Rows.{differs}
 
 absurd_some : {A : Type 0} (x : A) (G : Type 0) → Some x ≡ None → G
 absurd_some x G e = cc
 
 none_some : (X : Type 0) → IsSome {T = X} None → ⊥
 none_some X e = cc
-
-abbrev differs : Name → Name → Bool
-differs x k = not (same_name x k)
-
--- children of any kind
-abbrev pub Children : Type 0
-Children = List (Name × PathMap)
 
 module _ {X : Type 0} where
   -- the first i names are smaller than x
@@ -34,7 +27,7 @@ module _ {X : Type 0} where
   pub reached_none : (cs : List (Name × X)) (x : Name) → AreChildren cs → Reached cs x 0
   reached_none cs x h = record { placed = omega arith; found = refl; rising = h }
 
-  below_less : (x y : Name) (cs : List (Name × X)) → name_cmp x y ≡ Less → T (below_all name_cmp y cs) → T (below_all name_cmp x cs)
+  pub below_less : (x y : Name) (cs : List (Name × X)) → name_cmp x y ≡ Less → T (below_all name_cmp y cs) → T (below_all name_cmp x cs)
   below_less x y [] e h = tt
   below_less x y (c ∷ cs) e h =
       let b = both_true _ _ h in
@@ -114,13 +107,13 @@ module _ {X : Type 0} where
         | Greater ↦ λ e h. ap (λ s. c ∷ s) (replace_at_place cs x m (both_true _ _ s).1 h)
       ] refl some
 
-  keep_larger : (x : Name) (cs : List (Name × X)) → T (below_all name_cmp x cs) → where_key name_cmp (differs x) cs ≡ cs
+  pub keep_larger : (x : Name) (cs : List (Name × X)) → T (below_all name_cmp x cs) → where_key name_cmp (differs x) cs ≡ cs
   keep_larger x [] h = refl
   keep_larger x (c ∷ cs) h =
       let b = both_true _ _ h in
       ap (λ o. cond (not (is_eq o)) (c ∷ where_key name_cmp (differs x) cs) (where_key name_cmp (differs x) cs)) (less_than (name_cmp x c.0) b.0) ∙ ap (λ s. c ∷ s) (keep_larger x cs b.1)
 
-  equal_below : (x : Name) (c : Name × X) (cs : List (Name × X)) → name_cmp x c.0 ≡ Equal → AreChildren (c ∷ cs) → T (below_all name_cmp x cs)
+  pub equal_below : (x : Name) (c : Name × X) (cs : List (Name × X)) → name_cmp x c.0 ≡ Equal → AreChildren (c ∷ cs) → T (below_all name_cmp x cs)
   equal_below x c cs e s = subst (λ y. T (below_all name_cmp y cs)) (sym (names_exact x c.0 e)) (both_true _ _ s).0
 
   -- a child that is there, taken out

@@ -137,7 +137,7 @@ entries-from_entries es h =
 pub entries-joined : (n : Node) (cs : List (Name × PathMap)) → AreChildren cs → entries (joined n cs) ≡ ([], n) ∷ below cs
 entries-joined n cs h = entries-from_entries (([], n) ∷ below cs) (true_both _ _ (root_below cs) (sorted-below cs h))
 
-length-behind : (n : Name) (es : List (Path × Node)) → length (behind n es) ≡ length es
+pub length-behind : (n : Name) (es : List (Path × Node)) → length (behind n es) ≡ length es
 length-behind n [] = refl
 length-behind n (e ∷ es) = ap suc (length-behind n es)
 

@@ -7,5 +7,6 @@ pub mod Listed
 pub mod NodeCalls
 pub mod Nodes
 pub mod Reach
+pub mod RowLemmas
+pub mod Rows
 pub mod Shape
-pub mod Shared

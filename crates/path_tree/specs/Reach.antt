@@ -1,11 +1,11 @@
 -- How far paths reach: the most names and the most bytes.
-use Rattle.std.specs.Prelude.{◌≡◌, ℕ, ◌+◌, Bool, ◌&&◌, ◌||◌, nat_lt, nat_le, min, max, List, [], ◌∷◌, length, map}
+use Rattle.std.specs.Prelude.{ℕ, ◌+◌, Bool, ◌||◌, nat_lt, min, max, List, [], ◌∷◌, length, map}
 use Rattle.std.specs.FinMap.{entries}
 use Rattle.node_base.specs.Path.{Name, Path}
 use Rattle.node_base.specs.Limits.{weight}
 use Rattle.node_base.specs.Tree.{PathMap}
 use Rattle.path_tree.specs.declared.reach.Reach.{Reach}
-use Rattle.path_tree.specs.Joined.{AreChildren, behind, below}
+use Rattle.path_tree.specs.Joined.{behind, below}
 
 -- the greatest measure of these paths
 abbrev pub greatest : (Path → ℕ) → List Path → ℕ
@@ -40,18 +40,3 @@ behind_name n r = record { names = held (r.names + 1); bytes = held (r.bytes + (
 -- whether a path that reaches so far is past 64 names or 1,024 bytes behind so many names of such a weight
 abbrev pub past : ℕ → ℕ → Reach → Bool
 past names bytes r = nat_lt 64 (names + r.names) || nat_lt 1025 (bytes + r.bytes)
-
--- count by count, what goes had less than the most or no more than what comes
-abbrev pub tells : Reach → Reach → Reach → Bool
-tells old gone come = (nat_lt gone.names old.names || nat_le gone.names come.names) && (nat_lt gone.bytes old.bytes || nat_le gone.bytes come.bytes)
-
--- the reach before, with what goes, and after, with what comes in its place
-pub record Exchanged (old gone come new : Reach) : Type 0 where
-  pub others : Reach
-  pub before : old ≡ either others gone
-  pub after : new ≡ either others come
-
--- the children's names rise, and the reach is that of the paths below
-pub record IsBranch (cs : List (Name × PathMap)) (r : Reach) : Type 0 where
-  pub rising : AreChildren cs
-  pub reach : r ≡ reach_of cs

@@ -1,33 +1,31 @@
 //! A node with what is below it, each child shared by its owners.
-ghost use Rattle.std.specs.Prelude.{◌≡◌, ◌++◌, ◌<◌, ◌≤◌, [], not, length, IfOk, IfErr, OnOk, OnErr};
+ghost use Rattle.std.specs.Prelude.{◌≡◌, ◌++◌, ◌≤◌, [], not, IfOk, OnOk, OnErr};
 ghost use Rattle.std.specs.Prelude.{IsSome, None, Some, MatchOption};
 ghost use Rattle.std.specs.FinMap as map;
 ghost use Rattle.std.specs.List.{list_any};
-ghost use Rattle.std.specs.Arc.{arc_value};
-ghost use Rattle.node_base.specs.Path.{Path, name_cmp};
+ghost use Rattle.node_base.specs.Path.{Path};
 ghost use Rattle.node_base.specs.Limits.{fits_after};
 ghost use Rattle.node_base.specs.Tree.{marked, blocked, changed_at};
 ghost use Rattle.node_base.specs.NodeEdits.{with_prop, with_piece};
-ghost use Rattle.path_tree.specs.Joined.{AreChildren, place, under};
+ghost use Rattle.path_tree.specs.Joined.{under};
 ghost use Rattle.path_tree.specs.Listed.{shown, shown_names};
-ghost use Rattle.path_tree.specs.Shared.{pointed};
 ghost use Rattle.path_tree.specs.Edits.{edit_here, edit_at};
-ghost use Rattle.path_tree.specs.Reach.{reach_of, reach_to, either, Exchanged};
+ghost use Rattle.path_tree.specs.Reach.{reach_to};
 
 use crate::Entry;
 use crate::edit::Edit;
 use crate::reach::Reach;
+use crate::row::{Row, Twig, child_of, list_row, reach_in, shared, with, with_branch, without};
 use node_base::{Node, NodeName, PropName, PropValue, RevNo, TreeFault};
 use std::alloc::{AllocError, Global};
 use std::marker::Model;
 use std::sync::Arc;
 
+#[cycle(tree)]
 #[derive(Drop)]
 pub struct Branch {
     node: Node,
-    children: Vec<Arc<(NodeName, Branch)>>,
-    // How far the paths below reach, so that no question about limits goes down.
-    reach: Reach,
+    children: Option<Arc<Twig>>,
 }
 
 impl Model for Branch {
@@ -37,104 +35,38 @@ impl Model for Branch {
 
     ghost coded = { coded_tree };
 
-    ghost use Rattle.std.specs.FinMap as map;
-    ghost use Rattle.path_tree.specs.Joined.{joined};
-    ghost use Rattle.path_tree.specs.Shared.{pointed};
-    ghost use Rattle.path_tree.specs.Reach.{IsBranch};
+    ghost use Rattle.path_tree.specs.Joined.{AreChildren, joined};
+    ghost use Rattle.path_tree.specs.Rows.{in_row, branch_size};
 
-    ghost view = { λ a. joined a.node (pointed a.children.items) };
+    ghost view = { λ a. joined a.node (in_row a.children) };
 
-    ghost invariant = { λ a. IsBranch (pointed a.children.items) a.reach };
+    ghost invariant = { λ a. AreChildren (in_row a.children) };
 
-    ghost size = { map.len };
+    ghost size = { branch_size };
 
-    ghost use Rattle.path_tree.specs.Shared.{most_lt-pointed};
+    ghost use Rattle.path_tree.specs.RowLemmas.{branch_falls};
 
-    ghost size_decreases = { λ a h. most_lt-pointed a.node a.children.items h.rising };
-}
-
-// Where the name is, or where it would go.
-fn place_of(children: &[Arc<(NodeName, Branch)>], name: &NodeName) -> Result<usize, usize>
-    requires { AreChildren (pointed children.now) }
-    ensures at { IfOk result (λ i. i ≡ place name.now (pointed children.now)) }
-    ensures gap { IfErr result (λ i. i ≡ place name.now (pointed children.now)) }
-    ensures found { IfOk result (λ i. i < length children.now) }
-    ensures present { OnOk result (IsSome (map.find name_cmp name.now (pointed children.now))) }
-    ensures absent { IfErr result (λ _. map.find name_cmp name.now (pointed children.now) ≡ None) }
-    ensures in_range { IfErr result (λ i. i ≤ length children.now) }
-{
-    children.binary_search_by(|child| child.0.compare(name))
-}
-
-// The same child for another owner, which shares what is below it.
-fn copy_of(alloc: Global, child: &(NodeName, Branch)) -> Result<(NodeName, Branch), AllocError>
-    ensures { IfOk result (λ c. c ≡ child.now) }
-{
-    Ok((child.0.copy(alloc)?, child.1.again(alloc)?))
-}
-
-// How far the paths to a child and below it reach.
-fn reach_to(child: &(NodeName, Branch)) -> Reach
-    ensures { result ≡ reach_to child.now }
-{
-    child.1.reach_behind(&child.0)
-}
-
-// How far the paths to these children and below them reach, which is known to be no further than `most`: the look
-// ends where it is reached.
-fn look(children: &[Arc<(NodeName, Branch)>], most: Reach) -> Reach
-    requires { either most (reach_of (pointed children.now)) ≡ most }
-    ensures { result ≡ reach_of (pointed children.now) }
-{
-    let mut reach = Reach::nowhere();
-    for child in children {
-        reach = reach.either(reach_to(child));
-        if reach.is(most) {
-            return reach;
-        }
-    }
-    reach
-}
-
-// How far the paths to these children and below them reach, where it was `old` before one that reached `gone`
-// became one that reaches `come`.
-fn reach_after(children: &[Arc<(NodeName, Branch)>], old: Reach, gone: Reach, come: Reach) -> Reach
-    requires { Exchanged old gone come (reach_of (pointed children.now)) }
-    ensures { result ≡ reach_of (pointed children.now) }
-{
-    let most = old.either(come);
-    if old.tells(gone, come) {
-        return most;
-    }
-    look(children, most)
+    ghost size_decreases = { λ a h. branch_falls a h };
 }
 
 impl Branch {
     /// One node with nothing below it.
-    pub fn leaf(alloc: Global, node: Node) -> Branch
+    pub fn leaf(node: Node) -> Branch
         ensures { result ≡ map.insert map.empty [] node }
     {
         Branch {
             node,
-            children: Vec::new(alloc),
-            reach: Reach::nowhere(),
+            children: None,
         }
     }
 
-    /// The same branch once more: its top is copied, and the children are shared.
-    pub fn again(&self, alloc: Global) -> Result<Branch, AllocError>
+    /// The same branch once more: its top is copied, and what is below it is shared.
+    pub fn again(&self) -> Result<Branch, AllocError>
         ensures { IfOk result (λ b. b ≡ self.now) }
     {
-        let node = self.node.share()?;
-        let mut children = Vec::with_capacity(alloc, self.children.len())?;
-        for child in &self.children {
-            children.push(Arc::try_clone(child)?)?;
-        }
-        let reach = self.reach;
         Ok(Branch {
-            node,
-            children,
-            reach,
+            node: self.node.share()?,
+            children: shared(&self.children)?,
         })
     }
 
@@ -152,12 +84,9 @@ impl Branch {
     {
         match path {
             [] => Some(self),
-            [first, rest @ ..] => match place_of(&self.children, first) {
-                Ok(i) => {
-                    let child = &self.children[i];
-                    child.1.find(rest)
-                }
-                Err(_) => None,
+            [first, rest @ ..] => match child_of(&self.children, first) {
+                Some(child) => child.find(rest),
+                None => None,
             },
         }
     }
@@ -172,12 +101,9 @@ impl Branch {
                 if self.node.text.is_some() {
                     return Some(TreeFault::NotDir);
                 }
-                match place_of(&self.children, first) {
-                    Ok(i) => {
-                        let child = &self.children[i];
-                        child.1.blocked(rest)
-                    }
-                    Err(_) => {
+                match child_of(&self.children, first) {
+                    Some(child) => child.blocked(rest),
+                    None => {
                         if rest.is_empty() {
                             None
                         } else {
@@ -189,18 +115,19 @@ impl Branch {
         }
     }
 
-    // How far its paths reach behind a name.
-    fn reach_behind(&self, name: &NodeName) -> Reach
-        ensures { result ≡ reach_to (name.now, self.now) }
+    /// How far its paths reach behind a name. Its root is there at least.
+    pub fn reach_behind(&self, name: &NodeName) -> Reach
+        ensures reach { result ≡ reach_to (name.now, self.now) }
+        ensures rooted { 1 ≤ map.len self.now }
     {
-        self.reach.behind(name)
+        reach_in(&self.children).behind(name)
     }
 
     /// Whether some path here is too long behind so many names of such a weight.
     pub fn exceeds(&self, names: usize, bytes: usize) -> bool
         ensures { result ≡ list_any (λ k. not (fits_after names bytes k)) (map.keys self.now) }
     {
-        self.reach.exceeds(names, bytes)
+        reach_in(&self.children).exceeds(names, bytes)
     }
 
     /// Whether some path here is too long behind a path that follows so many names of such a weight.
@@ -219,7 +146,7 @@ impl Branch {
         }
     }
 
-    /// Gives the number to each front of a path that is there. A child that has other owners is copied first.
+    /// Gives the number to each front of a path that is there. What has other owners is copied first.
     pub fn mark(
         &mut self,
         alloc: Global,
@@ -231,26 +158,20 @@ impl Branch {
     {
         match path {
             [] => {}
-            [first, rest @ ..] => match place_of(&self.children, first) {
-                Ok(i) => {
-                    let slot = &mut self.children[i];
-                    match Arc::get_mut(slot) {
-                        Some(child) => child.1.mark(alloc, rest, number)?,
-                        None => {
-                            let mut child = copy_of(alloc, slot)?;
-                            child.1.mark(alloc, rest, number)?;
-                            *slot = Arc::new(alloc, child)?;
-                        }
-                    }
+            [first, rest @ ..] => match child_of(&self.children, first) {
+                Some(child) => {
+                    let mut child = child.again()?;
+                    child.mark(alloc, rest, number)?;
+                    self.children = with_branch(alloc, &self.children, first, child)?;
                 }
-                Err(_) => {}
+                None => {}
             },
         }
         self.node.changed = number;
         Ok(())
     }
 
-    /// Edits the node at a path. A child that has other owners is copied first.
+    /// Edits the node at a path. What has other owners is copied first.
     pub fn alter(&mut self, alloc: Global, path: &[NodeName], edit: Edit) -> Result<(), AllocError>
         requires { IsSome (map.get self.old path.now) }
         ensures ok { OnOk result ((q : Path) → map.get self.new q ≡ edit_at edit (map.get self.old) path.now q) }
@@ -258,24 +179,14 @@ impl Branch {
     {
         match path {
             [] => self.alter_here(alloc, edit),
-            [first, rest @ ..] => match place_of(&self.children, first) {
-                Ok(i) => {
-                    let slot = &mut self.children[i];
-                    let gone = reach_to(slot);
-                    if let Some(child) = Arc::get_mut(slot) {
-                        child.1.alter(alloc, rest, edit)?;
-                        let come = reach_to(child);
-                        self.reach = reach_after(&self.children, self.reach, gone, come);
-                        return Ok(());
-                    }
-                    let mut child = copy_of(alloc, slot)?;
-                    child.1.alter(alloc, rest, edit)?;
-                    let come = reach_to(&child);
-                    *slot = Arc::new(alloc, child)?;
-                    self.reach = reach_after(&self.children, self.reach, gone, come);
+            [first, rest @ ..] => match child_of(&self.children, first) {
+                Some(child) => {
+                    let mut child = child.again()?;
+                    child.alter(alloc, rest, edit)?;
+                    self.children = with_branch(alloc, &self.children, first, child)?;
                     Ok(())
                 }
-                Err(_) => unreachable!(),
+                None => unreachable!(),
             },
         }
     }
@@ -324,35 +235,19 @@ impl Branch {
             Edit::Prop(name, value) => self.put_prop(alloc, name, value),
             Edit::Piece(piece) => self.append_text(alloc, piece.as_slice()),
             Edit::Graft(child) => {
-                let come = reach_to(&child);
-                match place_of(&self.children, &child.0) {
-                    Ok(i) => {
-                        let gone = reach_to(&self.children[i]);
-                        self.children[i] = child;
-                        self.reach = reach_after(&self.children, self.reach, gone, come);
-                        Ok(())
-                    }
-                    Err(i) => {
-                        self.children.insert(i, child)?;
-                        self.reach = self.reach.either(come);
-                        Ok(())
-                    }
-                }
+                self.children = with(alloc, &self.children, &child)?;
+                Ok(())
             }
-            Edit::Prune(name) => match place_of(&self.children, &name) {
-                Ok(i) => {
-                    let gone = reach_to(&self.children.remove(i));
-                    let come = Reach::nowhere();
-                    self.reach = reach_after(&self.children, self.reach, gone, come);
-                    Ok(())
-                }
-                Err(_) => Ok(()),
-            },
+            Edit::Prune(name) => {
+                self.children = without(alloc, &self.children, &name)?;
+                Ok(())
+            }
         }
     }
 
     /// Adds each node with its path, in path order. The path's names stand behind those above it, which come back
     /// as they were.
+    #[cycle(lists)]
     pub fn list_into<'a>(
         &'a self,
         alloc: Global,
@@ -371,11 +266,6 @@ impl Branch {
             path,
             node: &self.node,
         })?;
-        for child in &self.children {
-            above.push(&child.0)?;
-            child.1.list_into(alloc, above, out)?;
-            let _ = above.pop();
-        }
-        Ok(())
+        list_row(&self.children, alloc, above, out)
     }
 }

@@ -13,4 +13,5 @@ pub mod limits;
 mod listing;
 mod node_calls;
 mod reach;
+mod row;
 mod tree;

@@ -1,6 +1,6 @@
 //! How far the paths below a node reach.
-ghost use Rattle.std.specs.Prelude.{◌≡◌, true};
-ghost use Rattle.path_tree.specs.Reach.{behind_name, either, nowhere, past, tells};
+ghost use Rattle.std.specs.Prelude.{◌≡◌};
+ghost use Rattle.path_tree.specs.Reach.{behind_name, either, nowhere, past};
 
 use node_base::NodeName;
 
@@ -45,21 +45,5 @@ impl Reach {
         ensures { result ≡ past names bytes self }
     {
         names.saturating_add(self.names) > 64 || bytes.saturating_add(self.bytes) > 1025
-    }
-
-    /// Whether both counts are the same.
-    pub fn is(self, other: Reach) -> bool
-        ensures same { result ≡ true → self ≡ other }
-    {
-        self.names == other.names && self.bytes == other.bytes
-    }
-
-    /// Whether the reach of some paths, this one, tells what it is after those of `gone` became those of `come`:
-    /// count by count, others have as much as `gone` had or `come` has it.
-    pub fn tells(self, gone: Reach, come: Reach) -> bool
-        ensures { result ≡ tells self gone come }
-    {
-        (gone.names < self.names || gone.names <= come.names)
-            && (gone.bytes < self.bytes || gone.bytes <= come.bytes)
     }
 }

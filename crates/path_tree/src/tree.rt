@@ -49,7 +49,7 @@ impl Tree {
         ensures { IfOk result (λ t. (q : Path) → map.get t q ≡ alone new_dir q) }
     {
         Ok(Tree {
-            root: Arc::new(alloc, Branch::leaf(alloc, Node::new_dir()))?,
+            root: Arc::new(alloc, Branch::leaf(Node::new_dir()))?,
         })
     }
 
@@ -126,7 +126,7 @@ impl Tree {
         if let Some(root) = Arc::get_mut(&mut self.root) {
             return root.mark(alloc, path, number);
         }
-        let mut root = self.root.again(alloc)?;
+        let mut root = self.root.again()?;
         root.mark(alloc, path, number)?;
         self.root = Arc::new(alloc, root)?;
         Ok(())
@@ -143,7 +143,7 @@ impl Tree {
         let _ = path.names();
         path_limits(path);
         node_limits(&node);
-        self.graft(alloc, path, Branch::leaf(alloc, node))
+        self.graft(alloc, path, Branch::leaf(node))
     }
 
     /// Puts what stands at `source` of a tree, and below it, in the place of what stands at a path and below it.
@@ -169,7 +169,7 @@ impl Tree {
         };
         from.limits();
         path_limits(path);
-        self.graft(alloc, path, branch.again(alloc)?)
+        self.graft(alloc, path, branch.again()?)
     }
 
     /// Removes what stands at a path and below it.
@@ -248,7 +248,7 @@ impl Tree {
         if let Some(root) = Arc::get_mut(&mut self.root) {
             return root.alter(alloc, path, edit);
         }
-        let mut root = self.root.again(alloc)?;
+        let mut root = self.root.again()?;
         root.alter(alloc, path, edit)?;
         self.root = Arc::new(alloc, root)?;
         Ok(())

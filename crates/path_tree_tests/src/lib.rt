@@ -9,3 +9,5 @@ mod node_tests;
 mod reach_tests;
 #[cfg(test)]
 mod tree_tests;
+#[cfg(test)]
+mod wide_tests;

@@ -1,11 +1,11 @@
 use Rattle.std.proofs.Common.{[], refl}
 use Rattle.node_base.specs.Path.{same_path}
 use Rattle.node_base.specs.NodeEdits.{with_prop}
-use Rattle.path_tree.specs.Shared.{pointed}
+use Rattle.path_tree.specs.Rows.{in_row}
 use Rattle.path_tree.proofs.Edits.{edits_as, edited_here}
 use Rattle.path_tree.proofs.branch.Branch.put_prop.Goals as goal
 
 pub returns-clause-ok : goal.returns-clause-ok
 returns-clause-ok c =
     edits_as _ _ c.args.self.now (same_path []) (same_path []) (with_prop c.args.name c.args.value) c.self.view_is (λ q. refl)
-    (rw c.in-Ok.ensures.ok (edited_here c.self.inside.node (same_path []) (with_prop c.args.name c.args.value) (pointed c.self.inside.children.items) c.self.invariant.rising (λ y q. refl)))
+    (rw c.in-Ok.ensures.ok (edited_here c.self.inside.node (same_path []) (with_prop c.args.name c.args.value) (in_row c.self.inside.children) c.self.invariant (λ y q. refl)))
