@@ -45,7 +45,7 @@ pub worked_refused : {D : Type 0} {G : Ghosts D} (IsRun : List Spoken → Result
     → Serves IsRun old new before now failed r → IfErr r (λ e. NotWorkedOn IsRun before now failed e old new)
 worked_refused IsRun (Ok u) old new before now failed s = tt
 worked_refused IsRun (Err x) old new before now failed s =
-    λ works. record { said = s.said; ended = s.ended; run = s.run; lost = s.lost; printed = s.printed; answer = s.answer; left = s.left works }
+    λ works. record { said = s.said; ended = s.ended; run = s.run; lost = s.lost; printed = s.printed; answer = s.answer; left = s.left works; device = s.device.device }
 
 pub worked_rules : {D : Type 0} {G : Ghosts D} (IsRun : List Spoken → Result (Unit {0}) SyncFault → Type 0) (r : Result (Unit {0}) Refusal) (old new : RepoStore D G) (before now : Option (List ℕ)) (failed : Bool)
     → Serves IsRun old new before now failed r → ¬ HasFailed old → G.honest (disk_of old) → G.honest (disk_of new)

@@ -161,6 +161,8 @@ pub record NotWorkedOver {D : Type 0} {G : Ghosts D} (IsRun : List Spoken → Re
   pub printed : IsPrinted before now failed lost (told_in said)
   pub answer : Err e ≡ answer_of ended lost
   pub left : Leaves old new (accepted_in said) (counted_in said)
+  -- 31 comes only where the mirror's device has failed meanwhile
+  pub device : e ≡ refusal.DeviceFailed → Rose (G.failures (disk_of old)) (G.failures (disk_of new))
 
 -- the work is done over that store, if it works
 abbrev pub WorkedOn : {D : Type 0} {G : Ghosts D} → (List Spoken → Result (Unit {0}) SyncFault → Type 0) → Option (List ℕ) → Option (List ℕ) → RepoStore D G → RepoStore D G → Type 0
