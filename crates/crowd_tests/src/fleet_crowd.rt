@@ -39,9 +39,7 @@ fn mirror_of(place: usize) -> usize {
 fn orders(rt: &impl Abort, alloc: Global) -> Vec<Order> {
     let mut orders = Vec::new(alloc);
     for place in 0..ORDERS {
-        orders
-            .push(order_at(rt, alloc, place))
-            .expect(rt, "memory");
+        orders.push(order_at(rt, alloc, place)).expect(rt, "memory");
     }
     orders
 }
@@ -87,14 +85,7 @@ fn amiss<R: Wait + Abort, L: RowName>(
 }
 
 // The first answer that is amiss, 0 where none is and each order has one.
-fn judged<
-    R: Wait + Abort,
-    M: RowName,
-    L0: RowName,
-    L1: RowName,
-    L2: RowName,
-    L3: RowName,
->(
+fn judged<R: Wait + Abort, M: RowName, L0: RowName, L1: RowName, L2: RowName, L3: RowName>(
     rt: &R,
     alloc: Global,
     shares: &FleetShares<M, L0, L1, L2, L3, MemDisk>,
@@ -240,11 +231,7 @@ pub(crate) fn brings_up<
     L1: RowName + Send + Sync + 'static,
     L2: RowName + Send + Sync + 'static,
     L3: RowName + Send + Sync + 'static,
->(
-    rt: &R,
-    alloc: Global,
-    shares: &Arc<FleetShares<M, L0, L1, L2, L3, MemDisk>>,
-) -> bool {
+>(rt: &R, alloc: Global, shares: &Arc<FleetShares<M, L0, L1, L2, L3, MemDisk>>) -> bool {
     match run_shared(rt, alloc, shares, last_orders(rt, alloc), 2, Unheld) {
         Ok(answers) => are_whole(answers.as_slice()),
         Err(_) => false,

@@ -43,14 +43,14 @@ fn goes<
     L1: RowName + Send + Sync + 'static,
     L2: RowName + Send + Sync + 'static,
     L3: RowName + Send + Sync + 'static,
->(
-    rt: &R,
-    alloc: Global,
-    shares: &Arc<FleetShares<M, L0, L1, L2, L3, MemDisk>>,
-) -> u8 {
+>(rt: &R, alloc: Global, shares: &Arc<FleetShares<M, L0, L1, L2, L3, MemDisk>>) -> u8 {
     let done = AtomicU64::new(0);
-    let answers = thread::map_indices(rt, alloc, THREADS, &|i| does(rt, alloc, shares, &done, i))
-        .expect(rt, "threads");
+    let answers = thread::map_indices(
+        rt,
+        alloc,
+        THREADS,
+        &|i| does(rt, alloc, shares, &done, i),
+    ).expect(rt, "threads");
     for answer in answers.iter() {
         if *answer != 0 {
             return *answer;
