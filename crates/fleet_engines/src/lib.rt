@@ -1,14 +1,14 @@
-//! The engines of svnfleet's commands over any reader and writer.
+//! The engines of svnfleet's commands over any input and output.
 #![tactic(auto)]
 
 ghost use Rattle.fleet_engines.specs.Grouping.{RevisionsAreGrouped};
 ghost use Rattle.fleet_engines.specs.Pieces.{RecordsDontMatter};
 
 pub use commands::{run_canon, run_list};
-pub use lines::{push_node_line, push_path, write_fault};
+pub use lines::{push_node_line, push_path};
 pub use product::Product;
 pub use refusals::{change_refusal, dump_refusal};
-pub use stream::{Sink, Source};
+pub use stream::{hand_on, read, write, write_count, write_line, write_parts};
 
 mod commands;
 mod engine;

@@ -3,6 +3,7 @@ use Rattle.std.specs.Prelude.{◌≡◌, ◌≤◌, ◌<◌, ◌⊎◌, ◌++◌
 use Rattle.std.specs.Io.KnownBytes.{Appends}
 use Rattle.std.specs.List.{list_all, AllZip}
 use Rattle.std.specs.declared.alloc.Global.{Global}
+use Rattle.byte_streams.specs.Causes.{Rose}
 use Rattle.fleet_disk.specs.Rules.{Rose}
 use Rattle.fleet_disk.specs.declared.disk.Disk.{Ghosts}
 use Rattle.fleet_jobs.specs.Answers.{Answer}
@@ -88,7 +89,7 @@ NotBrought G H folders later master mirrors e =
     NotOpenedIn G H folders later master e ⊎ ((e ≡ refusal.OutOfMemory) × (AreBack G H folders later [] ⊎ OfFleet G H folders later master mirrors (λ standings. Unit {0})))
 
 -- or what is told can't be written
-abbrev pub NotFleetRun : {F D : Type 0} → Ghosts D → FolderGhosts F D → F → F → Fleet → Option (List ℕ) → Option (List ℕ) → Bool → Refusal → Type 0
-NotFleetRun G H folders later fleet before now failed e =
+abbrev pub NotFleetRun : {F D : Type 0} → Ghosts D → FolderGhosts F D → F → F → Fleet → Option (List ℕ) → ℕ → Option (List ℕ) → ℕ → Refusal → Type 0
+NotFleetRun G H folders later fleet before start now count e =
     (NotBrought G H folders later (string_bytes fleet.master) (map string_bytes fleet.mirrors.items) e × (now ≡ before))
-    ⊎ (OfFleet G H folders later (string_bytes fleet.master) (map string_bytes fleet.mirrors.items) (λ standings. Unit {0}) × (e ≡ refusal.PeerFailed) × (failed ≡ true))
+    ⊎ (OfFleet G H folders later (string_bytes fleet.master) (map string_bytes fleet.mirrors.items) (λ standings. Unit {0}) × (e ≡ refusal.PeerFailed) × Rose start count)
