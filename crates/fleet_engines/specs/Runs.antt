@@ -4,7 +4,6 @@ use Rattle.std.specs.Option.{option_map_or}
 use Rattle.std.specs.List.{flat_map, slice_get}
 use Rattle.std.specs.Io.KnownBytes.{Appends}
 use Rattle.byte_streams.specs.Causes.{Counts, Fails, Rose}
-use Rattle.node_base.specs.Refusals.{fault_line}
 use Rattle.node_base.specs.Tree.{PathMap}
 use Rattle.node_base.specs.declared.refusal.Refusal.{Refusal}
 use Rattle.node_base.specs.declared.refusal.Refusal.TheVariants.{Truncated, PeerFailed, OutOfMemory}
@@ -113,7 +112,3 @@ Counted (Err e) before now = ((e ≡ PeerFailed) × Rose before now) ⊎ ((e ≡
 abbrev pub BothCounted : {T : Type 0} → Result T Refusal → Counts → ℕ → ℕ → Type 0
 BothCounted (Ok x) input before now = (input.before ≤ input.now) × (now ≡ before)
 BothCounted (Err e) input before now = (input.before ≤ input.now) × (((e ≡ PeerFailed) × (Fails input ⊎ Rose before now)) ⊎ ((e ≡ PeerFailed → ⊥) × (now ≡ before)))
-
--- the line of a refusal was written, or, where there was no memory for it, that of want of memory
-abbrev pub IsLineTold : Option (List ℕ) → Option (List ℕ) → Refusal → Type 0
-IsLineTold before now e = Appends before now (fault_line e) ⊎ Appends before now (fault_line OutOfMemory)

@@ -5,14 +5,16 @@ ghost use Rattle.fleet_engines.specs.Grouping.{RevisionsAreGrouped};
 ghost use Rattle.fleet_engines.specs.Pieces.{RecordsDontMatter};
 
 pub use commands::{run_canon, run_list};
+pub use line::write_line;
 pub use lines::{push_node_line, push_path};
 pub use product::Product;
 pub use refusals::{change_refusal, dump_refusal};
-pub use stream::{hand_on, read, write, write_count, write_line, write_parts};
+pub use stream::{hand_on, read, write, write_count, write_parts};
 
 mod commands;
 mod engine;
 mod history;
+mod line;
 mod lines;
 mod listing;
 mod product;

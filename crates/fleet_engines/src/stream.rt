@@ -3,12 +3,11 @@ ghost use Rattle.std.specs.Prelude.{◌≡◌, ◌≤◌, ◌<◌, ◌++◌, len
 ghost use Rattle.std.specs.Fmt.{decimal};
 ghost use Rattle.std.specs.Io.KnownBytes.{Appends, Consumes, IsAtEnd, Keeps};
 ghost use Rattle.byte_streams.specs.Causes.{CountsOne, Rose};
-ghost use Rattle.fleet_engines.specs.Runs.{Counted, IsLineTold};
+ghost use Rattle.fleet_engines.specs.Runs.{Counted};
 
 use byte_streams::{Input, Output, has_failed_since, write_bytes};
 use itoa::Buffer;
 use node_base::Refusal;
-use std::alloc::Global;
 
 /// Reads some bytes, none only at the end. PeerFailed (49) where the input failed, and only there.
 pub fn read<I: Input>(input: &mut I, piece: &mut [u8]) -> Result<usize, Refusal>
@@ -87,22 +86,6 @@ pub fn write_count<O: Output>(
 {
     let mut digits = Buffer::new();
     write_parts(output, before, digits.format(number).as_bytes(), after)
-}
-
-/// Writes the line that tells a refusal, `svnfleet: NUMBER TEXT`; where there is no memory for it, the line of
-/// OutOfMemory (70). PeerFailed (49) where the output failed, and only there.
-pub fn write_line<O: Output>(
-    alloc: Global,
-    output: &mut O,
-    refusal: &Refusal,
-) -> Result<(), Refusal>
-    ensures ok { OnOk result (IsLineTold (O.contents output.old) (O.contents output.new) refusal.now) }
-    ensures failed { OnErr result (Rose (O.failures output.old) (O.failures output.new)) }
-{
-    match refusal.line(alloc) {
-        Ok(line) => write(output, line.as_str().as_bytes()),
-        Err(_) => write_count(output, b"svnfleet: ", 70, b" out of memory\n"),
-    }
 }
 
 /// Hands on what is held back. PeerFailed (49) where the output failed, and only there.

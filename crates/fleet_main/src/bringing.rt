@@ -1,12 +1,13 @@
 //! Mirrors in folders that are brought up to their master at once.
 ghost use Rattle.std.specs.Prelude.{◌≡◌, ◌≢◌, ◌≤◌, ◌+◌, ◌⊎◌, ◌∷◌, ℕ, None, Ok, [], true, false, length, map};
 ghost use Rattle.std.specs.Prelude.{string_bytes, vec_capacity, vec_len, IfErr, IfOk, IfSome, OnOk};
+ghost use Rattle.std.specs.Io.KnownBytes.{Appends};
 ghost use Rattle.byte_streams.specs.Causes.{Rose};
 ghost use Rattle.fleet_disk.specs.Image.{Image};
 ghost use Rattle.node_base.specs.declared.refusal.Refusal.{Refusal as RefusalOf};
 ghost use Rattle.repo_store.specs.Journal.{Keeps};
 ghost use Rattle.repo_store.specs.Words.{disk_of, repository_of, HasFailed, IsKept as StoreIsKept};
-ghost use Rattle.fleet_engines.specs.Runs.{IsLineTold};
+ghost use Rattle.node_base.specs.Refusals.{fault_line};
 ghost use Rattle.fleet_shares.specs.Stores.{store_at};
 ghost use Rattle.fleet_shares.specs.Told.{AreTold};
 ghost use Rattle.fleet_main.specs.Bringing.{AreBrought, IsFleetRun, IsSomeRun, NotBrought, NotFleetRun, OfFleet};
@@ -253,12 +254,12 @@ where
         (O.contents output) (O.failures output)) (O.failures output) (O.contents result.1)
         (O.failures result.1) e
         × (Rose (E.failures errors.old) (E.failures errors.new)
-        ⊎ IsLineTold (E.contents errors.old) (E.contents errors.new) e)) }
+        ⊎ Appends (E.contents errors.old) (E.contents errors.new) (fault_line e))) }
 {
     let (output, told) = fleet_flushed(rt, alloc, folders, fleet, output);
     match told {
         Ok(true) => (0, output),
         Ok(false) => (REFUSED, output),
-        Err(refusal) => (refused(alloc, &refusal, errors), output),
+        Err(refusal) => (refused(&refusal, errors), output),
     }
 }

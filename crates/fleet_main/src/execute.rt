@@ -2,8 +2,10 @@
 ghost use Rattle.std.specs.Prelude.{◌≡◌, ◌≤◌, ◌⊎◌, ◌<◌, [], length, IfErr, IfOk, OnOk, string_bytes};
 ghost use Rattle.node_base.specs.declared.refusal.Refusal.{Refusal as RefusalOf};
 ghost use Rattle.repo_store.specs.Words.{disk_of, HasFailed};
+ghost use Rattle.std.specs.Io.KnownBytes.{Appends};
 ghost use Rattle.byte_streams.specs.Causes.{Fails, Rose, counts};
-ghost use Rattle.fleet_engines.specs.Runs.{BothCounted, Counted, IsLineTold};
+ghost use Rattle.fleet_engines.specs.Runs.{BothCounted, Counted};
+ghost use Rattle.node_base.specs.Refusals.{fault_line};
 ghost use Rattle.mirror_engines.specs.Runs.{IsInitialised, IsWorked};
 ghost use Rattle.fleet_main.specs.Doing.{EndsWith, HandsOn, IsBegun, IsCommittedTo, IsDone, IsDumped, IsLoadedFrom};
 ghost use Rattle.fleet_main.specs.Doing.{IsNotDone, IsToldOf, IsWorkedOver, NoSourceOr, NotCommittedTo, NotDumped};
@@ -434,23 +436,23 @@ pub fn run<F: Folders, I: Input, O: Output + Drop, E: Output>(
         × (e ≡ Refusal.PeerFailed → Fails (counts I.failures I.reads input.old input.new)
         ⊎ Rose (O.failures output) (O.failures result.1))
         × (Rose (E.failures errors.old) (E.failures errors.new)
-        ⊎ IsLineTold (E.contents errors.old) (E.contents errors.new) e) }
+        ⊎ Appends (E.contents errors.old) (E.contents errors.new) (fault_line e)) }
 {
     let (output, done) = run_flushed(alloc, folders, command, input, output);
     match done {
         Ok(()) => (0, output),
-        Err(refusal) => (refused(alloc, &refusal, errors), output),
+        Err(refusal) => (refused(&refusal, errors), output),
     }
 }
 
 /// The status of a command that was refused, with the refusal's line. One that can't be written is lost: the status
 /// tells.
-pub(crate) fn refused<E: Output>(alloc: Global, refusal: &Refusal, errors: &mut E) -> u8
+pub(crate) fn refused<E: Output>(refusal: &Refusal, errors: &mut E) -> u8
     ensures status { result ≡ 1 }
     ensures line { Rose (E.failures errors.old) (E.failures errors.new)
-        ⊎ IsLineTold (E.contents errors.old) (E.contents errors.new) refusal.now }
+        ⊎ Appends (E.contents errors.old) (E.contents errors.new) (fault_line refusal.now) }
 {
-    match write_line(alloc, errors, refusal) {
+    match write_line(errors, refusal) {
         Ok(()) => REFUSED,
         Err(_) => REFUSED,
     }

@@ -1,8 +1,9 @@
 //! A mirror over a source that a server has.
 ghost use Rattle.std.specs.Prelude.{◌≡◌, ◌⊎◌, IfErr, IfOk, OnOk};
 ghost use Rattle.repo_store.specs.Words.{disk_of, HasFailed};
+ghost use Rattle.std.specs.Io.KnownBytes.{Appends};
 ghost use Rattle.byte_streams.specs.Causes.{Rose};
-ghost use Rattle.fleet_engines.specs.Runs.{IsLineTold};
+ghost use Rattle.node_base.specs.Refusals.{fault_line};
 ghost use Rattle.node_base.specs.declared.refusal.Refusal.{Refusal as RefusalOf};
 ghost use Rattle.mirror_engines.specs.Runs.{IsWorked};
 ghost use Rattle.fleet_main.specs.Doing.{EndsWith, HandsOn, IsWorkedOver, OfStanding, UnopenedOr, WorkedOn};
@@ -173,11 +174,11 @@ pub fn pull<R: Net<Stream = TcpStream>, F: Folders, O: Output + Drop, E: Output>
         (NotPulled F.Place.Disk F.Folders folders.old folders.new pull (O.contents output) (O.failures output))
         (O.failures output) (O.contents result.1) (O.failures result.1) e
         × (Rose (E.failures errors.old) (E.failures errors.new)
-        ⊎ IsLineTold (E.contents errors.old) (E.contents errors.new) e) }
+        ⊎ Appends (E.contents errors.old) (E.contents errors.new) (fault_line e)) }
 {
     let (output, done) = pull_flushed(rt, alloc, folders, pull, output);
     match done {
         Ok(()) => (0, output),
-        Err(refusal) => (refused(alloc, &refusal, errors), output),
+        Err(refusal) => (refused(&refusal, errors), output),
     }
 }

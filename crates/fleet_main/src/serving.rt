@@ -4,7 +4,7 @@ ghost use Rattle.std.specs.Io.KnownBytes.{Appends};
 ghost use Rattle.node_base.specs.declared.refusal.Refusal.{Refusal as RefusalOf};
 ghost use Rattle.byte_streams.specs.Causes.{Rose};
 ghost use Rattle.byte_streams.specs.Sinks.{inner_of};
-ghost use Rattle.fleet_engines.specs.Runs.{IsLineTold};
+ghost use Rattle.node_base.specs.Refusals.{fault_line};
 ghost use Rattle.repo_store.specs.Words.{disk_of, repository_of, revisions_of, HasFailed};
 ghost use Rattle.sockets.specs.Lines.{listening};
 ghost use Rattle.store_engines.specs.Mirrors.{is_mirror};
@@ -240,11 +240,11 @@ where
         (NotServedFrom F.Place.Disk F.Folders folders.old folders.new service.now
         (O.contents output)) (O.failures output) (O.contents result.1) (O.failures result.1) e
         × (Rose (E.failures errors.old) (E.failures errors.new)
-        ⊎ IsLineTold (E.contents errors.old) (E.contents errors.new) e) }
+        ⊎ Appends (E.contents errors.old) (E.contents errors.new) (fault_line e)) }
 {
     let (output, done) = serve_flushed(rt, alloc, folders, service, output);
     match done {
         Ok(()) => (0, output),
-        Err(refusal) => (refused(alloc, &refusal, errors), output),
+        Err(refusal) => (refused(&refusal, errors), output),
     }
 }

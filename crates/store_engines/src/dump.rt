@@ -20,9 +20,6 @@ use repo_store::{RepoStore, store_refusal};
 use std::alloc::Global;
 use uuid::Uuid;
 
-// What stands before the identity.
-const HEAD: &[u8] = b"SVN-fs-dump-format-version: 2\n\nUUID: ";
-
 // The revisions to be written: those that are asked for, and else all. NoSuchRevision (21) above the head.
 fn wanted(repo: &Repo, range: &Option<RevRange>) -> Result<(RevNo, RevNo), Refusal>
     ensures first { IfOk result (λ w. w.0 ≡ first_wanted range.now) }
@@ -63,7 +60,12 @@ fn write_head<O: Output>(identity: &Uuid, output: &mut O) -> Result<(), Refusal>
 {
     let mut buffer = Uuid::encode_buffer();
     let text = identity.hyphenated().encode_lower(&mut buffer);
-    write_parts(output, HEAD, text.as_bytes(), b"\n\n")
+    write_parts(
+        output,
+        b"SVN-fs-dump-format-version: 2\n\nUUID: ",
+        text.as_bytes(),
+        b"\n\n",
+    )
 }
 
 // Writes one revision as it is now.
