@@ -138,6 +138,10 @@ pub handed_on : {T : Type 0} (r : Result T Refusal) (P : Option (List ℕ) → T
 handed_on (Ok t) P written now p k = record { written = written; done = p; kept = k }
 handed_on (Err e) P written now p k = tt
 
+-- what is so of an answer that is Ok
+pub of_ok : (r : Result (Unit {0}) Refusal) (u : Unit {0}) (P : Type 0) → r ≡ Ok u → OnOk r P → P
+of_ok r u P is h = subst (λ x. OnOk x P) is h
+
 pub done_unsaid : {T : Type 0} (r : Result T Refusal) (P : Option (List ℕ) → Type 0) (N : Option (List ℕ) → ℕ → Refusal → Type 0) (written now : Option (List ℕ)) (start before count : ℕ)
     → P written → HandedOn written now → before ≡ start → IfErr r (λ e. e ≡ refusal.PeerFailed) → OnErr r (Rose before count) → IfErr r (EndsWith P N start now count)
 done_unsaid (Ok t) P N written now start before count p k same e f = tt

@@ -168,7 +168,7 @@ pub whole : {D : Type 0} {G : Ghosts D} {O : Type 0} (contents : O → Option (L
     → Runs N order start said (HasPrinted contents failures p) (HasPrinted contents failures q) End → Moving start said (WentAt stands_alone clock_alone left_alone honest_alone before after)
     → left ≡ after → report ≡ q → lost ≡ is_lost report → answer ≡ answer_of ended lost → new ≡ store_of left → sink ≡ output_of report
     → (Runs N order [] said IsUnheard IsUnheard End → IsRun said ended) → Whole contents failures IsRun store new output sink answer
-whole contents failures IsRun N order End store new output sink held before after left first p q report start said ended lost answer at stands holder out none begins same_mirror same_report run moving left_is report_is lost_is answer_is new_is sink_is is =
+whole {O = O} contents failures IsRun N order End store new output sink held before after left first p q report start said ended lost answer at stands holder out none begins same_mirror same_report run moving left_is report_is lost_is answer_is new_is sink_is is =
     record {
       ran = subst (λ x. Serves IsRun x new (contents output) (contents sink) (Rose (failures output) (failures sink)) answer) e_store
           (subst (λ x. Serves IsRun (store_of before) x (contents output) (contents sink) (Rose (failures output) (failures sink)) answer) e_new
