@@ -230,14 +230,7 @@ pub fn fleet<
     F: Folders,
     O: Output + Drop,
     E: Output,
->(
-    rt: &R,
-    alloc: Global,
-    folders: &mut F,
-    fleet: &Fleet,
-    output: O,
-    errors: &mut E,
-) -> (u8, O)
+>(rt: &R, alloc: Global, folders: &mut F, fleet: &Fleet, output: O, errors: &mut E) -> (u8, O)
 where
     F::Place: Send + 'static,
     ensures status { (result.0 ≡ 0) ⊎ (result.0 ≡ 1) }

@@ -148,13 +148,7 @@ fn serve_asked<
     R: Net<Listener = TcpListener, Stream = TcpStream> + Threads + Wait + Sync,
     F: Folders,
     O: Output + Drop,
->(
-    rt: &R,
-    alloc: Global,
-    folders: &mut F,
-    service: &Service,
-    output: O,
-) -> (O, Result<(), Refusal>)
+>(rt: &R, alloc: Global, folders: &mut F, service: &Service, output: O) -> (O, Result<(), Refusal>)
 where
     F::Place: Send,
     ensures done { OnOk result.1 (IsServedFrom F.Place.Disk F.Folders folders.old folders.new service.now
@@ -180,13 +174,7 @@ fn serve_flushed<
     R: Net<Listener = TcpListener, Stream = TcpStream> + Threads + Wait + Sync,
     F: Folders,
     O: Output + Drop,
->(
-    rt: &R,
-    alloc: Global,
-    folders: &mut F,
-    service: &Service,
-    output: O,
-) -> (O, Result<(), Refusal>)
+>(rt: &R, alloc: Global, folders: &mut F, service: &Service, output: O) -> (O, Result<(), Refusal>)
 where
     F::Place: Send,
     ensures done { OnOk result.1 (HandsOn (IsServedFrom F.Place.Disk F.Folders folders.old folders.new service.now
@@ -219,14 +207,7 @@ pub fn serve<
     F: Folders,
     O: Output + Drop,
     E: Output,
->(
-    rt: &R,
-    alloc: Global,
-    folders: &mut F,
-    service: &Service,
-    output: O,
-    errors: &mut E,
-) -> (u8, O)
+>(rt: &R, alloc: Global, folders: &mut F, service: &Service, output: O, errors: &mut E) -> (u8, O)
 where
     F::Place: Send,
     ensures status { (result.0 ≡ 0) ⊎ (result.0 ≡ 1) }

@@ -83,11 +83,7 @@ fn write_all<O: Output>(own: &Props, output: &mut O) -> Result<(), Refusal>
 }
 
 // A line of a label and a value, which is empty where there is none.
-fn write_line<O: Output>(
-    label: &str,
-    value: Option<&[u8]>,
-    output: &mut O,
-) -> Result<(), Refusal>
+fn write_line<O: Output>(label: &str, value: Option<&[u8]>, output: &mut O) -> Result<(), Refusal>
     ensures ok { OnOk result (Appends (O.contents output.old) (O.contents output.new)
         (info_line label.now (valued (option_copied value.entry)))) }
     ensures only_peer { IfErr result (λ e. e ≡ Refusal.PeerFailed) }

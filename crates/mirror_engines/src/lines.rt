@@ -19,7 +19,12 @@ fn write_told<O: Output>(output: &mut O, told: &Told) -> Result<(), Refusal>
 {
     match told {
         Told::Committed(number) => {
-            write_count(output, b"Committed revision ", u64::from(number.get()), b".\n")
+            write_count(
+                output,
+                b"Committed revision ",
+                u64::from(number.get()),
+                b".\n",
+            )
         }
         Told::Copied(number) => write_count(
             output,

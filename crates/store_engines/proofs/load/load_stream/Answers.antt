@@ -51,7 +51,7 @@ returns-clause-refused g c =
     let r = c.in_ok-read_all.ensures.ok some in
     IfErr-weaker c.finish.result _ _
     (λ e k. run_ended (repository_of c.args.store.now) y c.new-reader.result c.read_all.new.reader (last_of c.new-loader.result) (last_of c.read_all.new.loader) (g.O.Output.contents c.args.output.now) now (g.I.Input.remaining c.args.input.now) (g.I.Input.remaining c.read_all.new.input) r.0
-    (λ bytes. Refused (repository_of c.args.store.now) bytes c.finish.new.store (g.O.Output.contents c.args.output.now) later (Rose (g.O.Output.failures c.args.output.now) (g.O.Output.failures c.finish.new.output)) e) c.new-reader.ensures c.new-loader.ensures r.1 r.2 r.3 
+    (λ bytes. Refused (repository_of c.args.store.now) bytes c.finish.new.store (g.O.Output.contents c.args.output.now) later (Rose (g.O.Output.failures c.args.output.now) (g.O.Output.failures c.finish.new.output)) e) c.new-reader.ensures c.new-loader.ensures r.1 r.2 r.3
     (λ bs w. subst (λ n. Refused (repository_of c.args.store.now) bs c.finish.new.store (g.O.Output.contents c.args.output.now) later (Rose n (g.O.Output.failures c.finish.new.output)) e) c.in_ok-read_all.ensures.peer.1 (k (repository_of c.args.store.now) bs (g.O.Output.contents c.args.output.now) w)))
     c.finish.ensures.refused
 
