@@ -3,7 +3,6 @@ use Rattle.std.specs.Prelude.{◌≡◌, ◌≤◌, ◌<◌, ◌⊎◌, ◌++◌
 use Rattle.std.specs.Io.KnownBytes.{Appends}
 use Rattle.std.specs.List.{list_all, AllZip}
 use Rattle.std.specs.declared.alloc.Global.{Global}
-use Rattle.byte_streams.specs.Causes.{Rose}
 use Rattle.fleet_disk.specs.Rules.{Rose}
 use Rattle.fleet_disk.specs.declared.disk.Disk.{Ghosts}
 use Rattle.fleet_jobs.specs.Answers.{Answer}
