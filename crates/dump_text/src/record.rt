@@ -4,13 +4,13 @@ use node_base::{Action, NodeKind, NodePath, Props, RevNo, Source, Text};
 use uuid::Uuid;
 
 /// What a record gives of properties: the whole list.
-#[derive(Debug, Drop)]
+#[derive(Drop)]
 pub enum PropPart {
     Whole(Props),
 }
 
 /// A node record: one change of a revision. A part that is missing is left as it was.
-#[derive(Debug, Drop)]
+#[derive(Drop)]
 pub struct NodeRecord {
     pub path: NodePath,
     pub kind: Option<NodeKind>,
@@ -21,7 +21,7 @@ pub struct NodeRecord {
 }
 
 /// A whole revision: its number, its properties, and its node records.
-#[derive(Debug, Drop)]
+#[derive(Drop)]
 pub struct RevRecord {
     pub number: RevNo,
     pub props: Props,
@@ -30,7 +30,7 @@ pub struct RevRecord {
 
 /// A record of a stream: the repository's identity, the beginning of a revision with its properties, or a node of that
 /// revision.
-#[derive(Debug, Drop)]
+#[derive(Drop)]
 pub enum DumpRecord {
     Identity(Uuid),
     Revision(RevNo, Props),

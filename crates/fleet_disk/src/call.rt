@@ -3,7 +3,7 @@
 use crate::DiskFile;
 
 /// A call that was made to a disk in memory.
-#[derive(Debug, Drop)]
+#[derive(Drop)]
 pub enum DiskCall {
     /// A read of so many bytes, from an offset on.
     Read {
