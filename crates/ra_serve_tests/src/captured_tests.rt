@@ -53,6 +53,23 @@ fn revision_of(rt: &impl Abort, alloc: Global, records: Vec<DumpRecord>) -> Stat
     stated
 }
 
+// Commits the revision behind the head.
+fn commit_next(
+    rt: &impl Abort,
+    alloc: Global,
+    repo: &mut Repo,
+    number: RevNo,
+    props: Props,
+    nodes: Vec<NodeRecord>,
+) {
+    assert!(rt; number.index() == repo.trees().len());
+    let (set, _tree) = load_revision(alloc, repo.trees(), number, nodes).expect(rt, "a set");
+    let head = repo.head();
+    let _number = repo
+        .commit(alloc, head, set, props, None)
+        .expect(rt, "a revision");
+}
+
 // Commits the revision behind the head, or gives revision 0 its properties.
 fn load(rt: &impl Abort, alloc: Global, repo: &mut Repo, revision: Stated) {
     let Stated {
@@ -62,14 +79,9 @@ fn load(rt: &impl Abort, alloc: Global, repo: &mut Repo, revision: Stated) {
     } = revision;
     if number == RevNo::ZERO {
         repo.put_props(number, props).expect(rt, "properties");
-        return;
+    } else {
+        commit_next(rt, alloc, repo, number, props, nodes);
     }
-    assert!(rt; number.index() == repo.trees().len());
-    let (set, _tree) = load_revision(alloc, repo.trees(), number, nodes).expect(rt, "a set");
-    let head = repo.head();
-    let _number = repo
-        .commit(alloc, head, set, props, None)
-        .expect(rt, "a revision");
 }
 
 // The port over the repository that was served.

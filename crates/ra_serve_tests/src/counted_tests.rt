@@ -2,7 +2,7 @@
 
 use crate::failure_tests::{ASKED, TOLD, begin};
 use crate::made::{copy_port, file_port};
-use crate::sessions::{URL, are, asking, run};
+use crate::sessions::{Ended, URL, are, asking, run};
 use crate::streams_for_tests::{Passing, items_from};
 use byte_streams::{CountedWriter, MemOutput, Output};
 use ra_serve::{End, RepoPort, ServeFault, serve_to};
@@ -37,18 +37,33 @@ fn has_failed<O: Output>(out: &Option<O>) -> Option<bool> {
     }
 }
 
-// How many calls of the output have to pass for all to be told; none where fewer don't lead to 49, to an output that
-// has counted it, and to a beginning of the answers.
-fn calls_wanted(rt: &impl Abort, alloc: Global, sent: &[u8]) -> Option<u64> {
-    let mut port = copy_port(rt, alloc);
+// Whether a session told all; false where it came to this, with a beginning of the answers, and none where it did
+// neither.
+fn has_told_all(came: Came, refused: Came, bytes: &[u8]) -> Option<bool> {
+    if came == (Ok(End::Input), Some(false)) {
+        return are(bytes, &TOLD).then_some(true);
+    }
+    (came == refused && begin(bytes, &TOLD)).then_some(false)
+}
+
+// The same of one where so many calls of the output pass, and a later one leads to 49, to an output that has counted it.
+fn tells_by_calls<P: RepoPort>(
+    alloc: Global,
+    port: &mut P,
+    sent: &[u8],
+    passing: u64,
+) -> Option<bool> {
+    let mut bytes = Vec::new(alloc);
+    let came = served_to(alloc, port, sent, u64::MAX, passing, &mut bytes);
+    let refused = (Err(ServeFault::WriteFailed), Some(true));
+    has_told_all(came, refused, bytes.as_slice())
+}
+
+// How many calls of the output have to pass for all to be told.
+fn calls_wanted<P: RepoPort>(alloc: Global, port: &mut P, sent: &[u8]) -> Option<u64> {
     for passing in 0..1_000 {
-        let mut bytes = Vec::new(alloc);
-        let came = served_to(alloc, &mut port, sent, u64::MAX, passing, &mut bytes);
-        if came == (Ok(End::Input), Some(false)) {
-            return are(bytes.as_slice(), &TOLD).then_some(passing);
-        }
-        if came != (Err(ServeFault::WriteFailed), Some(true)) || !begin(bytes.as_slice(), &TOLD) {
-            return None;
+        if tells_by_calls(alloc, port, sent, passing)? {
+            return Some(passing);
         }
     }
     None
@@ -56,23 +71,31 @@ fn calls_wanted(rt: &impl Abort, alloc: Global, sent: &[u8]) -> Option<u64> {
 
 #[test]
 fn an_output_that_fails_comes_back(rt: HostRuntime) {
+    let mut port = copy_port(&rt, rt.alloc());
     let sent = asking(&rt, rt.alloc(), ASKED);
     // each of the 14 items that are told takes a write or more, and four times all is handed on
-    assert!(rt; calls_wanted(&rt, rt.alloc(), &sent).is_some_and(|calls| calls > 17));
+    assert!(rt; calls_wanted(rt.alloc(), &mut port, &sent).is_some_and(|calls| calls > 17));
 }
 
-// How many reads have to pass for all to be told; none where fewer don't lead to 49 told of the reader, to an output
-// that never failed, and to a beginning of the answers.
-fn reads_wanted(rt: &impl Abort, alloc: Global, sent: &[u8]) -> Option<u64> {
-    let mut port = copy_port(rt, alloc);
+// Whether a session told all where so many reads pass, and a later one leads to 49 told of the reader, to an output that
+// never failed.
+fn tells_by_reads<P: RepoPort>(
+    alloc: Global,
+    port: &mut P,
+    sent: &[u8],
+    passing: u64,
+) -> Option<bool> {
+    let mut bytes = Vec::new(alloc);
+    let came = served_to(alloc, port, sent, passing, u64::MAX, &mut bytes);
+    let refused = (Err(ServeFault::ReadFailed), Some(false));
+    has_told_all(came, refused, bytes.as_slice())
+}
+
+// How many reads have to pass for all to be told.
+fn reads_wanted<P: RepoPort>(alloc: Global, port: &mut P, sent: &[u8]) -> Option<u64> {
     for passing in 0..1_000 {
-        let mut bytes = Vec::new(alloc);
-        let came = served_to(alloc, &mut port, sent, passing, u64::MAX, &mut bytes);
-        if came == (Ok(End::Input), Some(false)) {
-            return are(bytes.as_slice(), &TOLD).then_some(passing);
-        }
-        if came != (Err(ServeFault::ReadFailed), Some(false)) || !begin(bytes.as_slice(), &TOLD) {
-            return None;
+        if tells_by_reads(alloc, port, sent, passing)? {
+            return Some(passing);
         }
     }
     None
@@ -80,10 +103,11 @@ fn reads_wanted(rt: &impl Abort, alloc: Global, sent: &[u8]) -> Option<u64> {
 
 #[test]
 fn a_reader_that_fails_is_told(rt: HostRuntime) {
+    let mut port = copy_port(&rt, rt.alloc());
     let sent = asking(&rt, rt.alloc(), ASKED);
     let reads = sent.len() as u64;
     // the last read finds the end
-    assert!(rt; reads_wanted(&rt, rt.alloc(), &sent) == reads.checked_add(1));
+    assert!(rt; reads_wanted(rt.alloc(), &mut port, &sent) == reads.checked_add(1));
 }
 
 // Commands of several kinds, one that isn't there among them, and bytes that end within an item.
@@ -91,27 +115,43 @@ const SEVERAL: &[u8] = b"( get-latest-rev ( ) ) ( get-dir ( 0: ( ) true true ) )
     ( get-file ( 1:a ( 1 ) true true ) ) ( frob ( ) ) ( replay-range ( 0 1 0 true ) ) \
     ( change-rev-prop ( 1 7:svn:log 2:ho ) ) ( rev-proplist ( 1 ) ) ( rev-prop ( 1";
 
+// Whether a session over an output ends so, with these bytes, all handed on.
+fn ends_so<P: RepoPort>(
+    alloc: Global,
+    port: &mut P,
+    sent: &[u8],
+    end: Result<End, ServeFault>,
+    bytes: &[u8],
+) -> bool {
+    let mut items = items_from(alloc, sent, 7, u64::MAX);
+    match serve_to(
+        alloc,
+        port,
+        URL,
+        &mut items,
+        MemOutput::new(alloc, u64::MAX),
+    ) {
+        Ok((out, ended)) => {
+            end == Ok(ended) && out.bytes() == bytes && out.handed_on() == bytes.len()
+        }
+        Err(_) => false,
+    }
+}
+
+// Whether one ends as one over a writer did, with the same bytes.
+fn ends_as<P: RepoPort>(alloc: Global, port: &mut P, sent: &[u8], whole: &Ended) -> bool {
+    match &whole.out {
+        Some(there) => ends_so(alloc, port, sent, whole.end, there.bytes()),
+        None => false,
+    }
+}
+
 // Whether a session over an output ends as one over a writer does, with the same bytes, all handed on.
 fn is_same(rt: &impl Abort, alloc: Global, sent: &[u8]) -> bool {
-    let whole = run(
-        alloc,
-        &mut file_port(rt, alloc, false),
-        sent,
-        sent.len(),
-        u64::MAX,
-        u64::MAX,
-    );
     let mut port = file_port(rt, alloc, false);
-    let mut items = items_from(alloc, sent, 7, u64::MAX);
-    let out = MemOutput::new(alloc, u64::MAX);
-    match (serve_to(alloc, &mut port, URL, &mut items, out), &whole.out) {
-        (Ok((out, end)), Some(there)) => {
-            whole.end == Ok(end)
-                && out.bytes() == there.bytes()
-                && out.handed_on() == out.bytes().len()
-        }
-        _ => false,
-    }
+    let whole = run(alloc, &mut port, sent, sent.len(), u64::MAX, u64::MAX);
+    let mut other = file_port(rt, alloc, false);
+    ends_as(alloc, &mut other, sent, &whole)
 }
 
 #[test]

@@ -39,16 +39,43 @@ fn has_begun(ended: &Ended, fault: ServeFault) -> bool {
     }
 }
 
-// How many reads, one byte each, have to pass for all to be told; none where fewer don't lead to 49 and a beginning.
-fn reads_wanted(rt: &impl Abort, alloc: Global, sent: &[u8]) -> Option<u64> {
-    let mut port = copy_port(rt, alloc);
+// Whether a session told all; false where it ended by this, behind a beginning of the answers, and none where it did
+// neither.
+fn has_told_all(ended: &Ended, fault: ServeFault) -> Option<bool> {
+    if ended.end.is_ok() {
+        return has_told(ended, ended.end, &TOLD).then_some(true);
+    }
+    has_begun(ended, fault).then_some(false)
+}
+
+// The same of one whose client sends its bytes so many at a time, of whose reads or writes so many pass.
+fn tells_all<P: RepoPort>(
+    alloc: Global,
+    port: &mut P,
+    sent: &[u8],
+    passing: u64,
+    fault: ServeFault,
+) -> Option<bool> {
+    let (size, reads, writes) = if fault == ServeFault::ReadFailed {
+        (1, passing, u64::MAX)
+    } else {
+        (sent.len(), u64::MAX, passing)
+    };
+    let ended = run(alloc, port, sent, size, reads, writes);
+    has_told_all(&ended, fault)
+}
+
+// How many reads, one byte each, or writes have to pass for all to be told; none where fewer don't lead to this and a
+// beginning.
+fn passes_wanted<P: RepoPort>(
+    alloc: Global,
+    port: &mut P,
+    sent: &[u8],
+    fault: ServeFault,
+) -> Option<u64> {
     for passing in 0..1_000 {
-        let ended = run(alloc, &mut port, sent, 1, passing, u64::MAX);
-        if ended.end.is_ok() {
-            return has_told(&ended, ended.end, &TOLD).then_some(passing);
-        }
-        if !has_begun(&ended, ServeFault::ReadFailed) {
-            return None;
+        if tells_all(alloc, port, sent, passing, fault)? {
+            return Some(passing);
         }
     }
     None
@@ -56,32 +83,21 @@ fn reads_wanted(rt: &impl Abort, alloc: Global, sent: &[u8]) -> Option<u64> {
 
 #[test]
 fn a_reader_that_fails_is_told(rt: HostRuntime) {
+    let mut port = copy_port(&rt, rt.alloc());
     let sent = asking(&rt, rt.alloc(), ASKED);
     let reads = sent.len() as u64;
+    let wanted = passes_wanted(rt.alloc(), &mut port, &sent, ServeFault::ReadFailed);
     // the last read finds the end
-    assert!(rt; reads_wanted(&rt, rt.alloc(), &sent) == reads.checked_add(1));
-}
-
-// How many writes have to pass for all to be told; none where fewer don't lead to 49 and a beginning.
-fn writes_wanted(rt: &impl Abort, alloc: Global, sent: &[u8]) -> Option<u64> {
-    let mut port = copy_port(rt, alloc);
-    for passing in 0..1_000 {
-        let ended = run(alloc, &mut port, sent, sent.len(), u64::MAX, passing);
-        if ended.end.is_ok() {
-            return has_told(&ended, ended.end, &TOLD).then_some(passing);
-        }
-        if !has_begun(&ended, ServeFault::WriteFailed) {
-            return None;
-        }
-    }
-    None
+    assert!(rt; wanted == reads.checked_add(1));
 }
 
 #[test]
 fn a_writer_that_fails_is_told(rt: HostRuntime) {
+    let mut port = copy_port(&rt, rt.alloc());
     let sent = asking(&rt, rt.alloc(), ASKED);
+    let wanted = passes_wanted(rt.alloc(), &mut port, &sent, ServeFault::WriteFailed);
     // each of the 14 items that are told takes a write or more
-    assert!(rt; writes_wanted(&rt, rt.alloc(), &sent).is_some_and(|writes| writes > 13));
+    assert!(rt; wanted.is_some_and(|writes| writes > 13));
 }
 
 // How a session ends whose writer doesn't hand on, and what it wrote.
@@ -130,9 +146,10 @@ fn items(rt: &impl Abort, alloc: Global, count: usize) -> Vec<u8> {
 }
 
 // Whether a session whose reader fails behind so many items had told what it is to tell by then, and handed it on.
-fn was_told<P: RepoPort>(alloc: Global, port: &mut P, sent: &[u8], count: usize) -> bool {
+fn was_told<P: RepoPort>(rt: &impl Abort, alloc: Global, port: &mut P, count: usize) -> bool {
+    let sent = items(rt, alloc, count);
     // one read has all of them, and the next one fails
-    let ended = run(alloc, port, sent, sent.len(), 1, u64::MAX);
+    let ended = run(alloc, port, &sent, sent.len(), 1, u64::MAX);
     match STEPS.get(..count.saturating_add(1)) {
         Some(parts) => has_told(&ended, Err(ServeFault::ReadFailed), parts),
         None => false,
@@ -140,11 +157,9 @@ fn was_told<P: RepoPort>(alloc: Global, port: &mut P, sent: &[u8], count: usize)
 }
 
 // The first number of items behind which the answers weren't handed on when the next item was awaited.
-fn first_held_back(rt: &impl Abort, alloc: Global) -> Option<usize> {
-    let mut port = file_port(rt, alloc, false);
+fn first_held_back<P: RepoPort>(rt: &impl Abort, alloc: Global, port: &mut P) -> Option<usize> {
     for count in 1..6 {
-        let sent = items(rt, alloc, count);
-        if !was_told(alloc, &mut port, &sent, count) {
+        if !was_told(rt, alloc, port, count) {
             return Some(count);
         }
     }
@@ -153,7 +168,8 @@ fn first_held_back(rt: &impl Abort, alloc: Global) -> Option<usize> {
 
 #[test]
 fn answers_go_out_before_more_is_awaited(rt: HostRuntime) {
-    assert!(rt; first_held_back(&rt, rt.alloc()).is_none());
+    let mut port = file_port(&rt, rt.alloc(), false);
+    assert!(rt; first_held_back(&rt, rt.alloc(), &mut port).is_none());
 }
 
 // Whether a stream is over behind a session whose reader failed.

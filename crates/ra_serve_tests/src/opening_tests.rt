@@ -24,6 +24,22 @@ fn lead_to<P: RepoPort>(
 }
 
 // The first of some bytes that don't lead there.
+fn first_from<'a, P: RepoPort>(
+    alloc: Global,
+    port: &mut P,
+    table: &'a [&'a [u8]],
+    end: End,
+    parts: &[&[u8]],
+) -> Option<&'a [u8]> {
+    for sent in table {
+        if !lead_to(alloc, port, sent, end, parts) {
+            return Some(*sent);
+        }
+    }
+    None
+}
+
+// The same over a repository of one file.
 fn first_other<'a>(
     rt: &impl Abort,
     alloc: Global,
@@ -32,12 +48,7 @@ fn first_other<'a>(
     parts: &[&[u8]],
 ) -> Option<&'a [u8]> {
     let mut port = file_port(rt, alloc, false);
-    for sent in table {
-        if !lead_to(alloc, &mut port, sent, end, parts) {
-            return Some(*sent);
-        }
-    }
-    None
+    first_from(alloc, &mut port, table, end, parts)
 }
 
 // Openings that a client of version 2 may send: with a token or none, with capabilities or none, with another URL, and

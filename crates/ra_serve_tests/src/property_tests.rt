@@ -18,16 +18,24 @@ const HI: &[u8] = b"( success ( ( 2:hi ) ) ) ";
 
 const NONE: &[u8] = b"( success ( ( ) ) ) ";
 
-// Whether commands to a repository of one file, or to a mirror, are answered so, whole and one byte at a time.
+// Whether commands to a repository of one file, or to a mirror, are answered so where their bytes come so many at a time.
+fn comes_by(
+    rt: &impl Abort,
+    alloc: Global,
+    mirror: bool,
+    sent: &[u8],
+    size: usize,
+    answer: &[&[u8]],
+) -> bool {
+    let mut port = file_port(rt, alloc, mirror);
+    is_told(alloc, &mut port, sent, size, answer)
+}
+
+// Whether they are, whole and one byte at a time.
 fn comes(rt: &impl Abort, alloc: Global, mirror: bool, asked: &[u8], answer: &[&[u8]]) -> bool {
     let sent = asking(rt, alloc, asked);
-    is_told(
-        alloc,
-        &mut file_port(rt, alloc, mirror),
-        &sent,
-        sent.len(),
-        answer,
-    ) && is_told(alloc, &mut file_port(rt, alloc, mirror), &sent, 1, answer)
+    comes_by(rt, alloc, mirror, &sent, sent.len(), answer)
+        && comes_by(rt, alloc, mirror, &sent, 1, answer)
 }
 
 #[test]

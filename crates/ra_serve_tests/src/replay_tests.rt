@@ -2,8 +2,8 @@
 
 use crate::made::{copy_port, file_port, file_repo};
 use crate::sessions::{
-    AUTHORISED, DONE, GREETING, MECHANISMS, NO_REVISION, WELCOME, asking, first_wrong, is_answered,
-    rest_behind, run,
+    AUTHORISED, DONE, Ended, GREETING, MECHANISMS, NO_REVISION, WELCOME, asking, first_wrong,
+    is_answered, rest_behind, run,
 };
 use ra_serve::{End, HeldRepo};
 use std::alloc::Global;
@@ -127,31 +127,35 @@ fn behind_piece(bytes: &[u8]) -> Option<&[u8]> {
     piece.iter().all(|byte| *byte == b'x').then_some(rest)
 }
 
-// What a session of the longest text tells behind its opening, and behind this.
-fn told_of_longest(rt: &impl Abort, alloc: Global, asked: &[u8], before: &[u8]) -> Option<Vec<u8>> {
+// How a session ends that asks this of a repository with the longest text.
+fn asked_of_longest(rt: &impl Abort, alloc: Global, asked: &[u8]) -> Ended {
     let text = Vec::from_elem(alloc, b'x', LONGEST).expect(rt, "memory");
     let mut port = HeldRepo::new(alloc, file_repo(rt, alloc, &text), false);
     let sent = asking(rt, alloc, asked);
-    let ended = run(alloc, &mut port, &sent, sent.len(), u64::MAX, u64::MAX);
-    if ended.end != Ok(End::Input) {
-        return None;
-    }
-    let out = ended.out?;
+    run(alloc, &mut port, &sent, sent.len(), u64::MAX, u64::MAX)
+}
+
+// What it told behind its opening, and behind this.
+fn told_behind<'a>(ended: &'a Ended, before: &[u8]) -> Option<&'a [u8]> {
     let parts: [&[u8]; 5] = [GREETING, MECHANISMS, WELCOME, AUTHORISED, before];
-    let rest = rest_behind(out.bytes(), &parts)?;
-    Vec::from_slice(alloc, rest).ok()
+    match &ended.out {
+        Some(out) => rest_behind(out.bytes(), &parts),
+        None => None,
+    }
 }
 
 #[test]
 fn the_longest_text_is_replayed(rt: HostRuntime) {
-    let asked = b"( replay ( 1 0 true ) ) ";
-    let told = told_of_longest(&rt, rt.alloc(), asked, BEFORE_WINDOWS).expect(&rt, "a session");
-    assert!(rt; behind_pieces(&told, WINDOW, b" ) ) ") == Some(BEHIND_WINDOWS));
+    let ended = asked_of_longest(&rt, rt.alloc(), b"( replay ( 1 0 true ) ) ");
+    let told = told_behind(&ended, BEFORE_WINDOWS).unwrap_or(b"");
+    assert!(rt; ended.end == Ok(End::Input));
+    assert!(rt; behind_pieces(told, WINDOW, b" ) ) ") == Some(BEHIND_WINDOWS));
 }
 
 #[test]
 fn the_longest_text_is_read(rt: HostRuntime) {
-    let asked = b"( get-file ( 1:a ( ) false true ) ) ";
-    let told = told_of_longest(&rt, rt.alloc(), asked, BEFORE_STRINGS).expect(&rt, "a session");
-    assert!(rt; behind_pieces(&told, b"65536:", b" ") == Some(BEHIND_STRINGS));
+    let ended = asked_of_longest(&rt, rt.alloc(), b"( get-file ( 1:a ( ) false true ) ) ");
+    let told = told_behind(&ended, BEFORE_STRINGS).unwrap_or(b"");
+    assert!(rt; ended.end == Ok(End::Input));
+    assert!(rt; behind_pieces(told, b"65536:", b" ") == Some(BEHIND_STRINGS));
 }
