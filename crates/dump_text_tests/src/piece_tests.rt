@@ -134,10 +134,10 @@ fn answer_from(alloc: Global, front: &[u8], rest: &[u8]) -> (usize, u32) {
     }
 }
 
-// Whether each change of a byte to one of these values is answered the same in one piece and byte by byte from there
-// on.
-fn changes_agree(alloc: Global, values: &[u8]) -> Result<bool, Fail> {
-    let mut dump = two_revisions().to_vec(alloc)?;
+// Whether each change of a byte of a dump to one of these values is answered the same in one piece and byte by byte
+// from there on.
+pub(crate) fn changes_agree(alloc: Global, dump: &[u8], values: &[u8]) -> Result<bool, Fail> {
+    let mut dump = dump.to_vec(alloc)?;
     for at in 0..dump.len() {
         for value in values {
             let old = change(&mut dump, at, *value);
@@ -160,7 +160,7 @@ fn change(bytes: &mut Vec<u8>, at: usize, value: u8) -> u8 {
 }
 
 // The bytes from the first to the last.
-fn values(alloc: Global, first: u8, last: u8) -> Result<Vec<u8>, Fail> {
+pub(crate) fn values(alloc: Global, first: u8, last: u8) -> Result<Vec<u8>, Fail> {
     let mut all = Vec::new(alloc);
     for value in first..=last {
         all.push(value)?;
@@ -171,7 +171,7 @@ fn values(alloc: Global, first: u8, last: u8) -> Result<Vec<u8>, Fail> {
 // Whether each change of a byte to one of 32 values is answered the same both ways.
 fn agrees_from(alloc: Global, first: u8) -> Result<bool, Fail> {
     let values = values(alloc, first, first.saturating_add(31))?;
-    changes_agree(alloc, values.as_slice())
+    changes_agree(alloc, two_revisions(), values.as_slice())
 }
 
 #[test]
@@ -323,7 +323,9 @@ fn written(alloc: Global, records: Vec<DumpRecord>) -> Result<Vec<u8>, Fail> {
         take(alloc, record, &mut written, &mut revisions)?;
     }
     for revision in &revisions {
-        write_revision(&mut written, revision)?;
+        if revision.is_whole() {
+            write_revision(&mut written, revision)?;
+        }
     }
     Ok(written)
 }

@@ -103,9 +103,7 @@ fn removing(rt: &impl Abort, alloc: Global, count: usize) -> Vec<u8> {
             .extend_from_slice(line.as_bytes())
             .expect(rt, "memory");
     }
-    block
-        .extend_from_slice(b"PROPS-END\n")
-        .expect(rt, "memory");
+    block.extend_from_slice(b"PROPS-END\n").expect(rt, "memory");
     block
 }
 
