@@ -4,6 +4,7 @@ pub mod Ending
 pub mod Feeding
 pub mod Groups
 pub mod Identities
+pub mod Spelled
 pub mod Streaming
 pub mod Taking
 pub mod Telling

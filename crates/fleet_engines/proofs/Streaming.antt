@@ -1,5 +1,5 @@
 -- A stream of known bytes, read to its end or not.
-use Rattle.std.proofs.Common.{◌≡◌, ℕ, ◌||◌, Bool, true, false, List, Result, Ok, Err, [], ◌++◌, Option, None, Some, IfSome, refl, sym, ap, subst, ◌∙◌, append-nil, arith, inl, inr}
+use Rattle.std.proofs.Common.{◌≡◌, ◌≤◌, ℕ, List, Result, Ok, Err, [], ◌++◌, Option, None, Some, IfSome, refl, sym, ap, subst, ◌∙◌, append-nil, arith, inl, inr}
 use Rattle.std.proofs.KnownBytes.{Appends-nil, Appends-kept, Keeps-refl, Consumes-trans, Consumes-kept, Consumes-whole}
 use Rattle.std.specs.Result.{OnOk, OnErr, IfErr}
 use Rattle.std.specs.Io.KnownBytes.{Consumes, Keeps, IsAtEnd}
@@ -11,8 +11,8 @@ use Rattle.dump_text.specs.Streams.{Reads, records_of, dump, fresh}
 use Rattle.fleet_engines.specs.declared.product.Product.{Product}
 use Rattle.fleet_engines.specs.declared.product.Product.TheVariants.{List as ListIt, Canon}
 use Rattle.fleet_engines.specs.Revisions.{Told, untold}
-use Rattle.std.proofs.Math.Bool.{or-true}
-use Rattle.fleet_engines.specs.Runs.{Stands, due, whole, Reached, Refused, Accepted, Leads, Flagged, BothFlagged, stopped}
+use Rattle.byte_streams.specs.Causes.{Counts, Fails, Rose, RoseBy}
+use Rattle.fleet_engines.specs.Runs.{Stands, due, whole, Reached, Refused, Accepted, Leads, Counted, BothCounted, stopped}
 use Rattle.fleet_engines.proofs.Feeding.{later_records}
 
 first_stands : (c : Product) (start : Option (List ℕ)) → Stands c [] untold start start
@@ -66,14 +66,30 @@ pub read_refused : (c : Product) (r0 r1 : ReadState) (t0 t1 : Told) (a b : Optio
 read_refused c r0 r1 t0 t1 a b bytes old mid now e d p x y start s =
     of_front old now bytes (λ all. Refused c all start b e) (Consumes-kept old mid now bytes x y) (peer_refused c bytes r1 t1 start b e d (p start s))
 
--- flags
-pub input_flagged : (e : Refusal) (i0 i i1 o0 o : Bool) → i ≡ i0 → o ≡ o0 → Flagged {T = ℕ} (Err e) i i1 → BothFlagged {T = Unit {0}} (Err e) i0 i1 o0 o
-input_flagged e i0 i i1 o0 o p q (inl f) = inl (f.0, ap (λ b. b || o) f.1)
-input_flagged e i0 i i1 o0 o p q (inr f) = inr (f.0, f.1 ∙ p, q)
+-- a count that rose has risen since before
+pub rose_on : (first before now : ℕ) → first ≤ before → Rose before now → Rose first now
+rose_on first before now later (inl rose) = inl (omega (arith, later, rose))
+rose_on first before now later (inr greatest) = inr greatest
 
-pub output_flagged : (e : Refusal) (i0 i o0 o o1 : Bool) → i ≡ i0 → o ≡ o0 → Flagged {T = Unit {0}} (Err e) o o1 → BothFlagged {T = Unit {0}} (Err e) i0 i o0 o1
-output_flagged e i0 i o0 o o1 p q (inl f) = inl (f.0, ap (λ b. i || b) f.1 ∙ or-true i)
-output_flagged e i0 i o0 o o1 p q (inr f) = inr (f.0, p, f.1 ∙ q)
+-- what an output took is told
+pub taken_counted : (r : Result (Unit {0}) Refusal) (old before now : ℕ) → before ≡ old → old ≤ now → OnOk r (now ≤ before) → OnErr r (Rose before now) → IfErr r (λ e. e ≡ PeerFailed) → Counted r old now
+taken_counted (Ok x) old before now same later stood failed peer = omega (arith, same, later, stood)
+taken_counted (Err e) old before now same later stood failed peer = inl (peer, subst (λ n. Rose n now) same failed)
+
+-- the input failed, or was read as often as it may be
+pub input_counted : (e : Refusal) (input : Counts) (o0 o : ℕ) → e ≡ PeerFailed → input.before ≤ input.now → Fails input → BothCounted {T = Unit {0}} (Err e) input o0 o
+input_counted e input o0 o p later f = (later, inl (p, inl f))
+
+-- the output was written to behind reads
+pub later_counted : (r : Result (Unit {0}) Refusal) (input : Counts) (o0 o o1 : ℕ) → input.before ≤ input.now → o ≡ o0 → Counted r o o1 → BothCounted r input o0 o1
+later_counted (Ok x) input o0 o o1 later q f = (later, f ∙ q)
+later_counted (Err e) input o0 o o1 later q (inl f) = (later, inl (f.0, inr (subst (λ n. Rose n o1) q f.1)))
+later_counted (Err e) input o0 o o1 later q (inr f) = (later, inr (f.0, f.1 ∙ q))
+
+-- all reads that a stream gets were made
+pub reads_spent : (before now most : ℕ) → most ≡ 1099511627775 → RoseBy most before now → 1099511627775 ≤ now
+reads_spent before now most e (inl rose) = omega (arith, e, rose)
+reads_spent before now most e (inr greatest) = omega (arith, greatest)
 
 pub keeps_same : (a b : Option (List ℕ)) → b ≡ a → Keeps a b
 keeps_same a b e = subst (Keeps a) (sym e) (Keeps-refl a)
@@ -88,10 +104,6 @@ all_ended k0 k1 r0 r1 t0 t1 before now a b bytes start Q e p q l k s =
 -- want of memory is no failure of a peer
 pub memory_no_peer : (e : Refusal) → e ≡ OutOfMemory → e ≡ PeerFailed → ⊥
 memory_no_peer e p q = let n : ◌≡◌ {A = ℕ} 70 49 = ap refusal_number (sym p ∙ q) in omega (arith, n)
-
-pub later_flagged : (r : Result (Unit {0}) Refusal) (i0 i o0 o o1 : Bool) → i ≡ i0 → o ≡ o0 → Flagged r o o1 → BothFlagged r i0 i o0 o1
-later_flagged (Ok x) i0 i o0 o o1 p q f = (p, f ∙ q)
-later_flagged (Err e) i0 i o0 o o1 p q f = output_flagged e i0 i o0 o o1 p q f
 
 -- what is handed on stays
 pub accepted_kept : (c : Product) (bytes : List ℕ) (start now later : Option (List ℕ)) → Keeps now later → Accepted c bytes start now → Accepted c bytes start later
@@ -126,23 +138,3 @@ some_accepted (Some bytes) (Err e) c start now later k p = tt
 pub some_refused : (a : Option (List ℕ)) (c : Product) (start now later : Option (List ℕ)) (e : Refusal) → Keeps now later → IfSome a (λ bytes. Refused c bytes start now e) → IfSome a (λ bytes. Refused c bytes start later e)
 some_refused None c start now later e k p = tt
 some_refused (Some bytes) c start now later e k p = refused_kept c bytes start now later e k p
-
--- a failure isn't forgotten
-pub failed_stays : (r : Result (Unit {0}) Refusal) (old new : Bool) → Flagged r old new → old ≡ true → new ≡ true
-failed_stays (Ok x) old new f e = f ∙ e
-failed_stays (Err x) old new (inl f) e = f.1
-failed_stays (Err x) old new (inr f) e = f.1 ∙ e
-
--- a failure is told where the writer failed
-pub err_flagged : (r : Result (Unit {0}) Refusal) (i new : Bool) → OnErr r (new ≡ true) → IfErr r (λ e. e ≡ PeerFailed → (i || new) ≡ true)
-err_flagged (Ok x) i new h = tt
-err_flagged (Err e) i new h = λ _. ap (λ b. i || b) h ∙ or-true i
-
-or_stays : (i old new : Bool) → (old ≡ true → new ≡ true) → (i || old) ≡ true → (i || new) ≡ true
-or_stays true old new f h = refl
-or_stays false old new f h = f h
-
--- and a failure that was told stays
-pub told_flagged : (r : Result (Unit {0}) Refusal) (e : Refusal) (i0 i o0 old new : Bool) → BothFlagged {T = Unit {0}} (Err e) i0 i o0 old → Flagged r old new → e ≡ PeerFailed → (i || new) ≡ true
-told_flagged r e i0 i o0 old new (inl b) f p = or_stays i old new (failed_stays r old new f) b.1
-told_flagged r e i0 i o0 old new (inr b) f p = absurd (b.0 p)

@@ -1,8 +1,9 @@
 -- What is made of a dump, and what the answer says of the bytes that were read.
-use Rattle.std.specs.Prelude.{◌≡◌, ℕ, ◌-◌, ◌⊎◌, ◌||◌, not, Bool, true, false, List, [], ◌∷◌, ◌++◌, length, Option, Result, Ok, Err, if◌then◌else◌}
+use Rattle.std.specs.Prelude.{◌≡◌, ◌≤◌, ℕ, ◌-◌, ◌⊎◌, ◌||◌, not, Bool, true, false, List, [], ◌∷◌, ◌++◌, length, Option, Result, Ok, Err, if◌then◌else◌}
 use Rattle.std.specs.Option.{option_map_or}
 use Rattle.std.specs.List.{flat_map, slice_get}
 use Rattle.std.specs.Io.KnownBytes.{Appends}
+use Rattle.byte_streams.specs.Causes.{Counts, Fails, Rose}
 use Rattle.node_base.specs.Tree.{PathMap}
 use Rattle.node_base.specs.declared.refusal.Refusal.{Refusal}
 use Rattle.node_base.specs.declared.refusal.Refusal.TheVariants.{Truncated, PeerFailed, OutOfMemory}
@@ -102,12 +103,12 @@ pub record Accepted (c : Product) (bytes : List ℕ) (start now : Option (List �
   pub closes : Closes told all newest
   pub written : Appends start now (whole c all (out ++ newest))
 
--- a stream's failure is told by PeerFailed, and by nothing else
-abbrev pub Flagged : {T : Type 0} → Result T Refusal → Bool → Bool → Type 0
-Flagged (Ok x) old new = new ≡ old
-Flagged (Err e) old new = ((e ≡ PeerFailed) × (new ≡ true)) ⊎ ((e ≡ PeerFailed → ⊥) × (new ≡ old))
+-- an output's failure is told by PeerFailed, and by nothing else: its count of failures rose, and else it is as it was
+abbrev pub Counted : {T : Type 0} → Result T Refusal → ℕ → ℕ → Type 0
+Counted (Ok x) before now = now ≡ before
+Counted (Err e) before now = ((e ≡ PeerFailed) × Rose before now) ⊎ ((e ≡ PeerFailed → ⊥) × (now ≡ before))
 
--- the same for a reader and a writer
-abbrev pub BothFlagged : {T : Type 0} → Result T Refusal → Bool → Bool → Bool → Bool → Type 0
-BothFlagged (Ok x) old new before after = (new ≡ old) × (after ≡ before)
-BothFlagged (Err e) old new before after = ((e ≡ PeerFailed) × ((new || after) ≡ true)) ⊎ ((e ≡ PeerFailed → ⊥) × (new ≡ old) × (after ≡ before))
+-- the same for an input and an output; the input fails too where it was read as often as one stream may be, and its count doesn't fall
+abbrev pub BothCounted : {T : Type 0} → Result T Refusal → Counts → ℕ → ℕ → Type 0
+BothCounted (Ok x) input before now = (input.before ≤ input.now) × (now ≡ before)
+BothCounted (Err e) input before now = (input.before ≤ input.now) × (((e ≡ PeerFailed) × (Fails input ⊎ Rose before now)) ⊎ ((e ≡ PeerFailed → ⊥) × (now ≡ before)))

@@ -1,18 +1,20 @@
-//! The engines of svnfleet's commands over any reader and writer.
+//! The engines of svnfleet's commands over any input and output.
 #![tactic(auto)]
 
 ghost use Rattle.fleet_engines.specs.Grouping.{RevisionsAreGrouped};
 ghost use Rattle.fleet_engines.specs.Pieces.{RecordsDontMatter};
 
 pub use commands::{run_canon, run_list};
-pub use lines::{push_node_line, push_path, write_fault};
+pub use line::write_line;
+pub use lines::{push_node_line, push_path};
 pub use product::Product;
 pub use refusals::{change_refusal, dump_refusal};
-pub use stream::{Sink, Source};
+pub use stream::{hand_on, read, write, write_count, write_parts};
 
 mod commands;
 mod engine;
 mod history;
+mod line;
 mod lines;
 mod listing;
 mod product;

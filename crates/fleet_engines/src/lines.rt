@@ -1,15 +1,11 @@
 //! Lines that the program prints.
 ghost use Rattle.std.specs.Prelude.{◌≡◌, ◌++◌, ◌∷◌, codes, map, OnOk, string_bytes};
 ghost use Rattle.std.specs.Fmt.{decimal};
-ghost use Rattle.std.specs.Io.KnownBytes.{Appends};
 ghost use Rattle.fleet_engines.specs.Listing.{node_line, shown_path};
 ghost use Rattle.node_base.specs.PathText.{path_text, slashed};
-ghost use Rattle.node_base.specs.Refusals.{fault_line};
 
-use node_base::{Node, NodeName, Refusal};
+use node_base::{Node, NodeName};
 use std::alloc::AllocError;
-use std::io;
-use std::io::Write;
 
 /// Adds a path as it is printed: its names with slashes between them, the root as a slash.
 pub fn push_path(line: &mut String, path: &[&NodeName]) -> Result<(), AllocError>
@@ -71,12 +67,4 @@ fn push_dir_front(line: &mut String, changed: u16) -> Result<(), AllocError>
         ++ codes " ") }
 {
     write!(line, "D {changed} ")
-}
-
-/// Writes the line that tells a refusal: `svnfleet: NUMBER TEXT`.
-pub fn write_fault<W: Write>(errors: &mut W, refusal: &Refusal) -> io::Result<()>
-    ensures { OnOk result (Appends (W.contents errors.old) (W.contents errors.new) (fault_line refusal.now)) }
-{
-    let number = refusal.number();
-    writeln!(errors, "svnfleet: {number} {refusal}")
 }

@@ -17,8 +17,7 @@ use Rattle.repo_store.specs.Journal.{Keeps}
 use Rattle.repo_store.specs.Words.{disk_of, repository_of, revisions_of, HasFailed, IsKept as IsStored}
 use Rattle.repo_store.specs.declared.store.RepoStore.{RepoStore}
 use Rattle.fleet_engines.specs.Grouping.{is_no_identity}
-use Rattle.fleet_engines.specs.Runs.{Flagged}
-use Rattle.fleet_engines.proofs.Streaming.{failed_stays}
+use Rattle.byte_streams.specs.Causes.{Rose}
 use Rattle.store_engines.specs.Commits.{directory_entry, IsCommitted, NotCommitted}
 use Rattle.store_engines.specs.Devices.{Serves}
 use Rattle.store_engines.specs.Dumps.{dump_of, DumpStops}
@@ -82,14 +81,14 @@ module _ {F D : Type 0} (G : Ghosts D) (H : FolderGhosts F D) (folders then late
       standing (IsLoadedFrom (H.honest folders) bytes before now) old new o back s.honest.0 (m, l, (s, records), kept_ok (H.honest folders) o.0 old new o.2 s k)
   load_done (Err e) bytes before now old new o l m s records k back = tt
 
-  pub load_refused : (r : Result (Unit {0}) Refusal) (bytes left rest before now : Option (List ℕ)) (failed : Bool) (old new : RepoStore D G) → IsOpenedIn G H folders then folder old
-      → IfErr r (λ e. is_mirror (revisions_of old) ≡ false → IfSome bytes (λ read. LoadRefused (repository_of old) read new before now failed e))
+  pub load_refused : (r : Result (Unit {0}) Refusal) (bytes left rest before now : Option (List ℕ)) (fails : Type 0) (old new : RepoStore D G) → IsOpenedIn G H folders then folder old
+      → IfErr r (λ e. is_mirror (revisions_of old) ≡ false → IfSome bytes (λ read. LoadRefused (repository_of old) read new before now fails e))
       → (is_mirror (revisions_of old) ≡ true → IfErr r (λ e. (e ≡ refusal.ReadOnly) × (repository_of new ≡ repository_of old) × (left ≡ rest) × (now ≡ before))) → Serves old new r
       → IfSome bytes (λ read. ServesRecords (filter is_no_identity (records_of (dump read))) old new r []) → KeptThen new → IsStored new → TakesBack G H then later folder (disk_of new)
-      → IfErr r (λ e. UnopenedOr G H folders later folder before now e (NotLoadedFrom (H.honest folders) bytes before now failed e))
-  load_refused (Ok t) bytes left rest before now failed old new o h m s records k d back = tt
-  load_refused (Err e) bytes left rest before now failed old new o h m s records k d back =
-      inr (standing (NotLoadedFrom (H.honest folders) bytes before now failed e) old new o back s.honest.0
+      → IfErr r (λ e. UnopenedOr G H folders later folder before now e (NotLoadedFrom (H.honest folders) bytes before now fails e))
+  load_refused (Ok t) bytes left rest before now fails old new o h m s records k d back = tt
+  load_refused (Err e) bytes left rest before now fails old new o h m s records k d back =
+      inr (standing (NotLoadedFrom (H.honest folders) bytes before now fails e) old new o back s.honest.0
       (h, (λ is. let n = m is in (n.0, n.1, n.3)), (s, records), kept_err e (H.honest folders) o.0 old new o.2 s k, kept_or (Err e) (H.honest folders) o.0 old new o.2 s d))
 
   -- a commit of a directory
@@ -101,13 +100,13 @@ module _ {F D : Type 0} (G : Ghosts D) (H : FolderGhosts F D) (folders then late
       standing (IsCommittedTo (H.honest folders) bytes message moment before now) old new o back s.honest.0 (d, (s, entry), kept_ok (H.honest folders) o.0 old new o.2 s k)
   directory_done (Err e) bytes message moment before now old new o d s entry k back = tt
 
-  pub directory_refused : (r : Result (Unit {0}) Refusal) (bytes message : List ℕ) (moment : DateTime) (before now : Option (List ℕ)) (failed : Bool) (old new : RepoStore D G) → IsOpenedIn G H folders then folder old
-      → IfErr r (NotCommitted (repository_of old) bytes message moment new before now failed) → Serves old new r
+  pub directory_refused : (r : Result (Unit {0}) Refusal) (bytes message : List ℕ) (moment : DateTime) (before now : Option (List ℕ)) (fails : Type 0) (old new : RepoStore D G) → IsOpenedIn G H folders then folder old
+      → IfErr r (NotCommitted (repository_of old) bytes message moment new before now fails) → Serves old new r
       → ((place : Path) → path_read bytes ≡ Ok place → ServesOne (directory_entry (revisions_of old) place message moment) old new r) → KeptThen new → IsStored new → TakesBack G H then later folder (disk_of new)
-      → IfErr r (λ e. UnopenedOr G H folders later folder before now e (NotCommittedTo (H.honest folders) bytes message moment before now failed e))
-  directory_refused (Ok t) bytes message moment before now failed old new o d s entry k f back = tt
-  directory_refused (Err e) bytes message moment before now failed old new o d s entry k f back =
-      inr (standing (NotCommittedTo (H.honest folders) bytes message moment before now failed e) old new o back s.honest.0 (d, (s, entry), kept_err e (H.honest folders) o.0 old new o.2 s k, kept_or (Err e) (H.honest folders) o.0 old new o.2 s f))
+      → IfErr r (λ e. UnopenedOr G H folders later folder before now e (NotCommittedTo (H.honest folders) bytes message moment before now fails e))
+  directory_refused (Ok t) bytes message moment before now fails old new o d s entry k f back = tt
+  directory_refused (Err e) bytes message moment before now fails old new o d s entry k f back =
+      inr (standing (NotCommittedTo (H.honest folders) bytes message moment before now fails e) old new o back s.honest.0 (d, (s, entry), kept_err e (H.honest folders) o.0 old new o.2 s k, kept_or (Err e) (H.honest folders) o.0 old new o.2 s f))
 
   -- a dump
   pub dump_done : {T : Type 0} (r : Result T Refusal) (range : Option RevRange) (before now : Option (List ℕ)) (store : RepoStore D G) → IsOpenedIn G H folders then folder store
@@ -118,12 +117,12 @@ module _ {F D : Type 0} (G : Ghosts D) (H : FolderGhosts F D) (folders then late
       standing (IsDumped (H.honest folders) range before now) store store o back (λ h. h) (refl, there, written, kept_opened (H.honest folders) o.0 store o.2 k)
   dump_done (Err e) range before now store o there written k back = tt
 
-  pub dump_refused : {T : Type 0} (r : Result T Refusal) (range : Option RevRange) (before now : Option (List ℕ)) (failed : Bool) (store : RepoStore D G) → IsOpenedIn G H folders then folder store
-      → IfErr r (DumpStops (repository_of store) range before now failed) → KeptThen store → TakesBack G H then later folder (disk_of store)
-      → IfErr r (λ e. UnopenedOr G H folders later folder before now e (NotDumped (H.honest folders) range before now failed e))
-  dump_refused (Ok t) range before now failed store o h k back = tt
-  dump_refused (Err e) range before now failed store o h k back =
-      inr (standing (NotDumped (H.honest folders) range before now failed e) store store o back (λ h. h) (refl, h, kept_opened (H.honest folders) o.0 store o.2 k))
+  pub dump_refused : {T : Type 0} (r : Result T Refusal) (range : Option RevRange) (before now : Option (List ℕ)) (fails : Type 0) (store : RepoStore D G) → IsOpenedIn G H folders then folder store
+      → IfErr r (DumpStops (repository_of store) range before now fails) → KeptThen store → TakesBack G H then later folder (disk_of store)
+      → IfErr r (λ e. UnopenedOr G H folders later folder before now e (NotDumped (H.honest folders) range before now fails e))
+  dump_refused (Ok t) range before now fails store o h k back = tt
+  dump_refused (Err e) range before now fails store o h k back =
+      inr (standing (NotDumped (H.honest folders) range before now fails e) store store o back (λ h. h) (refl, h, kept_opened (H.honest folders) o.0 store o.2 k))
 
   -- a repository is begun
   pub begun : (identity : List ℕ) (store : RepoStore D G) → IsBegunIn G H folders then folder identity store → TakesBack G H then later folder (disk_of store) → IsBegun G H folders later folder identity
@@ -139,14 +138,14 @@ pub handed_on : {T : Type 0} (r : Result T Refusal) (P : Option (List ℕ) → T
 handed_on (Ok t) P written now p k = record { written = written; done = p; kept = k }
 handed_on (Err e) P written now p k = tt
 
-pub done_unsaid : {T : Type 0} (r : Result T Refusal) (P : Option (List ℕ) → Type 0) (N : Option (List ℕ) → Bool → Refusal → Type 0) (written now : Option (List ℕ)) (failed : Bool)
-    → P written → HandedOn written now → OnErr r (failed ≡ true) → IfErr r (EndsWith P N now failed)
-done_unsaid (Ok t) P N written now failed p k f = tt
-done_unsaid (Err e) P N written now failed p k f = not_handed_on (record { written = written; done = p; kept = k }) f
+-- what is so of an answer that is Ok
+pub of_ok : (r : Result (Unit {0}) Refusal) (u : Unit {0}) (P : Type 0) → r ≡ Ok u → OnOk r P → P
+of_ok r u P is h = subst (λ x. OnOk x P) is h
 
-pub refused_then : (r : Result (Unit {0}) Refusal) (P : Option (List ℕ) → Type 0) (N : Option (List ℕ) → Bool → Refusal → Type 0) (written now : Option (List ℕ)) (old new : Bool) (e : Refusal)
-    → N written old e → HandedOn written now → Flagged r old new → EndsWith P N now new e
-refused_then r P N written now old new e h k f = not_done written old h k (failed_stays r old new f)
+pub done_unsaid : {T : Type 0} (r : Result T Refusal) (P : Option (List ℕ) → Type 0) (N : Option (List ℕ) → ℕ → Refusal → Type 0) (written now : Option (List ℕ)) (start before count : ℕ)
+    → P written → HandedOn written now → before ≡ start → IfErr r (λ e. e ≡ refusal.PeerFailed) → OnErr r (Rose before count) → IfErr r (EndsWith P N start now count)
+done_unsaid (Ok t) P N written now start before count p k same e f = tt
+done_unsaid (Err x) P N written now start before count p k same e f = not_handed_on (record { written = written; done = p; kept = k }) e (subst (λ n. Rose n count) same f)
 
 -- what is so of an answer, beside what is so anyway
 pub ok_and : {T : Type 0} (r : Result T Refusal) (A B : Type 0) → OnOk r A → B → OnOk r (A × B)

@@ -30,26 +30,26 @@ well_ended (Ok u) false h = (refl, refl)
 well_ended (Ok u) true h = absurd (cc)
 well_ended (Err f) lost h = absurd (cc)
 
-all_printed : (before now : Option (List ℕ)) (failed lost : Bool) (told : List Told) → lost ≡ false → IsPrinted before now failed lost told → Appends before now (flat_map line_of told)
-all_printed before now failed lost told none (Printed l a) = a
-all_printed before now failed lost told none (Lost l f) = absurd (true≢false (sym l ∙ none))
+all_printed : (before now : Option (List ℕ)) (fails : Type 0) (lost : Bool) (told : List Told) → lost ≡ false → IsPrinted before now fails lost told → Appends before now (flat_map line_of told)
+all_printed before now fails lost told none (Printed l a) = a
+all_printed before now fails lost told none (Lost l f) = absurd (true≢false (sym l ∙ none))
 
-pub worked_done : {D : Type 0} {G : Ghosts D} (IsRun : List Spoken → Result (Unit {0}) SyncFault → Type 0) (r : Result (Unit {0}) Refusal) (old new : RepoStore D G) (before now : Option (List ℕ)) (failed : Bool)
-    → Serves IsRun old new before now failed r → OnOk r (WorkedOn IsRun before now old new)
-worked_done IsRun (Ok u) old new before now failed s =
+pub worked_done : {D : Type 0} {G : Ghosts D} (IsRun : List Spoken → Result (Unit {0}) SyncFault → Type 0) (r : Result (Unit {0}) Refusal) (old new : RepoStore D G) (before now : Option (List ℕ)) (fails : Type 0)
+    → Serves IsRun old new before now fails r → OnOk r (WorkedOn IsRun before now old new)
+worked_done IsRun (Ok u) old new before now fails s =
     let e = well_ended s.ended s.lost s.answer in
-    λ works. record { said = s.said; run = subst (λ x. IsRun s.said x) e.0 s.run; printed = all_printed before now failed s.lost (told_in s.said) e.1 s.printed; left = s.left works }
-worked_done IsRun (Err x) old new before now failed s = tt
+    λ works. record { said = s.said; run = subst (λ x. IsRun s.said x) e.0 s.run; printed = all_printed before now fails s.lost (told_in s.said) e.1 s.printed; left = s.left works }
+worked_done IsRun (Err x) old new before now fails s = tt
 
-pub worked_refused : {D : Type 0} {G : Ghosts D} (IsRun : List Spoken → Result (Unit {0}) SyncFault → Type 0) (r : Result (Unit {0}) Refusal) (old new : RepoStore D G) (before now : Option (List ℕ)) (failed : Bool)
-    → Serves IsRun old new before now failed r → IfErr r (λ e. NotWorkedOn IsRun before now failed e old new)
-worked_refused IsRun (Ok u) old new before now failed s = tt
-worked_refused IsRun (Err x) old new before now failed s =
+pub worked_refused : {D : Type 0} {G : Ghosts D} (IsRun : List Spoken → Result (Unit {0}) SyncFault → Type 0) (r : Result (Unit {0}) Refusal) (old new : RepoStore D G) (before now : Option (List ℕ)) (fails : Type 0)
+    → Serves IsRun old new before now fails r → IfErr r (λ e. NotWorkedOn IsRun before now fails e old new)
+worked_refused IsRun (Ok u) old new before now fails s = tt
+worked_refused IsRun (Err x) old new before now fails s =
     λ works. record { said = s.said; ended = s.ended; run = s.run; lost = s.lost; printed = s.printed; answer = s.answer; left = s.left works; device = s.device.device }
 
-pub worked_rules : {D : Type 0} {G : Ghosts D} (IsRun : List Spoken → Result (Unit {0}) SyncFault → Type 0) (r : Result (Unit {0}) Refusal) (old new : RepoStore D G) (before now : Option (List ℕ)) (failed : Bool)
-    → Serves IsRun old new before now failed r → ¬ HasFailed old → G.honest (disk_of old) → G.honest (disk_of new)
-worked_rules IsRun r old new before now failed s works h = (s.left works).honest.0 h
+pub worked_rules : {D : Type 0} {G : Ghosts D} (IsRun : List Spoken → Result (Unit {0}) SyncFault → Type 0) (r : Result (Unit {0}) Refusal) (old new : RepoStore D G) (before now : Option (List ℕ)) (fails : Type 0)
+    → Serves IsRun old new before now fails r → ¬ HasFailed old → G.honest (disk_of old) → G.honest (disk_of new)
+worked_rules IsRun r old new before now fails s works h = (s.left works).honest.0 h
 
 -- over the source that is opened, whose disk is back then
 module _ {F D : Type 0} (G : Ghosts D) (H : FolderGhosts F D) (folders then later : F) (source : List ℕ) (old new master : RepoStore D G) (P : RepoStore D G → RepoStore D G → Type 0) where
@@ -70,11 +70,11 @@ source_done G H folders then later source IsRun (Ok u) old new master before now
 source_done G H folders then later source IsRun (Err e) old new master before now o k t w = tt
 
 pub source_refused : {F D : Type 0} (G : Ghosts D) (H : FolderGhosts F D) (folders then later : F) (source : List ℕ) (IsRun : List Spoken → Result (Unit {0}) SyncFault → Type 0) (r : Result (Unit {0}) Refusal)
-    (old new master : RepoStore D G) (before now : Option (List ℕ)) (failed : Bool) → IsOpenedIn G H folders then source master → KeptThen master → TakesBack G H then later source (disk_of master)
-    → IfErr r (λ e. NotWorkedOn IsRun before now failed e old new) → IfErr r (λ e. NoSourceOr G H folders later source old new before now e (NotWorkedOver IsRun before now failed e))
-source_refused G H folders then later source IsRun (Ok u) old new master before now failed o k t w = tt
-source_refused G H folders then later source IsRun (Err e) old new master before now failed o k t w =
-    inr (over_source G H folders then later source old new master (NotWorkedOver IsRun before now failed e) o k t w)
+    (old new master : RepoStore D G) (before now : Option (List ℕ)) (fails : Type 0) → IsOpenedIn G H folders then source master → KeptThen master → TakesBack G H then later source (disk_of master)
+    → IfErr r (λ e. NotWorkedOn IsRun before now fails e old new) → IfErr r (λ e. NoSourceOr G H folders later source old new before now e (NotWorkedOver IsRun before now fails e))
+source_refused G H folders then later source IsRun (Ok u) old new master before now fails o k t w = tt
+source_refused G H folders then later source IsRun (Err e) old new master before now fails o k t w =
+    inr (over_source G H folders then later source old new master (NotWorkedOver IsRun before now fails e) o k t w)
 
 -- and over the mirror that is opened before it, and whose disk is back last
 module _ {F D : Type 0} (G : Ghosts D) (H : FolderGhosts F D) (folders then between later : F) (mirror source : List ℕ) (old new : RepoStore D G) where
@@ -128,12 +128,12 @@ module _ {F D : Type 0} (G : Ghosts D) (H : FolderGhosts F D) (folders then late
       standing G H folders then later folder (IsToldOf (H.honest folders) before now) store store o t (λ h. h) (refl, fine, text, kept_opened (H.honest folders) o.0 store o.2 k)
   told_done (Err e) o fine text k t = tt
 
-  pub told_refused : (r : Result (Unit {0}) Refusal) (failed : Bool) → IsOpenedIn G H folders then folder store
-      → IfErr r (λ e. ((info_fault (props_at (revisions_of store) 0) (head_of (revisions_of store)) ≡ Some e) × (now ≡ before)) ⊎ ((e ≡ refusal.PeerFailed) × (failed ≡ true))) → KeptThen store
-      → TakesBack G H then later folder (disk_of store) → IfErr r (λ e. UnopenedOr G H folders later folder before now e (NotToldOf (H.honest folders) before now failed e))
-  told_refused (Ok u) failed o h k t = tt
-  told_refused (Err e) failed o h k t =
-      inr (standing G H folders then later folder (NotToldOf (H.honest folders) before now failed e) store store o t (λ h. h) (refl, h, kept_opened (H.honest folders) o.0 store o.2 k))
+  pub told_refused : (r : Result (Unit {0}) Refusal) (fails : Type 0) → IsOpenedIn G H folders then folder store
+      → IfErr r (λ e. ((info_fault (props_at (revisions_of store) 0) (head_of (revisions_of store)) ≡ Some e) × (now ≡ before)) ⊎ ((e ≡ refusal.PeerFailed) × fails)) → KeptThen store
+      → TakesBack G H then later folder (disk_of store) → IfErr r (λ e. UnopenedOr G H folders later folder before now e (NotToldOf (H.honest folders) before now fails e))
+  told_refused (Ok u) fails o h k t = tt
+  told_refused (Err e) fails o h k t =
+      inr (standing G H folders then later folder (NotToldOf (H.honest folders) before now fails e) store store o t (λ h. h) (refl, h, kept_opened (H.honest folders) o.0 store o.2 k))
 
 -- two folders by their texts
 pub both_at : {T : Type 0} (r : Result T Refusal) (Q : List ℕ → List ℕ → Type 0) (a b c d : List ℕ) → a ≡ b → c ≡ d → OnOk r (Q a c) → OnOk r (Q b d)

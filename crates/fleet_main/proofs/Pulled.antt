@@ -2,7 +2,7 @@
 use Rattle.std.proofs.Common.{◌≡◌, ◌⊎◌, ℕ, Bool, List, Option, Result, Ok, Err, inl, inr, refl, sym, ap, subst, ◌∙◌, IfErr}
 use Rattle.std.specs.Result.{OnOk}
 use Rattle.fleet_disk.specs.declared.disk.Disk.{Ghosts}
-use Rattle.fleet_engines.specs.declared.stream.Sink.{Sink}
+use Rattle.byte_streams.specs.Causes.{Rose}
 use Rattle.node_base.specs.declared.refusal.Refusal.{Refusal}
 use Rattle.repo_store.specs.Words.{disk_of, HasFailed}
 use Rattle.repo_store.specs.declared.store.RepoStore.{RepoStore}
@@ -27,45 +27,45 @@ none_done r e P is = subst (λ x. OnOk x P) (sym is) tt
 refused_as : (r : Result (Unit {0}) Refusal) (e : Refusal) (P : Refusal → Type 0) → r ≡ Err e → P e → IfErr r P
 refused_as r e P is h = subst (λ x. IfErr x P) (sym is) h
 
-over_done : {D W : Type 0} {G : Ghosts D} (contents : W → Option (List ℕ)) (IsRun : List Spoken → Result (Unit {0}) SyncFault → Type 0) (r : Result (Unit {0}) Refusal) (old new : RepoStore D G) (before now : Sink W)
-    → RunsOver contents IsRun old new before now r → OnOk r (WorkedOn IsRun (contents before.inner) (contents now.inner) old new)
-over_done contents IsRun r old new before now (Unopened e is why same out) = none_done r e _ is
-over_done contents IsRun r old new before now (Ran s) = worked_done IsRun r old new (contents before.inner) (contents now.inner) now.failed s
+over_done : {D O : Type 0} {G : Ghosts D} (contents : O → Option (List ℕ)) (failures : O → ℕ) (IsRun : List Spoken → Result (Unit {0}) SyncFault → Type 0) (r : Result (Unit {0}) Refusal) (old new : RepoStore D G) (before now : O)
+    → RunsOver contents failures IsRun old new before now r → OnOk r (WorkedOn IsRun (contents before) (contents now) old new)
+over_done contents failures IsRun r old new before now (Unopened e is why same out) = none_done r e _ is
+over_done contents failures IsRun r old new before now (Ran s) = worked_done IsRun r old new (contents before) (contents now) (Rose (failures before) (failures now)) s
 
-pub pulled_done : {D W : Type 0} {G : Ghosts D} (contents : W → Option (List ℕ)) (IsRun : List Spoken → Result (Unit {0}) SyncFault → Type 0) (r : Result (Unit {0}) Refusal) (old new : RepoStore D G) (before now : Sink W)
-    → RunsFrom contents IsRun old new before now r → OnOk r (WorkedOn IsRun (contents before.inner) (contents now.inner) old new)
-pulled_done contents IsRun r old new before now (Unreached e is why same out) = none_done r e _ is
-pulled_done contents IsRun r old new before now (Reached o) = over_done contents IsRun r old new before now o
+pub pulled_done : {D O : Type 0} {G : Ghosts D} (contents : O → Option (List ℕ)) (failures : O → ℕ) (IsRun : List Spoken → Result (Unit {0}) SyncFault → Type 0) (r : Result (Unit {0}) Refusal) (old new : RepoStore D G) (before now : O)
+    → RunsFrom contents failures IsRun old new before now r → OnOk r (WorkedOn IsRun (contents before) (contents now) old new)
+pulled_done contents failures IsRun r old new before now (Unreached e is why same out) = none_done r e _ is
+pulled_done contents failures IsRun r old new before now (Reached o) = over_done contents failures IsRun r old new before now o
 
-not_worked : {D : Type 0} {G : Ghosts D} (IsRun : List Spoken → Result (Unit {0}) SyncFault → Type 0) (r : Result (Unit {0}) Refusal) (before now : Option (List ℕ)) (failed : Bool) (old new : RepoStore D G)
-    → IfErr r (λ e. NotWorkedOn IsRun before now failed e old new) → IfErr r (λ e. NotPulledOn IsRun before now failed e old new)
-not_worked IsRun (Ok u) before now failed old new h = tt
-not_worked IsRun (Err e) before now failed old new h = inr h
+not_worked : {D : Type 0} {G : Ghosts D} (IsRun : List Spoken → Result (Unit {0}) SyncFault → Type 0) (r : Result (Unit {0}) Refusal) (before now : Option (List ℕ)) (fails : Type 0) (old new : RepoStore D G)
+    → IfErr r (λ e. NotWorkedOn IsRun before now fails e old new) → IfErr r (λ e. NotPulledOn IsRun before now fails e old new)
+not_worked IsRun (Ok u) before now fails old new h = tt
+not_worked IsRun (Err e) before now fails old new h = inr h
 
-over_refused : {D W : Type 0} {G : Ghosts D} (contents : W → Option (List ℕ)) (IsRun : List Spoken → Result (Unit {0}) SyncFault → Type 0) (r : Result (Unit {0}) Refusal) (old new : RepoStore D G) (before now : Sink W)
-    → RunsOver contents IsRun old new before now r → IfErr r (λ e. NotPulledOn IsRun (contents before.inner) (contents now.inner) now.failed e old new)
-over_refused contents IsRun r old new before now (Unopened e is (inl memory) same out) =
-    refused_as r e (λ x. NotPulledOn IsRun (contents before.inner) (contents now.inner) now.failed x old new) is (inl (inl (inr memory), ap (λ (s : Sink _). contents s.inner) out, same))
-over_refused contents IsRun r old new before now (Unopened e is (inr why) same out) =
-    refused_as r e (λ x. NotPulledOn IsRun (contents before.inner) (contents now.inner) now.failed x old new) is (inl (inr why, ap (λ (s : Sink _). contents s.inner) out, same))
-over_refused contents IsRun r old new before now (Ran s) =
-    not_worked IsRun r (contents before.inner) (contents now.inner) now.failed old new (worked_refused IsRun r old new (contents before.inner) (contents now.inner) now.failed s)
+over_refused : {D O : Type 0} {G : Ghosts D} (contents : O → Option (List ℕ)) (failures : O → ℕ) (IsRun : List Spoken → Result (Unit {0}) SyncFault → Type 0) (r : Result (Unit {0}) Refusal) (old new : RepoStore D G) (before now : O)
+    → RunsOver contents failures IsRun old new before now r → IfErr r (λ e. NotPulledOn IsRun (contents before) (contents now) (Rose (failures before) (failures now)) e old new)
+over_refused contents failures IsRun r old new before now (Unopened e is (inl memory) same out) =
+    refused_as r e (λ x. NotPulledOn IsRun (contents before) (contents now) (Rose (failures before) (failures now)) x old new) is (inl (inl (inr memory), ap contents out, same))
+over_refused contents failures IsRun r old new before now (Unopened e is (inr why) same out) =
+    refused_as r e (λ x. NotPulledOn IsRun (contents before) (contents now) (Rose (failures before) (failures now)) x old new) is (inl (inr why, ap contents out, same))
+over_refused contents failures IsRun r old new before now (Ran s) =
+    not_worked IsRun r (contents before) (contents now) (Rose (failures before) (failures now)) old new (worked_refused IsRun r old new (contents before) (contents now) (Rose (failures before) (failures now)) s)
 
-pub pulled_refused : {D W : Type 0} {G : Ghosts D} (contents : W → Option (List ℕ)) (IsRun : List Spoken → Result (Unit {0}) SyncFault → Type 0) (r : Result (Unit {0}) Refusal) (old new : RepoStore D G) (before now : Sink W)
-    → RunsFrom contents IsRun old new before now r → IfErr r (λ e. NotPulledOn IsRun (contents before.inner) (contents now.inner) now.failed e old new)
-pulled_refused contents IsRun r old new before now (Unreached e is why same out) =
-    refused_as r e (λ x. NotPulledOn IsRun (contents before.inner) (contents now.inner) now.failed x old new) is (inl (inl why, ap (λ (s : Sink _). contents s.inner) out, same))
-pulled_refused contents IsRun r old new before now (Reached o) = over_refused contents IsRun r old new before now o
+pub pulled_refused : {D O : Type 0} {G : Ghosts D} (contents : O → Option (List ℕ)) (failures : O → ℕ) (IsRun : List Spoken → Result (Unit {0}) SyncFault → Type 0) (r : Result (Unit {0}) Refusal) (old new : RepoStore D G) (before now : O)
+    → RunsFrom contents failures IsRun old new before now r → IfErr r (λ e. NotPulledOn IsRun (contents before) (contents now) (Rose (failures before) (failures now)) e old new)
+pulled_refused contents failures IsRun r old new before now (Unreached e is why same out) =
+    refused_as r e (λ x. NotPulledOn IsRun (contents before) (contents now) (Rose (failures before) (failures now)) x old new) is (inl (inl why, ap contents out, same))
+pulled_refused contents failures IsRun r old new before now (Reached o) = over_refused contents failures IsRun r old new before now o
 
-over_rules : {D W : Type 0} {G : Ghosts D} (contents : W → Option (List ℕ)) (IsRun : List Spoken → Result (Unit {0}) SyncFault → Type 0) (r : Result (Unit {0}) Refusal) (old new : RepoStore D G) (before now : Sink W)
-    → RunsOver contents IsRun old new before now r → ¬ HasFailed old → G.honest (disk_of old) → G.honest (disk_of new)
-over_rules {G = G} contents IsRun r old new before now (Unopened e is why same out) works h = subst (λ (s : RepoStore _ G). G.honest (disk_of s)) (sym same) h
-over_rules contents IsRun r old new before now (Ran s) works h = worked_rules IsRun r old new (contents before.inner) (contents now.inner) now.failed s works h
+over_rules : {D O : Type 0} {G : Ghosts D} (contents : O → Option (List ℕ)) (failures : O → ℕ) (IsRun : List Spoken → Result (Unit {0}) SyncFault → Type 0) (r : Result (Unit {0}) Refusal) (old new : RepoStore D G) (before now : O)
+    → RunsOver contents failures IsRun old new before now r → ¬ HasFailed old → G.honest (disk_of old) → G.honest (disk_of new)
+over_rules {G = G} contents failures IsRun r old new before now (Unopened e is why same out) works h = subst (λ (s : RepoStore _ G). G.honest (disk_of s)) (sym same) h
+over_rules contents failures IsRun r old new before now (Ran s) works h = worked_rules IsRun r old new (contents before) (contents now) (Rose (failures before) (failures now)) s works h
 
-pub pulled_rules : {D W : Type 0} {G : Ghosts D} (contents : W → Option (List ℕ)) (IsRun : List Spoken → Result (Unit {0}) SyncFault → Type 0) (r : Result (Unit {0}) Refusal) (old new : RepoStore D G) (before now : Sink W)
-    → RunsFrom contents IsRun old new before now r → ¬ HasFailed old → G.honest (disk_of old) → G.honest (disk_of new)
-pulled_rules {G = G} contents IsRun r old new before now (Unreached e is why same out) works h = subst (λ (s : RepoStore _ G). G.honest (disk_of s)) (sym same) h
-pulled_rules contents IsRun r old new before now (Reached o) works h = over_rules contents IsRun r old new before now o works h
+pub pulled_rules : {D O : Type 0} {G : Ghosts D} (contents : O → Option (List ℕ)) (failures : O → ℕ) (IsRun : List Spoken → Result (Unit {0}) SyncFault → Type 0) (r : Result (Unit {0}) Refusal) (old new : RepoStore D G) (before now : O)
+    → RunsFrom contents failures IsRun old new before now r → ¬ HasFailed old → G.honest (disk_of old) → G.honest (disk_of new)
+pulled_rules {G = G} contents failures IsRun r old new before now (Unreached e is why same out) works h = subst (λ (s : RepoStore _ G). G.honest (disk_of s)) (sym same) h
+pulled_rules contents failures IsRun r old new before now (Reached o) works h = over_rules contents failures IsRun r old new before now o works h
 
 -- of the mirror that is opened, and whose disk is back then
 module _ {F D : Type 0} (G : Ghosts D) (H : FolderGhosts F D) (folders then later : F) (folder : List ℕ) (IsRun : List Spoken → Result (Unit {0}) SyncFault → Type 0) (before now : Option (List ℕ)) (old new : RepoStore D G) where
@@ -74,16 +74,16 @@ module _ {F D : Type 0} (G : Ghosts D) (H : FolderGhosts F D) (folders then late
   standing_done (Ok u) o w t rules = standing G H folders then later folder (IsWorkedOver IsRun before now) old new o t (rules o.2.working) (w o.2.working)
   standing_done (Err e) o w t rules = tt
 
-  not_over : (e : Refusal) (failed : Bool) → IsOpenedIn G H folders then folder old → KeptThen new → NotPulledOn IsRun before now failed e old new → NotPulledOver (H.honest folders) IsRun before now failed e old new
-  not_over e failed o k (inl n) = inl (n.0, n.1, n.2, kept_opened (H.honest folders) o.0 old o.2 (subst KeptThen n.2 k))
-  not_over e failed o k (inr w) = inr (w o.2.working)
+  not_over : (e : Refusal) (fails : Type 0) → IsOpenedIn G H folders then folder old → KeptThen new → NotPulledOn IsRun before now fails e old new → NotPulledOver (H.honest folders) IsRun before now fails e old new
+  not_over e fails o k (inl n) = inl (n.0, n.1, n.2, kept_opened (H.honest folders) o.0 old o.2 (subst KeptThen n.2 k))
+  not_over e fails o k (inr w) = inr (w o.2.working)
 
-  pub standing_refused : (r : Result (Unit {0}) Refusal) (failed : Bool) → IsOpenedIn G H folders then folder old → KeptThen new → IfErr r (λ e. NotPulledOn IsRun before now failed e old new)
+  pub standing_refused : (r : Result (Unit {0}) Refusal) (fails : Type 0) → IsOpenedIn G H folders then folder old → KeptThen new → IfErr r (λ e. NotPulledOn IsRun before now fails e old new)
       → TakesBack G H then later folder (disk_of new) → (¬ HasFailed old → G.honest (disk_of old) → G.honest (disk_of new))
-      → IfErr r (λ e. UnopenedOr G H folders later folder before now e (NotPulledOver (H.honest folders) IsRun before now failed e))
-  standing_refused (Ok u) failed o k w t rules = tt
-  standing_refused (Err e) failed o k w t rules =
-      inr (standing G H folders then later folder (NotPulledOver (H.honest folders) IsRun before now failed e) old new o t (rules o.2.working) (not_over e failed o k w))
+      → IfErr r (λ e. UnopenedOr G H folders later folder before now e (NotPulledOver (H.honest folders) IsRun before now fails e))
+  standing_refused (Ok u) fails o k w t rules = tt
+  standing_refused (Err e) fails o k w t rules =
+      inr (standing G H folders then later folder (NotPulledOver (H.honest folders) IsRun before now fails e) old new o t (rules o.2.working) (not_over e fails o k w))
 
 -- by the texts that words give: of the mirror's folder and of the URL
 pub asked_done : (r : Result (Unit {0}) Refusal) (Q : List ℕ → Work → Type 0) (task : Task) (w : Work) (a b u v : List ℕ) → a ≡ b → w ≡ work_as u task → u ≡ v → OnOk r (Q a w) → OnOk r (Q b (work_as v task))

@@ -1,9 +1,11 @@
 -- What `serve` does over the repository that stands in a folder, step by step.
-use Rattle.std.proofs.Common.{◌≡◌, ◌≢◌, ◌⊎◌, ℕ, List, Option, Result, Ok, Err, inr, refl, ◌∙◌, IfErr}
+use Rattle.std.proofs.Common.{◌≡◌, ◌≢◌, ◌⊎◌, ℕ, List, Option, Result, Ok, Err, inr, refl, subst, sym, ◌∙◌, IfErr}
+use Rattle.std.specs.Io.KnownBytes.{Appends}
 use Rattle.std.specs.Result.{OnOk}
 use Rattle.fleet_disk.specs.declared.disk.Disk.{Ghosts}
 use Rattle.node_base.specs.declared.refusal.Refusal.{Refusal}
 use Rattle.repo_store.specs.declared.store.RepoStore.{RepoStore}
+use Rattle.sockets.specs.declared.fault.SocketFault.{SocketFault}
 use Rattle.svn_server.specs.Served.{IsOfStore}
 use Rattle.fleet_main.specs.Doing.{IsOpenedIn}
 use Rattle.fleet_main.specs.Loans.{TakesBack}
@@ -36,3 +38,11 @@ module _ {F D : Type 0} (G : Ghosts D) (H : FolderGhosts F D) (folders then late
       → IfErr r (NotServedIn G H folders later folder before now)
   served_refused (Ok u) before now o k left t why = tt
   served_refused (Err e) before now o k left t why = inr (of_served (IsServerFault e) o k left t why)
+
+-- what a server tells, of an output that was lent to it and is back
+pub served_told : {O : Type 0} (contents : O → Option (List ℕ)) (r : Result (Unit {0}) Refusal) (done : Result (Unit {0}) SocketFault) (bytes : List ℕ) (output before inner now : O) → OnOk r (done ≡ Ok tt)
+    → OnOk done (Appends (contents before) (contents inner) bytes) → before ≡ output → now ≡ inner → OnOk r (Appends (contents output) (contents now) bytes)
+served_told contents (Ok u) done bytes output before inner now is told same back =
+    subst (λ o. Appends (contents o) (contents now) bytes) same
+    (subst (λ o. Appends (contents before) (contents o) bytes) (sym back) (subst (λ d. OnOk d (Appends (contents before) (contents inner) bytes)) is told))
+served_told contents (Err e) done bytes output before inner now is told same back = tt

@@ -88,7 +88,7 @@ NotBrought G H folders later master mirrors e =
     NotOpenedIn G H folders later master e ⊎ ((e ≡ refusal.OutOfMemory) × (AreBack G H folders later [] ⊎ OfFleet G H folders later master mirrors (λ standings. Unit {0})))
 
 -- or what is told can't be written
-abbrev pub NotFleetRun : {F D : Type 0} → Ghosts D → FolderGhosts F D → F → F → Fleet → Option (List ℕ) → Option (List ℕ) → Bool → Refusal → Type 0
-NotFleetRun G H folders later fleet before now failed e =
+abbrev pub NotFleetRun : {F D : Type 0} → Ghosts D → FolderGhosts F D → F → F → Fleet → Option (List ℕ) → ℕ → Option (List ℕ) → ℕ → Refusal → Type 0
+NotFleetRun G H folders later fleet before start now count e =
     (NotBrought G H folders later (string_bytes fleet.master) (map string_bytes fleet.mirrors.items) e × (now ≡ before))
-    ⊎ (OfFleet G H folders later (string_bytes fleet.master) (map string_bytes fleet.mirrors.items) (λ standings. Unit {0}) × (e ≡ refusal.PeerFailed) × (failed ≡ true))
+    ⊎ (OfFleet G H folders later (string_bytes fleet.master) (map string_bytes fleet.mirrors.items) (λ standings. Unit {0}) × (e ≡ refusal.PeerFailed) × Rose start count)

@@ -1,5 +1,5 @@
 -- What a command does, and why it doesn't.
-use Rattle.std.specs.Prelude.{◌≡◌, ◌≢◌, ◌⊎◌, ◌<◌, ℕ, Bool, true, false, List, [], ◌∷◌, length, Option, Some, None, IfSome, Result, Ok, Err, string_bytes}
+use Rattle.std.specs.Prelude.{◌≡◌, ◌≢◌, ◌≤◌, ◌⊎◌, ◌<◌, ℕ, Bool, true, false, List, [], ◌∷◌, length, Option, Some, None, IfSome, Result, Ok, Err, string_bytes}
 use Rattle.std.specs.List.{filter, flat_map}
 use Rattle.std.specs.Io.KnownBytes.{Appends, Keeps as HandedOn}
 use Rattle.jiff.specs.Types.{DateTime}
@@ -117,20 +117,20 @@ IsDumped honest range before now old new =
     × Appends before now (dump_of (repository_of old) (first_wanted range) (count_wanted (repository_of old) range)) × IsKept honest old
 
 -- a mirror isn't loaded; and of another one what was read is refused; unless the device failed, a stop leaves what is loaded, and where it did, that or one entry more
-abbrev pub NotLoadedFrom : {D : Type 0} {G : Ghosts D} → Type 0 → Option (List ℕ) → Option (List ℕ) → Option (List ℕ) → Bool → Refusal → RepoStore D G → RepoStore D G → Type 0
-NotLoadedFrom honest bytes before now failed e old new =
-    (is_mirror (revisions_of old) ≡ false → IfSome bytes (λ read. LoadRefused (repository_of old) read new before now failed e))
+abbrev pub NotLoadedFrom : {D : Type 0} {G : Ghosts D} → Type 0 → Option (List ℕ) → Option (List ℕ) → Option (List ℕ) → Type 0 → Refusal → RepoStore D G → RepoStore D G → Type 0
+NotLoadedFrom honest bytes before now fails e old new =
+    (is_mirror (revisions_of old) ≡ false → IfSome bytes (λ read. LoadRefused (repository_of old) read new before now fails e))
     × (is_mirror (revisions_of old) ≡ true → (e ≡ refusal.ReadOnly) × (repository_of new ≡ repository_of old) × (now ≡ before))
     × ServesLoad bytes old new (Err e) × (e ≢ refusal.DeviceFailed → IsKept honest new) × IsKeptOr honest new
 
 -- the directory isn't committed to it; unless the device failed, a stop leaves what the store has, and where it did, that or one entry more
-abbrev pub NotCommittedTo : {D : Type 0} {G : Ghosts D} → Type 0 → List ℕ → List ℕ → DateTime → Option (List ℕ) → Option (List ℕ) → Bool → Refusal → RepoStore D G → RepoStore D G → Type 0
-NotCommittedTo honest bytes message moment before now failed e old new =
-    NotCommitted (repository_of old) bytes message moment new before now failed e × ServesDirectory bytes message moment old new (Err e)
+abbrev pub NotCommittedTo : {D : Type 0} {G : Ghosts D} → Type 0 → List ℕ → List ℕ → DateTime → Option (List ℕ) → Option (List ℕ) → Type 0 → Refusal → RepoStore D G → RepoStore D G → Type 0
+NotCommittedTo honest bytes message moment before now fails e old new =
+    NotCommitted (repository_of old) bytes message moment new before now fails e × ServesDirectory bytes message moment old new (Err e)
     × (e ≢ refusal.DeviceFailed → IsKept honest new) × IsKeptOr honest new
 
-abbrev pub NotDumped : {D : Type 0} {G : Ghosts D} → Type 0 → Option RevRange → Option (List ℕ) → Option (List ℕ) → Bool → Refusal → RepoStore D G → RepoStore D G → Type 0
-NotDumped honest range before now failed e old new = (new ≡ old) × DumpStops (repository_of old) range before now failed e × IsKept honest old
+abbrev pub NotDumped : {D : Type 0} {G : Ghosts D} → Type 0 → Option RevRange → Option (List ℕ) → Option (List ℕ) → Type 0 → Refusal → RepoStore D G → RepoStore D G → Type 0
+NotDumped honest range before now fails e old new = (new ≡ old) × DumpStops (repository_of old) range before now fails e × IsKept honest old
 
 -- both folders' stores are opened, the mirror's first; of the mirror's and what it is later P is so, and a stop leaves what keeps the source's repository; each folder has its store's disk then, while other folders stay
 pub record OfBoth {F D : Type 0} (G : Ghosts D) (H : FolderGhosts F D) (folders later : F) (mirror source : List ℕ) (P : RepoStore D G → RepoStore D G → Type 0) : Type 0 where
@@ -152,13 +152,13 @@ pub record IsWorkedOver {D : Type 0} {G : Ghosts D} (IsRun : List Spoken → Res
   pub printed : Appends before now (flat_map line_of (told_in said))
   pub left : Leaves old new (accepted_in said) (counted_in said)
 
--- it isn't done: the run is refused, or ends well and a line is lost, since the writer failed; and what is left of the mirror
-pub record NotWorkedOver {D : Type 0} {G : Ghosts D} (IsRun : List Spoken → Result (Unit {0}) SyncFault → Type 0) (before now : Option (List ℕ)) (failed : Bool) (e : Refusal) (old new : RepoStore D G) : Type 0 where
+-- it isn't done: the run is refused, or ends well and a line is lost, since the output failed; and what is left of the mirror
+pub record NotWorkedOver {D : Type 0} {G : Ghosts D} (IsRun : List Spoken → Result (Unit {0}) SyncFault → Type 0) (before now : Option (List ℕ)) (fails : Type 0) (e : Refusal) (old new : RepoStore D G) : Type 0 where
   pub said : List Spoken
   pub ended : Result (Unit {0}) SyncFault
   pub run : IsRun said ended
   pub lost : Bool
-  pub printed : IsPrinted before now failed lost (told_in said)
+  pub printed : IsPrinted before now fails lost (told_in said)
   pub answer : Err e ≡ answer_of ended lost
   pub left : Leaves old new (accepted_in said) (counted_in said)
   -- 31 comes only where the mirror's device has failed meanwhile
@@ -169,8 +169,8 @@ abbrev pub WorkedOn : {D : Type 0} {G : Ghosts D} → (List Spoken → Result (U
 WorkedOn IsRun before now old new = ¬ HasFailed old → IsWorkedOver IsRun before now old new
 
 -- or isn't done
-abbrev pub NotWorkedOn : {D : Type 0} {G : Ghosts D} → (List Spoken → Result (Unit {0}) SyncFault → Type 0) → Option (List ℕ) → Option (List ℕ) → Bool → Refusal → RepoStore D G → RepoStore D G → Type 0
-NotWorkedOn IsRun before now failed e old new = ¬ HasFailed old → NotWorkedOver IsRun before now failed e old new
+abbrev pub NotWorkedOn : {D : Type 0} {G : Ghosts D} → (List Spoken → Result (Unit {0}) SyncFault → Type 0) → Option (List ℕ) → Option (List ℕ) → Type 0 → Refusal → RepoStore D G → RepoStore D G → Type 0
+NotWorkedOn IsRun before now fails e old new = ¬ HasFailed old → NotWorkedOver IsRun before now fails e old new
 
 -- the source's store is opened, and its folder has its disk then; of the mirror's store, if it works, and what it is later P is so
 pub record OverSource {F D : Type 0} (G : Ghosts D) (H : FolderGhosts F D) (folders later : F) (source : List ℕ) (old new : RepoStore D G) (P : RepoStore D G → RepoStore D G → Type 0) : Type 0 where
@@ -191,12 +191,12 @@ abbrev pub IsToldOf : {D : Type 0} {G : Ghosts D} → Type 0 → Option (List �
 IsToldOf honest before now old new =
     (new ≡ old) × (info_fault (props_at (revisions_of old) 0) (head_of (revisions_of old)) ≡ None) × Appends before now (info_text (props_at (revisions_of old) 0)) × IsKept honest old
 
--- it isn't told: the repository is no mirror or rests in no shape, and nothing is written; or the writer fails
-abbrev pub NotToldOf : {D : Type 0} {G : Ghosts D} → Type 0 → Option (List ℕ) → Option (List ℕ) → Bool → Refusal → RepoStore D G → RepoStore D G → Type 0
-NotToldOf honest before now failed e old new =
-    (new ≡ old) × (((info_fault (props_at (revisions_of old) 0) (head_of (revisions_of old)) ≡ Some e) × (now ≡ before)) ⊎ ((e ≡ refusal.PeerFailed) × (failed ≡ true))) × IsKept honest old
+-- it isn't told: the repository is no mirror or rests in no shape, and nothing is written; or the output fails
+abbrev pub NotToldOf : {D : Type 0} {G : Ghosts D} → Type 0 → Option (List ℕ) → Option (List ℕ) → Type 0 → Refusal → RepoStore D G → RepoStore D G → Type 0
+NotToldOf honest before now fails e old new =
+    (new ≡ old) × (((info_fault (props_at (revisions_of old) 0) (head_of (revisions_of old)) ≡ Some e) × (now ≡ before)) ⊎ ((e ≡ refusal.PeerFailed) × fails)) × IsKept honest old
 
--- a command is done over folders, with these bytes to read: of a writer that held `before`, what it holds now
+-- a command is done over folders, with these bytes to read: of an output that held `before`, what it holds now
 abbrev pub IsDone : {F D : Type 0} → Ghosts D → FolderGhosts F D → F → F → Command → Option (List ℕ) → Option (List ℕ) → Option (List ℕ) → Type 0
 IsDone G H folders later ListIt bytes before now = IfSome bytes (λ read. Accepted product.List read before now) × AreBack G H folders later []
 IsDone G H folders later Canon bytes before now = IfSome bytes (λ read. Accepted product.Canon read before now) × AreBack G H folders later []
@@ -237,26 +237,26 @@ pub data UnopenedBoth {F D : Type 0} (G : Ghosts D) (H : FolderGhosts F D) (fold
 abbrev pub NotKept : List ℕ → Option (List ℕ) → Option (List ℕ) → Refusal → Type 0
 NotKept source before now e = ((e ≡ refusal.OutOfMemory) ⊎ ((e ≡ refusal.TooLong) × (65536 < length source))) × (now ≡ before)
 
--- a command isn't done: why, what is written then, and what is left of the folders
-abbrev pub IsNotDone : {F D : Type 0} → Ghosts D → FolderGhosts F D → F → F → Command → Option (List ℕ) → Option (List ℕ) → Option (List ℕ) → Bool → Refusal → Type 0
-IsNotDone G H folders later ListIt bytes before now failed e = ((failed ≡ true) ⊎ IfSome bytes (λ read. Refused product.List read before now e)) × AreBack G H folders later []
-IsNotDone G H folders later Canon bytes before now failed e = ((failed ≡ true) ⊎ IfSome bytes (λ read. Refused product.Canon read before now e)) × AreBack G H folders later []
-IsNotDone G H folders later (Create folder identity) bytes before now failed e = NotBegunIn G H folders later (string_bytes folder) identity e × (now ≡ before)
-IsNotDone G H folders later (Load folder) bytes before now failed e =
-    UnopenedOr G H folders later (string_bytes folder) before now e (NotLoadedFrom (H.honest folders) bytes before now failed e)
-IsNotDone G H folders later (Dump folder range) bytes before now failed e =
-    UnopenedOr G H folders later (string_bytes folder) before now e (NotDumped (H.honest folders) range before now failed e)
-IsNotDone G H folders later (MakeDir folder path message moment) bytes before now failed e =
-    UnopenedOr G H folders later (string_bytes folder) before now e (NotCommittedTo (H.honest folders) (string_bytes path) (string_bytes message) moment before now failed e)
-IsNotDone G H folders later (Initialize mirror source) bytes before now failed e =
+-- a command isn't done: why, what is written then, and what is left of the folders; the output had failed so often at the start and has by now
+abbrev pub IsNotDone : {F D : Type 0} → Ghosts D → FolderGhosts F D → F → F → Command → Option (List ℕ) → Option (List ℕ) → ℕ → Option (List ℕ) → ℕ → Refusal → Type 0
+IsNotDone G H folders later ListIt bytes before start now count e = (Rose start count ⊎ IfSome bytes (λ read. Refused product.List read before now e)) × AreBack G H folders later []
+IsNotDone G H folders later Canon bytes before start now count e = (Rose start count ⊎ IfSome bytes (λ read. Refused product.Canon read before now e)) × AreBack G H folders later []
+IsNotDone G H folders later (Create folder identity) bytes before start now count e = NotBegunIn G H folders later (string_bytes folder) identity e × (now ≡ before)
+IsNotDone G H folders later (Load folder) bytes before start now count e =
+    UnopenedOr G H folders later (string_bytes folder) before now e (NotLoadedFrom (H.honest folders) bytes before now (Rose start count) e)
+IsNotDone G H folders later (Dump folder range) bytes before start now count e =
+    UnopenedOr G H folders later (string_bytes folder) before now e (NotDumped (H.honest folders) range before now (Rose start count) e)
+IsNotDone G H folders later (MakeDir folder path message moment) bytes before start now count e =
+    UnopenedOr G H folders later (string_bytes folder) before now e (NotCommittedTo (H.honest folders) (string_bytes path) (string_bytes message) moment before now (Rose start count) e)
+IsNotDone G H folders later (Initialize mirror source) bytes before start now count e =
     (NotKept (string_bytes source) before now e × AreBack G H folders later [])
-    ⊎ UnopenedBoth G H folders later (string_bytes mirror) (string_bytes source) before now e (NotWorkedOver (IsInitialised (string_bytes source)) before now failed e)
-IsNotDone G H folders later (Synchronize mirror source token steal) bytes before now failed e =
-    UnopenedBoth G H folders later (string_bytes mirror) (string_bytes source) before now e (NotWorkedOver (IsSynchronised token steal) before now failed e)
-IsNotDone G H folders later (CopyRevprops mirror source token range) bytes before now failed e =
-    UnopenedBoth G H folders later (string_bytes mirror) (string_bytes source) before now e (NotWorkedOver (IsCopied token (first_in range) (last_in range)) before now failed e)
-IsNotDone G H folders later (Info mirror) bytes before now failed e =
-    UnopenedOr G H folders later (string_bytes mirror) before now e (NotToldOf (H.honest folders) before now failed e)
+    ⊎ UnopenedBoth G H folders later (string_bytes mirror) (string_bytes source) before now e (NotWorkedOver (IsInitialised (string_bytes source)) before now (Rose start count) e)
+IsNotDone G H folders later (Synchronize mirror source token steal) bytes before start now count e =
+    UnopenedBoth G H folders later (string_bytes mirror) (string_bytes source) before now e (NotWorkedOver (IsSynchronised token steal) before now (Rose start count) e)
+IsNotDone G H folders later (CopyRevprops mirror source token range) bytes before start now count e =
+    UnopenedBoth G H folders later (string_bytes mirror) (string_bytes source) before now e (NotWorkedOver (IsCopied token (first_in range) (last_in range)) before now (Rose start count) e)
+IsNotDone G H folders later (Info mirror) bytes before start now count e =
+    UnopenedOr G H folders later (string_bytes mirror) before now e (NotToldOf (H.honest folders) before now (Rose start count) e)
 
 -- what was written is handed on
 pub record HandsOn (P : Option (List ℕ) → Type 0) (now : Option (List ℕ)) : Type 0 where
@@ -264,7 +264,7 @@ pub record HandsOn (P : Option (List ℕ) → Type 0) (now : Option (List ℕ)) 
   pub done : P written
   pub kept : HandedOn written now
 
--- a command ends with a refusal: it isn't done, and what was written is handed on as far as the writer takes it; or it is done, and that can't be handed on
-pub data EndsWith (P : Option (List ℕ) → Type 0) (N : Option (List ℕ) → Bool → Refusal → Type 0) (now : Option (List ℕ)) (failed : Bool) (e : Refusal) : Type 0 where
-  not_done : (written : Option (List ℕ)) (before : Bool) → N written before e → HandedOn written now → (before ≡ true → failed ≡ true) → EndsWith P N now failed e
-  not_handed_on : HandsOn P now → failed ≡ true → EndsWith P N now failed e
+-- a command ends with a refusal: it isn't done, and what was written is handed on as far as the output takes it; or it is done, and that can't be handed on, since the output failed: its count of failures has risen since it was `start`
+pub data EndsWith (P : Option (List ℕ) → Type 0) (N : Option (List ℕ) → ℕ → Refusal → Type 0) (start : ℕ) (now : Option (List ℕ)) (count : ℕ) (e : Refusal) : Type 0 where
+  not_done : (written : Option (List ℕ)) (before : ℕ) → N written before e → HandedOn written now → before ≤ count → EndsWith P N start now count e
+  not_handed_on : HandsOn P now → e ≡ refusal.PeerFailed → Rose start count → EndsWith P N start now count e

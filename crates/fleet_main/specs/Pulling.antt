@@ -1,5 +1,6 @@
 -- What a command does over the mirror that stands in a folder and a source on a server, and why it doesn't.
-use Rattle.std.specs.Prelude.{◌≡◌, ◌⊎◌, ℕ, Bool, List, [], Option, Result, string_bytes}
+use Rattle.std.specs.Prelude.{◌≡◌, ◌⊎◌, ℕ, List, [], Option, Result, string_bytes}
+use Rattle.byte_streams.specs.Causes.{Rose}
 use Rattle.fleet_disk.specs.declared.disk.Disk.{Ghosts}
 use Rattle.node_base.specs.declared.refusal.Refusal.{Refusal}
 use Rattle.repo_store.specs.declared.store.RepoStore.{RepoStore}
@@ -29,12 +30,12 @@ abbrev pub NotReached : Refusal → Type 0
 NotReached e = IsUnreached e ⊎ ((f : ClientFault) × TellsMaster f e)
 
 -- a run isn't done over that store: there is no session, the store stays, and nothing is written; or, if it works, the run is refused
-abbrev pub NotPulledOn : {D : Type 0} {G : Ghosts D} → (List Spoken → Result (Unit {0}) SyncFault → Type 0) → Option (List ℕ) → Option (List ℕ) → Bool → Refusal → RepoStore D G → RepoStore D G → Type 0
-NotPulledOn IsRun before now failed e old new = (NotReached e × (now ≡ before) × (new ≡ old)) ⊎ NotWorkedOn IsRun before now failed e old new
+abbrev pub NotPulledOn : {D : Type 0} {G : Ghosts D} → (List Spoken → Result (Unit {0}) SyncFault → Type 0) → Option (List ℕ) → Option (List ℕ) → Type 0 → Refusal → RepoStore D G → RepoStore D G → Type 0
+NotPulledOn IsRun before now fails e old new = (NotReached e × (now ≡ before) × (new ≡ old)) ⊎ NotWorkedOn IsRun before now fails e old new
 
 -- the same of the mirror that is opened: without a session a stop leaves what keeps it
-abbrev pub NotPulledOver : {D : Type 0} {G : Ghosts D} → Type 0 → (List Spoken → Result (Unit {0}) SyncFault → Type 0) → Option (List ℕ) → Option (List ℕ) → Bool → Refusal → RepoStore D G → RepoStore D G → Type 0
-NotPulledOver honest IsRun before now failed e old new = (NotReached e × (now ≡ before) × (new ≡ old) × IsKept honest old) ⊎ NotWorkedOver IsRun before now failed e old new
+abbrev pub NotPulledOver : {D : Type 0} {G : Ghosts D} → Type 0 → (List Spoken → Result (Unit {0}) SyncFault → Type 0) → Option (List ℕ) → Option (List ℕ) → Type 0 → Refusal → RepoStore D G → RepoStore D G → Type 0
+NotPulledOver honest IsRun before now fails e old new = (NotReached e × (now ≡ before) × (new ≡ old) × IsKept honest old) ⊎ NotWorkedOver IsRun before now fails e old new
 
 -- the URL is to be kept and can't be
 abbrev pub NotKeptFor : Task → List ℕ → Option (List ℕ) → Option (List ℕ) → Refusal → Type 0
@@ -47,8 +48,8 @@ IsPulled G H folders later pull before now =
     OfStanding G H folders later (string_bytes pull.mirror) (IsWorkedOver (IsWorked (work_as (string_bytes pull.url) pull.task)) before now)
 
 -- it isn't: the URL can't be kept, or the mirror isn't opened, and nothing is written; or there is no session, or the run isn't done
-abbrev pub NotPulled : {F D : Type 0} → Ghosts D → FolderGhosts F D → F → F → Pull → Option (List ℕ) → Option (List ℕ) → Bool → Refusal → Type 0
-NotPulled G H folders later pull before now failed e =
+abbrev pub NotPulled : {F D : Type 0} → Ghosts D → FolderGhosts F D → F → F → Pull → Option (List ℕ) → ℕ → Option (List ℕ) → ℕ → Refusal → Type 0
+NotPulled G H folders later pull before start now count e =
     (NotKeptFor pull.task (string_bytes pull.url) before now e × AreBack G H folders later [])
     ⊎ UnopenedOr G H folders later (string_bytes pull.mirror) before now e
-    (NotPulledOver (H.honest folders) (IsWorked (work_as (string_bytes pull.url) pull.task)) before now failed e)
+    (NotPulledOver (H.honest folders) (IsWorked (work_as (string_bytes pull.url) pull.task)) before now (Rose start count) e)

@@ -1,5 +1,5 @@
 -- What `serve` does over the repository that stands in a folder, and why it doesn't.
-use Rattle.std.specs.Prelude.{◌≡◌, ◌⊎◌, ℕ, Bool, List, Option, string_bytes}
+use Rattle.std.specs.Prelude.{◌≡◌, ◌⊎◌, ℕ, List, Option, string_bytes}
 use Rattle.std.specs.Io.KnownBytes.{Appends}
 use Rattle.fleet_disk.specs.declared.disk.Disk.{Ghosts}
 use Rattle.node_base.specs.declared.refusal.Refusal.{Refusal}
@@ -39,5 +39,5 @@ IsServerFault e = (e ≡ refusal.OutOfMemory) ⊎ (e ≡ refusal.PeerFailed)
 abbrev pub NotServedIn : {F D : Type 0} → Ghosts D → FolderGhosts F D → F → F → List ℕ → Option (List ℕ) → Option (List ℕ) → Refusal → Type 0
 NotServedIn G H folders later folder before now e = (NotOpenedIn G H folders later folder e × (now ≡ before)) ⊎ OfServed G H folders later folder (IsServerFault e)
 
-abbrev pub NotServedFrom : {F D : Type 0} → Ghosts D → FolderGhosts F D → F → F → Service → Option (List ℕ) → Option (List ℕ) → Bool → Refusal → Type 0
-NotServedFrom G H folders later service before now failed e = NotServedIn G H folders later (string_bytes service.folder) before now e
+abbrev pub NotServedFrom : {F D : Type 0} → Ghosts D → FolderGhosts F D → F → F → Service → Option (List ℕ) → Option (List ℕ) → ℕ → Refusal → Type 0
+NotServedFrom G H folders later service before now count e = NotServedIn G H folders later (string_bytes service.folder) before now e

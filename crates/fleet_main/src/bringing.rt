@@ -2,11 +2,12 @@
 ghost use Rattle.std.specs.Prelude.{◌≡◌, ◌≢◌, ◌≤◌, ◌+◌, ◌⊎◌, ◌∷◌, ℕ, None, Ok, [], true, false, length, map};
 ghost use Rattle.std.specs.Prelude.{string_bytes, vec_capacity, vec_len, IfErr, IfOk, IfSome, OnOk};
 ghost use Rattle.std.specs.Io.KnownBytes.{Appends};
+ghost use Rattle.byte_streams.specs.Causes.{Rose};
 ghost use Rattle.fleet_disk.specs.Image.{Image};
 ghost use Rattle.node_base.specs.declared.refusal.Refusal.{Refusal as RefusalOf};
-ghost use Rattle.node_base.specs.Refusals.{fault_line};
 ghost use Rattle.repo_store.specs.Journal.{Keeps};
 ghost use Rattle.repo_store.specs.Words.{disk_of, repository_of, HasFailed, IsKept as StoreIsKept};
+ghost use Rattle.node_base.specs.Refusals.{fault_line};
 ghost use Rattle.fleet_shares.specs.Stores.{store_at};
 ghost use Rattle.fleet_shares.specs.Told.{AreTold};
 ghost use Rattle.fleet_main.specs.Bringing.{AreBrought, IsFleetRun, IsSomeRun, NotBrought, NotFleetRun, OfFleet};
@@ -17,14 +18,14 @@ ghost use Rattle.command_words.specs.Twice.{first_twice};
 use crate::execute::refused;
 use crate::folders::{closed, opened};
 use crate::lending::Folders;
+use byte_streams::Output;
 use command_words::Fleet;
 use fleet_disk::Disk;
-use fleet_engines::Sink;
+use fleet_engines::{hand_on, write};
 use fleet_shares::{Answered, FleetStores, Unheld, answer_lines, are_done, run_fleet};
 use node_base::Refusal;
 use repo_store::RepoStore;
 use std::alloc::{AllocError, Global};
-use std::io::Write;
 use std::sync::Wait;
 use std::thread::Threads;
 
@@ -152,27 +153,27 @@ fn told_or(told: Result<Vec<Answered>, AllocError>) -> Result<Vec<Answered>, Ref
 }
 
 // By what words ask for, and whether no mirror was refused.
-fn fleet_told<R: Threads + Wait + Clone + Send + Drop + 'static, F: Folders, W: Write + Drop>(
+fn fleet_told<R: Threads + Wait + Clone + Send + Drop + 'static, F: Folders, O: Output + Drop>(
     rt: &R,
     alloc: Global,
     folders: &mut F,
     fleet: &Fleet,
-    output: &mut Sink<W>,
+    output: &mut O,
 ) -> Result<bool, Refusal>
 where
     F::Place: Send + 'static,
     ensures done { IfOk result (λ done. IsFleetRun F.Place.Disk F.Folders folders.old folders.new fleet.now
-        (W.contents output.old.inner) done (W.contents output.new.inner)) }
+        (O.contents output.old) done (O.contents output.new)) }
     ensures refused { IfErr result (NotFleetRun F.Place.Disk F.Folders folders.old folders.new fleet.now
-        (W.contents output.old.inner) (W.contents output.new.inner) output.new.failed) }
-    ensures unfailed { OnOk result (output.new.failed ≡ output.old.failed) }
+        (O.contents output.old) (O.failures output.old) (O.contents output.new) (O.failures output.new)) }
+    ensures unfailed { OnOk result (O.failures output.new ≡ O.failures output.old) }
 {
     let master = fleet.master.as_str();
     let mirrors = fleet.mirrors.as_slice();
     let workers = usize::from(fleet.workers);
     match fleet_brought(rt, alloc, folders, master, mirrors, workers) {
         Ok(told) => match answer_lines(alloc, mirrors, told.as_slice()) {
-            Ok(lines) => match output.bytes(lines.as_bytes()) {
+            Ok(lines) => match write(output, lines.as_bytes()) {
                 Ok(()) => Ok(are_done(told.as_slice())),
                 Err(_) => Err(Refusal::PeerFailed),
             },
@@ -183,25 +184,27 @@ where
 }
 
 // The answer, when what was written is handed on.
-fn fleet_flushed<R: Threads + Wait + Clone + Send + Drop + 'static, F: Folders, W: Write + Drop>(
+fn fleet_flushed<R: Threads + Wait + Clone + Send + Drop + 'static, F: Folders, O: Output + Drop>(
     rt: &R,
     alloc: Global,
     folders: &mut F,
     fleet: &Fleet,
-    output: Sink<W>,
-) -> (Sink<W>, Result<bool, Refusal>)
+    output: O,
+) -> (O, Result<bool, Refusal>)
 where
     F::Place: Send + 'static,
     ensures done { IfOk result.1 (λ done. HandsOn (IsFleetRun F.Place.Disk F.Folders folders.old folders.new fleet.now
-        (W.contents output.inner) done) (W.contents result.0.inner)) }
+        (O.contents output) done) (O.contents result.0)) }
     ensures refused { IfErr result.1 (EndsWith (IsSomeRun F.Place.Disk F.Folders folders.old folders.new fleet.now
-        (W.contents output.inner)) (NotFleetRun F.Place.Disk F.Folders folders.old folders.new fleet.now
-        (W.contents output.inner)) (W.contents result.0.inner) result.0.failed) }
-    ensures unfailed { OnOk result.1 (result.0.failed ≡ output.failed) }
+        (O.contents output)) (NotFleetRun F.Place.Disk F.Folders folders.old folders.new fleet.now
+        (O.contents output) (O.failures output)) (O.failures output) (O.contents result.0)
+        (O.failures result.0)) }
+    ensures handed { OnOk result.1 (O.is_handed_on result.0) }
+    ensures unfailed { OnOk result.1 (O.failures result.0 ≡ O.failures output) }
 {
     let mut output = output;
     let told = fleet_told(rt, alloc, folders, fleet, &mut output);
-    let flushed = output.flush();
+    let flushed = hand_on(&mut output);
     match told {
         Ok(done) => match flushed {
             Ok(()) => (output, Ok(done)),
@@ -217,7 +220,7 @@ where
 /// that it has then, or `MIRROR: NUMBER TEXT` where its folder or its run was refused. The status is 0 where all of this
 /// is done, no mirror was refused and the lines are handed on; 1 where a mirror was refused, and nothing is on `errors`
 /// then; or 1 with a refusal's line on `errors`: what refuses the opening of the master, with no line written and no
-/// mirror's folder opened, PeerFailed (49) where the writer failed, OutOfMemory (70). The writer comes back.
+/// mirror's folder opened, PeerFailed (49) where the output failed, OutOfMemory (70). The output comes back.
 ///
 /// Of honest folders it says besides what repository each folder's disk kept, that a stop left it as the run began, and
 /// that each folder has a store's disk again in the end, if the disks still keep the rules, and every other folder what
@@ -225,31 +228,26 @@ where
 pub fn fleet<
     R: Threads + Wait + Clone + Send + Drop + 'static,
     F: Folders,
-    W: Write + Drop,
-    E: Write + Drop,
->(
-    rt: &R,
-    alloc: Global,
-    folders: &mut F,
-    fleet: &Fleet,
-    output: Sink<W>,
-    errors: &mut Sink<E>,
-) -> (u8, Sink<W>)
+    O: Output + Drop,
+    E: Output,
+>(rt: &R, alloc: Global, folders: &mut F, fleet: &Fleet, output: O, errors: &mut E) -> (u8, O)
 where
     F::Place: Send + 'static,
     ensures status { (result.0 ≡ 0) ⊎ (result.0 ≡ 1) }
     ensures done { result.0 ≡ 0 → HandsOn (IsFleetRun F.Place.Disk F.Folders folders.old folders.new fleet.now
-        (W.contents output.inner) true) (W.contents result.1.inner) }
-    ensures unfailed { result.0 ≡ 0 → result.1.failed ≡ output.failed }
-    ensures silent { result.0 ≡ 0 → E.contents errors.new.inner ≡ E.contents errors.old.inner }
+        (O.contents output) true) (O.contents result.1) }
+    ensures handed { result.0 ≡ 0 → O.is_handed_on result.1 }
+    ensures unfailed { result.0 ≡ 0 → O.failures result.1 ≡ O.failures output }
+    ensures silent { result.0 ≡ 0 → E.contents errors.new ≡ E.contents errors.old }
     ensures refused { result.0 ≡ 1 → (HandsOn (IsFleetRun F.Place.Disk F.Folders folders.old folders.new fleet.now
-        (W.contents output.inner) false) (W.contents result.1.inner) × (result.1.failed ≡ output.failed)
-        × (E.contents errors.new.inner ≡ E.contents errors.old.inner))
+        (O.contents output) false) (O.contents result.1) × (O.failures result.1 ≡ O.failures output)
+        × (E.contents errors.new ≡ E.contents errors.old))
         ⊎ ((e : RefusalOf) × EndsWith (IsSomeRun F.Place.Disk F.Folders folders.old folders.new fleet.now
-        (W.contents output.inner)) (NotFleetRun F.Place.Disk F.Folders folders.old folders.new fleet.now
-        (W.contents output.inner)) (W.contents result.1.inner) result.1.failed e
-        × ((errors.new.failed ≡ true) ⊎ Appends (E.contents errors.old.inner) (E.contents errors.new.inner)
-        (fault_line e))) }
+        (O.contents output)) (NotFleetRun F.Place.Disk F.Folders folders.old folders.new fleet.now
+        (O.contents output) (O.failures output)) (O.failures output) (O.contents result.1)
+        (O.failures result.1) e
+        × (Rose (E.failures errors.old) (E.failures errors.new)
+        ⊎ Appends (E.contents errors.old) (E.contents errors.new) (fault_line e))) }
 {
     let (output, told) = fleet_flushed(rt, alloc, folders, fleet, output);
     match told {

@@ -1,10 +1,11 @@
 //! One command, from its words to its status.
-ghost use Rattle.std.specs.Prelude.{◌≡◌, ◌⊎◌, ◌||◌, ◌<◌, [], length, true, IfErr, IfOk, OnOk, string_bytes};
-ghost use Rattle.std.specs.Io.KnownBytes.{Appends};
+ghost use Rattle.std.specs.Prelude.{◌≡◌, ◌≤◌, ◌⊎◌, ◌<◌, [], length, IfErr, IfOk, OnOk, string_bytes};
 ghost use Rattle.node_base.specs.declared.refusal.Refusal.{Refusal as RefusalOf};
-ghost use Rattle.node_base.specs.Refusals.{fault_line};
 ghost use Rattle.repo_store.specs.Words.{disk_of, HasFailed};
-ghost use Rattle.fleet_engines.specs.Runs.{BothFlagged, Flagged};
+ghost use Rattle.std.specs.Io.KnownBytes.{Appends};
+ghost use Rattle.byte_streams.specs.Causes.{Fails, Rose, counts};
+ghost use Rattle.fleet_engines.specs.Runs.{BothCounted, Counted};
+ghost use Rattle.node_base.specs.Refusals.{fault_line};
 ghost use Rattle.mirror_engines.specs.Runs.{IsInitialised, IsWorked};
 ghost use Rattle.fleet_main.specs.Doing.{EndsWith, HandsOn, IsBegun, IsCommittedTo, IsDone, IsDumped, IsLoadedFrom};
 ghost use Rattle.fleet_main.specs.Doing.{IsNotDone, IsToldOf, IsWorkedOver, NoSourceOr, NotCommittedTo, NotDumped};
@@ -15,16 +16,16 @@ ghost use Rattle.fleet_main.specs.Opening.{NotBegunIn};
 
 use crate::folders::{closed, created, opened};
 use crate::lending::Folders;
+use byte_streams::{Input, Output};
 use command_words::Command;
 use fleet_disk::Disk;
-use fleet_engines::{Sink, Source, run_canon, run_list};
+use fleet_engines::{hand_on, run_canon, run_list, write_line};
 use mirror_engines::{Work, run_info, run_work};
 use node_base::limits::PROP_VALUE_BYTES;
 use node_base::{PropValue, Refusal};
 use repo_core::Moment;
 use repo_store::RepoStore;
 use std::alloc::Global;
-use std::io::{Read, Write};
 use store_engines::{RevRange, run_dump, run_load, run_mkdir};
 use sync_core::Token;
 use sync_job::LentMaster;
@@ -52,21 +53,21 @@ fn create<F: Folders>(
     }
 }
 
-fn load<F: Folders, R: Read + Drop, W: Write + Drop>(
+fn load<F: Folders, I: Input, O: Output + Drop>(
     alloc: Global,
     folders: &mut F,
     folder: &str,
-    input: &mut Source<R>,
-    output: &mut Sink<W>,
+    input: &mut I,
+    output: &mut O,
 ) -> Result<(), Refusal>
     ensures done { OnOk result (OfStanding F.Place.Disk F.Folders folders.old folders.new folder.now
-        (IsLoadedFrom (F.honest folders.old) (R.remaining input.old.inner) (W.contents output.old.inner)
-        (W.contents output.new.inner))) }
+        (IsLoadedFrom (F.honest folders.old) (I.remaining input.old) (O.contents output.old)
+        (O.contents output.new))) }
     ensures refused { IfErr result (λ e. UnopenedOr F.Place.Disk F.Folders folders.old folders.new folder.now
-        (W.contents output.old.inner) (W.contents output.new.inner) e
-        (NotLoadedFrom (F.honest folders.old) (R.remaining input.old.inner) (W.contents output.old.inner)
-        (W.contents output.new.inner) output.new.failed e)) }
-    ensures peer { BothFlagged result input.old.failed input.new.failed output.old.failed output.new.failed }
+        (O.contents output.old) (O.contents output.new) e
+        (NotLoadedFrom (F.honest folders.old) (I.remaining input.old) (O.contents output.old)
+        (O.contents output.new) (Rose (O.failures output.old) (O.failures output.new)) e)) }
+    ensures peer { BothCounted result (counts I.failures I.reads input.old input.new) (O.failures output.old) (O.failures output.new) }
 {
     match opened(alloc, folders, folder) {
         Ok(store) => {
@@ -79,20 +80,20 @@ fn load<F: Folders, R: Read + Drop, W: Write + Drop>(
     }
 }
 
-fn dump<F: Folders, W: Write + Drop>(
+fn dump<F: Folders, O: Output + Drop>(
     alloc: Global,
     folders: &mut F,
     folder: &str,
     range: Option<RevRange>,
-    output: &mut Sink<W>,
+    output: &mut O,
 ) -> Result<(), Refusal>
     ensures done { OnOk result (OfStanding F.Place.Disk F.Folders folders.old folders.new folder.now
-        (IsDumped (F.honest folders.old) range (W.contents output.old.inner) (W.contents output.new.inner))) }
+        (IsDumped (F.honest folders.old) range (O.contents output.old) (O.contents output.new))) }
     ensures refused { IfErr result (λ e. UnopenedOr F.Place.Disk F.Folders folders.old folders.new folder.now
-        (W.contents output.old.inner) (W.contents output.new.inner) e
-        (NotDumped (F.honest folders.old) range (W.contents output.old.inner) (W.contents output.new.inner)
-        output.new.failed e)) }
-    ensures peer { Flagged result output.old.failed output.new.failed }
+        (O.contents output.old) (O.contents output.new) e
+        (NotDumped (F.honest folders.old) range (O.contents output.old) (O.contents output.new)
+        (Rose (O.failures output.old) (O.failures output.new)) e)) }
+    ensures peer { Counted result (O.failures output.old) (O.failures output.new) }
 {
     match opened(alloc, folders, folder) {
         Ok(store) => {
@@ -104,23 +105,23 @@ fn dump<F: Folders, W: Write + Drop>(
     }
 }
 
-fn make_dir<F: Folders, W: Write + Drop>(
+fn make_dir<F: Folders, O: Output + Drop>(
     alloc: Global,
     folders: &mut F,
     folder: &str,
     path: &str,
     message: &str,
     moment: Moment,
-    output: &mut Sink<W>,
+    output: &mut O,
 ) -> Result<(), Refusal>
     ensures done { OnOk result (OfStanding F.Place.Disk F.Folders folders.old folders.new folder.now
-        (IsCommittedTo (F.honest folders.old) path.now message.now moment (W.contents output.old.inner)
-        (W.contents output.new.inner))) }
+        (IsCommittedTo (F.honest folders.old) path.now message.now moment (O.contents output.old)
+        (O.contents output.new))) }
     ensures refused { IfErr result (λ e. UnopenedOr F.Place.Disk F.Folders folders.old folders.new folder.now
-        (W.contents output.old.inner) (W.contents output.new.inner) e
-        (NotCommittedTo (F.honest folders.old) path.now message.now moment (W.contents output.old.inner)
-        (W.contents output.new.inner) output.new.failed e)) }
-    ensures peer { Flagged result output.old.failed output.new.failed }
+        (O.contents output.old) (O.contents output.new) e
+        (NotCommittedTo (F.honest folders.old) path.now message.now moment (O.contents output.old)
+        (O.contents output.new) (Rose (O.failures output.old) (O.failures output.new)) e)) }
+    ensures peer { Counted result (O.failures output.old) (O.failures output.new) }
 {
     match opened(alloc, folders, folder) {
         Ok(store) => {
@@ -133,19 +134,19 @@ fn make_dir<F: Folders, W: Write + Drop>(
     }
 }
 
-fn info<F: Folders, W: Write + Drop>(
+fn info<F: Folders, O: Output + Drop>(
     alloc: Global,
     folders: &mut F,
     mirror: &str,
-    output: &mut Sink<W>,
+    output: &mut O,
 ) -> Result<(), Refusal>
     ensures done { OnOk result (OfStanding F.Place.Disk F.Folders folders.old folders.new mirror.now
-        (IsToldOf (F.honest folders.old) (W.contents output.old.inner) (W.contents output.new.inner))) }
+        (IsToldOf (F.honest folders.old) (O.contents output.old) (O.contents output.new))) }
     ensures refused { IfErr result (λ e. UnopenedOr F.Place.Disk F.Folders folders.old folders.new mirror.now
-        (W.contents output.old.inner) (W.contents output.new.inner) e
-        (NotToldOf (F.honest folders.old) (W.contents output.old.inner) (W.contents output.new.inner)
-        output.new.failed e)) }
-    ensures peer { Flagged result output.old.failed output.new.failed }
+        (O.contents output.old) (O.contents output.new) e
+        (NotToldOf (F.honest folders.old) (O.contents output.old) (O.contents output.new)
+        (Rose (O.failures output.old) (O.failures output.new)) e)) }
+    ensures peer { Counted result (O.failures output.old) (O.failures output.new) }
 {
     match opened(alloc, folders, mirror) {
         Ok(store) => {
@@ -158,21 +159,21 @@ fn info<F: Folders, W: Write + Drop>(
 }
 
 // The mirror's folder is opened first.
-fn mirrored<F: Folders, W: Write + Drop>(
+fn mirrored<F: Folders, O: Output + Drop>(
     alloc: Global,
     folders: &mut F,
     mirror: &str,
     source: &str,
     work: Work,
-    output: Sink<W>,
-) -> (Sink<W>, Result<(), Refusal>)
+    output: O,
+) -> (O, Result<(), Refusal>)
     ensures done { OnOk result.1 (OfBoth F.Place.Disk F.Folders folders.old folders.new mirror.now source.now
-        (IsWorkedOver (IsWorked work) (W.contents output.inner) (W.contents result.0.inner))) }
+        (IsWorkedOver (IsWorked work) (O.contents output) (O.contents result.0))) }
     ensures refused { IfErr result.1 (λ e. UnopenedBoth F.Place.Disk F.Folders folders.old folders.new mirror.now
-        source.now (W.contents output.inner) (W.contents result.0.inner) e
-        (NotWorkedOver (IsWorked work) (W.contents output.inner) (W.contents result.0.inner) result.0.failed e)) }
-    ensures unfailed { OnOk result.1 (result.0.failed ≡ output.failed) }
-    ensures peer { IfErr result.1 (λ e. e ≡ Refusal.PeerFailed → result.0.failed ≡ true) }
+        source.now (O.contents output) (O.contents result.0) e
+        (NotWorkedOver (IsWorked work) (O.contents output) (O.contents result.0) (Rose (O.failures output) (O.failures result.0)) e)) }
+    ensures unfailed { OnOk result.1 (O.failures result.0 ≡ O.failures output) }
+    ensures peer { IfErr result.1 (λ e. e ≡ Refusal.PeerFailed → Rose (O.failures output) (O.failures result.0)) }
 {
     match opened(alloc, folders, mirror) {
         Ok(store) => {
@@ -185,22 +186,22 @@ fn mirrored<F: Folders, W: Write + Drop>(
 }
 
 // Then the source's; and the work is done. The mirror's store comes back.
-fn mirrored_from<F: Folders, W: Write + Drop>(
+fn mirrored_from<F: Folders, O: Output + Drop>(
     alloc: Global,
     folders: &mut F,
     mirror: RepoStore<F::Place>,
     source: &str,
     work: Work,
-    output: Sink<W>,
-) -> (RepoStore<F::Place>, Sink<W>, Result<(), Refusal>)
+    output: O,
+) -> (RepoStore<F::Place>, O, Result<(), Refusal>)
     ensures done { OnOk result.2 (OverSource F.Place.Disk F.Folders folders.old folders.new source.now mirror result.0
-        (IsWorkedOver (IsWorked work) (W.contents output.inner) (W.contents result.1.inner))) }
+        (IsWorkedOver (IsWorked work) (O.contents output) (O.contents result.1))) }
     ensures refused { IfErr result.2 (λ e. NoSourceOr F.Place.Disk F.Folders folders.old folders.new source.now mirror
-        result.0 (W.contents output.inner) (W.contents result.1.inner) e
-        (NotWorkedOver (IsWorked work) (W.contents output.inner) (W.contents result.1.inner) result.1.failed e)) }
+        result.0 (O.contents output) (O.contents result.1) e
+        (NotWorkedOver (IsWorked work) (O.contents output) (O.contents result.1) (Rose (O.failures output) (O.failures result.1)) e)) }
     ensures rules { ¬ HasFailed mirror → F.Place.honest (disk_of mirror) → F.Place.honest (disk_of result.0) }
-    ensures unfailed { OnOk result.2 (result.1.failed ≡ output.failed) }
-    ensures peer { IfErr result.2 (λ e. e ≡ Refusal.PeerFailed → result.1.failed ≡ true) }
+    ensures unfailed { OnOk result.2 (O.failures result.1 ≡ O.failures output) }
+    ensures peer { IfErr result.2 (λ e. e ≡ Refusal.PeerFailed → Rose (O.failures output) (O.failures result.1)) }
 {
     match opened(alloc, folders, source) {
         Ok(store) => {
@@ -212,42 +213,42 @@ fn mirrored_from<F: Folders, W: Write + Drop>(
     }
 }
 
-fn worked<D: Disk + Drop, W: Write + Drop>(
+fn worked<D: Disk + Drop, O: Output + Drop>(
     alloc: Global,
     mirror: RepoStore<D>,
     source: &RepoStore<D>,
     work: Work,
-    output: Sink<W>,
-) -> (RepoStore<D>, Sink<W>, Result<(), Refusal>)
-    ensures done { OnOk result.2 (WorkedOn (IsWorked work) (W.contents output.inner) (W.contents result.1.inner) mirror
+    output: O,
+) -> (RepoStore<D>, O, Result<(), Refusal>)
+    ensures done { OnOk result.2 (WorkedOn (IsWorked work) (O.contents output) (O.contents result.1) mirror
         result.0) }
-    ensures refused { IfErr result.2 (λ e. NotWorkedOn (IsWorked work) (W.contents output.inner)
-        (W.contents result.1.inner) result.1.failed e mirror result.0) }
+    ensures refused { IfErr result.2 (λ e. NotWorkedOn (IsWorked work) (O.contents output)
+        (O.contents result.1) (Rose (O.failures output) (O.failures result.1)) e mirror result.0) }
     ensures rules { ¬ HasFailed mirror → D.honest (disk_of mirror) → D.honest (disk_of result.0) }
-    ensures unfailed { OnOk result.2 (result.1.failed ≡ output.failed) }
-    ensures peer { IfErr result.2 (λ e. e ≡ Refusal.PeerFailed → result.1.failed ≡ true) }
+    ensures unfailed { OnOk result.2 (O.failures result.1 ≡ O.failures output) }
+    ensures peer { IfErr result.2 (λ e. e ≡ Refusal.PeerFailed → Rose (O.failures output) (O.failures result.1)) }
 {
     let master = LentMaster::new(source);
     run_work(alloc, mirror, master, work, output)
 }
 
-fn initialize<F: Folders, W: Write + Drop>(
+fn initialize<F: Folders, O: Output + Drop>(
     alloc: Global,
     folders: &mut F,
     mirror: &str,
     source: &str,
-    output: Sink<W>,
-) -> (Sink<W>, Result<(), Refusal>)
+    output: O,
+) -> (O, Result<(), Refusal>)
     ensures done { OnOk result.1 (OfBoth F.Place.Disk F.Folders folders.old folders.new mirror.now source.now
-        (IsWorkedOver (IsInitialised source.now) (W.contents output.inner) (W.contents result.0.inner))) }
-    ensures refused { IfErr result.1 (λ e. (NotKept source.now (W.contents output.inner) (W.contents result.0.inner) e
+        (IsWorkedOver (IsInitialised source.now) (O.contents output) (O.contents result.0))) }
+    ensures refused { IfErr result.1 (λ e. (NotKept source.now (O.contents output) (O.contents result.0) e
         × AreBack F.Place.Disk F.Folders folders.old folders.new [])
         ⊎ UnopenedBoth F.Place.Disk F.Folders folders.old folders.new mirror.now source.now
-        (W.contents output.inner) (W.contents result.0.inner) e
-        (NotWorkedOver (IsInitialised source.now) (W.contents output.inner) (W.contents result.0.inner)
-        result.0.failed e)) }
-    ensures unfailed { OnOk result.1 (result.0.failed ≡ output.failed) }
-    ensures peer { IfErr result.1 (λ e. e ≡ Refusal.PeerFailed → result.0.failed ≡ true) }
+        (O.contents output) (O.contents result.0) e
+        (NotWorkedOver (IsInitialised source.now) (O.contents output) (O.contents result.0)
+        (Rose (O.failures output) (O.failures result.0)) e)) }
+    ensures unfailed { OnOk result.1 (O.failures result.0 ≡ O.failures output) }
+    ensures peer { IfErr result.1 (λ e. e ≡ Refusal.PeerFailed → Rose (O.failures output) (O.failures result.0)) }
 {
     match url_of(alloc, source) {
         Ok(url) => mirrored(
@@ -281,19 +282,21 @@ pub(crate) fn url_of(alloc: Global, source: &str) -> Result<PropValue, Refusal>
 }
 
 // The command's answer, with what it wrote.
-fn run_one<F: Folders, R: Read + Drop, W: Write + Drop>(
+fn run_one<F: Folders, I: Input, O: Output + Drop>(
     alloc: Global,
     folders: &mut F,
     command: Command,
-    input: &mut Source<R>,
-    output: Sink<W>,
-) -> (Sink<W>, Result<(), Refusal>)
+    input: &mut I,
+    output: O,
+) -> (O, Result<(), Refusal>)
     ensures done { OnOk result.1 (IsDone F.Place.Disk F.Folders folders.old folders.new command
-        (R.remaining input.old.inner) (W.contents output.inner) (W.contents result.0.inner)) }
+        (I.remaining input.old) (O.contents output) (O.contents result.0)) }
     ensures refused { IfErr result.1 (IsNotDone F.Place.Disk F.Folders folders.old folders.new command
-        (R.remaining input.old.inner) (W.contents output.inner) (W.contents result.0.inner) result.0.failed) }
-    ensures unfailed { OnOk result.1 ((input.new.failed ≡ input.old.failed) × (result.0.failed ≡ output.failed)) }
-    ensures peer { IfErr result.1 (λ e. e ≡ Refusal.PeerFailed → (input.new.failed || result.0.failed) ≡ true) }
+        (I.remaining input.old) (O.contents output) (O.failures output) (O.contents result.0)
+        (O.failures result.0)) }
+    ensures unfailed { OnOk result.1 ((I.failures input.old ≤ I.failures input.new) × (O.failures result.0 ≡ O.failures output)) }
+    ensures peer { IfErr result.1 (λ e. e ≡ Refusal.PeerFailed → Fails (counts I.failures I.reads input.old input.new)
+        ⊎ Rose (O.failures output) (O.failures result.0)) }
 {
     let mut output = output;
     match command {
@@ -375,25 +378,28 @@ fn run_one<F: Folders, R: Read + Drop, W: Write + Drop>(
 }
 
 // The command's answer, when what it wrote is handed on.
-fn run_flushed<F: Folders, R: Read + Drop, W: Write + Drop>(
+fn run_flushed<F: Folders, I: Input, O: Output + Drop>(
     alloc: Global,
     folders: &mut F,
     command: Command,
-    input: &mut Source<R>,
-    output: Sink<W>,
-) -> (Sink<W>, Result<(), Refusal>)
+    input: &mut I,
+    output: O,
+) -> (O, Result<(), Refusal>)
     ensures done { OnOk result.1 (HandsOn (IsDone F.Place.Disk F.Folders folders.old folders.new command
-        (R.remaining input.old.inner) (W.contents output.inner)) (W.contents result.0.inner)) }
+        (I.remaining input.old) (O.contents output)) (O.contents result.0)) }
     ensures refused { IfErr result.1 (EndsWith (IsDone F.Place.Disk F.Folders folders.old folders.new command
-        (R.remaining input.old.inner) (W.contents output.inner))
+        (I.remaining input.old) (O.contents output))
         (IsNotDone F.Place.Disk F.Folders folders.old folders.new command
-        (R.remaining input.old.inner) (W.contents output.inner)) (W.contents result.0.inner) result.0.failed) }
-    ensures unfailed { OnOk result.1 ((input.new.failed ≡ input.old.failed) × (result.0.failed ≡ output.failed)) }
-    ensures peer { IfErr result.1 (λ e. e ≡ Refusal.PeerFailed → (input.new.failed || result.0.failed) ≡ true) }
+        (I.remaining input.old) (O.contents output) (O.failures output)) (O.failures output) (O.contents result.0)
+        (O.failures result.0)) }
+    ensures handed { OnOk result.1 (O.is_handed_on result.0) }
+    ensures unfailed { OnOk result.1 ((I.failures input.old ≤ I.failures input.new) × (O.failures result.0 ≡ O.failures output)) }
+    ensures peer { IfErr result.1 (λ e. e ≡ Refusal.PeerFailed → Fails (counts I.failures I.reads input.old input.new)
+        ⊎ Rose (O.failures output) (O.failures result.0)) }
 {
     let (output, done) = run_one(alloc, folders, command, input, output);
     let mut output = output;
-    let flushed = output.flush();
+    let flushed = hand_on(&mut output);
     match done {
         Ok(()) => (output, flushed),
         Err(refusal) => (output, Err(refusal)),
@@ -402,32 +408,35 @@ fn run_flushed<F: Folders, R: Read + Drop, W: Write + Drop>(
 
 /// Runs a command over folders. The status is 0 where it is done and what it wrote is handed on, or 1 where it was
 /// refused, and then the refusal's line is on `errors`. What was written before a refusal is flushed before its line.
-/// The writer comes back as the command has left it.
+/// The output comes back as the command has left it.
 ///
 /// Of honest folders it says besides what repository the folder's disk kept, what the command made of it, and what a
 /// stop leaves at each moment and afterwards: the folder has that disk again in the end, and every other folder what it
 /// had. Of the commands over a mirror and its source it says this of both. Folders that were honest still are.
-pub fn run<F: Folders, R: Read + Drop, W: Write + Drop, E: Write + Drop>(
+pub fn run<F: Folders, I: Input, O: Output + Drop, E: Output>(
     alloc: Global,
     folders: &mut F,
     command: Command,
-    input: &mut Source<R>,
-    output: Sink<W>,
-    errors: &mut Sink<E>,
-) -> (u8, Sink<W>)
+    input: &mut I,
+    output: O,
+    errors: &mut E,
+) -> (u8, O)
     ensures status { (result.0 ≡ 0) ⊎ (result.0 ≡ 1) }
     ensures done { result.0 ≡ 0 → HandsOn (IsDone F.Place.Disk F.Folders folders.old folders.new command
-        (R.remaining input.old.inner) (W.contents output.inner)) (W.contents result.1.inner) }
-    ensures unfailed { result.0 ≡ 0 → (input.new.failed ≡ input.old.failed) × (result.1.failed ≡ output.failed) }
-    ensures silent { result.0 ≡ 0 → E.contents errors.new.inner ≡ E.contents errors.old.inner }
+        (I.remaining input.old) (O.contents output)) (O.contents result.1) }
+    ensures handed { result.0 ≡ 0 → O.is_handed_on result.1 }
+    ensures unfailed { result.0 ≡ 0 → (I.failures input.old ≤ I.failures input.new) × (O.failures result.1 ≡ O.failures output) }
+    ensures silent { result.0 ≡ 0 → E.contents errors.new ≡ E.contents errors.old }
     ensures refused { result.0 ≡ 1 → (e : RefusalOf)
         × EndsWith (IsDone F.Place.Disk F.Folders folders.old folders.new command
-        (R.remaining input.old.inner) (W.contents output.inner))
+        (I.remaining input.old) (O.contents output))
         (IsNotDone F.Place.Disk F.Folders folders.old folders.new command
-        (R.remaining input.old.inner) (W.contents output.inner)) (W.contents result.1.inner) result.1.failed e
-        × (e ≡ Refusal.PeerFailed → (input.new.failed || result.1.failed) ≡ true)
-        × ((errors.new.failed ≡ true) ⊎ Appends (E.contents errors.old.inner) (E.contents errors.new.inner)
-        (fault_line e)) }
+        (I.remaining input.old) (O.contents output) (O.failures output)) (O.failures output) (O.contents result.1)
+        (O.failures result.1) e
+        × (e ≡ Refusal.PeerFailed → Fails (counts I.failures I.reads input.old input.new)
+        ⊎ Rose (O.failures output) (O.failures result.1))
+        × (Rose (E.failures errors.old) (E.failures errors.new)
+        ⊎ Appends (E.contents errors.old) (E.contents errors.new) (fault_line e)) }
 {
     let (output, done) = run_flushed(alloc, folders, command, input, output);
     match done {
@@ -438,12 +447,12 @@ pub fn run<F: Folders, R: Read + Drop, W: Write + Drop, E: Write + Drop>(
 
 /// The status of a command that was refused, with the refusal's line. One that can't be written is lost: the status
 /// tells.
-pub(crate) fn refused<E: Write + Drop>(refusal: &Refusal, errors: &mut Sink<E>) -> u8
+pub(crate) fn refused<E: Output>(refusal: &Refusal, errors: &mut E) -> u8
     ensures status { result ≡ 1 }
-    ensures line { (errors.new.failed ≡ true)
-        ⊎ Appends (E.contents errors.old.inner) (E.contents errors.new.inner) (fault_line refusal.now) }
+    ensures line { Rose (E.failures errors.old) (E.failures errors.new)
+        ⊎ Appends (E.contents errors.old) (E.contents errors.new) (fault_line refusal.now) }
 {
-    match errors.line(refusal) {
+    match write_line(errors, refusal) {
         Ok(()) => REFUSED,
         Err(_) => REFUSED,
     }

@@ -20,9 +20,9 @@
 #![tactic(auto)]
 
 pub use bringing::fleet;
+pub use byte_streams::{CountedReader, CountedWriter};
 pub use command_words::{Command, Fleet, Planned, Pull, Service, Task, Usage, plan};
 pub use execute::run;
-pub use fleet_engines::{Sink, Source};
 pub use folders::HostFolders;
 pub use lending::{FolderFault, Folders};
 pub use pulling::pull;

@@ -1,9 +1,10 @@
 //! A mirror over a source that a server has.
-ghost use Rattle.std.specs.Prelude.{◌≡◌, ◌⊎◌, true, IfErr, IfOk, OnOk};
+ghost use Rattle.std.specs.Prelude.{◌≡◌, ◌⊎◌, IfErr, IfOk, OnOk};
 ghost use Rattle.repo_store.specs.Words.{disk_of, HasFailed};
 ghost use Rattle.std.specs.Io.KnownBytes.{Appends};
-ghost use Rattle.node_base.specs.declared.refusal.Refusal.{Refusal as RefusalOf};
+ghost use Rattle.byte_streams.specs.Causes.{Rose};
 ghost use Rattle.node_base.specs.Refusals.{fault_line};
+ghost use Rattle.node_base.specs.declared.refusal.Refusal.{Refusal as RefusalOf};
 ghost use Rattle.mirror_engines.specs.Runs.{IsWorked};
 ghost use Rattle.fleet_main.specs.Doing.{EndsWith, HandsOn, IsWorkedOver, OfStanding, UnopenedOr, WorkedOn};
 ghost use Rattle.fleet_main.specs.Pulling.{IsPulled, NotKeptFor, NotPulled, NotPulledOn, NotPulledOver, work_as};
@@ -11,14 +12,14 @@ ghost use Rattle.fleet_main.specs.Pulling.{IsPulled, NotKeptFor, NotPulled, NotP
 use crate::execute::{refused, url_of};
 use crate::folders::{closed, opened};
 use crate::lending::Folders;
+use byte_streams::Output;
 use command_words::{Pull, Task};
 use fleet_disk::Disk;
-use fleet_engines::Sink;
+use fleet_engines::hand_on;
 use mirror_engines::Work;
 use node_base::Refusal;
 use repo_store::RepoStore;
 use std::alloc::Global;
-use std::io::Write;
 use std::net::{Net, TcpStream};
 use svn_client::run_work_from;
 
@@ -42,27 +43,27 @@ fn work_of(alloc: Global, url: &str, task: Task) -> Result<Work, Refusal>
 }
 
 // The mirror's store comes back.
-fn pull_opened<R: Net<Stream = TcpStream>, D: Disk + Drop, W: Write + Drop>(
+fn pull_opened<R: Net<Stream = TcpStream>, D: Disk + Drop, O: Output + Drop>(
     rt: &R,
     alloc: Global,
     mirror: RepoStore<D>,
     port: u16,
     url: &str,
     work: Work,
-    output: Sink<W>,
-) -> (RepoStore<D>, Sink<W>, Result<(), Refusal>)
-    ensures done { OnOk result.2 (WorkedOn (IsWorked work) (W.contents output.inner) (W.contents result.1.inner) mirror
+    output: O,
+) -> (RepoStore<D>, O, Result<(), Refusal>)
+    ensures done { OnOk result.2 (WorkedOn (IsWorked work) (O.contents output) (O.contents result.1) mirror
         result.0) }
-    ensures refused { IfErr result.2 (λ e. NotPulledOn (IsWorked work) (W.contents output.inner)
-        (W.contents result.1.inner) result.1.failed e mirror result.0) }
+    ensures refused { IfErr result.2 (λ e. NotPulledOn (IsWorked work) (O.contents output)
+        (O.contents result.1) (Rose (O.failures output) (O.failures result.1)) e mirror result.0) }
     ensures rules { ¬ HasFailed mirror → D.honest (disk_of mirror) → D.honest (disk_of result.0) }
-    ensures unfailed { OnOk result.2 (result.1.failed ≡ output.failed) }
+    ensures unfailed { OnOk result.2 (O.failures result.1 ≡ O.failures output) }
 {
     run_work_from(rt, alloc, mirror, port, url.as_bytes(), work, output)
 }
 
 // The mirror's folder is opened first.
-fn pull_folder<R: Net<Stream = TcpStream>, F: Folders, W: Write + Drop>(
+fn pull_folder<R: Net<Stream = TcpStream>, F: Folders, O: Output + Drop>(
     rt: &R,
     alloc: Global,
     folders: &mut F,
@@ -70,15 +71,15 @@ fn pull_folder<R: Net<Stream = TcpStream>, F: Folders, W: Write + Drop>(
     port: u16,
     url: &str,
     work: Work,
-    output: Sink<W>,
-) -> (Sink<W>, Result<(), Refusal>)
+    output: O,
+) -> (O, Result<(), Refusal>)
     ensures done { OnOk result.1 (OfStanding F.Place.Disk F.Folders folders.old folders.new mirror.now
-        (IsWorkedOver (IsWorked work) (W.contents output.inner) (W.contents result.0.inner))) }
+        (IsWorkedOver (IsWorked work) (O.contents output) (O.contents result.0))) }
     ensures refused { IfErr result.1 (λ e. UnopenedOr F.Place.Disk F.Folders folders.old folders.new mirror.now
-        (W.contents output.inner) (W.contents result.0.inner) e
-        (NotPulledOver (F.honest folders.old) (IsWorked work) (W.contents output.inner) (W.contents result.0.inner)
-        result.0.failed e)) }
-    ensures unfailed { OnOk result.1 (result.0.failed ≡ output.failed) }
+        (O.contents output) (O.contents result.0) e
+        (NotPulledOver (F.honest folders.old) (IsWorked work) (O.contents output) (O.contents result.0)
+        (Rose (O.failures output) (O.failures result.0)) e)) }
+    ensures unfailed { OnOk result.1 (O.failures result.0 ≡ O.failures output) }
 {
     match opened(alloc, folders, mirror) {
         Ok(store) => {
@@ -91,18 +92,18 @@ fn pull_folder<R: Net<Stream = TcpStream>, F: Folders, W: Write + Drop>(
 }
 
 // By what words ask for.
-fn pull_asked<R: Net<Stream = TcpStream>, F: Folders, W: Write + Drop>(
+fn pull_asked<R: Net<Stream = TcpStream>, F: Folders, O: Output + Drop>(
     rt: &R,
     alloc: Global,
     folders: &mut F,
     pull: Pull,
-    output: Sink<W>,
-) -> (Sink<W>, Result<(), Refusal>)
-    ensures done { OnOk result.1 (IsPulled F.Place.Disk F.Folders folders.old folders.new pull (W.contents output.inner)
-        (W.contents result.0.inner)) }
+    output: O,
+) -> (O, Result<(), Refusal>)
+    ensures done { OnOk result.1 (IsPulled F.Place.Disk F.Folders folders.old folders.new pull (O.contents output)
+        (O.contents result.0)) }
     ensures refused { IfErr result.1 (NotPulled F.Place.Disk F.Folders folders.old folders.new pull
-        (W.contents output.inner) (W.contents result.0.inner) result.0.failed) }
-    ensures unfailed { OnOk result.1 (result.0.failed ≡ output.failed) }
+        (O.contents output) (O.failures output) (O.contents result.0) (O.failures result.0)) }
+    ensures unfailed { OnOk result.1 (O.failures result.0 ≡ O.failures output) }
 {
     let Pull {
         mirror,
@@ -119,23 +120,25 @@ fn pull_asked<R: Net<Stream = TcpStream>, F: Folders, W: Write + Drop>(
 }
 
 // The answer, when what was written is handed on.
-fn pull_flushed<R: Net<Stream = TcpStream>, F: Folders, W: Write + Drop>(
+fn pull_flushed<R: Net<Stream = TcpStream>, F: Folders, O: Output + Drop>(
     rt: &R,
     alloc: Global,
     folders: &mut F,
     pull: Pull,
-    output: Sink<W>,
-) -> (Sink<W>, Result<(), Refusal>)
+    output: O,
+) -> (O, Result<(), Refusal>)
     ensures done { OnOk result.1 (HandsOn (IsPulled F.Place.Disk F.Folders folders.old folders.new pull
-        (W.contents output.inner)) (W.contents result.0.inner)) }
+        (O.contents output)) (O.contents result.0)) }
     ensures refused { IfErr result.1 (EndsWith (IsPulled F.Place.Disk F.Folders folders.old folders.new pull
-        (W.contents output.inner)) (NotPulled F.Place.Disk F.Folders folders.old folders.new pull
-        (W.contents output.inner)) (W.contents result.0.inner) result.0.failed) }
-    ensures unfailed { OnOk result.1 (result.0.failed ≡ output.failed) }
+        (O.contents output)) (NotPulled F.Place.Disk F.Folders folders.old folders.new pull
+        (O.contents output) (O.failures output)) (O.failures output) (O.contents result.0)
+        (O.failures result.0)) }
+    ensures handed { OnOk result.1 (O.is_handed_on result.0) }
+    ensures unfailed { OnOk result.1 (O.failures result.0 ≡ O.failures output) }
 {
     let (output, done) = pull_asked(rt, alloc, folders, pull, output);
     let mut output = output;
-    let flushed = output.flush();
+    let flushed = hand_on(&mut output);
     match done {
         Ok(()) => (output, flushed),
         Err(refusal) => (output, Err(refusal)),
@@ -145,32 +148,33 @@ fn pull_flushed<R: Net<Stream = TcpStream>, F: Folders, W: Write + Drop>(
 /// Does over a folder's mirror and a source that a server on a port of 127.0.0.1 has what `run` does over two folders:
 /// the mirror's folder is opened first, then the connection. The status is 0 where it is done and what it wrote is
 /// handed on, or 1 where it was refused, and then the refusal's line is on `errors`: what refuses an opening, TooLong
-/// (8) for a URL that no property takes, PeerFailed (49) where nobody listens on the port or the writer failed,
+/// (8) for a URL that no property takes, PeerFailed (49) where nobody listens on the port or the output failed,
 /// MasterFailed (60) where the server fails, refuses, or sends what is no answer; else what the run is refused for. The
-/// writer comes back.
+/// output comes back.
 ///
 /// Of honest folders it says besides what repository the mirror's disk kept, that a stop at any moment leaves it as the
 /// first so many calls of the run made it, and that its folder has that disk again in the end, and every other folder
 /// what it had. Folders that were honest still are. What the server has no clause says: it is as it answers.
-pub fn pull<R: Net<Stream = TcpStream>, F: Folders, W: Write + Drop, E: Write + Drop>(
+pub fn pull<R: Net<Stream = TcpStream>, F: Folders, O: Output + Drop, E: Output>(
     rt: &R,
     alloc: Global,
     folders: &mut F,
     pull: Pull,
-    output: Sink<W>,
-    errors: &mut Sink<E>,
-) -> (u8, Sink<W>)
+    output: O,
+    errors: &mut E,
+) -> (u8, O)
     ensures status { (result.0 ≡ 0) ⊎ (result.0 ≡ 1) }
     ensures done { result.0 ≡ 0 → HandsOn (IsPulled F.Place.Disk F.Folders folders.old folders.new pull
-        (W.contents output.inner)) (W.contents result.1.inner) }
-    ensures unfailed { result.0 ≡ 0 → result.1.failed ≡ output.failed }
-    ensures silent { result.0 ≡ 0 → E.contents errors.new.inner ≡ E.contents errors.old.inner }
+        (O.contents output)) (O.contents result.1) }
+    ensures handed { result.0 ≡ 0 → O.is_handed_on result.1 }
+    ensures unfailed { result.0 ≡ 0 → O.failures result.1 ≡ O.failures output }
+    ensures silent { result.0 ≡ 0 → E.contents errors.new ≡ E.contents errors.old }
     ensures refused { result.0 ≡ 1 → (e : RefusalOf)
-        × EndsWith (IsPulled F.Place.Disk F.Folders folders.old folders.new pull (W.contents output.inner))
-        (NotPulled F.Place.Disk F.Folders folders.old folders.new pull (W.contents output.inner))
-        (W.contents result.1.inner) result.1.failed e
-        × ((errors.new.failed ≡ true) ⊎ Appends (E.contents errors.old.inner) (E.contents errors.new.inner)
-        (fault_line e)) }
+        × EndsWith (IsPulled F.Place.Disk F.Folders folders.old folders.new pull (O.contents output))
+        (NotPulled F.Place.Disk F.Folders folders.old folders.new pull (O.contents output) (O.failures output))
+        (O.failures output) (O.contents result.1) (O.failures result.1) e
+        × (Rose (E.failures errors.old) (E.failures errors.new)
+        ⊎ Appends (E.contents errors.old) (E.contents errors.new) (fault_line e)) }
 {
     let (output, done) = pull_flushed(rt, alloc, folders, pull, output);
     match done {

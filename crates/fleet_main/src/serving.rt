@@ -1,7 +1,9 @@
 //! A folder's repository that is served to Subversion's clients.
-ghost use Rattle.std.specs.Prelude.{◌≡◌, ◌⊎◌, true, IfErr, OnOk};
+ghost use Rattle.std.specs.Prelude.{◌≡◌, ◌⊎◌, false, Ok, IfErr, OnOk};
 ghost use Rattle.std.specs.Io.KnownBytes.{Appends};
 ghost use Rattle.node_base.specs.declared.refusal.Refusal.{Refusal as RefusalOf};
+ghost use Rattle.byte_streams.specs.Causes.{Rose};
+ghost use Rattle.byte_streams.specs.Sinks.{inner_of};
 ghost use Rattle.node_base.specs.Refusals.{fault_line};
 ghost use Rattle.repo_store.specs.Words.{disk_of, repository_of, revisions_of, HasFailed};
 ghost use Rattle.sockets.specs.Lines.{listening};
@@ -15,14 +17,14 @@ ghost use Rattle.fleet_main.specs.Serving.{IsServedFrom, IsServerFault, NotServe
 use crate::execute::refused;
 use crate::folders::opened;
 use crate::lending::Folders;
+use byte_streams::{Output, Sink, has_failed_since};
 use command_words::Service;
 use fleet_disk::Disk;
-use fleet_engines::Sink;
+use fleet_engines::hand_on;
 use node_base::Refusal;
 use repo_store::RepoStore;
 use sockets::SocketFault;
 use std::alloc::Global;
-use std::io::Write;
 use std::net::{Net, TcpListener, TcpStream};
 use std::sync::Wait;
 use std::thread::Threads;
@@ -48,48 +50,72 @@ fn socket_refusal(fault: SocketFault) -> Refusal
     }
 }
 
-// Serves a store, a mirror read-only.
+// A server's answer, where its output has failed meanwhile or not.
+fn answer_of(done: Result<(), SocketFault>, failed: bool) -> Result<(), Refusal>
+    ensures ok { OnOk result (done ≡ Ok tt) }
+    ensures unfailed { OnOk result (failed ≡ false) }
+    ensures refused { IfErr result IsServerFault }
+{
+    match done {
+        Ok(()) => {
+            if failed {
+                return Err(Refusal::PeerFailed);
+            }
+            Ok(())
+        }
+        Err(fault) => Err(socket_refusal(fault)),
+    }
+}
+
+// Whether an output that was lent to code that knows std's writers alone may have failed since it had failed so often.
+fn may_have_failed<O: Output + Drop>(sink: Sink<O>, before: u64) -> (O, bool)
+    ensures back { result.0 ≡ inner_of sink }
+    ensures stood { result.1 ≡ false → O.failures result.0 ≡ before }
+{
+    let kept = sink.answered(before, Ok(()));
+    let output = sink.into_inner();
+    match kept {
+        Ok(()) => {
+            let failed = has_failed_since(&output, before);
+            (output, failed)
+        }
+        Err(_) => (output, true),
+    }
+}
+
+// Serves a store, a mirror read-only. The output comes back.
 fn serve_opened<
     R: Net<Listener = TcpListener, Stream = TcpStream> + Threads + Wait + Sync,
     D: Disk + Drop + Send,
-    W: Write + Drop,
+    O: Output + Drop,
 >(
     rt: &R,
     alloc: Global,
     store: RepoStore<D>,
     port: u16,
     connections: u16,
-    output: &mut Sink<W>,
-) -> (D, Result<(), Refusal>)
-    ensures told { OnOk result.1 (Appends (W.contents output.old.inner) (W.contents output.new.inner)
-        (listening port)) }
+    output: O,
+) -> (D, O, Result<(), Refusal>)
+    ensures told { OnOk result.2 (Appends (O.contents output) (O.contents result.1) (listening port)) }
     ensures back { IsOfStore D.Disk result.0 }
     ensures kept { D.honest (disk_of store) → ¬ HasFailed store → (left : Image) → D.may_leave (disk_of store) left
         → Keeps (repository_of store) left }
-    ensures refused { IfErr result.1 IsServerFault }
-    ensures unfailed { output.new.failed ≡ output.old.failed }
+    ensures refused { IfErr result.2 IsServerFault }
+    ensures unfailed { OnOk result.2 (O.failures result.1 ≡ O.failures output) }
 {
     let mirror = takes_none(&store);
     let connections = u64::from(connections);
-    let (disk, done) = serve_store(
-        rt,
-        alloc,
-        store,
-        mirror,
-        port,
-        connections,
-        &mut output.inner,
-    );
-    match done {
-        Ok(()) => (disk, Ok(())),
-        Err(fault) => (disk, Err(socket_refusal(fault))),
-    }
+    let mut sink = Sink::new(output);
+    let before = sink.begin();
+    let (disk, done) = serve_store(rt, alloc, store, mirror, port, connections, &mut sink);
+    let (output, failed) = may_have_failed(sink, before);
+    (disk, output, answer_of(done, failed))
 }
 
 fn serve_folder<
     R: Net<Listener = TcpListener, Stream = TcpStream> + Threads + Wait + Sync,
     F: Folders,
-    W: Write + Drop,
+    O: Output + Drop,
 >(
     rt: &R,
     alloc: Global,
@@ -97,23 +123,23 @@ fn serve_folder<
     folder: &str,
     port: u16,
     connections: u16,
-    output: &mut Sink<W>,
-) -> Result<(), Refusal>
+    output: O,
+) -> (O, Result<(), Refusal>)
 where
     F::Place: Send,
-    ensures done { OnOk result (OfServed F.Place.Disk F.Folders folders.old folders.new folder.now
-        (Appends (W.contents output.old.inner) (W.contents output.new.inner) (listening port))) }
-    ensures refused { IfErr result (NotServedIn F.Place.Disk F.Folders folders.old folders.new folder.now
-        (W.contents output.old.inner) (W.contents output.new.inner)) }
-    ensures unfailed { output.new.failed ≡ output.old.failed }
+    ensures done { OnOk result.1 (OfServed F.Place.Disk F.Folders folders.old folders.new folder.now
+        (Appends (O.contents output) (O.contents result.0) (listening port))) }
+    ensures refused { IfErr result.1 (NotServedIn F.Place.Disk F.Folders folders.old folders.new folder.now
+        (O.contents output) (O.contents result.0)) }
+    ensures unfailed { OnOk result.1 (O.failures result.0 ≡ O.failures output) }
 {
     match opened(alloc, folders, folder) {
         Ok(store) => {
-            let (disk, done) = serve_opened(rt, alloc, store, port, connections, output);
+            let (disk, output, done) = serve_opened(rt, alloc, store, port, connections, output);
             folders.close(folder, disk);
-            done
+            (output, done)
         }
-        Err(refusal) => Err(refusal),
+        Err(refusal) => (output, Err(refusal)),
     }
 }
 
@@ -121,21 +147,15 @@ where
 fn serve_asked<
     R: Net<Listener = TcpListener, Stream = TcpStream> + Threads + Wait + Sync,
     F: Folders,
-    W: Write + Drop,
->(
-    rt: &R,
-    alloc: Global,
-    folders: &mut F,
-    service: &Service,
-    output: &mut Sink<W>,
-) -> Result<(), Refusal>
+    O: Output + Drop,
+>(rt: &R, alloc: Global, folders: &mut F, service: &Service, output: O) -> (O, Result<(), Refusal>)
 where
     F::Place: Send,
-    ensures done { OnOk result (IsServedFrom F.Place.Disk F.Folders folders.old folders.new service.now
-        (W.contents output.old.inner) (W.contents output.new.inner)) }
-    ensures refused { IfErr result (NotServedFrom F.Place.Disk F.Folders folders.old folders.new
-        service.now (W.contents output.old.inner) (W.contents output.new.inner) output.new.failed) }
-    ensures unfailed { output.new.failed ≡ output.old.failed }
+    ensures done { OnOk result.1 (IsServedFrom F.Place.Disk F.Folders folders.old folders.new service.now
+        (O.contents output) (O.contents result.0)) }
+    ensures refused { IfErr result.1 (NotServedFrom F.Place.Disk F.Folders folders.old folders.new
+        service.now (O.contents output) (O.contents result.0) (O.failures result.0)) }
+    ensures unfailed { OnOk result.1 (O.failures result.0 ≡ O.failures output) }
 {
     let folder = service.folder.as_str();
     serve_folder(
@@ -153,26 +173,21 @@ where
 fn serve_flushed<
     R: Net<Listener = TcpListener, Stream = TcpStream> + Threads + Wait + Sync,
     F: Folders,
-    W: Write + Drop,
->(
-    rt: &R,
-    alloc: Global,
-    folders: &mut F,
-    service: &Service,
-    output: Sink<W>,
-) -> (Sink<W>, Result<(), Refusal>)
+    O: Output + Drop,
+>(rt: &R, alloc: Global, folders: &mut F, service: &Service, output: O) -> (O, Result<(), Refusal>)
 where
     F::Place: Send,
     ensures done { OnOk result.1 (HandsOn (IsServedFrom F.Place.Disk F.Folders folders.old folders.new service.now
-        (W.contents output.inner)) (W.contents result.0.inner)) }
+        (O.contents output)) (O.contents result.0)) }
     ensures refused { IfErr result.1 (EndsWith (IsServedFrom F.Place.Disk F.Folders folders.old folders.new service.now
-        (W.contents output.inner)) (NotServedFrom F.Place.Disk F.Folders folders.old folders.new
-        service.now (W.contents output.inner)) (W.contents result.0.inner) result.0.failed) }
-    ensures unfailed { OnOk result.1 (result.0.failed ≡ output.failed) }
+        (O.contents output)) (NotServedFrom F.Place.Disk F.Folders folders.old folders.new
+        service.now (O.contents output)) (O.failures output) (O.contents result.0) (O.failures result.0)) }
+    ensures handed { OnOk result.1 (O.is_handed_on result.0) }
+    ensures unfailed { OnOk result.1 (O.failures result.0 ≡ O.failures output) }
 {
+    let (output, done) = serve_asked(rt, alloc, folders, service, output);
     let mut output = output;
-    let done = serve_asked(rt, alloc, folders, service, &mut output);
-    let flushed = output.flush();
+    let flushed = hand_on(&mut output);
     match done {
         Ok(()) => (output, flushed),
         Err(refusal) => (output, Err(refusal)),
@@ -182,7 +197,7 @@ where
 /// Serves a folder's repository over ra_svn on a port of 127.0.0.1, a thread for each connection, and returns once so
 /// many have ended. It says where it listens in a line; a mirror takes no changes. The status is 0, or 1 where it was
 /// refused, and then the refusal's line is on `errors`: what refuses an opening, PeerFailed (49) where it can't listen
-/// there or can't say so, OutOfMemory (70). A session that ends badly ends itself alone. The writer comes back.
+/// there or can't say so, OutOfMemory (70). A session that ends badly ends itself alone. The output comes back.
 ///
 /// Of honest folders it says besides what repository the folder's disk kept, that a stop left it as the server began, and
 /// that the folder has a store's disk again in the end, and every other folder what it had. What clients were told and
@@ -190,29 +205,23 @@ where
 pub fn serve<
     R: Net<Listener = TcpListener, Stream = TcpStream> + Threads + Wait + Sync,
     F: Folders,
-    W: Write + Drop,
-    E: Write + Drop,
->(
-    rt: &R,
-    alloc: Global,
-    folders: &mut F,
-    service: &Service,
-    output: Sink<W>,
-    errors: &mut Sink<E>,
-) -> (u8, Sink<W>)
+    O: Output + Drop,
+    E: Output,
+>(rt: &R, alloc: Global, folders: &mut F, service: &Service, output: O, errors: &mut E) -> (u8, O)
 where
     F::Place: Send,
     ensures status { (result.0 ≡ 0) ⊎ (result.0 ≡ 1) }
     ensures done { result.0 ≡ 0 → HandsOn (IsServedFrom F.Place.Disk F.Folders folders.old folders.new service.now
-        (W.contents output.inner)) (W.contents result.1.inner) }
-    ensures unfailed { result.0 ≡ 0 → result.1.failed ≡ output.failed }
-    ensures silent { result.0 ≡ 0 → E.contents errors.new.inner ≡ E.contents errors.old.inner }
+        (O.contents output)) (O.contents result.1) }
+    ensures handed { result.0 ≡ 0 → O.is_handed_on result.1 }
+    ensures unfailed { result.0 ≡ 0 → O.failures result.1 ≡ O.failures output }
+    ensures silent { result.0 ≡ 0 → E.contents errors.new ≡ E.contents errors.old }
     ensures refused { result.0 ≡ 1 → (e : RefusalOf)
-        × EndsWith (IsServedFrom F.Place.Disk F.Folders folders.old folders.new service.now (W.contents output.inner))
+        × EndsWith (IsServedFrom F.Place.Disk F.Folders folders.old folders.new service.now (O.contents output))
         (NotServedFrom F.Place.Disk F.Folders folders.old folders.new service.now
-        (W.contents output.inner)) (W.contents result.1.inner) result.1.failed e
-        × ((errors.new.failed ≡ true) ⊎ Appends (E.contents errors.old.inner) (E.contents errors.new.inner)
-        (fault_line e)) }
+        (O.contents output)) (O.failures output) (O.contents result.1) (O.failures result.1) e
+        × (Rose (E.failures errors.old) (E.failures errors.new)
+        ⊎ Appends (E.contents errors.old) (E.contents errors.new) (fault_line e)) }
 {
     let (output, done) = serve_flushed(rt, alloc, folders, service, output);
     match done {

@@ -1,8 +1,8 @@
 //! The stores that the tests share.
 
+use byte_streams::MemOutput;
 use dump_load::{Change, ChangeSet};
 use fleet_disk::MemDisk;
-use fleet_engines::Sink;
 use fleet_shares::{Answered, FleetStores};
 use mirror_engines::run_initialize;
 use node_base::{Action, NodeKind, NodePath, PropValue, Props, Refusal};
@@ -65,7 +65,7 @@ fn mirror(rt: &impl Abort, alloc: Global, master: &RepoStore<MemDisk>) -> RepoSt
     let bytes = Vec::from_slice(alloc, b"master").expect(rt, "memory");
     let url = PropValue::new(bytes).expect(rt, "a property's value");
     let lent = LentMaster::new(master);
-    let output = Sink::new(Vec::new(alloc));
+    let output = MemOutput::new(alloc, 1_000_000);
     let (store, _output, done) = run_initialize(alloc, blank(rt, alloc), lent, url, output);
     done.expect(rt, "a mirror");
     store

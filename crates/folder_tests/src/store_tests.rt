@@ -2,15 +2,17 @@
 //! refused.
 
 use crate::memory::MemFolders;
+use byte_streams::{CountedReader, FuseInput, Input, MemOutput};
 use fleet_disk::{Disk, DiskFile, Fuse, FuseDisk, MemDisk, Pick};
-use fleet_main::{Command, Folders, Planned, Sink, Source, plan, run};
+use fleet_main::{Command, Folders, Planned, plan, run};
 use node_base::{PropName, RevNo};
 use repo_core::Expected;
 use std::alloc::Global;
-use std::io;
-use std::io::Read;
 use std::process::Abort;
 use store_engines::open_store;
+
+// More writes than a run makes.
+const WRITES: u64 = 1_000_000;
 
 // The version block, 31 bytes.
 pub(crate) const HEAD: &str = "SVN-fs-dump-format-version: 2\n\n";
@@ -115,26 +117,26 @@ fn named(rt: &impl Abort, alloc: Global, words: &[&str]) -> Command {
 #[derive(Drop)]
 struct Ran {
     status: u8,
-    output: Vec<u8>,
-    errors: Vec<u8>,
+    output: MemOutput,
+    errors: MemOutput,
 }
 
 // Runs a command over folders that keep the rules.
-fn run_over<F: Folders, R: Read + Drop>(
+fn run_over<F: Folders, I: Input>(
     alloc: Global,
     folders: &mut F,
     command: Command,
-    input: &mut Source<R>,
+    input: &mut I,
 ) -> Ran
     requires { F.honest folders.old }
 {
-    let output = Sink::new(Vec::new(alloc));
-    let mut errors = Sink::new(Vec::new(alloc));
+    let output = MemOutput::new(alloc, WRITES);
+    let mut errors = MemOutput::new(alloc, WRITES);
     let (status, output) = run(alloc, folders, command, input, output, &mut errors);
     Ran {
         status,
-        output: output.into_inner(),
-        errors: errors.into_inner(),
+        output,
+        errors,
     }
 }
 
@@ -148,12 +150,14 @@ pub(crate) struct Step<'a> {
     errors: &'a str,
 }
 
-// Whether a run came to what a step says.
+// Whether a run came to what a step says; what it wrote is handed on.
 fn came_to(ran: &Ran, step: &Step<'_>) -> bool {
     let status = if step.errors.is_empty() { 0 } else { 1 };
+    let written = ran.output.bytes();
     ran.status == status
-        && are(&ran.output, step.output)
-        && ran.errors.as_slice() == step.errors.as_bytes()
+        && are(written, step.output)
+        && ran.output.handed_on() == written.len()
+        && ran.errors.bytes() == step.errors.as_bytes()
 }
 
 // Whether a step over the folder `repo` on this disk comes to what it says.
@@ -172,7 +176,7 @@ pub(crate) fn comes<D: Disk + Drop>(
         alloc,
         &mut folders,
         command,
-        &mut Source::new(bytes.as_slice()),
+        &mut CountedReader::new(bytes.as_slice()),
     );
     came_to(&ran, step)
 }
@@ -383,16 +387,6 @@ fn load_keeps_what_was_committed(rt: HostRuntime) {
     assert!(rt; ends(&rt, alloc, &parts, &[], line, &[HEAD, IDENTITY, ZERO]));
 }
 
-// A reader that mustn't be asked.
-#[derive(Drop)]
-struct Unread;
-
-impl Read for Unread {
-    fn read(&mut self, _buf: &mut [u8]) -> io::Result<usize> {
-        Err(io::Error::from(io::ErrorKind::ConnectionReset))
-    }
-}
-
 #[test]
 fn mirrors_take_no_change(rt: HostRuntime) {
     let alloc = rt.alloc();
@@ -405,10 +399,11 @@ fn mirrors_take_no_change(rt: HostRuntime) {
     ];
     assert_eq!(rt; first_wrong(&rt, alloc, &mut disk, &steps), None);
     let mut folders = MemFolders::new("repo", &mut disk);
-    let mut unread = Source::new(Unread);
+    let nothing = [];
+    let mut unread = FuseInput::new(CountedReader::new(nothing.as_slice()), 0);
     let command = named(&rt, alloc, &LOAD);
     let ran = run_over(alloc, &mut folders, command, &mut unread);
-    assert!(rt; came_to(&ran, &refused(&LOAD, &[], line)) && !unread.failed);
+    assert!(rt; came_to(&ran, &refused(&LOAD, &[], line)) && unread.reads() == 0);
 }
 
 #[test]
@@ -418,7 +413,7 @@ fn folders_are_told_apart(rt: HostRuntime) {
     let mut empty = MemDisk::new(alloc);
     let mut folders = MemFolders::two("repo", &mut disk, "repo2", &mut empty);
     let nothing = [];
-    let mut input = Source::new(nothing.as_slice());
+    let mut input = CountedReader::new(nothing.as_slice());
     let elsewhere = refused(&["dump", "repo2"], &[], "svnfleet: 34 no repository\n");
     let command = named(&rt, alloc, elsewhere.words);
     let first = run_over(alloc, &mut folders, command, &mut input);

@@ -1,106 +1,85 @@
-//! Runs whose reader or writer fails, and the engines without a status.
+//! Runs whose input or output fails, and the engines without a status.
 
 use crate::dumps::{HEAD, ONE_FILE, ZERO, joined};
+use byte_streams::{CountedReader, FuseInput, Input, MemOutput, Output};
 use fleet_disk::HeldFiles;
-use fleet_engines::{
-    Sink, Source, records_dont_matter, revisions_are_grouped, run_canon, run_list,
-};
+use fleet_engines::{records_dont_matter, revisions_are_grouped, run_canon, run_list};
 use fleet_main::law::one_dump;
 use fleet_main::{Command, HostFolders, run};
 use std::alloc::Global;
-use std::io;
-use std::io::{Read, Write};
 
-// A reader that fails after some bytes.
-#[derive(Drop)]
-struct Broken<'a> {
-    bytes: &'a [u8],
-}
+// More writes than a run makes.
+const WRITES: u64 = 1_000_000;
 
-impl Read for Broken<'_> {
-    fn read(&mut self, buf: &mut [u8]) -> io::Result<usize> {
-        if self.bytes.is_empty() {
-            return Err(io::Error::from(io::ErrorKind::ConnectionReset));
-        }
-        self.bytes.read(buf)
-    }
-}
-
-// A writer that takes nothing.
-#[derive(Drop)]
-struct Closed;
-
-impl Write for Closed {
-    fn write(&mut self, _buf: &[u8]) -> io::Result<usize> {
-        Err(io::Error::from(io::ErrorKind::BrokenPipe))
-    }
-
-    fn flush(&mut self) -> io::Result<()> {
-        Ok(())
-    }
-}
-
-// Runs `canon` from a reader to a writer, which it answers: whether it ends with status 1 and one line, that a stream failed.
-fn tells<H: HeldFiles, R: Read + Drop, W: Write + Drop>(
+// Runs `canon` to an output that takes so many writes, which it answers: whether it ends with status 1 and one line, that
+// a stream failed.
+fn tells<H: HeldFiles, I: Input>(
     alloc: Global,
     files: &H,
-    input: &mut Source<R>,
-    output: Sink<W>,
-) -> (bool, Sink<W>) {
-    let mut errors = Sink::new(Vec::new(alloc));
+    input: &mut I,
+    passing: u64,
+) -> (bool, MemOutput) {
+    let mut errors = MemOutput::new(alloc, WRITES);
     let mut folders = HostFolders::new(files);
     let (status, output) = run(
         alloc,
         &mut folders,
         Command::Canon,
         input,
-        output,
+        MemOutput::new(alloc, passing),
         &mut errors,
     );
     let line = b"svnfleet: 49 stream failed\n".as_slice();
-    (
-        status == 1 && errors.into_inner().as_slice() == line,
-        output,
-    )
+    (status == 1 && errors.bytes() == line, output)
 }
 
 #[test]
 fn failed_reader_is_told(rt: HostRuntime) {
     let whole = joined(&rt, rt.alloc(), &[HEAD, ZERO, ONE_FILE]);
     let written = joined(&rt, rt.alloc(), &[HEAD, ZERO]);
-    let mut broken = Source::new(Broken {
-        bytes: whole.as_slice(),
-    });
-    let (told, output) = tells(
-        rt.alloc(),
-        &rt,
-        &mut broken,
-        Sink::new(Vec::new(rt.alloc())),
-    );
-    assert!(rt; told && broken.failed);
-    assert!(rt; output.into_inner().as_slice() == written.as_slice());
+    let mut broken = FuseInput::new(CountedReader::new(whole.as_slice()), 1);
+    let (told, output) = tells(rt.alloc(), &rt, &mut broken, WRITES);
+    assert!(rt; told && broken.reads() == 2);
+    assert!(rt; output.bytes() == written.as_slice() && output.handed_on() == written.len());
 }
 
 #[test]
 fn failed_writer_is_told(rt: HostRuntime) {
     let whole = joined(&rt, rt.alloc(), &[HEAD, ZERO, ONE_FILE]);
-    let mut input = Source::new(whole.as_slice());
-    let (told, output) = tells(rt.alloc(), &rt, &mut input, Sink::new(Closed));
-    assert!(rt; told && output.failed && !input.failed);
+    let mut input = FuseInput::new(CountedReader::new(whole.as_slice()), 9);
+    let (told, output) = tells(rt.alloc(), &rt, &mut input, 0);
+    assert!(rt; told && output.count_failures() == 1 && input.reads() == 1);
+}
+
+// Whether a run with no room for its line on standard error ends with status 1 all the same.
+#[test]
+fn a_line_that_is_lost(rt: HostRuntime) {
+    let nothing = [];
+    let mut errors = MemOutput::new(rt.alloc(), 0);
+    let mut folders = HostFolders::new(&rt);
+    let (status, output) = run(
+        rt.alloc(),
+        &mut folders,
+        Command::Canon,
+        &mut CountedReader::new(nothing.as_slice()),
+        MemOutput::new(rt.alloc(), WRITES),
+        &mut errors,
+    );
+    assert!(rt; status == 1 && errors.count_failures() == 1 && output.bytes().is_empty());
 }
 
 // Whether `list` writes these bytes.
 fn lists(alloc: Global, bytes: &[u8], wanted: &[u8]) -> bool {
-    let mut listed = Sink::new(Vec::new(alloc));
-    let answer = run_list(alloc, &mut Source::new(bytes), &mut listed);
-    answer.is_ok() && listed.into_inner().as_slice() == wanted
+    let mut listed = MemOutput::new(alloc, WRITES);
+    let answer = run_list(alloc, &mut CountedReader::new(bytes), &mut listed);
+    answer.is_ok() && listed.bytes() == wanted
 }
 
 // Whether `canon` writes bytes as they are.
 fn copies(alloc: Global, bytes: &[u8]) -> bool {
-    let mut copied = Sink::new(Vec::new(alloc));
-    let answer = run_canon(alloc, &mut Source::new(bytes), &mut copied);
-    answer.is_ok() && copied.into_inner().as_slice() == bytes
+    let mut copied = MemOutput::new(alloc, WRITES);
+    let answer = run_canon(alloc, &mut CountedReader::new(bytes), &mut copied);
+    answer.is_ok() && copied.bytes() == bytes
 }
 
 #[test]

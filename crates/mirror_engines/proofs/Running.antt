@@ -9,7 +9,7 @@ use Rattle.std.proofs.lemmas.List.{append-nil, append_assoc}
 use Rattle.fleet_disk.specs.Image.{Image}
 use Rattle.fleet_disk.specs.Rules.{LeavesOnly}
 use Rattle.fleet_disk.specs.declared.disk.Disk.{Ghosts}
-use Rattle.fleet_engines.specs.declared.stream.Sink.{Sink}
+use Rattle.byte_streams.specs.Causes.{Rose}
 use Rattle.node_base.specs.declared.refusal.Refusal.{Refusal}
 use Rattle.node_base.specs.declared.refusal.Refusal.TheVariants.{PeerFailed, OutOfTurn}
 use Rattle.node_base.specs.Refusals.{refusal_number}
@@ -27,7 +27,7 @@ use Rattle.sync_job.specs.Said.{Spoken, told_in}
 use Rattle.sync_job.specs.declared.alone.AloneMirror.{AloneMirror}
 use Rattle.sync_job.specs.declared.report.Told.{Told}
 use Rattle.mirror_engines.specs.Lines.{IsPrinted, Printed, Lost, line_of}
-use Rattle.mirror_engines.specs.Ports.{HasPrinted, is_lost, sink_of}
+use Rattle.mirror_engines.specs.Ports.{HasPrinted, is_lost, output_of}
 use Rattle.mirror_engines.specs.Runs.{answer_of, told_as, IsUnheard, Leaves, Serves, TellsDevice}
 use Rattle.mirror_engines.specs.declared.printer.Printer.{Printer}
 
@@ -37,31 +37,31 @@ one_more [] t = append-nil (line_of t)
 one_more (x ∷ xs) t = ap (λ bs. line_of x ++ bs) (one_more xs t) ∙ sym (append_assoc (line_of x) (flat_map line_of xs) (line_of t))
 
 -- nothing is printed yet
-pub printed_none : {W : Type 0} (contents : W → Option (List ℕ)) (p : Printer W) → is_lost p ≡ false → HasPrinted contents p p []
-printed_none contents p l = record { printed = Printed l (Appends-nil (contents (sink_of p).inner)); failed = λ e. refl }
+pub printed_none : {O : Type 0} (contents : O → Option (List ℕ)) (failures : O → ℕ) (p : Printer O) → is_lost p ≡ false → HasPrinted contents failures p p []
+printed_none contents failures p l = record { printed = Printed l (Appends-nil (contents (output_of p))); failed = λ e. refl }
 
 -- without a line lost one more is printed
-pub printed_on : {W : Type 0} (contents : W → Option (List ℕ)) (old new first : Printer W) (told : List Told) (t : Told) → HasPrinted contents old first told → is_lost old ≡ false → is_lost new ≡ false
-    → Appends (contents (sink_of old).inner) (contents (sink_of new).inner) (line_of t) → (sink_of new).failed ≡ (sink_of old).failed → HasPrinted contents new first (told ++ t ∷ [])
-printed_on contents old new first told t h was is adds same = record { printed = goes h.printed; failed = λ e. same ∙ h.failed was }
+pub printed_on : {O : Type 0} (contents : O → Option (List ℕ)) (failures : O → ℕ) (old new first : Printer O) (told : List Told) (t : Told) → HasPrinted contents failures old first told → is_lost old ≡ false → is_lost new ≡ false
+    → Appends (contents (output_of old)) (contents (output_of new)) (line_of t) → failures (output_of new) ≡ failures (output_of old) → HasPrinted contents failures new first (told ++ t ∷ [])
+printed_on contents failures old new first told t h was is adds same = record { printed = goes h.printed; failed = λ e. same ∙ h.failed was }
   where
-    goes : IsPrinted (contents (sink_of first).inner) (contents (sink_of old).inner) (sink_of old).failed (is_lost old) told → IsPrinted (contents (sink_of first).inner) (contents (sink_of new).inner) (sink_of new).failed (is_lost new) (told ++ t ∷ [])
+    goes : IsPrinted (contents (output_of first)) (contents (output_of old)) (Rose (failures (output_of first)) (failures (output_of old))) (is_lost old) told → IsPrinted (contents (output_of first)) (contents (output_of new)) (Rose (failures (output_of first)) (failures (output_of new))) (is_lost new) (told ++ t ∷ [])
     goes (Printed l a) =
-        Printed is (subst (λ bs. Appends (contents (sink_of first).inner) (contents (sink_of new).inner) bs) (sym (one_more told t))
-        (Appends-trans (contents (sink_of first).inner) (contents (sink_of old).inner) (contents (sink_of new).inner) (flat_map line_of told) (line_of t) a adds))
+        Printed is (subst (λ bs. Appends (contents (output_of first)) (contents (output_of new)) bs) (sym (one_more told t))
+        (Appends-trans (contents (output_of first)) (contents (output_of old)) (contents (output_of new)) (flat_map line_of told) (line_of t) a adds))
     goes (Lost l f) = absurd (true≢false (sym l ∙ was))
 
 -- or it is lost
-pub printed_lost : {W : Type 0} (contents : W → Option (List ℕ)) (new first : Printer W) (told : List Told) → is_lost new ≡ true → (sink_of new).failed ≡ true → HasPrinted contents new first told
-printed_lost contents new first told l f = record { printed = Lost l f; failed = λ e. absurd (true≢false (sym l ∙ e)) }
+pub printed_lost : {O : Type 0} (contents : O → Option (List ℕ)) (failures : O → ℕ) (new first : Printer O) (told : List Told) → is_lost new ≡ true → Rose (failures (output_of first)) (failures (output_of new)) → HasPrinted contents failures new first told
+printed_lost contents failures new first told l f = record { printed = Lost l f; failed = λ e. absurd (true≢false (sym l ∙ e)) }
 
 -- once a line is lost all are
-pub printed_stays : {W : Type 0} (contents : W → Option (List ℕ)) (p first : Printer W) (told more : List Told) → is_lost p ≡ true → HasPrinted contents p first told → HasPrinted contents p first more
-printed_stays contents p first told more l h = goes h.printed
+pub printed_stays : {O : Type 0} (contents : O → Option (List ℕ)) (failures : O → ℕ) (p first : Printer O) (told more : List Told) → is_lost p ≡ true → HasPrinted contents failures p first told → HasPrinted contents failures p first more
+printed_stays contents failures p first told more l h = goes h.printed
   where
-    goes : IsPrinted (contents (sink_of first).inner) (contents (sink_of p).inner) (sink_of p).failed (is_lost p) told → HasPrinted contents p first more
+    goes : IsPrinted (contents (output_of first)) (contents (output_of p)) (Rose (failures (output_of first)) (failures (output_of p))) (is_lost p) told → HasPrinted contents failures p first more
     goes (Printed e a) = absurd (true≢false (sym l ∙ e))
-    goes (Lost e f) = printed_lost contents p first more l f
+    goes (Lost e f) = printed_lost contents failures p first more l f
 
 -- the ghosts of a mirror that is held alone
 abbrev pub stands_alone : {D : Type 0} {G : Ghosts D} → AloneMirror D G → MirrorNow → Type 0
@@ -84,20 +84,20 @@ leaves before after accepted counted there w =
     record { honest = w.0; now = went.now; holder = holder_of after; come = went.come; there = went.there; any_moment = λ h. let x = went.images h in record { later = x.later; each = x.each; before = x.before } }
 
 -- what was said and printed in a run, and what it left
-pub serves : {D : Type 0} {G : Ghosts D} {W : Type 0} (contents : W → Option (List ℕ)) (IsRun : List Spoken → Result (Unit {0}) SyncFault → Type 0) (N : Job → ℕ → Type 0) (order : Order)
-    (End : List Spoken → Type 0) (before after : AloneMirror D G) (p q : Printer W) (said : List Spoken) (ended : Result (Unit {0}) SyncFault)
-    → (Runs N order [] said IsUnheard IsUnheard End → IsRun said ended) → Runs N order [] said (HasPrinted contents p) (HasPrinted contents q) End → is_lost p ≡ false
+pub serves : {D : Type 0} {G : Ghosts D} {O : Type 0} (contents : O → Option (List ℕ)) (failures : O → ℕ) (IsRun : List Spoken → Result (Unit {0}) SyncFault → Type 0) (N : Job → ℕ → Type 0) (order : Order)
+    (End : List Spoken → Type 0) (before after : AloneMirror D G) (p q : Printer O) (said : List Spoken) (ended : Result (Unit {0}) SyncFault)
+    → (Runs N order [] said IsUnheard IsUnheard End → IsRun said ended) → Runs N order [] said (HasPrinted contents failures p) (HasPrinted contents failures q) End → is_lost p ≡ false
     → (¬ HasFailed (store_of before) → StandsAt (store_of before) None (begun (repository_of (store_of before)))) → holder_of before ≡ None
     → Moving [] said (WentAt stands_alone clock_alone left_alone honest_alone before after) → TellsDevice (store_of before) (store_of after) said (answer_of ended (is_lost q))
-    → Serves IsRun (store_of before) (store_of after) (contents (sink_of p).inner) (contents (sink_of q).inner) (sink_of q).failed (answer_of ended (is_lost q))
-serves contents IsRun N order End before after p q said ended is run l there holder moving device =
+    → Serves IsRun (store_of before) (store_of after) (contents (output_of p)) (contents (output_of q)) (Rose (failures (output_of p)) (failures (output_of q))) (answer_of ended (is_lost q))
+serves contents failures IsRun N order End before after p q said ended is run l there holder moving device =
     record {
       said = said;
       ended = ended;
       run = is (record { more = run.more; adds = run.adds; right = run.right; reported = run.reported; tells = λ u told h. tt; let_go = run.let_go; end = run.end });
       lost = is_lost q;
-      printed = subst (λ xs. IsPrinted (contents (sink_of p).inner) (contents (sink_of q).inner) (sink_of q).failed (is_lost q) (told_in xs)) (sym run.adds)
-          (run.tells p [] (printed_none contents p l)).printed;
+      printed = subst (λ xs. IsPrinted (contents (output_of p)) (contents (output_of q)) (Rose (failures (output_of p)) (failures (output_of q))) (is_lost q) (told_in xs)) (sym run.adds)
+          (run.tells p [] (printed_none contents failures p l)).printed;
       answer = refl;
       left = λ works. leaves before after (accepted_in said) (counted_in said)
           (subst (λ h. StandsAt (store_of before) h (begun (repository_of (store_of before)))) (sym holder) (there works))
@@ -106,14 +106,14 @@ serves contents IsRun N order End before after p q said ended is run l there hol
     }
 
 -- the writer has failed in a run only where a line was lost
-pub writer_failed : {W : Type 0} (contents : W → Option (List ℕ)) (N : Job → ℕ → Type 0) (order : Order) (End : List Spoken → Type 0) (p q : Printer W) (said : List Spoken)
-    → Runs N order [] said (HasPrinted contents p) (HasPrinted contents q) End → is_lost p ≡ false → HasPrinted contents q p (told_in said)
-writer_failed contents N order End p q said run l = subst (λ xs. HasPrinted contents q p (told_in xs)) (sym run.adds) (run.tells p [] (printed_none contents p l))
+pub writer_failed : {O : Type 0} (contents : O → Option (List ℕ)) (failures : O → ℕ) (N : Job → ℕ → Type 0) (order : Order) (End : List Spoken → Type 0) (p q : Printer O) (said : List Spoken)
+    → Runs N order [] said (HasPrinted contents failures p) (HasPrinted contents failures q) End → is_lost p ≡ false → HasPrinted contents failures q p (told_in said)
+writer_failed contents failures N order End p q said run l = subst (λ xs. HasPrinted contents failures q p (told_in xs)) (sym run.adds) (run.tells p [] (printed_none contents failures p l))
 
-lost_failed : {W : Type 0} (contents : W → Option (List ℕ)) (q p : Printer W) (told : List Told) → HasPrinted contents q p told → is_lost q ≡ true → (sink_of q).failed ≡ true
-lost_failed contents q p told h l = goes h.printed
+lost_failed : {O : Type 0} (contents : O → Option (List ℕ)) (failures : O → ℕ) (q p : Printer O) (told : List Told) → HasPrinted contents failures q p told → is_lost q ≡ true → Rose (failures (output_of p)) (failures (output_of q))
+lost_failed contents failures q p told h l = goes h.printed
   where
-    goes : IsPrinted (contents (sink_of p).inner) (contents (sink_of q).inner) (sink_of q).failed (is_lost q) told → (sink_of q).failed ≡ true
+    goes : IsPrinted (contents (output_of p)) (contents (output_of q)) (Rose (failures (output_of p)) (failures (output_of q))) (is_lost q) told → Rose (failures (output_of p)) (failures (output_of q))
     goes (Printed e a) = absurd (true≢false (sym l ∙ e))
     goes (Lost e f) = f
 
@@ -144,47 +144,48 @@ if_err : {T E : Type 0} (r : Result T E) (A B : E → Type 0) → ((e : E) → A
 if_err (Ok t) A B f a = tt
 if_err (Err e) A B f a = f e a
 
-pub unfailed : {W : Type 0} (contents : W → Option (List ℕ)) (q p : Printer W) (told : List Told) (ended : Result (Unit {0}) SyncFault) → HasPrinted contents q p told
-    → OnOk (answer_of ended (is_lost q)) ((sink_of q).failed ≡ (sink_of p).failed)
-unfailed contents q p told ended h = on_ok (answer_of ended (is_lost q)) (is_lost q ≡ false) ((sink_of q).failed ≡ (sink_of p).failed) h.failed (none_lost ended (is_lost q))
+pub unfailed : {O : Type 0} (contents : O → Option (List ℕ)) (failures : O → ℕ) (q p : Printer O) (told : List Told) (ended : Result (Unit {0}) SyncFault) → HasPrinted contents failures q p told
+    → OnOk (answer_of ended (is_lost q)) (failures (output_of q) ≡ failures (output_of p))
+unfailed contents failures q p told ended h = on_ok (answer_of ended (is_lost q)) (is_lost q ≡ false) (failures (output_of q) ≡ failures (output_of p)) h.failed (none_lost ended (is_lost q))
 
-pub peer_failed : {W : Type 0} (contents : W → Option (List ℕ)) (q p : Printer W) (told : List Told) (ended : Result (Unit {0}) SyncFault) → HasPrinted contents q p told
-    → IfErr (answer_of ended (is_lost q)) (λ e. e ≡ PeerFailed → (sink_of q).failed ≡ true)
-peer_failed contents q p told ended h =
-    if_err (answer_of ended (is_lost q)) (λ e. e ≡ PeerFailed → is_lost q ≡ true) (λ e. e ≡ PeerFailed → (sink_of q).failed ≡ true) (λ e f is. lost_failed contents q p told h (f is)) (only_lost ended (is_lost q))
+pub peer_failed : {O : Type 0} (contents : O → Option (List ℕ)) (failures : O → ℕ) (q p : Printer O) (told : List Told) (ended : Result (Unit {0}) SyncFault) → HasPrinted contents failures q p told
+    → IfErr (answer_of ended (is_lost q)) (λ e. e ≡ PeerFailed → Rose (failures (output_of p)) (failures (output_of q)))
+peer_failed contents failures q p told ended h =
+    if_err (answer_of ended (is_lost q)) (λ e. e ≡ PeerFailed → is_lost q ≡ true) (λ e. e ≡ PeerFailed → Rose (failures (output_of p)) (failures (output_of q))) (λ e f is. lost_failed contents failures q p told h (f is)) (only_lost ended (is_lost q))
 
 -- what a run that ends so comes to
-pub record Whole {D : Type 0} {G : Ghosts D} {W : Type 0} (contents : W → Option (List ℕ)) (IsRun : List Spoken → Result (Unit {0}) SyncFault → Type 0) (store new : RepoStore D G) (output sink : Sink W)
+pub record Whole {D : Type 0} {G : Ghosts D} {O : Type 0} (contents : O → Option (List ℕ)) (failures : O → ℕ) (IsRun : List Spoken → Result (Unit {0}) SyncFault → Type 0) (store new : RepoStore D G) (output sink : O)
     (answer : Result (Unit {0}) Refusal) : Type 0 where
-  pub ran : Serves IsRun store new (contents output.inner) (contents sink.inner) sink.failed answer
-  pub unfailed : OnOk answer (sink.failed ≡ output.failed)
-  pub peer : IfErr answer (λ e. e ≡ PeerFailed → sink.failed ≡ true)
+  pub ran : Serves IsRun store new (contents output) (contents sink) (Rose (failures output) (failures sink)) answer
+  pub unfailed : OnOk answer (failures sink ≡ failures output)
+  pub peer : IfErr answer (λ e. e ≡ PeerFailed → Rose (failures output) (failures sink))
 
 -- from the ports as they are made to what is taken out of them
-pub whole : {D : Type 0} {G : Ghosts D} {W : Type 0} (contents : W → Option (List ℕ)) (IsRun : List Spoken → Result (Unit {0}) SyncFault → Type 0) (N : Job → ℕ → Type 0) (order : Order)
-    (End : List Spoken → Type 0) (store new : RepoStore D G) (output sink : Sink W) (held before after left : AloneMirror D G) (first p q report : Printer W) (start said : List Spoken)
+pub whole : {D : Type 0} {G : Ghosts D} {O : Type 0} (contents : O → Option (List ℕ)) (failures : O → ℕ) (IsRun : List Spoken → Result (Unit {0}) SyncFault → Type 0) (N : Job → ℕ → Type 0) (order : Order)
+    (End : List Spoken → Type 0) (store new : RepoStore D G) (output sink : O) (held before after left : AloneMirror D G) (first p q report : Printer O) (start said : List Spoken)
     (ended : Result (Unit {0}) SyncFault) (lost : Bool) (answer : Result (Unit {0}) Refusal)
-    → store_of held ≡ store → (¬ HasFailed store → StandsAt store None (begun (repository_of store))) → holder_of held ≡ None → sink_of first ≡ output → is_lost first ≡ false
+    → store_of held ≡ store → (¬ HasFailed store → StandsAt store None (begun (repository_of store))) → holder_of held ≡ None → output_of first ≡ output → is_lost first ≡ false
     → start ≡ [] → before ≡ held → p ≡ first
-    → Runs N order start said (HasPrinted contents p) (HasPrinted contents q) End → Moving start said (WentAt stands_alone clock_alone left_alone honest_alone before after)
-    → TellsDevice (store_of before) (store_of after) said (answer_of ended (is_lost q)) → left ≡ after → report ≡ q → lost ≡ is_lost report → answer ≡ answer_of ended lost → new ≡ store_of left → sink ≡ sink_of report
-    → (Runs N order [] said IsUnheard IsUnheard End → IsRun said ended) → Whole contents IsRun store new output sink answer
-whole contents IsRun N order End store new output sink held before after left first p q report start said ended lost answer at stands holder out none begins same_mirror same_report run moving device left_is report_is lost_is answer_is new_is sink_is is =
+    → Runs N order start said (HasPrinted contents failures p) (HasPrinted contents failures q) End → Moving start said (WentAt stands_alone clock_alone left_alone honest_alone before after)
+    → TellsDevice (store_of before) (store_of after) said (answer_of ended (is_lost q)) → left ≡ after → report ≡ q → lost ≡ is_lost report → answer ≡ answer_of ended lost → new ≡ store_of left → sink ≡ output_of report
+    → (Runs N order [] said IsUnheard IsUnheard End → IsRun said ended) → Whole contents failures IsRun store new output sink answer
+whole {O = O} contents failures IsRun N order End store new output sink held before after left first p q report start said ended lost answer at stands holder out none begins same_mirror same_report run moving device left_is report_is lost_is answer_is new_is sink_is is =
     record {
-      ran = subst (λ x. Serves IsRun x new (contents output.inner) (contents sink.inner) sink.failed answer) e_store
-          (subst (λ x. Serves IsRun (store_of before) x (contents output.inner) (contents sink.inner) sink.failed answer) e_new
-          (subst (λ (x : Sink _). Serves IsRun (store_of before) (store_of after) (contents x.inner) (contents sink.inner) sink.failed answer) e_output
-          (subst (λ (x : Sink _). Serves IsRun (store_of before) (store_of after) (contents (sink_of p).inner) (contents x.inner) x.failed answer) e_sink
-          (subst (λ x. Serves IsRun (store_of before) (store_of after) (contents (sink_of p).inner) (contents (sink_of q).inner) (sink_of q).failed x) e_answer
-          (serves contents IsRun N order End before after p q said ended is run_on fresh_report
+      ran = subst (λ x. Serves IsRun x new (contents output) (contents sink) (Rose (failures output) (failures sink)) answer) e_store
+          (subst (λ x. Serves IsRun (store_of before) x (contents output) (contents sink) (Rose (failures output) (failures sink)) answer) e_new
+          (subst (λ (x : O). Serves IsRun (store_of before) (store_of after) (contents x) (contents sink) (Rose (failures x) (failures sink)) answer) e_output
+          (subst (λ (x : O). Serves IsRun (store_of before) (store_of after) (contents (output_of p)) (contents x) (Rose (failures (output_of p)) (failures x)) answer) e_sink
+          (subst (λ x. Serves IsRun (store_of before) (store_of after) (contents (output_of p)) (contents (output_of q)) (Rose (failures (output_of p)) (failures (output_of q))) x) e_answer
+          (serves contents failures IsRun N order End before after p q said ended is run_on fresh_report
           (subst (λ x. ¬ HasFailed x → StandsAt x None (begun (repository_of x))) (sym e_store) stands)
           (ap holder_of same_mirror ∙ holder)
           (subst (λ x. Moving x said (WentAt stands_alone clock_alone left_alone honest_alone before after)) begins moving) device)))));
-      unfailed = subst (λ x. OnOk x (sink.failed ≡ output.failed)) e_answer
-          (subst (λ (x : Sink _). OnOk (answer_of ended (is_lost q)) (x.failed ≡ output.failed)) e_sink
-          (subst (λ (x : Sink _). OnOk (answer_of ended (is_lost q)) ((sink_of q).failed ≡ x.failed)) e_output (unfailed contents q p (told_in said) ended printed)));
-      peer = subst (λ x. IfErr x (λ e. e ≡ PeerFailed → sink.failed ≡ true)) e_answer
-          (subst (λ (x : Sink _). IfErr (answer_of ended (is_lost q)) (λ e. e ≡ PeerFailed → x.failed ≡ true)) e_sink (peer_failed contents q p (told_in said) ended printed));
+      unfailed = subst (λ x. OnOk x (failures sink ≡ failures output)) e_answer
+          (subst (λ (x : O). OnOk (answer_of ended (is_lost q)) (failures x ≡ failures output)) e_sink
+          (subst (λ (x : O). OnOk (answer_of ended (is_lost q)) (failures (output_of q) ≡ failures x)) e_output (unfailed contents failures q p (told_in said) ended printed)));
+      peer = subst (λ x. IfErr x (λ e. e ≡ PeerFailed → Rose (failures output) (failures sink))) e_answer
+          (subst (λ (x : O). IfErr (answer_of ended (is_lost q)) (λ e. e ≡ PeerFailed → Rose (failures output) (failures x))) e_sink
+          (subst (λ (x : O). IfErr (answer_of ended (is_lost q)) (λ e. e ≡ PeerFailed → Rose (failures x) (failures (output_of q)))) e_output (peer_failed contents failures q p (told_in said) ended printed)));
     }
   where
     e_store : store_of before ≡ store
@@ -193,11 +194,11 @@ whole contents IsRun N order End store new output sink held before after left fi
     e_new : store_of after ≡ new
     e_new = sym (new_is ∙ ap store_of left_is)
 
-    e_output : sink_of p ≡ output
-    e_output = ap sink_of same_report ∙ out
+    e_output : output_of p ≡ output
+    e_output = ap output_of same_report ∙ out
 
-    e_sink : sink_of q ≡ sink
-    e_sink = sym (sink_is ∙ ap sink_of report_is)
+    e_sink : output_of q ≡ sink
+    e_sink = sym (sink_is ∙ ap output_of report_is)
 
     e_answer : answer_of ended (is_lost q) ≡ answer
     e_answer = sym (answer_is ∙ ap (answer_of ended) (lost_is ∙ ap is_lost report_is))
@@ -205,8 +206,8 @@ whole contents IsRun N order End store new output sink held before after left fi
     fresh_report : is_lost p ≡ false
     fresh_report = ap is_lost same_report ∙ none
 
-    run_on : Runs N order [] said (HasPrinted contents p) (HasPrinted contents q) End
-    run_on = subst (λ x. Runs N order x said (HasPrinted contents p) (HasPrinted contents q) End) begins run
+    run_on : Runs N order [] said (HasPrinted contents failures p) (HasPrinted contents failures q) End
+    run_on = subst (λ x. Runs N order x said (HasPrinted contents failures p) (HasPrinted contents failures q) End) begins run
 
-    printed : HasPrinted contents q p (told_in said)
-    printed = writer_failed contents N order End p q said run_on fresh_report
+    printed : HasPrinted contents failures q p (told_in said)
+    printed = writer_failed contents failures N order End p q said run_on fresh_report

@@ -11,7 +11,7 @@ abbrev pub line_of : Told → List ℕ
 line_of (Committed n) = codes "Committed revision " ++ (decimal n ++ codes ".\n")
 line_of (Copied n) = codes "Copied properties for revision " ++ (decimal n ++ codes ".\n")
 
--- of a writer that held `before`, what it holds once these were told: a line each, in order; or a line was lost, since the writer failed
-pub data IsPrinted (before now : Option (List ℕ)) (failed lost : Bool) (told : List Told) : Type 0 where
-  Printed : lost ≡ false → Appends before now (flat_map line_of told) → IsPrinted before now failed lost told
-  Lost : lost ≡ true → failed ≡ true → IsPrinted before now failed lost told
+-- of an output that held `before`, what it holds once these were told: a line each, in order; or a line was lost, since the output failed
+pub data IsPrinted (before now : Option (List ℕ)) (fails : Type 0) (lost : Bool) (told : List Told) : Type 0 where
+  Printed : lost ≡ false → Appends before now (flat_map line_of told) → IsPrinted before now fails lost told
+  Lost : lost ≡ true → fails → IsPrinted before now fails lost told

@@ -56,12 +56,12 @@ pub record TellsDevice {D : Type 0} {G : Ghosts D} (old new : RepoStore D G) (sa
   pub broken : HasFailed new → HasFailedSince old new
 
 -- a run of a job over a mirror's store: all that was said through its ports, in order, and how the job ended; of what was told the lines that are printed, the answer, and what is left of the mirror
-pub record Serves {D : Type 0} {G : Ghosts D} (IsRun : List Spoken → Result (Unit {0}) SyncFault → Type 0) (old new : RepoStore D G) (before now : Option (List ℕ)) (failed : Bool) (result : Result (Unit {0}) Refusal) : Type 0 where
+pub record Serves {D : Type 0} {G : Ghosts D} (IsRun : List Spoken → Result (Unit {0}) SyncFault → Type 0) (old new : RepoStore D G) (before now : Option (List ℕ)) (fails : Type 0) (result : Result (Unit {0}) Refusal) : Type 0 where
   pub said : List Spoken
   pub ended : Result (Unit {0}) SyncFault
   pub run : IsRun said ended
   pub lost : Bool
-  pub printed : IsPrinted before now failed lost (told_in said)
+  pub printed : IsPrinted before now fails lost (told_in said)
   pub answer : result ≡ answer_of ended lost
   pub left : ¬ HasFailed old → Leaves old new (accepted_in said) (counted_in said)
   pub device : TellsDevice old new said result

@@ -1,4 +1,4 @@
-//! The engines of the commands over a mirror, over any disk, any master and any writer: they make a repository the
+//! The engines of the commands over a mirror, over any disk, any master and any output: they make a repository the
 //! mirror of a master, bring it up to that, copy properties of its revisions again, and tell how it stands.
 //!
 //! ```text

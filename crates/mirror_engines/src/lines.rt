@@ -1,39 +1,48 @@
 //! The lines that a run prints.
-ghost use Rattle.std.specs.Prelude.{◌≡◌, true, IfErr, OnOk, OnErr};
+ghost use Rattle.std.specs.Prelude.{◌≡◌, IfErr, OnOk, OnErr};
 ghost use Rattle.std.specs.Io.KnownBytes.{Appends};
-ghost use Rattle.fleet_engines.specs.Runs.{Flagged};
+ghost use Rattle.byte_streams.specs.Causes.{Rose};
+ghost use Rattle.fleet_engines.specs.Runs.{Counted};
 ghost use Rattle.mirror_engines.specs.Lines.{line_of};
 
-use fleet_engines::Sink;
+use byte_streams::Output;
+use fleet_engines::{hand_on, write_count};
 use node_base::Refusal;
-use std::io;
-use std::io::Write;
 use sync_job::Told;
 
 // Writes the line that tells what a job has done.
-fn write_told<W: Write>(output: &mut W, told: &Told) -> io::Result<()>
-    ensures { OnOk result (Appends (W.contents output.old) (W.contents output.new) (line_of told.now)) }
+fn write_told<O: Output>(output: &mut O, told: &Told) -> Result<(), Refusal>
+    ensures ok { OnOk result (Appends (O.contents output.old) (O.contents output.new) (line_of told.now)) }
+    ensures peer { Counted result (O.failures output.old) (O.failures output.new) }
+    ensures failed { OnErr result (Rose (O.failures output.old) (O.failures output.new)) }
+    ensures only_peer { IfErr result (λ e. e ≡ Refusal.PeerFailed) }
 {
     match told {
-        Told::Committed(number) => writeln!(output, "Committed revision {number}."),
-        Told::Copied(number) => writeln!(output, "Copied properties for revision {number}."),
+        Told::Committed(number) => {
+            write_count(
+                output,
+                b"Committed revision ",
+                u64::from(number.get()),
+                b".\n",
+            )
+        }
+        Told::Copied(number) => write_count(
+            output,
+            b"Copied properties for revision ",
+            u64::from(number.get()),
+            b".\n",
+        ),
     }
 }
 
-/// Writes the line that tells what a job has done, and hands it on. PeerFailed (49) where the writer failed, and only
+/// Writes the line that tells what a job has done, and hands it on. PeerFailed (49) where the output failed, and only
 /// there.
-pub fn say<W: Write + Drop>(output: &mut Sink<W>, told: &Told) -> Result<(), Refusal>
-    ensures ok { OnOk result (Appends (W.contents output.old.inner) (W.contents output.new.inner) (line_of told.now)) }
-    ensures peer { Flagged result output.old.failed output.new.failed }
-    ensures failed { OnErr result (output.new.failed ≡ true) }
+pub fn say<O: Output>(output: &mut O, told: &Told) -> Result<(), Refusal>
+    ensures ok { OnOk result (Appends (O.contents output.old) (O.contents output.new) (line_of told.now)) }
+    ensures peer { Counted result (O.failures output.old) (O.failures output.new) }
+    ensures failed { OnErr result (Rose (O.failures output.old) (O.failures output.new)) }
     ensures only_peer { IfErr result (λ e. e ≡ Refusal.PeerFailed) }
 {
-    if write_told(&mut output.inner, told).is_err() {
-        output.failed = true;
-        return Err(Refusal::PeerFailed);
-    }
-    if output.flush().is_err() {
-        return Err(Refusal::PeerFailed);
-    }
-    Ok(())
+    write_told(output, told)?;
+    hand_on(output)
 }

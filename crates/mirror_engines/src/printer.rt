@@ -1,25 +1,24 @@
 //! A report that is printed.
 ghost use Rattle.std.specs.Prelude.{◌≡◌, false, List, [], ◌++◌, ◌∷◌};
 ghost use Rattle.sync_job.specs.declared.report.Told.{Told as IsTold};
-ghost use Rattle.mirror_engines.specs.Ports.{is_lost, sink_of, HasPrinted};
+ghost use Rattle.mirror_engines.specs.Ports.{is_lost, output_of, HasPrinted};
 
 use crate::lines::say;
-use fleet_engines::Sink;
+use byte_streams::Output;
 use node_base::RevNo;
-use std::io::Write;
 use sync_job::{Report, Told};
 
 /// Prints what a job has done: a line each, which is handed on at once. Once a line couldn't be written no other is.
 #[derive(Drop)]
-pub struct Printer<W: Write + Drop> {
-    output: Sink<W>,
+pub struct Printer<O: Output + Drop> {
+    output: O,
     lost: bool,
 }
 
-impl<W: Write + Drop> Printer<W> {
-    /// Prints to a writer; nothing is printed yet.
-    pub fn new(output: Sink<W>) -> Printer<W>
-        ensures sink { sink_of result ≡ output }
+impl<O: Output + Drop> Printer<O> {
+    /// Prints to an output; nothing is printed yet.
+    pub fn new(output: O) -> Printer<O>
+        ensures output { output_of result ≡ output }
         ensures lost { is_lost result ≡ false }
     {
         Printer {
@@ -35,9 +34,9 @@ impl<W: Write + Drop> Printer<W> {
         self.lost
     }
 
-    /// The writer, as the lines have left it.
-    pub fn into_sink(self) -> Sink<W>
-        ensures { result ≡ sink_of self }
+    /// The output, as the lines have left it.
+    pub fn into_output(self) -> O
+        ensures { result ≡ output_of self }
     {
         let Printer { output, lost: _ } = self;
         output
@@ -45,8 +44,8 @@ impl<W: Write + Drop> Printer<W> {
 
     // Prints a line, where none was lost.
     fn tell(&mut self, told: &Told)
-        ensures told { (first : _) (before : List IsTold) → HasPrinted W.contents self.old first before
-            → HasPrinted W.contents self.new first (before ++ told.now ∷ []) }
+        ensures told { (first : _) (before : List IsTold) → HasPrinted O.contents O.failures self.old first before
+            → HasPrinted O.contents O.failures self.new first (before ++ told.now ∷ []) }
     {
         if self.lost {
             return;
@@ -57,10 +56,10 @@ impl<W: Write + Drop> Printer<W> {
     }
 }
 
-impl<W: Write + Drop> Report for Printer<W> {
+impl<O: Output + Drop> Report for Printer<O> {
     ghost use Rattle.mirror_engines.specs.Ports.{HasPrinted};
 
-    ghost heard = { λ now first told. HasPrinted W.contents now first told };
+    ghost heard = { λ now first told. HasPrinted O.contents O.failures now first told };
 
     fn committed(&mut self, number: RevNo) {
         self.tell(&Told::Committed(number))

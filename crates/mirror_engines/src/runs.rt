@@ -1,5 +1,6 @@
 //! Runs over a mirror's store.
-ghost use Rattle.std.specs.Prelude.{◌≡◌, None, true, IfErr, OnOk};
+ghost use Rattle.std.specs.Prelude.{◌≡◌, None, IfErr, OnOk};
+ghost use Rattle.byte_streams.specs.Causes.{Rose};
 ghost use Rattle.repo_store.specs.Words.{repository_of, HasFailed};
 ghost use Rattle.sync_job.specs.Alone.{begun, holder_of, store_of, StandsAt};
 ghost use Rattle.mirror_engines.specs.Runs.{answer_of, told_as, IsCopied, IsInitialised, IsSynchronised, IsWorked};
@@ -7,94 +8,93 @@ ghost use Rattle.mirror_engines.specs.Runs.{Serves};
 
 use crate::printer::Printer;
 use crate::work::Work;
+use byte_streams::Output;
 use fleet_disk::Disk;
-use fleet_engines::Sink;
 use node_base::{PropValue, Refusal, RevNo};
 use repo_store::RepoStore;
 use std::alloc::Global;
-use std::io::Write;
 use sync_core::{SyncFault, Token};
 use sync_job::{
     AloneMirror, JobPorts, MasterPort, run_copy_revprops as run_copy, run_init, run_sync,
 };
 
 /// Makes a repository without revisions the mirror of a master, which is reached by that URL. The mirror's store and
-/// the writer come back as the run has left them, with its answer: a refusal of the job, and where it wasn't refused
+/// the output come back as the run has left them, with its answer: a refusal of the job, and where it wasn't refused
 /// but a line couldn't be written PeerFailed (49).
-pub fn run_initialize<D: Disk + Drop, M: MasterPort + Drop, W: Write + Drop>(
+pub fn run_initialize<D: Disk + Drop, M: MasterPort + Drop, O: Output + Drop>(
     alloc: Global,
     mirror: RepoStore<D>,
     master: M,
     url: PropValue,
-    output: Sink<W>,
-) -> (RepoStore<D>, Sink<W>, Result<(), Refusal>)
-    ensures ran { Serves (IsInitialised url) mirror result.0 (W.contents output.inner) (W.contents result.1.inner)
-        result.1.failed result.2 }
-    ensures unfailed { OnOk result.2 (result.1.failed ≡ output.failed) }
-    ensures peer { IfErr result.2 (λ e. e ≡ Refusal.PeerFailed → result.1.failed ≡ true) }
+    output: O,
+) -> (RepoStore<D>, O, Result<(), Refusal>)
+    ensures ran { Serves (IsInitialised url) mirror result.0 (O.contents output) (O.contents result.1)
+        (Rose (O.failures output) (O.failures result.1)) result.2 }
+    ensures unfailed { OnOk result.2 (O.failures result.1 ≡ O.failures output) }
+    ensures peer { IfErr result.2 (λ e. e ≡ Refusal.PeerFailed → Rose (O.failures output) (O.failures result.1)) }
 {
     let mut ports = JobPorts::new(alloc, master, held(mirror), Printer::new(output));
     let ended = run_init(alloc, &mut ports, url);
     let (_master, mirror, printer) = ports.into_parts();
     let answer = answer_of(ended, printer.is_lost());
-    (mirror.into_store(), printer.into_sink(), answer)
+    (mirror.into_store(), printer.into_output(), answer)
 }
 
 /// Brings a mirror up to its master, under a job's token. Where it is to steal, it takes a lock that stands.
-pub fn run_synchronize<D: Disk + Drop, M: MasterPort + Drop, W: Write + Drop>(
+pub fn run_synchronize<D: Disk + Drop, M: MasterPort + Drop, O: Output + Drop>(
     alloc: Global,
     mirror: RepoStore<D>,
     master: M,
     token: Token,
     steal: bool,
-    output: Sink<W>,
-) -> (RepoStore<D>, Sink<W>, Result<(), Refusal>)
-    ensures ran { Serves (IsSynchronised token steal) mirror result.0 (W.contents output.inner)
-        (W.contents result.1.inner) result.1.failed result.2 }
-    ensures unfailed { OnOk result.2 (result.1.failed ≡ output.failed) }
-    ensures peer { IfErr result.2 (λ e. e ≡ Refusal.PeerFailed → result.1.failed ≡ true) }
+    output: O,
+) -> (RepoStore<D>, O, Result<(), Refusal>)
+    ensures ran { Serves (IsSynchronised token steal) mirror result.0 (O.contents output)
+        (O.contents result.1) (Rose (O.failures output) (O.failures result.1)) result.2 }
+    ensures unfailed { OnOk result.2 (O.failures result.1 ≡ O.failures output) }
+    ensures peer { IfErr result.2 (λ e. e ≡ Refusal.PeerFailed → Rose (O.failures output) (O.failures result.1)) }
 {
     let mut ports = JobPorts::new(alloc, master, held(mirror), Printer::new(output));
     let ended = run_sync(alloc, &mut ports, token, steal);
     let (_master, mirror, printer) = ports.into_parts();
     let answer = answer_of(ended, printer.is_lost());
-    (mirror.into_store(), printer.into_sink(), answer)
+    (mirror.into_store(), printer.into_output(), answer)
 }
 
 /// Copies the properties of the revisions from `low` to `high` to a mirror again, under a job's token.
-pub fn run_copy_revprops<D: Disk + Drop, M: MasterPort + Drop, W: Write + Drop>(
+pub fn run_copy_revprops<D: Disk + Drop, M: MasterPort + Drop, O: Output + Drop>(
     alloc: Global,
     mirror: RepoStore<D>,
     master: M,
     token: Token,
     low: RevNo,
     high: RevNo,
-    output: Sink<W>,
-) -> (RepoStore<D>, Sink<W>, Result<(), Refusal>)
-    ensures ran { Serves (IsCopied token low high) mirror result.0 (W.contents output.inner) (W.contents result.1.inner)
-        result.1.failed result.2 }
-    ensures unfailed { OnOk result.2 (result.1.failed ≡ output.failed) }
-    ensures peer { IfErr result.2 (λ e. e ≡ Refusal.PeerFailed → result.1.failed ≡ true) }
+    output: O,
+) -> (RepoStore<D>, O, Result<(), Refusal>)
+    ensures ran { Serves (IsCopied token low high) mirror result.0 (O.contents output) (O.contents result.1)
+        (Rose (O.failures output) (O.failures result.1)) result.2 }
+    ensures unfailed { OnOk result.2 (O.failures result.1 ≡ O.failures output) }
+    ensures peer { IfErr result.2 (λ e. e ≡ Refusal.PeerFailed → Rose (O.failures output) (O.failures result.1)) }
 {
     let mut ports = JobPorts::new(alloc, master, held(mirror), Printer::new(output));
     let ended = run_copy(alloc, &mut ports, token, low, high);
     let (_master, mirror, printer) = ports.into_parts();
     let answer = answer_of(ended, printer.is_lost());
-    (mirror.into_store(), printer.into_sink(), answer)
+    (mirror.into_store(), printer.into_output(), answer)
 }
 
 /// Runs the work over a mirror's store and a master: as `run_initialize`, `run_synchronize` and `run_copy_revprops`.
-pub fn run_work<D: Disk + Drop, M: MasterPort + Drop, W: Write + Drop>(
+pub fn run_work<D: Disk + Drop, M: MasterPort + Drop, O: Output + Drop>(
     alloc: Global,
     mirror: RepoStore<D>,
     master: M,
     work: Work,
-    output: Sink<W>,
-) -> (RepoStore<D>, Sink<W>, Result<(), Refusal>)
-    ensures ran { Serves (IsWorked work) mirror result.0 (W.contents output.inner) (W.contents result.1.inner)
-        result.1.failed result.2 }
-    ensures unfailed { OnOk result.2 (result.1.failed ≡ output.failed) }
-    ensures peer { IfErr result.2 (λ e. e ≡ Refusal.PeerFailed → result.1.failed ≡ true) }
+    output: O,
+) -> (RepoStore<D>, O, Result<(), Refusal>)
+    ensures ran { Serves (IsWorked work) mirror result.0 (O.contents output) (O.contents result.1)
+        (Rose (O.failures output) (O.failures result.1)) result.2 }
+    ensures unfailed { OnOk result.2 (O.failures result.1 ≡ O.failures output) }
+    ensures peer { IfErr result.2 (λ e. e ≡ Refusal.PeerFailed → Rose (O.failures output) (O.failures result.1)) }
 {
     match work {
         Work::Initialize { url } => run_initialize(alloc, mirror, master, url, output),

@@ -161,34 +161,34 @@ fault_is x bytes message moment path m r =
     ap (λ b. if b then Some refusal.ReadOnly else fault_there x message moment (path_read bytes)) m ∙ ap (fault_there x message moment) r
 
 -- a mirror
-pub mirror_refused : {D : Type 0} {G : Ghosts D} (x : RepoStore D G) (bytes message : List ℕ) (moment : DateTime) (before : Option (List ℕ)) (failed : Bool) (e : Refusal) → (e ≡ refusal.ReadOnly) × (is_mirror (revisions_of x) ≡ true) → NotCommitted (repository_of x) bytes message moment x before before failed e
-mirror_refused x bytes message moment before failed e (d, m) =
+pub mirror_refused : {D : Type 0} {G : Ghosts D} (x : RepoStore D G) (bytes message : List ℕ) (moment : DateTime) (before : Option (List ℕ)) (fails : Type 0) (e : Refusal) → (e ≡ refusal.ReadOnly) × (is_mirror (revisions_of x) ≡ true) → NotCommitted (repository_of x) bytes message moment x before before fails e
+mirror_refused x bytes message moment before fails e (d, m) =
     commit_refused (ap (λ b. if b then Some refusal.ReadOnly else fault_there (revisions_of x) message moment (path_read bytes)) m ∙ ap Some (sym d)) refl refl
 
 -- bytes that are no path
-pub path_refused : {D : Type 0} {G : Ghosts D} (x : RepoStore D G) (bytes message : List ℕ) (moment : DateTime) (before : Option (List ℕ)) (failed : Bool) (e : Refusal) → is_mirror (revisions_of x) ≡ false → (e ≡ refusal.OutOfMemory) ⊎ ((f : PathFault) × (path_read bytes ≡ Err f) × (e ≡ path_refusal f))
-    → NotCommitted (repository_of x) bytes message moment x before before failed e
-path_refused x bytes message moment before failed e m (inl d) = commit_stops d refl refl
-path_refused x bytes message moment before failed e m (inr (f, r, d)) =
+pub path_refused : {D : Type 0} {G : Ghosts D} (x : RepoStore D G) (bytes message : List ℕ) (moment : DateTime) (before : Option (List ℕ)) (fails : Type 0) (e : Refusal) → is_mirror (revisions_of x) ≡ false → (e ≡ refusal.OutOfMemory) ⊎ ((f : PathFault) × (path_read bytes ≡ Err f) × (e ≡ path_refusal f))
+    → NotCommitted (repository_of x) bytes message moment x before before fails e
+path_refused x bytes message moment before fails e m (inl d) = commit_stops d refl refl
+path_refused x bytes message moment before fails e m (inr (f, r, d)) =
     commit_refused
     (ap (λ b. if b then Some refusal.ReadOnly else fault_there (revisions_of x) message moment (path_read bytes)) m ∙ ap (fault_there (revisions_of x) message moment) r ∙ ap Some (sym d))
     refl refl
 
 -- a message past its limit
-pub message_refused : {D : Type 0} {G : Ghosts D} (x : Repository) (y : RepoStore D G) (bytes message : List ℕ) (moment : DateTime) (path : Path) (set : List Change) (before : Option (List ℕ)) (failed : Bool) (e : Refusal) → repository_of y ≡ x → set ≡ directory_set path → 65536 < length message
-    → (e ≡ refusal.OutOfMemory) ⊎ BareUnkept y x.revisions set moment e ⊎ LongDue x.revisions set moment e → is_mirror x.revisions ≡ false → path_read bytes ≡ Ok path → NotCommitted x bytes message moment y before before failed e
-message_refused x y bytes message moment path set before failed e same is long (inl s) m r = commit_stops s same refl
-message_refused x y bytes message moment path set before failed e same is long (inr (inl k)) m r = commit_not_kept path (bare_entry x.revisions path moment) r (inr (long, refl)) (k path is) same refl
-message_refused x y bytes message moment path set before failed e same is long (inr (inr d)) m r =
+pub message_refused : {D : Type 0} {G : Ghosts D} (x : Repository) (y : RepoStore D G) (bytes message : List ℕ) (moment : DateTime) (path : Path) (set : List Change) (before : Option (List ℕ)) (fails : Type 0) (e : Refusal) → repository_of y ≡ x → set ≡ directory_set path → 65536 < length message
+    → (e ≡ refusal.OutOfMemory) ⊎ BareUnkept y x.revisions set moment e ⊎ LongDue x.revisions set moment e → is_mirror x.revisions ≡ false → path_read bytes ≡ Ok path → NotCommitted x bytes message moment y before before fails e
+message_refused x y bytes message moment path set before fails e same is long (inl s) m r = commit_stops s same refl
+message_refused x y bytes message moment path set before fails e same is long (inr (inl k)) m r = commit_not_kept path (bare_entry x.revisions path moment) r (inr (long, refl)) (k path is) same refl
+message_refused x y bytes message moment path set before fails e same is long (inr (inr d)) m r =
     commit_refused (fault_is x.revisions bytes message moment path m r ∙ d path message is long) same refl
 
 -- what a commit of the entry answers, and what is said then
-pub not_committed : {D : Type 0} {G : Ghosts D} (x : Repository) (y : RepoStore D G) (bytes message : List ℕ) (moment : DateTime) (path : Path) (before : Option (List ℕ)) (failed : Bool) (e : Refusal) → repository_of y ≡ x
+pub not_committed : {D : Type 0} {G : Ghosts D} (x : Repository) (y : RepoStore D G) (bytes message : List ℕ) (moment : DateTime) (path : Path) (before : Option (List ℕ)) (fails : Type 0) (e : Refusal) → repository_of y ≡ x
     → (e ≡ refusal.OutOfMemory) ⊎ CantKeep y (directory_entry x.revisions path message moment) e ⊎ ((f : RepoFault) × IsDue f (entry_fault x.revisions (directory_entry x.revisions path message moment)) × (e ≡ repo_refusal f)) → is_mirror x.revisions ≡ false → path_read bytes ≡ Ok path
-    → NotCommitted x bytes message moment y before before failed e
-not_committed x y bytes message moment path before failed e same (inl s) m r = commit_stops s same refl
-not_committed x y bytes message moment path before failed e same (inr (inl k)) m r = commit_not_kept path (directory_entry x.revisions path message moment) r (inl refl) k same refl
-not_committed x y bytes message moment path before failed e same (inr (inr (f, due, d))) m r =
+    → NotCommitted x bytes message moment y before before fails e
+not_committed x y bytes message moment path before fails e same (inl s) m r = commit_stops s same refl
+not_committed x y bytes message moment path before fails e same (inr (inl k)) m r = commit_not_kept path (directory_entry x.revisions path message moment) r (inl refl) k same refl
+not_committed x y bytes message moment path before fails e same (inr (inr (f, due, d))) m r =
     elim (is_due f _ due) [
       | inl o ↦ commit_stops (d ∙ ap repo_refusal o) same refl
       | inr k ↦ commit_refused (fault_is x.revisions bytes message moment path m r ∙ ap (option_map repo_refusal) k ∙ ap Some (sym d)) same refl
@@ -206,11 +206,11 @@ committed x y message moment path before now line (Ok u) none made is w = λ byt
 }
 committed x y message moment path before now line (Err e) none made is w = tt
 
-pub unsaid : {D : Type 0} {G : Ghosts D} (x : Repository) (y : RepoStore D G) (message : List ℕ) (moment : DateTime) (path : Path) (before now : Option (List ℕ)) (failed : Bool) (answer : Result (Unit {0}) Refusal) → entry_fault x.revisions (directory_entry x.revisions path message moment) ≡ None
-    → repository_of y ≡ with_entry_in x (directory_entry x.revisions path message moment) → OnErr answer (failed ≡ true) → IfErr answer (λ e. e ≡ refusal.PeerFailed)
-    → IfErr answer (λ e. (bytes : List ℕ) → is_mirror x.revisions ≡ false → path_read bytes ≡ Ok path → NotCommitted x bytes message moment y before now failed e)
-unsaid x y message moment path before now failed (Ok u) none made f p = tt
-unsaid x y message moment path before now failed (Err e) none made f p =
+pub unsaid : {D : Type 0} {G : Ghosts D} (x : Repository) (y : RepoStore D G) (message : List ℕ) (moment : DateTime) (path : Path) (before now : Option (List ℕ)) (fails : Type 0) (answer : Result (Unit {0}) Refusal) → entry_fault x.revisions (directory_entry x.revisions path message moment) ≡ None
+    → repository_of y ≡ with_entry_in x (directory_entry x.revisions path message moment) → OnErr answer fails → IfErr answer (λ e. e ≡ refusal.PeerFailed)
+    → IfErr answer (λ e. (bytes : List ℕ) → is_mirror x.revisions ≡ false → path_read bytes ≡ Ok path → NotCommitted x bytes message moment y before now fails e)
+unsaid x y message moment path before now fails (Ok u) none made f p = tt
+unsaid x y message moment path before now fails (Err e) none made f p =
     λ bytes m r. commit_unsaid path r (fault_is x.revisions bytes message moment path m r ∙ ap (option_map repo_refusal) none) made f p
 
 -- the entry that is committed

@@ -63,9 +63,9 @@ dumped r range id first last a b d (Ok u) same from to p q =
     (whole r range id first (last + 1 - first) a b d same from p q)
 dumped r range id first last a b d (Err e) same from to p q = tt
 
-pub dump_stops : (r : Repository) (range : Option RevRange) (id : List ℕ) (first last : ℕ) (a b d : Option (List ℕ)) (failed : Bool) (answer : Result (Unit {0}) Refusal) → id ≡ r.identity → first ≡ first_wanted range → last ≡ last_wanted r range → last_wanted r range < length r.revisions → Appends a b (canon_head (Some id))
-    → IfErr answer (λ e. ((e ≡ refusal.OutOfMemory) × (written : ℕ) × (written < last + 1 - first) × Appends b d (revisions_text r first written)) ⊎ ((e ≡ refusal.PeerFailed) × (failed ≡ true))) → IfErr answer (DumpStops r range a d failed)
-dump_stops r range id first last a b d failed (Ok u) same from to there p q = tt
-dump_stops r range id first last a b d failed (Err e) same from to there p (inl (m, written, less, w)) =
+pub dump_stops : (r : Repository) (range : Option RevRange) (id : List ℕ) (first last : ℕ) (a b d : Option (List ℕ)) (fails : Type 0) (answer : Result (Unit {0}) Refusal) → id ≡ r.identity → first ≡ first_wanted range → last ≡ last_wanted r range → last_wanted r range < length r.revisions → Appends a b (canon_head (Some id))
+    → IfErr answer (λ e. ((e ≡ refusal.OutOfMemory) × (written : ℕ) × (written < last + 1 - first) × Appends b d (revisions_text r first written)) ⊎ ((e ≡ refusal.PeerFailed) × fails)) → IfErr answer (DumpStops r range a d fails)
+dump_stops r range id first last a b d fails (Ok u) same from to there p q = tt
+dump_stops r range id first last a b d fails (Err e) same from to there p (inl (m, written, less, w)) =
     no_memory written there (subst (λ n. written < n) (ap (λ k. last + 1 - k) from ∙ ap (λ k. k + 1 - first_wanted range) to) less) m (whole r range id first written a b d same from p w)
-dump_stops r range id first last a b d failed (Err e) same from to there p (inr f) = writer_fails there f.1 f.0
+dump_stops r range id first last a b d fails (Err e) same from to there p (inr f) = writer_fails there f.1 f.0

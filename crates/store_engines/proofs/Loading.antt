@@ -105,14 +105,14 @@ one_identity x rs y last start now id s = record {
 }
 
 -- the revision that is read isn't loaded
-pub cant_close : {D : Type 0} {G : Ghosts D} (x : Repository) (rs : List DumpRecord) (y : Repository) (z : RepoStore D G) (r : Rev) (start before now : Option (List ℕ)) (failed : Bool) (e : Refusal) → Stands x rs y (Some r) start before → NotLoaded y r z before now failed e → CantClose x rs z start now failed e
-cant_close x rs y z r start before now failed e s (load_refused k d w) =
+pub cant_close : {D : Type 0} {G : Ghosts D} (x : Repository) (rs : List DumpRecord) (y : Repository) (z : RepoStore D G) (r : Rev) (start before now : Option (List ℕ)) (fails : Type 0) (e : Refusal) → Stands x rs y (Some r) start before → NotLoaded y r z before now fails e → CantClose x rs z start now fails e
+cant_close x rs y z r start before now fails e s (load_refused k d w) =
     rw w (close_refused r (subst (λ (v : Repository). Stands x rs v (Some r) start before) (sym d) s) (subst (λ (v : Repository). CantLoad v.revisions r e) (sym d) k))
-cant_close x rs y z r start before now failed e s (load_stops k d w) =
+cant_close x rs y z r start before now fails e s (load_stops k d w) =
     rw w (close_stops (Some r) (subst (λ (v : Repository). Stands x rs v (Some r) start before) (sym d) s) k)
-cant_close x rs y z r start before now failed e s (load_not_kept entry line l k d w) =
+cant_close x rs y z r start before now fails e s (load_not_kept entry line l k d w) =
     rw w (close_not_kept r entry line (subst (λ (v : Repository). Stands x rs v (Some r) start before) (sym d) s) (subst (λ (v : Repository). IsLoaded v.revisions r entry line) (sym d) l) k)
-cant_close x rs y z r start before now failed e s (load_unsaid entry line k t d f p) = close_unsaid y r entry line before s k t d f p
+cant_close x rs y z r start before now fails e s (load_unsaid entry line k t d f p) = close_unsaid y r entry line before s k t d f p
 
 pub moves_none : (y : Repository) (last : Option Rev) (a : Option (List ℕ)) → Moves y last a [] y last a
 moves_none y last a x rs start s = subst (λ l. Stands x l y last start a) (sym (append-nil rs)) s
@@ -121,10 +121,10 @@ pub moves_more : (y m z : Repository) (last mid later : Option Rev) (a b d : Opt
 moves_more y m z last mid later a b d ys next p q x rs start s =
     subst (λ l. Stands x l z later start d) (append_assoc rs ys (next ∷ [])) (q x (rs ++ ys) start (p x rs start s))
 
-pub stops_here : {D : Type 0} {G : Ghosts D} (y m : Repository) (z : RepoStore D G) (last mid : Option Rev) (a b now : Option (List ℕ)) (all ys rest : List DumpRecord) (next : DumpRecord) (failed : Bool) (e : Refusal) → Moves y last a ys m mid b → all ≡ ys ++ next ∷ rest
-    → ((x : Repository) (rs : List DumpRecord) (start : Option (List ℕ)) → Stands x rs m mid start b → CantTake x rs next z start now failed e)
-    → (x : Repository) (rs : List DumpRecord) (start : Option (List ℕ)) → Stands x rs y last start a → Stops x rs all z start now failed e
-stops_here y m z last mid a b now all ys rest next failed e p d w x rs start s = record {
+pub stops_here : {D : Type 0} {G : Ghosts D} (y m : Repository) (z : RepoStore D G) (last mid : Option Rev) (a b now : Option (List ℕ)) (all ys rest : List DumpRecord) (next : DumpRecord) (fails : Type 0) (e : Refusal) → Moves y last a ys m mid b → all ≡ ys ++ next ∷ rest
+    → ((x : Repository) (rs : List DumpRecord) (start : Option (List ℕ)) → Stands x rs m mid start b → CantTake x rs next z start now fails e)
+    → (x : Repository) (rs : List DumpRecord) (start : Option (List ℕ)) → Stands x rs y last start a → Stops x rs all z start now fails e
+stops_here y m z last mid a b now all ys rest next fails e p d w x rs start s = record {
   taken = ys;
   first = next;
   rest = rest;
@@ -133,13 +133,13 @@ stops_here y m z last mid a b now all ys rest next failed e p d w x rs start s =
 }
 
 -- a record can't be taken because the revision before it can't be closed
-pub cant_take : {D : Type 0} {G : Ghosts D} (x : Repository) (rs : List DumpRecord) (next : DumpRecord) (z : RepoStore D G) (start now : Option (List ℕ)) (failed : Bool) (e : Refusal) (n : ℕ) (props : PropMap) → next ≡ Begins n props → CantClose x rs z start now failed e → CantTake x rs next z start now failed e
-cant_take x rs next z start now failed e n props d k = not_closed n props d k
+pub cant_take : {D : Type 0} {G : Ghosts D} (x : Repository) (rs : List DumpRecord) (next : DumpRecord) (z : RepoStore D G) (start now : Option (List ℕ)) (fails : Type 0) (e : Refusal) (n : ℕ) (props : PropMap) → next ≡ Begins n props → CantClose x rs z start now fails e → CantTake x rs next z start now fails e
+cant_take x rs next z start now fails e n props d k = not_closed n props d k
 
 -- a node can't be taken
-pub node_refused : {D : Type 0} {G : Ghosts D} (x : Repository) (rs : List DumpRecord) (next : DumpRecord) (node : NodeRecord) (y : RepoStore D G) (last : Option Rev) (start now : Option (List ℕ)) (failed : Bool) (e : Refusal) → next ≡ Node node → (e ≡ refusal.OutOfMemory) ⊎ ((e ≡ refusal.WrongNumber) × (is_past_zero last ≡ false)) → Stands x rs (repository_of y) last start now → CantTake x rs next y start now failed e
-node_refused x rs next node y last start now failed e d (inl m) s = take_stops last s m
-node_refused x rs next node y last start now failed e d (inr w) s = no_revision node last d s w.1 w.0
+pub node_refused : {D : Type 0} {G : Ghosts D} (x : Repository) (rs : List DumpRecord) (next : DumpRecord) (node : NodeRecord) (y : RepoStore D G) (last : Option Rev) (start now : Option (List ℕ)) (fails : Type 0) (e : Refusal) → next ≡ Node node → (e ≡ refusal.OutOfMemory) ⊎ ((e ≡ refusal.WrongNumber) × (is_past_zero last ≡ false)) → Stands x rs (repository_of y) last start now → CantTake x rs next y start now fails e
+node_refused x rs next node y last start now fails e d (inl m) s = take_stops last s m
+node_refused x rs next node y last start now fails e d (inr w) s = no_revision node last d s w.1 w.0
 
 pub zero_number : (lone : Bool) (n : ℕ) → (lone && n == 0) ≡ true → n ≡ 0
 zero_number true n e = eqb-true n 0 e
@@ -152,13 +152,13 @@ zero_said y z rev a (Ok u) q t k = λ b. (Mapped 0 rev.props, [], revision_0 q (
 zero_said y z rev a (Err e) q t k = tt
 
 -- revision 0's properties can't be put
-pub zero_err : {D : Type 0} {G : Ghosts D} (y : Repository) (z : RepoStore D G) (rev : Rev) (a : Option (List ℕ)) (failed : Bool) (r : Result (Unit {0}) Refusal) → is_zero (trees_of y.revisions) rev ≡ true → OnErr r (repository_of z ≡ y)
-    → IfErr r (λ e. (e ≡ refusal.OutOfMemory) ⊎ CantKeep z (Mapped 0 rev.props) e ⊎ ((f : RepoFault) × IsDue f (entry_fault y.revisions (Mapped 0 rev.props)) × (e ≡ repo_refusal f))) → IfErr r (λ e. IsBare rev → NotLoaded y rev z a a failed e)
-zero_err y z rev a failed (Ok u) q s h = tt
-zero_err y z rev a failed (Err e) q s (inl k) = λ b. load_stops k s refl
-zero_err y z rev a failed (Err e) q s (inr (inl k)) =
+pub zero_err : {D : Type 0} {G : Ghosts D} (y : Repository) (z : RepoStore D G) (rev : Rev) (a : Option (List ℕ)) (fails : Type 0) (r : Result (Unit {0}) Refusal) → is_zero (trees_of y.revisions) rev ≡ true → OnErr r (repository_of z ≡ y)
+    → IfErr r (λ e. (e ≡ refusal.OutOfMemory) ⊎ CantKeep z (Mapped 0 rev.props) e ⊎ ((f : RepoFault) × IsDue f (entry_fault y.revisions (Mapped 0 rev.props)) × (e ≡ repo_refusal f))) → IfErr r (λ e. IsBare rev → NotLoaded y rev z a a fails e)
+zero_err y z rev a fails (Ok u) q s h = tt
+zero_err y z rev a fails (Err e) q s (inl k) = λ b. load_stops k s refl
+zero_err y z rev a fails (Err e) q s (inr (inl k)) =
     λ b. load_not_kept (Mapped 0 rev.props) [] (revision_0 q (b (zero_number (is_lone (trees_of y.revisions)) rev.number q)) refl refl) k s refl
-zero_err y z rev a failed (Err e) q s (inr (inr k)) =
+zero_err y z rev a fails (Err e) q s (inr (inr k)) =
     λ b. load_refused (entry_refused (Mapped 0 rev.props) [] k.0 (revision_0 q (b (zero_number (is_lone (trees_of y.revisions)) rev.number q)) refl refl) k.1 k.2) s refl
 
 -- the entry of the next revision, over trees that are the repository's
@@ -169,12 +169,12 @@ pub next_loaded : (x : List Revision) (rev : Rev) (set : List Change) (trees : L
 next_loaded x rev set trees e later m =
     a_revision set m.0 later (subst (λ ts. Makes ts rev set m.0) e m.1) (ap (λ n. Revised n set rev.props) (sym (next_number x trees rev set m.0 e m.1))) refl
 
-pub next_err : {D : Type 0} {G : Ghosts D} (y : Repository) (z : RepoStore D G) (rev : Rev) (set : List Change) (trees : List PathMap) → trees ≡ trees_of y.revisions → (a : Option (List ℕ)) (failed : Bool) (e : Refusal) → is_zero (trees_of y.revisions) rev ≡ false → (tree : PathMap) × Makes trees rev set tree → repository_of z ≡ y
-    → (e ≡ refusal.OutOfMemory) ⊎ CantKeep z (Revised (length y.revisions) set rev.props) e ⊎ ((f : RepoFault) × IsDue f (entry_fault y.revisions (Revised (length y.revisions) set rev.props)) × (e ≡ repo_refusal f)) → NotLoaded y rev z a a failed e
-next_err y z rev set trees t a failed e later m s (inl k) = load_stops k s refl
-next_err y z rev set trees t a failed e later m s (inr (inl k)) =
+pub next_err : {D : Type 0} {G : Ghosts D} (y : Repository) (z : RepoStore D G) (rev : Rev) (set : List Change) (trees : List PathMap) → trees ≡ trees_of y.revisions → (a : Option (List ℕ)) (fails : Type 0) (e : Refusal) → is_zero (trees_of y.revisions) rev ≡ false → (tree : PathMap) × Makes trees rev set tree → repository_of z ≡ y
+    → (e ≡ refusal.OutOfMemory) ⊎ CantKeep z (Revised (length y.revisions) set rev.props) e ⊎ ((f : RepoFault) × IsDue f (entry_fault y.revisions (Revised (length y.revisions) set rev.props)) × (e ≡ repo_refusal f)) → NotLoaded y rev z a a fails e
+next_err y z rev set trees t a fails e later m s (inl k) = load_stops k s refl
+next_err y z rev set trees t a fails e later m s (inr (inl k)) =
     load_not_kept (Revised (length y.revisions) set rev.props) (loaded_line rev.number) (next_loaded y.revisions rev set trees t later m) k s refl
-next_err y z rev set trees t a failed e later m s (inr (inr k)) =
+next_err y z rev set trees t a fails e later m s (inr (inr k)) =
     load_refused (entry_refused (Revised (length y.revisions) set rev.props) (loaded_line rev.number) k.0 (next_loaded y.revisions rev set trees t later m) k.1 k.2) s refl
 
 pub next_said : (y z : Repository) (rev : Rev) (set : List Change) (trees : List PathMap) → trees ≡ trees_of y.revisions → (a b : Option (List ℕ)) (line : List ℕ) (r : Result (Unit {0}) Refusal) → is_zero (trees_of y.revisions) rev ≡ false → (tree : PathMap) × Makes trees rev set tree
@@ -184,7 +184,7 @@ next_said y z rev set trees t a b line (Ok u) later m n k d w =
     (Revised (length y.revisions) set rev.props, loaded_line rev.number, next_loaded y.revisions rev set trees t later m, n, k, subst (Appends a b) d w)
 next_said y z rev set trees t a b line (Err e) later m n k d w = tt
 
-pub next_unsaid : {D : Type 0} {G : Ghosts D} (y : Repository) (z : RepoStore D G) (rev : Rev) (set : List Change) (trees : List PathMap) → trees ≡ trees_of y.revisions → (a b : Option (List ℕ)) (failed : Bool) (r : Result (Unit {0}) Refusal) → is_zero (trees_of y.revisions) rev ≡ false → (tree : PathMap) × Makes trees rev set tree
-    → entry_fault y.revisions (Revised (length y.revisions) set rev.props) ≡ None → repository_of z ≡ with_entry_in y (Revised (length y.revisions) set rev.props) → OnErr r (failed ≡ true) → IfErr r (λ e. e ≡ refusal.PeerFailed) → IfErr r (λ e. NotLoaded y rev z a b failed e)
-next_unsaid y z rev set trees t a b failed (Ok u) later m n k f p = tt
-next_unsaid y z rev set trees t a b failed (Err e) later m n k f p = load_unsaid (Revised (length y.revisions) set rev.props) (loaded_line rev.number) (next_loaded y.revisions rev set trees t later m) n k f p
+pub next_unsaid : {D : Type 0} {G : Ghosts D} (y : Repository) (z : RepoStore D G) (rev : Rev) (set : List Change) (trees : List PathMap) → trees ≡ trees_of y.revisions → (a b : Option (List ℕ)) (fails : Type 0) (r : Result (Unit {0}) Refusal) → is_zero (trees_of y.revisions) rev ≡ false → (tree : PathMap) × Makes trees rev set tree
+    → entry_fault y.revisions (Revised (length y.revisions) set rev.props) ≡ None → repository_of z ≡ with_entry_in y (Revised (length y.revisions) set rev.props) → OnErr r fails → IfErr r (λ e. e ≡ refusal.PeerFailed) → IfErr r (λ e. NotLoaded y rev z a b fails e)
+next_unsaid y z rev set trees t a b fails (Ok u) later m n k f p = tt
+next_unsaid y z rev set trees t a b fails (Err e) later m n k f p = load_unsaid (Revised (length y.revisions) set rev.props) (loaded_line rev.number) (next_loaded y.revisions rev set trees t later m) n k f p

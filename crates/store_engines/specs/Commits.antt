@@ -65,8 +65,8 @@ pub record IsCommitted (x : Repository) (bytes message : List ℕ) (moment : Dat
   pub written : Appends before now (committed_line (length x.revisions))
 
 -- the directory isn't committed: the refusal is the one that is due; or memory runs out; or the store can't keep the entry (of a message past its limit the entry without it); in all of these nothing is done; or it is committed, and can't be said
-pub data NotCommitted {D : Type 0} {G : Ghosts D} (x : Repository) (bytes message : List ℕ) (moment : DateTime) (store : RepoStore D G) (before now : Option (List ℕ)) (failed : Bool) (e : Refusal) : Type 0 where
-  commit_refused : directory_fault x.revisions bytes message moment ≡ Some e → repository_of store ≡ x → now ≡ before → NotCommitted x bytes message moment store before now failed e
-  commit_stops : e ≡ refusal.OutOfMemory → repository_of store ≡ x → now ≡ before → NotCommitted x bytes message moment store before now failed e
-  commit_not_kept : (path : Path) (entry : Entry) → path_read bytes ≡ Ok path → (entry ≡ directory_entry x.revisions path message moment) ⊎ ((65536 < length message) × (entry ≡ bare_entry x.revisions path moment)) → CantKeep store entry e → repository_of store ≡ x → now ≡ before → NotCommitted x bytes message moment store before now failed e
-  commit_unsaid : (path : Path) → path_read bytes ≡ Ok path → directory_fault x.revisions bytes message moment ≡ None → repository_of store ≡ with_entry_in x (directory_entry x.revisions path message moment) → failed ≡ true → e ≡ refusal.PeerFailed → NotCommitted x bytes message moment store before now failed e
+pub data NotCommitted {D : Type 0} {G : Ghosts D} (x : Repository) (bytes message : List ℕ) (moment : DateTime) (store : RepoStore D G) (before now : Option (List ℕ)) (fails : Type 0) (e : Refusal) : Type 0 where
+  commit_refused : directory_fault x.revisions bytes message moment ≡ Some e → repository_of store ≡ x → now ≡ before → NotCommitted x bytes message moment store before now fails e
+  commit_stops : e ≡ refusal.OutOfMemory → repository_of store ≡ x → now ≡ before → NotCommitted x bytes message moment store before now fails e
+  commit_not_kept : (path : Path) (entry : Entry) → path_read bytes ≡ Ok path → (entry ≡ directory_entry x.revisions path message moment) ⊎ ((65536 < length message) × (entry ≡ bare_entry x.revisions path moment)) → CantKeep store entry e → repository_of store ≡ x → now ≡ before → NotCommitted x bytes message moment store before now fails e
+  commit_unsaid : (path : Path) → path_read bytes ≡ Ok path → directory_fault x.revisions bytes message moment ≡ None → repository_of store ≡ with_entry_in x (directory_entry x.revisions path message moment) → fails → e ≡ refusal.PeerFailed → NotCommitted x bytes message moment store before now fails e

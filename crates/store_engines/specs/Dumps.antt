@@ -30,7 +30,7 @@ abbrev pub dump_of : Repository → ℕ → ℕ → List ℕ
 dump_of r first count = canon_head (Some r.identity) ++ revisions_text r first count
 
 -- a dump ends before its end: a revision that is wanted is above the head, and nothing is written; or memory runs out at one of the revisions, and all before it is written; or the writer fails
-pub data DumpStops (r : Repository) (range : Option RevRange) (before now : Option (List ℕ)) (failed : Bool) (e : Refusal) : Type 0 where
-  no_revision : length r.revisions ≤ last_wanted r range → e ≡ refusal.NoSuchRevision → now ≡ before → DumpStops r range before now failed e
-  no_memory : (written : ℕ) → last_wanted r range < length r.revisions → written < count_wanted r range → e ≡ refusal.OutOfMemory → Appends before now (dump_of r (first_wanted range) written) → DumpStops r range before now failed e
-  writer_fails : last_wanted r range < length r.revisions → failed ≡ true → e ≡ refusal.PeerFailed → DumpStops r range before now failed e
+pub data DumpStops (r : Repository) (range : Option RevRange) (before now : Option (List ℕ)) (fails : Type 0) (e : Refusal) : Type 0 where
+  no_revision : length r.revisions ≤ last_wanted r range → e ≡ refusal.NoSuchRevision → now ≡ before → DumpStops r range before now fails e
+  no_memory : (written : ℕ) → last_wanted r range < length r.revisions → written < count_wanted r range → e ≡ refusal.OutOfMemory → Appends before now (dump_of r (first_wanted range) written) → DumpStops r range before now fails e
+  writer_fails : last_wanted r range < length r.revisions → fails → e ≡ refusal.PeerFailed → DumpStops r range before now fails e

@@ -54,11 +54,11 @@ pub data CantLoad (x : List Revision) (r : Rev) (e : Refusal) : Type 0 where
   entry_refused : (entry : Entry) (said : List ℕ) (f : RepoFault) → IsLoaded x r entry said → IsDue f (entry_fault x entry) → e ≡ repo_refusal f → CantLoad x r e
 
 -- a whole revision isn't loaded: it is refused, or memory runs out, or the store can't keep its entry, and nothing is done; or it is loaded and can't be said
-pub data NotLoaded {D : Type 0} {G : Ghosts D} (x : Repository) (r : Rev) (store : RepoStore D G) (before now : Option (List ℕ)) (failed : Bool) (e : Refusal) : Type 0 where
-  load_refused : CantLoad x.revisions r e → repository_of store ≡ x → now ≡ before → NotLoaded x r store before now failed e
-  load_stops : e ≡ refusal.OutOfMemory → repository_of store ≡ x → now ≡ before → NotLoaded x r store before now failed e
-  load_not_kept : (entry : Entry) (line : List ℕ) → IsLoaded x.revisions r entry line → CantKeep store entry e → repository_of store ≡ x → now ≡ before → NotLoaded x r store before now failed e
-  load_unsaid : (entry : Entry) (line : List ℕ) → IsLoaded x.revisions r entry line → entry_fault x.revisions entry ≡ None → repository_of store ≡ with_entry_in x entry → failed ≡ true → e ≡ refusal.PeerFailed → NotLoaded x r store before now failed e
+pub data NotLoaded {D : Type 0} {G : Ghosts D} (x : Repository) (r : Rev) (store : RepoStore D G) (before now : Option (List ℕ)) (fails : Type 0) (e : Refusal) : Type 0 where
+  load_refused : CantLoad x.revisions r e → repository_of store ≡ x → now ≡ before → NotLoaded x r store before now fails e
+  load_stops : e ≡ refusal.OutOfMemory → repository_of store ≡ x → now ≡ before → NotLoaded x r store before now fails e
+  load_not_kept : (entry : Entry) (line : List ℕ) → IsLoaded x.revisions r entry line → CantKeep store entry e → repository_of store ≡ x → now ≡ before → NotLoaded x r store before now fails e
+  load_unsaid : (entry : Entry) (line : List ℕ) → IsLoaded x.revisions r entry line → entry_fault x.revisions entry ≡ None → repository_of store ≡ with_entry_in x entry → fails → e ≡ refusal.PeerFailed → NotLoaded x r store before now fails e
 
 -- the records of a revision that is still read
 abbrev pub read_of : Option Rev → List DumpRecord
@@ -88,29 +88,29 @@ pub record Gathered (x : Repository) (rs : List DumpRecord) (y : Repository) (st
   pub written : Appends start now said
 
 -- the revision that is read, and is whole now, is refused; or memory runs out before it; or the store can't keep its entry; or it is loaded and can't be said
-pub data CantClose {D : Type 0} {G : Ghosts D} (x : Repository) (rs : List DumpRecord) (store : RepoStore D G) (start now : Option (List ℕ)) (failed : Bool) (e : Refusal) : Type 0 where
-  close_refused : (r : Rev) → Stands x rs (repository_of store) (Some r) start now → CantLoad (revisions_of store) r e → CantClose x rs store start now failed e
-  close_stops : (last : Option Rev) → Stands x rs (repository_of store) last start now → e ≡ refusal.OutOfMemory → CantClose x rs store start now failed e
-  close_not_kept : (r : Rev) (entry : Entry) (line : List ℕ) → Stands x rs (repository_of store) (Some r) start now → IsLoaded (revisions_of store) r entry line → CantKeep store entry e → CantClose x rs store start now failed e
-  close_unsaid : (z : Repository) (r : Rev) (entry : Entry) (line : List ℕ) (before : Option (List ℕ)) → Stands x rs z (Some r) start before → IsLoaded z.revisions r entry line → entry_fault z.revisions entry ≡ None → repository_of store ≡ with_entry_in z entry → failed ≡ true → e ≡ refusal.PeerFailed → CantClose x rs store start now failed e
+pub data CantClose {D : Type 0} {G : Ghosts D} (x : Repository) (rs : List DumpRecord) (store : RepoStore D G) (start now : Option (List ℕ)) (fails : Type 0) (e : Refusal) : Type 0 where
+  close_refused : (r : Rev) → Stands x rs (repository_of store) (Some r) start now → CantLoad (revisions_of store) r e → CantClose x rs store start now fails e
+  close_stops : (last : Option Rev) → Stands x rs (repository_of store) last start now → e ≡ refusal.OutOfMemory → CantClose x rs store start now fails e
+  close_not_kept : (r : Rev) (entry : Entry) (line : List ℕ) → Stands x rs (repository_of store) (Some r) start now → IsLoaded (revisions_of store) r entry line → CantKeep store entry e → CantClose x rs store start now fails e
+  close_unsaid : (z : Repository) (r : Rev) (entry : Entry) (line : List ℕ) (before : Option (List ℕ)) → Stands x rs z (Some r) start before → IsLoaded z.revisions r entry line → entry_fault z.revisions entry ≡ None → repository_of store ≡ with_entry_in z entry → fails → e ≡ refusal.PeerFailed → CantClose x rs store start now fails e
 
 -- the next record isn't taken: the revision before it can't be closed; or it is a node, and no revision other than 0 is read; or memory runs out
-pub data CantTake {D : Type 0} {G : Ghosts D} (x : Repository) (rs : List DumpRecord) (next : DumpRecord) (store : RepoStore D G) (start now : Option (List ℕ)) (failed : Bool) (e : Refusal) : Type 0 where
-  not_closed : (n : ℕ) (props : PropMap) → next ≡ Begins n props → CantClose x rs store start now failed e → CantTake x rs next store start now failed e
-  no_revision : (node : NodeRecord) (last : Option Rev) → next ≡ Node node → Stands x rs (repository_of store) last start now → is_past_zero last ≡ false → e ≡ refusal.WrongNumber → CantTake x rs next store start now failed e
-  take_stops : (last : Option Rev) → Stands x rs (repository_of store) last start now → e ≡ refusal.OutOfMemory → CantTake x rs next store start now failed e
+pub data CantTake {D : Type 0} {G : Ghosts D} (x : Repository) (rs : List DumpRecord) (next : DumpRecord) (store : RepoStore D G) (start now : Option (List ℕ)) (fails : Type 0) (e : Refusal) : Type 0 where
+  not_closed : (n : ℕ) (props : PropMap) → next ≡ Begins n props → CantClose x rs store start now fails e → CantTake x rs next store start now fails e
+  no_revision : (node : NodeRecord) (last : Option Rev) → next ≡ Node node → Stands x rs (repository_of store) last start now → is_past_zero last ≡ false → e ≡ refusal.WrongNumber → CantTake x rs next store start now fails e
+  take_stops : (last : Option Rev) → Stands x rs (repository_of store) last start now → e ≡ refusal.OutOfMemory → CantTake x rs next store start now fails e
 
 -- some records more lead from what stood so to what stands so
 abbrev pub Moves : Repository → Option Rev → Option (List ℕ) → List DumpRecord → Repository → Option Rev → Option (List ℕ) → Type 0
 Moves y last before new z later now = (x : Repository) (rs : List DumpRecord) (start : Option (List ℕ)) → Stands x rs y last start before → Stands x (rs ++ new) z later start now
 
 -- some records were taken, and what stopped the others
-pub record Stops {D : Type 0} {G : Ghosts D} (x : Repository) (rs new : List DumpRecord) (store : RepoStore D G) (start now : Option (List ℕ)) (failed : Bool) (e : Refusal) : Type 0 where
+pub record Stops {D : Type 0} {G : Ghosts D} (x : Repository) (rs new : List DumpRecord) (store : RepoStore D G) (start now : Option (List ℕ)) (fails : Type 0) (e : Refusal) : Type 0 where
   pub taken : List DumpRecord
   pub first : DumpRecord
   pub rest : List DumpRecord
   pub split : new ≡ taken ++ first ∷ rest
-  pub why : CantTake x (rs ++ taken) first store start now failed e
+  pub why : CantTake x (rs ++ taken) first store start now fails e
 
 -- bytes were read as records, and these stand so
 pub record Reached (x : Repository) (bytes : List ℕ) (reader : ReadState) (y : Repository) (last : Option Rev) (start now : Option (List ℕ)) : Type 0 where
@@ -127,12 +127,12 @@ pub record Loaded (x : Repository) (bytes : List ℕ) (y : Repository) (start no
   pub gathered : Gathered x records y start now
 
 -- a load is refused, and what was loaded before stays: at the next record; or by the byte behind some records; or as the stream ends, in a record or behind the last one; or memory or a stream fails
-pub data Refused {D : Type 0} {G : Ghosts D} (x : Repository) (bytes : List ℕ) (store : RepoStore D G) (start now : Option (List ℕ)) (failed : Bool) (e : Refusal) : Type 0 where
-  at_record : (rs : List DumpRecord) (next : DumpRecord) (more : List DumpRecord) → records_of (dump bytes) ≡ rs ++ next ∷ more → CantTake x rs next store start now failed e → Refused x bytes store start now failed e
-  at_byte : (rs : List DumpRecord) (f : DumpFault) (last : Option Rev) → dump bytes ≡ Refuses rs f → Stands x rs (repository_of store) last start now → e ≡ dump_refusal f → Refused x bytes store start now failed e
-  cut_short : (rs : List DumpRecord) (reader : ReadState) (last : Option Rev) → dump bytes ≡ Reads rs reader → is_between reader ≡ false → Stands x rs (repository_of store) last start now → e ≡ refusal.Truncated → Refused x bytes store start now failed e
-  at_end : (rs : List DumpRecord) (reader : ReadState) → dump bytes ≡ Reads rs reader → is_between reader ≡ true → CantClose x rs store start now failed e → Refused x bytes store start now failed e
-  stopped : (rs more : List DumpRecord) (last : Option Rev) → records_of (dump bytes) ≡ rs ++ more → Stands x rs (repository_of store) last start now → (e ≡ refusal.OutOfMemory) ⊎ (e ≡ refusal.PeerFailed) → Refused x bytes store start now failed e
+pub data Refused {D : Type 0} {G : Ghosts D} (x : Repository) (bytes : List ℕ) (store : RepoStore D G) (start now : Option (List ℕ)) (fails : Type 0) (e : Refusal) : Type 0 where
+  at_record : (rs : List DumpRecord) (next : DumpRecord) (more : List DumpRecord) → records_of (dump bytes) ≡ rs ++ next ∷ more → CantTake x rs next store start now fails e → Refused x bytes store start now fails e
+  at_byte : (rs : List DumpRecord) (f : DumpFault) (last : Option Rev) → dump bytes ≡ Refuses rs f → Stands x rs (repository_of store) last start now → e ≡ dump_refusal f → Refused x bytes store start now fails e
+  cut_short : (rs : List DumpRecord) (reader : ReadState) (last : Option Rev) → dump bytes ≡ Reads rs reader → is_between reader ≡ false → Stands x rs (repository_of store) last start now → e ≡ refusal.Truncated → Refused x bytes store start now fails e
+  at_end : (rs : List DumpRecord) (reader : ReadState) → dump bytes ≡ Reads rs reader → is_between reader ≡ true → CantClose x rs store start now fails e → Refused x bytes store start now fails e
+  stopped : (rs more : List DumpRecord) (last : Option Rev) → records_of (dump bytes) ≡ rs ++ more → Stands x rs (repository_of store) last start now → (e ≡ refusal.OutOfMemory) ⊎ (e ≡ refusal.PeerFailed) → Refused x bytes store start now fails e
 
 -- bytes lead from what stood so before them to what stands so behind them
 abbrev pub Leads : ReadState → Repository → Option Rev → Option (List ℕ) → List ℕ → ReadState → Repository → Option Rev → Option (List ℕ) → Type 0

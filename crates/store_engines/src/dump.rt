@@ -1,22 +1,23 @@
-//! `dump` over any disk and writer.
-ghost use Rattle.std.specs.Prelude.{◌≡◌, ◌<◌, ◌≤◌, ◌⊎◌, ◌+◌, ◌-◌, ℕ, length, true};
+//! `dump` over any disk and output.
+ghost use Rattle.std.specs.Prelude.{◌≡◌, ◌<◌, ◌≤◌, ◌⊎◌, ◌+◌, ◌-◌, ℕ, length};
 ghost use Rattle.std.specs.Prelude.{Some, IfOk, IfErr, OnOk};
 ghost use Rattle.std.specs.Io.KnownBytes.{Appends};
+ghost use Rattle.byte_streams.specs.Causes.{Rose};
 ghost use Rattle.dump_text.specs.Canon.{canon_head};
-ghost use Rattle.fleet_engines.specs.Runs.{Flagged};
+ghost use Rattle.fleet_engines.specs.Runs.{Counted};
 ghost use Rattle.repo_store.specs.Journal.{spelling};
 ghost use Rattle.repo_store.specs.Words.{repository_of, revisions_of};
 ghost use Rattle.store_engines.specs.Dumps.{dump_of, revision_now, revisions_text, DumpStops};
 ghost use Rattle.store_engines.specs.Ranges.{count_wanted, first_wanted, last_wanted};
 
 use crate::RevRange;
+use byte_streams::Output;
 use fleet_disk::Disk;
-use fleet_engines::Sink;
+use fleet_engines::{write, write_parts};
 use node_base::{Refusal, RevNo};
 use repo_core::Repo;
 use repo_store::{RepoStore, store_refusal};
 use std::alloc::Global;
-use std::io::Write;
 use uuid::Uuid;
 
 // The revisions to be written: those that are asked for, and else all. NoSuchRevision (21) above the head.
@@ -40,44 +41,47 @@ fn wanted(repo: &Repo, range: &Option<RevRange>) -> Result<(RevNo, RevNo), Refus
 }
 
 // Writes a text.
-fn write_text<W: Write + Drop>(text: &[u8], output: &mut Sink<W>) -> Result<(), Refusal>
-    ensures ok { OnOk result (Appends (W.contents output.old.inner) (W.contents output.new.inner) text.now) }
-    ensures refused { IfErr result (λ e. (e ≡ Refusal.PeerFailed) × (output.new.failed ≡ true)) }
-    ensures peer { Flagged result output.old.failed output.new.failed }
+fn write_text<O: Output>(text: &[u8], output: &mut O) -> Result<(), Refusal>
+    ensures ok { OnOk result (Appends (O.contents output.old) (O.contents output.new) text.now) }
+    ensures refused { IfErr result (λ e. (e ≡ Refusal.PeerFailed)
+        × Rose (O.failures output.old) (O.failures output.new)) }
+    ensures peer { Counted result (O.failures output.old) (O.failures output.new) }
 {
-    if output.bytes(text).is_err() {
-        return Err(Refusal::PeerFailed);
-    }
-    Ok(())
+    write(output, text)
 }
 
-// Writes the head with the identity.
-fn write_head<W: Write + Drop>(identity: &Uuid, output: &mut Sink<W>) -> Result<(), Refusal>
-    ensures ok { OnOk result (Appends (W.contents output.old.inner) (W.contents output.new.inner)
+// Writes the head with the identity. It takes no memory.
+fn write_head<O: Output>(identity: &Uuid, output: &mut O) -> Result<(), Refusal>
+    ensures ok { OnOk result (Appends (O.contents output.old) (O.contents output.new)
         (canon_head (Some identity.now))) }
-    ensures refused { IfErr result (λ e. (e ≡ Refusal.PeerFailed) × (output.new.failed ≡ true)) }
-    ensures peer { Flagged result output.old.failed output.new.failed }
+    ensures refused { IfErr result (λ e. (e ≡ Refusal.PeerFailed)
+        × Rose (O.failures output.old) (O.failures output.new)) }
+    ensures peer { Counted result (O.failures output.old) (O.failures output.new) }
 {
-    if output.head(Some(identity)).is_err() {
-        return Err(Refusal::PeerFailed);
-    }
-    Ok(())
+    let mut buffer = Uuid::encode_buffer();
+    let text = identity.hyphenated().encode_lower(&mut buffer);
+    write_parts(
+        output,
+        b"SVN-fs-dump-format-version: 2\n\nUUID: ",
+        text.as_bytes(),
+        b"\n\n",
+    )
 }
 
 // Writes one revision as it is now.
-fn write_one<D: Disk + Drop, W: Write + Drop>(
+fn write_one<D: Disk + Drop, O: Output>(
     alloc: Global,
     store: &RepoStore<D>,
     number: RevNo,
-    output: &mut Sink<W>,
+    output: &mut O,
 ) -> Result<(), Refusal>
     requires there { number < length (revisions_of store.now) }
-    ensures ok { OnOk result (Appends (W.contents output.old.inner) (W.contents output.new.inner)
+    ensures ok { OnOk result (Appends (O.contents output.old) (O.contents output.new)
         (spelling (revision_now (repository_of store.now) number))) }
     ensures refused { IfErr result (λ e. ((e ≡ Refusal.OutOfMemory)
-        × (W.contents output.new.inner ≡ W.contents output.old.inner))
-        ⊎ ((e ≡ Refusal.PeerFailed) × (output.new.failed ≡ true))) }
-    ensures peer { Flagged result output.old.failed output.new.failed }
+        × (O.contents output.new ≡ O.contents output.old))
+        ⊎ ((e ≡ Refusal.PeerFailed) × Rose (O.failures output.old) (O.failures output.new))) }
+    ensures peer { Counted result (O.failures output.old) (O.failures output.new) }
 {
     match store.export(alloc, number) {
         Ok(text) => write_text(&text, output),
@@ -86,22 +90,22 @@ fn write_one<D: Disk + Drop, W: Write + Drop>(
 }
 
 // Writes the revisions from one to another.
-fn write_all<D: Disk + Drop, W: Write + Drop>(
+fn write_all<D: Disk + Drop, O: Output>(
     alloc: Global,
     store: &RepoStore<D>,
     first: RevNo,
     last: RevNo,
-    output: &mut Sink<W>,
+    output: &mut O,
 ) -> Result<(), Refusal>
     requires there { last < length (revisions_of store.now) }
-    ensures ok { OnOk result (Appends (W.contents output.old.inner) (W.contents output.new.inner)
+    ensures ok { OnOk result (Appends (O.contents output.old) (O.contents output.new)
         (revisions_text (repository_of store.now) first (last + 1 - first))) }
     ensures refused { IfErr result (λ e. ((e ≡ Refusal.OutOfMemory) × (written : ℕ)
         × (written < last + 1 - first)
-        × Appends (W.contents output.old.inner) (W.contents output.new.inner)
+        × Appends (O.contents output.old) (O.contents output.new)
         (revisions_text (repository_of store.now) first written))
-        ⊎ ((e ≡ Refusal.PeerFailed) × (output.new.failed ≡ true))) }
-    ensures peer { Flagged result output.old.failed output.new.failed }
+        ⊎ ((e ≡ Refusal.PeerFailed) × Rose (O.failures output.old) (O.failures output.new))) }
+    ensures peer { Counted result (O.failures output.old) (O.failures output.new) }
 {
     for number in first.index()..last.index() + 1 {
         write_one(alloc, store, RevNo::new(number as u16), output)?;
@@ -113,18 +117,18 @@ fn write_all<D: Disk + Drop, W: Write + Drop>(
 /// now and by its changes alone (as `svnadmin dump --incremental` does). NoSuchRevision (21) above the head, before
 /// anything is written; OutOfMemory (70) leaves the revisions before the one at which it came, and PeerFailed (49),
 /// where the writer failed, what the writer has.
-pub fn run_dump<D: Disk + Drop, W: Write + Drop>(
+pub fn run_dump<D: Disk + Drop, O: Output>(
     alloc: Global,
     store: &RepoStore<D>,
     range: Option<RevRange>,
-    output: &mut Sink<W>,
+    output: &mut O,
 ) -> Result<(), Refusal>
-    ensures ok { OnOk result (Appends (W.contents output.old.inner) (W.contents output.new.inner)
+    ensures ok { OnOk result (Appends (O.contents output.old) (O.contents output.new)
         (dump_of (repository_of store.now) (first_wanted range) (count_wanted (repository_of store.now) range))) }
     ensures there { OnOk result (last_wanted (repository_of store.now) range < length (revisions_of store.now)) }
-    ensures refused { IfErr result (DumpStops (repository_of store.now) range (W.contents output.old.inner)
-        (W.contents output.new.inner) output.new.failed) }
-    ensures peer { Flagged result output.old.failed output.new.failed }
+    ensures refused { IfErr result (DumpStops (repository_of store.now) range (O.contents output.old)
+        (O.contents output.new) (Rose (O.failures output.old) (O.failures output.new))) }
+    ensures peer { Counted result (O.failures output.old) (O.failures output.new) }
 {
     let (first, last) = wanted(store.repo(), &range)?;
     write_head(&store.repo().identity(), output)?;

@@ -1,10 +1,10 @@
-//! The engines of the commands over a store, over any disk, reader and writer: they begin a repository, load a dump
+//! The engines of the commands over a store, over any disk, input and output: they begin a repository, load a dump
 //! into it, dump it, and commit a directory.
 //!
 //! ```text
 //! let Ok(mut store) = open_store(alloc, HostDisk::open(&rt, alloc, "folder")?) else { .. };
-//! run_load(alloc, &mut store, &mut Source::new(input), &mut Sink::new(output))?;
-//! run_dump(alloc, &store, None, &mut Sink::new(output))?;
+//! run_load(alloc, &mut store, &mut input, &mut output)?;
+//! run_dump(alloc, &store, None, &mut output)?;
 //! ```
 //!
 //! A load judges each revision whole before it commits it, and a refusal keeps what was committed before it. What is

@@ -1,9 +1,10 @@
-//! `load` over any disk, reader and writer.
+//! `load` over any disk, input and output.
 ghost use Rattle.std.specs.List.{filter};
 ghost use Rattle.std.specs.Prelude.{◌≡◌, ◌≢◌, ◌⊎◌, ◌<◌, ◌∷◌, ◌++◌, [], ℕ, List};
 ghost use Rattle.std.specs.Prelude.{Option, Some, None, length, true};
 ghost use Rattle.std.specs.Prelude.{false, IfOk, IfErr, IfSome, OnOk, OnErr};
 ghost use Rattle.std.specs.Io.KnownBytes.{Appends, Consumes, IsAtEnd};
+ghost use Rattle.byte_streams.specs.Causes.{Rose, counts};
 ghost use Rattle.node_base.specs.Props.{PropMap};
 ghost use Rattle.node_base.specs.Tree.{PathMap};
 ghost use Rattle.dump_load.specs.declared.change.Change.{Change as ChangeOf};
@@ -21,7 +22,7 @@ ghost use Rattle.repo_store.specs.Words.{disk_of, repository_of, revisions_of, H
 ghost use Rattle.fleet_engines.specs.Grouping.{is_no_identity, records_of_rev};
 ghost use Rattle.fleet_engines.specs.Histories.{rev_of};
 ghost use Rattle.fleet_engines.specs.Revisions.{Rev, Makes, IsUnfit, is_zero, is_past_zero};
-ghost use Rattle.fleet_engines.specs.Runs.{Flagged, BothFlagged};
+ghost use Rattle.fleet_engines.specs.Runs.{Counted, BothCounted};
 ghost use Rattle.store_engines.specs.Loaders.{last_of};
 ghost use Rattle.store_engines.specs.Devices.{is_device, CantKeep, IsSafe, Serves};
 ghost use Rattle.store_engines.specs.Loads.{coming, entry_fault, loaded_line, read_of, CantTake, CantClose, Gathered};
@@ -33,22 +34,19 @@ ghost use Rattle.store_engines.specs.Refusals.{repo_refusal};
 use crate::commits::commit;
 use crate::lines::{loaded_line, say};
 use crate::mirror::refuse_mirror;
+use byte_streams::{Input, MOST_READS, Output};
 use dump_load::{ChangeSet, load_revision};
 use dump_text::{DumpReader, DumpRecord, NodeRecord, RevRecord};
 use fleet_disk::Disk;
-use fleet_engines::{Sink, Source, change_refusal, dump_refusal};
+use fleet_engines::{change_refusal, dump_refusal, read};
 use node_base::{Props, Refusal, RevNo};
 use path_tree::Tree;
 use repo_core::Repo;
 use repo_store::{RepoStore, store_refusal};
 use std::alloc::Global;
-use std::io::{Read, Write};
 
 // How many bytes are read at a time: 64 KiB.
 const PIECE: usize = 65_536;
-
-// How many reads one stream gets: the next one isn't made and counts as failed.
-const READS: u64 = 1_099_511_627_775;
 
 // Whether it is revision 0 of a repository without any other.
 fn is_zero(repo: &Repo, revision: &RevRecord) -> bool
@@ -104,23 +102,23 @@ fn put_zero<D: Disk + Drop>(
 }
 
 // Judges a revision other than 0, commits it, and says so.
-fn load_next<D: Disk + Drop, W: Write + Drop>(
+fn load_next<D: Disk + Drop, O: Output>(
     alloc: Global,
     revision: RevRecord,
     store: &mut RepoStore<D>,
-    output: &mut Sink<W>,
+    output: &mut O,
 ) -> Result<(), Refusal>
     requires later { is_zero (trees_of (revisions_of store.old)) (rev_of revision) ≡ false }
     ensures ok { OnOk result ((entry : Entry) × (line : List ℕ)
         × IsLoaded (revisions_of store.old) (rev_of revision) entry line
         × (entry_fault (revisions_of store.old) entry ≡ None)
         × (repository_of store.new ≡ with_entry_in (repository_of store.old) entry)
-        × Appends (W.contents output.old.inner) (W.contents output.new.inner) line) }
+        × Appends (O.contents output.old) (O.contents output.new) line) }
     ensures refused { IfErr result (λ e. NotLoaded (repository_of store.old) (rev_of revision) store.new
-        (W.contents output.old.inner) (W.contents output.new.inner) output.new.failed e) }
+        (O.contents output.old) (O.contents output.new) (Rose (O.failures output.old) (O.failures output.new)) e) }
     ensures device { IsSafe store.old
         → ServesRecords (records_of_rev (rev_of revision)) store.old store.new result [] }
-    ensures peer { Flagged result output.old.failed output.new.failed }
+    ensures peer { Counted result (O.failures output.old) (O.failures output.new) }
 {
     let RevRecord {
         number,
@@ -136,23 +134,23 @@ fn load_next<D: Disk + Drop, W: Write + Drop>(
 }
 
 // Loads a revision that is whole.
-fn load_one<D: Disk + Drop, W: Write + Drop>(
+fn load_one<D: Disk + Drop, O: Output>(
     alloc: Global,
     revision: RevRecord,
     store: &mut RepoStore<D>,
-    output: &mut Sink<W>,
+    output: &mut O,
 ) -> Result<(), Refusal>
     ensures ok { OnOk result (IsBare (rev_of revision) → (entry : Entry) × (line : List ℕ)
         × IsLoaded (revisions_of store.old) (rev_of revision) entry line
         × (entry_fault (revisions_of store.old) entry ≡ None)
         × (repository_of store.new ≡ with_entry_in (repository_of store.old) entry)
-        × Appends (W.contents output.old.inner) (W.contents output.new.inner) line) }
+        × Appends (O.contents output.old) (O.contents output.new) line) }
     ensures refused { IfErr result (λ e. IsBare (rev_of revision)
-        → NotLoaded (repository_of store.old) (rev_of revision) store.new (W.contents output.old.inner)
-        (W.contents output.new.inner) output.new.failed e) }
+        → NotLoaded (repository_of store.old) (rev_of revision) store.new (O.contents output.old)
+        (O.contents output.new) (Rose (O.failures output.old) (O.failures output.new)) e) }
     ensures device { IsSafe store.old
         → ServesRecords (records_of_rev (rev_of revision)) store.old store.new result [] }
-    ensures peer { Flagged result output.old.failed output.new.failed }
+    ensures peer { Counted result (O.failures output.old) (O.failures output.new) }
 {
     if is_zero(store.repo(), &revision) {
         return put_zero(alloc, store, revision.props);
@@ -176,22 +174,22 @@ impl Loader {
     }
 
     // A record more. Where it begins a revision, the one before it is whole, and is loaded.
-    fn take<D: Disk + Drop, W: Write + Drop>(
+    fn take<D: Disk + Drop, O: Output>(
         &mut self,
         next: DumpRecord,
         store: &mut RepoStore<D>,
-        output: &mut Sink<W>,
+        output: &mut O,
     ) -> Result<(), Refusal>
-        ensures ok { OnOk result (Moves (repository_of store.old) (last_of self.old) (W.contents output.old.inner)
-            (next ∷ []) (repository_of store.new) (last_of self.new) (W.contents output.new.inner)) }
+        ensures ok { OnOk result (Moves (repository_of store.old) (last_of self.old) (O.contents output.old)
+            (next ∷ []) (repository_of store.new) (last_of self.new) (O.contents output.new)) }
         ensures refused { IfErr result (λ e. (x : Repository) (rs : List RecordOf) (start : Option (List ℕ))
-            → Stands x rs (repository_of store.old) (last_of self.old) start (W.contents output.old.inner)
-            → CantTake x rs next store.new start (W.contents output.new.inner) output.new.failed e) }
+            → Stands x rs (repository_of store.old) (last_of self.old) start (O.contents output.old)
+            → CantTake x rs next store.new start (O.contents output.new) (Rose (O.failures output.old) (O.failures output.new)) e) }
         ensures device { IsSafe store.old
             → ServesRecords (read_of (last_of self.old)
             ++ filter is_no_identity (next ∷ [])) store.old store.new result
             (read_of (last_of self.new)) }
-        ensures peer { Flagged result output.old.failed output.new.failed }
+        ensures peer { Counted result (O.failures output.old) (O.failures output.new) }
     {
         match next {
             DumpRecord::Identity(_identity) => Ok(()),
@@ -251,20 +249,20 @@ impl Loader {
     }
 
     // Loads the revision that is read, if there is one.
-    fn close<D: Disk + Drop, W: Write + Drop>(
+    fn close<D: Disk + Drop, O: Output>(
         &mut self,
         store: &mut RepoStore<D>,
-        output: &mut Sink<W>,
+        output: &mut O,
     ) -> Result<(), Refusal>
         ensures ok { OnOk result ((x : Repository) (rs : List RecordOf) (start : Option (List ℕ))
-            → Stands x rs (repository_of store.old) (last_of self.old) start (W.contents output.old.inner)
-            → Gathered x rs (repository_of store.new) start (W.contents output.new.inner)) }
+            → Stands x rs (repository_of store.old) (last_of self.old) start (O.contents output.old)
+            → Gathered x rs (repository_of store.new) start (O.contents output.new)) }
         ensures last { last_of self.new ≡ None }
         ensures refused { IfErr result (λ e. (x : Repository) (rs : List RecordOf) (start : Option (List ℕ))
-            → Stands x rs (repository_of store.old) (last_of self.old) start (W.contents output.old.inner)
-            → CantClose x rs store.new start (W.contents output.new.inner) output.new.failed e) }
+            → Stands x rs (repository_of store.old) (last_of self.old) start (O.contents output.old)
+            → CantClose x rs store.new start (O.contents output.new) (Rose (O.failures output.old) (O.failures output.new)) e) }
         ensures device { IsSafe store.old → ServesRecords (read_of (last_of self.old)) store.old store.new result [] }
-        ensures peer { Flagged result output.old.failed output.new.failed }
+        ensures peer { Counted result (O.failures output.old) (O.failures output.new) }
     {
         match self.last.take() {
             Some(revision) => load_one(self.alloc, revision, store, output),
@@ -273,21 +271,21 @@ impl Loader {
     }
 
     // Some records more.
-    fn take_all<D: Disk + Drop, W: Write + Drop>(
+    fn take_all<D: Disk + Drop, O: Output>(
         &mut self,
         records: Vec<DumpRecord>,
         store: &mut RepoStore<D>,
-        output: &mut Sink<W>,
+        output: &mut O,
     ) -> Result<(), Refusal>
-        ensures ok { OnOk result (Moves (repository_of store.old) (last_of self.old) (W.contents output.old.inner)
-            records.items (repository_of store.new) (last_of self.new) (W.contents output.new.inner)) }
+        ensures ok { OnOk result (Moves (repository_of store.old) (last_of self.old) (O.contents output.old)
+            records.items (repository_of store.new) (last_of self.new) (O.contents output.new)) }
         ensures refused { IfErr result (λ e. (x : Repository) (rs : List RecordOf) (start : Option (List ℕ))
-            → Stands x rs (repository_of store.old) (last_of self.old) start (W.contents output.old.inner)
-            → Stops x rs records.items store.new start (W.contents output.new.inner) output.new.failed e) }
+            → Stands x rs (repository_of store.old) (last_of self.old) start (O.contents output.old)
+            → Stops x rs records.items store.new start (O.contents output.new) (Rose (O.failures output.old) (O.failures output.new)) e) }
         ensures device { IsSafe store.old
             → ServesRecords (read_of (last_of self.old) ++ filter is_no_identity records.items) store.old store.new
             result (read_of (last_of self.new)) }
-        ensures peer { Flagged result output.old.failed output.new.failed }
+        ensures peer { Counted result (O.failures output.old) (O.failures output.new) }
     {
         for next in records {
             self.take(next, store, output)?;
@@ -296,29 +294,29 @@ impl Loader {
     }
 
     // Takes the next piece of a dump.
-    fn feed<D: Disk + Drop, W: Write + Drop>(
+    fn feed<D: Disk + Drop, O: Output>(
         &mut self,
         reader: &mut DumpReader,
         piece: &[u8],
         store: &mut RepoStore<D>,
-        output: &mut Sink<W>,
+        output: &mut O,
     ) -> Result<(), Refusal>
         ensures ok { OnOk result ((x : Repository) (bytes : List ℕ) (start : Option (List ℕ))
             → Reached x bytes reader.old (repository_of store.old) (last_of self.old) start
-            (W.contents output.old.inner)
+            (O.contents output.old)
             → Reached x (bytes ++ piece.now) reader.new (repository_of store.new) (last_of self.new) start
-            (W.contents output.new.inner)) }
+            (O.contents output.new)) }
         ensures refused { IfErr result
             (λ e. (rest : List ℕ) (x : Repository) (bytes : List ℕ) (start : Option (List ℕ))
             → Reached x bytes reader.old (repository_of store.old) (last_of self.old) start
-            (W.contents output.old.inner)
-            → Refused x ((bytes ++ piece.now) ++ rest) store.new start (W.contents output.new.inner) output.new.failed
+            (O.contents output.old)
+            → Refused x ((bytes ++ piece.now) ++ rest) store.new start (O.contents output.new) (Rose (O.failures output.old) (O.failures output.new))
             e) }
         ensures reading { OnOk result (has_failed reader.old ≡ false → has_failed reader.new ≡ false) }
         ensures device { (rest : List ℕ) → has_failed reader.old ≡ false → IsSafe store.old
             → ServesRecords (coming (last_of self.old) reader.old (piece.now ++ rest)) store.old store.new result
             (coming (last_of self.new) reader.new rest) }
-        ensures peer { Flagged result output.old.failed output.new.failed }
+        ensures peer { Counted result (O.failures output.old) (O.failures output.new) }
     {
         let mut records = Vec::new(self.alloc);
         let fed = reader.feed(piece, &mut records);
@@ -330,21 +328,21 @@ impl Loader {
     }
 
     // The end of the dump.
-    fn finish<D: Disk + Drop, W: Write + Drop>(
+    fn finish<D: Disk + Drop, O: Output>(
         &mut self,
         reader: DumpReader,
         store: &mut RepoStore<D>,
-        output: &mut Sink<W>,
+        output: &mut O,
     ) -> Result<(), Refusal>
         ensures ok { OnOk result ((x : Repository) (bytes : List ℕ) (start : Option (List ℕ))
-            → Reached x bytes reader (repository_of store.old) (last_of self.old) start (W.contents output.old.inner)
-            → Loaded x bytes (repository_of store.new) start (W.contents output.new.inner)) }
+            → Reached x bytes reader (repository_of store.old) (last_of self.old) start (O.contents output.old)
+            → Loaded x bytes (repository_of store.new) start (O.contents output.new)) }
         ensures refused { IfErr result (λ e. (x : Repository) (bytes : List ℕ) (start : Option (List ℕ))
-            → Reached x bytes reader (repository_of store.old) (last_of self.old) start (W.contents output.old.inner)
-            → Refused x bytes store.new start (W.contents output.new.inner) output.new.failed e) }
+            → Reached x bytes reader (repository_of store.old) (last_of self.old) start (O.contents output.old)
+            → Refused x bytes store.new start (O.contents output.new) (Rose (O.failures output.old) (O.failures output.new)) e) }
         ensures device { has_failed reader ≡ false → IsSafe store.old
             → ServesRecords (read_of (last_of self.old)) store.old store.new result [] }
-        ensures peer { Flagged result output.old.failed output.new.failed }
+        ensures peer { Counted result (O.failures output.old) (O.failures output.new) }
     {
         if let Err(fault) = reader.finish() {
             return Err(dump_refusal(fault));
@@ -354,59 +352,59 @@ impl Loader {
 }
 
 // Reads a stream to its end, piece by piece.
-fn read_all<D: Disk + Drop, R: Read + Drop, W: Write + Drop>(
+fn read_all<D: Disk + Drop, I: Input, O: Output>(
     loader: &mut Loader,
     reader: &mut DumpReader,
     piece: &mut [u8],
     store: &mut RepoStore<D>,
-    input: &mut Source<R>,
-    output: &mut Sink<W>,
+    input: &mut I,
+    output: &mut O,
 ) -> Result<(), Refusal>
     ensures ok { OnOk result (0 < length piece.old → (bytes : List ℕ)
-        × Consumes (R.remaining input.old.inner) (R.remaining input.new.inner) bytes
-        × IsAtEnd (R.remaining input.new.inner)
+        × Consumes (I.remaining input.old) (I.remaining input.new) bytes
+        × IsAtEnd (I.remaining input.new)
         × Leads reader.old (repository_of store.old) (last_of loader.old)
-        (W.contents output.old.inner) bytes reader.new
-        (repository_of store.new) (last_of loader.new) (W.contents output.new.inner)) }
+        (O.contents output.old) bytes reader.new
+        (repository_of store.new) (last_of loader.new) (O.contents output.new)) }
     ensures refused { IfErr result (λ e. (x : Repository) (start : Option (List ℕ))
-        → Reached x [] reader.old (repository_of store.old) (last_of loader.old) start (W.contents output.old.inner)
-        → IfSome (R.remaining input.old.inner)
-        (λ bytes. Refused x bytes store.new start (W.contents output.new.inner)
-        output.new.failed e)) }
+        → Reached x [] reader.old (repository_of store.old) (last_of loader.old) start (O.contents output.old)
+        → IfSome (I.remaining input.old)
+        (λ bytes. Refused x bytes store.new start (O.contents output.new)
+        (Rose (O.failures output.old) (O.failures output.new)) e)) }
     ensures reading { OnOk result (has_failed reader.old ≡ false → has_failed reader.new ≡ false) }
     ensures device { has_failed reader.old ≡ false → IsSafe store.old → Serves store.old store.new result }
     ensures entries { 0 < length piece.old → has_failed reader.old ≡ false → IsSafe store.old
-        → IfSome (R.remaining input.old.inner) (λ bytes. ServesRecords (coming (last_of loader.old) reader.old bytes)
+        → IfSome (I.remaining input.old) (λ bytes. ServesRecords (coming (last_of loader.old) reader.old bytes)
         store.old store.new result (read_of (last_of loader.new))) }
-    ensures peer { BothFlagged result input.old.failed input.new.failed output.old.failed output.new.failed }
+    ensures peer { BothCounted result (counts I.failures I.reads input.old input.new) (O.failures output.old) (O.failures output.new) }
 {
-    for _ in 0..READS {
-        let n = input.read(piece)?;
+    for _turn in 0..MOST_READS {
+        let n = read(input, piece)?;
         if n == 0 {
             return Ok(());
         }
         loader.feed(reader, &piece[..n], store, output)?;
     }
-    Err(input.give_up())
+    Err(Refusal::PeerFailed)
 }
 
 // Loads a dump into a repository that is no mirror.
-fn load_stream<D: Disk + Drop, R: Read + Drop, W: Write + Drop>(
+fn load_stream<D: Disk + Drop, I: Input, O: Output>(
     alloc: Global,
     store: &mut RepoStore<D>,
-    input: &mut Source<R>,
-    output: &mut Sink<W>,
+    input: &mut I,
+    output: &mut O,
 ) -> Result<(), Refusal>
-    ensures ok { OnOk result (IfSome (R.remaining input.old.inner)
-        (λ bytes. Loaded (repository_of store.old) bytes (repository_of store.new) (W.contents output.old.inner)
-        (W.contents output.new.inner))) }
-    ensures refused { IfErr result (λ e. IfSome (R.remaining input.old.inner)
-        (λ bytes. Refused (repository_of store.old) bytes store.new (W.contents output.old.inner)
-        (W.contents output.new.inner) output.new.failed e)) }
+    ensures ok { OnOk result (IfSome (I.remaining input.old)
+        (λ bytes. Loaded (repository_of store.old) bytes (repository_of store.new) (O.contents output.old)
+        (O.contents output.new))) }
+    ensures refused { IfErr result (λ e. IfSome (I.remaining input.old)
+        (λ bytes. Refused (repository_of store.old) bytes store.new (O.contents output.old)
+        (O.contents output.new) (Rose (O.failures output.old) (O.failures output.new)) e)) }
     ensures device { IsSafe store.old → Serves store.old store.new result }
-    ensures entries { IsSafe store.old → IfSome (R.remaining input.old.inner)
+    ensures entries { IsSafe store.old → IfSome (I.remaining input.old)
         (λ bytes. ServesRecords (filter is_no_identity (records_of (dump bytes))) store.old store.new result []) }
-    ensures peer { BothFlagged result input.old.failed input.new.failed output.old.failed output.new.failed }
+    ensures peer { BothCounted result (counts I.failures I.reads input.old input.new) (O.failures output.old) (O.failures output.new) }
 {
     let mut loader = Loader::new(alloc);
     let mut reader = DumpReader::new(alloc);
@@ -432,31 +430,31 @@ fn load_stream<D: Disk + Drop, R: Read + Drop, W: Write + Drop>(
 /// a revision (2, 8, 10 to 17), of the store (31, 32, 36, 70) or of a stream (49) ends the load, and what was loaded
 /// before it stays. Whatever is answered, 31 too, a stop then leaves what keeps every revision that was told, or that
 /// with the one that was being loaded.
-pub fn run_load<D: Disk + Drop, R: Read + Drop, W: Write + Drop>(
+pub fn run_load<D: Disk + Drop, I: Input, O: Output>(
     alloc: Global,
     store: &mut RepoStore<D>,
-    input: &mut Source<R>,
-    output: &mut Sink<W>,
+    input: &mut I,
+    output: &mut O,
 ) -> Result<(), Refusal>
-    ensures ok { OnOk result (IfSome (R.remaining input.old.inner)
-        (λ bytes. Loaded (repository_of store.old) bytes (repository_of store.new) (W.contents output.old.inner)
-        (W.contents output.new.inner))) }
+    ensures ok { OnOk result (IfSome (I.remaining input.old)
+        (λ bytes. Loaded (repository_of store.old) bytes (repository_of store.new) (O.contents output.old)
+        (O.contents output.new))) }
     ensures refused { IfErr result (λ e. is_mirror (revisions_of store.old) ≡ false
-        → IfSome (R.remaining input.old.inner) (λ bytes. Refused (repository_of store.old) bytes store.new
-        (W.contents output.old.inner) (W.contents output.new.inner) output.new.failed e)) }
+        → IfSome (I.remaining input.old) (λ bytes. Refused (repository_of store.old) bytes store.new
+        (O.contents output.old) (O.contents output.new) (Rose (O.failures output.old) (O.failures output.new)) e)) }
     ensures mirror { is_mirror (revisions_of store.old) ≡ true
         → IfErr result (λ e. (e ≡ Refusal.ReadOnly) × (repository_of store.new ≡ repository_of store.old)
-        × (R.remaining input.new.inner ≡ R.remaining input.old.inner)
-        × (W.contents output.new.inner ≡ W.contents output.old.inner)) }
+        × (I.remaining input.new ≡ I.remaining input.old)
+        × (O.contents output.new ≡ O.contents output.old)) }
     ensures no_mirror { OnOk result (is_mirror (revisions_of store.old) ≡ false) }
     ensures device { Serves store.old store.new result }
-    ensures entries { IfSome (R.remaining input.old.inner) (λ bytes. ServesRecords
+    ensures entries { IfSome (I.remaining input.old) (λ bytes. ServesRecords
         (filter is_no_identity (records_of (dump bytes))) store.old store.new result []) }
     ensures durable { D.honest (disk_of store.new) → ¬ HasFailed store.new → (image : Image)
         → D.may_leave (disk_of store.new) image
         → Keeps (repository_of store.new) image }
     ensures kept { IsKept store.new }
-    ensures peer { BothFlagged result input.old.failed input.new.failed output.old.failed output.new.failed }
+    ensures peer { BothCounted result (counts I.failures I.reads input.old input.new) (O.failures output.old) (O.failures output.new) }
 {
     refuse_mirror(store.repo())?;
     let done = load_stream(alloc, store, input, output);

@@ -1,9 +1,10 @@
-//! `mkdir` over any disk and writer.
+//! `mkdir` over any disk and output.
 ghost use Rattle.std.specs.Prelude.{◌≡◌, ◌<◌, ◌≤◌, ◌⊎◌, ℕ, List, length, true, false, Ok, Err};
 ghost use Rattle.std.specs.Prelude.{Some, IfOk, IfErr, OnOk};
 ghost use Rattle.std.specs.Prelude.{IsErrOf, codes};
 ghost use Rattle.std.specs.Option.{option_map};
-ghost use Rattle.fleet_engines.specs.Runs.{Flagged};
+ghost use Rattle.byte_streams.specs.Causes.{Rose};
+ghost use Rattle.fleet_engines.specs.Runs.{Counted};
 ghost use Rattle.node_base.specs.Path.{Path};
 ghost use Rattle.node_base.specs.PathText.{path_read};
 ghost use Rattle.node_base.specs.declared.fault.PathFault.{PathFault as PathFaultOf};
@@ -22,15 +23,14 @@ use crate::commits::commit;
 use crate::lines::{committed_line, say};
 use crate::mirror::refuse_mirror;
 use crate::refusals::path_refusal;
+use byte_streams::Output;
 use dump_load::{Change, ChangeSet};
 use fleet_disk::Disk;
-use fleet_engines::Sink;
 use node_base::limits::PROP_VALUE_BYTES;
 use node_base::{Action, NodeKind, NodePath, PropName, PropValue, Props, Refusal};
 use repo_core::Moment;
 use repo_store::{RepoStore, store_refusal};
 use std::alloc::{AllocError, Global};
-use std::io::Write;
 
 // The path that a word spells.
 fn path_of(alloc: Global, word: &str) -> Result<NodePath, Refusal>
@@ -119,24 +119,24 @@ fn refused_message<D: Disk + Drop>(
 }
 
 // Commits a directory at a path, and says so.
-fn commit_directory<D: Disk + Drop, W: Write + Drop>(
+fn commit_directory<D: Disk + Drop, O: Output>(
     alloc: Global,
     store: &mut RepoStore<D>,
     path: NodePath,
     message: &str,
     moment: Moment,
-    output: &mut Sink<W>,
+    output: &mut O,
 ) -> Result<(), Refusal>
     ensures ok { OnOk result ((bytes : List ℕ) → is_mirror (revisions_of store.old) ≡ false
         → path_read bytes ≡ Ok path
         → IsCommitted (repository_of store.old) bytes message.now moment (repository_of store.new)
-        (W.contents output.old.inner) (W.contents output.new.inner)) }
+        (O.contents output.old) (O.contents output.new)) }
     ensures refused { IfErr result (λ e. (bytes : List ℕ) → is_mirror (revisions_of store.old) ≡ false
         → path_read bytes ≡ Ok path → NotCommitted (repository_of store.old) bytes message.now moment store.new
-        (W.contents output.old.inner) (W.contents output.new.inner) output.new.failed e) }
+        (O.contents output.old) (O.contents output.new) (Rose (O.failures output.old) (O.failures output.new)) e) }
     ensures device { IsSafe store.old → ServesOne (directory_entry (revisions_of store.old) path message.now moment)
         store.old store.new result }
-    ensures peer { Flagged result output.old.failed output.new.failed }
+    ensures peer { Counted result (O.failures output.old) (O.failures output.new) }
 {
     let set = one_directory(alloc, path)?;
     if message.len() > PROP_VALUE_BYTES {
@@ -158,18 +158,18 @@ fn commit_directory<D: Disk + Drop, W: Write + Drop>(
 /// take: a revision after the last that can be (23), the root (10), a path that the tree doesn't take (11, 12, 13), and
 /// last a message past 65,536 bytes (8). The store's own are 31, 32, 36 and 70. All these leave the repository and the
 /// writer as they were. A line that can't be written is PeerFailed (49), and the directory stays.
-pub fn run_mkdir<D: Disk + Drop, W: Write + Drop>(
+pub fn run_mkdir<D: Disk + Drop, O: Output>(
     alloc: Global,
     store: &mut RepoStore<D>,
     path: &str,
     message: &str,
     moment: Moment,
-    output: &mut Sink<W>,
+    output: &mut O,
 ) -> Result<(), Refusal>
     ensures ok { OnOk result (IsCommitted (repository_of store.old) path.now message.now moment
-        (repository_of store.new) (W.contents output.old.inner) (W.contents output.new.inner)) }
+        (repository_of store.new) (O.contents output.old) (O.contents output.new)) }
     ensures refused { IfErr result (NotCommitted (repository_of store.old) path.now message.now moment store.new
-        (W.contents output.old.inner) (W.contents output.new.inner) output.new.failed) }
+        (O.contents output.old) (O.contents output.new) (Rose (O.failures output.old) (O.failures output.new))) }
     ensures mirror { is_mirror (revisions_of store.old) ≡ true → IsErrOf result Refusal.ReadOnly }
     ensures device { Serves store.old store.new result }
     ensures entry { (place : Path) → path_read path.now ≡ Ok place
@@ -177,7 +177,7 @@ pub fn run_mkdir<D: Disk + Drop, W: Write + Drop>(
     ensures durable { D.honest (disk_of store.new) → ¬ HasFailed store.new → (image : Image)
         → D.may_leave (disk_of store.new) image
         → Keeps (repository_of store.new) image }
-    ensures peer { Flagged result output.old.failed output.new.failed }
+    ensures peer { Counted result (O.failures output.old) (O.failures output.new) }
 {
     refuse_mirror(store.repo())?;
     let place = path_of(alloc, path)?;

@@ -1,7 +1,7 @@
 -- What a run over a mirror's store and a server says and leaves.
 use Rattle.std.specs.Prelude.{◌≡◌, ◌⊎◌, ℕ, List, Option, Result, Ok, Err, string_bytes}
 use Rattle.fleet_disk.specs.declared.disk.Disk.{Ghosts}
-use Rattle.fleet_engines.specs.declared.stream.Sink.{Sink}
+use Rattle.byte_streams.specs.Causes.{Rose}
 use Rattle.node_base.specs.declared.refusal.Refusal.{Refusal}
 use Rattle.node_base.specs.declared.refusal.Refusal.TheVariants as refusal
 use Rattle.repo_store.specs.declared.store.RepoStore.{RepoStore}
@@ -21,11 +21,11 @@ abbrev pub TellsMaster : ClientFault → Refusal → Type 0
 TellsMaster f e = (text : _) × (e ≡ refusal.MasterFailed text) × (string_bytes text ≡ fault_text (of_client f))
 
 -- a run of a job over a mirror's store and a session: the session wasn't opened, for what the server sent or want of memory, and then the mirror is as it was and nothing is written; or it is a run like one over any master
-pub data RunsOver {D W : Type 0} {G : Ghosts D} (contents : W → Option (List ℕ)) (IsRun : List Spoken → Result (Unit {0}) SyncFault → Type 0) (old new : RepoStore D G) (before now : Sink W) (result : Result (Unit {0}) Refusal) : Type 0 where
-  Unopened : (e : Refusal) → result ≡ Err e → (e ≡ refusal.OutOfMemory) ⊎ ((f : ClientFault) × TellsMaster f e) → new ≡ old → now ≡ before → RunsOver contents IsRun old new before now result
-  Ran : Serves IsRun old new (contents before.inner) (contents now.inner) now.failed result → RunsOver contents IsRun old new before now result
+pub data RunsOver {D O : Type 0} {G : Ghosts D} (contents : O → Option (List ℕ)) (failures : O → ℕ) (IsRun : List Spoken → Result (Unit {0}) SyncFault → Type 0) (old new : RepoStore D G) (before now : O) (result : Result (Unit {0}) Refusal) : Type 0 where
+  Unopened : (e : Refusal) → result ≡ Err e → (e ≡ refusal.OutOfMemory) ⊎ ((f : ClientFault) × TellsMaster f e) → new ≡ old → now ≡ before → RunsOver contents failures IsRun old new before now result
+  Ran : Serves IsRun old new (contents before) (contents now) (Rose (failures before) (failures now)) result → RunsOver contents failures IsRun old new before now result
 
 -- the same over a connection, which may not come about
-pub data RunsFrom {D W : Type 0} {G : Ghosts D} (contents : W → Option (List ℕ)) (IsRun : List Spoken → Result (Unit {0}) SyncFault → Type 0) (old new : RepoStore D G) (before now : Sink W) (result : Result (Unit {0}) Refusal) : Type 0 where
-  Unreached : (e : Refusal) → result ≡ Err e → IsUnreached e → new ≡ old → now ≡ before → RunsFrom contents IsRun old new before now result
-  Reached : RunsOver contents IsRun old new before now result → RunsFrom contents IsRun old new before now result
+pub data RunsFrom {D O : Type 0} {G : Ghosts D} (contents : O → Option (List ℕ)) (failures : O → ℕ) (IsRun : List Spoken → Result (Unit {0}) SyncFault → Type 0) (old new : RepoStore D G) (before now : O) (result : Result (Unit {0}) Refusal) : Type 0 where
+  Unreached : (e : Refusal) → result ≡ Err e → IsUnreached e → new ≡ old → now ≡ before → RunsFrom contents failures IsRun old new before now result
+  Reached : RunsOver contents failures IsRun old new before now result → RunsFrom contents failures IsRun old new before now result

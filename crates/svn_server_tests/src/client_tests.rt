@@ -3,7 +3,6 @@
 use crate::server_tests::{free_port, serves};
 use byte_streams::{CountedReader, MemOutput};
 use fleet_disk::{DiskFile, MemDisk};
-use fleet_engines::Sink;
 use mirror_engines::Work;
 use node_base::{NodePath, PropValue, RevNo};
 use repo_store::RepoStore;
@@ -60,7 +59,7 @@ fn works<R: Net<Listener = TcpListener, Stream = TcpStream> + Abort>(
     work: Work,
 ) -> (Mirror, u8, Vec<u8>) {
     let url = url_of(rt, alloc, port);
-    let output = Sink::new(Vec::new(alloc));
+    let output = MemOutput::new(alloc, 1_000_000);
     let (mirror, output, done) = run_work_from(
         rt,
         alloc,
@@ -74,7 +73,8 @@ fn works<R: Net<Listener = TcpListener, Stream = TcpStream> + Abort>(
         Ok(()) => 0,
         Err(refusal) => refusal.number(),
     };
-    (mirror, number, output.inner)
+    let told = Vec::from_slice(alloc, output.bytes()).expect(rt, "memory");
+    (mirror, number, told)
 }
 
 const BEGUN: &[u8] = b"Copied properties for revision 0.\n";
@@ -193,13 +193,14 @@ fn works_over(rt: &impl Abort, alloc: Global, sent: &[u8]) -> (Mirror, u8, Vec<u
         MemOutput::new(alloc, 1_000_000),
         b"svn://127.0.0.1:3690/",
         begin,
-        Sink::new(Vec::new(alloc)),
+        MemOutput::new(alloc, 1_000_000),
     );
     let number = match done {
         Ok(()) => 0,
         Err(refusal) => refusal.number(),
     };
-    (mirror, number, output.inner)
+    let told = Vec::from_slice(alloc, output.bytes()).expect(rt, "memory");
+    (mirror, number, told)
 }
 
 // Whether what a server sends to begin with is refused as a master's failure.

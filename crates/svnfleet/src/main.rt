@@ -4,8 +4,8 @@
 
 use fleet_disk::HeldFiles;
 use fleet_main::{
-    Command, Fleet, HostDescriptors, HostFolders, Planned, Pull, Service, Sink, Source, Usage,
-    fill_streams, fleet, plan, pull, run, serve,
+    Command, CountedReader, CountedWriter, Fleet, HostDescriptors, HostFolders, Planned, Pull,
+    Service, Usage, fill_streams, fleet, plan, pull, run, serve,
 };
 use std::io::{BufWriter, ErrorKind};
 use std::net::{Net, TcpListener, TcpStream};
@@ -104,14 +104,14 @@ fn ran<R: HeldFiles>(rt: &HostRuntime, files: &R, command: Command) -> u8 {
     let Ok(buffer) = BufWriter::with_capacity(rt.alloc(), 65_536, rt.stdout()) else {
         return told(rt, "svnfleet: 70 out of memory", 1);
     };
-    let mut input = Source::new(rt.stdin());
-    let mut errors = Sink::new(rt.stderr());
+    let mut input = CountedReader::new(rt.stdin());
+    let mut errors = CountedWriter::new(rt.stderr());
     let (status, _output) = run(
         rt.alloc(),
         &mut HostFolders::new(files),
         command,
         &mut input,
-        Sink::new(buffer),
+        CountedWriter::new(buffer),
         &mut errors,
     );
     status
@@ -122,13 +122,13 @@ fn pulled<R: HeldFiles + Net<Stream = TcpStream>>(rt: &HostRuntime, handle: &R, 
     let Ok(buffer) = BufWriter::with_capacity(rt.alloc(), 65_536, rt.stdout()) else {
         return told(rt, "svnfleet: 70 out of memory", 1);
     };
-    let mut errors = Sink::new(rt.stderr());
+    let mut errors = CountedWriter::new(rt.stderr());
     let (status, _output) = pull(
         handle,
         rt.alloc(),
         &mut HostFolders::new(handle),
         asked,
-        Sink::new(buffer),
+        CountedWriter::new(buffer),
         &mut errors,
     );
     status
@@ -143,13 +143,13 @@ fn served<R: HeldFiles + Net<Listener = TcpListener, Stream = TcpStream> + Threa
 where
     R::File: Send,
 {
-    let mut errors = Sink::new(rt.stderr());
+    let mut errors = CountedWriter::new(rt.stderr());
     let (status, _output) = serve(
         handle,
         rt.alloc(),
         &mut HostFolders::new(handle),
         service,
-        Sink::new(rt.stdout()),
+        CountedWriter::new(rt.stdout()),
         &mut errors,
     );
     status
@@ -164,13 +164,13 @@ fn brought<R: HeldFiles + Threads + Wait + Clone + Send + Drop + 'static>(
 where
     R::File: Send + 'static,
 {
-    let mut errors = Sink::new(rt.stderr());
+    let mut errors = CountedWriter::new(rt.stderr());
     let (status, _output) = fleet(
         handle,
         rt.alloc(),
         &mut HostFolders::new(handle),
         asked,
-        Sink::new(rt.stdout()),
+        CountedWriter::new(rt.stdout()),
         &mut errors,
     );
     status

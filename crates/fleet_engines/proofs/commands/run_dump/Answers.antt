@@ -20,6 +20,6 @@ returns-in-Ok-clause-refused g c =
 
 pub returns-in-Err-clause-refused : goal.returns-in-Err-clause-refused
 returns-in-Err-clause-refused g c =
-    let a = g.R.Read.remaining c.args.input.now.inner in
-    let start = g.W.Write.contents c.args.output.now.inner in
+    let a = g.I.Input.remaining c.args.input.now in
+    let start = g.O.Output.contents c.args.output.now in
     inr (first_refused c.args.product start a _ refl)

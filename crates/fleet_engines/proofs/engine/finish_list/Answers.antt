@@ -10,6 +10,6 @@ returns-in-Ok-clause-ok g c =
     let u = told_of c.close.new.self in
     let text : c.as_bytes.result.now ≡ newest_listing u.trees =
     c.as_bytes.ensures.value ∙ c.as_str.ensures.value ∙ c.in-Ok.ensures ∙ ap (λ l. l ++ newest_listing c.trees.result.now) c.new-text.ensures.bytes ∙ ap newest_listing c.trees.ensures in
-    on_ok_weaker c.bytes.result
-    (λ w. (u, revs_of c.in_ok-close.field-0, c.in_ok-close.ensures.closed, subst (Appends (g.W.Write.contents c.args.output.now.inner) (g.W.Write.contents c.bytes.new.self.inner)) text w))
-    c.bytes.ensures.ok
+    on_ok_weaker c.write.result
+    (λ w. (u, revs_of c.in_ok-close.field-0, c.in_ok-close.ensures.closed, subst (Appends (g.O.Output.contents c.args.output.now) (g.O.Output.contents c.write.new.output)) text w))
+    c.write.ensures.ok

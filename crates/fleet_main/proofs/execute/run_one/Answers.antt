@@ -4,6 +4,7 @@ use Rattle.store_engines.specs.Ranges.{first_in, last_in}
 use Rattle.fleet_engines.specs.Runs.{Accepted, Refused}
 use Rattle.fleet_engines.specs.declared.product.Product.TheVariants as product
 use Rattle.mirror_engines.specs.Runs.{IsInitialised, IsSynchronised, IsCopied}
+use Rattle.byte_streams.specs.Causes.{Rose}
 use Rattle.fleet_main.specs.Doing.{IsCommittedTo, IsDone, IsDumped, IsLoadedFrom, IsNotDone, IsToldOf, IsWorkedOver, NotCommittedTo, NotDumped, NotKept, NotLoadedFrom, NotToldOf, NotWorkedOver, OfBoth, OfStanding, UnopenedBoth, UnopenedOr}
 use Rattle.fleet_main.specs.Loans.{AreBack}
 use Rattle.fleet_main.specs.Opening.{NotBegunIn}
@@ -14,106 +15,106 @@ use Rattle.fleet_main.proofs.execute.run_one.Goals as goal
 
 pub returns-in-List-clause-done : goal.returns-in-List-clause-done
 returns-in-List-clause-done g c =
-    subst (λ k. OnOk c.run_list-done.result (IsDone g.F.Place.Disk g.F.Folders c.args.folders.now c.args.folders.now k (g.R.Read.remaining c.args.input.now.inner) (g.W.Write.contents c.args.output.inner) (g.W.Write.contents c.run_list-done.new.output.inner))) (sym c.in-List.is)
+    subst (λ k. OnOk c.run_list-done.result (IsDone g.F.Place.Disk g.F.Folders c.args.folders.now c.args.folders.now k (g.I.Input.remaining c.args.input.now) (g.O.Output.contents c.args.output) (g.O.Output.contents c.run_list-done.new.output))) (sym c.in-List.is)
     (ok_and c.run_list-done.result _ _ c.run_list-done.ensures.ok (none_lent g.F.Place.Disk g.F.Folders c.args.folders.now))
 
 pub returns-in-List-clause-refused : goal.returns-in-List-clause-refused
 returns-in-List-clause-refused g c =
-    subst (λ k. IfErr c.run_list-done.result (IsNotDone g.F.Place.Disk g.F.Folders c.args.folders.now c.args.folders.now k (g.R.Read.remaining c.args.input.now.inner) (g.W.Write.contents c.args.output.inner) (g.W.Write.contents c.run_list-done.new.output.inner) c.run_list-done.new.output.failed)) (sym c.in-List.is)
+    subst (λ k. IfErr c.run_list-done.result (IsNotDone g.F.Place.Disk g.F.Folders c.args.folders.now c.args.folders.now k (g.I.Input.remaining c.args.input.now) (g.O.Output.contents c.args.output) (g.O.Output.failures c.args.output) (g.O.Output.contents c.run_list-done.new.output) (g.O.Output.failures c.run_list-done.new.output))) (sym c.in-List.is)
     (err_and c.run_list-done.result _ _ c.run_list-done.ensures.refused (none_lent g.F.Place.Disk g.F.Folders c.args.folders.now))
 
 pub returns-in-Canon-clause-done : goal.returns-in-Canon-clause-done
 returns-in-Canon-clause-done g c =
-    subst (λ k. OnOk c.run_canon-done.result (IsDone g.F.Place.Disk g.F.Folders c.args.folders.now c.args.folders.now k (g.R.Read.remaining c.args.input.now.inner) (g.W.Write.contents c.args.output.inner) (g.W.Write.contents c.run_canon-done.new.output.inner))) (sym c.in-Canon.is)
+    subst (λ k. OnOk c.run_canon-done.result (IsDone g.F.Place.Disk g.F.Folders c.args.folders.now c.args.folders.now k (g.I.Input.remaining c.args.input.now) (g.O.Output.contents c.args.output) (g.O.Output.contents c.run_canon-done.new.output))) (sym c.in-Canon.is)
     (ok_and c.run_canon-done.result _ _ c.run_canon-done.ensures.ok (none_lent g.F.Place.Disk g.F.Folders c.args.folders.now))
 
 pub returns-in-Canon-clause-refused : goal.returns-in-Canon-clause-refused
 returns-in-Canon-clause-refused g c =
-    subst (λ k. IfErr c.run_canon-done.result (IsNotDone g.F.Place.Disk g.F.Folders c.args.folders.now c.args.folders.now k (g.R.Read.remaining c.args.input.now.inner) (g.W.Write.contents c.args.output.inner) (g.W.Write.contents c.run_canon-done.new.output.inner) c.run_canon-done.new.output.failed)) (sym c.in-Canon.is)
+    subst (λ k. IfErr c.run_canon-done.result (IsNotDone g.F.Place.Disk g.F.Folders c.args.folders.now c.args.folders.now k (g.I.Input.remaining c.args.input.now) (g.O.Output.contents c.args.output) (g.O.Output.failures c.args.output) (g.O.Output.contents c.run_canon-done.new.output) (g.O.Output.failures c.run_canon-done.new.output))) (sym c.in-Canon.is)
     (err_and c.run_canon-done.result _ _ c.run_canon-done.ensures.refused (none_lent g.F.Place.Disk g.F.Folders c.args.folders.now))
 
 pub returns-in-Create-clause-refused : goal.returns-in-Create-clause-refused
 returns-in-Create-clause-refused g c =
-    subst (λ k. IfErr c.create-done.result (IsNotDone g.F.Place.Disk g.F.Folders c.args.folders.now c.create-done.new.folders k (g.R.Read.remaining c.args.input.now.inner) (g.W.Write.contents c.args.output.inner) (g.W.Write.contents c.args.output.inner) c.args.output.failed)) (sym c.in-Create.is)
+    subst (λ k. IfErr c.create-done.result (IsNotDone g.F.Place.Disk g.F.Folders c.args.folders.now c.create-done.new.folders k (g.I.Input.remaining c.args.input.now) (g.O.Output.contents c.args.output) (g.O.Output.failures c.args.output) (g.O.Output.contents c.args.output) (g.O.Output.failures c.args.output))) (sym c.in-Create.is)
     (err_and c.create-done.result _ _ (refused_at c.create-done.result (λ t. NotBegunIn g.F.Place.Disk g.F.Folders c.args.folders.now c.create-done.new.folders t c.in-Create.identity) c.as_str.result.now (string_bytes c.in-Create.folder) c.as_str.ensures.value
     c.create-done.ensures.refused) refl)
 
 pub returns-in-Load-clause-done : goal.returns-in-Load-clause-done
 returns-in-Load-clause-done g c =
-    subst (λ k. OnOk c.load-done.result (IsDone g.F.Place.Disk g.F.Folders c.args.folders.now c.load-done.new.folders k (g.R.Read.remaining c.args.input.now.inner) (g.W.Write.contents c.args.output.inner) (g.W.Write.contents c.load-done.new.output.inner))) (sym c.in-Load.is)
-    (done_at c.load-done.result (λ t. OfStanding g.F.Place.Disk g.F.Folders c.args.folders.now c.load-done.new.folders t (IsLoadedFrom (g.F.Folders.honest c.args.folders.now) (g.R.Read.remaining c.args.input.now.inner) (g.W.Write.contents c.args.output.inner) (g.W.Write.contents c.load-done.new.output.inner))) c.as_str-in-Load.result.now (string_bytes c.in-Load.folder) c.as_str-in-Load.ensures.value c.load-done.ensures.done)
+    subst (λ k. OnOk c.load-done.result (IsDone g.F.Place.Disk g.F.Folders c.args.folders.now c.load-done.new.folders k (g.I.Input.remaining c.args.input.now) (g.O.Output.contents c.args.output) (g.O.Output.contents c.load-done.new.output))) (sym c.in-Load.is)
+    (done_at c.load-done.result (λ t. OfStanding g.F.Place.Disk g.F.Folders c.args.folders.now c.load-done.new.folders t (IsLoadedFrom (g.F.Folders.honest c.args.folders.now) (g.I.Input.remaining c.args.input.now) (g.O.Output.contents c.args.output) (g.O.Output.contents c.load-done.new.output))) c.as_str-in-Load.result.now (string_bytes c.in-Load.folder) c.as_str-in-Load.ensures.value c.load-done.ensures.done)
 
 pub returns-in-Load-clause-refused : goal.returns-in-Load-clause-refused
 returns-in-Load-clause-refused g c =
-    subst (λ k. IfErr c.load-done.result (IsNotDone g.F.Place.Disk g.F.Folders c.args.folders.now c.load-done.new.folders k (g.R.Read.remaining c.args.input.now.inner) (g.W.Write.contents c.args.output.inner) (g.W.Write.contents c.load-done.new.output.inner) c.load-done.new.output.failed)) (sym c.in-Load.is)
-    (refused_at c.load-done.result (λ t e. UnopenedOr g.F.Place.Disk g.F.Folders c.args.folders.now c.load-done.new.folders t (g.W.Write.contents c.args.output.inner) (g.W.Write.contents c.load-done.new.output.inner) e (NotLoadedFrom (g.F.Folders.honest c.args.folders.now) (g.R.Read.remaining c.args.input.now.inner) (g.W.Write.contents c.args.output.inner) (g.W.Write.contents c.load-done.new.output.inner) c.load-done.new.output.failed e)) c.as_str-in-Load.result.now (string_bytes c.in-Load.folder) c.as_str-in-Load.ensures.value c.load-done.ensures.refused)
+    subst (λ k. IfErr c.load-done.result (IsNotDone g.F.Place.Disk g.F.Folders c.args.folders.now c.load-done.new.folders k (g.I.Input.remaining c.args.input.now) (g.O.Output.contents c.args.output) (g.O.Output.failures c.args.output) (g.O.Output.contents c.load-done.new.output) (g.O.Output.failures c.load-done.new.output))) (sym c.in-Load.is)
+    (refused_at c.load-done.result (λ t e. UnopenedOr g.F.Place.Disk g.F.Folders c.args.folders.now c.load-done.new.folders t (g.O.Output.contents c.args.output) (g.O.Output.contents c.load-done.new.output) e (NotLoadedFrom (g.F.Folders.honest c.args.folders.now) (g.I.Input.remaining c.args.input.now) (g.O.Output.contents c.args.output) (g.O.Output.contents c.load-done.new.output) (Rose (g.O.Output.failures c.args.output) (g.O.Output.failures c.load-done.new.output)) e)) c.as_str-in-Load.result.now (string_bytes c.in-Load.folder) c.as_str-in-Load.ensures.value c.load-done.ensures.refused)
 
 pub returns-in-Dump-clause-done : goal.returns-in-Dump-clause-done
 returns-in-Dump-clause-done g c =
-    subst (λ k. OnOk c.dump-done.result (IsDone g.F.Place.Disk g.F.Folders c.args.folders.now c.dump-done.new.folders k (g.R.Read.remaining c.args.input.now.inner) (g.W.Write.contents c.args.output.inner) (g.W.Write.contents c.dump-done.new.output.inner))) (sym c.in-Dump.is)
-    (done_at c.dump-done.result (λ t. OfStanding g.F.Place.Disk g.F.Folders c.args.folders.now c.dump-done.new.folders t (IsDumped (g.F.Folders.honest c.args.folders.now) c.in-Dump.range (g.W.Write.contents c.args.output.inner) (g.W.Write.contents c.dump-done.new.output.inner))) c.as_str-in-Dump.result.now (string_bytes c.in-Dump.folder) c.as_str-in-Dump.ensures.value c.dump-done.ensures.done)
+    subst (λ k. OnOk c.dump-done.result (IsDone g.F.Place.Disk g.F.Folders c.args.folders.now c.dump-done.new.folders k (g.I.Input.remaining c.args.input.now) (g.O.Output.contents c.args.output) (g.O.Output.contents c.dump-done.new.output))) (sym c.in-Dump.is)
+    (done_at c.dump-done.result (λ t. OfStanding g.F.Place.Disk g.F.Folders c.args.folders.now c.dump-done.new.folders t (IsDumped (g.F.Folders.honest c.args.folders.now) c.in-Dump.range (g.O.Output.contents c.args.output) (g.O.Output.contents c.dump-done.new.output))) c.as_str-in-Dump.result.now (string_bytes c.in-Dump.folder) c.as_str-in-Dump.ensures.value c.dump-done.ensures.done)
 
 pub returns-in-Dump-clause-refused : goal.returns-in-Dump-clause-refused
 returns-in-Dump-clause-refused g c =
-    subst (λ k. IfErr c.dump-done.result (IsNotDone g.F.Place.Disk g.F.Folders c.args.folders.now c.dump-done.new.folders k (g.R.Read.remaining c.args.input.now.inner) (g.W.Write.contents c.args.output.inner) (g.W.Write.contents c.dump-done.new.output.inner) c.dump-done.new.output.failed)) (sym c.in-Dump.is)
-    (refused_at c.dump-done.result (λ t e. UnopenedOr g.F.Place.Disk g.F.Folders c.args.folders.now c.dump-done.new.folders t (g.W.Write.contents c.args.output.inner) (g.W.Write.contents c.dump-done.new.output.inner) e (NotDumped (g.F.Folders.honest c.args.folders.now) c.in-Dump.range (g.W.Write.contents c.args.output.inner) (g.W.Write.contents c.dump-done.new.output.inner) c.dump-done.new.output.failed e)) c.as_str-in-Dump.result.now (string_bytes c.in-Dump.folder) c.as_str-in-Dump.ensures.value c.dump-done.ensures.refused)
+    subst (λ k. IfErr c.dump-done.result (IsNotDone g.F.Place.Disk g.F.Folders c.args.folders.now c.dump-done.new.folders k (g.I.Input.remaining c.args.input.now) (g.O.Output.contents c.args.output) (g.O.Output.failures c.args.output) (g.O.Output.contents c.dump-done.new.output) (g.O.Output.failures c.dump-done.new.output))) (sym c.in-Dump.is)
+    (refused_at c.dump-done.result (λ t e. UnopenedOr g.F.Place.Disk g.F.Folders c.args.folders.now c.dump-done.new.folders t (g.O.Output.contents c.args.output) (g.O.Output.contents c.dump-done.new.output) e (NotDumped (g.F.Folders.honest c.args.folders.now) c.in-Dump.range (g.O.Output.contents c.args.output) (g.O.Output.contents c.dump-done.new.output) (Rose (g.O.Output.failures c.args.output) (g.O.Output.failures c.dump-done.new.output)) e)) c.as_str-in-Dump.result.now (string_bytes c.in-Dump.folder) c.as_str-in-Dump.ensures.value c.dump-done.ensures.refused)
 
 pub returns-in-Info-clause-done : goal.returns-in-Info-clause-done
 returns-in-Info-clause-done g c =
-    subst (λ k. OnOk c.info-done.result (IsDone g.F.Place.Disk g.F.Folders c.args.folders.now c.info-done.new.folders k (g.R.Read.remaining c.args.input.now.inner) (g.W.Write.contents c.args.output.inner) (g.W.Write.contents c.info-done.new.output.inner))) (sym c.in-Info.is)
-    (done_at c.info-done.result (λ t. OfStanding g.F.Place.Disk g.F.Folders c.args.folders.now c.info-done.new.folders t (IsToldOf (g.F.Folders.honest c.args.folders.now) (g.W.Write.contents c.args.output.inner) (g.W.Write.contents c.info-done.new.output.inner))) c.as_str-in-Info.result.now (string_bytes c.in-Info.mirror) c.as_str-in-Info.ensures.value c.info-done.ensures.done)
+    subst (λ k. OnOk c.info-done.result (IsDone g.F.Place.Disk g.F.Folders c.args.folders.now c.info-done.new.folders k (g.I.Input.remaining c.args.input.now) (g.O.Output.contents c.args.output) (g.O.Output.contents c.info-done.new.output))) (sym c.in-Info.is)
+    (done_at c.info-done.result (λ t. OfStanding g.F.Place.Disk g.F.Folders c.args.folders.now c.info-done.new.folders t (IsToldOf (g.F.Folders.honest c.args.folders.now) (g.O.Output.contents c.args.output) (g.O.Output.contents c.info-done.new.output))) c.as_str-in-Info.result.now (string_bytes c.in-Info.mirror) c.as_str-in-Info.ensures.value c.info-done.ensures.done)
 
 pub returns-in-Info-clause-refused : goal.returns-in-Info-clause-refused
 returns-in-Info-clause-refused g c =
-    subst (λ k. IfErr c.info-done.result (IsNotDone g.F.Place.Disk g.F.Folders c.args.folders.now c.info-done.new.folders k (g.R.Read.remaining c.args.input.now.inner) (g.W.Write.contents c.args.output.inner) (g.W.Write.contents c.info-done.new.output.inner) c.info-done.new.output.failed)) (sym c.in-Info.is)
-    (refused_at c.info-done.result (λ t e. UnopenedOr g.F.Place.Disk g.F.Folders c.args.folders.now c.info-done.new.folders t (g.W.Write.contents c.args.output.inner) (g.W.Write.contents c.info-done.new.output.inner) e (NotToldOf (g.F.Folders.honest c.args.folders.now) (g.W.Write.contents c.args.output.inner) (g.W.Write.contents c.info-done.new.output.inner) c.info-done.new.output.failed e)) c.as_str-in-Info.result.now (string_bytes c.in-Info.mirror) c.as_str-in-Info.ensures.value c.info-done.ensures.refused)
+    subst (λ k. IfErr c.info-done.result (IsNotDone g.F.Place.Disk g.F.Folders c.args.folders.now c.info-done.new.folders k (g.I.Input.remaining c.args.input.now) (g.O.Output.contents c.args.output) (g.O.Output.failures c.args.output) (g.O.Output.contents c.info-done.new.output) (g.O.Output.failures c.info-done.new.output))) (sym c.in-Info.is)
+    (refused_at c.info-done.result (λ t e. UnopenedOr g.F.Place.Disk g.F.Folders c.args.folders.now c.info-done.new.folders t (g.O.Output.contents c.args.output) (g.O.Output.contents c.info-done.new.output) e (NotToldOf (g.F.Folders.honest c.args.folders.now) (g.O.Output.contents c.args.output) (g.O.Output.contents c.info-done.new.output) (Rose (g.O.Output.failures c.args.output) (g.O.Output.failures c.info-done.new.output)) e)) c.as_str-in-Info.result.now (string_bytes c.in-Info.mirror) c.as_str-in-Info.ensures.value c.info-done.ensures.refused)
 
 pub returns-in-MakeDir-clause-done : goal.returns-in-MakeDir-clause-done
 returns-in-MakeDir-clause-done g c =
-    subst (λ k. OnOk c.make_dir-done.result (IsDone g.F.Place.Disk g.F.Folders c.args.folders.now c.make_dir-done.new.folders k (g.R.Read.remaining c.args.input.now.inner) (g.W.Write.contents c.args.output.inner) (g.W.Write.contents c.make_dir-done.new.output.inner))) (sym c.in-MakeDir.is)
-    (committed_at c.make_dir-done.result (λ t p m. OfStanding g.F.Place.Disk g.F.Folders c.args.folders.now c.make_dir-done.new.folders t (IsCommittedTo (g.F.Folders.honest c.args.folders.now) p m c.in-MakeDir.moment (g.W.Write.contents c.args.output.inner) (g.W.Write.contents c.make_dir-done.new.output.inner)))
+    subst (λ k. OnOk c.make_dir-done.result (IsDone g.F.Place.Disk g.F.Folders c.args.folders.now c.make_dir-done.new.folders k (g.I.Input.remaining c.args.input.now) (g.O.Output.contents c.args.output) (g.O.Output.contents c.make_dir-done.new.output))) (sym c.in-MakeDir.is)
+    (committed_at c.make_dir-done.result (λ t p m. OfStanding g.F.Place.Disk g.F.Folders c.args.folders.now c.make_dir-done.new.folders t (IsCommittedTo (g.F.Folders.honest c.args.folders.now) p m c.in-MakeDir.moment (g.O.Output.contents c.args.output) (g.O.Output.contents c.make_dir-done.new.output)))
     c.as_str-in-MakeDir.result.now (string_bytes c.in-MakeDir.folder) c.as_str-in-MakeDir-2.result.now (string_bytes c.in-MakeDir.path) c.as_str-in-MakeDir-3.result.now (string_bytes c.in-MakeDir.message) c.as_str-in-MakeDir.ensures.value c.as_str-in-MakeDir-2.ensures.value c.as_str-in-MakeDir-3.ensures.value c.make_dir-done.ensures.done)
 
 pub returns-in-MakeDir-clause-refused : goal.returns-in-MakeDir-clause-refused
 returns-in-MakeDir-clause-refused g c =
-    subst (λ k. IfErr c.make_dir-done.result (IsNotDone g.F.Place.Disk g.F.Folders c.args.folders.now c.make_dir-done.new.folders k (g.R.Read.remaining c.args.input.now.inner) (g.W.Write.contents c.args.output.inner) (g.W.Write.contents c.make_dir-done.new.output.inner) c.make_dir-done.new.output.failed)) (sym c.in-MakeDir.is)
-    (not_committed_at c.make_dir-done.result (λ t p m e. UnopenedOr g.F.Place.Disk g.F.Folders c.args.folders.now c.make_dir-done.new.folders t (g.W.Write.contents c.args.output.inner) (g.W.Write.contents c.make_dir-done.new.output.inner) e (NotCommittedTo (g.F.Folders.honest c.args.folders.now) p m c.in-MakeDir.moment (g.W.Write.contents c.args.output.inner) (g.W.Write.contents c.make_dir-done.new.output.inner) c.make_dir-done.new.output.failed e))
+    subst (λ k. IfErr c.make_dir-done.result (IsNotDone g.F.Place.Disk g.F.Folders c.args.folders.now c.make_dir-done.new.folders k (g.I.Input.remaining c.args.input.now) (g.O.Output.contents c.args.output) (g.O.Output.failures c.args.output) (g.O.Output.contents c.make_dir-done.new.output) (g.O.Output.failures c.make_dir-done.new.output))) (sym c.in-MakeDir.is)
+    (not_committed_at c.make_dir-done.result (λ t p m e. UnopenedOr g.F.Place.Disk g.F.Folders c.args.folders.now c.make_dir-done.new.folders t (g.O.Output.contents c.args.output) (g.O.Output.contents c.make_dir-done.new.output) e (NotCommittedTo (g.F.Folders.honest c.args.folders.now) p m c.in-MakeDir.moment (g.O.Output.contents c.args.output) (g.O.Output.contents c.make_dir-done.new.output) (Rose (g.O.Output.failures c.args.output) (g.O.Output.failures c.make_dir-done.new.output)) e))
     c.as_str-in-MakeDir.result.now (string_bytes c.in-MakeDir.folder) c.as_str-in-MakeDir-2.result.now (string_bytes c.in-MakeDir.path) c.as_str-in-MakeDir-3.result.now (string_bytes c.in-MakeDir.message) c.as_str-in-MakeDir.ensures.value c.as_str-in-MakeDir-2.ensures.value c.as_str-in-MakeDir-3.ensures.value c.make_dir-done.ensures.refused)
 
 pub returns-in-Initialize-clause-done : goal.returns-in-Initialize-clause-done
 returns-in-Initialize-clause-done g c =
-    subst (λ k. OnOk c.initialize.result.1 (IsDone g.F.Place.Disk g.F.Folders c.args.folders.now c.initialize.new.folders k (g.R.Read.remaining c.args.input.now.inner) (g.W.Write.contents c.args.output.inner) (g.W.Write.contents c.initialize.result.0.inner))) (sym c.in-Initialize.is)
-    (both_at c.initialize.result.1 (λ m s. OfBoth g.F.Place.Disk g.F.Folders c.args.folders.now c.initialize.new.folders m s (IsWorkedOver (IsInitialised s) (g.W.Write.contents c.args.output.inner) (g.W.Write.contents c.initialize.result.0.inner)))
+    subst (λ k. OnOk c.initialize.result.1 (IsDone g.F.Place.Disk g.F.Folders c.args.folders.now c.initialize.new.folders k (g.I.Input.remaining c.args.input.now) (g.O.Output.contents c.args.output) (g.O.Output.contents c.initialize.result.0))) (sym c.in-Initialize.is)
+    (both_at c.initialize.result.1 (λ m s. OfBoth g.F.Place.Disk g.F.Folders c.args.folders.now c.initialize.new.folders m s (IsWorkedOver (IsInitialised s) (g.O.Output.contents c.args.output) (g.O.Output.contents c.initialize.result.0)))
     c.as_str-in-Initialize.result.now (string_bytes c.in-Initialize.mirror) c.as_str-in-Initialize-2.result.now (string_bytes c.in-Initialize.source) c.as_str-in-Initialize.ensures.value c.as_str-in-Initialize-2.ensures.value c.initialize.ensures.done)
 
 pub returns-in-Initialize-clause-refused : goal.returns-in-Initialize-clause-refused
 returns-in-Initialize-clause-refused g c =
-    subst (λ k. IfErr c.initialize.result.1 (IsNotDone g.F.Place.Disk g.F.Folders c.args.folders.now c.initialize.new.folders k (g.R.Read.remaining c.args.input.now.inner) (g.W.Write.contents c.args.output.inner) (g.W.Write.contents c.initialize.result.0.inner) c.initialize.result.0.failed)) (sym c.in-Initialize.is)
-    (not_both_at c.initialize.result.1 (λ m s e. (NotKept s (g.W.Write.contents c.args.output.inner) (g.W.Write.contents c.initialize.result.0.inner) e × AreBack g.F.Place.Disk g.F.Folders c.args.folders.now c.initialize.new.folders []) ⊎ UnopenedBoth g.F.Place.Disk g.F.Folders c.args.folders.now c.initialize.new.folders m s (g.W.Write.contents c.args.output.inner) (g.W.Write.contents c.initialize.result.0.inner) e (NotWorkedOver (IsInitialised s) (g.W.Write.contents c.args.output.inner) (g.W.Write.contents c.initialize.result.0.inner) c.initialize.result.0.failed e))
+    subst (λ k. IfErr c.initialize.result.1 (IsNotDone g.F.Place.Disk g.F.Folders c.args.folders.now c.initialize.new.folders k (g.I.Input.remaining c.args.input.now) (g.O.Output.contents c.args.output) (g.O.Output.failures c.args.output) (g.O.Output.contents c.initialize.result.0) (g.O.Output.failures c.initialize.result.0))) (sym c.in-Initialize.is)
+    (not_both_at c.initialize.result.1 (λ m s e. (NotKept s (g.O.Output.contents c.args.output) (g.O.Output.contents c.initialize.result.0) e × AreBack g.F.Place.Disk g.F.Folders c.args.folders.now c.initialize.new.folders []) ⊎ UnopenedBoth g.F.Place.Disk g.F.Folders c.args.folders.now c.initialize.new.folders m s (g.O.Output.contents c.args.output) (g.O.Output.contents c.initialize.result.0) e (NotWorkedOver (IsInitialised s) (g.O.Output.contents c.args.output) (g.O.Output.contents c.initialize.result.0) (Rose (g.O.Output.failures c.args.output) (g.O.Output.failures c.initialize.result.0)) e))
     c.as_str-in-Initialize.result.now (string_bytes c.in-Initialize.mirror) c.as_str-in-Initialize-2.result.now (string_bytes c.in-Initialize.source) c.as_str-in-Initialize.ensures.value c.as_str-in-Initialize-2.ensures.value c.initialize.ensures.refused)
 
 pub returns-in-Synchronize-clause-done : goal.returns-in-Synchronize-clause-done
 returns-in-Synchronize-clause-done g c =
-    subst (λ k. OnOk c.mirrored.result.1 (IsDone g.F.Place.Disk g.F.Folders c.args.folders.now c.mirrored.new.folders k (g.R.Read.remaining c.args.input.now.inner) (g.W.Write.contents c.args.output.inner) (g.W.Write.contents c.mirrored.result.0.inner))) (sym c.in-Synchronize.is)
-    (both_at c.mirrored.result.1 (λ m s. OfBoth g.F.Place.Disk g.F.Folders c.args.folders.now c.mirrored.new.folders m s (IsWorkedOver (IsSynchronised c.in-Synchronize.token c.in-Synchronize.steal) (g.W.Write.contents c.args.output.inner) (g.W.Write.contents c.mirrored.result.0.inner)))
+    subst (λ k. OnOk c.mirrored.result.1 (IsDone g.F.Place.Disk g.F.Folders c.args.folders.now c.mirrored.new.folders k (g.I.Input.remaining c.args.input.now) (g.O.Output.contents c.args.output) (g.O.Output.contents c.mirrored.result.0))) (sym c.in-Synchronize.is)
+    (both_at c.mirrored.result.1 (λ m s. OfBoth g.F.Place.Disk g.F.Folders c.args.folders.now c.mirrored.new.folders m s (IsWorkedOver (IsSynchronised c.in-Synchronize.token c.in-Synchronize.steal) (g.O.Output.contents c.args.output) (g.O.Output.contents c.mirrored.result.0)))
     c.as_str-in-Synchronize.result.now (string_bytes c.in-Synchronize.mirror) c.as_str-in-Synchronize-2.result.now (string_bytes c.in-Synchronize.source) c.as_str-in-Synchronize.ensures.value c.as_str-in-Synchronize-2.ensures.value c.mirrored.ensures.done)
 
 pub returns-in-Synchronize-clause-refused : goal.returns-in-Synchronize-clause-refused
 returns-in-Synchronize-clause-refused g c =
-    subst (λ k. IfErr c.mirrored.result.1 (IsNotDone g.F.Place.Disk g.F.Folders c.args.folders.now c.mirrored.new.folders k (g.R.Read.remaining c.args.input.now.inner) (g.W.Write.contents c.args.output.inner) (g.W.Write.contents c.mirrored.result.0.inner) c.mirrored.result.0.failed)) (sym c.in-Synchronize.is)
-    (not_both_at c.mirrored.result.1 (λ m s e. UnopenedBoth g.F.Place.Disk g.F.Folders c.args.folders.now c.mirrored.new.folders m s (g.W.Write.contents c.args.output.inner) (g.W.Write.contents c.mirrored.result.0.inner) e (NotWorkedOver (IsSynchronised c.in-Synchronize.token c.in-Synchronize.steal) (g.W.Write.contents c.args.output.inner) (g.W.Write.contents c.mirrored.result.0.inner) c.mirrored.result.0.failed e))
+    subst (λ k. IfErr c.mirrored.result.1 (IsNotDone g.F.Place.Disk g.F.Folders c.args.folders.now c.mirrored.new.folders k (g.I.Input.remaining c.args.input.now) (g.O.Output.contents c.args.output) (g.O.Output.failures c.args.output) (g.O.Output.contents c.mirrored.result.0) (g.O.Output.failures c.mirrored.result.0))) (sym c.in-Synchronize.is)
+    (not_both_at c.mirrored.result.1 (λ m s e. UnopenedBoth g.F.Place.Disk g.F.Folders c.args.folders.now c.mirrored.new.folders m s (g.O.Output.contents c.args.output) (g.O.Output.contents c.mirrored.result.0) e (NotWorkedOver (IsSynchronised c.in-Synchronize.token c.in-Synchronize.steal) (g.O.Output.contents c.args.output) (g.O.Output.contents c.mirrored.result.0) (Rose (g.O.Output.failures c.args.output) (g.O.Output.failures c.mirrored.result.0)) e))
     c.as_str-in-Synchronize.result.now (string_bytes c.in-Synchronize.mirror) c.as_str-in-Synchronize-2.result.now (string_bytes c.in-Synchronize.source) c.as_str-in-Synchronize.ensures.value c.as_str-in-Synchronize-2.ensures.value c.mirrored.ensures.refused)
 
 pub returns-in-CopyRevprops-clause-done : goal.returns-in-CopyRevprops-clause-done
 returns-in-CopyRevprops-clause-done g c =
-    subst (λ k. OnOk c.mirrored-in-CopyRevprops.result.1 (IsDone g.F.Place.Disk g.F.Folders c.args.folders.now c.mirrored-in-CopyRevprops.new.folders k (g.R.Read.remaining c.args.input.now.inner) (g.W.Write.contents c.args.output.inner) (g.W.Write.contents c.mirrored-in-CopyRevprops.result.0.inner))) (sym c.in-CopyRevprops.is)
-    (both_at c.mirrored-in-CopyRevprops.result.1 (λ m s. OfBoth g.F.Place.Disk g.F.Folders c.args.folders.now c.mirrored-in-CopyRevprops.new.folders m s (IsWorkedOver (IsCopied c.in-CopyRevprops.token (first_in c.in-CopyRevprops.range) (last_in c.in-CopyRevprops.range)) (g.W.Write.contents c.args.output.inner) (g.W.Write.contents c.mirrored-in-CopyRevprops.result.0.inner)))
-    c.as_str-in-CopyRevprops.result.now (string_bytes c.in-CopyRevprops.mirror) c.as_str-in-CopyRevprops-2.result.now (string_bytes c.in-CopyRevprops.source) c.as_str-in-CopyRevprops.ensures.value c.as_str-in-CopyRevprops-2.ensures.value (subst (λ h. OnOk c.mirrored-in-CopyRevprops.result.1 (OfBoth g.F.Place.Disk g.F.Folders c.args.folders.now c.mirrored-in-CopyRevprops.new.folders c.as_str-in-CopyRevprops.result.now c.as_str-in-CopyRevprops-2.result.now (IsWorkedOver (IsCopied c.in-CopyRevprops.token (first_in c.in-CopyRevprops.range) h) (g.W.Write.contents c.args.output.inner) (g.W.Write.contents c.mirrored-in-CopyRevprops.result.0.inner)))) c.last.ensures
-    (subst (λ l. OnOk c.mirrored-in-CopyRevprops.result.1 (OfBoth g.F.Place.Disk g.F.Folders c.args.folders.now c.mirrored-in-CopyRevprops.new.folders c.as_str-in-CopyRevprops.result.now c.as_str-in-CopyRevprops-2.result.now (IsWorkedOver (IsCopied c.in-CopyRevprops.token l c.last.result) (g.W.Write.contents c.args.output.inner) (g.W.Write.contents c.mirrored-in-CopyRevprops.result.0.inner)))) c.first.ensures c.mirrored-in-CopyRevprops.ensures.done)))
+    subst (λ k. OnOk c.mirrored-in-CopyRevprops.result.1 (IsDone g.F.Place.Disk g.F.Folders c.args.folders.now c.mirrored-in-CopyRevprops.new.folders k (g.I.Input.remaining c.args.input.now) (g.O.Output.contents c.args.output) (g.O.Output.contents c.mirrored-in-CopyRevprops.result.0))) (sym c.in-CopyRevprops.is)
+    (both_at c.mirrored-in-CopyRevprops.result.1 (λ m s. OfBoth g.F.Place.Disk g.F.Folders c.args.folders.now c.mirrored-in-CopyRevprops.new.folders m s (IsWorkedOver (IsCopied c.in-CopyRevprops.token (first_in c.in-CopyRevprops.range) (last_in c.in-CopyRevprops.range)) (g.O.Output.contents c.args.output) (g.O.Output.contents c.mirrored-in-CopyRevprops.result.0)))
+    c.as_str-in-CopyRevprops.result.now (string_bytes c.in-CopyRevprops.mirror) c.as_str-in-CopyRevprops-2.result.now (string_bytes c.in-CopyRevprops.source) c.as_str-in-CopyRevprops.ensures.value c.as_str-in-CopyRevprops-2.ensures.value (subst (λ h. OnOk c.mirrored-in-CopyRevprops.result.1 (OfBoth g.F.Place.Disk g.F.Folders c.args.folders.now c.mirrored-in-CopyRevprops.new.folders c.as_str-in-CopyRevprops.result.now c.as_str-in-CopyRevprops-2.result.now (IsWorkedOver (IsCopied c.in-CopyRevprops.token (first_in c.in-CopyRevprops.range) h) (g.O.Output.contents c.args.output) (g.O.Output.contents c.mirrored-in-CopyRevprops.result.0)))) c.last.ensures
+    (subst (λ l. OnOk c.mirrored-in-CopyRevprops.result.1 (OfBoth g.F.Place.Disk g.F.Folders c.args.folders.now c.mirrored-in-CopyRevprops.new.folders c.as_str-in-CopyRevprops.result.now c.as_str-in-CopyRevprops-2.result.now (IsWorkedOver (IsCopied c.in-CopyRevprops.token l c.last.result) (g.O.Output.contents c.args.output) (g.O.Output.contents c.mirrored-in-CopyRevprops.result.0)))) c.first.ensures c.mirrored-in-CopyRevprops.ensures.done)))
 
 pub returns-in-CopyRevprops-clause-refused : goal.returns-in-CopyRevprops-clause-refused
 returns-in-CopyRevprops-clause-refused g c =
-    subst (λ k. IfErr c.mirrored-in-CopyRevprops.result.1 (IsNotDone g.F.Place.Disk g.F.Folders c.args.folders.now c.mirrored-in-CopyRevprops.new.folders k (g.R.Read.remaining c.args.input.now.inner) (g.W.Write.contents c.args.output.inner) (g.W.Write.contents c.mirrored-in-CopyRevprops.result.0.inner) c.mirrored-in-CopyRevprops.result.0.failed)) (sym c.in-CopyRevprops.is)
-    (not_both_at c.mirrored-in-CopyRevprops.result.1 (λ m s e. UnopenedBoth g.F.Place.Disk g.F.Folders c.args.folders.now c.mirrored-in-CopyRevprops.new.folders m s (g.W.Write.contents c.args.output.inner) (g.W.Write.contents c.mirrored-in-CopyRevprops.result.0.inner) e (NotWorkedOver (IsCopied c.in-CopyRevprops.token (first_in c.in-CopyRevprops.range) (last_in c.in-CopyRevprops.range)) (g.W.Write.contents c.args.output.inner) (g.W.Write.contents c.mirrored-in-CopyRevprops.result.0.inner) c.mirrored-in-CopyRevprops.result.0.failed e))
-    c.as_str-in-CopyRevprops.result.now (string_bytes c.in-CopyRevprops.mirror) c.as_str-in-CopyRevprops-2.result.now (string_bytes c.in-CopyRevprops.source) c.as_str-in-CopyRevprops.ensures.value c.as_str-in-CopyRevprops-2.ensures.value (subst (λ h. IfErr c.mirrored-in-CopyRevprops.result.1 (λ e. UnopenedBoth g.F.Place.Disk g.F.Folders c.args.folders.now c.mirrored-in-CopyRevprops.new.folders c.as_str-in-CopyRevprops.result.now c.as_str-in-CopyRevprops-2.result.now (g.W.Write.contents c.args.output.inner) (g.W.Write.contents c.mirrored-in-CopyRevprops.result.0.inner) e (NotWorkedOver (IsCopied c.in-CopyRevprops.token (first_in c.in-CopyRevprops.range) h) (g.W.Write.contents c.args.output.inner) (g.W.Write.contents c.mirrored-in-CopyRevprops.result.0.inner) c.mirrored-in-CopyRevprops.result.0.failed e))) c.last.ensures
-    (subst (λ l. IfErr c.mirrored-in-CopyRevprops.result.1 (λ e. UnopenedBoth g.F.Place.Disk g.F.Folders c.args.folders.now c.mirrored-in-CopyRevprops.new.folders c.as_str-in-CopyRevprops.result.now c.as_str-in-CopyRevprops-2.result.now (g.W.Write.contents c.args.output.inner) (g.W.Write.contents c.mirrored-in-CopyRevprops.result.0.inner) e (NotWorkedOver (IsCopied c.in-CopyRevprops.token l c.last.result) (g.W.Write.contents c.args.output.inner) (g.W.Write.contents c.mirrored-in-CopyRevprops.result.0.inner) c.mirrored-in-CopyRevprops.result.0.failed e))) c.first.ensures c.mirrored-in-CopyRevprops.ensures.refused)))
+    subst (λ k. IfErr c.mirrored-in-CopyRevprops.result.1 (IsNotDone g.F.Place.Disk g.F.Folders c.args.folders.now c.mirrored-in-CopyRevprops.new.folders k (g.I.Input.remaining c.args.input.now) (g.O.Output.contents c.args.output) (g.O.Output.failures c.args.output) (g.O.Output.contents c.mirrored-in-CopyRevprops.result.0) (g.O.Output.failures c.mirrored-in-CopyRevprops.result.0))) (sym c.in-CopyRevprops.is)
+    (not_both_at c.mirrored-in-CopyRevprops.result.1 (λ m s e. UnopenedBoth g.F.Place.Disk g.F.Folders c.args.folders.now c.mirrored-in-CopyRevprops.new.folders m s (g.O.Output.contents c.args.output) (g.O.Output.contents c.mirrored-in-CopyRevprops.result.0) e (NotWorkedOver (IsCopied c.in-CopyRevprops.token (first_in c.in-CopyRevprops.range) (last_in c.in-CopyRevprops.range)) (g.O.Output.contents c.args.output) (g.O.Output.contents c.mirrored-in-CopyRevprops.result.0) (Rose (g.O.Output.failures c.args.output) (g.O.Output.failures c.mirrored-in-CopyRevprops.result.0)) e))
+    c.as_str-in-CopyRevprops.result.now (string_bytes c.in-CopyRevprops.mirror) c.as_str-in-CopyRevprops-2.result.now (string_bytes c.in-CopyRevprops.source) c.as_str-in-CopyRevprops.ensures.value c.as_str-in-CopyRevprops-2.ensures.value (subst (λ h. IfErr c.mirrored-in-CopyRevprops.result.1 (λ e. UnopenedBoth g.F.Place.Disk g.F.Folders c.args.folders.now c.mirrored-in-CopyRevprops.new.folders c.as_str-in-CopyRevprops.result.now c.as_str-in-CopyRevprops-2.result.now (g.O.Output.contents c.args.output) (g.O.Output.contents c.mirrored-in-CopyRevprops.result.0) e (NotWorkedOver (IsCopied c.in-CopyRevprops.token (first_in c.in-CopyRevprops.range) h) (g.O.Output.contents c.args.output) (g.O.Output.contents c.mirrored-in-CopyRevprops.result.0) (Rose (g.O.Output.failures c.args.output) (g.O.Output.failures c.mirrored-in-CopyRevprops.result.0)) e))) c.last.ensures
+    (subst (λ l. IfErr c.mirrored-in-CopyRevprops.result.1 (λ e. UnopenedBoth g.F.Place.Disk g.F.Folders c.args.folders.now c.mirrored-in-CopyRevprops.new.folders c.as_str-in-CopyRevprops.result.now c.as_str-in-CopyRevprops-2.result.now (g.O.Output.contents c.args.output) (g.O.Output.contents c.mirrored-in-CopyRevprops.result.0) e (NotWorkedOver (IsCopied c.in-CopyRevprops.token l c.last.result) (g.O.Output.contents c.args.output) (g.O.Output.contents c.mirrored-in-CopyRevprops.result.0) (Rose (g.O.Output.failures c.args.output) (g.O.Output.failures c.mirrored-in-CopyRevprops.result.0)) e))) c.first.ensures c.mirrored-in-CopyRevprops.ensures.refused)))

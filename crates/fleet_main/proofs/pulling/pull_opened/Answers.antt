@@ -4,12 +4,12 @@ use Rattle.fleet_main.proofs.pulling.pull_opened.Goals as goal
 
 pub returns-clause-done : goal.returns-clause-done
 returns-clause-done g c =
-    pulled_done g.W.Write.contents (IsWorked c.args.work) c.run_work_from.result.2 c.args.mirror c.run_work_from.result.0 c.args.output c.run_work_from.result.1 c.run_work_from.ensures.ran
+    pulled_done g.O.Output.contents g.O.Output.failures (IsWorked c.args.work) c.run_work_from.result.2 c.args.mirror c.run_work_from.result.0 c.args.output c.run_work_from.result.1 c.run_work_from.ensures.ran
 
 pub returns-clause-refused : goal.returns-clause-refused
 returns-clause-refused g c =
-    pulled_refused g.W.Write.contents (IsWorked c.args.work) c.run_work_from.result.2 c.args.mirror c.run_work_from.result.0 c.args.output c.run_work_from.result.1 c.run_work_from.ensures.ran
+    pulled_refused g.O.Output.contents g.O.Output.failures (IsWorked c.args.work) c.run_work_from.result.2 c.args.mirror c.run_work_from.result.0 c.args.output c.run_work_from.result.1 c.run_work_from.ensures.ran
 
 pub returns-clause-rules : goal.returns-clause-rules
 returns-clause-rules g c =
-    pulled_rules g.W.Write.contents (IsWorked c.args.work) c.run_work_from.result.2 c.args.mirror c.run_work_from.result.0 c.args.output c.run_work_from.result.1 c.run_work_from.ensures.ran
+    pulled_rules g.O.Output.contents g.O.Output.failures (IsWorked c.args.work) c.run_work_from.result.2 c.args.mirror c.run_work_from.result.0 c.args.output c.run_work_from.result.1 c.run_work_from.ensures.ran

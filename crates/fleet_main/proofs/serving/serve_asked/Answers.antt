@@ -7,12 +7,12 @@ use Rattle.fleet_main.proofs.serving.serve_asked.Goals as goal
 
 pub returns-clause-done : goal.returns-clause-done
 returns-clause-done g c =
-    done_at c.serve_folder.result
-    (λ t. OfServed g.F.Place.Disk g.F.Folders c.args.folders.now c.serve_folder.new.folders t (Appends (g.W.Write.contents c.args.output.now.inner) (g.W.Write.contents c.serve_folder.new.output.inner) (listening c.args.service.now.port)))
+    done_at c.serve_folder.result.1
+    (λ t. OfServed g.F.Place.Disk g.F.Folders c.args.folders.now c.serve_folder.new.folders t (Appends (g.O.Output.contents c.args.output) (g.O.Output.contents c.serve_folder.result.0) (listening c.args.service.now.port)))
     c.as_str-folder.result.now (string_bytes c.args.service.now.folder) c.as_str-folder.ensures.value c.serve_folder.ensures.done
 
 pub returns-clause-refused : goal.returns-clause-refused
 returns-clause-refused g c =
-    refused_at c.serve_folder.result
-    (λ t. NotServedIn g.F.Place.Disk g.F.Folders c.args.folders.now c.serve_folder.new.folders t (g.W.Write.contents c.args.output.now.inner) (g.W.Write.contents c.serve_folder.new.output.inner))
+    refused_at c.serve_folder.result.1
+    (λ t. NotServedIn g.F.Place.Disk g.F.Folders c.args.folders.now c.serve_folder.new.folders t (g.O.Output.contents c.args.output) (g.O.Output.contents c.serve_folder.result.0))
     c.as_str-folder.result.now (string_bytes c.args.service.now.folder) c.as_str-folder.ensures.value c.serve_folder.ensures.refused

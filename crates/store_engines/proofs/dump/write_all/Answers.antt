@@ -10,6 +10,6 @@ loop-number-preserved g c =
       omega (arith, i.1),
       omega (arith, i.1, i.3, c.loop-number-test.true, c.index-number-end.ensures.number),
       i.3,
-      written_more (repository_of c.args.store.now) c.args.first i.0 c.new.result (g.W.Write.contents c.args.output.now.inner) (g.W.Write.contents c.loop-number.output.inner) (g.W.Write.contents c.write_one.new.output.inner) (c.new.ensures ∙ i.1) i.4 c.in_ok-write_one.ensures.ok,
+      written_more (repository_of c.args.store.now) c.args.first i.0 c.new.result (g.O.Output.contents c.args.output.now) (g.O.Output.contents c.loop-number.output) (g.O.Output.contents c.write_one.new.output) (c.new.ensures ∙ i.1) i.4 c.in_ok-write_one.ensures.ok,
       c.in_ok-write_one.ensures.peer ∙ i.5,
     )

@@ -10,5 +10,5 @@ invariant-loop-number g l =
     × (l.number ≡ l.fn.first + written)
     × (written ≤ l.fn.last + 1 - l.fn.first)
     × (l.number-end ≡ l.fn.last + 1)
-    × Appends (g.W.Write.contents l.fn.output.inner) (g.W.Write.contents l.output.inner) (revisions_text (repository_of l.fn.store) l.fn.first written)
-    × (l.output.failed ≡ l.fn.output.failed)
+    × Appends (g.O.Output.contents l.fn.output) (g.O.Output.contents l.output) (revisions_text (repository_of l.fn.store) l.fn.first written)
+    × (g.O.Output.failures l.output ≡ g.O.Output.failures l.fn.output)

@@ -6,6 +6,7 @@ use Rattle.dump_text.specs.declared.record.DumpRecord.{DumpRecord}
 use Rattle.fleet_engines.specs.Grouping.{records_of_rev}
 use Rattle.repo_core.specs.declared.entry.Entry.TheVariants.{Revised}
 use Rattle.repo_store.specs.Words.{repository_of, revisions_of}
+use Rattle.byte_streams.specs.Causes.{Rose}
 use Rattle.store_engines.specs.Loads.{load_refused, load_stops, unfit}
 use Rattle.store_engines.proofs.Loading.{next_err, next_said, next_unsaid}
 use Rattle.store_engines.specs.Devices.{is_device}
@@ -27,17 +28,17 @@ returns-in_err-commit-clause-refused g c =
     let p = err_from_is_err_and c.from_residual-in_err-commit.result c.from_residual-in_err-commit.ensures.1 in
     let trees = c.trees.ensures.trees ∙ ap (λ v. trees_of v.revisions) c.repo.ensures.value in
     rw (p.1, p.2)
-    (next_err (repository_of c.args.store.now) c.commit.new.store (rev_of c.args.revision) c.in_ok-set.set c.trees.result.now trees (g.W.Write.contents c.args.output.now.inner) c.args.output.now.failed c.in_err-commit.field-0.0 c.requires.later (c.in_ok-set.ensures.set c.args.revision.props) c.in_err-commit.ensures.same c.in_err-commit.ensures.refused)
+    (next_err (repository_of c.args.store.now) c.commit.new.store (rev_of c.args.revision) c.in_ok-set.set c.trees.result.now trees (g.O.Output.contents c.args.output.now) (Rose (g.O.Output.failures c.args.output.now) (g.O.Output.failures c.args.output.now)) c.in_err-commit.field-0.0 c.requires.later (c.in_ok-set.ensures.set c.args.revision.props) c.in_err-commit.ensures.same c.in_err-commit.ensures.refused)
 
 pub returns-clause-ok : goal.returns-clause-ok
 returns-clause-ok g c =
     let trees = c.trees.ensures.trees ∙ ap (λ v. trees_of v.revisions) c.repo.ensures.value in
-    next_said (repository_of c.args.store.now) (repository_of c.commit.new.store) (rev_of c.args.revision) c.in_ok-set.set c.trees.result.now trees (g.W.Write.contents c.args.output.now.inner) (g.W.Write.contents c.say.new.output.inner) _ c.say.result c.requires.later (c.in_ok-set.ensures.set c.args.revision.props) c.in_ok-commit.ensures.taken c.in_ok-commit.ensures.ok c.in-Ok.ensures c.say.ensures.ok
+    next_said (repository_of c.args.store.now) (repository_of c.commit.new.store) (rev_of c.args.revision) c.in_ok-set.set c.trees.result.now trees (g.O.Output.contents c.args.output.now) (g.O.Output.contents c.say.new.output) _ c.say.result c.requires.later (c.in_ok-set.ensures.set c.args.revision.props) c.in_ok-commit.ensures.taken c.in_ok-commit.ensures.ok c.in-Ok.ensures c.say.ensures.ok
 
 pub returns-clause-refused : goal.returns-clause-refused
 returns-clause-refused g c =
     let trees = c.trees.ensures.trees ∙ ap (λ v. trees_of v.revisions) c.repo.ensures.value in
-    next_unsaid (repository_of c.args.store.now) c.commit.new.store (rev_of c.args.revision) c.in_ok-set.set c.trees.result.now trees (g.W.Write.contents c.args.output.now.inner) (g.W.Write.contents c.say.new.output.inner) c.say.new.output.failed c.say.result c.requires.later (c.in_ok-set.ensures.set c.args.revision.props) c.in_ok-commit.ensures.taken c.in_ok-commit.ensures.ok c.say.ensures.failed c.say.ensures.only_peer
+    next_unsaid (repository_of c.args.store.now) c.commit.new.store (rev_of c.args.revision) c.in_ok-set.set c.trees.result.now trees (g.O.Output.contents c.args.output.now) (g.O.Output.contents c.say.new.output) (Rose (g.O.Output.failures c.args.output.now) (g.O.Output.failures c.say.new.output)) c.say.result c.requires.later (c.in_ok-set.ensures.set c.args.revision.props) c.in_ok-commit.ensures.taken c.in_ok-commit.ensures.ok c.say.ensures.failed c.say.ensures.only_peer
 
 pub returns-in_err-set-clause-device : goal.returns-in_err-set-clause-device
 returns-in_err-set-clause-device g c safe =

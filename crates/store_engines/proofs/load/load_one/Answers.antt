@@ -4,6 +4,7 @@ use Rattle.fleet_engines.specs.Revisions.{is_zero}
 use Rattle.repo_core.specs.Repository.{trees_of}
 use Rattle.repo_store.specs.Words.{repository_of}
 use Rattle.repo_core.specs.declared.entry.Entry.TheVariants.{Mapped}
+use Rattle.byte_streams.specs.Causes.{Rose}
 use Rattle.store_engines.specs.Loads.{of_zero}
 use Rattle.store_engines.proofs.Loading.{zero_said, zero_err}
 use Rattle.store_engines.proofs.Serving.{of_entry}
@@ -13,13 +14,13 @@ pub returns-then-is_zero-clause-ok : goal.returns-then-is_zero-clause-ok
 returns-then-is_zero-clause-ok g c =
     let r = rev_of c.args.revision in
     let zero = ap (λ v. is_zero (trees_of v.revisions) r) (sym c.repo.ensures.value) ∙ sym c.is_zero.ensures ∙ c.if-is_zero.true in
-    zero_said (repository_of c.args.store.now) (repository_of c.put_zero.new.store) r (g.W.Write.contents c.args.output.now.inner) c.put_zero.result zero c.put_zero.ensures.taken c.put_zero.ensures.ok
+    zero_said (repository_of c.args.store.now) (repository_of c.put_zero.new.store) r (g.O.Output.contents c.args.output.now) c.put_zero.result zero c.put_zero.ensures.taken c.put_zero.ensures.ok
 
 pub returns-then-is_zero-clause-refused : goal.returns-then-is_zero-clause-refused
 returns-then-is_zero-clause-refused g c =
     let r = rev_of c.args.revision in
     let zero = ap (λ v. is_zero (trees_of v.revisions) r) (sym c.repo.ensures.value) ∙ sym c.is_zero.ensures ∙ c.if-is_zero.true in
-    zero_err (repository_of c.args.store.now) c.put_zero.new.store r (g.W.Write.contents c.args.output.now.inner) c.args.output.now.failed c.put_zero.result zero c.put_zero.ensures.same c.put_zero.ensures.refused
+    zero_err (repository_of c.args.store.now) c.put_zero.new.store r (g.O.Output.contents c.args.output.now) (Rose (g.O.Output.failures c.args.output.now) (g.O.Output.failures c.args.output.now)) c.put_zero.result zero c.put_zero.ensures.same c.put_zero.ensures.refused
 
 pub returns-then-is_zero-clause-device : goal.returns-then-is_zero-clause-device
 returns-then-is_zero-clause-device g c safe =

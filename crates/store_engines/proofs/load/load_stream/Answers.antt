@@ -1,6 +1,7 @@
 use Rattle.std.proofs.Common.{◌<◌, [], Ok, Err, ap, length, arith, refl, subst}
 use Rattle.std.proofs.lemmas.Result.{err_from_is_err_and, on_ok_weaker, IfErr-weaker}
-use Rattle.fleet_engines.proofs.Streaming.{later_flagged}
+use Rattle.fleet_engines.proofs.Streaming.{later_counted}
+use Rattle.byte_streams.specs.Causes.{Rose, counts}
 use Rattle.repo_store.specs.Words.{repository_of}
 use Rattle.store_engines.specs.Loaders.{last_of}
 use Rattle.store_engines.specs.Loads.{coming, read_of, Loaded, Refused, ServesRecords}
@@ -14,13 +15,13 @@ use Rattle.store_engines.proofs.Devices.{serves_on, unserved}
 use Rattle.store_engines.proofs.load.load_stream.Goals as goal
 
 pub returns-in_default-clause-refused : goal.returns-in_default-clause-refused
-returns-in_default-clause-refused g c = first_refused c.args.store.now (g.W.Write.contents c.args.output.now.inner) (g.R.Read.remaining c.args.input.now.inner) c.args.output.now.failed
+returns-in_default-clause-refused g c = first_refused c.args.store.now (g.O.Output.contents c.args.output.now) (g.I.Input.remaining c.args.input.now) (Rose (g.O.Output.failures c.args.output.now) (g.O.Output.failures c.args.output.now))
 
 pub returns-in_err-read_all-clause-refused : goal.returns-in_err-read_all-clause-refused
 returns-in_err-read_all-clause-refused g c =
     let p = err_from_is_err_and c.from_residual.result c.from_residual.ensures.1 in
     rw (p.1, p.2)
-    (c.in_err-read_all.ensures.refused (repository_of c.args.store.now) (g.W.Write.contents c.args.output.now.inner) (first_reached (repository_of c.args.store.now) c.new-reader.result (last_of c.new-loader.result) (g.W.Write.contents c.args.output.now.inner) c.new-reader.ensures c.new-loader.ensures))
+    (c.in_err-read_all.ensures.refused (repository_of c.args.store.now) (g.O.Output.contents c.args.output.now) (first_reached (repository_of c.args.store.now) c.new-reader.result (last_of c.new-loader.result) (g.O.Output.contents c.args.output.now) c.new-reader.ensures c.new-loader.ensures))
 
 pub returns-in_err-read_all-clause-peer : goal.returns-in_err-read_all-clause-peer
 returns-in_err-read_all-clause-peer g c =
@@ -31,32 +32,33 @@ pub returns-clause-ok : goal.returns-clause-ok
 returns-clause-ok g c =
     let y = repository_of c.read_all.new.store in
     let z = repository_of c.finish.new.store in
-    let now = g.W.Write.contents c.read_all.new.output.inner in
-    let later = g.W.Write.contents c.finish.new.output.inner in
+    let now = g.O.Output.contents c.read_all.new.output in
+    let later = g.O.Output.contents c.finish.new.output in
     let some : 0 < length c.as_mut_slice.result.now = omega (arith, c.as_mut_slice.ensures.len, c.in-Ok.ensures.len) in
     let r = c.in_ok-read_all.ensures.ok some in
     on_ok_weaker c.finish.result
-    (λ k. run_ended (repository_of c.args.store.now) y c.new-reader.result c.read_all.new.reader (last_of c.new-loader.result) (last_of c.read_all.new.loader) (g.W.Write.contents c.args.output.now.inner) now (g.R.Read.remaining c.args.input.now.inner) (g.R.Read.remaining c.read_all.new.input.inner) r.0
-    (λ bytes. Loaded (repository_of c.args.store.now) bytes z (g.W.Write.contents c.args.output.now.inner) later) c.new-reader.ensures c.new-loader.ensures r.1 r.2 r.3 (λ bs w. k (repository_of c.args.store.now) bs (g.W.Write.contents c.args.output.now.inner) w))
+    (λ k. run_ended (repository_of c.args.store.now) y c.new-reader.result c.read_all.new.reader (last_of c.new-loader.result) (last_of c.read_all.new.loader) (g.O.Output.contents c.args.output.now) now (g.I.Input.remaining c.args.input.now) (g.I.Input.remaining c.read_all.new.input) r.0
+    (λ bytes. Loaded (repository_of c.args.store.now) bytes z (g.O.Output.contents c.args.output.now) later) c.new-reader.ensures c.new-loader.ensures r.1 r.2 r.3 (λ bs w. k (repository_of c.args.store.now) bs (g.O.Output.contents c.args.output.now) w))
     c.finish.ensures.ok
 
 pub returns-clause-refused : goal.returns-clause-refused
 returns-clause-refused g c =
     let y = repository_of c.read_all.new.store in
     let z = repository_of c.finish.new.store in
-    let now = g.W.Write.contents c.read_all.new.output.inner in
-    let later = g.W.Write.contents c.finish.new.output.inner in
+    let now = g.O.Output.contents c.read_all.new.output in
+    let later = g.O.Output.contents c.finish.new.output in
     let some : 0 < length c.as_mut_slice.result.now = omega (arith, c.as_mut_slice.ensures.len, c.in-Ok.ensures.len) in
     let r = c.in_ok-read_all.ensures.ok some in
     IfErr-weaker c.finish.result _ _
-    (λ e k. run_ended (repository_of c.args.store.now) y c.new-reader.result c.read_all.new.reader (last_of c.new-loader.result) (last_of c.read_all.new.loader) (g.W.Write.contents c.args.output.now.inner) now (g.R.Read.remaining c.args.input.now.inner) (g.R.Read.remaining c.read_all.new.input.inner) r.0
-    (λ bytes. Refused (repository_of c.args.store.now) bytes c.finish.new.store (g.W.Write.contents c.args.output.now.inner) later c.finish.new.output.failed e) c.new-reader.ensures c.new-loader.ensures r.1 r.2 r.3 (λ bs w. k (repository_of c.args.store.now) bs (g.W.Write.contents c.args.output.now.inner) w))
+    (λ e k. run_ended (repository_of c.args.store.now) y c.new-reader.result c.read_all.new.reader (last_of c.new-loader.result) (last_of c.read_all.new.loader) (g.O.Output.contents c.args.output.now) now (g.I.Input.remaining c.args.input.now) (g.I.Input.remaining c.read_all.new.input) r.0
+    (λ bytes. Refused (repository_of c.args.store.now) bytes c.finish.new.store (g.O.Output.contents c.args.output.now) later (Rose (g.O.Output.failures c.args.output.now) (g.O.Output.failures c.finish.new.output)) e) c.new-reader.ensures c.new-loader.ensures r.1 r.2 r.3
+    (λ bs w. subst (λ n. Refused (repository_of c.args.store.now) bs c.finish.new.store (g.O.Output.contents c.args.output.now) later (Rose n (g.O.Output.failures c.finish.new.output)) e) c.in_ok-read_all.ensures.peer.1 (k (repository_of c.args.store.now) bs (g.O.Output.contents c.args.output.now) w)))
     c.finish.ensures.refused
 
 pub returns-clause-peer : goal.returns-clause-peer
 returns-clause-peer g c =
     let f = c.in_ok-read_all.ensures.peer in
-    later_flagged c.finish.result c.args.input.now.failed c.read_all.new.input.failed c.args.output.now.failed c.read_all.new.output.failed c.finish.new.output.failed f.0 f.1 c.finish.ensures.peer
+    later_counted c.finish.result (counts g.I.Input.failures g.I.Input.reads c.args.input.now c.read_all.new.input) (g.O.Output.failures c.args.output.now) (g.O.Output.failures c.read_all.new.output) (g.O.Output.failures c.finish.new.output) f.0 f.1 c.finish.ensures.peer
 
 pub returns-in_default-clause-device : goal.returns-in_default-clause-device
 returns-in_default-clause-device g c safe = unserved c.args.store.now _ refl safe
@@ -75,7 +77,7 @@ returns-clause-device g c safe =
 pub returns-in_default-clause-entries : goal.returns-in_default-clause-entries
 returns-in_default-clause-entries g c safe =
     let first = c.args.store.now in
-    some_all (g.R.Read.remaining c.args.input.now.inner) (λ bytes. ServesRecords (filter is_no_identity (records_of (dump bytes))) first first (Err refusal.OutOfMemory) [])
+    some_all (g.I.Input.remaining c.args.input.now) (λ bytes. ServesRecords (filter is_no_identity (records_of (dump bytes))) first first (Err refusal.OutOfMemory) [])
     (λ bytes. nothing (filter is_no_identity (records_of (dump bytes))) [] first (Err refusal.OutOfMemory) refl tt safe)
 
 pub returns-in_err-read_all-clause-entries : goal.returns-in_err-read_all-clause-entries
@@ -88,7 +90,7 @@ returns-in_err-read_all-clause-entries g c safe =
     let last = last_of c.new-loader.result in
     let later = read_of (last_of c.read_all.new.loader) in
     rw (p.1, p.2)
-    (some_weaker (g.R.Read.remaining c.args.input.now.inner) (λ bytes. ServesRecords (coming last c.new-reader.result bytes) first store (Err e) later) (λ bytes. ServesRecords (filter is_no_identity (records_of (dump bytes))) first store (Err e) [])
+    (some_weaker (g.I.Input.remaining c.args.input.now) (λ bytes. ServesRecords (coming last c.new-reader.result bytes) first store (Err e) later) (λ bytes. ServesRecords (filter is_no_identity (records_of (dump bytes))) first store (Err e) [])
     (λ bytes k. refused_left (filter is_no_identity (records_of (dump bytes))) later [] first store e (subst (λ l. ServesRecords l first store (Err e) later) (from_start last c.new-reader.result bytes c.new-loader.ensures c.new-reader.ensures) k))
     (c.in_err-read_all.ensures.entries some (ap has_failed c.new-reader.ensures) safe))
 
@@ -102,6 +104,6 @@ returns-clause-entries g c safe =
     let last = last_of c.new-loader.result in
     let later = read_of (last_of c.read_all.new.loader) in
     let served = c.finish.ensures.device (c.in_ok-read_all.ensures.reading fresh) (c.in_ok-read_all.ensures.device fresh safe).safe in
-    some_weaker (g.R.Read.remaining c.args.input.now.inner) (λ bytes. ServesRecords (coming last c.new-reader.result bytes) first mid (Ok _) later) (λ bytes. ServesRecords (filter is_no_identity (records_of (dump bytes))) first end c.finish.result [])
+    some_weaker (g.I.Input.remaining c.args.input.now) (λ bytes. ServesRecords (coming last c.new-reader.result bytes) first mid (Ok _) later) (λ bytes. ServesRecords (filter is_no_identity (records_of (dump bytes))) first end c.finish.result [])
     (λ bytes k. subst (λ l. ServesRecords l first end c.finish.result []) (from_start last c.new-reader.result bytes c.new-loader.ensures c.new-reader.ensures) (records_on (coming last c.new-reader.result bytes) later [] first mid end _ c.finish.result k served))
     (c.in_ok-read_all.ensures.entries some fresh safe)

@@ -31,7 +31,7 @@ returns-in_err-refuse_mirror-clause-entries g c =
     let e = c.in_err-refuse_mirror.field-0.0 in
     let other = ap is_device c.in_err-refuse_mirror.ensures.refused.0 in
     rw (p.1, p.2)
-    (some_all (g.R.Read.remaining c.args.input.now.inner) (λ bytes. ServesRecords (filter is_no_identity (records_of (dump bytes))) first first (Err e) [])
+    (some_all (g.I.Input.remaining c.args.input.now) (λ bytes. ServesRecords (filter is_no_identity (records_of (dump bytes))) first first (Err e) [])
     (λ bytes. nothing (filter is_no_identity (records_of (dump bytes))) [] first (Err e) other tt (λ h w image left. c.repo.ensures.keeps h w image (g.met.D.Disk.only_now (disk_of first) image h left))))
 
 pub returns-clause-entries : goal.returns-clause-entries

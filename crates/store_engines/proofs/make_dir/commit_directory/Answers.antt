@@ -3,6 +3,7 @@ use Rattle.repo_core.specs.Entries.{with_entry_in}
 use Rattle.repo_core.specs.declared.entry.Entry.{Entry}
 use Rattle.repo_core.specs.Repository.{Repository}
 use Rattle.repo_store.specs.Words.{repository_of, revisions_of}
+use Rattle.byte_streams.specs.Causes.{Rose}
 use Rattle.store_engines.specs.Commits.{committed_line, directory_entry}
 use Rattle.store_engines.specs.Loads.{entry_fault, ServesOne}
 use Rattle.store_engines.proofs.Committing.{committed, entry_is, message_refused, not_committed, unsaid}
@@ -21,14 +22,14 @@ returns-clause-ok g c =
     let z = repository_of c.commit.new.store in
     let entry = entry_is x.revisions c.args.path c.args.message.now c.args.moment c.in_ok-set.set c.in-Ok.props c.in_ok-set.ensures.set c.in-Ok.ensures in
     let line = c.in-Ok-committed_line.ensures ∙ ap committed_line (c.trees.ensures.count ∙ ap (λ (r : Repository). length r.revisions) c.repo.ensures.value) in
-    committed x z c.args.message.now c.args.moment c.args.path (g.W.Write.contents c.args.output.now.inner) (g.W.Write.contents c.say.new.output.inner) _ c.say.result
+    committed x z c.args.message.now c.args.moment c.args.path (g.O.Output.contents c.args.output.now) (g.O.Output.contents c.say.new.output) _ c.say.result
     (subst (λ (e : Entry). entry_fault x.revisions e ≡ None) entry c.in_ok-commit.ensures.taken) (subst (λ (e : Entry). z ≡ with_entry_in x e) entry c.in_ok-commit.ensures.ok) line c.say.ensures.ok
 
 pub returns-clause-refused : goal.returns-clause-refused
 returns-clause-refused g c =
     let x = repository_of c.args.store.now in
     let entry = entry_is x.revisions c.args.path c.args.message.now c.args.moment c.in_ok-set.set c.in-Ok.props c.in_ok-set.ensures.set c.in-Ok.ensures in
-    unsaid x c.commit.new.store c.args.message.now c.args.moment c.args.path (g.W.Write.contents c.args.output.now.inner) (g.W.Write.contents c.say.new.output.inner) c.say.new.output.failed c.say.result
+    unsaid x c.commit.new.store c.args.message.now c.args.moment c.args.path (g.O.Output.contents c.args.output.now) (g.O.Output.contents c.say.new.output) (Rose (g.O.Output.failures c.args.output.now) (g.O.Output.failures c.say.new.output)) c.say.result
     (subst (λ (e : Entry). entry_fault x.revisions e ≡ None) entry c.in_ok-commit.ensures.taken) (subst (λ (e : Entry). repository_of c.commit.new.store ≡ with_entry_in x e) entry c.in_ok-commit.ensures.ok) c.say.ensures.failed c.say.ensures.only_peer
 
 pub returns-clause-device : goal.returns-clause-device
@@ -46,7 +47,7 @@ returns-in_err-set-clause-device g c safe =
 pub returns-then-message-gt-PROP_VALUE_BYTES-clause-refused : goal.returns-then-message-gt-PROP_VALUE_BYTES-clause-refused
 returns-then-message-gt-PROP_VALUE_BYTES-clause-refused g c =
     let long : 65536 < length c.args.message.now = omega (arith, c.if-message-gt-PROP_VALUE_BYTES.true) in
-    λ bytes m r. message_refused (repository_of c.args.store.now) c.refused_message.new.store bytes c.args.message.now c.args.moment c.args.path c.in_ok-set.set (g.W.Write.contents c.args.output.now.inner) c.args.output.now.failed c.refused_message.result c.refused_message.ensures.same c.in_ok-set.ensures.set long c.refused_message.ensures.due m r
+    λ bytes m r. message_refused (repository_of c.args.store.now) c.refused_message.new.store bytes c.args.message.now c.args.moment c.args.path c.in_ok-set.set (g.O.Output.contents c.args.output.now) (Rose (g.O.Output.failures c.args.output.now) (g.O.Output.failures c.args.output.now)) c.refused_message.result c.refused_message.ensures.same c.in_ok-set.ensures.set long c.refused_message.ensures.due m r
 
 pub returns-in_default-clause-device : goal.returns-in_default-clause-device
 returns-in_default-clause-device g c safe = none_done (directory_entry (revisions_of c.args.store.now) c.args.path c.args.message.now c.args.moment) c.args.store.now _ refl safe
@@ -61,7 +62,7 @@ returns-in_err-commit-clause-refused g c =
     let k = c.in_err-commit.field-0.0 in
     let entry = entry_is x.revisions c.args.path c.args.message.now c.args.moment c.in_ok-set.set c.in-Ok.props c.in_ok-set.ensures.set c.in-Ok.ensures in
     rw (p.1, p.2)
-    (λ bytes m r. not_committed x c.commit.new.store bytes c.args.message.now c.args.moment c.args.path (g.W.Write.contents c.args.output.now.inner) c.args.output.now.failed k c.in_err-commit.ensures.same
+    (λ bytes m r. not_committed x c.commit.new.store bytes c.args.message.now c.args.moment c.args.path (g.O.Output.contents c.args.output.now) (Rose (g.O.Output.failures c.args.output.now) (g.O.Output.failures c.args.output.now)) k c.in_err-commit.ensures.same
     (subst (λ (e : Entry). (k ≡ refusal.OutOfMemory) ⊎ CantKeep c.commit.new.store e k ⊎ ((f : RepoFault) × IsDue f (entry_fault x.revisions e) × (k ≡ repo_refusal f))) entry c.in_err-commit.ensures.refused) m r)
 
 pub returns-in_err-commit-clause-device : goal.returns-in_err-commit-clause-device

@@ -7,14 +7,14 @@ use Rattle.fleet_engines.proofs.engine.Engine.finish.Goals as goal
 
 pub returns-in-Err-clause-refused : goal.returns-in-Err-clause-refused
 returns-in-Err-clause-refused g c =
-    let now = g.W.Write.contents c.args.output.now.inner in
+    let now = g.O.Output.contents c.args.output.now in
     rw c.dump_refusal.ensures.value
     (inr (λ bytes start. is_cut c.args.self.now.product bytes c.args.reader (told_of c.args.self.now.history) start now c.finish.result c.in-Err.fault c.finish.ensures.ended c.in-Err.is))
 
 pub returns-in-List-clause-ok : goal.returns-in-List-clause-ok
 returns-in-List-clause-ok g c =
-    let now = g.W.Write.contents c.args.output.now.inner in
-    let later = g.W.Write.contents c.finish_list.new.output.inner in
+    let now = g.O.Output.contents c.args.output.now in
+    let later = g.O.Output.contents c.finish_list.new.output in
     let t = told_of c.args.self.now.history in
     rw c.in-List.is
     (on_ok_weaker c.finish_list.result
@@ -23,8 +23,8 @@ returns-in-List-clause-ok g c =
 
 pub returns-in-List-clause-refused : goal.returns-in-List-clause-refused
 returns-in-List-clause-refused g c =
-    let now = g.W.Write.contents c.args.output.now.inner in
-    let later = g.W.Write.contents c.finish_list.new.output.inner in
+    let now = g.O.Output.contents c.args.output.now in
+    let later = g.O.Output.contents c.finish_list.new.output in
     let t = told_of c.args.self.now.history in
     IfErr-weaker c.finish_list.result _ _
     (λ e d. elim d [
@@ -35,8 +35,8 @@ returns-in-List-clause-refused g c =
 
 pub returns-in-Canon-clause-ok : goal.returns-in-Canon-clause-ok
 returns-in-Canon-clause-ok g c =
-    let now = g.W.Write.contents c.args.output.now.inner in
-    let later = g.W.Write.contents c.finish_canon.new.output.inner in
+    let now = g.O.Output.contents c.args.output.now in
+    let later = g.O.Output.contents c.finish_canon.new.output in
     let t = told_of c.args.self.now.history in
     rw c.in-Canon.is
     (on_ok_weaker c.finish_canon.result
@@ -45,8 +45,8 @@ returns-in-Canon-clause-ok g c =
 
 pub returns-in-Canon-clause-refused : goal.returns-in-Canon-clause-refused
 returns-in-Canon-clause-refused g c =
-    let now = g.W.Write.contents c.args.output.now.inner in
-    let later = g.W.Write.contents c.finish_canon.new.output.inner in
+    let now = g.O.Output.contents c.args.output.now in
+    let later = g.O.Output.contents c.finish_canon.new.output in
     let t = told_of c.args.self.now.history in
     IfErr-weaker c.finish_canon.result _ _
     (λ e d. elim d [

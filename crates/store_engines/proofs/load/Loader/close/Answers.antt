@@ -3,6 +3,7 @@ use Rattle.std.proofs.lemmas.Result.{on_ok_weaker, IfErr-weaker}
 use Rattle.std.specs.Option.{option_map}
 use Rattle.fleet_engines.specs.Histories.{rev_of}
 use Rattle.repo_store.specs.Words.{repository_of}
+use Rattle.byte_streams.specs.Causes.{Rose}
 use Rattle.store_engines.specs.Loaders.{last_of}
 use Rattle.store_engines.specs.Loads.{read_of, ServesRecords, Stands}
 use Rattle.store_engines.proofs.Loading.{closes, cant_close}
@@ -14,8 +15,8 @@ returns-in-Some-clause-ok g c =
     let r = rev_of c.in-Some.revision in
     let y = repository_of c.args.store.now in
     let z = repository_of c.load_one.new.store in
-    let a = g.W.Write.contents c.args.output.now.inner in
-    let now = g.W.Write.contents c.load_one.new.output.inner in
+    let a = g.O.Output.contents c.args.output.now in
+    let now = g.O.Output.contents c.load_one.new.output in
     let there : last_of c.args.self.now ≡ Some r = ap (option_map rev_of) (sym c.take.ensures.value ∙ c.in-Some.is) in
     on_ok_weaker c.load_one.result
     (λ k x rs start s.
@@ -28,13 +29,13 @@ pub returns-in-Some-clause-refused : goal.returns-in-Some-clause-refused
 returns-in-Some-clause-refused g c =
     let r = rev_of c.in-Some.revision in
     let y = repository_of c.args.store.now in
-    let a = g.W.Write.contents c.args.output.now.inner in
-    let now = g.W.Write.contents c.load_one.new.output.inner in
+    let a = g.O.Output.contents c.args.output.now in
+    let now = g.O.Output.contents c.load_one.new.output in
     let there : last_of c.args.self.now ≡ Some r = ap (option_map rev_of) (sym c.take.ensures.value ∙ c.in-Some.is) in
     IfErr-weaker c.load_one.result _ _
     (λ e k x rs start s.
     let t = subst (λ l. Stands x rs y l start a) there s in
-    cant_close x rs y c.load_one.new.store r start a now c.load_one.new.output.failed e t (k t.bare))
+    cant_close x rs y c.load_one.new.store r start a now (Rose (g.O.Output.failures c.args.output.now) (g.O.Output.failures c.load_one.new.output)) e t (k t.bare))
     c.load_one.ensures.refused
 
 pub returns-in-Some-clause-device : goal.returns-in-Some-clause-device

@@ -1,5 +1,6 @@
 use Rattle.std.proofs.lemmas.Result.{on_ok_weaker, IfErr-weaker}
 use Rattle.repo_store.specs.Words.{repository_of}
+use Rattle.byte_streams.specs.Causes.{Rose}
 use Rattle.store_engines.specs.Loaders.{last_of}
 use Rattle.store_engines.proofs.Feeding.{is_cut, is_ended, ended_ok, ended_err}
 use Rattle.std.proofs.Common.{◌∙◌, [], Err, ap, sym}
@@ -13,26 +14,26 @@ use Rattle.store_engines.proofs.load.Loader.finish.Goals as goal
 
 pub returns-in-Err-clause-refused : goal.returns-in-Err-clause-refused
 returns-in-Err-clause-refused g c =
-    let now = g.W.Write.contents c.args.output.now.inner in
+    let now = g.O.Output.contents c.args.output.now in
     rw c.dump_refusal.ensures.value
-    (λ x bytes start. is_cut x bytes c.args.reader c.args.store.now (last_of c.args.self.now) start now c.args.output.now.failed c.finish.result c.in-Err.fault c.finish.ensures.ended c.in-Err.is)
+    (λ x bytes start. is_cut x bytes c.args.reader c.args.store.now (last_of c.args.self.now) start now (Rose (g.O.Output.failures c.args.output.now) (g.O.Output.failures c.args.output.now)) c.finish.result c.in-Err.fault c.finish.ensures.ended c.in-Err.is)
 
 pub returns-clause-ok : goal.returns-clause-ok
 returns-clause-ok g c =
     let y = repository_of c.args.store.now in
     let last = last_of c.args.self.now in
-    let now = g.W.Write.contents c.args.output.now.inner in
+    let now = g.O.Output.contents c.args.output.now in
     on_ok_weaker c.close.result
-    (λ k x bytes start. ended_ok x bytes c.args.reader y (repository_of c.close.new.store) last start now (g.W.Write.contents c.close.new.output.inner) (is_ended x bytes c.args.reader y last start now c.finish.result c.in_default.field-0 c.finish.ensures.ended c.in_default.is) k)
+    (λ k x bytes start. ended_ok x bytes c.args.reader y (repository_of c.close.new.store) last start now (g.O.Output.contents c.close.new.output) (is_ended x bytes c.args.reader y last start now c.finish.result c.in_default.field-0 c.finish.ensures.ended c.in_default.is) k)
     c.close.ensures.ok
 
 pub returns-clause-refused : goal.returns-clause-refused
 returns-clause-refused g c =
     let y = repository_of c.args.store.now in
     let last = last_of c.args.self.now in
-    let now = g.W.Write.contents c.args.output.now.inner in
+    let now = g.O.Output.contents c.args.output.now in
     IfErr-weaker c.close.result _ _
-    (λ e k x bytes start. ended_err x bytes c.args.reader y c.close.new.store last start now (g.W.Write.contents c.close.new.output.inner) c.close.new.output.failed e (is_ended x bytes c.args.reader y last start now c.finish.result c.in_default.field-0 c.finish.ensures.ended c.in_default.is) k)
+    (λ e k x bytes start. ended_err x bytes c.args.reader y c.close.new.store last start now (g.O.Output.contents c.close.new.output) (Rose (g.O.Output.failures c.args.output.now) (g.O.Output.failures c.close.new.output)) e (is_ended x bytes c.args.reader y last start now c.finish.result c.in_default.field-0 c.finish.ensures.ended c.in_default.is) k)
     c.close.ensures.refused
 
 pub returns-in-Err-clause-device : goal.returns-in-Err-clause-device

@@ -1,6 +1,7 @@
 use Rattle.std.specs.List.{filter}
 use Rattle.std.proofs.lemmas.Result.{err_from_is_err_and, on_ok_weaker, IfErr-weaker}
 use Rattle.fleet_engines.specs.Grouping.{is_no_identity}
+use Rattle.byte_streams.specs.Causes.{Rose}
 use Rattle.store_engines.specs.Loaders.{last_of}
 use Rattle.store_engines.proofs.Loading.{cant_take, node_refused}
 use Rattle.std.proofs.Common.{◌++◌, [], ◌∷◌, Ok, Err, subst}
@@ -12,12 +13,12 @@ pub returns-in_err-close-in-Revision-clause-refused : goal.returns-in_err-close-
 returns-in_err-close-in-Revision-clause-refused g c =
     let p = err_from_is_err_and c.from_residual.result c.from_residual.ensures.1 in
     rw (p.1, p.2)
-    (λ x rs start s. cant_take x rs c.args.next c.close.new.store start (g.W.Write.contents c.close.new.output.inner) c.close.new.output.failed c.in_err-close-in-Revision.field-0.0 c.in-Revision.number c.in-Revision.props c.in-Revision.is (c.in_err-close-in-Revision.ensures.refused x rs start s))
+    (λ x rs start s. cant_take x rs c.args.next c.close.new.store start (g.O.Output.contents c.close.new.output) (Rose (g.O.Output.failures c.args.output.now) (g.O.Output.failures c.close.new.output)) c.in_err-close-in-Revision.field-0.0 c.in-Revision.number c.in-Revision.props c.in-Revision.is (c.in_err-close-in-Revision.ensures.refused x rs start s))
 
 pub returns-in-Node-clause-refused : goal.returns-in-Node-clause-refused
 returns-in-Node-clause-refused g c =
     IfErr-weaker c.add_node.result _ _
-    (λ e k x rs start s. node_refused x rs c.args.next c.in-Node.node c.args.store.now (last_of c.args.self.now) start (g.W.Write.contents c.args.output.now.inner) c.args.output.now.failed e c.in-Node.is k s)
+    (λ e k x rs start s. node_refused x rs c.args.next c.in-Node.node c.args.store.now (last_of c.args.self.now) start (g.O.Output.contents c.args.output.now) (Rose (g.O.Output.failures c.args.output.now) (g.O.Output.failures c.args.output.now)) e c.in-Node.is k s)
     c.add_node.ensures.refused
 
 pub returns-in-Identity-clause-device : goal.returns-in-Identity-clause-device

@@ -1,16 +1,19 @@
-use Rattle.std.proofs.Common.{◌≡◌, [], ◌∷◌, ◌++◌, ◌∙◌, Ok, Err, ap, sym, refl, subst, append_assoc, append-nil}
+use Rattle.std.proofs.Common.{◌≡◌, ℕ, List, Option, [], ◌∷◌, ◌++◌, ◌∙◌, Ok, Err, ap, sym, refl, subst, append_assoc, append-nil}
 use Rattle.std.proofs.lemmas.Result.{err_from_is_err_and}
-use Rattle.fleet_engines.specs.Runs.{Flagged}
+use Rattle.fleet_engines.specs.Runs.{Counted}
+use Rattle.byte_streams.specs.Causes.{Rose}
+use Rattle.dump_text.specs.declared.record.DumpRecord.{DumpRecord}
+use Rattle.repo_core.specs.Repository.{Repository}
 use Rattle.repo_store.specs.Words.{repository_of}
 use Rattle.store_engines.specs.Loaders.{last_of}
-use Rattle.store_engines.specs.Loads.{read_of}
+use Rattle.store_engines.specs.Loads.{read_of, CantTake, Stands}
 use Rattle.store_engines.proofs.Loading.{moves_none, moves_more, stops_here}
 use Rattle.store_engines.proofs.Serving.{nothing, records_more, records_stop}
 use Rattle.store_engines.proofs.load.Loader.take_all.Goals as goal
 
 pub loop-next-init : goal.loop-next-init
 loop-next-init g c = record {
-  moved = moves_none (repository_of c.args.store.now) (last_of c.args.self.now) (g.W.Write.contents c.args.output.now.inner);
+  moved = moves_none (repository_of c.args.store.now) (last_of c.args.self.now) (g.O.Output.contents c.args.output.now);
   split = c.into_iter-next-iterator.ensures.into_iter_gives.0;
   served = λ safe. let last = read_of (last_of c.args.self.now) in nothing (last ++ []) last c.args.store.now (Ok tt) tt (append-nil last) safe;
   failed = refl;
@@ -20,7 +23,7 @@ pub loop-next-preserved : goal.loop-next-preserved
 loop-next-preserved g c =
     let i = c.loop-next.invariant in
     record {
-      moved = moves_more (repository_of c.args.store.now) (repository_of c.loop-next.store) (repository_of c.take.new.store) (last_of c.args.self.now) (last_of c.loop-next.self) (last_of c.take.new.self) (g.W.Write.contents c.args.output.now.inner) (g.W.Write.contents c.loop-next.output.inner) (g.W.Write.contents c.take.new.output.inner) c.loop-next.yielded c.in-Some.next i.moved c.in_ok-take.ensures.ok;
+      moved = moves_more (repository_of c.args.store.now) (repository_of c.loop-next.store) (repository_of c.take.new.store) (last_of c.args.self.now) (last_of c.loop-next.self) (last_of c.take.new.self) (g.O.Output.contents c.args.output.now) (g.O.Output.contents c.loop-next.output) (g.O.Output.contents c.take.new.output) c.loop-next.yielded c.in-Some.next i.moved c.in_ok-take.ensures.ok;
       split = append_assoc c.loop-next.yielded (c.in-Some.next ∷ []) c.next.new.self.rest.items ∙ ap (λ l. c.loop-next.yielded ++ l) (sym c.in-Some.ensures.steps.0) ∙ i.split;
       served = λ safe. records_more (last_of c.args.self.now) (last_of c.loop-next.self) (last_of c.take.new.self) c.args.store.now c.loop-next.store c.take.new.store c.loop-next.yielded c.in-Some.next (Ok tt) (i.served safe) (c.in_ok-take.ensures.device (i.served safe).serves.safe);
       failed = c.in_ok-take.ensures.peer ∙ i.failed;
@@ -32,12 +35,14 @@ returns-in_err-take-clause-refused g c =
     let i = c.loop-next.invariant in
     let whole : c.args.records.items ≡ c.loop-next.yielded ++ (c.in-Some.next ∷ c.next.new.self.rest.items) = sym i.split ∙ ap (λ l. c.loop-next.yielded ++ l) c.in-Some.ensures.steps.0 in
     rw (p.1, p.2)
-    (stops_here (repository_of c.args.store.now) (repository_of c.loop-next.store) c.take.new.store (last_of c.args.self.now) (last_of c.loop-next.self) (g.W.Write.contents c.args.output.now.inner) (g.W.Write.contents c.loop-next.output.inner) (g.W.Write.contents c.take.new.output.inner) c.args.records.items c.loop-next.yielded c.next.new.self.rest.items c.in-Some.next c.take.new.output.failed c.in_err-take.field-0.0 i.moved whole c.in_err-take.ensures.refused)
+    (stops_here (repository_of c.args.store.now) (repository_of c.loop-next.store) c.take.new.store (last_of c.args.self.now) (last_of c.loop-next.self) (g.O.Output.contents c.args.output.now) (g.O.Output.contents c.loop-next.output) (g.O.Output.contents c.take.new.output) c.args.records.items c.loop-next.yielded c.next.new.self.rest.items c.in-Some.next (Rose (g.O.Output.failures c.args.output.now) (g.O.Output.failures c.take.new.output)) c.in_err-take.field-0.0 i.moved whole
+    (subst (λ n. (x : Repository) (rs : List DumpRecord) (start : Option (List ℕ)) → Stands x rs (repository_of c.loop-next.store) (last_of c.loop-next.self) start (g.O.Output.contents c.loop-next.output) → CantTake x rs c.in-Some.next c.take.new.store start (g.O.Output.contents c.take.new.output) (Rose n (g.O.Output.failures c.take.new.output)) c.in_err-take.field-0.0)
+    i.failed c.in_err-take.ensures.refused))
 
 pub returns-in_err-take-clause-peer : goal.returns-in_err-take-clause-peer
 returns-in_err-take-clause-peer g c =
     let p = err_from_is_err_and c.from_residual.result c.from_residual.ensures.1 in
-    rw (p.1, p.2) (subst (λ b. Flagged {T = Unit {0}} (Err c.in_err-take.field-0.0) b c.take.new.output.failed) c.loop-next.invariant.failed c.in_err-take.ensures.peer)
+    rw (p.1, p.2) (subst (λ n. Counted {T = Unit {0}} (Err c.in_err-take.field-0.0) n (g.O.Output.failures c.take.new.output)) c.loop-next.invariant.failed c.in_err-take.ensures.peer)
 
 pub returns-in_err-take-clause-device : goal.returns-in_err-take-clause-device
 returns-in_err-take-clause-device g c safe =

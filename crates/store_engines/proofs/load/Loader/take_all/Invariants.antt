@@ -9,8 +9,8 @@ use Rattle.store_engines.proofs.load.Loader.take_all.Given as goal
 
 abbrev pub invariant-loop-next : goal.invariant-loop-next
 invariant-loop-next g l = record {
-  moved : Moves (repository_of l.fn.store) (last_of l.fn.self) (g.W.Write.contents l.fn.output.inner) l.yielded (repository_of l.store) (last_of l.self) (g.W.Write.contents l.output.inner);
+  moved : Moves (repository_of l.fn.store) (last_of l.fn.self) (g.O.Output.contents l.fn.output) l.yielded (repository_of l.store) (last_of l.self) (g.O.Output.contents l.output);
   split : l.yielded ++ l.next-iterator.rest.items ≡ l.fn.records.items;
   served : IsSafe l.fn.store → ServesRecords (read_of (last_of l.fn.self) ++ filter is_no_identity l.yielded) l.fn.store l.store (Ok tt) (read_of (last_of l.self));
-  failed : l.output.failed ≡ l.fn.output.failed;
+  failed : g.O.Output.failures l.output ≡ g.O.Output.failures l.fn.output;
 }

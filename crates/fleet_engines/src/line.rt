@@ -1,0 +1,195 @@
+//! The line that tells a refusal. Writing it takes no memory.
+ghost use Rattle.std.specs.Prelude.{◌≡◌, ◌++◌, [], false, IfErr, OnOk, OnErr};
+ghost use Rattle.std.specs.Io.KnownBytes.{Appends};
+ghost use Rattle.byte_streams.specs.Causes.{Rose};
+ghost use Rattle.node_base.specs.Refusals.{fault_line, inconsistent_text, number_or_dash, refusal_text, shown_byte};
+ghost use Rattle.node_base.specs.Refusals.{shown_token, tells_more};
+ghost use Rattle.fleet_engines.specs.Runs.{Counted};
+
+use crate::stream::{write, write_count, write_parts};
+use byte_streams::Output;
+use node_base::{Refusal, RevNo};
+
+// A byte of a token as it is printed.
+fn shown_byte(byte: u8) -> u8
+    ensures { result ≡ shown_byte byte }
+{
+    if (0x20..=0x7E).contains(&byte) {
+        byte
+    } else {
+        b'?'
+    }
+}
+
+// Writes a token as it is printed.
+fn write_shown<O: Output>(output: &mut O, token: &[u8]) -> Result<(), Refusal>
+    ensures ok { OnOk result (Appends (O.contents output.old) (O.contents output.new) (shown_token token.now)) }
+    ensures peer { Counted result (O.failures output.old) (O.failures output.new) }
+    ensures failed { OnErr result (Rose (O.failures output.old) (O.failures output.new)) }
+    ensures only_peer { IfErr result (λ e. e ≡ Refusal.PeerFailed) }
+{
+    for byte in token {
+        write(output, &[shown_byte(*byte)])?;
+    }
+    Ok(())
+}
+
+// Writes a token between two texts.
+fn write_token<O: Output>(
+    output: &mut O,
+    before: &[u8],
+    token: &[u8],
+    after: &[u8],
+) -> Result<(), Refusal>
+    ensures ok { OnOk result (Appends (O.contents output.old) (O.contents output.new)
+        (before.now ++ (shown_token token.now ++ after.now))) }
+    ensures peer { Counted result (O.failures output.old) (O.failures output.new) }
+    ensures failed { OnErr result (Rose (O.failures output.old) (O.failures output.new)) }
+    ensures only_peer { IfErr result (λ e. e ≡ Refusal.PeerFailed) }
+{
+    write(output, before)?;
+    write_shown(output, token)?;
+    write(output, after)
+}
+
+// Writes a number, or `-` where there is none, between two texts.
+fn write_count_or_dash<O: Output>(
+    output: &mut O,
+    before: &[u8],
+    number: Option<u64>,
+    after: &[u8],
+) -> Result<(), Refusal>
+    ensures ok { OnOk result (Appends (O.contents output.old) (O.contents output.new)
+        (before.now ++ (number_or_dash number ++ after.now))) }
+    ensures peer { Counted result (O.failures output.old) (O.failures output.new) }
+    ensures failed { OnErr result (Rose (O.failures output.old) (O.failures output.new)) }
+    ensures only_peer { IfErr result (λ e. e ≡ Refusal.PeerFailed) }
+{
+    match number {
+        Some(number) => write_count(output, before, number, after),
+        None => write_parts(output, before, b"-", after),
+    }
+}
+
+// The text of a refusal that tells no more than that it is this one.
+fn fixed_text(refusal: &Refusal) -> &'static str
+    ensures { tells_more refusal.now ≡ false → result.now ≡ refusal_text refusal.now }
+{
+    match refusal {
+        Refusal::BadVersion => "unsupported dump format version",
+        Refusal::BadHeader => "bad header",
+        Refusal::BadNumber => "bad number",
+        Refusal::BadLength => "lengths do not agree",
+        Refusal::BadProps => "bad property block",
+        Refusal::BadSum => "checksum mismatch",
+        Refusal::Truncated => "unexpected end of input",
+        Refusal::TooLong => "limit exceeded",
+        Refusal::TextDelta => "text deltas are not supported",
+        Refusal::BadPath => "bad path",
+        Refusal::NoSuchPath => "no such path",
+        Refusal::PathThere => "path already exists",
+        Refusal::NotDir => "not a directory",
+        Refusal::NoSource => "no such copy source",
+        Refusal::OutOfOrder => "changes of one path do not combine",
+        Refusal::WrongNumber => "revision out of sequence",
+        Refusal::KindMismatch => "node kind mismatch",
+        Refusal::NoSuchRevision => "no such revision",
+        Refusal::BaseMismatch => "the property is not as expected",
+        Refusal::Full => "no more revisions",
+        Refusal::ReadOnly => "the mirror is read-only",
+        Refusal::DeviceFailed => "device failed",
+        Refusal::Failed => "failed before",
+        Refusal::NoRepository => "no repository",
+        Refusal::ThereAlready => "repository already there",
+        Refusal::LogFull => "journal is full",
+        Refusal::BadItem => "bad item",
+        Refusal::TooDeep => "nesting too deep",
+        Refusal::ReplayForm => "replay form not supported",
+        Refusal::BadWindow => "bad window",
+        Refusal::CopyWindow => "window copies",
+        Refusal::BadToken => "bad token",
+        Refusal::UnknownCommand => "unknown command",
+        Refusal::BadShape => "bad command shape",
+        Refusal::PeerFailed => "stream failed",
+        Refusal::NotInitialised => "not initialized",
+        Refusal::AlreadyInitialised => "already initialized",
+        Refusal::NotEmpty => "the mirror has revisions",
+        Refusal::WrongMaster => "the source is another repository",
+        Refusal::NotHolder => "the sync lock is not held",
+        Refusal::OutOfTurn => "call out of turn",
+        Refusal::OutOfMemory => "out of memory",
+        _ => "",
+    }
+}
+
+// Writes that a mirror's properties of its synchronisation fit no shape in which it rests.
+fn write_inconsistent<O: Output>(
+    output: &mut O,
+    merged: Option<u64>,
+    copying: Option<u64>,
+    head: RevNo,
+) -> Result<(), Refusal>
+    ensures ok { OnOk result (Appends (O.contents output.old) (O.contents output.new)
+        (inconsistent_text merged copying head)) }
+    ensures peer { Counted result (O.failures output.old) (O.failures output.new) }
+    ensures failed { OnErr result (Rose (O.failures output.old) (O.failures output.new)) }
+    ensures only_peer { IfErr result (λ e. e ≡ Refusal.PeerFailed) }
+{
+    write_count_or_dash(output, b"inconsistent: merged ", merged, b", copying ")?;
+    write_count_or_dash(output, b"", copying, b", head ")?;
+    write_count(output, b"", u64::from(head.get()), b"")
+}
+
+// Writes the text of a refusal.
+fn write_text<O: Output>(output: &mut O, refusal: &Refusal) -> Result<(), Refusal>
+    ensures ok { OnOk result (Appends (O.contents output.old) (O.contents output.new) (refusal_text refusal.now)) }
+    ensures peer { Counted result (O.failures output.old) (O.failures output.new) }
+    ensures failed { OnErr result (Rose (O.failures output.old) (O.failures output.new)) }
+    ensures only_peer { IfErr result (λ e. e ≡ Refusal.PeerFailed) }
+{
+    match refusal {
+        Refusal::Behind(head) => {
+            write_count(
+                output,
+                b"the base is not the head ",
+                u64::from(head.get()),
+                b"",
+            )
+        }
+        Refusal::Damaged(entry) => write_count(output, b"entry ", *entry, b" is damaged"),
+        Refusal::LockHeld(token) => {
+            write_token(output, b"the sync lock is held by ", token.as_slice(), b"")
+        }
+        Refusal::HolderRunning(token) => {
+            write_token(output, b"the holder ", token.as_slice(), b" is running")
+        }
+        Refusal::Inconsistent {
+            merged,
+            copying,
+            head,
+        } => write_inconsistent(output, *merged, *copying, *head),
+        Refusal::NotYetCopied(number) => write_count(
+            output,
+            b"revision ",
+            u64::from(number.get()),
+            b" is not copied yet",
+        ),
+        Refusal::MasterFailed(text) => {
+            write_parts(output, b"master: ", text.as_str().as_bytes(), b"")
+        }
+        other => write(output, fixed_text(other).as_bytes()),
+    }
+}
+
+/// Writes the line that tells a refusal, `svnfleet: NUMBER TEXT`. PeerFailed (49) where the output failed, and only
+/// there; it takes no memory.
+pub fn write_line<O: Output>(output: &mut O, refusal: &Refusal) -> Result<(), Refusal>
+    ensures ok { OnOk result (Appends (O.contents output.old) (O.contents output.new) (fault_line refusal.now)) }
+    ensures peer { Counted result (O.failures output.old) (O.failures output.new) }
+    ensures failed { OnErr result (Rose (O.failures output.old) (O.failures output.new)) }
+    ensures only_peer { IfErr result (λ e. e ≡ Refusal.PeerFailed) }
+{
+    write_count(output, b"svnfleet: ", u64::from(refusal.number()), b" ")?;
+    write_text(output, refusal)?;
+    write(output, b"\n")
+}
