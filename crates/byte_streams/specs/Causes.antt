@@ -1,5 +1,5 @@
 -- When a stream may be called failed.
-use Rattle.std.specs.Prelude.{◌<◌, ◌⊎◌, ℕ, ◌+◌, ◌≤◌, ◌^◌, List, Option, Result, OnErr, take}
+use Rattle.std.specs.Prelude.{◌≡◌, ◌<◌, ◌⊎◌, ℕ, ◌+◌, ◌≤◌, ◌^◌, List, Option, Result, OnOk, OnErr, take}
 use Rattle.byte_streams.specs.declared.fault.SinkFault.{SinkFault}
 use Rattle.byte_streams.specs.declared.fault.SinkFault.TheVariants as fault
 use Rattle.std.specs.Io.KnownBytes.{Appends}
@@ -12,9 +12,10 @@ Rose before now = (before < now) ⊎ (2 ^ 64 ≤ now + 1)
 abbrev pub RoseBy : ℕ → ℕ → ℕ → Type 0
 RoseBy n before now = (before + n ≤ now) ⊎ (2 ^ 64 ≤ now + 1)
 
--- the count doesn't fall, and a refusal comes only where it rose
+-- the count doesn't fall, is as it was at Ok, and a refusal comes only where it rose
 pub record HasCause {T E : Type 0} (before now : ℕ) (result : Result T E) : Type 0 where
   pub later : before ≤ now
+  pub kept : OnOk result (now ≡ before)
   pub failed : OnErr result (Rose before now)
 
 -- one read more is counted, and no more than one

@@ -81,10 +81,10 @@ pub input_counted : (e : Refusal) (input : Counts) (o0 o : ℕ) → e ≡ PeerFa
 input_counted e input o0 o p later f = (later, inl (p, inl f))
 
 -- the output was written to behind reads
-pub later_counted : (r : Result (Unit {0}) Refusal) (input : Counts) (o0 o o1 : ℕ) → input.before ≤ input.now → o ≡ o0 → Counted r o o1 → BothCounted r input o0 o1
-later_counted (Ok x) input o0 o o1 later q f = (later, f ∙ q)
-later_counted (Err e) input o0 o o1 later q (inl f) = (later, inl (f.0, inr (subst (λ n. Rose n o1) q f.1)))
-later_counted (Err e) input o0 o o1 later q (inr f) = (later, inr (f.0, f.1 ∙ q))
+pub later_counted : (r : Result (Unit {0}) Refusal) (input : Counts) (o0 o o1 : ℕ) → input.now ≡ input.before → o ≡ o0 → Counted r o o1 → BothCounted r input o0 o1
+later_counted (Ok x) input o0 o o1 same q f = (same, f ∙ q)
+later_counted (Err e) input o0 o o1 same q (inl f) = (omega (arith, same), inl (f.0, inr (subst (λ n. Rose n o1) q f.1)))
+later_counted (Err e) input o0 o o1 same q (inr f) = (omega (arith, same), inr (f.0, same, f.1 ∙ q))
 
 -- all reads that a stream gets were made
 pub reads_spent : (before now most : ℕ) → most ≡ 1099511627775 → RoseBy most before now → 1099511627775 ≤ now

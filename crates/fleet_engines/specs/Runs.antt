@@ -108,7 +108,7 @@ abbrev pub Counted : {T : Type 0} → Result T Refusal → ℕ → ℕ → Type 
 Counted (Ok x) before now = now ≡ before
 Counted (Err e) before now = ((e ≡ PeerFailed) × Rose before now) ⊎ ((e ≡ PeerFailed → ⊥) × (now ≡ before))
 
--- the same for an input and an output; the input fails too where it was read as often as one stream may be, and its count doesn't fall
+-- the same for an input and an output; the input fails too where it was read as often as one stream may be
 abbrev pub BothCounted : {T : Type 0} → Result T Refusal → Counts → ℕ → ℕ → Type 0
-BothCounted (Ok x) input before now = (input.before ≤ input.now) × (now ≡ before)
-BothCounted (Err e) input before now = (input.before ≤ input.now) × (((e ≡ PeerFailed) × (Fails input ⊎ Rose before now)) ⊎ ((e ≡ PeerFailed → ⊥) × (now ≡ before)))
+BothCounted (Ok x) input before now = (input.now ≡ input.before) × (now ≡ before)
+BothCounted (Err e) input before now = (input.before ≤ input.now) × (((e ≡ PeerFailed) × (Fails input ⊎ Rose before now)) ⊎ ((e ≡ PeerFailed → ⊥) × (input.now ≡ input.before) × (now ≡ before)))

@@ -17,6 +17,7 @@ pub fn read<I: Input>(input: &mut I, piece: &mut [u8]) -> Result<usize, Refusal>
     ensures none { OnErr result (Keeps (I.remaining input.old) (I.remaining input.new)) }
     ensures counted { CountsOne (I.reads input.old) (I.reads input.new) }
     ensures later { I.failures input.old ≤ I.failures input.new }
+    ensures working { OnOk result (I.failures input.new ≡ I.failures input.old) }
     ensures failed { OnErr result (Rose (I.failures input.old) (I.failures input.new)) }
     ensures only_peer { IfErr result (λ e. e ≡ Refusal.PeerFailed) }
 {

@@ -1,4 +1,4 @@
-use Rattle.std.proofs.Common.{◌≡◌, ◌-◌, ℕ, List, length, take, drop, sym, ap, subst, arith, length-drop}
+use Rattle.std.proofs.Common.{◌≡◌, ◌∙◌, ◌-◌, ℕ, List, length, take, drop, sym, ap, subst, arith, length-drop}
 use Rattle.std.proofs.Math.Seq.{take-add}
 use Rattle.std.proofs.lemmas.List.{take_all}
 use Rattle.std.proofs.KnownBytes.{Appends-trans}
@@ -17,7 +17,7 @@ loop-at-preserved g c =
     let same = rest_is at bytes in
     let more = subst (λ l. Appends (g.O.Output.contents c.loop-at.output) (g.O.Output.contents c.write.new.self) (take n l)) same c.in_ok-at.ensures.bytes in (
       omega (arith, i.0, c.in_ok-at.ensures.bound, ap length same, length-drop at bytes),
-      omega (arith, i.1, c.write.ensures.cause.later),
+      c.in_ok-at.ensures.cause.kept ∙ i.1,
       subst (Appends (g.O.Output.contents c.args.output.now) (g.O.Output.contents c.write.new.self)) (sym (take-add at n bytes))
           (Appends-trans _ _ _ (take at bytes) (take n (drop at bytes)) i.2 more),
     )

@@ -10,7 +10,7 @@ use Rattle.fleet_engines.proofs.Streaming.{leads_on, feed_refused, read_refused,
 use Rattle.fleet_engines.proofs.commands.read_all.Goals as goal
 
 pub loop-turn-init : goal.loop-turn-init
-loop-turn-init g c = ([], Consumes-nil (g.I.Input.remaining c.args.input.now), λ start s. s, refl, omega (arith), inl (omega (arith)), refl)
+loop-turn-init g c = ([], Consumes-nil (g.I.Input.remaining c.args.input.now), λ start s. s, refl, refl, inl (omega (arith)), refl)
 
 pub loop-turn-preserved : goal.loop-turn-preserved
 loop-turn-preserved g c =
@@ -20,7 +20,7 @@ loop-turn-preserved g c =
       Consumes-trans (g.I.Input.remaining c.args.input.now) (g.I.Input.remaining c.loop-turn.input) (g.I.Input.remaining c.read.new.input) i.0 piece i.1 c.in_ok-n.ensures.bytes,
       leads_on c.args.engine.now.product c.loop-turn.engine.product c.args.reader.now c.loop-turn.reader c.feed.new.reader (told_of c.args.engine.now.history) (told_of c.loop-turn.engine.history) (told_of c.feed.new.self.history) (g.O.Output.contents c.args.output.now) (g.O.Output.contents c.loop-turn.output) (g.O.Output.contents c.feed.new.output) i.0 piece i.3 i.2 c.in_ok-feed.ensures.ok,
       c.in_ok-feed.ensures.product ∙ i.3,
-      omega (arith, i.4, c.read.ensures.later),
+      c.in_ok-n.ensures.working ∙ i.4,
       counts_on c.loop-turn._turn (g.I.Input.reads c.args.input.now) (g.I.Input.reads c.loop-turn.input) (g.I.Input.reads c.read.new.input) i.5 c.read.ensures.counted,
       c.in_ok-feed.ensures.peer ∙ i.6,
     )
@@ -38,7 +38,7 @@ returns-in_err-n-clause-peer g c =
     let i = c.loop-turn.invariant in
     rw (p.1, p.2)
     (input_counted c.in_err-n.field-0.0 (counts g.I.Input.failures g.I.Input.reads c.args.input.now c.read.new.input) (g.O.Output.failures c.args.output.now) (g.O.Output.failures c.loop-turn.output) c.in_err-n.ensures.only_peer
-    (omega (arith, i.4, c.read.ensures.later)) (inl (rose_on (g.I.Input.failures c.args.input.now) (g.I.Input.failures c.loop-turn.input) (g.I.Input.failures c.read.new.input) i.4 c.in_err-n.ensures.failed)))
+    (omega (arith, i.4, c.read.ensures.later)) (inl (rose_on (g.I.Input.failures c.args.input.now) (g.I.Input.failures c.loop-turn.input) (g.I.Input.failures c.read.new.input) (omega (arith, i.4)) c.in_err-n.ensures.failed)))
 
 pub returns-then-n-eq0-clause-ok : goal.returns-then-n-eq0-clause-ok
 returns-then-n-eq0-clause-ok g c =
@@ -71,17 +71,17 @@ returns-in_err-feed-clause-peer g c =
     let i = c.loop-turn.invariant in
     rw (p.1, p.2)
     (later_counted (Err c.in_err-feed.field-0.0) (counts g.I.Input.failures g.I.Input.reads c.args.input.now c.read.new.input) (g.O.Output.failures c.args.output.now) (g.O.Output.failures c.loop-turn.output) (g.O.Output.failures c.feed.new.output)
-    (omega (arith, i.4, c.read.ensures.later)) i.6 c.in_err-feed.ensures.peer)
+    (c.in_ok-n.ensures.working ∙ i.4) i.6 c.in_err-feed.ensures.peer)
 
 pub returns-then-n-eq0-clause-peer : goal.returns-then-n-eq0-clause-peer
 returns-then-n-eq0-clause-peer g c =
     let i = c.loop-turn.invariant in
-    (omega (arith, i.4, c.read.ensures.later), i.6)
+    (c.in_ok-n.ensures.working ∙ i.4, i.6)
 
 pub returns-clause-peer : goal.returns-clause-peer
 returns-clause-peer g c =
     let i = c.loop-turn.invariant in
-    input_counted PeerFailed (counts g.I.Input.failures g.I.Input.reads c.args.input.now c.loop-turn.input) (g.O.Output.failures c.args.output.now) (g.O.Output.failures c.loop-turn.output) refl i.4
+    input_counted PeerFailed (counts g.I.Input.failures g.I.Input.reads c.args.input.now c.loop-turn.input) (g.O.Output.failures c.args.output.now) (g.O.Output.failures c.loop-turn.output) refl (omega (arith, i.4))
     (inr (reads_spent (g.I.Input.reads c.args.input.now) (g.I.Input.reads c.loop-turn.input) c.loop-turn._turn (search rules) i.5))
 
 pub returns-clause-refused : goal.returns-clause-refused

@@ -16,7 +16,7 @@ returns-in_err-engine-clause-refused g c =
 pub returns-in_err-engine-clause-peer : goal.returns-in_err-engine-clause-peer
 returns-in_err-engine-clause-peer g c =
     let p = err_from_is_err_and c.from_residual.result c.from_residual.ensures.1 in
-    rw (p.1, p.2) (omega (arith), inr (memory_no_peer c.in_err-engine.field-0.0 c.in_err-engine.ensures.memory, refl))
+    rw (p.1, p.2) (omega (arith), inr (memory_no_peer c.in_err-engine.field-0.0 c.in_err-engine.ensures.memory, refl, refl))
 
 pub returns-clause-ok : goal.returns-clause-ok
 returns-clause-ok g c =

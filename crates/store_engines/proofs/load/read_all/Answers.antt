@@ -17,7 +17,7 @@ use Rattle.store_engines.proofs.Serving.{nothing, pieces_on, read_whole, records
 use Rattle.store_engines.proofs.load.read_all.Goals as goal
 
 pub loop-turn-init : goal.loop-turn-init
-loop-turn-init g c = ([], Consumes-nil (g.I.Input.remaining c.args.input.now), λ x start s. s, λ h. h, λ h safe rest. nothing (coming (last_of c.args.loader.now) c.args.reader.now rest) (coming (last_of c.args.loader.now) c.args.reader.now rest) c.args.store.now (Ok tt) tt refl safe, omega (arith), inl (omega (arith)), refl)
+loop-turn-init g c = ([], Consumes-nil (g.I.Input.remaining c.args.input.now), λ x start s. s, λ h. h, λ h safe rest. nothing (coming (last_of c.args.loader.now) c.args.reader.now rest) (coming (last_of c.args.loader.now) c.args.reader.now rest) c.args.store.now (Ok tt) tt refl safe, refl, inl (omega (arith)), refl)
 
 pub loop-turn-preserved : goal.loop-turn-preserved
 loop-turn-preserved g c =
@@ -28,7 +28,7 @@ loop-turn-preserved g c =
       leads_on c.args.reader.now c.loop-turn.reader c.feed.new.reader (repository_of c.args.store.now) (repository_of c.loop-turn.store) (repository_of c.feed.new.store) (last_of c.args.loader.now) (last_of c.loop-turn.loader) (last_of c.feed.new.self) (g.O.Output.contents c.args.output.now) (g.O.Output.contents c.loop-turn.output) (g.O.Output.contents c.feed.new.output) i.0 piece i.2 c.in_ok-feed.ensures.ok,
       λ h. c.in_ok-feed.ensures.reading (i.3 h),
       λ h safe rest. pieces_on (last_of c.args.loader.now) (last_of c.loop-turn.loader) (last_of c.feed.new.self) c.args.reader.now c.loop-turn.reader c.feed.new.reader i.0 piece rest c.args.store.now c.loop-turn.store c.feed.new.store (Ok tt) (i.4 h safe) (λ t. c.in_ok-feed.ensures.device t (i.3 h) (i.4 h safe []).serves.safe),
-      omega (arith, i.5, c.read.ensures.later),
+      c.in_ok-n.ensures.working ∙ i.5,
       counts_on c.loop-turn._turn (g.I.Input.reads c.args.input.now) (g.I.Input.reads c.loop-turn.input) (g.I.Input.reads c.read.new.input) i.6 c.read.ensures.counted,
       c.in_ok-feed.ensures.peer ∙ i.7,
     )
@@ -46,7 +46,7 @@ returns-in_err-n-clause-peer g c =
     let i = c.loop-turn.invariant in
     rw (p.1, p.2)
     (input_counted c.in_err-n.field-0.0 (counts g.I.Input.failures g.I.Input.reads c.args.input.now c.read.new.input) (g.O.Output.failures c.args.output.now) (g.O.Output.failures c.loop-turn.output) c.in_err-n.ensures.only_peer
-    (omega (arith, i.5, c.read.ensures.later)) (inl (rose_on (g.I.Input.failures c.args.input.now) (g.I.Input.failures c.loop-turn.input) (g.I.Input.failures c.read.new.input) i.5 c.in_err-n.ensures.failed)))
+    (omega (arith, i.5, c.read.ensures.later)) (inl (rose_on (g.I.Input.failures c.args.input.now) (g.I.Input.failures c.loop-turn.input) (g.I.Input.failures c.read.new.input) (omega (arith, i.5)) c.in_err-n.ensures.failed)))
 
 pub returns-then-n-eq0-clause-ok : goal.returns-then-n-eq0-clause-ok
 returns-then-n-eq0-clause-ok g c =
@@ -75,17 +75,17 @@ returns-in_err-feed-clause-peer g c =
     let i = c.loop-turn.invariant in
     rw (p.1, p.2)
     (later_counted (Err c.in_err-feed.field-0.0) (counts g.I.Input.failures g.I.Input.reads c.args.input.now c.read.new.input) (g.O.Output.failures c.args.output.now) (g.O.Output.failures c.loop-turn.output) (g.O.Output.failures c.feed.new.output)
-    (omega (arith, i.5, c.read.ensures.later)) i.7 c.in_err-feed.ensures.peer)
+    (c.in_ok-n.ensures.working ∙ i.5) i.7 c.in_err-feed.ensures.peer)
 
 pub returns-then-n-eq0-clause-peer : goal.returns-then-n-eq0-clause-peer
 returns-then-n-eq0-clause-peer g c =
     let i = c.loop-turn.invariant in
-    (omega (arith, i.5, c.read.ensures.later), i.7)
+    (c.in_ok-n.ensures.working ∙ i.5, i.7)
 
 pub returns-clause-peer : goal.returns-clause-peer
 returns-clause-peer g c =
     let i = c.loop-turn.invariant in
-    input_counted PeerFailed (counts g.I.Input.failures g.I.Input.reads c.args.input.now c.loop-turn.input) (g.O.Output.failures c.args.output.now) (g.O.Output.failures c.loop-turn.output) refl i.5
+    input_counted PeerFailed (counts g.I.Input.failures g.I.Input.reads c.args.input.now c.loop-turn.input) (g.O.Output.failures c.args.output.now) (g.O.Output.failures c.loop-turn.output) refl (omega (arith, i.5))
     (inr (reads_spent (g.I.Input.reads c.args.input.now) (g.I.Input.reads c.loop-turn.input) c.loop-turn._turn (search rules) i.6))
 
 pub returns-clause-refused : goal.returns-clause-refused

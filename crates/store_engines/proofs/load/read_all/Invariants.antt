@@ -15,6 +15,6 @@ invariant-loop-turn g l =
     × Leads l.fn.reader (repository_of l.fn.store) (last_of l.fn.loader) (g.O.Output.contents l.fn.output) bytes l.reader (repository_of l.store) (last_of l.loader) (g.O.Output.contents l.output)
     × (has_failed l.fn.reader ≡ false → has_failed l.reader ≡ false)
     × (has_failed l.fn.reader ≡ false → IsSafe l.fn.store → (rest : List ℕ) → ServesRecords (coming (last_of l.fn.loader) l.fn.reader (bytes ++ rest)) l.fn.store l.store (Ok tt) (coming (last_of l.loader) l.reader rest))
-    × (g.I.Input.failures l.fn.input ≤ g.I.Input.failures l.input)
+    × (g.I.Input.failures l.input ≡ g.I.Input.failures l.fn.input)
     × RoseBy l._turn (g.I.Input.reads l.fn.input) (g.I.Input.reads l.input)
     × (g.O.Output.failures l.output ≡ g.O.Output.failures l.fn.output)
