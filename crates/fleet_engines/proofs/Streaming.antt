@@ -71,11 +71,6 @@ pub rose_on : (first before now : ℕ) → first ≤ before → Rose before now 
 rose_on first before now later (inl rose) = inl (omega (arith, later, rose))
 rose_on first before now later (inr greatest) = inr greatest
 
--- what an output took is told
-pub taken_counted : (r : Result (Unit {0}) Refusal) (old before now : ℕ) → before ≡ old → old ≤ now → OnOk r (now ≤ before) → OnErr r (Rose before now) → IfErr r (λ e. e ≡ PeerFailed) → Counted r old now
-taken_counted (Ok x) old before now same later stood failed peer = omega (arith, same, later, stood)
-taken_counted (Err e) old before now same later stood failed peer = inl (peer, subst (λ n. Rose n now) same failed)
-
 -- the input failed, or was read as often as it may be
 pub input_counted : (e : Refusal) (input : Counts) (o0 o : ℕ) → e ≡ PeerFailed → input.before ≤ input.now → Fails input → BothCounted {T = Unit {0}} (Err e) input o0 o
 input_counted e input o0 o p later f = (later, inl (p, inl f))

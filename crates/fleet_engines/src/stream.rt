@@ -5,7 +5,7 @@ ghost use Rattle.std.specs.Io.KnownBytes.{Appends, Consumes, IsAtEnd, Keeps};
 ghost use Rattle.byte_streams.specs.Causes.{CountsOne, Rose};
 ghost use Rattle.fleet_engines.specs.Runs.{Counted};
 
-use byte_streams::{Input, Output, has_failed_since, write_bytes};
+use byte_streams::{Input, Output, write_bytes};
 use itoa::Buffer;
 use node_base::Refusal;
 
@@ -27,19 +27,6 @@ pub fn read<I: Input>(input: &mut I, piece: &mut [u8]) -> Result<usize, Refusal>
     }
 }
 
-// What is answered where an output took all that it was given: PeerFailed (49) where it has failed even so since it
-// had failed so often.
-fn taken<O: Output>(output: &O, before: u64) -> Result<(), Refusal>
-    ensures stood { OnOk result (O.failures output.now ≤ before) }
-    ensures failed { OnErr result (Rose before (O.failures output.now)) }
-    ensures only_peer { IfErr result (λ e. e ≡ Refusal.PeerFailed) }
-{
-    if has_failed_since(output, before) {
-        return Err(Refusal::PeerFailed);
-    }
-    Ok(())
-}
-
 /// Writes all these bytes. PeerFailed (49) where the output failed, and only there.
 pub fn write<O: Output>(output: &mut O, bytes: &[u8]) -> Result<(), Refusal>
     ensures ok { OnOk result (Appends (O.contents output.old) (O.contents output.new) bytes.now) }
@@ -47,9 +34,8 @@ pub fn write<O: Output>(output: &mut O, bytes: &[u8]) -> Result<(), Refusal>
     ensures failed { OnErr result (Rose (O.failures output.old) (O.failures output.new)) }
     ensures only_peer { IfErr result (λ e. e ≡ Refusal.PeerFailed) }
 {
-    let before = output.count_failures();
     match write_bytes(output, bytes) {
-        Ok(()) => taken(output, before),
+        Ok(()) => Ok(()),
         Err(_) => Err(Refusal::PeerFailed),
     }
 }
@@ -98,9 +84,8 @@ pub fn hand_on<O: Output>(output: &mut O) -> Result<(), Refusal>
     ensures failed { OnErr result (Rose (O.failures output.old) (O.failures output.new)) }
     ensures only_peer { IfErr result (λ e. e ≡ Refusal.PeerFailed) }
 {
-    let before = output.count_failures();
     match output.flush() {
-        Ok(()) => taken(output, before),
+        Ok(()) => Ok(()),
         Err(_) => Err(Refusal::PeerFailed),
     }
 }

@@ -1,5 +1,5 @@
 //! One command, from its words to its status.
-ghost use Rattle.std.specs.Prelude.{◌≡◌, ◌≤◌, ◌⊎◌, ◌<◌, [], length, IfErr, IfOk, OnOk, string_bytes};
+ghost use Rattle.std.specs.Prelude.{◌≡◌, ◌⊎◌, ◌<◌, [], length, IfErr, IfOk, OnOk, string_bytes};
 ghost use Rattle.node_base.specs.declared.refusal.Refusal.{Refusal as RefusalOf};
 ghost use Rattle.repo_store.specs.Words.{disk_of, HasFailed};
 ghost use Rattle.std.specs.Io.KnownBytes.{Appends};
@@ -294,7 +294,7 @@ fn run_one<F: Folders, I: Input, O: Output + Drop>(
     ensures refused { IfErr result.1 (IsNotDone F.Place.Disk F.Folders folders.old folders.new command
         (I.remaining input.old) (O.contents output) (O.failures output) (O.contents result.0)
         (O.failures result.0)) }
-    ensures unfailed { OnOk result.1 ((I.failures input.old ≤ I.failures input.new) × (O.failures result.0 ≡ O.failures output)) }
+    ensures unfailed { OnOk result.1 ((I.failures input.new ≡ I.failures input.old) × (O.failures result.0 ≡ O.failures output)) }
     ensures peer { IfErr result.1 (λ e. e ≡ Refusal.PeerFailed → Fails (counts I.failures I.reads input.old input.new)
         ⊎ Rose (O.failures output) (O.failures result.0)) }
 {
@@ -393,7 +393,7 @@ fn run_flushed<F: Folders, I: Input, O: Output + Drop>(
         (I.remaining input.old) (O.contents output) (O.failures output)) (O.failures output) (O.contents result.0)
         (O.failures result.0)) }
     ensures handed { OnOk result.1 (O.is_handed_on result.0) }
-    ensures unfailed { OnOk result.1 ((I.failures input.old ≤ I.failures input.new) × (O.failures result.0 ≡ O.failures output)) }
+    ensures unfailed { OnOk result.1 ((I.failures input.new ≡ I.failures input.old) × (O.failures result.0 ≡ O.failures output)) }
     ensures peer { IfErr result.1 (λ e. e ≡ Refusal.PeerFailed → Fails (counts I.failures I.reads input.old input.new)
         ⊎ Rose (O.failures output) (O.failures result.0)) }
 {
@@ -425,7 +425,7 @@ pub fn run<F: Folders, I: Input, O: Output + Drop, E: Output>(
     ensures done { result.0 ≡ 0 → HandsOn (IsDone F.Place.Disk F.Folders folders.old folders.new command
         (I.remaining input.old) (O.contents output)) (O.contents result.1) }
     ensures handed { result.0 ≡ 0 → O.is_handed_on result.1 }
-    ensures unfailed { result.0 ≡ 0 → (I.failures input.old ≤ I.failures input.new) × (O.failures result.1 ≡ O.failures output) }
+    ensures unfailed { result.0 ≡ 0 → (I.failures input.new ≡ I.failures input.old) × (O.failures result.1 ≡ O.failures output) }
     ensures silent { result.0 ≡ 0 → E.contents errors.new ≡ E.contents errors.old }
     ensures refused { result.0 ≡ 1 → (e : RefusalOf)
         × EndsWith (IsDone F.Place.Disk F.Folders folders.old folders.new command
