@@ -52,20 +52,25 @@ fn failed_writer_is_told(rt: HostRuntime) {
 }
 
 // Whether a run with no room for its line on standard error ends with status 1 all the same.
+fn ends_without_its_line<H: HeldFiles, I: Input>(alloc: Global, files: &H, input: &mut I) -> bool {
+    let mut errors = MemOutput::new(alloc, 0);
+    let mut folders = HostFolders::new(files);
+    let (status, output) = run(
+        alloc,
+        &mut folders,
+        Command::Canon,
+        input,
+        MemOutput::new(alloc, WRITES),
+        &mut errors,
+    );
+    status == 1 && errors.count_failures() == 1 && output.bytes().is_empty()
+}
+
 #[test]
 fn a_line_that_is_lost(rt: HostRuntime) {
     let nothing = [];
-    let mut errors = MemOutput::new(rt.alloc(), 0);
-    let mut folders = HostFolders::new(&rt);
-    let (status, output) = run(
-        rt.alloc(),
-        &mut folders,
-        Command::Canon,
-        &mut CountedReader::new(nothing.as_slice()),
-        MemOutput::new(rt.alloc(), WRITES),
-        &mut errors,
-    );
-    assert!(rt; status == 1 && errors.count_failures() == 1 && output.bytes().is_empty());
+    let mut input = CountedReader::new(nothing.as_slice());
+    assert!(rt; ends_without_its_line(rt.alloc(), &rt, &mut input));
 }
 
 // Whether `list` writes these bytes.
