@@ -1,5 +1,5 @@
 -- What is sorted, brought together and filled in, said of the records as they came.
-use Rattle.std.proofs.Common.{◌≡◌, ℕ, ◌<◌, ◌≤◌, true, false, List, [], Some, None, sym, ap, subst, ◌∙◌, arith}
+use Rattle.std.proofs.Common.{◌≡◌, ℕ, ◌<◌, ◌≤◌, true, false, List, [], map, Option, Some, None, refl, sym, ap, subst, ◌∙◌, arith}
 use Rattle.std.specs.Prelude.{nat_lt}
 use Rattle.std.proofs.lemmas.Bool.Decides.{nat_tests}
 use Rattle.std.specs.List.{list_any}
@@ -10,7 +10,10 @@ use Rattle.dump_load.specs.declared.change.Change.{Change}
 use Rattle.dump_load.specs.declared.fault.ChangeFault.{ChangeFault}
 use Rattle.dump_load.specs.declared.fault.ChangeFault.TheVariants as refusal
 use Rattle.dump_load.specs.Faults.{fault_if, IsRefusal}
-use Rattle.dump_load.specs.Records.{stated_at, Combined, paths_named, is_out_of_order, is_unsaid, filled_after, set_fault, IsSetOf}
+use Rattle.std.specs.Option.{option_or}
+use Rattle.dump_text.specs.declared.record.NodeRecord.{NodeRecord}
+use Rattle.dump_load.specs.Deltas.{Deltas, deltas_of, delta_fault}
+use Rattle.dump_load.specs.Records.{stated_at, Combined, paths_named, is_out_of_order, is_unsaid, filled_after, set_fault, change_of, IsSetOf, IsNormalSetOf, IsSetRefusal, not_stated, not_applied}
 use Rattle.dump_load.proofs.Combining.{fits}
 use Rattle.dump_load.proofs.Fillings.{set_of}
 use Rattle.dump_load.proofs.Moved.{set_moved, order_moved, kind_moved, kinds_lack, paths_moved}
@@ -29,8 +32,8 @@ module _ (cs xs ys : List Change) (is : xs ≡ cs) (moved : IsPermutation xs ys)
   all_same : (p : Path) → stated_at ys p ≡ stated_at cs p
   all_same p = same p ∙ ap (λ zs. stated_at zs p) is
 
-  pub gathered_set : (trees : List PathMap) (out s : List Change) → Combined ys out → list_any is_unsaid out ≡ false → s ≡ filled_after trees [] out → IsSetOf trees cs s
-  gathered_set trees out s w k e = set_moved cs ys all_moved all_same trees s (set_of trees ys out s w k e)
+  pub gathered_set : (trees : List PathMap) (ds : Deltas) (out s : List Change) → Combined ys out → list_any is_unsaid out ≡ false → s ≡ filled_after trees ds [] out → IsSetOf trees ds cs s
+  gathered_set trees ds out s w k e = set_moved cs ys all_moved all_same trees ds s (set_of trees ds ys out s w k e)
 
   module _ (shown : List Change) (n : ℕ) (shows : shown ≡ ys) (counts : n ≡ paths_named shown) where
     counted : n ≡ paths_named cs
@@ -51,3 +54,20 @@ module _ (cs xs ys : List Change) (is : xs ≡ cs) (moved : IsPermutation xs ys)
     gathered_kind h e out w r =
         refused_kind cs e (few_test n (paths_named cs) counted h) (sym (order_moved cs ys all_moved all_same) ∙ fits ys out w)
         (subst (λ b. IsRefusal e (fault_if b refusal.BadHeader)) (sym (sym (kind_moved cs ys all_moved all_same) ∙ kinds_lack ys out w)) r)
+
+-- the set that records give, and why they give none
+module _ (rs : List NodeRecord) (trees : List PathMap) (ds : Deltas) (are : ds ≡ deltas_of rs) where
+  pub gathered_normal : (s : List Change) → IsSetOf trees ds (map change_of rs) s → delta_fault trees ds s ≡ None → IsNormalSetOf trees rs s
+  gathered_normal s h n = record { set = subst (λ d. IsSetOf trees d (map change_of rs) s) are h; deltas = subst (λ d. delta_fault trees d s ≡ None) are n }
+
+  pub gathered_refused : (xs ys : List Change) (is : xs ≡ map change_of rs) (moved : IsPermutation xs ys) (same : (p : Path) → stated_at ys p ≡ stated_at xs p) (shown : List Change) (n : ℕ) → shown ≡ ys → n ≡ paths_named shown → n ≤ 4096 → (e : ChangeFault) (out : List Change) → Combined ys out
+      → IsRefusal e (option_or (fault_if (list_any is_unsaid out) refusal.BadHeader) (delta_fault trees ds (filled_after trees ds [] out))) → IsSetRefusal trees rs e
+  gathered_refused xs ys is moved same shown n shows counts h e out w r =
+      let s = filled_after trees ds [] out in
+      elim (list_any is_unsaid out) as (λ b. list_any is_unsaid out ≡ b → IsRefusal e (option_or (fault_if b refusal.BadHeader) (delta_fault trees ds s)) → IsSetRefusal trees rs e) [
+        | true ↦ λ k r. not_stated (gathered_kind (map change_of rs) xs ys is moved same shown n shows counts h e out w (subst (λ b. IsRefusal e (fault_if b refusal.BadHeader)) (sym k) r))
+        | false ↦ λ k r.
+            not_applied s (gathered_fits (map change_of rs) xs ys is moved same shown n shows counts h out w k)
+            (subst (λ d. IsSetOf trees d (map change_of rs) s) are (gathered_set (map change_of rs) xs ys is moved same trees ds out s w k refl))
+            (subst (λ d. IsRefusal e (delta_fault trees d s)) are r)
+      ] refl r

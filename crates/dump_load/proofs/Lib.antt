@@ -3,6 +3,7 @@ pub mod Bare
 pub mod Combining
 pub mod Counting
 pub mod Faultless
+pub mod DeltaLooks
 pub mod EffectTrees
 pub mod Few
 pub mod Fillings

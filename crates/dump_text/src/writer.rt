@@ -1,12 +1,12 @@
 //! The canonical spelling.
 
-ghost use Rattle.std.specs.Prelude.{◌≡◌, ◌+◌, [], ◌∷◌, length, Some, OnOk, codes};
+ghost use Rattle.std.specs.Prelude.{◌≡◌, ◌+◌, [], ◌∷◌, length, Some, true, OnOk, codes};
 ghost use Rattle.std.specs.List.{flat_map};
 ghost use Rattle.std.specs.Io.KnownBytes.{Appends};
 ghost use Rattle.hex.specs.Hex.{encode_lower};
 ghost use Rattle.md5.specs.Md5.{md5};
 ghost use Rattle.dump_text.specs.Grammar.{Dump};
-ghost use Rattle.dump_text.specs.Written.{AreRecords, AreFormed, read_identity, read_revision};
+ghost use Rattle.dump_text.specs.Written.{AreRecords, AreFormed, are_whole, read_identity, read_revision};
 ghost use Rattle.dump_text.specs.declared.record.DumpRecord.TheVariants.{Revision};
 ghost use Rattle.dump_text.specs.Canon.{header_line, canon_identity, canon_head, canon_entry, canon_node};
 ghost use Rattle.dump_text.specs.Canon.{canon_revision, kind_word, action_word, told_kind, kind_line, source_lines};
@@ -77,8 +77,10 @@ fn write_entry<W: Write>(out: &mut W, number: RevNo, props: &Props) -> io::Resul
     Ok(())
 }
 
-/// Writes a revision with its nodes, in the order in which they stand.
+/// Writes a revision with its nodes, in the order in which they stand. What they give of properties is whole, since a
+/// delta isn't written.
 pub fn write_revision<W: Write>(out: &mut W, revision: &RevRecord) -> io::Result<()>
+    requires whole { are_whole revision.now.nodes.items ≡ true }
     ensures bytes { OnOk result (Appends (W.contents out.old) (W.contents out.new) (canon_revision revision.now)) }
     // read again, these bytes are the same records, but that a deletion's kind isn't written
     ensures again { AreFormed revision.now.nodes.items → AreRecords (canon_revision revision.now)
@@ -215,7 +217,7 @@ fn content_len(props: &Option<PropPart>, text: &Option<Text>) -> u128
 {
     let block = match props {
         Some(PropPart::Whole(props)) => u128::from(props.block_len()),
-        None => 0,
+        _ => 0,
     };
     match text {
         Some(text) => block + text.len() as u128,
