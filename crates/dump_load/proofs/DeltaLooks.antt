@@ -38,16 +38,6 @@ one_more_delta rs i r old new here at so_far is =
 pub all_deltas : (rs : List NodeRecord) (i : ℕ) (ds : Deltas) → length rs ≤ i → ds ++ deltas_of (drop i rs) ≡ deltas_of rs → ds ≡ deltas_of rs
 all_deltas rs i ds h e = sym (append-nil ds) ∙ ap (λ x. ds ++ deltas_of x) (sym (drop_all i rs h)) ∙ e
 
-module _ (ds : Deltas) (i : ℕ) (d : Path × PropDelta) (p : Path) (here : i < length ds) (at : d ≡ get_or ds i d) where
-  rest_is : drop i ds ≡ d ∷ drop (i + 1) ds
-  rest_is = drop_more ds i d here ∙ ap (λ y. y ∷ drop (i + 1) ds) (sym at)
-
-  pub looked_on : same_path d.0 p ≡ false → delta_at (drop i ds) p ≡ delta_at ds p → delta_at (drop (i + 1) ds) p ≡ delta_at ds p
-  looked_on e so_far = sym (ap (λ x. delta_at x p) rest_is ∙ ap (λ b. if b then Some d.1 else delta_at (drop (i + 1) ds) p) e) ∙ so_far
-
-  pub looked_here : same_path d.0 p ≡ true → delta_at (drop i ds) p ≡ delta_at ds p → Some d.1 ≡ delta_at ds p
-  looked_here e so_far = sym (ap (λ x. delta_at x p) rest_is ∙ ap (λ b. if b then Some d.1 else delta_at (drop (i + 1) ds) p) e) ∙ so_far
-
 -- why a list is refused tells why its delta is
 pub list_refused : (trees : List PathMap) (first : Option TreeFault) (before : Path → Option Node) (d : PropDelta) (c : Change) (m : PropMap) (e : PropFault) → is_none c.props ≡ false → found_props trees before c ≡ Some m → IsDeltaFault e (applied d m) → IsRefusal (of_delta_fault e) (delta_fault_of trees first before (Some d) c)
 list_refused trees first before d c m prop.OutOfMemory given found h = tt
@@ -57,6 +47,3 @@ list_refused trees first before d c m prop.TooLong given found h =
     ap (λ b. if b then None else option_map_or (λ m. fault_if (not (props_fit (applied d m))) refusal.TooLong) (found_props trees before c) absent) given
     ∙ ap (λ o. option_map_or (λ m. fault_if (not (props_fit (applied d m))) refusal.TooLong) o absent) found
     ∙ ap (λ b. fault_if (not b) refusal.TooLong) h
-
-pub looked_all : (ds : Deltas) (i : ℕ) (p : Path) → length ds ≤ i → delta_at (drop i ds) p ≡ delta_at ds p → None ≡ delta_at ds p
-looked_all ds i p h e = ap (λ x. delta_at x p) (sym (drop_all i ds h)) ∙ e

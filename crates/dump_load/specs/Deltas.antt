@@ -1,8 +1,10 @@
 -- Property lists that records give as changes of what is there.
 use Rattle.std.specs.Prelude.{ℕ, ◌++◌, Bool, not, List, [], ◌∷◌, Option, Some, None, is_none, if◌then◌else◌}
 use Rattle.std.specs.Option.{option_or, option_map, option_map_or}
+use Rattle.std.specs.List.Sorted.{IsSortedBy}
+use Rattle.std.specs.Ordering.{is_lt}
 use Rattle.std.specs.FinMap as finite
-use Rattle.node_base.specs.Path.{Path, same_path}
+use Rattle.node_base.specs.Path.{Path, path_cmp, same_path}
 use Rattle.node_base.specs.Props.{PropMap, props_fit}
 use Rattle.node_base.specs.PropDeltas.{applied}
 use Rattle.node_base.specs.declared.prop_delta.PropDelta.{PropDelta}
@@ -43,6 +45,14 @@ deltas_of (r ∷ rs) = option_map_or (λ d. (r.path, d) ∷ deltas_of rs) (delta
 abbrev pub delta_at : Deltas → Path → Option PropDelta
 delta_at [] p = None
 delta_at (d ∷ ds) p = if same_path d.0 p then Some d.1 else delta_at ds p
+
+-- one path comes before another
+abbrev pub comes_before : Path → Path → Bool
+comes_before p q = is_lt (path_cmp p q)
+
+-- deltas in path order
+abbrev pub AreSorted : Deltas → Type 0
+AreSorted ds = IsSortedBy (λ d e. comes_before d.0 e.0) ds
 
 -- the properties that a change finds: the source's at a copy, none at another add or replace, else those of the node that is there
 abbrev pub found_props : List PathMap → (Path → Option Node) → Change → Option PropMap

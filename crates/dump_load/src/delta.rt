@@ -1,10 +1,11 @@
 //! Property lists that records give as changes of what is there.
-ghost use Rattle.std.specs.Prelude.{◌≡◌, ◌++◌, ◌∷◌, [], Some, None, IfOk, IfErr, OnOk};
+ghost use Rattle.std.specs.Prelude.{◌≡◌, ◌≤◌, ◌++◌, ◌∷◌, [], length, true, false, Some, None, IfOk, IfErr, OnOk};
 ghost use Rattle.std.specs.Option.{option_copied, option_map};
 ghost use Rattle.std.specs.FinMap as map;
-ghost use Rattle.node_base.specs.Path.{same_path};
-ghost use Rattle.dump_load.specs.Deltas.{part_delta, delta_in, deltas_of, delta_at, found_props, with_delta};
-ghost use Rattle.dump_load.specs.Deltas.{delta_fault_of, of_delta_fault};
+ghost use Rattle.std.specs.List.{AllWithin};
+ghost use Rattle.node_base.specs.Path.{Path, same_path};
+ghost use Rattle.dump_load.specs.Deltas.{part_delta, delta_in, deltas_of, delta_at, comes_before, AreSorted};
+ghost use Rattle.dump_load.specs.Deltas.{found_props, with_delta, delta_fault_of, of_delta_fault};
 ghost use Rattle.dump_load.specs.Faults.{IsRefusal};
 
 use crate::change::is_delete;
@@ -64,8 +65,8 @@ fn keep_delta(
     Ok(())
 }
 
-/// The deltas that records give, with their paths.
-pub fn deltas_of(
+// The deltas that records give, with their paths.
+fn deltas_of(
     alloc: Global,
     records: &[NodeRecord],
 ) -> Result<Vec<(NodePath, PropDelta)>, AllocError>
@@ -78,6 +79,19 @@ pub fn deltas_of(
     Ok(deltas)
 }
 
+/// The deltas that records give, with their paths and in path order. Those of one path keep their order.
+pub fn deltas_in_order(
+    alloc: Global,
+    records: &[NodeRecord],
+) -> Result<Vec<(NodePath, PropDelta)>, AllocError>
+    ensures sorted { IfOk result (λ v. AreSorted v.items) }
+    ensures alike { IfOk result (λ v. (p : Path) → delta_at v.items p ≡ delta_at (deltas_of records.now) p) }
+{
+    let mut deltas = deltas_of(alloc, records)?;
+    deltas.sort_by(|c, d| compare_paths(c.0.names(), d.0.names()))?;
+    Ok(deltas)
+}
+
 // Whether a delta is that of a path.
 fn is_of(entry: &(NodePath, PropDelta), path: &NodePath) -> bool
     ensures { result ≡ same_path entry.now.0 path.now }
@@ -85,17 +99,38 @@ fn is_of(entry: &(NodePath, PropDelta), path: &NodePath) -> bool
     compare_paths(entry.0.names(), path.names()) == Ordering::Equal
 }
 
-/// The delta of a path.
+// Whether a delta comes before a path.
+fn comes_before(entry: &(NodePath, PropDelta), path: &NodePath) -> bool
+    ensures { result ≡ comes_before entry.now.0 path.now }
+{
+    compare_paths(entry.0.names(), path.names()).is_lt()
+}
+
+// Where the first of deltas in path order stands that doesn't come before a path.
+fn place_of(deltas: &[(NodePath, PropDelta)], path: &NodePath) -> usize
+    requires { AreSorted deltas.now }
+    ensures within { result ≤ length deltas.now }
+    ensures before { AllWithin (λ d. comes_before d.0 path.now ≡ true) deltas.now 0 result }
+    ensures behind { AllWithin (λ d. comes_before d.0 path.now ≡ false) deltas.now result (length deltas.now) }
+{
+    deltas.partition_point(|entry| comes_before(entry, path))
+}
+
+/// The delta of a path, of deltas in path order. The look-up goes by halves.
 pub fn delta_at<'a>(deltas: &'a [(NodePath, PropDelta)], path: &NodePath) -> Option<&'a PropDelta>
+    requires { AreSorted deltas.now }
     ensures { option_copied result ≡ delta_at deltas.now path.now }
 {
-    for i in 0..deltas.len() {
-        let entry = &deltas[i];
-        if is_of(entry, path) {
-            return Some(&entry.1);
-        }
+    let place = place_of(deltas, path);
+    if place >= deltas.len() {
+        return None;
     }
-    None
+    let entry = &deltas[place];
+    if is_of(entry, path) {
+        Some(&entry.1)
+    } else {
+        None
+    }
 }
 
 // The properties of a node.

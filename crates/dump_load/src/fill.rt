@@ -9,7 +9,7 @@ ghost use Rattle.dump_load.specs.Changes.{IsDescribed, IsInOrder};
 ghost use Rattle.dump_load.specs.Effect.{effect, stepped};
 ghost use Rattle.node_base.specs.Path.{Path};
 ghost use Rattle.dump_load.specs.Faults.{IsRefusal, fault, fault_if, fault_of};
-ghost use Rattle.dump_load.specs.Deltas.{delta_fault};
+ghost use Rattle.dump_load.specs.Deltas.{delta_fault, AreSorted};
 ghost use Rattle.dump_load.specs.Records.{is_unsaid, with_blanks, with_kind, filled_after, Filling};
 ghost use Rattle.std.specs.Option.{option_or};
 
@@ -124,6 +124,7 @@ fn fill_one(
     change: Change,
 ) -> Result<(), ChangeFault>
     requires few { length trees.now ≤ 65535 }
+    requires sorted { AreSorted deltas.now }
     requires said { is_unsaid change ≡ false }
     ensures filled { OnOk result ((ys rest : List ChangeOf)
         → Filling trees.now deltas.now ys so_far.old.changes.items so_far.old.tree so_far.old.fault
@@ -169,6 +170,7 @@ pub fn fill(
     changes: Vec<Change>,
 ) -> Result<Filled, ChangeFault>
     requires few { length trees.now ≤ 65535 }
+    requires sorted { AreSorted deltas.now }
     requires order { IsInOrder changes.items }
     ensures filled { IfOk result (λ f. f.changes.items ≡ filled_after trees.now deltas.now [] changes.items) }
     ensures fault { IfOk result (λ f. f.fault ≡ fault trees.now f.changes.items) }

@@ -12,7 +12,7 @@ ghost use Rattle.dump_load.specs.Records.{change_of, replacing, Combined, is_out
 ghost use Rattle.dump_load.specs.Records.{IsSetRefusal};
 
 use crate::change::{is_add, is_delete};
-use crate::delta::deltas_of;
+use crate::delta::deltas_in_order;
 use crate::fill::{Filled, fill};
 use crate::order::{count_paths, in_path_order, is_same_path};
 use crate::{Change, ChangeFault, ChangeSet};
@@ -136,7 +136,7 @@ pub fn gather(
     ensures fits { OnOk result (set_fault (map change_of records.items) ≡ None) }
     ensures refused { IfErr result (λ e. IsSetRefusal trees.now records.items e) }
 {
-    let deltas = deltas_of(alloc, records.as_slice())?;
+    let deltas = deltas_in_order(alloc, records.as_slice())?;
     let stated = in_path_order(changes_of(alloc, records)?)?;
     if count_paths(&stated) > CHANGES {
         return Err(ChangeFault::TooLong);

@@ -100,93 +100,141 @@ fn leaves(rt: &impl Abort, alloc: Global, lines: &str, at: &str, words: &str) ->
     }
 }
 
+// The first records of a table that leave another list at the path beside them.
+fn first_other<'a>(
+    rt: &impl Abort,
+    alloc: Global,
+    table: &'a [(&'a str, &'a str, &'a str)],
+) -> Option<&'a str> {
+    for (lines, at, words) in table {
+        if !leaves(rt, alloc, *lines, *at, *words) {
+            return Some(*lines);
+        }
+    }
+    None
+}
+
+const THERE: [(&str, &str, &str); 5] = [
+    ("change t/x\t~q=2-p", "t/x", "q=2"),
+    ("change t/x\t~q=2-absent", "t/x", "p=1,q=2"),
+    ("change t/x\t~p=3", "t/x", "p=3"),
+    ("change t/x\t~-p", "t/x", ""),
+    ("change t/y\t~z=9\nchange t\t~a=0\nchange t/x\t~-p", "t/y", "s=5,z=9"),
+];
+
 #[test]
 fn a_delta_counts_from_what_is_there(rt: HostRuntime) {
-    assert!(rt; leaves(&rt, rt.alloc(), "change t/x\t~q=2-p", "t/x", "q=2"));
-    assert!(rt; leaves(&rt, rt.alloc(), "change t/x\t~q=2-absent", "t/x", "p=1,q=2"));
-    assert!(rt; leaves(&rt, rt.alloc(), "change t/x\t~p=3", "t/x", "p=3"));
-    assert!(rt; leaves(&rt, rt.alloc(), "change t/x\t~-p", "t/x", ""));
+    assert_eq!(rt; first_other(&rt, rt.alloc(), &THERE), None);
 }
+
+const ADDED: [(&str, &str, &str); 6] = [
+    ("add a file\t~q=2-p", "a", "q=2"),
+    ("replace t/x file\t~q=2", "t/x", "q=2"),
+    ("delete t/x\nadd t/x file\t~q=2", "t/x", "q=2"),
+    ("add a file t/x 2\t~q=2", "a", "p=1,q=2"),
+    ("add a file t/x 1\t~q=2", "a", "q=2"),
+    ("replace t/x file t/y 2\t~q=2", "t/x", "q=2,s=5"),
+];
 
 #[test]
 fn a_delta_at_an_add_or_a_replace(rt: HostRuntime) {
-    assert!(rt; leaves(&rt, rt.alloc(), "add a file\t~q=2-p", "a", "q=2"));
-    assert!(rt; leaves(&rt, rt.alloc(), "replace t/x file\t~q=2", "t/x", "q=2"));
-    assert!(rt; leaves(&rt, rt.alloc(), "delete t/x\nadd t/x file\t~q=2", "t/x", "q=2"));
-    assert!(rt; leaves(&rt, rt.alloc(), "add a file t/x 2\t~q=2", "a", "p=1,q=2"));
-    assert!(rt; leaves(&rt, rt.alloc(), "add a file t/x 1\t~q=2", "a", "q=2"));
-    assert!(rt; leaves(&rt, rt.alloc(), "replace t/x file t/y 2\t~q=2", "t/x", "q=2,s=5"));
+    assert_eq!(rt; first_other(&rt, rt.alloc(), &ADDED), None);
 }
+
+// A replacement or an add of what is above comes first: the node is that of the copy.
+const BEHIND: [(&str, &str, &str); 3] = [
+    ("replace t dir t 1\nchange t/x\t~q=2", "t/x", "q=2"),
+    ("add b dir t 2\nchange b/x\t~q=2", "b/x", "p=1,q=2"),
+    ("change b/x\t~q=2-p\nadd b dir t 2", "b/x", "q=2"),
+];
 
 #[test]
 fn a_delta_behind_earlier_changes(rt: HostRuntime) {
-    // A replacement of what is above: the node is that of the copy.
-    assert!(rt; leaves(&rt, rt.alloc(), "replace t dir t 1\nchange t/x\t~q=2", "t/x", "q=2"));
-    assert!(rt; leaves(&rt, rt.alloc(), "add b dir t 2\nchange b/x\t~q=2", "b/x", "p=1,q=2"));
-    assert!(rt; leaves(&rt, rt.alloc(), "change b/x\t~q=2-p\nadd b dir t 2", "b/x", "q=2"));
+    assert_eq!(rt; first_other(&rt, rt.alloc(), &BEHIND), None);
 }
 
 // The number of what `from_records` refuses, or 0.
-fn refusal(rt: &impl Abort, alloc: Global, lines: &str) -> u8 {
+fn refusal(rt: &impl Abort, alloc: Global, stated: Vec<NodeRecord>) -> u8 {
     let trees = three_trees(rt, alloc);
     assert!(rt; trees.len() <= 65_535);
-    match ChangeSet::from_records(alloc, trees.as_slice(), stated(rt, alloc, lines)) {
+    match ChangeSet::from_records(alloc, trees.as_slice(), stated) {
         Ok(_) => 0,
         Err(fault) => fault.number(),
     }
 }
 
+// The first records of a table that are answered with another number.
+fn first_wrong<'a>(rt: &impl Abort, alloc: Global, table: &'a [(&'a str, u8)]) -> Option<&'a str> {
+    for (lines, number) in table {
+        if refusal(rt, alloc, stated(rt, alloc, *lines)) != *number {
+            return Some(*lines);
+        }
+    }
+    None
+}
+
+// The first fault of the set up to the delta decides; a fault without a delta isn't told yet.
+const NOTHING_THERE: [(&str, u8); 7] = [
+    ("change n\t~q=2", 11),
+    ("change t/x/y\t~q=2", 13),
+    ("add n file t/z 2\t~q=2", 14),
+    ("add t/x file t/z 2\t~q=2", 12),
+    ("change m/n\nchange t/x/y\t~q=2", 11),
+    ("add t/x file\nchange t/z\t~q=2", 12),
+    ("change n", 0),
+];
+
 #[test]
 fn a_delta_that_finds_nothing(rt: HostRuntime) {
-    assert!(rt; refusal(&rt, rt.alloc(), "change n\t~q=2") == 11);
-    assert!(rt; refusal(&rt, rt.alloc(), "change t/x/y\t~q=2") == 13);
-    assert!(rt; refusal(&rt, rt.alloc(), "add n file t/z 2\t~q=2") == 14);
-    assert!(rt; refusal(&rt, rt.alloc(), "add t/x file t/z 2\t~q=2") == 12);
-    // The first fault of the set, which lies at an earlier change, decides.
-    assert!(rt; refusal(&rt, rt.alloc(), "change m/n\nchange t/x/y\t~q=2") == 11);
-    assert!(rt; refusal(&rt, rt.alloc(), "add t/x file\nchange t/z\t~q=2") == 12);
-    // A fault without a delta isn't told yet.
-    assert!(rt; refusal(&rt, rt.alloc(), "change n") == 0);
+    assert_eq!(rt; first_wrong(&rt, rt.alloc(), &NOTHING_THERE), None);
 }
+
+const BEFORE: [(&str, u8); 3] = [
+    ("change n\t~q=2\nchange t\nchange t", 15),
+    ("change n\t~q=2\nadd z", 2),
+    ("delete t/x\t~q=2", 2),
+];
 
 #[test]
 fn what_comes_before_a_delta(rt: HostRuntime) {
-    assert!(rt; refusal(&rt, rt.alloc(), "change n\t~q=2\nchange t\nchange t") == 15);
-    assert!(rt; refusal(&rt, rt.alloc(), "change n\t~q=2\nadd z") == 2);
-    assert!(rt; refusal(&rt, rt.alloc(), "delete t/x\t~q=2") == 2);
+    assert_eq!(rt; first_wrong(&rt, rt.alloc(), &BEFORE), None);
 }
 
-// Revision 3 with a delta that makes 257 names of t/x, and these records beside it.
-fn overfull(rt: &impl Abort, alloc: Global, lines: &str) -> u8 {
-    let trees = three_trees(rt, alloc);
-    assert!(rt; trees.len() <= 65_535);
+// A delta that sets 256 names.
+fn full(rt: &impl Abort, alloc: Global) -> PropPart {
     let mut sets = Props::empty();
     for i in 0..256 {
         let name = format!(in alloc; "k{i:05}").expect(rt, "memory");
         put(rt, alloc, &mut sets, name.as_str(), "");
     }
-    let mut all = stated(rt, alloc, "change t/x");
-    if let Some(one) = all.get_mut(0) {
-        one.props = Some(PropPart::Delta(PropDelta {
-            sets,
-            removed: Props::empty(),
-        }));
-    }
-    for one in stated(rt, alloc, lines) {
+    PropPart::Delta(PropDelta {
+        sets,
+        removed: Props::empty(),
+    })
+}
+
+// The records that lines spell, and one whose delta makes 257 names of t/x.
+fn overfull(rt: &impl Abort, alloc: Global, lines: &str) -> Vec<NodeRecord> {
+    let mut all = stated(rt, alloc, lines);
+    for mut one in records(rt, alloc, "change t/x") {
+        one.props = Some(full(rt, alloc));
         all.push(one).expect(rt, "memory");
     }
-    match ChangeSet::from_records(alloc, trees.as_slice(), all) {
-        Ok(_) => 0,
-        Err(fault) => fault.number(),
-    }
+    all
 }
+
+// It comes before a fault of an earlier change, and in path order with other deltas.
+const PAST: [(&str, u8); 5] = [
+    ("", 8),
+    ("add t file", 8),
+    ("change a\t~q=2", 11),
+    ("change z\t~q=2", 8),
+    ("add z", 2),
+];
 
 #[test]
 fn a_list_past_the_limits(rt: HostRuntime) {
-    assert!(rt; overfull(&rt, rt.alloc(), "") == 8);
-    // Before a fault of an earlier change, and in path order with other deltas.
-    assert!(rt; overfull(&rt, rt.alloc(), "add t file") == 8);
-    assert!(rt; overfull(&rt, rt.alloc(), "change a\t~q=2") == 11);
-    assert!(rt; overfull(&rt, rt.alloc(), "change z\t~q=2") == 8);
-    assert!(rt; overfull(&rt, rt.alloc(), "add z") == 2);
+    for (lines, number) in &PAST {
+        assert!(rt; refusal(&rt, rt.alloc(), overfull(&rt, rt.alloc(), *lines)) == *number, "{lines}");
+    }
 }

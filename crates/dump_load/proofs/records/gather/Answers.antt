@@ -1,6 +1,7 @@
 use Rattle.std.proofs.lemmas.Result.{err_from_is_err_and}
 use Rattle.std.proofs.Common.{map, sym, ap, subst, ◌∙◌}
-use Rattle.dump_load.specs.Deltas.{deltas_of}
+use Rattle.node_base.specs.Path.{Path}
+use Rattle.dump_load.specs.Deltas.{AreSorted, deltas_of, delta_at}
 use Rattle.dump_load.specs.Records.{change_of, IsNormalSetOf, not_stated}
 use Rattle.dump_load.proofs.Fillings.{set_of}
 use Rattle.dump_load.proofs.Few.{few_filled}
@@ -16,9 +17,9 @@ new-requires c = (
 
 pub returns-clause-set : goal.returns-clause-set
 returns-clause-set c =
-    let are = c.as_slice-2.ensures.value ∙ c.in_ok-deltas.ensures ∙ ap deltas_of c.as_slice.ensures.value in
+    let alike = λ (p : Path). ap (λ ds. delta_at ds p) c.as_slice-2.ensures.value ∙ c.in_ok-deltas.ensures.alike p ∙ ap (λ rs. delta_at (deltas_of rs) p) c.as_slice.ensures.value in
     subst (IsNormalSetOf c.args.trees.now c.args.records.items) (sym c.new.ensures.set)
-    (gathered_normal c.args.records.items c.args.trees.now c.as_slice-2.result.now are c.in_ok-filled.filled.changes.items
+    (gathered_normal c.args.records.items c.args.trees.now c.as_slice-2.result.now alike c.in_ok-filled.filled.changes.items
     (gathered_set (map change_of c.args.records.items) c.in_ok-changes_of.field-0.items c.in_ok-stated.stated.items c.in_ok-changes_of.ensures c.in_ok-stated.ensures.moved c.in_ok-stated.ensures.stated
     c.args.trees.now c.as_slice-2.result.now c.in_ok-combined.combined.items c.in_ok-filled.filled.changes.items c.in_ok-combined.ensures.combined c.in_ok-filled.ensures.kinds c.in_ok-filled.ensures.filled)
     c.in_ok-filled.ensures.deltas)
@@ -42,7 +43,10 @@ returns-in_err-combined-clause-refused c =
 
 pub returns-in_err-filled-clause-refused : goal.returns-in_err-filled-clause-refused
 returns-in_err-filled-clause-refused c =
-    let are = c.as_slice-2.ensures.value ∙ c.in_ok-deltas.ensures ∙ ap deltas_of c.as_slice.ensures.value in
+    let alike = λ (p : Path). ap (λ ds. delta_at ds p) c.as_slice-2.ensures.value ∙ c.in_ok-deltas.ensures.alike p ∙ ap (λ rs. delta_at (deltas_of rs) p) c.as_slice.ensures.value in
     let p = err_from_is_err_and c.from_residual-in_err-filled.result c.from_residual-in_err-filled.ensures.1 in rw (p.1, p.2)
-    (gathered_refused c.args.records.items c.args.trees.now c.as_slice-2.result.now are c.in_ok-changes_of.field-0.items c.in_ok-stated.stated.items c.in_ok-changes_of.ensures c.in_ok-stated.ensures.moved c.in_ok-stated.ensures.stated
+    (gathered_refused c.args.records.items c.args.trees.now c.as_slice-2.result.now alike c.in_ok-changes_of.field-0.items c.in_ok-stated.stated.items c.in_ok-changes_of.ensures c.in_ok-stated.ensures.moved c.in_ok-stated.ensures.stated
     c.deref.result.now c.count_paths.result c.deref.ensures.value c.count_paths.ensures c.if-count_paths-gt-CHANGES.false c.in_err-filled.field-0.0 c.in_ok-combined.combined.items c.in_ok-combined.ensures.combined c.in_err-filled.ensures.refused)
+
+pub fill-requires-clause-sorted : goal.fill-requires-clause-sorted
+fill-requires-clause-sorted c = subst AreSorted (sym c.as_slice-2.ensures.value) c.in_ok-deltas.ensures.sorted
