@@ -1,6 +1,6 @@
 //! The canonical spelling.
 
-ghost use Rattle.std.specs.Prelude.{◌≡◌, ◌+◌, [], ◌∷◌, length, Some, true, OnOk, codes};
+ghost use Rattle.std.specs.Prelude.{◌≡◌, ◌+◌, [], ◌∷◌, length, Some, true, false, OnOk, codes};
 ghost use Rattle.std.specs.List.{flat_map};
 ghost use Rattle.std.specs.Io.KnownBytes.{Appends};
 ghost use Rattle.hex.specs.Hex.{encode_lower};
@@ -16,7 +16,7 @@ use crate::limits::{entry_reads_again, revision_reads_again};
 use crate::record::{NodeRecord, PropPart, RevRecord};
 use node_base::{Action, NodeKind, Props, RevNo, Source, Text};
 use std::io;
-use std::io::Write;
+use std::io::{ErrorKind, Write};
 use uuid::Uuid;
 
 /// Writes the version block, and the identity's block where one is given.
@@ -77,16 +77,27 @@ fn write_entry<W: Write>(out: &mut W, number: RevNo, props: &Props) -> io::Resul
     Ok(())
 }
 
-/// Writes a revision with its nodes, in the order in which they stand. What they give of properties is whole, since a
-/// delta isn't written.
+/// Writes a revision with its nodes, in the order in which they stand. Where a node gives its properties as a delta,
+/// which format 2 can't say, the answer is an error (InvalidInput), and nothing is written.
 pub fn write_revision<W: Write>(out: &mut W, revision: &RevRecord) -> io::Result<()>
-    requires whole { are_whole revision.now.nodes.items ≡ true }
     ensures bytes { OnOk result (Appends (W.contents out.old) (W.contents out.new) (canon_revision revision.now)) }
+    ensures whole { OnOk result (are_whole revision.now.nodes.items ≡ true) }
+    ensures unwritten { are_whole revision.now.nodes.items ≡ false → W.contents out.new ≡ W.contents out.old }
     // read again, these bytes are the same records, but that a deletion's kind isn't written
     ensures again { AreFormed revision.now.nodes.items → AreRecords (canon_revision revision.now)
         (read_revision revision.now) }
 {
     revision_reads_again(revision);
+    if !revision.is_whole() {
+        return Err(io::Error::from(ErrorKind::InvalidInput));
+    }
+    write_whole(out, revision)
+}
+
+// Writes a revision with its nodes.
+fn write_whole<W: Write>(out: &mut W, revision: &RevRecord) -> io::Result<()>
+    ensures { OnOk result (Appends (W.contents out.old) (W.contents out.new) (canon_revision revision.now)) }
+{
     write_entry(out, revision.number, &revision.props)?;
     write_nodes(out, revision.nodes.as_slice())?;
     Ok(())

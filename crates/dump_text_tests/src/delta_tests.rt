@@ -1,8 +1,8 @@
 //! Dumps of format 3, whose records may give property lists as deltas.
 
 use crate::piece_tests::{answer, gives, wrong_change};
-use dump_text::{DumpReader, DumpRecord, NodeRecord, PropPart};
-use node_base::PropDelta;
+use dump_text::{DumpReader, DumpRecord, NodeRecord, PropPart, RevRecord, write_revision};
+use node_base::{PropDelta, Props, RevNo};
 use std::alloc::Global;
 use std::process::Abort;
 
@@ -78,6 +78,28 @@ fn ends_with_delta(alloc: Global) -> bool {
 #[test]
 fn what_a_delta_says(rt: HostRuntime) {
     assert!(rt; ends_with_delta(rt.alloc()));
+}
+
+// Whether the revision of a dump's last record is refused by the writer, with nothing written.
+fn is_unwritten(rt: &impl Abort, alloc: Global) -> bool {
+    let mut reader = DumpReader::new(alloc);
+    let mut out = Vec::new(alloc);
+    reader.feed(LATER, &mut out).expect(rt, "a dump");
+    let mut revision = RevRecord {
+        number: RevNo::new(2),
+        props: Props::empty(),
+        nodes: Vec::new(alloc),
+    };
+    if let Some(DumpRecord::Node(node)) = out.pop() {
+        revision.nodes.push(node).expect(rt, "memory");
+    }
+    let mut written = Vec::new(alloc);
+    !revision.is_whole() && write_revision(&mut written, &revision).is_err() && written.is_empty()
+}
+
+#[test]
+fn a_delta_is_not_written(rt: HostRuntime) {
+    assert!(rt; is_unwritten(&rt, rt.alloc()));
 }
 
 // The refusal of a node's lines behind these of a format, or 0.

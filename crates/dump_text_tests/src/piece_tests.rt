@@ -328,9 +328,7 @@ fn written(rt: &impl Abort, alloc: Global) -> Vec<u8> {
         take(rt, alloc, record, &mut written, &mut revisions);
     }
     for revision in &revisions {
-        if revision.is_whole() {
-            write_revision(&mut written, revision).expect(rt, "memory");
-        }
+        write_revision(&mut written, revision).expect(rt, "memory");
     }
     written
 }
