@@ -208,15 +208,24 @@ none_removed : (ps : Entries) (removed : PropMap) → without_all removed (all_s
 none_removed [] removed = refl
 none_removed (p ∷ ps) removed = none_removed ps removed
 
-pub written_is_read : (m : PropMap) (more : List ℕ) → IsProps m → IsBlock false (canon_block m) (all_set (map.entries m)) × (run_block (new_block (length (canon_block m))) (canon_block m ++ more) ≡ Done m map.empty more)
-written_is_read m more p =
+-- the entries of a map may stand one after another, and are the map then
+pub entries_stand : (m : PropMap) → IsProps m → MayStand map.empty map.empty (all_set (map.entries m)) × (with_all map.empty (all_set (map.entries m)) ≡ m)
+entries_stand m p =
     let ps = map.entries m in
     let s : IsRising ps = entries_sorted m in
     let f = fit_each m ps p.each (λ q v e. get-entries m q ∙ e) s in
-    let all = may_stand [] ps s f (ap props_fit (listed_entries m) ∙ p.fit) in
-    let block = canon_is_block ps f in (
+    let all = may_stand [] ps s f (ap props_fit (listed_entries m) ∙ p.fit) in (
+      subst (λ x. MayStand x map.empty (all_set ps)) map_none all.0,
+      ap (λ x. with_all x (all_set ps)) (sym map_none) ∙ all.1 ∙ listed_entries m,
+    )
+
+pub written_is_read : (m : PropMap) (more : List ℕ) → IsProps m → IsBlock false (canon_block m) (all_set (map.entries m)) × (run_block (new_block (length (canon_block m))) (canon_block m ++ more) ≡ Done m map.empty more)
+written_is_read m more p =
+    let ps = map.entries m in
+    let block = canon_is_block ps (fit_each m ps p.each (λ q v e. get-entries m q ∙ e) (entries_sorted m)) in
+    let stand = entries_stand m p in (
       block,
-      block_read false false map.empty (canon_block m) more map.empty (all_set ps) block (subst (λ x. MayStand x map.empty (all_set ps)) map_none all.0)
-          ∙ ap (λ x. Done x (without_all map.empty (all_set ps)) more) (ap (λ x. with_all x (all_set ps)) (sym map_none) ∙ all.1 ∙ listed_entries m)
+      block_read false false map.empty (canon_block m) more map.empty (all_set ps) block stand.0
+          ∙ ap (λ x. Done x (without_all map.empty (all_set ps)) more) stand.1
           ∙ ap (λ x. Done m x more) (none_removed ps map.empty),
     )
