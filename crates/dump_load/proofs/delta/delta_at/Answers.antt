@@ -3,8 +3,8 @@ use Rattle.dump_load.specs.Deltas.{comes_before}
 use Rattle.dump_load.proofs.DeltaOrder.{found_here, found_past, found_none}
 use Rattle.dump_load.proofs.delta.delta_at.Goals as goal
 
-pub returns-then-place-ge-len : goal.returns-then-place-ge-len
-returns-then-place-ge-len c = found_past c.args.deltas.now c.args.path.now c.place_of-place.result c.place_of-place.ensures.before (omega arith)
+pub returns-then-place-deltas : goal.returns-then-place-deltas
+returns-then-place-deltas c = found_past c.args.deltas.now c.args.path.now c.place_of-place.result c.place_of-place.ensures.before (omega arith)
 
 pub returns-then-is_of : goal.returns-then-is_of
 returns-then-is_of c =
