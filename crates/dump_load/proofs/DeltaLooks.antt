@@ -1,5 +1,5 @@
 -- The deltas that records give, one after another.
-use Rattle.std.proofs.Common.{◌≡◌, ℕ, ◌+◌, ◌<◌, ◌≤◌, Bool, true, false, not, List, [], ◌∷◌, ◌++◌, length, drop, get_or, Option, Some, None, refl, sym, ap, ◌∙◌, append_assoc, append-nil}
+use Rattle.std.proofs.Common.{◌≡◌, ℕ, ◌+◌, ◌<◌, ◌≤◌, false, not, List, [], ◌∷◌, ◌++◌, length, drop, get_or, Option, Some, None, refl, sym, ap, ◌∙◌, append_assoc, append-nil}
 use Rattle.std.proofs.lemmas.List.{drop_more, drop_all}
 use Rattle.std.specs.Bool.{if◌then◌else◌}
 use Rattle.std.specs.Option.{is_none, option_or, option_map, option_map_or}
@@ -13,10 +13,10 @@ use Rattle.node_base.specs.declared.prop_fault.PropFault.TheVariants as prop
 use Rattle.dump_load.specs.declared.change.Change.{Change}
 use Rattle.dump_load.specs.declared.fault.ChangeFault.TheVariants as refusal
 use Rattle.dump_load.specs.Faults.{fault_if, fault_of, refused, IsRefusal}
-use Rattle.node_base.specs.Path.{Path, same_path}
+use Rattle.node_base.specs.Path.{Path}
 use Rattle.node_base.specs.declared.prop_delta.PropDelta.{PropDelta}
 use Rattle.dump_text.specs.declared.record.NodeRecord.{NodeRecord}
-use Rattle.dump_load.specs.Deltas.{Deltas, delta_in, deltas_of, delta_at, found_props, delta_fault_of, of_delta_fault}
+use Rattle.dump_load.specs.Deltas.{Deltas, delta_in, deltas_of, found_props, delta_fault_of, of_delta_fault}
 
 deltas_first : (r : NodeRecord) (rs : List NodeRecord) → deltas_of (r ∷ rs) ≡ deltas_of (r ∷ []) ++ deltas_of rs
 deltas_first r rs = elim (delta_in r) as (λ o. option_map_or (λ d. (r.path, d) ∷ deltas_of rs) o (deltas_of rs) ≡ option_map_or (λ d. (r.path, d) ∷ []) o [] ++ deltas_of rs) [ None ↦ refl | Some d ↦ refl ]

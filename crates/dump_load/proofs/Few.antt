@@ -1,16 +1,15 @@
 -- A set has as many changes as paths are named.
 use Rattle.std.proofs.Common.{◌≡◌, ℕ, suc, ◌+◌, ◌≤◌, Bool, true, false, cond, ◌||◌, List, [], ◌∷◌, ◌++◌, length, map, Option, Some, None, is_some, refl, sym, ap, subst, ◌∙◌, arith, append_assoc}
 use Rattle.std.proofs.Common.{length-append}
-use Rattle.std.specs.List.{list_any, AllByRecursion}
-use Rattle.std.proofs.lemmas.List.Folds.{list_any-append}
+use Rattle.std.specs.List.{list_any}
 use Rattle.std.specs.FinMap as finite
 use Rattle.node_base.specs.Path.{Path, path_cmp, paths_total, paths_exact, same_path}
-use Rattle.node_base.proofs.PathLemmas.{path_of_same, same_path_back}
+use Rattle.node_base.proofs.PathLemmas.{same_path_back}
 use Rattle.node_base.specs.Tree.{PathMap}
 use Rattle.dump_load.specs.declared.change.Change.{Change}
-use Rattle.dump_load.specs.Changes.{change_at, Precedes, Follows, IsInOrder}
+use Rattle.dump_load.specs.Changes.{change_at, Follows, IsInOrder}
 use Rattle.dump_load.specs.Deltas.{Deltas}
-use Rattle.dump_load.specs.Records.{stated_at, combined, stated, Combined, paths_named, filled_in, filled_after}
+use Rattle.dump_load.specs.Records.{stated_at, combined, Combined, paths_named, filled_in, filled_after}
 use Rattle.dump_load.proofs.PathOrder.{less_differs}
 use Rattle.dump_load.proofs.Moved.{named_at, paths_more}
 use Rattle.dump_load.proofs.Combining.{order_follows}

@@ -1,5 +1,5 @@
 -- What is sorted, brought together and filled in, said of the records as they came.
-use Rattle.std.proofs.Common.{◌≡◌, ℕ, ◌<◌, ◌≤◌, true, false, List, [], ◌∷◌, ◌++◌, map, Option, Some, None, refl, sym, ap, subst, ◌∙◌, arith}
+use Rattle.std.proofs.Common.{◌≡◌, ℕ, ◌<◌, ◌≤◌, true, false, List, [], ◌∷◌, ◌++◌, map, Some, None, refl, sym, ap, subst, ◌∙◌, arith}
 use Rattle.std.specs.Prelude.{nat_lt}
 use Rattle.std.proofs.lemmas.Bool.Decides.{nat_tests}
 use Rattle.std.specs.List.{list_any}
@@ -63,7 +63,7 @@ module _ (trees : List PathMap) (ds es : Deltas) (alike : (p : Path) → delta_a
       record {
         normal = h.normal;
         changes = λ p. h.changes p
-        ∙ (λ i. option_map (λ (c : Change). let f = effect trees (sound trees (earlier s p)) in with_delta trees f (alike c.path i) (with_kind trees f (with_blanks c))) (stated cs p));
+            ∙ (λ i. option_map (λ (c : Change). let f = effect trees (sound trees (earlier s p)) in with_delta trees f (alike c.path i) (with_kind trees f (with_blanks c))) (stated cs p));
       }
 
   fault_alike : (done s : List Change) → delta_fault_after trees ds done s ≡ delta_fault_after trees es done s

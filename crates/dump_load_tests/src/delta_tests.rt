@@ -119,7 +119,11 @@ const THERE: [(&str, &str, &str); 5] = [
     ("change t/x\t~q=2-absent", "t/x", "p=1,q=2"),
     ("change t/x\t~p=3", "t/x", "p=3"),
     ("change t/x\t~-p", "t/x", ""),
-    ("change t/y\t~z=9\nchange t\t~a=0\nchange t/x\t~-p", "t/y", "s=5,z=9"),
+    (
+        "change t/y\t~z=9\nchange t\t~a=0\nchange t/x\t~-p",
+        "t/y",
+        "s=5,z=9",
+    ),
 ];
 
 #[test]
@@ -235,6 +239,9 @@ const PAST: [(&str, u8); 5] = [
 #[test]
 fn a_list_past_the_limits(rt: HostRuntime) {
     for (lines, number) in &PAST {
-        assert!(rt; refusal(&rt, rt.alloc(), overfull(&rt, rt.alloc(), *lines)) == *number, "{lines}");
+        assert!(rt;
+            refusal(&rt, rt.alloc(), overfull(&rt, rt.alloc(), *lines)) == *number,
+            "{lines}"
+        );
     }
 }

@@ -1,7 +1,7 @@
-use Rattle.std.proofs.Common.{◌≡◌, ◌++◌, ◌∷◌, [], None, sym, ap, subst, ◌∙◌}
+use Rattle.std.proofs.Common.{◌≡◌, ◌++◌, ◌∷◌, [], sym, ap, subst, ◌∙◌}
 use Rattle.std.proofs.lemmas.Result.{err_from_is_err_and}
 use Rattle.std.specs.FinMap.{get}
-use Rattle.std.specs.Option.{option_or, option_copied}
+use Rattle.std.specs.Option.{option_or}
 use Rattle.dump_load.specs.Changes.{IsWhole}
 use Rattle.dump_load.specs.Deltas.{delta_at, with_delta, delta_fault_of}
 use Rattle.dump_load.specs.Faults.{fault_of, IsRefusal}
