@@ -1,4 +1,5 @@
 pub mod EndLemmas
+pub mod Versions
 pub mod Images
 pub mod Steps
 pub mod Looking
