@@ -50,7 +50,7 @@ on_file_step Journal step f image each = (each image.journal, refl, refl)
 on_file_step Gate step f image each = (each image.gate, refl, refl)
 on_file_step Slots step f image each = (each image.slots, refl, refl)
 
-on_file_same : (file : DiskFile) (step : List ℕ → List ℕ → Type 0) (image : Image) → ((old : List ℕ) → step old old) → OnFile file step image image
+pub on_file_same : (file : DiskFile) (step : List ℕ → List ℕ → Type 0) (image : Image) → ((old : List ℕ) → step old old) → OnFile file step image image
 on_file_same Journal step image each = (each image.journal, refl, refl)
 on_file_same Gate step image each = (each image.gate, refl, refl)
 on_file_same Slots step image each = (each image.slots, refl, refl)

@@ -1,11 +1,11 @@
 -- Ends of entries, their slots and their parts of a journal.
-use Rattle.std.proofs.Common.{◌≡◌, ◌<◌, ◌≤◌, ◌+◌, ◌-◌, ◌*◌, ℕ, zero, suc, Some, slice_get, subst, List, [], ◌∷◌, ◌++◌, length, get_or, take, drop, refl, sym, ◌∙◌, ap, arith, append_assoc, length-append, length-drop, take-append-drop}
+use Rattle.std.proofs.Common.{◌≡◌, ◌<◌, ◌≤◌, ◌+◌, ◌-◌, ◌*◌, ◌^◌, ℕ, zero, suc, Some, slice_get, subst, List, [], ◌∷◌, ◌++◌, length, get_or, take, drop, refl, sym, ◌∙◌, ap, arith, append_assoc, length-append, length-drop, take-append-drop}
 use Rattle.std.proofs.lemmas.List.{take-append-le, drop-append-le, take_all, drop_at, append-nil, drop_more, drop-drop}
 use Rattle.md5.proofs.StandardFacts.{length-md5}
 use Rattle.gate_log.specs.declared.version.LogVersion.{LogVersion}
 use Rattle.gate_log.specs.declared.version.LogVersion.TheVariants.{First, Second}
 use Rattle.gate_log.specs.Version.{sum_of}
-use Rattle.gate_log.specs.Slots.{eight_bytes, part, mark, slot, slots, sum_size, slot_size, gate_place}
+use Rattle.gate_log.specs.Slots.{eight_bytes, part, mark, slot, slots, sum_size, slot_size, gate_place, gates_size}
 use Rattle.gate_log.specs.Standing.{last_end, IsRising, parts, IsSlot}
 
 pub length-eight_bytes : (n : ℕ) → length (eight_bytes n) ≡ 8
@@ -64,6 +64,14 @@ grows from (e ∷ ends) (here, up) = omega (arith, here, grows e ends up)
 pub few : (from : ℕ) (ends : List ℕ) → IsRising from ends → from + length ends ≤ last_end from ends
 few from [] up = omega arith
 few from (e ∷ ends) (here, up) = omega (arith, here, few e ends up)
+
+small_place : (v : LogVersion) (n : ℕ) → n ≤ 2 ^ 56 → gates_size v n < 2 ^ 64
+small_place First n small = omega (arith, small)
+small_place Second n small = omega (arith, small)
+
+-- so the gates of a journal within its limit have a place
+pub few_places : (v : LogVersion) (ends : List ℕ) → IsRising 0 ends → last_end 0 ends ≤ 2 ^ 56 → gates_size v (length ends) < 2 ^ 64
+few_places v ends up within = small_place v (length ends) (omega (arith, few 0 ends up, within))
 
 part_front : (from end : ℕ) (journal more : List ℕ) → from < end → end ≤ length journal → part from end (journal ++ more) ≡ part from end journal
 part_front from end journal more here inside =

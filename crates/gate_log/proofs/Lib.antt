@@ -3,6 +3,7 @@ pub mod Versions
 pub mod Images
 pub mod Steps
 pub mod Looking
+pub mod Migration
 pub mod Filling
 pub mod Damage
 pub mod Cutting

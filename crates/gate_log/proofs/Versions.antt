@@ -87,3 +87,8 @@ beside_gates Second old new is = is.1
 pub beside_first : (v : LogVersion) (old new : Image) → IsBeside v old new → v ≡ First → new.slots ≡ old.slots
 beside_first First old new is first = ap (λ (i : Image). i.slots) is
 beside_first Second old new is first = is.1
+
+-- what an opening leaves of the other file, by its calls
+pub cleared_by : (v : LogVersion) (old cut shut clear new : Image) → others_of v cut ≡ others_of v old → others_of v shut ≡ others_of v cut → IsCleared v shut clear → new ≡ clear → IsCleared v old new
+cleared_by First old cut shut clear new first second cleared same = ap (λ (i : Image). i.slots) same ∙ cleared ∙ second ∙ first
+cleared_by Second old cut shut clear new first second cleared same = ap (λ (i : Image). i.gate) same ∙ cleared

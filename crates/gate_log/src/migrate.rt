@@ -94,7 +94,8 @@ fn cut_synced<D: Disk>(disk: &mut D, file: DiskFile, len: u64) -> Result<(), Dis
     ensures cause { HasCause (D.failures disk.old) (D.failures disk.new) result }
 {
     disk.cut(file, len)?;
-    disk.sync()
+    disk.sync()?;
+    Ok(())
 }
 
 // Writes bytes and syncs.
@@ -115,7 +116,8 @@ fn write_synced<D: Disk>(
     ensures cause { HasCause (D.failures disk.old) (D.failures disk.new) result }
 {
     disk.write_at(file, at, bytes)?;
-    disk.sync()
+    disk.sync()?;
+    Ok(())
 }
 
 // Makes `slots` these bytes behind a closed gate.
@@ -131,7 +133,8 @@ fn stage<D: Disk>(disk: &mut D, bytes: &[u8]) -> Result<(), DiskFault>
 {
     cut_synced(disk, DiskFile::Slots, 0)?;
     write_synced(disk, DiskFile::Slots, 0, &[CLOSED])?;
-    write_synced(disk, DiskFile::Slots, 1, bytes)
+    write_synced(disk, DiskFile::Slots, 1, bytes)?;
+    Ok(())
 }
 
 // Opens the first gate of `slots`, and empties `gate`.
@@ -146,5 +149,6 @@ fn switch<D: Disk>(disk: &mut D) -> Result<(), DiskFault>
     ensures cause { HasCause (D.failures disk.old) (D.failures disk.new) result }
 {
     write_synced(disk, DiskFile::Slots, 0, &[OPEN])?;
-    cut_synced(disk, DiskFile::Gate, 0)
+    cut_synced(disk, DiskFile::Gate, 0)?;
+    Ok(())
 }

@@ -1,6 +1,6 @@
 //! The layout of the gates: a slot for each entry, and a gate behind the last.
-ghost use Rattle.std.specs.Prelude.{◌≡◌, ◌<◌, ◌^◌, ◌++◌, ◌∷◌, []};
-ghost use Rattle.gate_log.specs.Slots.{eight_bytes, gate_place, slot_size};
+ghost use Rattle.std.specs.Prelude.{◌≡◌, ◌<◌, ◌+◌, ◌^◌, ◌++◌, ◌∷◌, []};
+ghost use Rattle.gate_log.specs.Slots.{eight_bytes, gate_place, gates_size, slot_size};
 
 use crate::version::LogVersion;
 
@@ -31,8 +31,9 @@ pub fn slot_bytes(version: LogVersion) -> u64
 
 // Where the gate of an entry stands.
 pub fn gate_at(version: LogVersion, entry: u64) -> u64
-    requires { gate_place version entry < 2 ^ 64 }
-    ensures { result ≡ gate_place version entry }
+    requires { gates_size version entry < 2 ^ 64 }
+    ensures place { result ≡ gate_place version entry }
+    ensures room { result + 1 < 2 ^ 64 }
 {
     match version {
         LogVersion::First => 9 * entry,

@@ -1,4 +1,4 @@
-use Rattle.std.proofs.Common.{◌≡◌, ◌<◌, ◌+◌, ℕ, List, [], ◌∷◌, ◌++◌, length, sym, ◌∙◌, ap, subst, arith, rules}
+use Rattle.std.proofs.Common.{◌≡◌, ◌<◌, ◌+◌, ℕ, List, [], ◌∷◌, ◌++◌, length, sym, ◌∙◌, ap, subst, arith, rules, length-append}
 use Rattle.gate_log.specs.Log.{entries_of}
 use Rattle.gate_log.specs.Standing.{last_end, IsRising, IsAtRest}
 use Rattle.gate_log.proofs.EndLemmas.{length_parts, rising_push}
@@ -23,6 +23,7 @@ invariant_of-self-2 g c =
     ap (λ (l : List ℕ). l ++ (last_end 0 l + length entry) ∷ []) c.deref-2.ensures.value ∙ sym items in
     record {
       rising = subst (λ (l : List ℕ). IsRising 0 l) (sym items) (rising_push 0 ends (last_end 0 ends + length entry) log.rising more);
-      at_rest = λ h working. subst (λ (l : List ℕ). IsAtRest l (g.D.Disk.reads c.put_entry.new.disk)) there (c.in_ok-put_entry.ensures.at_rest (c.put_entry.ensures.honest.1 h));
+      begun = λ first. omega (arith, ap length items, length-append ends ((last_end 0 ends + length entry) ∷ []));
+      at_rest = λ h working. subst (λ (l : List ℕ). IsAtRest log.version l (g.D.Disk.reads c.put_entry.new.disk)) there (c.in_ok-put_entry.ensures.at_rest (c.put_entry.ensures.honest.1 h));
       durable = λ h working. c.in_ok-put_entry.ensures.durable (c.put_entry.ensures.honest.1 h);
     }
