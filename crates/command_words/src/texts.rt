@@ -12,7 +12,7 @@ and 64 names, a name 255 bytes, a text 1 MiB, a property value 64 KiB.";
 
 /// Of `create`.
 pub const CREATE: &str = "\
-Prints nothing. Nothing is made in a folder that has a file `journal` or `gate` that isn't empty (35).
+Prints nothing. Nothing is made in a folder that has a file `journal`, `gate` or `slots` that isn't empty (35).
 The folder above has to be there.";
 
 /// Of `load`.
