@@ -1,6 +1,6 @@
 //! The layout of the gates: a slot for each entry, and a gate behind the last.
-ghost use Rattle.std.specs.Prelude.{◌≡◌, ◌<◌, ◌+◌, ◌^◌, ◌++◌, ◌∷◌, []};
-ghost use Rattle.gate_log.specs.Slots.{eight_bytes, gate_place, gates_size, slot_size};
+ghost use Rattle.std.specs.Prelude.{◌≡◌, ◌<◌, ◌≤◌, ◌+◌, ◌^◌, ◌++◌, ◌∷◌, []};
+ghost use Rattle.gate_log.specs.Slots.{eight_bytes, gate_place, gates_size, slot_size, sum_size};
 
 use crate::version::LogVersion;
 
@@ -21,7 +21,9 @@ pub const SUM_BYTES: usize = 16;
 
 // How many bytes a slot has: a gate, a length and in the second version a sum; or a length, a sum and the next gate.
 pub fn slot_bytes(version: LogVersion) -> u64
-    ensures { result ≡ slot_size version }
+    ensures size { result ≡ slot_size version }
+    ensures sum { result ≡ 9 + sum_size version }
+    ensures most { result ≤ 25 }
 {
     match version {
         LogVersion::First => 9,
