@@ -111,7 +111,11 @@ impl<F: Read + Write + Seek + OpenFile + Drop> HostCalls for StdFiles<F> {
     ghost reads_left = { λ host honest. absurd honest };
 
     fn read_at(&mut self, file: DiskFile, at: u64, buf: &mut [u8]) -> Result<usize, DiskFault> {
-        let read = read_from(one_of(file, &mut self.journal, &mut self.gate, &mut self.slots), at, buf);
+        let read = read_from(
+            one_of(file, &mut self.journal, &mut self.gate, &mut self.slots),
+            at,
+            buf,
+        );
         self.counted(read)
     }
 
@@ -121,12 +125,19 @@ impl<F: Read + Write + Seek + OpenFile + Drop> HostCalls for StdFiles<F> {
     }
 
     fn write_all_at(&mut self, file: DiskFile, at: u64, bytes: &[u8]) -> Result<(), DiskFault> {
-        let written = write_to(one_of(file, &mut self.journal, &mut self.gate, &mut self.slots), at, bytes);
+        let written = write_to(
+            one_of(file, &mut self.journal, &mut self.gate, &mut self.slots),
+            at,
+            bytes,
+        );
         self.counted(written)
     }
 
     fn truncate(&mut self, file: DiskFile, len: u64) -> Result<(), DiskFault> {
-        let cut = cut_to(one_of(file, &mut self.journal, &mut self.gate, &mut self.slots), len);
+        let cut = cut_to(
+            one_of(file, &mut self.journal, &mut self.gate, &mut self.slots),
+            len,
+        );
         self.counted(cut)
     }
 

@@ -49,13 +49,7 @@ impl<F: Read + Write + Seek + OpenFile + Drop> HostDisk<StdFiles<F>> {
         if has_bytes(rt, &files)? {
             return Ok(HostDisk::new(files));
         }
-        let files = completed(
-            rt,
-            files,
-            journal.as_str(),
-            gate.as_str(),
-            slots.as_str(),
-        )?;
+        let files = completed(rt, files, journal.as_str(), gate.as_str(), slots.as_str())?;
         // The names of new files last once the folder is synced.
         sync_folder(rt, folder)?;
         Ok(HostDisk::new(files))

@@ -22,6 +22,7 @@ use std::alloc::Global;
 const LEAST_SLOTS: u64 = 26;
 
 /// How long the journal and the file of the gates are, and which that is.
+#[derive(Drop)]
 pub struct Lengths {
     pub version: LogVersion,
     pub journal: u64,
@@ -127,8 +128,8 @@ fn slot_end<D: Disk>(
         return Err(LogFault::Damaged(entry));
     }
     let sum = at + GATE_BYTES + LENGTH_BYTES as u64;
-    let has_sum = has_sum(alloc, disk, version, sum, entry, start, end)?;
-    if !has_sum {
+    let is_whole = has_sum(alloc, disk, version, sum, entry, start, end)?;
+    if !is_whole {
         return Err(LogFault::Damaged(entry));
     }
     Ok(end)
@@ -177,7 +178,7 @@ pub fn find_ends<D: Disk>(
     disk: &mut D,
     lengths: &Lengths,
 ) -> Result<Vec<u64>, LogFault>
-    requires { D.honest disk.old → AreLengths lengths.now (D.reads disk.old) }
+    requires lengths { D.honest disk.old → AreLengths lengths.now (D.reads disk.old) }
     requires is { D.honest disk.old → IsOf lengths.now.version (D.reads disk.old) }
     ensures stands { D.honest disk.old
         → IfOk result (λ ends. StandsAt lengths.now.version ends.items (D.reads disk.old)) }
@@ -196,14 +197,12 @@ pub fn find_ends<D: Disk>(
     let mut at = 0;
     while at < lengths.gates {
         let entry = ends.len() as u64;
-        match next_end(alloc, disk, lengths, entry, at, last)? {
-            None => break,
-            Some(end) => {
-                ends.push(end)?;
-                last = end;
-                at += slot_bytes(lengths.version);
-            }
-        }
+        let Some(end) = next_end(alloc, disk, lengths, entry, at, last)? else {
+            break;
+        };
+        ends.push(end)?;
+        last = end;
+        at += slot_bytes(lengths.version);
     }
     if ends.is_empty() {
         return Err(LogFault::NoRepository);

@@ -59,25 +59,25 @@ fn slots_of<D: Disk>(alloc: Global, disk: &mut D, ends: &[u64]) -> Result<Vec<u8
     ensures no_other { IfErr result (IsMigrationFault (length ends.now)) }
     ensures looks { Looks D.honest D.reads D.may_leave D.clock D.left_since D.failures disk.old disk.new }
 {
-    let mut slots = Vec::new(alloc);
+    let mut bytes = Vec::new(alloc);
     let mut start = 0;
     for entry in 0..ends.len() {
         let end = ends[entry];
         let sum = sum_of_part(alloc, disk, entry as u64, start, end)?;
-        push_slot(&mut slots, end, &sum)?;
+        push_slot(&mut bytes, end, &sum)?;
         start = end;
     }
-    slots.push(CLOSED)?;
-    Ok(slots)
+    bytes.push(CLOSED)?;
+    Ok(bytes)
 }
 
 // Adds an open gate, a length and a sum.
-fn push_slot(slots: &mut Vec<u8>, end: u64, sum: &[u8; SUM_BYTES]) -> Result<(), AllocError>
-    ensures { OnOk result (slots.new.items ≡ slots.old.items ++ (1 ∷ eight_bytes end ++ sum.now)) }
+fn push_slot(bytes: &mut Vec<u8>, end: u64, sum: &[u8; SUM_BYTES]) -> Result<(), AllocError>
+    ensures { OnOk result (bytes.new.items ≡ bytes.old.items ++ (1 ∷ eight_bytes end ++ sum.now)) }
 {
-    slots.push(OPEN)?;
-    slots.extend_from_slice(&end.to_be_bytes())?;
-    slots.extend_from_slice(sum)?;
+    bytes.push(OPEN)?;
+    bytes.extend_from_slice(&end.to_be_bytes())?;
+    bytes.extend_from_slice(sum)?;
     Ok(())
 }
 
