@@ -1,8 +1,11 @@
 -- Slots that stand behind an open gate, and what breaks them.
-use Rattle.std.proofs.Common.{◌≡◌, ◌≢◌, ◌<◌, ◌≤◌, ◌+◌, ◌^◌, ℕ, List, [], ◌∷◌, ◌++◌, length, take, drop, get_or, refl, sym, ◌∙◌, ap, subst, arith, append_assoc, length-append, length-drop, take-append-drop}
+use Rattle.std.proofs.Common.{◌≡◌, ◌≢◌, ◌<◌, ◌≤◌, ◌+◌, ◌^◌, ◌⊎◌, inl, inr, ℕ, List, [], ◌∷◌, ◌++◌, length, take, drop, get_or, refl, sym, ◌∙◌, ap, subst, arith, append_assoc, length-append, length-drop, take-append-drop}
 use Rattle.std.proofs.lemmas.List.{take_at, drop_at, drop_more, drop-drop}
 use Rattle.fleet_disk.specs.Image.{Image}
+use Rattle.gate_log.specs.declared.fault.LogFault.{LogFault}
+use Rattle.gate_log.specs.declared.fault.LogFault.TheVariants.{DeviceFailed, Failed, Damaged, NoRepository, ThereAlready, LogFull, OutOfMemory}
 use Rattle.gate_log.specs.declared.version.LogVersion.{LogVersion}
+use Rattle.gate_log.specs.Faults.{IsEntryFault}
 use Rattle.gate_log.specs.Version.{gates_of, sum_of, IsOf}
 use Rattle.gate_log.specs.Slots.{eight_bytes, part, mark, slots, sum_size, slot_size}
 use Rattle.gate_log.specs.Standing.{IsRising, last_end, IsDamagedAt, IsSlot}
@@ -79,3 +82,21 @@ damaged_at v image ends at is up within fits inside is_open so_far breaks = reco
   gates = so_far ∙ ap (λ (l : List ℕ). slots v 0 ends image.journal ++ l) (drop_more (gates_of v image) at 0 inside ∙ ap (λ (x : ℕ). x ∷ drop (at + 1) (gates_of v image)) is_open);
   breaks = breaks;
 }
+
+-- which entry the search calls damaged
+abbrev number_in : LogFault → ℕ
+number_in (Damaged n) = n
+number_in DeviceFailed = 0
+number_in Failed = 0
+number_in NoRepository = 0
+number_in ThereAlready = 0
+number_in LogFull = 0
+number_in OutOfMemory = 0
+
+pub entry_told : (n entry : ℕ) (fault : LogFault) → IsEntryFault n fault → fault ≡ Damaged entry → n ≡ entry
+entry_told n entry fault (inl device) is = cc
+entry_told n entry fault (inr (inl damaged)) is = ap (λ (f : LogFault). number_in f) (sym damaged ∙ is)
+entry_told n entry fault (inr (inr memory)) is = cc
+
+pub damaged_is : (n entry : ℕ) (fault : LogFault) → n ≡ entry → fault ≡ Damaged entry → fault ≡ Damaged n
+damaged_is n entry fault same is = is ∙ ap (λ (k : ℕ). Damaged k) (sym same)

@@ -1,6 +1,7 @@
 -- Ends of entries, their slots and their parts of a journal.
-use Rattle.std.proofs.Common.{◌≡◌, ◌<◌, ◌≤◌, ◌+◌, ◌-◌, ◌*◌, ◌^◌, ℕ, zero, suc, Some, slice_get, subst, List, [], ◌∷◌, ◌++◌, length, get_or, take, drop, refl, sym, ◌∙◌, ap, arith, append_assoc, length-append, length-drop, take-append-drop}
-use Rattle.std.proofs.lemmas.List.{take-append-le, drop-append-le, take_all, drop_at, append-nil, drop_more, drop-drop}
+use Rattle.std.proofs.Common.{◌≡◌, ◌<◌, ◌≤◌, ◌+◌, ◌-◌, ◌*◌, ◌^◌, ℕ, zero, suc, Some, slice_get, subst, List, [], ◌∷◌, ◌++◌, length, get_or, take, drop, replicate, refl, sym, ◌∙◌, ap, arith, append_assoc, length-append, length-drop, take-append-drop}
+use Rattle.std.proofs.lemmas.List.{take-append-le, drop-append-le, take_all, take_at, drop_at, append-nil, drop_more}
+use borrow.Rule.Slice.PartMut.{put_mid}
 use Rattle.md5.proofs.StandardFacts.{length-md5}
 use Rattle.gate_log.specs.declared.version.LogVersion.{LogVersion}
 use Rattle.gate_log.specs.declared.version.LogVersion.TheVariants.{First, Second}
@@ -11,6 +12,13 @@ use Rattle.gate_log.specs.Standing.{last_end, IsRising, parts, IsSlot}
 pub length-eight_bytes : (n : ℕ) → length (eight_bytes n) ≡ 8
 unfolding eight_bytes
 length-eight_bytes n = refl
+
+-- eight bytes and sixteen, written over closed gates
+pub slot_written : (front behind : List ℕ) → length front ≡ 8 → put_mid 8 16 (front ++ replicate 17 0) behind ≡ front ++ behind ++ 0 ∷ []
+slot_written front behind long =
+    ap (λ (l : List ℕ). l ++ (behind ++ drop 16 (drop 8 (front ++ replicate 17 0)))) (take_at front (replicate 17 0) 8 long)
+    ∙ ap (λ (l : List ℕ). front ++ (behind ++ drop 16 l)) (drop_at front (replicate 17 0) 8 long)
+    ∙ sym (append_assoc front behind (0 ∷ []))
 
 pub length-sum : (v : LogVersion) (entry : List ℕ) → length (sum_of v entry) ≡ sum_size v
 length-sum First entry = refl

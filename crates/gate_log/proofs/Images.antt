@@ -64,8 +64,7 @@ module _ (v : LogVersion) (ends : List ℕ) (rest : Image) (up : IsRising 0 ends
   -- an image with these slots, a closed gate behind them and the other file as it was
   stands_with : (c : Image) (gate : ℕ) (more behind : List ℕ) → c.journal ≡ rest.journal ++ more → gates_of v c ≡ slots v 0 ends rest.journal ++ gate ∷ behind → gate ≢ 1 → others_of v c ≡ others_of v rest → Stands c entries
   stands_with c gate more behind journal gates shut others =
-      let now : gates_of v c ≡ slots v 0 ends c.journal ++ gate ∷ behind = gates ∙ ap (λ (l : List ℕ). l ++ gate ∷ behind) (sym (same_slots c.journal more journal)) in
-      (
+      let now : gates_of v c ≡ slots v 0 ends c.journal ++ gate ∷ behind = gates ∙ ap (λ (l : List ℕ). l ++ gate ∷ behind) (sym (same_slots c.journal more journal)) in (
         v,
         ends,
         record {
@@ -119,8 +118,7 @@ module _ (v : LogVersion) (ends : List ℕ) (rest : Image) (up : IsRising 0 ends
 
     with_entry : (c : Image) → c.journal ≡ rest.journal ++ entry → gates_of v c ≡ gates_with 1 → others_of v c ≡ others_of v rest → Stands c (entries ++ entry ∷ [])
     with_entry c journal gates others =
-        let now : gates_of v c ≡ slots v 0 (ends ++ end ∷ []) c.journal ++ 0 ∷ [] = gates ∙ opened_gates c.journal journal in
-        (
+        let now : gates_of v c ≡ slots v 0 (ends ++ end ∷ []) c.journal ++ 0 ∷ [] = gates ∙ opened_gates c.journal journal in (
           v,
           ends ++ end ∷ [],
           record {

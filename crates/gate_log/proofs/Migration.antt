@@ -98,8 +98,7 @@ module _ (ends : List ℕ) (rest : Image) (some : 0 < length ends) (up : IsRisin
   -- in the first version, while `slots` isn't begun
   stands_first : (c : Image) → c.journal ≡ rest.journal → c.gate ≡ rest.gate → ¬ IsBegun c.slots → Stands c entries
   stands_first c journal gate idle =
-      let now : c.gate ≡ slots First 0 ends c.journal ++ gate_behind First ends rest ∷ [] = gate ∙ at_rest.gates ∙ ap (λ (l : List ℕ). slots First 0 ends l ++ gate_behind First ends rest ∷ []) (sym journal) in
-      (
+      let now : c.gate ≡ slots First 0 ends c.journal ++ gate_behind First ends rest ∷ [] = gate ∙ at_rest.gates ∙ ap (λ (l : List ℕ). slots First 0 ends l ++ gate_behind First ends rest ∷ []) (sym journal) in (
         First,
         ends,
         record {
@@ -118,8 +117,7 @@ module _ (ends : List ℕ) (rest : Image) (some : 0 < length ends) (up : IsRisin
   -- in the second, with its first gate open
   stands_second : (c : Image) → c.journal ≡ rest.journal → c.slots ≡ slots Second 0 ends rest.journal ++ 0 ∷ [] → Stands c entries
   stands_second c journal bytes =
-      let now : c.slots ≡ slots Second 0 ends c.journal ++ 0 ∷ [] = bytes ∙ ap (λ (l : List ℕ). slots Second 0 ends l ++ 0 ∷ []) (sym journal) in
-      (
+      let now : c.slots ≡ slots Second 0 ends c.journal ++ 0 ∷ [] = bytes ∙ ap (λ (l : List ℕ). slots Second 0 ends l ++ 0 ∷ []) (sym journal) in (
         Second,
         ends,
         record {

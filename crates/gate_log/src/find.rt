@@ -144,7 +144,8 @@ fn next_end<D: Disk>(
     at: u64,
     start: u64,
 ) -> Result<Option<u64>, LogFault>
-    requires { at < lengths.now.gates }
+    requires inside { at < lengths.now.gates }
+    requires room { at + 1 < 2 ^ 64 }
     ensures closed { D.honest disk.old → AreLengths lengths.now (D.reads disk.old) → IfOk result (λ found. found ≡ None
         → get_or (gates_of lengths.now.version (D.reads disk.old)) at 0 ≢ 1) }
     ensures open { D.honest disk.old → AreLengths lengths.now (D.reads disk.old) → IfOk result (λ found. IfSome found
@@ -167,8 +168,10 @@ fn next_end<D: Disk>(
     if !is_open {
         return Ok(None);
     }
-    let end = slot_end(alloc, disk, lengths, entry, at, start)?;
-    Ok(Some(end))
+    match slot_end(alloc, disk, lengths, entry, at, start) {
+        Ok(end) => Ok(Some(end)),
+        Err(fault) => Err(fault),
+    }
 }
 
 // Where the entries that stand end; their number's worth of slots is in the file of the gates. It reads and changes
@@ -192,12 +195,17 @@ pub fn find_ends<D: Disk>(
     ensures no_other { IfErr result IsFindFault }
     ensures looks { Looks D.honest D.reads D.may_leave D.clock D.left_since D.failures disk.old disk.new }
 {
+    let Lengths { gates, .. } = *lengths;
     let mut ends = Vec::new(alloc);
     let mut last = 0;
     let mut at = 0;
-    while at < lengths.gates {
+    while at < gates {
         let entry = ends.len() as u64;
-        let Some(end) = next_end(alloc, disk, lengths, entry, at, last)? else {
+        let found = match next_end(alloc, disk, lengths, entry, at, last) {
+            Ok(found) => found,
+            Err(fault) => return Err(fault),
+        };
+        let Some(end) = found else {
             break;
         };
         ends.push(end)?;

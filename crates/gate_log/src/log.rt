@@ -41,8 +41,7 @@ pub struct GateLog<D: Disk> {
     failed: bool,
     ghost rising: { IsRising 0 ends.items } by { rising_prop 0 ends.items },
     ghost begun: { version ≡ First → 0 < length ends.items } by { Prim.hlevel props },
-    ghost at_rest: { D.honest disk → failed ≡ false → IsAtRest version ends.items (D.reads disk) }
-        by { rest_prop (D.honest disk) (failed ≡ false) version ends.items (D.reads disk) },
+    ghost at_rest: { D.honest disk → failed ≡ false → IsAtRest version ends.items (D.reads disk) } by { rest_prop (D.honest disk) (failed ≡ false) version ends.items (D.reads disk) },
     ghost durable: { D.honest disk → failed ≡ false → Only (D.reads disk) (D.may_leave disk) } by { Prim.hlevel props },
 }
 
