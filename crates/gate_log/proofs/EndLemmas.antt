@@ -1,6 +1,6 @@
 -- Ends of entries, their slots and their parts of a journal.
 use Rattle.std.proofs.Common.{◌≡◌, ◌<◌, ◌≤◌, ◌+◌, ◌-◌, ◌*◌, ◌^◌, ℕ, zero, suc, Some, slice_get, subst, List, [], ◌∷◌, ◌++◌, length, get_or, take, drop, replicate, refl, sym, ◌∙◌, ap, arith, append_assoc, length-append, length-drop, take-append-drop}
-use Rattle.std.proofs.lemmas.List.{take-append-le, drop-append-le, take_all, take_at, drop_at, append-nil, drop_more}
+use Rattle.std.proofs.lemmas.List.{take-append-le, drop-append-le, take_all, take_at, drop_at, append-nil, drop_more, take_more}
 use borrow.Rule.Slice.PartMut.{put_mid}
 use Rattle.md5.proofs.StandardFacts.{length-md5}
 use Rattle.gate_log.specs.declared.version.LogVersion.{LogVersion}
@@ -62,6 +62,20 @@ last_end_push from (e ∷ ends) end = last_end_push e ends end
 pub rising_push : (from : ℕ) (ends : List ℕ) (end : ℕ) → IsRising from ends → last_end from ends < end → IsRising from (ends ++ end ∷ [])
 rising_push from [] end up more = (more, tt)
 rising_push from (e ∷ ends) end (here, up) more = (here, rising_push e ends end up more)
+
+-- an entry ends behind those before it
+pub next_rises : (from : ℕ) (ends : List ℕ) (i : ℕ) → IsRising from ends → i < length ends → last_end from (take i ends) < get_or ends i 0
+next_rises from [] i up inside = absurd (omega (arith, inside))
+next_rises from (e ∷ ends) zero (here, up) inside = here
+next_rises from (e ∷ ends) (suc i) (here, up) inside = next_rises e ends i up (omega (arith, inside))
+
+-- the last of so many ends, and one more
+pub last_more : (ends : List ℕ) (i : ℕ) → i < length ends → last_end 0 (take (i + 1) ends) ≡ get_or ends i 0
+last_more ends i inside = ap (λ (l : List ℕ). last_end 0 l) (take_more ends i 0 inside) ∙ last_end_push 0 (take i ends) (get_or ends i 0)
+
+-- the slots of so many, and one more
+pub slots_take : (v : LogVersion) (ends journal : List ℕ) (i : ℕ) → i < length ends → slots v 0 (take (i + 1) ends) journal ≡ slots v 0 (take i ends) journal ++ slot v (get_or ends i 0) (part (last_end 0 (take i ends)) (get_or ends i 0) journal)
+slots_take v ends journal i inside = ap (λ (l : List ℕ). slots v 0 l journal) (take_more ends i 0 inside) ∙ slots_push v 0 (take i ends) journal (get_or ends i 0)
 
 -- an end is no more than the last
 pub grows : (from : ℕ) (ends : List ℕ) → IsRising from ends → from ≤ last_end from ends

@@ -12,6 +12,13 @@ use Rattle.gate_log.proofs.EndLemmas.{length-slots}
 use Rattle.gate_log.proofs.Images.{Extends, torn_end, torn_byte, over_byte, extended, staged_gates, opened_gates, gate_decides, at_rest_push, gates_with}
 use Rattle.gate_log.proofs.Versions.{on_journal, on_gates}
 
+-- an entry behind the ends of a journal, as much of it as there is
+record Written (v : LogVersion) (old new : Image) : Type 0 where
+  pub more : List ℕ
+  pub journal : new.journal ≡ old.journal ++ more
+  pub gates : gates_of v new ≡ gates_of v old
+  pub others : others_of v new ≡ others_of v old
+
 module _ (v : LogVersion) (ends : List ℕ) (rest : Image) (up : IsRising 0 ends) (at_rest : IsAtRest v ends rest) where
   pub gates_length : length (gates_of v rest) ≡ gate_place v (length ends) + 1
   gates_length = omega (arith, ap length at_rest.gates, length-append (slots v 0 ends rest.journal) (gate_behind v ends rest ∷ []), length-slots v 0 ends rest.journal)
@@ -28,21 +35,22 @@ module _ (v : LogVersion) (ends : List ℕ) (rest : Image) (up : IsRising 0 ends
 
   -- after the entry's write
   first : (at n : ℕ) (old new : Image → Type 0) → at ≡ last_end 0 ends → Only rest old → Follows (OnFile Journal (Torn at n)) old new
-      → (c : Image) → new c → Extends v rest c
+      → (c : Image) → new c → Written v rest c
   first at n old new place only follows c left =
       let from = follows c left in
       let step = on_journal v (Torn at n) rest c (subst (λ (d : Image). OnFile Journal (Torn at n) d c) (only from.0 from.1) from.2) in
       record {
-        journal_more = _;
-        gates_more = [];
+        more = _;
         journal = torn_end at n rest.journal c.journal (place ∙ sym at_rest.journal) step.journal;
-        gates = step.gates ∙ sym (append-nil (gates_of v rest));
+        gates = step.gates;
         others = step.others;
       }
 
   pub first_left : (at n : ℕ) (old new : Image → Type 0) → at ≡ last_end 0 ends → Only rest old → Follows (OnFile Journal (Torn at n)) old new
       → (c : Image) → new c → Stands c (parts 0 ends rest.journal)
-  first_left at n old new place only follows c left = extended v ends rest up at_rest c (first at n old new place only follows c left)
+  first_left at n old new place only follows c left =
+      let more = first at n old new place only follows c left in
+      extended v ends rest up at_rest c (record { journal_more = more.more; gates_more = []; journal = more.journal; gates = more.gates ∙ sym (append-nil (gates_of v rest)); others = more.others })
 
   -- after its slot's
   pub second_left : (at n place m : ℕ) (old mid new : Image → Type 0) → at ≡ last_end 0 ends → place ≡ gate_place v (length ends) + 1 → Only rest old
@@ -52,9 +60,9 @@ module _ (v : LogVersion) (ends : List ℕ) (rest : Image) (up : IsRising 0 ends
       let from = then c left in
       let more = first at n old mid start only follows from.0 from.1 in
       let step = on_gates v (Torn place m) from.0 c from.2 in
-      let torn = subst (λ (g : List ℕ). Torn place m g (gates_of v c)) (more.gates ∙ append-nil (gates_of v rest)) step.gates in
+      let torn = subst (λ (g : List ℕ). Torn place m g (gates_of v c)) more.gates step.gates in
       extended v ends rest up at_rest c (record {
-        journal_more = more.journal_more;
+        journal_more = more.more;
         gates_more = _;
         journal = step.journal ∙ more.journal;
         gates = torn_end place m (gates_of v rest) (gates_of v c) (behind ∙ sym gates_length) torn;

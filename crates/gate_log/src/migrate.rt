@@ -63,7 +63,10 @@ fn slots_of<D: Disk>(alloc: Global, disk: &mut D, ends: &[u64]) -> Result<Vec<u8
     let mut start = 0;
     for entry in 0..ends.len() {
         let end = ends[entry];
-        let sum = sum_of_part(alloc, disk, entry as u64, start, end)?;
+        let sum = match sum_of_part(alloc, disk, entry as u64, start, end) {
+            Ok(sum) => sum,
+            Err(fault) => return Err(fault),
+        };
         push_slot(&mut bytes, end, &sum)?;
         start = end;
     }

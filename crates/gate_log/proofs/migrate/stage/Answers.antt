@@ -29,15 +29,6 @@ returns-in_err-write_synced-clause-any_moment g c h =
     let run2 = joined D.clock D.left_since disk c.cut_synced.new.disk c.write_synced.new.disk P _ run1 (c.write_synced.ensures.any_moment h1) (λ f goes. beginning rest mid1 f w1.1 w1.2 w1.0 goes) in
     run2
 
-pub write_synced-requires-inside-2 : goal.write_synced-requires-inside-2
-write_synced-requires-inside-2 g c h2 =
-    let h1 = c.write_synced.ensures.honest.1 h2 in
-    let h = c.cut_synced.ensures.honest.1 h1 in
-    let D = g.D.Disk in
-    let w1 = c.in_ok-cut_synced.ensures.cut h in
-    let w2 = c.in_ok-write_synced.ensures.written h1 in
-    omega (arith, ap length (one_gate (D.reads c.cut_synced.new.disk).slots (D.reads c.write_synced.new.disk).slots w1.0 w2.0))
-
 pub returns-in_err-write_synced-2-clause-any_moment : goal.returns-in_err-write_synced-2-clause-any_moment
 returns-in_err-write_synced-2-clause-any_moment g c h =
     let D = g.D.Disk in

@@ -12,8 +12,8 @@ use Rattle.gate_log.proofs.Steps.{gates_length, still, first_left, second_left, 
 use Rattle.gate_log.proofs.Versions.{on_journal, on_gates}
 use Rattle.gate_log.proofs.put.put_entry.Goals as goal
 
-pub gate_at-requires : goal.gate_at-requires
-gate_at-requires g c = few_places c.args.version c.args.ends.now c.requires.rising (omega (arith, c.requires.fits))
+pub gate_at-gate-requires : goal.gate_at-gate-requires
+gate_at-gate-requires g c = few_places c.args.version c.args.ends.now c.requires.rising (omega (arith, c.requires.fits))
 
 pub returns-in_err-write_at-clause-any_moment : goal.returns-in_err-write_at-clause-any_moment
 returns-in_err-write_at-clause-any_moment g c h =
