@@ -1,16 +1,16 @@
 -- What a stop leaves after each device call of an append.
-use Rattle.std.proofs.Common.{◌≡◌, ◌<◌, ◌≤◌, ◌+◌, ◌^◌, ℕ, List, [], ◌∷◌, ◌++◌, length, get_or, refl, sym, ◌∙◌, ap, subst, arith, length-append}
+use Rattle.std.proofs.Common.{◌≡◌, ◌<◌, ◌≤◌, ◌+◌, ◌^◌, Bool, true, false, IsTrue, ℕ, List, [], ◌∷◌, ◌++◌, length, get_or, refl, sym, ◌∙◌, ap, subst, arith, length-append}
 use Rattle.std.proofs.lemmas.List.{append-nil}
 use Rattle.fleet_disk.specs.declared.disk.DiskFile.TheVariants.{Journal}
 use Rattle.fleet_disk.specs.Image.{Image}
 use Rattle.fleet_disk.specs.Rules.{overwritten, Torn, OnFile, Follows, Only}
 use Rattle.gate_log.specs.declared.version.LogVersion.{LogVersion}
-use Rattle.gate_log.specs.Version.{file_of, gates_of, others_of}
+use Rattle.gate_log.specs.Version.{file_of, gates_of, others_of, IsOf}
 use Rattle.gate_log.specs.Slots.{mark, slots, gate_place}
 use Rattle.gate_log.specs.Standing.{last_end, IsRising, parts, Stands, IsAtRest, IsEither, gate_behind}
 use Rattle.gate_log.proofs.EndLemmas.{length-slots}
 use Rattle.gate_log.proofs.Images.{Extends, torn_end, torn_byte, over_byte, extended, staged_gates, opened_gates, gate_decides, at_rest_push, gates_with}
-use Rattle.gate_log.proofs.Versions.{on_journal, on_gates}
+use Rattle.gate_log.proofs.Versions.{on_journal, on_gates, idle_is}
 
 -- an entry behind the ends of a journal, as much of it as there is
 record Written (v : LogVersion) (old new : Image) : Type 0 where
@@ -98,3 +98,12 @@ module _ (v : LogVersion) (ends : List ℕ) (rest : Image) (up : IsRising 0 ends
     opened_bytes at c place over same =
         over ∙ ap (λ (l : List ℕ). overwritten at (1 ∷ []) l) whole ∙ over_byte (slots v 0 ends rest.journal) (gate_behind v ends rest) 1 (mark v end entry ++ 0 ∷ []) at (place ∙ sym (length-slots v 0 ends rest.journal))
         ∙ opened_gates v ends rest up at_rest entry end some is fits c.journal (same ∙ journal)
+
+-- a call that hasn't failed
+pub not_failed : (failed : Bool) → ¬ (IsTrue failed) → failed ≡ false
+not_failed true working = absurd (working refl)
+not_failed false working = refl
+
+-- a log at rest has its version
+pub rest_is : (v : LogVersion) (ends : List ℕ) (rest : Image) → IsAtRest v ends rest → IsOf v rest
+rest_is v ends rest at_rest = idle_is v ends rest.journal (gate_behind v ends rest) [] rest at_rest.gates at_rest.closed at_rest.idle
