@@ -201,9 +201,9 @@ fn has_gate(disk: &MemDisk, bytes: &[u8]) -> bool {
     disk.bytes(DiskFile::Gate) == bytes
 }
 
-// Whether a fuse of nine calls lets them pass.
-fn lets_nine_pass(rt: &HostRuntime) -> bool {
-    is_so(goes_round(&mut fused(rt, 9, Fuse::ForGood)))
+// Whether a fuse of ten calls lets them pass.
+fn lets_ten_pass(rt: &HostRuntime) -> bool {
+    is_so(goes_round(&mut fused(rt, 10, Fuse::ForGood)))
 }
 
 // Whether the call behind the one that fails passes.
@@ -222,7 +222,7 @@ fn fails_for_good(rt: &HostRuntime) -> bool {
 
 #[test]
 fn a_fuse(rt: HostRuntime) {
-    assert!(rt; lets_nine_pass(&rt));
+    assert!(rt; lets_ten_pass(&rt));
     assert!(rt; fails_once(&rt));
     assert!(rt; fails_for_good(&rt));
 }

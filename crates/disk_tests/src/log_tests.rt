@@ -128,13 +128,7 @@ fn fused(
 }
 
 // The disk after this many calls of appends of `second`, `third` and `fourth`, stopped.
-fn stopped(
-    rt: &impl Abort,
-    alloc: Global,
-    version: LogVersion,
-    calls: u64,
-    pick: Pick,
-) -> MemDisk {
+fn stopped(rt: &impl Abort, alloc: Global, version: LogVersion, calls: u64, pick: Pick) -> MemDisk {
     let mut log = fused(rt, alloc, version, calls, Fuse::ForGood);
     let _all = added(&mut log, b"second").is_some()
         && added(&mut log, b"third").is_some()
@@ -144,9 +138,11 @@ fn stopped(
 
 // Whether a disk that was stopped after so many calls opens with so many entries, in either version.
 fn stands(rt: &impl Abort, alloc: Global, calls: u64, pick: Pick, count: u64) -> bool {
-    VERSIONS
-        .iter()
-        .all(|version| opens_with(alloc, stopped(rt, alloc, *version, calls, pick), count))
+    VERSIONS.iter().all(|version| opens_with(
+        alloc,
+        stopped(rt, alloc, *version, calls, pick),
+        count,
+    ))
 }
 
 #[test]
@@ -359,7 +355,8 @@ pub(crate) fn has_files(disk: &MemDisk, journal: &[u8], gate: &[u8], slots: &[u8
 }
 
 // The slots of entries of 149 and 275 bytes.
-const LONG_SLOTS: &[u8] = b"\x01\0\0\0\0\0\0\0\x95R_\xDB#Q%\xF6\x9A\xFB\x02\x06\x5C?\x8E\x93\x0E\x01\0\0\0\0\0\0\x01\xA8\xC7k\xB6\xE2\xF7;h\xE5\x92\x22\xEE\xC1\xE9iH\x85\0";
+const LONG_SLOTS: &[u8] =
+    b"\x01\0\0\0\0\0\0\0\x95R_\xDB#Q%\xF6\x9A\xFB\x02\x06\x5C?\x8E\x93\x0E\x01\0\0\0\0\0\0\x01\xA8\xC7k\xB6\xE2\xF7;h\xE5\x92\x22\xEE\xC1\xE9iH\x85\0";
 
 // Whether an empty log takes an entry of 149 bytes and one of 275.
 fn takes_two(log: &mut GateLog<MemDisk>) -> bool {
@@ -386,7 +383,11 @@ fn the_bytes_and_the_calls(rt: HostRuntime) {
 // An append in the first version, whose gates have no sums.
 #[test]
 fn the_bytes_of_the_first_version(rt: HostRuntime) {
-    let mut log = found(&rt, rt.alloc(), one_entry(&rt, rt.alloc(), LogVersion::First));
+    let mut log = found(
+        &rt,
+        rt.alloc(),
+        one_entry(&rt, rt.alloc(), LogVersion::First),
+    );
     assert!(rt; log.version() == LogVersion::First && added(&mut log, b"second") == Some(1));
     assert!(rt; has_files(&log.into_disk(), b"firstsecond", WHOLE, b""));
 }
@@ -433,13 +434,7 @@ fn is_damaged(alloc: Global, gate: &[u8], wanted: LogFault) -> bool {
 }
 
 // Whether these files are refused so.
-fn are_damaged(
-    alloc: Global,
-    journal: &[u8],
-    gate: &[u8],
-    slots: &[u8],
-    wanted: LogFault,
-) -> bool {
+fn are_damaged(alloc: Global, journal: &[u8], gate: &[u8], slots: &[u8], wanted: LogFault) -> bool {
     match MemDisk::with_bytes(alloc, journal, gate, slots) {
         Ok(disk) => not_opened(alloc, disk) == Some(wanted),
         Err(_) => false,
@@ -450,7 +445,8 @@ fn are_damaged(
 pub(crate) const WHOLE: &[u8] = b"\x01\0\0\0\0\0\0\0\x05\x01\0\0\0\0\0\0\0\x0B\0";
 
 // Their slots, with the sums that `md5sum` tells of them.
-pub(crate) const WHOLE_SLOTS: &[u8] = b"\x01\0\0\0\0\0\0\0\x05\x8B\x04\xD5\xE3w])\x8ExE^\xFC\x5C\xA4\x04\xD5\x01\0\0\0\0\0\0\0\x0B\xA9\xF0\xE6\x1A\x13}\x86\xAA\x9D\xB54e\xE0\x80\x16\x12\0";
+pub(crate) const WHOLE_SLOTS: &[u8] =
+    b"\x01\0\0\0\0\0\0\0\x05\x8B\x04\xD5\xE3w])\x8ExE^\xFC\x5C\xA4\x04\xD5\x01\0\0\0\0\0\0\0\x0B\xA9\xF0\xE6\x1A\x13}\x86\xAA\x9D\xB54e\xE0\x80\x16\x12\0";
 
 // Whether these files open with two entries, in this version.
 fn are_whole(alloc: Global, gate: &[u8], slots: &[u8], version: LogVersion) -> bool {
@@ -493,16 +489,65 @@ fn a_changed_byte(rt: HostRuntime) {
 // than an entry and a gate.
 #[test]
 fn damaged_slots(rt: HostRuntime) {
-    assert!(rt; are_damaged(rt.alloc(), b"firstsecond", b"", FALLING, LogFault::Damaged(1)));
-    assert!(rt; are_damaged(rt.alloc(), b"firstsecon", b"", WHOLE_SLOTS, LogFault::Damaged(1)));
-    assert!(rt; are_damaged(rt.alloc(), b"firstsecond", b"", &WHOLE_SLOTS[..49], LogFault::Damaged(1)));
-    assert!(rt; are_damaged(rt.alloc(), b"firstsecond", b"", &WHOLE_SLOTS[..50], LogFault::Damaged(1)));
-    assert!(rt; are_damaged(rt.alloc(), b"firstsecond", b"", b"\0", LogFault::NoRepository));
-    assert!(rt; are_damaged(rt.alloc(), b"firstsecond", b"", &WHOLE_SLOTS[..25], LogFault::NoRepository));
+    assert!(rt;
+        are_damaged(
+            rt.alloc(),
+            b"firstsecond",
+            b"",
+            FALLING,
+            LogFault::Damaged(1)
+        )
+    );
+    assert!(rt;
+        are_damaged(
+            rt.alloc(),
+            b"firstsecon",
+            b"",
+            WHOLE_SLOTS,
+            LogFault::Damaged(1)
+        )
+    );
+    assert!(rt;
+        are_damaged(
+            rt.alloc(),
+            b"firstsecond",
+            b"",
+            &WHOLE_SLOTS[..49],
+            LogFault::Damaged(1)
+        )
+    );
+    assert!(rt;
+        are_damaged(
+            rt.alloc(),
+            b"firstsecond",
+            b"",
+            &WHOLE_SLOTS[..50],
+            LogFault::Damaged(1)
+        )
+    );
+    assert!(rt;
+        are_damaged(
+            rt.alloc(),
+            b"firstsecond",
+            b"",
+            b"\0",
+            LogFault::NoRepository
+        )
+    );
+    assert!(rt;
+        are_damaged(
+            rt.alloc(),
+            b"firstsecond",
+            b"",
+            &WHOLE_SLOTS[..25],
+            LogFault::NoRepository
+        )
+    );
 }
 
 // The slots of `first` and of a second entry that ends with it.
-const FALLING: &[u8] = b"\x01\0\0\0\0\0\0\0\x05\x8B\x04\xD5\xE3w])\x8ExE^\xFC\x5C\xA4\x04\xD5\x01\0\0\0\0\0\0\0\x05\xA9\xF0\xE6\x1A\x13}\x86\xAA\x9D\xB54e\xE0\x80\x16\x12\0";
+const FALLING: &[u8] =
+    b"\x01\0\0\0\0\0\0\0\x05\x8B\x04\xD5\xE3w])\x8ExE^\xFC\x5C\xA4\x04\xD5\x01\0\0\0\0\0\0\0\x05\xA9\xF0\xE6\x1A\x13}\x86\xAA\x9D\xB54e\xE0\x80\x16\x12\0";
 
 // A length that doesn't rise, one past the journal's end, a cut length, no next gate, a closed first gate.
 #[test]

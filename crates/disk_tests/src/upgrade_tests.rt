@@ -33,8 +33,8 @@ fn two_entries(rt: &impl Abort, alloc: Global, slots: &[u8]) -> MemDisk {
 }
 
 // How many calls such a disk is asked before the ten of an upgrade.
-fn calls_before(rt: &impl Abort, alloc: Global) -> u64 {
-    let mut log = found(rt, alloc, two_entries(rt, alloc, b""));
+fn calls_before(rt: &impl Abort, alloc: Global, slots: &[u8]) -> u64 {
+    let mut log = found(rt, alloc, two_entries(rt, alloc, slots));
     assert!(rt; log.upgrade(alloc) == Ok(2));
     let calls = log.into_disk().calls().len() as u64;
     calls.saturating_sub(10)
@@ -68,12 +68,15 @@ fn stopped(rt: &impl Abort, alloc: Global, slots: &[u8], calls: u64) -> MemDisk 
 
 #[test]
 fn an_upgrade_stopped_after_each_call(rt: HostRuntime) {
-    let before = calls_before(&rt, rt.alloc());
+    let before = calls_before(&rt, rt.alloc(), b"");
     for (calls, row) in LEFT.iter().enumerate() {
         let disk = stopped(&rt, rt.alloc(), b"", before.saturating_add(calls as u64));
         for (pick, wanted) in PICKS.iter().zip(row) {
             let left = crashed(&rt, &disk, *pick);
-            assert!(rt; is_upgraded(rt.alloc(), left, *wanted), "after {calls} calls");
+            assert!(rt;
+                is_upgraded(rt.alloc(), left, *wanted),
+                "after {calls} calls"
+            );
         }
     }
 }
@@ -81,13 +84,16 @@ fn an_upgrade_stopped_after_each_call(rt: HostRuntime) {
 // The same where an earlier one has left something in `slots`.
 #[test]
 fn an_upgrade_behind_a_stopped_one(rt: HostRuntime) {
-    let before = calls_before(&rt, rt.alloc());
+    let left = b"\0what an earlier upgrade has left";
+    let before = calls_before(&rt, rt.alloc(), left);
     for (calls, row) in LEFT.iter().enumerate() {
-        let left = b"\0what an earlier upgrade has left";
         let disk = stopped(&rt, rt.alloc(), left, before.saturating_add(calls as u64));
         for (pick, wanted) in PICKS.iter().zip(row) {
             let left = crashed(&rt, &disk, *pick);
-            assert!(rt; is_upgraded(rt.alloc(), left, *wanted), "after {calls} calls");
+            assert!(rt;
+                is_upgraded(rt.alloc(), left, *wanted),
+                "after {calls} calls"
+            );
         }
     }
 }
@@ -103,13 +109,17 @@ fn fails_for_good<D: Disk>(alloc: Global, log: &mut GateLog<D>) -> bool {
 #[test]
 fn each_call_of_an_upgrade_fails(rt: HostRuntime) {
     let opening = opening_calls(&rt, rt.alloc(), &two_entries(&rt, rt.alloc(), b""));
-    let last = calls_before(&rt, rt.alloc()).saturating_add(10);
+    let last = calls_before(&rt, rt.alloc(), b"").saturating_add(10);
     for calls in opening..last {
         let disk = two_entries(&rt, rt.alloc(), b"");
         let mut log = found(&rt, rt.alloc(), FuseDisk::new(disk, calls, Fuse::Once));
         assert!(rt; fails_for_good(rt.alloc(), &mut log), "call {calls}");
         let left = crashed(&rt, &log.into_disk().into_inner(), Pick::New);
-        let wanted = if calls < last.saturating_sub(3) { FIRST } else { SECOND };
+        let wanted = if calls < last.saturating_sub(3) {
+            FIRST
+        } else {
+            SECOND
+        };
         assert!(rt; is_upgraded(rt.alloc(), left, wanted), "call {calls}");
     }
 }
