@@ -9,7 +9,7 @@ ghost use Rattle.node_base.specs.Tree.{marked, blocked, changed_at};
 ghost use Rattle.node_base.specs.NodeEdits.{with_prop, with_piece};
 ghost use Rattle.path_tree.specs.Joined.{under};
 ghost use Rattle.path_tree.specs.Listed.{shown, shown_names};
-ghost use Rattle.path_tree.specs.Edits.{edit_here, edit_at};
+ghost use Rattle.path_tree.specs.Edits.{edit_here, edit_at, marked_by};
 ghost use Rattle.path_tree.specs.Reach.{reach_to};
 
 use crate::Entry;
@@ -171,24 +171,44 @@ impl Branch {
         Ok(())
     }
 
-    /// Edits the node at a path. What has other owners is copied first.
-    pub fn alter(&mut self, alloc: Global, path: &[NodeName], edit: Edit) -> Result<(), AllocError>
+    /// Gives the number, where there is one, to each front of a path, and edits the node at the path. What has other
+    /// owners is copied first.
+    pub fn alter(
+        &mut self,
+        alloc: Global,
+        path: &[NodeName],
+        edit: Edit,
+        number: Option<RevNo>,
+    ) -> Result<(), AllocError>
         requires { IsSome (map.get self.old path.now) }
-        ensures ok { OnOk result ((q : Path) → map.get self.new q ≡ edit_at edit (map.get self.old) path.now q) }
+        ensures ok { OnOk result ((q : Path)
+            → map.get self.new q ≡ edit_at edit (marked_by number (map.get self.old) path.now) path.now q) }
         ensures err { OnErr result (self.new ≡ self.old) }
     {
         match path {
-            [] => self.alter_here(alloc, edit),
+            [] => {
+                self.alter_here(alloc, edit)?;
+                self.number(number);
+                Ok(())
+            }
             [first, rest @ ..] => match child_of(&self.children, first) {
                 Some(child) => {
                     let mut child = child.again()?;
-                    child.alter(alloc, rest, edit)?;
+                    child.alter(alloc, rest, edit, number)?;
                     self.children = with_branch(alloc, &self.children, first, child)?;
+                    self.node.changed = number.unwrap_or(self.node.changed);
                     Ok(())
                 }
                 None => unreachable!(),
             },
         }
+    }
+
+    /// Gives its top the number, where there is one.
+    pub fn number(&mut self, number: Option<RevNo>)
+        ensures { (q : Path) → map.get self.new q ≡ marked_by number (map.get self.old) [] q }
+    {
+        self.node.changed = number.unwrap_or(self.node.changed);
     }
 
     // Puts a value at a property's name of the node at the top, or takes the one there away. A value that would

@@ -1,8 +1,8 @@
 use Rattle.std.proofs.Common.{Some, sym, ap, ◌∙◌, arith, length-take, length-drop}
-use Rattle.path_tree.specs.Edits.{edit_here}
 use Rattle.path_tree.specs.Rows.{in_row}
 use Rattle.path_tree.proofs.Rows.{swaps_with}
-use Rattle.path_tree.proofs.Edits.{first_and_rest, grafts_deep, not_absent, some_in_child}
+use Rattle.path_tree.proofs.Edits.{first_and_rest, not_absent, some_in_child}
+use Rattle.path_tree.proofs.Alters.{altered_in_child, edited_top}
 use Rattle.path_tree.proofs.branch.Branch.+alter.Goals as goal
 
 pub alter-requires : goal.alter-requires
@@ -18,8 +18,8 @@ pub returns-in_ok-self-inside-in-Some-clause-ok : goal.returns-in_ok-self-inside
 returns-in_ok-self-inside-in-Some-clause-ok t c =
     let cs = in_row c.self.inside.children in
     let x = c.first-item.result in
-    grafts_deep c.self.inside.node cs _ x c.in_ok-child-in-Some.child c.alter.new.self c.self.invariant (swaps_with cs _ x c.self.invariant c.alter.new.self c.in_ok-self-inside-in-Some.ensures) (c.in-Some.ensures ∙ ap Some (sym c.in_ok-child-in-Some.ensures))
-    _ c.args.path.now (first_and_rest c.args.path.now x c.first-item.is (omega arith)) c.args.self.now c.self.view_is (edit_here c.args.edit) c.in_ok-alter-in-Some.ensures.ok
+    altered_in_child c.args.number c.args.edit c.self.inside.node cs _ x c.in_ok-child-in-Some.child c.alter.new.self c.self.invariant (swaps_with cs _ x c.self.invariant c.alter.new.self c.in_ok-self-inside-in-Some.ensures) (c.in-Some.ensures ∙ ap Some (sym c.in_ok-child-in-Some.ensures))
+    _ c.in_ok-alter-in-Some.ensures.ok c.args.path.now (first_and_rest c.args.path.now x c.first-item.is (omega arith)) c.args.self.now c.self.view_is
 
 pub unreachable-requires : goal.unreachable-requires
 unreachable-requires t c =
