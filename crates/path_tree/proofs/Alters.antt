@@ -72,10 +72,10 @@ edited_top number e old mid new after edit q =
 
 module _ (number : Option ℕ) (e : Edit) (n : Node) (old new : Children) (x : Name) (k m : PathMap) (s : AreChildren old) (w : Swaps old new x (Some m)) (found : find name_cmp x old ≡ Some k) (p : Path) (h : (q : Path) → get m q ≡ edit_at e (marked_by number (get k) p) p q) where
   -- the map as it was, and with its numbers
-  before : Path → Option Node
+  abbrev before : Path → Option Node
   before = get (joined n old)
 
-  now : Path → Option Node
+  abbrev now : Path → Option Node
   now = marked_by number before (x ∷ p)
 
   -- a number in the child is one in the whole

@@ -26,7 +26,7 @@ dir : (c : In_ok-child) → IsDirAt (get c.args.self.now) c.in-Some.above.now
 dir c = dir_above (get c.args.self.now) c.in-Some.above.now (arc_value c.in_ok-child.child).0 (ap (blocked (get c.args.self.now)) (sym (split c)) ∙ c.requires.not_blocked)
 
 -- the map with the number above the child
-numbered : In_ok-child → Path → Option Node
+abbrev numbered : In_ok-child → Path → Option Node
 numbered c = marked (get c.args.self.now) c.in-Some.above.now c.args.number
 
 -- the edit is a graft at the path

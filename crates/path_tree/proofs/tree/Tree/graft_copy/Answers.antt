@@ -20,7 +20,7 @@ unreachable-requires c =
     c.requires.there
 
 -- what stands at the source and below it
-source : After-number → Path → Option Node
+abbrev source : After-number → Path → Option Node
 source c r = get c.args.from.now (c.args.source.now ++ r)
 
 -- the same, its top with the number

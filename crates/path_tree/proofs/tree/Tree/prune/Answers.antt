@@ -32,7 +32,7 @@ split : (c : In_ok-name) → c.args.path.now ≡ c.in-Some.above.now ++ c.in_ok-
 split c = c.in-Some.ensures.cases.0 ∙ ap (λ n. c.in-Some.above.now ++ n ∷ []) (sym c.in_ok-name.ensures)
 
 -- the map with the number above the path
-numbered : In_ok-name → Path → Option Node
+abbrev numbered : In_ok-name → Path → Option Node
 numbered c = marked (get c.args.self.now) c.in-Some.above.now c.args.number
 
 -- the edit is a removal at the path

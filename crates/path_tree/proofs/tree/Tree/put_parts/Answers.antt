@@ -26,7 +26,7 @@ returns-in_default-clause-ok c =
     c.mark.ensures.ok
 
 -- the map with the number on the fronts of the path
-numbered : In-Some → Path → Option Node
+abbrev numbered : In-Some → Path → Option Node
 numbered c = marked (get c.args.self.now) c.args.path.now c.args.number
 
 -- the edit is one of the node at the path
