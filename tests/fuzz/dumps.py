@@ -1,4 +1,4 @@
-"""Dumps of format 2, read and applied once more in plain Python, as docs/FORMATS.md and docs/MODEL.md say it.
+"""Dumps of formats 2 and 3, read and applied once more in plain Python, as docs/FORMATS.md and docs/MODEL.md say it.
 
 It is slow and short on purpose, and shares nothing with the program: the whole input is at hand, a tree is a dictionary
 from paths (tuples of names) to nodes, and each revision's tree is a copy of the one before.
@@ -7,6 +7,7 @@ import hashlib
 import re
 
 VERSION = b'SVN-fs-dump-format-version: 2'
+LATER = b'SVN-fs-dump-format-version: 3'
 LINE, BLOCK, TEXT = 4096, 33554432, 1048576
 NUMBERS = {b'Revision-number', b'Node-copyfrom-rev', b'Text-content-length', b'Prop-content-length', b'Content-length'}
 NODE_ONLY = [b'Node-path', b'Node-kind', b'Node-action', b'Node-copyfrom-rev', b'Node-copyfrom-path', b'Text-content-md5',
@@ -83,11 +84,20 @@ class Bytes:
         return found
 
 
-class Block:
-    """A property block of an announced length, read byte by byte."""
+def is_sync(name):
+    return name.startswith(b'svn:sync-')
 
-    def __init__(self, data, length):
-        self.data, self.rest = data, length
+
+def is_full(names, name):
+    """Whether one more name of this sort is too many."""
+    return sum(is_sync(it) == is_sync(name) for it in names) >= (16 if is_sync(name) else 256)
+
+
+class Block:
+    """A property block of an announced length, read byte by byte: a whole list, or a delta, which may remove names."""
+
+    def __init__(self, data, length, is_delta):
+        self.data, self.rest, self.is_delta = data, length, is_delta
 
     def byte(self):
         """The next byte, which isn't the last announced one."""
@@ -126,8 +136,20 @@ class Block:
             raise Refused(5)
         return found
 
+    def name(self, known):
+        """A counted name, which is none of these."""
+        self.expect(b' ')
+        count = self.count(255)
+        if count == 0:
+            raise Refused(5)
+        name = self.counted(count)
+        if not is_text(name) or name in known:
+            raise Refused(5)
+        return name
+
     def read(self):
-        props = {}
+        """The properties, and the names that are removed."""
+        props, removed = {}, []
         while True:
             first = self.byte()
             if first == ord('P'):
@@ -137,21 +159,17 @@ class Block:
                 self.rest -= 1
                 if self.rest:
                     raise Refused(5)
-                return props
-            if first != ord('K'):
+                return props, removed
+            if first != ord('K') and not (first == ord('D') and self.is_delta):
                 raise Refused(5)
-            self.expect(b' ')
-            count = self.count(255)
-            if count == 0:
-                raise Refused(5)
-            name = self.counted(count)
-            if not is_text(name) or name in props:
-                raise Refused(5)
-            is_sync = name.startswith(b'svn:sync-')
-            if sum(it.startswith(b'svn:sync-') == is_sync for it in props) == (16 if is_sync else 256):
+            name = self.name([*props, *removed])
+            if is_full(removed if first == ord('D') else props, name):
                 raise Refused(8)
-            self.expect(b'\nV ')
-            props[name] = self.counted(self.count(65536))
+            if first == ord('D'):
+                removed.append(name)
+            else:
+                self.expect(b'\nV ')
+                props[name] = self.counted(self.count(65536))
             self.expect(b'\n')
 
 
@@ -159,7 +177,8 @@ class Record:
     """The headers of a record, and its content."""
 
     def __init__(self):
-        self.values, self.props, self.text = {}, None, None
+        # of a delta the names that are set stand in props, and those that are removed in removed
+        self.values, self.props, self.removed, self.text = {}, None, None, None
 
     def header(self, line):
         name, colon, value = line.partition(b': ')
@@ -186,7 +205,7 @@ class Record:
     def has(self, *names):
         return any(name in self.values for name in names)
 
-    def form(self, is_first, is_below):
+    def form(self, version, is_first, is_below):
         """Refuses (2) what is no record's form."""
         if self.has(b'UUID'):
             is_well = is_first and not self.has(*(KNOWN - {b'UUID', b'Text-delta', b'Prop-delta'}))
@@ -198,8 +217,12 @@ class Record:
             is_well &= self.has(b'Node-copyfrom-rev') == self.has(b'Node-copyfrom-path')
             is_well &= not self.has(b'Node-copyfrom-rev') or action in (b'add', b'replace')
             is_well &= action != b'delete' or not self.has(b'Prop-content-length', b'Text-content-length')
-        if not is_well or self.get(b'Prop-delta') == b'true':
+        may_be_delta = version == 3 and not self.has(b'UUID', b'Revision-number')
+        if not is_well or (self.is_delta() and not may_be_delta):
             raise Refused(2)
+
+    def is_delta(self):
+        return self.get(b'Prop-delta') == b'true'
 
     def content(self, data):
         block, text = self.get(b'Prop-content-length'), self.get(b'Text-content-length')
@@ -210,7 +233,8 @@ class Record:
         if block is not None:
             if block == 0:
                 raise Refused(5)
-            self.props = Block(data, block).read()
+            self.props, removed = Block(data, block, self.is_delta()).read()
+            self.removed = removed if self.is_delta() else None
         if text is not None:
             self.text = data.take(text)
             wanted = self.get(b'Text-content-md5')
@@ -221,8 +245,10 @@ class Record:
 def records(dump):
     """The records of a dump, each as it is whole; a refusal is raised behind those before it."""
     data = Bytes(dump)
-    if data.line() != VERSION:
+    first = data.line()
+    if first not in (VERSION, LATER):
         raise Refused(1)
+    version = 2 if first == VERSION else 3
     if data.line() != b'':
         raise Refused(2)
     is_first, is_below = True, False
@@ -233,7 +259,7 @@ def records(dump):
         record = Record()
         while (line := data.line()) != b'':
             record.header(line)
-        record.form(is_first, is_below)
+        record.form(version, is_first, is_below)
         record.content(data)
         is_first, is_below = False, is_below or record.has(b'Revision-number')
         yield record
@@ -244,7 +270,8 @@ class Change:
 
     def __init__(self, record):
         self.path, self.action = record.get(b'Node-path'), record.get(b'Node-action')
-        self.kind, self.props, self.text = record.get(b'Node-kind'), record.props, record.text
+        self.kind, self.text = record.get(b'Node-kind'), record.text
+        self.props, self.removed = record.props, record.removed
         self.source = None
         if record.has(b'Node-copyfrom-rev'):
             self.source = record.get(b'Node-copyfrom-path'), record.get(b'Node-copyfrom-rev')
@@ -315,38 +342,80 @@ def judge(trees, tree, change):
                 raise Refused(8)
 
 
-def applied(trees, changes):
-    """The tree that the changes make over those of the revisions before, which share their nodes with it."""
-    number = len(trees)
-    tree = dict(trees[-1])
+def found(trees, tree, change):
+    """The properties that a change begins with, or None where there is nothing."""
+    if change.is_plain():
+        return {}
+    if change.source:
+        source, revision = change.source
+        tree, path = trees[revision] if revision < len(trees) else {}, source
+    else:
+        path = change.path
+    return tree[path]['props'] if path in tree else None
+
+
+def settle(trees, tree, change, fault):
+    """Puts in place of a delta the list that it makes; else refuses it for the first fault so far, its own or 8."""
+    if change.removed is None:
+        return
+    old = found(trees, tree, change)
+    if old is None:
+        if fault is None:
+            judge(trees, tree, change)
+        raise fault
+    props = {name: value for name, value in old.items() if name not in change.removed} | change.props
+    if sum(map(is_sync, props)) > 16 or len(props) - sum(map(is_sync, props)) > 256:
+        raise Refused(8)
+    change.props, change.removed = props, None
+
+
+def apply(trees, tree, change):
+    """Makes a change of the tree."""
+    number, path = len(trees), change.path
 
     def mark(path):
         tree[path] = {**tree[path], 'changed': number}
 
+    if change.action in (b'delete', b'replace'):
+        for it in below(tree, path):
+            del tree[it]
+    if change.source:
+        source, revision = change.source
+        for it in below(trees[revision], source):
+            tree[path + it[len(source):]] = trees[revision][it]
+    elif change.is_plain():
+        change.props = change.props or {}
+        change.text = (change.text or b'') if change.kind == b'file' else None
+        tree[path] = node(change.kind, {}, b'' if change.kind == b'file' else None, number)
+    if change.action != b'delete':
+        tree[path] = dict(tree[path])
+        if change.props is not None:
+            tree[path]['props'] = change.props
+        if change.text is not None:
+            tree[path]['text'] = change.text
+        mark(path)
+    for n in range(len(path)):
+        mark(path[:n])
+
+
+def applied(trees, changes):
+    """The tree that the changes make over those of the revisions before, which share their nodes with it.
+
+    A delta that can't be applied is refused before the faults of changes that stand before it; what is faulty is left
+    out of what a delta finds.
+    """
+    tree, fault = dict(trees[-1]), None
     for change in changes:
-        judge(trees, tree, change)
-        path = change.path
-        if change.action in (b'delete', b'replace'):
-            for it in below(tree, path):
-                del tree[it]
-        if change.source:
-            source, revision = change.source
-            for it in below(trees[revision], source):
-                tree[path + it[len(source):]] = trees[revision][it]
-        elif change.is_plain():
-            change.props = change.props or {}
-            change.text = (change.text or b'') if change.kind == b'file' else None
-            tree[path] = node(change.kind, {}, b'' if change.kind == b'file' else None, number)
-        if change.action != b'delete':
-            tree[path] = dict(tree[path])
-            if change.props is not None:
-                tree[path]['props'] = change.props
-            if change.text is not None:
-                tree[path]['text'] = change.text
-            mark(path)
-        for n in range(len(path)):
-            mark(path[:n])
-    mark(())
+        settle(trees, tree, change, fault)
+        try:
+            judge(trees, tree, change)
+        except Refused as refused:
+            fault = fault or refused
+            continue
+        apply(trees, tree, change)
+    if fault:
+        raise fault
+    tree[()] = {**tree[()], 'changed': len(trees)}
     return tree
 
 

@@ -3,7 +3,7 @@ with a byte or a line that is wrong."""
 import hashlib
 import uuid
 
-from dumps import Change, Record, Refused, applied, block_of, combined, head_of, node
+from dumps import LATER, Change, Record, Refused, applied, block_of, combined, head_of, node
 
 NAMES = [b'a', b'b', b'a-b', b'c', b'd', b'trunk', b'x y', b'\xc3\xa9', b'PROPS-END', b'K 1', b'0']
 ODD_NAMES = [b'.', b'..', b'\x01', b'\x7f', b'\xff', b'\xed\xa0\x80', b'n' * 255, b'n' * 256, b'']
@@ -25,8 +25,8 @@ def name_of(random):
 class Maker:
     """A history as it grows, kept in trees so that what follows mostly fits."""
 
-    def __init__(self, random):
-        self.random, self.trees = random, [{(): node(b'dir', {}, None, 0)}]
+    def __init__(self, random, version):
+        self.random, self.version, self.trees = random, version, [{(): node(b'dir', {}, None, 0)}]
 
     def path(self, tree, kind=None):
         there = [it for it in tree if it and (kind is None or tree[it]['kind'] == kind)]
@@ -41,6 +41,11 @@ class Maker:
     def parts(self, record, kind):
         if self.random.random() < 0.4:
             record.props = props_of(self.random)
+            if self.version == 3 and self.random.random() < 0.6:
+                record.values[b'Prop-delta'] = b'true'
+                record.removed = [it for it in PROPS if it not in record.props and self.random.random() < 0.3]
+        elif self.version == 3 and self.random.random() < 0.1:
+            record.values[b'Prop-delta'] = b'true'
         if kind == b'file' and self.random.random() < 0.5 or self.random.random() < 0.01:
             record.text = some(self.random, 40)
 
@@ -111,8 +116,10 @@ def spelled(random, record):
             value = digits(random, value)
         lines.append(name + b': ' + value)
     if record.props is not None:
-        content = b''.join(b'K %s\n%s\nV %s\n%s\n' % (digits(random, len(name)), name, digits(random, len(value)), value)
-                           for name, value in random.sample([*record.props.items()], len(record.props))) + b'PROPS-END\n'
+        entries = [b'K %s\n%s\nV %s\n%s\n' % (digits(random, len(name)), name, digits(random, len(value)), value)
+                   for name, value in record.props.items()]
+        entries += [b'D %s\n%s\n' % (digits(random, len(name)), name) for name in record.removed or []]
+        content = b''.join(random.sample(entries, len(entries))) + b'PROPS-END\n'
         lines.append(b'Prop-content-length: ' + digits(random, len(content)))
     if record.text is not None:
         lines.append(b'Text-content-length: ' + digits(random, len(record.text)))
@@ -136,11 +143,12 @@ def revision_record(random, number, props):
 
 def made(random):
     """A dump, and whether something in it was made wrong on purpose."""
-    maker = Maker(random)
+    version = random.choice([2, 2, 3])
+    maker = Maker(random, version)
     identity = str(uuid.UUID(int=random.getrandbits(128))).encode() if random.random() < 0.7 else None
     if identity and random.random() < 0.5:
         identity = identity.upper()
-    dump = head_of(None) + (b'UUID: %s\n\n' % identity if identity else b'') + b'\n' * random.choice([0, 0, 1])
+    dump = (LATER + b'\n\n' if version == 3 else head_of(None)) + (b'UUID: %s\n\n' % identity if identity else b'') + b'\n' * random.choice([0, 0, 1])
     for _ in range(random.choice([0, 1, 1, 1, 2])):
         dump += revision_record(random, 0, props_of(random))
     for number in range(1, random.choice([1, 2, 4, 8, 12])):

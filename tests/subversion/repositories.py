@@ -2,6 +2,7 @@
 
 small   one commit at a time by svnmucc: adds, edits, properties, copies with changes inside, moves, replacements
 edge    texts, names, paths, values and property lists at svnfleet's limits
+props   directories alone, whose properties change: dumped as deltas it has no text
 plain   200 revisions of adds, changes and deletions, by svnadmin load of a generated dump
 medium  1,000 revisions of edits, branches, tags, moves and merges, by svnadmin load of a generated dump
 """
@@ -121,6 +122,19 @@ def edge(repo, work):
     hand.commit('copies with properties', ('cp', '5', 'big', 'big2'), ('propdel', 'big', 'big2'),
                 ('propset', 'y', 'z', 'big2'), ('cp', '5', 'p', 'p2'), ('propdel', 'x:005', 'p2'))
     hand.commit('all goes', *[('rm', name) for name in ('t', 'd', 'p', 'big', 'n' * 255, '\u00e9' * 127, 'self')])
+
+
+def props(repo, work):
+    hand = Hand(repo, work)
+    hand.commit('directories', ('mkdir', 't'), ('mkdir', 't/a'), ('mkdir', 't/b'), ('propset', 'p', '1', 't/a'),
+                ('propset', 'q', '2', 't/a'), ('propset', 'root', 'on the root', '.'))
+    hand.commit('set, changed and removed', ('propset', 'p', '3', 't/a'), ('propdel', 'q', 't/a'),
+                ('propset', 'r', '', 't/a'), ('propset', 's', 'PROPS-END\nD 1\np\n', 't/b'), ('propdel', 'root', '.'))
+    hand.commit('copies with changes', ('cp', '1', 't', 'u'), ('propset', 'p', '4', 'u/a'), ('propdel', 'q', 'u/a'),
+                ('cp', '2', 't/a', 'v'), ('propdel', 'r', 'v'))
+    hand.commit('replacements', ('rm', 't/b'), ('mkdir', 't/b'), ('propset', 'n', 'new', 't/b'),
+                ('rm', 'u/a'), ('cp', '1', 't/a', 'u/a'), ('propset', 'p', '5', 'u/a'))
+    hand.commit('all properties go', ('propdel', 'p', 'u/a'), ('propdel', 'q', 'u/a'), ('propdel', 'n', 't/b'))
 
 
 # ---- repositories by svnadmin load of a generated dump
@@ -273,7 +287,7 @@ def load(repo, dump):
     run('svnadmin', 'load', '-q', '--force-uuid', repo, given=dump)
 
 
-ALL = {'small': small, 'edge': edge, 'plain': plain, 'medium': medium}
+ALL = {'small': small, 'edge': edge, 'props': props, 'plain': plain, 'medium': medium}
 
 
 def make(name, repo, work):

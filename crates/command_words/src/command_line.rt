@@ -176,18 +176,18 @@ fn list<'a>(alloc: Global) -> clap::Command<'a>
     ensures app { app_of result ≡ list_app }
     ensures local { (fields_of result).has_globals ≡ false }
 {
-    clap::Command::new(alloc, "list").about(
-        "Reads a dump on standard input and prints its newest tree",
-    )
+    clap::Command::new(alloc, "list")
+        .about("Reads a dump on standard input and prints its newest tree")
+        .after_help(texts::DUMPS)
 }
 
 fn canon<'a>(alloc: Global) -> clap::Command<'a>
     ensures app { app_of result ≡ canon_app }
     ensures local { (fields_of result).has_globals ≡ false }
 {
-    clap::Command::new(alloc, "canon").about(
-        "Reads a dump on standard input and writes it in its canonical spelling",
-    )
+    clap::Command::new(alloc, "canon")
+        .about("Reads a dump on standard input and writes it in its canonical spelling")
+        .after_help(texts::DUMPS)
 }
 
 // A word that has to be there.
@@ -484,7 +484,7 @@ fn over_streams<'a>(alloc: Global) -> Result<clap::Command<'a>, AllocError>
     let top = clap::Command::new(alloc, "svnfleet")
         .version("0.1.0")
         .about(
-            "Keeps, lists and rewrites the histories of Subversion repositories, as dumps of format 2 say them",
+            "Keeps, lists and rewrites the histories of Subversion repositories, as dumps of formats 2 and 3 say them",
         )
         .after_help(texts::PROGRAM)
         .subcommand_required(true);

@@ -10,6 +10,11 @@ Each command over a folder holds all texts of its repository in memory.
 A repository has the revisions 0 to 65535, each of at most 4096 changes; a path has at most 1024 bytes
 and 64 names, a name 255 bytes, a text 1 MiB, a property value 64 KiB.";
 
+/// Of `list` and `canon`: which dumps are read.
+pub const DUMPS: &str = "\
+Reads dumps of formats 2 and 3: what `svnadmin dump` writes, with --incremental or without, and of what
+`svnadmin dump --deltas` and `svnrdump dump` write those that give no text as a delta (9 where one does).";
+
 /// Of `create`.
 pub const CREATE: &str = "\
 Prints nothing. Nothing is made in a folder that has a file `journal` or `gate` that isn't empty (35).
@@ -17,6 +22,8 @@ The folder above has to be there.";
 
 /// Of `load`.
 pub const LOAD: &str = "\
+Reads dumps of formats 2 and 3: what `svnadmin dump` writes, with --incremental or without, and of what
+`svnadmin dump --deltas` and `svnrdump dump` write those that give no text as a delta (9 where one does).
 Prints `Loaded revision N.` for each revision that is committed, nothing for revision 0, whose properties are
 taken while there is no other. What was committed before a refusal stays.
 The status is 0; 1 with a line where the dump is refused or the device fails; 2 where the words are wrong.";

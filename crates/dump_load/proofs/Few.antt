@@ -1,15 +1,15 @@
 -- A set has as many changes as paths are named.
 use Rattle.std.proofs.Common.{◌≡◌, ℕ, suc, ◌+◌, ◌≤◌, Bool, true, false, cond, ◌||◌, List, [], ◌∷◌, ◌++◌, length, map, Option, Some, None, is_some, refl, sym, ap, subst, ◌∙◌, arith, append_assoc}
 use Rattle.std.proofs.Common.{length-append}
-use Rattle.std.specs.List.{list_any, AllByRecursion}
-use Rattle.std.proofs.lemmas.List.Folds.{list_any-append}
+use Rattle.std.specs.List.{list_any}
 use Rattle.std.specs.FinMap as finite
 use Rattle.node_base.specs.Path.{Path, path_cmp, paths_total, paths_exact, same_path}
-use Rattle.node_base.proofs.PathLemmas.{path_of_same, same_path_back}
+use Rattle.node_base.proofs.PathLemmas.{same_path_back}
 use Rattle.node_base.specs.Tree.{PathMap}
 use Rattle.dump_load.specs.declared.change.Change.{Change}
-use Rattle.dump_load.specs.Changes.{change_at, Precedes, Follows, IsInOrder}
-use Rattle.dump_load.specs.Records.{stated_at, combined, stated, Combined, paths_named, filled_in, filled_after}
+use Rattle.dump_load.specs.Changes.{change_at, Follows, IsInOrder}
+use Rattle.dump_load.specs.Deltas.{Deltas}
+use Rattle.dump_load.specs.Records.{stated_at, combined, Combined, paths_named, filled_in, filled_after}
 use Rattle.dump_load.proofs.PathOrder.{less_differs}
 use Rattle.dump_load.proofs.Moved.{named_at, paths_more}
 use Rattle.dump_load.proofs.Combining.{order_follows}
@@ -68,12 +68,12 @@ same_named cs out w =
 
 -- ---- what is filled in is as long
 
-filled_length : (trees : List PathMap) (done cs : List Change) → length (filled_after trees done cs) ≡ length done + length cs
-filled_length trees done [] = omega arith
-filled_length trees done (c ∷ cs) = filled_length trees (done ++ filled_in trees done c ∷ []) cs ∙ omega (arith, length-append done (filled_in trees done c ∷ []))
+filled_length : (trees : List PathMap) (ds : Deltas) (done cs : List Change) → length (filled_after trees ds done cs) ≡ length done + length cs
+filled_length trees ds done [] = omega arith
+filled_length trees ds done (c ∷ cs) = filled_length trees ds (done ++ filled_in trees ds done c ∷ []) cs ∙ omega (arith, length-append done (filled_in trees ds done c ∷ []))
 
-pub few_filled : (trees : List PathMap) (cs out s shown : List Change) (n : ℕ) → Combined cs out → s ≡ filled_after trees [] out → shown ≡ cs → n ≡ paths_named shown → n ≤ 4096 → length s ≤ 4096
-few_filled trees cs out s shown n w is shows counts few =
-    let long : length s ≡ length out = ap length is ∙ filled_length trees [] out ∙ omega arith in
+pub few_filled : (trees : List PathMap) (ds : Deltas) (cs out s shown : List Change) (n : ℕ) → Combined cs out → s ≡ filled_after trees ds [] out → shown ≡ cs → n ≡ paths_named shown → n ≤ 4096 → length s ≤ 4096
+few_filled trees ds cs out s shown n w is shows counts few =
+    let long : length s ≡ length out = ap length is ∙ filled_length trees ds [] out ∙ omega arith in
     let all : paths_named out ≡ paths_named [] + length out = named_all [] out w.order in
     omega (arith, long, all, same_named cs out w, counts, ap paths_named shows, few)

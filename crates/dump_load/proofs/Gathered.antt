@@ -1,5 +1,5 @@
 -- What is sorted, brought together and filled in, said of the records as they came.
-use Rattle.std.proofs.Common.{◌≡◌, ℕ, ◌<◌, ◌≤◌, true, false, List, [], Some, None, sym, ap, subst, ◌∙◌, arith}
+use Rattle.std.proofs.Common.{◌≡◌, ℕ, ◌<◌, ◌≤◌, true, false, List, [], ◌∷◌, ◌++◌, map, Some, None, refl, sym, ap, subst, ◌∙◌, arith}
 use Rattle.std.specs.Prelude.{nat_lt}
 use Rattle.std.proofs.lemmas.Bool.Decides.{nat_tests}
 use Rattle.std.specs.List.{list_any}
@@ -9,8 +9,12 @@ use Rattle.node_base.specs.Tree.{PathMap}
 use Rattle.dump_load.specs.declared.change.Change.{Change}
 use Rattle.dump_load.specs.declared.fault.ChangeFault.{ChangeFault}
 use Rattle.dump_load.specs.declared.fault.ChangeFault.TheVariants as refusal
-use Rattle.dump_load.specs.Faults.{fault_if, IsRefusal}
-use Rattle.dump_load.specs.Records.{stated_at, Combined, paths_named, is_out_of_order, is_unsaid, filled_after, set_fault, IsSetOf}
+use Rattle.dump_load.specs.Effect.{effect}
+use Rattle.dump_load.specs.Faults.{fault_if, fault, IsRefusal}
+use Rattle.std.specs.Option.{option_or, option_map}
+use Rattle.dump_text.specs.declared.record.NodeRecord.{NodeRecord}
+use Rattle.dump_load.specs.Deltas.{Deltas, deltas_of, delta_at, with_delta, delta_fault_of, delta_fault_after, delta_fault, sound}
+use Rattle.dump_load.specs.Records.{stated_at, stated, earlier, with_blanks, with_kind, Combined, paths_named, is_out_of_order, is_unsaid, filled_after, set_fault, change_of, IsSetOf, IsNormalSetOf, IsSetRefusal, not_stated, not_applied}
 use Rattle.dump_load.proofs.Combining.{fits}
 use Rattle.dump_load.proofs.Fillings.{set_of}
 use Rattle.dump_load.proofs.Moved.{set_moved, order_moved, kind_moved, kinds_lack, paths_moved}
@@ -29,8 +33,8 @@ module _ (cs xs ys : List Change) (is : xs ≡ cs) (moved : IsPermutation xs ys)
   all_same : (p : Path) → stated_at ys p ≡ stated_at cs p
   all_same p = same p ∙ ap (λ zs. stated_at zs p) is
 
-  pub gathered_set : (trees : List PathMap) (out s : List Change) → Combined ys out → list_any is_unsaid out ≡ false → s ≡ filled_after trees [] out → IsSetOf trees cs s
-  gathered_set trees out s w k e = set_moved cs ys all_moved all_same trees s (set_of trees ys out s w k e)
+  pub gathered_set : (trees : List PathMap) (ds : Deltas) (out s : List Change) → Combined ys out → list_any is_unsaid out ≡ false → s ≡ filled_after trees ds [] out → IsSetOf trees ds cs s
+  gathered_set trees ds out s w k e = set_moved cs ys all_moved all_same trees ds s (set_of trees ds ys out s w k e)
 
   module _ (shown : List Change) (n : ℕ) (shows : shown ≡ ys) (counts : n ≡ paths_named shown) where
     counted : n ≡ paths_named cs
@@ -51,3 +55,34 @@ module _ (cs xs ys : List Change) (is : xs ≡ cs) (moved : IsPermutation xs ys)
     gathered_kind h e out w r =
         refused_kind cs e (few_test n (paths_named cs) counted h) (sym (order_moved cs ys all_moved all_same) ∙ fits ys out w)
         (subst (λ b. IsRefusal e (fault_if b refusal.BadHeader)) (sym (sym (kind_moved cs ys all_moved all_same) ∙ kinds_lack ys out w)) r)
+
+-- deltas that are alike at each path make the same sets, and are refused alike
+module _ (trees : List PathMap) (ds es : Deltas) (alike : (p : Path) → delta_at ds p ≡ delta_at es p) where
+  set_alike : (cs s : List Change) → IsSetOf trees ds cs s → IsSetOf trees es cs s
+  set_alike cs s h =
+      record {
+        normal = h.normal;
+        changes = λ p. h.changes p
+            ∙ (λ i. option_map (λ (c : Change). let f = effect trees (sound trees (earlier s p)) in with_delta trees f (alike c.path i) (with_kind trees f (with_blanks c))) (stated cs p));
+      }
+
+  fault_alike : (done s : List Change) → delta_fault_after trees ds done s ≡ delta_fault_after trees es done s
+  fault_alike done [] = refl
+  fault_alike done (c ∷ s) = λ i. option_or (delta_fault_of trees (fault trees done) (effect trees (sound trees done)) (alike c.path i) c) (fault_alike (done ++ c ∷ []) s i)
+
+-- the set that records give, and why they give none
+module _ (rs : List NodeRecord) (trees : List PathMap) (ds : Deltas) (alike : (p : Path) → delta_at ds p ≡ delta_at (deltas_of rs) p) where
+  pub gathered_normal : (s : List Change) → IsSetOf trees ds (map change_of rs) s → delta_fault trees ds s ≡ None → IsNormalSetOf trees rs s
+  gathered_normal s h n = record { set = set_alike trees ds (deltas_of rs) alike (map change_of rs) s h; deltas = sym (fault_alike trees ds (deltas_of rs) alike [] s) ∙ n }
+
+  pub gathered_refused : (xs ys : List Change) (is : xs ≡ map change_of rs) (moved : IsPermutation xs ys) (same : (p : Path) → stated_at ys p ≡ stated_at xs p) (shown : List Change) (n : ℕ) → shown ≡ ys → n ≡ paths_named shown → n ≤ 4096 → (e : ChangeFault) (out : List Change) → Combined ys out
+      → IsRefusal e (option_or (fault_if (list_any is_unsaid out) refusal.BadHeader) (delta_fault trees ds (filled_after trees ds [] out))) → IsSetRefusal trees rs e
+  gathered_refused xs ys is moved same shown n shows counts h e out w r =
+      let s = filled_after trees ds [] out in
+      elim (list_any is_unsaid out) as (λ b. list_any is_unsaid out ≡ b → IsRefusal e (option_or (fault_if b refusal.BadHeader) (delta_fault trees ds s)) → IsSetRefusal trees rs e) [
+        | true ↦ λ k r. not_stated (gathered_kind (map change_of rs) xs ys is moved same shown n shows counts h e out w (subst (λ b. IsRefusal e (fault_if b refusal.BadHeader)) (sym k) r))
+        | false ↦ λ k r.
+            not_applied s (gathered_fits (map change_of rs) xs ys is moved same shown n shows counts h out w k)
+            (set_alike trees ds (deltas_of rs) alike (map change_of rs) s (gathered_set (map change_of rs) xs ys is moved same trees ds out s w k refl))
+            (subst (IsRefusal e) (fault_alike trees ds (deltas_of rs) alike [] s) r)
+      ] refl r

@@ -3,6 +3,8 @@ pub mod Bare
 pub mod Combining
 pub mod Counting
 pub mod Faultless
+pub mod DeltaLooks
+pub mod DeltaOrder
 pub mod EffectTrees
 pub mod Few
 pub mod Fillings

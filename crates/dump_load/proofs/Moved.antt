@@ -11,6 +11,7 @@ use Rattle.node_base.proofs.PathLemmas.{same_path_itself}
 use Rattle.node_base.specs.Tree.{PathMap}
 use Rattle.dump_load.specs.declared.change.Change.{Change}
 use Rattle.dump_load.specs.Changes.{is_delete, change_at, IsInOrder}
+use Rattle.dump_load.specs.Deltas.{Deltas}
 use Rattle.dump_load.specs.Records.{stated_at, combined, stated, Combined, paths_named, is_under, is_out_of_order, is_unsaid, leaves_unsaid, filled_in, earlier, IsSetOf}
 use Rattle.dump_load.proofs.OneMore.{change_at-after}
 use Rattle.dump_load.proofs.Combining.{order_follows, any_named, none_any}
@@ -35,8 +36,8 @@ module _ (cs ys : List Change) (moved : IsPermutation cs ys) (same : (p : Path) 
   pub kind_moved : leaves_unsaid ys ≡ leaves_unsaid cs
   kind_moved = (λ j. list_any (λ c. option_map_or is_unsaid (same_stated j c.path) false) ys) ∙ any_moved (λ c. option_map_or is_unsaid (stated cs c.path) false)
 
-  pub set_moved : (trees : List PathMap) (s : List Change) → IsSetOf trees ys s → IsSetOf trees cs s
-  set_moved trees s h = record { normal = h.normal; changes = λ p. h.changes p ∙ ap (option_map (filled_in trees (earlier s p))) (λ i. same_stated i p) }
+  pub set_moved : (trees : List PathMap) (ds : Deltas) (s : List Change) → IsSetOf trees ds ys s → IsSetOf trees ds cs s
+  set_moved trees ds s h = record { normal = h.normal; changes = λ p. h.changes p ∙ ap (option_map (filled_in trees ds (earlier s p))) (λ i. same_stated i p) }
 
 -- ---- the paths that are named
 

@@ -30,7 +30,7 @@ none_falls_far (c ∷ cs) h = (none_before c cs (λ k p. h 0 (suc k) c (omega ar
 pub none_falls : (cs : List Change) → IsSortedBy comes_before cs → NoneFalls cs
 none_falls cs up = none_falls_far cs (sorted_far comes_before by_path cs up)
 
-neither : (r s : Ordering) → r ≡ ordering_reverse s → (not (is_lt s) && not (is_lt r)) ≡ is_eq r
+pub neither : (r s : Ordering) → r ≡ ordering_reverse s → (not (is_lt s) && not (is_lt r)) ≡ is_eq r
 neither r Less e = ap (λ r. not (is_lt Less) && not (is_lt r)) e ∙ sym (ap is_eq e)
 neither r Equal e = ap (λ r. not (is_lt Equal) && not (is_lt r)) e ∙ sym (ap is_eq e)
 neither r Greater e = ap (λ r. not (is_lt Greater) && not (is_lt r)) e ∙ sym (ap is_eq e)

@@ -1,6 +1,7 @@
 pub mod Bounds
 pub mod Changes
 pub mod Coded
+pub mod Deltas
 pub mod Effect
 pub mod Faults
 pub mod Laws

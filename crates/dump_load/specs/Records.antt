@@ -14,18 +14,21 @@ use Rattle.node_base.specs.declared.node.NodeKind.{NodeKind}
 use Rattle.node_base.specs.declared.node.NodeKind.TheVariants.{File, Dir}
 use Rattle.dump_text.specs.declared.record.NodeRecord.{NodeRecord}
 use Rattle.dump_text.specs.declared.record.PropPart.{PropPart}
-use Rattle.dump_text.specs.declared.record.PropPart.TheVariants.{Whole}
+use Rattle.dump_text.specs.declared.record.PropPart.TheVariants.{Whole, Delta}
 use Rattle.dump_load.specs.declared.change.Change.{Change}
 use Rattle.dump_load.specs.declared.fault.ChangeFault.{ChangeFault}
 use Rattle.dump_load.specs.declared.fault.ChangeFault.TheVariants as refusal
 use Rattle.dump_load.specs.Changes.{is_delete, is_add, is_plain, has_form, change_at, IsInOrder, IsNormal}
 use Rattle.dump_load.specs.Effect.{effect}
-use Rattle.dump_load.specs.Faults.{fault_if, first_of, judged, fault_of, fault, refused, IsRefusal}
+use Rattle.dump_load.specs.Faults.{fault_if, first_of, judged, fault, refused, IsRefusal}
+use Rattle.dump_load.specs.Deltas.{Deltas, deltas_of, delta_at, with_delta, sound, delta_fault}
 
+-- a whole list, or what a delta makes of an empty one
 abbrev pub whole_props : PropPart → PropMap
 whole_props (Whole props) = props
+whole_props (Delta d) = d.sets
 
--- the change that a record states
+-- the change that a record states, but for its delta
 abbrev pub change_of : NodeRecord → Change
 change_of r = record { path = r.path; action = r.action; kind = r.kind; source = r.source; props = option_map whole_props r.props; text = r.text }
 
@@ -90,15 +93,6 @@ set_fault cs = first_of (fault_if (nat_lt 4096 (paths_named cs)) refusal.TooLong
 abbrev pub earlier : List Change → Path → List Change
 earlier s p = filter (λ c. is_lt (path_cmp c.path p)) s
 
--- the changes done, and those that follow them except what is faulty where it comes
-abbrev pub sound_after : List PathMap → List Change → List Change → List Change
-sound_after trees done [] = done
-sound_after trees done (c ∷ s) = sound_after trees (if is_none (fault_of trees (effect trees done) c) then done ++ c ∷ [] else done) s
-
--- the changes without those that are faulty where they come
-abbrev pub sound : List PathMap → List Change → List Change
-sound trees s = sound_after trees [] s
-
 -- a file has a text, empty where none is given
 abbrev pub blank_text : Option NodeKind → Option (List ℕ) → Option (List ℕ)
 blank_text (Some File) t = Some (unwrap_or t [])
@@ -117,34 +111,42 @@ with_blanks c = if is_plain c then blanked c else c
 abbrev pub with_kind : List PathMap → (Path → Option Node) → Change → Change
 with_kind trees before c = record { path = c.path; action = c.action; kind = option_or c.kind (judged trees before c); source = c.source; props = c.props; text = c.text }
 
--- what is missing filled in, after the changes before it
-abbrev pub filled_in : List PathMap → List Change → Change → Change
-filled_in trees before c = with_kind trees (effect trees (sound trees before)) (with_blanks c)
+-- what is missing filled in, and the list that a delta makes, after the changes before it
+abbrev pub filled_in : List PathMap → Deltas → List Change → Change → Change
+filled_in trees ds before c =
+    let f = effect trees (sound trees before) in
+    with_delta trees f (delta_at ds c.path) (with_kind trees f (with_blanks c))
 
--- s is the set that the changes stated make: one change at each path that is named, what is missing filled in
-pub record IsSetOf (trees : List PathMap) (cs s : List Change) : Type 0 where
+-- s is the set that the changes stated make with these deltas: one change at each path that is named, what is missing filled in
+pub record IsSetOf (trees : List PathMap) (ds : Deltas) (cs s : List Change) : Type 0 where
   pub normal : IsNormal s
-  pub changes : (p : Path) → change_at s p ≡ option_map (filled_in trees (earlier s p)) (stated cs p)
+  pub changes : (p : Path) → change_at s p ≡ option_map (filled_in trees ds (earlier s p)) (stated cs p)
 
--- s is the set that the records give
-abbrev pub IsNormalSetOf : List PathMap → List NodeRecord → List Change → Type 0
-IsNormalSetOf trees rs s = IsSetOf trees (map change_of rs) s
+-- s is the set that the records give: each delta can be applied where it comes
+pub record IsNormalSetOf (trees : List PathMap) (rs : List NodeRecord) (s : List Change) : Type 0 where
+  pub set : IsSetOf trees (deltas_of rs) (map change_of rs) s
+  pub deltas : delta_fault trees (deltas_of rs) s ≡ None
 
 -- changes in path order filled in, one after another
-abbrev pub filled_after : List PathMap → List Change → List Change → List Change
-filled_after trees done [] = done
-filled_after trees done (c ∷ cs) = filled_after trees (done ++ filled_in trees done c ∷ []) cs
+abbrev pub filled_after : List PathMap → Deltas → List Change → List Change → List Change
+filled_after trees ds done [] = done
+filled_after trees ds done (c ∷ cs) = filled_after trees ds (done ++ filled_in trees ds done c ∷ []) cs
 
--- so far the changes ys were filled in to out, whose first fault this is, and those of out without a fault left that tree
-pub record Filling (trees : List PathMap) (ys out : List Change) (tree : PathMap) (first : Option TreeFault) : Type 0 where
-  pub items : out ≡ filled_after trees [] ys
+-- so far the changes ys were filled in to out, whose deltas can be applied and whose first fault this is, and those of out without a fault left that tree
+pub record Filling (trees : List PathMap) (ds : Deltas) (ys out : List Change) (tree : PathMap) (first : Option TreeFault) : Type 0 where
+  pub items : out ≡ filled_after trees ds [] ys
   pub left : (q : Path) → finite.get tree q ≡ effect trees (sound trees out) q
   pub fault : first ≡ fault trees out
   pub all : first ≡ None → sound trees out ≡ out
-  pub kinds : list_any is_unsaid ys ≡ false
+  pub deltas : delta_fault trees ds out ≡ None
 
--- why a revision isn't taken: its number isn't the next one; else its records make no set; else the set that they make has a fault
+-- why records give no set: the changes that they state make none; or else one of their deltas can't be applied
+pub data IsSetRefusal (trees : List PathMap) (rs : List NodeRecord) (e : ChangeFault) : Type 0 where
+  not_stated : IsRefusal e (set_fault (map change_of rs)) → IsSetRefusal trees rs e
+  not_applied : (s : List Change) → set_fault (map change_of rs) ≡ None → IsSetOf trees (deltas_of rs) (map change_of rs) s → IsRefusal e (delta_fault trees (deltas_of rs) s) → IsSetRefusal trees rs e
+
+-- why a revision isn't taken: its number isn't the next one; else its records give no set; else the set that they give has a fault
 pub data IsLoadRefusal (trees : List PathMap) (number : ℕ) (rs : List NodeRecord) (e : ChangeFault) : Type 0 where
   out_of_turn : (number ≡ length trees → ⊥) → IsRefusal e (Some refusal.WrongNumber) → IsLoadRefusal trees number rs e
-  no_set : number ≡ length trees → IsRefusal e (set_fault (map change_of rs)) → IsLoadRefusal trees number rs e
+  no_set : number ≡ length trees → IsSetRefusal trees rs e → IsLoadRefusal trees number rs e
   faulty : (s : List Change) → number ≡ length trees → IsNormalSetOf trees rs s → IsRefusal e (option_map refused (fault trees s)) → IsLoadRefusal trees number rs e

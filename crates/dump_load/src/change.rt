@@ -102,7 +102,7 @@ impl Change {
         self.is_described() && self.has_form()
     }
 
-    /// The change that a record states.
+    /// The change that a record states, where a delta counts as the list that it makes of an empty one.
     pub fn from_record(stated: NodeRecord) -> Change
         ensures { result ≡ change_of stated }
     {
@@ -116,6 +116,7 @@ impl Change {
         } = stated;
         let props = match props {
             Some(PropPart::Whole(props)) => Some(props),
+            Some(PropPart::Delta(delta)) => Some(delta.sets),
             None => None,
         };
         Change {

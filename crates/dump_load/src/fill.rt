@@ -9,12 +9,15 @@ ghost use Rattle.dump_load.specs.Changes.{IsDescribed, IsInOrder};
 ghost use Rattle.dump_load.specs.Effect.{effect, stepped};
 ghost use Rattle.node_base.specs.Path.{Path};
 ghost use Rattle.dump_load.specs.Faults.{IsRefusal, fault, fault_if, fault_of};
+ghost use Rattle.dump_load.specs.Deltas.{delta_fault, AreSorted};
 ghost use Rattle.dump_load.specs.Records.{is_unsaid, with_blanks, with_kind, filled_after, Filling};
+ghost use Rattle.std.specs.Option.{option_or};
 
+use crate::delta::{delta_at, with_delta};
 use crate::judge::{fault_of, judged};
 use crate::steps::{begin, step};
 use crate::{Change, ChangeFault};
-use node_base::{NodeKind, Props, Text, TreeFault};
+use node_base::{NodeKind, NodePath, PropDelta, Props, Text, TreeFault};
 use path_tree::Tree;
 use std::alloc::{AllocError, Global};
 
@@ -116,48 +119,78 @@ pub struct Filled {
 fn fill_one(
     alloc: Global,
     trees: &[Tree],
+    deltas: &[(NodePath, PropDelta)],
     so_far: &mut Filled,
     change: Change,
 ) -> Result<(), ChangeFault>
-    requires { length trees.now ≤ 65535 }
+    requires few { length trees.now ≤ 65535 }
+    requires sorted { AreSorted deltas.now }
+    requires said { is_unsaid change ≡ false }
     ensures filled { OnOk result ((ys rest : List ChangeOf)
-        → Filling trees.now ys so_far.old.changes.items so_far.old.tree so_far.old.fault
+        → Filling trees.now deltas.now ys so_far.old.changes.items so_far.old.tree so_far.old.fault
         → IsInOrder (ys ++ change ∷ rest)
-        → Filling trees.now (ys ++ change ∷ []) so_far.new.changes.items so_far.new.tree so_far.new.fault) }
+        → Filling trees.now deltas.now (ys ++ change ∷ []) so_far.new.changes.items so_far.new.tree
+        so_far.new.fault) }
     ensures refused { IfErr result (λ e. (ys rest : List ChangeOf)
-        → IsRefusal e (fault_if (list_any is_unsaid (ys ++ change ∷ rest)) BadHeader)) }
+        → Filling trees.now deltas.now ys so_far.old.changes.items so_far.old.tree so_far.old.fault
+        → IsInOrder (ys ++ change ∷ rest)
+        → IsRefusal e (delta_fault trees.now deltas.now
+        (filled_after trees.now deltas.now [] (ys ++ change ∷ rest)))) }
 {
-    if is_unsaid(&change) {
-        return Err(ChangeFault::BadHeader);
-    }
+    let delta = delta_at(deltas, &change.path);
     let blanked = with_blanks(alloc, change)?;
-    let whole = with_kind(trees, &so_far.tree, blanked);
+    let kinded = with_kind(trees, &so_far.tree, blanked);
+    let whole = with_delta(alloc, trees, &so_far.tree, so_far.fault, delta, kinded)?;
     let fault = advance(alloc, trees, &mut so_far.tree, &whole)?;
     so_far.fault = so_far.fault.or(fault);
     so_far.changes.push(whole)?;
     Ok(())
 }
 
-/// Changes in path order with what is missing filled in: the kind that counts, and what an add or a replace that
-/// copies nothing begins with. Where such a one doesn't say what it adds, or one has a form that dump text can't
-/// say, they are refused (2). Where they have no fault, the tree is theirs.
-pub fn fill(alloc: Global, trees: &[Tree], changes: Vec<Change>) -> Result<Filled, ChangeFault>
+// Whether one of the changes copies nothing and doesn't say what it adds, or has a form that dump text can't say.
+fn leaves_unsaid(changes: &[Change]) -> bool
+    ensures { result ≡ list_any is_unsaid changes.now }
+{
+    for change in changes {
+        if is_unsaid(change) {
+            return true;
+        }
+    }
+    false
+}
+
+/// Changes in path order with what is missing filled in: the kind that counts, what an add or a replace that copies
+/// nothing begins with, and the lists that the deltas make. Where one doesn't say what it adds, or has a form that
+/// dump text can't say, they are refused (2); then for the first delta that can't be applied. Where they have no fault,
+/// the tree is theirs.
+pub fn fill(
+    alloc: Global,
+    trees: &[Tree],
+    deltas: &[(NodePath, PropDelta)],
+    changes: Vec<Change>,
+) -> Result<Filled, ChangeFault>
     requires few { length trees.now ≤ 65535 }
+    requires sorted { AreSorted deltas.now }
     requires order { IsInOrder changes.items }
-    ensures filled { IfOk result (λ f. f.changes.items ≡ filled_after trees.now [] changes.items) }
+    ensures filled { IfOk result (λ f. f.changes.items ≡ filled_after trees.now deltas.now [] changes.items) }
     ensures fault { IfOk result (λ f. f.fault ≡ fault trees.now f.changes.items) }
     ensures tree { IfOk result (λ f. f.fault ≡ None → (q : Path)
         → map.get f.tree q ≡ effect trees.now f.changes.items q) }
     ensures kinds { OnOk result (list_any is_unsaid changes.items ≡ false) }
-    ensures refused { IfErr result (λ e. IsRefusal e (fault_if (list_any is_unsaid changes.items) BadHeader)) }
+    ensures deltas { IfOk result (λ f. delta_fault trees.now deltas.now f.changes.items ≡ None) }
+    ensures refused { IfErr result (λ e. IsRefusal e (option_or (fault_if (list_any is_unsaid changes.items) BadHeader)
+        (delta_fault trees.now deltas.now (filled_after trees.now deltas.now [] changes.items)))) }
 {
+    if leaves_unsaid(&changes) {
+        return Err(ChangeFault::BadHeader);
+    }
     let mut filled = Filled {
         changes: Vec::with_capacity(alloc, changes.len())?,
         fault: None,
         tree: begin(alloc, trees)?,
     };
     for change in changes {
-        fill_one(alloc, trees, &mut filled, change)?;
+        fill_one(alloc, trees, deltas, &mut filled, change)?;
     }
     Ok(filled)
 }

@@ -10,6 +10,7 @@ pub use set::ChangeSet;
 pub use steps::{begin, blank, next_number, step};
 
 mod change;
+mod delta;
 mod fault;
 mod fill;
 mod judge;

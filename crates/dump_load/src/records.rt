@@ -9,8 +9,10 @@ ghost use Rattle.dump_load.specs.Faults.{IsRefusal, fault, fault_if};
 ghost use Rattle.dump_load.specs.Effect.{effect};
 ghost use Rattle.dump_load.specs.declared.fault.ChangeFault.TheVariants.{OutOfOrder};
 ghost use Rattle.dump_load.specs.Records.{change_of, replacing, Combined, is_out_of_order, set_fault, IsNormalSetOf};
+ghost use Rattle.dump_load.specs.Records.{IsSetRefusal};
 
 use crate::change::{is_add, is_delete};
+use crate::delta::deltas_in_order;
 use crate::fill::{Filled, fill};
 use crate::order::{count_paths, in_path_order, is_same_path};
 use crate::{Change, ChangeFault, ChangeSet};
@@ -132,14 +134,15 @@ pub fn gather(
     ensures tree { IfOk result (λ g. g.fault ≡ None → (q : Path)
         → finite.get g.tree q ≡ effect trees.now g.set q) }
     ensures fits { OnOk result (set_fault (map change_of records.items) ≡ None) }
-    ensures refused { IfErr result (λ e. IsRefusal e (set_fault (map change_of records.items))) }
+    ensures refused { IfErr result (λ e. IsSetRefusal trees.now records.items e) }
 {
+    let deltas = deltas_in_order(alloc, records.as_slice())?;
     let stated = in_path_order(changes_of(alloc, records)?)?;
     if count_paths(&stated) > CHANGES {
         return Err(ChangeFault::TooLong);
     }
     let combined = combine(alloc, stated)?;
-    let filled = fill(alloc, trees, combined)?;
+    let filled = fill(alloc, trees, deltas.as_slice(), combined)?;
     let Filled {
         changes,
         fault,
@@ -156,10 +159,14 @@ impl ChangeSet {
     /// The set of changes that a revision's records make, over the trees of the revisions before it. The records
     /// may come in any order; those of one path come together: there is one, or a deletion and then an add, which
     /// are one replace. A kind that is missing becomes the node's, as the changes before it in path order leave it,
-    /// or the source's. An add without a source gets no properties, and for a file no text, where it has none.
+    /// or the source's. An add without a source gets no properties, and for a file no text, where it has none. A delta
+    /// becomes the list that it makes: of the node's properties, as the changes before it in path order leave them, of
+    /// the source's at a copy, of none at another add or replace.
     ///
     /// Refused are more than 4,096 paths (8), then records of one path that don't combine, or one under a path that
-    /// is deleted (15), then an add without a source and a kind, or a change that dump text can't say (2).
+    /// is deleted (15), then an add without a source and a kind, or a change that dump text can't say (2), then the
+    /// first delta in path order that finds nothing, for the first fault of a change up to it, or that makes a list
+    /// past the limits (8).
     pub fn from_records(
         alloc: Global,
         trees: &[Tree],
@@ -168,7 +175,7 @@ impl ChangeSet {
         requires { length trees.now ≤ 65535 }
         ensures set { IfOk result (λ s. IsNormalSetOf trees.now records.items s) }
         ensures fits { OnOk result (set_fault (map change_of records.items) ≡ None) }
-        ensures refused { IfErr result (λ e. IsRefusal e (set_fault (map change_of records.items))) }
+        ensures refused { IfErr result (λ e. IsSetRefusal trees.now records.items e) }
     {
         let gathered = gather(alloc, trees, records)?;
         Ok(gathered.set)

@@ -2,6 +2,8 @@
 #![tactic(auto)]
 
 #[cfg(test)]
+mod delta_tests;
+#[cfg(test)]
 mod limit_tests;
 #[cfg(test)]
 mod part_tests;

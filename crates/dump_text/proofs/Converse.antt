@@ -4,22 +4,24 @@ use Rattle.std.proofs.lemmas.Bool.{eqb-true, cases_lt}
 use Rattle.std.proofs.lemmas.Bool.Decides.{nat_tests}
 use Rattle.std.proofs.lemmas.List.{take_all, take_at, length-take}
 use Rattle.std.specs.Bool.{if◌then◌else◌}
-use Rattle.node_base.specs.Props.{PropMap}
-use Rattle.node_base.specs.Blocks.{More, Done, Fault, run_block, new_block}
+use Rattle.node_base.specs.Blocks.{More, Done, Fault, run_block, begun, new_block}
 use Rattle.node_base.proofs.BlockSpelled.{both}
 use Rattle.node_base.proofs.BlockConverse.{read_is_block}
-use Rattle.dump_text.specs.Headers.{same}
+use Rattle.std.specs.Prelude.{codes}
+use Rattle.std.specs.Option.{option_map}
+use Rattle.dump_text.specs.Headers.{same, version_in}
 use Rattle.dump_text.specs.Heads.{line_says, no_head}
-use Rattle.dump_text.specs.Forms.{fits_form, lengths_agree, lengths_fit, record_of, named_of, numbered_of, node_of, stage_after, props_or_none}
-use Rattle.dump_text.specs.Streams.{Stream, one_byte, Reads, Refuses, reading, fresh, begin, given, give, made, text_is, after_block, content, judged, said, line_is, is_line_place, is_between, is_between_at, sum_holds, version_line, of_prop_fault, of_block, NoLf, dump}
+use Rattle.dump_text.specs.Forms.{fits_form, lengths_agree, lengths_fit, record_of, named_of, numbered_of, node_of, is_delta, part_of, whole_of, stage_after}
+use Rattle.dump_text.specs.Streams.{Stream, one_byte, Reads, Refuses, reading, fresh, begin, given, give, made, text_is, after_block, content, judged, said, line_is, is_line_place, is_between, is_between_at, sum_holds, versioned, of_prop_fault, of_block, NoLf, dump}
 use Rattle.dump_text.specs.Laws.{FirstFault}
-use Rattle.dump_text.specs.Grammar.{lines_of, HeadOf, HasText, IsContent, Says, IsRecord, IsRecords, AreBlank, Dump, bytes_of}
+use Rattle.dump_text.specs.Grammar.{lines_of, HeadOf, HasText, IsContent, Says, IsRecord, IsRecords, AreBlank, IsVersionLine, version_line, later_line, DumpOf, Dump, bytes_of}
 use Rattle.dump_text.specs.declared.fault.DumpFault.{DumpFault}
 use Rattle.dump_text.specs.declared.fault.DumpFault.TheVariants.{BadVersion, BadHeader, BadLength, BadProps, BadSum, TooLong}
 use Rattle.dump_text.specs.declared.form.Stage.{Stage}
 use Rattle.dump_text.specs.declared.form.Stage.TheVariants.{First}
 use Rattle.dump_text.specs.declared.head.Head.{Head}
 use Rattle.dump_text.specs.declared.record.DumpRecord.{DumpRecord}
+use Rattle.dump_text.specs.declared.record.PropPart.{PropPart}
 use Rattle.dump_text.specs.declared.record.DumpRecord.TheVariants.{Identity, Revision}
 use Rattle.dump_text.specs.declared.state.Place.{Place}
 use Rattle.dump_text.specs.declared.state.Place.TheVariants as at
@@ -58,7 +60,7 @@ pub record Cut (bs : List ℕ) : Type 0 where
   pub lone : NoLf line
 
 -- bytes have an LF or none
-cut : (bs : List ℕ) → NoLf bs ⊎ Cut bs
+pub cut : (bs : List ℕ) → NoLf bs ⊎ Cut bs
 cut [] = inl tt
 cut (b ∷ bs) =
     let r = cut bs in
@@ -130,13 +132,17 @@ some_is r rec e = cc
 none_some : (rec : DumpRecord) (G : Type 0) → None ≡ Some rec → G
 none_some rec G e = cc
 
-record_says : (h : Head) (props : Option PropMap) (text : Option (List ℕ)) (rec : DumpRecord) → record_of h props text ≡ Some rec → Says h props text rec
+pub record_says : (h : Head) (props : Option PropPart) (text : Option (List ℕ)) (rec : DumpRecord) → record_of h props text ≡ Some rec → Says h props text rec
 record_says h props text rec e =
     elim h.identity as (λ o. h.identity ≡ o → named_of h props text o ≡ Some rec → Says h props text rec) [
       | Some id ↦ λ i e. subst (Says h props text) (some_is (Identity id) rec e) i
       | None ↦ λ i e.
           elim h.number as (λ o. h.number ≡ o → numbered_of h props text o ≡ Some rec → Says h props text rec) [
-            | Some n ↦ λ j e. subst (Says h props text) (some_is (Revision n (props_or_none props)) rec e) (i, j, refl)
+            | Some n ↦ λ j e.
+                elim (whole_of props) as (λ w. whole_of props ≡ w → option_map (Revision n) w ≡ Some rec → Says h props text rec) [
+                  | None ↦ λ w e. none_some rec _ e
+                  | Some ps ↦ λ w e. subst (Says h props text) (some_is (Revision n ps) rec e) (i, j, w)
+                ] refl e
             | None ↦ λ j e.
                 elim h.path as (λ o. h.path ≡ o → node_of h props text o h.action ≡ Some rec → Says h props text rec) [
                   | None ↦ λ k e. none_some rec _ e
@@ -150,12 +156,12 @@ record_says h props text rec e =
     ] refl e
 
 -- a record, and what is read behind it
-pub record Given (rs : List DumpRecord) (v : ℕ) (i : Stage) (h : Head) (props : Option PropMap) (text : Option (List ℕ)) (rest : List ℕ) (out : List DumpRecord) (last : ReadState) : Type 0 where
+pub record Given (rs : List DumpRecord) (v : ℕ) (i : Stage) (h : Head) (props : Option PropPart) (text : Option (List ℕ)) (rest : List ℕ) (out : List DumpRecord) (last : ReadState) : Type 0 where
   pub rec : DumpRecord
   pub says : Says h props text rec
   pub next : Ends (reading (follow rs v i rec) rest) out last
 
-given_from : (rs : List DumpRecord) (r : ReadState) (props : Option PropMap) (text : Option (List ℕ)) (rest : List ℕ) (out : List DumpRecord) (last : ReadState) → Ends (reading (give rs r props text) rest) out last → Given rs r.version r.stage r.head props text rest out last
+given_from : (rs : List DumpRecord) (r : ReadState) (props : Option PropPart) (text : Option (List ℕ)) (rest : List ℕ) (out : List DumpRecord) (last : ReadState) → Ends (reading (give rs r props text) rest) out last → Given rs r.version r.stage r.head props text rest out last
 given_from rs r props text rest out last e =
     elim (record_of r.head props text) as (λ o. record_of r.head props text ≡ o → Ends (reading (given rs r o) rest) out last → Given rs r.version r.stage r.head props text rest out last) [
       | None ↦ λ o e. never rs out BadHeader last rest _ e
@@ -164,14 +170,14 @@ given_from rs r props text rest out last e =
 
 -- ---- a text
 
-pub record Worded (rs : List DumpRecord) (v : ℕ) (i : Stage) (h : Head) (props : Option PropMap) (bs : List ℕ) (out : List DumpRecord) (last : ReadState) : Type 0 where
+pub record Worded (rs : List DumpRecord) (v : ℕ) (i : Stage) (h : Head) (props : Option PropPart) (bs : List ℕ) (out : List DumpRecord) (last : ReadState) : Type 0 where
   pub text : Option (List ℕ)
   pub rest : List ℕ
   pub front : bs ≡ bytes_of text ++ rest
   pub words : HasText h text
   pub whole : Given rs v i h props text rest out last
 
-text_from : (rs : List DumpRecord) (r : ReadState) (props : Option PropMap) (text rest : List ℕ) (out : List DumpRecord) (last : ReadState) → Ends (reading (text_is rs r props text) rest) out last → (sum_holds r.head.sum text ≡ true) × Given rs r.version r.stage r.head props (Some text) rest out last
+text_from : (rs : List DumpRecord) (r : ReadState) (props : Option PropPart) (text rest : List ℕ) (out : List DumpRecord) (last : ReadState) → Ends (reading (text_is rs r props text) rest) out last → (sum_holds r.head.sum text ≡ true) × Given rs r.version r.stage r.head props (Some text) rest out last
 text_from rs r props text rest out last e =
     elim (sum_holds r.head.sum text) as (λ t. sum_holds r.head.sum text ≡ t → Ends (reading (if t then made rs r props text else Refuses rs BadSum) rest) out last → (sum_holds r.head.sum text ≡ true) × Given rs r.version r.stage r.head props (Some text) rest out last) [
       | true ↦ λ t e.
@@ -182,13 +188,13 @@ text_from rs r props text rest out last e =
       | false ↦ λ t e. never rs out BadSum last rest _ e
     ] refl e
 
-not_eq : (a b : ℕ) → (a == b) ≡ false → a ≡ b → ⊥
+pub not_eq : (a b : ℕ) → (a == b) ≡ false → a ≡ b → ⊥
 not_eq a b e h = grind (arith, nat_tests)
 
-not_true : false ≡ true → ⊥
+pub not_true : false ≡ true → ⊥
 not_true e = cc
 
-some_text : (rs : List DumpRecord) (r : ReadState) (props : Option PropMap) (n : ℕ) (bs : List ℕ) (out : List DumpRecord) (last : ReadState) → 0 < n → r.head.text_len ≡ Some n → Ends (reading (Reads rs (record r { place = at.Text n; props = props; held = [] })) bs) out last → Worded rs r.version r.stage r.head props bs out last
+some_text : (rs : List DumpRecord) (r : ReadState) (props : Option PropPart) (n : ℕ) (bs : List ℕ) (out : List DumpRecord) (last : ReadState) → 0 < n → r.head.text_len ≡ Some n → Ends (reading (Reads rs (record r { place = at.Text n; props = props; held = [] })) bs) out last → Worded rs r.version r.stage r.head props bs out last
 some_text rs r props n bs out last some len e =
     let r-2 = record r { place = at.Text n; props = props; held = [] } in
     elim (cases_lt (length bs) n) [
@@ -203,7 +209,7 @@ some_text rs r props n bs out last some len e =
           record { text = Some text; rest = rest; front = all; words = (len ∙ ap Some (sym long), t.0); whole = t.1 }
     ]
 
-after_block_from : (rs : List DumpRecord) (r : ReadState) (props : Option PropMap) (bs : List ℕ) (out : List DumpRecord) (last : ReadState) → Ends (reading (after_block rs r props) bs) out last → Worded rs r.version r.stage r.head props bs out last
+after_block_from : (rs : List DumpRecord) (r : ReadState) (props : Option PropPart) (bs : List ℕ) (out : List DumpRecord) (last : ReadState) → Ends (reading (after_block rs r props) bs) out last → Worded rs r.version r.stage r.head props bs out last
 after_block_from rs r props bs out last e =
     elim r.head.text_len as (λ o. r.head.text_len ≡ o → Ends (reading (elim o as (λ _. Stream) [ None ↦ give rs r props None | Some n ↦ if n == 0 then text_is rs r props [] else Reads rs (record r { place = at.Text n; props = props; held = [] }) ]) bs) out last → Worded rs r.version r.stage r.head props bs out last) [
       | None ↦ λ o e. record { text = None; rest = bs; front = refl; words = o; whole = given_from rs r props None bs out last e }
@@ -221,40 +227,42 @@ after_block_from rs r props bs out last e =
 pub record Filled (rs : List DumpRecord) (v : ℕ) (i : Stage) (h : Head) (bs : List ℕ) (out : List DumpRecord) (last : ReadState) : Type 0 where
   pub body : List ℕ
   pub rest : List ℕ
-  pub props : Option PropMap
+  pub props : Option PropPart
   pub text : Option (List ℕ)
   pub front : bs ≡ body ++ rest
   pub content : IsContent h body props text
   pub whole : Given rs v i h props text rest out last
 
-block_from : (rs : List DumpRecord) (r : ReadState) (n : ℕ) (bs : List ℕ) (out : List DumpRecord) (last : ReadState) → r.head.prop_len ≡ Some n → Ends (reading (Reads rs (record r { place = at.Block; block = new_block n; held = [] })) bs) out last → Filled rs r.version r.stage r.head bs out last
+block_from : (rs : List DumpRecord) (r : ReadState) (n : ℕ) (bs : List ℕ) (out : List DumpRecord) (last : ReadState) → r.head.prop_len ≡ Some n → Ends (reading (Reads rs (record r { place = at.Block; block = begun (is_delta r.head) n; held = [] })) bs) out last → Filled rs r.version r.stage r.head bs out last
 block_from rs r n bs out last len e =
-    let r-2 = record r { place = at.Block; block = new_block n; held = [] } in
-    elim (run_block (new_block n) bs) as (λ run. run_block (new_block n) bs ≡ run → Ends (of_block rs r-2 run) out last → Filled rs r.version r.stage r.head bs out last) [
+    let delta = is_delta r.head in
+    let r-2 = record r { place = at.Block; block = begun delta n; held = [] } in
+    elim (run_block (begun delta n) bs) as (λ run. run_block (begun delta n) bs ≡ run → Ends (of_block rs r-2 run) out last → Filled rs r.version r.stage r.head bs out last) [
       | More block ↦ λ is e. absurd (not_true (ended rs out (record r-2 { block = block }) last e).0)
       | Fault f ↦ λ is e. never rs out (of_prop_fault f) last [] _ e
-      | Done m rest ↦ λ is e.
-          let b = read_is_block n bs m rest is in
-          let w = after_block_from rs (record r-2 { block = new_block 0 }) (Some m) rest out last e in
+      | Done props removed rest ↦ λ is e.
+          let b = read_is_block delta n bs props removed rest is in
+          let part = part_of delta props removed in
+          let w = after_block_from rs (record r-2 { block = new_block 0 }) (Some part) rest out last e in
           record {
             body = b.block ++ bytes_of w.text;
             rest = w.rest;
-            props = Some m;
+            props = Some part;
             text = w.text;
             front = b.front ∙ ap (λ x. b.block ++ x) w.front ∙ sym (append_assoc b.block (bytes_of w.text) w.rest);
-            content = record { block = b.block; whole = refl; properties = (len ∙ ap Some (sym b.whole), (b.properties, b.spelled, b.within, b.is)); words = w.words };
+            content = record { block = b.block; whole = refl; properties = (len ∙ ap Some (sym b.whole), (b.entries, b.spelled, b.within, (λ j. part_of delta (b.sets j) (b.removes j)))); words = w.words };
             whole = w.whole;
           }
     ] refl (sym (block_piece rs r-2 bs refl) ∙ e.0, e.1)
 
 content_from : (rs : List DumpRecord) (r : ReadState) (bs : List ℕ) (out : List DumpRecord) (last : ReadState) → Ends (reading (content rs r) bs) out last → Filled rs r.version r.stage r.head bs out last
 content_from rs r bs out last e =
-    elim r.head.prop_len as (λ o. r.head.prop_len ≡ o → Ends (reading (elim o as (λ _. Stream) [ None ↦ after_block rs r None | Some n ↦ if n == 0 then Refuses rs BadProps else Reads rs (record r { place = at.Block; block = new_block n; held = [] }) ]) bs) out last → Filled rs r.version r.stage r.head bs out last) [
+    elim r.head.prop_len as (λ o. r.head.prop_len ≡ o → Ends (reading (elim o as (λ _. Stream) [ None ↦ after_block rs r None | Some n ↦ if n == 0 then Refuses rs BadProps else Reads rs (record r { place = at.Block; block = begun (is_delta r.head) n; held = [] }) ]) bs) out last → Filled rs r.version r.stage r.head bs out last) [
       | None ↦ λ o e.
           let w = after_block_from rs r None bs out last e in
           record { body = bytes_of w.text; rest = w.rest; props = None; text = w.text; front = w.front; content = record { block = []; whole = refl; properties = (o, refl); words = w.words }; whole = w.whole }
       | Some n ↦ λ o e.
-          elim (n == 0) as (λ t. (n == 0) ≡ t → Ends (reading (if t then Refuses rs BadProps else Reads rs (record r { place = at.Block; block = new_block n; held = [] })) bs) out last → Filled rs r.version r.stage r.head bs out last) [
+          elim (n == 0) as (λ t. (n == 0) ≡ t → Ends (reading (if t then Refuses rs BadProps else Reads rs (record r { place = at.Block; block = begun (is_delta r.head) n; held = [] })) bs) out last → Filled rs r.version r.stage r.head bs out last) [
             | true ↦ λ t e. never rs out BadProps last bs _ e
             | false ↦ λ t e. block_from rs r n bs out last o e
           ] refl e
@@ -268,15 +276,15 @@ pub record Headed (rs : List DumpRecord) (v : ℕ) (i : Stage) (h : Head) (bs : 
   pub after : List ℕ
   pub spelled : bs ≡ lines_of lines ++ 10 ∷ after
   pub headers : HeadOf h lines whole
-  pub form : fits_form i whole ≡ true
+  pub form : fits_form v i whole ≡ true
   pub agree : lengths_agree whole ≡ true
   pub fit : lengths_fit whole ≡ true
   pub filled : Filled rs v i whole after out last
 
-judged_from : (rs : List DumpRecord) (v : ℕ) (i : Stage) (h : Head) (bs : List ℕ) (out : List DumpRecord) (last : ReadState) → Ends (reading (judged rs (reader v at.Header i h (new_block 0) None [])) bs) out last → (fits_form i h ≡ true) × (lengths_agree h ≡ true) × (lengths_fit h ≡ true) × Filled rs v i h bs out last
+judged_from : (rs : List DumpRecord) (v : ℕ) (i : Stage) (h : Head) (bs : List ℕ) (out : List DumpRecord) (last : ReadState) → Ends (reading (judged rs (reader v at.Header i h (new_block 0) None [])) bs) out last → (fits_form v i h ≡ true) × (lengths_agree h ≡ true) × (lengths_fit h ≡ true) × Filled rs v i h bs out last
 judged_from rs v i h bs out last e =
     let r = reader v at.Header i h (new_block 0) None [] in
-    elim (fits_form i h) as (λ t. Ends (reading (if not t then Refuses rs BadHeader else (if not (lengths_agree h) then Refuses rs BadLength else (if not (lengths_fit h) then Refuses rs TooLong else content rs r))) bs) out last → (t ≡ true) × (lengths_agree h ≡ true) × (lengths_fit h ≡ true) × Filled rs v i h bs out last) [
+    elim (fits_form v i h) as (λ t. Ends (reading (if not t then Refuses rs BadHeader else (if not (lengths_agree h) then Refuses rs BadLength else (if not (lengths_fit h) then Refuses rs TooLong else content rs r))) bs) out last → (t ≡ true) × (lengths_agree h ≡ true) × (lengths_fit h ≡ true) × Filled rs v i h bs out last) [
       | false ↦ λ e. never rs out BadHeader last bs _ e
       | true ↦ λ e.
           elim (lengths_agree h) as (λ t. Ends (reading (if not t then Refuses rs BadLength else (if not (lengths_fit h) then Refuses rs TooLong else content rs r)) bs) out last → (true ≡ true) × (t ≡ true) × (lengths_fit h ≡ true) × Filled rs v i h bs out last) [
@@ -313,10 +321,10 @@ module _ (rs : List DumpRecord) (v : ℕ) (i : Stage) (h : Head) (bs : List ℕ)
             }
       ] refl e
 
-shorter : (n : ℕ) (bs line rest : List ℕ) → length bs ≤ suc n → bs ≡ line ++ 10 ∷ rest → length rest ≤ n
+pub shorter : (n : ℕ) (bs line rest : List ℕ) → length bs ≤ suc n → bs ≡ line ++ 10 ∷ rest → length rest ≤ n
 shorter n bs line rest size is = omega (arith, ap length is, length-append line (10 ∷ rest))
 
-nothing_less : (bs line rest : List ℕ) (G : Type 0) → length bs ≤ 0 → bs ≡ line ++ 10 ∷ rest → G
+pub nothing_less : (bs line rest : List ℕ) (G : Type 0) → length bs ≤ 0 → bs ≡ line ++ 10 ∷ rest → G
 nothing_less bs line rest G size is = absurd (omega (arith, ap length is, length-append line (10 ∷ rest)))
 
 head_from : (n : ℕ) (rs : List DumpRecord) (v : ℕ) (i : Stage) (h : Head) (bs : List ℕ) (out : List DumpRecord) (last : ReadState) → length bs ≤ n → Ends (reading (Reads rs (reader v at.Header i h (new_block 0) None [])) bs) out last → Headed rs v i h bs out last
@@ -333,14 +341,14 @@ head_from (suc n) rs v i h bs out last size e =
 
 -- ---- records
 
-pub record Told (rs : List DumpRecord) (i : Stage) (bs : List ℕ) (out : List DumpRecord) : Type 0 where
+pub record Told (rs : List DumpRecord) (v : ℕ) (i : Stage) (bs : List ℕ) (out : List DumpRecord) : Type 0 where
   pub recs : List DumpRecord
   pub all : out ≡ rs ++ recs
-  pub spelled : IsRecords i bs recs
+  pub spelled : IsRecords v i bs recs
 
-module _ (rs : List DumpRecord) (v : ℕ) (i : Stage) (bs : List ℕ) (out : List DumpRecord) (last : ReadState) (n : ℕ) (ih : (rs : List DumpRecord) (i : Stage) (rest : List ℕ) → length rest ≤ n → Ends (reading (Reads rs (begin v at.Between i)) rest) out last → Told rs i rest out) where
+module _ (rs : List DumpRecord) (v : ℕ) (i : Stage) (bs : List ℕ) (out : List DumpRecord) (last : ReadState) (n : ℕ) (ih : (rs : List DumpRecord) (i : Stage) (rest : List ℕ) → length rest ≤ n → Ends (reading (Reads rs (begin v at.Between i)) rest) out last → Told rs v i rest out) where
   -- a record behind its first line
-  one_record : (line rest : List ℕ) (next : Head) → bs ≡ line ++ 10 ∷ rest → length bs ≤ suc n → NoLf line → 0 < length line → length line ≤ 4096 → line_says no_head line ≡ Ok next → Headed rs v i next rest out last → Told rs i bs out
+  one_record : (line rest : List ℕ) (next : Head) → bs ≡ line ++ 10 ∷ rest → length bs ≤ suc n → NoLf line → 0 < length line → length line ≤ 4096 → line_says no_head line ≡ Ok next → Headed rs v i next rest out last → Told rs v i bs out
   one_record line rest next is size lone some short says x =
       let f = x.filled in
       let g = f.whole in
@@ -349,34 +357,34 @@ module _ (rs : List DumpRecord) (v : ℕ) (i : Stage) (bs : List ℕ) (out : Lis
       let spelled : bs ≡ first ++ f.rest = is ∙ ap (λ y. line ++ 10 ∷ y) (x.spelled ∙ ap (λ y. lines_of x.lines ++ 10 ∷ y) f.front) ∙ text line (lines_of x.lines) f.body f.rest in
       let small : length f.rest ≤ n = omega (arith, shorter n bs line rest size is, ap length x.spelled, length-append (lines_of x.lines) (10 ∷ x.after), ap length f.front, length-append f.body f.rest) in
       let later = ih (rs ++ g.rec ∷ []) (stage_after i g.rec) f.rest small g.next in
-      let whole : IsRecord i first g.rec = record { lines = lines; head = x.whole; body = f.body; props = f.props; text = f.text; some = omega arith; spelled = refl; headers = (lone, some, short, next, says, x.headers); form = x.form; agree = x.agree; fit = x.fit; content = f.content; says = g.says } in
+      let whole : IsRecord v i first g.rec = record { lines = lines; head = x.whole; body = f.body; props = f.props; text = f.text; some = omega arith; spelled = refl; headers = (lone, some, short, next, says, x.headers); form = x.form; agree = x.agree; fit = x.fit; content = f.content; says = g.says } in
       record { recs = g.rec ∷ later.recs; all = later.all ∙ append_assoc rs (g.rec ∷ []) later.recs; spelled = ([], first, f.rest, tt, whole, later.spelled, spelled) }
     where
       text : (a b c d : List ℕ) → a ++ 10 ∷ (b ++ 10 ∷ (c ++ d)) ≡ ((a ++ 10 ∷ b) ++ 10 ∷ c) ++ d
       text a b c d = simp append_assoc refl
 
-  record_line : (line rest : List ℕ) → bs ≡ line ++ 10 ∷ rest → length bs ≤ suc n → NoLf line → length line ≤ 4096 → Ends (reading (line_is at.Between rs (begin v at.Between i) line) rest) out last → Told rs i bs out
+  record_line : (line rest : List ℕ) → bs ≡ line ++ 10 ∷ rest → length bs ≤ suc n → NoLf line → length line ≤ 4096 → Ends (reading (line_is at.Between rs (begin v at.Between i) line) rest) out last → Told rs v i bs out
   record_line [] rest is size lone short e =
       let later = ih rs i rest (shorter n bs [] rest size is) e in
-      record { recs = later.recs; all = later.all; spelled = subst (λ y. IsRecords i y later.recs) (sym is) (blanks_before i (10 ∷ []) rest later.recs (refl, tt) later.spelled) }
+      record { recs = later.recs; all = later.all; spelled = subst (λ y. IsRecords v i y later.recs) (sym is) (blanks_before v i (10 ∷ []) rest later.recs (refl, tt) later.spelled) }
   record_line (b ∷ s) rest is size lone short e =
-      elim (line_says no_head (b ∷ s)) as (λ o. line_says no_head (b ∷ s) ≡ o → Ends (reading (said rs (begin v at.Between i) o) rest) out last → Told rs i bs out) [
+      elim (line_says no_head (b ∷ s)) as (λ o. line_says no_head (b ∷ s) ≡ o → Ends (reading (said rs (begin v at.Between i) o) rest) out last → Told rs v i bs out) [
         | Err f ↦ λ o e. never rs out f last rest _ e
         | Ok next ↦ λ o e. one_record (b ∷ s) rest next is size lone (omega arith) short o (head_from (length rest) rs v i next rest out last (omega arith) e)
       ] refl e
 
-no_records : (rs : List DumpRecord) (i : Stage) (bs : List ℕ) (out : List DumpRecord) → bs ≡ [] → out ≡ rs → Told rs i bs out
-no_records rs i bs out e f = record { recs = []; all = f ∙ sym (append-nil rs); spelled = subst AreBlank (sym e) tt }
+no_records : (rs : List DumpRecord) (v : ℕ) (i : Stage) (bs : List ℕ) (out : List DumpRecord) → bs ≡ [] → out ≡ rs → Told rs v i bs out
+no_records rs v i bs out e f = record { recs = []; all = f ∙ sym (append-nil rs); spelled = subst AreBlank (sym e) tt }
 
-records_from : (n : ℕ) (v : ℕ) (out : List DumpRecord) (last : ReadState) (rs : List DumpRecord) (i : Stage) (bs : List ℕ) → length bs ≤ n → Ends (reading (Reads rs (begin v at.Between i)) bs) out last → Told rs i bs out
+records_from : (n : ℕ) (v : ℕ) (out : List DumpRecord) (last : ReadState) (rs : List DumpRecord) (i : Stage) (bs : List ℕ) → length bs ≤ n → Ends (reading (Reads rs (begin v at.Between i)) bs) out last → Told rs v i bs out
 records_from zero v out last rs i bs size e =
     elim (a_line at.Between refl rs v i no_head out last bs e) [
-      | inl x ↦ no_records rs i bs out x.0 x.1
+      | inl x ↦ no_records rs v i bs out x.0 x.1
       | inr l ↦ nothing_less bs l.line l.rest _ size l.is
     ]
 records_from (suc n) v out last rs i bs size e =
     elim (a_line at.Between refl rs v i no_head out last bs e) [
-      | inl x ↦ no_records rs i bs out x.0 x.1
+      | inl x ↦ no_records rs v i bs out x.0 x.1
       | inr l ↦ record_line rs v i bs out last n (records_from n v out last) l.line l.rest l.is size l.lone l.short l.next
     ]
 
@@ -388,31 +396,59 @@ same_is [] (y ∷ b) e = cc
 same_is (x ∷ a) [] e = cc
 same_is (x ∷ a) (y ∷ b) e = let p = both (eqb x y) (same a b) e in cc (eqb-true x y p.0, same_is a b p.1)
 
-blank_line : (line rest : List ℕ) (out : List DumpRecord) (last : ReadState) → Ends (reading (line_is at.Blank [] (reader 2 at.Blank First no_head (new_block 0) None []) line) rest) out last → (line ≡ []) × Told [] First rest out
-blank_line [] rest out last e = (refl, records_from (length rest) 2 out last [] First rest (omega arith) e)
-blank_line (b ∷ s) rest out last e = never [] out BadHeader last rest _ e
+blank_line : (v : ℕ) (line rest : List ℕ) (out : List DumpRecord) (last : ReadState) → Ends (reading (line_is at.Blank [] (reader v at.Blank First no_head (new_block 0) None []) line) rest) out last → (line ≡ []) × Told [] v First rest out
+blank_line v [] rest out last e = (refl, records_from (length rest) v out last [] First rest (omega arith) e)
+blank_line v (b ∷ s) rest out last e = never [] out BadHeader last rest _ e
 
+some_number : (a b : ℕ) → Some a ≡ Some b → a ≡ b
+some_number a b e = cc
+
+none_number : (b : ℕ) (G : Type 0) → None ≡ Some b → G
+none_number b G e = cc
+
+-- the first lines that name a format
+pub names_format : (line : List ℕ) (v : ℕ) → version_in line ≡ Some v → IsVersionLine v line
+names_format line v e =
+    elim (same line version_line) as (λ t. same line version_line ≡ t → (if t then Some 2 else (if same line later_line then Some 3 else None)) ≡ Some v → IsVersionLine v line) [
+      | true ↦ λ t e. inl (sym (some_number 2 v e), same_is line version_line t)
+      | false ↦ λ t e.
+          elim (same line later_line) as (λ u. same line later_line ≡ u → (if u then Some 3 else None) ≡ Some v → IsVersionLine v line) [
+            | true ↦ λ u e. inr (sym (some_number 3 v e), same_is line later_line u)
+            | false ↦ λ u e. none_number v _ e
+          ] refl e
+    ] refl e
+
+-- the version never changes
 behind_version : (line bs rest : List ℕ) (out : List DumpRecord) (last : ReadState) → bs ≡ line ++ 10 ∷ rest → Ends (reading (line_is at.Version [] (reader 0 at.Version First no_head (new_block 0) None []) line) rest) out last → Dump bs out
 behind_version line bs rest out last is e =
-    elim (same line version_line) as (λ t. same line version_line ≡ t → Ends (reading (if t then Reads [] (reader 2 at.Blank First no_head (new_block 0) None []) else Refuses [] BadVersion) rest) out last → Dump bs out) [
-      | false ↦ λ t e. never [] out BadVersion last rest _ e
-      | true ↦ λ t e.
-          elim (a_line at.Blank refl [] 2 First no_head out last rest e) [
+    elim (version_in line) as (λ o. version_in line ≡ o → Ends (reading (versioned [] (reader 0 at.Version First no_head (new_block 0) None []) o) rest) out last → Dump bs out) [
+      | None ↦ λ o e. never [] out BadVersion last rest _ e
+      | Some v ↦ λ o e.
+          elim (a_line at.Blank refl [] v First no_head out last rest e) [
             | inl x ↦ absurd (not_true x.2)
             | inr l ↦
-                let b = blank_line l.line l.rest out last l.next in
-                let whole : bs ≡ version_line ++ 10 ∷ 10 ∷ l.rest = is ∙ ap (λ y. y ++ 10 ∷ rest) (same_is line version_line t) ∙ ap (λ y. version_line ++ 10 ∷ y) (l.is ∙ ap (λ y. y ++ 10 ∷ l.rest) b.0) in
-                (l.rest, whole, subst (IsRecords First l.rest) (sym b.1.all) b.1.spelled)
+                let b = blank_line v l.line l.rest out last l.next in
+                let whole : bs ≡ line ++ 10 ∷ 10 ∷ l.rest = is ∙ ap (λ y. line ++ 10 ∷ y) (l.is ∙ ap (λ y. y ++ 10 ∷ l.rest) b.0) in
+                (v, (line, l.rest, names_format line v o, whole, subst (IsRecords v First l.rest) (sym b.1.all) b.1.spelled))
           ]
     ] refl e
 
 -- bytes that are read to an end are a dump of what was read
-pub read_is_dump : (bytes : List ℕ) (rs : List DumpRecord) (last : ReadState) → dump bytes ≡ Reads rs last → is_between last ≡ true → Dump bytes rs
-read_is_dump bytes rs last e b =
+pub read_is_some_dump : (bytes : List ℕ) (rs : List DumpRecord) (last : ReadState) → dump bytes ≡ Reads rs last → is_between last ≡ true → Dump bytes rs
+read_is_some_dump bytes rs last e b =
     elim (a_line at.Version refl [] 0 First no_head rs last bytes (e, b)) [
       | inl x ↦ absurd (not_true x.2)
       | inr l ↦ behind_version l.line bytes l.rest rs last l.is l.next
     ]
+
+same_version : (version : ℕ) (rs others : List DumpRecord) (state last : ReadState) → Reads others state ≡ Reads rs last → state.version ≡ version → version ≡ last.version
+same_version version rs others state last e v = let s : state ≡ last = cc in sym v ∙ ap (λ (r : ReadState). r.version) s
+
+-- of the format that was read
+pub read_is_dump : (bytes : List ℕ) (rs : List DumpRecord) (last : ReadState) → dump bytes ≡ Reads rs last → is_between last ≡ true → DumpOf last.version bytes rs
+read_is_dump bytes rs last e b =
+    let d = read_is_some_dump bytes rs last e b in
+    subst (λ v. DumpOf v bytes rs) (same_version d.0 rs rs _ last (sym (dump_read d.0 bytes rs d.1) ∙ e) refl) d.1
 
 -- ---- the first refused byte
 
@@ -426,7 +462,7 @@ pub record Byte (rs : List DumpRecord) (r : ReadState) (bs : List ℕ) (out : Li
   pub reads : reading (Reads rs r) front ≡ Reads before state
   pub refuses : one_byte (Reads before state) byte ≡ Refuses out f
 
-reads_never : (rs out : List DumpRecord) (r : ReadState) (f : DumpFault) (G : Type 0) → Reads rs r ≡ Refuses out f → G
+pub reads_never : (rs out : List DumpRecord) (r : ReadState) (f : DumpFault) (G : Type 0) → Reads rs r ≡ Refuses out f → G
 reads_never rs out r f G e = cc
 
 byte_of : (rs : List DumpRecord) (r : ReadState) (bs : List ℕ) (out : List DumpRecord) (f : DumpFault) → reading (Reads rs r) bs ≡ Refuses out f → Byte rs r bs out f
@@ -445,5 +481,5 @@ first_fault bytes rs f e =
     record { front = x.front; byte = x.byte; more = x.more; whole = x.whole; before = x.before; state = x.state; reads = x.reads; refuses = reading-append (Reads [] fresh) x.front (x.byte ∷ []) ∙ ap (λ s. one_byte s x.byte) x.reads ∙ x.refuses }
 
 pub no_front : (bytes more : List ℕ) (rs others : List DumpRecord) (f : DumpFault) → dump bytes ≡ Refuses rs f → Dump (bytes ++ more) others → ⊥
-no_front bytes more rs others f e d =
-    reads_never others rs _ f _ (sym (dump_read (bytes ++ more) others d) ∙ reading-append (Reads [] fresh) bytes more ∙ ap (λ s. reading s more) e ∙ reading-refused rs f more)
+no_front bytes more rs others f e (version, d) =
+    reads_never others rs _ f _ (sym (dump_read version (bytes ++ more) others d) ∙ reading-append (Reads [] fresh) bytes more ∙ ap (λ s. reading s more) e ∙ reading-refused rs f more)

@@ -1,19 +1,19 @@
 -- Records stay.
 use Rattle.std.proofs.Common.{◌≡◌, ℕ, ◌==◌, ◌+◌, not, Bool, true, false, List, [], ◌∷◌, ◌++◌, length, nat_lt, Option, Some, None, Ok, Err, Result, refl, sym, ap, ◌∙◌, append_assoc, append-nil}
 use Rattle.std.specs.Bool.{if◌then◌else◌}
-use Rattle.node_base.specs.Props.{PropMap}
-use Rattle.node_base.specs.Blocks.{Step, block_step, new_block, Next, Whole, Refused}
-use Rattle.dump_text.specs.Headers.{same}
+use Rattle.node_base.specs.Blocks.{Step, block_step, begun, new_block, Next, Whole, Refused}
+use Rattle.dump_text.specs.Headers.{version_in}
 use Rattle.dump_text.specs.Heads.{line_says}
-use Rattle.dump_text.specs.Forms.{record_of, fits_form, lengths_agree, lengths_fit}
+use Rattle.dump_text.specs.Forms.{record_of, fits_form, lengths_agree, lengths_fit, is_delta, part_of}
 use Rattle.dump_text.specs.declared.fault.DumpFault.{DumpFault}
 use Rattle.dump_text.specs.declared.fault.DumpFault.TheVariants.{BadProps}
 use Rattle.dump_text.specs.declared.head.Head.{Head}
 use Rattle.dump_text.specs.declared.state.Place.{Place}
 use Rattle.dump_text.specs.declared.state.Place.TheVariants as at
 use Rattle.dump_text.specs.declared.record.DumpRecord.{DumpRecord}
+use Rattle.dump_text.specs.declared.record.PropPart.{PropPart}
 use Rattle.dump_text.specs.declared.state.ReadState.{ReadState}
-use Rattle.dump_text.specs.Streams.{Stream, Reads, Refuses, reading, one_byte, stream_step, line_step, block_said, said, given, give, made, text_is, after_block, content, judged, line_is, records_of, IsFront, sum_holds, version_line}
+use Rattle.dump_text.specs.Streams.{Stream, Reads, Refuses, reading, one_byte, stream_step, line_step, block_said, said, given, give, made, text_is, after_block, content, judged, line_is, records_of, IsFront, versioned, sum_holds}
 
 here : (rs : List DumpRecord) → (more : List DumpRecord) × (rs ≡ rs ++ more)
 here rs = ([], sym (append-nil rs))
@@ -26,13 +26,13 @@ given_front : (rs : List DumpRecord) (r : ReadState) (rec : Option DumpRecord) �
 given_front rs r None = here rs
 given_front rs r (Some rec) = (rec ∷ [], refl)
 
-give_front : (rs : List DumpRecord) (r : ReadState) (props : Option PropMap) (text : Option (List ℕ)) → IsFront rs (give rs r props text)
+give_front : (rs : List DumpRecord) (r : ReadState) (props : Option PropPart) (text : Option (List ℕ)) → IsFront rs (give rs r props text)
 give_front rs r props text = given_front rs r (record_of r.head props text)
 
-text_front : (rs : List DumpRecord) (r : ReadState) (props : Option PropMap) (text : List ℕ) → IsFront rs (text_is rs r props text)
+text_front : (rs : List DumpRecord) (r : ReadState) (props : Option PropPart) (text : List ℕ) → IsFront rs (text_is rs r props text)
 text_front rs r props text = if_front rs (sum_holds r.head.sum text) _ _ (if_front rs (nat_lt 1048576 (length text)) _ _ (here rs) (give_front rs r props (Some text))) (here rs)
 
-after_block_front : (rs : List DumpRecord) (r : ReadState) (props : Option PropMap) → IsFront rs (after_block rs r props)
+after_block_front : (rs : List DumpRecord) (r : ReadState) (props : Option PropPart) → IsFront rs (after_block rs r props)
 after_block_front rs r props =
     elim r.head.text_len as (λ o. IsFront rs (elim o as (λ _. Stream) [ None ↦ give rs r props None | Some n ↦ if n == 0 then text_is rs r props [] else Reads rs (record r { place = at.Text n; props = props; held = [] }) ])) [
       | None ↦ give_front rs r props None
@@ -41,20 +41,24 @@ after_block_front rs r props =
 
 content_front : (rs : List DumpRecord) (r : ReadState) → IsFront rs (content rs r)
 content_front rs r =
-    elim r.head.prop_len as (λ o. IsFront rs (elim o as (λ _. Stream) [ None ↦ after_block rs r None | Some n ↦ if n == 0 then Refuses rs BadProps else Reads rs (record r { place = at.Block; block = new_block n; held = [] }) ])) [
+    elim r.head.prop_len as (λ o. IsFront rs (elim o as (λ _. Stream) [ None ↦ after_block rs r None | Some n ↦ if n == 0 then Refuses rs BadProps else Reads rs (record r { place = at.Block; block = begun (is_delta r.head) n; held = [] }) ])) [
       | None ↦ after_block_front rs r None
       | Some n ↦ if_front rs (n == 0) _ _ (here rs) (here rs)
     ]
 
 judged_front : (rs : List DumpRecord) (r : ReadState) → IsFront rs (judged rs r)
-judged_front rs r = if_front rs (not (fits_form r.stage r.head)) _ _ (here rs) (if_front rs (not (lengths_agree r.head)) _ _ (here rs) (if_front rs (not (lengths_fit r.head)) _ _ (here rs) (content_front rs r)))
+judged_front rs r = if_front rs (not (fits_form r.version r.stage r.head)) _ _ (here rs) (if_front rs (not (lengths_agree r.head)) _ _ (here rs) (if_front rs (not (lengths_fit r.head)) _ _ (here rs) (content_front rs r)))
 
 said_front : (rs : List DumpRecord) (r : ReadState) (what : Result Head DumpFault) → IsFront rs (said rs r what)
 said_front rs r (Ok h) = here rs
 said_front rs r (Err f) = here rs
 
+versioned_front : (rs : List DumpRecord) (r : ReadState) (v : Option ℕ) → IsFront rs (versioned rs r v)
+versioned_front rs r None = here rs
+versioned_front rs r (Some v) = here rs
+
 line_front : (place : Place) (rs : List DumpRecord) (r : ReadState) (line : List ℕ) → IsFront rs (line_is place rs r line)
-line_front at.Version rs r line = if_front rs (same line version_line) _ _ (here rs) (here rs)
+line_front at.Version rs r line = versioned_front rs r (version_in line)
 line_front at.Blank rs r [] = here rs
 line_front at.Blank rs r (b ∷ bs) = here rs
 line_front at.Header rs r [] = judged_front rs r
@@ -66,7 +70,7 @@ line_step_front place rs r b = if_front rs (b == 10) _ _ (line_front place rs (r
 
 block_front : (rs : List DumpRecord) (r : ReadState) (s : Step) → IsFront rs (block_said rs r s)
 block_front rs r (Next block) = here rs
-block_front rs r (Whole props) = after_block_front rs (record r { block = new_block 0 }) (Some props)
+block_front rs r (Whole props removed) = after_block_front rs (record r { block = new_block 0 }) (Some (part_of (is_delta r.head) props removed))
 block_front rs r (Refused f) = here rs
 
 step_front : (place : Place) (rs : List DumpRecord) (r : ReadState) (b : ℕ) → IsFront rs (stream_step place rs r b)

@@ -1,14 +1,15 @@
-mod Lines
-mod Identities
-mod StreamRuns
-mod Grows
-mod Writes
-mod Records
-mod CanonRead
-mod Kept
-mod PathLines
-mod SumLines
-mod HeadLines
 mod BlockSizes
-mod Written
+mod CanonRead
 mod Converse
+mod Grows
+mod HeadLines
+mod Identities
+mod Kept
+mod Lines
+mod PathLines
+mod Records
+mod StreamRuns
+mod SumLines
+mod Writes
+mod Written
+pub mod Causes

@@ -2,7 +2,6 @@
 use Rattle.std.proofs.Common.{◌≡◌, ℕ, zero, suc, ◌+◌, ◌≤◌, ◌<◌, ◌==◌, Bool, true, false, List, [], ◌∷◌, ◌++◌, length, take, drop, get_or, Err, nat_lt, subst, Option, refl, sym, ap, ◌∙◌, append_assoc, append-nil, length-append, arith}
 use Rattle.std.proofs.lemmas.List.{drop_more, take_more, length-take, take-append-drop, take-take, get_or-take}
 use Rattle.std.proofs.lemmas.Bool.Decides.{nat_tests}
-use Rattle.node_base.specs.Props.{PropMap}
 use Rattle.dump_text.specs.declared.fault.DumpFault.{DumpFault}
 use Rattle.dump_text.specs.declared.fault.DumpFault.TheVariants.{OutOfMemory, TooLong, Failed}
 use Rattle.dump_text.specs.declared.head.Head.{Head}
@@ -10,6 +9,7 @@ use Rattle.node_base.specs.declared.block.BlockReader.{BlockReader}
 use Rattle.dump_text.specs.declared.state.Place.{Place}
 use Rattle.dump_text.specs.declared.state.Place.TheVariants as at
 use Rattle.dump_text.specs.declared.record.DumpRecord.{DumpRecord}
+use Rattle.dump_text.specs.declared.record.PropPart.{PropPart}
 use Rattle.dump_text.specs.declared.state.ReadState.{ReadState}
 use Rattle.node_base.specs.Blocks.{Next, Whole, Refused, block_step, run_block, after, of_step, Run, BlockIs}
 use Rattle.node_base.specs.declared.prop_fault.PropFault.{PropFault}
@@ -34,21 +34,21 @@ lt_true a b h = grind (arith, nat_tests)
 lt_false : (a b : ℕ) → b ≤ a → nat_lt a b ≡ false
 lt_false a b h = grind (arith, nat_tests)
 
-abbrev pub reader : ℕ → Place → Stage → Head → BlockReader → Option PropMap → List ℕ → ReadState
+abbrev pub reader : ℕ → Place → Stage → Head → BlockReader → Option PropPart → List ℕ → ReadState
 reader version place stage head block props held = record { version = version; place = place; stage = stage; head = head; block = block; props = props; held = held }
 
 -- a block's bytes are the block's own run
-pub in_block : (rs : List DumpRecord) (v : ℕ) (i : Stage) (h : Head) (block : BlockReader) (ps : Option PropMap) (held bytes : List ℕ) → reading (Reads rs (reader v at.Block i h block ps held)) bytes ≡ of_block rs (reader v at.Block i h block ps held) (run_block block bytes)
+pub in_block : (rs : List DumpRecord) (v : ℕ) (i : Stage) (h : Head) (block : BlockReader) (ps : Option PropPart) (held bytes : List ℕ) → reading (Reads rs (reader v at.Block i h block ps held)) bytes ≡ of_block rs (reader v at.Block i h block ps held) (run_block block bytes)
 in_block rs v i h block ps held [] = refl
 in_block rs v i h block ps held (b ∷ bs) =
     elim (block_step block b) as (λ s. reading (block_said rs (reader v at.Block i h block ps held) s) bs ≡ of_block rs (reader v at.Block i h block ps held) (after (of_step s) bs)) [
       | Next next ↦ in_block rs v i h next ps held bs
-      | Whole props ↦ sym (ap (of_block rs (reader v at.Block i h block ps held)) (after-whole props [] bs))
+      | Whole props removed ↦ sym (ap (of_block rs (reader v at.Block i h block ps held)) (after-whole props removed [] bs))
       | Refused f ↦ reading-refused rs (of_prop_fault f) bs ∙ sym (ap (of_block rs (reader v at.Block i h block ps held)) (after-refused f bs))
     ]
 
 -- the bytes of a text, but its last, are kept
-pub in_text : (rs : List DumpRecord) (n : ℕ) (v : ℕ) (i : Stage) (h : Head) (block : BlockReader) (ps : Option PropMap) (held s more : List ℕ) → (0 < length s → length held + length s < n) → reading (Reads rs (reader v (at.Text n) i h block ps held)) (s ++ more) ≡ reading (Reads rs (reader v (at.Text n) i h block ps (held ++ s))) more
+pub in_text : (rs : List DumpRecord) (n : ℕ) (v : ℕ) (i : Stage) (h : Head) (block : BlockReader) (ps : Option PropPart) (held s more : List ℕ) → (0 < length s → length held + length s < n) → reading (Reads rs (reader v (at.Text n) i h block ps held)) (s ++ more) ≡ reading (Reads rs (reader v (at.Text n) i h block ps (held ++ s))) more
 in_text rs n v i h block ps held [] more lt = rw append-nil refl
 in_text rs n v i h block ps held (b ∷ s) more lt =
     let l = lt (omega arith) in
@@ -56,7 +56,7 @@ in_text rs n v i h block ps held (b ∷ s) more lt =
     ap (λ t. reading t (s ++ more)) e ∙ in_text rs n v i h block ps (held ++ b ∷ []) s more (λ q. omega (arith, l, length-append held (b ∷ []))) ∙ rw append_assoc refl
 
 -- the last byte of a text
-pub text_ends : (rs : List DumpRecord) (n : ℕ) (v : ℕ) (i : Stage) (h : Head) (block : BlockReader) (ps : Option PropMap) (held s : List ℕ) (b : ℕ) (more : List ℕ) → (0 < length s → length held + length s < n) → n ≤ length held + length s + 1 → reading (Reads rs (reader v (at.Text n) i h block ps held)) (s ++ b ∷ more) ≡ reading (text_is rs (reader v (at.Text n) i h block ps (held ++ s)) ps ((held ++ s) ++ b ∷ [])) more
+pub text_ends : (rs : List DumpRecord) (n : ℕ) (v : ℕ) (i : Stage) (h : Head) (block : BlockReader) (ps : Option PropPart) (held s : List ℕ) (b : ℕ) (more : List ℕ) → (0 < length s → length held + length s < n) → n ≤ length held + length s + 1 → reading (Reads rs (reader v (at.Text n) i h block ps held)) (s ++ b ∷ more) ≡ reading (text_is rs (reader v (at.Text n) i h block ps (held ++ s)) ps ((held ++ s) ++ b ∷ [])) more
 text_ends rs n v i h block ps held s b more lt e =
     in_text rs n v i h block ps held s (b ∷ more) lt
     ∙ ap (λ t. reading t more) (rw (lt_false (length (held ++ s) + 1) n (omega (arith, length-append held s))) refl)
@@ -71,7 +71,7 @@ line_byte at.Block rs r b e = cc
 line_byte (at.Text n) rs r b e = cc
 line_byte at.Failed rs r b e = cc
 
-pub in_line : (place : Place) → is_line_place place ≡ true → (rs : List DumpRecord) (v : ℕ) (i : Stage) (h : Head) (block : BlockReader) (ps : Option PropMap) (held s more : List ℕ) → NoLf s → (0 < length s → length held + length s ≤ 4096) → reading (Reads rs (reader v place i h block ps held)) (s ++ more) ≡ reading (Reads rs (reader v place i h block ps (held ++ s))) more
+pub in_line : (place : Place) → is_line_place place ≡ true → (rs : List DumpRecord) (v : ℕ) (i : Stage) (h : Head) (block : BlockReader) (ps : Option PropPart) (held s more : List ℕ) → NoLf s → (0 < length s → length held + length s ≤ 4096) → reading (Reads rs (reader v place i h block ps held)) (s ++ more) ≡ reading (Reads rs (reader v place i h block ps (held ++ s))) more
 in_line place p rs v i h block ps held [] more lone le = rw append-nil refl
 in_line place p rs v i h block ps held (b ∷ s) more lone le =
     let l = le (omega arith) in
@@ -81,13 +81,13 @@ in_line place p rs v i h block ps held (b ∷ s) more lone le =
     ∙ rw append_assoc refl
 
 -- the line's LF
-pub line_ends : (place : Place) → is_line_place place ≡ true → (rs : List DumpRecord) (v : ℕ) (i : Stage) (h : Head) (block : BlockReader) (ps : Option PropMap) (held s more : List ℕ) → NoLf s → (0 < length s → length held + length s ≤ 4096) → reading (Reads rs (reader v place i h block ps held)) (s ++ 10 ∷ more) ≡ reading (line_is place rs (reader v place i h block ps []) (held ++ s)) more
+pub line_ends : (place : Place) → is_line_place place ≡ true → (rs : List DumpRecord) (v : ℕ) (i : Stage) (h : Head) (block : BlockReader) (ps : Option PropPart) (held s more : List ℕ) → NoLf s → (0 < length s → length held + length s ≤ 4096) → reading (Reads rs (reader v place i h block ps held)) (s ++ 10 ∷ more) ≡ reading (line_is place rs (reader v place i h block ps []) (held ++ s)) more
 line_ends place p rs v i h block ps held s more lone le =
     in_line place p rs v i h block ps held s (10 ∷ more) lone le
     ∙ ap (λ t. reading t more) (line_byte place rs (reader v place i h block ps (held ++ s)) 10 p)
 
 -- a byte past the limit
-pub line_past : (place : Place) → is_line_place place ≡ true → (rs : List DumpRecord) (v : ℕ) (i : Stage) (h : Head) (block : BlockReader) (ps : Option PropMap) (held s : List ℕ) (b : ℕ) (more : List ℕ) → NoLf s → (b == 10) ≡ false → (0 < length s → length held + length s ≤ 4096) → 4096 ≤ length held + length s → reading (Reads rs (reader v place i h block ps held)) (s ++ b ∷ more) ≡ Refuses rs TooLong
+pub line_past : (place : Place) → is_line_place place ≡ true → (rs : List DumpRecord) (v : ℕ) (i : Stage) (h : Head) (block : BlockReader) (ps : Option PropPart) (held s : List ℕ) (b : ℕ) (more : List ℕ) → NoLf s → (b == 10) ≡ false → (0 < length s → length held + length s ≤ 4096) → 4096 ≤ length held + length s → reading (Reads rs (reader v place i h block ps held)) (s ++ b ∷ more) ≡ Refuses rs TooLong
 line_past place p rs v i h block ps held s b more lone e le ge =
     let f : nat_lt (length (held ++ s)) 4096 ≡ false = lt_false _ _ (omega (arith, length-append held s)) in
     in_line place p rs v i h block ps held s (b ∷ more) lone le
@@ -121,7 +121,7 @@ line_whole rs r k piece e lt lone lf le =
     let l : length (take k piece) ≡ k = omega (arith, length-take k piece) in
     rw (← lf, parts piece k lt) at (line_ends r.place e rs r.version r.stage r.head r.block r.props r.held (take k piece) (drop (k + 1) piece) lone (λ q. omega (arith, l, le)))
 
-lone_take : (k : ℕ) (s : List ℕ) → NoLf s → NoLf (take k s)
+pub lone_take : (k : ℕ) (s : List ℕ) → NoLf s → NoLf (take k s)
 lone_take zero s h = tt
 lone_take (suc k) [] h = tt
 lone_take (suc k) (b ∷ s) h = (h.0, lone_take k s h.1)

@@ -3,6 +3,7 @@ use Rattle.std.proofs.Common.{◌≡◌, ℕ, zero, suc, ◌+◌, ◌≤◌, ◌
 use Rattle.std.proofs.lemmas.Bool.Decides.{nat_tests}
 use Rattle.std.proofs.lemmas.List.{take_more}
 use Rattle.std.specs.Prelude.{codes, is_some, is_none, IfSome, if◌then◌else◌}
+use Rattle.std.specs.FinMap as finite
 use Rattle.std.specs.List.{flat_map}
 use Rattle.std.specs.Fmt.{decimal as printed}
 use Rattle.md5.specs.Md5.{md5}
@@ -19,18 +20,18 @@ use Rattle.node_base.specs.declared.node.Source.{Source}
 use Rattle.node_base.proofs.BlockWritten.{written_is_read}
 use Rattle.node_base.proofs.BlockConverse.{read_is_block}
 use Rattle.dump_text.specs.Heads.{no_head, line_says, with_value}
-use Rattle.dump_text.specs.Forms.{fits_form, lengths_agree, lengths_fit, is_making, is_deletion, source_of, part_of, stage_after}
+use Rattle.dump_text.specs.Forms.{fits_form, lengths_agree, lengths_fit, is_making, is_deletion, source_of, stage_after}
 use Rattle.dump_text.specs.Canon.{told_kind, source_lines, block_of, block_line, text_of, text_lines, content_line, content_of, canon_node, canon_entry, canon_revision, canon_identity, canon_head}
-use Rattle.dump_text.specs.Written.{map_of, IsFormed, IsKept, AreFormed, AreKept, IsRevision, AreRevisions, IsIdentity, read_node, read_revision, read_identity, canon_dump, read_dump, AreRecords}
+use Rattle.dump_text.specs.Written.{map_of, is_whole_part, IsFormed, IsKept, AreFormed, AreKept, IsRevision, AreRevisions, IsIdentity, read_node, read_revision, read_identity, canon_dump, read_dump, AreRecords}
 use Rattle.dump_text.specs.Streams.{NoLf, Reads, reading, begin}
 use Rattle.dump_text.specs.declared.state.Place.TheVariants as at
 use Rattle.dump_text.specs.declared.fault.DumpFault.TheVariants.{BadHeader}
-use Rattle.dump_text.specs.Grammar.{lines_of, HeadOf, IsBlockOf, HasBlock, HasText, IsRecord, IsRecords, AreBlank, Dump, bytes_of, stage_behind}
+use Rattle.dump_text.specs.Grammar.{lines_of, HeadOf, IsBlockOf, HasBlock, HasText, IsRecord, IsRecords, AreBlank, version_line, DumpOf, Dump, bytes_of, stage_behind}
 use Rattle.dump_text.specs.declared.form.Stage.{Stage}
 use Rattle.dump_text.specs.declared.form.Stage.TheVariants.{First, Inside}
 use Rattle.dump_text.specs.declared.head.Head.{Head}
 use Rattle.dump_text.specs.declared.record.PropPart.{PropPart}
-use Rattle.dump_text.specs.declared.record.PropPart.TheVariants.{Whole}
+use Rattle.dump_text.specs.declared.record.PropPart.TheVariants.{Whole, Delta}
 use Rattle.dump_text.specs.declared.record.NodeRecord.{NodeRecord}
 use Rattle.dump_text.specs.declared.record.RevRecord.{RevRecord}
 use Rattle.dump_text.specs.declared.record.DumpRecord.{DumpRecord}
@@ -50,33 +51,34 @@ blank-append [] b p q = q
 blank-append (x ∷ a) b p q = (p.0, blank-append a b p.1 q)
 
 -- empty lines in front
-pub blanks_before : (i : Stage) (a b : List ℕ) (rs : List DumpRecord) → AreBlank a → IsRecords i b rs → IsRecords i (a ++ b) rs
-blanks_before i a b [] p q = blank-append a b p q
-blanks_before i a b (r ∷ rs) p (blank, first, rest, bl, rec, more, e) =
+pub blanks_before : (v : ℕ) (i : Stage) (a b : List ℕ) (rs : List DumpRecord) → AreBlank a → IsRecords v i b rs → IsRecords v i (a ++ b) rs
+blanks_before v i a b [] p q = blank-append a b p q
+blanks_before v i a b (r ∷ rs) p (blank, first, rest, bl, rec, more, e) =
     (a ++ blank, first, rest, blank-append a blank p bl, rec, more, ap (λ x. a ++ x) e ∙ sym (append_assoc a blank (first ++ rest)))
 
-pub records-append : (i : Stage) (a b : List ℕ) (rs ss : List DumpRecord) → IsRecords i a rs → IsRecords (stage_behind i rs) b ss → IsRecords i (a ++ b) (rs ++ ss)
-records-append i a b [] ss p q = blanks_before i a b ss p q
-records-append i a b (r ∷ rs) ss (blank, first, rest, bl, rec, more, e) q =
-    (blank, first, rest ++ b, bl, rec, records-append (stage_after i r) rest b rs ss more q, ap (λ x. x ++ b) e ∙ append_assoc blank (first ++ rest) b ∙ ap (λ x. blank ++ x) (append_assoc first rest b))
+pub records-append : (v : ℕ) (i : Stage) (a b : List ℕ) (rs ss : List DumpRecord) → IsRecords v i a rs → IsRecords v (stage_behind i rs) b ss → IsRecords v i (a ++ b) (rs ++ ss)
+records-append v i a b [] ss p q = blanks_before v i a b ss p q
+records-append v i a b (r ∷ rs) ss (blank, first, rest, bl, rec, more, e) q =
+    (blank, first, rest ++ b, bl, rec, records-append v (stage_after i r) rest b rs ss more q, ap (λ x. x ++ b) e ∙ append_assoc blank (first ++ rest) b ∙ ap (λ x. blank ++ x) (append_assoc first rest b))
 
 -- one record, and empty lines behind it
-one_record : (i : Stage) (first blank : List ℕ) (r : DumpRecord) → IsRecord i first r → AreBlank blank → IsRecords i (first ++ blank) (r ∷ [])
-one_record i first blank r rec p = ([], first, blank, tt, rec, p, refl)
+one_record : (v : ℕ) (i : Stage) (first blank : List ℕ) (r : DumpRecord) → IsRecord v i first r → AreBlank blank → IsRecords v i (first ++ blank) (r ∷ [])
+one_record v i first blank r rec p = ([], first, blank, tt, rec, p, refl)
 
 -- ---- a written block
 
-block_is : (m : PropMap) → IsProps m → IsBlockOf (canon_block m) m
+block_is : (m : PropMap) → IsProps m → IsBlockOf false (canon_block m) (Whole m)
 block_is m p =
-    let read = read_is_block (length (canon_block m)) (canon_block m ++ []) m [] (written_is_read m [] p).1 in
+    let read = read_is_block false (length (canon_block m)) (canon_block m ++ []) m finite.empty [] (written_is_read m [] p).1 in
     let same : read.block ≡ canon_block m = sym (append-nil read.block) ∙ sym read.front ∙ append-nil (canon_block m) in
-    subst (λ b. IsBlockOf b m) same (read.properties, read.spelled, read.within, read.is)
+    subst (λ b. IsBlockOf false b (Whole m)) same (read.entries, read.spelled, read.within, ap Whole read.sets)
 
 -- ---- a node
 
 abbrev len_of_part : Option PropPart → Option ℕ
 len_of_part None = None
 len_of_part (Some (Whole m)) = Some (length (canon_block m))
+len_of_part (Some (Delta d)) = None
 
 abbrev len_of_text : Option (List ℕ) → Option ℕ
 len_of_text None = None
@@ -91,10 +93,7 @@ len_of_content None None = None
 len_of_content None (Some t) = Some (0 + length t)
 len_of_content (Some (Whole m)) None = Some (length (canon_block m) + 0)
 len_of_content (Some (Whole m)) (Some t) = Some (length (canon_block m) + length t)
-
-abbrev map_of_part : Option PropPart → Option PropMap
-map_of_part None = None
-map_of_part (Some (Whole m)) = Some m
+len_of_content (Some (Delta d)) t = None
 
 abbrev rev_of : Option Source → Option ℕ
 rev_of None = None
@@ -113,19 +112,21 @@ module _ (p : Path) (kind : Option NodeKind) (action : Action) where
   source_part (Some s) h = from_lines p kind action s.revision s.path h.1 h.0
 
   module _ (rev : Option ℕ) (from : Option Path) where
-    block_part : (o : Option PropPart) → IfSome o (λ part. IsProps (map_of part)) → Lines (node_head (Some p) kind (Some action) rev from None None None None) (block_line o) (node_head (Some p) kind (Some action) rev from (len_of_part o) None None None)
-    block_part None h = none _
-    block_part (Some (Whole m)) h = block_lines p kind action rev from (length (canon_block m)) (omega (arith, small_block m h))
+    block_part : (o : Option PropPart) → is_whole_part o ≡ true → IfSome o (λ part. IsProps (map_of part)) → Lines (node_head (Some p) kind (Some action) rev from None None None None) (block_line o) (node_head (Some p) kind (Some action) rev from (len_of_part o) None None None)
+    block_part None w h = none _
+    block_part (Some (Delta d)) w h = cc
+    block_part (Some (Whole m)) w h = block_lines p kind action rev from (length (canon_block m)) (omega (arith, small_block m h))
 
     text_part : (prop : Option ℕ) (o : Option (List ℕ)) → IfSome o (λ t. length t ≤ 1048576) → Lines (node_head (Some p) kind (Some action) rev from prop None None None) (text_lines o) (node_head (Some p) kind (Some action) rev from prop (len_of_text o) (sum_of_text o) None)
     text_part prop None h = none _
     text_part prop (Some t) h = text_lines_are p kind action rev from prop t (omega arith)
 
-    content_part : (o : Option PropPart) (t : Option (List ℕ)) → IfSome o (λ part. IsProps (map_of part)) → IfSome t (λ t. length t ≤ 1048576) → Lines (node_head (Some p) kind (Some action) rev from (len_of_part o) (len_of_text t) (sum_of_text t) None) (content_line o t) (node_head (Some p) kind (Some action) rev from (len_of_part o) (len_of_text t) (sum_of_text t) (len_of_content o t))
-    content_part None None h k = none _
-    content_part None (Some t) h k = content_lines p kind action rev from None (Some (length t)) (Some (md5 t)) (0 + length t) (omega arith)
-    content_part (Some (Whole m)) None h k = content_lines p kind action rev from (Some (length (canon_block m))) None None (length (canon_block m) + 0) (omega (arith, small_block m h))
-    content_part (Some (Whole m)) (Some t) h k = content_lines p kind action rev from (Some (length (canon_block m))) (Some (length t)) (Some (md5 t)) (length (canon_block m) + length t) (omega (arith, small_block m h))
+    content_part : (o : Option PropPart) (t : Option (List ℕ)) → is_whole_part o ≡ true → IfSome o (λ part. IsProps (map_of part)) → IfSome t (λ t. length t ≤ 1048576) → Lines (node_head (Some p) kind (Some action) rev from (len_of_part o) (len_of_text t) (sum_of_text t) None) (content_line o t) (node_head (Some p) kind (Some action) rev from (len_of_part o) (len_of_text t) (sum_of_text t) (len_of_content o t))
+    content_part None None w h k = none _
+    content_part (Some (Delta d)) t w h k = cc
+    content_part None (Some t) w h k = content_lines p kind action rev from None (Some (length t)) (Some (md5 t)) (0 + length t) (omega arith)
+    content_part (Some (Whole m)) None w h k = content_lines p kind action rev from (Some (length (canon_block m))) None None (length (canon_block m) + 0) (omega (arith, small_block m h))
+    content_part (Some (Whole m)) (Some t) w h k = content_lines p kind action rev from (Some (length (canon_block m))) (Some (length t)) (Some (md5 t)) (length (canon_block m) + length t) (omega (arith, small_block m h))
 
 node_leads : (r : NodeRecord) → IsKept r → IsFormed r → Leads no_head (canon_node r) (content_of r.props r.text) (written_head r)
 node_leads r n f =
@@ -144,39 +145,43 @@ node_leads r n f =
     (ahead h-1 h-2 last _ _ _ (kind_lines p kind)
     (ahead h-2 h-3 last _ _ _ (action_lines p kind r.action)
     (ahead h-3 h-4 last _ _ _ (source_part p kind r.action r.source n.source)
-    (ahead h-4 h-5 last _ _ _ (block_part p kind r.action rev from r.props n.props)
+    (ahead h-4 h-5 last _ _ _ (block_part p kind r.action rev from r.props f.whole n.props)
     (ahead h-5 h-6 last _ _ _ (text_part p kind r.action rev from (len_of_part r.props) r.text f.text)
-    (ahead h-6 last last _ _ _ (content_part p kind r.action rev from r.props r.text n.props f.text) (led last (content_of r.props r.text))))))))
+    (ahead h-6 last last _ _ _ (content_part p kind r.action rev from r.props r.text f.whole n.props f.text) (led last (content_of r.props r.text))))))))
 
 eq_self : (n : ℕ) → (n == n) ≡ true
 eq_self n = grind (arith, nat_tests)
 
 -- the head's form, by what the node has
-form_of : (path : Path) (kind : Option NodeKind) (action : Action) (source : Option Source) (props : Option PropPart) (text : Option (List ℕ)) → ((is_none source || is_making (Some action)) && not (is_deletion (Some action) && (is_some props || is_some text))) ≡ true → fits_form Inside (node_head (Some path) kind (Some action) (rev_of source) (from_of source) (len_of_part props) (len_of_text text) (sum_of_text text) (len_of_content props text)) ≡ true
-form_of path kind action None None None e = e
-form_of path kind action None None (Some t) e = e
-form_of path kind action None (Some (Whole m)) None e = e
-form_of path kind action None (Some (Whole m)) (Some t) e = e
-form_of path kind action (Some s) None None e = e
-form_of path kind action (Some s) None (Some t) e = e
-form_of path kind action (Some s) (Some (Whole m)) None e = e
-form_of path kind action (Some s) (Some (Whole m)) (Some t) e = e
+form_of : (v : ℕ) (path : Path) (kind : Option NodeKind) (action : Action) (source : Option Source) (props : Option PropPart) (text : Option (List ℕ)) → is_whole_part props ≡ true → ((is_none source || is_making (Some action)) && not (is_deletion (Some action) && (is_some props || is_some text))) ≡ true → fits_form v Inside (node_head (Some path) kind (Some action) (rev_of source) (from_of source) (len_of_part props) (len_of_text text) (sum_of_text text) (len_of_content props text)) ≡ true
+form_of v path kind action None None None w e = e
+form_of v path kind action None None (Some t) w e = e
+form_of v path kind action None (Some (Whole m)) None w e = e
+form_of v path kind action None (Some (Whole m)) (Some t) w e = e
+form_of v path kind action (Some s) None None w e = e
+form_of v path kind action (Some s) None (Some t) w e = e
+form_of v path kind action (Some s) (Some (Whole m)) None w e = e
+form_of v path kind action (Some s) (Some (Whole m)) (Some t) w e = e
+form_of v path kind action source (Some (Delta d)) text w e = cc
 
-agree_of : (r : NodeRecord) (props : Option PropPart) (text : Option (List ℕ)) → lengths_agree (node_head (Some r.path) (told_kind r.action r.kind) (Some r.action) (rev_of r.source) (from_of r.source) (len_of_part props) (len_of_text text) (sum_of_text text) (len_of_content props text)) ≡ true
-agree_of r None None = refl
-agree_of r None (Some t) = eq_self (0 + length t)
-agree_of r (Some (Whole m)) None = eq_self (length (canon_block m) + 0)
-agree_of r (Some (Whole m)) (Some t) = eq_self (length (canon_block m) + length t)
+agree_of : (r : NodeRecord) (props : Option PropPart) (text : Option (List ℕ)) → is_whole_part props ≡ true → lengths_agree (node_head (Some r.path) (told_kind r.action r.kind) (Some r.action) (rev_of r.source) (from_of r.source) (len_of_part props) (len_of_text text) (sum_of_text text) (len_of_content props text)) ≡ true
+agree_of r None None w = refl
+agree_of r None (Some t) w = eq_self (0 + length t)
+agree_of r (Some (Whole m)) None w = eq_self (length (canon_block m) + 0)
+agree_of r (Some (Whole m)) (Some t) w = eq_self (length (canon_block m) + length t)
+agree_of r (Some (Delta d)) text w = cc
 
-fit_of : (r : NodeRecord) (props : Option PropPart) (text : Option (List ℕ)) → IfSome props (λ part. IsProps (map_of part)) → IfSome text (λ t. length t ≤ 1048576) → lengths_fit (node_head (Some r.path) (told_kind r.action r.kind) (Some r.action) (rev_of r.source) (from_of r.source) (len_of_part props) (len_of_text text) (sum_of_text text) (len_of_content props text)) ≡ true
-fit_of r None None h k = refl
-fit_of r None (Some t) h k = le_true (length t) 1048576 k
-fit_of r (Some (Whole m)) None h k = rw (le_true (length (canon_block m)) 33554432 (small_block m h)) refl
-fit_of r (Some (Whole m)) (Some t) h k = rw (le_true (length (canon_block m)) 33554432 (small_block m h), le_true (length t) 1048576 k) refl
+fit_of : (r : NodeRecord) (props : Option PropPart) (text : Option (List ℕ)) → is_whole_part props ≡ true → IfSome props (λ part. IsProps (map_of part)) → IfSome text (λ t. length t ≤ 1048576) → lengths_fit (node_head (Some r.path) (told_kind r.action r.kind) (Some r.action) (rev_of r.source) (from_of r.source) (len_of_part props) (len_of_text text) (sum_of_text text) (len_of_content props text)) ≡ true
+fit_of r None None w h k = refl
+fit_of r None (Some t) w h k = le_true (length t) 1048576 k
+fit_of r (Some (Whole m)) None w h k = rw (le_true (length (canon_block m)) 33554432 (small_block m h)) refl
+fit_of r (Some (Whole m)) (Some t) w h k = rw (le_true (length (canon_block m)) 33554432 (small_block m h), le_true (length t) 1048576 k) refl
+fit_of r (Some (Delta d)) text w h k = cc
 
-has_block : (props : Option PropPart) → IfSome props (λ part. IsProps (map_of part)) → HasBlock (len_of_part props) (map_of_part props) (block_of props)
-has_block None h = (refl, refl)
-has_block (Some (Whole m)) h = (refl, block_is m h)
+has_block : (props : Option PropPart) → is_whole_part props ≡ true → IfSome props (λ part. IsProps (map_of part)) → HasBlock false (len_of_part props) props (block_of props)
+has_block None w h = (refl, refl)
+has_block (Some (Whole m)) w h = (refl, block_is m h)
+has_block (Some (Delta d)) w h = cc
 
 has_text : (h : Head) (text : Option (List ℕ)) → h.text_len ≡ len_of_text text → h.sum ≡ sum_of_text text → HasText h text
 has_text h None e f = e
@@ -190,10 +195,6 @@ source_back : (s : Option Source) → source_of (from_of s) (rev_of s) ≡ s
 source_back None = refl
 source_back (Some s) = refl
 
-part_back : (p : Option PropPart) → part_of (map_of_part p) ≡ p
-part_back None = refl
-part_back (Some (Whole m)) = refl
-
 -- header lines that change the head are some
 some_lines : (h last : Head) (lines : List (List ℕ)) → HeadOf h lines last → (last ≡ h → ⊥) → 0 < length lines
 some_lines h last [] e differs = absurd (differs (sym e))
@@ -206,24 +207,24 @@ no_path_is r e = none_is (ap (λ (h : Head). h.path) e)
     none_is e = cc
 
 -- a node's bytes, up to the two LF behind it
-node_is : (r : NodeRecord) (n : IsKept r) (f : IsFormed r) → IsRecord Inside (lines_of (node_leads r n f).lines ++ 10 ∷ (block_of r.props ++ text_of r.text)) (read_node r)
-node_is r n f =
+node_is : (v : ℕ) (r : NodeRecord) (n : IsKept r) (f : IsFormed r) → IsRecord v Inside (lines_of (node_leads r n f).lines ++ 10 ∷ (block_of r.props ++ text_of r.text)) (read_node r)
+node_is v r n f =
     let l = node_leads r n f in
     let head = written_head r in
     record {
       lines = l.lines;
       head = head;
       body = block_of r.props ++ text_of r.text;
-      props = map_of_part r.props;
+      props = r.props;
       text = r.text;
       some = some_lines no_head head l.lines l.headers (no_path_is r);
       spelled = refl;
       headers = l.headers;
-      form = form_of r.path (told_kind r.action r.kind) r.action r.source r.props r.text f.form;
-      agree = agree_of r r.props r.text;
-      fit = fit_of r r.props r.text n.props f.text;
-      content = record { block = block_of r.props; whole = ap (λ x. block_of r.props ++ x) (bytes_are r.text); properties = has_block r.props n.props; words = has_text head r.text refl refl };
-      says = (refl, refl, refl, refl, refl, source_back r.source, part_back r.props, refl);
+      form = form_of v r.path (told_kind r.action r.kind) r.action r.source r.props r.text f.whole f.form;
+      agree = agree_of r r.props r.text f.whole;
+      fit = fit_of r r.props r.text f.whole n.props f.text;
+      content = record { block = block_of r.props; whole = ap (λ x. block_of r.props ++ x) (bytes_are r.text); properties = has_block r.props f.whole n.props; words = has_text head r.text refl refl };
+      says = (refl, refl, refl, refl, refl, source_back r.source, refl, refl);
     }
 
 node_bytes : (r : NodeRecord) (n : IsKept r) (f : IsFormed r) → canon_node r ≡ (lines_of (node_leads r n f).lines ++ 10 ∷ (block_of r.props ++ text_of r.text)) ++ 10 ∷ 10 ∷ []
@@ -233,25 +234,25 @@ node_bytes r n f = (node_leads r n f).spelled ∙ assoc (lines_of (node_leads r 
     assoc a b c = simp append_assoc refl
 
 -- a node
-pub node_written : (r : NodeRecord) → IsKept r → IsFormed r → IsRecords Inside (canon_node r) (read_node r ∷ [])
-node_written r n f =
-    subst (λ bytes. IsRecords Inside bytes (read_node r ∷ [])) (sym (node_bytes r n f))
-    (one_record Inside (lines_of (node_leads r n f).lines ++ 10 ∷ (block_of r.props ++ text_of r.text)) (10 ∷ 10 ∷ []) (read_node r) (node_is r n f) (refl, (refl, tt)))
+pub node_written : (v : ℕ) (r : NodeRecord) → IsKept r → IsFormed r → IsRecords v Inside (canon_node r) (read_node r ∷ [])
+node_written v r n f =
+    subst (λ bytes. IsRecords v Inside bytes (read_node r ∷ [])) (sym (node_bytes r n f))
+    (one_record v Inside (lines_of (node_leads r n f).lines ++ 10 ∷ (block_of r.props ++ text_of r.text)) (10 ∷ 10 ∷ []) (read_node r) (node_is v r n f) (refl, (refl, tt)))
 
-pub nodes_written : (rs : List NodeRecord) → AreKept rs → AreFormed rs → IsRecords Inside (flat_map canon_node rs) (map read_node rs)
-nodes_written [] n f = tt
-nodes_written (r ∷ rs) n f = records-append Inside (canon_node r) (flat_map canon_node rs) (read_node r ∷ []) (map read_node rs) (node_written r n.0 f.0) (nodes_written rs n.1 f.1)
+pub nodes_written : (v : ℕ) (rs : List NodeRecord) → AreKept rs → AreFormed rs → IsRecords v Inside (flat_map canon_node rs) (map read_node rs)
+nodes_written v [] n f = tt
+nodes_written v (r ∷ rs) n f = records-append v Inside (canon_node r) (flat_map canon_node rs) (read_node r ∷ []) (map read_node rs) (node_written v r n.0 f.0) (nodes_written v rs n.1 f.1)
 
 -- ---- a revision
 
-entry_is : (i : Stage) (n : ℕ) (m : PropMap) → n ≤ 65535 → IsProps m → IsRecord i (lines_of (entry_lines n (length (canon_block m))) ++ 10 ∷ canon_block m) (Revision n m)
-entry_is i n m h p =
+entry_is : (v : ℕ) (i : Stage) (n : ℕ) (m : PropMap) → n ≤ 65535 → IsProps m → IsRecord v i (lines_of (entry_lines n (length (canon_block m))) ++ 10 ∷ canon_block m) (Revision n m)
+entry_is v i n m h p =
     let len = length (canon_block m) in
     record {
       lines = entry_lines n len;
       head = whole n len;
       body = canon_block m;
-      props = Some m;
+      props = Some (Whole m);
       text = None;
       some = omega arith;
       spelled = refl;
@@ -269,18 +270,18 @@ entry_is i n m h p =
 entry_bytes : (a d b e c block : List ℕ) → (a ++ (d ++ 10 ∷ [])) ++ ((b ++ (e ++ 10 ∷ [])) ++ ((c ++ (e ++ 10 ∷ [])) ++ (10 ∷ [] ++ (block ++ 10 ∷ [])))) ≡ (((a ++ d) ++ 10 ∷ ((b ++ e) ++ 10 ∷ ((c ++ e) ++ 10 ∷ []))) ++ 10 ∷ block) ++ 10 ∷ []
 entry_bytes a d b e c block = simp append_assoc refl
 
-pub entry_written : (i : Stage) (n : ℕ) (m : PropMap) → n ≤ 65535 → IsProps m → IsRecords i (canon_entry n m) (Revision n m ∷ [])
-entry_written i n m h p =
+pub entry_written : (v : ℕ) (i : Stage) (n : ℕ) (m : PropMap) → n ≤ 65535 → IsProps m → IsRecords v i (canon_entry n m) (Revision n m ∷ [])
+entry_written v i n m h p =
     let len = length (canon_block m) in
-    subst (λ bytes. IsRecords i bytes (Revision n m ∷ [])) (sym (entry_bytes (codes "Revision-number: ") (printed n) (codes "Prop-content-length: ") (printed len) (codes "Content-length: ") (canon_block m)))
-    (one_record i (lines_of (entry_lines n len) ++ 10 ∷ canon_block m) (10 ∷ []) (Revision n m) (entry_is i n m h p) (refl, tt))
+    subst (λ bytes. IsRecords v i bytes (Revision n m ∷ [])) (sym (entry_bytes (codes "Revision-number: ") (printed n) (codes "Prop-content-length: ") (printed len) (codes "Content-length: ") (canon_block m)))
+    (one_record v i (lines_of (entry_lines n len) ++ 10 ∷ canon_block m) (10 ∷ []) (Revision n m) (entry_is v i n m h p) (refl, tt))
 
-pub revision_written : (i : Stage) (r : RevRecord) → IsRevision r → IsRecords i (canon_revision r) (read_revision r)
-revision_written i r v = records-append i (canon_entry r.number r.props) (flat_map canon_node r.nodes.items) (Revision r.number r.props ∷ []) (map read_node r.nodes.items) (entry_written i r.number r.props v.number v.props) (nodes_written r.nodes.items v.kept v.formed)
+pub revision_written : (version : ℕ) (i : Stage) (r : RevRecord) → IsRevision r → IsRecords version i (canon_revision r) (read_revision r)
+revision_written version i r v = records-append version i (canon_entry r.number r.props) (flat_map canon_node r.nodes.items) (Revision r.number r.props ∷ []) (map read_node r.nodes.items) (entry_written version i r.number r.props v.number v.props) (nodes_written version r.nodes.items v.kept v.formed)
 
-pub revisions_written : (i : Stage) (rs : List RevRecord) → AreRevisions rs → IsRecords i (flat_map canon_revision rs) (flat_map read_revision rs)
-revisions_written i [] v = tt
-revisions_written i (r ∷ rs) v = records-append i (canon_revision r) (flat_map canon_revision rs) (read_revision r) (flat_map read_revision rs) (revision_written i r v.0) (revisions_written _ rs v.1)
+pub revisions_written : (version : ℕ) (i : Stage) (rs : List RevRecord) → AreRevisions rs → IsRecords version i (flat_map canon_revision rs) (flat_map read_revision rs)
+revisions_written version i [] v = tt
+revisions_written version i (r ∷ rs) v = records-append version i (canon_revision r) (flat_map canon_revision rs) (read_revision r) (flat_map read_revision rs) (revision_written version i r v.0) (revisions_written version _ rs v.1)
 
 -- ---- an identity
 
@@ -329,8 +330,8 @@ identity_headers id n =
       refl,
     )
 
-identity_is : (id : List ℕ) (n : ReadsBack id) → IsRecord First (lines_of (identity_line id ∷ []) ++ 10 ∷ []) (Identity id)
-identity_is id n =
+identity_is : (v : ℕ) (id : List ℕ) (n : ReadsBack id) → IsRecord v First (lines_of (identity_line id ∷ []) ++ 10 ∷ []) (Identity id)
+identity_is v id n =
     record {
       lines = identity_line id ∷ [];
       head = identity_head id;
@@ -350,27 +351,28 @@ identity_is id n =
 identity_bytes : (a b : List ℕ) → (((a ++ b) ++ 10 ∷ []) ++ 10 ∷ []) ++ [] ≡ a ++ (b ++ 10 ∷ 10 ∷ [])
 identity_bytes a b = simp (append_assoc, append-nil) refl
 
-pub identity_written : (id : Option (List ℕ)) → IfSome id ReadsBack → IsRecords First (canon_identity id) (read_identity id)
-identity_written None n = tt
-identity_written (Some id) n =
-    subst (λ bytes. IsRecords First bytes (Identity id ∷ [])) (identity_bytes (codes "UUID: ") (hyphenated_text lower id))
-    (one_record First (lines_of (identity_line id ∷ []) ++ 10 ∷ []) [] (Identity id) (identity_is id n) tt)
+pub identity_written : (v : ℕ) (id : Option (List ℕ)) → IfSome id ReadsBack → IsRecords v First (canon_identity id) (read_identity id)
+identity_written v None n = tt
+identity_written v (Some id) n =
+    subst (λ bytes. IsRecords v First bytes (Identity id ∷ [])) (identity_bytes (codes "UUID: ") (hyphenated_text lower id))
+    (one_record v First (lines_of (identity_line id ∷ []) ++ 10 ∷ []) [] (Identity id) (identity_is v id n) tt)
 
 -- ---- a dump
 
 head_bytes : (a b c : List ℕ) → ((a ++ 10 ∷ 10 ∷ []) ++ b) ++ c ≡ a ++ 10 ∷ 10 ∷ (b ++ c)
 head_bytes a b c = simp append_assoc refl
 
-pub head_written : (id : Option (List ℕ)) → IfSome id ReadsBack → Dump (canon_head id) (read_identity id)
-head_written id n = (canon_identity id, append_assoc (codes "SVN-fs-dump-format-version: 2") (10 ∷ 10 ∷ []) (canon_identity id), identity_written id n)
+pub head_written : (id : Option (List ℕ)) → IfSome id ReadsBack → DumpOf 2 (canon_head id) (read_identity id)
+head_written id n = (version_line, canon_identity id, inl (refl, refl), append_assoc version_line (10 ∷ 10 ∷ []) (canon_identity id), identity_written 2 id n)
 
-pub dump_written : (id : Option (List ℕ)) (rs : List RevRecord) → IfSome id ReadsBack → AreRevisions rs → Dump (canon_dump id rs) (read_dump id rs)
+pub dump_written : (id : Option (List ℕ)) (rs : List RevRecord) → IfSome id ReadsBack → AreRevisions rs → DumpOf 2 (canon_dump id rs) (read_dump id rs)
 dump_written id rs n v =
-    (canon_identity id ++ flat_map canon_revision rs, head_bytes (codes "SVN-fs-dump-format-version: 2") (canon_identity id) (flat_map canon_revision rs), records-append First (canon_identity id) (flat_map canon_revision rs) (read_identity id) (flat_map read_revision rs) (identity_written id n) (revisions_written (stage_behind First (read_identity id)) rs v))
+    (version_line, canon_identity id ++ flat_map canon_revision rs, inl (refl, refl), head_bytes version_line (canon_identity id) (flat_map canon_revision rs), records-append 2 First (canon_identity id) (flat_map canon_revision rs) (read_identity id) (flat_map read_revision rs) (identity_written 2 id n) (revisions_written 2 (stage_behind First (read_identity id)) rs v))
 
 pub dump_goes_on : (bytes more : List ℕ) (rs others : List DumpRecord) → Dump bytes rs → AreRecords more others → Dump (bytes ++ more) (rs ++ others)
-dump_goes_on bytes more rs others (rest, e, records) next =
-    (rest ++ more, ap (λ x. x ++ more) e ∙ append_assoc (codes "SVN-fs-dump-format-version: 2") (10 ∷ 10 ∷ rest) more, records-append First rest more rs others records (next (stage_behind First rs)))
+dump_goes_on bytes more rs others (version, d) next =
+    let rest = d.1 in
+    (version, (d.0, rest ++ more, d.2, ap (λ x. x ++ more) d.3 ∙ append_assoc d.0 (10 ∷ 10 ∷ rest) more, records-append version First rest more rs others d.4 (next version (stage_behind First rs))))
 
 -- ---- read again
 
@@ -381,13 +383,13 @@ behind_nodes (r ∷ rs) = behind_nodes rs
 pub revision_again : (rs : List DumpRecord) (v : ℕ) (i : Stage) (r : RevRecord) (more : List ℕ) → IsRevision r → reading (Reads rs (begin v at.Between i)) (canon_revision r ++ more) ≡ reading (Reads (rs ++ read_revision r) (begin v at.Between Inside)) more
 revision_again rs v i r more w =
     reading-append (Reads rs (begin v at.Between i)) (canon_revision r) more
-    ∙ ap (λ s. reading s more) (records_read rs v i (canon_revision r) (read_revision r) (revision_written i r w))
+    ∙ ap (λ s. reading s more) (records_read rs v i (canon_revision r) (read_revision r) (revision_written v i r w))
     ∙ ap (λ x. reading (Reads (rs ++ read_revision r) (begin v at.Between x)) more) (behind_nodes r.nodes.items)
 
 pub entry_again : (rs : List DumpRecord) (v : ℕ) (i : Stage) (n : ℕ) (m : PropMap) (more : List ℕ) → n ≤ 65535 → IsProps m → reading (Reads rs (begin v at.Between i)) (canon_entry n m ++ more) ≡ reading (Reads (rs ++ Revision n m ∷ []) (begin v at.Between Inside)) more
 entry_again rs v i n m more h p =
     reading-append (Reads rs (begin v at.Between i)) (canon_entry n m) more
-    ∙ ap (λ s. reading s more) (records_read rs v i (canon_entry n m) (Revision n m ∷ []) (entry_written i n m h p))
+    ∙ ap (λ s. reading s more) (records_read rs v i (canon_entry n m) (Revision n m ∷ []) (entry_written v i n m h p))
 
 kept_last : (rs : List NodeRecord) (r : NodeRecord) → AreKept rs → IsKept r → AreKept (rs ++ r ∷ [])
 kept_last [] r k n = (n, tt)

@@ -15,7 +15,7 @@ use Rattle.node_base.specs.declared.node.NodeKind.{NodeKind}
 use Rattle.node_base.specs.declared.node.NodeKind.TheVariants.{File, Dir}
 use Rattle.node_base.specs.declared.node.Source.{Source}
 use Rattle.dump_text.specs.declared.record.PropPart.{PropPart}
-use Rattle.dump_text.specs.declared.record.PropPart.TheVariants.{Whole}
+use Rattle.dump_text.specs.declared.record.PropPart.TheVariants.{Whole, Delta}
 use Rattle.dump_text.specs.declared.record.NodeRecord.{NodeRecord}
 use Rattle.dump_text.specs.declared.record.RevRecord.{RevRecord}
 
@@ -63,13 +63,16 @@ abbrev pub source_lines : Option Source → List ℕ
 source_lines None = []
 source_lines (Some s) = header_line (codes "Node-copyfrom-rev: ") (printed s.revision) ++ header_line (codes "Node-copyfrom-path: ") (path_text s.path)
 
+-- only whole lists are written
 abbrev pub block_of : Option PropPart → List ℕ
 block_of None = []
 block_of (Some (Whole props)) = canon_block props
+block_of (Some (Delta d)) = []
 
 abbrev pub block_line : Option PropPart → List ℕ
 block_line None = []
 block_line (Some (Whole props)) = header_line (codes "Prop-content-length: ") (printed (length (canon_block props)))
+block_line (Some (Delta d)) = []
 
 abbrev pub text_of : Option (List ℕ) → List ℕ
 text_of None = []

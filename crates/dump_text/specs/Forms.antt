@@ -1,5 +1,5 @@
 -- What the headers of a record come to at its empty line.
-use Rattle.std.specs.Prelude.{ℕ, ◌+◌, ◌==◌, ◌&&◌, ◌||◌, not, nat_le, Bool, true, false, List, Option, Some, None, is_some, is_none, unwrap_or, if◌then◌else◌}
+use Rattle.std.specs.Prelude.{ℕ, ◌+◌, ◌==◌, ◌&&◌, ◌||◌, not, nat_le, Bool, true, false, List, Option, Some, None, is_some, is_none, unwrap_or, option_map, if◌then◌else◌}
 use Rattle.std.specs.FinMap as map
 use Rattle.node_base.specs.Path.{Path}
 use Rattle.node_base.specs.Props.{PropMap}
@@ -10,7 +10,7 @@ use Rattle.dump_text.specs.declared.head.Head.{Head}
 use Rattle.dump_text.specs.declared.form.Stage.{Stage}
 use Rattle.dump_text.specs.declared.form.Stage.TheVariants.{First, Outside, Inside}
 use Rattle.dump_text.specs.declared.record.PropPart.{PropPart}
-use Rattle.dump_text.specs.declared.record.PropPart.TheVariants.{Whole}
+use Rattle.dump_text.specs.declared.record.PropPart.TheVariants.{Whole, Delta}
 use Rattle.dump_text.specs.declared.record.DumpRecord.{DumpRecord}
 use Rattle.dump_text.specs.declared.record.DumpRecord.TheVariants.{Identity, Revision, Node}
 
@@ -47,14 +47,18 @@ abbrev pub is_inside : Stage → Bool
 is_inside Inside = true
 is_inside stage = false
 
--- the properties aren't announced as a delta, which format 2 doesn't have
+-- the properties are announced as a delta
 abbrev pub is_delta : Head → Bool
 is_delta h = unwrap_or h.prop_delta false
 
--- the headers are those of a record that may stand here
-abbrev pub fits_form : Stage → Head → Bool
-fits_form stage h =
-    if is_delta h then false
+-- they may be in format 3, and only of a node
+abbrev pub may_be_delta : ℕ → Head → Bool
+may_be_delta version h = version == 3 && is_none h.identity && is_none h.number
+
+-- the headers are those of a record that may stand here, in the format of that number
+abbrev pub fits_form : ℕ → Stage → Head → Bool
+fits_form version stage h =
+    if is_delta h && not (may_be_delta version h) then false
     else if is_some h.identity then is_first stage && is_identity_head h
     else if is_some h.number then has_no_node h
     else is_inside stage && is_node_head h
@@ -75,30 +79,32 @@ source_of None n = None
 source_of (Some path) None = None
 source_of (Some path) (Some n) = Some (record { path = path; revision = n })
 
-abbrev pub part_of : Option PropMap → Option PropPart
-part_of None = None
-part_of (Some props) = Some (Whole props)
+-- what a block says, of a delta or whole
+abbrev pub part_of : Bool → PropMap → PropMap → PropPart
+part_of false props removed = Whole props
+part_of true props removed = Delta (record { sets = props; removed = removed })
 
--- a revision without a block has no properties
-abbrev pub props_or_none : Option PropMap → PropMap
-props_or_none None = map.empty
-props_or_none (Some props) = props
+-- the whole list that a revision gives: without a block it has no properties, and a delta gives none
+abbrev pub whole_of : Option PropPart → Option PropMap
+whole_of None = Some map.empty
+whole_of (Some (Whole props)) = Some props
+whole_of (Some (Delta d)) = None
 
-abbrev pub node_of : Head → Option PropMap → Option (List ℕ) → Option Path → Option Action → Option DumpRecord
+abbrev pub node_of : Head → Option PropPart → Option (List ℕ) → Option Path → Option Action → Option DumpRecord
 node_of h props text None action = None
 node_of h props text (Some path) None = None
-node_of h props text (Some path) (Some action) = Some (Node (record { path = path; kind = h.kind; action = action; source = source_of h.source_path h.source_revision; props = part_of props; text = text }))
+node_of h props text (Some path) (Some action) = Some (Node (record { path = path; kind = h.kind; action = action; source = source_of h.source_path h.source_revision; props = props; text = text }))
 
-abbrev pub numbered_of : Head → Option PropMap → Option (List ℕ) → Option ℕ → Option DumpRecord
+abbrev pub numbered_of : Head → Option PropPart → Option (List ℕ) → Option ℕ → Option DumpRecord
 numbered_of h props text None = node_of h props text h.path h.action
-numbered_of h props text (Some n) = Some (Revision n (props_or_none props))
+numbered_of h props text (Some n) = option_map (Revision n) (whole_of props)
 
-abbrev pub named_of : Head → Option PropMap → Option (List ℕ) → Option (List ℕ) → Option DumpRecord
+abbrev pub named_of : Head → Option PropPart → Option (List ℕ) → Option (List ℕ) → Option DumpRecord
 named_of h props text None = numbered_of h props text h.number
 named_of h props text (Some id) = Some (Identity id)
 
 -- the record of a head and its content, where it is one
-abbrev pub record_of : Head → Option PropMap → Option (List ℕ) → Option DumpRecord
+abbrev pub record_of : Head → Option PropPart → Option (List ℕ) → Option DumpRecord
 record_of h props text = named_of h props text h.identity
 
 -- which records may stand behind a record

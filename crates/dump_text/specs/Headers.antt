@@ -32,6 +32,10 @@ abbrev pub split_line : List ℕ → Option (List ℕ × List ℕ)
 split_line [] = None
 split_line (b ∷ bs) = split_after b bs
 
+-- the formats that are read, by their first lines
+abbrev pub version_in : List ℕ → Option ℕ
+version_in line = if same line (codes "SVN-fs-dump-format-version: 2") then Some 2 else if same line (codes "SVN-fs-dump-format-version: 3") then Some 3 else None
+
 -- the headers that are read; all others are passed over
 abbrev pub known_name : List ℕ → Option HeaderName
 known_name name =

@@ -12,7 +12,7 @@ use Rattle.dump_text.specs.declared.fault.DumpFault.{DumpFault}
 use Rattle.dump_text.specs.declared.state.Place.TheVariants as at
 use Rattle.dump_text.specs.Streams.{Stream, Reads, Refuses, reading, dump, begin, is_between}
 use Rattle.dump_text.specs.declared.state.ReadState.{ReadState}
-use Rattle.dump_text.specs.Grammar.{Dump, stage_behind}
+use Rattle.dump_text.specs.Grammar.{DumpOf, Dump, stage_behind}
 
 -- it doesn't matter how the bytes are cut
 abbrev pub PiecesJoin : Type 0
@@ -24,11 +24,11 @@ RefusalsStay = (bytes more : List ℕ) (rs : List DumpRecord) (f : DumpFault) �
 
 -- a dump of the grammar is read as its records, and the reader then stands between two records
 abbrev pub DumpsAreRead : Type 0
-DumpsAreRead = (bytes : List ℕ) (rs : List DumpRecord) → Dump bytes rs → dump bytes ≡ Reads rs (begin 2 at.Between (stage_behind First rs))
+DumpsAreRead = (version : ℕ) (bytes : List ℕ) (rs : List DumpRecord) → DumpOf version bytes rs → dump bytes ≡ Reads rs (begin version at.Between (stage_behind First rs))
 
--- what is read to an end between two records is a dump of the grammar
+-- what is read to an end between two records is a dump of the grammar, of the format that its first line names
 abbrev pub ReadsAreDumps : Type 0
-ReadsAreDumps = (bytes : List ℕ) (rs : List DumpRecord) (last : ReadState) → dump bytes ≡ Reads rs last → is_between last ≡ true → Dump bytes rs
+ReadsAreDumps = (bytes : List ℕ) (rs : List DumpRecord) (last : ReadState) → dump bytes ≡ Reads rs last → is_between last ≡ true → DumpOf last.version bytes rs
 
 -- the byte that is refused: what stands before it was read
 pub record FirstFault (bytes : List ℕ) (rs : List DumpRecord) (f : DumpFault) : Type 0 where

@@ -5,5 +5,6 @@ pub mod Forms
 pub mod Streams
 pub mod Grammar
 pub mod Laws
+pub mod Refusals
 pub mod Canon
 pub mod Written

@@ -1,21 +1,21 @@
 -- The stream of records, byte by byte.
-use Rattle.std.specs.Prelude.{◌≡◌, ℕ, ◌+◌, ◌==◌, not, nat_lt, Bool, true, false, List, [], ◌∷◌, ◌++◌, length, drop, Option, Some, None, Result, Ok, Err, if◌then◌else◌, codes}
+use Rattle.std.specs.Prelude.{◌≡◌, ℕ, ◌+◌, ◌==◌, not, nat_lt, Bool, true, false, List, [], ◌∷◌, ◌++◌, length, drop, Option, Some, None, Result, Ok, Err, if◌then◌else◌}
 use Rattle.md5.specs.Md5.{md5}
-use Rattle.node_base.specs.Props.{PropMap}
-use Rattle.node_base.specs.Blocks.{Step, Next, Whole, Refused, block_step, new_block, Run, More, Done, Fault}
+use Rattle.node_base.specs.Blocks.{Step, Next, Whole, Refused, block_step, begun, new_block, Run, More, Done, Fault}
 use Rattle.node_base.specs.declared.prop_fault.PropFault.{PropFault}
 use Rattle.node_base.specs.declared.prop_fault.PropFault.TheVariants as prop_fault
 use Rattle.node_base.specs.declared.text_fault.TextFault.{TextFault}
 use Rattle.node_base.specs.declared.text_fault.TextFault.TheVariants as text_fault
-use Rattle.dump_text.specs.Headers.{same}
+use Rattle.dump_text.specs.Headers.{same, version_in}
 use Rattle.dump_text.specs.Heads.{line_says, no_head}
-use Rattle.dump_text.specs.Forms.{fits_form, lengths_agree, lengths_fit, record_of, stage_after}
+use Rattle.dump_text.specs.Forms.{fits_form, lengths_agree, lengths_fit, is_delta, part_of, record_of, stage_after}
 use Rattle.dump_text.specs.declared.fault.DumpFault.{DumpFault}
 use Rattle.dump_text.specs.declared.fault.DumpFault.TheVariants.{BadVersion, BadHeader, BadLength, BadProps, BadSum, TooLong, Failed, OutOfMemory}
 use Rattle.dump_text.specs.declared.head.Head.{Head}
 use Rattle.dump_text.specs.declared.form.Stage.{Stage}
 use Rattle.dump_text.specs.declared.form.Stage.TheVariants.{First}
 use Rattle.dump_text.specs.declared.record.DumpRecord.{DumpRecord}
+use Rattle.dump_text.specs.declared.record.PropPart.{PropPart}
 use Rattle.dump_text.specs.declared.state.Place.{Place}
 use Rattle.dump_text.specs.declared.state.Place.TheVariants as at
 use Rattle.dump_text.specs.declared.state.ReadState.{ReadState}
@@ -38,7 +38,7 @@ abbrev pub given : List DumpRecord → ReadState → Option DumpRecord → Strea
 given rs r None = Refuses rs BadHeader
 given rs r (Some rec) = Reads (rs ++ rec ∷ []) (begin r.version at.Between (stage_after r.stage rec))
 
-abbrev pub give : List DumpRecord → ReadState → Option PropMap → Option (List ℕ) → Stream
+abbrev pub give : List DumpRecord → ReadState → Option PropPart → Option (List ℕ) → Stream
 give rs r props text = given rs r (record_of r.head props text)
 
 abbrev pub sum_holds : Option (List ℕ) → List ℕ → Bool
@@ -46,15 +46,15 @@ sum_holds None text = true
 sum_holds (Some sum) text = same (md5 text) sum
 
 -- a text is within its limit, as one that was announced is
-abbrev pub made : List DumpRecord → ReadState → Option PropMap → List ℕ → Stream
+abbrev pub made : List DumpRecord → ReadState → Option PropPart → List ℕ → Stream
 made rs r props text = if nat_lt 1048576 (length text) then Refuses rs TooLong else give rs r props (Some text)
 
 -- a text is whole
-abbrev pub text_is : List DumpRecord → ReadState → Option PropMap → List ℕ → Stream
+abbrev pub text_is : List DumpRecord → ReadState → Option PropPart → List ℕ → Stream
 text_is rs r props text = if sum_holds r.head.sum text then made rs r props text else Refuses rs BadSum
 
 -- the block, if any, is whole
-abbrev pub after_block : List DumpRecord → ReadState → Option PropMap → Stream
+abbrev pub after_block : List DumpRecord → ReadState → Option PropPart → Stream
 after_block rs r props =
     elim r.head.text_len [
       | None ↦ give rs r props None
@@ -66,19 +66,21 @@ abbrev pub content : List DumpRecord → ReadState → Stream
 content rs r =
     elim r.head.prop_len [
       | None ↦ after_block rs r None
-      | Some n ↦ if n == 0 then Refuses rs BadProps else Reads rs (record r { place = at.Block; block = new_block n; held = [] })
+      | Some n ↦ if n == 0 then Refuses rs BadProps else Reads rs (record r { place = at.Block; block = begun (is_delta r.head) n; held = [] })
     ]
 
 -- the empty line: the form, then the lengths' sum, then their limits
 abbrev pub judged : List DumpRecord → ReadState → Stream
 judged rs r =
-    if not (fits_form r.stage r.head) then Refuses rs BadHeader
+    if not (fits_form r.version r.stage r.head) then Refuses rs BadHeader
     else if not (lengths_agree r.head) then Refuses rs BadLength
     else if not (lengths_fit r.head) then Refuses rs TooLong
     else content rs r
 
-abbrev pub version_line : List ℕ
-version_line = codes "SVN-fs-dump-format-version: 2"
+-- the first line
+abbrev pub versioned : List DumpRecord → ReadState → Option ℕ → Stream
+versioned rs r None = Refuses rs BadVersion
+versioned rs r (Some version) = Reads rs (record r { version = version; place = at.Blank })
 
 -- a header line
 abbrev pub said : List DumpRecord → ReadState → Result Head DumpFault → Stream
@@ -87,7 +89,7 @@ said rs r (Err f) = Refuses rs f
 
 -- a line, without its LF
 abbrev pub line_is : Place → List DumpRecord → ReadState → List ℕ → Stream
-line_is at.Version rs r line = if same line version_line then Reads rs (record r { version = 2; place = at.Blank }) else Refuses rs BadVersion
+line_is at.Version rs r line = versioned rs r (version_in line)
 line_is at.Blank rs r [] = Reads rs (record r { place = at.Between })
 line_is at.Blank rs r (b ∷ bs) = Refuses rs BadHeader
 line_is at.Header rs r [] = judged rs r
@@ -113,7 +115,7 @@ of_text_fault text_fault.OutOfMemory = OutOfMemory
 -- a byte of a block
 abbrev pub block_said : List DumpRecord → ReadState → Step → Stream
 block_said rs r (Next block) = Reads rs (record r { block = block })
-block_said rs r (Whole props) = after_block rs (record r { block = new_block 0 }) (Some props)
+block_said rs r (Whole props removed) = after_block rs (record r { block = new_block 0 }) (Some (part_of (is_delta r.head) props removed))
 block_said rs r (Refused f) = Refuses rs (of_prop_fault f)
 
 -- a byte more, at a line, in a block, in a text
@@ -168,7 +170,7 @@ is_between r = is_between_at r.place r.held
 -- what a run through a block comes to
 abbrev pub of_block : List DumpRecord → ReadState → Run → Stream
 of_block rs r (More block) = Reads rs (record r { block = block })
-of_block rs r (Done props rest) = reading (after_block rs (record r { block = new_block 0 }) (Some props)) rest
+of_block rs r (Done props removed rest) = reading (after_block rs (record r { block = new_block 0 }) (Some (part_of (is_delta r.head) props removed))) rest
 of_block rs r (Fault f) = Refuses rs (of_prop_fault f)
 
 -- what calls did, up to some bytes that are left, is this

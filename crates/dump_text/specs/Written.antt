@@ -1,6 +1,6 @@
 -- Which records may be written, and what they are read as.
-use Rattle.std.specs.Prelude.{◌≡◌, ℕ, ◌≤◌, ◌<◌, ◌&&◌, ◌||◌, not, Bool, true, List, [], ◌∷◌, ◌++◌, All, length, map, Option, Some, None, is_some, is_none, IfSome}
-use Rattle.std.specs.List.{flat_map}
+use Rattle.std.specs.Prelude.{◌≡◌, ℕ, ◌≤◌, ◌<◌, ◌&&◌, ◌||◌, not, Bool, true, false, List, [], ◌∷◌, ◌++◌, All, length, map, Option, Some, None, is_some, is_none, IfSome}
+use Rattle.std.specs.List.{flat_map, list_all}
 use Rattle.node_base.specs.Props.{PropMap, IsProps}
 use Rattle.node_base.specs.PathText.{is_path}
 use Rattle.node_base.specs.declared.node.Source.{Source}
@@ -9,7 +9,7 @@ use Rattle.dump_text.specs.Canon.{told_kind, canon_head, canon_revision}
 use Rattle.dump_text.specs.Grammar.{IsRecords}
 use Rattle.dump_text.specs.declared.form.Stage.{Stage}
 use Rattle.dump_text.specs.declared.record.PropPart.{PropPart}
-use Rattle.dump_text.specs.declared.record.PropPart.TheVariants.{Whole}
+use Rattle.dump_text.specs.declared.record.PropPart.TheVariants.{Whole, Delta}
 use Rattle.dump_text.specs.declared.record.NodeRecord.{NodeRecord}
 use Rattle.dump_text.specs.declared.record.RevRecord.{RevRecord}
 use Rattle.dump_text.specs.declared.record.DumpRecord.{DumpRecord}
@@ -21,10 +21,21 @@ has_node_form r = (is_none r.source || is_making (Some r.action)) && not (is_del
 
 abbrev pub map_of : PropPart → PropMap
 map_of (Whole props) = props
+map_of (Delta d) = d.sets
 
--- what the types don't say of a node: its form, and a text of a mebibyte at most
+-- what a record gives of properties is no delta
+abbrev pub is_whole_part : Option PropPart → Bool
+is_whole_part None = true
+is_whole_part (Some (Whole props)) = true
+is_whole_part (Some (Delta d)) = false
+
+abbrev pub are_whole : List NodeRecord → Bool
+are_whole = list_all (λ r. is_whole_part r.props)
+
+-- what the types don't say of a node: its form, properties that are whole, and a text of a mebibyte at most
 pub record IsFormed (r : NodeRecord) : Type 0 where
   pub form : has_node_form r ≡ true
+  pub whole : is_whole_part r.props ≡ true
   pub text : IfSome r.text (λ t. length t ≤ 1048576)
 
 abbrev pub IsKeptSource : Option Source → Type 0
@@ -82,6 +93,6 @@ canon_dump id revisions = canon_head id ++ flat_map canon_revision revisions
 abbrev pub read_dump : Option (List ℕ) → List RevRecord → List DumpRecord
 read_dump id revisions = read_identity id ++ flat_map read_revision revisions
 
--- bytes are records of the grammar, whatever stands before them
+-- bytes are records of the grammar in each format, whatever stands before them
 abbrev pub AreRecords : List ℕ → List DumpRecord → Type 0
-AreRecords bytes records = (stage : Stage) → IsRecords stage bytes records
+AreRecords bytes records = (version : ℕ) (stage : Stage) → IsRecords version stage bytes records

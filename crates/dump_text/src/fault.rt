@@ -7,10 +7,10 @@ ghost use Rattle.dump_text.specs.declared.fault.DumpFault.TheVariants.{OutOfMemo
 use std::alloc::{AllocError, AllocFailed};
 use thiserror::Error;
 
-/// Why bytes are no dump of format 2, each with the number by which the program names it.
+/// Why bytes are no dump of format 2 or 3, each with the number by which the program names it.
 #[derive(Clone, Copy, Debug, PartialEq, Eq, Error)]
 pub enum DumpFault {
-    /// The first line isn't the version line (1).
+    /// The first line isn't a version line of these formats (1).
     #[error("unsupported dump format version")]
     BadVersion,
     /// A header line or a block of headers that no record has (2).

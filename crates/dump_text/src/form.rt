@@ -3,11 +3,11 @@
 ghost use Rattle.std.specs.Prelude.{◌≡◌, Option, Some, None};
 ghost use Rattle.dump_text.specs.Forms.{fits_form, has_no_node, is_identity_head, has_source_form, is_node_head};
 ghost use Rattle.dump_text.specs.Forms.{lengths_agree, lengths_fit, is_deletion, is_making, is_first, is_inside};
-ghost use Rattle.dump_text.specs.Forms.{source_of, part_of, record_of, stage_after};
+ghost use Rattle.dump_text.specs.Forms.{source_of, part_of, whole_of, record_of, stage_after, is_delta, may_be_delta};
 
 use crate::head::Head;
 use crate::record::{DumpRecord, NodeRecord, PropPart};
-use node_base::{Action, NodePath, Props, RevNo, Source, Text};
+use node_base::{Action, BlockReader, NodePath, Props, RevNo, Source, Text};
 
 /// Which records may stand here.
 #[derive(Clone, Copy)]
@@ -97,11 +97,25 @@ fn is_inside(stage: Stage) -> bool
     }
 }
 
-/// Whether the headers are those of a record that may stand here.
-pub fn has_form(stage: Stage, head: &Head) -> bool
-    ensures { result ≡ fits_form stage head.now }
+/// Whether the properties are announced as a delta.
+pub fn is_delta(head: &Head) -> bool
+    ensures { result ≡ is_delta head.now }
 {
-    if head.prop_delta.unwrap_or(false) {
+    head.prop_delta.unwrap_or(false)
+}
+
+/// Whether they may be: in format 3, of a node.
+fn may_be_delta(version: u8, head: &Head) -> bool
+    ensures { result ≡ may_be_delta version head.now }
+{
+    version == 3 && head.identity.is_none() && head.number.is_none()
+}
+
+/// Whether the headers are those of a record that may stand here, in the format of that number.
+pub fn has_form(version: u8, stage: Stage, head: &Head) -> bool
+    ensures { result ≡ fits_form version stage head.now }
+{
+    if is_delta(head) && !may_be_delta(version, head) {
         return false;
     }
     if head.identity.is_some() {
@@ -144,17 +158,30 @@ fn source_from(path: Option<NodePath>, revision: Option<RevNo>) -> Option<Source
     Some(Source { path, revision })
 }
 
-fn part_from(props: Option<Props>) -> Option<PropPart>
-    ensures { result ≡ part_of props }
+/// What a whole block says, which was read as a delta or as a whole list.
+pub fn part_from(delta: bool, block: &mut BlockReader) -> PropPart
+    ensures { result ≡ part_of delta block.old.props block.old.removed }
+{
+    if delta {
+        PropPart::Delta(block.take_delta())
+    } else {
+        PropPart::Whole(block.take())
+    }
+}
+
+/// The whole list that a block gives, or none where there is no block. A delta gives none.
+fn whole_from(props: Option<PropPart>) -> Option<Props>
+    ensures { result ≡ whole_of props }
 {
     match props {
-        Some(props) => Some(PropPart::Whole(props)),
-        None => None,
+        None => Some(Props::empty()),
+        Some(PropPart::Whole(props)) => Some(props),
+        Some(PropPart::Delta(_)) => None,
     }
 }
 
 /// The record of a head and its content, where it is one.
-pub fn record_from(head: Head, props: Option<Props>, text: Option<Text>) -> Option<DumpRecord>
+pub fn record_from(head: Head, props: Option<PropPart>, text: Option<Text>) -> Option<DumpRecord>
     ensures { result ≡ record_of head props text }
 {
     let Head {
@@ -171,9 +198,8 @@ pub fn record_from(head: Head, props: Option<Props>, text: Option<Text>) -> Opti
         return Some(DumpRecord::Identity(identity));
     }
     if let Some(number) = number {
-        let props = match props {
-            Some(props) => props,
-            None => Props::empty(),
+        let Some(props) = whole_from(props) else {
+            return None;
         };
         return Some(DumpRecord::Revision(number, props));
     }
@@ -188,7 +214,7 @@ pub fn record_from(head: Head, props: Option<Props>, text: Option<Text>) -> Opti
         kind,
         action,
         source: source_from(source_path, source_revision),
-        props: part_from(props),
+        props,
         text,
     }))
 }

@@ -2,7 +2,7 @@
 
 ghost use Rattle.std.specs.Prelude.{◌≡◌, ◌≤◌, ◌<◌, ◌^◌, Option, Some, None, IfOk, MatchOption, codes, nat_lt, ◌&&◌};
 ghost use Rattle.dump_text.specs.Headers.{known_name, split_line, kind_of, action_of, identity_of, dump_path, pair_now};
-ghost use Rattle.dump_text.specs.Headers.{without_slash, PathIs};
+ghost use Rattle.dump_text.specs.Headers.{without_slash, version_in, PathIs};
 
 use crate::fault::DumpFault;
 use node_base::{Action, NodeKind, NodePath, PathFault};
@@ -25,6 +25,19 @@ pub enum HeaderName {
     TextSum,
     TextDelta,
     PropDelta,
+}
+
+/// The number of the format that a first line names, where it is one that is read.
+pub fn version_in(line: &[u8]) -> Option<u8>
+    ensures { result ≡ version_in line.now }
+{
+    if line == b"SVN-fs-dump-format-version: 2".as_slice() {
+        Some(2)
+    } else if line == b"SVN-fs-dump-format-version: 3".as_slice() {
+        Some(3)
+    } else {
+        None
+    }
 }
 
 /// Which header it is.

@@ -3,6 +3,7 @@
 ghost use Rattle.dump_text.specs.Laws.{PiecesJoin, RefusalsStay, DumpsAreRead, ReadsAreDumps, RefusalsHaveAByte};
 ghost use Rattle.dump_text.specs.Laws.{RefusedIsNoFront, OneReading, EntriesAreReadAgain, RevisionsAreReadAgain};
 ghost use Rattle.dump_text.specs.Laws.{WrittenIsRead, DumpsGoOn};
+ghost use Rattle.dump_text.specs.Refusals.{RefusedForCause, DueIsRefused};
 
 /// It doesn't matter how a dump is cut into pieces.
 pub fn pieces_join()
@@ -27,6 +28,13 @@ pub fn reads_are_dumps()
 /// A refusal comes at a byte: what stands before it was read.
 pub fn refusals_have_a_byte()
     ensures { RefusalsHaveAByte }
+{}
+
+/// Which number refused bytes get, by their lines and records: they are refused for what is due at one of them, and
+/// what is due is refused.
+pub fn refused_for_cause()
+    ensures cause { RefusedForCause }
+    ensures due { DueIsRefused }
 {}
 
 /// What is refused is no front of a dump.

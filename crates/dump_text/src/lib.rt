@@ -1,4 +1,4 @@
-//! Dump text of Subversion, format 2: bytes to records and back, in any pieces.
+//! Dump text of Subversion, formats 2 and 3: bytes to records, and records to format 2, in any pieces.
 #![tactic(auto)]
 
 pub use fault::DumpFault;

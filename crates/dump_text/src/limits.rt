@@ -43,8 +43,10 @@ fn source_limits(source: &Option<Source>)
 fn part_limits(props: &Option<PropPart>)
     ensures { IsKeptPart props.now }
 {
-    if let Some(PropPart::Whole(props)) = props {
-        props_limits(props);
+    match props {
+        Some(PropPart::Whole(props)) => props_limits(props),
+        Some(PropPart::Delta(delta)) => props_limits(&delta.sets),
+        None => {}
     }
 }
 

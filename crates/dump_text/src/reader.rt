@@ -13,7 +13,8 @@ use crate::state::ReadState;
 use std::alloc::Global;
 use std::marker::Model;
 
-/// A dump that comes in pieces, as the notes on the dump file format (dump-load-format, version 2) describe it.
+/// A dump that comes in pieces, as the notes on the dump file format (dump-load-format, versions 2 and 3) describe it: of
+/// version 3 property lists that are given as deltas, not texts.
 /// Contracts see what has come of it: the records that are whole are handed out, and the rest is kept until the next
 /// piece.
 #[derive(Drop)]

@@ -1,12 +1,16 @@
 //! Records of a dump.
 
-use node_base::{Action, NodeKind, NodePath, Props, RevNo, Source, Text};
+ghost use Rattle.std.specs.Prelude.{◌≡◌, true, false};
+ghost use Rattle.dump_text.specs.Written.{is_whole_part, are_whole};
+
+use node_base::{Action, NodeKind, NodePath, PropDelta, Props, RevNo, Source, Text};
 use uuid::Uuid;
 
-/// What a record gives of properties: the whole list.
+/// What a record gives of properties: the whole list, or, in format 3, changes of the list that is there.
 #[derive(Debug, Drop)]
 pub enum PropPart {
     Whole(Props),
+    Delta(PropDelta),
 }
 
 /// A node record: one change of a revision. A part that is missing is left as it was.
@@ -26,6 +30,29 @@ pub struct RevRecord {
     pub number: RevNo,
     pub props: Props,
     pub nodes: Vec<NodeRecord>,
+}
+
+impl NodeRecord {
+    /// Whether what it gives of properties, if anything, is the whole list.
+    pub fn is_whole(&self) -> bool
+        ensures { result ≡ is_whole_part self.now.props }
+    {
+        !matches!(self.props, Some(PropPart::Delta(_)))
+    }
+}
+
+impl RevRecord {
+    /// Whether that is so of each node, so that the revision may be written.
+    pub fn is_whole(&self) -> bool
+        ensures { result ≡ are_whole self.now.nodes.items }
+    {
+        for node in &self.nodes {
+            if !node.is_whole() {
+                return false;
+            }
+        }
+        true
+    }
 }
 
 /// A record of a stream: the repository's identity, the beginning of a revision with its properties, or a node of that

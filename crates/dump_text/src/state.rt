@@ -3,6 +3,7 @@
 ghost use Rattle.std.specs.Prelude.{◌≡◌, ◌≤◌, ◌<◌, ◌+◌, ◌++◌, ◌∷◌, [], length, take, drop, slice_index, Option, Some};
 ghost use Rattle.std.specs.Prelude.{None, Ok, Err, IfOk, IfSome, OnErr, true, false, if◌then◌else◌};
 ghost use Rattle.md5.specs.Md5.{md5};
+ghost use Rattle.node_base.specs.Blocks.{begun};
 ghost use Rattle.dump_text.specs.Streams.{StreamIs, Reads, Refuses, begin, fresh, spent, has_failed, give, text_is};
 ghost use Rattle.dump_text.specs.Streams.{after_block, content, judged, line_is, reading, sum_holds, is_line_place};
 ghost use Rattle.dump_text.specs.Streams.{is_failed, is_between, kept, of_prop_fault, of_text_fault, GoesOn, NoLf};
@@ -11,14 +12,16 @@ ghost use Rattle.dump_text.specs.declared.state.Place.TheVariants as at;
 
 use crate::fault::DumpFault;
 use crate::form::{
-    Stage, has_form, has_small_lengths, has_sum_of_lengths, record_from, stage_behind,
+    Stage, has_form, has_small_lengths, has_sum_of_lengths, is_delta, part_from, record_from,
+    stage_behind,
 };
 use crate::head::Head;
+use crate::header::version_in;
 use crate::held::HeldBytes;
-use crate::record::DumpRecord;
+use crate::record::{DumpRecord, PropPart};
 use md5::{Digest, Md5};
 use memchr::memchr;
-use node_base::{BlockReader, PropFault, Props, Text, TextFault};
+use node_base::{BlockReader, PropFault, Text, TextFault};
 use std::alloc::Global;
 use std::mem;
 
@@ -50,8 +53,8 @@ pub struct ReadState {
     pub stage: Stage,
     pub head: Head,
     pub block: BlockReader,
-    /// The properties, where a text is awaited behind them.
-    pub props: Option<Props>,
+    /// What the block gave of properties, where a text is awaited behind it.
+    pub props: Option<PropPart>,
     /// The bytes of an unfinished line or text.
     pub held: HeldBytes,
 }
@@ -73,6 +76,17 @@ fn line_end(piece: &[u8]) -> usize
     match memchr(b'\n', piece) {
         Some(k) => k,
         None => piece.len(),
+    }
+}
+
+/// The start of a block of so many bytes.
+fn block_from(alloc: Global, delta: bool, announced: u64) -> BlockReader
+    ensures { result ≡ begun delta announced }
+{
+    if delta {
+        BlockReader::of_delta(alloc, announced)
+    } else {
+        BlockReader::new(alloc, announced)
     }
 }
 
@@ -140,7 +154,7 @@ impl ReadState {
         &mut self,
         alloc: Global,
         out: &mut Vec<DumpRecord>,
-        props: Option<Props>,
+        props: Option<PropPart>,
         text: Option<Text>,
     ) -> Result<(), DumpFault>
         ensures on { StreamIs result self.new out.new.items (give out.old.items self.old props text) }
@@ -164,7 +178,7 @@ impl ReadState {
         &mut self,
         alloc: Global,
         out: &mut Vec<DumpRecord>,
-        props: Option<Props>,
+        props: Option<PropPart>,
         bytes: Vec<u8>,
     ) -> Result<(), DumpFault>
         ensures on { StreamIs result self.new out.new.items (text_is out.old.items self.old props bytes.items) }
@@ -191,7 +205,7 @@ impl ReadState {
         &mut self,
         alloc: Global,
         out: &mut Vec<DumpRecord>,
-        props: Option<Props>,
+        props: Option<PropPart>,
     ) -> Result<(), DumpFault>
         ensures on { StreamIs result self.new out.new.items (after_block out.old.items self.old props) }
         ensures out { OnErr result (out.new.items ≡ out.old.items) }
@@ -213,7 +227,7 @@ impl ReadState {
         ensures on { StreamIs result self.new out.new.items (judged out.old.items self.old) }
         ensures out { OnErr result (out.new.items ≡ out.old.items) }
     {
-        if !has_form(self.stage, &self.head) {
+        if !has_form(self.version, self.stage, &self.head) {
             return Err(DumpFault::BadHeader);
         }
         if !has_sum_of_lengths(&self.head) {
@@ -227,7 +241,7 @@ impl ReadState {
             Some(0) => Err(DumpFault::BadProps),
             Some(n) => {
                 self.place = Place::Block;
-                self.block = BlockReader::new(alloc, n);
+                self.block = block_from(alloc, is_delta(&self.head), n);
                 self.held = HeldBytes::new(alloc);
                 Ok(())
             }
@@ -247,10 +261,10 @@ impl ReadState {
     {
         match self.place {
             Place::Version => {
-                if line != b"SVN-fs-dump-format-version: 2".as_slice() {
+                let Some(version) = version_in(line) else {
                     return Err(DumpFault::BadVersion);
-                }
-                self.version = 2;
+                };
+                self.version = version;
                 self.place = Place::Blank;
                 Ok(())
             }
@@ -301,9 +315,9 @@ impl ReadState {
             Ok(Some(k)) => k,
             Err(fault) => return Err(block_fault(fault)),
         };
-        let props = self.block.take();
+        let part = part_from(is_delta(&self.head), &mut self.block);
         self.block = BlockReader::new(alloc, 0);
-        match self.after_block(alloc, out, Some(props)) {
+        match self.after_block(alloc, out, Some(part)) {
             Ok(()) => Ok(k),
             Err(fault) => Err(fault),
         }

@@ -1,12 +1,12 @@
 //! The canonical spelling.
 
-ghost use Rattle.std.specs.Prelude.{◌≡◌, ◌+◌, [], ◌∷◌, length, Some, OnOk, codes};
+ghost use Rattle.std.specs.Prelude.{◌≡◌, ◌+◌, [], ◌∷◌, length, Some, true, false, OnOk, codes};
 ghost use Rattle.std.specs.List.{flat_map};
 ghost use Rattle.std.specs.Io.KnownBytes.{Appends};
 ghost use Rattle.hex.specs.Hex.{encode_lower};
 ghost use Rattle.md5.specs.Md5.{md5};
 ghost use Rattle.dump_text.specs.Grammar.{Dump};
-ghost use Rattle.dump_text.specs.Written.{AreRecords, AreFormed, read_identity, read_revision};
+ghost use Rattle.dump_text.specs.Written.{AreRecords, AreFormed, are_whole, read_identity, read_revision};
 ghost use Rattle.dump_text.specs.declared.record.DumpRecord.TheVariants.{Revision};
 ghost use Rattle.dump_text.specs.Canon.{header_line, canon_identity, canon_head, canon_entry, canon_node};
 ghost use Rattle.dump_text.specs.Canon.{canon_revision, kind_word, action_word, told_kind, kind_line, source_lines};
@@ -16,7 +16,7 @@ use crate::limits::{entry_reads_again, revision_reads_again};
 use crate::record::{NodeRecord, PropPart, RevRecord};
 use node_base::{Action, NodeKind, Props, RevNo, Source, Text};
 use std::io;
-use std::io::Write;
+use std::io::{ErrorKind, Write};
 use uuid::Uuid;
 
 /// Writes the version block, and the identity's block where one is given.
@@ -77,14 +77,27 @@ fn write_entry<W: Write>(out: &mut W, number: RevNo, props: &Props) -> io::Resul
     Ok(())
 }
 
-/// Writes a revision with its nodes, in the order in which they stand.
+/// Writes a revision with its nodes, in the order in which they stand. Where a node gives its properties as a delta,
+/// which format 2 can't say, the answer is an error (InvalidInput), and nothing is written.
 pub fn write_revision<W: Write>(out: &mut W, revision: &RevRecord) -> io::Result<()>
     ensures bytes { OnOk result (Appends (W.contents out.old) (W.contents out.new) (canon_revision revision.now)) }
+    ensures whole { OnOk result (are_whole revision.now.nodes.items ≡ true) }
+    ensures unwritten { are_whole revision.now.nodes.items ≡ false → W.contents out.new ≡ W.contents out.old }
     // read again, these bytes are the same records, but that a deletion's kind isn't written
     ensures again { AreFormed revision.now.nodes.items → AreRecords (canon_revision revision.now)
         (read_revision revision.now) }
 {
     revision_reads_again(revision);
+    if !revision.is_whole() {
+        return Err(io::Error::from(ErrorKind::InvalidInput));
+    }
+    write_whole(out, revision)
+}
+
+// Writes a revision with its nodes.
+fn write_whole<W: Write>(out: &mut W, revision: &RevRecord) -> io::Result<()>
+    ensures { OnOk result (Appends (W.contents out.old) (W.contents out.new) (canon_revision revision.now)) }
+{
     write_entry(out, revision.number, &revision.props)?;
     write_nodes(out, revision.nodes.as_slice())?;
     Ok(())
@@ -215,7 +228,7 @@ fn content_len(props: &Option<PropPart>, text: &Option<Text>) -> u128
 {
     let block = match props {
         Some(PropPart::Whole(props)) => u128::from(props.block_len()),
-        None => 0,
+        _ => 0,
     };
     match text {
         Some(text) => block + text.len() as u128,

@@ -88,7 +88,10 @@ fn is_refused(alloc: Global, bytes: &[u8], number: u32) -> bool {
 #[test]
 fn first_lines_are_judged(rt: HostRuntime) {
     assert!(rt; is_refused(rt.alloc(), b"SVN-fs-dump-format-version: 02\n\n", 1));
-    assert!(rt; is_refused(rt.alloc(), b"SVN-fs-dump-format-version: 3\n\n", 1));
+    assert!(rt; is_refused(rt.alloc(), b"SVN-fs-dump-format-version: 4\n\n", 1));
+    assert!(rt; is_refused(rt.alloc(), b"SVN-fs-dump-format-version: 03\n\n", 1));
+    assert!(rt; is_refused(rt.alloc(), b"SVN-fs-dump-format-version: 3\n\n", 0));
+    assert!(rt; is_refused(rt.alloc(), b"SVN-fs-dump-format-version: 3\nX: 1\n", 2));
     assert!(rt; is_refused(rt.alloc(), b"SVN-fs-dump-format-version: 2\nX: 1\n", 2));
     assert!(rt; is_refused(rt.alloc(), b"SVN", 7) && is_refused(rt.alloc(), b"", 7));
 }

@@ -156,9 +156,9 @@ fn answer_from(alloc: Global, front: &[u8], rest: &[u8]) -> (usize, u32) {
     (out.len(), if fed == 0 { ended } else { fed })
 }
 
-// Whether a change of one byte is answered the same in one piece and byte by byte from there on.
-fn agrees_with(rt: &impl Abort, alloc: Global, at: usize, value: u8) -> bool {
-    let mut dump = Vec::from_slice(alloc, two_revisions()).expect(rt, "memory");
+// Whether a change of one byte of a dump is answered the same in one piece and byte by byte from there on.
+fn agrees_with(rt: &impl Abort, alloc: Global, dump: &[u8], at: usize, value: u8) -> bool {
+    let mut dump = Vec::from_slice(alloc, dump).expect(rt, "memory");
     if let Some(place) = dump.get_mut(at) {
         *place = value;
     }
@@ -166,11 +166,16 @@ fn agrees_with(rt: &impl Abort, alloc: Global, at: usize, value: u8) -> bool {
     answer(alloc, dump.as_slice(), 4096) == answer_from(alloc, front, rest)
 }
 
-// The place and the value of the first change of a byte, to one of 32 values, that isn't.
-fn wrong_change(rt: &impl Abort, alloc: Global, first: u8) -> Option<(usize, u8)> {
-    for at in 0..two_revisions().len() {
+// The place and the value of the first change of a byte of a dump, to one of 32 values, that isn't.
+pub(crate) fn wrong_change(
+    rt: &impl Abort,
+    alloc: Global,
+    dump: &[u8],
+    first: u8,
+) -> Option<(usize, u8)> {
+    for at in 0..dump.len() {
         for value in first..=first.saturating_add(31) {
-            if !agrees_with(rt, alloc, at, value) {
+            if !agrees_with(rt, alloc, dump, at, value) {
                 return Some((at, value));
             }
         }
@@ -180,42 +185,42 @@ fn wrong_change(rt: &impl Abort, alloc: Global, first: u8) -> Option<(usize, u8)
 
 #[test]
 fn each_change_of_a_byte_agrees_from_0(rt: HostRuntime) {
-    assert!(rt; wrong_change(&rt, rt.alloc(), 0).is_none());
+    assert!(rt; wrong_change(&rt, rt.alloc(), two_revisions(), 0).is_none());
 }
 
 #[test]
 fn each_change_of_a_byte_agrees_from_32(rt: HostRuntime) {
-    assert!(rt; wrong_change(&rt, rt.alloc(), 32).is_none());
+    assert!(rt; wrong_change(&rt, rt.alloc(), two_revisions(), 32).is_none());
 }
 
 #[test]
 fn each_change_of_a_byte_agrees_from_64(rt: HostRuntime) {
-    assert!(rt; wrong_change(&rt, rt.alloc(), 64).is_none());
+    assert!(rt; wrong_change(&rt, rt.alloc(), two_revisions(), 64).is_none());
 }
 
 #[test]
 fn each_change_of_a_byte_agrees_from_96(rt: HostRuntime) {
-    assert!(rt; wrong_change(&rt, rt.alloc(), 96).is_none());
+    assert!(rt; wrong_change(&rt, rt.alloc(), two_revisions(), 96).is_none());
 }
 
 #[test]
 fn each_change_of_a_byte_agrees_from_128(rt: HostRuntime) {
-    assert!(rt; wrong_change(&rt, rt.alloc(), 128).is_none());
+    assert!(rt; wrong_change(&rt, rt.alloc(), two_revisions(), 128).is_none());
 }
 
 #[test]
 fn each_change_of_a_byte_agrees_from_160(rt: HostRuntime) {
-    assert!(rt; wrong_change(&rt, rt.alloc(), 160).is_none());
+    assert!(rt; wrong_change(&rt, rt.alloc(), two_revisions(), 160).is_none());
 }
 
 #[test]
 fn each_change_of_a_byte_agrees_from_192(rt: HostRuntime) {
-    assert!(rt; wrong_change(&rt, rt.alloc(), 192).is_none());
+    assert!(rt; wrong_change(&rt, rt.alloc(), two_revisions(), 192).is_none());
 }
 
 #[test]
 fn each_change_of_a_byte_agrees_from_224(rt: HostRuntime) {
-    assert!(rt; wrong_change(&rt, rt.alloc(), 224).is_none());
+    assert!(rt; wrong_change(&rt, rt.alloc(), two_revisions(), 224).is_none());
 }
 
 // A canonical dump with an identity, a copy and a deletion.

@@ -2,20 +2,20 @@
 use Rattle.std.proofs.Common.{◌≡◌, ℕ, ◌⊎◌, ◌==◌, ◌+◌, not, nat_lt, Bool, true, false, List, [], ◌∷◌, ◌++◌, length, Option, Some, None, Result, Ok, Err, refl, sym, ap, subst, ◌∙◌, append_assoc, append-nil, inl, inr}
 use Rattle.std.specs.Bool.{if◌then◌else◌}
 use Rattle.std.specs.Result.{OnErr}
-use Rattle.node_base.specs.Props.{PropMap}
-use Rattle.node_base.specs.Blocks.{Step, Next, Whole, Refused as BlockRefused, block_step, new_block}
+use Rattle.node_base.specs.Blocks.{Step, Next, Whole, Refused as BlockRefused, block_step, new_block, begun}
 use Rattle.node_base.specs.declared.refusal.Refusal.{Refusal}
-use Rattle.dump_text.specs.Headers.{same}
+use Rattle.dump_text.specs.Headers.{version_in}
 use Rattle.dump_text.specs.Heads.{line_says}
-use Rattle.dump_text.specs.Forms.{record_of, fits_form, lengths_agree, lengths_fit}
+use Rattle.dump_text.specs.Forms.{record_of, fits_form, lengths_agree, lengths_fit, is_delta, part_of}
 use Rattle.dump_text.specs.declared.fault.DumpFault.{DumpFault}
 use Rattle.dump_text.specs.declared.fault.DumpFault.TheVariants.{OutOfMemory, BadProps}
 use Rattle.dump_text.specs.declared.head.Head.{Head}
 use Rattle.dump_text.specs.declared.record.DumpRecord.{DumpRecord}
+use Rattle.dump_text.specs.declared.record.PropPart.{PropPart}
 use Rattle.dump_text.specs.declared.state.Place.{Place}
 use Rattle.dump_text.specs.declared.state.Place.TheVariants as at
 use Rattle.dump_text.specs.declared.state.ReadState.{ReadState}
-use Rattle.dump_text.specs.Streams.{Stream, Reads, Refuses, reading, dump, fresh, one_byte, stream_step, line_step, line_is, block_said, said, given, give, made, text_is, after_block, content, judged, sum_holds, version_line, records_of, has_failed, IsFront, StreamIs}
+use Rattle.dump_text.specs.Streams.{Stream, Reads, Refuses, reading, dump, fresh, one_byte, stream_step, line_step, line_is, versioned, block_said, said, given, give, made, text_is, after_block, content, judged, sum_holds, records_of, has_failed, IsFront, StreamIs}
 use Rattle.fleet_engines.specs.declared.product.Product.{Product}
 use Rattle.fleet_engines.specs.Pieces.{behind}
 use Rattle.fleet_engines.specs.Refusals.{dump_refusal}
@@ -38,15 +38,15 @@ unfolding Sound
 given_sound rs r None = tt
 given_sound rs r (Some rec) = refl
 
-made_sound : (rs : List DumpRecord) (r : ReadState) (props : Option PropMap) (text : List ℕ) → Sound (made rs r props text)
+made_sound : (rs : List DumpRecord) (r : ReadState) (props : Option PropPart) (text : List ℕ) → Sound (made rs r props text)
 unfolding Sound
 made_sound rs r props text = if_sound (nat_lt 1048576 (length text)) _ _ tt (given_sound rs r (record_of r.head props (Some text)))
 
-text_sound : (rs : List DumpRecord) (r : ReadState) (props : Option PropMap) (text : List ℕ) → Sound (text_is rs r props text)
+text_sound : (rs : List DumpRecord) (r : ReadState) (props : Option PropPart) (text : List ℕ) → Sound (text_is rs r props text)
 unfolding Sound
 text_sound rs r props text = if_sound (sum_holds r.head.sum text) _ _ (made_sound rs r props text) tt
 
-after_block_sound : (rs : List DumpRecord) (r : ReadState) (props : Option PropMap) → Sound (after_block rs r props)
+after_block_sound : (rs : List DumpRecord) (r : ReadState) (props : Option PropPart) → Sound (after_block rs r props)
 unfolding Sound
 after_block_sound rs r props =
     elim r.head.text_len as (λ o. Sound (elim o as (λ _. Stream) [ None ↦ give rs r props None | Some n ↦ if n == 0 then text_is rs r props [] else Reads rs (record r { place = at.Text n; props = props; held = [] }) ])) [
@@ -57,23 +57,28 @@ after_block_sound rs r props =
 content_sound : (rs : List DumpRecord) (r : ReadState) → Sound (content rs r)
 unfolding Sound
 content_sound rs r =
-    elim r.head.prop_len as (λ o. Sound (elim o as (λ _. Stream) [ None ↦ after_block rs r None | Some n ↦ if n == 0 then Refuses rs BadProps else Reads rs (record r { place = at.Block; block = new_block n; held = [] }) ])) [
+    elim r.head.prop_len as (λ o. Sound (elim o as (λ _. Stream) [ None ↦ after_block rs r None | Some n ↦ if n == 0 then Refuses rs BadProps else Reads rs (record r { place = at.Block; block = begun (is_delta r.head) n; held = [] }) ])) [
       | None ↦ after_block_sound rs r None
       | Some n ↦ if_sound (n == 0) _ _ tt refl
     ]
 
 judged_sound : (rs : List DumpRecord) (r : ReadState) → Sound (judged rs r)
 unfolding Sound
-judged_sound rs r = if_sound (not (fits_form r.stage r.head)) _ _ tt (if_sound (not (lengths_agree r.head)) _ _ tt (if_sound (not (lengths_fit r.head)) _ _ tt (content_sound rs r)))
+judged_sound rs r = if_sound (not (fits_form r.version r.stage r.head)) _ _ tt (if_sound (not (lengths_agree r.head)) _ _ tt (if_sound (not (lengths_fit r.head)) _ _ tt (content_sound rs r)))
 
 said_sound : (rs : List DumpRecord) (r : ReadState) (what : Result Head DumpFault) → Sound (said rs r what)
 unfolding Sound
 said_sound rs r (Ok h) = refl
 said_sound rs r (Err f) = tt
 
+versioned_sound : (rs : List DumpRecord) (r : ReadState) (version : Option ℕ) → Sound (versioned rs r version)
+unfolding Sound
+versioned_sound rs r None = tt
+versioned_sound rs r (Some version) = refl
+
 line_sound : (place : Place) (rs : List DumpRecord) (r : ReadState) (line : List ℕ) → has_failed r ≡ false → Sound (line_is place rs r line)
 unfolding Sound
-line_sound at.Version rs r line h = if_sound (same line version_line) _ _ refl tt
+line_sound at.Version rs r line h = versioned_sound rs r (version_in line)
 line_sound at.Blank rs r [] h = refl
 line_sound at.Blank rs r (b ∷ bs) h = tt
 line_sound at.Header rs r [] h = judged_sound rs r
@@ -87,7 +92,7 @@ line_step_sound place rs r b h = if_sound (b == 10) _ _ (line_sound place rs (re
 block_sound : (rs : List DumpRecord) (r : ReadState) (s : Step) → has_failed r ≡ false → Sound (block_said rs r s)
 unfolding Sound
 block_sound rs r (Next block) h = h
-block_sound rs r (Whole props) h = after_block_sound rs (record r { block = new_block 0 }) (Some props)
+block_sound rs r (Whole props removed) h = after_block_sound rs (record r { block = new_block 0 }) (Some (part_of (is_delta r.head) props removed))
 block_sound rs r (BlockRefused f) h = tt
 
 step_sound : (place : Place) (rs : List DumpRecord) (r : ReadState) (b : ℕ) → has_failed r ≡ false → Sound (stream_step place rs r b)

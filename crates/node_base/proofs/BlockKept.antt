@@ -1,5 +1,5 @@
 -- What a reader keeps grows by no more than the bytes that come.
-use Rattle.std.proofs.Common.{◌≡◌, ℕ, ◌==◌, ◌&&◌, ◌+◌, ◌≤◌, not, Bool, true, false, List, [], ◌∷◌, ◌++◌, length, nat_lt, Option, Some, None, Ok, Err, Result, refl, subst, length-append, arith}
+use Rattle.std.proofs.Common.{◌≡◌, ℕ, ◌==◌, ◌&&◌, ◌||◌, ◌+◌, ◌≤◌, not, Bool, true, false, List, [], ◌∷◌, ◌++◌, length, nat_lt, Option, Some, None, Ok, Err, Result, refl, subst, length-append, arith}
 use Rattle.std.specs.Prelude.{IfOk}
 use Rattle.std.specs.Bool.{if◌then◌else◌}
 use Rattle.std.specs.Prelude.{slice_index_or}
@@ -16,7 +16,7 @@ use Rattle.node_base.specs.declared.block_part.Part.{Part}
 use Rattle.node_base.specs.declared.block_part.Part.TheVariants as at
 use Rattle.node_base.specs.declared.prop_fault.PropFault.{PropFault}
 use Rattle.node_base.specs.declared.prop_fault.PropFault.TheVariants.{BadProps}
-use Rattle.node_base.specs.Blocks.{Step, Next, Whole, Refused, Run, More, Done, Fault, keep, go, only, judged_count, name_is, value_at, value_is, ending, part_step, settled, block_step, of_step, one_more, after, run_block, BlockIs}
+use Rattle.node_base.specs.Blocks.{Step, Next, Whole, Refused, Run, More, Done, Fault, keep, go, only, judged_count, begins, is_new, named, name_is, value_at, value_is, ending, part_step, settled, block_step, of_step, one_more, after, run_block, BlockIs}
 use Rattle.node_base.specs.BlockKept.{entry_bytes, stored_bytes, waiting_bytes, kept_bytes, kept_after}
 
 -- a value at a name brings no more than their bytes
@@ -36,7 +36,7 @@ inserted_bytes m n v = rw (entries-insert names_total m n v) (put_bytes n v (map
 -- what is kept after a step
 abbrev step_bytes : Step → ℕ
 step_bytes (Next r) = kept_bytes r
-step_bytes (Whole props) = stored_bytes props
+step_bytes (Whole props removed) = stored_bytes props + stored_bytes removed
 step_bytes (Refused f) = 0
 
 either : (n : ℕ) (b : Bool) (s t : Step) → step_bytes s ≤ n → step_bytes t ≤ n → step_bytes (if b then s else t) ≤ n
@@ -55,15 +55,22 @@ only_bytes wanted b part r = either (kept_bytes r + 1) (b == wanted) (go part r)
 judged_bytes : (limit k left : ℕ) (s : Step) (n : ℕ) → step_bytes s ≤ n → step_bytes (judged_count limit k left s) ≤ n
 judged_bytes limit k left s n h = either n (nat_lt limit k) _ _ (omega arith) (either n (nat_lt (k + 1) left) _ _ h (omega arith))
 
-name_bytes : (r : BlockReader) (name : List ℕ) (n : ℕ) → stored_bytes r.props + length name ≤ n → step_bytes (name_is r name) ≤ n
-name_bytes r name n h = either n (nat_lt 255 (length name)) _ _ (omega arith) (either n (is_prop_name name && not (map.contains_key r.props name)) _ _ (either n (fits_with r.props name) _ _ (omega (arith, h)) (omega arith)) (omega arith))
+begins_bytes : (removes : Bool) (r : BlockReader) → step_bytes (begins removes r) ≤ kept_bytes r + 1
+begins_bytes removes r = omega arith
 
-value_bytes : (r : BlockReader) (name : Option (List ℕ)) (value : List ℕ) (n : ℕ) → stored_bytes r.props + waiting_bytes name + length value ≤ n → step_bytes (value_at r name value) ≤ n
+named_bytes : (removes : Bool) (r : BlockReader) (name : List ℕ) (n : ℕ) → stored_bytes r.props + stored_bytes r.removed + waiting_bytes r.name + length name ≤ n → step_bytes (named removes r name) ≤ n
+named_bytes true r name n h = either n (fits_with r.removed name) _ _ (omega (arith, h, inserted_bytes r.removed name [])) (omega arith)
+named_bytes false r name n h = either n (fits_with r.props name) _ _ (omega (arith, h)) (omega arith)
+
+name_bytes : (r : BlockReader) (name : List ℕ) (n : ℕ) → stored_bytes r.props + stored_bytes r.removed + waiting_bytes r.name + length name ≤ n → step_bytes (name_is r name) ≤ n
+name_bytes r name n h = either n (nat_lt 255 (length name)) _ _ (omega arith) (either n (is_prop_name name && is_new r name) _ _ (named_bytes r.removes r name n h) (omega arith))
+
+value_bytes : (r : BlockReader) (name : Option (List ℕ)) (value : List ℕ) (n : ℕ) → stored_bytes r.props + stored_bytes r.removed + waiting_bytes name + length value ≤ n → step_bytes (value_at r name value) ≤ n
 value_bytes r None value n h = omega arith
 value_bytes r (Some name) value n h = either n (nat_lt 65536 (length value)) _ _ (omega arith) (either n (props_fit (map.insert r.props name value)) _ _ (omega (arith, h, inserted_bytes r.props name value)) (omega arith))
 
 part_bytes : (part : Part) (r : BlockReader) (b : ℕ) → step_bytes (part_step part r b) ≤ kept_bytes r + 1
-part_bytes at.Tag r b = either (kept_bytes r + 1) (b == 75) _ _ (go_bytes at.KeyBlank r) (either (kept_bytes r + 1) (b == 80) _ _ (go_bytes at.Ending r) (omega arith))
+part_bytes at.Tag r b = either (kept_bytes r + 1) (b == 75) _ _ (begins_bytes false r) (either (kept_bytes r + 1) (r.delta && b == 68) _ _ (begins_bytes true r) (only_bytes 80 b at.Ending r))
 part_bytes at.KeyBlank r b = only_bytes 32 b at.KeyCount r
 part_bytes at.KeyCount r b =
     either (kept_bytes r + 1) (is_digit b) _ _ (keep_bytes r b)
@@ -90,7 +97,7 @@ part_bytes at.Ending r b =
 
 settled_bytes : (left : ℕ) (s : Step) (n : ℕ) → step_bytes s ≤ n → step_bytes (settled left s) ≤ n
 settled_bytes left (Next r) n h = either n (nat_lt 1 left) _ _ h (omega arith)
-settled_bytes left (Whole props) n h = either n (left == 1) _ _ h (omega arith)
+settled_bytes left (Whole props removed) n h = either n (left == 1) _ _ h (omega arith)
 settled_bytes left (Refused f) n h = omega arith
 
 block_bytes : (r : BlockReader) (b : ℕ) → step_bytes (block_step r b) ≤ kept_bytes r + 1
@@ -99,17 +106,17 @@ block_bytes r b = settled_bytes r.left (part_step r.part r b) (kept_bytes r + 1)
 -- what is kept in a run
 abbrev run_bytes : Run → ℕ
 run_bytes (More r) = kept_bytes r
-run_bytes (Done props rest) = stored_bytes props
+run_bytes (Done props removed rest) = stored_bytes props + stored_bytes removed
 run_bytes (Fault f) = 0
 
 of_step_bytes : (s : Step) → run_bytes (of_step s) ≡ step_bytes s
 of_step_bytes (Next r) = refl
-of_step_bytes (Whole props) = refl
+of_step_bytes (Whole props removed) = refl
 of_step_bytes (Refused f) = refl
 
 one_more_bytes : (s : Run) (b : ℕ) → run_bytes (one_more s b) ≤ run_bytes s + 1
 one_more_bytes (More r) b = rw (of_step_bytes (block_step r b)) (block_bytes r b)
-one_more_bytes (Done props rest) b = omega arith
+one_more_bytes (Done props removed rest) b = omega arith
 one_more_bytes (Fault f) b = omega arith
 
 after_bytes : (s : Run) (bs : List ℕ) → run_bytes (after s bs) ≤ run_bytes s + length bs

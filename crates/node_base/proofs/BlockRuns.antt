@@ -18,47 +18,47 @@ pub after-refused : (f : PropFault) (bs : List ℕ) → after (Fault f) bs ≡ F
 after-refused f [] = refl
 after-refused f (b ∷ bs) = after-refused f bs
 
-pub after-whole : (props : PropMap) (rest bs : List ℕ) → after (Done props rest) bs ≡ Done props (rest ++ bs)
-after-whole props rest [] = ap (Done props) (sym (append-nil rest))
-after-whole props rest (b ∷ bs) = after-whole props (rest ++ b ∷ []) bs ∙ ap (Done props) (append_assoc rest (b ∷ []) bs)
+pub after-whole : (props removed : PropMap) (rest bs : List ℕ) → after (Done props removed rest) bs ≡ Done props removed (rest ++ bs)
+after-whole props removed rest [] = ap (Done props removed) (sym (append-nil rest))
+after-whole props removed rest (b ∷ bs) = after-whole props removed (rest ++ b ∷ []) bs ∙ ap (Done props removed) (append_assoc rest (b ∷ []) bs)
 
 lt_true : (a b : ℕ) → a < b → nat_lt a b ≡ true
 lt_true a b h = grind (arith, nat_tests)
 
 -- the bytes of a counted text, but its last, are kept
-pub stretch_name : (left n : ℕ) (name : Option (List ℕ)) (props : PropMap) (held s more : List ℕ) → length held + length s < n → length s < left → run_block (record { left = left; part = Name n; name = name; props = props; held = held }) (s ++ more) ≡ run_block (record { left = left - length s; part = Name n; name = name; props = props; held = held ++ s }) more
-stretch_name left n name props held [] more h k =
+pub stretch_name : (r : BlockReader) (left n : ℕ) (held s more : List ℕ) → length held + length s < n → length s < left → run_block (record r { left = left; part = Name n; held = held }) (s ++ more) ≡ run_block (record r { left = left - length s; part = Name n; held = held ++ s }) more
+stretch_name r left n held [] more h k =
     let z : left - length {A = ℕ} [] ≡ left = omega arith in
     rw (z, append-nil) refl
-stretch_name left n name props held (b ∷ s) more h k =
+stretch_name r left n held (b ∷ s) more h k =
     let p : nat_lt (length held + 1) n ≡ true = lt_true _ _ (omega arith) in
     let q : nat_lt 1 left ≡ true = lt_true _ _ (omega arith) in
     let z : left - 1 - length s ≡ left - length (b ∷ s) = omega arith in
-    let e : block_step (record { left = left; part = Name n; name = name; props = props; held = held }) b ≡ Next (record { left = left - 1; part = Name n; name = name; props = props; held = held ++ b ∷ [] }) = rw (p, q) refl in
+    let e : block_step (record r { left = left; part = Name n; held = held }) b ≡ Next (record r { left = left - 1; part = Name n; held = held ++ b ∷ [] }) = rw (p, q) refl in
     ap (λ t. after (of_step t) (s ++ more)) e
-    ∙ stretch_name (left - 1) n name props (held ++ b ∷ []) s more (omega (arith, length-append held (b ∷ []))) (omega arith)
+    ∙ stretch_name r (left - 1) n (held ++ b ∷ []) s more (omega (arith, length-append held (b ∷ []))) (omega arith)
     ∙ rw (z, append_assoc) refl
 
-pub stretch_value : (left n : ℕ) (name : Option (List ℕ)) (props : PropMap) (held s more : List ℕ) → length held + length s < n → length s < left → run_block (record { left = left; part = Value n; name = name; props = props; held = held }) (s ++ more) ≡ run_block (record { left = left - length s; part = Value n; name = name; props = props; held = held ++ s }) more
-stretch_value left n name props held [] more h k =
+pub stretch_value : (r : BlockReader) (left n : ℕ) (held s more : List ℕ) → length held + length s < n → length s < left → run_block (record r { left = left; part = Value n; held = held }) (s ++ more) ≡ run_block (record r { left = left - length s; part = Value n; held = held ++ s }) more
+stretch_value r left n held [] more h k =
     let z : left - length {A = ℕ} [] ≡ left = omega arith in
     rw (z, append-nil) refl
-stretch_value left n name props held (b ∷ s) more h k =
+stretch_value r left n held (b ∷ s) more h k =
     let p : nat_lt (length held + 1) n ≡ true = lt_true _ _ (omega arith) in
     let q : nat_lt 1 left ≡ true = lt_true _ _ (omega arith) in
     let z : left - 1 - length s ≡ left - length (b ∷ s) = omega arith in
-    let e : block_step (record { left = left; part = Value n; name = name; props = props; held = held }) b ≡ Next (record { left = left - 1; part = Value n; name = name; props = props; held = held ++ b ∷ [] }) = rw (p, q) refl in
+    let e : block_step (record r { left = left; part = Value n; held = held }) b ≡ Next (record r { left = left - 1; part = Value n; held = held ++ b ∷ [] }) = rw (p, q) refl in
     ap (λ t. after (of_step t) (s ++ more)) e
-    ∙ stretch_value (left - 1) n name props (held ++ b ∷ []) s more (omega (arith, length-append held (b ∷ []))) (omega arith)
+    ∙ stretch_value r (left - 1) n (held ++ b ∷ []) s more (omega (arith, length-append held (b ∷ []))) (omega arith)
     ∙ rw (z, append_assoc) refl
 
 pub may_keep_name : (r : BlockReader) (n k : ℕ) → r.part ≡ Name n → length r.held + k < n → k < r.left → MayKeep r k
 may_keep_name r n k e h l =
-    λ s more m. subst (λ p. run_block (record { left = r.left; part = p; name = r.name; props = r.props; held = r.held }) (s ++ more) ≡ run_block (record { left = r.left - length s; part = p; name = r.name; props = r.props; held = r.held ++ s }) more) (sym e) (stretch_name r.left n r.name r.props r.held s more (omega arith) (omega arith))
+    λ s more m. subst (λ p. run_block (record r { part = p }) (s ++ more) ≡ run_block (record r { left = r.left - length s; part = p; held = r.held ++ s }) more) (sym e) (stretch_name r r.left n r.held s more (omega arith) (omega arith))
 
 pub may_keep_value : (r : BlockReader) (n k : ℕ) → r.part ≡ Value n → length r.held + k < n → k < r.left → MayKeep r k
 may_keep_value r n k e h l =
-    λ s more m. subst (λ p. run_block (record { left = r.left; part = p; name = r.name; props = r.props; held = r.held }) (s ++ more) ≡ run_block (record { left = r.left - length s; part = p; name = r.name; props = r.props; held = r.held ++ s }) more) (sym e) (stretch_value r.left n r.name r.props r.held s more (omega arith) (omega arith))
+    λ s more m. subst (λ p. run_block (record r { part = p }) (s ++ more) ≡ run_block (record r { left = r.left - length s; part = p; held = r.held ++ s }) more) (sym e) (stretch_value r r.left n r.held s more (omega arith) (omega arith))
 
 none : (r : BlockReader) (s more : List ℕ) → s ≡ [] → run_block r (s ++ more) ≡ run_block (held_more r s) more
 none r s more e =
@@ -87,8 +87,8 @@ may_keep_if_value r n (suc k) e h l = may_keep_value r n (suc k) e (h (omega ari
 pub step_at : (r : BlockReader) (piece : List ℕ) (at : ℕ) → at < length piece → run_block r (drop at piece) ≡ after (of_step (block_step r (get_or piece at 0))) (drop (at + 1) piece)
 step_at r piece at h = ap (run_block r) (drop_more piece at 0 h)
 
-pub whole_at : (r : BlockReader) (props : PropMap) (piece : List ℕ) (at : ℕ) → at < length piece → block_step r (get_or piece at 0) ≡ Whole props → run_block r (drop at piece) ≡ Done props (drop (at + 1) piece)
-whole_at r props piece at h e = step_at r piece at h ∙ ap (λ s. after (of_step s) (drop (at + 1) piece)) e ∙ after-whole props [] (drop (at + 1) piece)
+pub whole_at : (r : BlockReader) (props removed : PropMap) (piece : List ℕ) (at : ℕ) → at < length piece → block_step r (get_or piece at 0) ≡ Whole props removed → run_block r (drop at piece) ≡ Done props removed (drop (at + 1) piece)
+whole_at r props removed piece at h e = step_at r piece at h ∙ ap (λ s. after (of_step s) (drop (at + 1) piece)) e ∙ after-whole props removed [] (drop (at + 1) piece)
 
 pub refused_at : (f : PropFault) (r new : BlockReader) (piece : List ℕ) (at : ℕ) → at < length piece → StepIs (Err f) new (block_step r (get_or piece at 0)) → BlockIs (Err f) new piece (run_block r (drop at piece))
 refused_at OutOfMemory r new piece at h e = tt

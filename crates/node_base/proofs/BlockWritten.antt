@@ -7,7 +7,7 @@ use Rattle.std.specs.Fmt.{decimal}
 use Rattle.std.specs.Option.{is_some, IfSome}
 use Rattle.std.specs.List.{flat_map}
 use Rattle.std.specs.FinMap as map
-use Rattle.std.specs.FinMap.{find, entries_sorted, entries-from_sorted, from_entries_push, get-from_entries, get-from_sorted, get-entries, same_entries_map}
+use Rattle.std.specs.FinMap.{find, entries_sorted, entries-from_sorted, from_entries_push, get-from_entries, get-from_sorted, get-entries, same_entries_map, get-empty}
 use Rattle.std.specs.FinMap.Entries.{put, below_all}
 use Rattle.std.specs.Ordering.{is_lt, is_eq, ordering_reverse}
 use Rattle.std.specs.declared.cmp.Ordering.{Ordering}
@@ -17,30 +17,39 @@ use Rattle.node_base.specs.Path.{Name, name_cmp, names_total, names_exact}
 use Rattle.node_base.specs.Numbers.{is_digit, all_bytes, number_after}
 use Rattle.node_base.specs.Entries.{Entries, IsRising, passing}
 use Rattle.node_base.specs.Props.{PropMap, IsProps, is_prop_name, is_sync, props_fit}
-use Rattle.node_base.specs.Blocks.{run_block, new_block, Done}
-use Rattle.node_base.specs.BlockGrammar.{Spells, IsBlock, MayStand, block_end, with_all}
+use Rattle.node_base.specs.Blocks.{run_block, begun, new_block, Done}
+use Rattle.node_base.specs.BlockGrammar.{Spells, BlockEntry, Sets, Removes, IsBlock, MayStand, block_end, with_all, without_all, set_in, removed_in, all_set}
 use Rattle.node_base.specs.BlockCanon.{canon_block, canon_property}
 use Rattle.node_base.proofs.EntryLemmas.{both_true, find_absent}
 use Rattle.node_base.proofs.PropLemmas.{listed, map_put, map_none, len_retained}
 use Rattle.node_base.proofs.BlockSpelled.{both, block_read}
 
--- ---- the map of a list of properties
+-- ---- the maps of a list of entries
 
 is_none : (o : Option (List ℕ)) → is_some o ≡ false → o ≡ None
 is_none None e = refl
 is_none (Some v) e = cc
 
-pub all_from_entries : (es ps : Entries) → MayStand (map.from_entries es) ps → with_all (map.from_entries es) ps ≡ map.from_entries (es ++ ps)
-all_from_entries es [] m = ap map.from_entries (sym (append-nil es))
-all_from_entries es (p ∷ ps) m =
-    let absent : find name_cmp p.0 es ≡ None = is_none _ (ap is_some (sym (get-from_entries names_total es p.0)) ∙ m.0.new) in
-    let pushed = from_entries_push names_total names_exact es p.0 p.1 absent in
-    ap (λ x. with_all x ps) (sym pushed)
-    ∙ all_from_entries (es ++ p ∷ []) ps (subst (λ x. MayStand x ps) (sym pushed) m.1)
-    ∙ ap map.from_entries (append_assoc es (p ∷ []) ps)
+-- a name that no entry has, put behind them
+pushed_new : (es : Entries) (name value : List ℕ) → map.contains_key (map.from_entries {R = name_cmp} es) name ≡ false → map.insert (map.from_entries {R = name_cmp} es) name value ≡ map.from_entries (es ++ (name, value) ∷ [])
+pushed_new es name value new = sym (from_entries_push names_total names_exact es name value (is_none _ (ap is_some (sym (get-from_entries names_total es name)) ∙ new)))
 
-pub block_is_read : (bytes more : List ℕ) (ps : Entries) → IsBlock bytes ps → MayStand map.empty ps → run_block (new_block (length bytes)) (bytes ++ more) ≡ Done (map.from_entries ps) more
-block_is_read bytes more ps b m = block_read bytes more map.empty ps b m ∙ ap (λ x. Done x more) (all_from_entries [] ps m)
+-- what entries set and remove, behind others
+pub all_from_entries : (ps gs : Entries) (es : List BlockEntry) → MayStand (map.from_entries ps) (map.from_entries gs) es → (with_all (map.from_entries ps) es ≡ map.from_entries (ps ++ set_in es)) × (without_all (map.from_entries gs) es ≡ map.from_entries (gs ++ removed_in es))
+all_from_entries ps gs [] m = (ap map.from_entries (sym (append-nil ps)), ap map.from_entries (sym (append-nil gs)))
+all_from_entries ps gs (Sets name value ∷ es) m =
+    let pushed = pushed_new ps name value m.0.new.unset in
+    let rest = all_from_entries (ps ++ (name, value) ∷ []) gs es (subst (λ x. MayStand x (map.from_entries gs) es) pushed m.1) in
+    (ap (λ x. with_all x es) pushed ∙ rest.0 ∙ ap map.from_entries (append_assoc ps ((name, value) ∷ []) (set_in es)), rest.1)
+all_from_entries ps gs (Removes name ∷ es) m =
+    let pushed = pushed_new gs name [] m.0.new.unremoved in
+    let rest = all_from_entries ps (gs ++ (name, []) ∷ []) es (subst (λ x. MayStand (map.from_entries ps) x es) pushed m.1) in
+    (rest.0, ap (λ x. without_all x es) pushed ∙ rest.1 ∙ ap map.from_entries (append_assoc gs ((name, []) ∷ []) (removed_in es)))
+
+pub block_is_read : (delta : Bool) (bytes more : List ℕ) (es : List BlockEntry) → IsBlock delta bytes es → MayStand map.empty map.empty es → run_block (begun delta (length bytes)) (bytes ++ more) ≡ Done (map.from_entries (set_in es)) (map.from_entries (removed_in es)) more
+block_is_read delta bytes more es b m =
+    let all = all_from_entries [] [] es m in
+    block_read delta false map.empty bytes more map.empty es b m ∙ ap (λ x. Done x (without_all map.empty es) more) all.0 ∙ ap (λ x. Done (map.from_entries (set_in es)) x more) all.1
 
 -- ---- decimal numbers
 
@@ -145,7 +154,7 @@ front_fits es ps s fit =
     rw (others, syncs) refl
 
 -- properties that rise, fit, and are within the limits may stand one after the other, and are their map
-pub may_stand : (es ps : Entries) → IsRising (es ++ ps) → AllFit ps → props_fit (listed (es ++ ps)) ≡ true → MayStand (listed es) ps × (with_all (listed es) ps ≡ listed (es ++ ps))
+pub may_stand : (es ps : Entries) → IsRising (es ++ ps) → AllFit ps → props_fit (listed (es ++ ps)) ≡ true → MayStand (listed es) map.empty (all_set ps) × (with_all (listed es) (all_set ps) ≡ listed (es ++ ps))
 may_stand es [] s f fit = (tt, ap listed (sym (append-nil es)))
 may_stand es (p ∷ ps) s f fit =
     let below = all_below es ps p s in
@@ -155,14 +164,14 @@ may_stand es (p ∷ ps) s f fit =
     let rest = may_stand (es ++ p ∷ []) ps (subst IsRising (sym joins) s) f.1 (ap (λ x. props_fit (listed x)) joins ∙ fit) in
     let fits : props_fit (listed (es ++ p ∷ [])) ≡ true = front_fits (es ++ p ∷ []) ps (subst IsRising (sym joins) s) (ap (λ x. props_fit (listed x)) joins ∙ fit) in
     let new : map.contains_key (listed es) p.0 ≡ false = ap is_some (get-from_sorted name_cmp es p.0 r ∙ find_last es p.0 below) in (
-      (record { rule = f.0.rule; short = f.0.short; new = new; small = f.0.small; fit = ap props_fit pushed ∙ fits }, subst (λ x. MayStand x ps) (sym pushed) rest.0),
-      ap (λ x. with_all x ps) pushed ∙ rest.1 ∙ ap listed joins,
+      (record { new = record { rule = f.0.rule; short = f.0.short; unset = new; unremoved = ap is_some (get-empty name_cmp p.0) }; small = f.0.small; fit = ap props_fit pushed ∙ fits }, subst (λ x. MayStand x map.empty (all_set ps)) (sym pushed) rest.0),
+      ap (λ x. with_all x (all_set ps)) pushed ∙ rest.1 ∙ ap listed joins,
     )
 
 abbrev canon_of : Entries → List ℕ
 canon_of ps = flat_map canon_property ps ++ block_end
 
-pub canon_is_block : (ps : Entries) → AllFit ps → IsBlock (canon_of ps) ps
+pub canon_is_block : (ps : Entries) → AllFit ps → IsBlock false (canon_of ps) (all_set ps)
 canon_is_block [] f = refl
 canon_is_block (p ∷ ps) f =
     (decimal (length p.0), decimal (length p.1), canon_of ps, spells_decimal (length p.0) (omega (arith, f.0.short)), spells_decimal (length p.1) (omega (arith, f.0.small)), canon_is_block ps f.1, append_assoc (canon_property p) _ _)
@@ -194,14 +203,29 @@ fit_each whole (p ∷ ps) each has s =
     let f : (is_prop_name p.0 ≡ true) × (length p.0 ≤ 255) × (length p.1 ≤ 65536) = subst (λ o. IfSome o (λ v. (is_prop_name p.0 ≡ true) × (length p.0 ≤ 255) × (length v ≤ 65536))) here (each p.0) in
     (record { rule = f.0; short = f.1; small = f.2 }, fit_each whole ps each (λ q v e. has q v (find_rest q v p ps b.0 e)) b.1)
 
-pub written_is_read : (m : PropMap) (more : List ℕ) → IsProps m → IsBlock (canon_block m) (map.entries m) × (run_block (new_block (length (canon_block m))) (canon_block m ++ more) ≡ Done m more)
-written_is_read m more p =
+-- they remove nothing
+none_removed : (ps : Entries) (removed : PropMap) → without_all removed (all_set ps) ≡ removed
+none_removed [] removed = refl
+none_removed (p ∷ ps) removed = none_removed ps removed
+
+-- the entries of a map may stand one after another, and are the map then
+pub entries_stand : (m : PropMap) → IsProps m → MayStand map.empty map.empty (all_set (map.entries m)) × (with_all map.empty (all_set (map.entries m)) ≡ m)
+entries_stand m p =
     let ps = map.entries m in
     let s : IsRising ps = entries_sorted m in
     let f = fit_each m ps p.each (λ q v e. get-entries m q ∙ e) s in
-    let all = may_stand [] ps s f (ap props_fit (listed_entries m) ∙ p.fit) in
-    let block = canon_is_block ps f in (
+    let all = may_stand [] ps s f (ap props_fit (listed_entries m) ∙ p.fit) in (
+      subst (λ x. MayStand x map.empty (all_set ps)) map_none all.0,
+      ap (λ x. with_all x (all_set ps)) (sym map_none) ∙ all.1 ∙ listed_entries m,
+    )
+
+pub written_is_read : (m : PropMap) (more : List ℕ) → IsProps m → IsBlock false (canon_block m) (all_set (map.entries m)) × (run_block (new_block (length (canon_block m))) (canon_block m ++ more) ≡ Done m map.empty more)
+written_is_read m more p =
+    let ps = map.entries m in
+    let block = canon_is_block ps (fit_each m ps p.each (λ q v e. get-entries m q ∙ e) (entries_sorted m)) in
+    let stand = entries_stand m p in (
       block,
-      block_read (canon_block m) more map.empty ps block (subst (λ x. MayStand x ps) map_none all.0)
-          ∙ ap (λ x. Done x more) (ap (λ x. with_all x ps) (sym map_none) ∙ all.1 ∙ listed_entries m),
+      block_read false false map.empty (canon_block m) more map.empty (all_set ps) block stand.0
+          ∙ ap (λ x. Done x (without_all map.empty (all_set ps)) more) stand.1
+          ∙ ap (λ x. Done m x more) (none_removed ps map.empty),
     )

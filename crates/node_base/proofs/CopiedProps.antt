@@ -17,7 +17,7 @@ abbrev pub synced : Entries → PropMap → PropMap
 synced [] m = m
 synced (e ∷ es) m = synced es (if is_sync e.0 then map.insert m e.0 e.1 else m)
 
-find-joined : (q : Name) (es fs : Entries) → find name_cmp q (es ++ fs) ≡ option_or (find name_cmp q es) (find name_cmp q fs)
+pub find-joined : (q : Name) (es fs : Entries) → find name_cmp q (es ++ fs) ≡ option_or (find name_cmp q es) (find name_cmp q fs)
 find-joined q [] fs = refl
 find-joined q (e ∷ es) fs = elim (same_name q e.0) as (λ b. cond b (Some e.1) (find name_cmp q (es ++ fs)) ≡ option_or (cond b (Some e.1) (find name_cmp q es)) (find name_cmp q fs)) [ true ↦ refl | false ↦ find-joined q es fs ]
 

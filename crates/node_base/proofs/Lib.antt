@@ -5,6 +5,7 @@ pub mod BlockRuns
 pub mod BlockSpelled
 pub mod BlockWritten
 pub mod CopiedProps
+pub mod DeltaLists
 pub mod Digits
 pub mod EntryLemmas
 pub mod NumberLemmas

@@ -23,7 +23,7 @@ alike p q x e = ap p (sym (names_exact q x e))
 pub get-retained : (m : PropMap) (p : Name → Bool) (q : Name) → map.get (map.retain_keys m p) q ≡ cond (p q) (map.get m q) None
 get-retained m p q = get-retain_keys m p q (alike p q)
 
-turned : (b : Bool) (o : Option (List ℕ)) → cond (not b) o None ≡ cond b None o
+pub turned : (b : Bool) (o : Option (List ℕ)) → cond (not b) o None ≡ cond b None o
 turned true o = refl
 turned false o = refl
 
@@ -53,7 +53,7 @@ entries_retained m p =
 
 -- ---- how many names pass a test
 
-none_kept : (b : Bool) → ◌≡◌ {A = Option (List ℕ)} (cond b None None) None
+pub none_kept : (b : Bool) → ◌≡◌ {A = Option (List ℕ)} (cond b None None) None
 none_kept true = refl
 none_kept false = refl
 
@@ -194,7 +194,7 @@ pub counted : (p : Name → Bool) (m : PropMap) (es : Entries) (n i : ℕ) → e
 counted p m es n i e h so_far =
     omega (arith, so_far, ap (passing p) (dropped_all es i h), ap (passing p) e, len_retained m p)
 
-both_of : (a b : Bool) → (a && b) ≡ true → (a ≡ true) × (b ≡ true)
+pub both_of : (a b : Bool) → (a && b) ≡ true → (a ≡ true) × (b ≡ true)
 both_of true b e = (refl, e)
 both_of false b e = cc
 
@@ -275,7 +275,7 @@ retained_without m p k =
 fewer : (m : PropMap) (p : Name → Bool) (k : Name) → map.len (map.retain_keys (map.remove m k) p) ≤ map.len (map.retain_keys m p)
 fewer m p k = out_le (map.contains_key (map.retain_keys m p) k) (kept_of m p) (kept_of (map.remove m k) p) (ap map.len (retained_without m p k) ∙ len-remove names_total (map.retain_keys m p) k)
 
-le_still : (a b n : ℕ) → a ≤ b → nat_le b n ≡ true → nat_le a n ≡ true
+pub le_still : (a b n : ℕ) → a ≤ b → nat_le b n ≡ true → nat_le a n ≡ true
 le_still a b n h e = grind (arith, nat_tests)
 
 fewer_fit : (m : PropMap) (k : Name) → props_fit m ≡ true → props_fit (map.remove m k) ≡ true

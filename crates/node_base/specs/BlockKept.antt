@@ -18,11 +18,11 @@ abbrev pub waiting_bytes : Option (List ℕ) → ℕ
 waiting_bytes None = 0
 waiting_bytes (Some n) = length n
 
--- all that a reader keeps: the properties so far, a name, and what is unfinished
+-- all that a reader keeps: the properties so far, the names that are removed, a name, and what is unfinished
 abbrev pub kept_bytes : BlockReader → ℕ
-kept_bytes r = stored_bytes r.props + waiting_bytes r.name + length r.held
+kept_bytes r = stored_bytes r.props + stored_bytes r.removed + waiting_bytes r.name + length r.held
 
--- what is kept after a call: all, and the properties alone where the block is whole
+-- what is kept after a call: all, and the properties and the removed names alone where the block is whole
 abbrev pub kept_after : Option ℕ → BlockReader → ℕ
 kept_after None r = kept_bytes r
-kept_after (Some k) r = stored_bytes r.props
+kept_after (Some k) r = stored_bytes r.props + stored_bytes r.removed

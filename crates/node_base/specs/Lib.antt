@@ -11,6 +11,7 @@ pub mod NodeEdits
 pub mod Numbers
 pub mod Path
 pub mod PathText
+pub mod PropDeltas
 pub mod Props
 pub mod Refusals
 pub mod Texts

@@ -1,15 +1,16 @@
 //! Reading property blocks, as the notes on the dump file format (dump-load-format) describe them.
 ghost use Rattle.std.specs.Prelude.{◌≡◌, ◌+◌, ◌<◌, ◌≤◌, ◌^◌, [], ◌∷◌, ◌++◌, length, IfOk, IfSome, MatchOption};
+ghost use Rattle.std.specs.Prelude.{◌&&◌, ◌||◌, not, true, false};
 ghost use Rattle.std.specs.FinMap as map;
 ghost use Rattle.node_base.specs.Numbers.{is_digit, number_of};
 ghost use Rattle.node_base.specs.Blocks.{StepIs, BlockIs, MayKeep, held_more, run_block, part_step, block_step, keep};
-ghost use Rattle.node_base.specs.Blocks.{go, only, name_is, value_is, new_block, unfinished};
+ghost use Rattle.node_base.specs.Blocks.{go, only, begins, name_is, value_is, begun, new_block, unfinished};
 ghost use Rattle.node_base.specs.BlockKept.{kept_bytes, kept_after};
-ghost use Rattle.node_base.specs.declared.block_part.Part.TheVariants.{KeyCount, ValueCount, Ending};
+ghost use Rattle.node_base.specs.declared.block_part.Part.TheVariants.{Tag, KeyCount, ValueCount, Ending};
 
 use crate::block_part::Part;
 use crate::bytes::Bytes;
-use crate::{PropFault, PropName, PropValue, Props};
+use crate::{PropDelta, PropFault, PropName, PropValue, Props};
 use std::alloc::{AllocError, Global};
 use std::mem;
 
@@ -21,6 +22,12 @@ pub struct BlockReader {
     name: Option<PropName>,
     props: Props,
     held: Bytes,
+    // Whether names may be removed.
+    delta: bool,
+    // Whether the entry at hand is a name that is removed.
+    removes: bool,
+    // The names that are removed, each with an empty value.
+    removed: Props,
 }
 
 // Whether it is a digit.
@@ -54,12 +61,29 @@ impl BlockReader {
     pub fn new(alloc: Global, announced: u64) -> BlockReader
         ensures { result ≡ new_block announced }
     {
+        BlockReader::begun(alloc, false, announced)
+    }
+
+    /// The start of a block of so many bytes that changes a list: it may remove names too. Nothing is reserved for them.
+    pub fn of_delta(alloc: Global, announced: u64) -> BlockReader
+        ensures { result ≡ begun true announced }
+    {
+        BlockReader::begun(alloc, true, announced)
+    }
+
+    // The start of a block.
+    fn begun(alloc: Global, delta: bool, announced: u64) -> BlockReader
+        ensures { result ≡ begun delta announced }
+    {
         BlockReader {
             left: announced,
             part: Part::Tag,
             name: None,
             props: Props::empty(),
             held: Bytes::new(alloc),
+            delta,
+            removes: false,
+            removed: Props::empty(),
         }
     }
 
@@ -88,6 +112,27 @@ impl BlockReader {
             self.go(part)
         } else {
             Err(PropFault::BadProps)
+        }
+    }
+
+    // An entry begins.
+    fn begin(&mut self, removes: bool) -> Result<bool, PropFault>
+        ensures { StepIs result self.new (begins removes self.old) }
+    {
+        self.removes = removes;
+        self.go(Part::KeyBlank)
+    }
+
+    // At the first byte of an entry or of the end.
+    fn tag(&mut self, b: u8) -> Result<bool, PropFault>
+        ensures { StepIs result self.new (part_step Tag self.old b) }
+    {
+        if b == 75 {
+            self.begin(false)
+        } else if self.delta && b == 68 {
+            self.begin(true)
+        } else {
+            self.only(80, b, Part::Ending)
         }
     }
 
@@ -152,13 +197,26 @@ impl BlockReader {
         Ok(false)
     }
 
+    // Whether an entry so far has the name.
+    fn has_named(&self, name: &[u8]) -> bool
+        ensures { result ≡ (map.contains_key self.now.props name.now || map.contains_key self.now.removed name.now) }
+    {
+        self.props.contains(name) || self.removed.contains(name)
+    }
+
     // The held bytes are a name.
     fn take_name(&mut self) -> Result<bool, PropFault>
         ensures { StepIs result self.new (name_is self.old self.old.held) }
     {
+        let alloc = self.held.alloc();
         let name = PropName::from_bytes(self.held.take())?;
-        if self.props.contains(name.as_bytes()) {
+        if self.has_named(name.as_bytes()) {
             return Err(PropFault::BadProps);
+        }
+        if self.removes {
+            self.removed.set(alloc, name, PropValue::empty(alloc))?;
+            self.part = Part::ValueEnd;
+            return Ok(false);
         }
         if !self.props.fits_with(name.as_bytes()) {
             return Err(PropFault::TooLong);
@@ -184,13 +242,7 @@ impl BlockReader {
         ensures { StepIs result self.new (part_step self.old.part self.old b) }
     {
         match self.part {
-            Part::Tag => {
-                if b == 75 {
-                    self.go(Part::KeyBlank)
-                } else {
-                    self.only(80, b, Part::Ending)
-                }
-            }
+            Part::Tag => self.tag(b),
             Part::KeyBlank => self.only(32, b, Part::KeyCount),
             Part::KeyCount => self.key_count(b),
             Part::Name(n) => {
@@ -319,5 +371,15 @@ impl BlockReader {
         ensures left { self.new ≡ record self.old { props = map.empty } }
     {
         mem::replace(&mut self.props, Props::empty())
+    }
+
+    /// What the block of a delta said leaves the reader, which is otherwise as it was.
+    pub fn take_delta(&mut self) -> PropDelta
+        ensures read { result ≡ record { sets = self.old.props; removed = self.old.removed } }
+        ensures left { self.new ≡ record self.old { props = map.empty; removed = map.empty } }
+    {
+        let sets = mem::replace(&mut self.props, Props::empty());
+        let removed = mem::replace(&mut self.removed, Props::empty());
+        PropDelta { sets, removed }
     }
 }

@@ -1,5 +1,5 @@
 //! Values of properties.
-ghost use Rattle.std.specs.Prelude.{◌≡◌, ◌≤◌, ◌<◌, length, IfOk, OnOk, IfErr, Ok, Err};
+ghost use Rattle.std.specs.Prelude.{◌≡◌, ◌≤◌, ◌<◌, [], length, IfOk, OnOk, IfErr, Ok, Err};
 ghost use Rattle.node_base.specs.declared.prop_fault.PropFault.TheVariants.{TooLong};
 
 use crate::PropFault;
@@ -37,6 +37,15 @@ impl PropValue {
             return Err(PropFault::TooLong);
         }
         Ok(PropValue { bytes })
+    }
+
+    /// The value without bytes.
+    pub fn empty(alloc: Global) -> PropValue
+        ensures { result ≡ [] }
+    {
+        PropValue {
+            bytes: Vec::new(alloc),
+        }
     }
 
     /// Its bytes.

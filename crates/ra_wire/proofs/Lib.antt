@@ -2,7 +2,6 @@ pub mod Each
 pub mod Judged
 pub mod Kept
 pub mod Listed
-pub mod OneBlock
 pub mod Prototypes
 pub mod ReadAgain
 pub mod Slashes

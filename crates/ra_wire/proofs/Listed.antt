@@ -7,13 +7,13 @@ use Rattle.ra_item.specs.Items.{End, Then, Text, Nested, row}
 use Rattle.node_base.specs.Path.{Name}
 use Rattle.node_base.specs.Entries.{Entries}
 use Rattle.node_base.specs.Props.{PropMap, IsProps, is_prop_name}
-use Rattle.node_base.specs.BlockGrammar.{MayStand, MayFollow, with_all}
+use Rattle.node_base.specs.BlockGrammar.{MayStand, MayFollow, with_all, all_set}
+use Rattle.node_base.proofs.BlockWritten.{entries_stand}
 use Rattle.ra_wire.specs.Params.{Read, right, text_in, list_in, each}
 use Rattle.ra_wire.specs.Answers.{short_value, property_in, with_property, one_more, properties_of, Dirent, dirent_in, FileFound, file_in, DirFound}
 use Rattle.ra_wire.specs.Replies.{property, dirent, file_found}
 use Rattle.ra_wire.specs.ReadAgain.{answered, props_told, AreEntriesReadAgain, ArePropsReadAgain, IsDirReadAgain}
 use Rattle.ra_wire.proofs.Kept.{not_longer, prop_name_again}
-use Rattle.ra_wire.proofs.OneBlock.{may_stand}
 
 value_again : (v : List ℕ) → length v ≤ 65536 → short_value v ≡ Some v
 value_again v small = ap (λ b. if b then None else Some v) (not_longer 65536 (length v) small)
@@ -30,17 +30,17 @@ property_again n v rule short small =
     ap (λ r. behind_name v (right r (row (Text v ∷ [])))) (prop_name_again n rule short) ∙ ap (valued n) (value_again v small)
 
 -- a property that may follow is put among the others
-put_again : (m : PropMap) (n : Name) (v : List ℕ) → MayFollow m n v → one_more m (property (n, v)) ≡ Some (finite.insert m n v)
+put_again : (m : PropMap) (n : Name) (v : List ℕ) → MayFollow m finite.empty n v → one_more m (property (n, v)) ≡ Some (finite.insert m n v)
 put_again m n v f =
-    ap (option_and_then (with_property m)) (property_again n v f.rule f.short f.small)
+    ap (option_and_then (with_property m)) (property_again n v f.new.rule f.new.short f.small)
     ∙ ap (λ b. if b then Some (finite.insert m n v) else None) f.fit
 
-listed_again : (m : PropMap) (es : Entries) → MayStand m es → properties_of m (row (map property es)) ≡ Some (with_all m es)
+listed_again : (m : PropMap) (es : Entries) → MayStand m finite.empty (all_set es) → properties_of m (row (map property es)) ≡ Some (with_all m (all_set es))
 listed_again m [] f = refl
 listed_again m (e ∷ es) f = ap (option_and_then (λ n. properties_of n (row (map property es)))) (put_again m e.0 e.1 f.0) ∙ listed_again (finite.insert m e.0 e.1) es f.1
 
 whole_again : (m : PropMap) → IsProps m → properties_of finite.empty (row (map property (finite.entries m))) ≡ Some m
-whole_again m p = let s = may_stand m p in listed_again finite.empty (finite.entries m) s.0 ∙ ap Some s.1
+whole_again m p = let s = entries_stand m p in listed_again finite.empty (finite.entries m) s.0 ∙ ap Some s.1
 
 -- what is read in front of a list's end
 abbrev paired : Option PropMap → Read PropMap

@@ -1,9 +1,10 @@
 -- Entries that are read.
-use Rattle.std.proofs.Common.{◌≡◌, ℕ, List, [], ◌∷◌, ◌++◌, map, drop, Option, None, Some, refl, sym, ◌∙◌, ap, ap₂, subst, codes}
+use Rattle.std.proofs.Common.{◌≡◌, ℕ, List, [], ◌∷◌, ◌++◌, map, drop, Option, None, Some, refl, sym, ◌∙◌, ap, ap₂, subst, codes, inl, true, Bool, ◌&&◌}
 use Rattle.std.proofs.lemmas.List.{append-nil}
 use Rattle.std.specs.FinMap as finite
 use Rattle.node_base.specs.Props.{PropMap}
-use Rattle.dump_text.specs.Streams.{Stream, Reads, Refuses, reading, records_of, fresh, version_line}
+use Rattle.dump_text.specs.Streams.{Stream, Reads, Refuses, reading, records_of, fresh}
+use Rattle.dump_text.specs.Grammar.{version_line}
 use Rattle.dump_text.specs.declared.state.ReadState.{ReadState}
 use Rattle.dump_text.specs.declared.record.NodeRecord.{NodeRecord}
 use Rattle.dump_text.specs.declared.record.RevRecord.{RevRecord}
@@ -16,7 +17,10 @@ use Rattle.node_base.specs.declared.node.Action.TheVariants.{Modify, Add, Delete
 use Rattle.node_base.specs.declared.node.NodeKind.{NodeKind}
 use Rattle.std.specs.List.{flat_map}
 use Rattle.dump_text.specs.Canon.{told_kind, canon_head, canon_entry, canon_node, canon_revision, header_line, kind_line, action_word, source_lines, block_line, text_lines, content_line, content_of}
-use Rattle.dump_text.specs.Written.{AreFormed, AreRecords, read_node, read_revision}
+use Rattle.dump_text.specs.Written.{AreFormed, AreRecords, is_whole_part, are_whole, read_node, read_revision}
+use Rattle.dump_text.specs.declared.record.PropPart.TheVariants.{Whole}
+use Rattle.dump_load.specs.declared.change.Change.{Change}
+use Rattle.std.specs.Option.{option_map}
 use Rattle.dump_text.specs.declared.form.Stage.TheVariants.{First}
 use Rattle.dump_load.specs.Records.{record_of}
 use Rattle.repo_core.specs.Staging.{number_in, props_in}
@@ -83,7 +87,7 @@ joined items start bytes none new rs r h = ap₂ (λ (i : List DumpRecord) (s : 
 
 -- what is an entry is read as its records
 pub spelled_read : (law : DumpsAreRead) (bytes : List ℕ) (e : Entry) → Spells bytes e → AreReadAs bytes (records_in e)
-spelled_read law bytes e s = (_, law (version_line ++ 10 ∷ 10 ∷ bytes) (records_in e) (bytes, refl, s.readable First))
+spelled_read law bytes e s = (_, law 2 (version_line ++ 10 ∷ 10 ∷ bytes) (records_in e) (version_line, bytes, inl (refl, refl), refl, s.readable 2 First))
 
 -- bytes are read in one way
 pub one_read : (bytes : List ℕ) (rs others : List DumpRecord) → AreReadAs bytes rs → AreReadAs bytes others → rs ≡ others
@@ -182,7 +186,7 @@ spelled_alike law bytes e r rs spells read same =
 
 -- what is a first entry is read as its records
 pub beginning_read : (law : DumpsAreRead) (bytes identity : List ℕ) (props : PropMap) → IsBeginning bytes identity props → IsDumpOf bytes (Identity identity ∷ Revision 0 props ∷ [])
-beginning_read law bytes identity props begins = (_, law bytes (Identity identity ∷ Revision 0 props ∷ []) begins.readable)
+beginning_read law bytes identity props begins = (_, law begins.readable.0 bytes (Identity identity ∷ Revision 0 props ∷ []) begins.readable.1)
 
 -- bytes are one dump
 pub one_dump : (bytes : List ℕ) (rs others : List DumpRecord) → IsDumpOf bytes rs → IsDumpOf bytes others → rs ≡ others
@@ -216,10 +220,30 @@ begun_alike law bytes written identity other props others rs begins read same wr
     let (one, map_same) = one_beginning other identity others props (sym same ∙ never_no_beginning law bytes identity props rs begins read) in
     writes.canonical ∙ (λ i. canon_head (Some (one i)) ++ canon_entry 0 (map_same i)) ∙ sym begins.canonical
 
+-- the property lists of an entry's records are whole
+whole_part : (o : Option PropMap) → is_whole_part (option_map Whole o) ≡ true
+whole_part None = refl
+whole_part (Some p) = refl
+
+whole_set : (set : List Change) → are_whole (map told_of (map record_of set)) ≡ true
+whole_set [] = refl
+whole_set (c ∷ s) = λ i. whole_part c.props i && whole_set s i
+
+whole_nodes : (e : Entry) → are_whole (nodes_in e) ≡ true
+whole_nodes (Revised n set props) = whole_set set
+whole_nodes (Mapped n props) = refl
+
+-- so are those of the revision that is read from it
+pub whole_alike : (law : DumpsAreRead) (bytes : List ℕ) (e : Entry) (r : RevRecord) (rs : List DumpRecord) → Spells bytes e → AreReadAs bytes rs → records_of_revision r ≡ rs → are_whole r.nodes.items ≡ true
+whole_alike law bytes e r rs spells read same =
+    let (number, props, nodes) = revision_is law bytes e r spells (subst (λ (l : List DumpRecord). AreReadAs bytes l) (sym same) read) in
+    ap are_whole nodes ∙ whole_nodes e
+
 -- what is read and written again is a revision
-pub is_revision : (bytes : List ℕ) (r : RevRecord) (rs : List DumpRecord) → canon_revision r ≡ bytes → AreReadAs bytes rs → records_of_revision r ≡ rs
+pub is_revision : (bytes : List ℕ) (r : RevRecord) (rs : List DumpRecord) → are_whole r.nodes.items ≡ true → canon_revision r ≡ bytes → AreReadAs bytes rs → records_of_revision r ≡ rs
     → (AreFormed r.nodes.items → AreRecords (canon_revision r) (read_revision r)) → IsRevisionOf bytes r
-is_revision bytes r rs canonical read same readable = record {
+is_revision bytes r rs whole canonical read same readable = record {
+  whole = whole;
   canonical = sym canonical;
   read = subst (λ (l : List DumpRecord). AreReadAs bytes l) (sym same) read;
   readable = λ formed. subst (λ (l : List ℕ). AreRecords l (read_revision r)) canonical (readable formed);

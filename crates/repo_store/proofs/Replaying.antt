@@ -1,14 +1,14 @@
 -- Entries that are taken one after another.
-use Rattle.std.proofs.Common.{Result, Ok, Err, OnOk, slice_get, ◌==◌, ◌≡◌, ◌<◌, ℕ, List, [], ◌∷◌, ◌++◌, map, length, false, Option, None, Some, refl, sym, ◌∙◌, ap, ap₂, subst}
+use Rattle.std.proofs.Common.{Result, Ok, Err, OnOk, slice_get, ◌==◌, ◌≡◌, ◌<◌, ℕ, List, [], ◌∷◌, ◌++◌, map, length, Bool, true, false, ◌&&◌, Option, None, Some, refl, sym, ◌∙◌, ap, ap₂, subst}
 use Rattle.std.proofs.lemmas.List.{append-nil}
 use Rattle.std.specs.List.{flat_map}
 use Rattle.std.specs.Option.{option_map}
 use Rattle.node_base.specs.Props.{PropMap}
 use Rattle.dump_text.specs.Canon.{canon_entry, canon_node}
-use Rattle.dump_text.specs.Written.{AreFormed, AreRecords, read_node}
+use Rattle.dump_text.specs.Written.{AreFormed, AreRecords, is_whole_part, are_whole, read_node}
 use Rattle.dump_text.specs.declared.record.NodeRecord.{NodeRecord}
 use Rattle.dump_text.specs.declared.record.PropPart.{PropPart}
-use Rattle.dump_text.specs.declared.record.PropPart.TheVariants.{Whole}
+use Rattle.dump_text.specs.declared.record.PropPart.TheVariants.{Whole, Delta}
 use Rattle.dump_text.specs.declared.record.RevRecord.{RevRecord}
 use Rattle.dump_text.specs.declared.record.DumpRecord.TheVariants as told
 use Rattle.dump_load.specs.declared.change.Change.{Change}
@@ -27,19 +27,26 @@ use Rattle.repo_store.specs.Journal.{IsBeginning, Spells, Takes}
 use Rattle.repo_store.specs.Readings.{IsRevisionOf}
 use Rattle.repo_store.proofs.Spelling.{formed_set}
 
-part_back : (p : Option PropPart) → option_map Whole (option_map whole_props p) ≡ p
-part_back None = refl
-part_back (Some (Whole m)) = refl
+part_back : (p : Option PropPart) → is_whole_part p ≡ true → option_map Whole (option_map whole_props p) ≡ p
+part_back None w = refl
+part_back (Some (Whole m)) w = refl
+part_back (Some (Delta d)) w = cc
 
 abbrev with_part : NodeRecord → Option PropPart → NodeRecord
 with_part r q = record r { props = q }
 
-pub node_back : (r : NodeRecord) → record_of (change_of r) ≡ r
-node_back r = ap (with_part r) (part_back r.props)
+node_back : (r : NodeRecord) → is_whole_part r.props ≡ true → record_of (change_of r) ≡ r
+node_back r w = ap (with_part r) (part_back r.props w)
 
-nodes_back : (ns : List NodeRecord) → map record_of (map change_of ns) ≡ ns
-nodes_back [] = refl
-nodes_back (n ∷ ns) = ap₂ (λ (a : NodeRecord) (l : List NodeRecord). a ∷ l) (node_back n) (nodes_back ns)
+both_true : (a b : Bool) → (a && b) ≡ true → (a ≡ true) × (b ≡ true)
+both_true true b h = (refl, h)
+both_true false b h = cc
+
+nodes_back : (ns : List NodeRecord) → are_whole ns ≡ true → map record_of (map change_of ns) ≡ ns
+nodes_back [] w = refl
+nodes_back (n ∷ ns) w =
+    let both = both_true (is_whole_part n.props) (are_whole ns) w in
+    ap₂ (λ (a : NodeRecord) (l : List NodeRecord). a ∷ l) (node_back n both.0) (nodes_back ns both.1)
 
 -- the first entry is taken
 pub begun_by : (bytes identity : List ℕ) (props : PropMap) (old new : Repository) → IsBeginning bytes identity props → old ≡ fresh identity → new ≡ with_entry_in old (Mapped 0 props)
@@ -61,7 +68,7 @@ pub taken_set : (bytes : List ℕ) (r : RevRecord) (set : List Change) (old new 
     → r.number ≡ length old.revisions → by_repository old.revisions (Revised (length old.revisions) set r.props) ≡ None → new ≡ with_entry_in old (Revised (length old.revisions) set r.props)
     → (e : Entry) × Spells bytes e × Takes old.revisions e × (new ≡ with_entry_in old e)
 taken_set bytes r set old new is same bounded next accepted then =
-    let nodes : map record_of set ≡ r.nodes.items = ap (λ (s : List Change). map record_of s) same ∙ nodes_back r.nodes.items in
+    let nodes : map record_of set ≡ r.nodes.items = ap (λ (s : List Change). map record_of s) same ∙ nodes_back r.nodes.items is.whole in
     let formed = subst (λ (l : List NodeRecord). AreFormed l) nodes (formed_set set bounded) in
     let canonical = is.canonical ∙ ap (λ (l : List NodeRecord). canon_entry r.number r.props ++ flat_map canon_node l) (sym nodes) in
     let readable = subst (λ (l : List NodeRecord). AreRecords bytes (told.Revision r.number r.props ∷ map read_node l)) (sym nodes) (is.readable formed) in

@@ -9,7 +9,7 @@ use Rattle.dump_text.specs.Canon.{canon_head, canon_entry, canon_node}
 use Rattle.dump_text.specs.Grammar.{Dump}
 use Rattle.dump_text.specs.Laws.{DumpsGoOn}
 use Rattle.dump_text.specs.Forms.{is_deletion, is_making}
-use Rattle.dump_text.specs.Written.{AreRecords, AreFormed, has_node_form, read_identity, read_node}
+use Rattle.dump_text.specs.Written.{AreRecords, AreFormed, has_node_form, is_whole_part, read_identity, read_node}
 use Rattle.dump_text.specs.declared.record.PropPart.TheVariants.{Whole}
 use Rattle.dump_text.specs.declared.record.NodeRecord.{NodeRecord}
 use Rattle.dump_text.specs.declared.record.DumpRecord.TheVariants as told
@@ -44,10 +44,14 @@ same_form Replace source props text = refl
 form_of : (c : Change) → has_form c ≡ true → has_node_form (record_of c) ≡ true
 form_of c h = same_form c.action (is_none c.source) c.props (is_some c.text) ∙ h
 
+whole_part : (o : Option PropMap) → is_whole_part (option_map Whole o) ≡ true
+whole_part None = refl
+whole_part (Some p) = refl
+
 -- so may what a set keeps by its type be written
 formed : (s : List Change) → IsNormal s → AllByRecursion IsSmall s → AreFormed (map record_of s)
 formed [] n small = tt
-formed (c ∷ s) n small = (record { form = form_of c n.0.1; text = small.0.parts.1 }, formed s n.2 small.1)
+formed (c ∷ s) n small = (record { form = form_of c n.0.1; whole = whole_part c.props; text = small.0.parts.1 }, formed s n.2 small.1)
 
 pub formed_set : (set : List Change) → IsBounded set → AreFormed (map record_of set)
 formed_set set h = formed set h.set.0 h.small

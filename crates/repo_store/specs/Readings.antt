@@ -1,8 +1,8 @@
 -- How entries are read.
-use Rattle.std.specs.Prelude.{◌≡◌, ℕ, List, [], ◌∷◌, map, Option, Some, None}
+use Rattle.std.specs.Prelude.{◌≡◌, ℕ, true, List, [], ◌∷◌, map, Option, Some, None}
 use Rattle.dump_text.specs.Canon.{canon_revision}
 use Rattle.dump_text.specs.Streams.{reading, Reads, begin, dump}
-use Rattle.dump_text.specs.Written.{AreFormed, AreRecords, read_revision}
+use Rattle.dump_text.specs.Written.{AreFormed, AreRecords, are_whole, read_revision}
 use Rattle.dump_text.specs.declared.form.Stage.TheVariants.{First}
 use Rattle.dump_text.specs.declared.state.Place.TheVariants as at
 use Rattle.dump_text.specs.declared.state.ReadState.{ReadState}
@@ -31,8 +31,9 @@ AreReadAs bytes rs = (r : ReadState) × (reading (Reads [] behind) bytes ≡ Rea
 abbrev pub IsDumpOf : List ℕ → List DumpRecord → Type 0
 IsDumpOf bytes rs = (r : ReadState) × (dump bytes ≡ Reads rs r)
 
--- bytes are read as this revision, and are its canonical spelling
+-- bytes are read as this revision, whose property lists are whole, and are its canonical spelling
 pub record IsRevisionOf (bytes : List ℕ) (r : RevRecord) : Type 0 where
+  pub whole : are_whole r.nodes.items ≡ true
   pub canonical : bytes ≡ canon_revision r
   pub read : AreReadAs bytes (records_of r)
   pub readable : AreFormed r.nodes.items → AreRecords bytes (read_revision r)

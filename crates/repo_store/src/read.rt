@@ -1,11 +1,11 @@
 //! How entries are read.
-ghost use Rattle.std.specs.Prelude.{◌≡◌, ◌∷◌, ◌++◌, ◌↔◌, [], ℕ, List, map, false, Some, IfOk};
+ghost use Rattle.std.specs.Prelude.{◌≡◌, ◌∷◌, ◌++◌, ◌↔◌, [], ℕ, List, map, true, false, Some, IfOk};
 ghost use Rattle.std.specs.Prelude.{IfErr, IfNone, IfSome};
 ghost use Rattle.std.specs.Prelude.{OnOk, IsErrOf, IsTrue};
 ghost use Rattle.node_base.specs.Props.{PropMap};
 ghost use Rattle.dump_text.specs.Canon.{canon_revision};
 ghost use Rattle.dump_text.specs.Streams.{dump, reading, Reads, has_failed};
-ghost use Rattle.dump_text.specs.Written.{AreFormed, AreRecords, read_revision};
+ghost use Rattle.dump_text.specs.Written.{AreFormed, AreRecords, are_whole, read_revision};
 ghost use Rattle.dump_text.specs.declared.state.ReadState.{ReadState};
 ghost use Rattle.dump_text.specs.declared.record.DumpRecord.{DumpRecord as RecordOf};
 ghost use Rattle.dump_text.specs.declared.record.DumpRecord.TheVariants as told;
@@ -174,12 +174,16 @@ fn revision_of(alloc: Global, records: Vec<DumpRecord>) -> Result<RevRecord, Rea
     }
 }
 
-// Whether bytes are the canonical spelling of a revision.
+// Whether bytes are the canonical spelling of a revision, whose property lists are then whole.
 fn is_canonical(alloc: Global, revision: &RevRecord, bytes: &[u8]) -> Result<bool, AllocError>
-    ensures holds { IfOk result (λ b. IsTrue b ↔ (canon_revision revision.now ≡ bytes.now)) }
-    ensures readable { OnOk result (AreFormed revision.now.nodes.items
+    ensures holds { IfOk result (λ b. IsTrue b ↔ ((are_whole revision.now.nodes.items ≡ true)
+        × (canon_revision revision.now ≡ bytes.now))) }
+    ensures readable { IfOk result (λ b. IsTrue b → AreFormed revision.now.nodes.items
         → AreRecords (canon_revision revision.now) (read_revision revision.now)) }
 {
+    if !revision.is_whole() {
+        return Ok(false);
+    }
     let mut written = Vec::with_capacity(alloc, bytes.len())?;
     if write_revision(&mut written, revision).is_err() {
         return Err(AllocError);

@@ -4,25 +4,25 @@ use Rattle.std.proofs.lemmas.Bool.{true≢false}
 use Rattle.std.specs.Bool.{if◌then◌else◌}
 use Rattle.node_base.specs.Path.{Path}
 use Rattle.node_base.specs.PathText.{path_read}
-use Rattle.node_base.specs.Props.{PropMap}
-use Rattle.node_base.specs.Blocks.{Step, Next, Whole, Refused as BlockRefused, block_step, new_block}
+use Rattle.node_base.specs.Blocks.{Step, Next, Whole, Refused as BlockRefused, block_step, new_block, begun}
 use Rattle.node_base.specs.declared.fault.PathFault.{PathFault}
 use Rattle.node_base.specs.declared.fault.PathFault.TheVariants as path
 use Rattle.node_base.specs.declared.prop_fault.PropFault.TheVariants as prop
 use Rattle.node_base.specs.Numbers.{decimal, rev_read}
-use Rattle.dump_text.specs.Headers.{same, split_line, known_name, path_said, without_slash, kind_of, action_of, identity_of}
+use Rattle.dump_text.specs.Headers.{same, version_in, split_line, known_name, path_said, without_slash, kind_of, action_of, identity_of}
 use Rattle.dump_text.specs.Heads.{line_says, header_says, known_says, once, with_value, with_path}
-use Rattle.dump_text.specs.Forms.{record_of, fits_form, lengths_agree, lengths_fit}
+use Rattle.dump_text.specs.Forms.{record_of, fits_form, lengths_agree, lengths_fit, is_delta, part_of}
 use Rattle.dump_text.specs.declared.fault.DumpFault.{DumpFault}
 use Rattle.dump_text.specs.declared.fault.DumpFault.TheVariants as dump
 use Rattle.dump_text.specs.declared.head.Head.{Head}
 use Rattle.dump_text.specs.declared.header.HeaderName.{HeaderName}
 use Rattle.dump_text.specs.declared.header.HeaderName.TheVariants as header
 use Rattle.dump_text.specs.declared.record.DumpRecord.{DumpRecord}
+use Rattle.dump_text.specs.declared.record.PropPart.{PropPart}
 use Rattle.dump_text.specs.declared.state.Place.{Place}
 use Rattle.dump_text.specs.declared.state.Place.TheVariants as at
 use Rattle.dump_text.specs.declared.state.ReadState.{ReadState}
-use Rattle.dump_text.specs.Streams.{Stream, Reads, Refuses, reading, stream_step, line_step, line_is, block_said, said, given, give, made, text_is, after_block, content, judged, sum_holds, version_line, has_failed, StreamIs}
+use Rattle.dump_text.specs.Streams.{Stream, Reads, Refuses, reading, stream_step, line_step, line_is, versioned, block_said, said, given, give, made, text_is, after_block, content, judged, sum_holds, has_failed, StreamIs}
 use Rattle.fleet_engines.specs.Refusals.{dump_refusal}
 use Rattle.fleet_engines.proofs.Feeding.{refuses_or_lacks}
 use Rattle.store_engines.specs.Devices.{is_device}
@@ -116,15 +116,15 @@ unfolding Fine
 given_fine rs r None = refl
 given_fine rs r (Some rec) = refl
 
-made_fine : (rs : List DumpRecord) (r : ReadState) (props : Option PropMap) (text : List ℕ) → Fine (made rs r props text)
+made_fine : (rs : List DumpRecord) (r : ReadState) (props : Option PropPart) (text : List ℕ) → Fine (made rs r props text)
 unfolding Fine
 made_fine rs r props text = if_fine (nat_lt 1048576 (length text)) _ _ refl (given_fine rs r (record_of r.head props (Some text)))
 
-text_fine : (rs : List DumpRecord) (r : ReadState) (props : Option PropMap) (text : List ℕ) → Fine (text_is rs r props text)
+text_fine : (rs : List DumpRecord) (r : ReadState) (props : Option PropPart) (text : List ℕ) → Fine (text_is rs r props text)
 unfolding Fine
 text_fine rs r props text = if_fine (sum_holds r.head.sum text) _ _ (made_fine rs r props text) refl
 
-after_block_fine : (rs : List DumpRecord) (r : ReadState) (props : Option PropMap) → Fine (after_block rs r props)
+after_block_fine : (rs : List DumpRecord) (r : ReadState) (props : Option PropPart) → Fine (after_block rs r props)
 unfolding Fine
 after_block_fine rs r props =
     elim r.head.text_len as (λ o. Fine (elim o as (λ _. Stream) [ None ↦ give rs r props None | Some n ↦ if n == 0 then text_is rs r props [] else Reads rs (record r { place = at.Text n; props = props; held = [] }) ])) [
@@ -135,23 +135,28 @@ after_block_fine rs r props =
 content_fine : (rs : List DumpRecord) (r : ReadState) → Fine (content rs r)
 unfolding Fine
 content_fine rs r =
-    elim r.head.prop_len as (λ o. Fine (elim o as (λ _. Stream) [ None ↦ after_block rs r None | Some n ↦ if n == 0 then Refuses rs dump.BadProps else Reads rs (record r { place = at.Block; block = new_block n; held = [] }) ])) [
+    elim r.head.prop_len as (λ o. Fine (elim o as (λ _. Stream) [ None ↦ after_block rs r None | Some n ↦ if n == 0 then Refuses rs dump.BadProps else Reads rs (record r { place = at.Block; block = begun (is_delta r.head) n; held = [] }) ])) [
       | None ↦ after_block_fine rs r None
       | Some n ↦ if_fine (n == 0) _ _ refl refl
     ]
 
 judged_fine : (rs : List DumpRecord) (r : ReadState) → Fine (judged rs r)
 unfolding Fine
-judged_fine rs r = if_fine (not (fits_form r.stage r.head)) _ _ refl (if_fine (not (lengths_agree r.head)) _ _ refl (if_fine (not (lengths_fit r.head)) _ _ refl (content_fine rs r)))
+judged_fine rs r = if_fine (not (fits_form r.version r.stage r.head)) _ _ refl (if_fine (not (lengths_agree r.head)) _ _ refl (if_fine (not (lengths_fit r.head)) _ _ refl (content_fine rs r)))
 
 said_fine : (rs : List DumpRecord) (r : ReadState) (what : Result Head DumpFault) → FineHead what → Fine (said rs r what)
 unfolding Fine
 said_fine rs r (Ok h) k = refl
 said_fine rs r (Err f) k = k
 
+versioned_fine : (rs : List DumpRecord) (r : ReadState) (version : Option ℕ) → Fine (versioned rs r version)
+unfolding Fine
+versioned_fine rs r None = refl
+versioned_fine rs r (Some version) = refl
+
 line_is_fine : (place : Place) (rs : List DumpRecord) (r : ReadState) (line : List ℕ) → has_failed r ≡ false → Fine (line_is place rs r line)
 unfolding Fine
-line_is_fine at.Version rs r line h = if_fine (same line version_line) _ _ refl refl
+line_is_fine at.Version rs r line h = versioned_fine rs r (version_in line)
 line_is_fine at.Blank rs r [] h = refl
 line_is_fine at.Blank rs r (b ∷ bs) h = refl
 line_is_fine at.Header rs r [] h = judged_fine rs r
@@ -165,7 +170,7 @@ line_step_fine place rs r b h = if_fine (b == 10) _ _ (line_is_fine place rs (re
 block_fine : (rs : List DumpRecord) (r : ReadState) (s : Step) → has_failed r ≡ false → Fine (block_said rs r s)
 unfolding Fine
 block_fine rs r (Next block) h = h
-block_fine rs r (Whole props) h = after_block_fine rs (record r { block = new_block 0 }) (Some props)
+block_fine rs r (Whole props removed) h = after_block_fine rs (record r { block = new_block 0 }) (Some (part_of (is_delta r.head) props removed))
 block_fine rs r (BlockRefused prop.BadProps) h = refl
 block_fine rs r (BlockRefused prop.TooLong) h = refl
 block_fine rs r (BlockRefused prop.OutOfMemory) h = refl

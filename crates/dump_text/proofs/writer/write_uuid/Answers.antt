@@ -18,4 +18,4 @@ pub returns-clause-again : goal.returns-clause-again
 returns-clause-again g c =
     let h = c.hyphenated.ensures in
     let e = c.encode_lower-text.ensures in
-    head_written (Some c.args.uuid.now) (hyphens_back c.args.uuid.now (ap Some (sym h) ∙ e.parsed ∙ ap parsed (e.text ∙ ap (hyphenated_text lower) h)))
+    (2, head_written (Some c.args.uuid.now) (hyphens_back c.args.uuid.now (ap Some (sym h) ∙ e.parsed ∙ ap parsed (e.text ∙ ap (hyphenated_text lower) h))))

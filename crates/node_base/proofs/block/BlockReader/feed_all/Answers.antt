@@ -15,7 +15,7 @@ loop-at-preserved-then-stretch-gt0 c =
     kept c.loop-at.self c.keep_all.new.self c.args.piece.now c.loop-at.at c.min-stretch.result (λ s more m. c.room.ensures.keep s more (omega arith)) (rw e at c.in_ok-keep_all.ensures) ∙ c.loop-at.invariant
 
 pub returns-then-whole-clause-run : goal.returns-then-whole-clause-run
-returns-then-whole-clause-run c = sym c.loop-at.invariant ∙ whole_at c.loop-at.self c.take_byte.new.self.props c.args.piece.now c.loop-at.at c.loop-at-test.true (rw c.if-whole.true at c.in_ok-whole.ensures)
+returns-then-whole-clause-run c = sym c.loop-at.invariant ∙ whole_at c.loop-at.self c.take_byte.new.self.props c.take_byte.new.self.removed c.args.piece.now c.loop-at.at c.loop-at-test.true (rw c.if-whole.true at c.in_ok-whole.ensures)
 
 pub returns-in_err-whole-clause-run : goal.returns-in_err-whole-clause-run
 returns-in_err-whole-clause-run c =

@@ -1,0 +1,213 @@
+//! Dumps of format 3, whose records may give property lists as deltas.
+
+use crate::piece_tests::{answer, gives, wrong_change};
+use dump_text::{DumpReader, DumpRecord, NodeRecord, PropPart, RevRecord, write_revision};
+use node_base::{PropDelta, Props, RevNo};
+use std::alloc::Global;
+use std::process::Abort;
+
+// A revision that adds a file, and one that sets a property of it and removes another.
+const LATER: &[u8] = b"SVN-fs-dump-format-version: 3
+
+Revision-number: 1
+
+Node-path: a
+Node-kind: file
+Node-action: add
+Prop-content-length: 22
+
+K 1
+p
+V 1
+1
+PROPS-END
+Revision-number: 2
+
+Node-path: a
+Node-action: change
+Prop-delta: true
+Prop-content-length: 28
+
+K 1
+q
+V 1
+2
+D 1
+p
+PROPS-END
+";
+
+#[test]
+fn a_delta_is_read(rt: HostRuntime) {
+    assert!(rt; gives(rt.alloc(), LATER, 4096, 4, 0));
+    assert!(rt; gives(rt.alloc(), LATER, 1, 4, 0));
+}
+
+// Whether a delta sets one name to a value, and removes one other.
+fn changes(delta: &PropDelta, set: &[u8], value: &[u8], removed: &[u8]) -> bool {
+    delta.sets.len() == 1
+        && delta.sets.get(set) == Some(value)
+        && delta.removed.len() == 1
+        && delta.removed.contains(removed)
+}
+
+// Whether a record is a node with the delta that sets q to 2 and removes p.
+fn is_later(record: &DumpRecord) -> bool {
+    match record {
+        DumpRecord::Node(node) => gives_delta(node),
+        _ => false,
+    }
+}
+
+fn gives_delta(node: &NodeRecord) -> bool {
+    match &node.props {
+        Some(PropPart::Delta(delta)) => changes(delta, b"q", b"2", b"p") && !node.is_whole(),
+        _ => false,
+    }
+}
+
+// Whether the last record of the dump is that node, and the reader then says that it is of format 3.
+fn ends_with_delta(alloc: Global) -> bool {
+    let mut reader = DumpReader::new(alloc);
+    let mut out = Vec::new(alloc);
+    reader.feed(LATER, &mut out).is_ok()
+        && reader.version() == 3
+        && out.last().is_some_and(|record| is_later(record))
+}
+
+#[test]
+fn what_a_delta_says(rt: HostRuntime) {
+    assert!(rt; ends_with_delta(rt.alloc()));
+}
+
+// Whether the revision of a dump's last record is refused by the writer, with nothing written.
+fn is_unwritten(rt: &impl Abort, alloc: Global) -> bool {
+    let mut reader = DumpReader::new(alloc);
+    let mut out = Vec::new(alloc);
+    reader.feed(LATER, &mut out).expect(rt, "a dump");
+    let mut revision = RevRecord {
+        number: RevNo::new(2),
+        props: Props::empty(),
+        nodes: Vec::new(alloc),
+    };
+    if let Some(DumpRecord::Node(node)) = out.pop() {
+        revision.nodes.push(node).expect(rt, "memory");
+    }
+    let mut written = Vec::new(alloc);
+    !revision.is_whole() && write_revision(&mut written, &revision).is_err() && written.is_empty()
+}
+
+#[test]
+fn a_delta_is_not_written(rt: HostRuntime) {
+    assert!(rt; is_unwritten(&rt, rt.alloc()));
+}
+
+// The refusal of a node's lines behind these of a format, or 0.
+fn refusal(rt: &impl Abort, alloc: Global, front: &[u8], lines: &str) -> u32 {
+    let mut bytes = Vec::from_slice(alloc, front).expect(rt, "memory");
+    bytes
+        .extend_from_slice(lines.as_bytes())
+        .expect(rt, "memory");
+    let (_, number) = answer(alloc, bytes.as_slice(), 4096);
+    number
+}
+
+const OF_2: &[u8] = b"SVN-fs-dump-format-version: 2\n\nRevision-number: 1\n\nNode-path: a\n";
+
+const OF_3: &[u8] = b"SVN-fs-dump-format-version: 3\n\nRevision-number: 1\n\nNode-path: a\n";
+
+// The first lines of a node that aren't answered so in format 2, and so in format 3.
+fn first_other<'a>(
+    rt: &impl Abort,
+    alloc: Global,
+    table: &'a [(&'a str, u32, u32)],
+) -> Option<&'a str> {
+    for (lines, two, three) in table {
+        if refusal(rt, alloc, OF_2, lines) != *two || refusal(rt, alloc, OF_3, lines) != *three {
+            return Some(*lines);
+        }
+    }
+    None
+}
+
+const PLACES: [(&str, u32, u32); 7] = [
+    (
+        "Node-action: change\nProp-delta: true\nProp-content-length: 16\n\nD 1\np\nPROPS-END\n",
+        2,
+        0,
+    ),
+    (
+        "Node-action: change\nProp-content-length: 16\n\nD 1\np\nPROPS-END\n",
+        5,
+        5,
+    ),
+    ("Node-action: change\nProp-delta: true\n\n", 2, 0),
+    (
+        "Node-action: change\n\nRevision-number: 2\nProp-delta: true\n\n",
+        2,
+        2,
+    ),
+    ("Node-action: change\nText-delta: true\n", 9, 9),
+    ("Node-action: change\nProp-delta: false\n\n", 0, 0),
+    ("Prop-delta: true\nProp-delta: true\n\n", 2, 2),
+];
+
+#[test]
+fn where_a_delta_may_stand(rt: HostRuntime) {
+    assert!(rt; first_other(&rt, rt.alloc(), &PLACES).is_none());
+}
+
+// Whether the first so many bytes of the dump are answered alike whole and byte by byte.
+fn front_agrees(alloc: Global, end: usize) -> bool {
+    match LATER.get(..end) {
+        Some(front) => answer(alloc, front, 4096) == answer(alloc, front, 1),
+        None => false,
+    }
+}
+
+#[test]
+fn each_truncation_answers_the_same_byte_by_byte(rt: HostRuntime) {
+    for end in 0..LATER.len() {
+        assert!(rt; front_agrees(rt.alloc(), end), "cut at {end}");
+    }
+}
+
+#[test]
+fn each_change_of_a_byte_agrees_from_0(rt: HostRuntime) {
+    assert!(rt; wrong_change(&rt, rt.alloc(), LATER, 0).is_none());
+}
+
+#[test]
+fn each_change_of_a_byte_agrees_from_32(rt: HostRuntime) {
+    assert!(rt; wrong_change(&rt, rt.alloc(), LATER, 32).is_none());
+}
+
+#[test]
+fn each_change_of_a_byte_agrees_from_64(rt: HostRuntime) {
+    assert!(rt; wrong_change(&rt, rt.alloc(), LATER, 64).is_none());
+}
+
+#[test]
+fn each_change_of_a_byte_agrees_from_96(rt: HostRuntime) {
+    assert!(rt; wrong_change(&rt, rt.alloc(), LATER, 96).is_none());
+}
+
+#[test]
+fn each_change_of_a_byte_agrees_from_128(rt: HostRuntime) {
+    assert!(rt; wrong_change(&rt, rt.alloc(), LATER, 128).is_none());
+}
+
+#[test]
+fn each_change_of_a_byte_agrees_from_160(rt: HostRuntime) {
+    assert!(rt; wrong_change(&rt, rt.alloc(), LATER, 160).is_none());
+}
+
+#[test]
+fn each_change_of_a_byte_agrees_from_192(rt: HostRuntime) {
+    assert!(rt; wrong_change(&rt, rt.alloc(), LATER, 192).is_none());
+}
+
+#[test]
+fn each_change_of_a_byte_agrees_from_224(rt: HostRuntime) {
+    assert!(rt; wrong_change(&rt, rt.alloc(), LATER, 224).is_none());
+}
