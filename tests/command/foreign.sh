@@ -5,7 +5,7 @@ holds_only() {
     test "$(ls -A "$1")" = "$2" && test "$(cat "$1/$2")" = "$3"
 }
 
-for there in journal gate; do
+for there in journal gate slots; do
     mkdir "$work/foreign.$there"
     printf 'not ours' >"$work/foreign.$there/$there"
     refused "create beside a foreign $there" 35 create "$work/foreign.$there" --uuid $uuid
@@ -19,7 +19,7 @@ for there in journal gate; do
     ./svnfleet create "$work/empty.$there" --uuid $uuid >"$work/out" 2>"$work/errors" </dev/null
     check "create beside an empty $there: status" test $? -eq 0
     check "create beside an empty $there: the journal" test "$(wc -c <"$work/empty.$there/journal")" -eq 149
-    check "create beside an empty $there: the gate" holds "$work/empty.$there/gate" 01000000000000009500
+    check "create beside an empty $there: the slots" holds "$work/empty.$there/slots" 0100000000000000957003969be94896f860fa3d8d10e46c1100
 done
 mkdir "$work/foreign"
 printf 'not ours' >"$work/foreign/notes"

@@ -67,7 +67,7 @@ for input in '' '<&-'; do
             closed "$streams" create "$folder" --uuid $uuid
             gave "create, $named" 0 "$work/nothing" ''
             check "create, $named: the journal" cmp -s "$folder/journal" "$work/begun"
-            check "create, $named: the gate" holds "$folder/gate" 01000000000000009500
+            check "create, $named: the slots" holds "$folder/slots" 0100000000000000957003969be94896f860fa3d8d10e46c1100
             keeps "create, $named" "$folder" "$work/begun"
 
             cp -r "$folder" "$folder.made"

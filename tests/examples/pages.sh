@@ -42,7 +42,7 @@ with open(sys.argv[1], 'r+b') as journal:
     journal.seek(journal.read().rindex(b'two\n'))
     journal.write(b'tow\n')
 END
-entry=$((($(wc -c <archive/gate) - 1) / 9 - 1))
+entry=$((($(wc -c <archive/slots) - 1) / 25 - 1))
 "$program" dump archive >said 2>errors </dev/null
 check 'README: a damaged entry is told' test "$(cat errors)" = "svnfleet: 33 entry $entry is damaged"
 identity=$(sed -n '3s/^UUID: //p' archive/journal)

@@ -1,4 +1,4 @@
-// calls.so: counts what a program does to the files `journal` and `gate` of one folder, tells it, and refuses or stops it.
+// calls.so: counts what a program does to the files `journal`, `gate` and `slots` of one folder, tells it, and refuses or stops it.
 //
 // Each write, cut and sync of a file there is one line of the file CALLS: its name, the file, the offset and the bytes in
 // hexadecimal digits, as far as these apply. Environment: CALLS_OF the folder, CALLS the file, FAIL_AT the call that is

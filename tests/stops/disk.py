@@ -1,10 +1,10 @@
-"""A folder's two files, and what a stop of the machine may leave of them behind some calls that calls.so told."""
+"""A folder's three files, and what a stop of the machine may leave of them behind some calls that calls.so told."""
 import itertools
 import os
 import subprocess
 
 HERE = os.path.dirname(os.path.realpath(__file__))
-FILES = 'journal', 'gate'
+FILES = 'journal', 'gate', 'slots'
 
 
 def content(folder):
@@ -67,8 +67,10 @@ def images(start, calls):
 
 
 def entries(image):
-    """How many entries stand: the open gates before the first closed one."""
-    gates = image['gate'][::9]
+    """How many entries stand: the open gates before the first closed one, in the file that has them."""
+    slots, gate = image['slots'], image['gate']
+    second = len(slots) >= 26 and slots[0] == 1 or not gate and slots and slots[0] != 1
+    gates = slots[::25] if second else gate[::9]
     return next((number for number, gate in enumerate(gates) if gate != 1), len(gates))
 
 

@@ -17,7 +17,7 @@ Reads dumps of formats 2 and 3: what `svnadmin dump` writes, with --incremental 
 
 /// Of `create`.
 pub const CREATE: &str = "\
-Prints nothing. Nothing is made in a folder that has a file `journal` or `gate` that isn't empty (35).
+Prints nothing. Nothing is made in a folder that has a file `journal`, `gate` or `slots` that isn't empty (35).
 The folder above has to be there.";
 
 /// Of `load`.

@@ -27,9 +27,13 @@ fn gate_left(disk: &MemDisk, old: &[u8], new: &[u8], other: &[u8]) -> bool {
     are_left(disk, DiskFile::Gate, old, new, other)
 }
 
+fn slots_left(disk: &MemDisk, old: &[u8], new: &[u8], other: &[u8]) -> bool {
+    are_left(disk, DiskFile::Slots, old, new, other)
+}
+
 // Whether a stop before a sync leaves what it may: the old bytes, the new ones, or others where there was a write.
 fn may_leave_either(alloc: Global) -> bool {
-    let Ok(mut disk) = MemDisk::with_bytes(alloc, b"abcdef", b"") else {
+    let Ok(mut disk) = MemDisk::with_bytes(alloc, b"abcdef", b"", b"") else {
         return false;
     };
     disk.write_at(DiskFile::Journal, 4, b"12345").is_ok()
@@ -38,11 +42,13 @@ fn may_leave_either(alloc: Global) -> bool {
         && journal_left(&disk, b"abcdef", b"abcd1", b"abcd#####")
         && disk.write_at(DiskFile::Gate, 0, b"x").is_ok()
         && gate_left(&disk, b"", b"x", b"#")
+        && disk.write_at(DiskFile::Slots, 0, b"yz").is_ok()
+        && slots_left(&disk, b"", b"yz", b"##")
 }
 
 // Whether a stop after a sync leaves what a read gives, but for what was written since.
 fn leaves_what_was_synced(alloc: Global) -> bool {
-    let Ok(mut disk) = MemDisk::with_bytes(alloc, b"abcdef", b"") else {
+    let Ok(mut disk) = MemDisk::with_bytes(alloc, b"abcdef", b"", b"") else {
         return false;
     };
     disk.cut(DiskFile::Journal, 5).is_ok()
@@ -62,7 +68,7 @@ fn a_stop_between_two_syncs(rt: HostRuntime) {
     assert!(rt; leaves_what_was_synced(rt.alloc()));
 }
 
-// Whether two files are empty at first, and this is written over them and cut.
+// Whether the journal is empty at first, and this is written over it and cut.
 fn is_written<D: Disk>(disk: &mut D) -> Result<bool, DiskFault> {
     let before = disk.len(DiskFile::Journal)?;
     disk.write_at(DiskFile::Journal, 0, b"hello")?;
@@ -80,12 +86,13 @@ fn is_read<D: Disk>(disk: &mut D) -> Result<bool, DiskFault> {
     Ok(count == 3 && behind == 0 && buf == *b"elp...")
 }
 
-// Whether a disk with two empty files can be written, asked and read.
+// Whether a disk with empty files can be written, asked and read.
 fn goes_round<D: Disk>(disk: &mut D) -> Result<bool, DiskFault> {
     let written = is_written(disk)?;
     let journal = disk.len(DiskFile::Journal)?;
     let gate = disk.len(DiskFile::Gate)?;
-    Ok(written && journal == 4 && gate == 0 && is_read(disk)?)
+    let slots = disk.len(DiskFile::Slots)?;
+    Ok(written && journal == 4 && gate == 0 && slots == 0 && is_read(disk)?)
 }
 
 // Whether that was so, and nothing was refused.
@@ -194,9 +201,9 @@ fn has_gate(disk: &MemDisk, bytes: &[u8]) -> bool {
     disk.bytes(DiskFile::Gate) == bytes
 }
 
-// Whether a fuse of nine calls lets them pass.
-fn lets_nine_pass(rt: &HostRuntime) -> bool {
-    is_so(goes_round(&mut fused(rt, 9, Fuse::ForGood)))
+// Whether a fuse of ten calls lets them pass.
+fn lets_ten_pass(rt: &HostRuntime) -> bool {
+    is_so(goes_round(&mut fused(rt, 10, Fuse::ForGood)))
 }
 
 // Whether the call behind the one that fails passes.
@@ -215,7 +222,7 @@ fn fails_for_good(rt: &HostRuntime) -> bool {
 
 #[test]
 fn a_fuse(rt: HostRuntime) {
-    assert!(rt; lets_nine_pass(&rt));
+    assert!(rt; lets_ten_pass(&rt));
     assert!(rt; fails_once(&rt));
     assert!(rt; fails_for_good(&rt));
 }

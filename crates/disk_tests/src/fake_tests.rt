@@ -208,22 +208,22 @@ fn was_asked(asked: &Asked, holds: u32, syncs: u32, folder_syncs: u32) -> bool {
         && asked.folder_syncs.get() == folder_syncs
 }
 
-// Whether a first sync reaches both files, and a second none.
-fn syncs_both<'a>(disk: &mut HostDisk<StdFiles<FakeFile<'a>>>, asked: &Asked) -> bool {
+// Whether a first sync reaches the three files, and a second none.
+fn syncs_all<'a>(disk: &mut HostDisk<StdFiles<FakeFile<'a>>>, asked: &Asked) -> bool {
     was_asked(asked, 1, 0, 1)
         && disk.sync().is_ok()
-        && was_asked(asked, 1, 2, 1)
+        && was_asked(asked, 1, 3, 1)
         && disk.sync().is_ok()
-        && was_asked(asked, 1, 2, 1)
+        && was_asked(asked, 1, 3, 1)
 }
 
-// A first sync reaches both files, a later one those that were changed since, and making them the folder. One file is
+// A first sync reaches all files, a later one those that were changed since, and making them the folder. One file is
 // held.
 #[test]
 fn what_a_folder_is_asked(rt: HostRuntime) {
     let asked = nothing_asked();
     let mut disk = made(&rt, rt.alloc(), &asked);
-    assert!(rt; syncs_both(&mut disk, &asked));
+    assert!(rt; syncs_all(&mut disk, &asked));
 }
 
 // Whether a cut of the gate and the sync behind it ask for that of one file.
@@ -233,16 +233,17 @@ fn cuts_one<'a>(disk: &mut HostDisk<StdFiles<FakeFile<'a>>>, asked: &Asked) -> b
         && disk.sync().is_ok()
         && asked.cut_to.get() == 5
         && asked.gate_syncs.get() == 2
-        && was_asked(asked, 1, 3, 1)
+        && was_asked(asked, 1, 4, 1)
 }
 
-// Whether writes of both files and the sync behind them ask for that, at the place that is given.
-fn writes_both<'a>(disk: &mut HostDisk<StdFiles<FakeFile<'a>>>, asked: &Asked) -> bool {
+// Whether writes of the three files and the sync behind them ask for that, at the place that is given.
+fn writes_all<'a>(disk: &mut HostDisk<StdFiles<FakeFile<'a>>>, asked: &Asked) -> bool {
     disk.write_at(DiskFile::Journal, 9, b"abc").is_ok()
         && asked.sought.get() == 9
         && disk.write_at(DiskFile::Gate, 9, b"abc").is_ok()
+        && disk.write_at(DiskFile::Slots, 9, b"abc").is_ok()
         && disk.sync().is_ok()
-        && was_asked(asked, 1, 5, 1)
+        && was_asked(asked, 1, 7, 1)
         && disk.len(DiskFile::Journal) == Ok(7)
 }
 
@@ -252,7 +253,7 @@ fn what_a_change_is_asked(rt: HostRuntime) {
     let asked = nothing_asked();
     let mut disk = made(&rt, rt.alloc(), &asked);
     assert!(rt; cuts_one(&mut disk, &asked));
-    assert!(rt; writes_both(&mut disk, &asked));
+    assert!(rt; writes_all(&mut disk, &asked));
 }
 
 // A folder whose journal is held by another is neither made nor opened.

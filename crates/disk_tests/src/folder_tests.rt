@@ -31,7 +31,7 @@ fn is_made_beside(rt: &HostRuntime, folder: &str, file: DiskFile, count: u64) ->
     }
 }
 
-// Beside a file with bytes nothing is made, whichever of the two it is.
+// Beside a file with bytes nothing is made, whichever of the three it is.
 #[test]
 fn beside_a_foreign_journal(rt: HostRuntime) -> io::Result<()> {
     let folder = "fleet_disk_foreign_journal";
@@ -52,12 +52,23 @@ fn beside_a_foreign_gate(rt: HostRuntime) -> io::Result<()> {
     fs::remove_dir_all(&rt, folder)
 }
 
-// Whether both files of a folder, whose disk is made now, are written.
+#[test]
+fn beside_foreign_slots(rt: HostRuntime) -> io::Result<()> {
+    let folder = "fleet_disk_foreign_slots";
+    empty_folder(&rt, folder)?;
+    write_file(&rt, "fleet_disk_foreign_slots/slots", b"foreign")?;
+    assert!(rt; is_made_beside(&rt, folder, DiskFile::Slots, 7));
+    assert!(rt; is_missing(&rt, "fleet_disk_foreign_slots/journal"));
+    fs::remove_dir_all(&rt, folder)
+}
+
+// Whether the files of a folder, whose disk is made now, are written.
 fn is_written(rt: &HostRuntime, folder: &str) -> bool {
     match HostDisk::create(rt, rt.alloc(), folder) {
         Ok(mut disk) => {
             disk.write_at(DiskFile::Gate, 0, b"x").is_ok()
                 && disk.write_at(DiskFile::Journal, 0, b"xy").is_ok()
+                && disk.write_at(DiskFile::Slots, 0, b"xyz").is_ok()
         }
         Err(_) => false,
     }
@@ -72,5 +83,6 @@ fn beside_an_empty_journal(rt: HostRuntime) -> io::Result<()> {
     assert!(rt; is_written(&rt, folder));
     assert!(rt; has_bytes(&rt, "fleet_disk_empty_journal/gate", 1));
     assert!(rt; has_bytes(&rt, "fleet_disk_empty_journal/journal", 2));
+    assert!(rt; has_bytes(&rt, "fleet_disk_empty_journal/slots", 3));
     fs::remove_dir_all(&rt, folder)
 }

@@ -11,3 +11,5 @@ mod folder_tests;
 mod growth_tests;
 #[cfg(test)]
 mod log_tests;
+#[cfg(test)]
+mod upgrade_tests;

@@ -2,12 +2,14 @@
 
 use crate::disk_tests::empty_folder;
 use fleet_disk::{Disk, DiskFile, Fuse, FuseDisk, HostDisk, MemDisk, Pick};
-use gate_log::{GateLog, LogFault, one_verdict};
+use gate_log::{GateLog, LogFault, LogVersion, one_verdict};
 use std::alloc::Global;
 use std::process::Abort;
 use std::{fs, io};
 
-const PICKS: [Pick; 4] = [Pick::Old, Pick::New, Pick::Fill(1), Pick::Fill(0x37)];
+pub(crate) const PICKS: [Pick; 4] = [Pick::Old, Pick::New, Pick::Fill(1), Pick::Fill(0x37)];
+
+const VERSIONS: [LogVersion; 2] = [LogVersion::First, LogVersion::Second];
 
 // What stands after so many calls of an append, for each pick: the gate's write decides.
 const STANDING: [[u64; 4]; 6] = [
@@ -60,7 +62,7 @@ fn is_entry<D: Disk>(alloc: Global, log: &mut GateLog<D>, number: u64, text: &[u
 }
 
 // Whether there are so many entries, the first of the four texts.
-fn has_entries<D: Disk>(alloc: Global, log: &mut GateLog<D>, count: u64) -> bool {
+pub(crate) fn has_entries<D: Disk>(alloc: Global, log: &mut GateLog<D>, count: u64) -> bool {
     log.len() == count
         && is_entry(alloc, log, 0, b"first")
         && is_entry(alloc, log, 1, b"second")
@@ -87,48 +89,60 @@ fn begun<D: Disk + Drop>(rt: &impl Abort, alloc: Global, disk: D) -> GateLog<D> 
 }
 
 // The log of a disk.
-fn found<D: Disk + Drop>(rt: &impl Abort, alloc: Global, disk: D) -> GateLog<D> {
+pub(crate) fn found<D: Disk + Drop>(rt: &impl Abort, alloc: Global, disk: D) -> GateLog<D> {
     opened(alloc, disk).expect(rt, "a log")
 }
 
 // The disk as a stop leaves it.
-fn crashed(rt: &impl Abort, disk: &MemDisk, pick: Pick) -> MemDisk {
+pub(crate) fn crashed(rt: &impl Abort, disk: &MemDisk, pick: Pick) -> MemDisk {
     disk.crash(pick).expect(rt, "memory")
 }
 
 // A disk with one entry, all of it synced.
-fn one_entry(rt: &impl Abort, alloc: Global) -> MemDisk {
-    let mut log = begun(rt, alloc, MemDisk::new(alloc));
-    assert!(rt; added(&mut log, b"first") == Some(0));
-    crashed(rt, &log.into_disk(), Pick::New)
+fn one_entry(rt: &impl Abort, alloc: Global, version: LogVersion) -> MemDisk {
+    let disk = match version {
+        LogVersion::First => MemDisk::with_bytes(alloc, b"first", ONE_GATE, b""),
+        LogVersion::Second => MemDisk::with_bytes(alloc, b"first", b"", ONE_SLOT),
+    };
+    disk.expect(rt, "memory")
 }
 
 // How many calls the opening of such a disk makes.
-fn opening_calls(rt: &impl Abort, alloc: Global, disk: &MemDisk) -> u64 {
+pub(crate) fn opening_calls(rt: &impl Abort, alloc: Global, disk: &MemDisk) -> u64 {
     let log = found(rt, alloc, crashed(rt, disk, Pick::New));
     log.into_disk().calls().len() as u64
 }
 
 // A log over a disk with one entry, of which so many calls pass behind its opening.
-fn fused(rt: &impl Abort, alloc: Global, calls: u64, fuse: Fuse) -> GateLog<FuseDisk<MemDisk>> {
-    let disk = one_entry(rt, alloc);
+fn fused(
+    rt: &impl Abort,
+    alloc: Global,
+    version: LogVersion,
+    calls: u64,
+    fuse: Fuse,
+) -> GateLog<FuseDisk<MemDisk>> {
+    let disk = one_entry(rt, alloc, version);
     let before = opening_calls(rt, alloc, &disk);
     let fused = FuseDisk::new(disk, before.saturating_add(calls), fuse);
     found(rt, alloc, fused)
 }
 
 // The disk after this many calls of appends of `second`, `third` and `fourth`, stopped.
-fn stopped(rt: &impl Abort, alloc: Global, calls: u64, pick: Pick) -> MemDisk {
-    let mut log = fused(rt, alloc, calls, Fuse::ForGood);
+fn stopped(rt: &impl Abort, alloc: Global, version: LogVersion, calls: u64, pick: Pick) -> MemDisk {
+    let mut log = fused(rt, alloc, version, calls, Fuse::ForGood);
     let _all = added(&mut log, b"second").is_some()
         && added(&mut log, b"third").is_some()
         && added(&mut log, b"fourth").is_some();
     crashed(rt, &log.into_disk().into_inner(), pick)
 }
 
-// Whether a disk that was stopped after so many calls opens with so many entries.
+// Whether a disk that was stopped after so many calls opens with so many entries, in either version.
 fn stands(rt: &impl Abort, alloc: Global, calls: u64, pick: Pick, count: u64) -> bool {
-    opens_with(alloc, stopped(rt, alloc, calls, pick), count)
+    VERSIONS.iter().all(|version| opens_with(
+        alloc,
+        stopped(rt, alloc, *version, calls, pick),
+        count,
+    ))
 }
 
 #[test]
@@ -176,7 +190,7 @@ fn takes_a_second<D: Disk + Drop>(alloc: Global, disk: D) -> bool {
 
 #[test]
 fn the_third_call_fails(rt: HostRuntime) {
-    let mut log = fused(&rt, rt.alloc(), 2, Fuse::Once);
+    let mut log = fused(&rt, rt.alloc(), LogVersion::Second, 2, Fuse::Once);
     assert!(rt; not_added(&mut log) == Some(LogFault::DeviceFailed));
     assert!(rt; has_failed_for_good(rt.alloc(), &mut log));
     assert!(rt; takes_a_second(rt.alloc(), log.into_disk()));
@@ -191,7 +205,7 @@ fn fails_to_read<D: Disk>(alloc: Global, log: &mut GateLog<D>) -> bool {
 
 #[test]
 fn a_read_fails(rt: HostRuntime) {
-    let mut log = fused(&rt, rt.alloc(), 0, Fuse::Once);
+    let mut log = fused(&rt, rt.alloc(), LogVersion::Second, 0, Fuse::Once);
     assert!(rt; fails_to_read(rt.alloc(), &mut log));
     assert!(rt; opens_with(rt.alloc(), log.into_disk(), 1));
 }
@@ -209,8 +223,8 @@ fn is_created_again(alloc: Global, calls: u64, wanted: Option<LogFault>) -> bool
 
 #[test]
 fn a_create_whose_call_fails_hands_the_disk_back(rt: HostRuntime) {
-    // The gate is written by the third call, and synced by the fourth.
-    let again = [None, None, None, Some(LogFault::ThereAlready)];
+    // The gate is written by the fourth call, and synced by the fifth.
+    let again = [None, None, None, None, Some(LogFault::ThereAlready)];
     for (calls, wanted) in again.iter().enumerate() {
         assert!(rt;
             is_created_again(rt.alloc(), calls as u64, *wanted),
@@ -220,8 +234,8 @@ fn a_create_whose_call_fails_hands_the_disk_back(rt: HostRuntime) {
 }
 
 // A disk whose second entry and its slot lie behind a closed gate.
-fn torn(rt: &impl Abort, alloc: Global) -> MemDisk {
-    stopped(rt, alloc, 3, Pick::New)
+fn torn(rt: &impl Abort, alloc: Global, version: LogVersion) -> MemDisk {
+    stopped(rt, alloc, version, 3, Pick::New)
 }
 
 // Whether an opening ends where this call of it fails, and the disk that it hands back opens then.
@@ -234,7 +248,7 @@ fn is_opened_again(alloc: Global, disk: MemDisk, calls: u64) -> bool {
 
 #[test]
 fn an_opening_whose_call_fails_hands_the_disk_back(rt: HostRuntime) {
-    let torn = torn(&rt, rt.alloc());
+    let torn = torn(&rt, rt.alloc(), LogVersion::Second);
     for calls in 0..opening_calls(&rt, rt.alloc(), &torn) {
         let disk = crashed(&rt, &torn, Pick::New);
         assert!(rt; is_opened_again(rt.alloc(), disk, calls), "call {calls}");
@@ -258,15 +272,6 @@ fn found_after(rt: &impl Abort, alloc: Global, calls: u64, pick: Pick) -> Option
     }
 }
 
-// What openings answer behind a creation that was stopped after the third call, for each pick: the gate's byte, which
-// the third writes, may be any until the fourth.
-const FOUND: [LogFault; 4] = [
-    LogFault::NoRepository,
-    LogFault::NoRepository,
-    LogFault::Damaged(0),
-    LogFault::NoRepository,
-];
-
 // Whether that is so.
 fn is_found(rt: &impl Abort, alloc: Global, calls: u64, pick: Pick, wanted: LogFault) -> bool {
     found_after(rt, alloc, calls, pick) == Some(wanted)
@@ -274,16 +279,13 @@ fn is_found(rt: &impl Abort, alloc: Global, calls: u64, pick: Pick, wanted: LogF
 
 #[test]
 fn a_create_stopped_after_each_call(rt: HostRuntime) {
-    for calls in 0u64..3 {
+    for calls in 0u64..5 {
         for pick in PICKS {
             assert!(rt;
                 is_found(&rt, rt.alloc(), calls, pick, LogFault::NoRepository),
                 "{calls} calls"
             );
         }
-    }
-    for (pick, wanted) in PICKS.iter().zip(FOUND.iter()) {
-        assert!(rt; is_found(&rt, rt.alloc(), 3, *pick, *wanted));
     }
 }
 
@@ -305,33 +307,56 @@ fn is_left_open(rt: &impl Abort, alloc: Global, torn: &MemDisk, calls: u64, pick
 
 #[test]
 fn an_opening_stopped_after_each_call(rt: HostRuntime) {
-    let torn = torn(&rt, rt.alloc());
-    for calls in 0..opening_calls(&rt, rt.alloc(), &torn) {
-        for pick in &PICKS {
-            assert!(rt;
-                is_left_open(&rt, rt.alloc(), &torn, calls, *pick),
-                "after {calls} calls"
-            );
+    for version in VERSIONS {
+        let torn = torn(&rt, rt.alloc(), version);
+        for calls in 0..opening_calls(&rt, rt.alloc(), &torn) {
+            for pick in &PICKS {
+                assert!(rt;
+                    is_left_open(&rt, rt.alloc(), &torn, calls, *pick),
+                    "after {calls} calls"
+                );
+            }
         }
     }
 }
 
 #[test]
 fn an_opening_cuts_what_is_behind(rt: HostRuntime) {
-    let disk = found(&rt, rt.alloc(), torn(&rt, rt.alloc())).into_disk();
-    assert!(rt; has_files(&disk, b"first", ONE_GATE));
+    let torn_first = torn(&rt, rt.alloc(), LogVersion::First);
+    let first = found(&rt, rt.alloc(), torn_first).into_disk();
+    assert!(rt; has_files(&first, b"first", ONE_GATE, b""));
+    let torn_second = torn(&rt, rt.alloc(), LogVersion::Second);
+    let second = found(&rt, rt.alloc(), torn_second).into_disk();
+    assert!(rt; has_files(&second, b"first", b"", ONE_SLOT));
+}
+
+// A gate that an upgrade has left is cut, and what it has left of `slots` stays.
+#[test]
+fn an_opening_and_the_other_file(rt: HostRuntime) {
+    let left = MemDisk::with_bytes(rt.alloc(), b"first", b"left", ONE_SLOT);
+    let cut = found(&rt, rt.alloc(), left.expect(&rt, "memory")).into_disk();
+    assert!(rt; has_files(&cut, b"first", b"", ONE_SLOT));
+    let begun = MemDisk::with_bytes(rt.alloc(), b"first", ONE_GATE, b"\0left");
+    let kept = found(&rt, rt.alloc(), begun.expect(&rt, "memory")).into_disk();
+    assert!(rt; has_files(&kept, b"first", ONE_GATE, b"\0left"));
 }
 
 // The gate of an entry of five bytes.
 const ONE_GATE: &[u8] = b"\x01\0\0\0\0\0\0\0\x05\0";
 
+// Its slot, with the sum that `md5sum` tells of it, and a closed gate.
+const ONE_SLOT: &[u8] = b"\x01\0\0\0\0\0\0\0\x05\x8B\x04\xD5\xE3w])\x8ExE^\xFC\x5C\xA4\x04\xD5\0";
+
 // Whether a disk has these files.
-fn has_files(disk: &MemDisk, journal: &[u8], gate: &[u8]) -> bool {
-    disk.bytes(DiskFile::Journal) == journal && disk.bytes(DiskFile::Gate) == gate
+pub(crate) fn has_files(disk: &MemDisk, journal: &[u8], gate: &[u8], slots: &[u8]) -> bool {
+    disk.bytes(DiskFile::Journal) == journal
+        && disk.bytes(DiskFile::Gate) == gate
+        && disk.bytes(DiskFile::Slots) == slots
 }
 
-// The gate of entries of 149 and 275 bytes.
-const LONG_GATE: &[u8] = b"\x01\0\0\0\0\0\0\0\x95\x01\0\0\0\0\0\0\x01\xA8\0";
+// The slots of entries of 149 and 275 bytes.
+const LONG_SLOTS: &[u8] =
+    b"\x01\0\0\0\0\0\0\0\x95R_\xDB#Q%\xF6\x9A\xFB\x02\x06\x5C?\x8E\x93\x0E\x01\0\0\0\0\0\0\x01\xA8\xC7k\xB6\xE2\xF7;h\xE5\x92\x22\xEE\xC1\xE9iH\x85\0";
 
 // Whether an empty log takes an entry of 149 bytes and one of 275.
 fn takes_two(log: &mut GateLog<MemDisk>) -> bool {
@@ -347,10 +372,24 @@ fn the_bytes_and_the_calls(rt: HostRuntime) {
     assert!(rt; takes_two(&mut log));
     let disk = log.into_disk();
     assert!(rt;
-        disk.bytes(DiskFile::Journal).len() == 424 && disk.bytes(DiskFile::Gate) == LONG_GATE
+        disk.bytes(DiskFile::Journal).len() == 424
+            && disk.bytes(DiskFile::Gate).is_empty()
+            && disk.bytes(DiskFile::Slots) == LONG_SLOTS
     );
-    // Two questions, a write and a sync begin the log; each append makes five calls.
-    assert!(rt; disk.calls().len() == 14);
+    // Three questions, a write and a sync begin the log; each append makes five calls.
+    assert!(rt; disk.calls().len() == 15);
+}
+
+// An append in the first version, whose gates have no sums.
+#[test]
+fn the_bytes_of_the_first_version(rt: HostRuntime) {
+    let mut log = found(
+        &rt,
+        rt.alloc(),
+        one_entry(&rt, rt.alloc(), LogVersion::First),
+    );
+    assert!(rt; log.version() == LogVersion::First && added(&mut log, b"second") == Some(1));
+    assert!(rt; has_files(&log.into_disk(), b"firstsecond", WHOLE, b""));
 }
 
 // Whether a log has room for so many bytes and no more.
@@ -375,13 +414,13 @@ fn the_numbers(rt: HostRuntime) {
 }
 
 // Whether a fault is told so.
-fn is_told(alloc: Global, fault: LogFault, text: &str) -> bool {
+fn is_told_as(alloc: Global, fault: LogFault, text: &str) -> bool {
     format!(in alloc; "{fault}").is_ok_and(|told| told.as_str() == text)
 }
 
 #[test]
 fn a_damaged_entry_is_told(rt: HostRuntime) {
-    assert!(rt; is_told(rt.alloc(), LogFault::Damaged(7), "entry 7 is damaged"));
+    assert!(rt; is_told_as(rt.alloc(), LogFault::Damaged(7), "entry 7 is damaged"));
 }
 
 #[test]
@@ -391,20 +430,124 @@ fn the_law_is_called() {
 
 // Whether the journal of two entries with this gate file is refused so.
 fn is_damaged(alloc: Global, gate: &[u8], wanted: LogFault) -> bool {
-    match MemDisk::with_bytes(alloc, b"firstsecond", gate) {
+    are_damaged(alloc, b"firstsecond", gate, b"", wanted)
+}
+
+// Whether these files are refused so.
+fn are_damaged(alloc: Global, journal: &[u8], gate: &[u8], slots: &[u8], wanted: LogFault) -> bool {
+    match MemDisk::with_bytes(alloc, journal, gate, slots) {
         Ok(disk) => not_opened(alloc, disk) == Some(wanted),
         Err(_) => false,
     }
 }
 
 // The gate of two entries of five and six bytes.
-const WHOLE: &[u8] = b"\x01\0\0\0\0\0\0\0\x05\x01\0\0\0\0\0\0\0\x0B\0";
+pub(crate) const WHOLE: &[u8] = b"\x01\0\0\0\0\0\0\0\x05\x01\0\0\0\0\0\0\0\x0B\0";
+
+// Their slots, with the sums that `md5sum` tells of them.
+pub(crate) const WHOLE_SLOTS: &[u8] =
+    b"\x01\0\0\0\0\0\0\0\x05\x8B\x04\xD5\xE3w])\x8ExE^\xFC\x5C\xA4\x04\xD5\x01\0\0\0\0\0\0\0\x0B\xA9\xF0\xE6\x1A\x13}\x86\xAA\x9D\xB54e\xE0\x80\x16\x12\0";
+
+// Whether these files open with two entries, in this version.
+fn are_whole(alloc: Global, gate: &[u8], slots: &[u8], version: LogVersion) -> bool {
+    let Ok(disk) = MemDisk::with_bytes(alloc, b"firstsecond", gate, slots) else {
+        return false;
+    };
+    match opened(alloc, disk) {
+        Ok(mut log) => log.version() == version && has_entries(alloc, &mut log, 2),
+        Err(_) => false,
+    }
+}
 
 #[test]
 fn whole_entries(rt: HostRuntime) {
-    let disk = MemDisk::with_bytes(rt.alloc(), b"firstsecond", WHOLE).expect(&rt, "memory");
-    assert!(rt; opens_with(rt.alloc(), disk, 2));
+    assert!(rt; are_whole(rt.alloc(), WHOLE, b"", LogVersion::First));
+    assert!(rt; are_whole(rt.alloc(), b"", WHOLE_SLOTS, LogVersion::Second));
+    // What an upgrade leaves: slots behind a closed gate, and a gate beside open ones.
+    assert!(rt; are_whole(rt.alloc(), WHOLE, b"\0behind", LogVersion::First));
+    assert!(rt; are_whole(rt.alloc(), b"\x37", WHOLE_SLOTS, LogVersion::Second));
 }
+
+// Whether a log with one byte of an entry changed opens in the first version, and is refused in the second.
+fn is_told(alloc: Global, journal: &[u8], entry: u64) -> bool {
+    let Ok(disk) = MemDisk::with_bytes(alloc, journal, WHOLE, b"") else {
+        return false;
+    };
+    opened(alloc, disk).is_ok()
+        && are_damaged(alloc, journal, b"", WHOLE_SLOTS, LogFault::Damaged(entry))
+}
+
+// A changed byte in either entry, also with more behind it.
+#[test]
+fn a_changed_byte(rt: HostRuntime) {
+    assert!(rt; is_told(rt.alloc(), b"Firstsecond", 0));
+    assert!(rt; is_told(rt.alloc(), b"firstsEcond", 1));
+    assert!(rt; is_told(rt.alloc(), b"FirstsEcondmore", 0));
+}
+
+// Slots: a length that doesn't rise, one past the journal's end, a cut sum, no next gate, a closed first gate, and less
+// than an entry and a gate.
+#[test]
+fn damaged_slots(rt: HostRuntime) {
+    assert!(rt;
+        are_damaged(
+            rt.alloc(),
+            b"firstsecond",
+            b"",
+            FALLING,
+            LogFault::Damaged(1)
+        )
+    );
+    assert!(rt;
+        are_damaged(
+            rt.alloc(),
+            b"firstsecon",
+            b"",
+            WHOLE_SLOTS,
+            LogFault::Damaged(1)
+        )
+    );
+    assert!(rt;
+        are_damaged(
+            rt.alloc(),
+            b"firstsecond",
+            b"",
+            &WHOLE_SLOTS[..49],
+            LogFault::Damaged(1)
+        )
+    );
+    assert!(rt;
+        are_damaged(
+            rt.alloc(),
+            b"firstsecond",
+            b"",
+            &WHOLE_SLOTS[..50],
+            LogFault::Damaged(1)
+        )
+    );
+    assert!(rt;
+        are_damaged(
+            rt.alloc(),
+            b"firstsecond",
+            b"",
+            b"\0",
+            LogFault::NoRepository
+        )
+    );
+    assert!(rt;
+        are_damaged(
+            rt.alloc(),
+            b"firstsecond",
+            b"",
+            &WHOLE_SLOTS[..25],
+            LogFault::NoRepository
+        )
+    );
+}
+
+// The slots of `first` and of a second entry that ends with it.
+const FALLING: &[u8] =
+    b"\x01\0\0\0\0\0\0\0\x05\x8B\x04\xD5\xE3w])\x8ExE^\xFC\x5C\xA4\x04\xD5\x01\0\0\0\0\0\0\0\x05\xA9\xF0\xE6\x1A\x13}\x86\xAA\x9D\xB54e\xE0\x80\x16\x12\0";
 
 // A length that doesn't rise, one past the journal's end, a cut length, no next gate, a closed first gate.
 #[test]
@@ -458,7 +601,7 @@ fn is_there(rt: &HostRuntime, folder: &str) -> bool {
 // Makes the second entry's length, 11, 3.
 fn damages(rt: &HostRuntime, folder: &str) -> bool {
     match HostDisk::open(rt, rt.alloc(), folder) {
-        Ok(mut disk) => disk.write_at(DiskFile::Gate, 17, &[3]).is_ok(),
+        Ok(mut disk) => disk.write_at(DiskFile::Slots, 33, &[3]).is_ok(),
         Err(_) => false,
     }
 }

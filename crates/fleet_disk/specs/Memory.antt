@@ -1,7 +1,7 @@
 -- A disk in memory: what its calls do, and what a stop may leave after them.
 use Rattle.std.specs.Prelude.{◌≡◌, ◌≤◌, ℕ, List, [], ◌∷◌, length, take, replicate, nat_le, if◌then◌else◌}
 use Rattle.fleet_disk.specs.declared.disk.DiskFile.{DiskFile}
-use Rattle.fleet_disk.specs.declared.disk.DiskFile.TheVariants.{Journal, Gate}
+use Rattle.fleet_disk.specs.declared.disk.DiskFile.TheVariants.{Journal, Gate, Slots}
 use Rattle.fleet_disk.specs.declared.call.DiskCall.{DiskCall}
 use Rattle.fleet_disk.specs.declared.call.DiskCall.TheVariants.{Read, Len, Write, Cut, Sync}
 use Rattle.fleet_disk.specs.declared.call.Pick.{Pick}
@@ -13,10 +13,11 @@ use Rattle.fleet_disk.specs.Rules.{overwritten, Torn, CutBack, OnFile}
 abbrev pub written : ℕ → List ℕ → List ℕ → List ℕ
 written at bytes old = if nat_le at (length old) then overwritten at bytes old else old
 
--- one file changed, and the other as it was
+-- one file changed, and the others as they were
 abbrev pub on_file : DiskFile → (List ℕ → List ℕ) → Image → Image
-on_file Journal f image = record { journal = f image.journal; gate = image.gate }
-on_file Gate f image = record { journal = image.journal; gate = f image.gate }
+on_file Journal f image = record { journal = f image.journal; gate = image.gate; slots = image.slots }
+on_file Gate f image = record { journal = image.journal; gate = f image.gate; slots = image.slots }
+on_file Slots f image = record { journal = image.journal; gate = image.gate; slots = f image.slots }
 
 -- what a read gives after a call
 abbrev pub does : DiskCall → Image → Image

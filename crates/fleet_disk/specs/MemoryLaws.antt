@@ -3,7 +3,7 @@ use Rattle.std.proofs.Common.{◌≡◌, ◌≤◌, ◌+◌, ◌-◌, ℕ, Bool,
 use Rattle.std.proofs.lemmas.Bool.Decides.{nat_tests}
 use Rattle.std.proofs.lemmas.List.{take_all, take_at, take_min, drop_at, length-take-le, append_assoc, length-replicate}
 use Rattle.fleet_disk.specs.declared.disk.DiskFile.{DiskFile}
-use Rattle.fleet_disk.specs.declared.disk.DiskFile.TheVariants.{Journal, Gate}
+use Rattle.fleet_disk.specs.declared.disk.DiskFile.TheVariants.{Journal, Gate, Slots}
 use Rattle.fleet_disk.specs.declared.call.DiskCall.{DiskCall}
 use Rattle.fleet_disk.specs.declared.call.DiskCall.TheVariants.{Read, Len, Write, Cut, Sync}
 use Rattle.fleet_disk.specs.declared.call.Pick.{Pick}
@@ -46,12 +46,14 @@ pub torn_written : (at n : ℕ) (bytes old : List ℕ) → length bytes ≡ n �
 torn_written at n bytes old long = torn_if at n bytes old (nat_le at (length old)) (λ h. grind (arith, nat_tests)) long
 
 on_file_step : (file : DiskFile) (step : List ℕ → List ℕ → Type 0) (f : List ℕ → List ℕ) (image : Image) → ((old : List ℕ) → step old (f old)) → OnFile file step image (on_file file f image)
-on_file_step Journal step f image each = (each image.journal, refl)
-on_file_step Gate step f image each = (each image.gate, refl)
+on_file_step Journal step f image each = (each image.journal, refl, refl)
+on_file_step Gate step f image each = (each image.gate, refl, refl)
+on_file_step Slots step f image each = (each image.slots, refl, refl)
 
-on_file_same : (file : DiskFile) (step : List ℕ → List ℕ → Type 0) (image : Image) → ((old : List ℕ) → step old old) → OnFile file step image image
-on_file_same Journal step image each = (each image.journal, refl)
-on_file_same Gate step image each = (each image.gate, refl)
+pub on_file_same : (file : DiskFile) (step : List ℕ → List ℕ → Type 0) (image : Image) → ((old : List ℕ) → step old old) → OnFile file step image image
+on_file_same Journal step image each = (each image.journal, refl, refl)
+on_file_same Gate step image each = (each image.gate, refl, refl)
+on_file_same Slots step image each = (each image.slots, refl, refl)
 
 -- each pick is one of the images that a stop may leave
 step_picked : (pick : Pick) (call : DiskCall) (read left : Image) → MayStep call read left (pick_step pick call read left)

@@ -1,7 +1,7 @@
 -- The rules of a disk: what each call does to what a read gives, and to what a stop may leave.
 use Rattle.std.specs.Prelude.{◌<◌, ◌≡◌, ◌⊎◌, ℕ, ◌+◌, ◌-◌, ◌≤◌, ◌^◌, min, max, List, ◌++◌, length, take, drop, Result, OnErr}
 use Rattle.fleet_disk.specs.declared.disk.DiskFile.{DiskFile}
-use Rattle.fleet_disk.specs.declared.disk.DiskFile.TheVariants.{Journal, Gate}
+use Rattle.fleet_disk.specs.declared.disk.DiskFile.TheVariants.{Journal, Gate, Slots}
 use Rattle.fleet_disk.specs.declared.disk.DiskFault.{DiskFault}
 use Rattle.fleet_disk.specs.Image.{Image}
 
@@ -28,10 +28,11 @@ pub record CutBack (n : ℕ) (old new : List ℕ) : Type 0 where
   pub no_shorter : min n (length old) ≤ length new
   pub front : take (length new) old ≡ new
 
--- one file goes on by a step, and the other stays
+-- one file goes on by a step, and the others stay
 abbrev pub OnFile : DiskFile → (List ℕ → List ℕ → Type 0) → Image → Image → Type 0
-OnFile Journal step old new = step old.journal new.journal × (new.gate ≡ old.gate)
-OnFile Gate step old new = step old.gate new.gate × (new.journal ≡ old.journal)
+OnFile Journal step old new = step old.journal new.journal × (new.gate ≡ old.gate) × (new.slots ≡ old.slots)
+OnFile Gate step old new = step old.gate new.gate × (new.journal ≡ old.journal) × (new.slots ≡ old.slots)
+OnFile Slots step old new = step old.slots new.slots × (new.journal ≡ old.journal) × (new.gate ≡ old.gate)
 
 -- each image that a stop may leave now is one that it could leave before, after a step
 abbrev pub Follows : (Image → Image → Type 0) → (Image → Type 0) → (Image → Type 0) → Type 0

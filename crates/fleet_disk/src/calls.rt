@@ -1,4 +1,4 @@
-//! What a host does with the two files of a folder.
+//! What a host does with the three files of a folder.
 ghost use Rattle.std.specs.Prelude.{◌≡◌, ◌≤◌, ◌↔◌, ℕ, length, take, IfOk, OnOk};
 ghost use Rattle.fleet_disk.specs.Image.{Image, bytes_of};
 ghost use Rattle.fleet_disk.specs.Rests.{Rests};

@@ -8,22 +8,25 @@ use crate::call::{DiskCall, Pick};
 use crate::disk::DiskFile;
 use std::alloc::{AllocError, Global};
 
-/// The bytes of both files.
+/// The bytes of the three files.
 #[derive(Drop)]
 pub struct Contents {
     pub journal: Vec<u8>,
     pub gate: Vec<u8>,
+    pub slots: Vec<u8>,
 }
 
 impl Contents {
-    // Two empty files.
+    // Three empty files.
     pub fn new(alloc: Global) -> Contents
         ensures journal { result.journal.items ≡ [] }
         ensures gate { result.gate.items ≡ [] }
+        ensures slots { result.slots.items ≡ [] }
     {
         Contents {
             journal: Vec::new(alloc),
             gate: Vec::new(alloc),
+            slots: Vec::new(alloc),
         }
     }
 
@@ -34,6 +37,7 @@ impl Contents {
         match file {
             DiskFile::Journal => self.journal.as_slice(),
             DiskFile::Gate => self.gate.as_slice(),
+            DiskFile::Slots => self.slots.as_slice(),
         }
     }
 
@@ -44,6 +48,7 @@ impl Contents {
         Ok(Contents {
             journal: self.journal.to_vec(alloc)?,
             gate: self.gate.to_vec(alloc)?,
+            slots: self.slots.to_vec(alloc)?,
         })
     }
 
@@ -61,6 +66,7 @@ impl Contents {
         match file {
             DiskFile::Journal => overwrite_bytes(alloc, &mut self.journal, at as usize, bytes),
             DiskFile::Gate => overwrite_bytes(alloc, &mut self.gate, at as usize, bytes),
+            DiskFile::Slots => overwrite_bytes(alloc, &mut self.slots, at as usize, bytes),
         }
     }
 
@@ -71,6 +77,7 @@ impl Contents {
         match file {
             DiskFile::Journal => self.journal.truncate(len as usize),
             DiskFile::Gate => self.gate.truncate(len as usize),
+            DiskFile::Slots => self.slots.truncate(len as usize),
         }
     }
 

@@ -11,8 +11,10 @@ use thiserror::Error;
 pub enum DiskFile {
     /// The entries, one after another.
     Journal,
-    /// The gates that say which entries stand.
+    /// The gates that say which entries stand, of a log without sums.
     Gate,
+    /// The gates with the entries' sums, of a log that has them.
+    Slots,
 }
 
 /// Why a disk refused a call.
@@ -23,7 +25,7 @@ pub enum DiskFault {
     DeviceFailed,
 }
 
-/// Two files on a device that may fail, and that may stop at any moment.
+/// Three files on a device that may fail, and that may stop at any moment.
 ///
 /// What the clauses say of bytes holds of an honest disk, and each call keeps honesty both ways. A refusal comes
 /// only where the count of failures rose, honest or not.

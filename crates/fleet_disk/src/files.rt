@@ -1,4 +1,4 @@
-//! The host's own files: two of a folder, each of which one opening at a time may hold.
+//! The host's own files: three of a folder, each of which one opening at a time may hold.
 ghost use Rattle.std.specs.Prelude.{◌≡◌, ◌≤◌, ◌⊎◌, ⊤, ℕ, List, length, false, Ok, IfOk, IfSome, IsSome, IsSomeAnd};
 ghost use Rattle.std.specs.Prelude.{IsTrue, OnErr};
 ghost use Rattle.fleet_disk.specs.Image.{no_bytes};
@@ -69,6 +69,7 @@ impl HeldFiles for HostRuntime {
 pub struct StdFiles<F: Read + Write + Seek + OpenFile> {
     pub journal: Option<F>,
     pub gate: Option<F>,
+    pub slots: Option<F>,
     pub failures: u64,
 }
 
@@ -110,40 +111,53 @@ impl<F: Read + Write + Seek + OpenFile + Drop> HostCalls for StdFiles<F> {
     ghost reads_left = { λ host honest. absurd honest };
 
     fn read_at(&mut self, file: DiskFile, at: u64, buf: &mut [u8]) -> Result<usize, DiskFault> {
-        let read = read_from(one_of(file, &mut self.journal, &mut self.gate), at, buf);
+        let read = read_from(
+            one_of(file, &mut self.journal, &mut self.gate, &mut self.slots),
+            at,
+            buf,
+        );
         self.counted(read)
     }
 
     fn length(&mut self, file: DiskFile) -> Result<u64, DiskFault> {
-        let length = length_of(one_of(file, &mut self.journal, &mut self.gate));
+        let length = length_of(one_of(file, &mut self.journal, &mut self.gate, &mut self.slots));
         self.counted(length)
     }
 
     fn write_all_at(&mut self, file: DiskFile, at: u64, bytes: &[u8]) -> Result<(), DiskFault> {
-        let written = write_to(one_of(file, &mut self.journal, &mut self.gate), at, bytes);
+        let written = write_to(
+            one_of(file, &mut self.journal, &mut self.gate, &mut self.slots),
+            at,
+            bytes,
+        );
         self.counted(written)
     }
 
     fn truncate(&mut self, file: DiskFile, len: u64) -> Result<(), DiskFault> {
-        let cut = cut_to(one_of(file, &mut self.journal, &mut self.gate), len);
+        let cut = cut_to(
+            one_of(file, &mut self.journal, &mut self.gate, &mut self.slots),
+            len,
+        );
         self.counted(cut)
     }
 
     fn sync_file(&mut self, file: DiskFile) -> Result<(), DiskFault> {
-        let synced = sync(one_of(file, &mut self.journal, &mut self.gate));
+        let synced = sync(one_of(file, &mut self.journal, &mut self.gate, &mut self.slots));
         self.counted(synced)
     }
 }
 
-// One of the two.
+// One of the three.
 fn one_of<'a, F>(
     file: DiskFile,
     journal: &'a mut Option<F>,
     gate: &'a mut Option<F>,
+    slots: &'a mut Option<F>,
 ) -> Option<&'a mut F> {
     match file {
         DiskFile::Journal => journal.as_mut(),
         DiskFile::Gate => gate.as_mut(),
+        DiskFile::Slots => slots.as_mut(),
     }
 }
 
@@ -193,11 +207,17 @@ fn sync<F: OpenFile>(file: Option<&mut F>) -> io::Result<()> {
 }
 
 // The files that are there, of which the journal is held.
-pub fn found<R: HeldFiles>(rt: &R, journal: &str, gate: &str) -> io::Result<StdFiles<R::File>>
+pub fn found<R: HeldFiles>(
+    rt: &R,
+    journal: &str,
+    gate: &str,
+    slots: &str,
+) -> io::Result<StdFiles<R::File>>
     ensures failures { IfOk result (λ files. files.failures ≡ 0) }
     ensures held { IfOk result (λ files. IfSome files.journal R.is_held) }
     ensures journal { IfOk result (λ files. IfSome files.journal (λ f. R.is_at f journal.now)) }
     ensures gate { IfOk result (λ files. IfSome files.gate (λ f. R.is_at f gate.now)) }
+    ensures slots { IfOk result (λ files. IfSome files.slots (λ f. R.is_at f slots.now)) }
 {
     let journal = existing(rt, journal)?;
     if let Some(file) = &journal {
@@ -206,39 +226,47 @@ pub fn found<R: HeldFiles>(rt: &R, journal: &str, gate: &str) -> io::Result<StdF
     Ok(StdFiles {
         journal,
         gate: existing(rt, gate)?,
+        slots: existing(rt, slots)?,
         failures: 0,
     })
 }
 
-// The same files, with those made that are missing. The journal is held before the gate is made, so that of two
+// The same files, with those made that are missing. The journal is held before another is made, so that of two
 // processes that begin at once one alone goes on.
 pub fn completed<R: HeldFiles>(
     rt: &R,
     files: StdFiles<R::File>,
     journal_path: &str,
     gate_path: &str,
+    slots_path: &str,
 ) -> io::Result<StdFiles<R::File>>
     requires held { IfSome files.journal R.is_held }
     requires journal { IfSome files.journal (λ f. R.is_at f journal_path.now) }
     requires gate { IfSome files.gate (λ f. R.is_at f gate_path.now) }
+    requires slots { IfSome files.slots (λ f. R.is_at f slots_path.now) }
     ensures failures { IfOk result (λ files. files.failures ≡ 0) }
-    ensures files { IfOk result (λ files. IsSome files.journal × IsSome files.gate) }
+    ensures files { IfOk result (λ files. IsSome files.journal × IsSome files.gate × IsSome files.slots) }
     ensures held { IfOk result (λ files. IfSome files.journal R.is_held) }
     ensures journal { IfOk result (λ files. IfSome files.journal (λ f. R.is_at f journal_path.now)) }
     ensures gate { IfOk result (λ files. IfSome files.gate (λ f. R.is_at f gate_path.now)) }
+    ensures slots { IfOk result (λ files. IfSome files.slots (λ f. R.is_at f slots_path.now)) }
 {
-    let StdFiles { journal, gate, .. } = files;
+    let StdFiles {
+        journal,
+        gate,
+        slots,
+        ..
+    } = files;
     let journal = match journal {
         Some(file) => file,
         None => made_and_held(rt, journal_path)?,
     };
-    let gate = match gate {
-        Some(file) => file,
-        None => rt.open_at(gate_path, true)?,
-    };
+    let gate = there(rt, gate, gate_path)?;
+    let slots = there(rt, slots, slots_path)?;
     Ok(StdFiles {
         journal: Some(journal),
         gate: Some(gate),
+        slots: Some(slots),
         failures: 0,
     })
 }
@@ -251,14 +279,23 @@ pub fn sync_folder<R: Files>(rt: &R, folder: &str) -> io::Result<()> {
 // Whether a file is there that isn't empty.
 pub fn has_bytes<R: HeldFiles>(rt: &R, files: &StdFiles<R::File>) -> io::Result<bool>
     ensures some { IfOk result (λ some. IsTrue some
-        → IsSomeAnd files.now.journal R.has_bytes ⊎ IsSomeAnd files.now.gate R.has_bytes) }
+        → IsSomeAnd files.now.journal R.has_bytes ⊎ IsSomeAnd files.now.gate R.has_bytes
+        ⊎ IsSomeAnd files.now.slots R.has_bytes) }
 {
-    if let Some(file) = &files.journal {
-        if !rt.is_empty(file)? {
-            return Ok(true);
-        }
+    if is_full(rt, &files.journal)? {
+        return Ok(true);
     }
-    match &files.gate {
+    if is_full(rt, &files.gate)? {
+        return Ok(true);
+    }
+    is_full(rt, &files.slots)
+}
+
+// Whether a file is there and isn't empty.
+fn is_full<R: HeldFiles>(rt: &R, file: &Option<R::File>) -> io::Result<bool>
+    ensures some { IfOk result (λ some. IsTrue some → IsSomeAnd file.now R.has_bytes) }
+{
+    match file {
         Some(file) => Ok(!rt.is_empty(file)?),
         None => Ok(false),
     }
@@ -271,6 +308,17 @@ fn made_and_held<R: HeldFiles>(rt: &R, path: &str) -> io::Result<R::File>
     let file = rt.open_at(path, true)?;
     rt.hold(&file)?;
     Ok(file)
+}
+
+// The file, which is made where it is missing.
+fn there<R: HeldFiles>(rt: &R, file: Option<R::File>, path: &str) -> io::Result<R::File>
+    requires at { IfSome file (λ f. R.is_at f path.now) }
+    ensures at { IfOk result (λ file. R.is_at file path.now) }
+{
+    match file {
+        Some(file) => Ok(file),
+        None => rt.open_at(path, true),
+    }
 }
 
 fn existing<R: HeldFiles>(rt: &R, path: &str) -> io::Result<Option<R::File>>

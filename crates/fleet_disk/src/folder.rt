@@ -24,10 +24,12 @@ impl<F: Read + Write + Seek + OpenFile + Drop> HostDisk<StdFiles<F>> {
     {
         let journal = format!(in alloc; "{folder}/journal")?;
         let gate = format!(in alloc; "{folder}/gate")?;
-        Ok(HostDisk::new(found(rt, journal.as_str(), gate.as_str())?))
+        let slots = format!(in alloc; "{folder}/slots")?;
+        let files = found(rt, journal.as_str(), gate.as_str(), slots.as_str())?;
+        Ok(HostDisk::new(files))
     }
 
-    /// Opens the files of a folder, and makes those that are missing, so that both are open; but where one of them is
+    /// Opens the files of a folder, and makes those that are missing, so that all are open; but where one of them is
     /// there already and isn't empty, nothing is made. The journal is held. No failure is counted yet. The host refuses
     /// where the folder is in use; it or memory may refuse besides.
     pub fn create<R: HeldFiles<File = F>>(
@@ -42,11 +44,12 @@ impl<F: Read + Write + Seek + OpenFile + Drop> HostDisk<StdFiles<F>> {
     {
         let journal = format!(in alloc; "{folder}/journal")?;
         let gate = format!(in alloc; "{folder}/gate")?;
-        let files = found(rt, journal.as_str(), gate.as_str())?;
+        let slots = format!(in alloc; "{folder}/slots")?;
+        let files = found(rt, journal.as_str(), gate.as_str(), slots.as_str())?;
         if has_bytes(rt, &files)? {
             return Ok(HostDisk::new(files));
         }
-        let files = completed(rt, files, journal.as_str(), gate.as_str())?;
+        let files = completed(rt, files, journal.as_str(), gate.as_str(), slots.as_str())?;
         // The names of new files last once the folder is synced.
         sync_folder(rt, folder)?;
         Ok(HostDisk::new(files))

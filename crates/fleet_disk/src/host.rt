@@ -2,24 +2,27 @@
 ghost use Rattle.std.specs.Prelude.{◌≡◌, true, false};
 ghost use Rattle.std.proofs.Props.{props};
 ghost use Rattle.fleet_disk.specs.Rests.{Rests};
-ghost use Rattle.fleet_disk.specs.declared.disk.DiskFile.TheVariants.{Journal, Gate};
+ghost use Rattle.fleet_disk.specs.declared.disk.DiskFile.TheVariants.{Journal, Gate, Slots};
 
 use crate::calls::HostCalls;
 use crate::disk::{Disk, DiskFault, DiskFile};
 
-/// The files `journal` and `gate` of a folder, by the calls of a host.
+/// The files `journal`, `gate` and `slots` of a folder, by the calls of a host.
 ///
 /// It keeps the rules of a disk where the host keeps its own. A sync syncs the files that were written or cut since the
-/// last one, and at first both, for what an earlier process left. A call is refused only where one of the host failed.
+/// last one, and at first all, for what an earlier process left. A call is refused only where one of the host failed.
 #[derive(Drop)]
 pub struct HostDisk<H: HostCalls> {
     host: H,
     journal_rests: bool,
     gate_rests: bool,
+    slots_rests: bool,
     ghost journal: { H.honest host → journal_rests ≡ true
         → Rests Journal (H.reads host) (H.may_leave host) } by { Prim.hlevel props },
     ghost gate: { H.honest host → gate_rests ≡ true
         → Rests Gate (H.reads host) (H.may_leave host) } by { Prim.hlevel props },
+    ghost slots: { H.honest host → slots_rests ≡ true
+        → Rests Slots (H.reads host) (H.may_leave host) } by { Prim.hlevel props },
 }
 
 impl<H: HostCalls> HostDisk<H> {
@@ -31,6 +34,7 @@ impl<H: HostCalls> HostDisk<H> {
             host,
             journal_rests: false,
             gate_rests: false,
+            slots_rests: false,
         }
     }
 
@@ -39,10 +43,12 @@ impl<H: HostCalls> HostDisk<H> {
         ensures host { self.new.host ≡ self.old.host }
         ensures journal { file ≡ Journal → self.new.journal_rests ≡ false }
         ensures gate { file ≡ Gate → self.new.gate_rests ≡ false }
+        ensures slots { file ≡ Slots → self.new.slots_rests ≡ false }
     {
         match file {
             DiskFile::Journal => self.journal_rests = false,
             DiskFile::Gate => self.gate_rests = false,
+            DiskFile::Slots => self.slots_rests = false,
         }
     }
 }
@@ -94,6 +100,12 @@ impl<H: HostCalls> Disk for HostDisk<H> {
         if !self.gate_rests {
             match self.host.sync_file(DiskFile::Gate) {
                 Ok(()) => self.gate_rests = true,
+                Err(fault) => return Err(fault),
+            }
+        }
+        if !self.slots_rests {
+            match self.host.sync_file(DiskFile::Slots) {
+                Ok(()) => self.slots_rests = true,
                 Err(fault) => return Err(fault),
             }
         }

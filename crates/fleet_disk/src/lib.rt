@@ -1,8 +1,8 @@
-//! The disk that a log is kept on: two files, and what a stop of the machine may leave of them.
+//! The disk that a log is kept on: three files, and what a stop of the machine may leave of them.
 //!
-//! A `Disk` has a file `journal` and a file `gate`, which are read, written, cut and synced. Between two syncs each
-//! written range may hold any bytes after a stop, a length lies between the least and the greatest since the last
-//! sync, and other bytes stay; after a sync that answers Ok a stop leaves what a read gives. `MemDisk` is such a disk
+//! A `Disk` has the files `journal`, `gate` and `slots`, which are read, written, cut and synced. Between two syncs
+//! each written range may hold any bytes after a stop, a length lies between the least and the greatest since the
+//! last sync, and other bytes stay; after a sync that answers Ok a stop leaves what a read gives. `MemDisk` is such a disk
 //! in memory, which can be stopped; `FuseDisk` makes the calls of another fail; `HostDisk` is a disk over the calls of
 //! a host on the files of a folder (`HostCalls`), which are those of `StdFiles` or, for tests, of another disk
 //! (`OverDisk`).

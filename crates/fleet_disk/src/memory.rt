@@ -27,10 +27,11 @@ pub struct MemDisk {
 impl MemDisk {
     ghost use Rattle.fleet_disk.specs.Stopped.{calls_of, now_of, picked_of, MayLeave};
 
-    /// A disk of two empty files.
+    /// A disk of three empty files.
     pub fn new(alloc: Global) -> MemDisk
         ensures journal { (now_of result).journal ≡ [] }
         ensures gate { (now_of result).gate ≡ [] }
+        ensures slots { (now_of result).slots ≡ [] }
         ensures calls { calls_of result ≡ [] }
     {
         MemDisk {
@@ -42,15 +43,22 @@ impl MemDisk {
         }
     }
 
-    /// A disk of two files with these bytes, all of them synced. Memory may be refused.
-    pub fn with_bytes(alloc: Global, journal: &[u8], gate: &[u8]) -> Result<MemDisk, AllocError>
+    /// A disk of three files with these bytes, all of them synced. Memory may be refused.
+    pub fn with_bytes(
+        alloc: Global,
+        journal: &[u8],
+        gate: &[u8],
+        slots: &[u8],
+    ) -> Result<MemDisk, AllocError>
         ensures journal { IfOk result (λ disk. (now_of disk).journal ≡ journal.now) }
         ensures gate { IfOk result (λ disk. (now_of disk).gate ≡ gate.now) }
+        ensures slots { IfOk result (λ disk. (now_of disk).slots ≡ slots.now) }
         ensures calls { IfOk result (λ disk. calls_of disk ≡ []) }
     {
         let first = Contents {
             journal: journal.to_vec(alloc)?,
             gate: gate.to_vec(alloc)?,
+            slots: slots.to_vec(alloc)?,
         };
         MemDisk::holding(alloc, first)
     }

@@ -3,7 +3,7 @@
 use crate::calls::HostCalls;
 use crate::disk::{Disk, DiskFault, DiskFile};
 
-/// The files of another disk, such as one in memory. A sync of one file syncs both.
+/// The files of another disk, such as one in memory. A sync of one file syncs all.
 #[derive(Drop)]
 pub struct OverDisk<D: Disk> {
     disk: D,

@@ -84,9 +84,11 @@ fn are(bytes: &[u8], parts: &[&str]) -> bool {
     rest.is_empty()
 }
 
-// Whether a disk's journal is these parts, and its gate these bytes.
-fn holds(disk: &MemDisk, parts: &[&str], gate: &[u8]) -> bool {
-    are(disk.bytes(DiskFile::Journal), parts) && disk.bytes(DiskFile::Gate) == gate
+// Whether a disk's journal is these parts, and its slots these bytes.
+fn holds(disk: &MemDisk, parts: &[&str], slots: &[u8]) -> bool {
+    are(disk.bytes(DiskFile::Journal), parts)
+        && disk.bytes(DiskFile::Gate).is_empty()
+        && disk.bytes(DiskFile::Slots) == slots
 }
 
 // Adds a word.
@@ -259,8 +261,9 @@ fn create_begins_a_repository(rt: HostRuntime) {
         done(&DUMP, &[], &[HEAD, IDENTITY, ZERO]),
     ];
     assert_eq!(rt; first_wrong(&rt, alloc, &mut disk, &steps), None);
-    let gate = [1, 0, 0, 0, 0, 0, 0, 0, 0x95, 0];
-    assert!(rt; holds(&disk, &[HEAD, IDENTITY, ZERO], &gate));
+    // 149 bytes, with the sum that `md5sum` tells of them
+    let slots = b"\x01\0\0\0\0\0\0\0\x95p\x03\x96\x9B\xE9H\x96\xF8`\xFA=\x8D\x10\xE4l\x11\0";
+    assert!(rt; holds(&disk, &[HEAD, IDENTITY, ZERO], slots));
 }
 
 #[test]
@@ -279,10 +282,8 @@ fn load_commits_each_revision(rt: HostRuntime) {
     ];
     assert_eq!(rt; first_wrong(&rt, alloc, &mut disk, &steps), None);
     // 149 bytes, and 424 with the next entry
-    let gate = [
-        1, 0, 0, 0, 0, 0, 0, 0, 0x95, 1, 0, 0, 0, 0, 0, 0, 1, 0xA8, 0,
-    ];
-    assert!(rt; holds(&disk, &[HEAD, IDENTITY, ZERO, ONE_FILE], &gate));
+    let slots = b"\x01\0\0\0\0\0\0\0\x95p\x03\x96\x9B\xE9H\x96\xF8`\xFA=\x8D\x10\xE4l\x11\x01\0\0\0\0\0\0\x01\xA8Gs\xE6\x8A\x10d\x15\x85\xA8\xD8\x98\x07\xC6\xFB\x8B\xCD\0";
+    assert!(rt; holds(&disk, &[HEAD, IDENTITY, ZERO, ONE_FILE], slots));
 }
 
 #[test]
@@ -528,7 +529,7 @@ fn dump_has_the_changed_property(rt: HostRuntime) {
     let alloc = rt.alloc();
     let mut disk = relogged(&rt, alloc);
     assert!(rt; disk.bytes(DiskFile::Journal).len() == 517);
-    assert!(rt; disk.bytes(DiskFile::Gate).len() == 28);
+    assert!(rt; disk.bytes(DiskFile::Slots).len() == 76);
     let changed = replaced(&rt, alloc, ONE_FILE, "hi", "ho");
     let one = [HEAD, IDENTITY, changed.as_str()];
     let all = [HEAD, IDENTITY, ZERO, changed.as_str()];
@@ -541,8 +542,8 @@ fn damaged(rt: &impl Abort, alloc: Global) -> MemDisk {
     let disk = with_one_file(rt, alloc);
     let other = replaced(rt, alloc, ONE_FILE, "hello", "hellp");
     let journal = joined(rt, alloc, &[HEAD, IDENTITY, ZERO, other.as_str()]);
-    let gate = disk.bytes(DiskFile::Gate);
-    MemDisk::with_bytes(alloc, journal.as_slice(), gate).expect(rt, "memory")
+    let slots = disk.bytes(DiskFile::Slots);
+    MemDisk::with_bytes(alloc, journal.as_slice(), b"", slots).expect(rt, "memory")
 }
 
 #[test]

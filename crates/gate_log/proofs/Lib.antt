@@ -1,7 +1,9 @@
 pub mod EndLemmas
+pub mod Versions
 pub mod Images
 pub mod Steps
 pub mod Looking
+pub mod Migration
 pub mod Filling
 pub mod Damage
 pub mod Cutting

@@ -1,5 +1,5 @@
 -- The numbers of refusals.
-use Rattle.std.specs.Prelude.{ℕ}
+use Rattle.std.specs.Prelude.{◌≡◌, ◌⊎◌, ℕ}
 use Rattle.gate_log.specs.declared.fault.LogFault.{LogFault}
 use Rattle.gate_log.specs.declared.fault.LogFault.TheVariants.{DeviceFailed, Failed, Damaged, NoRepository, ThereAlready, LogFull, OutOfMemory}
 
@@ -22,3 +22,7 @@ IsFindFault OutOfMemory = Unit {0}
 IsFindFault Failed = ⊥
 IsFindFault ThereAlready = ⊥
 IsFindFault LogFull = ⊥
+
+-- what the search answers at one entry: 31, 33 with its number, or 70
+abbrev pub IsEntryFault : ℕ → LogFault → Type 0
+IsEntryFault entry fault = (fault ≡ DeviceFailed) ⊎ (fault ≡ Damaged entry) ⊎ (fault ≡ OutOfMemory)

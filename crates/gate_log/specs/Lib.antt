@@ -1,7 +1,10 @@
 pub mod Faults
+pub mod Lengths
 pub mod Log
 pub mod Slots
 pub mod Standing
 pub mod StandingLaws
 pub mod Looks
+pub mod Upgrade
 pub mod Verdicts
+pub mod Version

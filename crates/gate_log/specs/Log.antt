@@ -2,12 +2,17 @@
 use Rattle.std.specs.Prelude.{◌<◌, ℕ, Bool, List, vec_len, vec_capacity, IsTrue}
 use Rattle.fleet_disk.specs.declared.disk.Disk.{Ghosts}
 use Rattle.gate_log.specs.declared.log.GateLog.{GateLog}
+use Rattle.gate_log.specs.declared.version.LogVersion.{LogVersion}
 use Rattle.gate_log.specs.declared.log.Receipt.{Receipt}
 use Rattle.gate_log.specs.Standing.{last_end, parts}
 
 -- the disk that it is kept on
 abbrev pub disk_of : {D : Type 0} {G : Ghosts D} → GateLog D G → D
 disk_of log = log.disk
+
+-- its layout
+abbrev pub version_of : {D : Type 0} {G : Ghosts D} → GateLog D G → LogVersion
+version_of log = log.version
 
 -- the journal's length behind each entry
 abbrev pub ends_of : {D : Type 0} {G : Ghosts D} → GateLog D G → List ℕ

@@ -1,28 +1,46 @@
--- The layout of the gate file: a slot for each entry, and a gate behind the last.
-use Rattle.std.specs.Prelude.{◌+◌, ◌*◌, ℕ, List, [], ◌∷◌, ◌++◌}
+-- The layout of the gates: a slot for each entry, and a gate behind the last.
+use Rattle.std.specs.Prelude.{◌+◌, ◌-◌, ◌*◌, ℕ, List, [], ◌∷◌, ◌++◌, take, drop}
 use Rattle.std.specs.Int.{to_be_bytes, w64}
+use Rattle.gate_log.specs.declared.version.LogVersion.{LogVersion}
+use Rattle.gate_log.specs.declared.version.LogVersion.TheVariants.{First, Second}
+use Rattle.gate_log.specs.Version.{sum_of}
 
 -- a length in eight bytes, the highest first
 unfoldable pub eight_bytes : ℕ → List ℕ
 eight_bytes n = to_be_bytes w64 n
 
--- an open gate and the journal's length behind the entry
-abbrev pub slot : ℕ → List ℕ
-slot end = 1 ∷ eight_bytes end
+-- the part of a journal between two ends
+abbrev pub part : ℕ → ℕ → List ℕ → List ℕ
+part from end journal = take (end - from) (drop from journal)
 
--- the slots of entries that end there
-abbrev pub slots : List ℕ → List ℕ
-slots [] = []
-slots (end ∷ ends) = slot end ++ slots ends
+-- the journal's length behind an entry, and the entry's sum
+abbrev pub mark : LogVersion → ℕ → List ℕ → List ℕ
+mark version end entry = eight_bytes end ++ sum_of version entry
 
--- how many bytes a slot has; as many as a length and the next gate
-abbrev pub slot_size : ℕ
-slot_size = 9
+-- an open gate and the mark
+abbrev pub slot : LogVersion → ℕ → List ℕ → List ℕ
+slot version end entry = 1 ∷ mark version end entry
+
+-- the slots of a journal's entries that end there, of which the first begins at `from`
+abbrev pub slots : LogVersion → ℕ → List ℕ → List ℕ → List ℕ
+slots version from [] journal = []
+slots version from (end ∷ ends) journal = slot version end (part from end journal) ++ slots version end ends journal
+
+-- how many bytes a sum has
+abbrev pub sum_size : LogVersion → ℕ
+sum_size First = 0
+sum_size Second = 16
+
+-- how many bytes a slot has; as many as a mark and the next gate
+abbrev pub slot_size : LogVersion → ℕ
+slot_size First = 9
+slot_size Second = 25
 
 -- where the gate of an entry stands
-abbrev pub gate_place : ℕ → ℕ
-gate_place entry = slot_size * entry
+abbrev pub gate_place : LogVersion → ℕ → ℕ
+gate_place First entry = 9 * entry
+gate_place Second entry = 25 * entry
 
--- how long the gate file of so many entries is
-abbrev pub gates_size : ℕ → ℕ
-gates_size entries = gate_place entries + 1
+-- how long the gates of so many entries are
+abbrev pub gates_size : LogVersion → ℕ → ℕ
+gates_size version entries = gate_place version entries + 1

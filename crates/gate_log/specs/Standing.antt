@@ -1,7 +1,10 @@
 -- Which entries stand in an image.
-use Rattle.std.specs.Prelude.{◌≡◌, ◌≢◌, ◌⊎◌, ◌<◌, ◌≤◌, ◌+◌, ◌-◌, ◌^◌, ℕ, List, [], ◌∷◌, ◌++◌, length, take, drop, get_or}
+use Rattle.std.specs.Prelude.{◌≡◌, ◌≢◌, ◌⊎◌, ◌<◌, ◌≤◌, ◌+◌, ◌^◌, ℕ, List, [], ◌∷◌, ◌++◌, length, get_or}
 use Rattle.fleet_disk.specs.Image.{Image}
-use Rattle.gate_log.specs.Slots.{eight_bytes, slots, slot_size, gate_place}
+use Rattle.gate_log.specs.declared.version.LogVersion.{LogVersion}
+use Rattle.gate_log.specs.declared.version.LogVersion.TheVariants.{First, Second}
+use Rattle.gate_log.specs.Version.{gates_of, others_of, IsBegun, IsOf}
+use Rattle.gate_log.specs.Slots.{part, mark, slots, gate_place}
 
 -- the journal's length behind the last entry, where the first begins at `from`
 abbrev pub last_end : ℕ → List ℕ → ℕ
@@ -16,32 +19,39 @@ IsRising from (end ∷ ends) = (from < end) × IsRising end ends
 -- the parts of the journal between the ends
 abbrev pub parts : ℕ → List ℕ → List ℕ → List (List ℕ)
 parts from [] journal = []
-parts from (end ∷ ends) journal = take (end - from) (drop from journal) ∷ parts end ends journal
+parts from (end ∷ ends) journal = part from end journal ∷ parts end ends journal
 
--- entries with these ends stand: their gates are open, their lengths rise and stay within the journal, and the next gate is there and closed
-pub record StandsAt (ends : List ℕ) (image : Image) : Type 0 where
+-- Entries with these ends stand: their gates are open, their lengths rise and stay within the journal, their sums are theirs, and the next gate is there and closed.
+pub record StandsAt (version : LogVersion) (ends : List ℕ) (image : Image) : Type 0 where
+  pub is : IsOf version image
   pub rising : IsRising 0 ends
   pub within : last_end 0 ends ≤ length image.journal
   pub fits : last_end 0 ends < 2 ^ 64
   pub next_gate : ℕ
   pub rest : List ℕ
-  pub gates : image.gate ≡ slots ends ++ next_gate ∷ rest
+  pub gates : gates_of version image ≡ slots version 0 ends image.journal ++ next_gate ∷ rest
   pub closed : next_gate ≢ 1
 
 -- these entries stand, and no other
 abbrev pub Stands : Image → List (List ℕ) → Type 0
-Stands image entries = (ends : List ℕ) × StandsAt ends image × (entries ≡ parts 0 ends image.journal)
+Stands image entries = (version : LogVersion) × (ends : List ℕ) × StandsAt version ends image × (entries ≡ parts 0 ends image.journal)
 
 -- the gate behind the entries
-abbrev pub gate_behind : List ℕ → Image → ℕ
-gate_behind ends image = get_or image.gate (gate_place (length ends)) 0
+abbrev pub gate_behind : LogVersion → List ℕ → Image → ℕ
+gate_behind version ends image = get_or (gates_of version image) (gate_place version (length ends)) 0
+
+-- the bytes of the other file say nothing: `slots` isn't begun, or `gate` is empty
+abbrev pub IsIdle : LogVersion → List ℕ → Type 0
+IsIdle First slots = ¬ IsBegun slots
+IsIdle Second gate = gate ≡ []
 
 -- nothing but these entries is there, with a closed gate behind them
-pub record IsAtRest (ends : List ℕ) (image : Image) : Type 0 where
+pub record IsAtRest (version : LogVersion) (ends : List ℕ) (image : Image) : Type 0 where
   pub fits : last_end 0 ends < 2 ^ 64
   pub journal : length image.journal ≡ last_end 0 ends
-  pub gates : image.gate ≡ slots ends ++ gate_behind ends image ∷ []
-  pub closed : gate_behind ends image ≢ 1
+  pub gates : gates_of version image ≡ slots version 0 ends image.journal ++ gate_behind version ends image ∷ []
+  pub closed : gate_behind version ends image ≢ 1
+  pub idle : IsIdle version (others_of version image)
 
 -- the entries stand, or these and one more
 abbrev pub IsEither : List (List ℕ) → List ℕ → Image → Type 0
@@ -49,22 +59,29 @@ IsEither entries entry image = Stands image entries ⊎ Stands image (entries ++
 
 -- there is no open gate to begin with
 abbrev pub HasNoEntry : Image → Type 0
-HasNoEntry image = get_or image.gate 0 0 ≢ 1
+HasNoEntry image = (version : LogVersion) × IsOf version image × (get_or (gates_of version image) 0 0 ≢ 1)
 
--- eight bytes of a length that isn't above the last or passes the journal's end
-abbrev pub BadLength : ℕ → ℕ → List ℕ → Type 0
-BadLength last journal rest = (end : ℕ) × (more : List ℕ) × (rest ≡ eight_bytes end ++ more) × (end < 2 ^ 64) × ((end ≤ last) ⊎ (journal < end))
+-- what stands behind the open gate of an entry that begins at `from`: a length above that and within the journal, the entry's sum, and the next gate
+pub record IsSlot (version : LogVersion) (from end : ℕ) (journal behind : List ℕ) : Type 0 where
+  pub rises : from < end
+  pub within : end ≤ length journal
+  pub fits : end < 2 ^ 64
+  pub next_gate : ℕ
+  pub rest : List ℕ
+  pub bytes : behind ≡ mark version end (part from end journal) ++ next_gate ∷ rest
 
--- the entry of this number is the first whose length or next gate breaks the format
+-- the entry of this number is the first whose length, sum or next gate breaks the format
 pub record IsDamagedAt (entry : ℕ) (image : Image) : Type 0 where
+  pub version : LogVersion
+  pub is : IsOf version image
   pub ends : List ℕ
   pub count : length ends ≡ entry
   pub rising : IsRising 0 ends
   pub within : last_end 0 ends ≤ length image.journal
   pub fits : last_end 0 ends < 2 ^ 64
   pub rest : List ℕ
-  pub gates : image.gate ≡ slots ends ++ 1 ∷ rest
-  pub breaks : (length rest < slot_size) ⊎ BadLength (last_end 0 ends) (length image.journal) rest
+  pub gates : gates_of version image ≡ slots version 0 ends image.journal ++ 1 ∷ rest
+  pub breaks : (end : ℕ) → IsSlot version (last_end 0 ends) end image.journal rest → ⊥
 
 -- the image stands for whatever the first stands for
 abbrev pub StandsAs : Image → Image → Type 0
@@ -72,8 +89,13 @@ StandsAs first image = (entries : List (List ℕ)) → Stands first entries → 
 
 -- there is no entry, and one gate at most
 abbrev pub IsBlank : Image → Type 0
-IsBlank image = (image.journal ≡ []) × (length image.gate ≤ 1)
+IsBlank image = (image.journal ≡ []) × (image.gate ≡ []) × (length image.slots ≤ 1)
 
 -- both stand for the same entries
 abbrev pub StandsAlike : Image → Image → Type 0
 StandsAlike first image = (entries : List (List ℕ)) × Stands first entries × Stands image entries
+
+-- what an opening leaves of the other file: all of `slots`, or nothing of `gate`
+abbrev pub IsCleared : LogVersion → Image → Image → Type 0
+IsCleared First old new = new.slots ≡ old.slots
+IsCleared Second old new = new.gate ≡ []

@@ -1,52 +1,193 @@
 //! Which entries stand on a disk.
 ghost use Rattle.std.specs.Prelude.{◌≡◌, ◌≢◌, ◌⊎◌, ◌<◌, ◌≤◌, ◌+◌, ◌^◌, ◌↔◌, ℕ, [], IsTrue, length, take, drop, get_or};
-ghost use Rattle.std.specs.Prelude.{IfOk, IfErr, IsErrOf};
-ghost use Rattle.fleet_disk.specs.Image.{Image};
+ghost use Rattle.std.specs.Prelude.{None, IfOk, IfErr, IfSome, IsErrOf};
+ghost use Rattle.fleet_disk.specs.Image.{Image, bytes_of};
 ghost use Rattle.fleet_disk.specs.Rules.{HasCause, Rose};
-ghost use Rattle.gate_log.specs.Faults.{IsFindFault};
+ghost use Rattle.gate_log.specs.Faults.{IsFindFault, IsEntryFault};
+ghost use Rattle.gate_log.specs.Lengths.{AreLengths};
 ghost use Rattle.gate_log.specs.Looks.{Looks};
-ghost use Rattle.gate_log.specs.Slots.{eight_bytes, gates_size};
-ghost use Rattle.gate_log.specs.Standing.{IsRising, StandsAt, HasNoEntry, IsDamagedAt};
+ghost use Rattle.gate_log.specs.Slots.{eight_bytes, gates_size, slot_size};
+ghost use Rattle.gate_log.specs.Standing.{IsRising, StandsAt, HasNoEntry, IsDamagedAt, IsSlot};
+ghost use Rattle.gate_log.specs.Version.{gates_of, IsOf};
 
 use crate::fault::LogFault;
 use crate::reads::{length_of, read_full};
-use crate::slots::{CLOSED, GATE_BYTES, LENGTH_BYTES, OPEN, SLOT_BYTES};
+use crate::slots::{CLOSED, GATE_BYTES, LENGTH_BYTES, OPEN, slot_bytes};
+use crate::sums::has_sum;
+use crate::version::{LogVersion, gates_file};
 use fleet_disk::{Disk, DiskFault, DiskFile};
 use std::alloc::Global;
 
+/// How many bytes `slots` has at least, where it has an entry: a slot, and a gate behind it.
+const LEAST_SLOTS: u64 = 26;
+
+/// How long the journal and the file of the gates are, and which that is.
+#[derive(Drop)]
+pub struct Lengths {
+    pub version: LogVersion,
+    pub journal: u64,
+    pub gates: u64,
+}
+
 // A gate is open.
-fn gate_is_open<D: Disk>(disk: &mut D, at: u64) -> Result<bool, DiskFault>
+fn gate_is_open<D: Disk>(disk: &mut D, file: DiskFile, at: u64) -> Result<bool, DiskFault>
     requires { at + 1 < 2 ^ 64 }
-    ensures open { D.honest disk.old → at < length (D.reads disk.old).gate
-        → IfOk result (λ is_open. IsTrue is_open ↔ (get_or (D.reads disk.old).gate at 0 ≡ 1)) }
+    ensures open { D.honest disk.old → at < length (bytes_of file (D.reads disk.old))
+        → IfOk result (λ is_open. IsTrue is_open ↔ (get_or (bytes_of file (D.reads disk.old)) at 0 ≡ 1)) }
     ensures looks { Looks D.honest D.reads D.may_leave D.clock D.left_since D.failures disk.old disk.new }
     ensures cause { HasCause (D.failures disk.old) (D.failures disk.new) result }
 {
     let mut gate = [CLOSED; 1];
-    read_full(disk, DiskFile::Gate, at, &mut gate)?;
+    read_full(disk, file, at, &mut gate)?;
     let [gate] = gate;
     Ok(gate == OPEN)
 }
 
 // The length behind a gate.
-fn read_length<D: Disk>(disk: &mut D, at: u64) -> Result<u64, DiskFault>
+fn read_length<D: Disk>(disk: &mut D, file: DiskFile, at: u64) -> Result<u64, DiskFault>
     requires { at + 8 < 2 ^ 64 }
-    ensures length { D.honest disk.old → at + 8 ≤ length (D.reads disk.old).gate
-        → IfOk result (λ end. take 8 (drop at (D.reads disk.old).gate) ≡ eight_bytes end) }
+    ensures length { D.honest disk.old → at + 8 ≤ length (bytes_of file (D.reads disk.old))
+        → IfOk result (λ end. take 8 (drop at (bytes_of file (D.reads disk.old))) ≡ eight_bytes end) }
     ensures looks { Looks D.honest D.reads D.may_leave D.clock D.left_since D.failures disk.old disk.new }
     ensures cause { HasCause (D.failures disk.old) (D.failures disk.new) result }
 {
     let mut length = [CLOSED; LENGTH_BYTES];
-    read_full(disk, DiskFile::Gate, at, &mut length)?;
+    read_full(disk, file, at, &mut length)?;
     Ok(u64::from_be_bytes(length))
 }
 
-// Where the entries that stand end; their number's worth of slots is in the gate file. It reads and changes nothing.
-pub fn find_ends<D: Disk>(alloc: Global, disk: &mut D) -> Result<Vec<u64>, LogFault>
-    ensures stands { D.honest disk.old → IfOk result (λ ends. StandsAt ends.items (D.reads disk.old)) }
+// Which version a disk has. It reads and changes nothing.
+pub fn find_version<D: Disk>(disk: &mut D) -> Result<LogVersion, DiskFault>
+    ensures is { D.honest disk.old → IfOk result (λ version. IsOf version (D.reads disk.old)) }
+    ensures looks { Looks D.honest D.reads D.may_leave D.clock D.left_since D.failures disk.old disk.new }
+    ensures cause { HasCause (D.failures disk.old) (D.failures disk.new) result }
+{
+    let slots = length_of(disk, DiskFile::Slots)?;
+    if slots == 0 {
+        return Ok(LogVersion::First);
+    }
+    let is_open = gate_is_open(disk, DiskFile::Slots, 0)?;
+    if is_open {
+        return Ok(begun(slots));
+    }
+    let gate = length_of(disk, DiskFile::Gate)?;
+    Ok(empty(gate))
+}
+
+// The version where `slots` has so many bytes and begins with an open gate.
+fn begun(slots: u64) -> LogVersion
+    ensures second { 26 ≤ slots → result ≡ LogVersion.Second }
+    ensures first { slots < 26 → result ≡ LogVersion.First }
+{
+    if slots < LEAST_SLOTS {
+        return LogVersion::First;
+    }
+    LogVersion::Second
+}
+
+// The version where `gate` has so many bytes and `slots` begins with a closed gate.
+fn empty(gate: u64) -> LogVersion
+    ensures second { gate ≡ 0 → result ≡ LogVersion.Second }
+    ensures first { 0 < gate → result ≡ LogVersion.First }
+{
+    if gate > 0 {
+        return LogVersion::First;
+    }
+    LogVersion::Second
+}
+
+// The end of the entry that begins at `start` in the journal, and whose gate, at this place, is open.
+fn slot_end<D: Disk>(
+    alloc: Global,
+    disk: &mut D,
+    lengths: &Lengths,
+    entry: u64,
+    at: u64,
+    start: u64,
+) -> Result<u64, LogFault>
+    requires { at < lengths.now.gates }
+    ensures slot { D.honest disk.old → AreLengths lengths.now (D.reads disk.old)
+        → IfOk result (λ end. IsSlot lengths.now.version start end (D.reads disk.old).journal
+        (drop (at + 1) (gates_of lengths.now.version (D.reads disk.old)))) }
+    ensures order { IfOk result (λ end. start < end) }
+    ensures within { IfOk result (λ end. end ≤ lengths.now.journal) }
+    ensures room { IfOk result (λ end. at + slot_size lengths.now.version < lengths.now.gates) }
+    ensures damaged { D.honest disk.old → AreLengths lengths.now (D.reads disk.old) → IsErrOf result (LogFault.Damaged entry)
+        → (end : ℕ) → IsSlot lengths.now.version start end (D.reads disk.old).journal
+        (drop (at + 1) (gates_of lengths.now.version (D.reads disk.old))) → ⊥ }
+    ensures device { IsErrOf result LogFault.DeviceFailed → Rose (D.failures disk.old) (D.failures disk.new) }
+    ensures no_other { IfErr result (IsEntryFault entry) }
+    ensures looks { Looks D.honest D.reads D.may_leave D.clock D.left_since D.failures disk.old disk.new }
+{
+    let version = lengths.version;
+    if lengths.gates - at < slot_bytes(version) + GATE_BYTES {
+        return Err(LogFault::Damaged(entry));
+    }
+    let end = read_length(disk, gates_file(version), at + GATE_BYTES)?;
+    if end <= start || end > lengths.journal {
+        return Err(LogFault::Damaged(entry));
+    }
+    let sum = at + GATE_BYTES + LENGTH_BYTES as u64;
+    let is_whole = has_sum(alloc, disk, version, sum, entry, start, end)?;
+    if !is_whole {
+        return Err(LogFault::Damaged(entry));
+    }
+    Ok(end)
+}
+
+// The end of the entry that begins at `start` in the journal, where its gate, at this place, is open.
+fn next_end<D: Disk>(
+    alloc: Global,
+    disk: &mut D,
+    lengths: &Lengths,
+    entry: u64,
+    at: u64,
+    start: u64,
+) -> Result<Option<u64>, LogFault>
+    requires inside { at < lengths.now.gates }
+    requires room { at + 1 < 2 ^ 64 }
+    ensures closed { D.honest disk.old → AreLengths lengths.now (D.reads disk.old) → IfOk result (λ found. found ≡ None
+        → get_or (gates_of lengths.now.version (D.reads disk.old)) at 0 ≢ 1) }
+    ensures open { D.honest disk.old → AreLengths lengths.now (D.reads disk.old) → IfOk result (λ found. IfSome found
+        (λ end. get_or (gates_of lengths.now.version (D.reads disk.old)) at 0 ≡ 1)) }
+    ensures slot { D.honest disk.old → AreLengths lengths.now (D.reads disk.old) → IfOk result (λ found. IfSome found
+        (λ end. IsSlot lengths.now.version start end (D.reads disk.old).journal
+        (drop (at + 1) (gates_of lengths.now.version (D.reads disk.old))))) }
+    ensures order { IfOk result (λ found. IfSome found (λ end. start < end)) }
+    ensures within { IfOk result (λ found. IfSome found (λ end. end ≤ lengths.now.journal)) }
+    ensures room { IfOk result (λ found. IfSome found (λ end. at + slot_size lengths.now.version < lengths.now.gates)) }
+    ensures damaged { D.honest disk.old → AreLengths lengths.now (D.reads disk.old) → IsErrOf result (LogFault.Damaged entry)
+        → (get_or (gates_of lengths.now.version (D.reads disk.old)) at 0 ≡ 1)
+        × ((end : ℕ) → IsSlot lengths.now.version start end (D.reads disk.old).journal
+        (drop (at + 1) (gates_of lengths.now.version (D.reads disk.old))) → ⊥) }
+    ensures device { IsErrOf result LogFault.DeviceFailed → Rose (D.failures disk.old) (D.failures disk.new) }
+    ensures no_other { IfErr result (IsEntryFault entry) }
+    ensures looks { Looks D.honest D.reads D.may_leave D.clock D.left_since D.failures disk.old disk.new }
+{
+    let is_open = gate_is_open(disk, gates_file(lengths.version), at)?;
+    if !is_open {
+        return Ok(None);
+    }
+    match slot_end(alloc, disk, lengths, entry, at, start) {
+        Ok(end) => Ok(Some(end)),
+        Err(fault) => Err(fault),
+    }
+}
+
+// Where the entries that stand end; their number's worth of slots is in the file of the gates. It reads and changes
+// nothing.
+pub fn find_ends<D: Disk>(
+    alloc: Global,
+    disk: &mut D,
+    lengths: &Lengths,
+) -> Result<Vec<u64>, LogFault>
+    requires lengths { D.honest disk.old → AreLengths lengths.now (D.reads disk.old) }
+    requires is { D.honest disk.old → IsOf lengths.now.version (D.reads disk.old) }
+    ensures stands { D.honest disk.old
+        → IfOk result (λ ends. StandsAt lengths.now.version ends.items (D.reads disk.old)) }
     ensures some { IfOk result (λ ends. 0 < length ends.items) }
     ensures rising { IfOk result (λ ends. IsRising 0 ends.items) }
-    ensures room { IfOk result (λ ends. gates_size (length ends.items) < 2 ^ 64) }
+    ensures room { IfOk result (λ ends. gates_size lengths.now.version (length ends.items) < 2 ^ 64) }
     ensures damaged { D.honest disk.old → (entry : ℕ) → IsErrOf result (LogFault.Damaged entry)
         → IsDamagedAt entry (D.reads disk.old) }
     ensures missing { D.honest disk.old → IsErrOf result LogFault.NoRepository → HasNoEntry (D.reads disk.old) }
@@ -54,30 +195,41 @@ pub fn find_ends<D: Disk>(alloc: Global, disk: &mut D) -> Result<Vec<u64>, LogFa
     ensures no_other { IfErr result IsFindFault }
     ensures looks { Looks D.honest D.reads D.may_leave D.clock D.left_since D.failures disk.old disk.new }
 {
-    let journal = length_of(disk, DiskFile::Journal)?;
-    let gates = length_of(disk, DiskFile::Gate)?;
+    let Lengths { gates, .. } = *lengths;
     let mut ends = Vec::new(alloc);
     let mut last = 0;
     let mut at = 0;
     while at < gates {
-        let is_open = gate_is_open(disk, at)?;
-        if !is_open {
-            break;
-        }
         let entry = ends.len() as u64;
-        if gates - at < SLOT_BYTES + GATE_BYTES {
-            return Err(LogFault::Damaged(entry));
-        }
-        let end = read_length(disk, at + GATE_BYTES)?;
-        if end <= last || end > journal {
-            return Err(LogFault::Damaged(entry));
-        }
+        let found = match next_end(alloc, disk, lengths, entry, at, last) {
+            Ok(found) => found,
+            Err(fault) => return Err(fault),
+        };
+        let Some(end) = found else {
+            break;
+        };
         ends.push(end)?;
         last = end;
-        at += SLOT_BYTES;
+        at += slot_bytes(lengths.version);
     }
     if ends.is_empty() {
         return Err(LogFault::NoRepository);
     }
     Ok(ends)
+}
+
+// How long the journal and the file of the gates are.
+pub fn lengths_of<D: Disk>(disk: &mut D, version: LogVersion) -> Result<Lengths, DiskFault>
+    ensures version { IfOk result (λ lengths. lengths.version ≡ version) }
+    ensures lengths { D.honest disk.old → IfOk result (λ lengths. AreLengths lengths (D.reads disk.old)) }
+    ensures looks { Looks D.honest D.reads D.may_leave D.clock D.left_since D.failures disk.old disk.new }
+    ensures cause { HasCause (D.failures disk.old) (D.failures disk.new) result }
+{
+    let journal = length_of(disk, DiskFile::Journal)?;
+    let gates = length_of(disk, gates_file(version))?;
+    Ok(Lengths {
+        version,
+        journal,
+        gates,
+    })
 }

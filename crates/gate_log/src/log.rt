@@ -8,16 +8,21 @@ ghost use Rattle.gate_log.specs.Faults.{IsFindFault};
 ghost use Rattle.gate_log.specs.Looks.{Looks};
 ghost use Rattle.gate_log.specs.Slots.{slots, gates_size};
 ghost use Rattle.gate_log.specs.Standing.{last_end, IsRising, IsAtRest, IsEither, IsBlank, IsDamagedAt, Stands};
-ghost use Rattle.gate_log.specs.Standing.{StandsAlike, StandsAs, HasNoEntry};
-ghost use Rattle.gate_log.specs.StandingLaws.{rising_prop};
+ghost use Rattle.gate_log.specs.Standing.{StandsAlike, StandsAs, HasNoEntry, IsCleared};
+ghost use Rattle.gate_log.specs.StandingLaws.{rising_prop, rest_prop};
+ghost use Rattle.gate_log.specs.Upgrade.{IsMigrationFault};
+ghost use Rattle.gate_log.specs.Version.{gates_of, others_of, IsOf};
+ghost use Rattle.gate_log.specs.declared.version.LogVersion.TheVariants.{First, Second};
 
 use crate::create::begin;
 use crate::ends::{bounds, end_of};
 use crate::fault::LogFault;
+use crate::migrate::migrate;
 use crate::put::put_entry;
-use crate::reads::read_full;
+use crate::reads::read_part;
 use crate::recover::recover;
-use fleet_disk::{Disk, DiskFile};
+use crate::version::LogVersion;
+use fleet_disk::Disk;
 use std::alloc::Global;
 
 /// The most bytes that a journal has.
@@ -25,15 +30,18 @@ pub const MOST_BYTES: u64 = 1 << 56;
 
 /// A log of entries on a disk, each of them whole or not there.
 ///
-/// The entries stand one behind another in the file `journal`; the file `gate` says which of them count. After a
-/// failure of the device every call answers Failed (32), and the disk has to be opened again.
+/// The entries stand one behind another in the file `journal`; the file `slots` says which of them count, with the MD5
+/// of each, or in the first version the file `gate`, without. After a failure of the device every call answers Failed
+/// (32), and the disk has to be opened again.
 #[derive(Drop)]
 pub struct GateLog<D: Disk> {
     disk: D,
+    version: LogVersion,
     ends: Vec<u64>,
     failed: bool,
     ghost rising: { IsRising 0 ends.items } by { rising_prop 0 ends.items },
-    ghost at_rest: { D.honest disk → failed ≡ false → IsAtRest ends.items (D.reads disk) } by { Prim.hlevel props },
+    ghost begun: { version ≡ First → 0 < length ends.items } by { Prim.hlevel props },
+    ghost at_rest: { D.honest disk → failed ≡ false → IsAtRest version ends.items (D.reads disk) } by { rest_prop (D.honest disk) (failed ≡ false) version ends.items (D.reads disk) },
     ghost durable: { D.honest disk → failed ≡ false → Only (D.reads disk) (D.may_leave disk) } by { Prim.hlevel props },
 }
 
@@ -55,10 +63,11 @@ impl Receipt {
 }
 
 impl<D: Disk> GateLog<D> {
-    ghost use Rattle.gate_log.specs.Log.{disk_of, ends_of, size_of, entries_of, entry_of, HasFailed, HasRoom};
+    ghost use Rattle.gate_log.specs.Log.{disk_of, version_of, ends_of, size_of, entries_of, entry_of, HasFailed};
+    ghost use Rattle.gate_log.specs.Log.{HasRoom};
 
-    /// Begins a log without entries on a disk of two empty files. Until it has answered Ok a stop leaves no entry and
-    /// one gate at most, of any value, so that an opening answers NoRepository (34) or Damaged (33). The first append
+    /// Begins a log without entries, of the second version, on a disk of empty files. Until it has answered Ok a stop
+    /// leaves no entry and one gate at most, of any value, so that an opening answers NoRepository (34). The first append
     /// takes no memory. It answers OutOfMemory (70) before it asks the disk for anything, ThereAlready (35) where a
     /// file isn't empty, and DeviceFailed (31). A refusal hands the disk back; one with something on it then is as it
     /// was: a read gives what it gave, and a stop leaves what it could leave, at each moment too.
@@ -66,7 +75,9 @@ impl<D: Disk> GateLog<D> {
         ensures empty { D.honest disk → OnOk result (D.reads disk ≡ no_bytes) }
         ensures entries { IfOk result (λ log. (ends_of log ≡ []) × ¬ HasFailed log) }
         ensures files { D.honest disk → IfOk result
-            (λ log. ((D.reads (disk_of log)).journal ≡ []) × ((D.reads (disk_of log)).gate ≡ 0 ∷ [])) }
+            (λ log. ((D.reads (disk_of log)).journal ≡ []) × ((D.reads (disk_of log)).gate ≡ [])
+            × ((D.reads (disk_of log)).slots ≡ 0 ∷ [])) }
+        ensures version { IfOk result (λ log. version_of log ≡ Second) }
         ensures durable { D.honest disk → IfOk result
             (λ log. (image : Image) → D.may_leave (disk_of log) image → Stands image []) }
         ensures there { D.honest disk → IfErr result (λ e. e.0 ≡ LogFault.ThereAlready → D.reads disk ≢ no_bytes) }
@@ -93,6 +104,7 @@ impl<D: Disk> GateLog<D> {
         match begin(&mut disk) {
             Ok(()) => Ok(GateLog {
                 disk,
+                version: LogVersion::Second,
                 ends,
                 failed: false,
             }),
@@ -103,7 +115,7 @@ impl<D: Disk> GateLog<D> {
     /// Opens the log that a disk holds: syncs, finds the entries that stand, and cuts what is behind them. Until the
     /// first sync has succeeded a stop leaves what it could leave before, and from then on an image that stands for
     /// the entries that a read gave. It answers NoRepository (34) where the first gate is missing or closed, Damaged
-    /// (33) with the first entry whose length or next gate breaks the format, DeviceFailed (31) and OutOfMemory (70);
+    /// (33) with the first entry whose length, sum or next gate breaks the format, DeviceFailed (31) and OutOfMemory (70);
     /// a refusal hands the disk back. But for 31 a read of it then gives what it gave, a stop leaves that, and at each
     /// moment left what it could leave before.
     pub fn open(alloc: Global, disk: D) -> Result<GateLog<D>, (LogFault, D)>
@@ -115,7 +127,10 @@ impl<D: Disk> GateLog<D> {
         ensures some { IfOk result (λ log. (0 < length (entries_of log)) × ¬ HasFailed log) }
         ensures files { D.honest disk → IfOk result
             (λ log. ((D.reads (disk_of log)).journal ≡ take (size_of log) (D.reads disk).journal)
-            × ((D.reads (disk_of log)).gate ≡ take (gates_size (length (ends_of log))) (D.reads disk).gate)) }
+            × (gates_of (version_of log) (D.reads (disk_of log))
+            ≡ take (gates_size (version_of log) (length (ends_of log))) (gates_of (version_of log) (D.reads disk)))
+            × IsCleared (version_of log) (D.reads disk) (D.reads (disk_of log))) }
+        ensures version { D.honest disk → IfOk result (λ log. IsOf (version_of log) (D.reads disk)) }
         ensures durable { D.honest disk → IfOk result
             (λ log. (image : Image) → D.may_leave (disk_of log) image → Stands image (entries_of log)) }
         ensures damaged { D.honest disk → (entry : ℕ) → IfErr result
@@ -143,9 +158,10 @@ impl<D: Disk> GateLog<D> {
     {
         let mut disk = disk;
         match recover(alloc, &mut disk) {
-            Ok(ends) => Ok(GateLog {
+            Ok(found) => Ok(GateLog {
                 disk,
-                ends,
+                version: found.version,
+                ends: found.ends,
                 failed: false,
             }),
             Err(fault) => Err((fault, disk)),
@@ -161,6 +177,15 @@ impl<D: Disk> GateLog<D> {
             → D.may_leave (disk_of self.now) image → Stands image (entries_of self.now) }
     {
         self.ends.len() as u64
+    }
+
+    /// Its layout. While no call has failed, each image that a stop may leave has that.
+    pub fn version(&self) -> LogVersion
+        ensures version { result ≡ version_of self.now }
+        ensures stand { D.honest (disk_of self.now) → ¬ HasFailed self.now → (image : Image)
+            → D.may_leave (disk_of self.now) image → IsOf result image }
+    {
+        self.version
     }
 
     /// There is no entry.
@@ -184,6 +209,7 @@ impl<D: Disk> GateLog<D> {
     {
         let GateLog {
             disk,
+            version: _,
             ends: _,
             failed: _,
         } = self;
@@ -198,6 +224,7 @@ impl<D: Disk> GateLog<D> {
         ensures fits { OnOk result (size_of self.old + count ≤ 2 ^ 56) }
         ensures disk { disk_of self.new ≡ disk_of self.old }
         ensures entries { ends_of self.new ≡ ends_of self.old }
+        ensures version { version_of self.new ≡ version_of self.old }
         ensures working { HasFailed self.new ↔ HasFailed self.old }
         ensures failed { IsErrOf result LogFault.Failed ↔ HasFailed self.old }
         ensures full { IsErrOf result LogFault.LogFull ↔ (¬ HasFailed self.old × (2 ^ 56 < size_of self.old + count)) }
@@ -228,7 +255,11 @@ impl<D: Disk> GateLog<D> {
         ensures ends { OnOk result (ends_of self.new ≡ ends_of self.old ++ (size_of self.old + length bytes.now) ∷ []) }
         ensures files { D.honest (disk_of self.old)
             → OnOk result (((D.reads (disk_of self.new)).journal ≡ (D.reads (disk_of self.old)).journal ++ bytes.now)
-            × ((D.reads (disk_of self.new)).gate ≡ slots (ends_of self.new) ++ 0 ∷ [])) }
+            × (gates_of (version_of self.old) (D.reads (disk_of self.new))
+            ≡ slots (version_of self.old) 0 (ends_of self.new) (D.reads (disk_of self.new)).journal ++ 0 ∷ [])
+            × (others_of (version_of self.old) (D.reads (disk_of self.new))
+            ≡ others_of (version_of self.old) (D.reads (disk_of self.old)))) }
+        ensures version { version_of self.new ≡ version_of self.old }
         ensures receipt { IfOk result (λ receipt. entry_of receipt ≡ length (entries_of self.old)) }
         ensures durable { D.honest (disk_of self.old)
             → OnOk result ((image : Image) → D.may_leave (disk_of self.new) image
@@ -263,7 +294,7 @@ impl<D: Disk> GateLog<D> {
         let entry = self.ends.len() as u64;
         let end = end_of(&self.ends) + bytes.len() as u64;
         self.failed = true;
-        put_entry(&mut self.disk, &self.ends, bytes)?;
+        put_entry(&mut self.disk, self.version, &self.ends, bytes)?;
         self.ends.push_reserved(end);
         self.failed = false;
         Ok(Receipt { entry })
@@ -278,6 +309,7 @@ impl<D: Disk> GateLog<D> {
             (λ bytes. slice_get (entries_of self.old) entry ≡ Some bytes.items) }
         ensures same { D.honest (disk_of self.old) → entries_of self.new ≡ entries_of self.old }
         ensures ends { ends_of self.new ≡ ends_of self.old }
+        ensures version { version_of self.new ≡ version_of self.old }
         ensures inside { D.honest (disk_of self.old)
             → Within (D.may_leave (disk_of self.new)) (D.may_leave (disk_of self.old)) }
         ensures any_moment { D.honest (disk_of self.old)
@@ -297,19 +329,100 @@ impl<D: Disk> GateLog<D> {
             return Err(LogFault::Failed);
         }
         let (start, end) = bounds(&self.ends, entry as usize);
-        let size = (end - start) as usize;
-        let mut bytes = vec![in alloc; 0u8; size]?;
-        match read_full(&mut self.disk, DiskFile::Journal, start, &mut bytes) {
-            Ok(count) => {
-                if count < size {
-                    return Err(LogFault::Damaged(entry));
-                }
-                Ok(bytes)
-            }
-            Err(_) => {
+        match read_part(alloc, &mut self.disk, entry, start, end) {
+            Ok(bytes) => Ok(bytes),
+            Err(LogFault::DeviceFailed) => {
                 self.failed = true;
                 Err(LogFault::DeviceFailed)
             }
+            Err(fault) => Err(fault),
+        }
+    }
+
+    /// Makes the second version of a log of the first, and answers how many entries that are; a log of the second is
+    /// left alone, with 0. First come the growths and the reads for the sums; then `slots` is emptied, begun with a
+    /// closed gate, and filled, its first gate is opened, and `gate` is emptied, with a sync behind each. At each moment
+    /// of the call a stop leaves what stands for the same entries, so it may be stopped and made again. It answers
+    /// Failed (32) after a failure of the device, DeviceFailed (31) and OutOfMemory (70), which leaves the disk alone,
+    /// and Damaged (33) only where the disk has fewer bytes than an honest one; the entries stay as they are.
+    pub fn upgrade(&mut self, alloc: Global) -> Result<u64, LogFault>
+        ensures version { OnOk result (version_of self.new ≡ Second) }
+        ensures count { IfOk result (λ n. version_of self.old ≡ First → n ≡ length (ends_of self.old)) }
+        ensures already { version_of self.old ≡ Second → (disk_of self.new ≡ disk_of self.old)
+            × IfOk result (λ n. n ≡ 0) }
+        ensures files { D.honest (disk_of self.old) → version_of self.old ≡ First
+            → OnOk result (((D.reads (disk_of self.new)).journal ≡ (D.reads (disk_of self.old)).journal)
+            × ((D.reads (disk_of self.new)).gate ≡ [])
+            × ((D.reads (disk_of self.new)).slots
+            ≡ slots Second 0 (ends_of self.old) (D.reads (disk_of self.old)).journal ++ 0 ∷ [])) }
+        ensures ends { ends_of self.new ≡ ends_of self.old }
+        ensures same { D.honest (disk_of self.old) → entries_of self.new ≡ entries_of self.old }
+        ensures kept { OnErr result (version_of self.new ≡ version_of self.old) }
+        ensures any_moment { D.honest (disk_of self.old) → ¬ HasFailed self.old
+            → LeavesOnly D.clock D.left_since (disk_of self.old) (disk_of self.new)
+            (λ c. Stands c (entries_of self.old)) }
+        ensures any_moment_failed { HasFailed self.old → disk_of self.new ≡ disk_of self.old }
+        ensures durable { D.honest (disk_of self.old) → ¬ HasFailed self.old → (image : Image)
+            → D.may_leave (disk_of self.new) image → Stands image (entries_of self.old) }
+        ensures looks { IfErr result (λ e. (e ≡ LogFault.DeviceFailed) ⊎ (e ≡ LogFault.Failed)
+            ⊎ Looks D.honest D.reads D.may_leave D.clock D.left_since D.failures (disk_of self.old) (disk_of self.new)) }
+        ensures device { IsErrOf result LogFault.DeviceFailed
+            → Rose (D.failures (disk_of self.old)) (D.failures (disk_of self.new)) }
+        ensures failed { IsErrOf result LogFault.Failed ↔ HasFailed self.old }
+        ensures working { HasFailed self.new ↔ (HasFailed self.old ⊎ IsErrOf result LogFault.DeviceFailed) }
+        ensures no_other { D.honest (disk_of self.old) → IfErr result
+            (λ e. (e ≡ LogFault.DeviceFailed) ⊎ (e ≡ LogFault.Failed) ⊎ (e ≡ LogFault.OutOfMemory)) }
+        ensures faults { IfErr result (λ e. (e ≡ LogFault.Failed) ⊎ IsMigrationFault (length (ends_of self.old)) e) }
+        ensures honest { D.honest (disk_of self.old) ↔ D.honest (disk_of self.new) }
+        ensures later { D.failures (disk_of self.old) ≤ D.failures (disk_of self.new) }
+    {
+        if self.failed {
+            return Err(LogFault::Failed);
+        }
+        match self.version {
+            LogVersion::Second => Ok(0),
+            LogVersion::First => self.rewrite(alloc),
+        }
+    }
+
+    // The same of a log of the first version that hasn't failed.
+    fn rewrite(&mut self, alloc: Global) -> Result<u64, LogFault>
+        requires first { version_of self.old ≡ First }
+        requires working { ¬ HasFailed self.old }
+        ensures version { OnOk result (version_of self.new ≡ Second) }
+        ensures count { IfOk result (λ n. n ≡ length (ends_of self.old)) }
+        ensures files { D.honest (disk_of self.old)
+            → OnOk result (((D.reads (disk_of self.new)).journal ≡ (D.reads (disk_of self.old)).journal)
+            × ((D.reads (disk_of self.new)).gate ≡ [])
+            × ((D.reads (disk_of self.new)).slots
+            ≡ slots Second 0 (ends_of self.old) (D.reads (disk_of self.old)).journal ++ 0 ∷ [])) }
+        ensures ends { ends_of self.new ≡ ends_of self.old }
+        ensures same { D.honest (disk_of self.old) → entries_of self.new ≡ entries_of self.old }
+        ensures kept { OnErr result (version_of self.new ≡ version_of self.old) }
+        ensures any_moment { D.honest (disk_of self.old)
+            → LeavesOnly D.clock D.left_since (disk_of self.old) (disk_of self.new)
+            (λ c. Stands c (entries_of self.old)) }
+        ensures looks { IfErr result (λ e. (e ≡ LogFault.DeviceFailed)
+            ⊎ Looks D.honest D.reads D.may_leave D.clock D.left_since D.failures (disk_of self.old) (disk_of self.new)) }
+        ensures device { IsErrOf result LogFault.DeviceFailed
+            → Rose (D.failures (disk_of self.old)) (D.failures (disk_of self.new)) }
+        ensures working { HasFailed self.new ↔ IsErrOf result LogFault.DeviceFailed }
+        ensures due { D.honest (disk_of self.old) → IfErr result
+            (λ e. (e ≡ LogFault.DeviceFailed) ⊎ (e ≡ LogFault.OutOfMemory)) }
+        ensures faults { IfErr result (IsMigrationFault (length (ends_of self.old))) }
+        ensures honest { D.honest (disk_of self.old) ↔ D.honest (disk_of self.new) }
+        ensures later { D.failures (disk_of self.old) ≤ D.failures (disk_of self.new) }
+    {
+        match migrate(alloc, &mut self.disk, &self.ends) {
+            Ok(()) => {
+                self.version = LogVersion::Second;
+                Ok(self.ends.len() as u64)
+            }
+            Err(LogFault::DeviceFailed) => {
+                self.failed = true;
+                Err(LogFault::DeviceFailed)
+            }
+            Err(fault) => Err(fault),
         }
     }
 }

@@ -1,10 +1,13 @@
 //! Reads of a disk that go on until they have all that there is.
-ghost use Rattle.std.specs.Prelude.{◌≡◌, ◌<◌, ◌≤◌, ◌+◌, ◌^◌, ℕ, length, slice_index_or, IfOk};
-ghost use Rattle.fleet_disk.specs.Image.{bytes_of};
-ghost use Rattle.fleet_disk.specs.Rules.{HasCause, IsRead};
+ghost use Rattle.std.specs.Prelude.{◌≡◌, ◌⊎◌, ◌<◌, ◌≤◌, ◌+◌, ◌^◌, ℕ, length, slice_index_or, IfOk, IfErr, IsErrOf};
+ghost use Rattle.fleet_disk.specs.Image.{Image, bytes_of};
+ghost use Rattle.fleet_disk.specs.Rules.{HasCause, IsRead, Rose};
 ghost use Rattle.gate_log.specs.Looks.{Looks, IsFilled};
+ghost use Rattle.gate_log.specs.Slots.{part};
 
+use crate::fault::LogFault;
 use fleet_disk::{Disk, DiskFault, DiskFile};
+use std::alloc::Global;
 
 // One read.
 fn read_some<D: Disk>(
@@ -67,4 +70,32 @@ pub fn read_full<D: Disk>(
     ensures cause { HasCause (D.failures disk.old) (D.failures disk.new) result }
 {
     fill(disk, file, at, buf)
+}
+
+// The bytes of an entry that has these bounds in the journal. Where the journal ends before, which that of an honest
+// disk doesn't, the entry is damaged.
+pub fn read_part<D: Disk>(
+    alloc: Global,
+    disk: &mut D,
+    entry: u64,
+    start: u64,
+    end: u64,
+) -> Result<Vec<u8>, LogFault>
+    requires { start < end }
+    ensures bytes { D.honest disk.old → end ≤ length (D.reads disk.old).journal
+        → IfOk result (λ bytes. bytes.items ≡ part start end (D.reads disk.old).journal) }
+    ensures due { D.honest disk.old → end ≤ length (D.reads disk.old).journal
+        → IfErr result (λ e. (e ≡ LogFault.DeviceFailed) ⊎ (e ≡ LogFault.OutOfMemory)) }
+    ensures device { IsErrOf result LogFault.DeviceFailed → Rose (D.failures disk.old) (D.failures disk.new) }
+    ensures no_other { IfErr result (λ e. (e ≡ LogFault.DeviceFailed) ⊎ (e ≡ LogFault.Damaged entry)
+        ⊎ (e ≡ LogFault.OutOfMemory)) }
+    ensures looks { Looks D.honest D.reads D.may_leave D.clock D.left_since D.failures disk.old disk.new }
+{
+    let size = (end - start) as usize;
+    let mut bytes = vec![in alloc; 0u8; size]?;
+    let count = read_full(disk, DiskFile::Journal, start, &mut bytes)?;
+    if count < size {
+        return Err(LogFault::Damaged(entry));
+    }
+    Ok(bytes)
 }

@@ -1,32 +1,59 @@
 //! The device calls of an opening.
 ghost use Rattle.std.specs.Prelude.{◌≡◌, ◌⊎◌, ◌<◌, ◌≤◌, ◌^◌, ◌↔◌, ℕ, length, take, IfOk, IfErr, OnOk, OnErr, IsErrOf};
 ghost use Rattle.fleet_disk.specs.Image.{Image};
-ghost use Rattle.fleet_disk.specs.Rules.{Only, LeavesOnly, Settles, HasCause, Rose};
+ghost use Rattle.fleet_disk.specs.Rules.{Follows, Elapses, Only, LeavesOnly, Settles, HasCause, Rose};
 ghost use Rattle.gate_log.specs.Faults.{IsFindFault};
 ghost use Rattle.gate_log.specs.Looks.{Looks};
 ghost use Rattle.gate_log.specs.Slots.{gates_size};
 ghost use Rattle.gate_log.specs.Standing.{last_end, IsRising, parts, StandsAt, Stands, StandsAlike, StandsAs};
-ghost use Rattle.gate_log.specs.Standing.{IsAtRest, HasNoEntry, IsDamagedAt};
+ghost use Rattle.gate_log.specs.Standing.{IsAtRest, HasNoEntry, IsDamagedAt, IsCleared};
+ghost use Rattle.gate_log.specs.Version.{gates_of, IsOf, IsBeside};
 
 use crate::ends::end_of;
 use crate::fault::LogFault;
-use crate::find::find_ends;
+use crate::find::{find_ends, find_version, lengths_of};
 use crate::slots::{GATE_BYTES, gate_at};
+use crate::version::{LogVersion, gates_file};
 use fleet_disk::{Disk, DiskFault, DiskFile};
 use std::alloc::Global;
 
+/// What an opening finds: the version, and where the entries end.
+#[derive(Drop)]
+pub struct Found {
+    pub version: LogVersion,
+    pub ends: Vec<u64>,
+}
+
+// Cuts what an upgrade has left of `gate` beside `slots`.
+fn clear_gate<D: Disk>(disk: &mut D, version: LogVersion) -> Result<(), DiskFault>
+    ensures beside { D.honest disk.old → OnOk result (IsBeside version (D.reads disk.old) (D.reads disk.new)) }
+    ensures cleared { D.honest disk.old → OnOk result (IsCleared version (D.reads disk.old) (D.reads disk.new)) }
+    ensures left { D.honest disk.old → Follows (IsBeside version) (D.may_leave disk.old) (D.may_leave disk.new) }
+    ensures time { D.honest disk.old → Elapses (D.clock disk.old) (D.clock disk.new) (D.left_since disk.old)
+        (D.left_since disk.new) (D.may_leave disk.new) }
+    ensures honest { D.honest disk.old ↔ D.honest disk.new }
+    ensures cause { HasCause (D.failures disk.old) (D.failures disk.new) result }
+{
+    match version {
+        LogVersion::First => Ok(()),
+        LogVersion::Second => disk.cut(DiskFile::Gate, 0),
+    }
+}
+
 // Cuts what is behind the entries that stand, and syncs.
-fn cut_back<D: Disk>(disk: &mut D, ends: &[u64]) -> Result<(), DiskFault>
-    requires room { gates_size (length ends.now) < 2 ^ 64 }
+fn cut_back<D: Disk>(disk: &mut D, version: LogVersion, ends: &[u64]) -> Result<(), DiskFault>
+    requires some { 0 < length ends.now }
+    requires room { gates_size version (length ends.now) < 2 ^ 64 }
     requires rising { IsRising 0 ends.now }
-    requires stands { D.honest disk.old → StandsAt ends.now (D.reads disk.old) }
+    requires stands { D.honest disk.old → StandsAt version ends.now (D.reads disk.old) }
     requires durable { D.honest disk.old → Only (D.reads disk.old) (D.may_leave disk.old) }
 
-    ensures at_rest { D.honest disk.old → OnOk result (IsAtRest ends.now (D.reads disk.new)) }
+    ensures at_rest { D.honest disk.old → OnOk result (IsAtRest version ends.now (D.reads disk.new)) }
     ensures journal { D.honest disk.old → OnOk result ((D.reads disk.new).journal
         ≡ take (last_end 0 ends.now) (D.reads disk.old).journal) }
-    ensures gates { D.honest disk.old → OnOk result ((D.reads disk.new).gate
-        ≡ take (gates_size (length ends.now)) (D.reads disk.old).gate) }
+    ensures gates { D.honest disk.old → OnOk result (gates_of version (D.reads disk.new)
+        ≡ take (gates_size version (length ends.now)) (gates_of version (D.reads disk.old))) }
+    ensures cleared { D.honest disk.old → OnOk result (IsCleared version (D.reads disk.old) (D.reads disk.new)) }
     ensures same { D.honest disk.old → OnOk result (parts 0 ends.now (D.reads disk.new).journal
         ≡ parts 0 ends.now (D.reads disk.old).journal) }
     ensures durable { D.honest disk.old → OnOk result (Only (D.reads disk.new) (D.may_leave disk.new)) }
@@ -36,25 +63,51 @@ fn cut_back<D: Disk>(disk: &mut D, ends: &[u64]) -> Result<(), DiskFault>
     ensures cause { HasCause (D.failures disk.old) (D.failures disk.new) result }
 {
     let end = end_of(ends);
-    let gate = gate_at(ends.len() as u64);
+    let gate = gate_at(version, ends.len() as u64);
     disk.cut(DiskFile::Journal, end)?;
-    disk.cut(DiskFile::Gate, gate + GATE_BYTES)?;
+    disk.cut(gates_file(version), gate + GATE_BYTES)?;
+    clear_gate(disk, version)?;
     disk.sync()?;
     Ok(())
 }
 
+// The version, and where the entries that stand end.
+fn look<D: Disk>(alloc: Global, disk: &mut D) -> Result<Found, LogFault>
+    ensures is { D.honest disk.old → IfOk result (λ found. IsOf found.version (D.reads disk.old)) }
+    ensures stands { D.honest disk.old
+        → IfOk result (λ found. StandsAt found.version found.ends.items (D.reads disk.old)) }
+    ensures some { IfOk result (λ found. 0 < length found.ends.items) }
+    ensures rising { IfOk result (λ found. IsRising 0 found.ends.items) }
+    ensures room { IfOk result (λ found. gates_size found.version (length found.ends.items) < 2 ^ 64) }
+    ensures damaged { D.honest disk.old → (entry : ℕ) → IsErrOf result (LogFault.Damaged entry)
+        → IsDamagedAt entry (D.reads disk.old) }
+    ensures missing { D.honest disk.old → IsErrOf result LogFault.NoRepository → HasNoEntry (D.reads disk.old) }
+    ensures device { IsErrOf result LogFault.DeviceFailed → Rose (D.failures disk.old) (D.failures disk.new) }
+    ensures no_other { IfErr result IsFindFault }
+    ensures looks { Looks D.honest D.reads D.may_leave D.clock D.left_since D.failures disk.old disk.new }
+{
+    let version = find_version(disk)?;
+    let lengths = lengths_of(disk, version)?;
+    let ends = find_ends(alloc, disk, &lengths)?;
+    Ok(Found { version, ends })
+}
+
 // Syncs, finds the entries that stand, and cuts what is behind them.
-pub fn recover<D: Disk>(alloc: Global, disk: &mut D) -> Result<Vec<u64>, LogFault>
+pub fn recover<D: Disk>(alloc: Global, disk: &mut D) -> Result<Found, LogFault>
     ensures stands { D.honest disk.old → IfOk result
-        (λ ends. Stands (D.reads disk.old) (parts 0 ends.items (D.reads disk.new).journal)) }
-    ensures at_rest { D.honest disk.old → IfOk result (λ ends. IsAtRest ends.items (D.reads disk.new)) }
+        (λ found. Stands (D.reads disk.old) (parts 0 found.ends.items (D.reads disk.new).journal)) }
+    ensures is { D.honest disk.old → IfOk result (λ found. IsOf found.version (D.reads disk.old)) }
+    ensures at_rest { D.honest disk.old
+        → IfOk result (λ found. IsAtRest found.version found.ends.items (D.reads disk.new)) }
     ensures journal { D.honest disk.old → IfOk result
-        (λ ends. (D.reads disk.new).journal ≡ take (last_end 0 ends.items) (D.reads disk.old).journal) }
-    ensures gates { D.honest disk.old → IfOk result
-        (λ ends. (D.reads disk.new).gate ≡ take (gates_size (length ends.items)) (D.reads disk.old).gate) }
+        (λ found. (D.reads disk.new).journal ≡ take (last_end 0 found.ends.items) (D.reads disk.old).journal) }
+    ensures gates { D.honest disk.old → IfOk result (λ found. gates_of found.version (D.reads disk.new)
+        ≡ take (gates_size found.version (length found.ends.items)) (gates_of found.version (D.reads disk.old))) }
+    ensures cleared { D.honest disk.old → IfOk result
+        (λ found. IsCleared found.version (D.reads disk.old) (D.reads disk.new)) }
     ensures durable { D.honest disk.old → OnOk result (Only (D.reads disk.new) (D.may_leave disk.new)) }
-    ensures some { IfOk result (λ ends. 0 < length ends.items) }
-    ensures rising { IfOk result (λ ends. IsRising 0 ends.items) }
+    ensures some { IfOk result (λ found. 0 < length found.ends.items) }
+    ensures rising { IfOk result (λ found. IsRising 0 found.ends.items) }
     ensures damaged { D.honest disk.old → (entry : ℕ) → IsErrOf result (LogFault.Damaged entry)
         → IsDamagedAt entry (D.reads disk.old) }
     ensures missing { D.honest disk.old → IsErrOf result LogFault.NoRepository → HasNoEntry (D.reads disk.old) }
@@ -75,7 +128,7 @@ pub fn recover<D: Disk>(alloc: Global, disk: &mut D) -> Result<Vec<u64>, LogFaul
     ensures later { D.failures disk.old ≤ D.failures disk.new }
 {
     disk.sync()?; // From here on a stop leaves what a read gives.
-    let ends = find_ends(alloc, disk)?;
-    cut_back(disk, &ends)?;
-    Ok(ends)
+    let found = look(alloc, disk)?;
+    cut_back(disk, found.version, &found.ends)?;
+    Ok(found)
 }

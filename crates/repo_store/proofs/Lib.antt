@@ -11,6 +11,7 @@ pub mod Reading
 pub mod Replaying
 pub mod Spelling
 pub mod Starting
+pub mod Sure
 pub mod Taking
 pub mod Telling
 pub mod Told

@@ -3,7 +3,8 @@
 //! The first entry is the dump's head with the identity, and revision 0's record. A new revision is an entry of its
 //! record and its nodes; other properties of a revision are an entry of that revision's record alone, with the whole
 //! map. All of it is in the canonical spelling (the dump-load-format notes), so that the journal is itself a dump of
-//! the history. An entry is acknowledged once its gate is synced (`gate_log`).
+//! the history. An entry is acknowledged once its gate is synced (`gate_log`). A store whose log is of the first version
+//! is read and changed in that, until `upgrade` makes it one of the second, which has the MD5 of each entry.
 //!
 //! ```text
 //! let disk = HostDisk::create(&rt, alloc, "folder")?;
@@ -35,4 +36,5 @@ mod replay;
 mod spell;
 mod staged;
 mod store;
+mod upgrade;
 mod verdicts;

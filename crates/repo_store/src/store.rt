@@ -46,7 +46,7 @@ impl<D: Disk> RepoStore<D> {
     ghost use Rattle.repo_store.specs.Words.{disk_of, doubt_of, log_of, repository_of, revisions_of, identity_of};
     ghost use Rattle.repo_store.specs.Words.{HasFailed, IsKept};
 
-    /// Begins a repository of revision 0 alone, without properties, on a disk of two empty files; from Ok on a stop
+    /// Begins a repository of revision 0 alone, without properties, on a disk of empty files; from Ok on a stop
     /// leaves its first entry and no other. Until then a stop leaves no entry, with one gate at most where nothing was
     /// synced yet, or that one.
     ///

@@ -27,7 +27,7 @@ fn gate_of(rt: &impl Abort, alloc: Global, end: u64) -> Vec<u8> {
 fn opens_to(rt: &impl Abort, alloc: Global, second: &[u8]) -> u8 {
     let journal = journal_of(rt, alloc, second);
     let gate = gate_of(rt, alloc, journal.len() as u64);
-    let disk = MemDisk::with_bytes(alloc, journal.as_slice(), gate.as_slice());
+    let disk = MemDisk::with_bytes(alloc, journal.as_slice(), gate.as_slice(), b"");
     refusal(alloc, disk.expect(rt, "memory"))
 }
 

@@ -1,4 +1,4 @@
-//! A store's journals and gates, byte by byte, and what its stops leave.
+//! A store's journals and slots, byte by byte, and what its stops leave.
 ghost use Rattle.repo_store.specs.Changes.{IsNumbered};
 ghost use Rattle.repo_store.specs.Words.{revisions_of};
 
@@ -25,10 +25,13 @@ pub(crate) const SECOND: &[u8] =
 const THIRD: &[u8] =
     b"Revision-number: 1\nProp-content-length: 29\nContent-length: 29\n\nK 7\nsvn:log\nV 2\nho\nPROPS-END\n\n";
 
-// The gate with both entries, and the one with the first alone.
+// The gate with both entries, as the first version has it.
 const TWO_GATES: &[u8] = b"\x01\0\0\0\0\0\0\0\x95\x01\0\0\0\0\0\0\x01\xA8\0";
 
-const ONE_GATE: &[u8] = b"\x01\0\0\0\0\0\0\0\x95\0";
+// The slots with both, with the sums that `md5sum` tells of them, and with the first alone.
+const TWO_SLOTS: &[u8] = b"\x01\0\0\0\0\0\0\0\x95p\x03\x96\x9B\xE9H\x96\xF8`\xFA=\x8D\x10\xE4l\x11\x01\0\0\0\0\0\0\x01\xA8Gs\xE6\x8A\x10d\x15\x85\xA8\xD8\x98\x07\xC6\xFB\x8B\xCD\0";
+
+const ONE_SLOT: &[u8] = b"\x01\0\0\0\0\0\0\0\x95p\x03\x96\x9B\xE9H\x96\xF8`\xFA=\x8D\x10\xE4l\x11\0";
 
 fn identity(rt: &impl Abort) -> Uuid {
     Uuid::parse_str("6a1f0c3e-0000-4000-8000-000000000001").expect(rt, "an identity")
@@ -114,9 +117,11 @@ pub(crate) fn is_journal(disk: &MemDisk, entries: &[&[u8]]) -> bool {
     rest.is_empty()
 }
 
-// Whether a disk has these entries and this gate.
-fn holds(disk: &MemDisk, entries: &[&[u8]], gate: &[u8]) -> bool {
-    is_journal(disk, entries) && disk.bytes(DiskFile::Gate) == gate
+// Whether a disk has these entries and these slots.
+fn holds(disk: &MemDisk, entries: &[&[u8]], slots: &[u8]) -> bool {
+    is_journal(disk, entries)
+        && disk.bytes(DiskFile::Gate).is_empty()
+        && disk.bytes(DiskFile::Slots) == slots
 }
 
 #[test]
@@ -124,7 +129,7 @@ fn a_new_repository(rt: HostRuntime) {
     let store = created(&rt, rt.alloc());
     assert!(rt; has_head(&store, 0));
     let disk = store.into_disk();
-    assert!(rt; holds(&disk, &[FIRST], ONE_GATE));
+    assert!(rt; holds(&disk, &[FIRST], ONE_SLOT));
     assert!(rt; opens_at(rt.alloc(), disk, 0));
 }
 
@@ -147,7 +152,7 @@ fn opens_with_file<D: Disk + Drop>(alloc: Global, disk: D, revision: u16) -> boo
 #[test]
 fn a_commit_is_an_entry(rt: HostRuntime) {
     let disk = second_disk(&rt, rt.alloc());
-    assert!(rt; holds(&disk, &[FIRST, SECOND], TWO_GATES));
+    assert!(rt; holds(&disk, &[FIRST, SECOND], TWO_SLOTS));
     assert!(rt; opens_with_file(rt.alloc(), disk, 1));
 }
 
@@ -181,7 +186,7 @@ fn a_property_is_an_entry(rt: HostRuntime) {
     assert!(rt; exports_other(rt.alloc(), &store));
     let disk = store.into_disk();
     assert!(rt;
-        is_journal(&disk, &[FIRST, SECOND, THIRD]) && disk.bytes(DiskFile::Gate).len() == 28
+        is_journal(&disk, &[FIRST, SECOND, THIRD]) && disk.bytes(DiskFile::Slots).len() == 76
     );
     let again = found(&rt, rt.alloc(), disk);
     assert!(rt; exports_other(rt.alloc(), &again));
@@ -238,7 +243,7 @@ fn entries_are_staged_and_installed(rt: HostRuntime) {
 
 // Why a disk with this journal and the gate of both entries isn't opened.
 fn damage(alloc: Global, journal: &[u8]) -> Option<StoreFault> {
-    match MemDisk::with_bytes(alloc, journal, TWO_GATES) {
+    match MemDisk::with_bytes(alloc, journal, TWO_GATES, b"") {
         Ok(disk) => opened(alloc, disk).err(),
         Err(_) => None,
     }
@@ -265,6 +270,32 @@ fn a_damaged_entry(rt: HostRuntime) {
     let fault = damage(rt.alloc(), journal.as_slice()).expect(&rt, "a damaged entry");
     assert!(rt; fault.number() == 33 && is_told(rt.alloc(), &fault, "entry 1 is damaged"));
     assert!(rt; Refusal::from(fault).number() == 33);
+}
+
+// Both entries, with `Hi` in place of `hi`.
+fn capital(rt: &impl Abort, alloc: Global) -> Vec<u8> {
+    let mut journal = Vec::from_slice(alloc, FIRST).expect(rt, "memory");
+    journal.extend_from_slice(SECOND).expect(rt, "memory");
+    if let Some(byte) = journal.as_mut_slice().get_mut(228) {
+        *byte = b'H';
+    }
+    journal
+}
+
+// The number that a disk with this journal and both entries is refused with, or 0.
+fn refused(alloc: Global, journal: &[u8], gate: &[u8], slots: &[u8]) -> u8 {
+    match MemDisk::with_bytes(alloc, journal, gate, slots) {
+        Ok(disk) => refusal(alloc, disk),
+        Err(_) => 70,
+    }
+}
+
+// A byte that is damaged and still reads as an entry is seen by the entry's sum alone.
+#[test]
+fn a_changed_letter(rt: HostRuntime) {
+    let journal = capital(&rt, rt.alloc());
+    assert!(rt; refused(rt.alloc(), journal.as_slice(), TWO_GATES, b"") == 0);
+    assert!(rt; refused(rt.alloc(), journal.as_slice(), b"", TWO_SLOTS) == 33);
 }
 
 // What stands after so many calls of a commit, for each pick: the gate's write decides.

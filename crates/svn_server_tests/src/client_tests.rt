@@ -155,8 +155,8 @@ fn pulls<R: Net<Listener = TcpListener, Stream = TcpStream> + Threads + Wait + S
         Some(mirror) => {
             let whole = is_whole(rt, alloc, &mirror);
             // begun, made a mirror, locked and let go, and five entries for each of two revisions
-            let gates = mirror.into_disk().bytes(DiskFile::Gate).len();
-            served && whole && gates == 9 * 14 + 1
+            let slots = mirror.into_disk().bytes(DiskFile::Slots).len();
+            served && whole && slots == 25 * 14 + 1
         }
         None => false,
     }
@@ -170,8 +170,8 @@ fn a_mirror_is_brought_up_to_a_server(rt: HostRuntime) {
 // Whether a run is refused with that number, tells nothing, and leaves the mirror as it was begun.
 fn is_refused(mirror: Mirror, number: u8, told: &[u8], wanted: u8) -> bool {
     let bare = mirror.repo().head().get() == 0;
-    let gates = mirror.into_disk().bytes(DiskFile::Gate).len();
-    number == wanted && told.is_empty() && bare && gates == 10
+    let slots = mirror.into_disk().bytes(DiskFile::Slots).len();
+    number == wanted && told.is_empty() && bare && slots == 26
 }
 
 #[test]

@@ -185,9 +185,9 @@ pub(crate) fn initialised(rt: &impl Abort, alloc: Global, source: &RepoStore<Mem
     disk.crash(Pick::New).expect(rt, "memory")
 }
 
-/// How many bytes a gate has.
-pub(crate) fn gate(disk: &MemDisk) -> usize {
-    disk.bytes(DiskFile::Gate).len()
+/// How many bytes the slots have.
+pub(crate) fn slots(disk: &MemDisk) -> usize {
+    disk.bytes(DiskFile::Slots).len()
 }
 
 // Whether revision 0 has this property.

@@ -1,7 +1,7 @@
 //! Runs from a mirror's beginning on, and what they refuse.
 use crate::made::{
     COMMITTED_1, COPIED_0, COPIED_BOTH, MASTER, OTHER, Order, commit, created, edit, empty, ended,
-    gate, has_log, initialised, master, rests, run,
+    has_log, initialised, master, rests, run, slots,
 };
 use std::rt::HostRuntime;
 
@@ -13,10 +13,10 @@ fn a_mirror_is_begun_and_synchronised(rt: HostRuntime) {
     assert!(rt; begun == ended(COPIED_0, 0));
     let (disk, first) = run(&rt, rt.alloc(), disk, &source, Order::Synchronize);
     assert!(rt; first == ended(COMMITTED_1, 0));
-    assert!(rt; gate(&disk) == 82);
+    assert!(rt; slots(&disk) == 226);
     let (disk, second) = run(&rt, rt.alloc(), disk, &source, Order::Synchronize);
     assert!(rt; second == ended(0, 0));
-    assert!(rt; gate(&disk) == 100);
+    assert!(rt; slots(&disk) == 276);
     assert!(rt; rests(rt.alloc(), disk, 1, b"1"));
     let _source = source.into_disk();
 }
@@ -29,7 +29,7 @@ fn properties_are_copied_again(rt: HostRuntime) {
     edit(&rt, rt.alloc(), &mut source, 1);
     let (disk, copied) = run(&rt, rt.alloc(), disk, &source, Order::Copy(0, 1));
     assert!(rt; copied == ended(COPIED_BOTH, 0));
-    assert!(rt; gate(&disk) == 118);
+    assert!(rt; slots(&disk) == 326);
     let (disk, beyond) = run(&rt, rt.alloc(), disk, &source, Order::Copy(1, 5));
     assert!(rt; beyond == ended(0, 58));
     assert!(rt; has_log(rt.alloc(), disk, 1, b"ho"));

@@ -1,5 +1,5 @@
 //! A device that fails for good after each call of a synchronisation, what a stop then leaves, and the next one.
-use crate::made::{COMMITTED_1, COPIED_1, Order, ended, gate, initialised, master, rests, run};
+use crate::made::{COMMITTED_1, COPIED_1, Order, ended, initialised, master, rests, run, slots};
 use fleet_disk::{Fuse, FuseDisk, MemDisk, Pick};
 use repo_store::RepoStore;
 use std::alloc::Global;
@@ -14,8 +14,8 @@ const PICKS: [Pick; 5] = [
     Pick::Fill(255),
 ];
 
-// The gate of a mirror that is initialised has two entries.
-const BEGUN: usize = 19;
+// The slots of a mirror that is initialised have two entries.
+const BEGUN: usize = 51;
 
 // How many calls of the device a synchronisation makes: seven entries, five calls each.
 const CALLS: u64 = 35;
@@ -54,7 +54,7 @@ fn standing(alloc: Global, left: MemDisk) -> (MemDisk, usize) {
     match RepoStore::open(alloc, left) {
         Ok(store) => {
             let left = store.into_disk();
-            let entries = gate(&left).saturating_sub(BEGUN) / 9;
+            let entries = slots(&left).saturating_sub(BEGUN) / 25;
             (left, entries)
         }
         Err((_fault, left)) => (left, 100),
@@ -117,7 +117,7 @@ fn is_stopped_after(
 fn a_synchronisation_stops_anywhere(rt: HostRuntime) {
     let source = master(&rt, rt.alloc());
     let begun = initialised(&rt, rt.alloc(), &source);
-    assert!(rt; gate(&begun) == BEGUN);
+    assert!(rt; slots(&begun) == BEGUN);
     for calls in 0..=CALLS {
         assert!(rt;
             is_stopped_after(&rt, rt.alloc(), &source, &begun, calls),

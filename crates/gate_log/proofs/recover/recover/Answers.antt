@@ -10,73 +10,77 @@ returns-in_err-cut_back-clause-any_moment g c h =
     let D = g.D.Disk in
     let disk = c.args.disk.now in
     let rest = D.reads disk in
-    let looks = c.find_ends.ensures.looks in
+    let looks = c.look.ensures.looks in
     let h1 = c.sync.ensures.honest.0 h in
     let h2 = looks.both_ways.0 h1 in
+    let v = c.in_ok-found.found.version in
     let ends = c.deref.result.now in
-    let entries = parts 0 ends (D.reads c.find_ends.new.disk).journal in
+    let entries = parts 0 ends (D.reads c.look.new.disk).journal in
     let P : Image → Type 0 = λ f. D.may_leave disk f ⊎ StandsAlike rest f in
     let before = c.sync.ensures.reads h in
     let through = looks.same h1 ∙ before in
-    let stands : StandsAt ends rest = subst (λ (l : List ℕ). StandsAt l rest) (sym c.deref.ensures.value) (subst (λ (i : Image). StandsAt c.in_ok-ends.ends.items i) before (c.in_ok-ends.ensures.stands h1)) in
+    let stands : StandsAt v ends rest = subst (λ (l : List ℕ). StandsAt v l rest) (sym c.deref.ensures.value) (subst (λ (i : Image). StandsAt v c.in_ok-found.found.ends.items i) before (c.in_ok-found.ensures.stands h1)) in
     let same : entries ≡ parts 0 ends rest.journal = ap (λ (i : Image). parts 0 ends i.journal) through in
     let start = started D.clock D.left_since disk P (λ f left. inl (g.met.D.Disk.only_now disk f h left)) in
     let r1 = goes_on D.clock D.left_since disk disk c.sync.new.self P _ start (c.sync.ensures.time h) (λ f now. inl (c.sync.ensures.left h f now)) in
-    let r2 = joined D.clock D.left_since disk c.sync.new.self c.find_ends.new.disk P (D.may_leave c.sync.new.self) r1 (looks.moments h1) (λ f now. inl (c.sync.ensures.left h f now)) in
-    joined D.clock D.left_since disk c.find_ends.new.disk c.cut_back.new.disk P (λ f. Stands f entries) r2 (c.cut_back.ensures.any_moment h2) (λ f left. inr (entries, (ends, stands, same), left))
+    let r2 = joined D.clock D.left_since disk c.sync.new.self c.look.new.disk P (D.may_leave c.sync.new.self) r1 (looks.moments h1) (λ f now. inl (c.sync.ensures.left h f now)) in
+    joined D.clock D.left_since disk c.look.new.disk c.cut_back.new.disk P (λ f. Stands f entries) r2 (c.cut_back.ensures.any_moment h2) (λ f left. inr (entries, (v, ends, stands, same), left))
 
 pub returns-clause-any_moment : goal.returns-clause-any_moment
 returns-clause-any_moment g c h =
     let D = g.D.Disk in
     let disk = c.args.disk.now in
     let rest = D.reads disk in
-    let looks = c.find_ends.ensures.looks in
+    let looks = c.look.ensures.looks in
     let h1 = c.sync.ensures.honest.0 h in
     let h2 = looks.both_ways.0 h1 in
+    let v = c.in_ok-found.found.version in
     let ends = c.deref.result.now in
-    let entries = parts 0 ends (D.reads c.find_ends.new.disk).journal in
+    let entries = parts 0 ends (D.reads c.look.new.disk).journal in
     let P : Image → Type 0 = λ f. D.may_leave disk f ⊎ StandsAlike rest f in
     let before = c.sync.ensures.reads h in
     let through = looks.same h1 ∙ before in
-    let stands : StandsAt ends rest = subst (λ (l : List ℕ). StandsAt l rest) (sym c.deref.ensures.value) (subst (λ (i : Image). StandsAt c.in_ok-ends.ends.items i) before (c.in_ok-ends.ensures.stands h1)) in
+    let stands : StandsAt v ends rest = subst (λ (l : List ℕ). StandsAt v l rest) (sym c.deref.ensures.value) (subst (λ (i : Image). StandsAt v c.in_ok-found.found.ends.items i) before (c.in_ok-found.ensures.stands h1)) in
     let same : entries ≡ parts 0 ends rest.journal = ap (λ (i : Image). parts 0 ends i.journal) through in
     let start = started D.clock D.left_since disk P (λ f left. inl (g.met.D.Disk.only_now disk f h left)) in
     let r1 = goes_on D.clock D.left_since disk disk c.sync.new.self P _ start (c.sync.ensures.time h) (λ f now. inl (c.sync.ensures.left h f now)) in
-    let r2 = joined D.clock D.left_since disk c.sync.new.self c.find_ends.new.disk P (D.may_leave c.sync.new.self) r1 (looks.moments h1) (λ f now. inl (c.sync.ensures.left h f now)) in
-    joined D.clock D.left_since disk c.find_ends.new.disk c.cut_back.new.disk P (λ f. Stands f entries) r2 (c.cut_back.ensures.any_moment h2) (λ f left. inr (entries, (ends, stands, same), left))
+    let r2 = joined D.clock D.left_since disk c.sync.new.self c.look.new.disk P (D.may_leave c.sync.new.self) r1 (looks.moments h1) (λ f now. inl (c.sync.ensures.left h f now)) in
+    joined D.clock D.left_since disk c.look.new.disk c.cut_back.new.disk P (λ f. Stands f entries) r2 (c.cut_back.ensures.any_moment h2) (λ f left. inr (entries, (v, ends, stands, same), left))
 
 pub returns-clause-settles : goal.returns-clause-settles
 returns-clause-settles g c h =
     let D = g.D.Disk in
     let disk = c.args.disk.now in
     let rest = D.reads disk in
-    let looks = c.find_ends.ensures.looks in
+    let looks = c.look.ensures.looks in
     let h1 = c.sync.ensures.honest.0 h in
     let h2 = looks.both_ways.0 h1 in
+    let v = c.in_ok-found.found.version in
     let ends = c.deref.result.now in
-    let entries = parts 0 ends (D.reads c.find_ends.new.disk).journal in
+    let entries = parts 0 ends (D.reads c.look.new.disk).journal in
     let before = c.sync.ensures.reads h in
     let through = looks.same h1 ∙ before in
-    let stands : StandsAt ends rest = subst (λ (l : List ℕ). StandsAt l rest) (sym c.deref.ensures.value) (subst (λ (i : Image). StandsAt c.in_ok-ends.ends.items i) before (c.in_ok-ends.ensures.stands h1)) in
+    let stands : StandsAt v ends rest = subst (λ (l : List ℕ). StandsAt v l rest) (sym c.deref.ensures.value) (subst (λ (i : Image). StandsAt v c.in_ok-found.found.ends.items i) before (c.in_ok-found.ensures.stands h1)) in
     let same : entries ≡ parts 0 ends rest.journal = ap (λ (i : Image). parts 0 ends i.journal) through in
     let start = started D.clock D.left_since disk (D.may_leave disk) (λ f left. g.met.D.Disk.only_now disk f h left) in
     let until = goes_on D.clock D.left_since disk disk c.sync.new.self (D.may_leave disk) _ start (c.sync.ensures.time h) (c.sync.ensures.left h) in
-    settles D.may_leave D.clock D.left_since disk c.sync.new.self c.find_ends.new.disk c.cut_back.new.disk rest entries until (c.in_ok-sync.ensures.durable h) (looks.moments h1) (ends, stands, same) (c.cut_back.ensures.any_moment h2)
+    settles D.may_leave D.clock D.left_since disk c.sync.new.self c.look.new.disk c.cut_back.new.disk rest entries until (c.in_ok-sync.ensures.durable h) (looks.moments h1) (v, ends, stands, same) (c.cut_back.ensures.any_moment h2)
 
 pub returns-in_err-cut_back-clause-settles_err : goal.returns-in_err-cut_back-clause-settles_err
 returns-in_err-cut_back-clause-settles_err g c h =
     let D = g.D.Disk in
     let disk = c.args.disk.now in
     let rest = D.reads disk in
-    let looks = c.find_ends.ensures.looks in
+    let looks = c.look.ensures.looks in
     let h1 = c.sync.ensures.honest.0 h in
     let h2 = looks.both_ways.0 h1 in
+    let v = c.in_ok-found.found.version in
     let ends = c.deref.result.now in
-    let entries = parts 0 ends (D.reads c.find_ends.new.disk).journal in
+    let entries = parts 0 ends (D.reads c.look.new.disk).journal in
     let before = c.sync.ensures.reads h in
     let through = looks.same h1 ∙ before in
-    let stands : StandsAt ends rest = subst (λ (l : List ℕ). StandsAt l rest) (sym c.deref.ensures.value) (subst (λ (i : Image). StandsAt c.in_ok-ends.ends.items i) before (c.in_ok-ends.ensures.stands h1)) in
+    let stands : StandsAt v ends rest = subst (λ (l : List ℕ). StandsAt v l rest) (sym c.deref.ensures.value) (subst (λ (i : Image). StandsAt v c.in_ok-found.found.ends.items i) before (c.in_ok-found.ensures.stands h1)) in
     let same : entries ≡ parts 0 ends rest.journal = ap (λ (i : Image). parts 0 ends i.journal) through in
     let start = started D.clock D.left_since disk (D.may_leave disk) (λ f left. g.met.D.Disk.only_now disk f h left) in
     let until = goes_on D.clock D.left_since disk disk c.sync.new.self (D.may_leave disk) _ start (c.sync.ensures.time h) (c.sync.ensures.left h) in
-    on_err _ _ (inr (settles D.may_leave D.clock D.left_since disk c.sync.new.self c.find_ends.new.disk c.cut_back.new.disk rest entries until (c.in_ok-sync.ensures.durable h) (looks.moments h1) (ends, stands, same) (c.cut_back.ensures.any_moment h2)))
+    on_err _ _ (inr (settles D.may_leave D.clock D.left_since disk c.sync.new.self c.look.new.disk c.cut_back.new.disk rest entries until (c.in_ok-sync.ensures.durable h) (looks.moments h1) (v, ends, stands, same) (c.cut_back.ensures.any_moment h2)))

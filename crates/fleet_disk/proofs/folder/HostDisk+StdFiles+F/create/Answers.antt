@@ -4,12 +4,12 @@ use Rattle.fleet_disk.proofs.folder.HostDisk+StdFiles+F.create.Goals as goal
 
 pub returns-then-branch-clause-inside : goal.returns-then-branch-clause-inside
 returns-then-branch-clause-inside g c =
-    in_folder g.R.HeldFiles.is_at c.args.folder.now c.as_str.result.now c.as_str-2.result.now c.in_ok-files.files c.new.result c.new.ensures
-    (c.as_str.ensures.value ∙ c.in_ok-journal.ensures.ok) (c.as_str-2.ensures.value ∙ c.in_ok-gate.ensures.ok)
-    c.in_ok-files.ensures.journal c.in_ok-files.ensures.gate
+    in_folder g.R.HeldFiles.is_at c.args.folder.now c.as_str.result.now c.as_str-2.result.now c.as_str-3.result.now c.in_ok-files.files c.new.result c.new.ensures
+    (c.as_str.ensures.value ∙ c.in_ok-journal.ensures.ok) (c.as_str-2.ensures.value ∙ c.in_ok-gate.ensures.ok) (c.as_str-3.ensures.value ∙ c.in_ok-slots.ensures.ok)
+    c.in_ok-files.ensures.journal c.in_ok-files.ensures.gate c.in_ok-files.ensures.slots
 
 pub returns-clause-inside : goal.returns-clause-inside
 returns-clause-inside g c =
-    in_folder g.R.HeldFiles.is_at c.args.folder.now c.as_str-3.result.now c.as_str-4.result.now c.in_ok-files-2.files c.new-2.result c.new-2.ensures
-    (c.as_str-3.ensures.value ∙ c.in_ok-journal.ensures.ok) (c.as_str-4.ensures.value ∙ c.in_ok-gate.ensures.ok)
-    c.in_ok-files-2.ensures.journal c.in_ok-files-2.ensures.gate
+    in_folder g.R.HeldFiles.is_at c.args.folder.now c.as_str-4.result.now c.as_str-5.result.now c.as_str-6.result.now c.in_ok-files-2.files c.new-2.result c.new-2.ensures
+    (c.as_str-4.ensures.value ∙ c.in_ok-journal.ensures.ok) (c.as_str-5.ensures.value ∙ c.in_ok-gate.ensures.ok) (c.as_str-6.ensures.value ∙ c.in_ok-slots.ensures.ok)
+    c.in_ok-files-2.ensures.journal c.in_ok-files-2.ensures.gate c.in_ok-files-2.ensures.slots

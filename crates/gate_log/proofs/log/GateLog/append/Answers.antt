@@ -1,7 +1,11 @@
-use Rattle.std.proofs.Common.{◌≡◌, ◌<◌, ◌+◌, ℕ, List, [], ◌∷◌, ◌++◌, length, sym, ◌∙◌, ap, subst, arith, rules}
+use Rattle.std.proofs.Common.{◌≡◌, ◌<◌, ◌+◌, ℕ, List, [], ◌∷◌, ◌++◌, length, inl, sym, ◌∙◌, ap, subst, arith, rules, length-append}
+use Rattle.fleet_disk.specs.Image.{Image}
+use Rattle.fleet_disk.specs.Rules.{LeavesOnly}
+use Rattle.fleet_disk.proofs.Moments.{started}
 use Rattle.gate_log.specs.Log.{entries_of}
-use Rattle.gate_log.specs.Standing.{last_end, IsRising, IsAtRest}
+use Rattle.gate_log.specs.Standing.{last_end, IsRising, IsAtRest, IsEither, Stands, parts}
 use Rattle.gate_log.proofs.EndLemmas.{length_parts, rising_push}
+use Rattle.gate_log.proofs.Steps.{still, not_failed}
 use Rattle.gate_log.proofs.log.GateLog.append.Goals as goal
 
 pub returns-clause-receipt : goal.returns-clause-receipt
@@ -10,6 +14,45 @@ returns-clause-receipt g c =
     let same : c.reserve.new.self.ends.items ≡ ends = c.reserve.ensures.entries in
     let count : c.len-entry.result ≡ length c.reserve.new.self.ends.items = search rules in
     count ∙ ap (λ (l : List ℕ). length l) same ∙ sym (length_parts 0 ends (g.D.Disk.reads c.args.self.now.disk).journal)
+
+pub returns-in_err-reserve-clause-any_moment : goal.returns-in_err-reserve-clause-any_moment
+returns-in_err-reserve-clause-any_moment g c h working =
+    let D = g.D.Disk in
+    let old = c.args.self.now in
+    let works = not_failed old.failed working in
+    let P : Image → Type 0 = λ f. IsEither (entries_of old) c.args.bytes.now f in
+    subst (λ (d : g.row.D.Denot). LeavesOnly D.clock D.left_since old.disk d P) (sym c.reserve.ensures.disk)
+    (started D.clock D.left_since old.disk P (λ f left. inl (still old.version old.ends.items (D.reads old.disk) old.rising (old.at_rest h works) f (old.durable h works f (g.met.D.Disk.only_now old.disk f h left)))))
+
+pub returns-in_err-put_entry-clause-either : goal.returns-in_err-put_entry-clause-either
+returns-in_err-put_entry-clause-either g c h is image left =
+    let D = g.D.Disk in
+    let old = c.args.self.now in
+    let log = c.reserve.new.self in
+    let entry = c.args.bytes.now in
+    let ends = c.deref-2.result.now in
+    let here = c.reserve.ensures.disk in
+    let honest = subst (λ (d : g.row.D.Denot). D.honest d) (sym here) h in
+    let entries : parts 0 ends (D.reads log.disk).journal ≡ entries_of old = ap (λ (l : List ℕ). parts 0 l (D.reads log.disk).journal) (c.deref-2.ensures.value ∙ c.reserve.ensures.entries) ∙ ap (λ (d : g.row.D.Denot). parts 0 old.ends.items (D.reads d).journal) here in
+    let run = c.put_entry.ensures.any_moment honest in
+    subst (λ (l : List (List ℕ)). IsEither l entry image) entries (run.each image (g.met.D.Disk.counts_now c.put_entry.new.disk (D.clock log.disk) image (c.put_entry.ensures.honest.0 honest) run.later left))
+
+pub returns-clause-durable : goal.returns-clause-durable
+returns-clause-durable g c h image left =
+    let D = g.D.Disk in
+    let old = c.args.self.now in
+    let log = c.reserve.new.self in
+    let entry = c.args.bytes.now in
+    let ends = c.deref-2.result.now in
+    let here = c.reserve.ensures.disk in
+    let honest = subst (λ (d : g.row.D.Denot). D.honest d) (sym here) h in
+    let entries : parts 0 ends (D.reads log.disk).journal ≡ entries_of old = ap (λ (l : List ℕ). parts 0 l (D.reads log.disk).journal) (c.deref-2.ensures.value ∙ c.reserve.ensures.entries) ∙ ap (λ (d : g.row.D.Denot). parts 0 old.ends.items (D.reads d).journal) here in
+    let done = c.in_ok-put_entry.ensures in
+    let up = subst (λ (l : List ℕ). IsRising 0 l) (sym c.deref-2.ensures.value) log.rising in
+    let more : last_end 0 ends < last_end 0 ends + length entry = omega (arith, c.requires) in
+    let all = ends ++ (last_end 0 ends + length entry) ∷ [] in
+    subst (λ (l : List (List ℕ)). Stands image l) (done.added honest ∙ ap (λ (l : List (List ℕ)). l ++ entry ∷ []) entries)
+    (still log.version all (D.reads c.put_entry.new.disk) (rising_push 0 ends (last_end 0 ends + length entry) up more) (done.at_rest honest) image (done.durable honest image left))
 
 pub invariant_of-self-2 : goal.invariant_of-self-2
 invariant_of-self-2 g c =
@@ -23,6 +66,7 @@ invariant_of-self-2 g c =
     ap (λ (l : List ℕ). l ++ (last_end 0 l + length entry) ∷ []) c.deref-2.ensures.value ∙ sym items in
     record {
       rising = subst (λ (l : List ℕ). IsRising 0 l) (sym items) (rising_push 0 ends (last_end 0 ends + length entry) log.rising more);
-      at_rest = λ h working. subst (λ (l : List ℕ). IsAtRest l (g.D.Disk.reads c.put_entry.new.disk)) there (c.in_ok-put_entry.ensures.at_rest (c.put_entry.ensures.honest.1 h));
+      begun = λ first. omega (arith, ap length items, length-append ends ((last_end 0 ends + length entry) ∷ []));
+      at_rest = λ h working. subst (λ (l : List ℕ). IsAtRest log.version l (g.D.Disk.reads c.put_entry.new.disk)) there (c.in_ok-put_entry.ensures.at_rest (c.put_entry.ensures.honest.1 h));
       durable = λ h working. c.in_ok-put_entry.ensures.durable (c.put_entry.ensures.honest.1 h);
     }

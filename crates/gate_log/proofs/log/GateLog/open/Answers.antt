@@ -4,7 +4,7 @@ use Rattle.gate_log.proofs.EndLemmas.{length_parts}
 use Rattle.gate_log.proofs.log.GateLog.open.Goals as goal
 
 pub returns-in-Ok-clause-some : goal.returns-in-Ok-clause-some
-returns-in-Ok-clause-some g c = (omega (arith, length_parts 0 c.in-Ok.ends.items (g.D.Disk.reads c.recover.new.disk).journal, c.in-Ok.ensures.some), λ no. cc)
+returns-in-Ok-clause-some g c = (omega (arith, length_parts 0 c.in-Ok.found.ends.items (g.D.Disk.reads c.recover.new.disk).journal, c.in-Ok.ensures.some), λ no. cc)
 
 pub returns-in-Ok-clause-found : goal.returns-in-Ok-clause-found
 returns-in-Ok-clause-found g c h entries stands some = one_list (g.D.Disk.reads c.args.disk) _ entries (c.in-Ok.ensures.stands h) stands

@@ -1,0 +1,45 @@
+-- The two layouts of a log, and which of them an image has.
+use Rattle.std.specs.Prelude.{◌≡◌, ◌≢◌, ◌⊎◌, ◌<◌, ◌≤◌, ℕ, List, [], length, get_or}
+use Rattle.md5.specs.Md5.{md5}
+use Rattle.fleet_disk.specs.declared.disk.DiskFile.{DiskFile}
+use Rattle.fleet_disk.specs.declared.disk.DiskFile.TheVariants.{Gate, Slots}
+use Rattle.fleet_disk.specs.Image.{Image, bytes_of}
+use Rattle.gate_log.specs.declared.version.LogVersion.{LogVersion}
+use Rattle.gate_log.specs.declared.version.LogVersion.TheVariants.{First, Second}
+
+-- the file that has the gates
+abbrev pub file_of : LogVersion → DiskFile
+file_of First = Gate
+file_of Second = Slots
+
+-- and its bytes
+abbrev pub gates_of : LogVersion → Image → List ℕ
+gates_of version image = bytes_of (file_of version) image
+
+-- the bytes of the other one, which an upgrade leaves
+abbrev pub others_of : LogVersion → Image → List ℕ
+others_of First image = image.slots
+others_of Second image = image.gate
+
+-- the sum of an entry, where the layout has one
+abbrev pub sum_of : LogVersion → List ℕ → List ℕ
+sum_of First entry = []
+sum_of Second entry = md5 entry
+
+-- `slots` begins with an open gate, and has a whole slot and one more gate
+abbrev pub IsBegun : List ℕ → Type 0
+IsBegun slots = (26 ≤ length slots) × (get_or slots 0 0 ≡ 1)
+
+-- An image is of the second version where `slots` is begun, and, as long as there is no entry, where `gate` is empty and `slots` begins with a closed gate.
+abbrev pub IsSecond : Image → Type 0
+IsSecond image = IsBegun image.slots ⊎ ((image.gate ≡ []) × (0 < length image.slots) × (get_or image.slots 0 0 ≢ 1))
+
+-- Any other is of the first.
+abbrev pub IsOf : LogVersion → Image → Type 0
+IsOf First image = ¬ IsSecond image
+IsOf Second image = IsSecond image
+
+-- the journal and the gates stay, and of the first version all
+abbrev pub IsBeside : LogVersion → Image → Image → Type 0
+IsBeside First old new = new ≡ old
+IsBeside Second old new = (new.journal ≡ old.journal) × (new.slots ≡ old.slots)
