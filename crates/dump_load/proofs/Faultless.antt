@@ -15,6 +15,7 @@ use Rattle.node_base.specs.declared.node.NodeKind.TheVariants.{File, Dir}
 use Rattle.node_base.specs.declared.node.Source.{Source}
 use Rattle.node_base.specs.Tree.{PathMap, IsDirAt, with_number, marked, changed_at, grafted, blocked, kind_of, blank, alone, source_at}
 use Rattle.path_tree.specs.Copies.{copy_too_long}
+use Rattle.path_tree.proofs.Alters.{dir_before}
 use Rattle.dump_load.specs.declared.change.Change.{Change}
 use Rattle.dump_load.specs.Changes.{settles, is_delete, brings, is_plain, is_described, IsDescribed}
 use Rattle.dump_load.specs.Effect.{content, with_parts, arrives, stepped}
@@ -171,6 +172,15 @@ put_is f p n c q = at (f q) (same_path p q) (is_front q p)
     at (Some x) false true = refl
     at (Some x) false false = refl
 
+twice : (o : Option Node) (b : Bool) (n : ℕ) → option_map (λ x. cond b (with_number n x) x) (option_map (λ x. cond b (with_number n x) x) o) ≡ option_map (λ x. cond b (with_number n x) x) o
+twice None b n = refl
+twice (Some x) true n = refl
+twice (Some x) false n = refl
+
+-- a number that is given again
+marked_twice : (f : Path → Option Node) (p : Path) (n : ℕ) (q : Path) → marked (marked f p n) p n q ≡ marked f p n q
+marked_twice f p n q = twice (f q) (is_front q p) n
+
 rest_itself : (p : Path) → rest_after p p ≡ Some []
 rest_itself p = ap (rest_after p) (sym (append-nil p)) ∙ rest_after-append p []
 
@@ -212,10 +222,9 @@ graft_is f g p n c q = at (rest_after p q) refl
         ∙ ap (λ o. option_map_or (λ r. option_map (λ x. cond (same_path r []) (with_number n (with_parts c x)) x) (g r)) o (marked f p n q)) (sym e)
 
 module _ (trees : List PathMap) (c : Change) (n : ℕ) (is : n ≡ length trees) (old : Path → Option Node) where
-  pub modify_is : settles c.action ≡ false → (q : Path) → marked (changed_at old c.path (with_parts c)) c.path n q ≡ stepped trees old c q
+  pub modify_is : settles c.action ≡ false → (q : Path) → changed_at (marked old c.path n) c.path (with_parts c) q ≡ stepped trees old c q
   modify_is s q =
-      put_is old c.path n c q
-      ∙ ap (λ m. changed_at (marked old c.path m) c.path (with_parts c) q) is
+      ap (λ m. changed_at (marked old c.path m) c.path (with_parts c) q) is
       ∙ ap (λ b. (cond b (grafted (marked old c.path (length trees)) c.path (arrives trees c)) (changed_at (marked old c.path (length trees)) c.path (with_parts c))) q) (sym s)
 
   settled : settles c.action ≡ true → (q : Path) → grafted (marked old c.path (length trees)) c.path (arrives trees c) q ≡ stepped trees old c q
@@ -229,18 +238,37 @@ module _ (trees : List PathMap) (c : Change) (n : ℕ) (is : n ≡ length trees)
   stays true false e = refl
   stays false d e = cc
 
-  pub arrive_is : (new : Path → Option Node) → brings c ≡ true → ((q : Path) → new q ≡ grafted old c.path (content trees c) q) → (q : Path) → marked (changed_at new c.path (with_parts c)) c.path n q ≡ stepped trees old c q
-  arrive_is new b h q =
-      ap (λ (f : Path → Option Node). marked (changed_at f c.path (with_parts c)) c.path n q) (λ i p. h p i)
+  -- a node that begins blank
+  begun_is : (r : Path) → alone (with_number n (with_parts c (blank c.kind))) r ≡ option_map (λ x. cond (same_path r []) (with_number (length trees) (with_parts c x)) x) (alone (blank c.kind) r)
+  begun_is [] = ap (λ m. Some (with_number m (with_parts c (blank c.kind)))) is
+  begun_is (y ∷ r) = refl
+
+  pub new_is : (x : Node) → brings c ≡ true → c.source ≡ None → x ≡ with_number n (with_parts c (blank c.kind)) → (q : Path) → grafted (marked old c.path n) c.path (alone x) q ≡ stepped trees old c q
+  new_is x b plain made q =
+      ap (λ (g : Path → Option Node). grafted (marked old c.path n) c.path g q) (λ i r. top r i)
+      ∙ ap (λ m. grafted (marked old c.path m) c.path (arrives trees c) q) is
+      ∙ settled (brings_settles c.action b) q
+    where
+      top : (r : Path) → alone x r ≡ arrives trees c r
+      top r =
+          ap (λ x. alone x r) made
+          ∙ begun_is r
+          ∙ ap (λ (o : Option Source). option_map (λ x. cond (same_path r []) (with_number (length trees) (with_parts c x)) x) (option_map_or (source_at trees) o (alone (blank c.kind)) r)) (sym plain)
+          ∙ arrives_is (stays _ _ b) r
+
+  pub copied_is : (new : Path → Option Node) → brings c ≡ true → ((q : Path) → new q ≡ marked (grafted old c.path (content trees c)) c.path n q) → (q : Path) → changed_at (marked new c.path n) c.path (with_parts c) q ≡ stepped trees old c q
+  copied_is new b h q =
+      ap (λ (f : Path → Option Node). changed_at (marked f c.path n) c.path (with_parts c) q) (λ i p. h p i)
+      ∙ ap (λ (f : Path → Option Node). changed_at f c.path (with_parts c) q) (λ i p. marked_twice (grafted old c.path (content trees c)) c.path n p i)
+      ∙ sym (put_is (grafted old c.path (content trees c)) c.path n c q)
       ∙ graft_is old (content trees c) c.path n c q
       ∙ ap (λ m. grafted (marked old c.path m) c.path (λ r. option_map (λ x. cond (same_path r []) (with_number m (with_parts c x)) x) (content trees c r)) q) is
       ∙ ap (λ (g : Path → Option Node). grafted (marked old c.path (length trees)) c.path g q) (λ i r. arrives_is (stays _ _ b) r i)
       ∙ settled (brings_settles c.action b) q
 
-  pub delete_is : (new : Path → Option Node) → is_delete c.action ≡ true → ((q : Path) → new q ≡ marked old c.path n q) → (q : Path) → grafted new c.path (λ _. None) q ≡ stepped trees old c q
-  delete_is new d h q =
-      ap (λ (f : Path → Option Node). grafted f c.path (λ _. None) q) (λ i p. h p i)
-      ∙ ap (λ m. grafted (marked old c.path m) c.path (λ _. None) q) is
+  pub delete_is : is_delete c.action ≡ true → (q : Path) → grafted (marked old c.path n) c.path (λ _. None) q ≡ stepped trees old c q
+  delete_is d q =
+      ap (λ m. grafted (marked old c.path m) c.path (λ _. None) q) is
       ∙ ap (λ (g : Path → Option Node). grafted (marked old c.path (length trees)) c.path g q) (λ i r. gone r i)
       ∙ settled (deletes_settle c.action d) q
     where
@@ -258,18 +286,15 @@ pub source_past : (trees : List PathMap) (s : Source) (i : ℕ) → i ≡ s.revi
 source_past trees s i is past = ap (λ o. option_and_then (λ m. get m (s.path ++ [])) o) (sym (ap (slice_get trees) (sym is) ∙ slice_get_past trees i past))
 
 module _ (trees : List PathMap) (c : Change) where
-  pub content_plain : (x : Node) → c.source ≡ None → x ≡ blank c.kind → (r : Path) → alone x r ≡ content trees c r
-  content_plain x is b r = ap (λ x. alone x r) b ∙ ap (λ (o : Option Source). option_map_or (source_at trees) o (alone (blank c.kind)) r) (sym is)
-
   pub content_copied : (s : Source) (m : PathMap) (p : Path) → c.source ≡ Some s → slice_get trees s.revision ≡ Some m → p ≡ s.path → (r : Path) → get m (p ++ r) ≡ content trees c r
   content_copied s m p is at same r =
       ap (λ p. get m (p ++ r)) same ∙ ap (λ o. option_and_then (λ m. get m (s.path ++ r)) o) (sym at) ∙ ap (λ (o : Option Source). option_map_or (source_at trees) o (alone (blank c.kind)) r) (sym is)
 
-  pub content_put : (old new g : Path → Option Node) → ((q : Path) → new q ≡ grafted old c.path g q) → ((r : Path) → g r ≡ content trees c r) → (q : Path) → new q ≡ grafted old c.path (content trees c) q
-  content_put old new g h is q = h q ∙ ap (λ (g : Path → Option Node). grafted old c.path g q) (λ i r. is r i)
+  pub content_put : (old new g : Path → Option Node) (n : ℕ) → ((q : Path) → new q ≡ marked (grafted old c.path g) c.path n q) → ((r : Path) → g r ≡ content trees c r) → (q : Path) → new q ≡ marked (grafted old c.path (content trees c)) c.path n q
+  content_put old new g n h is q = h q ∙ ap (λ (g : Path → Option Node). marked (grafted old c.path g) c.path n q) (λ i r. is r i)
 
-  pub content_top : (old new : Path → Option Node) → ((q : Path) → new q ≡ grafted old c.path (content trees c) q) → new c.path ≡ content trees c []
-  content_top old new h = h c.path ∙ ap (λ o. option_map_or (content trees c) o (old c.path)) (rest_itself c.path)
-
-pub top_is_no_dir : (f g : Path → Option Node) (p : Path) → f p ≡ g [] → (IsDirAt g [] → ⊥) → IsDirAt f p → ⊥
-top_is_no_dir f g p e h d = h (subst (λ o. IsSomeAnd o (λ x. IsNone x.text)) e d)
+  -- the number makes no directory of what is brought
+  pub content_is_no_dir : (old new : Path → Option Node) (n : ℕ) → ((q : Path) → new q ≡ marked (grafted old c.path (content trees c)) c.path n q) → (IsDirAt (content trees c) [] → ⊥) → IsDirAt new c.path → ⊥
+  content_is_no_dir old new n h no d =
+      no (subst (λ o. IsSomeAnd (option_map_or (content trees c) o (old c.path)) (λ x. IsNone x.text)) (rest_itself c.path)
+      (dir_before (grafted old c.path (content trees c)) c.path n c.path (subst (λ o. IsSomeAnd o (λ x. IsNone x.text)) (h c.path) d)))

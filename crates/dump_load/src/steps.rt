@@ -3,9 +3,9 @@ ghost use Rattle.std.specs.Prelude.{◌≡◌, ◌≤◌, length, [], false, tru
 ghost use Rattle.std.specs.Prelude.{IfOk};
 ghost use Rattle.std.specs.FinMap as map;
 ghost use Rattle.node_base.specs.Path.{Path, same_path};
-ghost use Rattle.node_base.specs.Tree.{blank, base, marked, changed_at, grafted, IsDirAt};
+ghost use Rattle.node_base.specs.Tree.{blank, base, marked, changed_at, with_number, IsDirAt};
 ghost use Rattle.dump_load.specs.Changes.{brings, settles, is_delete, IsDescribed};
-ghost use Rattle.dump_load.specs.Effect.{content, effect, stepped, with_parts};
+ghost use Rattle.dump_load.specs.Effect.{effect, stepped, with_parts};
 ghost use Rattle.dump_load.specs.Faults.{fault_of};
 
 use crate::Change;
@@ -41,31 +41,45 @@ pub fn blank(alloc: Global, kind: Option<NodeKind>) -> Result<Node, AllocError>
 fn put(alloc: Global, number: RevNo, tree: &mut Tree, change: &Change) -> Result<(), AllocError>
     requires { IsSome change.now.text → ¬ IsDirAt (map.get tree.old) change.now.path }
     ensures { OnOk result ((q : Path) → map.get tree.new q
-        ≡ marked (changed_at (map.get tree.old) change.now.path (with_parts change.now)) change.now.path number q) }
+        ≡ changed_at (marked (map.get tree.old) change.now.path number) change.now.path (with_parts change.now) q) }
 {
     let text = share_text(&change.text)?;
     let props = share_props(&change.props)?;
-    tree.put_parts(alloc, change.path.names(), text, props)?;
-    tree.mark(alloc, change.path.names(), number)
+    tree.put_parts(alloc, change.path.names(), text, props, number)
 }
 
-// Puts the source's nodes, or a blank one, in the place of what is at the change's path and below it.
-fn bring(alloc: Global, trees: &[Tree], tree: &mut Tree, change: &Change) -> Result<(), AllocError>
-    requires brings { brings change.now ≡ true }
-    requires faultless { fault_of trees.now (map.get tree.old) change.now ≡ None }
-    ensures { OnOk result ((q : Path)
-        → map.get tree.new q ≡ grafted (map.get tree.old) change.now.path (content trees.now change.now) q) }
+// A new node as the change begins it, with what the change gives and the number.
+fn begun(alloc: Global, number: RevNo, change: &Change) -> Result<Node, AllocError>
+    ensures { IfOk result (λ x. x ≡ with_number number (with_parts change.now (blank change.now.kind))) }
 {
-    match &change.source {
-        None => {
-            let node = blank(alloc, change.kind)?;
-            tree.put_node(alloc, &change.path, node)
-        }
-        Some(source) => {
-            let from = &trees[source.revision.index()];
-            tree.graft_copy(alloc, &change.path, from, source.path.names())
-        }
-    }
+    let text = share_text(&change.text)?;
+    let props = share_props(&change.props)?;
+    let mut node = blank(alloc, change.kind)?;
+    node.put_parts(text, props);
+    node.changed = number;
+    Ok(node)
+}
+
+// Puts a copy of the source's nodes in the place of what is at the change's path and below it, and what the change
+// gives to its top.
+fn arrive_copied(
+    alloc: Global,
+    trees: &[Tree],
+    tree: &mut Tree,
+    change: &Change,
+    source: &Source,
+) -> Result<(), AllocError>
+    requires few { length trees.now ≤ 65535 }
+    requires brings { brings change.now ≡ true }
+    requires whole { IsDescribed change.now }
+    requires faultless { fault_of trees.now (map.get tree.old) change.now ≡ None }
+    requires copied { change.now.source ≡ Some source.now }
+    ensures { OnOk result ((q : Path) → map.get tree.new q ≡ stepped trees.now (map.get tree.old) change.now q) }
+{
+    let number = next_number(trees);
+    let from = &trees[source.revision.index()];
+    tree.graft_copy(alloc, &change.path, from, source.path.names(), number)?;
+    put(alloc, number, tree, change)
 }
 
 // Adds or replaces.
@@ -76,8 +90,13 @@ fn arrive(alloc: Global, trees: &[Tree], tree: &mut Tree, change: &Change) -> Re
     requires faultless { fault_of trees.now (map.get tree.old) change.now ≡ None }
     ensures { OnOk result ((q : Path) → map.get tree.new q ≡ stepped trees.now (map.get tree.old) change.now q) }
 {
-    bring(alloc, trees, tree, change)?;
-    put(alloc, next_number(trees), tree, change)
+    match &change.source {
+        None => {
+            let node = begun(alloc, next_number(trees), change)?;
+            tree.put_node(alloc, &change.path, node)
+        }
+        Some(source) => arrive_copied(alloc, trees, tree, change, source),
+    }
 }
 
 // Changes what is there.
@@ -97,8 +116,7 @@ fn delete(alloc: Global, trees: &[Tree], tree: &mut Tree, change: &Change) -> Re
     requires faultless { fault_of trees.now (map.get tree.old) change.now ≡ None }
     ensures { OnOk result ((q : Path) → map.get tree.new q ≡ stepped trees.now (map.get tree.old) change.now q) }
 {
-    tree.mark(alloc, change.path.names(), next_number(trees))?;
-    tree.prune(alloc, change.path.names())
+    tree.prune(alloc, change.path.names(), next_number(trees))
 }
 
 /// Makes a change of the tree that the changes before it left, where it has no fault there.

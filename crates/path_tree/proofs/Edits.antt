@@ -122,7 +122,7 @@ some_in_child n cs s x k found m is p path e = subst IsSome (ap (get m) e ∙ ap
 
 -- ---- edits of nodes that stay
 
-kept : (o : Option Node) (g : Node → Node) (b : Bool) → b ≡ false → o ≡ option_map (λ x. cond b (g x) x) o
+pub kept : (o : Option Node) (g : Node → Node) (b : Bool) → b ≡ false → o ≡ option_map (λ x. cond b (g x) x) o
 kept None g b e = refl
 kept (Some x) g b e = ap Some (sym (ap (λ b. cond b (g x) x) e))
 

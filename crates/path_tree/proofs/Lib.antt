@@ -1,4 +1,5 @@
 pub mod Altered
+pub mod Alters
 pub mod Copies
 pub mod Edits
 pub mod Faults

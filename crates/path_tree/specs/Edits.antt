@@ -1,10 +1,10 @@
 -- Edits of a node and what is below it, by the map.
-use Rattle.std.specs.Prelude.{[], ◌∷◌, ◌++◌, Option, None}
+use Rattle.std.specs.Prelude.{ℕ, [], ◌∷◌, ◌++◌, Option, None, unwrap_or}
 use Rattle.std.specs.Arc.{arc_value}
 use Rattle.std.specs.FinMap as map
-use Rattle.node_base.specs.Path.{Path}
+use Rattle.node_base.specs.Path.{Path, is_front}
 use Rattle.node_base.specs.declared.node.Node.{Node}
-use Rattle.node_base.specs.Tree.{grafted, changed_at, with_given}
+use Rattle.node_base.specs.Tree.{grafted, edited, changed_at, with_given}
 use Rattle.node_base.specs.NodeEdits.{with_prop, with_piece}
 use Rattle.path_tree.specs.declared.edit.Edit.{Edit}
 use Rattle.path_tree.specs.declared.edit.Edit.TheVariants.{Parts, Prop, Piece, Graft, Prune}
@@ -20,3 +20,11 @@ edit_here (Prune x) f = grafted f (x ∷ []) (λ _. None)
 -- the same at a path
 abbrev pub edit_at : Edit → (Path → Option Node) → Path → Path → Option Node
 edit_at e f p = grafted f p (edit_here e (λ r. f (p ++ r)))
+
+-- the number, where there is one
+abbrev pub renumbered : Option ℕ → Node → Node
+renumbered number x = record { text = x.text; props = x.props; changed = unwrap_or number x.changed }
+
+-- the same on each front of the path that is there
+abbrev pub marked_by : Option ℕ → (Path → Option Node) → Path → Path → Option Node
+marked_by number f p = edited f (λ q. is_front q p) (renumbered number)

@@ -9,7 +9,7 @@ ghost use Rattle.node_base.specs.Tree.{marked, blocked, changed_at};
 ghost use Rattle.node_base.specs.NodeEdits.{with_prop, with_piece};
 ghost use Rattle.path_tree.specs.Joined.{under};
 ghost use Rattle.path_tree.specs.Listed.{shown, shown_names};
-ghost use Rattle.path_tree.specs.Edits.{edit_here, edit_at};
+ghost use Rattle.path_tree.specs.Edits.{edit_here, edit_at, marked_by, renumbered};
 ghost use Rattle.path_tree.specs.Reach.{reach_to};
 
 use crate::Entry;
@@ -47,6 +47,15 @@ impl Model for Branch {
     ghost use Rattle.path_tree.specs.RowLemmas.{branch_falls};
 
     ghost size_decreases = { λ a h. branch_falls a h };
+}
+
+// Gives a node the number, where there is one.
+fn renumber(node: &mut Node, number: Option<RevNo>)
+    ensures { node.new ≡ renumbered number node.old }
+{
+    if let Some(number) = number {
+        node.changed = number;
+    }
 }
 
 impl Branch {
@@ -171,24 +180,58 @@ impl Branch {
         Ok(())
     }
 
-    /// Edits the node at a path. What has other owners is copied first.
-    pub fn alter(&mut self, alloc: Global, path: &[NodeName], edit: Edit) -> Result<(), AllocError>
+    /// Gives the number, where there is one, to each front of a path, and edits the node at the path. What has other
+    /// owners is copied first.
+    pub fn alter(
+        &mut self,
+        alloc: Global,
+        path: &[NodeName],
+        edit: Edit,
+        number: Option<RevNo>,
+    ) -> Result<(), AllocError>
         requires { IsSome (map.get self.old path.now) }
-        ensures ok { OnOk result ((q : Path) → map.get self.new q ≡ edit_at edit (map.get self.old) path.now q) }
+        ensures ok { OnOk result ((q : Path)
+            → map.get self.new q ≡ edit_at edit (marked_by number (map.get self.old) path.now) path.now q) }
         ensures err { OnErr result (self.new ≡ self.old) }
     {
         match path {
-            [] => self.alter_here(alloc, edit),
+            [] => self.alter_top(alloc, edit, number),
             [first, rest @ ..] => match child_of(&self.children, first) {
                 Some(child) => {
                     let mut child = child.again()?;
-                    child.alter(alloc, rest, edit)?;
+                    child.alter(alloc, rest, edit, number)?;
                     self.children = with_branch(alloc, &self.children, first, child)?;
+                    if let Some(number) = &number {
+                        self.node.changed = *number;
+                    }
                     Ok(())
                 }
                 None => unreachable!(),
             },
         }
+    }
+
+    // Edits the node at the top, and gives it the number, where there is one.
+    fn alter_top(
+        &mut self,
+        alloc: Global,
+        edit: Edit,
+        number: Option<RevNo>,
+    ) -> Result<(), AllocError>
+        ensures ok { OnOk result ((q : Path)
+            → map.get self.new q ≡ edit_here edit (marked_by number (map.get self.old) []) q) }
+        ensures err { OnErr result (self.new ≡ self.old) }
+    {
+        self.alter_here(alloc, edit)?;
+        self.number(number);
+        Ok(())
+    }
+
+    /// Gives its top the number, where there is one.
+    pub fn number(&mut self, number: Option<RevNo>)
+        ensures { (q : Path) → map.get self.new q ≡ marked_by number (map.get self.old) [] q }
+    {
+        renumber(&mut self.node, number);
     }
 
     // Puts a value at a property's name of the node at the top, or takes the one there away. A value that would

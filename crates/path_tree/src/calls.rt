@@ -79,11 +79,7 @@ impl Tree {
         if let Some(fault) = self.change_fault(path) {
             return Err(TreeError::Fault(fault));
         }
-        let mut next = self.share()?;
-        next.mark(alloc, path.names(), number)?;
-        next.put_parts(alloc, path.names(), None, Some(props))?;
-        *self = next;
-        Ok(())
+        Ok(self.put_parts(alloc, path.names(), None, Some(props), number)?)
     }
 
     /// Puts a text in the place of a file's. Refused as properties are, and then a directory (17).
@@ -102,11 +98,7 @@ impl Tree {
         if let Some(fault) = self.text_fault(path) {
             return Err(TreeError::Fault(fault));
         }
-        let mut next = self.share()?;
-        next.mark(alloc, path.names(), number)?;
-        next.put_parts(alloc, path.names(), Some(text), None)?;
-        *self = next;
-        Ok(())
+        Ok(self.put_parts(alloc, path.names(), Some(text), None, number)?)
     }
 
     /// Removes a node and what is below it. Refused: the root (10), and else as properties are.
@@ -118,11 +110,7 @@ impl Tree {
         if let Some(fault) = self.remove_fault(path) {
             return Err(TreeError::Fault(fault));
         }
-        let mut next = self.share()?;
-        next.mark(alloc, path.names(), number)?;
-        next.prune(alloc, path.names())?;
-        *self = next;
-        Ok(())
+        Ok(self.prune(alloc, path.names(), number)?)
     }
 
     /// Copies what stands at `source` of a tree, and below it, to a new path. Refused: as a new file is, then a
@@ -144,11 +132,7 @@ impl Tree {
         if let Some(fault) = self.copy_fault(path, from, source) {
             return Err(TreeError::Fault(fault));
         }
-        let mut next = self.share()?;
-        next.graft_copy(alloc, path, from, source.names())?;
-        next.mark(alloc, path.names(), number)?;
-        *self = next;
-        Ok(())
+        Ok(self.graft_copy(alloc, path, from, source.names(), number)?)
     }
 
     // Adds one node.
@@ -160,11 +144,7 @@ impl Tree {
         if let Some(fault) = self.add_fault(path) {
             return Err(TreeError::Fault(fault));
         }
-        let mut next = self.share()?;
-        next.mark(alloc, path.names(), node.changed)?;
-        next.put_node(alloc, path, node)?;
-        *self = next;
-        Ok(())
+        Ok(self.put_node(alloc, path, node)?)
     }
 
     fn add_fault(&self, path: &NodePath) -> Option<TreeFault>

@@ -5,10 +5,11 @@ ghost use Rattle.std.specs.FinMap as map;
 ghost use Rattle.node_base.specs.Path.{Path, same_path};
 ghost use Rattle.node_base.specs.Limits.{fits};
 ghost use Rattle.node_base.specs.PathText.{is_path};
-ghost use Rattle.node_base.specs.Tree.{grafted, marked, changed_at, with_given, HasFronts, IsDirAt, IsTree, blocked};
+ghost use Rattle.node_base.specs.Tree.{grafted, marked, HasFronts, IsDirAt, IsTree, blocked};
 ghost use Rattle.node_base.specs.Tree.{alone, new_dir};
+ghost use Rattle.path_tree.specs.Calls.{added, changed, copied, removed};
 ghost use Rattle.path_tree.specs.Copies.{copy_too_long};
-ghost use Rattle.path_tree.specs.Edits.{edit_at};
+ghost use Rattle.path_tree.specs.Edits.{edit_at, marked_by};
 ghost use Rattle.path_tree.specs.Listed.{shown};
 ghost use Rattle.path_tree.specs.Nodes.{IsNode, HasNodes, IsSmallTree};
 ghost use Rattle.path_tree.specs.Shape.{IsShape};
@@ -132,36 +133,37 @@ impl Tree {
         Ok(())
     }
 
-    /// Puts one node in the place of what stands at a path and below it.
+    /// Puts one node in the place of what stands at a path and below it. Its number goes to the fronts of the path.
     pub fn put_node(&mut self, alloc: Global, path: &NodePath, node: Node) -> Result<(), AllocError>
         requires below_root { same_path path.now [] ≡ false }
         requires not_blocked { blocked (map.get self.old) path.now ≡ None }
-        ensures ok { OnOk result ((q : Path)
-            → map.get self.new q ≡ grafted (map.get self.old) path.now (alone node) q) }
+        ensures ok { OnOk result ((q : Path) → map.get self.new q ≡ added (map.get self.old) path.now node q) }
         ensures err { OnErr result (self.new ≡ self.old) }
     {
         let _ = path.names();
         path_limits(path);
         node_limits(&node);
-        self.graft(alloc, path, Branch::leaf(node))
+        let number = node.changed;
+        self.graft(alloc, path, Branch::leaf(node), number)
     }
 
-    /// Puts what stands at `source` of a tree, and below it, in the place of what stands at a path and below it.
-    /// All but the top of it is shared.
+    /// Puts what stands at `source` of a tree, and below it, in the place of what stands at a path and below it. All
+    /// but the top of it is shared. The number goes to the fronts of the path, and to the path.
     pub fn graft_copy(
         &mut self,
         alloc: Global,
         path: &NodePath,
         from: &Tree,
         source: &[NodeName],
+        number: RevNo,
     ) -> Result<(), AllocError>
         requires below_root { same_path path.now [] ≡ false }
         requires not_blocked { blocked (map.get self.old) path.now ≡ None }
         requires there { IsSome (map.get from.now source.now) }
         requires small { copy_too_long from.now source.now path.now ≡ false }
         ensures ok { OnOk result ((q : Path)
-            → map.get self.new q ≡ grafted (map.get self.old) path.now
-            (λ r. map.get from.now (source.now ++ r)) q) }
+            → map.get self.new q ≡ copied (map.get self.old) path.now
+            (λ r. map.get from.now (source.now ++ r)) number q) }
         ensures err { OnErr result (self.new ≡ self.old) }
     {
         let Some(branch) = from.root.find(source) else {
@@ -169,14 +171,21 @@ impl Tree {
         };
         from.limits();
         path_limits(path);
-        self.graft(alloc, path, branch.again()?)
+        let mut branch = branch.again()?;
+        branch.number(Some(number));
+        self.graft(alloc, path, branch, number)
     }
 
-    /// Removes what stands at a path and below it.
-    pub fn prune(&mut self, alloc: Global, path: &[NodeName]) -> Result<(), AllocError>
+    /// Removes what stands at a path and below it. The number goes to the proper fronts of the path that are there.
+    pub fn prune(
+        &mut self,
+        alloc: Global,
+        path: &[NodeName],
+        number: RevNo,
+    ) -> Result<(), AllocError>
         requires { same_path path.now [] ≡ false }
         ensures ok { OnOk result ((q : Path)
-            → map.get self.new q ≡ grafted (map.get self.old) path.now (λ _. None) q) }
+            → map.get self.new q ≡ removed (map.get self.old) path.now number q) }
         ensures err { OnErr result (self.new ≡ self.old) }
     {
         let _ = &self.root;
@@ -184,36 +193,44 @@ impl Tree {
             unreachable!()
         };
         let Some(_) = self.get(above) else {
-            return Ok(());
+            return self.mark(alloc, path, number);
         };
         let name = name.copy(alloc)?;
-        self.alter(alloc, above, Edit::Prune(name))
+        self.alter(alloc, above, Edit::Prune(name), Some(number))
     }
 
-    /// Gives the node at a path a text and properties, where they are given.
+    /// Gives the node at a path a text and properties, where they are given. The number goes to the path and to its
+    /// fronts, where they are there.
     pub fn put_parts(
         &mut self,
         alloc: Global,
         path: &[NodeName],
         text: Option<Text>,
         props: Option<Props>,
+        number: RevNo,
     ) -> Result<(), AllocError>
         requires { IsSome text → ¬ IsDirAt (map.get self.old) path.now }
         ensures ok { OnOk result ((q : Path)
-            → map.get self.new q ≡ changed_at (map.get self.old) path.now (with_given text props) q) }
+            → map.get self.new q ≡ changed (map.get self.old) path.now text props number q) }
         ensures err { OnErr result (self.new ≡ self.old) }
     {
         let _ = &self.root;
         let Some(_) = self.get(path) else {
-            return Ok(());
+            return self.mark(alloc, path, number);
         };
         text_limits(&text);
         props_limits(&props);
-        self.alter(alloc, path, Edit::Parts(text, props))
+        self.alter(alloc, path, Edit::Parts(text, props), Some(number))
     }
 
-    // Puts a branch in the place of what stands at a path and below it.
-    fn graft(&mut self, alloc: Global, path: &NodePath, branch: Branch) -> Result<(), AllocError>
+    // Puts a branch in the place of what stands at a path and below it, and a number on the fronts of the path.
+    fn graft(
+        &mut self,
+        alloc: Global,
+        path: &NodePath,
+        branch: Branch,
+        number: RevNo,
+    ) -> Result<(), AllocError>
         requires below_root { same_path path.now [] ≡ false }
         requires not_blocked { blocked (map.get self.old) path.now ≡ None }
         requires fronts { HasFronts (map.get branch) }
@@ -221,7 +238,7 @@ impl Tree {
         requires paths { (r : Path) → IsSome (map.get branch r) → is_path (path.now ++ r) ≡ true }
         requires nodes { (r : Path) → IfSome (map.get branch r) IsNode }
         ensures ok { OnOk result ((q : Path)
-            → map.get self.new q ≡ grafted (map.get self.old) path.now (map.get branch) q) }
+            → map.get self.new q ≡ grafted (marked (map.get self.old) path.now number) path.now (map.get branch) q) }
         ensures err { OnErr result (self.new ≡ self.old) }
     {
         let _ = &self.root;
@@ -229,11 +246,11 @@ impl Tree {
             unreachable!()
         };
         let child = Arc::new(alloc, (name.copy(alloc)?, branch))?;
-        self.alter(alloc, above, Edit::Graft(child))
+        self.alter(alloc, above, Edit::Graft(child), Some(number))
     }
 
-    // Edits the node at a path. The nodes on the path that have other owners are copied.
-    pub(crate) fn alter(
+    // Edits the node at a path, and gives no number.
+    pub(crate) fn edit(
         &mut self,
         alloc: Global,
         path: &[NodeName],
@@ -245,11 +262,30 @@ impl Tree {
         ensures ok { OnOk result ((q : Path) → map.get self.new q ≡ edit_at edit (map.get self.old) path.now q) }
         ensures err { OnErr result (self.new ≡ self.old) }
     {
+        self.alter(alloc, path, edit, None)
+    }
+
+    // Gives the number, where there is one, to each front of a path, and edits the node at the path. The nodes on the
+    // path that have other owners are copied.
+    pub(crate) fn alter(
+        &mut self,
+        alloc: Global,
+        path: &[NodeName],
+        edit: Edit,
+        number: Option<RevNo>,
+    ) -> Result<(), AllocError>
+        requires there { IsSome (map.get self.old path.now) }
+        requires shape { IsShape (edit_at edit (marked_by number (map.get self.old) path.now) path.now) }
+        requires nodes { HasNodes (edit_at edit (marked_by number (map.get self.old) path.now) path.now) }
+        ensures ok { OnOk result ((q : Path)
+            → map.get self.new q ≡ edit_at edit (marked_by number (map.get self.old) path.now) path.now q) }
+        ensures err { OnErr result (self.new ≡ self.old) }
+    {
         if let Some(root) = Arc::get_mut(&mut self.root) {
-            return root.alter(alloc, path, edit);
+            return root.alter(alloc, path, edit, number);
         }
         let mut root = self.root.again()?;
-        root.alter(alloc, path, edit)?;
+        root.alter(alloc, path, edit, number)?;
         self.root = Arc::new(alloc, root)?;
         Ok(())
     }

@@ -12,19 +12,19 @@ use Rattle.path_tree.proofs.Fronts.{shape_of, shape-piece}
 use Rattle.path_tree.proofs.Kept.{nodes-piece}
 use Rattle.path_tree.proofs.tree.Tree.append_text.Goals as goal
 
-pub alter-requires-clause-there : goal.alter-requires-clause-there
-alter-requires-clause-there c =
+pub edit-requires-clause-there : goal.edit-requires-clause-there
+edit-requires-clause-there c =
     let none = first_none (text_fault (get c.args.self.now) c.args.path.now) _ (sym c.piece_fault.ensures ∙ c.in_default.is) in
     subst (λ p. IsSome (get c.args.self.now p)) (sym c.names.ensures.names) (there_of (get c.args.self.now) c.args.path.now _ none)
 
-pub alter-requires-clause-shape : goal.alter-requires-clause-shape
-alter-requires-clause-shape c =
+pub edit-requires-clause-shape : goal.edit-requires-clause-shape
+edit-requires-clause-shape c =
     let p = c.names.result.now in
     let bytes = c.in_ok-piece.piece.items in
     subst IsShape (changed_as_graft (get c.args.self.now) p (with_piece bytes)) (shape-piece (get c.args.self.now) p bytes (shape_of c.args.self.now c.limits.ensures.tree))
 
-pub alter-requires-clause-nodes : goal.alter-requires-clause-nodes
-alter-requires-clause-nodes c =
+pub edit-requires-clause-nodes : goal.edit-requires-clause-nodes
+edit-requires-clause-nodes c =
     let bytes = c.in_ok-piece.piece.items in
     let kept = nodes-piece (get c.args.self.now) c.args.path.now c.args.piece.now (sym c.piece_fault.ensures ∙ c.in_default.is) c.limits.ensures.kept in
     subst HasNodes (changed_as_graft (get c.args.self.now) c.names.result.now (with_piece bytes))
@@ -33,6 +33,6 @@ alter-requires-clause-nodes c =
 pub returns-clause-ok : goal.returns-clause-ok
 returns-clause-ok c = λ q.
     let bytes = c.in_ok-piece.piece.items in
-    c.in_ok-alter.ensures.ok q
+    c.in_ok-edit.ensures.ok q
     ∙ changed_below (get c.args.self.now) c.names.result.now (with_piece bytes) q
     ∙ (λ i. changed_at (get c.args.self.now) (c.names.ensures.names i) (with_piece (c.in_ok-piece.ensures.items i)) q)

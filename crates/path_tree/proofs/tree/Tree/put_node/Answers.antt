@@ -2,7 +2,7 @@ use Rattle.std.proofs.Common.{◌≡◌, Option, sym, ap, subst, ◌∙◌}
 use Rattle.std.specs.Prelude.{IsSome, IfSome}
 use Rattle.std.specs.FinMap.{get}
 use Rattle.node_base.specs.Path.{Path}
-use Rattle.node_base.specs.Tree.{HasFronts, alone, grafted}
+use Rattle.node_base.specs.Tree.{HasFronts, alone, grafted, marked}
 use Rattle.node_base.specs.declared.node.Node.{Node}
 use Rattle.path_tree.proofs.Edits.{get-leaf, on_ok}
 use Rattle.path_tree.proofs.Fronts.{fronts-alone, alone_fits}
@@ -30,4 +30,4 @@ graft-requires-clause-nodes c = λ r.
     subst (λ (f : Path → Option Node). IfSome (f r) IsNode) (sym (is_alone c)) (alone_nodes c.args.node c.node_limits.ensures r)
 
 pub returns-clause-ok : goal.returns-clause-ok
-returns-clause-ok c = on_ok c.graft.result _ _ (λ h q. h q ∙ ap (λ (g : Path → Option Node). grafted (get c.args.self.now) c.args.path.now g q) (is_alone (goal.at.returns-clause-ok c).After-leaf)) c.graft.ensures.ok
+returns-clause-ok c = on_ok c.graft.result _ _ (λ h q. h q ∙ ap (λ (g : Path → Option Node). grafted (marked (get c.args.self.now) c.args.path.now c.args.node.changed) c.args.path.now g q) (is_alone (goal.at.returns-clause-ok c).After-leaf)) c.graft.ensures.ok
