@@ -7,3 +7,4 @@ pub mod Feeding
 pub mod Loading
 pub mod Serving
 pub mod Stopping
+pub mod Telling

@@ -1,5 +1,5 @@
 -- Revisions loaded one after another, and the records that they are.
-use Rattle.std.proofs.Common.{◌≡◌, ℕ, ◌⊎◌, ◌==◌, ◌&&◌, not, Bool, true, false, List, [], ◌∷◌, ◌++◌, length, Result, Ok, Err, Option, Some, None, is_none, refl, sym, ap, subst, ◌∙◌, append_assoc, append-nil, inl, inr}
+use Rattle.std.proofs.Common.{◌≡◌, ◌<◌, ◌+◌, ℕ, ◌⊎◌, arith, length-append, ◌==◌, ◌&&◌, not, Bool, true, false, List, [], ◌∷◌, ◌++◌, length, Result, Ok, Err, Option, Some, None, is_none, refl, sym, ap, subst, ◌∙◌, append_assoc, append-nil, inl, inr}
 use Rattle.std.proofs.KnownBytes.{Appends-nil, Appends-trans}
 use Rattle.std.specs.List.{filter, flat_map}
 use Rattle.std.specs.Io.KnownBytes.{Appends}
@@ -176,6 +176,12 @@ next_err y z rev set trees t a fails e later m s (inr (inl k)) =
     load_not_kept (Revised (length y.revisions) set rev.props) (loaded_line rev.number) (next_loaded y.revisions rev set trees t later m) k s refl
 next_err y z rev set trees t a fails e later m s (inr (inr k)) =
     load_refused (entry_refused (Revised (length y.revisions) set rev.props) (loaded_line rev.number) k.0 (next_loaded y.revisions rev set trees t later m) k.1 k.2) s refl
+
+pub next_there : (y z : Repository) (rev : Rev) (set : List Change) (trees : List PathMap) → trees ≡ trees_of y.revisions → (tree : PathMap) × Makes trees rev set tree → z ≡ with_entry_in y (Revised (length y.revisions) set rev.props) → rev.number < length z.revisions
+next_there y z rev set trees t m k =
+    let next = next_number y.revisions trees rev set m.0 t m.1 in
+    let more : length z.revisions ≡ length y.revisions + 1 = ap (λ (r : Repository). length r.revisions) k ∙ length-append y.revisions _ in
+    omega (arith, next, more)
 
 pub next_said : (y z : Repository) (rev : Rev) (set : List Change) (trees : List PathMap) → trees ≡ trees_of y.revisions → (a b : Option (List ℕ)) (line : List ℕ) (r : Result (Unit {0}) Refusal) → is_zero (trees_of y.revisions) rev ≡ false → (tree : PathMap) × Makes trees rev set tree
     → entry_fault y.revisions (Revised (length y.revisions) set rev.props) ≡ None → z ≡ with_entry_in y (Revised (length y.revisions) set rev.props) → line ≡ loaded_line rev.number → OnOk r (Appends a b line)

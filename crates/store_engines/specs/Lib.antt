@@ -6,3 +6,4 @@ pub mod Loads
 pub mod Mirrors
 pub mod Ranges
 pub mod Refusals
+pub mod Telling

@@ -5,7 +5,9 @@ ghost use Rattle.repo_core.specs.Entries.{with_entry_in};
 ghost use Rattle.repo_core.specs.Refusals.{IsDue};
 ghost use Rattle.repo_core.specs.declared.entry.Entry.TheVariants.{Revised};
 ghost use Rattle.repo_core.specs.declared.fault.RepoFault.{RepoFault as RepoFaultOf};
-ghost use Rattle.repo_store.specs.Words.{repository_of, revisions_of};
+ghost use Rattle.fleet_disk.specs.Image.{Image};
+ghost use Rattle.repo_store.specs.Journal.{Keeps};
+ghost use Rattle.repo_store.specs.Words.{disk_of, repository_of, revisions_of};
 ghost use Rattle.store_engines.specs.Devices.{CantKeep, IsSafe};
 ghost use Rattle.store_engines.specs.Loads.{entry_fault, ServesOne};
 ghost use Rattle.store_engines.specs.Refusals.{repo_refusal};
@@ -34,6 +36,8 @@ pub fn commit<D: Disk + Drop>(
         ⊎ CantKeep store.new (Revised (length (revisions_of store.old)) set (dated props moment)) e
         ⊎ ((f : RepoFaultOf) × IsDue f (entry_fault (revisions_of store.old)
         (Revised (length (revisions_of store.old)) set (dated props moment))) × (e ≡ repo_refusal f))) }
+    ensures stands { OnOk result (D.honest (disk_of store.new) → (image : Image)
+        → D.may_leave (disk_of store.new) image → Keeps (repository_of store.new) image) }
     ensures device { IsSafe store.old → ServesOne (Revised (length (revisions_of store.old)) set (dated props moment))
         store.old store.new result }
     ensures no_peer { IfErr result (λ e. e ≡ Refusal.PeerFailed → ⊥) }

@@ -18,6 +18,7 @@ pub use make_dir::run_mkdir;
 pub use mirror::is_mirror;
 pub use range::RevRange;
 pub use repo_store::{log_refusal, repo_refusal, store_refusal};
+pub use report::LoadReport;
 
 mod begin;
 mod commits;
@@ -28,3 +29,4 @@ mod make_dir;
 mod mirror;
 mod range;
 mod refusals;
+mod report;

@@ -7,16 +7,9 @@ ghost use Rattle.store_engines.specs.Loads.{loaded_line};
 ghost use Rattle.store_engines.specs.Commits.{committed_line};
 
 use byte_streams::Output;
-use fleet_engines::{hand_on, write};
+use fleet_engines::{hand_on, write, write_count};
 use node_base::{Refusal, RevNo};
 use std::alloc::{AllocError, Global};
-
-/// The line for a revision that was loaded.
-pub fn loaded_line(alloc: Global, number: RevNo) -> Result<String, AllocError>
-    ensures { IfOk result (λ s. string_bytes s ≡ loaded_line number) }
-{
-    format!(in alloc; "Loaded revision {number}.\n")
-}
 
 /// The line for a revision that was committed.
 pub fn committed_line(alloc: Global, number: usize) -> Result<String, AllocError>
@@ -34,5 +27,16 @@ pub fn say<O: Output>(output: &mut O, line: &String) -> Result<(), Refusal>
     ensures only_peer { IfErr result (λ e. e ≡ Refusal.PeerFailed) }
 {
     write(output, line.as_str().as_bytes())?;
+    hand_on(output)
+}
+
+/// Writes the line for a revision that was loaded, and hands it on.
+pub fn say_loaded<O: Output>(output: &mut O, number: RevNo) -> Result<(), Refusal>
+    ensures ok { OnOk result (Appends (O.contents output.old) (O.contents output.new) (loaded_line number)) }
+    ensures peer { Counted result (O.failures output.old) (O.failures output.new) }
+    ensures failed { OnErr result (Rose (O.failures output.old) (O.failures output.new)) }
+    ensures only_peer { IfErr result (λ e. e ≡ Refusal.PeerFailed) }
+{
+    write_count(output, b"Loaded revision ", u64::from(number.get()), b".\n")?;
     hand_on(output)
 }

@@ -1,9 +1,10 @@
-use Rattle.std.proofs.Common.{◌≡◌, None, Ok, Err, ◌∙◌, ap, subst, length}
+use Rattle.std.proofs.Common.{◌≡◌, None, Ok, Err, ◌∙◌, ap, subst, sym, length}
 use Rattle.repo_core.specs.Dates.{dated}
 use Rattle.repo_core.specs.Repository.{Repository, head_of}
 use Rattle.repo_core.specs.Refusals.{commit_fault}
 use Rattle.repo_core.specs.declared.entry.Entry.TheVariants.{Revised}
 use Rattle.repo_store.specs.Changes.{Changes}
+use Rattle.repo_store.specs.Journal.{Keeps}
 use Rattle.repo_store.specs.Words.{revisions_of}
 use Rattle.repo_store.specs.declared.committed.Committed.{Committed}
 use Rattle.store_engines.specs.Loads.{entry_fault}
@@ -20,6 +21,11 @@ returns-in-Ok-clause-taken g c =
     let entry = Revised (length x) c.args.set (dated c.args.props c.args.moment) in
     let base = c.head-head.ensures.head ∙ ap (λ (r : Repository). head_of r.revisions) c.repo.ensures.value in
     (subst (λ b. Changes {T = Committed} entry (commit_fault x b entry) c.args.store.now c.commit.new.self (Ok c.in-Ok._committed)) base c.in-Ok.ensures.change).0
+
+pub returns-in-Ok-clause-stands : goal.returns-in-Ok-clause-stands
+returns-in-Ok-clause-stands g c h image left =
+    let t = c.in-Ok.ensures.change.1 in
+    subst (λ r. Keeps r image) (sym t.made) (t.durable (t.honest.1 h) image left)
 
 pub returns-in-Ok-clause-device : goal.returns-in-Ok-clause-device
 returns-in-Ok-clause-device g c safe =

@@ -7,10 +7,11 @@ use Rattle.fleet_engines.specs.Grouping.{records_of_rev}
 use Rattle.repo_core.specs.declared.entry.Entry.TheVariants.{Revised}
 use Rattle.repo_store.specs.Words.{repository_of, revisions_of}
 use Rattle.byte_streams.specs.Causes.{Rose}
-use Rattle.store_engines.specs.Loads.{load_refused, load_stops, unfit}
-use Rattle.store_engines.proofs.Loading.{next_err, next_said, next_unsaid}
+use Rattle.store_engines.specs.Loads.{load_refused, load_stops, loaded_line, unfit}
+use Rattle.store_engines.proofs.Loading.{next_err, next_said, next_there, next_unsaid}
 use Rattle.store_engines.specs.Devices.{is_device}
 use Rattle.store_engines.proofs.Serving.{any_ok, next_entry, nothing, of_entry, records_then}
+use Rattle.store_engines.proofs.Telling.{moved_on, told_on}
 use Rattle.store_engines.proofs.load.load_next.Goals as goal
 
 pub returns-in_err-set-clause-refused : goal.returns-in_err-set-clause-refused
@@ -28,25 +29,22 @@ returns-in_err-commit-clause-refused g c =
     let p = err_from_is_err_and c.from_residual-in_err-commit.result c.from_residual-in_err-commit.ensures.1 in
     let trees = c.trees.ensures.trees ∙ ap (λ v. trees_of v.revisions) c.repo.ensures.value in
     rw (p.1, p.2)
-    (next_err (repository_of c.args.store.now) c.commit.new.store (rev_of c.args.revision) c.in_ok-set.set c.trees.result.now trees (g.O.Output.contents c.args.output.now) (Rose (g.O.Output.failures c.args.output.now) (g.O.Output.failures c.args.output.now)) c.in_err-commit.field-0.0 c.requires.later (c.in_ok-set.ensures.set c.args.revision.props) c.in_err-commit.ensures.same c.in_err-commit.ensures.refused)
+    (next_err (repository_of c.args.store.now) c.commit.new.store (rev_of c.args.revision) c.in_ok-set.set c.trees.result.now trees (g.T.LoadReport.contents c.args.report.now) (Rose (g.T.LoadReport.failures c.args.report.now) (g.T.LoadReport.failures c.args.report.now)) c.in_err-commit.field-0.0 c.requires.later (c.in_ok-set.ensures.set c.args.revision.props) c.in_err-commit.ensures.same c.in_err-commit.ensures.refused)
 
 pub returns-clause-ok : goal.returns-clause-ok
 returns-clause-ok g c =
     let trees = c.trees.ensures.trees ∙ ap (λ v. trees_of v.revisions) c.repo.ensures.value in
-    next_said (repository_of c.args.store.now) (repository_of c.commit.new.store) (rev_of c.args.revision) c.in_ok-set.set c.trees.result.now trees (g.O.Output.contents c.args.output.now) (g.O.Output.contents c.say.new.output) _ c.say.result c.requires.later (c.in_ok-set.ensures.set c.args.revision.props) c.in_ok-commit.ensures.taken c.in_ok-commit.ensures.ok c.in-Ok.ensures c.say.ensures.ok
+    next_said (repository_of c.args.store.now) (repository_of c.commit.new.store) (rev_of c.args.revision) c.in_ok-set.set c.trees.result.now trees (g.T.LoadReport.contents c.args.report.now) (g.T.LoadReport.contents c.loaded.new.self) (loaded_line c.args.revision.number) c.loaded.result c.requires.later (c.in_ok-set.ensures.set c.args.revision.props) c.in_ok-commit.ensures.taken c.in_ok-commit.ensures.ok refl c.loaded.ensures.ok
 
 pub returns-clause-refused : goal.returns-clause-refused
 returns-clause-refused g c =
     let trees = c.trees.ensures.trees ∙ ap (λ v. trees_of v.revisions) c.repo.ensures.value in
-    next_unsaid (repository_of c.args.store.now) c.commit.new.store (rev_of c.args.revision) c.in_ok-set.set c.trees.result.now trees (g.O.Output.contents c.args.output.now) (g.O.Output.contents c.say.new.output) (Rose (g.O.Output.failures c.args.output.now) (g.O.Output.failures c.say.new.output)) c.say.result c.requires.later (c.in_ok-set.ensures.set c.args.revision.props) c.in_ok-commit.ensures.taken c.in_ok-commit.ensures.ok c.say.ensures.failed c.say.ensures.only_peer
+    next_unsaid (repository_of c.args.store.now) c.commit.new.store (rev_of c.args.revision) c.in_ok-set.set c.trees.result.now trees (g.T.LoadReport.contents c.args.report.now) (g.T.LoadReport.contents c.loaded.new.self) (Rose (g.T.LoadReport.failures c.args.report.now) (g.T.LoadReport.failures c.loaded.new.self)) c.loaded.result c.requires.later (c.in_ok-set.ensures.set c.args.revision.props) c.in_ok-commit.ensures.taken c.in_ok-commit.ensures.ok c.loaded.ensures.failed c.loaded.ensures.only_peer
 
 pub returns-in_err-set-clause-device : goal.returns-in_err-set-clause-device
 returns-in_err-set-clause-device g c safe =
     let p = err_from_is_err_and c.from_residual.result c.from_residual.ensures.1 in
     rw (p.1, p.2) (nothing (records_of_rev (rev_of c.args.revision)) [] c.args.store.now (Err c.in_err-set.field-0.0) c.in_err-set.ensures.no_device tt safe)
-
-pub returns-in_default-clause-device : goal.returns-in_default-clause-device
-returns-in_default-clause-device g c safe = nothing (records_of_rev (rev_of c.args.revision)) [] c.args.store.now _ refl tt safe
 
 pub returns-in_err-commit-clause-device : goal.returns-in_err-commit-clause-device
 returns-in_err-commit-clause-device g c safe =
@@ -62,5 +60,25 @@ returns-clause-device g c safe =
     let rev = rev_of c.args.revision in
     let trees = c.trees.ensures.trees ∙ ap (λ v. trees_of v.revisions) c.repo.ensures.value in
     let entry = next_entry x rev c.in_ok-set.set c.trees.result.now trees c.requires.later (c.in_ok-set.ensures.set c.args.revision.props) in
-    records_then (records_of_rev rev) [] [] c.args.store.now c.commit.new.store _ c.say.result (IfErr-weaker c.say.result _ _ (λ e k. ap is_device k) c.say.ensures.only_peer) (any_ok c.say.result (◌≡◌ {A = List DumpRecord} [] []) refl)
+    records_then (records_of_rev rev) [] [] c.args.store.now c.commit.new.store _ c.loaded.result (IfErr-weaker c.loaded.result _ _ (λ e k. ap is_device k) c.loaded.ensures.only_peer) (any_ok c.loaded.result (◌≡◌ {A = List DumpRecord} [] []) refl)
     (of_entry rev (Revised (length x) c.in_ok-set.set c.args.revision.props) c.args.store.now c.commit.new.store (Ok _) entry (c.in_ok-commit.ensures.device safe))
+
+pub loaded-requires-there : goal.loaded-requires-there
+loaded-requires-there g c =
+    let trees = c.trees.ensures.trees ∙ ap (λ v. trees_of v.revisions) c.repo.ensures.value in
+    next_there (repository_of c.args.store.now) (repository_of c.commit.new.store) (rev_of c.args.revision) c.in_ok-set.set c.trees.result.now trees (c.in_ok-set.ensures.set c.args.revision.props) c.in_ok-commit.ensures.ok
+
+pub returns-in_err-set-clause-told : goal.returns-in_err-set-clause-told
+returns-in_err-set-clause-told g c safe works h = h
+
+pub returns-in_err-commit-clause-told : goal.returns-in_err-commit-clause-told
+returns-in_err-commit-clause-told g c safe works h = moved_on c.args.store.now c.commit.new.store (Err c.in_err-commit.field-0.0) (g.T.LoadReport.told c.args.report.now) works (c.in_err-commit.ensures.device safe).serves h
+
+pub returns-clause-told : goal.returns-clause-told
+returns-clause-told g c safe works h =
+    let before = g.T.LoadReport.told c.args.report.now in
+    let trees = c.trees.ensures.trees ∙ ap (λ v. trees_of v.revisions) c.repo.ensures.value in
+    told_on c.commit.new.store before (g.T.LoadReport.told c.loaded.new.self) c.args.revision.number
+    (next_there (repository_of c.args.store.now) (repository_of c.commit.new.store) (rev_of c.args.revision) c.in_ok-set.set c.trees.result.now trees (c.in_ok-set.ensures.set c.args.revision.props) c.in_ok-commit.ensures.ok)
+    c.in_ok-commit.ensures.stands (λ d image h left. g.met.D.Disk.only_now d image h left) c.loaded.ensures.nothing_else
+    (moved_on c.args.store.now c.commit.new.store (Ok _) before works (c.in_ok-commit.ensures.device safe).serves h)

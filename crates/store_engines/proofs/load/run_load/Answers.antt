@@ -36,3 +36,9 @@ returns-in_err-refuse_mirror-clause-entries g c =
 
 pub returns-clause-entries : goal.returns-clause-entries
 returns-clause-entries g c = c.load_stream-done.ensures.entries (λ h w image left. c.repo.ensures.keeps h w image (g.met.D.Disk.only_now (disk_of c.args.store.now) image h left))
+
+pub returns-in_err-refuse_mirror-clause-told : goal.returns-in_err-refuse_mirror-clause-told
+returns-in_err-refuse_mirror-clause-told g c works h = h
+
+pub returns-clause-told : goal.returns-clause-told
+returns-clause-told g c = c.load_stream-done.ensures.told (λ h w image left. c.repo.ensures.keeps h w image (g.met.D.Disk.only_now (disk_of c.args.store.now) image h left))

@@ -15,8 +15,8 @@ returns-in-Some-clause-ok g c =
     let r = rev_of c.in-Some.revision in
     let y = repository_of c.args.store.now in
     let z = repository_of c.load_one.new.store in
-    let a = g.O.Output.contents c.args.output.now in
-    let now = g.O.Output.contents c.load_one.new.output in
+    let a = g.T.LoadReport.contents c.args.report.now in
+    let now = g.T.LoadReport.contents c.load_one.new.report in
     let there : last_of c.args.self.now ≡ Some r = ap (option_map rev_of) (sym c.take.ensures.value ∙ c.in-Some.is) in
     on_ok_weaker c.load_one.result
     (λ k x rs start s.
@@ -29,13 +29,13 @@ pub returns-in-Some-clause-refused : goal.returns-in-Some-clause-refused
 returns-in-Some-clause-refused g c =
     let r = rev_of c.in-Some.revision in
     let y = repository_of c.args.store.now in
-    let a = g.O.Output.contents c.args.output.now in
-    let now = g.O.Output.contents c.load_one.new.output in
+    let a = g.T.LoadReport.contents c.args.report.now in
+    let now = g.T.LoadReport.contents c.load_one.new.report in
     let there : last_of c.args.self.now ≡ Some r = ap (option_map rev_of) (sym c.take.ensures.value ∙ c.in-Some.is) in
     IfErr-weaker c.load_one.result _ _
     (λ e k x rs start s.
     let t = subst (λ l. Stands x rs y l start a) there s in
-    cant_close x rs y c.load_one.new.store r start a now (Rose (g.O.Output.failures c.args.output.now) (g.O.Output.failures c.load_one.new.output)) e t (k t.bare))
+    cant_close x rs y c.load_one.new.store r start a now (Rose (g.T.LoadReport.failures c.args.report.now) (g.T.LoadReport.failures c.load_one.new.report)) e t (k t.bare))
     c.load_one.ensures.refused
 
 pub returns-in-Some-clause-device : goal.returns-in-Some-clause-device
@@ -47,3 +47,9 @@ pub returns-in-None-clause-device : goal.returns-in-None-clause-device
 returns-in-None-clause-device g c safe =
     let none : last_of c.args.self.now ≡ None = ap (option_map rev_of) (sym c.take.ensures.value ∙ c.in-None.is) in
     nothing (read_of (last_of c.args.self.now)) [] c.args.store.now (Ok tt) tt (ap read_of none) safe
+
+pub returns-in-Some-clause-told : goal.returns-in-Some-clause-told
+returns-in-Some-clause-told g c = c.load_one.ensures.told
+
+pub returns-in-None-clause-told : goal.returns-in-None-clause-told
+returns-in-None-clause-told g c safe works h = h

@@ -21,7 +21,7 @@ returns-in-Ok-clause-ok g c =
     let new = c.feed-fed.new.self in
     let out = c.feed-fed.new.out.items in
     let piece = c.args.piece.now in
-    λ x bytes start. fed_ok x bytes piece old new out (repository_of c.args.store.now) (repository_of c.take_all.new.store) (last_of c.args.self.now) (last_of c.take_all.new.self) start (g.O.Output.contents c.args.output.now) (g.O.Output.contents c.take_all.new.output)
+    λ x bytes start. fed_ok x bytes piece old new out (repository_of c.args.store.now) (repository_of c.take_all.new.store) (last_of c.args.self.now) (last_of c.take_all.new.self) start (g.T.LoadReport.contents c.args.report.now) (g.T.LoadReport.contents c.take_all.new.report)
     (λ e. subst (λ l. reading (Reads l old) piece ≡ Reads out new) c.new-records.ensures.items (c.in-Ok.ensures.reads e)) c.in_ok-take_all.ensures.ok
 
 pub returns-in-Err-clause-refused : goal.returns-in-Err-clause-refused
@@ -32,7 +32,7 @@ returns-in-Err-clause-refused g c =
     let piece = c.args.piece.now in
     let none = c.new-records.ensures.items in
     rw c.dump_refusal.ensures.value
-    (λ rest x bytes start. fed_err x bytes piece rest old new out (repository_of c.args.store.now) c.take_all.new.store (last_of c.args.self.now) (last_of c.take_all.new.self) start (g.O.Output.contents c.args.output.now) (g.O.Output.contents c.take_all.new.output) (Rose (g.O.Output.failures c.args.output.now) (g.O.Output.failures c.take_all.new.output)) c.in-Err.fault
+    (λ rest x bytes start. fed_err x bytes piece rest old new out (repository_of c.args.store.now) c.take_all.new.store (last_of c.args.self.now) (last_of c.take_all.new.self) start (g.T.LoadReport.contents c.args.report.now) (g.T.LoadReport.contents c.take_all.new.report) (Rose (g.T.LoadReport.failures c.args.report.now) (g.T.LoadReport.failures c.take_all.new.report)) c.in-Err.fault
     (λ e. subst (λ l. StreamIs (Err c.in-Err.fault) new out (reading (Reads l old) piece)) none (c.in-Err.ensures.reads e))
     (λ e. subst (λ l. IsFront out (reading (Reads l old) piece)) none (c.in-Err.ensures.front e))
     c.in_ok-take_all.ensures.ok)
@@ -46,7 +46,7 @@ returns-in_err-take_all-clause-refused g c =
     let piece = c.args.piece.now in
     let none = c.new-records.ensures.items in
     rw (p.1, p.2)
-    (λ rest x bytes start. fed_stops x bytes piece rest old new out (repository_of c.args.store.now) c.take_all.new.store (last_of c.args.self.now) start (g.O.Output.contents c.args.output.now) (g.O.Output.contents c.take_all.new.output) (Rose (g.O.Output.failures c.args.output.now) (g.O.Output.failures c.take_all.new.output)) c.feed-fed.result c.in_err-take_all.field-0.0
+    (λ rest x bytes start. fed_stops x bytes piece rest old new out (repository_of c.args.store.now) c.take_all.new.store (last_of c.args.self.now) start (g.T.LoadReport.contents c.args.report.now) (g.T.LoadReport.contents c.take_all.new.report) (Rose (g.T.LoadReport.failures c.args.report.now) (g.T.LoadReport.failures c.take_all.new.report)) c.feed-fed.result c.in_err-take_all.field-0.0
     (λ e. subst (λ l. StreamIs c.feed-fed.result new out (reading (Reads l old) piece)) none (c.feed-fed.ensures.reads e))
     (λ e. subst (λ l. OnErr c.feed-fed.result (IsFront out (reading (Reads l old) piece))) none (c.feed-fed.ensures.front e))
     c.in_err-take_all.ensures.refused)
@@ -88,3 +88,12 @@ returns-in_err-take_all-clause-device g c rest h safe =
     let none = c.new-records.ensures.items in
     let front = front_of c.feed-fed.result new out (reading (Reads [] old) piece) (subst (λ l. StreamIs c.feed-fed.result new out (reading (Reads l old) piece)) none (c.feed-fed.ensures.reads h)) (subst (λ l. OnErr c.feed-fed.result (IsFront out (reading (Reads l old) piece))) none (c.feed-fed.ensures.front h)) in
     rw (p.1, p.2) (piece_stops (last_of c.args.self.now) (last_of c.take_all.new.self) old new piece rest out c.args.store.now c.take_all.new.store c.in_err-take_all.field-0.0 front (c.in_err-take_all.ensures.device safe))
+
+pub returns-in_err-take_all-clause-told : goal.returns-in_err-take_all-clause-told
+returns-in_err-take_all-clause-told g c = c.take_all.ensures.told
+
+pub returns-in-Ok-clause-told : goal.returns-in-Ok-clause-told
+returns-in-Ok-clause-told g c = c.take_all.ensures.told
+
+pub returns-in-Err-clause-told : goal.returns-in-Err-clause-told
+returns-in-Err-clause-told g c = c.take_all.ensures.told

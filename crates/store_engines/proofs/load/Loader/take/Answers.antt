@@ -13,12 +13,12 @@ pub returns-in_err-close-in-Revision-clause-refused : goal.returns-in_err-close-
 returns-in_err-close-in-Revision-clause-refused g c =
     let p = err_from_is_err_and c.from_residual.result c.from_residual.ensures.1 in
     rw (p.1, p.2)
-    (λ x rs start s. cant_take x rs c.args.next c.close.new.store start (g.O.Output.contents c.close.new.output) (Rose (g.O.Output.failures c.args.output.now) (g.O.Output.failures c.close.new.output)) c.in_err-close-in-Revision.field-0.0 c.in-Revision.number c.in-Revision.props c.in-Revision.is (c.in_err-close-in-Revision.ensures.refused x rs start s))
+    (λ x rs start s. cant_take x rs c.args.next c.close.new.store start (g.T.LoadReport.contents c.close.new.report) (Rose (g.T.LoadReport.failures c.args.report.now) (g.T.LoadReport.failures c.close.new.report)) c.in_err-close-in-Revision.field-0.0 c.in-Revision.number c.in-Revision.props c.in-Revision.is (c.in_err-close-in-Revision.ensures.refused x rs start s))
 
 pub returns-in-Node-clause-refused : goal.returns-in-Node-clause-refused
 returns-in-Node-clause-refused g c =
     IfErr-weaker c.add_node.result _ _
-    (λ e k x rs start s. node_refused x rs c.args.next c.in-Node.node c.args.store.now (last_of c.args.self.now) start (g.O.Output.contents c.args.output.now) (Rose (g.O.Output.failures c.args.output.now) (g.O.Output.failures c.args.output.now)) e c.in-Node.is k s)
+    (λ e k x rs start s. node_refused x rs c.args.next c.in-Node.node c.args.store.now (last_of c.args.self.now) start (g.T.LoadReport.contents c.args.report.now) (Rose (g.T.LoadReport.failures c.args.report.now) (g.T.LoadReport.failures c.args.report.now)) e c.in-Node.is k s)
     c.add_node.ensures.refused
 
 pub returns-in-Identity-clause-device : goal.returns-in-Identity-clause-device
@@ -49,3 +49,15 @@ returns-in-Node-clause-device g c safe =
     let later = last_of c.add_node.new.self in
     nothing (read_of last ++ filter is_no_identity (c.args.next ∷ [])) (read_of later) c.args.store.now c.add_node.result c.add_node.ensures.no_device
     (on_ok_weaker c.add_node.result (λ k. node_left last later c.args.next c.in-Node.node c.in-Node.is k) c.add_node.ensures.ok) safe
+
+pub returns-in-Identity-clause-told : goal.returns-in-Identity-clause-told
+returns-in-Identity-clause-told g c safe works h = h
+
+pub returns-in_err-close-in-Revision-clause-told : goal.returns-in_err-close-in-Revision-clause-told
+returns-in_err-close-in-Revision-clause-told g c = c.close.ensures.told
+
+pub returns-in_ok-close-in-Revision-clause-told : goal.returns-in_ok-close-in-Revision-clause-told
+returns-in_ok-close-in-Revision-clause-told g c = c.close.ensures.told
+
+pub returns-in-Node-clause-told : goal.returns-in-Node-clause-told
+returns-in-Node-clause-told g c safe works h = h
