@@ -11,6 +11,8 @@ mod store_tests;
 #[cfg(test)]
 mod stream_tests;
 #[cfg(test)]
+mod upgrade_tests;
+#[cfg(test)]
 mod wire_tests;
 #[cfg(test)]
 mod word_tests;
