@@ -6,8 +6,8 @@ use dump_text::{DumpReader, DumpRecord, RevRecord, write_head, write_revision};
 use std::alloc::Global;
 use std::process::Abort;
 
-// The number of the first refusal of bytes in pieces of a size, or 0.
-fn first_refusal(
+/// The number of the first refusal of bytes in pieces of a size, or 0.
+pub(crate) fn first_refusal(
     reader: &mut DumpReader,
     out: &mut Vec<DumpRecord>,
     bytes: &[u8],

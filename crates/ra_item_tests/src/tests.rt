@@ -468,6 +468,32 @@ fn bytes_held(rt: HostRuntime) {
     assert_eq!(rt; wrong_held(&rt, &mut reader, &mut items, &HELD), None);
 }
 
+// Whether a reader that is fed the first so many bytes, in pieces of a size, keeps no more than these.
+fn keeps_no_more(alloc: Global, front: &[u8], size: usize) -> bool {
+    let mut reader = ItemReader::new(alloc);
+    let mut items = Vec::new(alloc);
+    feed_all(&mut reader, &mut items, front, size) == 0 && reader.held() <= front.len()
+}
+
+// The length of the first front of the parts of which that isn't so, whole and byte by byte.
+fn wrong_keeping(rt: &impl Abort, alloc: Global, parts: &[&[u8]]) -> Option<usize> {
+    let bytes = joined(rt, alloc, parts, parts.len());
+    for end in 0..=bytes.len() {
+        let front = bytes.get(..end).unwrap_or(b"");
+        if !keeps_no_more(alloc, front, bytes.len()) || !keeps_no_more(alloc, front, 1) {
+            return Some(end);
+        }
+    }
+    None
+}
+
+#[test]
+fn no_more_is_held_than_came(rt: HostRuntime) {
+    assert_eq!(rt; wrong_keeping(&rt, rt.alloc(), &SERVER), None);
+    assert_eq!(rt; wrong_keeping(&rt, rt.alloc(), &CLIENT), None);
+    assert_eq!(rt; wrong_keeping(&rt, rt.alloc(), &DRIVE), None);
+}
+
 // A list of a number, a string and a word.
 fn three_parts(rt: &impl Abort, alloc: Global) -> Item {
     let text = Item::text(alloc, b"").expect(rt, "a string");
