@@ -2,8 +2,7 @@
 //! writes.
 
 use crate::served_tests::{repo, served};
-use crate::sessions::Line as Stream;
-use crate::sessions::{OPENED, SINGLE, WHOLE, open, told};
+use crate::sessions::{Line as Stream, OPENED, SINGLE, WHOLE, open, told};
 use crate::sync_tests::{
     BEGINS, BEGUN, GOES_ON, Job, Left, Line, Lines, SYNCED, empty, holds_mirror, run_by, run_over,
     stored, token,
@@ -100,7 +99,14 @@ fn opened(rt: &impl Abort, alloc: Global, disk: MemDisk) -> RepoStore<MemDisk> {
 // A mirror that is begun, all synced.
 fn begun(rt: &impl Abort, alloc: Global) -> MemDisk {
     let bytes = served(rt, alloc, BEGINS);
-    let left = run_over(rt, alloc, empty(rt, alloc), bytes.as_slice(), &WHOLE, &Job::Begin);
+    let left = run_over(
+        rt,
+        alloc,
+        empty(rt, alloc),
+        bytes.as_slice(),
+        &WHOLE,
+        &Job::Begin,
+    );
     left.disk.crash(Pick::New).expect(rt, "memory")
 }
 
@@ -269,7 +275,17 @@ fn an_initialisation_whose_stream_fails(rt: HostRuntime) {
 #[test]
 fn a_synchronisation_whose_stream_fails(rt: HostRuntime) {
     let disk = begun(&rt, rt.alloc());
-    assert!(rt; makes_up(&rt, rt.alloc(), &disk, GOES_ON, &Job::Synchronize, &SYNCED, 7));
+    assert!(rt;
+        makes_up(
+            &rt,
+            rt.alloc(),
+            &disk,
+            GOES_ON,
+            &Job::Synchronize,
+            &SYNCED,
+            7
+        )
+    );
 }
 
 const COPIED: [Line; 2] = [Line::Copied(0), Line::Copied(1)];

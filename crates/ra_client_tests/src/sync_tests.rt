@@ -1,8 +1,7 @@
 //! A mirror that is begun and brought up to date by what a server writes.
 
 use crate::served_tests::{repo, served};
-use crate::sessions::{WHOLE, open};
-use crate::sessions::Line as Stream;
+use crate::sessions::{Line as Stream, WHOLE, open};
 use crate::sets::same_tree;
 use fleet_disk::MemDisk;
 use node_base::{PropValue, RevNo};
@@ -362,6 +361,12 @@ fn a_master_that_goes_silent_is_told(rt: HostRuntime) {
     let goes_on = served(&rt, rt.alloc(), b"( get-latest-rev ( ) ) ");
     let disk = empty(&rt, rt.alloc());
     let begun = run(&rt, rt.alloc(), disk, begins.as_slice(), &Job::Begin);
-    let synced = run(&rt, rt.alloc(), begun.disk, goes_on.as_slice(), &Job::Synchronize);
+    let synced = run(
+        &rt,
+        rt.alloc(),
+        begun.disk,
+        goes_on.as_slice(),
+        &Job::Synchronize,
+    );
     assert!(rt; begun.number == 0 && synced.number == 60);
 }

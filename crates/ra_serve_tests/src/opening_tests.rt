@@ -166,9 +166,7 @@ fn faults_of_items_end_the_opening(rt: HostRuntime) {
 // Whether two sessions ended alike, and wrote the same.
 fn are_alike(one: &Ended, other: &Ended) -> bool {
     match (&one.out, &other.out) {
-        (Some(written), Some(also)) => {
-            one.end == other.end && written.bytes() == also.bytes()
-        }
+        (Some(written), Some(also)) => { one.end == other.end && written.bytes() == also.bytes() }
         _ => false,
     }
 }

@@ -228,12 +228,7 @@ const GREATEST: &[u8] = b"SVN\x00\x00\x00\x84\x80\x00\x04\x84\x80\x00\x80\x84\x8
 
 // The text that bytes give whose first so many come one at a time and the rest at once, and the number of the refusal
 // or 0.
-fn outcome_behind(
-    rt: &impl Abort,
-    front: &[u8],
-    rest: &[u8],
-    text: &mut Vec<u8>,
-) -> u32 {
+fn outcome_behind(rt: &impl Abort, front: &[u8], rest: &[u8], text: &mut Vec<u8>) -> u32 {
     let mut reader = WindowReader::new();
     for piece in front.chunks(1) {
         let number = take(rt, &mut reader, piece, text);
@@ -252,13 +247,7 @@ fn outcome_behind(
 }
 
 // Whether a window's front that is changed at a byte gives the same before a text, whole and one byte at a time.
-fn agrees_before(
-    rt: &impl Abort,
-    alloc: Global,
-    text: &[u8],
-    at: usize,
-    value: u8,
-) -> bool {
+fn agrees_before(rt: &impl Abort, alloc: Global, text: &[u8], at: usize, value: u8) -> bool {
     let mut front = Vec::from_slice(alloc, GREATEST).expect(rt, "memory");
     if let Some(place) = front.get_mut(at) {
         *place = value;

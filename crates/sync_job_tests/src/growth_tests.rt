@@ -2,8 +2,8 @@
 //! that answers nothing once, or `rt try --test --fail-alloc N`, refuses one.
 
 use crate::made::{
-    COMMITTED_1, COMMITTED_ALONE, COPIED_0, COPIED_1, COPIED_BOTH, MASTER, OTHER, Order, Ran, ended,
-    is_merged, job_by,
+    COMMITTED_1, COMMITTED_ALONE, COPIED_0, COPIED_1, COPIED_BOTH, MASTER, OTHER, Order, Ran,
+    ended, is_merged, job_by,
 };
 use dump_load::{Change, ChangeSet};
 use fleet_disk::MemDisk;
@@ -73,12 +73,7 @@ fn master(alloc: Global) -> Option<RepoStore<MemDisk>> {
 }
 
 // A job at the mirror of a disk. A growth that is refused before the job is told as its own.
-fn ran(
-    alloc: Global,
-    disk: MemDisk,
-    source: &RepoStore<MemDisk>,
-    order: &Order,
-) -> (MemDisk, Ran) {
+fn ran(alloc: Global, disk: MemDisk, source: &RepoStore<MemDisk>, order: &Order) -> (MemDisk, Ran) {
     let (Some(url), Some(token)) = (value(alloc, b"master"), token(alloc)) else {
         return (disk, ended(0, 70));
     };
@@ -111,9 +106,7 @@ fn begins(alloc: Global, disk: MemDisk, source: &RepoStore<MemDisk>) -> (MemDisk
 // isn't told.
 fn is_told(first: &Ran, second: &Ran) -> bool {
     match first.told {
-        0 => {
-            second.told == COMMITTED_1 || (second.told == COPIED_1 && first.number == 31)
-        }
+        0 => { second.told == COMMITTED_1 || (second.told == COPIED_1 && first.number == 31) }
         COMMITTED_ALONE => second.told == COPIED_1,
         COMMITTED_1 => second.told == 0,
         _ => false,
@@ -140,7 +133,10 @@ fn copies(alloc: Global, disk: MemDisk, source: &RepoStore<MemDisk>) -> (MemDisk
     let (disk, second) = ran(alloc, disk, source, &Order::Steal);
     let (disk, third) = ran(alloc, disk, source, &Order::Copy(0, 1));
     let well = is_memory(first.number) && second == ended(0, 0) && third == ended(COPIED_BOTH, 0);
-    (disk, well && (first.told == 0 || first.told == COPIED_0 || first.told == COPIED_BOTH))
+    (
+        disk,
+        well && (first.told == 0 || first.told == COPIED_0 || first.told == COPIED_BOTH),
+    )
 }
 
 // The store of a disk, at the second try where memory is refused at the first.

@@ -419,10 +419,7 @@ fn tried(
         begun,
         order,
     };
-    (
-        trial.first_stop(rt, alloc),
-        trial.first_failure(rt, alloc),
-    )
+    (trial.first_stop(rt, alloc), trial.first_failure(rt, alloc))
 }
 
 #[test]
@@ -464,11 +461,7 @@ fn an_initialisation_stops_anywhere_in_version_1(rt: HostRuntime) {
 }
 
 // Which stops and failures of a copying of both revisions aren't made up for.
-fn copying(
-    rt: &impl Abort,
-    alloc: Global,
-    version: &LogVersion,
-) -> (Option<usize>, Option<usize>) {
+fn copying(rt: &impl Abort, alloc: Global, version: &LogVersion) -> (Option<usize>, Option<usize>) {
     let mut source = master(rt, alloc);
     let begun = in_version(rt, alloc, synchronised(rt, alloc, &source), version);
     edit(rt, alloc, &mut source, 1);
