@@ -167,6 +167,7 @@ fn came(is_so: bool, came: Came) -> Came {
 }
 
 // A job, the mirror where it begins, what its master tells, and its lines.
+#[derive(Drop)]
 struct Trial<'a> {
     source: &'a RepoStore<MemDisk>,
     begun: &'a MemDisk,

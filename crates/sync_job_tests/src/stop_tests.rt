@@ -250,6 +250,7 @@ fn goes_on(
 }
 
 // A job at a mirror, and the disk that was there when it began.
+#[derive(Drop)]
 struct Trial<'a> {
     source: &'a RepoStore<MemDisk>,
     begun: &'a MemDisk,
