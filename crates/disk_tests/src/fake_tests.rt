@@ -256,7 +256,16 @@ fn what_a_change_is_asked(rt: HostRuntime) {
     assert!(rt; writes_all(&mut disk, &asked));
 }
 
-// A folder whose journal is held by another is neither made nor opened.
+// A folder that is completed is held, and its names are synced.
+#[test]
+fn what_a_completion_is_asked(rt: HostRuntime) {
+    let asked = nothing_asked();
+    let host = FakeHost { asked: &asked };
+    assert!(rt; HostDisk::complete(&host, rt.alloc(), "folder").is_ok());
+    assert!(rt; was_asked(&asked, 1, 0, 1));
+}
+
+// A folder whose journal is held by another is neither made, nor opened, nor completed.
 #[test]
 fn a_folder_that_is_held(rt: HostRuntime) {
     let asked = nothing_asked();
@@ -264,7 +273,8 @@ fn a_folder_that_is_held(rt: HostRuntime) {
     let host = FakeHost { asked: &asked };
     assert!(rt; HostDisk::create(&host, rt.alloc(), "folder").is_err());
     assert!(rt; HostDisk::open(&host, rt.alloc(), "folder").is_err());
-    assert!(rt; was_asked(&asked, 2, 0, 0));
+    assert!(rt; HostDisk::complete(&host, rt.alloc(), "folder").is_err());
+    assert!(rt; was_asked(&asked, 3, 0, 0));
 }
 
 // Whether each call of a disk is refused.

@@ -86,3 +86,49 @@ fn beside_an_empty_journal(rt: HostRuntime) -> io::Result<()> {
     assert!(rt; has_bytes(&rt, "fleet_disk_empty_journal/slots", 3));
     fs::remove_dir_all(&rt, folder)
 }
+
+// Whether a folder's disk, which is completed now, has so many bytes of `slots`.
+fn is_completed(rt: &HostRuntime, folder: &str, count: u64) -> bool {
+    match HostDisk::complete(rt, rt.alloc(), folder) {
+        Ok(mut disk) => disk.len(DiskFile::Slots) == Ok(count),
+        Err(_) => false,
+    }
+}
+
+// Whether the slots of a folder, whose disk is completed now, are written.
+fn is_written_in_slots(rt: &HostRuntime, folder: &str) -> bool {
+    match HostDisk::complete(rt, rt.alloc(), folder) {
+        Ok(mut disk) => {
+            disk.write_at(DiskFile::Slots, 0, b"xyz").is_ok() && disk.sync().is_ok()
+        }
+        Err(_) => false,
+    }
+}
+
+// Beside a journal and a gate the slots are made, and those that are there stay.
+#[test]
+fn slots_beside_a_gate(rt: HostRuntime) -> io::Result<()> {
+    let folder = "fleet_disk_completed";
+    empty_folder(&rt, folder)?;
+    write_file(&rt, "fleet_disk_completed/journal", b"entry")?;
+    write_file(&rt, "fleet_disk_completed/gate", b"gates")?;
+    assert!(rt; is_completed(&rt, folder, 0) && has_bytes(&rt, "fleet_disk_completed/slots", 0));
+    assert!(rt; is_written_in_slots(&rt, folder) && is_completed(&rt, folder, 3));
+    assert!(rt; has_bytes(&rt, "fleet_disk_completed/journal", 5));
+    assert!(rt; has_bytes(&rt, "fleet_disk_completed/gate", 5));
+    fs::remove_dir_all(&rt, folder)
+}
+
+// Beside a journal alone, or a gate alone, nothing is made.
+#[test]
+fn no_slots_without_a_gate(rt: HostRuntime) -> io::Result<()> {
+    let folder = "fleet_disk_uncompleted";
+    empty_folder(&rt, folder)?;
+    assert!(rt; is_completed(&rt, folder, 0) && is_missing(&rt, "fleet_disk_uncompleted/journal"));
+    write_file(&rt, "fleet_disk_uncompleted/journal", b"entry")?;
+    assert!(rt; is_completed(&rt, folder, 0) && is_missing(&rt, "fleet_disk_uncompleted/slots"));
+    fs::remove_file(&rt, "fleet_disk_uncompleted/journal")?;
+    write_file(&rt, "fleet_disk_uncompleted/gate", b"gates")?;
+    assert!(rt; is_completed(&rt, folder, 0) && is_missing(&rt, "fleet_disk_uncompleted/slots"));
+    fs::remove_dir_all(&rt, folder)
+}

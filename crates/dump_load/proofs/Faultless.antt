@@ -243,9 +243,10 @@ module _ (trees : List PathMap) (c : Change) (n : ℕ) (is : n ≡ length trees)
   begun_is [] = ap (λ m. Some (with_number m (with_parts c (blank c.kind)))) is
   begun_is (y ∷ r) = refl
 
-  pub new_is : (x : Node) → brings c ≡ true → c.source ≡ None → x ≡ with_number n (with_parts c (blank c.kind)) → (q : Path) → grafted (marked old c.path n) c.path (alone x) q ≡ stepped trees old c q
+  pub new_is : (x : Node) → brings c ≡ true → c.source ≡ None → x ≡ with_number n (with_parts c (blank c.kind)) → (q : Path) → grafted (marked old c.path x.changed) c.path (alone x) q ≡ stepped trees old c q
   new_is x b plain made q =
-      ap (λ (g : Path → Option Node). grafted (marked old c.path n) c.path g q) (λ i r. top r i)
+      ap (λ m. grafted (marked old c.path m) c.path (alone x) q) (ap (λ (y : Node). y.changed) made)
+      ∙ ap (λ (g : Path → Option Node). grafted (marked old c.path n) c.path g q) (λ i r. top r i)
       ∙ ap (λ m. grafted (marked old c.path m) c.path (arrives trees c) q) is
       ∙ settled (brings_settles c.action b) q
     where
@@ -285,6 +286,10 @@ source_node_is trees s m p at is = ap (get m) (is ∙ sym (append-nil s.path)) �
 pub source_past : (trees : List PathMap) (s : Source) (i : ℕ) → i ≡ s.revision → length trees ≤ i → ◌≡◌ {A = Option Node} None (source_at trees s [])
 source_past trees s i is past = ap (λ o. option_and_then (λ m. get m (s.path ++ [])) o) (sym (ap (slice_get trees) (sym is) ∙ slice_get_past trees i past))
 
+-- a directory by another name
+still_dir : (a b : Option Node) → a ≡ b → IsSomeAnd a (λ x. IsNone x.text) → IsSomeAnd b (λ x. IsNone x.text)
+still_dir a b e d = subst (λ (o : Option Node). IsSomeAnd o (λ x. IsNone x.text)) e d
+
 module _ (trees : List PathMap) (c : Change) where
   pub content_copied : (s : Source) (m : PathMap) (p : Path) → c.source ≡ Some s → slice_get trees s.revision ≡ Some m → p ≡ s.path → (r : Path) → get m (p ++ r) ≡ content trees c r
   content_copied s m p is at same r =
@@ -295,6 +300,7 @@ module _ (trees : List PathMap) (c : Change) where
 
   -- the number makes no directory of what is brought
   pub content_is_no_dir : (old new : Path → Option Node) (n : ℕ) → ((q : Path) → new q ≡ marked (grafted old c.path (content trees c)) c.path n q) → (IsDirAt (content trees c) [] → ⊥) → IsDirAt new c.path → ⊥
-  content_is_no_dir old new n h no d =
-      no (subst (λ o. IsSomeAnd (option_map_or (content trees c) o (old c.path)) (λ x. IsNone x.text)) (rest_itself c.path)
-      (dir_before (grafted old c.path (content trees c)) c.path n c.path (subst (λ o. IsSomeAnd o (λ x. IsNone x.text)) (h c.path) d)))
+  content_is_no_dir old new n h fits d =
+      let kept : IsDirAt (marked (grafted old c.path (content trees c)) c.path n) c.path = still_dir (new c.path) (marked (grafted old c.path (content trees c)) c.path n c.path) (h c.path) d in
+      let brought : IsDirAt (grafted old c.path (content trees c)) c.path = dir_before (grafted old c.path (content trees c)) c.path n c.path kept in
+      fits (still_dir (grafted old c.path (content trees c) c.path) (content trees c []) (ap (λ (o : Option Path). option_map_or (content trees c) o (old c.path)) (rest_itself c.path)) brought)

@@ -1,5 +1,5 @@
 -- What is known of the files of a folder of the host, and of a disk over them.
-use Rattle.std.specs.Prelude.{◌⊎◌, ◌++◌, ℕ, List, codes, IsSome, IfSome, IsSomeAnd}
+use Rattle.std.specs.Prelude.{◌⊎◌, ◌++◌, ℕ, List, codes, IsSome, IsNone, IfSome, IsSomeAnd}
 use Rattle.fleet_disk.specs.declared.calls.HostCalls.{Ghosts}
 use Rattle.fleet_disk.specs.declared.files.StdFiles.{StdFiles}
 use Rattle.fleet_disk.specs.declared.host.HostDisk.{HostDisk}
@@ -11,6 +11,10 @@ failures_of disk = disk.host.failures
 -- all files are open
 abbrev pub HasFiles : {F : Type 0} {G : Ghosts (StdFiles F)} → HostDisk (StdFiles F) G → Type 0
 HasFiles disk = IsSome disk.host.journal × IsSome disk.host.gate × IsSome disk.host.slots
+
+-- a file that the entries of a log without sums are in isn't there
+abbrev pub LacksEntries : {F : Type 0} {G : Ghosts (StdFiles F)} → HostDisk (StdFiles F) G → Type 0
+LacksEntries disk = IsNone disk.host.journal ⊎ IsNone disk.host.gate
 
 -- p holds of the file that is its journal, where it has one
 abbrev pub IsHeld : {F : Type 0} {G : Ghosts (StdFiles F)} → (F → Type 0) → HostDisk (StdFiles F) G → Type 0

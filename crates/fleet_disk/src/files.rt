@@ -271,6 +271,34 @@ pub fn completed<R: HeldFiles>(
     })
 }
 
+// The same files, with `slots`, which is made where it is missing.
+pub fn with_slots<R: HeldFiles>(
+    rt: &R,
+    files: StdFiles<R::File>,
+    slots_path: &str,
+) -> io::Result<StdFiles<R::File>>
+    requires slots { IfSome files.slots (λ f. R.is_at f slots_path.now) }
+    ensures failures { IfOk result (λ new. new.failures ≡ files.failures) }
+    ensures journal { IfOk result (λ new. new.journal ≡ files.journal) }
+    ensures gate { IfOk result (λ new. new.gate ≡ files.gate) }
+    ensures there { IfOk result (λ new. IsSome new.slots) }
+    ensures slots { IfOk result (λ new. IfSome new.slots (λ f. R.is_at f slots_path.now)) }
+{
+    let StdFiles {
+        journal,
+        gate,
+        slots,
+        failures,
+    } = files;
+    let slots = Some(there(rt, slots, slots_path)?);
+    Ok(StdFiles {
+        journal,
+        gate,
+        slots,
+        failures,
+    })
+}
+
 // The names of a folder's files last once it is synced.
 pub fn sync_folder<R: Files>(rt: &R, folder: &str) -> io::Result<()> {
     OpenOptions::new().read(true).open(rt, folder)?.sync_all()

@@ -3,6 +3,7 @@ ghost use Rattle.std.specs.Prelude.{◌≡◌, ◌≤◌, ◌↔◌, ◌⊎◌, 
 ghost use Rattle.fleet_disk.specs.Image.{Image};
 ghost use Rattle.fleet_disk.specs.Rules.{LeavesOnly, Rose};
 ghost use Rattle.gate_log.specs.Log.{entries_of, version_of};
+ghost use Rattle.gate_log.specs.Standing.{Stands};
 ghost use Rattle.gate_log.specs.Version.{IsOf};
 ghost use Rattle.gate_log.specs.declared.version.LogVersion.TheVariants.{First, Second};
 ghost use Rattle.repo_store.specs.Journal.{Keeps};
@@ -29,7 +30,7 @@ impl<D: Disk> RepoStore<D> {
 
     /// Makes a store whose log is of the first version one of the second, and answers how many entries that were; one
     /// of the second is left alone, with 0. The repository stays, and at each moment of the call a stop leaves what
-    /// keeps it, so it may be stopped and made again.
+    /// keeps it, so it may be stopped and made again; from Ok on it leaves the same entries in the second version.
     ///
     /// Failed (32) after a failure of the device, DeviceFailed (31), OutOfMemory (70), and of a disk that isn't honest
     /// Damaged (33). A refusal hands the disk back, which keeps the repository too.
@@ -43,6 +44,12 @@ impl<D: Disk> RepoStore<D> {
         ensures already { version_of (log_of self) ≡ Second
             → IfOk result (λ done. (disk_of done.0 ≡ disk_of self) × (done.1 ≡ 0)) }
         ensures working { IfOk result (λ done. ¬ HasFailed done.0) }
+        ensures stand { D.honest (disk_of self) → ¬ HasFailed self → IfOk result (λ done. (image : Image)
+            → D.may_leave (disk_of done.0) image → Stands image (entries_of (log_of self))) }
+        ensures second { D.honest (disk_of self) → IfOk result (λ done. (image : Image)
+            → D.may_leave (disk_of done.0) image → IsOf Second image) }
+        ensures durable { D.honest (disk_of self) → IfOk result (λ done. (image : Image)
+            → D.may_leave (disk_of done.0) image → Keeps (repository_of self) image) }
         ensures any_moment { D.honest (disk_of self) → ¬ HasFailed self → IfOk result (λ done.
             LeavesOnly D.clock D.left_since (disk_of self) (disk_of done.0) (Keeps (repository_of self))) }
         ensures any_moment_err { D.honest (disk_of self) → ¬ HasFailed self → IfErr result (λ e.
@@ -65,7 +72,13 @@ impl<D: Disk> RepoStore<D> {
             doubt,
         } = self;
         match log.upgrade(alloc) {
-            Ok(count) => Ok((RepoStore { log, repo, doubt }, count)),
+            Ok(count) => {
+                let store = RepoStore { log, repo, doubt };
+                // What it has by its type.
+                let _version = store.version();
+                let _repo = store.repo();
+                Ok((store, count))
+            }
             Err(fault) => Err((StoreFault::Log(fault), log.into_disk())),
         }
     }

@@ -36,18 +36,20 @@ graft_copy-requires-clause-small c =
     ∙ copy_small c.args.trees.now (get c.args.tree.now) c.args.change.now c.requires.faultless c.args.source.now c.index-trees-index.result c.requires.brings c.requires.copied (at (goal.at.graft_copy-requires-clause-small c).After-index-trees-index)
 
 -- the source's nodes are there, numbered on their way
-brought : (c : In_ok-graft_copy) (q : Path) → get c.graft_copy.new.self q ≡ marked (grafted (get c.args.tree.now) c.args.change.now.path (content c.args.trees.now c.args.change.now)) c.args.change.now.path c.next_number.result q
+brought : (c : In_ok-graft_copy) (q : Path) → get c.graft_copy.new.self q ≡ marked (grafted (get c.args.tree.now) c.args.change.now.path (content c.args.trees.now c.args.change.now)) c.args.change.now.path c.next_number-number.result q
 brought c =
-    content_put c.args.trees.now c.args.change.now (get c.args.tree.now) (get c.graft_copy.new.self) (λ r. get c.index-trees-index.result (c.names.result.now ++ r)) c.next_number.result c.in_ok-graft_copy.ensures.ok
-    (content_copied c.args.trees.now c.args.change.now c.args.source.now c.index-trees-index.result c.names.result.now c.requires.copied (at c.After-index-trees-index) c.names.ensures.names)
+    let within = source_within c.args.trees.now (get c.args.tree.now) c.args.change.now c.requires.faultless c.args.source.now c.requires.copied in
+    let there = source_read c.args.trees.now c.args.source.now c.index.result c.index-trees-index.result c.index.ensures.number (subst (λ i. i < length c.args.trees.now) (sym c.index.ensures.number) within) c.index-trees-index.is in
+    content_put c.args.trees.now c.args.change.now (get c.args.tree.now) (get c.graft_copy.new.self) (λ r. get c.index-trees-index.result (c.names.result.now ++ r)) c.next_number-number.result c.in_ok-graft_copy.ensures.ok
+    (content_copied c.args.trees.now c.args.change.now c.args.source.now c.index-trees-index.result c.names.result.now c.requires.copied there c.names.ensures.names)
 
 pub put-requires : goal.put-requires
 put-requires c = λ t.
-    content_is_no_dir c.args.trees.now c.args.change.now (get c.args.tree.now) (get c.graft_copy.new.self) c.next_number.result (brought (goal.at.put-requires c).In_ok-graft_copy)
+    content_is_no_dir c.args.trees.now c.args.change.now (get c.args.tree.now) (get c.graft_copy.new.self) c.next_number-number.result (brought (goal.at.put-requires c).In_ok-graft_copy)
     (text_fits_content c.args.trees.now (get c.args.tree.now) c.args.change.now c.requires.faultless c.requires.brings c.requires.whole t)
 
 pub returns : goal.returns
 returns c =
     on_ok_weaker c.put.result
-    (λ h q. h q ∙ copied_is c.args.trees.now c.args.change.now c.next_number.result c.next_number.ensures (get c.args.tree.now) (get c.graft_copy.new.self) c.requires.brings (brought (goal.at.returns c).In_ok-graft_copy) q)
+    (λ h q. h q ∙ copied_is c.args.trees.now c.args.change.now c.next_number-number.result c.next_number-number.ensures (get c.args.tree.now) (get c.graft_copy.new.self) c.requires.brings (brought (goal.at.returns c).In_ok-graft_copy) q)
     c.put.ensures
