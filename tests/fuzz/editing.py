@@ -327,6 +327,7 @@ class Edit:
         wanted(type(item) is list and len(item) > 1 and type(item[0]) is Word and type(item[1]) is list)
         name, params = bytes(item[0]), Given(item[1])
         if name == b'failure':
+            self.placed(True)
             raise Refused(60)
         method = getattr(self, 'at_' + name.decode().replace('-', '_'), None)
         wanted(method is not None and b'_' not in name)

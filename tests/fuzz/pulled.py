@@ -65,8 +65,9 @@ class Mirror:
     def say(self, data):
         try:
             if self.random.random() < 0.02:
-                for at in range(0, len(data), 7):
-                    self.line.sendall(data[at:at + 7])
+                size = self.random.choice([1, 7])
+                for at in range(0, len(data), size):
+                    self.line.sendall(data[at:at + size])
             else:
                 self.line.sendall(data)
         except (BrokenPipeError, ConnectionResetError):
