@@ -326,16 +326,13 @@ class Edit:
         """Takes a command. Whether it was the last one."""
         wanted(type(item) is list and len(item) > 1 and type(item[0]) is Word and type(item[1]) is list)
         name, params = bytes(item[0]), Given(item[1])
+        # (behind close-edit nothing but the end comes)
+        wanted(not self.is_ended or name == b'finish-replay')
         if name == b'failure':
-            self.placed(True)
             raise Refused(60)
         method = getattr(self, 'at_' + name.decode().replace('-', '_'), None)
         wanted(method is not None and b'_' not in name)
         return method(params)
-
-    def placed(self, is_well):
-        """Refuses what is out of its place."""
-        wanted(is_well and not self.is_ended)
 
     def innermost(self, token, kind):
         wanted(bool(self.open) and self.open[-1][:2] == (token, kind), 46)
@@ -349,14 +346,14 @@ class Edit:
 
     def at_target_rev(self, params):
         number = params.revision()
-        self.placed(not self.has_target and not self.has_root)
+        wanted(not self.has_target and not self.has_root)
         wanted(number == self.build.number, 16)
         self.has_target = True
 
     def at_open_root(self, params):
         params.maybe(Given.revision)
         token = params.next(bytes)
-        self.placed(not self.has_root)
+        wanted(not self.has_root)
         self.has_root = True
         self.build.begun.add(())
         self.enter(token, b'dir', ())
@@ -408,20 +405,20 @@ class Edit:
     def at_apply_textdelta(self, params):
         token, _ = params.next(bytes), params.maybe(lambda it: it.next(bytes))
         path = self.innermost(token, b'file')
-        self.placed(self.text is None)
+        wanted(self.text is None)
         self.text = Windows()
         self.build.text(path, b'')
 
     def at_textdelta_chunk(self, params):
         token, piece = params.next(bytes), params.next(bytes)
         self.innermost(token, b'file')
-        self.placed(isinstance(self.text, Windows))
+        wanted(isinstance(self.text, Windows))
         self.text.feed(piece)
 
     def at_textdelta_end(self, params):
         token = params.next(bytes)
         path = self.innermost(token, b'file')
-        self.placed(isinstance(self.text, Windows))
+        wanted(isinstance(self.text, Windows))
         self.text.finish()
         self.text = bytes(self.text.text)
         self.build.text(path, self.text)
@@ -430,7 +427,7 @@ class Edit:
         token, sum = params.next(bytes), params.maybe(lambda it: it.next(bytes))
         wanted(sum is None or len(sum) == 32 and all(it in b'0123456789abcdefABCDEF' for it in sum))
         self.innermost(token, b'file')
-        self.placed(not isinstance(self.text, Windows))
+        wanted(not isinstance(self.text, Windows))
         if sum is not None and self.text is not None:
             wanted(hashlib.md5(self.text).hexdigest().encode() == sum.lower(), 6)
         self.open.pop()
@@ -441,11 +438,9 @@ class Edit:
 
     def at_close_edit(self, _params):
         wanted(not self.open, 46)
-        self.placed(True)
         self.is_ended = True
 
     def at_abort_edit(self, _params):
-        self.placed(True)
         raise Refused(60)
 
     def at_finish_replay(self, _params):
