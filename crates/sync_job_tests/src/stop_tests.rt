@@ -86,9 +86,8 @@ fn told_by(order: &Order, count: usize) -> Option<u64> {
 fn entries_left(calls: usize, pick: &Pick) -> usize {
     let whole = calls / CALLS;
     match pick {
-        Pick::Old => whole,
-        Pick::New | Pick::Fill(1) => whole.saturating_add(usize::from(calls % CALLS == 4)),
-        Pick::Fill(_) => whole,
+        Pick::New | Pick::Fill(1) if calls % CALLS == 4 => whole.saturating_add(1),
+        _ => whole,
     }
 }
 
@@ -335,8 +334,9 @@ impl<'a> Trial<'a> {
         let (disk, first) = run(rt, alloc, disk, self.source, self.order);
         let stopped = disk.into_inner();
         let is_over = calls == entries_of(self.order).saturating_mul(CALLS);
+        let due = if is_over { 0 } else { 31 };
         Some(first.told) == told_by(self.order, calls / CALLS)
-            && first.number == if is_over { 0 } else { 31 }
+            && first.number == due
             && self.is_left_well_by_each(rt, alloc, &stopped, calls)
     }
 
