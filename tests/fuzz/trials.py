@@ -79,11 +79,13 @@ def ran_in_pieces(program, words, given, pieces):
 
 
 def over_seeds(tried, words, *given):
-    """Tries PROGRAM SEEDS [FIRST] side by side, each with what is given, prints what differs and the closing line; the status."""
+    """Tries PROGRAM SEEDS [FIRST] side by side, as many at once as there are processors or FUZZ_JOBS says, each with what is
+    given, prints what differs and the closing line; the status."""
     if len(words) not in (3, 4) or not all(it.isdigit() for it in words[2:]):
         sys.exit(f'{os.path.basename(words[0])} PROGRAM SEEDS [FIRST]')
     program, (seeds, first), passed, failed = os.path.realpath(words[1]), map(int, [*words[2:], '0'][:2]), 0, 0
-    with concurrent.futures.ProcessPoolExecutor(max(1, len(os.sched_getaffinity(0)))) as pool:
+    jobs = int(os.environ.get('FUZZ_JOBS') or len(os.sched_getaffinity(0)))
+    with concurrent.futures.ProcessPoolExecutor(jobs) as pool:
         for well, wrong in pool.map(functools.partial(tried, program, *given), range(first, first + seeds), chunksize=8):
             passed += well
             failed += len(wrong)
