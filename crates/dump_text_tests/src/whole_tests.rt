@@ -57,8 +57,10 @@ Node-copyfrom-rev: 1
 Node-copyfrom-path: t
 
 
+
 Node-path: b/x
 Node-action: delete
+
 
 
 ";
