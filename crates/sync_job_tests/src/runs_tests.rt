@@ -35,7 +35,7 @@ fn a_mirror_of_version_1_goes_on(rt: HostRuntime) {
     let (disk, second) = run(&rt, rt.alloc(), disk, &source, &Order::Synchronize);
     assert!(rt; second == ended(0, 0) && gate(&disk) == 100);
     let (disk, copied) = run(&rt, rt.alloc(), disk, &source, &Order::Copy(0, 1));
-    assert!(rt; copied == ended(COPIED_BOTH, 0) && gate(&disk) == 118);
+    assert!(rt; copied == ended(COPIED_BOTH, 0) && gate(&disk) == 136);
     assert!(rt; slots(&disk) == 0 && rests(rt.alloc(), disk, 1, b"1"));
     let _source = source.into_disk();
 }
