@@ -91,20 +91,14 @@ fn empty_lines_judge(rt: HostRuntime) {
     assert!(rt; first_other(&rt, rt.alloc(), &EMPTY_LINES).is_none());
 }
 
-// A header line of so many bytes, its LF not counted, behind the version block.
-fn long_line(rt: &impl Abort, alloc: Global, count: usize, last: &[u8]) -> Vec<u8> {
+// Whether a header line of so many bytes, its LF not counted, is refused with this number, whole and byte by byte.
+fn is_long(rt: &impl Abort, alloc: Global, count: usize, last: &[u8], number: u32) -> bool {
     let mut bytes = Vec::from_slice(alloc, b"SVN-fs-dump-format-version: 2\n\nX: ").expect(
         rt, "memory",
     );
     let rest = Vec::from_elem(alloc, b'x', count.saturating_sub(3)).expect(rt, "memory");
     bytes.extend_from_slice(&rest).expect(rt, "memory");
     bytes.extend_from_slice(last).expect(rt, "memory");
-    bytes
-}
-
-// Whether such a line is refused with this number, whole and byte by byte.
-fn is_long(rt: &impl Abort, alloc: Global, count: usize, last: &[u8], number: u32) -> bool {
-    let bytes = long_line(rt, alloc, count, last);
     gives(alloc, bytes.as_slice(), 10_000, 0, number)
         && gives(alloc, bytes.as_slice(), 1, 0, number)
 }

@@ -1,10 +1,6 @@
-//! Two dumps as they are written, one of a file and one of a copy, cut and changed at each byte; and how much a reader keeps
-//! of them.
+//! Two dumps as they are written, one of a file and one of a copy, cut and changed at each byte; and what is announced.
 
-ghost use Rattle.std.specs.Prelude.{◌<◌};
-
-use crate::piece_tests::{answer, first_refusal, gives, wrong_change};
-use dump_text::DumpReader;
+use crate::piece_tests::{answer, gives, keeps, wrong_change};
 use std::alloc::Global;
 use std::process::Abort;
 
@@ -65,32 +61,11 @@ Node-action: delete
 
 ";
 
-#[test]
-fn they_are_read(rt: HostRuntime) {
-    assert!(rt; ADDED.len() == 380 && gives(rt.alloc(), ADDED, 4096, 3, 0));
-    assert!(rt; COPIED.len() == 31 + 203 && gives(rt.alloc(), COPIED, 4096, 3, 0));
-}
-
-// Whether a front of a dump, in pieces of a size, isn't refused and leaves the reader with no more bytes than it has.
-fn keeps_no_more(alloc: Global, front: &[u8], size: usize) -> bool
-    requires { 0 < size }
-{
-    let mut reader = DumpReader::new(alloc);
-    let mut out = Vec::new(alloc);
-    first_refusal(&mut reader, &mut out, front, size) == 0 && reader.held() <= front.len() as u128
-}
-
-// Whether that is so whole and byte by byte, and both give the same.
-fn front_agrees(alloc: Global, front: &[u8]) -> bool {
-    keeps_no_more(alloc, front, 4096)
-        && keeps_no_more(alloc, front, 1)
-        && answer(alloc, front, 4096) == answer(alloc, front, 1)
-}
-
-// The length of the first front of which it isn't.
+// The length of the first front of a dump that isn't answered alike whole and byte by byte.
 fn wrong_front(alloc: Global, dump: &[u8]) -> Option<usize> {
     for end in 0..=dump.len() {
-        if !front_agrees(alloc, dump.get(..end).unwrap_or(b"")) {
+        let front = dump.get(..end).unwrap_or(b"");
+        if answer(alloc, front, 4096) != answer(alloc, front, 1) {
             return Some(end);
         }
     }
@@ -98,20 +73,17 @@ fn wrong_front(alloc: Global, dump: &[u8]) -> Option<usize> {
 }
 
 #[test]
-fn each_front_agrees_and_is_all_that_is_kept(rt: HostRuntime) {
+fn they_are_read_and_each_front_agrees(rt: HostRuntime) {
+    assert!(rt; ADDED.len() == 380 && gives(rt.alloc(), ADDED, 4096, 3, 0));
+    assert!(rt; COPIED.len() == 31 + 203 && gives(rt.alloc(), COPIED, 4096, 3, 0));
     assert!(rt; wrong_front(rt.alloc(), ADDED).is_none());
     assert!(rt; wrong_front(rt.alloc(), COPIED).is_none());
 }
 
-// The first change of a byte, to one of 128 values, that is answered otherwise byte by byte.
-fn wrong_half(rt: &impl Abort, alloc: Global, dump: &[u8], first: u8) -> Option<(usize, u8)> {
-    for more in 0..4u8 {
-        let wrong = wrong_change(
-            rt,
-            alloc,
-            dump,
-            first.saturating_add(more.saturating_mul(32)),
-        );
+// The first change of a byte that is answered otherwise byte by byte.
+fn first_change(rt: &impl Abort, alloc: Global, dump: &[u8]) -> Option<(usize, u8)> {
+    for first in 0..8u8 {
+        let wrong = wrong_change(rt, alloc, dump, first.saturating_mul(32));
         if wrong.is_some() {
             return wrong;
         }
@@ -120,56 +92,26 @@ fn wrong_half(rt: &impl Abort, alloc: Global, dump: &[u8], first: u8) -> Option<
 }
 
 #[test]
-fn each_change_of_an_added_file_agrees_from_0(rt: HostRuntime) {
-    assert!(rt; wrong_half(&rt, rt.alloc(), ADDED, 0).is_none());
+fn each_change_of_an_added_file_agrees(rt: HostRuntime) {
+    assert!(rt; first_change(&rt, rt.alloc(), ADDED).is_none());
 }
 
 #[test]
-fn each_change_of_an_added_file_agrees_from_128(rt: HostRuntime) {
-    assert!(rt; wrong_half(&rt, rt.alloc(), ADDED, 128).is_none());
+fn each_change_of_a_copy_agrees(rt: HostRuntime) {
+    assert!(rt; first_change(&rt, rt.alloc(), COPIED).is_none());
 }
 
-#[test]
-fn each_change_of_a_copy_agrees_from_0(rt: HostRuntime) {
-    assert!(rt; wrong_half(&rt, rt.alloc(), COPIED, 0).is_none());
-}
-
-#[test]
-fn each_change_of_a_copy_agrees_from_128(rt: HostRuntime) {
-    assert!(rt; wrong_half(&rt, rt.alloc(), COPIED, 128).is_none());
-}
-
-// What announces the greatest lengths, and how many bytes a reader keeps behind it: none of a text or a block that is to
-// come, and of a name and a value those that came.
-const ANNOUNCED: [(&[u8], u128); 4] = [
-    (
-        b"SVN-fs-dump-format-version: 2\n\nRevision-number: 1\nProp-content-length: 33554432\n\n",
-        0,
-    ),
-    (
-        b"SVN-fs-dump-format-version: 2\n\nRevision-number: 1\nProp-content-length: 33554432\n\nK 255\n",
-        0,
-    ),
-    (
-        b"SVN-fs-dump-format-version: 2\n\nRevision-number: 1\nProp-content-length: 33554432\n\nK 1\np\nV 65536\n",
-        0,
-    ),
-    (
-        b"SVN-fs-dump-format-version: 2\n\nRevision-number: 1\n\nNode-path: a\nNode-action: change\nText-content-length: 1048576\n\n",
-        0,
-    ),
+// What announces the greatest lengths: nothing is kept of what is to come.
+const ANNOUNCED: [&[u8]; 4] = [
+    b"SVN-fs-dump-format-version: 2\n\nRevision-number: 1\nProp-content-length: 33554432\n\n",
+    b"SVN-fs-dump-format-version: 2\n\nRevision-number: 1\nProp-content-length: 33554432\n\nK 255\n",
+    b"SVN-fs-dump-format-version: 2\n\nRevision-number: 1\nProp-content-length: 33554432\n\nK 1\np\nV 65536\n",
+    b"SVN-fs-dump-format-version: 2\n\nRevision-number: 1\n\nNode-path: a\nNode-action: change\nText-content-length: 1048576\n\n",
 ];
-
-// Whether a reader keeps so many bytes of these.
-fn keeps(alloc: Global, bytes: &[u8], held: u128) -> bool {
-    let mut reader = DumpReader::new(alloc);
-    let mut out = Vec::new(alloc);
-    reader.feed(bytes, &mut out).is_ok() && reader.held() == held
-}
 
 #[test]
 fn what_is_announced_is_not_kept(rt: HostRuntime) {
-    for (bytes, held) in &ANNOUNCED {
-        assert!(rt; keeps(rt.alloc(), bytes, *held));
+    for bytes in &ANNOUNCED {
+        assert!(rt; keeps(rt.alloc(), bytes, 0, 2));
     }
 }

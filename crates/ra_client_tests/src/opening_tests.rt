@@ -1,6 +1,6 @@
 //! Openings, and those that are refused.
 
-use crate::sessions::{BROKEN, Line, OPENED, Port, SAID, SINGLE, URL, WHOLE, number_of, open};
+use crate::sessions::{BROKEN, Line, OPENED, SAID, SINGLE, URL, WHOLE, number_of, open};
 use byte_streams::Output;
 use ra_client::ClientFault;
 use ra_edit::edit_fault::EditFault;
@@ -143,41 +143,27 @@ fn a_writer_that_fails_is_told(rt: HostRuntime) {
     assert!(rt; unwritten(rt.alloc(), 100) == 0);
 }
 
-// Whether two openings came to the same: the identity, the URL, and what the client said.
-fn are_alike(one: Port<'_>, other: Port<'_>) -> bool {
-    let same = one.identity() == other.identity() && one.root_url() == other.root_url();
-    same && one.into_output().bytes() == other.into_output().bytes()
-}
-
-fn is_like(alloc: Global, one: Port<'_>, bytes: &[u8]) -> bool {
-    match open(alloc, bytes, &SINGLE) {
-        Ok(other) => are_alike(one, other),
-        Err(_) => false,
-    }
-}
-
-// Whether bytes come to the same at once and one at a time.
+// Whether bytes come to the same at once and one at a time: a refusal, or an identity, a URL, and what the client said.
 fn agree(alloc: Global, bytes: &[u8]) -> bool {
-    match open(alloc, bytes, &WHOLE) {
-        Ok(one) => is_like(alloc, one, bytes),
-        Err(fault) => open(alloc, bytes, &SINGLE).err() == Some(fault),
+    match (open(alloc, bytes, &WHOLE), open(alloc, bytes, &SINGLE)) {
+        (Ok(one), Ok(other)) => {
+            let same = one.identity() == other.identity() && one.root_url() == other.root_url();
+            same && one.into_output().bytes() == other.into_output().bytes()
+        }
+        (Err(one), Err(other)) => one == other,
+        _ => false,
     }
 }
 
-// Whether an opening with one of its bytes changed does.
-fn agrees_with(rt: &impl Abort, alloc: Global, at: usize, value: u8) -> bool {
-    let mut changed = Vec::from_slice(alloc, OPENED).expect(rt, "memory");
-    if let Some(place) = changed.get_mut(at) {
-        *place = value;
-    }
-    agree(alloc, &changed)
-}
-
-// The place and the value of the first change that isn't told the same.
+// The place and the value of the first change of a byte with which an opening doesn't.
 fn wrong_change(rt: &impl Abort, alloc: Global) -> Option<(usize, u8)> {
     for at in 0..OPENED.len() {
         for value in 0..=u8::MAX {
-            if !agrees_with(rt, alloc, at, value) {
+            let mut changed = Vec::from_slice(alloc, OPENED).expect(rt, "memory");
+            if let Some(place) = changed.get_mut(at) {
+                *place = value;
+            }
+            if !agree(alloc, &changed) {
                 return Some((at, value));
             }
         }

@@ -4,8 +4,7 @@
 use crate::served_tests::{repo, served};
 use crate::sessions::{Line as Stream, OPENED, SINGLE, WHOLE, open, told};
 use crate::sync_tests::{
-    BEGINS, BEGUN, GOES_ON, Job, Left, Line, Lines, SYNCED, empty, holds_mirror, run_by, run_over,
-    stored, token,
+    BEGINS, BEGUN, GOES_ON, Job, Left, Line, SYNCED, empty, holds_mirror, run_by, run_over, stored,
 };
 use fleet_disk::{MemDisk, Pick};
 use node_base::RevNo;
@@ -14,8 +13,7 @@ use repo_store::RepoStore;
 use std::alloc::Global;
 use std::process::Abort;
 use std::rt::HostRuntime;
-use sync_core::SyncFault;
-use sync_job::{AloneMirror, JobPorts, LentMaster, run_sync};
+use sync_job::LentMaster;
 
 // Three peers whose newest revision is 1: one that tells revision 2 of it, one whose window copies, and one that sends a
 // failure; and the line of the job's refusal.
@@ -33,33 +31,6 @@ const PEERS: [(&[u8], &[u8]); 3] = [
         b"svnfleet: 60 master: refused\n",
     ),
 ];
-
-// The line of a refusal, empty where there is none.
-fn line_of(rt: &impl Abort, alloc: Global, answer: Result<(), SyncFault>) -> String {
-    match answer {
-        Ok(()) => String::new(alloc),
-        Err(fault) => fault.line(alloc).expect(rt, "memory"),
-    }
-}
-
-// A synchronisation that is told these bytes: the disk of the mirror, the refusal's line, and how many lines it told.
-fn synchronised(
-    rt: &impl Abort,
-    alloc: Global,
-    store: RepoStore<MemDisk>,
-    bytes: &[u8],
-    stream: &Stream,
-) -> (MemDisk, String, usize) {
-    let master = open(alloc, bytes, stream).expect(rt, "an opening");
-    let lines = Lines {
-        told: Vec::new(alloc),
-    };
-    let mut ports = JobPorts::new(alloc, master, AloneMirror::new(store), lines);
-    let answer = run_sync(alloc, &mut ports, token(rt, alloc), false);
-    let (_master, mirror, lines) = ports.into_parts();
-    let line = line_of(rt, alloc, answer);
-    (mirror.into_disk(), line, lines.told.len())
-}
 
 // Whether revision 0 says this by a property, or nothing.
 fn says(store: &RepoStore<MemDisk>, name: &[u8], text: Option<&[u8]>) -> bool {
@@ -88,14 +59,6 @@ fn opens_copying(alloc: Global, disk: MemDisk) -> (MemDisk, bool) {
     }
 }
 
-// The store of a disk.
-fn opened(rt: &impl Abort, alloc: Global, disk: MemDisk) -> RepoStore<MemDisk> {
-    match RepoStore::open(alloc, disk) {
-        Ok(store) => store,
-        Err(_) => rt.abort(),
-    }
-}
-
 // A mirror that is begun, all synced.
 fn begun(rt: &impl Abort, alloc: Global) -> MemDisk {
     let bytes = served(rt, alloc, BEGINS);
@@ -113,14 +76,12 @@ fn begun(rt: &impl Abort, alloc: Global) -> MemDisk {
 // Whether a mirror that is told the truth comes up to its master, and tells each line of it.
 fn comes_up(rt: &impl Abort, alloc: Global, disk: MemDisk, source: &Repo) -> bool {
     let bytes = served(rt, alloc, GOES_ON);
-    let Left { disk, number, told } = run_over(
-        rt,
-        alloc,
+    let Left {
         disk,
-        bytes.as_slice(),
-        &WHOLE,
-        &Job::Synchronize,
-    );
+        number,
+        line: _,
+        told,
+    } = run_over(rt, alloc, disk, bytes.as_slice(), &WHOLE, &Job::Synchronize);
     number == 0 && told.as_slice() == &SYNCED && holds_mirror(alloc, disk, source)
 }
 
@@ -134,10 +95,11 @@ fn is_refused(
     stream: &Stream,
     line: &[u8],
 ) -> bool {
-    let store = opened(rt, alloc, begun(rt, alloc));
-    let (disk, found, count) = synchronised(rt, alloc, store, bytes, stream);
-    let (disk, is_left) = opens_copying(alloc, disk);
-    found.as_bytes() == line && count == 0 && is_left && comes_up(rt, alloc, disk, source)
+    let disk = begun(rt, alloc);
+    let left = run_over(rt, alloc, disk, bytes, stream, &Job::Synchronize);
+    let is_told = left.line.as_bytes() == line && left.told.is_empty();
+    let (disk, is_left) = opens_copying(alloc, left.disk);
+    is_told && is_left && comes_up(rt, alloc, disk, source)
 }
 
 #[test]
@@ -162,10 +124,6 @@ enum Came {
     Wrong,
 }
 
-fn came(is_so: bool, came: Came) -> Came {
-    if is_so { came } else { Came::Wrong }
-}
-
 // A job, the mirror where it begins, what its master tells, and its lines.
 #[derive(Drop)]
 struct Trial<'a> {
@@ -181,15 +139,24 @@ impl<'a> Trial<'a> {
         let Ok(disk) = self.begun.crash(Pick::New) else {
             return Came::Wrong;
         };
-        let Left { disk, number, told } = run_over(rt, alloc, disk, bytes, stream, self.job);
+        let Left {
+            disk,
+            number,
+            line: _,
+            told,
+        } = run_over(rt, alloc, disk, bytes, stream, self.job);
         if number == 0 {
-            return came(told.as_slice() == self.lines, Came::Well);
+            return if told.as_slice() == self.lines {
+                Came::Well
+            } else {
+                Came::Wrong
+            };
         }
         let later = run_by(rt, alloc, disk, LentMaster::new(self.source), self.job);
         let is_so = number == 60
             && later.number == 0
             && self.are_told(told.as_slice(), later.told.as_slice());
-        came(is_so, Came::MadeUp)
+        if is_so { Came::MadeUp } else { Came::Wrong }
     }
 
     // Whether the lines are told in two runs: each once; a copying tells all of them again.

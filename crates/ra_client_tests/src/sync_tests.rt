@@ -29,10 +29,10 @@ pub(crate) enum Line {
     Copied(u16),
 }
 
-/// All that it told.
+// All that it told.
 #[derive(Drop)]
-pub(crate) struct Lines {
-    pub(crate) told: Vec<Line>,
+struct Lines {
+    told: Vec<Line>,
 }
 
 impl Report for Lines {
@@ -59,10 +59,11 @@ pub(crate) fn empty(rt: &impl Abort, alloc: Global) -> MemDisk {
     }
 }
 
-fn number_of(answer: Result<(), SyncFault>) -> u8 {
+// The number and the line of a refusal.
+fn told_of(rt: &impl Abort, alloc: Global, answer: Result<(), SyncFault>) -> (u8, String) {
     match answer {
-        Ok(()) => 0,
-        Err(fault) => fault.number(),
+        Ok(()) => (0, String::new(alloc)),
+        Err(fault) => (fault.number(), fault.line(alloc).expect(rt, "memory")),
     }
 }
 
@@ -71,17 +72,17 @@ fn url(rt: &impl Abort, alloc: Global) -> PropValue {
     PropValue::new(bytes).expect(rt, "a property's value")
 }
 
-/// The token of each job.
-pub(crate) fn token(rt: &impl Abort, alloc: Global) -> Token {
+fn token(rt: &impl Abort, alloc: Global) -> Token {
     let bytes = Vec::from_slice(alloc, b"job").expect(rt, "memory");
     Token::new(bytes).expect(rt, "a token")
 }
 
-/// What a job leaves: the disk of its mirror, the number of its refusal, 0 for none, and its lines.
+/// What a job leaves: the disk of its mirror, the number and the line of its refusal, 0 for none, and its lines.
 #[derive(Drop)]
 pub(crate) struct Left {
     pub(crate) disk: MemDisk,
     pub(crate) number: u8,
+    pub(crate) line: String,
     pub(crate) told: Vec<Line>,
 }
 
@@ -100,6 +101,7 @@ fn unbegun(alloc: Global, disk: MemDisk, number: u8) -> Left {
     Left {
         disk,
         number,
+        line: String::new(alloc),
         told: Vec::new(alloc),
     }
 }
@@ -132,9 +134,11 @@ pub(crate) fn run_by<M: MasterPort + Drop>(
         ),
     };
     let (_master, mirror, lines) = ports.into_parts();
+    let (number, line) = told_of(rt, alloc, answer);
     Left {
         disk: mirror.into_disk(),
-        number: number_of(answer),
+        number,
+        line,
         told: lines.told,
     }
 }

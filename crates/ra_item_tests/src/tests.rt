@@ -47,11 +47,16 @@ impl Outcome {
     }
 }
 
-// The number of the first refusal of bytes in pieces of a size, or 0.
+// The number of the first refusal of bytes in pieces of a size, or 0; another one where the reader holds more than came.
 fn feed_all(reader: &mut ItemReader, items: &mut Vec<Item>, bytes: &[u8], size: usize) -> u32 {
+    let mut fed = 0usize;
     for piece in bytes.chunks(size.max(1)) {
         if let Err(fault) = reader.feed(piece, items) {
             return fault.number();
+        }
+        fed = fed.saturating_add(piece.len());
+        if reader.held() > fed {
+            return 1_000;
         }
     }
     0
@@ -466,32 +471,6 @@ fn bytes_held(rt: HostRuntime) {
     let mut reader = ItemReader::new(rt.alloc());
     let mut items = Vec::new(rt.alloc());
     assert_eq!(rt; wrong_held(&rt, &mut reader, &mut items, &HELD), None);
-}
-
-// Whether a reader that is fed the first so many bytes, in pieces of a size, keeps no more than these.
-fn keeps_no_more(alloc: Global, front: &[u8], size: usize) -> bool {
-    let mut reader = ItemReader::new(alloc);
-    let mut items = Vec::new(alloc);
-    feed_all(&mut reader, &mut items, front, size) == 0 && reader.held() <= front.len()
-}
-
-// The length of the first front of the parts of which that isn't so, whole and byte by byte.
-fn wrong_keeping(rt: &impl Abort, alloc: Global, parts: &[&[u8]]) -> Option<usize> {
-    let bytes = joined(rt, alloc, parts, parts.len());
-    for end in 0..=bytes.len() {
-        let front = bytes.get(..end).unwrap_or(b"");
-        if !keeps_no_more(alloc, front, bytes.len()) || !keeps_no_more(alloc, front, 1) {
-            return Some(end);
-        }
-    }
-    None
-}
-
-#[test]
-fn no_more_is_held_than_came(rt: HostRuntime) {
-    assert_eq!(rt; wrong_keeping(&rt, rt.alloc(), &SERVER), None);
-    assert_eq!(rt; wrong_keeping(&rt, rt.alloc(), &CLIENT), None);
-    assert_eq!(rt; wrong_keeping(&rt, rt.alloc(), &DRIVE), None);
 }
 
 // A list of a number, a string and a word.

@@ -2,7 +2,7 @@
 
 use crate::made::file_port;
 use crate::sessions::{
-    AUTHORISED, BAD_SHAPE, CLIENT, Ended, GREETING, MECHANISMS, WELCOME, asking, has_told, run,
+    AUTHORISED, BAD_SHAPE, CLIENT, GREETING, MECHANISMS, WELCOME, asking, has_told, run,
 };
 use byte_streams::Output;
 use ra_item::fault::ItemFault;
@@ -163,74 +163,41 @@ fn faults_of_items_end_the_opening(rt: HostRuntime) {
 
 // ---- an opening that is cut or changed
 
-// Whether two sessions ended alike, and wrote the same.
-fn are_alike(one: &Ended, other: &Ended) -> bool {
-    match (&one.out, &other.out) {
-        (Some(written), Some(also)) => { one.end == other.end && written.bytes() == also.bytes() }
+// Whether bytes lead to the same end and the same answers whole and one at a time.
+fn agree<P: RepoPort>(alloc: Global, port: &mut P, sent: &[u8]) -> bool {
+    let whole = run(alloc, port, sent, sent.len(), u64::MAX, u64::MAX);
+    let single = run(alloc, port, sent, 1, u64::MAX, u64::MAX);
+    match (&whole.out, &single.out) {
+        (Some(one), Some(other)) => whole.end == single.end && one.bytes() == other.bytes(),
         _ => false,
     }
 }
 
-// Whether bytes lead to the same whole and one at a time.
-fn agree<P: RepoPort>(alloc: Global, port: &mut P, sent: &[u8]) -> bool {
-    let whole = run(alloc, port, sent, sent.len(), u64::MAX, u64::MAX);
-    let single = run(alloc, port, sent, 1, u64::MAX, u64::MAX);
-    are_alike(&whole, &single)
-}
-
-// The length of the first front of these bytes that doesn't.
-fn wrong_front<P: RepoPort>(alloc: Global, port: &mut P, sent: &[u8]) -> Option<usize> {
-    for end in 0..sent.len() {
-        if !agree(alloc, port, sent.get(..end).unwrap_or(b"")) {
-            return Some(end);
-        }
-    }
-    None
-}
-
-// Whether they do with one of them changed.
-fn agree_with<P: RepoPort>(
+// Whether they do with the byte at a place changed to any value, and where they end before it.
+fn agree_at<P: RepoPort>(
     rt: &impl Abort,
     alloc: Global,
     port: &mut P,
     sent: &[u8],
     at: usize,
-    value: u8,
 ) -> bool {
-    let mut changed = Vec::from_slice(alloc, sent).expect(rt, "memory");
-    if let Some(place) = changed.get_mut(at) {
-        *place = value;
-    }
-    agree(alloc, port, &changed)
-}
-
-// The place and the value of the first change with which they don't.
-fn wrong_change<P: RepoPort>(
-    rt: &impl Abort,
-    alloc: Global,
-    port: &mut P,
-    sent: &[u8],
-) -> Option<(usize, u8)> {
-    for at in 0..sent.len() {
-        for value in 0..=u8::MAX {
-            if !agree_with(rt, alloc, port, sent, at, value) {
-                return Some((at, value));
-            }
+    for value in 0..=u8::MAX {
+        let mut changed = Vec::from_slice(alloc, sent).expect(rt, "memory");
+        if let Some(place) = changed.get_mut(at) {
+            *place = value;
+        }
+        if !agree(alloc, port, &changed) {
+            return false;
         }
     }
-    None
-}
-
-#[test]
-fn a_cut_opening_is_answered_alike(rt: HostRuntime) {
-    let mut port = file_port(&rt, rt.alloc(), false);
-    let sent = asking(&rt, rt.alloc(), b"( get-latest-rev ( ) ) ");
-    assert_eq!(rt; wrong_front(rt.alloc(), &mut port, &sent), None);
+    agree(alloc, port, sent.get(..at).unwrap_or(b""))
 }
 
 #[test]
 fn a_changed_opening_is_answered_alike(rt: HostRuntime) {
     let mut port = file_port(&rt, rt.alloc(), false);
     let sent = asking(&rt, rt.alloc(), b"( get-latest-rev ( ) ) ");
-    assert_eq!(rt; wrong_change(&rt, rt.alloc(), &mut port, &sent), None);
+    for at in 0..sent.len() {
+        assert!(rt; agree_at(&rt, rt.alloc(), &mut port, &sent, at), "at {at}");
+    }
 }

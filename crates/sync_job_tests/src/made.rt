@@ -146,36 +146,7 @@ pub(crate) enum Order {
     Copy(u16, u16),
 }
 
-/// Runs a job, by that token and of a master that is reached so, at the mirror of a store, which comes back as the job's
-/// calls have left it.
-pub(crate) fn job_by<D: Disk + Drop>(
-    alloc: Global,
-    store: RepoStore<D>,
-    source: &RepoStore<MemDisk>,
-    order: &Order,
-    url: PropValue,
-    token: Token,
-) -> (RepoStore<D>, Ran) {
-    let mirror = AloneMirror::new(store);
-    let heard = Heard { told: 0 };
-    let mut ports = JobPorts::new(alloc, LentMaster::new(source), mirror, heard);
-    let answer = match order {
-        Order::Initialize => run_init(alloc, &mut ports, url),
-        Order::Synchronize => run_sync(alloc, &mut ports, token, false),
-        Order::Steal => run_sync(alloc, &mut ports, token, true),
-        Order::Copy(low, high) => run_copy_revprops(
-            alloc,
-            &mut ports,
-            token,
-            RevNo::new(*low),
-            RevNo::new(*high),
-        ),
-    };
-    let (_source, mirror, heard) = ports.into_parts();
-    (mirror.into_store(), ended(heard.told, number_of(answer)))
-}
-
-/// The same of the job `job` and a master that is reached as `master`.
+/// Runs a job at the mirror of a store, which comes back as the job's calls have left it.
 pub(crate) fn job<D: Disk + Drop>(
     rt: &impl Abort,
     alloc: Global,
@@ -183,9 +154,23 @@ pub(crate) fn job<D: Disk + Drop>(
     source: &RepoStore<MemDisk>,
     order: &Order,
 ) -> (RepoStore<D>, Ran) {
-    let url = value(rt, alloc, b"master");
-    let token = token(rt, alloc);
-    job_by(alloc, store, source, order, url, token)
+    let mirror = AloneMirror::new(store);
+    let heard = Heard { told: 0 };
+    let mut ports = JobPorts::new(alloc, LentMaster::new(source), mirror, heard);
+    let answer = match order {
+        Order::Initialize => run_init(alloc, &mut ports, value(rt, alloc, b"master")),
+        Order::Synchronize => run_sync(alloc, &mut ports, token(rt, alloc), false),
+        Order::Steal => run_sync(alloc, &mut ports, token(rt, alloc), true),
+        Order::Copy(low, high) => run_copy_revprops(
+            alloc,
+            &mut ports,
+            token(rt, alloc),
+            RevNo::new(*low),
+            RevNo::new(*high),
+        ),
+    };
+    let (_source, mirror, heard) = ports.into_parts();
+    (mirror.into_store(), ended(heard.told, number_of(answer)))
 }
 
 /// Runs a job at the mirror of a disk, if that opens.
@@ -223,32 +208,27 @@ pub(crate) fn synchronised(rt: &impl Abort, alloc: Global, source: &RepoStore<Me
     disk.crash(Pick::New).expect(rt, "memory")
 }
 
-// The gates of slots: each without the sum of its entry, and the closed one behind them.
-fn gates(rt: &impl Abort, alloc: Global, slots: &[u8]) -> Vec<u8> {
+/// A disk with the entries of this one, its log in that version; this one's is in the second. The gates of the first are
+/// the slots without their sums.
+pub(crate) fn in_version(
+    rt: &impl Abort,
+    alloc: Global,
+    disk: &MemDisk,
+    version: &LogVersion,
+) -> MemDisk {
+    let slots = disk.bytes(DiskFile::Slots);
     let mut gates = Vec::new(alloc);
     for slot in slots.chunks(25) {
         gates
             .extend_from_slice(slot.get(..9).unwrap_or(slot))
             .expect(rt, "memory");
     }
-    gates
-}
-
-/// A disk with the entries of this one, its log in that version; this one's is in the second.
-pub(crate) fn in_version(
-    rt: &impl Abort,
-    alloc: Global,
-    disk: MemDisk,
-    version: &LogVersion,
-) -> MemDisk {
-    match version {
-        LogVersion::First => {
-            let gates = gates(rt, alloc, disk.bytes(DiskFile::Slots));
-            let journal = disk.bytes(DiskFile::Journal);
-            MemDisk::with_bytes(alloc, journal, gates.as_slice(), b"").expect(rt, "memory")
-        }
-        LogVersion::Second => disk,
-    }
+    let journal = disk.bytes(DiskFile::Journal);
+    let made = match version {
+        LogVersion::First => MemDisk::with_bytes(alloc, journal, gates.as_slice(), b""),
+        LogVersion::Second => MemDisk::with_bytes(alloc, journal, b"", slots),
+    };
+    made.expect(rt, "memory")
 }
 
 /// How many bytes the slots have.

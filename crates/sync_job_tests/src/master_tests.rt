@@ -1,4 +1,4 @@
-//! A master that refuses a question, and memory that runs out.
+//! A master that refuses a question.
 use crate::made::{
     COMMITTED_1, COMMITTED_ALONE, COPIED_0, COPIED_1, COPIED_BOTH, Heard, Order, Ran, empty, ended,
     initialised, master, number_of, rests, run, synchronised, token, value,

@@ -26,7 +26,7 @@ fn a_mirror_is_begun_and_synchronised(rt: HostRuntime) {
 #[test]
 fn a_mirror_of_version_1_goes_on(rt: HostRuntime) {
     let source = master(&rt, rt.alloc());
-    let disk = in_version(&rt, rt.alloc(), empty(&rt, rt.alloc()), &LogVersion::First);
+    let disk = in_version(&rt, rt.alloc(), &empty(&rt, rt.alloc()), &LogVersion::First);
     assert!(rt; gate(&disk) == 10 && slots(&disk) == 0);
     let (disk, begun) = run(&rt, rt.alloc(), disk, &source, &Order::Initialize);
     let (disk, first) = run(&rt, rt.alloc(), disk, &source, &Order::Synchronize);

@@ -2,7 +2,7 @@
 //! initialisations and copyings, at mirrors whose logs are of either version.
 use crate::made::{
     COMMITTED_1, COMMITTED_ALONE, COPIED_0, COPIED_1, COPIED_BOTH, Order, Ran, edit, empty, ended,
-    entries, in_version, initialised, job, master, rests, run, synchronised,
+    entries, in_version, initialised, is_merged, job, master, run, synchronised,
 };
 use fleet_disk::{Fuse, FuseDisk, MemDisk, Pick};
 use gate_log::LogVersion;
@@ -86,14 +86,6 @@ fn entries_of(order: &Order) -> usize {
     }
 }
 
-// What a job has told once so many of its entries are there.
-fn told_by(order: &Order, count: usize) -> Option<u64> {
-    match row_of(order, count) {
-        Some((_, told)) => Some(told),
-        None => None,
-    }
-}
-
 // How many entries of a job a stop leaves that comes after so many of its calls. The fourth call of an entry opens its
 // gate, and the fifth makes that last.
 fn entries_left(calls: usize, pick: &Pick) -> usize {
@@ -104,18 +96,13 @@ fn entries_left(calls: usize, pick: &Pick) -> usize {
     }
 }
 
-// Whether something is this text, or isn't there where that is empty.
-fn is_text(found: Option<&[u8]>, text: &[u8]) -> bool {
-    match found {
-        Some(found) => !text.is_empty() && found == text,
-        None => text.is_empty(),
-    }
-}
-
 // Whether a revision says this by a property, or nothing.
 fn says(store: &RepoStore<MemDisk>, number: u16, name: &[u8], text: &[u8]) -> bool {
     match store.repo().props(RevNo::new(number)) {
-        Some(props) => is_text(props.get(name), text),
+        Some(props) => match props.get(name) {
+            Some(found) => !text.is_empty() && found == text,
+            None => text.is_empty(),
+        },
         None => text.is_empty(),
     }
 }
@@ -151,24 +138,16 @@ fn are_alike(alloc: Global, store: &RepoStore<MemDisk>, source: &RepoStore<MemDi
     }
 }
 
-// Whether a disk opens with revision 1 as its master has it.
-fn is_whole(alloc: Global, disk: MemDisk, source: &RepoStore<MemDisk>) -> bool {
+// Whether a disk opens as a mirror at rest with its master's one revision.
+fn is_at_rest(alloc: Global, disk: MemDisk, source: &RepoStore<MemDisk>) -> bool {
     match RepoStore::open(alloc, disk) {
         Ok(store) => {
-            let alike = are_alike(alloc, &store, source);
+            let is_so = is_merged(&store, 1, b"1") && are_alike(alloc, &store, source);
             let _disk = store.into_disk();
-            alike
+            is_so
         }
         Err(_) => false,
     }
-}
-
-// Whether a mirror at rest has its master's one revision.
-fn is_at_rest(alloc: Global, disk: MemDisk, source: &RepoStore<MemDisk>) -> bool {
-    let Ok(other) = disk.crash(Pick::New) else {
-        return false;
-    };
-    rests(alloc, disk, 1, b"1") && is_whole(alloc, other, source)
 }
 
 // What the later synchronisation tells, by the entries of the stopped one that stand.
@@ -298,25 +277,14 @@ impl<'a> Trial<'a> {
         calls: usize,
         pick: &Pick,
     ) -> bool {
+        let count = entries_left(calls, pick);
+        let Some((row, _)) = row_of(self.order, count) else {
+            return false;
+        };
         let Ok(left) = stopped.crash(*pick) else {
             return false;
         };
-        let count = entries_left(calls, pick);
-        match row_of(self.order, count) {
-            Some((row, _)) => self.stands_and_goes_on(rt, alloc, left, &row, count),
-            None => false,
-        }
-    }
-
-    fn stands_and_goes_on(
-        &self,
-        rt: &impl Abort,
-        alloc: Global,
-        left: MemDisk,
-        row: &Row,
-        count: usize,
-    ) -> bool {
-        let (left, is_so) = opens_so(alloc, left, row);
+        let (left, is_so) = opens_so(alloc, left, &row);
         is_so
             && entries(&left) == entries(self.begun).saturating_add(count)
             && goes_on(rt, alloc, self.source, left, self.order, count)
@@ -341,37 +309,32 @@ impl<'a> Trial<'a> {
     // Whether, where the device fails for good after so many calls, that is told with 31 but at the job's end, behind
     // the lines of the entries that were acknowledged; and the mirror goes on.
     fn is_stopped_well(&self, rt: &impl Abort, alloc: Global, calls: usize) -> bool {
+        let Some((_, told)) = row_of(self.order, calls / CALLS) else {
+            return false;
+        };
         let Some(disk) = self.fused(alloc, calls, Fuse::ForGood) else {
             return false;
         };
         let (disk, first) = run(rt, alloc, disk, self.source, self.order);
         let stopped = disk.into_inner();
         let is_over = calls == entries_of(self.order).saturating_mul(CALLS);
-        let due = if is_over { 0 } else { 31 };
-        Some(first.told) == told_by(self.order, calls / CALLS)
-            && first.number == due
+        first == ended(told, if is_over { 0 } else { 31 })
             && self.is_left_well_by_each(rt, alloc, &stopped, calls)
     }
 
     // Whether, where the device fails once after so many calls, that is told with 31, the next job of the same store
     // with 32, and the mirror goes on once it is opened again.
     fn fails_well(&self, rt: &impl Abort, alloc: Global, calls: usize) -> bool {
+        let Some((_, told)) = row_of(self.order, calls / CALLS) else {
+            return false;
+        };
         let Some(disk) = self.fused(alloc, calls, Fuse::Once) else {
             return false;
         };
-        match RepoStore::open(alloc, disk) {
-            Ok(store) => self.fails_well_in(rt, alloc, store, calls),
-            Err(_) => false,
-        }
-    }
-
-    fn fails_well_in(
-        &self,
-        rt: &impl Abort,
-        alloc: Global,
-        store: RepoStore<FuseDisk<MemDisk>>,
-        calls: usize,
-    ) -> bool {
+        let store = match RepoStore::open(alloc, disk) {
+            Ok(store) => store,
+            Err(_) => return false,
+        };
         let (store, first) = job(rt, alloc, store, self.source, self.order);
         let again = match self.order {
             Order::Initialize => Order::Initialize,
@@ -379,8 +342,7 @@ impl<'a> Trial<'a> {
         };
         let (store, second) = job(rt, alloc, store, self.source, &again);
         let disk = store.into_disk().into_inner();
-        Some(first.told) == told_by(self.order, calls / CALLS)
-            && first.number == 31
+        first == ended(told, 31)
             && second == ended(0, 32)
             && self.is_left_well(rt, alloc, &disk, calls, &Pick::New)
     }
@@ -408,19 +370,7 @@ impl<'a> Trial<'a> {
     }
 }
 
-// Which stops and failures of a synchronisation aren't made up for, in a version.
-fn synchronising(
-    rt: &impl Abort,
-    alloc: Global,
-    version: &LogVersion,
-) -> (Option<usize>, Option<usize>) {
-    let source = master(rt, alloc);
-    let begun = in_version(rt, alloc, initialised(rt, alloc, &source), version);
-    let found = tried(rt, alloc, &source, &begun, &Order::Synchronize);
-    let _source = source.into_disk();
-    found
-}
-
+// Which stops and failures of a job aren't made up for.
 fn tried(
     rt: &impl Abort,
     alloc: Global,
@@ -436,61 +386,41 @@ fn tried(
     (trial.first_stop(rt, alloc), trial.first_failure(rt, alloc))
 }
 
+const VERSIONS: [LogVersion; 2] = [LogVersion::Second, LogVersion::First];
+
 #[test]
 fn a_synchronisation_stops_anywhere(rt: HostRuntime) {
-    let found = synchronising(&rt, rt.alloc(), &LogVersion::Second);
-    assert_eq!(rt; found, (None, None));
-}
-
-#[test]
-fn a_synchronisation_stops_anywhere_in_version_1(rt: HostRuntime) {
-    let found = synchronising(&rt, rt.alloc(), &LogVersion::First);
-    assert_eq!(rt; found, (None, None));
-}
-
-// Which stops and failures of an initialisation aren't made up for.
-fn beginning(
-    rt: &impl Abort,
-    alloc: Global,
-    version: &LogVersion,
-) -> (Option<usize>, Option<usize>) {
-    let source = master(rt, alloc);
-    let begun = in_version(rt, alloc, empty(rt, alloc), version);
-    let found = tried(rt, alloc, &source, &begun, &Order::Initialize);
+    let source = master(&rt, rt.alloc());
+    let begun = initialised(&rt, rt.alloc(), &source);
+    for version in &VERSIONS {
+        let begun = in_version(&rt, rt.alloc(), &begun, version);
+        let found = tried(&rt, rt.alloc(), &source, &begun, &Order::Synchronize);
+        assert_eq!(rt; found, (None, None));
+    }
     let _source = source.into_disk();
-    found
 }
 
 #[test]
 fn an_initialisation_stops_anywhere(rt: HostRuntime) {
-    let found = beginning(&rt, rt.alloc(), &LogVersion::Second);
-    assert_eq!(rt; found, (None, None));
-}
-
-#[test]
-fn an_initialisation_stops_anywhere_in_version_1(rt: HostRuntime) {
-    let found = beginning(&rt, rt.alloc(), &LogVersion::First);
-    assert_eq!(rt; found, (None, None));
-}
-
-// Which stops and failures of a copying of both revisions aren't made up for.
-fn copying(rt: &impl Abort, alloc: Global, version: &LogVersion) -> (Option<usize>, Option<usize>) {
-    let mut source = master(rt, alloc);
-    let begun = in_version(rt, alloc, synchronised(rt, alloc, &source), version);
-    edit(rt, alloc, &mut source, 1);
-    let found = tried(rt, alloc, &source, &begun, &Order::Copy(0, 1));
+    let source = master(&rt, rt.alloc());
+    let begun = empty(&rt, rt.alloc());
+    for version in &VERSIONS {
+        let begun = in_version(&rt, rt.alloc(), &begun, version);
+        let found = tried(&rt, rt.alloc(), &source, &begun, &Order::Initialize);
+        assert_eq!(rt; found, (None, None));
+    }
     let _source = source.into_disk();
-    found
 }
 
 #[test]
 fn a_copying_stops_anywhere(rt: HostRuntime) {
-    let found = copying(&rt, rt.alloc(), &LogVersion::Second);
-    assert_eq!(rt; found, (None, None));
-}
-
-#[test]
-fn a_copying_stops_anywhere_in_version_1(rt: HostRuntime) {
-    let found = copying(&rt, rt.alloc(), &LogVersion::First);
-    assert_eq!(rt; found, (None, None));
+    let mut source = master(&rt, rt.alloc());
+    let begun = synchronised(&rt, rt.alloc(), &source);
+    edit(&rt, rt.alloc(), &mut source, 1);
+    for version in &VERSIONS {
+        let begun = in_version(&rt, rt.alloc(), &begun, version);
+        let found = tried(&rt, rt.alloc(), &source, &begun, &Order::Copy(0, 1));
+        assert_eq!(rt; found, (None, None));
+    }
+    let _source = source.into_disk();
 }
