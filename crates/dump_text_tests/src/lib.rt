@@ -7,3 +7,5 @@ mod delta_tests;
 mod line_tests;
 #[cfg(test)]
 mod piece_tests;
+#[cfg(test)]
+mod whole_tests;

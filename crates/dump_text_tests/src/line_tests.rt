@@ -5,7 +5,7 @@ use dump_text::{DumpFault, DumpReader};
 use std::alloc::Global;
 use std::process::Abort;
 
-// Whether lines behind the version block are refused with this number.
+// Whether lines behind the version block are refused with this number, whole and byte by byte.
 fn is_judged(rt: &impl Abort, alloc: Global, lines: &str, number: u32) -> bool {
     let mut bytes = Vec::from_slice(alloc, b"SVN-fs-dump-format-version: 2\n\n").expect(
         rt, "memory",
@@ -13,8 +13,8 @@ fn is_judged(rt: &impl Abort, alloc: Global, lines: &str, number: u32) -> bool {
     bytes
         .extend_from_slice(lines.as_bytes())
         .expect(rt, "memory");
-    let (_, found) = answer(alloc, bytes.as_slice(), 4096);
-    found == number
+    let (count, found) = answer(alloc, bytes.as_slice(), 4096);
+    found == number && gives(alloc, bytes.as_slice(), 1, count, number)
 }
 
 // The first lines that aren't refused with the number beside them.
@@ -27,8 +27,9 @@ fn first_other<'a>(rt: &impl Abort, alloc: Global, table: &'a [(&'a str, u32)]) 
     None
 }
 
-const HEADER_LINES: [(&str, u32); 14] = [
+const HEADER_LINES: [(&str, u32); 17] = [
     ("Revision-number: 1\nRevision-number: x\n", 2),
+    ("Node-path: a\nNode-path: b\n", 2),
     ("Revision-number:1\n", 2),
     ("Node-kind: link\n", 2),
     ("Node-action: modify\n", 2),
@@ -37,6 +38,8 @@ const HEADER_LINES: [(&str, u32); 14] = [
     ("UUID: 6a1f0c3e000040008000000000000001\n", 2),
     ("Revision-number: 18446744073709551617\n", 3),
     ("Revision-number: 65536\n", 3),
+    ("Prop-content-length: 18446744073709551616\n", 3),
+    ("Revision-number: 1\nNode-copyfrom-rev: 65536\n", 3),
     ("Node-path: a/../b\n", 10),
     ("Node-path: //a\n", 10),
     ("Node-copyfrom-path: a//b\n", 10),
@@ -49,7 +52,7 @@ fn header_lines_are_judged(rt: HostRuntime) {
     assert!(rt; first_other(&rt, rt.alloc(), &HEADER_LINES).is_none());
 }
 
-const EMPTY_LINES: [(&str, u32); 8] = [
+const EMPTY_LINES: [(&str, u32); 10] = [
     ("Node-path: a\nNode-action: add\n\n", 2),
     ("Revision-number: 1\nProp-delta: true\n\n", 2),
     (
@@ -73,11 +76,40 @@ const EMPTY_LINES: [(&str, u32); 8] = [
         "Revision-number: 1\nProp-content-length: 30\n\nPROPS-END\n",
         5,
     ),
+    (
+        "Revision-number: 1\nProp-content-length: 34\n\nK 1\np\nV 1\n1\nK 1\np\nV 1\n1\nPROPS-END\n",
+        5,
+    ),
+    (
+        "Revision-number: 1\n\nNode-path: a\nNode-action: change\nText-content-length: 1048577\n\n",
+        8,
+    ),
 ];
 
 #[test]
 fn empty_lines_judge(rt: HostRuntime) {
     assert!(rt; first_other(&rt, rt.alloc(), &EMPTY_LINES).is_none());
+}
+
+// Whether a header line of so many bytes, its LF not counted, is refused with this number, whole and byte by byte.
+fn is_long(rt: &impl Abort, alloc: Global, count: usize, last: &[u8], number: u32) -> bool {
+    let mut bytes = Vec::from_slice(alloc, b"SVN-fs-dump-format-version: 2\n\nX: ").expect(
+        rt, "memory",
+    );
+    let rest = Vec::from_elem(alloc, b'x', count.saturating_sub(3)).expect(rt, "memory");
+    bytes.extend_from_slice(&rest).expect(rt, "memory");
+    bytes.extend_from_slice(last).expect(rt, "memory");
+    gives(alloc, bytes.as_slice(), 10_000, 0, number)
+        && gives(alloc, bytes.as_slice(), 1, 0, number)
+}
+
+// A line ends behind 4,096 bytes at most; the next one that isn't its LF is one too many.
+#[test]
+fn long_lines_are_refused(rt: HostRuntime) {
+    assert!(rt; is_long(&rt, rt.alloc(), 4_096, b"\n", 7));
+    assert!(rt; is_long(&rt, rt.alloc(), 4_096, b"", 7));
+    assert!(rt; is_long(&rt, rt.alloc(), 4_097, b"", 8));
+    assert!(rt; is_long(&rt, rt.alloc(), 4_097, b"\n", 8));
 }
 
 // Whether bytes are refused with this number before any record.

@@ -6,7 +6,7 @@ use dump_text::{DumpReader, DumpRecord, RevRecord, write_head, write_revision};
 use std::alloc::Global;
 use std::process::Abort;
 
-// The number of the first refusal of bytes in pieces of a size, or 0.
+// The number of the first refusal of bytes in pieces of a size, or 0; another one where the reader holds more than came.
 fn first_refusal(
     reader: &mut DumpReader,
     out: &mut Vec<DumpRecord>,
@@ -15,9 +15,15 @@ fn first_refusal(
 ) -> u32
     requires { 0 < size }
 {
+    let held = reader.held();
+    let mut fed = 0usize;
     for piece in bytes.chunks(size) {
         if let Err(fault) = reader.feed(piece, out) {
             return fault.number();
+        }
+        fed = fed.saturating_add(piece.len());
+        if reader.held() > held.saturating_add(fed as u128) {
+            return 1_000;
         }
     }
     0
@@ -98,8 +104,8 @@ fn refused_memory_is_answered(rt: HostRuntime) {
     assert!(rt; ends_well(rt.alloc(), 4096) && ends_well(rt.alloc(), 7));
 }
 
-// Whether a reader keeps so many bytes of a dump's first bytes, and has read this number of the format.
-fn keeps(alloc: Global, bytes: &[u8], held: u128, version: u8) -> bool {
+/// Whether a reader keeps so many bytes of a dump's first bytes, and has read this number of the format.
+pub(crate) fn keeps(alloc: Global, bytes: &[u8], held: u128, version: u8) -> bool {
     let mut reader = DumpReader::new(alloc);
     let mut out = Vec::new(alloc);
     reader.feed(bytes, &mut out).is_ok() && reader.held() == held && reader.version() == version

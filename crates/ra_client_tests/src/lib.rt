@@ -11,6 +11,8 @@ mod growth_tests;
 #[cfg(test)]
 mod opening_tests;
 #[cfg(test)]
+mod peer_tests;
+#[cfg(test)]
 mod range_tests;
 #[cfg(test)]
 mod refusal_tests;

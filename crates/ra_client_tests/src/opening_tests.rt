@@ -5,6 +5,7 @@ use byte_streams::Output;
 use ra_client::ClientFault;
 use ra_edit::edit_fault::EditFault;
 use std::alloc::Global;
+use std::process::Abort;
 use std::rt::HostRuntime;
 
 const IDENTITY: &str = "6a1f0c3e-0000-4000-8000-000000000001";
@@ -140,4 +141,37 @@ fn a_writer_that_fails_is_told(rt: HostRuntime) {
         assert!(rt; unwritten(rt.alloc(), passing) == 49);
     }
     assert!(rt; unwritten(rt.alloc(), 100) == 0);
+}
+
+// Whether bytes come to the same at once and one at a time: a refusal, or an identity, a URL, and what the client said.
+fn agree(alloc: Global, bytes: &[u8]) -> bool {
+    match (open(alloc, bytes, &WHOLE), open(alloc, bytes, &SINGLE)) {
+        (Ok(one), Ok(other)) => {
+            let same = one.identity() == other.identity() && one.root_url() == other.root_url();
+            same && one.into_output().bytes() == other.into_output().bytes()
+        }
+        (Err(one), Err(other)) => one == other,
+        _ => false,
+    }
+}
+
+// The place and the value of the first change of a byte with which an opening doesn't.
+fn wrong_change(rt: &impl Abort, alloc: Global) -> Option<(usize, u8)> {
+    for at in 0..OPENED.len() {
+        for value in 0..=u8::MAX {
+            let mut changed = Vec::from_slice(alloc, OPENED).expect(rt, "memory");
+            if let Some(place) = changed.get_mut(at) {
+                *place = value;
+            }
+            if !agree(alloc, &changed) {
+                return Some((at, value));
+            }
+        }
+    }
+    None
+}
+
+#[test]
+fn a_changed_opening_is_told_alike(rt: HostRuntime) {
+    assert_eq!(rt; wrong_change(&rt, rt.alloc()), None);
 }

@@ -1,7 +1,7 @@
 //! A mirror that is begun and brought up to date by what a server writes.
 
 use crate::served_tests::{repo, served};
-use crate::sessions::{WHOLE, open};
+use crate::sessions::{Line as Stream, WHOLE, open};
 use crate::sets::same_tree;
 use fleet_disk::MemDisk;
 use node_base::{PropValue, RevNo};
@@ -11,18 +11,20 @@ use std::alloc::Global;
 use std::process::Abort;
 use std::rt::HostRuntime;
 use sync_core::{SyncFault, Token};
-use sync_job::{AloneMirror, HeldMaster, JobPorts, MasterPort, Report, run_init, run_sync};
+use sync_job::{
+    AloneMirror, HeldMaster, JobPorts, MasterPort, Report, run_copy_revprops, run_init, run_sync,
+};
 use uuid::Uuid;
 
-// What an initialisation asks of its master, and what a synchronisation does.
-const BEGINS: &[u8] = b"( rev-proplist ( 0 ) ) ";
+/// What an initialisation asks of its master, and what a synchronisation does.
+pub(crate) const BEGINS: &[u8] = b"( rev-proplist ( 0 ) ) ";
 
-const GOES_ON: &[u8] =
+pub(crate) const GOES_ON: &[u8] =
     b"( get-latest-rev ( ) ) ( replay-range ( 1 1 0 true ) ) ( rev-proplist ( 1 ) ) ( replay-range ( 2 2 0 true ) ) ( rev-proplist ( 2 ) ) ";
 
-// What a job tells while it runs: a line of the command.
+/// What a job tells while it runs: a line of the command.
 #[derive(Clone, Copy, PartialEq, Eq)]
-enum Line {
+pub(crate) enum Line {
     Committed(u16),
     Copied(u16),
 }
@@ -45,8 +47,8 @@ impl Report for Lines {
     }
 }
 
-// A disk with a repository of another identity.
-fn empty(rt: &impl Abort, alloc: Global) -> MemDisk {
+/// A disk with a repository of another identity.
+pub(crate) fn empty(rt: &impl Abort, alloc: Global) -> MemDisk {
     let identity = Uuid::parse_str("6a1f0c3e-0000-4000-8000-000000000002").expect(
         rt,
         "an identity",
@@ -57,10 +59,11 @@ fn empty(rt: &impl Abort, alloc: Global) -> MemDisk {
     }
 }
 
-fn number_of(answer: Result<(), SyncFault>) -> u8 {
+// The number and the line of a refusal.
+fn told_of(rt: &impl Abort, alloc: Global, answer: Result<(), SyncFault>) -> (u8, String) {
     match answer {
-        Ok(()) => 0,
-        Err(fault) => fault.number(),
+        Ok(()) => (0, String::new(alloc)),
+        Err(fault) => (fault.number(), fault.line(alloc).expect(rt, "memory")),
     }
 }
 
@@ -74,12 +77,23 @@ fn token(rt: &impl Abort, alloc: Global) -> Token {
     Token::new(bytes).expect(rt, "a token")
 }
 
-// What a job leaves: the disk of its mirror, the number of its refusal, 0 for none, and its lines.
+/// What a job leaves: the disk of its mirror, the number and the line of its refusal, 0 for none, and its lines.
 #[derive(Drop)]
-struct Left {
-    disk: MemDisk,
-    number: u8,
-    told: Vec<Line>,
+pub(crate) struct Left {
+    pub(crate) disk: MemDisk,
+    pub(crate) number: u8,
+    pub(crate) line: String,
+    pub(crate) told: Vec<Line>,
+}
+
+/// What a job does at a mirror.
+pub(crate) enum Job {
+    /// It begins the mirror.
+    Begin,
+    /// It brings the mirror up to its master.
+    Synchronize,
+    /// It copies the properties of revisions 0 and 1 again.
+    Copy,
 }
 
 // What is left where a job doesn't begin.
@@ -87,17 +101,18 @@ fn unbegun(alloc: Global, disk: MemDisk, number: u8) -> Left {
     Left {
         disk,
         number,
+        line: String::new(alloc),
         told: Vec::new(alloc),
     }
 }
 
-// Runs a job at the mirror of a disk; the first run begins the mirror.
-fn run_by<M: MasterPort + Drop>(
+/// Runs a job at the mirror of a disk.
+pub(crate) fn run_by<M: MasterPort + Drop>(
     rt: &impl Abort,
     alloc: Global,
     disk: MemDisk,
     master: M,
-    first: bool,
+    job: &Job,
 ) -> Left {
     let store = match RepoStore::open(alloc, disk) {
         Ok(store) => store,
@@ -107,25 +122,45 @@ fn run_by<M: MasterPort + Drop>(
         told: Vec::new(alloc),
     };
     let mut ports = JobPorts::new(alloc, master, AloneMirror::new(store), lines);
-    let answer = if first {
-        run_init(alloc, &mut ports, url(rt, alloc))
-    } else {
-        run_sync(alloc, &mut ports, token(rt, alloc), false)
+    let answer = match job {
+        Job::Begin => run_init(alloc, &mut ports, url(rt, alloc)),
+        Job::Synchronize => run_sync(alloc, &mut ports, token(rt, alloc), false),
+        Job::Copy => run_copy_revprops(
+            alloc,
+            &mut ports,
+            token(rt, alloc),
+            RevNo::ZERO,
+            RevNo::new(1),
+        ),
     };
     let (_master, mirror, lines) = ports.into_parts();
+    let (number, line) = told_of(rt, alloc, answer);
     Left {
         disk: mirror.into_disk(),
-        number: number_of(answer),
+        number,
+        line,
         told: lines.told,
     }
 }
 
-// The same, whose master says these bytes.
-fn run(rt: &impl Abort, alloc: Global, disk: MemDisk, bytes: &[u8], first: bool) -> Left {
-    match open(alloc, bytes, &WHOLE) {
-        Ok(master) => run_by(rt, alloc, disk, master, first),
+/// The same, whose master says these bytes, which come so.
+pub(crate) fn run_over(
+    rt: &impl Abort,
+    alloc: Global,
+    disk: MemDisk,
+    bytes: &[u8],
+    stream: &Stream,
+    job: &Job,
+) -> Left {
+    match open(alloc, bytes, stream) {
+        Ok(master) => run_by(rt, alloc, disk, master, job),
         Err(_) => unbegun(alloc, disk, 60),
     }
+}
+
+// The same, at once.
+fn run(rt: &impl Abort, alloc: Global, disk: MemDisk, bytes: &[u8], job: &Job) -> Left {
+    run_over(rt, alloc, disk, bytes, &WHOLE, job)
 }
 
 // Whether a mirror has the trees and the logs of a repository.
@@ -151,8 +186,8 @@ fn has_log(store: &RepoStore<MemDisk>, number: u16) -> bool {
     }
 }
 
-// The same of the repository on a disk.
-fn holds_mirror(alloc: Global, disk: MemDisk, source: &Repo) -> bool {
+/// The same of the repository on a disk.
+pub(crate) fn holds_mirror(alloc: Global, disk: MemDisk, source: &Repo) -> bool {
     match RepoStore::open(alloc, disk) {
         Ok(store) => {
             let holds = is_mirror(alloc, &store, source);
@@ -163,10 +198,10 @@ fn holds_mirror(alloc: Global, disk: MemDisk, source: &Repo) -> bool {
     }
 }
 
-// What the first job of a mirror tells, and what a synchronisation does.
-const BEGUN: [Line; 1] = [Line::Copied(0)];
+/// What the first job of a mirror tells, and what a synchronisation does.
+pub(crate) const BEGUN: [Line; 1] = [Line::Copied(0)];
 
-const SYNCED: [Line; 4] = [
+pub(crate) const SYNCED: [Line; 4] = [
     Line::Committed(1),
     Line::Copied(1),
     Line::Committed(2),
@@ -181,12 +216,12 @@ fn has_told(left: &Left, lines: &[Line]) -> bool {
 // A mirror that was begun and synchronised over what a server writes; none where that told something else.
 fn by_wire(rt: &impl Abort, alloc: Global) -> Option<MemDisk> {
     let begins = served(rt, alloc, BEGINS);
-    let begun = run(rt, alloc, empty(rt, alloc), begins.as_slice(), true);
+    let begun = run(rt, alloc, empty(rt, alloc), begins.as_slice(), &Job::Begin);
     if !has_told(&begun, &BEGUN) {
         return None;
     }
     let goes_on = served(rt, alloc, GOES_ON);
-    well_left(run(rt, alloc, begun.disk, goes_on.as_slice(), false))
+    well_left(run(rt, alloc, begun.disk, goes_on.as_slice(), &Job::Synchronize))
 }
 
 // The disk of a job that told of both revisions.
@@ -201,12 +236,12 @@ fn well_left(synced: Left) -> Option<MemDisk> {
 // The same over a master in a store, which is asked without a wire.
 fn by_folder(rt: &impl Abort, alloc: Global, source: &Repo) -> Option<MemDisk> {
     let master = folder(rt, alloc, source);
-    let begun = run_by(rt, alloc, empty(rt, alloc), master, true);
+    let begun = run_by(rt, alloc, empty(rt, alloc), master, &Job::Begin);
     if !has_told(&begun, &BEGUN) {
         return None;
     }
     let master = folder(rt, alloc, source);
-    well_left(run_by(rt, alloc, begun.disk, master, false))
+    well_left(run_by(rt, alloc, begun.disk, master, &Job::Synchronize))
 }
 
 #[test]
@@ -246,15 +281,20 @@ fn commit(
         .expect(rt, "a revision");
 }
 
-// A repository of two revisions in a store.
-fn folder(rt: &impl Abort, alloc: Global, source: &Repo) -> HeldMaster<MemDisk> {
+/// A repository of two revisions in a store.
+pub(crate) fn stored(rt: &impl Abort, alloc: Global, source: &Repo) -> RepoStore<MemDisk> {
     let mut store = match RepoStore::create(alloc, MemDisk::new(alloc), source.identity()) {
         Ok(store) => store,
         Err(_) => rt.abort(),
     };
     commit(rt, alloc, &mut store, source, RevNo::new(1));
     commit(rt, alloc, &mut store, source, RevNo::new(2));
-    HeldMaster::new(store)
+    store
+}
+
+// A master in such a store.
+fn folder(rt: &impl Abort, alloc: Global, source: &Repo) -> HeldMaster<MemDisk> {
+    HeldMaster::new(stored(rt, alloc, source))
 }
 
 // The store of a disk.
@@ -324,7 +364,13 @@ fn a_master_that_goes_silent_is_told(rt: HostRuntime) {
     let begins = served(&rt, rt.alloc(), BEGINS);
     let goes_on = served(&rt, rt.alloc(), b"( get-latest-rev ( ) ) ");
     let disk = empty(&rt, rt.alloc());
-    let begun = run(&rt, rt.alloc(), disk, begins.as_slice(), true);
-    let synced = run(&rt, rt.alloc(), begun.disk, goes_on.as_slice(), false);
+    let begun = run(&rt, rt.alloc(), disk, begins.as_slice(), &Job::Begin);
+    let synced = run(
+        &rt,
+        rt.alloc(),
+        begun.disk,
+        goes_on.as_slice(),
+        &Job::Synchronize,
+    );
     assert!(rt; begun.number == 0 && synced.number == 60);
 }

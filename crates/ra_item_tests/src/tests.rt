@@ -47,11 +47,16 @@ impl Outcome {
     }
 }
 
-// The number of the first refusal of bytes in pieces of a size, or 0.
+// The number of the first refusal of bytes in pieces of a size, or 0; another one where the reader holds more than came.
 fn feed_all(reader: &mut ItemReader, items: &mut Vec<Item>, bytes: &[u8], size: usize) -> u32 {
+    let mut fed = 0usize;
     for piece in bytes.chunks(size.max(1)) {
         if let Err(fault) = reader.feed(piece, items) {
             return fault.number();
+        }
+        fed = fed.saturating_add(piece.len());
+        if reader.held() > fed {
+            return 1_000;
         }
     }
     0

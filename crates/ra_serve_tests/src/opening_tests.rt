@@ -4,6 +4,7 @@ use crate::made::file_port;
 use crate::sessions::{
     AUTHORISED, BAD_SHAPE, CLIENT, GREETING, MECHANISMS, WELCOME, asking, has_told, run,
 };
+use byte_streams::Output;
 use ra_item::fault::ItemFault;
 use ra_serve::{End, RepoPort};
 use std::alloc::Global;
@@ -158,4 +159,45 @@ fn faults_of_items_end_the_session(rt: HostRuntime) {
 fn faults_of_items_end_the_opening(rt: HostRuntime) {
     assert!(rt; begins_by(&rt, rt.alloc(), b"( 2 ( ", ItemFault::Truncated));
     assert!(rt; begins_by(&rt, rt.alloc(), b") ", ItemFault::BadItem));
+}
+
+// ---- an opening that is cut or changed
+
+// Whether bytes lead to the same end and the same answers whole and one at a time.
+fn agree<P: RepoPort>(alloc: Global, port: &mut P, sent: &[u8]) -> bool {
+    let whole = run(alloc, port, sent, sent.len(), u64::MAX, u64::MAX);
+    let single = run(alloc, port, sent, 1, u64::MAX, u64::MAX);
+    match (&whole.out, &single.out) {
+        (Some(one), Some(other)) => whole.end == single.end && one.bytes() == other.bytes(),
+        _ => false,
+    }
+}
+
+// Whether they do with the byte at a place changed to any value, and where they end before it.
+fn agree_at<P: RepoPort>(
+    rt: &impl Abort,
+    alloc: Global,
+    port: &mut P,
+    sent: &[u8],
+    at: usize,
+) -> bool {
+    for value in 0..=u8::MAX {
+        let mut changed = Vec::from_slice(alloc, sent).expect(rt, "memory");
+        if let Some(place) = changed.get_mut(at) {
+            *place = value;
+        }
+        if !agree(alloc, port, &changed) {
+            return false;
+        }
+    }
+    agree(alloc, port, sent.get(..at).unwrap_or(b""))
+}
+
+#[test]
+fn a_changed_opening_is_answered_alike(rt: HostRuntime) {
+    let mut port = file_port(&rt, rt.alloc(), false);
+    let sent = asking(&rt, rt.alloc(), b"( get-latest-rev ( ) ) ");
+    for at in 0..sent.len() {
+        assert!(rt; agree_at(&rt, rt.alloc(), &mut port, &sent, at), "at {at}");
+    }
 }

@@ -174,6 +174,10 @@ fn agrees(rt: &impl Abort, alloc: Global, bytes: &[u8]) -> bool {
     gives_by(rt, alloc, bytes, 1, whole.as_slice(), number)
 }
 
+// A text of 64 bytes: the length no longer fits its instruction, and stands behind it.
+const LONG: [u8; 75] =
+    *b"SVN\x00\x00\x00\x40\x02\x40\x80\x40xxxxxxxxxxxxxxxxxxxxxxxxxxxxxxxxxxxxxxxxxxxxxxxxxxxxxxxxxxxxxxxx";
+
 // Whether bytes that are cut anywhere give the same whole and one byte at a time.
 fn fronts_agree(rt: &impl Abort, alloc: Global, bytes: &[u8]) -> bool {
     for n in 0..bytes.len() {
@@ -188,6 +192,7 @@ fn fronts_agree(rt: &impl Abort, alloc: Global, bytes: &[u8]) -> bool {
 fn truncations_agree(rt: HostRuntime) {
     assert!(rt; fronts_agree(&rt, rt.alloc(), &HELLO));
     assert!(rt; fronts_agree(&rt, rt.alloc(), &TWO));
+    assert!(rt; fronts_agree(&rt, rt.alloc(), &LONG));
 }
 
 // Whether bytes with one of them changed give the same whole and one byte at a time.
@@ -215,6 +220,62 @@ fn changes_agree(rt: &impl Abort, alloc: Global, bytes: &[u8]) -> bool {
 fn changed_bytes_agree(rt: HostRuntime) {
     assert!(rt; changes_agree(&rt, rt.alloc(), &HELLO));
     assert!(rt; changes_agree(&rt, rt.alloc(), &TWO));
+    assert!(rt; changes_agree(&rt, rt.alloc(), &LONG));
+}
+
+// What stands in front of a text of 65,536 bytes.
+const GREATEST: &[u8] = b"SVN\x00\x00\x00\x84\x80\x00\x04\x84\x80\x00\x80\x84\x80\x00";
+
+// The text that bytes give whose first so many come one at a time and the rest at once, and the number of the refusal
+// or 0.
+fn outcome_behind(rt: &impl Abort, front: &[u8], rest: &[u8], text: &mut Vec<u8>) -> u32 {
+    let mut reader = WindowReader::new();
+    for piece in front.chunks(1) {
+        let number = take(rt, &mut reader, piece, text);
+        if number != 0 {
+            return number;
+        }
+    }
+    let number = take(rt, &mut reader, rest, text);
+    if number != 0 {
+        return number;
+    }
+    match reader.finish() {
+        Ok(()) => 0,
+        Err(fault) => fault.number(),
+    }
+}
+
+// Whether a window's front that is changed at a byte, to any value, gives the same before a text, whole and one byte at a
+// time.
+fn agrees_before(rt: &impl Abort, alloc: Global, text: &[u8], at: usize) -> bool {
+    for value in 0..=u8::MAX {
+        let mut front = Vec::from_slice(alloc, GREATEST).expect(rt, "memory");
+        if let Some(place) = front.get_mut(at) {
+            *place = value;
+        }
+        let mut bytes = Vec::from_slice(alloc, front.as_slice()).expect(rt, "memory");
+        bytes.extend_from_slice(text).expect(rt, "memory");
+        let mut whole = Vec::new(alloc);
+        let mut single = Vec::new(alloc);
+        let number = outcome(rt, bytes.as_slice(), bytes.len(), &mut whole);
+        let also = outcome_behind(rt, front.as_slice(), text, &mut single);
+        if number != also || whole.as_slice() != single.as_slice() {
+            return false;
+        }
+    }
+    true
+}
+
+#[test]
+fn changed_bytes_before_the_greatest_text_agree(rt: HostRuntime) {
+    let text = Vec::from_elem(rt.alloc(), b'x', 65_536).expect(&rt, "memory");
+    for at in 0..GREATEST.len() {
+        assert!(rt;
+            agrees_before(&rt, rt.alloc(), text.as_slice(), at),
+            "at {at}"
+        );
+    }
 }
 
 #[test]

@@ -1,5 +1,5 @@
 //! Tests of jobs over a master and a mirror in stores, through `sync_job`'s public items: what is told and left, stops
-//! at each moment of a run, and masters that refuse.
+//! and failures at each call of the device, and masters that refuse.
 #![tactic(auto)]
 
 #[cfg(test)]

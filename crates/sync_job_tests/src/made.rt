@@ -1,6 +1,7 @@
 //! What the tests run: a master of two revisions, a mirror on a disk, and a report that counts in digits.
 use dump_load::{Change, ChangeSet};
 use fleet_disk::{Disk, DiskFile, MemDisk, Pick};
+use gate_log::LogVersion;
 use node_base::{Action, NodeKind, NodePath, PropName, PropValue, Props, RevNo, Text};
 use repo_store::RepoStore;
 use std::alloc::Global;
@@ -37,8 +38,10 @@ impl Report for Heard {
     }
 }
 
-/// Copied 0; committed 1 and copied 1; copied 1 alone; copied 0 and copied 1.
+/// Copied 0; committed 1; committed 1 and copied 1; copied 1 alone; copied 0 and copied 1.
 pub(crate) const COPIED_0: u64 = 1;
+
+pub(crate) const COMMITTED_ALONE: u64 = 4;
 
 pub(crate) const COMMITTED_1: u64 = 43;
 
@@ -143,18 +146,14 @@ pub(crate) enum Order {
     Copy(u16, u16),
 }
 
-/// Runs a job at the mirror of a disk, if that opens.
-pub(crate) fn run<D: Disk + Drop>(
+/// Runs a job at the mirror of a store, which comes back as the job's calls have left it.
+pub(crate) fn job<D: Disk + Drop>(
     rt: &impl Abort,
     alloc: Global,
-    disk: D,
+    store: RepoStore<D>,
     source: &RepoStore<MemDisk>,
-    order: Order,
-) -> (D, Ran) {
-    let store = match RepoStore::open(alloc, disk) {
-        Ok(store) => store,
-        Err((fault, disk)) => return (disk, ended(0, fault.number())),
-    };
+    order: &Order,
+) -> (RepoStore<D>, Ran) {
     let mirror = AloneMirror::new(store);
     let heard = Heard { told: 0 };
     let mut ports = JobPorts::new(alloc, LentMaster::new(source), mirror, heard);
@@ -166,12 +165,29 @@ pub(crate) fn run<D: Disk + Drop>(
             alloc,
             &mut ports,
             token(rt, alloc),
-            RevNo::new(low),
-            RevNo::new(high),
+            RevNo::new(*low),
+            RevNo::new(*high),
         ),
     };
     let (_source, mirror, heard) = ports.into_parts();
-    (mirror.into_disk(), ended(heard.told, number_of(answer)))
+    (mirror.into_store(), ended(heard.told, number_of(answer)))
+}
+
+/// Runs a job at the mirror of a disk, if that opens.
+pub(crate) fn run<D: Disk + Drop>(
+    rt: &impl Abort,
+    alloc: Global,
+    disk: D,
+    source: &RepoStore<MemDisk>,
+    order: &Order,
+) -> (D, Ran) {
+    match RepoStore::open(alloc, disk) {
+        Ok(store) => {
+            let (store, ran) = job(rt, alloc, store, source, order);
+            (store.into_disk(), ran)
+        }
+        Err((fault, disk)) => (disk, ended(0, fault.number())),
+    }
 }
 
 /// A disk with an empty repository of its own identity.
@@ -181,13 +197,58 @@ pub(crate) fn empty(rt: &impl Abort, alloc: Global) -> MemDisk {
 
 /// A disk with an initialised mirror, all synced.
 pub(crate) fn initialised(rt: &impl Abort, alloc: Global, source: &RepoStore<MemDisk>) -> MemDisk {
-    let (disk, _ran) = run(rt, alloc, empty(rt, alloc), source, Order::Initialize);
+    let (disk, _ran) = run(rt, alloc, empty(rt, alloc), source, &Order::Initialize);
     disk.crash(Pick::New).expect(rt, "memory")
+}
+
+/// The same, brought up to its master.
+pub(crate) fn synchronised(rt: &impl Abort, alloc: Global, source: &RepoStore<MemDisk>) -> MemDisk {
+    let begun = initialised(rt, alloc, source);
+    let (disk, _ran) = run(rt, alloc, begun, source, &Order::Synchronize);
+    disk.crash(Pick::New).expect(rt, "memory")
+}
+
+/// A disk with the entries of this one, its log in that version; this one's is in the second. The gates of the first are
+/// the slots without their sums.
+pub(crate) fn in_version(
+    rt: &impl Abort,
+    alloc: Global,
+    disk: &MemDisk,
+    version: &LogVersion,
+) -> MemDisk {
+    let slots = disk.bytes(DiskFile::Slots);
+    let mut gates = Vec::new(alloc);
+    for slot in slots.chunks(25) {
+        gates
+            .extend_from_slice(slot.get(..9).unwrap_or(slot))
+            .expect(rt, "memory");
+    }
+    let journal = disk.bytes(DiskFile::Journal);
+    let made = match version {
+        LogVersion::First => MemDisk::with_bytes(alloc, journal, gates.as_slice(), b""),
+        LogVersion::Second => MemDisk::with_bytes(alloc, journal, b"", slots),
+    };
+    made.expect(rt, "memory")
 }
 
 /// How many bytes the slots have.
 pub(crate) fn slots(disk: &MemDisk) -> usize {
     disk.bytes(DiskFile::Slots).len()
+}
+
+/// How many bytes the gates of the first version have.
+pub(crate) fn gate(disk: &MemDisk) -> usize {
+    disk.bytes(DiskFile::Gate).len()
+}
+
+/// How many entries a disk has, that was opened since they were made.
+pub(crate) fn entries(disk: &MemDisk) -> usize {
+    let slots = slots(disk);
+    if slots == 0 {
+        gate(disk) / 9
+    } else {
+        slots / 25
+    }
 }
 
 // Whether revision 0 has this property.
@@ -198,8 +259,8 @@ fn has(store: &RepoStore<MemDisk>, name: &[u8], text: Option<&[u8]>) -> bool {
     }
 }
 
-// Whether a store is a mirror at rest, with this head merged.
-fn is_merged(store: &RepoStore<MemDisk>, head: u16, merged: &[u8]) -> bool {
+/// Whether a store is a mirror at rest, with this head merged.
+pub(crate) fn is_merged(store: &RepoStore<MemDisk>, head: u16, merged: &[u8]) -> bool {
     store.repo().head().get() == head
         && has(store, b"svn:sync-last-merged-rev", Some(merged))
         && has(store, b"svn:sync-currently-copying", None)

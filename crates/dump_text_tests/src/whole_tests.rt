@@ -1,0 +1,117 @@
+//! Two dumps as they are written, one of a file and one of a copy, cut and changed at each byte; and what is announced.
+
+use crate::piece_tests::{answer, gives, keeps, wrong_change};
+use std::alloc::Global;
+use std::process::Abort;
+
+// A file that is added, with its text and a log: a beginning, revision 0 and revision 1.
+const ADDED: &[u8] = b"SVN-fs-dump-format-version: 2
+
+Revision-number: 0
+Prop-content-length: 10
+Content-length: 10
+
+PROPS-END
+
+Revision-number: 1
+Prop-content-length: 29
+Content-length: 29
+
+K 7
+svn:log
+V 2
+hi
+PROPS-END
+
+Node-path: a
+Node-kind: file
+Node-action: add
+Prop-content-length: 10
+Text-content-length: 6
+Text-content-md5: b1946ac92492d2347c6235b4d2611184
+Content-length: 16
+
+PROPS-END
+hello
+
+
+";
+
+// A copy of a directory in which a file is deleted.
+const COPIED: &[u8] = b"SVN-fs-dump-format-version: 2
+
+Revision-number: 2
+Prop-content-length: 10
+Content-length: 10
+
+PROPS-END
+
+Node-path: b
+Node-kind: dir
+Node-action: add
+Node-copyfrom-rev: 1
+Node-copyfrom-path: t
+
+
+
+Node-path: b/x
+Node-action: delete
+
+
+
+";
+
+// The length of the first front of a dump that isn't answered alike whole and byte by byte.
+fn wrong_front(alloc: Global, dump: &[u8]) -> Option<usize> {
+    for end in 0..=dump.len() {
+        let front = dump.get(..end).unwrap_or(b"");
+        if answer(alloc, front, 4096) != answer(alloc, front, 1) {
+            return Some(end);
+        }
+    }
+    None
+}
+
+#[test]
+fn they_are_read_and_each_front_agrees(rt: HostRuntime) {
+    assert!(rt; ADDED.len() == 380 && gives(rt.alloc(), ADDED, 4096, 3, 0));
+    assert!(rt; COPIED.len() == 31 + 203 && gives(rt.alloc(), COPIED, 4096, 3, 0));
+    assert!(rt; wrong_front(rt.alloc(), ADDED).is_none());
+    assert!(rt; wrong_front(rt.alloc(), COPIED).is_none());
+}
+
+// The first change of a byte that is answered otherwise byte by byte.
+fn first_change(rt: &impl Abort, alloc: Global, dump: &[u8]) -> Option<(usize, u8)> {
+    for first in 0..8u8 {
+        let wrong = wrong_change(rt, alloc, dump, first.saturating_mul(32));
+        if wrong.is_some() {
+            return wrong;
+        }
+    }
+    None
+}
+
+#[test]
+fn each_change_of_an_added_file_agrees(rt: HostRuntime) {
+    assert!(rt; first_change(&rt, rt.alloc(), ADDED).is_none());
+}
+
+#[test]
+fn each_change_of_a_copy_agrees(rt: HostRuntime) {
+    assert!(rt; first_change(&rt, rt.alloc(), COPIED).is_none());
+}
+
+// What announces the greatest lengths: nothing is kept of what is to come.
+const ANNOUNCED: [&[u8]; 4] = [
+    b"SVN-fs-dump-format-version: 2\n\nRevision-number: 1\nProp-content-length: 33554432\n\n",
+    b"SVN-fs-dump-format-version: 2\n\nRevision-number: 1\nProp-content-length: 33554432\n\nK 255\n",
+    b"SVN-fs-dump-format-version: 2\n\nRevision-number: 1\nProp-content-length: 33554432\n\nK 1\np\nV 65536\n",
+    b"SVN-fs-dump-format-version: 2\n\nRevision-number: 1\n\nNode-path: a\nNode-action: change\nText-content-length: 1048576\n\n",
+];
+
+#[test]
+fn what_is_announced_is_not_kept(rt: HostRuntime) {
+    for bytes in &ANNOUNCED {
+        assert!(rt; keeps(rt.alloc(), bytes, 0, 2));
+    }
+}
