@@ -7,6 +7,8 @@ mod dumps;
 #[cfg(test)]
 mod memory;
 #[cfg(test)]
+mod report_tests;
+#[cfg(test)]
 mod store_tests;
 #[cfg(test)]
 mod stream_tests;

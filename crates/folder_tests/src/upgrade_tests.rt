@@ -68,7 +68,8 @@ fn a_changed_byte_is_found_by_its_sum(rt: HostRuntime) {
     let alloc = rt.alloc();
     let other = replaced(&rt, alloc, ONE_FILE, "\nhi\n", "\nHi\n");
     let mut first = with_gates(&rt, alloc, other.as_str(), TWO_GATES, b"");
-    let steps = [done(&DUMP, &[], &[HEAD, IDENTITY, ZERO, other.as_str()])];
+    let due = [HEAD, IDENTITY, ZERO, other.as_str()];
+    let steps = [done(&DUMP, &[], &due)];
     assert_eq!(rt; first_wrong(&rt, alloc, &mut first, &steps), None);
     let mut second = with_gates(&rt, alloc, other.as_str(), b"", TWO_SLOTS);
     let line = "svnfleet: 33 entry 1 is damaged\n";

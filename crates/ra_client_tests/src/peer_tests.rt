@@ -82,7 +82,7 @@ fn comes_up(rt: &impl Abort, alloc: Global, disk: MemDisk, source: &Repo) -> boo
         line: _,
         told,
     } = run_over(rt, alloc, disk, bytes.as_slice(), &WHOLE, &Job::Synchronize);
-    number == 0 && told.as_slice() == &SYNCED && holds_mirror(alloc, disk, source)
+    number == 0 && told.as_slice() == SYNCED.as_slice() && holds_mirror(alloc, disk, source)
 }
 
 // Whether a lie ends the job by its line with nothing told, the lock given back and the revision still to be copied; and

@@ -87,6 +87,7 @@ pub(crate) struct Left {
 }
 
 /// What a job does at a mirror.
+#[derive(Clone, Copy)]
 pub(crate) enum Job {
     /// It begins the mirror.
     Begin,
