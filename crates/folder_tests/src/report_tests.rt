@@ -36,7 +36,7 @@ impl LoadReport for Noted {
 }
 
 // What is told of two revisions that are loaded behind the first.
-fn noted(rt: &impl Abort, alloc: Global) -> Noted {
+fn loaded_behind_the_first(rt: &impl Abort, alloc: Global) -> Noted {
     let mut noted = Noted {
         count: 0,
         agreed: true,
@@ -61,7 +61,7 @@ fn noted(rt: &impl Abort, alloc: Global) -> Noted {
 
 #[test]
 fn a_report_is_told_of_what_the_store_has(rt: HostRuntime) {
-    let noted = noted(&rt, rt.alloc());
+    let noted = loaded_behind_the_first(&rt, rt.alloc());
     assert!(rt; noted.count == 2);
     assert!(rt; noted.agreed);
 }
