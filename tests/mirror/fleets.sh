@@ -32,13 +32,13 @@ begun m1 m2 m3 m4
 tells 'a fleet of two' 0 'm1: head 1\nm2: head 1\n' master --workers 2 m1 m2
 for mirror in m1 m2; do
     check "a fleet of two: $mirror has revision 1" same $mirror master 1:1
-    check "a fleet of two: $mirror, nine entries" gate $mirror 9
+    check "a fleet of two: $mirror, nine entries" slots $mirror 9
 done
 check 'a fleet of two: the token of the first' grep -aq '^fleet-1$' m1/journal
 check 'a fleet of two: the token of the second' grep -aq '^fleet-2$' m2/journal
 check 'a fleet of two: no token of another' test "$(grep -ac '^fleet-2$' m1/journal)" -eq 0
 tells 'the fleet again' 0 'm1: head 1\nm2: head 1\n' master --workers 1 m1 m2
-check 'the fleet again: eleven entries' gate m1 11
+check 'the fleet again: eleven entries' slots m1 11
 cp -r master as_it_was
 rm -rf m2
 "$program" create m2 --uuid $other </dev/null
@@ -51,7 +51,7 @@ tells 'a fleet of one' 0 'm3: head 1\n' master --workers 64 m3
 rm -rf locked full damaged
 begun locked damaged
 "$program" synchronize locked master </dev/null >"$work/out"
-{ head -c 72 locked/gate && printf '\0'; } >gate && mv gate locked/gate
+{ head -c 200 locked/slots && printf '\0'; } >cut && mv cut locked/slots
 printf 'SVN' >damaged/journal
 mkdir -p nothing
 tells 'a mirror that is locked' 1 'locked: 54 the sync lock is held by job\nm1: head 1\n' master --workers 2 locked m1
@@ -60,7 +60,7 @@ check 'a missing mirror is not made' test ! -e none
 tells 'no mirror that opens' 1 'none: 34 no repository\nnothing: 34 no repository\nlocked: 54 the sync lock is held by job\ndamaged: 33 entry 0 is damaged\n' master --workers 4 none nothing locked damaged
 tells 'a mirror of another master' 1 'm1: 56 the source is another repository\n' m2 --workers 1 m1
 refused 'a missing master' '34 no repository' fleet none --workers 1 m4
-check 'a missing master: its mirror stays' gate m4 2
+check 'a missing master: its mirror stays' slots m4 2
 
 # words
 wrong_line 'a fifth mirror' '"m5" is not one of 1 to 4 mirrors' fleet master --workers 1 m1 m2 m3 m4 m5

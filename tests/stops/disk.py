@@ -20,11 +20,14 @@ def content(folder):
 
 
 def put(folder, files):
-    """Makes the folder hold these files."""
+    """Makes the folder hold these files; one that is None isn't there."""
     os.makedirs(folder, exist_ok=True)
     for name in FILES:
-        with open(f'{folder}/{name}', 'wb') as file:
-            file.write(files[name])
+        if files[name] is not None:
+            with open(f'{folder}/{name}', 'wb') as file:
+                file.write(files[name])
+        elif os.path.exists(f'{folder}/{name}'):
+            os.remove(f'{folder}/{name}')
 
 
 def changed(file, call, part=None, fill=None):
@@ -62,15 +65,25 @@ def states(start, calls):
 
 def images(start, calls):
     """What the folder may hold after these calls."""
-    each = [states(start[name], [it for it in calls if it[1] == name]) for name in FILES]
+    each = [states(start[name] or b'', [it for it in calls if it[1] == name]) for name in FILES]
     return [dict(zip(FILES, it)) for it in itertools.product(*each)]
+
+
+def is_second(image):
+    """Whether it is of the second version, whose gates and sums are in `slots`."""
+    slots, gate = image['slots'], image['gate']
+    return bool(len(slots) >= 26 and slots[0] == 1 or not gate and slots and slots[0] != 1)
+
+
+def without_sums(image):
+    """An image of the second version in the first: its gates and lengths in `gate`, and no `slots`."""
+    slots = image['slots']
+    return image | {'gate': b''.join(slots[at:at + 9] for at in range(0, len(slots), 25)), 'slots': None}
 
 
 def entries(image):
     """How many entries stand: the open gates before the first closed one, in the file that has them."""
-    slots, gate = image['slots'], image['gate']
-    second = len(slots) >= 26 and slots[0] == 1 or not gate and slots and slots[0] != 1
-    gates = slots[::25] if second else gate[::9]
+    gates = image['slots'][::25] if is_second(image) else image['gate'][::9]
     return next((number for number, gate in enumerate(gates) if gate != 1), len(gates))
 
 

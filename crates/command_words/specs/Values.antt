@@ -12,7 +12,7 @@ use Rattle.sync_core.specs.Tokens.{is_token}
 use Rattle.command_words.specs.Twice.{first_twice}
 use Rattle.command_words.specs.Words.{word_of, word_of_task}
 use Rattle.command_words.specs.declared.command_line.Command.{Command}
-use Rattle.command_words.specs.declared.command_line.Command.TheVariants.{List as ListIt, Canon, Create, Load, Dump, MakeDir, Initialize, Synchronize, CopyRevprops, Info}
+use Rattle.command_words.specs.declared.command_line.Command.TheVariants.{List as ListIt, Canon, Create, Load, Dump, MakeDir, Upgrade, Initialize, Synchronize, CopyRevprops, Info}
 use Rattle.command_words.specs.declared.command_line.Service.{Service}
 use Rattle.command_words.specs.declared.command_line.Place.{Place}
 use Rattle.command_words.specs.declared.command_line.Place.TheVariants.{Folder, Server}
@@ -109,6 +109,7 @@ HasValuesOf rows (Dump folder range) = HasValue rows (codes "DIR") (string_bytes
 HasValuesOf rows (MakeDir folder path message moment) =
     HasValue rows (codes "DIR") (string_bytes folder) × HasValue rows (codes "PATH") (string_bytes path) × HasValue rows (codes "message") (string_bytes message) × ¬ HasReturn (string_bytes message)
     × ((value : List ℕ) × HasValue rows (codes "moment") value × ((micros : ℕ) × SpellsMicros value micros × IsMoment micros moment))
+HasValuesOf rows (Upgrade folder) = HasValue rows (codes "DIR") (string_bytes folder)
 HasValuesOf rows (Initialize mirror source) = HasFolders rows (string_bytes mirror) (string_bytes source)
 HasValuesOf rows (Synchronize mirror source token steal) =
     HasFolders rows (string_bytes mirror) (string_bytes source) × IsTokenOf (first_of (codes "token") rows) token × (steal ≡ is_given rows (codes "steal-lock"))

@@ -4,7 +4,7 @@ use Rattle.clap.specs.Words.{App, Rule, new_app, new_rule, with_rule, with_subco
 use Rattle.clap.specs.Simple.{on_top}
 use Rattle.clap.specs.declared.builder.action.ArgAction.TheVariants.{Append, Set, SetTrue}
 use Rattle.command_words.specs.declared.command_line.Command.{Command}
-use Rattle.command_words.specs.declared.command_line.Command.TheVariants.{List as ListIt, Canon, Create, Load, Dump, MakeDir, Initialize, Synchronize, CopyRevprops, Info}
+use Rattle.command_words.specs.declared.command_line.Command.TheVariants.{List as ListIt, Canon, Create, Load, Dump, MakeDir, Upgrade, Initialize, Synchronize, CopyRevprops, Info}
 use Rattle.command_words.specs.declared.command_line.Task.{Task}
 use Rattle.command_words.specs.declared.command_line.Task.TheVariants as task
 
@@ -57,6 +57,9 @@ mkdir_place_app = with_rule (with_rule (new_app (codes "mkdir")) (word_rule (cod
 abbrev pub mkdir_app : App
 mkdir_app = with_rule (with_rule mkdir_place_app (named_rule (codes "message"))) (named_rule (codes "moment"))
 
+abbrev pub upgrade_app : App
+upgrade_app = with_rule (new_app (codes "upgrade")) (word_rule (codes "DIR"))
+
 -- a command over a mirror and its source
 abbrev pub two_folders_app : List ℕ → App
 two_folders_app name = with_rule (with_rule (new_app name) (word_rule (codes "MIRROR"))) (word_rule (codes "SOURCE"))
@@ -103,9 +106,13 @@ folders_app = with_subcommand (with_subcommand streams_app create_app.top) load_
 abbrev pub histories_app : App
 histories_app = with_subcommand (with_subcommand folders_app dump_app.top) mkdir_app.top
 
+-- and with that which gives a folder's entries their sums
+abbrev pub upgrades_app : App
+upgrades_app = with_subcommand histories_app upgrade_app.top
+
 -- and with those that write a mirror's revisions
 abbrev pub mirrors_app : App
-mirrors_app = with_subcommand (with_subcommand histories_app initialize_app.top) synchronize_app.top
+mirrors_app = with_subcommand (with_subcommand upgrades_app initialize_app.top) synchronize_app.top
 
 -- and with that which tells of a mirror
 abbrev pub told_app : App
@@ -123,6 +130,7 @@ word_of (Create folder identity) = codes "create"
 word_of (Load folder) = codes "load"
 word_of (Dump folder range) = codes "dump"
 word_of (MakeDir folder path message moment) = codes "mkdir"
+word_of (Upgrade folder) = codes "upgrade"
 word_of (Initialize mirror source) = codes "initialize"
 word_of (Synchronize mirror source token steal) = codes "synchronize"
 word_of (CopyRevprops mirror source token range) = codes "copy-revprops"

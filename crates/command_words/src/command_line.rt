@@ -20,7 +20,8 @@ ghost use Rattle.command_words.specs.Words.{flag_rule, fleet_app, folders_app, h
 ghost use Rattle.command_words.specs.Words.{info_app, initialize_app, list_app};
 ghost use Rattle.command_words.specs.Words.{load_app, mirrors_app, mkdir_app, mkdir_place_app, named_rule, optional_rule};
 ghost use Rattle.command_words.specs.Words.{range_rule, serve_app, serve_place_app, streams_app, svnfleet_app};
-ghost use Rattle.command_words.specs.Words.{synchronize_app, told_app, two_folders_app, word_of_task, word_rule};
+ghost use Rattle.command_words.specs.Words.{synchronize_app, told_app, two_folders_app, upgrade_app, upgrades_app};
+ghost use Rattle.command_words.specs.Words.{word_of_task, word_rule};
 ghost use Rattle.sync_core.specs.Tokens.{is_token};
 ghost use Rattle.node_base.specs.Numbers.{rev_read};
 ghost use Rattle.repo_core.specs.Dates.{IsMoment};
@@ -67,6 +68,10 @@ pub enum Command {
         path: String,
         message: String,
         moment: Moment,
+    },
+    /// Give the entries of a folder's repository their sums.
+    Upgrade {
+        folder: String,
     },
     /// Make a folder's repository the mirror of another folder's.
     Initialize {
@@ -335,6 +340,18 @@ fn mkdir<'a>(alloc: Global) -> Result<clap::Command<'a>, AllocError>
     Ok(whole)
 }
 
+fn upgrade<'a>(alloc: Global) -> Result<clap::Command<'a>, AllocError>
+    ensures app { IfOk result (λ c. app_of c ≡ upgrade_app) }
+    ensures local { IfOk result (λ c. (fields_of c).has_globals ≡ false) }
+{
+    let folder = word(alloc, "DIR", "The folder of the repository");
+    let top = clap::Command::new(alloc, "upgrade")
+        .about("Gives the entries of a folder's repository their sums")
+        .after_help(texts::UPGRADE);
+    let whole = top.arg(folder)?;
+    Ok(whole)
+}
+
 // `-r LO:HI`, which has to be there.
 fn copied_range<'a>(alloc: Global) -> Arg<'a>
     ensures rule { rule_of result ≡ copied_range_rule }
@@ -519,6 +536,17 @@ fn over_histories<'a>(alloc: Global) -> Result<clap::Command<'a>, AllocError>
     Ok(whole)
 }
 
+// And with that which gives a folder's entries their sums.
+fn over_upgrades<'a>(alloc: Global) -> Result<clap::Command<'a>, AllocError>
+    ensures app { IfOk result (λ c. app_of c ≡ upgrades_app) }
+    ensures local { IfOk result (λ c. (fields_of c).has_globals ≡ false) }
+{
+    let upgrade = upgrade(alloc)?;
+    let top = over_histories(alloc)?;
+    let whole = top.subcommand(upgrade)?;
+    Ok(whole)
+}
+
 // And with those that write a mirror's revisions.
 fn over_mirrors<'a>(alloc: Global) -> Result<clap::Command<'a>, AllocError>
     ensures app { IfOk result (λ c. app_of c ≡ mirrors_app) }
@@ -526,7 +554,7 @@ fn over_mirrors<'a>(alloc: Global) -> Result<clap::Command<'a>, AllocError>
 {
     let initialize = initialize(alloc)?;
     let synchronize = synchronize(alloc)?;
-    let top = over_histories(alloc)?;
+    let top = over_upgrades(alloc)?;
     let some = top.subcommand(initialize)?;
     let whole = some.subcommand(synchronize)?;
     Ok(whole)
@@ -619,6 +647,7 @@ fn named(alloc: Global, matches: &ArgMatches<'_>) -> Result<Command, Usage>
         Some(("load", given)) => load_named(alloc, given),
         Some(("dump", given)) => dump_named(alloc, given),
         Some(("mkdir", given)) => mkdir_named(alloc, given),
+        Some(("upgrade", given)) => upgrade_named(alloc, given),
         Some(("info", given)) => info_named(alloc, given),
         _ => Err(Usage::OutOfMemory),
     }
@@ -734,6 +763,15 @@ fn mkdir_named(alloc: Global, given: &ArgMatches<'_>) -> Result<Command, Usage>
             "a number of microseconds from 0 to 4102444799999999",
         )),
     }
+}
+
+fn upgrade_named(alloc: Global, given: &ArgMatches<'_>) -> Result<Command, Usage>
+    ensures named { IfOk result (IsCommandOf (Some (codes "upgrade", rows_of (found_of given.now)))) }
+    ensures usage { IfErr result (IsRefusedAt (Some (codes "upgrade", rows_of (found_of given.now)))) }
+{
+    Ok(Command::Upgrade {
+        folder: text(alloc, given, "DIR")?,
+    })
 }
 
 fn initialize_named(alloc: Global, given: &ArgMatches<'_>) -> Result<Planned, Usage>

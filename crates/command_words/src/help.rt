@@ -36,6 +36,7 @@ fn is_command(word: &str) -> bool
         || word == "load"
         || word == "dump"
         || word == "mkdir"
+        || word == "upgrade"
         || word == "initialize"
         || word == "synchronize"
         || word == "copy-revprops"

@@ -40,6 +40,16 @@ pub const MKDIR: &str = "\
 Prints `Committed revision N.` A TEXT with a carriage return is refused (status 2), since Subversion takes no
 such log message: its lines end with line feeds alone.";
 
+/// Of `upgrade`.
+pub const UPGRADE: &str = "\
+Writes the sum of each entry of DIR's journal beside its length, so that a byte that changes is found, and told by
+its entry (33), when the repository is opened again. Each folder that `create` makes has these sums; one that was
+made before there were any is read and changed without them, until this command. The history stays, a mirror's
+and its lock too. Afterwards a svnfleet from before can't open the folder.
+Prints `Upgraded N entries.`: 0, with nothing changed, where the sums are there already.
+It may be stopped at any moment, and run again: the repository is there meanwhile, and afterwards.
+The status is 0; 1 with a line where the folder can't be opened or the device fails; 2 where the words are wrong.";
+
 /// Of `initialize`.
 pub const INITIALIZE: &str = "\
 Begins a mirror: MIRROR is a repository that `create` has begun and that has no revision, and is given the

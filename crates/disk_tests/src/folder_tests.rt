@@ -98,9 +98,7 @@ fn is_completed(rt: &HostRuntime, folder: &str, count: u64) -> bool {
 // Whether the slots of a folder, whose disk is completed now, are written.
 fn is_written_in_slots(rt: &HostRuntime, folder: &str) -> bool {
     match HostDisk::complete(rt, rt.alloc(), folder) {
-        Ok(mut disk) => {
-            disk.write_at(DiskFile::Slots, 0, b"xyz").is_ok() && disk.sync().is_ok()
-        }
+        Ok(mut disk) => { disk.write_at(DiskFile::Slots, 0, b"xyz").is_ok() && disk.sync().is_ok() }
         Err(_) => false,
     }
 }

@@ -7,3 +7,4 @@ pub mod Mirroring
 pub mod Opening
 pub mod Pulled
 pub mod Served
+pub mod Upgrading

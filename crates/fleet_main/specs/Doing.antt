@@ -25,6 +25,7 @@ use Rattle.store_engines.specs.Dumps.{dump_of, DumpStops}
 use Rattle.store_engines.specs.Loads.{Loaded, ServesOne, ServesRecords, Refused as LoadRefused}
 use Rattle.store_engines.specs.Mirrors.{is_mirror}
 use Rattle.store_engines.specs.Ranges.{count_wanted, first_in, first_wanted, last_in, last_wanted}
+use Rattle.store_engines.specs.Upgrades.{IsUpgraded, NotUpgraded}
 use Rattle.store_engines.specs.declared.range.RevRange.{RevRange}
 use Rattle.sync_core.specs.declared.fault.SyncFault.{SyncFault}
 use Rattle.sync_job.specs.Fronts.{accepted_in, counted_in}
@@ -36,7 +37,7 @@ use Rattle.fleet_main.specs.Loans.{AreBack, IsLent, Loan, lent_by, only_of}
 use Rattle.fleet_main.specs.Opening.{NotBegunIn, NotOpened, NotOpenedIn}
 use Rattle.fleet_main.specs.declared.lending.Folders.{Ghosts as FolderGhosts}
 use Rattle.command_words.specs.declared.command_line.Command.{Command}
-use Rattle.command_words.specs.declared.command_line.Command.TheVariants.{List as ListIt, Canon, Create, Load, Dump, MakeDir, Initialize, Synchronize, CopyRevprops, Info}
+use Rattle.command_words.specs.declared.command_line.Command.TheVariants.{List as ListIt, Canon, Create, Load, Dump, MakeDir, Upgrade, Initialize, Synchronize, CopyRevprops, Info}
 
 -- a store is opened on a disk that a folder lent, and that keeps the rules if the folders do
 pub record IsOpenedOn {D : Type 0} (G : Ghosts D) (honest : Type 0) (given : D) (store : RepoStore D G) : Type 0 where
@@ -196,6 +197,15 @@ abbrev pub NotToldOf : {D : Type 0} {G : Ghosts D} → Type 0 → Option (List �
 NotToldOf honest before now fails e old new =
     (new ≡ old) × (((info_fault (props_at (revisions_of old) 0) (head_of (revisions_of old)) ≡ Some e) × (now ≡ before)) ⊎ ((e ≡ refusal.PeerFailed) × fails)) × IsKept honest old
 
+-- a store is opened on a folder's disk; of it and the disk that came back P is so, and the folder has that disk then, while other folders stay
+pub record OfUpgrade {F D : Type 0} (G : Ghosts D) (H : FolderGhosts F D) (folders later : F) (folder : List ℕ) (P : RepoStore D G → D → Type 0) : Type 0 where
+  pub given : D
+  pub old : RepoStore D G
+  pub left : D
+  pub opened : IsOpenedOn G (H.honest folders) given old
+  pub done : P old left
+  pub back : AreBack G H folders later (only_of folder given left)
+
 -- a command is done over folders, with these bytes to read: of an output that held `before`, what it holds now
 abbrev pub IsDone : {F D : Type 0} → Ghosts D → FolderGhosts F D → F → F → Command → Option (List ℕ) → Option (List ℕ) → Option (List ℕ) → Type 0
 IsDone G H folders later ListIt bytes before now = IfSome bytes (λ read. Accepted product.List read before now) × AreBack G H folders later []
@@ -205,6 +215,7 @@ IsDone G H folders later (Load folder) bytes before now = OfStanding G H folders
 IsDone G H folders later (Dump folder range) bytes before now = OfStanding G H folders later (string_bytes folder) (IsDumped (H.honest folders) range before now)
 IsDone G H folders later (MakeDir folder path message moment) bytes before now =
     OfStanding G H folders later (string_bytes folder) (IsCommittedTo (H.honest folders) (string_bytes path) (string_bytes message) moment before now)
+IsDone G H folders later (Upgrade folder) bytes before now = OfUpgrade G H folders later (string_bytes folder) (IsUpgraded before now)
 IsDone G H folders later (Initialize mirror source) bytes before now =
     OfBoth G H folders later (string_bytes mirror) (string_bytes source) (IsWorkedOver (IsInitialised (string_bytes source)) before now)
 IsDone G H folders later (Synchronize mirror source token steal) bytes before now =
@@ -216,6 +227,10 @@ IsDone G H folders later (Info mirror) bytes before now = OfStanding G H folders
 -- the repository isn't opened, and nothing is written; or of the one that stands there P is so
 abbrev pub UnopenedOr : {F D : Type 0} (G : Ghosts D) → FolderGhosts F D → F → F → List ℕ → Option (List ℕ) → Option (List ℕ) → Refusal → (RepoStore D G → RepoStore D G → Type 0) → Type 0
 UnopenedOr G H folders later folder before now e P = (NotOpenedIn G H folders later folder e × (now ≡ before)) ⊎ OfStanding G H folders later folder P
+
+-- the same of an upgrade
+abbrev pub UnopenedOrUpgrade : {F D : Type 0} (G : Ghosts D) → FolderGhosts F D → F → F → List ℕ → Option (List ℕ) → Option (List ℕ) → Refusal → (RepoStore D G → D → Type 0) → Type 0
+UnopenedOrUpgrade G H folders later folder before now e P = (NotOpenedIn G H folders later folder e × (now ≡ before)) ⊎ OfUpgrade G H folders later folder P
 
 -- the source's repository isn't opened, the mirror's is, and a stop leaves what keeps it
 pub record HasNoSource {F D : Type 0} (G : Ghosts D) (H : FolderGhosts F D) (folders later : F) (mirror source : List ℕ) (e : Refusal) : Type 0 where
@@ -248,6 +263,8 @@ IsNotDone G H folders later (Dump folder range) bytes before start now count e =
     UnopenedOr G H folders later (string_bytes folder) before now e (NotDumped (H.honest folders) range before now (Rose start count) e)
 IsNotDone G H folders later (MakeDir folder path message moment) bytes before start now count e =
     UnopenedOr G H folders later (string_bytes folder) before now e (NotCommittedTo (H.honest folders) (string_bytes path) (string_bytes message) moment before now (Rose start count) e)
+IsNotDone G H folders later (Upgrade folder) bytes before start now count e =
+    UnopenedOrUpgrade G H folders later (string_bytes folder) before now e (NotUpgraded before now (Rose start count) e)
 IsNotDone G H folders later (Initialize mirror source) bytes before start now count e =
     (NotKept (string_bytes source) before now e × AreBack G H folders later [])
     ⊎ UnopenedBoth G H folders later (string_bytes mirror) (string_bytes source) before now e (NotWorkedOver (IsInitialised (string_bytes source)) before now (Rose start count) e)

@@ -10,11 +10,13 @@ ghost use Rattle.mirror_engines.specs.Runs.{IsInitialised, IsWorked};
 ghost use Rattle.fleet_main.specs.Doing.{EndsWith, HandsOn, IsBegun, IsCommittedTo, IsDone, IsDumped, IsLoadedFrom};
 ghost use Rattle.fleet_main.specs.Doing.{IsNotDone, IsToldOf, IsWorkedOver, NoSourceOr, NotCommittedTo, NotDumped};
 ghost use Rattle.fleet_main.specs.Doing.{NotKept, NotLoadedFrom, NotToldOf, NotWorkedOn, NotWorkedOver, OfBoth};
-ghost use Rattle.fleet_main.specs.Doing.{OfStanding, OverSource, UnopenedBoth, UnopenedOr, WorkedOn};
+ghost use Rattle.fleet_main.specs.Doing.{OfStanding, OfUpgrade, OverSource, UnopenedBoth, UnopenedOr};
+ghost use Rattle.fleet_main.specs.Doing.{UnopenedOrUpgrade, WorkedOn};
 ghost use Rattle.fleet_main.specs.Loans.{AreBack};
 ghost use Rattle.fleet_main.specs.Opening.{NotBegunIn};
+ghost use Rattle.store_engines.specs.Upgrades.{IsUpgraded, NotUpgraded};
 
-use crate::folders::{closed, created, opened};
+use crate::folders::{closed, created, opened, opened_to_upgrade};
 use crate::lending::Folders;
 use byte_streams::{Input, Output};
 use command_words::Command;
@@ -26,7 +28,7 @@ use node_base::{PropValue, Refusal};
 use repo_core::Moment;
 use repo_store::RepoStore;
 use std::alloc::Global;
-use store_engines::{RevRange, run_dump, run_load, run_mkdir};
+use store_engines::{RevRange, run_dump, run_load, run_mkdir, run_upgrade};
 use sync_core::Token;
 use sync_job::LentMaster;
 use uuid::Uuid;
@@ -128,6 +130,30 @@ fn make_dir<F: Folders, O: Output + Drop>(
             let mut store = store;
             let done = run_mkdir(alloc, &mut store, path, message, moment, output);
             closed(folders, folder, store);
+            done
+        }
+        Err(refusal) => Err(refusal),
+    }
+}
+
+fn upgrade<F: Folders, O: Output + Drop>(
+    alloc: Global,
+    folders: &mut F,
+    folder: &str,
+    output: &mut O,
+) -> Result<(), Refusal>
+    ensures done { OnOk result (OfUpgrade F.Place.Disk F.Folders folders.old folders.new folder.now
+        (IsUpgraded (O.contents output.old) (O.contents output.new))) }
+    ensures refused { IfErr result (λ e. UnopenedOrUpgrade F.Place.Disk F.Folders folders.old folders.new folder.now
+        (O.contents output.old) (O.contents output.new) e
+        (NotUpgraded (O.contents output.old) (O.contents output.new)
+        (Rose (O.failures output.old) (O.failures output.new)) e)) }
+    ensures peer { Counted result (O.failures output.old) (O.failures output.new) }
+{
+    match opened_to_upgrade(alloc, folders, folder) {
+        Ok(store) => {
+            let (disk, done) = run_upgrade(alloc, store, output);
+            folders.close(folder, disk);
             done
         }
         Err(refusal) => Err(refusal),
@@ -335,6 +361,10 @@ fn run_one<F: Folders, I: Input, O: Output + Drop>(
                 moment,
                 &mut output,
             );
+            (output, done)
+        }
+        Command::Upgrade { folder } => {
+            let done = upgrade(alloc, folders, folder.as_str(), &mut output);
             (output, done)
         }
         Command::Initialize { mirror, source } => {

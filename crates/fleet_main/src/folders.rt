@@ -83,6 +83,15 @@ impl<'a, R: HeldFiles> Folders for HostFolders<'a, R> {
         self.answered(HostDisk::open(rt, alloc, folder))
     }
 
+    fn complete(
+        &mut self,
+        alloc: Global,
+        folder: &str,
+    ) -> Result<HostDisk<StdFiles<R::File>>, FolderFault> {
+        let rt = self.rt;
+        self.answered(HostDisk::complete(rt, alloc, folder))
+    }
+
     fn create(
         &mut self,
         alloc: Global,
@@ -209,6 +218,31 @@ pub fn opened<F: Folders>(
             Ok(store) => Ok(store),
             Err((refusal, left)) => {
                 folders.close(folder, left);
+                Err(refusal)
+            }
+        },
+        Err(fault) => Err(folder_refusal(fault)),
+    }
+}
+
+/// The same of a folder whose entries are to be given their sums.
+pub fn opened_to_upgrade<F: Folders>(
+    alloc: Global,
+    folders: &mut F,
+    folder: &str,
+) -> Result<RepoStore<F::Place>, Refusal>
+    ensures opened { IfOk result (IsOpenedIn F.Place.Disk F.Folders folders.old folders.new folder.now) }
+    ensures refused { IfErr result (NotOpenedIn F.Place.Disk F.Folders folders.old folders.new folder.now) }
+    ensures no_peer { IfErr result (λ e. e ≡ Refusal.PeerFailed → ⊥) }
+{
+    if folder.is_empty() {
+        return Err(Refusal::NoRepository);
+    }
+    match folders.complete(alloc, folder) {
+        Ok(lent) => match open_store(alloc, lent) {
+            Ok(store) => Ok(store),
+            Err((refusal, back)) => {
+                folders.close(folder, back);
                 Err(refusal)
             }
         },

@@ -45,6 +45,19 @@ pub trait Folders {
         ensures cause { IfErr result (λ e. e ≡ FolderFault.DeviceFailed
             → Rose (failures self.old) (failures self.new)) };
 
+    /// The same of a folder whose entries are to be given their sums: what they will be in is made beside the files that
+    /// have them, and nothing where these aren't there. So the disk is the one that stands there.
+    fn complete(&mut self, alloc: Global, folder: &str) -> Result<Self::Place, FolderFault>
+        ensures given { honest self.old → IfOk result (IsGiven Self.Place.Disk (disk self.old folder.now)) }
+        ensures rules { honest self.old → IfOk result (λ place. Self.Place.honest place) }
+        ensures lent { honest self.old → OnOk result (disk self.new folder.now ≡ Lent) }
+        ensures others { honest self.old → OnOk result (OthersStay folder.now (disk self.old) (disk self.new)) }
+        ensures same { honest self.old → OnErr result (AllStay (disk self.old) (disk self.new)) }
+        ensures honest { honest self.old → honest self.new }
+        ensures later { failures self.old ≤ failures self.new }
+        ensures cause { IfErr result (λ e. e ≡ FolderFault.DeviceFailed
+            → Rose (failures self.old) (failures self.new)) };
+
     /// The same of a folder that is made where it is missing, as its files are where they are empty; the folder above
     /// has to be there.
     fn create(&mut self, alloc: Global, folder: &str) -> Result<Self::Place, FolderFault>

@@ -7,9 +7,13 @@ mod dumps;
 #[cfg(test)]
 mod memory;
 #[cfg(test)]
+mod report_tests;
+#[cfg(test)]
 mod store_tests;
 #[cfg(test)]
 mod stream_tests;
+#[cfg(test)]
+mod upgrade_tests;
 #[cfg(test)]
 mod wire_tests;
 #[cfg(test)]

@@ -138,6 +138,10 @@ impl<'a, D: Disk + Drop> Folders for MemFolders<'a, D> {
         Err(self.fail())
     }
 
+    fn complete(&mut self, alloc: Global, folder: &str) -> Result<OthersDisk<'a, D>, FolderFault> {
+        self.open(alloc, folder)
+    }
+
     fn create(&mut self, alloc: Global, folder: &str) -> Result<OthersDisk<'a, D>, FolderFault> {
         self.open(alloc, folder)
     }

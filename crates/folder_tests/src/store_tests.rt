@@ -21,7 +21,7 @@ pub(crate) const HEAD: &str = "SVN-fs-dump-format-version: 2\n\n";
 pub(crate) const IDENTITY: &str = "UUID: 6a1f0c3e-0000-4000-8000-000000000001\n\n";
 
 // Revision 0 without properties, 74 bytes.
-const ZERO: &str =
+pub(crate) const ZERO: &str =
     "Revision-number: 0\nProp-content-length: 10\nContent-length: 10\n\nPROPS-END\n\n";
 
 // Revision 1 adds file `a` with a text of six bytes: 275 bytes.
@@ -29,7 +29,7 @@ pub(crate) const ONE_FILE: &str =
     "Revision-number: 1\nProp-content-length: 29\nContent-length: 29\n\nK 7\nsvn:log\nV 2\nhi\nPROPS-END\n\nNode-path: a\nNode-kind: file\nNode-action: add\nProp-content-length: 10\nText-content-length: 6\nText-content-md5: b1946ac92492d2347c6235b4d2611184\nContent-length: 16\n\nPROPS-END\nhello\n\n\n";
 
 // Revision 2 deletes it: 130 bytes.
-const NO_FILE: &str =
+pub(crate) const NO_FILE: &str =
     "Revision-number: 2\nProp-content-length: 10\nContent-length: 10\n\nPROPS-END\n\nNode-path: a\nNode-action: delete\n\n\n\n";
 
 // Revision 0 of a mirror.
@@ -43,7 +43,7 @@ const DIRECTORY: &str =
 // What is printed of a first and a second revision.
 pub(crate) const LOADED: &str = "Loaded revision 1.\n";
 
-const LOADED_TWO: &str = "Loaded revision 2.\n";
+pub(crate) const LOADED_TWO: &str = "Loaded revision 2.\n";
 
 // The words of commands.
 const CREATE: [&str; 4] = [
@@ -55,11 +55,11 @@ const CREATE: [&str; 4] = [
 
 pub(crate) const LOAD: [&str; 2] = ["load", "repo"];
 
-const DUMP: [&str; 2] = ["dump", "repo"];
+pub(crate) const DUMP: [&str; 2] = ["dump", "repo"];
 
 const DUMP_ONE: [&str; 4] = ["dump", "repo", "-r", "1:1"];
 
-fn joined(rt: &impl Abort, alloc: Global, parts: &[&str]) -> Vec<u8> {
+pub(crate) fn joined(rt: &impl Abort, alloc: Global, parts: &[&str]) -> Vec<u8> {
     let mut all = Vec::new(alloc);
     for part in parts {
         all.extend_from_slice(part.as_bytes()).expect(rt, "memory");
@@ -68,7 +68,13 @@ fn joined(rt: &impl Abort, alloc: Global, parts: &[&str]) -> Vec<u8> {
 }
 
 // A text with other words in the place of some.
-fn replaced(rt: &impl Abort, alloc: Global, text: &str, some: &str, others: &str) -> String {
+pub(crate) fn replaced(
+    rt: &impl Abort,
+    alloc: Global,
+    text: &str,
+    some: &str,
+    others: &str,
+) -> String {
     text.replace(alloc, some, others).expect(rt, "memory")
 }
 
@@ -85,7 +91,7 @@ fn are(bytes: &[u8], parts: &[&str]) -> bool {
 }
 
 // Whether a disk's journal is these parts, and its slots these bytes.
-fn holds(disk: &MemDisk, parts: &[&str], slots: &[u8]) -> bool {
+pub(crate) fn holds(disk: &MemDisk, parts: &[&str], slots: &[u8]) -> bool {
     are(disk.bytes(DiskFile::Journal), parts)
         && disk.bytes(DiskFile::Gate).is_empty()
         && disk.bytes(DiskFile::Slots) == slots
@@ -189,7 +195,7 @@ fn crashed(rt: &impl Abort, disk: &MemDisk, pick: Pick) -> MemDisk {
 }
 
 // The first step that doesn't come to what it says. Behind each step the machine stops, and all that isn't synced is lost.
-fn first_wrong(
+pub(crate) fn first_wrong(
     rt: &impl Abort,
     alloc: Global,
     disk: &mut MemDisk,
@@ -219,7 +225,7 @@ pub(crate) fn done<'a>(
 }
 
 // A step that is refused before anything is printed.
-fn refused<'a>(words: &'a [&'a str], input: &'a [&'a str], errors: &'a str) -> Step<'a> {
+pub(crate) fn refused<'a>(words: &'a [&'a str], input: &'a [&'a str], errors: &'a str) -> Step<'a> {
     Step {
         words,
         input,
@@ -282,7 +288,8 @@ fn load_commits_each_revision(rt: HostRuntime) {
     ];
     assert_eq!(rt; first_wrong(&rt, alloc, &mut disk, &steps), None);
     // 149 bytes, and 424 with the next entry
-    let slots = b"\x01\0\0\0\0\0\0\0\x95p\x03\x96\x9B\xE9H\x96\xF8`\xFA=\x8D\x10\xE4l\x11\x01\0\0\0\0\0\0\x01\xA8Gs\xE6\x8A\x10d\x15\x85\xA8\xD8\x98\x07\xC6\xFB\x8B\xCD\0";
+    let slots =
+        b"\x01\0\0\0\0\0\0\0\x95p\x03\x96\x9B\xE9H\x96\xF8`\xFA=\x8D\x10\xE4l\x11\x01\0\0\0\0\0\0\x01\xA8Gs\xE6\x8A\x10d\x15\x85\xA8\xD8\x98\x07\xC6\xFB\x8B\xCD\0";
     assert!(rt; holds(&disk, &[HEAD, IDENTITY, ZERO, ONE_FILE], slots));
 }
 

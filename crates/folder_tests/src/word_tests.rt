@@ -95,6 +95,24 @@ fn words_load_and_dump(rt: HostRuntime) {
     );
 }
 
+// By an upgrade of the folder `repo`.
+fn upgrades(rt: &impl Abort, alloc: Global, parts: &[&str]) -> bool {
+    match planned(rt, alloc, parts) {
+        Ok(Planned::Run(Command::Upgrade { folder })) => folder.as_str() == "repo",
+        _ => false,
+    }
+}
+
+#[test]
+fn words_upgrade(rt: HostRuntime) {
+    assert!(rt; upgrades(&rt, rt.alloc(), &["upgrade", "repo"]));
+    assert_eq!(rt; meaning(&rt, rt.alloc(), &["upgrade"]), "wrong");
+    assert_eq!(rt;
+        meaning(&rt, rt.alloc(), &["upgrade", "repo", "other"]),
+        "wrong"
+    );
+}
+
 // By a directory `a/b` in the folder `repo`, with the message `hi` and a moment of this date.
 fn makes_directory(rt: &impl Abort, alloc: Global, parts: &[&str], date: &str) -> bool {
     match planned(rt, alloc, parts) {

@@ -1,9 +1,10 @@
 -- Entries that are written.
 use Rattle.std.specs.Option.{option_map}
-use Rattle.std.proofs.Common.{◌<◌, length-append, codes, Result, Ok, Err, IfOk, OnOk, ◌≡◌, ◌&&◌, ◌||◌, arith, length, ℕ, Bool, true, not, List, [], ◌∷◌, ◌++◌, map, Option, None, Some, is_some, is_none, refl, sym, ◌∙◌, ap, subst}
+use Rattle.std.proofs.Common.{◌<◌, length-append, codes, Result, Ok, Err, IfOk, OnOk, ◌≡◌, ◌&&◌, ◌||◌, arith, length, ℕ, Bool, true, false, not, List, [], ◌∷◌, ◌++◌, map, Option, None, Some, is_some, is_none, refl, sym, ◌∙◌, ap, subst}
 use Rattle.std.specs.Prelude.{Vec}
 use Rattle.std.specs.declared.alloc.Global.{Global}
 use Rattle.std.specs.List.{AllByRecursion, flat_map}
+use Rattle.std.specs.Result.{is_err}
 use Rattle.node_base.specs.Props.{PropMap}
 use Rattle.dump_text.specs.Canon.{canon_head, canon_entry, canon_node}
 use Rattle.dump_text.specs.Grammar.{Dump}
@@ -31,6 +32,11 @@ pub beginning_spelled : (law : DumpsGoOn) (identity : List ℕ) (props : PropMap
     → IsBeginning bytes identity props
 beginning_spelled law identity props bytes head entry is =
     record { canonical = is; readable = subst (λ (b : List ℕ). Dump b (told.Identity identity ∷ told.Revision 0 props ∷ [])) (sym is) (law (canon_head (Some identity)) (canon_entry 0 props) (read_identity (Some identity)) (told.Revision 0 props ∷ []) head entry) }
+
+-- what a call says of Ok holds where it wasn't refused
+pub held : {A E : Type 0} (r : Result A E) (P : Type 0) → is_err r ≡ false → OnOk r P → P
+held (Ok v) P fine h = h
+held (Err e) P fine h = cc
 
 -- dump text has the form of a change
 same_form : (a : Action) (source : Bool) (props : Option PropMap) (text : Bool)

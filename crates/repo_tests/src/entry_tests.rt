@@ -79,7 +79,7 @@ fn entries_that_are_none(rt: HostRuntime) {
     assert_eq!(rt; first_wrong(&rt, rt.alloc(), &ENTRIES), None);
 }
 
-const SETS: [(&[u8], u8, &str); 3] = [
+const SETS: [(&[u8], u8, &str); 4] = [
     (
         b"Revision-number: 1\nProp-content-length: 10\nContent-length: 10\n\nPROPS-END\n\n\
             Node-path: a\nNode-kind: dir\nNode-action: add\nProp-content-length: 10\n\
@@ -99,6 +99,13 @@ const SETS: [(&[u8], u8, &str); 3] = [
             Content-length: 10\n\nPROPS-END\n\n\n",
         33,
         "a kind is missing",
+    ),
+    (
+        b"Revision-number: 1\nProp-content-length: 10\nContent-length: 10\n\nPROPS-END\n\n\
+            Node-path: a\nNode-kind: dir\nNode-action: add\nProp-delta: true\n\
+            Prop-content-length: 10\nContent-length: 10\n\nPROPS-END\n\n\n",
+        33,
+        "properties are given as a delta",
     ),
 ];
 

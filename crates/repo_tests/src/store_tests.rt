@@ -29,9 +29,11 @@ const THIRD: &[u8] =
 const TWO_GATES: &[u8] = b"\x01\0\0\0\0\0\0\0\x95\x01\0\0\0\0\0\0\x01\xA8\0";
 
 // The slots with both, with the sums that `md5sum` tells of them, and with the first alone.
-const TWO_SLOTS: &[u8] = b"\x01\0\0\0\0\0\0\0\x95p\x03\x96\x9B\xE9H\x96\xF8`\xFA=\x8D\x10\xE4l\x11\x01\0\0\0\0\0\0\x01\xA8Gs\xE6\x8A\x10d\x15\x85\xA8\xD8\x98\x07\xC6\xFB\x8B\xCD\0";
+const TWO_SLOTS: &[u8] =
+    b"\x01\0\0\0\0\0\0\0\x95p\x03\x96\x9B\xE9H\x96\xF8`\xFA=\x8D\x10\xE4l\x11\x01\0\0\0\0\0\0\x01\xA8Gs\xE6\x8A\x10d\x15\x85\xA8\xD8\x98\x07\xC6\xFB\x8B\xCD\0";
 
-const ONE_SLOT: &[u8] = b"\x01\0\0\0\0\0\0\0\x95p\x03\x96\x9B\xE9H\x96\xF8`\xFA=\x8D\x10\xE4l\x11\0";
+const ONE_SLOT: &[u8] =
+    b"\x01\0\0\0\0\0\0\0\x95p\x03\x96\x9B\xE9H\x96\xF8`\xFA=\x8D\x10\xE4l\x11\0";
 
 fn identity(rt: &impl Abort) -> Uuid {
     Uuid::parse_str("6a1f0c3e-0000-4000-8000-000000000001").expect(rt, "an identity")

@@ -8,3 +8,4 @@ pub mod Loading
 pub mod Serving
 pub mod Stopping
 pub mod Telling
+pub mod Upgrading

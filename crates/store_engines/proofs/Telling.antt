@@ -3,10 +3,11 @@ use Rattle.std.proofs.Common.{◌≡◌, ◌<◌, ◌≤◌, ◌+◌, ◌⊎◌,
 use Rattle.std.proofs.lemmas.Bool.{true≢false}
 use Rattle.node_base.specs.Props.{PropMap}
 use Rattle.node_base.specs.declared.refusal.Refusal.{Refusal}
+use Rattle.dump_load.specs.Trees.{effect_tree}
 use Rattle.fleet_disk.specs.Image.{Image}
 use Rattle.fleet_disk.specs.declared.disk.Disk.{Ghosts}
 use Rattle.repo_core.specs.Entries.{with_entry_in, with_props}
-use Rattle.repo_core.specs.Repository.{Repository, Revision}
+use Rattle.repo_core.specs.Repository.{Repository, Revision, trees_of}
 use Rattle.repo_core.specs.declared.entry.Entry.{Entry}
 use Rattle.repo_core.specs.declared.entry.Entry.TheVariants.{Revised, Mapped}
 use Rattle.repo_store.specs.Journal.{Keeps}
@@ -22,7 +23,9 @@ same_count (y ∷ x) zero props = refl
 same_count (y ∷ x) (suc n) props = ap suc (same_count x n props)
 
 still_there : (n : ℕ) (r : Repository) (e : Entry) → n < length r.revisions → n < length (with_entry_in r e).revisions
-still_there n r (Revised k set props) h = omega (arith, h, length-append r.revisions (_ ∷ []))
+still_there n r (Revised k set props) h =
+    let next : Revision = record { tree = effect_tree (trees_of r.revisions) set; props = props } in
+    omega (arith, h, length-append r.revisions (next ∷ []))
 still_there n r (Mapped k props) h = omega (arith, h, same_count r.revisions k props)
 
 stays_there : (n : ℕ) (r : Repository) (es : List Entry) → n < length r.revisions → n < length (repository_after r es).revisions

@@ -7,3 +7,4 @@ pub mod Mirrors
 pub mod Ranges
 pub mod Refusals
 pub mod Telling
+pub mod Upgrades

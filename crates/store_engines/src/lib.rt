@@ -1,5 +1,5 @@
 //! The engines of the commands over a store, over any disk, input and output: they begin a repository, load a dump
-//! into it, dump it, and commit a directory.
+//! into it, dump it, commit a directory, and give its entries their sums.
 //!
 //! ```text
 //! let Ok(mut store) = open_store(alloc, HostDisk::open(&rt, alloc, "folder")?) else { .. };
@@ -19,6 +19,7 @@ pub use mirror::is_mirror;
 pub use range::RevRange;
 pub use repo_store::{log_refusal, repo_refusal, store_refusal};
 pub use report::LoadReport;
+pub use upgrade::run_upgrade;
 
 mod begin;
 mod commits;
@@ -30,3 +31,4 @@ mod mirror;
 mod range;
 mod refusals;
 mod report;
+mod upgrade;

@@ -48,7 +48,11 @@ impl<O: Output> LoadReport for O {
 
     ghost told = { λ output t. ⊥ };
 
-    fn loaded<D: Disk + Drop>(&mut self, _store: &RepoStore<D>, number: RevNo) -> Result<(), Refusal> {
+    fn loaded<D: Disk + Drop>(
+        &mut self,
+        _store: &RepoStore<D>,
+        number: RevNo,
+    ) -> Result<(), Refusal> {
         say_loaded(self, number)
     }
 }

@@ -5,8 +5,9 @@ use Rattle.fleet_engines.specs.Runs.{Accepted, Refused}
 use Rattle.fleet_engines.specs.declared.product.Product.TheVariants as product
 use Rattle.mirror_engines.specs.Runs.{IsInitialised, IsSynchronised, IsCopied}
 use Rattle.byte_streams.specs.Causes.{Rose}
-use Rattle.fleet_main.specs.Doing.{IsCommittedTo, IsDone, IsDumped, IsLoadedFrom, IsNotDone, IsToldOf, IsWorkedOver, NotCommittedTo, NotDumped, NotKept, NotLoadedFrom, NotToldOf, NotWorkedOver, OfBoth, OfStanding, UnopenedBoth, UnopenedOr}
+use Rattle.fleet_main.specs.Doing.{IsCommittedTo, IsDone, IsDumped, IsLoadedFrom, IsNotDone, IsToldOf, IsWorkedOver, NotCommittedTo, NotDumped, NotKept, NotLoadedFrom, NotToldOf, NotWorkedOver, OfBoth, OfStanding, OfUpgrade, UnopenedBoth, UnopenedOr, UnopenedOrUpgrade}
 use Rattle.fleet_main.specs.Loans.{AreBack}
+use Rattle.store_engines.specs.Upgrades.{IsUpgraded, NotUpgraded}
 use Rattle.fleet_main.specs.Opening.{NotBegunIn}
 use Rattle.fleet_main.proofs.Doing.{committed_at, done_at, err_and, not_committed_at, ok_and, refused_at}
 use Rattle.fleet_main.proofs.Loans.{none_lent}
@@ -80,6 +81,16 @@ returns-in-MakeDir-clause-refused g c =
     subst (λ k. IfErr c.make_dir-done.result (IsNotDone g.F.Place.Disk g.F.Folders c.args.folders.now c.make_dir-done.new.folders k (g.I.Input.remaining c.args.input.now) (g.O.Output.contents c.args.output) (g.O.Output.failures c.args.output) (g.O.Output.contents c.make_dir-done.new.output) (g.O.Output.failures c.make_dir-done.new.output))) (sym c.in-MakeDir.is)
     (not_committed_at c.make_dir-done.result (λ t p m e. UnopenedOr g.F.Place.Disk g.F.Folders c.args.folders.now c.make_dir-done.new.folders t (g.O.Output.contents c.args.output) (g.O.Output.contents c.make_dir-done.new.output) e (NotCommittedTo (g.F.Folders.honest c.args.folders.now) p m c.in-MakeDir.moment (g.O.Output.contents c.args.output) (g.O.Output.contents c.make_dir-done.new.output) (Rose (g.O.Output.failures c.args.output) (g.O.Output.failures c.make_dir-done.new.output)) e))
     c.as_str-in-MakeDir.result.now (string_bytes c.in-MakeDir.folder) c.as_str-in-MakeDir-2.result.now (string_bytes c.in-MakeDir.path) c.as_str-in-MakeDir-3.result.now (string_bytes c.in-MakeDir.message) c.as_str-in-MakeDir.ensures.value c.as_str-in-MakeDir-2.ensures.value c.as_str-in-MakeDir-3.ensures.value c.make_dir-done.ensures.refused)
+
+pub returns-in-Upgrade-clause-done : goal.returns-in-Upgrade-clause-done
+returns-in-Upgrade-clause-done g c =
+    subst (λ k. OnOk c.upgrade-done.result (IsDone g.F.Place.Disk g.F.Folders c.args.folders.now c.upgrade-done.new.folders k (g.I.Input.remaining c.args.input.now) (g.O.Output.contents c.args.output) (g.O.Output.contents c.upgrade-done.new.output))) (sym c.in-Upgrade.is)
+    (done_at c.upgrade-done.result (λ t. OfUpgrade g.F.Place.Disk g.F.Folders c.args.folders.now c.upgrade-done.new.folders t (IsUpgraded (g.O.Output.contents c.args.output) (g.O.Output.contents c.upgrade-done.new.output))) c.as_str-in-Upgrade.result.now (string_bytes c.in-Upgrade.folder) c.as_str-in-Upgrade.ensures.value c.upgrade-done.ensures.done)
+
+pub returns-in-Upgrade-clause-refused : goal.returns-in-Upgrade-clause-refused
+returns-in-Upgrade-clause-refused g c =
+    subst (λ k. IfErr c.upgrade-done.result (IsNotDone g.F.Place.Disk g.F.Folders c.args.folders.now c.upgrade-done.new.folders k (g.I.Input.remaining c.args.input.now) (g.O.Output.contents c.args.output) (g.O.Output.failures c.args.output) (g.O.Output.contents c.upgrade-done.new.output) (g.O.Output.failures c.upgrade-done.new.output))) (sym c.in-Upgrade.is)
+    (refused_at c.upgrade-done.result (λ t e. UnopenedOrUpgrade g.F.Place.Disk g.F.Folders c.args.folders.now c.upgrade-done.new.folders t (g.O.Output.contents c.args.output) (g.O.Output.contents c.upgrade-done.new.output) e (NotUpgraded (g.O.Output.contents c.args.output) (g.O.Output.contents c.upgrade-done.new.output) (Rose (g.O.Output.failures c.args.output) (g.O.Output.failures c.upgrade-done.new.output)) e)) c.as_str-in-Upgrade.result.now (string_bytes c.in-Upgrade.folder) c.as_str-in-Upgrade.ensures.value c.upgrade-done.ensures.refused)
 
 pub returns-in-Initialize-clause-done : goal.returns-in-Initialize-clause-done
 returns-in-Initialize-clause-done g c =

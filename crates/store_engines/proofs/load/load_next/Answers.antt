@@ -63,8 +63,8 @@ returns-clause-device g c safe =
     records_then (records_of_rev rev) [] [] c.args.store.now c.commit.new.store _ c.loaded.result (IfErr-weaker c.loaded.result _ _ (λ e k. ap is_device k) c.loaded.ensures.only_peer) (any_ok c.loaded.result (◌≡◌ {A = List DumpRecord} [] []) refl)
     (of_entry rev (Revised (length x) c.in_ok-set.set c.args.revision.props) c.args.store.now c.commit.new.store (Ok _) entry (c.in_ok-commit.ensures.device safe))
 
-pub loaded-requires-there : goal.loaded-requires-there
-loaded-requires-there g c =
+pub loaded-requires-clause-there : goal.loaded-requires-clause-there
+loaded-requires-clause-there g c =
     let trees = c.trees.ensures.trees ∙ ap (λ v. trees_of v.revisions) c.repo.ensures.value in
     next_there (repository_of c.args.store.now) (repository_of c.commit.new.store) (rev_of c.args.revision) c.in_ok-set.set c.trees.result.now trees (c.in_ok-set.ensures.set c.args.revision.props) c.in_ok-commit.ensures.ok
 

@@ -63,3 +63,11 @@ returns-in-Err-append-clause-any_moment_err g c h only =
     let all = one_entry g.D.Disk.clock g.D.Disk.left_since (beginning_of c.args.identity) c.args.disk c.in-Ok-create.log.disk c.append.new.self.disk (entries_of c.in-Ok-create.log) c.deref.result.now none begins.canonical
     (c.in-Ok-create.ensures.any_moment h only) (c.append.ensures.any_moment (c.in-Ok-create.ensures.honest.0 h) c.in-Ok-create.ensures.entries.1) in
     subst (λ (d : g.row.D.Denot). LeavesOnly g.D.Disk.clock g.D.Disk.left_since c.args.disk d (λ (i : Image). IsBlank i ⊎ IsEither [] (beginning_of c.args.identity) i)) (sym c.into_disk.ensures) all
+
+pub returns-in-Ok-append-clause-first : goal.returns-in-Ok-append-clause-first
+returns-in-Ok-append-clause-first g c h image left =
+    let begins = subst (λ (b : List ℕ). IsBeginning b c.args.identity finite.empty) (sym c.deref.ensures.value) c.in-Ok.ensures.bytes in
+    let none : entries_of c.in-Ok-create.log ≡ [] = ap (λ (l : List ℕ). parts 0 l (g.D.Disk.reads c.in-Ok-create.log.disk).journal) c.in-Ok-create.ensures.entries.0 in
+    let raw = c.in-Ok-append.ensures.durable (c.in-Ok-create.ensures.honest.0 h) image left in
+    let stands = subst (λ (l : List (List ℕ)). Stands image (l ++ c.deref.result.now ∷ [])) none raw in
+    subst (λ (b : List ℕ). Stands image (b ∷ [])) begins.canonical stands

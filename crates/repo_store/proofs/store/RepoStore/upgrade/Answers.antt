@@ -13,8 +13,8 @@ use Rattle.repo_store.proofs.Telling.{kept}
 use Rattle.repo_store.proofs.Sure.{kept_or}
 use Rattle.repo_store.proofs.store.RepoStore.upgrade.Goals as goal
 
-pub invariant_of-result : goal.invariant_of-result
-invariant_of-result g c =
+pub invariant_of-store : goal.invariant_of-store
+invariant_of-store g c =
     let old = c.args.self in
     let working : ¬ HasFailed old = λ f. true≢false (ap is_ok (c.in-Ok.ensures.failed.1 f)) in
     record {

@@ -1,0 +1,124 @@
+//! Repositories of the first version, whose entries have no sums, and what `upgrade` makes of them.
+
+use crate::store_tests::{
+    DUMP, HEAD, IDENTITY, LOAD, LOADED_TWO, NO_FILE, ONE_FILE, ZERO, comes, done, first_wrong,
+    holds, joined, refused, replaced,
+};
+use fleet_disk::{DiskFile, Fuse, FuseDisk, MemDisk};
+use std::alloc::Global;
+use std::process::Abort;
+
+const UPGRADE: [&str; 2] = ["upgrade", "repo"];
+
+// The gates of two entries that end at 149 and at 424, and of a third that ends at 554.
+const TWO_GATES: &[u8] = b"\x01\0\0\0\0\0\0\0\x95\x01\0\0\0\0\0\0\x01\xA8\0";
+
+const THREE_GATES: &[u8] =
+    b"\x01\0\0\0\0\0\0\0\x95\x01\0\0\0\0\0\0\x01\xA8\x01\0\0\0\0\0\0\x02\x2A\0";
+
+// The slots of the two, with the sums that `md5sum` tells of them.
+const TWO_SLOTS: &[u8] =
+    b"\x01\0\0\0\0\0\0\0\x95p\x03\x96\x9B\xE9H\x96\xF8`\xFA=\x8D\x10\xE4l\x11\x01\0\0\0\0\0\0\x01\xA8Gs\xE6\x8A\x10d\x15\x85\xA8\xD8\x98\x07\xC6\xFB\x8B\xCD\0";
+
+// The file's repository with that revision 1, over these gates and slots.
+fn with_gates(
+    rt: &impl Abort,
+    alloc: Global,
+    revision: &str,
+    gates: &[u8],
+    slots: &[u8],
+) -> MemDisk {
+    let journal = joined(rt, alloc, &[HEAD, IDENTITY, ZERO, revision]);
+    MemDisk::with_bytes(alloc, journal.as_slice(), gates, slots).expect(rt, "memory")
+}
+
+#[test]
+fn an_upgrade_gives_sums(rt: HostRuntime) {
+    let alloc = rt.alloc();
+    let mut disk = with_gates(&rt, alloc, ONE_FILE, TWO_GATES, b"");
+    let whole = [HEAD, IDENTITY, ZERO, ONE_FILE];
+    let steps = [
+        done(&DUMP, &[], &whole),
+        done(&UPGRADE, &[], &["Upgraded 2 entries.\n"]),
+        done(&DUMP, &[], &whole),
+        done(&UPGRADE, &[], &["Upgraded 0 entries.\n"]),
+        done(&DUMP, &[], &whole),
+    ];
+    assert_eq!(rt; first_wrong(&rt, alloc, &mut disk, &steps), None);
+    assert!(rt; holds(&disk, &whole, TWO_SLOTS));
+}
+
+#[test]
+fn the_first_version_stays_in_use(rt: HostRuntime) {
+    let alloc = rt.alloc();
+    let mut disk = with_gates(&rt, alloc, ONE_FILE, TWO_GATES, b"");
+    let steps = [
+        done(&LOAD, &[HEAD, NO_FILE], &[LOADED_TWO]),
+        done(&DUMP, &[], &[HEAD, IDENTITY, ZERO, ONE_FILE, NO_FILE]),
+    ];
+    assert_eq!(rt; first_wrong(&rt, alloc, &mut disk, &steps), None);
+    assert!(rt; disk.bytes(DiskFile::Gate) == THREE_GATES);
+    assert!(rt; disk.bytes(DiskFile::Slots).is_empty());
+    let steps = [done(&UPGRADE, &[], &["Upgraded 3 entries.\n"])];
+    assert_eq!(rt; first_wrong(&rt, alloc, &mut disk, &steps), None);
+}
+
+#[test]
+fn a_changed_byte_is_found_by_its_sum(rt: HostRuntime) {
+    let alloc = rt.alloc();
+    let other = replaced(&rt, alloc, ONE_FILE, "\nhi\n", "\nHi\n");
+    let mut first = with_gates(&rt, alloc, other.as_str(), TWO_GATES, b"");
+    let due = [HEAD, IDENTITY, ZERO, other.as_str()];
+    let steps = [done(&DUMP, &[], &due)];
+    assert_eq!(rt; first_wrong(&rt, alloc, &mut first, &steps), None);
+    let mut second = with_gates(&rt, alloc, other.as_str(), b"", TWO_SLOTS);
+    let line = "svnfleet: 33 entry 1 is damaged\n";
+    let steps = [refused(&DUMP, &[], line), refused(&UPGRADE, &[], line)];
+    assert_eq!(rt; first_wrong(&rt, alloc, &mut second, &steps), None);
+}
+
+#[test]
+fn nothing_to_upgrade(rt: HostRuntime) {
+    let alloc = rt.alloc();
+    let mut disk = MemDisk::new(alloc);
+    let steps = [refused(&UPGRADE, &[], "svnfleet: 34 no repository\n")];
+    assert_eq!(rt; first_wrong(&rt, alloc, &mut disk, &steps), None);
+    assert!(rt; holds(&disk, &[], b""));
+}
+
+// How many calls an upgrade of the two entries makes, its opening counted in.
+fn upgrading_calls(rt: &impl Abort, alloc: Global) -> u64 {
+    let mut disk = with_gates(rt, alloc, ONE_FILE, TWO_GATES, b"");
+    let step = done(&UPGRADE, &[], &["Upgraded 2 entries.\n"]);
+    assert!(rt; comes(rt, alloc, &mut disk, &step));
+    disk.calls().len() as u64
+}
+
+// Whether an upgrade is refused where this call fails, and made by the next one, from whichever version the first left.
+fn is_made_again(rt: &impl Abort, alloc: Global, call: u64) -> bool {
+    let disk = with_gates(rt, alloc, ONE_FILE, TWO_GATES, b"");
+    let mut fused = FuseDisk::new(disk, call, Fuse::Once);
+    let whole = [HEAD, IDENTITY, ZERO, ONE_FILE];
+    let failed = refused(&UPGRADE, &[], "svnfleet: 31 device failed\n");
+    if !comes(rt, alloc, &mut fused, &failed) {
+        return false;
+    }
+    let mut left = fused.into_inner();
+    let again = left.bytes(DiskFile::Slots) == TWO_SLOTS;
+    let line = if again {
+        "Upgraded 0 entries.\n"
+    } else {
+        "Upgraded 2 entries.\n"
+    };
+    comes(rt, alloc, &mut left, &done(&DUMP, &[], &whole))
+        && comes(rt, alloc, &mut left, &done(&UPGRADE, &[], &[line]))
+        && holds(&left, &whole, TWO_SLOTS)
+}
+
+#[test]
+fn an_upgrade_whose_device_fails(rt: HostRuntime) {
+    let alloc = rt.alloc();
+    for call in 0..upgrading_calls(&rt, alloc) {
+        assert!(rt; is_made_again(&rt, alloc, call), "call {call}");
+    }
+}

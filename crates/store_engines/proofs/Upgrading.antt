@@ -1,0 +1,96 @@
+-- An upgrade of a store's log, and what is told of it.
+use Rattle.std.proofs.Common.{◌≡◌, ◌≤◌, ◌↔◌, ◌⊎◌, ℕ, List, ◌++◌, length, Option, Result, Ok, Err, IfErr, codes, inl, inr, refl, sym, ap, subst, ◌∙◌, arith}
+use Rattle.std.specs.Fmt.{decimal}
+use Rattle.std.specs.Result.{OnOk, OnErr}
+use Rattle.std.specs.Io.KnownBytes.{Appends}
+use Rattle.fleet_disk.specs.Image.{Image}
+use Rattle.fleet_disk.specs.Rules.{LeavesOnly, Rose}
+use Rattle.fleet_disk.specs.declared.disk.Disk.{Ghosts}
+use Rattle.gate_log.specs.Log.{entries_of, version_of}
+use Rattle.gate_log.specs.Standing.{Stands}
+use Rattle.gate_log.specs.Version.{IsOf}
+use Rattle.gate_log.specs.declared.fault.LogFault.TheVariants as log
+use Rattle.gate_log.specs.declared.version.LogVersion.{LogVersion}
+use Rattle.gate_log.specs.declared.version.LogVersion.TheVariants.{First, Second}
+use Rattle.node_base.specs.Refusals.{refusal_number}
+use Rattle.node_base.specs.declared.refusal.Refusal.{Refusal}
+use Rattle.node_base.specs.declared.refusal.Refusal.TheVariants as refusal
+use Rattle.repo_store.specs.Journal.{Keeps}
+use Rattle.repo_store.specs.Words.{disk_of, log_of, repository_of, HasFailed}
+use Rattle.repo_store.specs.declared.fault.StoreFault.{StoreFault}
+use Rattle.repo_store.specs.declared.fault.StoreFault.TheVariants.{Log}
+use Rattle.repo_store.specs.declared.store.RepoStore.{RepoStore}
+use Rattle.store_engines.specs.Refusals.{store_refusal}
+use Rattle.store_engines.specs.Upgrades.{count_given, count_upgraded, upgraded_line, HasSums, IsSpared, IsUpgraded, NotUpgraded}
+use Rattle.store_engines.proofs.Devices.{device_was, failed_was}
+
+-- the answer of an upgrade is how many entries were given sums
+counted : {A : Type 0} (version : LogVersion) (entries : List (List ℕ)) (n : ℕ) → (version ≡ First → n ≡ length entries) → (version ≡ Second → A × (n ≡ 0)) → n ≡ count_given version entries
+counted First entries n first second = first refl
+counted Second entries n first second = (second refl).1
+
+peer_or_device : refusal.PeerFailed ≡ refusal.DeviceFailed → ⊥
+peer_or_device e = let n : ◌≡◌ {A = ℕ} 49 31 = ap refusal_number e in let no : ⊥ = omega (arith, n) in no
+
+peer_or_failed : refusal.PeerFailed ≡ refusal.Failed → ⊥
+peer_or_failed e = let n : ◌≡◌ {A = ℕ} 49 32 = ap refusal_number e in let no : ⊥ = omega (arith, n) in no
+
+-- what an upgrade that is Ok leaves of the disk
+module _ {D : Type 0} {G : Ghosts D} (old new : RepoStore D G) (back : D) (same : back ≡ disk_of new) (both : G.honest (disk_of old) ↔ G.honest (disk_of new)) (later : G.failures (disk_of old) ≤ G.failures (disk_of new))
+    (moment : G.honest (disk_of old) → ¬ HasFailed old → LeavesOnly G.clock G.left_since (disk_of old) (disk_of new) (Keeps (repository_of old)))
+    (second : G.honest (disk_of old) → (image : Image) → G.may_leave (disk_of new) image → IsOf Second image)
+    (stand : G.honest (disk_of old) → ¬ HasFailed old → (image : Image) → G.may_leave (disk_of new) image → Stands image (entries_of (log_of old)))
+    (durable : G.honest (disk_of old) → (image : Image) → G.may_leave (disk_of new) image → Keeps (repository_of old) image) where
+  spared : IsSpared old back
+  spared = subst (λ b. IsSpared old b) (sym same) (record { honest = both; later = later; any_moment = moment })
+
+  left : G.honest (disk_of old) → ¬ HasFailed old → (image : Image) → G.may_leave back image → HasSums old image
+  left h w image may = let m = subst (λ b. G.may_leave b image) same may in (second h image m, stand h w image m, durable h image m)
+
+  pub upgrade_told : (r : Result (Unit {0}) Refusal) (before now : Option (List ℕ)) (n : ℕ) → (version_of (log_of old) ≡ First → n ≡ length (entries_of (log_of old)))
+      → (version_of (log_of old) ≡ Second → (disk_of new ≡ disk_of old) × (n ≡ 0)) → OnOk r (Appends before now (codes "Upgraded " ++ (decimal n ++ codes " entries.\n"))) → OnOk r (IsUpgraded before now old back)
+  upgrade_told (Ok u) before now n one two told = record {
+    spared = spared;
+    already = λ v. same ∙ (two v).0;
+    told = subst (λ k. Appends before now (upgraded_line k)) (counted (version_of (log_of old)) (entries_of (log_of old)) n one two) told;
+    left = left;
+  }
+  upgrade_told (Err e) before now n one two told = tt
+
+  -- whose line can't be written
+  pub upgrade_unsaid : (r : Result (Unit {0}) Refusal) (before now : Option (List ℕ)) (fails : Type 0) → IfErr r (λ e. e ≡ refusal.PeerFailed) → OnErr r fails → IfErr r (λ e. NotUpgraded before now fails e old back)
+  upgrade_unsaid (Ok u) before now fails peer lost = tt
+  upgrade_unsaid (Err e) before now fails peer lost = record {
+    spared = spared;
+    due = λ h. inr (inr (inr peer));
+    device = λ d. absurd (peer_or_device (sym peer ∙ d));
+    failed = λ d. absurd (peer_or_failed (sym peer ∙ d));
+    quiet = λ other. absurd (other peer);
+    unsaid = λ p. lost;
+    done = λ p. left;
+    left = λ h w image may. (left h w image may).2;
+  }
+
+-- one that isn't made
+due_of : (f : StoreFault) (e : Refusal) → e ≡ store_refusal f → (f ≡ Log log.DeviceFailed) ⊎ (f ≡ Log log.Failed) ⊎ (f ≡ Log log.OutOfMemory)
+    → (e ≡ refusal.DeviceFailed) ⊎ (e ≡ refusal.Failed) ⊎ (e ≡ refusal.OutOfMemory) ⊎ (e ≡ refusal.PeerFailed)
+due_of f e is (inl p) = inl (is ∙ ap store_refusal p)
+due_of f e is (inr (inl p)) = inr (inl (is ∙ ap store_refusal p))
+due_of f e is (inr (inr p)) = inr (inr (inl (is ∙ ap store_refusal p)))
+
+pub upgrade_refused : {D : Type 0} {G : Ghosts D} (old : RepoStore D G) (back : D) (f : StoreFault) (e : Refusal) (before : Option (List ℕ)) (fails : Type 0) → e ≡ store_refusal f → (e ≡ refusal.PeerFailed → ⊥)
+    → (G.honest (disk_of old) ↔ G.honest back) → G.failures (disk_of old) ≤ G.failures back
+    → (G.honest (disk_of old) → ¬ HasFailed old → LeavesOnly G.clock G.left_since (disk_of old) back (Keeps (repository_of old)))
+    → (G.honest (disk_of old) → ¬ HasFailed old → (image : Image) → G.may_leave back image → Keeps (repository_of old) image)
+    → (f ≡ Log log.DeviceFailed → Rose (G.failures (disk_of old)) (G.failures back)) → (f ≡ Log log.Failed) ↔ HasFailed old
+    → (G.honest (disk_of old) → (f ≡ Log log.DeviceFailed) ⊎ (f ≡ Log log.Failed) ⊎ (f ≡ Log log.OutOfMemory)) → NotUpgraded before before fails e old back
+upgrade_refused old back f e before fails is no_peer both later moment kept device failed due = record {
+  spared = record { honest = both; later = later; any_moment = moment };
+  due = λ h. due_of f e is (due h);
+  device = λ d. device (device_was f (sym is ∙ d));
+  failed = λ d. failed.0 (failed_was f (sym is ∙ d));
+  quiet = λ other. refl;
+  unsaid = λ p. absurd (no_peer p);
+  done = λ p. absurd (no_peer p);
+  left = kept;
+}
