@@ -74,6 +74,12 @@ class Mirror:
             # (the client has gone: it says why)
             pass
 
+    def end(self):
+        try:
+            self.line.shutdown(socket.SHUT_WR)
+        except OSError:
+            pass
+
     def asked(self, name, *params):
         item = self.item()
         if item != [Word(name), [*params]]:
@@ -111,7 +117,7 @@ class Mirror:
             tree, fault = judged(self.trees, data)
             self.say(AUTHORISED + command(b'revprops', *([name, it] for name, it in sorted(props.items()))) + data)
             if may_wait:
-                self.line.shutdown(socket.SHUT_WR)
+                self.end()
             if fault is not None:
                 return fault
             self.trees.append(tree)
