@@ -34,7 +34,12 @@ fn with_gates(
 
 // Whether a dump writes this revision 1 behind revision 0.
 fn dumps(rt: &impl Abort, alloc: Global, disk: &mut MemDisk, revision: &str) -> bool {
-    comes(rt, alloc, disk, &done(&DUMP, &[], &[HEAD, IDENTITY, ZERO, revision]))
+    comes(
+        rt,
+        alloc,
+        disk,
+        &done(&DUMP, &[], &[HEAD, IDENTITY, ZERO, revision]),
+    )
 }
 
 #[test]

@@ -170,16 +170,17 @@ impl<'a> Trial<'a> {
         }
     }
 
-    // The first read, one byte each, whose failure isn't made up for.
+    // The first read behind the opening, of sixteen bytes each, whose failure isn't made up for, by the bytes before it.
     fn first_read(&self, rt: &impl Abort, alloc: Global) -> Option<usize> {
         let stream = Stream {
-            size: 1,
+            size: 16,
             breaks: true,
             passing: u64::MAX,
         };
-        for end in OPENED.len()..self.bytes.len() {
+        for (read, _) in self.bytes.chunks(16).enumerate() {
+            let end = read.saturating_mul(16);
             let front = self.bytes.get(..end).unwrap_or(b"");
-            if self.run(rt, alloc, front, &stream) != Came::MadeUp {
+            if end >= OPENED.len() && self.run(rt, alloc, front, &stream) != Came::MadeUp {
                 return Some(end);
             }
         }
