@@ -11,7 +11,7 @@ ghost use Rattle.fleet_engines.specs.Revisions.{Closes, CantClose, Takes, CantTa
 ghost use Rattle.fleet_engines.specs.Runs.{has_begun};
 
 use crate::refusals::change_refusal;
-use dump_load::load_revision;
+use dump_load::{Applied, load_revision};
 use dump_text::{DumpRecord, NodeRecord, RevRecord};
 use node_base::{Props, Refusal, RevNo};
 use path_tree::Tree;
@@ -171,7 +171,7 @@ impl History {
         if number.index() != self.trees.len() {
             return Err(Refusal::WrongNumber);
         }
-        let (set, tree) = match load_revision(self.alloc, &self.trees, number, nodes) {
+        let Applied { set, tree } = match load_revision(self.alloc, &self.trees, number, nodes) {
             Ok(loaded) => loaded,
             Err(fault) => return Err(change_refusal(fault)),
         };

@@ -76,7 +76,7 @@ fn judge(
         return Err(Refusal::WrongNumber);
     }
     match load_revision(alloc, trees, number, nodes) {
-        Ok((set, _tree)) => Ok(set),
+        Ok(loaded) => Ok(loaded.set),
         Err(fault) => Err(change_refusal(fault)),
     }
 }
