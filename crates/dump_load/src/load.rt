@@ -5,7 +5,7 @@ ghost use Rattle.std.specs.FinMap as map;
 ghost use Rattle.node_base.specs.Path.{Path};
 ghost use Rattle.dump_load.specs.Changes.{IsNormal};
 ghost use Rattle.dump_load.specs.Effect.{effect};
-ghost use Rattle.dump_load.specs.Trees.{effect_tree, Makes};
+ghost use Rattle.dump_load.specs.Trees.{Makes};
 ghost use Rattle.dump_load.specs.Faults.{fault, refused, IsRefusal};
 ghost use Rattle.dump_load.specs.Records.{IsNormalSetOf, IsLoadRefusal};
 
@@ -33,7 +33,7 @@ pub struct Applied {
 pub fn apply(alloc: Global, trees: &[Tree], set: &ChangeSet) -> Result<Tree, ChangeFault>
     requires { length trees.now ≤ 65535 }
     ensures effect { IfOk result (λ t. (q : Path) → map.get t q ≡ effect trees.now set.now q) }
-    ensures whole { IfOk result (λ t. t ≡ effect_tree trees.now set.now) }
+    ensures makes { IfOk result (λ t. Makes trees.now set.now t) }
     ensures no_fault { OnOk result (fault trees.now set.now ≡ None) }
     ensures fault { IfErr result (λ e. IsRefusal e (option_map refused (fault trees.now set.now))) }
 {
