@@ -49,7 +49,7 @@ impl Repo {
     /// Makes the revision after the head ready, of a set that was judged over the revisions that are there: it isn't
     /// applied again, and takes no memory. Refused is the revision after 65,535 (23).
     pub fn stage_applied(&self, applied: Applied, props: Props) -> Result<Staged, RepoFault>
-        requires made { Makes (trees_of self.now.revisions) applied.set applied.tree }
+        requires { Makes (trees_of self.now.revisions) applied.set applied.tree }
         ensures entry { IfOk result (λ s. s.entry ≡ Revised (length self.now.revisions) applied.set props) }
         ensures ready { IfOk result (IsReady self.now.revisions) }
         ensures refused { IfErr result (λ e. by_repository self.now.revisions

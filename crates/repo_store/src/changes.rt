@@ -61,7 +61,7 @@ impl<D: Disk> RepoStore<D> {
         applied: Applied,
         props: Props,
     ) -> Result<Staged, StoreFault>
-        requires made { Makes (trees_of (revisions_of self.old)) applied.set applied.tree }
+        requires { Makes (trees_of (revisions_of self.old)) applied.set applied.tree }
         ensures stages { let entry = Revised (length (revisions_of self.old)) applied.set props in
             Stages entry (by_repository (revisions_of self.old) entry) self.old self.new result }
     {
@@ -137,7 +137,7 @@ impl<D: Disk> RepoStore<D> {
         applied: Applied,
         props: Props,
     ) -> Result<Committed, StoreFault>
-        requires made { Makes (trees_of (revisions_of self.old)) applied.set applied.tree }
+        requires { Makes (trees_of (revisions_of self.old)) applied.set applied.tree }
         ensures change { let entry = Revised (length (revisions_of self.old)) applied.set props in
             Changes entry (by_repository (revisions_of self.old) entry) self.old self.new result }
         ensures number { IfOk result (λ c. c.number ≡ length (revisions_of self.old)) }
@@ -227,7 +227,7 @@ fn judge_applied(
     applied: Applied,
     props: Props,
 ) -> Result<repo_core::Staged, RepoFault>
-    requires made { Makes (trees_of repo.now.revisions) applied.set applied.tree }
+    requires { Makes (trees_of repo.now.revisions) applied.set applied.tree }
     ensures judged { let entry = Revised (length repo.now.revisions) applied.set props in
         IsJudged entry (by_repository repo.now.revisions entry) result }
     ensures ready { IfOk result (IsReady repo.now.revisions) }

@@ -8,6 +8,7 @@ ghost use Rattle.byte_streams.specs.Causes.{Rose, counts};
 ghost use Rattle.node_base.specs.Props.{PropMap};
 ghost use Rattle.node_base.specs.Tree.{PathMap};
 ghost use Rattle.dump_load.specs.declared.change.Change.{Change as ChangeOf};
+ghost use Rattle.dump_load.specs.Trees.{Makes as MakesTree};
 ghost use Rattle.dump_text.specs.Streams.{dump, has_failed, records_of};
 ghost use Rattle.dump_text.specs.declared.record.DumpRecord.{DumpRecord as RecordOf};
 ghost use Rattle.repo_core.specs.Repository.{Repository, trees_of};
@@ -32,11 +33,11 @@ ghost use Rattle.store_engines.specs.Mirrors.{is_mirror};
 ghost use Rattle.store_engines.specs.Telling.{AllStand, KeepsTold};
 ghost use Rattle.store_engines.specs.Refusals.{repo_refusal};
 
-use crate::commits::commit;
+use crate::commits::commit_applied;
 use crate::mirror::refuse_mirror;
 use crate::report::LoadReport;
 use byte_streams::{Input, MOST_READS};
-use dump_load::{ChangeSet, load_revision};
+use dump_load::{Applied, load_revision};
 use dump_text::{DumpReader, DumpRecord, NodeRecord, RevRecord};
 use fleet_disk::Disk;
 use fleet_engines::{change_refusal, dump_refusal, read};
@@ -56,16 +57,17 @@ fn is_zero(repo: &Repo, revision: &RevRecord) -> bool
     repo.trees().len() == 1 && revision.number == RevNo::ZERO
 }
 
-// The set of the revision after the head. WrongNumber (16) where the number isn't its, and then what makes no set or
-// has a fault over the trees so far.
+// The set of the revision after the head with the tree that it makes. WrongNumber (16) where the number isn't its, and
+// then what makes no set or has a fault over the trees so far.
 fn judge(
     alloc: Global,
     trees: &[Tree],
     number: RevNo,
     nodes: Vec<NodeRecord>,
-) -> Result<ChangeSet, Refusal>
-    ensures set { IfOk result (λ s. (props : PropMap) → (tree : PathMap)
-        × Makes trees.now (record { number = number; props = props; nodes = nodes.items }) s tree) }
+) -> Result<Applied, Refusal>
+    ensures made { IfOk result (λ a. MakesTree trees.now a.set a.tree) }
+    ensures set { IfOk result (λ a. (props : PropMap) → (tree : PathMap)
+        × Makes trees.now (record { number = number; props = props; nodes = nodes.items }) a.set tree) }
     ensures refused { IfErr result (λ e. (e ≡ Refusal.OutOfMemory)
         ⊎ ((props : PropMap) → IsUnfit trees.now
         (record { number = number; props = props; nodes = nodes.items }) e)) }
@@ -76,7 +78,7 @@ fn judge(
         return Err(Refusal::WrongNumber);
     }
     match load_revision(alloc, trees, number, nodes) {
-        Ok(loaded) => Ok(loaded.set),
+        Ok(applied) => Ok(applied),
         Err(fault) => Err(change_refusal(fault)),
     }
 }
@@ -127,8 +129,8 @@ fn load_next<D: Disk + Drop, T: LoadReport>(
         props,
         nodes,
     } = revision;
-    let set = judge(alloc, store.repo().trees(), number, nodes)?;
-    commit(alloc, store, set, props, None)?;
+    let applied = judge(alloc, store.repo().trees(), number, nodes)?;
+    commit_applied(alloc, store, applied, props)?;
     report.loaded(store, number)
 }
 

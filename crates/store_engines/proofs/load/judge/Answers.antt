@@ -11,7 +11,7 @@ returns-then-index-trees-clause-refused c = inr (λ props. (change.WrongNumber, 
 pub returns-in-Ok-clause-set : goal.returns-in-Ok-clause-set
 returns-in-Ok-clause-set c =
     let e = c.in-Ok.ensures in
-    λ props. (c.in-Ok.loaded.tree, record { next = e.number; normal = e.set; sound = e.makes.faultless; left = e.tree })
+    λ props. (c.in-Ok.applied.tree, record { next = e.number; normal = e.set; sound = e.makes.faultless; left = e.tree })
 
 pub returns-in-Err-clause-refused : goal.returns-in-Err-clause-refused
 returns-in-Err-clause-refused c = inr (λ props. (c.in-Err.fault, c.change_refusal.ensures.value, c.in-Err.ensures.refused))
