@@ -43,12 +43,17 @@ abbrev pub same_kind : NodeKind → NodeKind → Bool
 same_kind File k = is_file k
 same_kind Dir k = not (is_file k)
 
--- the kind that counts: of the node that is there, of the source, or the one that is given
+-- the kind that counts for an add or a replace: the source's, or the one that is given
+abbrev pub brought_kind : List PathMap → Change → Option NodeKind
+brought_kind trees c = option_map_or (λ s. option_map kind_of (source_at trees s [])) c.source c.kind
+
+-- the kind that counts where this stands, if anything does
+abbrev pub kind_over : List PathMap → Option Node → Change → Option NodeKind
+kind_over trees there c = if brings c then brought_kind trees c else option_map kind_of there
+
+-- the kind that counts
 abbrev pub judged : List PathMap → (Path → Option Node) → Change → Option NodeKind
-judged trees before c =
-    if brings c
-    then option_map_or (λ s. option_map kind_of (source_at trees s [])) c.source c.kind
-    else option_map kind_of (before c.path)
+judged trees before c = kind_over trees (before c.path) c
 
 -- a kind that is given and differs, or a text for a directory
 abbrev pub mismatches : Option NodeKind → Bool → NodeKind → Bool

@@ -71,13 +71,14 @@ impl ChangeSet {
         if changes.len() > CHANGES {
             return Err(ChangeFault::TooLong);
         }
-        if !is_in_order(&changes) {
-            return Err(ChangeFault::OutOfOrder);
+        if is_normal(&changes) {
+            return Ok(ChangeSet::new(changes));
         }
-        if !is_normal(&changes) {
-            return Err(ChangeFault::BadHeader);
+        if is_in_order(&changes) {
+            Err(ChangeFault::BadHeader)
+        } else {
+            Err(ChangeFault::OutOfOrder)
         }
-        Ok(ChangeSet::new(changes))
     }
 
     /// The changes alone, in path order.
