@@ -112,6 +112,16 @@ impl ChangeSet {
         Ok(ChangeSet { changes })
     }
 
+    /// The records that state its changes, in path order, which they become: nothing of them is copied.
+    pub fn into_records(self, alloc: Global) -> Result<Vec<NodeRecord>, AllocError>
+        ensures { IfOk result (λ r. r.items ≡ map record_of self) }
+    {
+        self.changes
+            .into_iter()
+            .map(|change| change.into_record())
+            .collect(alloc)
+    }
+
     /// The records that state its changes, in path order. Where the set came from records over some trees, these give
     /// the same set again over them.
     pub fn to_records(&self, alloc: Global) -> Result<Vec<NodeRecord>, AllocError>

@@ -175,7 +175,7 @@ impl History {
             Ok(loaded) => loaded,
             Err(fault) => return Err(change_refusal(fault)),
         };
-        let Ok(nodes) = set.to_records(self.alloc) else {
+        let Ok(nodes) = set.into_records(self.alloc) else {
             return Err(Refusal::OutOfMemory);
         };
         match self.trees.push(tree) {

@@ -18,6 +18,6 @@ returns-in-Ok-push-clause-made c =
       c.in-Ok.loaded.set,
       c.in-Ok.loaded.tree,
       rw (← d) (record { next = e.number; normal = e.set; sound = e.makes.faultless; left = e.tree }),
-      ap (λ ns. record r { nodes = ns }) c.in-Ok-to_records.ensures.records,
+      ap (λ ns. record r { nodes = ns }) c.in-Ok-into_records.ensures,
       ap (λ ts. record (told_of c.args.self.now) { trees = ts }) c.in-Ok-push.ensures.items,
     )
