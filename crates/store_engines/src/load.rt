@@ -22,7 +22,7 @@ ghost use Rattle.repo_store.specs.Journal.{Keeps};
 ghost use Rattle.repo_store.specs.Words.{disk_of, repository_of, revisions_of, HasFailed, IsKept};
 ghost use Rattle.fleet_engines.specs.Grouping.{is_no_identity, records_of_rev};
 ghost use Rattle.fleet_engines.specs.Histories.{rev_of};
-ghost use Rattle.fleet_engines.specs.Revisions.{Rev, Makes, IsUnfit, is_zero, is_past_zero};
+ghost use Rattle.fleet_engines.specs.Revisions.{Makes, IsUnfit, is_zero};
 ghost use Rattle.fleet_engines.specs.Runs.{Counted, BothCounted};
 ghost use Rattle.store_engines.specs.Loaders.{last_of};
 ghost use Rattle.store_engines.specs.Devices.{is_device, CantKeep, IsSafe, Serves};
@@ -40,7 +40,7 @@ use byte_streams::{Input, MOST_READS};
 use dump_load::{Applied, load_revision};
 use dump_text::{DumpReader, DumpRecord, NodeRecord, RevRecord};
 use fleet_disk::Disk;
-use fleet_engines::{change_refusal, dump_refusal, read};
+use fleet_engines::{OpenRevision, change_refusal, dump_refusal, read};
 use node_base::{Props, Refusal, RevNo};
 use path_tree::Tree;
 use repo_core::Repo;
@@ -164,7 +164,7 @@ fn load_one<D: Disk + Drop, T: LoadReport>(
 #[derive(Drop)]
 pub struct Loader {
     alloc: Global,
-    last: Option<RevRecord>,
+    last: OpenRevision,
 }
 
 impl Loader {
@@ -172,7 +172,10 @@ impl Loader {
     fn new(alloc: Global) -> Loader
         ensures { last_of result ≡ None }
     {
-        Loader { alloc, last: None }
+        Loader {
+            alloc,
+            last: OpenRevision::none(alloc),
+        }
     }
 
     // A record more. Where it begins a revision, the one before it is whole, and is loaded.
@@ -198,56 +201,10 @@ impl Loader {
             DumpRecord::Identity(_identity) => Ok(()),
             DumpRecord::Revision(number, props) => {
                 self.close(store, report)?;
-                self.begin(number, props);
+                self.last.begin(number, props);
                 Ok(())
             }
-            DumpRecord::Node(node) => self.add_node(node),
-        }
-    }
-
-    fn begin(&mut self, number: RevNo, props: Props)
-        ensures { last_of self.new ≡ Some (record { number = number; props = props; nodes = [] }) }
-    {
-        let nodes = Vec::new(self.alloc);
-        self.last = Some(RevRecord {
-            number,
-            props,
-            nodes,
-        });
-    }
-
-    // A node record of no revision, or of revision 0, is WrongNumber (16).
-    fn add_node(&mut self, node: NodeRecord) -> Result<(), Refusal>
-        ensures ok { OnOk result ((r : Rev) × (last_of self.old ≡ Some r)
-            × (is_past_zero (last_of self.old) ≡ true)
-            × (last_of self.new ≡ Some (record r { nodes = r.nodes ++ node ∷ [] }))) }
-        ensures refused { IfErr result (λ e. ((e ≡ Refusal.OutOfMemory)
-            ⊎ ((e ≡ Refusal.WrongNumber) × (is_past_zero (last_of self.old) ≡ false)))) }
-        ensures no_device { IfErr result (λ e. is_device e ≡ false) }
-        ensures no_peer { IfErr result (λ e. e ≡ Refusal.PeerFailed → ⊥) }
-    {
-        if !self.is_past_zero() {
-            return Err(Refusal::WrongNumber);
-        }
-        let Some(mut revision) = self.last.take() else {
-            return Err(Refusal::WrongNumber);
-        };
-        match revision.nodes.push(node) {
-            Ok(()) => {
-                self.last = Some(revision);
-                Ok(())
-            }
-            Err(_) => Err(Refusal::OutOfMemory),
-        }
-    }
-
-    // Whether a revision other than 0 is read.
-    fn is_past_zero(&self) -> bool
-        ensures { result ≡ is_past_zero (last_of self.now) }
-    {
-        match &self.last {
-            Some(revision) => revision.number != RevNo::ZERO,
-            None => false,
+            DumpRecord::Node(node) => self.last.add_node(node),
         }
     }
 
