@@ -6,9 +6,7 @@ ghost use Rattle.std.specs.Prelude.{false, IfOk, IfErr, IfSome, OnOk, OnErr};
 ghost use Rattle.std.specs.Io.KnownBytes.{Appends, Consumes, IsAtEnd};
 ghost use Rattle.byte_streams.specs.Causes.{Rose, counts};
 ghost use Rattle.node_base.specs.Props.{PropMap};
-ghost use Rattle.node_base.specs.Tree.{PathMap};
 ghost use Rattle.dump_load.specs.declared.change.Change.{Change as ChangeOf};
-ghost use Rattle.dump_load.specs.Trees.{Makes as MakesTree};
 ghost use Rattle.dump_text.specs.Streams.{dump, has_failed, records_of};
 ghost use Rattle.dump_text.specs.declared.record.DumpRecord.{DumpRecord as RecordOf};
 ghost use Rattle.repo_core.specs.Repository.{Repository, trees_of};
@@ -65,9 +63,8 @@ fn judge(
     number: RevNo,
     nodes: Vec<NodeRecord>,
 ) -> Result<Applied, Refusal>
-    ensures made { IfOk result (λ a. MakesTree trees.now a.set a.tree) }
-    ensures set { IfOk result (λ a. (props : PropMap) → (tree : PathMap)
-        × Makes trees.now (record { number = number; props = props; nodes = nodes.items }) a.set tree) }
+    ensures made { IfOk result (λ a. (props : PropMap)
+        → Makes trees.now (record { number = number; props = props; nodes = nodes.items }) a.set a.tree) }
     ensures refused { IfErr result (λ e. (e ≡ Refusal.OutOfMemory)
         ⊎ ((props : PropMap) → IsUnfit trees.now
         (record { number = number; props = props; nodes = nodes.items }) e)) }

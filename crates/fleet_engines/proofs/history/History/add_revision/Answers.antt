@@ -17,7 +17,7 @@ returns-in-Ok-push-clause-made c =
     let d = c.deref.ensures.value in (
       c.in-Ok.loaded.set,
       c.in-Ok.loaded.tree,
-      rw (← d) (record { next = e.number; normal = e.set; sound = e.makes.faultless; left = e.tree }),
+      rw (← d) (record { next = e.number; normal = e.set; made = e.makes }),
       ap (λ ns. record r { nodes = ns }) c.in-Ok-into_records.ensures,
       ap (λ ts. record (told_of c.args.self.now) { trees = ts }) c.in-Ok-push.ensures.items,
     )
