@@ -2,7 +2,7 @@
 #![tactic(auto)]
 
 pub use change::{Change, is_add, is_delete, settles, share_props, share_text};
-pub use fault::ChangeFault;
+pub use fault::{ChangeFault, change_refusal};
 pub use judge::{fault_of, judged, source_node};
 pub use load::{Applied, apply, load_revision};
 pub use order::{count_paths, in_path_order};

@@ -11,9 +11,9 @@ use Rattle.dump_text.specs.declared.record.DumpRecord.{DumpRecord}
 use Rattle.dump_text.specs.declared.record.DumpRecord.TheVariants.{Identity, Revision, Node}
 use Rattle.dump_load.specs.declared.change.Change.{Change}
 use Rattle.dump_load.specs.declared.fault.ChangeFault.{ChangeFault}
+use Rattle.dump_load.specs.Faults.{change_refusal}
 use Rattle.dump_load.specs.Trees.{Makes as MakesTree}
 use Rattle.dump_load.specs.Records.{record_of, IsNormalSetOf, IsLoadRefusal}
-use Rattle.fleet_engines.specs.Refusals.{change_refusal}
 
 -- a revision: its number, its properties and its node records
 pub record Rev : Type 0 where

@@ -11,8 +11,7 @@ ghost use Rattle.fleet_engines.specs.Revisions.{Closes, CantClose, Takes, CantTa
 ghost use Rattle.fleet_engines.specs.Runs.{has_begun};
 
 use crate::open_revision::OpenRevision;
-use crate::refusals::change_refusal;
-use dump_load::{Applied, load_revision};
+use dump_load::{Applied, change_refusal, load_revision};
 use dump_text::{DumpRecord, RevRecord};
 use node_base::{Props, Refusal, RevNo};
 use path_tree::Tree;

@@ -9,7 +9,7 @@ pub use line::write_line;
 pub use lines::{push_node_line, push_path};
 pub use open_revision::OpenRevision;
 pub use product::Product;
-pub use refusals::{change_refusal, dump_refusal};
+pub use refusals::dump_refusal;
 pub use stream::{hand_on, read, write, write_count, write_parts};
 
 mod commands;

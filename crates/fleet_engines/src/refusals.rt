@@ -1,8 +1,7 @@
-//! The refusals that a library's errors are.
+//! The refusals that the faults of dump text are.
 ghost use Rattle.std.specs.Prelude.{◌≡◌};
-ghost use Rattle.fleet_engines.specs.Refusals.{change_refusal, dump_refusal};
+ghost use Rattle.fleet_engines.specs.Refusals.{dump_refusal};
 
-use dump_load::ChangeFault;
 use dump_text::DumpFault;
 use node_base::Refusal;
 
@@ -24,25 +23,5 @@ pub fn dump_refusal(fault: DumpFault) -> Refusal
         DumpFault::BadPath => Refusal::BadPath,
         DumpFault::Failed => Refusal::Failed,
         DumpFault::OutOfMemory => Refusal::OutOfMemory,
-    }
-}
-
-/// The refusal that a fault of a set of changes is.
-pub fn change_refusal(fault: ChangeFault) -> Refusal
-    ensures value { result ≡ change_refusal fault }
-    ensures no_peer { result ≡ Refusal.PeerFailed → ⊥ }
-{
-    match fault {
-        ChangeFault::BadHeader => Refusal::BadHeader,
-        ChangeFault::TooLong => Refusal::TooLong,
-        ChangeFault::BadPath => Refusal::BadPath,
-        ChangeFault::NoSuchPath => Refusal::NoSuchPath,
-        ChangeFault::PathThere => Refusal::PathThere,
-        ChangeFault::NotDir => Refusal::NotDir,
-        ChangeFault::NoSource => Refusal::NoSource,
-        ChangeFault::OutOfOrder => Refusal::OutOfOrder,
-        ChangeFault::WrongNumber => Refusal::WrongNumber,
-        ChangeFault::KindMismatch => Refusal::KindMismatch,
-        ChangeFault::OutOfMemory => Refusal::OutOfMemory,
     }
 }

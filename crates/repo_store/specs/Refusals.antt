@@ -8,7 +8,7 @@ use Rattle.repo_core.specs.declared.fault.RepoFault.{RepoFault}
 use Rattle.repo_core.specs.declared.fault.RepoFault.TheVariants as fault
 use Rattle.node_base.specs.declared.refusal.Refusal.{Refusal}
 use Rattle.node_base.specs.declared.refusal.Refusal.TheVariants as refusal
-use Rattle.fleet_engines.specs.Refusals.{change_refusal}
+use Rattle.dump_load.specs.Faults.{change_refusal}
 use Rattle.repo_store.specs.declared.fault.StoreFault.{StoreFault}
 use Rattle.repo_store.specs.declared.fault.StoreFault.TheVariants.{Repo, Log}
 

@@ -2,7 +2,7 @@
 ghost use Rattle.std.specs.Prelude.{◌≡◌};
 ghost use Rattle.repo_store.specs.Refusals.{number_of, log_refusal, repo_refusal, store_refusal};
 
-use fleet_engines::change_refusal;
+use dump_load::change_refusal;
 use gate_log::LogFault;
 use node_base::Refusal;
 use repo_core::RepoFault;
