@@ -8,6 +8,7 @@ use Rattle.node_base.specs.declared.refusal.Refusal.TheVariants as refusal
 use Rattle.dump_load.specs.Faults.{change_refusal}
 use Rattle.dump_load.specs.declared.fault.ChangeFault.{ChangeFault}
 use Rattle.dump_load.specs.declared.fault.ChangeFault.TheVariants as change
+use Rattle.repo_core.specs.Refusals.{repo_refusal}
 use Rattle.repo_core.specs.declared.fault.RepoFault.{RepoFault}
 use Rattle.repo_core.specs.declared.fault.RepoFault.TheVariants as repo
 use Rattle.sync_core.specs.Names.{Number, Absent, Misspelt, Spelt, Huge, number_of}
@@ -91,10 +92,6 @@ of_changes f = fault.Other (change_refusal f)
 
 -- what a repository refuses
 abbrev pub of_repository : RepoFault → SyncFault
-of_repository repo.NoSuchRevision = fault.Other refusal.NoSuchRevision
-of_repository (repo.BaseMismatch found) = fault.Other refusal.BaseMismatch
-of_repository repo.Full = fault.Other refusal.Full
-of_repository (repo.Behind head) = fault.Other (refusal.Behind head)
 of_repository (repo.Change f) = of_changes f
-of_repository repo.TooLong = fault.Other refusal.TooLong
 of_repository repo.OutOfMemory = fault.OutOfMemory
+of_repository f = fault.Other (repo_refusal f)

@@ -7,7 +7,7 @@ use crate::lock_token::LockToken;
 use crate::told_number::ToldNumber;
 use dump_load::{ChangeFault, change_refusal};
 use node_base::{Refusal, RevNo};
-use repo_core::RepoFault;
+use repo_core::{RepoFault, repo_refusal};
 use std::alloc::{AllocError, AllocFailed};
 use std::error::Error;
 
@@ -134,13 +134,9 @@ impl From<RepoFault> for SyncFault {
 
     fn from(fault: RepoFault) -> SyncFault {
         match fault {
-            RepoFault::NoSuchRevision => SyncFault::Other(Refusal::NoSuchRevision),
-            RepoFault::BaseMismatch(_) => SyncFault::Other(Refusal::BaseMismatch),
-            RepoFault::Full => SyncFault::Other(Refusal::Full),
-            RepoFault::Behind(head) => SyncFault::Other(Refusal::Behind(head)),
             RepoFault::Change(fault) => of_changes(fault),
-            RepoFault::TooLong => SyncFault::Other(Refusal::TooLong),
             RepoFault::OutOfMemory => SyncFault::OutOfMemory,
+            fault => SyncFault::Other(repo_refusal(fault)),
         }
     }
 }
