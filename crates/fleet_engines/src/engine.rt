@@ -68,6 +68,14 @@ fn push_closed(closed: &Option<RevRecord>, bytes: &mut Vec<u8>) -> Result<(), Al
     }
 }
 
+// Room for the revision that is whole, more or less.
+fn room_for(closed: &Option<RevRecord>) -> usize {
+    match closed {
+        Some(revision) => revision.room(),
+        None => 0,
+    }
+}
+
 // What is due: the head and revision 0, or not, and then the revision that is whole, if there is one.
 fn due_bytes(
     alloc: Global,
@@ -78,7 +86,7 @@ fn due_bytes(
     ensures { IfOk result (λ v. v.items ≡ (if is_due then head_of (told_of history.now) else [])
         ++ flat_map canon_of (revs_of closed.now)) }
 {
-    let mut bytes = Vec::new(alloc);
+    let mut bytes = Vec::with_capacity(alloc, room_for(closed))?;
     push_beginning(is_due, history, &mut bytes)?;
     push_closed(closed, &mut bytes)?;
     Ok(bytes)
