@@ -13,10 +13,11 @@ ghost use Rattle.fleet_engines.specs.Runs.{Reached, Refused, Stands, Stops};
 use crate::history::History;
 use crate::listing::push_listing;
 use crate::product::Product;
-use crate::refusals::dump_refusal;
 use crate::stream::write;
 use byte_streams::Output;
-use dump_text::{DumpReader, DumpRecord, RevRecord, write_head, write_props_entry, write_revision};
+use dump_text::{
+    DumpReader, DumpRecord, RevRecord, dump_refusal, write_head, write_props_entry, write_revision,
+};
 use node_base::{Refusal, RevNo};
 use std::alloc::{AllocError, Global};
 

@@ -9,7 +9,6 @@ pub use line::write_line;
 pub use lines::{push_node_line, push_path};
 pub use open_revision::OpenRevision;
 pub use product::Product;
-pub use refusals::dump_refusal;
 pub use stream::{hand_on, read, write, write_count, write_parts};
 
 mod commands;
@@ -20,7 +19,6 @@ mod lines;
 mod listing;
 mod open_revision;
 mod product;
-mod refusals;
 mod stream;
 
 /// What comes next of a stream doesn't depend on the records that are whole.
