@@ -2,7 +2,7 @@
 ghost use Rattle.std.specs.Prelude.{◌≡◌, ◌++◌, ◌≤◌, [], not, IfOk, OnOk, OnErr};
 ghost use Rattle.std.specs.Prelude.{IsSome, None, Some, MatchOption};
 ghost use Rattle.std.specs.FinMap as map;
-ghost use Rattle.std.specs.List.{list_any};
+ghost use Rattle.std.specs.List.{list_any, flat_map};
 ghost use Rattle.node_base.specs.Path.{Path};
 ghost use Rattle.node_base.specs.Limits.{fits_after};
 ghost use Rattle.node_base.specs.Tree.{marked, blocked, changed_at};
@@ -15,7 +15,8 @@ ghost use Rattle.path_tree.specs.Reach.{reach_to};
 use crate::Entry;
 use crate::edit::Edit;
 use crate::reach::Reach;
-use crate::row::{Row, Twig, child_of, list_row, reach_in, shared, with, with_branch, without};
+use crate::row::{Row, Twig, child_of, list_row, reach_in, shared, visit_row, with, with_branch, without};
+use crate::visit::Visitor;
 use node_base::{Node, NodeName, PropName, PropValue, RevNo, TreeFault};
 use std::alloc::{AllocError, Global};
 use std::marker::Model;
@@ -310,5 +311,21 @@ impl Branch {
             node: &self.node,
         })?;
         list_row(&self.children, alloc, above, out)
+    }
+
+    /// Shows each node with its path, in path order. The path's names stand behind those above it, which come back as
+    /// they were.
+    #[cycle(visits)]
+    pub fn visit_into<'a, V: Visitor>(
+        &'a self,
+        above: &mut Vec<&'a NodeName>,
+        visitor: &mut V,
+    ) -> Result<(), AllocError>
+        ensures said { OnOk result (V.said visitor.new ≡ V.said visitor.old
+            ++ flat_map V.line (under (shown_names above.old.items) (map.entries self.now))) }
+        ensures above { OnOk result (shown_names above.new.items ≡ shown_names above.old.items) }
+    {
+        visitor.visit(above.as_slice(), &self.node)?;
+        visit_row(&self.children, above, visitor)
     }
 }

@@ -1,6 +1,7 @@
 //! The children of a node: a balanced search tree, whose parts are shared by all rows that have them.
 ghost use Rattle.std.specs.Prelude.{◌≡◌, ◌++◌, ◌∷◌, ◌≤◌, IfOk, OnOk, MatchOption, None, Some};
 ghost use Rattle.std.specs.Arc.{arc_value};
+ghost use Rattle.std.specs.List.{flat_map};
 ghost use Rattle.std.specs.FinMap as map;
 ghost use Rattle.std.specs.FinMap.Entries.{put, where_key};
 ghost use Rattle.node_base.specs.Path.{name_cmp};
@@ -12,6 +13,7 @@ ghost use Rattle.path_tree.specs.Rows.{in_row, differs};
 use crate::Entry;
 use crate::branch::Branch;
 use crate::reach::Reach;
+use crate::visit::Visitor;
 use node_base::NodeName;
 use std::alloc::{AllocError, Global};
 use std::cmp::Ordering;
@@ -343,6 +345,45 @@ pub fn list_row<'a>(
             list_row(&twig.before, alloc, above, out)?;
             list_child(&twig.child, alloc, above, out)?;
             list_row(&twig.behind, alloc, above, out)
+        }
+        None => Ok(()),
+    }
+}
+
+// Shows the nodes of a child with their paths, in path order.
+#[cycle(visits)]
+fn visit_child<'a, V: Visitor>(
+    child: &'a (NodeName, Branch),
+    above: &mut Vec<&'a NodeName>,
+    visitor: &mut V,
+) -> Result<(), AllocError>
+    ensures said { OnOk result (V.said visitor.new ≡ V.said visitor.old ++ flat_map V.line
+        (under (shown_names above.old.items) (behind child.now.0 (map.entries child.now.1)))) }
+    ensures above { OnOk result (shown_names above.new.items ≡ shown_names above.old.items) }
+{
+    above.push(&child.0)?;
+    child.1.visit_into(above, visitor)?;
+    let _ = above.pop();
+    Ok(())
+}
+
+/// Shows the nodes of each child with their paths, in path order. The names above come back as they were.
+#[cycle(visits)]
+pub fn visit_row<'a, V: Visitor>(
+    row: &'a Row,
+    above: &mut Vec<&'a NodeName>,
+    visitor: &mut V,
+) -> Result<(), AllocError>
+    ensures said { OnOk result (V.said visitor.new ≡ V.said visitor.old ++ flat_map V.line
+        (under (shown_names above.old.items) (below (in_row row.now)))) }
+    ensures above { OnOk result (shown_names above.new.items ≡ shown_names above.old.items) }
+{
+    match row {
+        Some(top) => {
+            let twig: &Twig = top;
+            visit_row(&twig.before, above, visitor)?;
+            visit_child(&twig.child, above, visitor)?;
+            visit_row(&twig.behind, above, visitor)
         }
         None => Ok(()),
     }
