@@ -12,3 +12,4 @@ pub mod Place
 pub mod Reaches
 pub mod Rows
 pub mod Visits
+pub mod InPlace

@@ -15,7 +15,9 @@ ghost use Rattle.path_tree.specs.Reach.{reach_to};
 use crate::Entry;
 use crate::edit::Edit;
 use crate::reach::Reach;
-use crate::row::{Row, Twig, child_of, list_row, reach_in, shared, visit_row, with, with_branch, without};
+use crate::row::{
+    Row, Twig, alter_in, child_of, list_row, put_in, reach_in, shared, visit_row, with_branch, without,
+};
 use crate::visit::Visitor;
 use node_base::{Node, NodeName, PropName, PropValue, RevNo, TreeFault};
 use std::alloc::{AllocError, Global};
@@ -183,6 +185,7 @@ impl Branch {
 
     /// Gives the number, where there is one, to each front of a path, and edits the node at the path. What has other
     /// owners is copied first.
+    #[cycle(alters)]
     pub fn alter(
         &mut self,
         alloc: Global,
@@ -197,18 +200,11 @@ impl Branch {
     {
         match path {
             [] => self.alter_top(alloc, edit, number),
-            [first, rest @ ..] => match child_of(&self.children, first) {
-                Some(child) => {
-                    let mut child = child.again()?;
-                    child.alter(alloc, rest, edit, number)?;
-                    self.children = with_branch(alloc, &self.children, first, child)?;
-                    if let Some(number) = &number {
-                        self.node.changed = *number;
-                    }
-                    Ok(())
-                }
-                None => unreachable!(),
-            },
+            [first, rest @ ..] => {
+                alter_in(alloc, &mut self.children, first, rest, edit, number)?;
+                renumber(&mut self.node, number);
+                Ok(())
+            }
         }
     }
 
@@ -278,10 +274,7 @@ impl Branch {
             }
             Edit::Prop(name, value) => self.put_prop(alloc, name, value),
             Edit::Piece(piece) => self.append_text(alloc, piece.as_slice()),
-            Edit::Graft(child) => {
-                self.children = with(alloc, &self.children, &child)?;
-                Ok(())
-            }
+            Edit::Graft(child) => put_in(alloc, &mut self.children, &child),
             Edit::Prune(name) => {
                 self.children = without(alloc, &self.children, &name)?;
                 Ok(())
