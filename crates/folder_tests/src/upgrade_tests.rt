@@ -10,11 +10,11 @@ use std::process::Abort;
 
 const UPGRADE: [&str; 2] = ["upgrade", "repo"];
 
-// The gates of two entries that end at 149 and at 424, and of a third that ends at 554.
+// The gates of two entries that end at 149 and at 424, and of a third that ends at 534.
 const TWO_GATES: &[u8] = b"\x01\0\0\0\0\0\0\0\x95\x01\0\0\0\0\0\0\x01\xA8\0";
 
 const THREE_GATES: &[u8] =
-    b"\x01\0\0\0\0\0\0\0\x95\x01\0\0\0\0\0\0\x01\xA8\x01\0\0\0\0\0\0\x02\x2A\0";
+    b"\x01\0\0\0\0\0\0\0\x95\x01\0\0\0\0\0\0\x01\xA8\x01\0\0\0\0\0\0\x02\x16\0";
 
 // The slots of the two, with the sums that `md5sum` tells of them.
 const TWO_SLOTS: &[u8] =
