@@ -13,7 +13,7 @@ use Rattle.dump_text.specs.declared.state.ReadState.{ReadState}
 use Rattle.dump_text.specs.Streams.{records_of, has_failed, is_between}
 use Rattle.fleet_engines.specs.declared.product.Product.{Product}
 use Rattle.fleet_engines.specs.declared.product.Product.TheVariants.{List as ListIt, Canon}
-use Rattle.fleet_engines.specs.Refusals.{dump_refusal}
+use Rattle.dump_text.specs.Faults.{dump_refusal}
 use Rattle.fleet_engines.specs.Revisions.{Rev, Told, Closes, CantClose}
 use Rattle.fleet_engines.specs.Runs.{newest_listing, Reached, Refused, Accepted, cut_short, last_refused, stopped}
 use Rattle.fleet_engines.proofs.Due.{canon_ends, ends}

@@ -18,7 +18,7 @@ use Rattle.dump_text.specs.declared.state.ReadState.{ReadState}
 use Rattle.dump_text.specs.Streams.{Stream, Reads, Refuses, reading, dump, fresh, one_byte, stream_step, line_step, line_is, versioned, block_said, said, given, give, made, text_is, after_block, content, judged, sum_holds, records_of, has_failed, IsFront, StreamIs}
 use Rattle.fleet_engines.specs.declared.product.Product.{Product}
 use Rattle.fleet_engines.specs.Pieces.{behind}
-use Rattle.fleet_engines.specs.Refusals.{dump_refusal}
+use Rattle.dump_text.specs.Faults.{dump_refusal}
 use Rattle.fleet_engines.specs.Revisions.{Told}
 use Rattle.fleet_engines.specs.Runs.{Moves, Stands, Stops, Reached, Refused, record_refused, byte_refused, stopped}
 use Rattle.fleet_engines.proofs.Behind.{records_dont_matter}

@@ -4,12 +4,17 @@ use Rattle.std.specs.Option.{option_map}
 use Rattle.dump_text.specs.declared.record.RevRecord.{RevRecord}
 use Rattle.fleet_engines.specs.Revisions.{Rev, Told}
 use Rattle.fleet_engines.specs.declared.history.History.{History}
+use Rattle.fleet_engines.specs.declared.open_revision.OpenRevision.{OpenRevision}
 
 abbrev pub rev_of : RevRecord → Rev
 rev_of r = record { number = r.number; props = r.props; nodes = r.nodes.items }
 
+-- the revision that is read
+abbrev pub open_in : OpenRevision → Option Rev
+open_in o = option_map rev_of o.revision
+
 abbrev pub told_of : History → Told
-told_of h = record { identity = h.uuid; zero = h.zero; trees = h.trees.items; last = option_map rev_of h.last }
+told_of h = record { identity = h.uuid; zero = h.zero; trees = h.trees.items; last = open_in h.last }
 
 -- what was given back
 abbrev pub revs_of : Option RevRecord → List Rev

@@ -2,6 +2,5 @@ pub mod Grouping
 pub mod Histories
 pub mod Listing
 pub mod Pieces
-pub mod Refusals
 pub mod Revisions
 pub mod Runs

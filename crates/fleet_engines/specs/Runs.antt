@@ -15,7 +15,7 @@ use Rattle.dump_text.specs.Streams.{Reads, Refuses, dump, records_of, is_between
 use Rattle.fleet_engines.specs.declared.product.Product.{Product}
 use Rattle.fleet_engines.specs.declared.product.Product.TheVariants.{List as ListIt, Canon}
 use Rattle.fleet_engines.specs.Listing.{listing}
-use Rattle.fleet_engines.specs.Refusals.{dump_refusal}
+use Rattle.dump_text.specs.Faults.{dump_refusal}
 use Rattle.fleet_engines.specs.Revisions.{Rev, Told, untold, is_lone, is_past_zero, Closes, CantClose, CantTake, Tells}
 
 -- a revision in its canonical spelling

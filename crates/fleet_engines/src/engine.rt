@@ -13,10 +13,11 @@ ghost use Rattle.fleet_engines.specs.Runs.{Reached, Refused, Stands, Stops};
 use crate::history::History;
 use crate::listing::push_listing;
 use crate::product::Product;
-use crate::refusals::dump_refusal;
 use crate::stream::write;
 use byte_streams::Output;
-use dump_text::{DumpReader, DumpRecord, RevRecord, write_head, write_props_entry, write_revision};
+use dump_text::{
+    DumpReader, DumpRecord, RevRecord, dump_refusal, write_head, write_props_entry, write_revision,
+};
 use node_base::{Refusal, RevNo};
 use std::alloc::{AllocError, Global};
 
@@ -68,6 +69,14 @@ fn push_closed(closed: &Option<RevRecord>, bytes: &mut Vec<u8>) -> Result<(), Al
     }
 }
 
+// Room for the revision that is whole, more or less.
+fn room_for(closed: &Option<RevRecord>) -> usize {
+    match closed {
+        Some(revision) => revision.room(),
+        None => 0,
+    }
+}
+
 // What is due: the head and revision 0, or not, and then the revision that is whole, if there is one.
 fn due_bytes(
     alloc: Global,
@@ -78,7 +87,7 @@ fn due_bytes(
     ensures { IfOk result (λ v. v.items ≡ (if is_due then head_of (told_of history.now) else [])
         ++ flat_map canon_of (revs_of closed.now)) }
 {
-    let mut bytes = Vec::new(alloc);
+    let mut bytes = Vec::with_capacity(alloc, room_for(closed))?;
     push_beginning(is_due, history, &mut bytes)?;
     push_closed(closed, &mut bytes)?;
     Ok(bytes)

@@ -27,7 +27,7 @@ use Rattle.repo_store.specs.declared.store.RepoStore.{RepoStore}
 use Rattle.repo_store.specs.declared.fault.StoreFault.{StoreFault}
 use Rattle.repo_store.specs.declared.fault.StoreFault.TheVariants.{Repo, Log}
 use Rattle.repo_store.proofs.Going.{rose_on}
-use Rattle.fleet_engines.specs.Refusals.{change_refusal}
+use Rattle.dump_load.specs.Faults.{change_refusal}
 use Rattle.store_engines.specs.Devices.{is_device, repository_after, IsSafe, CantKeep, IsOnTheWay, Serves, failed_before, no_room, device_fails}
 use Rattle.store_engines.specs.Refusals.{log_refusal, path_refusal, repo_refusal, store_refusal}
 

@@ -23,7 +23,7 @@ use Rattle.dump_text.specs.declared.state.Place.{Place}
 use Rattle.dump_text.specs.declared.state.Place.TheVariants as at
 use Rattle.dump_text.specs.declared.state.ReadState.{ReadState}
 use Rattle.dump_text.specs.Streams.{Stream, Reads, Refuses, reading, stream_step, line_step, line_is, versioned, block_said, said, given, give, made, text_is, after_block, content, judged, sum_holds, has_failed, StreamIs}
-use Rattle.fleet_engines.specs.Refusals.{dump_refusal}
+use Rattle.dump_text.specs.Faults.{dump_refusal}
 use Rattle.fleet_engines.proofs.Feeding.{refuses_or_lacks}
 use Rattle.store_engines.specs.Devices.{is_device}
 

@@ -13,7 +13,7 @@ use Rattle.dump_text.specs.declared.state.ReadState.{ReadState}
 use Rattle.dump_text.specs.Streams.{Reads, reading, dump, fresh, records_of, has_failed, is_between, IsFront, StreamIs}
 use Rattle.repo_core.specs.Repository.{Repository}
 use Rattle.fleet_engines.specs.Pieces.{behind}
-use Rattle.fleet_engines.specs.Refusals.{dump_refusal}
+use Rattle.dump_text.specs.Faults.{dump_refusal}
 use Rattle.fleet_engines.specs.Revisions.{Rev}
 use Rattle.fleet_engines.proofs.Feeding.{not_failed, joins, stays, dump_on, later_records, next_records, front_of, refuses_or_lacks, regroup}
 use Rattle.fleet_engines.proofs.Ending.{fits_end, no_end}

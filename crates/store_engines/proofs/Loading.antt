@@ -1,4 +1,8 @@
 -- Revisions loaded one after another, and the records that they are.
+use Rattle.std.specs.Prelude.{nat_lt}
+use Rattle.std.proofs.lemmas.Bool.Decides.{nat_tests}
+use Rattle.std.specs.Option.{option_or}
+use Rattle.dump_load.specs.Faults.{fault_if, first_of}
 use Rattle.std.proofs.Common.{◌≡◌, ◌<◌, ◌+◌, ℕ, ◌⊎◌, arith, length-append, ◌==◌, ◌&&◌, not, Bool, true, false, List, [], ◌∷◌, ◌++◌, length, Result, Ok, Err, Option, Some, None, is_none, refl, sym, ap, subst, ◌∙◌, append_assoc, append-nil, inl, inr}
 use Rattle.std.proofs.KnownBytes.{Appends-nil, Appends-trans}
 use Rattle.std.specs.List.{filter, flat_map}
@@ -7,8 +11,9 @@ use Rattle.std.proofs.lemmas.Bool.{false≢true, true≢false, eqb-true}
 use Rattle.std.specs.Result.{OnOk, OnErr, IfErr}
 use Rattle.node_base.specs.Tree.{PathMap}
 use Rattle.dump_load.specs.declared.change.Change.{Change}
-use Rattle.repo_core.specs.Refusals.{IsDue}
+use Rattle.repo_core.specs.Refusals.{IsDue, by_repository}
 use Rattle.repo_core.specs.declared.fault.RepoFault.{RepoFault}
+use Rattle.repo_core.specs.declared.fault.RepoFault.TheVariants.{NoSuchRevision, Behind}
 use Rattle.repo_core.specs.declared.entry.Entry.TheVariants.{Revised, Mapped}
 use Rattle.store_engines.specs.Refusals.{repo_refusal}
 use Rattle.std.proofs.lemmas.Grind.{flat_map-append}
@@ -20,7 +25,7 @@ use Rattle.node_base.specs.declared.refusal.Refusal.TheVariants as refusal
 use Rattle.dump_text.specs.declared.record.NodeRecord.{NodeRecord}
 use Rattle.dump_text.specs.declared.record.DumpRecord.{DumpRecord}
 use Rattle.dump_text.specs.declared.record.DumpRecord.TheVariants.{Identity, Revision as Begins, Node}
-use Rattle.repo_core.specs.Repository.{Repository, Revision, trees_of}
+use Rattle.repo_core.specs.Repository.{Repository, Revision, trees_of, head_of}
 use Rattle.repo_core.specs.Entries.{with_entry_in}
 use Rattle.repo_core.specs.declared.entry.Entry.{Entry}
 use Rattle.fleet_engines.specs.Revisions.{Rev, Makes, is_lone, is_zero, is_past_zero}
@@ -194,3 +199,20 @@ pub next_unsaid : {D : Type 0} {G : Ghosts D} (y : Repository) (z : RepoStore D 
     → entry_fault y.revisions (Revised (length y.revisions) set rev.props) ≡ None → repository_of z ≡ with_entry_in y (Revised (length y.revisions) set rev.props) → OnErr r fails → IfErr r (λ e. e ≡ refusal.PeerFailed) → IfErr r (λ e. NotLoaded y rev z a b fails e)
 next_unsaid y z rev set trees t a b fails (Ok u) later m n k f p = tt
 next_unsaid y z rev set trees t a b fails (Err e) later m n k f p = load_unsaid (Revised (length y.revisions) set rev.props) (loaded_line rev.number) (next_loaded y.revisions rev set trees t later m) n k f p
+
+-- ---- what is due at the head
+
+not_less : (n : ℕ) → nat_lt n n ≡ false
+not_less n = grind (arith, nat_tests)
+
+or_none : (o : Option RepoFault) → option_or o None ≡ o
+or_none None = refl
+or_none (Some f) = refl
+
+-- of an entry that is committed against the head what the repository refuses of it is due
+pub due_at_head : (x : List Revision) (set : List Change) (props : PropMap) → by_repository x (Revised (length x) set props) ≡ entry_fault x (Revised (length x) set props)
+due_at_head x set props =
+    let due = by_repository x (Revised (length x) set props) in
+    let at : (b : Bool) → b ≡ false → due ≡ first_of (first_of (fault_if b NoSuchRevision ∷ fault_if b (Behind (head_of x)) ∷ []) ∷ due ∷ []) =
+    λ b e. sym (or_none due) ∙ ap (λ b. first_of (first_of (fault_if b NoSuchRevision ∷ fault_if b (Behind (head_of x)) ∷ []) ∷ due ∷ [])) (sym e) in
+    at (nat_lt (head_of x) (head_of x)) (not_less (head_of x))

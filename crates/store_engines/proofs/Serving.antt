@@ -10,6 +10,7 @@ use Rattle.std.proofs.lemmas.Result.{on_ok_weaker}
 use Rattle.node_base.specs.Props.{PropMap}
 use Rattle.node_base.specs.Tree.{PathMap}
 use Rattle.node_base.specs.declared.refusal.Refusal.{Refusal}
+use Rattle.node_base.specs.declared.refusal.Refusal.TheVariants.{OutOfMemory, WrongNumber}
 use Rattle.dump_text.specs.declared.record.NodeRecord.{NodeRecord}
 use Rattle.dump_text.specs.declared.record.DumpRecord.{DumpRecord}
 use Rattle.dump_text.specs.declared.record.DumpRecord.TheVariants.{Identity, Revision as Begins, Node}
@@ -262,6 +263,12 @@ identity_left last next id e = ap (λ n. read_of last ++ filter is_no_identity (
 -- a revision begins
 pub begun_left : (later : Option Rev) (next : DumpRecord) (n : ℕ) (props : PropMap) → next ≡ Begins n props → later ≡ Some (record { number = n; props = props; nodes = [] }) → filter is_no_identity (next ∷ []) ≡ read_of later
 begun_left later next n props e d = ap (λ v. filter is_no_identity (v ∷ [])) e ∙ sym (ap read_of d)
+
+-- a node that isn't taken tells of no device
+pub no_device : (r : Result (Unit {0}) Refusal) (late : Type 0) → IfErr r (λ e. (e ≡ OutOfMemory) ⊎ ((e ≡ WrongNumber) × late)) → IfErr r (λ e. is_device e ≡ false)
+no_device (Ok u) late h = tt
+no_device (Err e) late (inl m) = ap is_device m
+no_device (Err e) late (inr m) = ap is_device m.0
 
 -- a node more
 pub node_left : (last later : Option Rev) (next : DumpRecord) (node : NodeRecord) → next ≡ Node node → (r : Rev) × (last ≡ Some r) × (is_past_zero last ≡ true) × (later ≡ Some (record r { nodes = r.nodes ++ node ∷ [] })) → read_of last ++ filter is_no_identity (next ∷ []) ≡ read_of later

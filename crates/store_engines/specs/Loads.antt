@@ -23,7 +23,7 @@ use Rattle.repo_core.specs.declared.fault.RepoFault.{RepoFault}
 use Rattle.fleet_disk.specs.declared.disk.Disk.{Ghosts}
 use Rattle.repo_store.specs.Words.{repository_of, revisions_of}
 use Rattle.repo_store.specs.declared.store.RepoStore.{RepoStore}
-use Rattle.fleet_engines.specs.Refusals.{dump_refusal}
+use Rattle.dump_text.specs.Faults.{dump_refusal}
 use Rattle.fleet_engines.specs.Revisions.{Rev, Makes, IsUnfit, is_zero, is_past_zero}
 use Rattle.fleet_engines.specs.Grouping.{records_of_rev, is_no_identity}
 use Rattle.store_engines.specs.Devices.{CantKeep, Serves}

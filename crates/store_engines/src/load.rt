@@ -6,7 +6,6 @@ ghost use Rattle.std.specs.Prelude.{false, IfOk, IfErr, IfSome, OnOk, OnErr};
 ghost use Rattle.std.specs.Io.KnownBytes.{Appends, Consumes, IsAtEnd};
 ghost use Rattle.byte_streams.specs.Causes.{Rose, counts};
 ghost use Rattle.node_base.specs.Props.{PropMap};
-ghost use Rattle.node_base.specs.Tree.{PathMap};
 ghost use Rattle.dump_load.specs.declared.change.Change.{Change as ChangeOf};
 ghost use Rattle.dump_text.specs.Streams.{dump, has_failed, records_of};
 ghost use Rattle.dump_text.specs.declared.record.DumpRecord.{DumpRecord as RecordOf};
@@ -21,7 +20,7 @@ ghost use Rattle.repo_store.specs.Journal.{Keeps};
 ghost use Rattle.repo_store.specs.Words.{disk_of, repository_of, revisions_of, HasFailed, IsKept};
 ghost use Rattle.fleet_engines.specs.Grouping.{is_no_identity, records_of_rev};
 ghost use Rattle.fleet_engines.specs.Histories.{rev_of};
-ghost use Rattle.fleet_engines.specs.Revisions.{Rev, Makes, IsUnfit, is_zero, is_past_zero};
+ghost use Rattle.fleet_engines.specs.Revisions.{Makes, IsUnfit, is_zero};
 ghost use Rattle.fleet_engines.specs.Runs.{Counted, BothCounted};
 ghost use Rattle.store_engines.specs.Loaders.{last_of};
 ghost use Rattle.store_engines.specs.Devices.{is_device, CantKeep, IsSafe, Serves};
@@ -32,14 +31,14 @@ ghost use Rattle.store_engines.specs.Mirrors.{is_mirror};
 ghost use Rattle.store_engines.specs.Telling.{AllStand, KeepsTold};
 ghost use Rattle.store_engines.specs.Refusals.{repo_refusal};
 
-use crate::commits::commit;
+use crate::commits::commit_applied;
 use crate::mirror::refuse_mirror;
 use crate::report::LoadReport;
 use byte_streams::{Input, MOST_READS};
-use dump_load::{ChangeSet, load_revision};
-use dump_text::{DumpReader, DumpRecord, NodeRecord, RevRecord};
+use dump_load::{Applied, change_refusal, load_revision};
+use dump_text::{DumpReader, DumpRecord, NodeRecord, RevRecord, dump_refusal};
 use fleet_disk::Disk;
-use fleet_engines::{change_refusal, dump_refusal, read};
+use fleet_engines::{OpenRevision, read};
 use node_base::{Props, Refusal, RevNo};
 use path_tree::Tree;
 use repo_core::Repo;
@@ -56,16 +55,16 @@ fn is_zero(repo: &Repo, revision: &RevRecord) -> bool
     repo.trees().len() == 1 && revision.number == RevNo::ZERO
 }
 
-// The set of the revision after the head. WrongNumber (16) where the number isn't its, and then what makes no set or
-// has a fault over the trees so far.
+// The set of the revision after the head with the tree that it makes. WrongNumber (16) where the number isn't its, and
+// then what makes no set or has a fault over the trees so far.
 fn judge(
     alloc: Global,
     trees: &[Tree],
     number: RevNo,
     nodes: Vec<NodeRecord>,
-) -> Result<ChangeSet, Refusal>
-    ensures set { IfOk result (λ s. (props : PropMap) → (tree : PathMap)
-        × Makes trees.now (record { number = number; props = props; nodes = nodes.items }) s tree) }
+) -> Result<Applied, Refusal>
+    ensures made { IfOk result (λ a. (props : PropMap)
+        → Makes trees.now (record { number = number; props = props; nodes = nodes.items }) a.set a.tree) }
     ensures refused { IfErr result (λ e. (e ≡ Refusal.OutOfMemory)
         ⊎ ((props : PropMap) → IsUnfit trees.now
         (record { number = number; props = props; nodes = nodes.items }) e)) }
@@ -76,7 +75,7 @@ fn judge(
         return Err(Refusal::WrongNumber);
     }
     match load_revision(alloc, trees, number, nodes) {
-        Ok((set, _tree)) => Ok(set),
+        Ok(applied) => Ok(applied),
         Err(fault) => Err(change_refusal(fault)),
     }
 }
@@ -127,8 +126,8 @@ fn load_next<D: Disk + Drop, T: LoadReport>(
         props,
         nodes,
     } = revision;
-    let set = judge(alloc, store.repo().trees(), number, nodes)?;
-    commit(alloc, store, set, props, None)?;
+    let applied = judge(alloc, store.repo().trees(), number, nodes)?;
+    commit_applied(alloc, store, applied, props)?;
     report.loaded(store, number)
 }
 
@@ -162,7 +161,7 @@ fn load_one<D: Disk + Drop, T: LoadReport>(
 #[derive(Drop)]
 pub struct Loader {
     alloc: Global,
-    last: Option<RevRecord>,
+    last: OpenRevision,
 }
 
 impl Loader {
@@ -170,7 +169,10 @@ impl Loader {
     fn new(alloc: Global) -> Loader
         ensures { last_of result ≡ None }
     {
-        Loader { alloc, last: None }
+        Loader {
+            alloc,
+            last: OpenRevision::none(alloc),
+        }
     }
 
     // A record more. Where it begins a revision, the one before it is whole, and is loaded.
@@ -196,56 +198,10 @@ impl Loader {
             DumpRecord::Identity(_identity) => Ok(()),
             DumpRecord::Revision(number, props) => {
                 self.close(store, report)?;
-                self.begin(number, props);
+                self.last.begin(number, props);
                 Ok(())
             }
-            DumpRecord::Node(node) => self.add_node(node),
-        }
-    }
-
-    fn begin(&mut self, number: RevNo, props: Props)
-        ensures { last_of self.new ≡ Some (record { number = number; props = props; nodes = [] }) }
-    {
-        let nodes = Vec::new(self.alloc);
-        self.last = Some(RevRecord {
-            number,
-            props,
-            nodes,
-        });
-    }
-
-    // A node record of no revision, or of revision 0, is WrongNumber (16).
-    fn add_node(&mut self, node: NodeRecord) -> Result<(), Refusal>
-        ensures ok { OnOk result ((r : Rev) × (last_of self.old ≡ Some r)
-            × (is_past_zero (last_of self.old) ≡ true)
-            × (last_of self.new ≡ Some (record r { nodes = r.nodes ++ node ∷ [] }))) }
-        ensures refused { IfErr result (λ e. ((e ≡ Refusal.OutOfMemory)
-            ⊎ ((e ≡ Refusal.WrongNumber) × (is_past_zero (last_of self.old) ≡ false)))) }
-        ensures no_device { IfErr result (λ e. is_device e ≡ false) }
-        ensures no_peer { IfErr result (λ e. e ≡ Refusal.PeerFailed → ⊥) }
-    {
-        if !self.is_past_zero() {
-            return Err(Refusal::WrongNumber);
-        }
-        let Some(mut revision) = self.last.take() else {
-            return Err(Refusal::WrongNumber);
-        };
-        match revision.nodes.push(node) {
-            Ok(()) => {
-                self.last = Some(revision);
-                Ok(())
-            }
-            Err(_) => Err(Refusal::OutOfMemory),
-        }
-    }
-
-    // Whether a revision other than 0 is read.
-    fn is_past_zero(&self) -> bool
-        ensures { result ≡ is_past_zero (last_of self.now) }
-    {
-        match &self.last {
-            Some(revision) => revision.number != RevNo::ZERO,
-            None => false,
+            DumpRecord::Node(node) => self.last.add_node(node),
         }
     }
 

@@ -10,7 +10,7 @@ use Rattle.std.specs.Result.{OnErr}
 use Rattle.repo_store.specs.Words.{repository_of}
 use Rattle.store_engines.specs.Loaders.{last_of}
 use Rattle.store_engines.proofs.Feeding.{fed_ok, fed_err, fed_stops}
-use Rattle.fleet_engines.specs.Refusals.{dump_refusal}
+use Rattle.dump_text.specs.Faults.{dump_refusal}
 use Rattle.store_engines.proofs.Serving.{piece_stops, piece_taken, records_then}
 use Rattle.store_engines.proofs.Faults.{reads_on, shows_no_device}
 use Rattle.store_engines.proofs.load.Loader.feed.Goals as goal

@@ -6,7 +6,7 @@ use Rattle.store_engines.proofs.Feeding.{is_cut, is_ended, ended_ok, ended_err}
 use Rattle.std.proofs.Common.{◌∙◌, [], Err, ap, sym}
 use Rattle.store_engines.specs.Loads.{read_of}
 use Rattle.dump_text.specs.Streams.{is_between}
-use Rattle.fleet_engines.specs.Refusals.{dump_refusal}
+use Rattle.dump_text.specs.Faults.{dump_refusal}
 use Rattle.fleet_engines.proofs.Ending.{no_end}
 use Rattle.store_engines.specs.Devices.{is_device}
 use Rattle.store_engines.proofs.Serving.{nothing}

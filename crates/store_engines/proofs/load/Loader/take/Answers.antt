@@ -1,12 +1,13 @@
 use Rattle.std.specs.List.{filter}
 use Rattle.std.proofs.lemmas.Result.{err_from_is_err_and, on_ok_weaker, IfErr-weaker}
 use Rattle.fleet_engines.specs.Grouping.{is_no_identity}
+use Rattle.fleet_engines.specs.Histories.{open_in}
 use Rattle.byte_streams.specs.Causes.{Rose}
 use Rattle.store_engines.specs.Loaders.{last_of}
 use Rattle.store_engines.proofs.Loading.{cant_take, node_refused}
 use Rattle.std.proofs.Common.{◌++◌, [], ◌∷◌, Ok, Err, subst}
 use Rattle.store_engines.specs.Loads.{read_of, ServesRecords}
-use Rattle.store_engines.proofs.Serving.{begun_left, identity_left, node_left, nothing, records_behind, refused_left}
+use Rattle.store_engines.proofs.Serving.{begun_left, identity_left, no_device, node_left, nothing, records_behind, refused_left}
 use Rattle.store_engines.proofs.load.Loader.take.Goals as goal
 
 pub returns-in_err-close-in-Revision-clause-refused : goal.returns-in_err-close-in-Revision-clause-refused
@@ -39,15 +40,15 @@ pub returns-in_ok-close-in-Revision-clause-device : goal.returns-in_ok-close-in-
 returns-in_ok-close-in-Revision-clause-device g c safe =
     let last = read_of (last_of c.args.self.now) in
     let next = filter is_no_identity (c.args.next ∷ []) in
-    let later = last_of c.begin.new.self in
+    let later = open_in c.begin.new.self in
     subst (λ l. ServesRecords (last ++ next) c.args.store.now c.close.new.store (Ok tt) l) (begun_left later c.args.next c.in-Revision.number c.in-Revision.props c.in-Revision.is c.begin.ensures)
     (records_behind last [] next c.args.store.now c.close.new.store (Ok tt) (c.in_ok-close-in-Revision.ensures.device safe))
 
 pub returns-in-Node-clause-device : goal.returns-in-Node-clause-device
 returns-in-Node-clause-device g c safe =
     let last = last_of c.args.self.now in
-    let later = last_of c.add_node.new.self in
-    nothing (read_of last ++ filter is_no_identity (c.args.next ∷ [])) (read_of later) c.args.store.now c.add_node.result c.add_node.ensures.no_device
+    let later = open_in c.add_node.new.self in
+    nothing (read_of last ++ filter is_no_identity (c.args.next ∷ [])) (read_of later) c.args.store.now c.add_node.result (no_device c.add_node.result _ c.add_node.ensures.refused)
     (on_ok_weaker c.add_node.result (λ k. node_left last later c.args.next c.in-Node.node c.in-Node.is k) c.add_node.ensures.ok) safe
 
 pub returns-in-Identity-clause-told : goal.returns-in-Identity-clause-told

@@ -1,7 +1,7 @@
 use Rattle.std.proofs.Common.{◌∙◌, ap, sym, Some}
 use Rattle.std.specs.Option.{option_map}
 use Rattle.fleet_engines.specs.Histories.{rev_of}
-use Rattle.store_engines.proofs.load.Loader.add_node.Goals as goal
+use Rattle.fleet_engines.proofs.open_revision.OpenRevision.add_node.Goals as goal
 
 pub returns-in-Ok-clause-ok : goal.returns-in-Ok-clause-ok
 returns-in-Ok-clause-ok c =
