@@ -1,8 +1,11 @@
 -- What a history is seen as.
 use Rattle.std.specs.Prelude.{List, [], ◌∷◌, Option, Some, None}
 use Rattle.std.specs.Option.{option_map}
+use Rattle.byte_streams.specs.declared.output.Output.{Ghosts}
 use Rattle.dump_text.specs.declared.record.RevRecord.{RevRecord}
 use Rattle.fleet_engines.specs.Revisions.{Rev, Told}
+use Rattle.fleet_engines.specs.Runs.{Held}
+use Rattle.fleet_engines.specs.Takers.{Place}
 use Rattle.fleet_engines.specs.declared.history.History.{History}
 use Rattle.fleet_engines.specs.declared.open_revision.OpenRevision.{OpenRevision}
 
@@ -20,3 +23,10 @@ told_of h = record { identity = h.uuid; zero = h.zero; trees = h.trees.items; la
 abbrev pub revs_of : Option RevRecord → List Rev
 revs_of None = []
 revs_of (Some r) = rev_of r ∷ []
+
+-- what a history has been told, and an output holds
+abbrev pub held_by : {O : Type 0} → Ghosts O → History → O → Held
+held_by R history output = record { told = told_of history; contents = R.contents output; failures = R.failures output }
+
+abbrev pub held : {K O : Type 0} → Ghosts O → Place K History O → Held
+held R p = held_by R p.store p.output

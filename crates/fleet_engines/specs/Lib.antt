@@ -4,3 +4,4 @@ pub mod Listing
 pub mod Pieces
 pub mod Revisions
 pub mod Runs
+pub mod Takers

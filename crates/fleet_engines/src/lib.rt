@@ -10,6 +10,8 @@ pub use lines::{push_node_line, push_path};
 pub use open_revision::OpenRevision;
 pub use product::Product;
 pub use stream::{hand_on, read, write, write_count, write_parts};
+pub use taker::Taker;
+pub use whole_stream::read_stream;
 
 mod commands;
 mod engine;
@@ -20,6 +22,8 @@ mod listing;
 mod open_revision;
 mod product;
 mod stream;
+mod taker;
+mod whole_stream;
 
 /// What comes next of a stream doesn't depend on the records that are whole.
 pub fn records_dont_matter()
