@@ -29,6 +29,10 @@ pub some_all : (a : Option (List ℕ)) (P : List ℕ → Type 0) → ((bytes : L
 some_all None P h = tt
 some_all (Some x) P h = h x
 
+pub some_weaker : (a : Option (List ℕ)) (P Q : List ℕ → Type 0) → ((bytes : List ℕ) → P bytes → Q bytes) → IfSome a P → IfSome a Q
+some_weaker None P Q h p = tt
+some_weaker (Some x) P Q h p = h x p
+
 -- what doesn't speak of the bytes
 pub some_or : (a : Option (List ℕ)) (R : Type 0) (Q : List ℕ → Type 0) → IfSome a (λ bytes. R ⊎ Q bytes) → R ⊎ IfSome a Q
 some_or None R Q h = inr tt

@@ -34,7 +34,7 @@ use Rattle.fleet_disk.specs.declared.disk.Disk.{Ghosts}
 use Rattle.repo_store.specs.Words.{repository_of}
 use Rattle.repo_store.specs.declared.store.RepoStore.{RepoStore}
 use Rattle.store_engines.specs.Devices.{CantKeep}
-use Rattle.store_engines.specs.Loads.{IsLoaded, Loads, IsBare, Stands, Gathered, Moves, CantLoad, CantClose, CantTake, NotLoaded, Stops, load_refused, load_stops, load_not_kept, load_unsaid, close_refused, close_stops, close_not_kept, close_unsaid, not_closed, no_revision, take_stops, entry_refused, revision_0, a_revision, loaded_line, entry_fault}
+use Rattle.store_engines.specs.Loads.{IsLoaded, Loads, IsBare, Stands, Gathered, CantLoad, CantClose, CantTake, NotLoaded, load_refused, load_stops, load_not_kept, load_unsaid, close_refused, close_stops, close_not_kept, close_unsaid, not_closed, no_revision, take_stops, entry_refused, revision_0, a_revision, loaded_line, entry_fault}
 
 loads_more : (x : Repository) (rs : List Rev) (y : Repository) (said : List ℕ) (r : Rev) (e : Entry) (line : List ℕ) → Loads x rs y said → IsLoaded y.revisions r e line → entry_fault y.revisions e ≡ None → Loads x (rs ++ r ∷ []) (with_entry_in y e) (said ++ line)
 loads_more x [] y said r e line p k t =
@@ -118,24 +118,6 @@ cant_close x rs y z r start before now fails e s (load_stops k d w) =
 cant_close x rs y z r start before now fails e s (load_not_kept entry line l k d w) =
     rw w (close_not_kept r entry line (subst (λ (v : Repository). Stands x rs v (Some r) start before) (sym d) s) (subst (λ (v : Repository). IsLoaded v.revisions r entry line) (sym d) l) k)
 cant_close x rs y z r start before now fails e s (load_unsaid entry line k t d f p) = close_unsaid y r entry line before s k t d f p
-
-pub moves_none : (y : Repository) (last : Option Rev) (a : Option (List ℕ)) → Moves y last a [] y last a
-moves_none y last a x rs start s = subst (λ l. Stands x l y last start a) (sym (append-nil rs)) s
-
-pub moves_more : (y m z : Repository) (last mid later : Option Rev) (a b d : Option (List ℕ)) (ys : List DumpRecord) (next : DumpRecord) → Moves y last a ys m mid b → Moves m mid b (next ∷ []) z later d → Moves y last a (ys ++ next ∷ []) z later d
-moves_more y m z last mid later a b d ys next p q x rs start s =
-    subst (λ l. Stands x l z later start d) (append_assoc rs ys (next ∷ [])) (q x (rs ++ ys) start (p x rs start s))
-
-pub stops_here : {D : Type 0} {G : Ghosts D} (y m : Repository) (z : RepoStore D G) (last mid : Option Rev) (a b now : Option (List ℕ)) (all ys rest : List DumpRecord) (next : DumpRecord) (fails : Type 0) (e : Refusal) → Moves y last a ys m mid b → all ≡ ys ++ next ∷ rest
-    → ((x : Repository) (rs : List DumpRecord) (start : Option (List ℕ)) → Stands x rs m mid start b → CantTake x rs next z start now fails e)
-    → (x : Repository) (rs : List DumpRecord) (start : Option (List ℕ)) → Stands x rs y last start a → Stops x rs all z start now fails e
-stops_here y m z last mid a b now all ys rest next fails e p d w x rs start s = record {
-  taken = ys;
-  first = next;
-  rest = rest;
-  split = d;
-  why = w x (rs ++ ys) start (p x rs start s);
-}
 
 -- a record can't be taken because the revision before it can't be closed
 pub cant_take : {D : Type 0} {G : Ghosts D} (x : Repository) (rs : List DumpRecord) (next : DumpRecord) (z : RepoStore D G) (start now : Option (List ℕ)) (fails : Type 0) (e : Refusal) (n : ℕ) (props : PropMap) → next ≡ Begins n props → CantClose x rs z start now fails e → CantTake x rs next z start now fails e

@@ -12,7 +12,7 @@ use Rattle.dump_text.specs.declared.record.DumpRecord.{DumpRecord}
 use Rattle.dump_text.specs.declared.record.DumpRecord.TheVariants.{Revision as Begins, Node}
 use Rattle.dump_text.specs.declared.fault.DumpFault.{DumpFault}
 use Rattle.dump_text.specs.declared.state.ReadState.{ReadState}
-use Rattle.dump_text.specs.Streams.{Reads, Refuses, dump, reading, records_of, is_between}
+use Rattle.dump_text.specs.Streams.{Reads, Refuses, dump, records_of, is_between}
 use Rattle.dump_load.specs.declared.change.Change.{Change}
 use Rattle.repo_core.specs.Repository.{Repository, Revision, trees_of, head_of}
 use Rattle.repo_core.specs.Entries.{with_entry, with_entry_in}
@@ -104,20 +104,6 @@ pub data CantTake {D : Type 0} {G : Ghosts D} (x : Repository) (rs : List DumpRe
 abbrev pub Moves : Repository → Option Rev → Option (List ℕ) → List DumpRecord → Repository → Option Rev → Option (List ℕ) → Type 0
 Moves y last before new z later now = (x : Repository) (rs : List DumpRecord) (start : Option (List ℕ)) → Stands x rs y last start before → Stands x (rs ++ new) z later start now
 
--- some records were taken, and what stopped the others
-pub record Stops {D : Type 0} {G : Ghosts D} (x : Repository) (rs new : List DumpRecord) (store : RepoStore D G) (start now : Option (List ℕ)) (fails : Type 0) (e : Refusal) : Type 0 where
-  pub taken : List DumpRecord
-  pub first : DumpRecord
-  pub rest : List DumpRecord
-  pub split : new ≡ taken ++ first ∷ rest
-  pub why : CantTake x (rs ++ taken) first store start now fails e
-
--- bytes were read as records, and these stand so
-pub record Reached (x : Repository) (bytes : List ℕ) (reader : ReadState) (y : Repository) (last : Option Rev) (start now : Option (List ℕ)) : Type 0 where
-  pub records : List DumpRecord
-  pub read : dump bytes ≡ Reads records reader
-  pub stands : Stands x records y last start now
-
 -- a dump is loaded whole: it is whole revisions, each of them is loaded, and is said
 pub record Loaded (x : Repository) (bytes : List ℕ) (y : Repository) (start now : Option (List ℕ)) : Type 0 where
   pub records : List DumpRecord
@@ -133,10 +119,6 @@ pub data Refused {D : Type 0} {G : Ghosts D} (x : Repository) (bytes : List ℕ)
   cut_short : (rs : List DumpRecord) (reader : ReadState) (last : Option Rev) → dump bytes ≡ Reads rs reader → is_between reader ≡ false → Stands x rs (repository_of store) last start now → e ≡ refusal.Truncated → Refused x bytes store start now fails e
   at_end : (rs : List DumpRecord) (reader : ReadState) → dump bytes ≡ Reads rs reader → is_between reader ≡ true → CantClose x rs store start now fails e → Refused x bytes store start now fails e
   stopped : (rs more : List DumpRecord) (last : Option Rev) → records_of (dump bytes) ≡ rs ++ more → Stands x rs (repository_of store) last start now → (e ≡ refusal.OutOfMemory) ⊎ (e ≡ refusal.PeerFailed) → Refused x bytes store start now fails e
-
--- bytes lead from what stood so before them to what stands so behind them
-abbrev pub Leads : ReadState → Repository → Option Rev → Option (List ℕ) → List ℕ → ReadState → Repository → Option Rev → Option (List ℕ) → Type 0
-Leads old y last before bytes new z later now = (x : Repository) (start : Option (List ℕ)) → Reached x [] old y last start before → Reached x bytes new z later start now
 
 -- over a repository's revisions a whole revision is this entry: revision 0 without others gives its properties, and another one is the next, with the set that it makes
 pub data IsEntryOf (x : List Revision) (r : Rev) (e : Entry) : Type 0 where
@@ -161,7 +143,3 @@ pub record ServesRecords {D : Type 0} {G : Ghosts D} (ahead : List DumpRecord) (
   pub records : ahead ≡ flat_map records_of_rev whole ++ more
   pub entries : AreEntriesOf (revisions_of old) whole (serves.taken ++ serves.begun)
   pub all : OnOk result (more ≡ left)
-
--- the records, identities apart, that are still to be loaded: those of the revision that is still read, and those that further bytes say
-abbrev pub coming : Option Rev → ReadState → List ℕ → List DumpRecord
-coming last reader bytes = read_of last ++ filter is_no_identity (records_of (reading (Reads [] reader) bytes))

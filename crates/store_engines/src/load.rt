@@ -3,11 +3,11 @@ ghost use Rattle.std.specs.List.{filter};
 ghost use Rattle.std.specs.Prelude.{◌≡◌, ◌≢◌, ◌⊎◌, ◌<◌, ◌∷◌, ◌++◌, [], ℕ, List};
 ghost use Rattle.std.specs.Prelude.{Option, Some, None, length, true};
 ghost use Rattle.std.specs.Prelude.{false, IfOk, IfErr, IfSome, OnOk, OnErr};
-ghost use Rattle.std.specs.Io.KnownBytes.{Appends, Consumes, IsAtEnd};
+ghost use Rattle.std.specs.Io.KnownBytes.{Appends};
 ghost use Rattle.byte_streams.specs.Causes.{Rose, counts};
 ghost use Rattle.node_base.specs.Props.{PropMap};
 ghost use Rattle.dump_load.specs.declared.change.Change.{Change as ChangeOf};
-ghost use Rattle.dump_text.specs.Streams.{dump, has_failed, records_of};
+ghost use Rattle.dump_text.specs.Streams.{dump, records_of};
 ghost use Rattle.dump_text.specs.declared.record.DumpRecord.{DumpRecord as RecordOf};
 ghost use Rattle.repo_core.specs.Repository.{Repository, trees_of};
 ghost use Rattle.repo_core.specs.Entries.{with_entry_in};
@@ -22,11 +22,11 @@ ghost use Rattle.fleet_engines.specs.Grouping.{is_no_identity, records_of_rev};
 ghost use Rattle.fleet_engines.specs.Histories.{rev_of};
 ghost use Rattle.fleet_engines.specs.Revisions.{Makes, IsUnfit, is_zero};
 ghost use Rattle.fleet_engines.specs.Runs.{Counted, BothCounted};
-ghost use Rattle.store_engines.specs.Loaders.{last_of};
+ghost use Rattle.fleet_engines.specs.Takers.{place};
+ghost use Rattle.store_engines.specs.Loaders.{last_of, TakesRecord, RefusesRecord, EndsLoad, CantEndLoad};
 ghost use Rattle.store_engines.specs.Devices.{is_device, CantKeep, IsSafe, Serves};
-ghost use Rattle.store_engines.specs.Loads.{coming, entry_fault, read_of, CantTake, CantClose, Gathered};
-ghost use Rattle.store_engines.specs.Loads.{IsBare, IsLoaded, Leads, Loaded, Moves, NotLoaded, Reached, Refused};
-ghost use Rattle.store_engines.specs.Loads.{ServesOne, ServesRecords, Stands, Stops};
+ghost use Rattle.store_engines.specs.Loads.{entry_fault, read_of, CantTake, CantClose, Gathered, IsBare, IsLoaded};
+ghost use Rattle.store_engines.specs.Loads.{Loaded, Moves, NotLoaded, Refused, ServesOne, ServesRecords, Stands};
 ghost use Rattle.store_engines.specs.Mirrors.{is_mirror};
 ghost use Rattle.store_engines.specs.Telling.{AllStand, KeepsTold};
 ghost use Rattle.store_engines.specs.Refusals.{repo_refusal};
@@ -34,19 +34,16 @@ ghost use Rattle.store_engines.specs.Refusals.{repo_refusal};
 use crate::commits::commit_applied;
 use crate::mirror::refuse_mirror;
 use crate::report::LoadReport;
-use byte_streams::{Input, MOST_READS};
+use byte_streams::Input;
 use dump_load::{Applied, change_refusal, load_revision};
-use dump_text::{DumpReader, DumpRecord, NodeRecord, RevRecord, dump_refusal};
+use dump_text::{DumpRecord, NodeRecord, RevRecord};
 use fleet_disk::Disk;
-use fleet_engines::{OpenRevision, read};
+use fleet_engines::{OpenRevision, Taker, read_stream};
 use node_base::{Props, Refusal, RevNo};
 use path_tree::Tree;
 use repo_core::Repo;
 use repo_store::{RepoStore, store_refusal};
 use std::alloc::Global;
-
-// How many bytes are read at a time: 64 KiB.
-const PIECE: usize = 65_536;
 
 // Whether it is revision 0 of a repository without any other.
 fn is_zero(repo: &Repo, revision: &RevRecord) -> bool
@@ -176,7 +173,7 @@ impl Loader {
     }
 
     // A record more. Where it begins a revision, the one before it is whole, and is loaded.
-    fn take<D: Disk + Drop, T: LoadReport>(
+    fn take_record<D: Disk + Drop, T: LoadReport>(
         &mut self,
         next: DumpRecord,
         store: &mut RepoStore<D>,
@@ -228,127 +225,60 @@ impl Loader {
         }
     }
 
-    // Some records more.
-    fn take_all<D: Disk + Drop, T: LoadReport>(
+    // The same in one word each.
+    fn take_next<D: Disk + Drop, T: LoadReport>(
         &mut self,
-        records: Vec<DumpRecord>,
+        next: DumpRecord,
         store: &mut RepoStore<D>,
         report: &mut T,
     ) -> Result<(), Refusal>
-        ensures ok { OnOk result (Moves (repository_of store.old) (last_of self.old) (T.contents report.old)
-            records.items (repository_of store.new) (last_of self.new) (T.contents report.new)) }
-        ensures refused { IfErr result (λ e. (x : Repository) (rs : List RecordOf) (start : Option (List ℕ))
-            → Stands x rs (repository_of store.old) (last_of self.old) start (T.contents report.old)
-            → Stops x rs records.items store.new start (T.contents report.new) (Rose (T.failures report.old) (T.failures report.new)) e) }
-        ensures device { IsSafe store.old
-            → ServesRecords (read_of (last_of self.old) ++ filter is_no_identity records.items) store.old store.new
-            result (read_of (last_of self.new)) }
-        ensures told { KeepsTold store.old store.new (T.told report.old) (T.told report.new) }
+        ensures ok { OnOk result (TakesRecord T.LoadReport (place self.old store.old report.old) next
+            (place self.new store.new report.new)) }
+        ensures refused { IfErr result (λ e. RefusesRecord T.LoadReport (place self.old store.old report.old) next e
+            (place self.new store.new report.new)) }
         ensures peer { Counted result (T.failures report.old) (T.failures report.new) }
     {
-        for next in records {
-            self.take(next, store, report)?;
-        }
-        Ok(())
+        self.take_record(next, store, report)
     }
 
-    // Takes the next piece of a dump.
-    fn feed<D: Disk + Drop, T: LoadReport>(
+    fn take_end<D: Disk + Drop, T: LoadReport>(
         &mut self,
-        reader: &mut DumpReader,
-        piece: &[u8],
         store: &mut RepoStore<D>,
         report: &mut T,
     ) -> Result<(), Refusal>
-        ensures ok { OnOk result ((x : Repository) (bytes : List ℕ) (start : Option (List ℕ))
-            → Reached x bytes reader.old (repository_of store.old) (last_of self.old) start
-            (T.contents report.old)
-            → Reached x (bytes ++ piece.now) reader.new (repository_of store.new) (last_of self.new) start
-            (T.contents report.new)) }
-        ensures refused { IfErr result
-            (λ e. (rest : List ℕ) (x : Repository) (bytes : List ℕ) (start : Option (List ℕ))
-            → Reached x bytes reader.old (repository_of store.old) (last_of self.old) start
-            (T.contents report.old)
-            → Refused x ((bytes ++ piece.now) ++ rest) store.new start (T.contents report.new) (Rose (T.failures report.old) (T.failures report.new))
-            e) }
-        ensures reading { OnOk result (has_failed reader.old ≡ false → has_failed reader.new ≡ false) }
-        ensures device { (rest : List ℕ) → has_failed reader.old ≡ false → IsSafe store.old
-            → ServesRecords (coming (last_of self.old) reader.old (piece.now ++ rest)) store.old store.new result
-            (coming (last_of self.new) reader.new rest) }
-        ensures told { KeepsTold store.old store.new (T.told report.old) (T.told report.new) }
+        ensures ok { OnOk result (EndsLoad T.LoadReport (place self.old store.old report.old)
+            (place self.new store.new report.new)) }
+        ensures refused { IfErr result (λ e. CantEndLoad T.LoadReport (place self.old store.old report.old) e
+            (place self.new store.new report.new)) }
         ensures peer { Counted result (T.failures report.old) (T.failures report.new) }
     {
-        let mut records = Vec::new(self.alloc);
-        let fed = reader.feed(piece, &mut records);
-        self.take_all(records, store, report)?;
-        match fed {
-            Ok(()) => Ok(()),
-            Err(fault) => Err(dump_refusal(fault)),
-        }
-    }
-
-    // The end of the dump.
-    fn finish<D: Disk + Drop, T: LoadReport>(
-        &mut self,
-        reader: DumpReader,
-        store: &mut RepoStore<D>,
-        report: &mut T,
-    ) -> Result<(), Refusal>
-        ensures ok { OnOk result ((x : Repository) (bytes : List ℕ) (start : Option (List ℕ))
-            → Reached x bytes reader (repository_of store.old) (last_of self.old) start (T.contents report.old)
-            → Loaded x bytes (repository_of store.new) start (T.contents report.new)) }
-        ensures refused { IfErr result (λ e. (x : Repository) (bytes : List ℕ) (start : Option (List ℕ))
-            → Reached x bytes reader (repository_of store.old) (last_of self.old) start (T.contents report.old)
-            → Refused x bytes store.new start (T.contents report.new) (Rose (T.failures report.old) (T.failures report.new)) e) }
-        ensures device { has_failed reader ≡ false → IsSafe store.old
-            → ServesRecords (read_of (last_of self.old)) store.old store.new result [] }
-        ensures told { KeepsTold store.old store.new (T.told report.old) (T.told report.new) }
-        ensures peer { Counted result (T.failures report.old) (T.failures report.new) }
-    {
-        if let Err(fault) = reader.finish() {
-            return Err(dump_refusal(fault));
-        }
         self.close(store, report)
     }
 }
 
-// Reads a stream to its end, piece by piece.
-fn read_all<D: Disk + Drop, I: Input, T: LoadReport>(
-    loader: &mut Loader,
-    reader: &mut DumpReader,
-    piece: &mut [u8],
-    store: &mut RepoStore<D>,
-    input: &mut I,
-    report: &mut T,
-) -> Result<(), Refusal>
-    ensures ok { OnOk result (0 < length piece.old → (bytes : List ℕ)
-        × Consumes (I.remaining input.old) (I.remaining input.new) bytes
-        × IsAtEnd (I.remaining input.new)
-        × Leads reader.old (repository_of store.old) (last_of loader.old)
-        (T.contents report.old) bytes reader.new
-        (repository_of store.new) (last_of loader.new) (T.contents report.new)) }
-    ensures refused { IfErr result (λ e. (x : Repository) (start : Option (List ℕ))
-        → Reached x [] reader.old (repository_of store.old) (last_of loader.old) start (T.contents report.old)
-        → IfSome (I.remaining input.old)
-        (λ bytes. Refused x bytes store.new start (T.contents report.new)
-        (Rose (T.failures report.old) (T.failures report.new)) e)) }
-    ensures reading { OnOk result (has_failed reader.old ≡ false → has_failed reader.new ≡ false) }
-    ensures device { has_failed reader.old ≡ false → IsSafe store.old → Serves store.old store.new result }
-    ensures entries { 0 < length piece.old → has_failed reader.old ≡ false → IsSafe store.old
-        → IfSome (I.remaining input.old) (λ bytes. ServesRecords (coming (last_of loader.old) reader.old bytes)
-        store.old store.new result (read_of (last_of loader.new))) }
-    ensures told { has_failed reader.old ≡ false
-        → KeepsTold store.old store.new (T.told report.old) (T.told report.new) }
-    ensures peer { BothCounted result (counts I.failures I.reads input.old input.new) (T.failures report.old) (T.failures report.new) }
-{
-    for _turn in 0..MOST_READS {
-        let n = read(input, piece)?;
-        if n == 0 {
-            return Ok(());
-        }
-        loader.feed(reader, &piece[..n], store, report)?;
+impl<D: Disk + Drop, T: LoadReport> Taker<RepoStore<D>, T> for Loader {
+    ghost takes = { λ p next q. TakesRecord T.LoadReport p next q };
+
+    ghost refuses = { λ p next e q. RefusesRecord T.LoadReport p next e q };
+
+    ghost ends = { λ p q. EndsLoad T.LoadReport p q };
+
+    ghost cant_end = { λ p e q. CantEndLoad T.LoadReport p e q };
+
+    ghost failures = { T.failures };
+
+    fn take(
+        &mut self,
+        next: DumpRecord,
+        store: &mut RepoStore<D>,
+        output: &mut T,
+    ) -> Result<(), Refusal> {
+        self.take_next(next, store, output)
     }
-    Err(Refusal::PeerFailed)
+
+    fn end(&mut self, store: &mut RepoStore<D>, output: &mut T) -> Result<(), Refusal> {
+        self.take_end(store, output)
+    }
 }
 
 // Loads a dump into a repository that is no mirror.
@@ -371,19 +301,7 @@ fn load_stream<D: Disk + Drop, I: Input, T: LoadReport>(
     ensures peer { BothCounted result (counts I.failures I.reads input.old input.new) (T.failures report.old) (T.failures report.new) }
 {
     let mut loader = Loader::new(alloc);
-    let mut reader = DumpReader::new(alloc);
-    let Ok(mut piece) = Vec::from_elem(alloc, 0u8, PIECE) else {
-        return Err(Refusal::OutOfMemory);
-    };
-    read_all(
-        &mut loader,
-        &mut reader,
-        piece.as_mut_slice(),
-        store,
-        input,
-        report,
-    )?;
-    loader.finish(reader, store, report)
+    read_stream(alloc, &mut loader, store, report, input)
 }
 
 /// Loads a dump: each revision when its last record has been read, judged whole, committed, and told in a line. The

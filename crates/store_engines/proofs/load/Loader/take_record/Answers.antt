@@ -8,7 +8,7 @@ use Rattle.store_engines.proofs.Loading.{cant_take, node_refused}
 use Rattle.std.proofs.Common.{◌++◌, [], ◌∷◌, Ok, Err, subst}
 use Rattle.store_engines.specs.Loads.{read_of, ServesRecords}
 use Rattle.store_engines.proofs.Serving.{begun_left, identity_left, no_device, node_left, nothing, records_behind, refused_left}
-use Rattle.store_engines.proofs.load.Loader.take.Goals as goal
+use Rattle.store_engines.proofs.load.Loader.take_record.Goals as goal
 
 pub returns-in_err-close-in-Revision-clause-refused : goal.returns-in_err-close-in-Revision-clause-refused
 returns-in_err-close-in-Revision-clause-refused g c =
