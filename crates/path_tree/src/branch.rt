@@ -16,7 +16,8 @@ use crate::Entry;
 use crate::edit::Edit;
 use crate::reach::Reach;
 use crate::row::{
-    Row, Twig, alter_in, child_of, list_row, put_in, reach_in, shared, visit_row, with_branch, without,
+    Row, Twig, alter_in, child_of, list_row, put_in, reach_in, shared, visit_row, with_branch,
+    without,
 };
 use crate::visit::Visitor;
 use node_base::{Node, NodeName, PropName, PropValue, RevNo, TreeFault};
@@ -53,11 +54,11 @@ impl Model for Branch {
 }
 
 // Gives a node the number, where there is one.
-fn renumber(node: &mut Node, number: Option<RevNo>)
-    ensures { node.new ≡ renumbered number node.old }
+fn renumber(node: &mut Node, number: &Option<RevNo>)
+    ensures { node.new ≡ renumbered number.now node.old }
 {
     if let Some(number) = number {
-        node.changed = number;
+        node.changed = *number;
     }
 }
 
@@ -202,7 +203,7 @@ impl Branch {
             [] => self.alter_top(alloc, edit, number),
             [first, rest @ ..] => {
                 alter_in(alloc, &mut self.children, first, rest, edit, number)?;
-                renumber(&mut self.node, number);
+                renumber(&mut self.node, &number);
                 Ok(())
             }
         }
@@ -228,7 +229,7 @@ impl Branch {
     pub fn number(&mut self, number: Option<RevNo>)
         ensures { (q : Path) → map.get self.new q ≡ marked_by number (map.get self.old) [] q }
     {
-        renumber(&mut self.node, number);
+        renumber(&mut self.node, &number);
     }
 
     // Puts a value at a property's name of the node at the top, or takes the one there away. A value that would

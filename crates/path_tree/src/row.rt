@@ -287,7 +287,8 @@ fn turned(alloc: Global, row: &Row) -> Result<Row, AllocError>
             let twig: &Twig = top;
             let before = shared(&twig.before)?;
             let here = Arc::try_clone(&twig.child)?;
-            balanced(alloc, before, here, shared(&twig.behind)?)
+            let behind = shared(&twig.behind)?;
+            balanced(alloc, before, here, behind)
         }
         None => Ok(None),
     }
@@ -441,15 +442,13 @@ pub fn alter_in(
     ensures ok { OnOk result (ChildAlters (in_row row.old) (in_row row.new) name.now path.now edit number) }
     ensures err { OnErr result (in_row row.new ≡ in_row row.old) }
 {
-    let Some(top) = row else {
-        unreachable!()
-    };
+    let Some(top) = row else { unreachable!() };
     if let Some(twig) = Arc::get_mut(top) {
         return twig.alter_under(alloc, name, path, edit, number);
     }
     let mut twig = top.again()?;
     twig.alter_under(alloc, name, path, edit, number)?;
-    *row = Some(Arc::new(alloc, twig)?);
+    *top = Arc::new(alloc, twig)?;
     Ok(())
 }
 
@@ -469,13 +468,23 @@ impl Twig {
 
     // Puts a child in its place beside its own, or in the place of that.
     #[cycle(puts)]
-    fn put_under(&mut self, alloc: Global, child: &Arc<(NodeName, Branch)>) -> Result<(), AllocError>
+    fn put_under(
+        &mut self,
+        alloc: Global,
+        child: &Arc<(NodeName, Branch)>,
+    ) -> Result<(), AllocError>
         requires { AreChildren self.old }
         ensures ok { OnOk result (self.new
             ≡ put name_cmp (arc_value child.now).0 (arc_value child.now).1 self.old) }
         ensures err { OnErr result (self.new ≡ self.old) }
     {
-        put_beside(alloc, &mut self.before, &mut self.child, &mut self.behind, child)?;
+        put_beside(
+            alloc,
+            &mut self.before,
+            &mut self.child,
+            &mut self.behind,
+            child,
+        )?;
         self.height = height_over(&self.before, &self.behind);
         self.reach = reach_over(&self.before, &self.child, &self.behind);
         Ok(())
@@ -497,8 +506,18 @@ impl Twig {
         ensures err { OnErr result (self.new ≡ self.old) }
     {
         let (before, behind) = (&mut self.before, &mut self.behind);
-        alter_beside(alloc, before, &mut self.child, behind, name, path, edit, number)?;
-        self.reach = reach_over(&self.before, &self.child, &self.behind);
+        alter_beside(
+            alloc,
+            before,
+            &mut self.child,
+            behind,
+            name,
+            path,
+            edit,
+            number,
+        )?;
+        let reach = reach_over(&self.before, &self.child, &self.behind);
+        self.reach = reach;
         Ok(())
     }
 }

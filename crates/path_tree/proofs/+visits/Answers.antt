@@ -1,4 +1,4 @@
-use Rattle.std.proofs.Common.{◌≡◌, ◌∷◌, ◌++◌, refl, sym, ap, ◌∙◌, arith}
+use Rattle.std.proofs.Common.{rules, ◌≡◌, ◌+◌, ◌*◌, ◌<◌, ◌∷◌, ◌++◌, length, refl, sym, ap, ◌∙◌, arith}
 use Rattle.std.specs.Arc.{arc_value}
 use Rattle.std.specs.List.{flat_map}
 use Rattle.std.specs.FinMap.{entries, len}
@@ -12,7 +12,10 @@ use Rattle.path_tree.proofs.Visits.{said_begin, said_of_child, said_of_row}
 use Rattle.path_tree.proofs.+visits.Goals as goal
 
 pub branch::Branch::visit_into-visit_row-requires : goal.branch::Branch::visit_into-visit_row-requires
-branch::Branch::visit_into-visit_row-requires g t c = omega (arith, len-joined c.self.inside.node (in_row c.self.inside.children) c.self.invariant, ap len c.self.view_is)
+branch::Branch::visit_into-visit_row-requires g t c =
+    let cs = in_row c.self.inside.children in
+    let falls : 3 * length (below cs) + 2 < 3 * len c.args.self.now = omega (arith, len-joined c.self.inside.node cs c.self.invariant, ap len c.self.view_is) in
+    search (rules, falls)
 
 pub branch::Branch::visit_into-returns-clause-said : goal.branch::Branch::visit_into-returns-clause-said
 branch::Branch::visit_into-returns-clause-said g t c =

@@ -5,10 +5,10 @@ use Rattle.path_tree.specs.Rows.{in_row}
 use Rattle.path_tree.proofs.+visits.Given as goal
 
 abbrev pub decreases-branch::Branch::visit_into : goal.decreases-branch::Branch::visit_into
-decreases-branch::Branch::visit_into l = 3 * len l.self.now
+decreases-branch::Branch::visit_into g l = 3 * len l.self.now
 
 abbrev pub decreases-row::visit_child : goal.decreases-row::visit_child
-decreases-row::visit_child l = 3 * len l.child.now.1 + 1
+decreases-row::visit_child g l = 3 * len l.child.now.1 + 1
 
 abbrev pub decreases-row::visit_row : goal.decreases-row::visit_row
-decreases-row::visit_row l = 3 * length (below (in_row l.row.now)) + 2
+decreases-row::visit_row g l = 3 * length (below (in_row l.row.now)) + 2
