@@ -11,7 +11,7 @@ ghost use Rattle.fleet_engines.specs.Runs.{canon_of, has_begun, head_of, newest_
 ghost use Rattle.fleet_engines.specs.Runs.{Reached, Refused, Stands, Stops};
 
 use crate::history::History;
-use crate::listing::push_listing;
+use crate::listing::newest_listing;
 use crate::product::Product;
 use crate::stream::write;
 use byte_streams::Output;
@@ -245,9 +245,8 @@ fn finish_list<O: Output>(
     ensures peer { Counted result (O.failures output.old) (O.failures output.new) }
 {
     history.close()?;
-    let mut text = String::new(alloc);
-    match push_listing(alloc, &mut text, history.trees()) {
-        Ok(()) => write(output, text.as_str().as_bytes()),
+    match newest_listing(alloc, history.trees()) {
+        Ok(text) => write(output, text.as_str().as_bytes()),
         Err(_) => Err(Refusal::OutOfMemory),
     }
 }
