@@ -7,7 +7,7 @@ ghost use Rattle.fleet_engines.specs.Histories.{held, held_by, revs_of, told_of}
 ghost use Rattle.fleet_engines.specs.Runs.{canon_of, has_begun, head_of, CantEnd, Counted, EndsWith, RefusesOne, TakesOne};
 
 use crate::history::History;
-use crate::listing::push_listing;
+use crate::listing::newest_listing;
 use crate::product::Product;
 use crate::stream::write;
 use crate::taker::Taker;
@@ -162,9 +162,8 @@ fn finish_list<O: Output>(
     ensures peer { Counted result (O.failures output.old) (O.failures output.new) }
 {
     history.close()?;
-    let mut text = String::new(alloc);
-    match push_listing(alloc, &mut text, history.trees()) {
-        Ok(()) => write(output, text.as_str().as_bytes()),
+    match newest_listing(alloc, history.trees()) {
+        Ok(text) => write(output, text.as_str().as_bytes()),
         Err(_) => Err(Refusal::OutOfMemory),
     }
 }
