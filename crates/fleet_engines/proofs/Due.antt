@@ -148,11 +148,5 @@ canon_end t u outs newest n p = elim (cases_Bool (has_begun t)) [
 pub canon_ends : (rs : List DumpRecord) (t u : Told) (newest : List Rev) (start now later : Option (List ℕ)) → Closes t u newest → Appends now later (ending Canon t u newest) → (s : Stands Canon rs t start now) → Appends start later (whole Canon u (s.out ++ newest))
 canon_ends rs t u newest start now later p w s = subst (Appends start later) (sym (canon_end t u s.out newest (count Canon rs t start now s) p)) (Appends-trans start now later (due Canon t s.out) (ending Canon t u newest) s.written w)
 
-pub begin_written : (a b d : Option (List ℕ)) (is_due : Bool) (t : Told) (id : Option (List ℕ)) (zero : PropMap) → is_due ≡ true → id ≡ t.identity → zero ≡ t.zero
-    → Appends a b (canon_head id) → Appends b d (canon_entry 0 zero) → Appends a d (if is_due then head_of t else [])
-begin_written a b d is_due t id zero e i z p q =
-    subst (λ v. Appends a d (if v then head_of t else [])) (sym e)
-    (subst (λ v. Appends a d (canon_head v ++ canon_entry 0 t.zero)) i (subst (λ v. Appends a d (canon_head id ++ canon_entry 0 v)) z (Appends-trans a b d (canon_head id) (canon_entry 0 zero) p q)))
-
 pub due_written : (now later : Option (List ℕ)) (head rest : List ℕ) (is_due due : Bool) → is_due ≡ due → Appends now later ((if is_due then head else []) ++ rest) → Appends now later ((if due then head else []) ++ rest)
 due_written now later head rest is_due due e p = subst (λ v. Appends now later ((if v then head else []) ++ rest)) e p

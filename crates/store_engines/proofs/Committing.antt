@@ -160,20 +160,6 @@ fault_is : (x : List Revision) (bytes message : List ℕ) (moment : DateTime) (p
 fault_is x bytes message moment path m r =
     ap (λ b. if b then Some refusal.ReadOnly else fault_there x message moment (path_read bytes)) m ∙ ap (fault_there x message moment) r
 
--- a mirror
-pub mirror_refused : {D : Type 0} {G : Ghosts D} (x : RepoStore D G) (bytes message : List ℕ) (moment : DateTime) (before : Option (List ℕ)) (fails : Type 0) (e : Refusal) → (e ≡ refusal.ReadOnly) × (is_mirror (revisions_of x) ≡ true) → NotCommitted (repository_of x) bytes message moment x before before fails e
-mirror_refused x bytes message moment before fails e (d, m) =
-    commit_refused (ap (λ b. if b then Some refusal.ReadOnly else fault_there (revisions_of x) message moment (path_read bytes)) m ∙ ap Some (sym d)) refl refl
-
--- bytes that are no path
-pub path_refused : {D : Type 0} {G : Ghosts D} (x : RepoStore D G) (bytes message : List ℕ) (moment : DateTime) (before : Option (List ℕ)) (fails : Type 0) (e : Refusal) → is_mirror (revisions_of x) ≡ false → (e ≡ refusal.OutOfMemory) ⊎ ((f : PathFault) × (path_read bytes ≡ Err f) × (e ≡ path_refusal f))
-    → NotCommitted (repository_of x) bytes message moment x before before fails e
-path_refused x bytes message moment before fails e m (inl d) = commit_stops d refl refl
-path_refused x bytes message moment before fails e m (inr (f, r, d)) =
-    commit_refused
-    (ap (λ b. if b then Some refusal.ReadOnly else fault_there (revisions_of x) message moment (path_read bytes)) m ∙ ap (fault_there (revisions_of x) message moment) r ∙ ap Some (sym d))
-    refl refl
-
 -- a message past its limit
 pub message_refused : {D : Type 0} {G : Ghosts D} (x : Repository) (y : RepoStore D G) (bytes message : List ℕ) (moment : DateTime) (path : Path) (set : List Change) (before : Option (List ℕ)) (fails : Type 0) (e : Refusal) → repository_of y ≡ x → set ≡ directory_set path → 65536 < length message
     → (e ≡ refusal.OutOfMemory) ⊎ BareUnkept y x.revisions set moment e ⊎ LongDue x.revisions set moment e → is_mirror x.revisions ≡ false → path_read bytes ≡ Ok path → NotCommitted x bytes message moment y before before fails e

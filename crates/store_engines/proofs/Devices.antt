@@ -46,11 +46,6 @@ change_no_device change.WrongNumber = refl
 change_no_device change.KindMismatch = refl
 change_no_device change.OutOfMemory = refl
 
-pub path_no_device : (f : PathFault) → is_device (path_refusal f) ≡ false
-path_no_device path.TooLong = refl
-path_no_device path.BadPath = refl
-path_no_device path.OutOfMemory = refl
-
 repo_no_device : (f : RepoFault) → is_device (repo_refusal f) ≡ false
 repo_no_device core.NoSuchRevision = refl
 repo_no_device (core.BaseMismatch found) = refl

@@ -43,11 +43,6 @@ pub written_more : (r : Repository) (first n number : ℕ) (a b d : Option (List
 written_more r first n number a b d e p q =
     subst (Appends a d) (sym (text_more r first n)) (Appends-trans a b d (revisions_text r first n) (spelling (revision_now r (first + n))) p (subst (λ k. Appends b d (spelling (revision_now r k))) e q))
 
--- a revision that is there isn't exported: memory
-pub unexported : (e : StoreFault) (n count : ℕ) → n < count → ((e ≡ Repo core.NoSuchRevision) × (count ≤ n)) ⊎ (e ≡ Log log.OutOfMemory) → store_refusal e ≡ refusal.OutOfMemory
-unexported e n count h (inl p) = let no : ⊥ = omega (arith, h, p.1) in absurd no
-unexported e n count h (inr p) = ap store_refusal p
-
 -- a head, and the revisions behind it
 whole : (r : Repository) (range : Option RevRange) (id : List ℕ) (first written : ℕ) (a b d : Option (List ℕ)) → id ≡ r.identity → first ≡ first_wanted range → Appends a b (canon_head (Some id)) → Appends b d (revisions_text r first written)
     → Appends a d (dump_of r (first_wanted range) written)

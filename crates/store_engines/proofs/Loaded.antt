@@ -29,7 +29,7 @@ use Rattle.store_engines.specs.Telling.{KeepsTold}
 use Rattle.store_engines.specs.declared.load.Loader.{Loader}
 use Rattle.store_engines.specs.declared.report.LoadReport.{Ghosts as ReportGhosts}
 use Rattle.store_engines.proofs.Loading.{first_stands}
-use Rattle.store_engines.proofs.Serving.{nothing, records_behind, records_more, records_on, records_then, refused_left}
+use Rattle.store_engines.proofs.Serving.{nothing, records_behind, records_on, records_then, refused_left}
 use Rattle.store_engines.proofs.Telling.{works_on}
 
 -- a fault of the text doesn't tell of the device
@@ -101,10 +101,12 @@ module _ {D T : Type 0} {G : Ghosts D} (R : ReportGhosts T) where
 
   one_goes : (next : DumpRecord) (rs left : List DumpRecord) (p m q : Place Loader (RepoStore D G) T) (r : Result (Unit {0}) Refusal) → Goes R (read_of (last_of p.taker) ++ filter is_no_identity (next ∷ [])) p m (Ok tt) (read_of (last_of m.taker)) → Goes R (read_of (last_of m.taker) ++ filter is_no_identity rs) m q r left
       → Goes R (read_of (last_of p.taker) ++ filter is_no_identity (next ∷ rs)) p q r left
-  one_goes next rs left p m q r a b = record {
-    served = λ safe. let s = a.served safe in records_more (last_of p.taker) (last_of m.taker) next rs left p.store m.store q.store r s (b.served s.serves.safe);
-    told = λ safe works h. let s = (a.served safe).serves in b.told s.safe (works_on p.store m.store tt s works) (a.told safe works h);
-  }
+  one_goes next rs left p m q r a b =
+      let last = read_of (last_of p.taker) in
+      let one = filter is_no_identity (next ∷ []) in
+      let others = filter is_no_identity rs in
+      subst (λ l. Goes R l p q r left) (append_assoc last one others ∙ ap (λ l. last ++ l) (sym (filter-append is_no_identity (next ∷ []) rs)))
+      (goes_on ((last ++ one) ++ others) (read_of (last_of m.taker) ++ others) left p m q r (goes_before (last ++ one) (read_of (last_of m.taker)) others p m (Ok tt) a) b)
 
   all_go : (rs : List DumpRecord) (p q : Place Loader (RepoStore D G) T) → TakesAll (TakesRecord R) p rs q → Goes R (read_of (last_of p.taker) ++ filter is_no_identity rs) p q (Ok tt) (read_of (last_of q.taker))
   all_go [] p q t = subst (λ z. Goes R (read_of (last_of p.taker) ++ []) p z (Ok tt) (read_of (last_of z.taker))) (sym t) (none_goes p)

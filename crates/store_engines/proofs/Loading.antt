@@ -28,6 +28,7 @@ use Rattle.dump_text.specs.declared.record.DumpRecord.TheVariants.{Identity, Rev
 use Rattle.repo_core.specs.Repository.{Repository, Revision, trees_of, head_of}
 use Rattle.repo_core.specs.Entries.{with_entry_in}
 use Rattle.repo_core.specs.declared.entry.Entry.{Entry}
+use Rattle.fleet_engines.specs.Runs.{Counted}
 use Rattle.fleet_engines.specs.Revisions.{Rev, Makes, is_lone, is_zero, is_past_zero}
 use Rattle.fleet_engines.specs.Grouping.{records_of_rev, is_no_identity}
 use Rattle.fleet_disk.specs.declared.disk.Disk.{Ghosts}
@@ -65,49 +66,6 @@ closes x rs y z r e line start before now s k t d w = record {
 -- there is none
 pub closes_none : (x : Repository) (rs : List DumpRecord) (y : Repository) (start now : Option (List ℕ)) → Stands x rs y None start now → Gathered x rs y start now
 closes_none x rs y start now s = record { whole = s.whole; said = s.said; records = s.records ∙ append-nil (flat_map records_of_rev s.whole); loads = s.loads; written = s.written }
-
--- a revision begins
-pub begins : (x : Repository) (rs : List DumpRecord) (y : Repository) (start now : Option (List ℕ)) (n : ℕ) (props : PropMap) → Gathered x rs y start now → Stands x (rs ++ Begins n props ∷ []) y (Some (record { number = n; props = props; nodes = [] })) start now
-begins x rs y start now n props g = record {
-  whole = g.whole;
-  said = g.said;
-  records = filter-append is_no_identity rs (Begins n props ∷ []) ∙ ap (λ l. l ++ Begins n props ∷ []) g.records;
-  begun = λ e. absurd (some_none (record { number = n; props = props; nodes = [] }) e);
-  bare = λ _. refl;
-  loads = g.loads;
-  written = g.written;
-}
-
-not_zero : (n : ℕ) → not (n == 0) ≡ true → n ≡ 0 → ⊥
-not_zero n h e = false≢true (sym (ap (λ k. not (k == 0)) e) ∙ h)
-
--- a node more
-pub one_node : (x : Repository) (rs : List DumpRecord) (y : Repository) (start now : Option (List ℕ)) (r : Rev) (node : NodeRecord) → is_past_zero (Some r) ≡ true → Stands x rs y (Some r) start now → Stands x (rs ++ Node node ∷ []) y (Some (record r { nodes = r.nodes ++ node ∷ [] })) start now
-one_node x rs y start now r node past s = record {
-  whole = s.whole;
-  said = s.said;
-  records =
-      filter-append is_no_identity rs (Node node ∷ [])
-      ∙ ap (λ l. l ++ Node node ∷ []) s.records
-      ∙ append_assoc (flat_map records_of_rev s.whole) (records_of_rev r) (Node node ∷ [])
-      ∙ ap (λ l. flat_map records_of_rev s.whole ++ (Begins r.number r.props ∷ l)) (sym (map-append Node r.nodes (node ∷ [])));
-  begun = λ e. absurd (some_none (record r { nodes = r.nodes ++ node ∷ [] }) e);
-  bare = λ e. absurd (not_zero r.number past e);
-  loads = s.loads;
-  written = s.written;
-}
-
--- an identity is passed over
-pub one_identity : (x : Repository) (rs : List DumpRecord) (y : Repository) (last : Option Rev) (start now : Option (List ℕ)) (id : List ℕ) → Stands x rs y last start now → Stands x (rs ++ Identity id ∷ []) y last start now
-one_identity x rs y last start now id s = record {
-  whole = s.whole;
-  said = s.said;
-  records = filter-append is_no_identity rs (Identity id ∷ []) ∙ append-nil (filter is_no_identity rs) ∙ s.records;
-  begun = s.begun;
-  bare = s.bare;
-  loads = s.loads;
-  written = s.written;
-}
 
 -- the revision that is read isn't loaded
 pub cant_close : {D : Type 0} {G : Ghosts D} (x : Repository) (rs : List DumpRecord) (y : Repository) (z : RepoStore D G) (r : Rev) (start before now : Option (List ℕ)) (fails : Type 0) (e : Refusal) → Stands x rs y (Some r) start before → NotLoaded y r z before now fails e → CantClose x rs z start now fails e
@@ -181,6 +139,11 @@ pub next_unsaid : {D : Type 0} {G : Ghosts D} (y : Repository) (z : RepoStore D 
     → entry_fault y.revisions (Revised (length y.revisions) set rev.props) ≡ None → repository_of z ≡ with_entry_in y (Revised (length y.revisions) set rev.props) → OnErr r fails → IfErr r (λ e. e ≡ refusal.PeerFailed) → IfErr r (λ e. NotLoaded y rev z a b fails e)
 next_unsaid y z rev set trees t a b fails (Ok u) later m n k f p = tt
 next_unsaid y z rev set trees t a b fails (Err e) later m n k f p = load_unsaid (Revised (length y.revisions) set rev.props) (loaded_line rev.number) (next_loaded y.revisions rev set trees t later m) n k f p
+
+-- what isn't refused for a stream leaves its count
+pub none_failed : (r : Result (Unit {0}) Refusal) (n : ℕ) → IfErr r (λ e. e ≡ refusal.PeerFailed → ⊥) → Counted r n n
+none_failed (Ok u) n h = refl
+none_failed (Err e) n h = inr (h, refl)
 
 -- ---- what is due at the head
 

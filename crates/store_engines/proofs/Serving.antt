@@ -10,7 +10,7 @@ use Rattle.std.proofs.lemmas.Result.{on_ok_weaker}
 use Rattle.node_base.specs.Props.{PropMap}
 use Rattle.node_base.specs.Tree.{PathMap}
 use Rattle.node_base.specs.declared.refusal.Refusal.{Refusal}
-use Rattle.node_base.specs.declared.refusal.Refusal.TheVariants.{OutOfMemory, WrongNumber}
+use Rattle.node_base.specs.declared.refusal.Refusal.TheVariants.{OutOfMemory, PeerFailed, WrongNumber}
 use Rattle.dump_text.specs.declared.record.NodeRecord.{NodeRecord}
 use Rattle.dump_text.specs.declared.record.DumpRecord.{DumpRecord}
 use Rattle.dump_text.specs.declared.record.DumpRecord.TheVariants.{Identity, Revision as Begins, Node}
@@ -23,6 +23,7 @@ use Rattle.fleet_engines.specs.Revisions.{Rev, Makes, is_zero, is_past_zero}
 use Rattle.gate_log.specs.Log.{ends_of}
 use Rattle.gate_log.specs.declared.fault.LogFault.TheVariants as log
 use Rattle.repo_core.specs.Entries.{revisions_after, with_entry, with_entry_in}
+use Rattle.repo_core.specs.Refusals.{IsDue}
 use Rattle.repo_core.specs.Repository.{Repository, Revision, trees_of}
 use Rattle.repo_core.specs.declared.entry.Entry.{Entry}
 use Rattle.repo_core.specs.declared.entry.Entry.TheVariants.{Revised}
@@ -35,10 +36,10 @@ use Rattle.repo_store.specs.Words.{disk_of, log_of, revisions_of, repository_of,
 use Rattle.repo_store.specs.declared.store.RepoStore.{RepoStore}
 use Rattle.repo_store.specs.declared.fault.StoreFault.{StoreFault}
 use Rattle.repo_store.specs.declared.fault.StoreFault.TheVariants.{Log}
-use Rattle.store_engines.specs.Devices.{is_device, IsSafe, Serves}
-use Rattle.store_engines.specs.Loads.{AreEntriesOf, IsEntryOf, ServesOne, ServesRecords, of_next, read_of}
-use Rattle.store_engines.specs.Refusals.{store_refusal}
-use Rattle.store_engines.proofs.Devices.{OnlyNow, after_revisions, broke, none_begun, refused, serves_on, serves_then, staged_none, took, unserved}
+use Rattle.store_engines.specs.Devices.{is_device, CantKeep, IsSafe, Serves}
+use Rattle.store_engines.specs.Loads.{AreEntriesOf, Commits, IsEntryOf, ServesOne, ServesRecords, entry_fault, of_next, read_of}
+use Rattle.store_engines.specs.Refusals.{repo_refusal, store_refusal}
+use Rattle.store_engines.proofs.Devices.{OnlyNow, after_revisions, broke, none_begun, refused, serves_on, serves_then, staged_none, stays_as_it_is, stop_or_due, took, unserved}
 
 -- ---- entries one after another
 
@@ -102,9 +103,6 @@ module _ {D : Type 0} {G : Ghosts D} where
   pub refused_left : (ahead left other : List DumpRecord) (a b : RepoStore D G) (e : Refusal) → ServesRecords ahead a b (Err e) left → ServesRecords ahead a b (Err e) other
   refused_left ahead left other a b e p = record { serves = p.serves; whole = p.whole; more = p.more; records = p.records; entries = p.entries; all = tt }
 
-  pub records_same : (ahead same left end : List DumpRecord) (a b : RepoStore D G) (r : Result (Unit {0}) Refusal) → ahead ≡ same → left ≡ end → ServesRecords ahead a b r left → ServesRecords same a b r end
-  records_same ahead same left end a b r e d p = subst (λ l. ServesRecords l a b r end) e (subst (λ l. ServesRecords ahead a b r l) d p)
-
   -- an entry is taken
   pub took_one : (a b : RepoStore D G) (entry : Entry) → OnlyNow G → IsTaken entry a b → ServesOne entry a b (Ok tt)
   took_one a b entry only t = record { serves = took a b entry only t; one = inl refl }
@@ -117,6 +115,31 @@ module _ {D : Type 0} {G : Ghosts D} where
   pub didnt_take_one : (a b : RepoStore D G) (entry : Entry) (due : Option RepoFault) (fault : StoreFault) → ((due ≡ None) × IsBroken entry a b fault) ⊎ IsRefused entry due a b fault → IsSafe a → ServesOne entry a b (Err (store_refusal fault))
   didnt_take_one a b entry due fault (inl k) safe = record { serves = broke a b entry fault k.1; one = inl refl }
   didnt_take_one a b entry due fault (inr r) safe = refused_one entry a b entry due fault r.stays r.why safe
+
+  -- what came of a commit
+  pub commits_ok : (a b : RepoStore D G) (entry : Entry) (due : Option RepoFault) → due ≡ entry_fault (revisions_of a) entry → OnlyNow G → (due ≡ None) × IsTaken entry a b → Commits entry a b (Ok tt)
+  commits_ok a b entry due at only k = record {
+    ok = k.1.made;
+    taken = sym at ∙ k.0;
+    stands = λ h image left. subst (λ (r : Repository). Keeps r image) (sym k.1.made) (k.1.durable (k.1.honest.1 h) image left);
+    same = tt;
+    refused = tt;
+    no_peer = tt;
+    device = λ safe. took_one a b entry only k.1;
+  }
+
+  pub commits_err : (a b : RepoStore D G) (entry : Entry) (due : Option RepoFault) (fault : StoreFault) (e : Refusal) → due ≡ entry_fault (revisions_of a) entry → e ≡ store_refusal fault → (e ≡ PeerFailed → ⊥) → ((due ≡ None) × IsBroken entry a b fault) ⊎ IsRefused entry due a b fault → Commits entry a b (Err e)
+  commits_err a b entry due fault e at is no k = record {
+    ok = tt;
+    taken = tt;
+    stands = tt;
+    same = stays_as_it_is a b entry due fault k;
+    refused =
+        subst (λ r. (r ≡ OutOfMemory) ⊎ CantKeep b entry r ⊎ ((f : RepoFault) × IsDue f (entry_fault (revisions_of a) entry) × (r ≡ repo_refusal f))) (sym is)
+        (subst (λ d. (store_refusal fault ≡ OutOfMemory) ⊎ CantKeep b entry (store_refusal fault) ⊎ ((f : RepoFault) × IsDue f d × (store_refusal fault ≡ repo_refusal f))) at (stop_or_due a b entry due fault k));
+    no_peer = no;
+    device = λ safe. subst (λ r. ServesOne entry a b (Err r)) (sym is) (didnt_take_one a b entry due fault k safe);
+  }
 
   -- nothing is done, and it is refused
   pub none_done : (entry : Entry) (a : RepoStore D G) (e : Refusal) → is_device e ≡ false → IsSafe a → ServesOne entry a a (Err e)
@@ -158,16 +181,6 @@ module _ {D : Type 0} {G : Ghosts D} where
         | inl d ↦ one_of rev entry a b r k s.serves d
         | inr d ↦ none_of rev a b r d.0 s.serves d.1
       ]
-
-  -- a record, and those behind it
-  pub records_more : (l0 l1 : Option Rev) (next : DumpRecord) (rs left : List DumpRecord) (a b c : RepoStore D G) (r : Result (Unit {0}) Refusal) → ServesRecords (read_of l0 ++ filter is_no_identity (next ∷ [])) a b (Ok tt) (read_of l1) → ServesRecords (read_of l1 ++ filter is_no_identity rs) b c r left
-      → ServesRecords (read_of l0 ++ filter is_no_identity (next ∷ rs)) a c r left
-  records_more l0 l1 next rs left a b c r p q =
-      let one = filter is_no_identity (next ∷ []) in
-      let others = filter is_no_identity rs in
-      subst (λ l. ServesRecords l a c r left)
-      (append_assoc (read_of l0) one others ∙ ap (λ l. read_of l0 ++ l) (sym (filter-append is_no_identity (next ∷ []) rs)))
-      (records_on ((read_of l0 ++ one) ++ others) (read_of l1 ++ others) left a b c tt r (records_behind (read_of l0 ++ one) (read_of l1) others a b (Ok tt) p) q)
 
 -- ---- a record more
 

@@ -1,5 +1,5 @@
 -- What a load makes of a repository, revision by revision.
-use Rattle.std.specs.Prelude.{◌≡◌, ℕ, ◌⊎◌, Bool, true, false, List, [], ◌∷◌, ◌++◌, Option, Some, None, Result, IfSome, IsErr, OnOk, codes}
+use Rattle.std.specs.Prelude.{◌≡◌, ℕ, ◌⊎◌, Bool, true, false, List, [], ◌∷◌, ◌++◌, Option, Some, None, Result, IfErr, IfSome, IsErr, OnErr, OnOk, codes}
 use Rattle.std.specs.List.{filter, flat_map}
 use Rattle.std.specs.Fmt.{decimal}
 use Rattle.std.specs.Io.KnownBytes.{Appends}
@@ -20,13 +20,15 @@ use Rattle.repo_core.specs.declared.entry.Entry.{Entry}
 use Rattle.repo_core.specs.declared.entry.Entry.TheVariants.{Revised, Mapped}
 use Rattle.repo_core.specs.Refusals.{by_repository, commit_fault, IsDue}
 use Rattle.repo_core.specs.declared.fault.RepoFault.{RepoFault}
+use Rattle.fleet_disk.specs.Image.{Image}
 use Rattle.fleet_disk.specs.declared.disk.Disk.{Ghosts}
-use Rattle.repo_store.specs.Words.{repository_of, revisions_of}
+use Rattle.repo_store.specs.Journal.{Keeps}
+use Rattle.repo_store.specs.Words.{disk_of, repository_of, revisions_of}
 use Rattle.repo_store.specs.declared.store.RepoStore.{RepoStore}
 use Rattle.dump_text.specs.Faults.{dump_refusal}
 use Rattle.fleet_engines.specs.Revisions.{Rev, Makes, IsUnfit, is_zero, is_past_zero}
 use Rattle.fleet_engines.specs.Grouping.{records_of_rev, is_no_identity}
-use Rattle.store_engines.specs.Devices.{CantKeep, Serves}
+use Rattle.store_engines.specs.Devices.{CantKeep, IsSafe, Serves}
 use Rattle.store_engines.specs.Refusals.{repo_refusal}
 
 -- what is said of a revision that was loaded
@@ -134,6 +136,16 @@ AreEntriesOf x (r ∷ rs) es = (e : Entry) × (rest : List Entry) × (es ≡ e �
 pub record ServesOne {D : Type 0} {G : Ghosts D} (entry : Entry) (old new : RepoStore D G) (result : Result (Unit {0}) Refusal) : Type 0 where
   pub serves : Serves old new result
   pub one : (serves.taken ++ serves.begun ≡ entry ∷ []) ⊎ (IsErr result × (serves.taken ++ serves.begun ≡ []))
+
+-- an entry is committed, and stands; or nothing is done: memory ran out, or the store can't keep it, or it is refused for what is due
+pub record Commits {D : Type 0} {G : Ghosts D} (entry : Entry) (old new : RepoStore D G) (result : Result (Unit {0}) Refusal) : Type 0 where
+  pub ok : OnOk result (repository_of new ≡ with_entry_in (repository_of old) entry)
+  pub taken : OnOk result (entry_fault (revisions_of old) entry ≡ None)
+  pub stands : OnOk result (G.honest (disk_of new) → (image : Image) → G.may_leave (disk_of new) image → Keeps (repository_of new) image)
+  pub same : OnErr result (repository_of new ≡ repository_of old)
+  pub refused : IfErr result (λ e. (e ≡ refusal.OutOfMemory) ⊎ CantKeep new entry e ⊎ ((f : RepoFault) × IsDue f (entry_fault (revisions_of old) entry) × (e ≡ repo_refusal f)))
+  pub no_peer : IfErr result (λ e. e ≡ refusal.PeerFailed → ⊥)
+  pub device : IsSafe old → ServesOne entry old new result
 
 -- what a call that had these records ahead did to a store and its device: the entries that were taken, and then the one that was begun, are those of the first whole revisions of them; and where it is Ok, of all but what is left
 pub record ServesRecords {D : Type 0} {G : Ghosts D} (ahead : List DumpRecord) (old new : RepoStore D G) (result : Result (Unit {0}) Refusal) (left : List DumpRecord) : Type 0 where

@@ -2,7 +2,7 @@
 ghost use Rattle.std.specs.List.{filter};
 ghost use Rattle.std.specs.Prelude.{◌≡◌, ◌≢◌, ◌⊎◌, ◌<◌, ◌∷◌, ◌++◌, [], ℕ, List};
 ghost use Rattle.std.specs.Prelude.{Option, Some, None, length, true};
-ghost use Rattle.std.specs.Prelude.{false, IfOk, IfErr, IfSome, OnOk, OnErr};
+ghost use Rattle.std.specs.Prelude.{false, IfOk, IfErr, IfSome, OnOk};
 ghost use Rattle.std.specs.Io.KnownBytes.{Appends};
 ghost use Rattle.byte_streams.specs.Causes.{Rose, counts};
 ghost use Rattle.node_base.specs.Props.{PropMap};
@@ -13,8 +13,6 @@ ghost use Rattle.repo_core.specs.Repository.{Repository, trees_of};
 ghost use Rattle.repo_core.specs.Entries.{with_entry_in};
 ghost use Rattle.repo_core.specs.declared.entry.Entry.{Entry};
 ghost use Rattle.repo_core.specs.declared.entry.Entry.TheVariants.{Mapped};
-ghost use Rattle.repo_core.specs.Refusals.{IsDue};
-ghost use Rattle.repo_core.specs.declared.fault.RepoFault.{RepoFault as RepoFaultOf};
 ghost use Rattle.fleet_disk.specs.Image.{Image};
 ghost use Rattle.repo_store.specs.Journal.{Keeps};
 ghost use Rattle.repo_store.specs.Words.{disk_of, repository_of, revisions_of, HasFailed, IsKept};
@@ -24,12 +22,11 @@ ghost use Rattle.fleet_engines.specs.Revisions.{Makes, IsUnfit, is_zero};
 ghost use Rattle.fleet_engines.specs.Runs.{Counted, BothCounted};
 ghost use Rattle.fleet_engines.specs.Takers.{place};
 ghost use Rattle.store_engines.specs.Loaders.{last_of, TakesRecord, RefusesRecord, EndsLoad, CantEndLoad};
-ghost use Rattle.store_engines.specs.Devices.{is_device, CantKeep, IsSafe, Serves};
+ghost use Rattle.store_engines.specs.Devices.{is_device, IsSafe, Serves};
 ghost use Rattle.store_engines.specs.Loads.{entry_fault, read_of, CantTake, CantClose, Gathered, IsBare, IsLoaded};
-ghost use Rattle.store_engines.specs.Loads.{Loaded, Moves, NotLoaded, Refused, ServesOne, ServesRecords, Stands};
+ghost use Rattle.store_engines.specs.Loads.{Commits, Loaded, Moves, NotLoaded, Refused, ServesRecords, Stands};
 ghost use Rattle.store_engines.specs.Mirrors.{is_mirror};
 ghost use Rattle.store_engines.specs.Telling.{AllStand, KeepsTold};
-ghost use Rattle.store_engines.specs.Refusals.{repo_refusal};
 
 use crate::commits::commit_applied;
 use crate::mirror::refuse_mirror;
@@ -83,14 +80,7 @@ fn put_zero<D: Disk + Drop>(
     store: &mut RepoStore<D>,
     props: Props,
 ) -> Result<(), Refusal>
-    ensures ok { OnOk result (repository_of store.new ≡ with_entry_in (repository_of store.old) (Mapped 0 props)) }
-    ensures same { OnErr result (repository_of store.new ≡ repository_of store.old) }
-    ensures taken { OnOk result (entry_fault (revisions_of store.old) (Mapped 0 props) ≡ None) }
-    ensures refused { IfErr result (λ e. (e ≡ Refusal.OutOfMemory) ⊎ CantKeep store.new (Mapped 0 props) e
-        ⊎ ((f : RepoFaultOf) × IsDue f (entry_fault (revisions_of store.old) (Mapped 0 props))
-        × (e ≡ repo_refusal f))) }
-    ensures device { IsSafe store.old → ServesOne (Mapped 0 props) store.old store.new result }
-    ensures no_peer { IfErr result (λ e. e ≡ Refusal.PeerFailed → ⊥) }
+    ensures { Commits (Mapped 0 props) store.old store.new result }
 {
     match store.put_props(alloc, RevNo::ZERO, props) {
         Ok(_receipt) => Ok(()),

@@ -88,3 +88,8 @@ pub commit_applied-requires : goal.commit_applied-requires
 commit_applied-requires g c =
     let trees = c.trees.ensures.trees ∙ ap (λ v. trees_of v.revisions) c.repo.ensures.value in
     subst (λ ts. Makes ts c.in_ok-applied.applied.set c.in_ok-applied.applied.tree) trees (c.in_ok-applied.ensures.made c.args.revision.props).made
+
+pub returns-in_err-commit_applied-clause-peer : goal.returns-in_err-commit_applied-clause-peer
+returns-in_err-commit_applied-clause-peer g c =
+    let p = err_from_is_err_and c.from_residual-in_err-commit_applied.result c.from_residual-in_err-commit_applied.ensures.1 in
+    rw (p.1, p.2) (inr (c.in_err-commit_applied.ensures.no_peer, refl))
