@@ -8,8 +8,6 @@ use Rattle.std.specs.List.{flat_map}
 use Rattle.std.proofs.Math.Bool.{or-true}
 use Rattle.std.proofs.lemmas.Bool.{ne_eqb, false≢true, true≢false, cases_Bool}
 use Rattle.std.proofs.lemmas.Grind.{flat_map-append}
-use Rattle.node_base.specs.Props.{PropMap}
-use Rattle.dump_text.specs.Canon.{canon_head, canon_entry}
 use Rattle.dump_text.specs.declared.record.DumpRecord.{DumpRecord}
 use Rattle.dump_text.specs.declared.record.DumpRecord.TheVariants.{Identity, Revision, Node}
 use Rattle.fleet_engines.specs.declared.product.Product.{Product}

@@ -13,8 +13,7 @@ use Rattle.dump_text.specs.Faults.{dump_refusal}
 use Rattle.dump_text.specs.Streams.{Stream, Reads, Refuses, reading, dump, fresh, one_byte, records_of, has_failed, is_between, IsFront, StreamIs}
 use Rattle.fleet_engines.specs.Pieces.{behind}
 use Rattle.fleet_engines.specs.Takers.{TakesAll, Stops, Reached, Halts, record_refused, byte_refused, cut_short, stopped}
-use Rattle.fleet_engines.proofs.Behind.{records_dont_matter}
-use Rattle.fleet_engines.proofs.Faults.{not_failed}
+use Rattle.fleet_engines.proofs.Behind.{not_failed, records_dont_matter}
 
 -- ---- pieces
 

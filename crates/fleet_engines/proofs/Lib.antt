@@ -1,6 +1,5 @@
 pub mod Behind
 pub mod Due
-pub mod Faults
 pub mod Feeding
 pub mod Groups
 pub mod Identities

@@ -1,5 +1,5 @@
 -- The commit of a directory: what is due, with a message past its limit too.
-use Rattle.std.proofs.Common.{◌≡◌, ℕ, ◌<◌, ◌+◌, ◌^◌, ◌⊎◌, ◌↔◌, Bool, true, false, cond, not, ◌&&◌, nat_le, nat_lt, List, [], ◌∷◌, length, Result, Ok, Err, Option, Some, None, is_some, refl, sym, ap, subst, ◌∙◌, arith, inl, inr, codes}
+use Rattle.std.proofs.Common.{◌≡◌, ℕ, ◌<◌, ◌⊎◌, Bool, true, false, cond, not, ◌&&◌, nat_le, nat_lt, List, [], ◌∷◌, length, Result, Ok, Err, Option, Some, None, is_some, refl, sym, ap, subst, ◌∙◌, arith, inl, inr, codes}
 use Rattle.std.proofs.lemmas.Bool.{true≢false}
 use Rattle.std.specs.Bool.{if◌then◌else◌}
 use Rattle.std.specs.Option.{option_map}
@@ -15,7 +15,6 @@ use Rattle.node_base.specs.PathText.{path_read}
 use Rattle.node_base.specs.Props.{PropMap, props_fit}
 use Rattle.node_base.specs.declared.refusal.Refusal.{Refusal}
 use Rattle.node_base.specs.declared.refusal.Refusal.TheVariants as refusal
-use Rattle.node_base.specs.declared.fault.PathFault.{PathFault}
 use Rattle.dump_load.specs.Faults.{fault_if, first_of, fault, refused}
 use Rattle.dump_load.specs.declared.change.Change.{Change}
 use Rattle.repo_core.specs.Dates.{dated, date_name, date_text}
@@ -25,21 +24,15 @@ use Rattle.repo_core.specs.Refusals.{is_short, within_limits, limit_fault, base_
 use Rattle.repo_core.specs.declared.entry.Entry.TheVariants.{Revised}
 use Rattle.repo_core.specs.declared.fault.RepoFault.{RepoFault}
 use Rattle.repo_core.specs.declared.fault.RepoFault.TheVariants as core
-use Rattle.repo_store.specs.declared.fault.StoreFault.{StoreFault}
-use Rattle.repo_store.specs.declared.fault.StoreFault.TheVariants.{Repo, Log}
 use Rattle.store_engines.specs.Commits.{committed_line, directory_entry, directory_fault, directory_set, fault_there, logged, IsCommitted, NotCommitted, bare_entry, commit_refused, commit_stops, commit_not_kept, commit_unsaid}
 use Rattle.fleet_disk.specs.declared.disk.Disk.{Ghosts}
-use Rattle.repo_store.specs.Words.{log_of, repository_of, revisions_of, HasFailed}
+use Rattle.repo_store.specs.Words.{repository_of}
 use Rattle.repo_store.specs.declared.store.RepoStore.{RepoStore}
-use Rattle.repo_store.specs.Journal.{spelling}
-use Rattle.gate_log.specs.Log.{size_of, ends_of}
-use Rattle.gate_log.specs.Standing.{last_end}
-use Rattle.gate_log.specs.declared.fault.LogFault.TheVariants as log
 use Rattle.repo_core.specs.declared.entry.Entry.{Entry}
-use Rattle.store_engines.specs.Devices.{CantKeep, failed_before, no_room}
+use Rattle.store_engines.specs.Devices.{CantKeep}
 use Rattle.store_engines.specs.Loads.{entry_fault}
 use Rattle.store_engines.specs.Mirrors.{is_mirror}
-use Rattle.store_engines.specs.Refusals.{log_refusal, path_refusal, repo_refusal, store_refusal}
+use Rattle.store_engines.specs.Refusals.{repo_refusal}
 
 -- ---- a value past its limit
 

@@ -1,5 +1,5 @@
 -- A whole load, from its records.
-use Rattle.std.proofs.Common.{◌≡◌, ℕ, ◌⊎◌, Bool, true, false, List, [], ◌∷◌, ◌++◌, Option, Some, None, IfSome, Result, Ok, Err, IfErr, refl, sym, ap, subst, ◌∙◌, append_assoc, append-nil, inl, inr}
+use Rattle.std.proofs.Common.{◌≡◌, ℕ, ◌⊎◌, true, false, List, [], ◌∷◌, ◌++◌, Option, None, IfSome, Result, Ok, Err, IfErr, refl, sym, ap, subst, ◌∙◌, append_assoc, append-nil, inl, inr}
 use Rattle.std.specs.List.{filter}
 use Rattle.std.specs.Result.{OnOk}
 use Rattle.std.proofs.lemmas.Bool.{true≢false}
@@ -19,7 +19,7 @@ use Rattle.repo_store.specs.declared.store.RepoStore.{RepoStore}
 use Rattle.fleet_engines.specs.Grouping.{is_no_identity}
 use Rattle.fleet_engines.specs.Runs.{Counted}
 use Rattle.fleet_engines.specs.Takers.{Place, TakesAll, Done, Halts, OfStream, record_refused, byte_refused, cut_short, end_refused, stopped}
-use Rattle.fleet_engines.proofs.Faults.{is_spent, not_spent}
+use Rattle.fleet_engines.proofs.Behind.{is_spent, not_spent}
 use Rattle.fleet_engines.proofs.Streaming.{of_some, of_stream}
 use Rattle.store_engines.specs.Devices.{is_device, IsSafe}
 use Rattle.store_engines.specs.Loaders.{last_of, Goes, StandsAt, TakesRecord, RefusesRecord, EndsLoad, CantEndLoad}

@@ -1,11 +1,10 @@
 -- What a load does to a store's device, and whose entries it takes.
-use Rattle.std.proofs.Common.{◌≡◌, ℕ, ◌⊎◌, ◌↔◌, ◌≤◌, true, false, List, [], ◌∷◌, ◌++◌, length, Result, Ok, Err, IsErrOf, IfErr, Option, Some, None, IfSome, refl, sym, ap, subst, ◌∙◌, append_assoc, append-nil, inl, inr}
+use Rattle.std.proofs.Common.{◌≡◌, ℕ, ◌⊎◌, ◌↔◌, true, false, List, [], ◌∷◌, ◌++◌, length, Result, Ok, Err, IfErr, Option, Some, None, refl, sym, ap, subst, ◌∙◌, append_assoc, append-nil, inl, inr}
 use Rattle.std.specs.List.{filter, flat_map}
 use Rattle.std.specs.Result.{OnOk, IsErr}
 use Rattle.std.proofs.lemmas.Bool.{false≢true}
 use Rattle.std.proofs.lemmas.Grind.{flat_map-append}
 use Rattle.std.proofs.lemmas.List.{map-append, length-map}
-use Rattle.std.proofs.lemmas.List.Elements.{filter-append}
 use Rattle.std.proofs.lemmas.Result.{on_ok_weaker}
 use Rattle.node_base.specs.Props.{PropMap}
 use Rattle.node_base.specs.Tree.{PathMap}
@@ -15,14 +14,10 @@ use Rattle.dump_text.specs.declared.record.NodeRecord.{NodeRecord}
 use Rattle.dump_text.specs.declared.record.DumpRecord.{DumpRecord}
 use Rattle.dump_text.specs.declared.record.DumpRecord.TheVariants.{Identity, Revision as Begins, Node}
 use Rattle.dump_load.specs.declared.change.Change.{Change}
-use Rattle.fleet_disk.specs.Image.{Image}
-use Rattle.fleet_disk.specs.Rules.{LeavesOnly, Rose}
 use Rattle.fleet_disk.specs.declared.disk.Disk.{Ghosts}
 use Rattle.fleet_engines.specs.Grouping.{records_of_rev, is_no_identity}
 use Rattle.fleet_engines.specs.Revisions.{Rev, Makes, is_zero, is_past_zero}
-use Rattle.gate_log.specs.Log.{ends_of}
-use Rattle.gate_log.specs.declared.fault.LogFault.TheVariants as log
-use Rattle.repo_core.specs.Entries.{revisions_after, with_entry, with_entry_in}
+use Rattle.repo_core.specs.Entries.{revisions_after, with_entry}
 use Rattle.repo_core.specs.Refusals.{IsDue}
 use Rattle.repo_core.specs.Repository.{Repository, Revision, trees_of}
 use Rattle.repo_core.specs.declared.entry.Entry.{Entry}
@@ -30,12 +25,11 @@ use Rattle.repo_core.specs.declared.entry.Entry.TheVariants.{Revised}
 use Rattle.repo_core.specs.declared.fault.RepoFault.{RepoFault}
 use Rattle.node_base.specs.Path.{Path}
 use Rattle.node_base.specs.declared.fault.PathFault.{PathFault}
-use Rattle.repo_store.specs.Journal.{Keeps, IsBeforeOrAfter}
+use Rattle.repo_store.specs.Journal.{Keeps}
 use Rattle.repo_store.specs.Changes.{IsBroken, IsRefused, IsTaken, Refuses as RefusesEntry, Stays}
-use Rattle.repo_store.specs.Words.{disk_of, log_of, revisions_of, repository_of, HasFailed}
+use Rattle.repo_store.specs.Words.{disk_of, revisions_of, repository_of, HasFailed}
 use Rattle.repo_store.specs.declared.store.RepoStore.{RepoStore}
 use Rattle.repo_store.specs.declared.fault.StoreFault.{StoreFault}
-use Rattle.repo_store.specs.declared.fault.StoreFault.TheVariants.{Log}
 use Rattle.store_engines.specs.Devices.{is_device, CantKeep, IsSafe, Serves}
 use Rattle.store_engines.specs.Loads.{AreEntriesOf, Commits, IsEntryOf, ServesOne, ServesRecords, entry_fault, of_next, read_of}
 use Rattle.store_engines.specs.Refusals.{repo_refusal, store_refusal}
