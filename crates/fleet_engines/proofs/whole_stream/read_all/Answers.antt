@@ -13,13 +13,13 @@ use Rattle.fleet_engines.proofs.whole_stream.read_all.Goals as goal
 
 pub loop-turn-init : goal.loop-turn-init
 loop-turn-init g c = (
-      [],
-      Consumes-nil (g.I.Input.remaining c.args.input.now),
-      record { records = []; read = ap (Reads []) (sym c.requires.begins); taken = refl },
-      refl,
-      inl (omega (arith)),
-      refl,
-    )
+  [],
+  Consumes-nil (g.I.Input.remaining c.args.input.now),
+  record { records = []; read = ap (Reads []) (sym c.requires.begins); taken = refl },
+  refl,
+  inl (omega (arith)),
+  refl,
+)
 
 pub loop-turn-preserved : goal.loop-turn-preserved
 loop-turn-preserved g c =
