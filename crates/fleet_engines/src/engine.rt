@@ -186,6 +186,8 @@ fn finish_canon<O: Output>(
 }
 
 impl<O: Output> Taker<History, O> for Lister {
+    ghost use Rattle.fleet_engines.specs.declared.product.Product.{Product};
+
     ghost takes = { λ p next q. TakesOne Product.List (held O.Output p) next (held O.Output q) };
 
     ghost refuses = { λ p next e q. RefusesOne (held O.Output p) next e (held O.Output q) };
@@ -211,6 +213,8 @@ impl<O: Output> Taker<History, O> for Lister {
 }
 
 impl<O: Output> Taker<History, O> for Rewriter {
+    ghost use Rattle.fleet_engines.specs.declared.product.Product.{Product};
+
     ghost takes = { λ p next q. TakesOne Product.Canon (held O.Output p) next (held O.Output q) };
 
     ghost refuses = { λ p next e q. RefusesOne (held O.Output p) next e (held O.Output q) };
