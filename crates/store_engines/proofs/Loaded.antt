@@ -91,7 +91,7 @@ module _ {D T : Type 0} {G : Ghosts D} (R : ReportGhosts T) where
 
   -- refused for another reason
   goes_then : (ahead mid : List DumpRecord) (p q : Place Loader (RepoStore D G) T) (e : Refusal) → is_device e ≡ false → Goes R ahead p q (Ok tt) mid → Goes R ahead p q (Err e) []
-  goes_then ahead mid p q e no a = record { served = λ safe. records_then ahead mid [] p.store q.store tt (Err e) no tt (a.served safe); told = a.told }
+  goes_then ahead mid p q e other a = record { served = λ safe. records_then ahead mid [] p.store q.store tt (Err e) other tt (a.served safe); told = a.told }
 
   goes_left : (ahead left : List DumpRecord) (p q : Place Loader (RepoStore D G) T) (e : Refusal) → Goes R ahead p q (Err e) left → Goes R ahead p q (Err e) []
   goes_left ahead left p q e a = record { served = λ safe. refused_left ahead left [] p.store q.store e (a.served safe); told = a.told }

@@ -123,7 +123,7 @@ module _ {D : Type 0} {G : Ghosts D} where
   }
 
   pub commits_err : (a b : RepoStore D G) (entry : Entry) (due : Option RepoFault) (fault : StoreFault) (e : Refusal) → due ≡ entry_fault (revisions_of a) entry → e ≡ store_refusal fault → (e ≡ PeerFailed → ⊥) → ((due ≡ None) × IsBroken entry a b fault) ⊎ IsRefused entry due a b fault → Commits entry a b (Err e)
-  commits_err a b entry due fault e at is no k = record {
+  commits_err a b entry due fault e at is other k = record {
     ok = tt;
     taken = tt;
     stands = tt;
@@ -131,7 +131,7 @@ module _ {D : Type 0} {G : Ghosts D} where
     refused =
         subst (λ r. (r ≡ OutOfMemory) ⊎ CantKeep b entry r ⊎ ((f : RepoFault) × IsDue f (entry_fault (revisions_of a) entry) × (r ≡ repo_refusal f))) (sym is)
         (subst (λ d. (store_refusal fault ≡ OutOfMemory) ⊎ CantKeep b entry (store_refusal fault) ⊎ ((f : RepoFault) × IsDue f d × (store_refusal fault ≡ repo_refusal f))) at (stop_or_due a b entry due fault k));
-    no_peer = no;
+    no_peer = other;
     device = λ safe. subst (λ r. ServesOne entry a b (Err r)) (sym is) (didnt_take_one a b entry due fault k safe);
   }
 
