@@ -1,8 +1,8 @@
 -- A child that is edited among children, from the parts of a row.
-use Rattle.std.proofs.Common.{◌≡◌, ℕ, ◌≤◌, ◌∷◌, ◌++◌, Option, Some, Result, Ok, Err, OnOk, OnErr, IsSome, refl, sym, ap, subst, ◌∙◌}
+use Rattle.std.proofs.Common.{◌≡◌, ℕ, ◌≤◌, ◌∷◌, ◌++◌, Option, Result, Ok, Err, OnOk, OnErr, IsSome, sym, ap, subst, ◌∙◌}
 use Rattle.std.specs.Option.{option_and_then}
 use Rattle.std.specs.declared.cmp.Ordering.TheVariants.{Less, Equal, Greater}
-use Rattle.std.specs.FinMap.{find, get, len}
+use Rattle.std.specs.FinMap.{get, len}
 use Rattle.std.specs.FinMap.Entries.{put}
 use Rattle.node_base.specs.Path.{Name, Path, name_cmp, names_exact}
 use Rattle.node_base.specs.declared.node.Node.{Node}

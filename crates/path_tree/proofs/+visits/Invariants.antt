@@ -1,4 +1,4 @@
-use Rattle.std.proofs.Common.{◌≡◌, ◌+◌, ◌*◌, length}
+use Rattle.std.proofs.Common.{◌+◌, ◌*◌, length}
 use Rattle.std.specs.FinMap.{len}
 use Rattle.path_tree.specs.Joined.{below}
 use Rattle.path_tree.specs.Rows.{in_row}
