@@ -1,5 +1,7 @@
 """Sessions made from a seed: what a client of a server might ask, in any spelling that a reader takes, and some with
 something wrong."""
+import itertools
+
 from made import NAMES, ODD_NAMES, PROPS, some
 from sessions import Word
 
@@ -8,22 +10,35 @@ COMMANDS = [b'get-latest-rev', b'check-path', b'get-file', b'get-dir', b'rev-pro
             b'change-rev-prop2', b'replay', b'replay-range']
 
 
+# All white space of so many bytes and up to three more.
+LONGER = [[bytes(it) for more in range(4) for it in itertools.product(b' \n', repeat=least + more)] for least in (0, 1)]
+
+
 def blanks(random, least):
-    return b''.join(random.choice([b' ', b'\n']) for _ in range(least if random.random() < 0.9 else least + random.randrange(4)))
+    """White space of one byte, or none where none is due, and at times more."""
+    draw = random.random()
+    if draw < 0.9:
+        return (b' ' if draw < 0.45 else b'\n') if least else b''
+    return random.choice(LONGER[least])
+
+
+def zeros(random):
+    """What stands in front of a number: mostly nothing."""
+    return b'' if random.random() < 0.94 else random.choice([b'0', b'0' * 30])
 
 
 def sent(random, item):
     """An item in one of its spellings."""
-    zeros = b'0' * random.choice([0] * 30 + [1, 30])
-    if isinstance(item, Word):
+    kind = type(item)
+    if kind is list:
+        return b'(' + blanks(random, 1) + b''.join([sent(random, it) for it in item]) + b')' + blanks(random, 1)
+    if kind is bytes:
+        return zeros(random) + b'%d:%s' % (len(item), item) + blanks(random, 1)
+    if kind is Word:
         return item + blanks(random, 1)
-    if isinstance(item, bool):
+    if kind is bool:
         return (b'true' if item else b'false') + blanks(random, 1)
-    if isinstance(item, int):
-        return zeros + b'%d' % item + blanks(random, 1)
-    if isinstance(item, bytes):
-        return zeros + b'%d:%s' % (len(item), item) + blanks(random, 1)
-    return b'(' + blanks(random, 1) + b''.join(sent(random, it) for it in item) + b')' + blanks(random, 1)
+    return zeros(random) + b'%d' % item + blanks(random, 1)
 
 
 class Asker:

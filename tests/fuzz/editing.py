@@ -15,6 +15,8 @@ from told import loose_chunks
 
 MADE, TEXT, VALUE = 102400, 1048576, 65536
 BLANKS, NUMBER, WORD = (re.compile(it) for it in (rb'[ \n]*', rb'[0-9]*', rb'[A-Za-z][A-Za-z0-9-]*'))
+# an item, or the front of one, that is well whatever its value
+TOKEN = re.compile(rb'[ \n]*(?:(?P<length>[0-9]{1,6}):|(?:(?P<number>[0-9]{1,19})|(?P<word>[A-Za-z][A-Za-z0-9-]{0,63})|(?P<list>\()|(?P<end>\)))[ \n])')
 
 
 # ---- items, with the number of what is wrong
@@ -44,15 +46,52 @@ class Items:
         return None if self.at == len(self.data) else self.item(0)
 
     def item(self, depth):
-        first = self.peek()
-        if first == 40:
-            found = self.list(depth)
-        elif 48 <= first <= 57:
-            found = self.number_or_string()
-        else:
-            found = self.word()
+        """An item and the white space behind it, or None at the end of the list around it."""
+        found = TOKEN.match(self.data, self.at)
+        kind = found.lastgroup if found else None
+        if kind is None or kind == 'end' and not depth:
+            return self.other(depth)
+        self.at = found.end()
+        if kind == 'length':
+            return self.string(int(found[kind]))
+        if kind == 'list':
+            return self.list(depth)
+        if kind == 'word':
+            return Word(found[kind])
+        return int(found[kind]) if kind == 'number' else None
+
+    def list(self, depth):
+        if depth == 16:
+            raise Refused(42)
+        found = []
+        while (item := self.item(depth + 1)) is not None:
+            found.append(item)
+        return found
+
+    def string(self, length):
+        if length > TEXT:
+            raise Refused(8)
+        found = self.data[self.at:self.at + length]
+        if len(found) < length:
+            raise Refused(7)
+        self.at += length
         self.white()
         return found
+
+    def other(self, depth):
+        """What the pattern doesn't take: a number of many digits, or an item with something wrong."""
+        self.skip()
+        first = self.peek()
+        if 48 <= first <= 57:
+            return self.number_or_string()
+        if first == 40 and depth == 16:
+            raise Refused(42)
+        if first == 40 or first == 41 and depth:
+            self.at += 1
+        else:
+            self.word()
+        # (here it isn't white, as the pattern has it)
+        return self.white()
 
     def word(self):
         found = WORD.match(self.data, self.at)
@@ -61,35 +100,17 @@ class Items:
         if found.end() - self.at > 64:
             raise Refused(8)
         self.at = found.end()
-        return Word(found[0])
-
-    def list(self, depth):
-        if depth == 16:
-            raise Refused(42)
-        self.at += 1
-        self.white()
-        found = []
-        while True:
-            self.skip()
-            if self.peek() == 41:
-                self.at += 1
-                return found
-            found.append(self.item(depth + 1))
 
     def number_or_string(self):
         found = NUMBER.match(self.data, self.at)
         number, self.at = int(found[0]), found.end()
         if number >= 2 ** 64:
             raise Refused(41)
-        if self.peek() != 58:
-            return number
-        if number > TEXT:
-            raise Refused(8)
-        self.at += 1
-        if len(self.data) - self.at < number:
-            raise Refused(7)
-        self.at += number
-        return self.data[self.at - number:self.at]
+        if self.peek() == 58:
+            self.at += 1
+            return self.string(number)
+        self.white()
+        return number
 
 
 # ---- windows

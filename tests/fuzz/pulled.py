@@ -6,7 +6,7 @@ from dumps import Refused
 from editing import Edit, Items
 from sessions import AUTHORISED, DONE as SUCCESS, GREETING, Ends, Input, Server, Word, command, success
 from dumps import History, node
-from trials import DONE, TEXTS, UUID, Differs, began, ended, ran
+from trials import DONE, TEXTS, UUID, Differs, reached
 
 MIRROR = '6a1f0c3e-0000-4000-8000-0000000000c1'
 NEWEST = 65535
@@ -40,7 +40,9 @@ class Mirror:
         self.url = 'svn://127.0.0.1:%d/' % self.listener.getsockname()[1]
         self.server = Server(self.trees, self.props, [], UUID, self.url.encode(), TEXTS)
         self.line, self.come, self.lines = None, b'', []
-        ran(program, ['create', self.folder, '--uuid', MIRROR], b'', (DONE, b''))
+        # how often something is said in pieces: seldom, where the program's reads are cut in some runs, which is cheaper
+        self.pieces = 0.001 if program.waits else 0.02
+        program.ran(['create', self.folder, '--uuid', MIRROR], b'', (DONE, b''))
 
     # ---- a session
 
@@ -63,13 +65,10 @@ class Mirror:
             self.come += piece
 
     def say(self, data):
+        size = self.random.choice([1, 7]) if self.random.random() < self.pieces else max(len(data), 1)
         try:
-            if self.random.random() < 0.02:
-                size = self.random.choice([1, 7])
-                for at in range(0, len(data), size):
-                    self.line.sendall(data[at:at + size])
-            else:
-                self.line.sendall(data)
+            for at in range(0, len(data), size):
+                self.line.sendall(data[at:at + size])
         except (BrokenPipeError, ConnectionResetError):
             # (the client has gone: it says why)
             pass
@@ -115,6 +114,7 @@ class Mirror:
                 return 60
             data, may_wait = given
             tree, fault = judged(self.trees, data)
+            reached(fault)
             self.say(AUTHORISED + command(b'revprops', *([name, it] for name, it in sorted(props.items()))) + data)
             if may_wait:
                 self.end()
@@ -134,7 +134,7 @@ class Mirror:
     def held(self, words, session):
         """Runs a command beside a session, and holds it to its lines and to what that is refused for."""
         self.lines, self.come = [], b''
-        run = began(self.program, words)
+        run = self.program.began(words, pieces=self.random.choice([1, 7]) if self.random.random() < 0.02 else 0)
         try:
             self.line, _ = self.listener.accept()
             with self.line:
@@ -144,7 +144,7 @@ class Mirror:
                 while self.item() is not None:
                     pass
         finally:
-            found = ended(run)
+            found = self.program.ended(run)
         wanted = ((1, line_of(fault)) if fault else DONE), b''.join(self.lines)
         if found != wanted:
             raise Differs(f'{words[0]}: {found} and not {wanted}')
@@ -173,7 +173,7 @@ class Mirror:
 
 
 def dumped(program, folder):
-    done, output = ended(began(program, ['dump', folder]))
+    done, output = program.ended(program.began(['dump', folder]))
     history = History(output)
     if done != DONE or history.fault:
         raise Differs(f'dump: {done}, {history.fault}')

@@ -1,6 +1,5 @@
 """A server of the program's, and what a client of it gets."""
 import socket
-import subprocess
 from random import SystemRandom
 
 from trials import Differs
@@ -40,11 +39,11 @@ def listening(program, folder, connections):
     """A port and the server that listens on it; where somebody else was given the port meanwhile, another one."""
     for _ in range(5):
         port = free_port()
-        words = [program, 'serve', folder, '--port', str(port), '--connections', str(connections)]
-        started = subprocess.Popen(words, stdout=subprocess.PIPE, stderr=subprocess.PIPE)
-        if started.stdout.readline() == b'listening on 127.0.0.1:%d\n' % port:
-            return port, started
-        errors = started.communicate(timeout=60)[1]
-        if errors != b'svnfleet: 49 stream failed\n':
+        run = program.began(['serve', folder, '--port', str(port), '--connections', str(connections)], is_piped=True)
+        said = program.says(run)
+        if said == b'listening on 127.0.0.1:%d\n' % port:
+            return port, run
+        ended = program.ended(run)
+        if ended[0] != (1, b'svnfleet: 49 stream failed\n'):
             break
-    raise Differs(f'serve: its line, {errors!r}')
+    raise Differs(f'serve: its line, {said!r}, {ended}')

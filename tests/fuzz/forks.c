@@ -1,0 +1,173 @@
+// forks.so: stops a program in front of its `main`, and runs it from there as often as it is asked to.
+//
+// A run then doesn't pay for a program's start, which costs several times what most runs do. The process that was started
+// only waits. It makes a copy of itself when a run is due, and the copy runs the program's `main`, for this run and for
+// those that are asked of it behind it, each with the words, settings and streams of its own; a copy that dies, or is
+// told to go, is followed by a new one. So the runs of one seed are in one process, which begins with that seed.
+//
+// Descriptors of the process: 0, 1 and 2 the streams of the runs, 3 a socket of packets, 4 a file of four bytes: the most
+// bytes that a read of standard input or of a socket gets, as they say at that moment, or 0 for as many as come.
+// A packet of one byte tells the copy to go. Another one asks for a run: a folder, the count of words in digits, the
+// words, and then settings NAME=VALUE of the environment, each ended by a zero byte. Answered are three numbers of eight
+// bytes: its status as `waitpid` gives it, and how much it wrote to the streams 1 and 2, where these are files.
+#define _GNU_SOURCE
+#include <link.h>
+#include <dlfcn.h>
+#include <errno.h>
+#include <fcntl.h>
+#include <poll.h>
+#include <stdlib.h>
+#include <string.h>
+#include <sys/mman.h>
+#include <sys/socket.h>
+#include <sys/wait.h>
+#include <unistd.h>
+
+enum { LINE = 3, PIECES = 4, KEPT = 5, WORDS = 64, SETTINGS = 16, PACKET = 1 << 16 };
+
+static int (*program)(int, char **, char **);
+static const volatile unsigned *pieces;
+// Whether the copy is amid a run.
+static volatile int *is_running;
+static char packet[PACKET + 1];
+
+static void answer(long long status)
+{
+    long long told[] = { status, lseek(1, 0, SEEK_CUR), lseek(2, 0, SEEK_CUR) };
+
+    send(LINE, told, sizeof told, MSG_NOSIGNAL);
+}
+
+// The text behind this one in the packet.
+static char *behind(char *text)
+{
+    return text + strlen(text) + 1;
+}
+
+// Has what runs in front of the program's `main` take the words, as at its start.
+static void start(int count, char **words, char **settings)
+{
+    const struct link_map *map = _r_debug.r_map;
+    void (**each)(int, char **, char **) = NULL;
+    size_t size = 0;
+
+    for (const ElfW(Dyn) *it = map->l_ld; it->d_tag != DT_NULL; it++) {
+        if (it->d_tag == DT_INIT_ARRAY)
+            each = (void *)(map->l_addr + it->d_un.d_ptr);
+        if (it->d_tag == DT_INIT_ARRAYSZ)
+            size = it->d_un.d_val;
+    }
+    for (size_t at = 0; each && at < size / sizeof *each; at++)
+        each[at](count, words, settings);
+}
+
+// Runs what the packet asks for. What the run has left open is closed, as at a process's end.
+static int run(ssize_t length)
+{
+    static char *words[WORDS + 1], *settings[SETTINGS + 1];
+    char *at = packet, *end = packet + length, **before = environ;
+    void (*begin)(void) = (void (*)(void))dlsym(RTLD_DEFAULT, "calls_begin");
+    int count, number, status;
+
+    *end = 0;
+    if (chdir(at) != 0)
+        return 125;
+    at = behind(at);
+    count = atoi(at);
+    for (number = 0; number < count && number < WORDS; number++)
+        words[number] = at = behind(at);
+    words[number] = NULL;
+    count = 0;
+    for (at = behind(at); at < end && count < SETTINGS; at = behind(at))
+        settings[count++] = at;
+    settings[count] = NULL;
+    environ = settings;
+    for (int stream = 0; stream < 3; stream++)
+        lseek(stream, 0, SEEK_SET);
+    if (begin)
+        begin();
+    start(number, words, environ);
+    status = program(number, words, environ);
+    environ = before;
+    close_range(KEPT, ~0U, 0);
+    return status;
+}
+
+// What a copy does.
+static void runs(void)
+{
+    ssize_t length;
+
+    while ((length = recv(LINE, packet, PACKET, 0)) > 1) {
+        int status;
+
+        *is_running = 1;
+        status = run(length);
+        *is_running = 0;
+        answer((long long)(status & 255) << 8);
+    }
+    _exit(0);
+}
+
+// What runs in place of the program's `main`.
+static int waits(int argc, char **argv, char **environment)
+{
+    struct pollfd line = { .fd = LINE, .events = POLLIN };
+    int status;
+    char byte;
+    pid_t child;
+
+    (void)argc, (void)argv, (void)environment;
+    while (poll(&line, 1, -1) < 0 || recv(LINE, &byte, 1, MSG_PEEK) > 0) {
+        child = fork();
+        if (child == 0)
+            runs();
+        while (waitpid(child, &status, 0) < 0 && errno == EINTR)
+            ;
+        if (*is_running) {
+            *is_running = 0;
+            answer(status);
+        }
+    }
+    _exit(0);
+}
+
+int __libc_start_main(int (*main)(int, char **, char **), int argc, char **argv, void (*begin)(void), void (*end)(void),
+                      void (*unload)(void), void *stack)
+{
+    int (*real)(int (*)(int, char **, char **), int, char **, void (*)(void), void (*)(void), void (*)(void), void *);
+    void *shared = mmap(NULL, sizeof *is_running, PROT_READ | PROT_WRITE, MAP_SHARED | MAP_ANONYMOUS, -1, 0);
+    void *file = mmap(NULL, sizeof *pieces, PROT_READ, MAP_SHARED, PIECES, 0);
+
+    real = dlsym(RTLD_NEXT, "__libc_start_main");
+    if (shared == MAP_FAILED || file == MAP_FAILED)
+        _exit(125);
+    is_running = shared;
+    pieces = file;
+    program = main;
+    return real(waits, argc, argv, begin, end, unload, stack);
+}
+
+// How many bytes of so many a read gets at most.
+static size_t most(size_t count)
+{
+    return pieces && *pieces && *pieces < count ? *pieces : count;
+}
+
+ssize_t read(int descriptor, void *bytes, size_t count)
+{
+    static ssize_t (*real)(int, void *, size_t);
+
+    if (!real)
+        real = dlsym(RTLD_NEXT, "read");
+    return real(descriptor, bytes, descriptor == 0 ? most(count) : count);
+}
+
+ssize_t recv(int descriptor, void *bytes, size_t count, int flags)
+{
+    static ssize_t (*real)(int, void *, size_t, int);
+
+    if (!real)
+        real = dlsym(RTLD_NEXT, "recv");
+    return real(descriptor, bytes, descriptor == LINE ? count : most(count), flags);
+}
