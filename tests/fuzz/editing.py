@@ -119,16 +119,25 @@ class Windows:
     """A text, as the bytes of its windows come."""
 
     def __init__(self):
-        self.text, self.is_between, self.rest = bytearray(), False, 0
+        # how many bytes are left of the instructions, and how many of the text then
+        self.text, self.is_between, self.rest, self.new = bytearray(), False, 0, 0
         self.run = self.read()
         next(self.run)
 
     def feed(self, piece):
-        for byte in piece:
-            self.run.send(byte)
+        at = 0
+        while at < len(piece):
+            if self.new:
+                part = piece[at:at + self.new]
+                self.text += part
+                self.new -= len(part)
+                at += len(part)
+            else:
+                self.run.send(piece[at])
+                at += 1
 
     def finish(self):
-        if not self.is_between:
+        if not self.is_between or self.new:
             raise Refused(44)
 
     def number(self, byte):
@@ -172,6 +181,7 @@ class Windows:
         return found
 
     def window(self, first):
+        """A window but for its new data."""
         numbers = [(yield from self.number(first))]
         while len(numbers) < 5:
             numbers.append((yield from self.number((yield))))
@@ -185,8 +195,7 @@ class Windows:
             lengths += yield from self.instruction()
         if (lengths, lengths) != (made, new):
             raise Refused(44)
-        for _ in range(new):
-            self.text.append((yield))
+        self.new = new
 
     def read(self):
         for wanted in b'SVN\0':
@@ -346,14 +355,13 @@ class Edit:
     def takes(self, item):
         """Takes a command. Whether it was the last one."""
         wanted(type(item) is list and len(item) > 1 and type(item[0]) is Word and type(item[1]) is list)
-        name, params = bytes(item[0]), Given(item[1])
+        name, params = item[0], Given(item[1])
         # (behind close-edit nothing but the end comes)
         wanted(not self.is_ended or name == b'finish-replay')
         if name == b'failure':
             raise Refused(60)
-        method = getattr(self, 'at_' + name.decode().replace('-', '_'), None)
-        wanted(method is not None and b'_' not in name)
-        return method(params)
+        wanted(name in COMMANDS)
+        return COMMANDS[name](self, params)
 
     def innermost(self, token, kind):
         wanted(bool(self.open) and self.open[-1][:2] == (token, kind), 46)
@@ -467,6 +475,10 @@ class Edit:
     def at_finish_replay(self, _params):
         wanted(not self.open, 46)
         return True
+
+
+# The methods by the commands that they take.
+COMMANDS = {name[3:].replace('_', '-').encode(): method for name, method in vars(Edit).items() if name.startswith('at_')}
 
 
 # ---- edits made from a seed

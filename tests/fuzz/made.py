@@ -8,6 +8,8 @@ from dumps import LATER, Change, Record, Refused, applied, block_of, combined, h
 NAMES = [b'a', b'b', b'a-b', b'c', b'd', b'trunk', b'x y', b'\xc3\xa9', b'PROPS-END', b'K 1', b'0']
 ODD_NAMES = [b'.', b'..', b'\x01', b'\x7f', b'\xff', b'\xed\xa0\x80', b'n' * 255, b'n' * 256, b'']
 PROPS = [b'p', b'svn:log', b'svn:executable', b'svn:sync-x', b'a/b', b'..', b'\xc3\xa9']
+# those of a master's revisions
+PLAIN = [it for it in PROPS if not it.startswith(b'svn:sync-')]
 
 
 def some(random, most):
@@ -85,7 +87,7 @@ class Maker:
             for _ in range(self.random.choice([0, 1, 1, 2, 3, 5])):
                 record = self.record(tree)
                 try:
-                    tree = applied([*self.trees[:-1], tree], [Change(record)]) if self.random.random() < 0.9 else tree
+                    tree = applied([*self.trees[:-1], tree], combined([Change(record)])) if self.random.random() < 0.9 else tree
                 except Refused:
                     if self.random.random() < 0.95:
                         continue

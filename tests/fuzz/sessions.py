@@ -81,15 +81,16 @@ def items(data):
 
 def spelled(item):
     """An item in the one spelling that is written."""
-    if isinstance(item, Word):
+    kind = type(item)
+    if kind is list:
+        return b'( %b) ' % b''.join([spelled(it) for it in item])
+    if kind is bytes:
+        return b'%d:%b ' % (len(item), item)
+    if kind is Word:
         return item + b' '
-    if isinstance(item, bool):
+    if kind is bool:
         return b'true ' if item else b'false '
-    if isinstance(item, int):
-        return b'%d ' % item
-    if isinstance(item, bytes):
-        return b'%d:%s ' % (len(item), item)
-    return b'( ' + b''.join(map(spelled, item)) + b') '
+    return b'%d ' % item
 
 
 def success(*content):

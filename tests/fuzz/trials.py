@@ -50,10 +50,13 @@ def begin(path, forks, libraries):
 def one(tried, seed):
     """What comes of a seed, and what it reached. Where its runs share a process, that begins with it."""
     REACHED.clear()
-    if seed % ALONE == ALONE - 1:
-        return *tried(PLAIN, seed), dict(REACHED)
-    SHARED.anew()
-    return *tried(SHARED, seed), dict(REACHED)
+    program = PLAIN if seed % ALONE == ALONE - 1 else SHARED
+    program.anew()
+    try:
+        return *tried(program, seed), dict(REACHED)
+    except Exception as error:  # pylint: disable=broad-except
+        # (a fault of what makes or computes: the other seeds are tried all the same)
+        return 0, [f'seed {seed}: {error!r}'], dict(REACHED)
 
 
 def over_seeds(tried, words, *sources):
@@ -83,6 +86,8 @@ def closed(tried, seeds, *program):
             due.update(count)
             for it in wrong:
                 print(it, flush=True)
+    if failed:
+        print(f'(one seed alone: {sys.argv[0]} {program[0]} 1 SEED)')
     print('due:', ', '.join(f'{number} {count} times' for number, count in sorted(due.items())))
     print(f'{passed} passed, {failed} failed')
     return 1 if failed else 0
