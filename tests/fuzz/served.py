@@ -1,14 +1,31 @@
 """A server of the program's, and what a client of it gets."""
+import itertools
+import multiprocessing
+import re
 import socket
 from random import SystemRandom
 
 from trials import Differs
 
+# Ports that are taken one behind another, below those that the host gives to clients: 750 for each of sixteen processes.
+FIRST, EACH, SHARES = 20000, 750, 16
+
+
+def ports():
+    """This process's ports in a circle, from some one on."""
+    share = int(re.search(r'\d*$', multiprocessing.current_process().name)[0] or 0) % SHARES
+    begin = SystemRandom().randrange(EACH)
+    for number in itertools.count(begin):
+        yield FIRST + share * EACH + number % EACH
+
+
+PORTS = ports()
+
 
 def free_port():
-    """A port that nobody has, below those that the host gives to clients."""
+    """A port that nobody has."""
     while True:
-        port = SystemRandom().randrange(20000, 32000)
+        port = next(PORTS)
         with socket.socket() as it:
             try:
                 it.bind(('127.0.0.1', port))
