@@ -15,11 +15,14 @@
 #include <dlfcn.h>
 #include <errno.h>
 #include <fcntl.h>
+#include <malloc.h>
 #include <poll.h>
+#include <setjmp.h>
 #include <stdlib.h>
 #include <string.h>
 #include <sys/mman.h>
 #include <sys/socket.h>
+#include <sys/syscall.h>
 #include <sys/wait.h>
 #include <unistd.h>
 
@@ -29,6 +32,9 @@ static int (*program)(int, char **, char **);
 static const volatile unsigned *pieces;
 // Whether the copy is amid a run.
 static volatile int *is_running;
+// Where a run goes on at its end, and its status.
+static jmp_buf behind_run;
+static int ended;
 static char packet[PACKET + 1];
 
 static void answer(long long status)
@@ -61,13 +67,20 @@ static void start(int count, char **words, char **settings)
         each[at](count, words, settings);
 }
 
+// Runs the program to its end, which is that of its `main` or an `_exit`.
+static void __attribute__((noinline)) runs_to_end(int count, char **words)
+{
+    if (_setjmp(behind_run) == 0)
+        ended = program(count, words, environ);
+}
+
 // Runs what the packet asks for. What the run has left open is closed, as at a process's end.
 static int run(ssize_t length)
 {
     static char *words[WORDS + 1], *settings[SETTINGS + 1];
     char *at = packet, *end = packet + length, **before = environ;
     void (*begin)(void) = (void (*)(void))dlsym(RTLD_DEFAULT, "calls_begin");
-    int count, number, status;
+    int count, number;
 
     *end = 0;
     if (chdir(at) != 0)
@@ -87,10 +100,21 @@ static int run(ssize_t length)
     if (begin)
         begin();
     start(number, words, environ);
-    status = program(number, words, environ);
+    runs_to_end(number, words);
     environ = before;
     close_range(KEPT, ~0U, 0);
-    return status;
+    return ended;
+}
+
+// The end of a run, or of a process.
+void _exit(int status)
+{
+    if (is_running && *is_running && getpid() == gettid()) {
+        ended = status;
+        _longjmp(behind_run, 1);
+    }
+    for (;;)
+        syscall(SYS_exit_group, status);
 }
 
 // What a copy does.
@@ -118,6 +142,10 @@ static int waits(int argc, char **argv, char **environment)
     pid_t child;
 
     (void)argc, (void)argv, (void)environment;
+    // (memory that a run has given back stays for the next one)
+    mallopt(M_TRIM_THRESHOLD, 1 << 30);
+    mallopt(M_MMAP_THRESHOLD, 1 << 25);
+    mallopt(M_TOP_PAD, 1 << 20);
     while (poll(&line, 1, -1) < 0 || recv(LINE, &byte, 1, MSG_PEEK) > 0) {
         child = fork();
         if (child == 0)
