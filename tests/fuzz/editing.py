@@ -621,6 +621,8 @@ ODD = [[Word(b'close-edit'), []], [Word(b'abort-edit'), []], [Word(b'finish-repl
 
 def bent(random, items):
     """The items with one of them lost, twice there, elsewhere or another, or something of one changed."""
+    if not items:
+        return [random.choice(ODD)]
     items, at = [*items], random.randrange(len(items))
     way = random.randrange(7)
     if way == 0:

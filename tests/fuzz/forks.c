@@ -7,9 +7,11 @@
 //
 // Descriptors of the process: 0, 1 and 2 the streams of the runs, 3 a socket of packets, 4 a file of four bytes: the most
 // bytes that a read of standard input or of a socket gets, as they say at that moment, or 0 for as many as come.
-// A packet of one byte tells the copy to go. Another one asks for a run: a folder, the count of words in digits, the
-// words, and then settings NAME=VALUE of the environment, each ended by a zero byte. Answered are three numbers of eight
-// bytes: its status as `waitpid` gives it, and how much it wrote to the streams 1 and 2, where these are files.
+// A packet of one byte tells the copy to go. Another one asks for runs, one behind another. Each has the folder, where its
+// input begins and ends in stream 0, the most bytes of a read, the count of words, the words, the count of settings, and
+// settings NAME=VALUE of the environment, each text or number (in digits) ended by a zero byte. Answered are five numbers
+// of eight bytes for each: its status as `waitpid` gives it, and where what it wrote to the streams 1 and 2 begins and
+// ends, where these are files. Of a copy that has died its status alone is answered, as that of one run.
 #define _GNU_SOURCE
 #include <link.h>
 #include <dlfcn.h>
@@ -26,28 +28,28 @@
 #include <sys/wait.h>
 #include <unistd.h>
 
-enum { LINE = 3, PIECES = 4, KEPT = 5, WORDS = 64, SETTINGS = 16, PACKET = 1 << 16 };
+enum { LINE = 3, PIECES = 4, KEPT = 5, WORDS = 64, SETTINGS = 16, RUNS = 64, PACKET = 1 << 16 };
+
+struct told { long long status, output, output_end, errors, errors_end; };
 
 static int (*program)(int, char **, char **);
-static const volatile unsigned *pieces;
-// Whether the copy is amid a run.
-static volatile int *is_running;
+static volatile unsigned *pieces;
+// Whether the copy is amid runs, as the process that waits sees it too, and amid one itself.
+static volatile int *is_running, is_inside;
 // Where a run goes on at its end, and its status.
 static jmp_buf behind_run;
 static int ended;
 static char packet[PACKET + 1];
+// How much of its input a run has left.
+static size_t left;
 
-static void answer(long long status)
+// The next text of the packet.
+static char *next(char **at)
 {
-    long long told[] = { status, lseek(1, 0, SEEK_CUR), lseek(2, 0, SEEK_CUR) };
+    char *text = *at;
 
-    send(LINE, told, sizeof told, MSG_NOSIGNAL);
-}
-
-// The text behind this one in the packet.
-static char *behind(char *text)
-{
-    return text + strlen(text) + 1;
+    *at += strlen(text) + 1;
+    return text;
 }
 
 // Has what runs in front of the program's `main` take the words, as at its start.
@@ -70,46 +72,59 @@ static void start(int count, char **words, char **settings)
 // Runs the program to its end, which is that of its `main` or an `_exit`.
 static void __attribute__((noinline)) runs_to_end(int count, char **words)
 {
+    is_inside = 1;
     if (_setjmp(behind_run) == 0)
         ended = program(count, words, environ);
+    is_inside = 0;
 }
 
-// Runs what the packet asks for. What the run has left open is closed, as at a process's end.
-static int run(ssize_t length)
+// Texts of the packet, behind their count.
+static int texts(char **at, char **found, int most)
+{
+    int count = atoi(next(at));
+
+    if (count > most)
+        abort();
+    for (int number = 0; number < count; number++)
+        found[number] = next(at);
+    found[count] = NULL;
+    return count;
+}
+
+// Runs what the packet asks for next. What the run has left open is closed, as at a process's end.
+static struct told run(char **at)
 {
     static char *words[WORDS + 1], *settings[SETTINGS + 1];
-    char *at = packet, *end = packet + length, **before = environ;
     void (*begin)(void) = (void (*)(void))dlsym(RTLD_DEFAULT, "calls_begin");
-    int count, number;
+    char *folder = next(at), **before = environ;
+    struct told told = { .output = lseek(1, 0, SEEK_CUR), .errors = lseek(2, 0, SEEK_CUR) };
+    off_t input = atoll(next(at));
+    int count;
 
-    *end = 0;
-    if (chdir(at) != 0)
-        return 125;
-    at = behind(at);
-    count = atoi(at);
-    for (number = 0; number < count && number < WORDS; number++)
-        words[number] = at = behind(at);
-    words[number] = NULL;
-    count = 0;
-    for (at = behind(at); at < end && count < SETTINGS; at = behind(at))
-        settings[count++] = at;
-    settings[count] = NULL;
+    left = atoll(next(at)) - input;
+    *pieces = atoi(next(at));
+    count = texts(at, words, WORDS);
+    texts(at, settings, SETTINGS);
+    if (chdir(folder) != 0)
+        abort();
+    lseek(0, input, SEEK_SET);
     environ = settings;
-    for (int stream = 0; stream < 3; stream++)
-        lseek(stream, 0, SEEK_SET);
     if (begin)
         begin();
-    start(number, words, environ);
-    runs_to_end(number, words);
+    start(count, words, environ);
+    runs_to_end(count, words);
     environ = before;
     close_range(KEPT, ~0U, 0);
-    return ended;
+    told.status = (long long)(ended & 255) << 8;
+    told.output_end = lseek(1, 0, SEEK_CUR);
+    told.errors_end = lseek(2, 0, SEEK_CUR);
+    return told;
 }
 
 // The end of a run, or of a process.
 void _exit(int status)
 {
-    if (is_running && *is_running && getpid() == gettid()) {
+    if (is_inside && getpid() == gettid()) {
         ended = status;
         _longjmp(behind_run, 1);
     }
@@ -123,12 +138,16 @@ static void runs(void)
     ssize_t length;
 
     while ((length = recv(LINE, packet, PACKET, 0)) > 1) {
-        int status;
+        static struct told told[RUNS];
+        char *at = packet;
+        int count = 0;
 
+        packet[length] = 0;
         *is_running = 1;
-        status = run(length);
+        while (at < packet + length && count < RUNS)
+            told[count++] = run(&at);
         *is_running = 0;
-        answer((long long)(status & 255) << 8);
+        send(LINE, told, count * sizeof *told, MSG_NOSIGNAL);
     }
     _exit(0);
 }
@@ -153,8 +172,10 @@ static int waits(int argc, char **argv, char **environment)
         while (waitpid(child, &status, 0) < 0 && errno == EINTR)
             ;
         if (*is_running) {
+            struct told told = { .status = status, .output_end = lseek(1, 0, SEEK_CUR), .errors_end = lseek(2, 0, SEEK_CUR) };
+
             *is_running = 0;
-            answer(status);
+            send(LINE, &told, sizeof told, MSG_NOSIGNAL);
         }
     }
     _exit(0);
@@ -165,7 +186,7 @@ int __libc_start_main(int (*main)(int, char **, char **), int argc, char **argv,
 {
     int (*real)(int (*)(int, char **, char **), int, char **, void (*)(void), void (*)(void), void (*)(void), void *);
     void *shared = mmap(NULL, sizeof *is_running, PROT_READ | PROT_WRITE, MAP_SHARED | MAP_ANONYMOUS, -1, 0);
-    void *file = mmap(NULL, sizeof *pieces, PROT_READ, MAP_SHARED, PIECES, 0);
+    void *file = mmap(NULL, sizeof *pieces, PROT_READ | PROT_WRITE, MAP_SHARED, PIECES, 0);
 
     real = dlsym(RTLD_NEXT, "__libc_start_main");
     if (shared == MAP_FAILED || file == MAP_FAILED)
@@ -186,9 +207,16 @@ ssize_t read(int descriptor, void *bytes, size_t count)
 {
     static ssize_t (*real)(int, void *, size_t);
 
+    ssize_t found;
+
     if (!real)
         real = dlsym(RTLD_NEXT, "read");
-    return real(descriptor, bytes, descriptor == 0 ? most(count) : count);
+    if (descriptor != 0)
+        return real(descriptor, bytes, count);
+    count = most(count);
+    found = real(0, bytes, count < left ? count : left);
+    left -= found > 0 ? found : 0;
+    return found;
 }
 
 ssize_t recv(int descriptor, void *bytes, size_t count, int flags)

@@ -48,6 +48,10 @@ def is_ready(*files):
     return bool(poll.poll(SECONDS * 1000))
 
 
+def part(file, begin, end):
+    return os.pread(file, end - begin, begin) if begin < end else b''
+
+
 class Streams:
     """What a run is given and where it writes: files in memory, or for its output a pipe."""
 
@@ -65,11 +69,13 @@ class Streams:
     def give(self, given):
         os.ftruncate(self.given, len(given))
         os.pwrite(self.given, given, 0)
+        for it in [self.errors] if self.pipe is not None else [self.errors, self.output]:
+            os.lseek(it, 0, os.SEEK_SET)
 
-    def told(self, status, output, errors):
-        """The status, what is on standard error, and the output, of so many bytes in files."""
-        found = self.piped() if self.pipe is not None else os.pread(self.output, output, 0) if output else b''
-        return (os.waitstatus_to_exitcode(status), os.pread(self.errors, errors, 0) if errors else b''), found
+    def told(self, status, output, output_end, errors, errors_end):
+        """The status, what is on standard error, and the output of a run that has written these parts of the files."""
+        found = self.piped() if self.pipe is not None else part(self.output, output, output_end)
+        return (os.waitstatus_to_exitcode(status), part(self.errors, errors, errors_end)), found
 
     def piped(self):
         """What is in the pipe."""
@@ -84,7 +90,7 @@ class Streams:
 
 
 class Waiting:
-    """A process that stands in front of the program's `main`, for one run at a time."""
+    """A process that stands in front of the program's `main`, for one run at a time, or some one behind another."""
 
     def __init__(self, path, libraries, is_piped):
         self.streams = Streams(is_piped)
@@ -97,21 +103,29 @@ class Waiting:
         os.close(line)
         os.close(pieces)
 
-    def begin(self, words, given, pieces, settings):
-        self.streams.give(given)
-        self.cut(pieces)
-        self.line.send('\0'.join([os.getcwd(), str(len(words)), *words, *settings, '']).encode())
+    def begin(self, runs):
+        """Begins runs, each with its words, its input, the most bytes of a read, and settings."""
+        folder, at, asked = os.getcwd(), 0, []
+        for words, given, pieces, settings in runs:
+            asked += [folder, str(at), str(at + len(given)), str(pieces), str(len(words)), *words, str(len(settings)), *settings]
+            at += len(given)
+        self.streams.give(b''.join([it[1] for it in runs]))
+        self.line.send('\0'.join([*asked, '']).encode())
 
     def cut(self, pieces):
         """Lets no read of the input or of a socket have more bytes from now on, or as many as come."""
         self.pieces[:] = struct.pack('I', pieces)
 
     def end(self):
+        """What has come of each run, or of one that died."""
         try:
-            return self.streams.told(*struct.unpack('3q', self.line.recv(24)))
-        except (TimeoutError, struct.error):
+            told = self.line.recv(1 << 16)
+        except TimeoutError:
+            told = b''
+        if not told:
             self.kill()
-            raise Differs('it did not end') from None
+            raise Differs('it did not end')
+        return [self.streams.told(*it) for it in struct.iter_unpack('5q', told)]
 
     def anew(self):
         """The next run is in a new process."""
@@ -134,7 +148,8 @@ class Started:
         self.path, self.libraries, self.streams = path, libraries, Streams(is_piped)
         self.child = self.line = None
 
-    def begin(self, words, given, _pieces, settings):
+    def begin(self, runs):
+        (words, given, _, settings), = runs
         self.streams.give(given)
         environment = {**os.environ, 'LD_PRELOAD': ' '.join(self.libraries), **dict(it.split('=', 1) for it in settings)}
         self.child = spawned(self.path, words, environment, self.streams.files())
@@ -148,9 +163,9 @@ class Started:
             self.kill()
             raise Differs('it did not end')
         status, files = os.waitpid(self.child, 0)[1], self.streams
-        found = files.told(status, *(os.fstat(it).st_size for it in (files.output, files.errors)))
+        found = files.told(status, 0, os.fstat(files.output).st_size, 0, os.fstat(files.errors).st_size)
         self.close()
-        return found
+        return [found]
 
     def kill(self):
         os.killpg(self.child, signal.SIGKILL)
@@ -174,6 +189,13 @@ def ran_in_pieces(path, words, given, pieces):
     return (started.returncode, errors), output
 
 
+def difference(words, found, wanted):
+    """How what came of a run is not what is wanted, if so."""
+    if found == wanted:
+        return ''
+    return f'{" ".join(words)}: {found[0]} and not {wanted[0]}, {len(found[1])} bytes and not {len(wanted[1])}'
+
+
 class Program:
     """The program with some libraries loaded, and the processes of it that wait for a run, where these have forks.c."""
 
@@ -184,12 +206,12 @@ class Program:
 
     def began(self, words, given=b'', pieces=0, settings=(), is_piped=False):
         """A run that goes on, beside which other things may be done before it is waited for."""
+        return self.all_began([(words, given, pieces, settings)], is_piped)
+
+    def all_began(self, runs, is_piped=False):
         free = self.waiting[is_piped]
-        if free:
-            run = free.pop()
-        else:
-            run = (Waiting if self.waits else Started)(self.path, self.libraries, is_piped)
-        run.begin([self.path, *words], given, pieces, settings)
+        run = free.pop() if free else (Waiting if self.waits else Started)(self.path, self.libraries, is_piped)
+        run.begin([([self.path, *words], *more) for words, *more in runs])
         return run
 
     def says(self, run):
@@ -199,20 +221,32 @@ class Program:
 
     def ended(self, run):
         """The status, what is on standard error, and the output of a run, which is waited for."""
+        found, = self.all_ended(run)
+        return found
+
+    def all_ended(self, run):
         found = run.end()
         if self.waits:
             self.waiting[run.streams.pipe is not None].append(run)
         return found
 
-    def ran(self, words, given, wanted, pieces=0, is_written=False):
-        """Runs the program on an input, and holds it to a status, an error line and an output. In pieces an input is read
-        so, or is written so where that is asked for or reads can't be cut."""
-        if pieces and (is_written or not self.waits):
-            found = ran_in_pieces(self.path, words, given, pieces)
+    def ran(self, words, given, wanted):
+        """Runs the program on an input, and holds it to a status, an error line and an output."""
+        if text := difference(words, self.ended(self.began(words, given)), wanted):
+            raise Differs(text)
+
+    def differences(self, runs):
+        """What differs of each of some runs one behind another: each has its words, its input, what is wanted, and in
+        which pieces its input is read, or written where reads can't be cut, if it is in pieces."""
+        runs = [(*it, 0)[:4] for it in runs]
+        if self.waits:
+            found = self.all_ended(self.all_began([(words, given, pieces, ()) for words, given, _, pieces in runs]))
+            if len(found) < len(runs):
+                raise Differs(f'one run of {len(runs)} ended the process: {found}')
         else:
-            found = self.ended(self.began(words, given, pieces))
-        if found != wanted:
-            raise Differs(f'{" ".join(words)}: {found[0]} and not {wanted[0]}, {len(found[1])} bytes and not {len(wanted[1])}')
+            found = [ran_in_pieces(self.path, words, given, pieces) if pieces else self.ended(self.began(words, given))
+                     for words, given, _, pieces in runs]
+        return [difference(words, it, wanted) for (words, _, wanted, _), it in zip(runs, found)]
 
     def anew(self):
         """The next runs are in new processes."""

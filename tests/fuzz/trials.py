@@ -36,7 +36,7 @@ def told(fault):
     return (1, b'svnfleet: %d %s\n' % (fault, TEXTS[fault].encode())) if fault else DONE
 
 
-# Of so many seeds the last one's runs have each a process of their own.
+# Of so many seeds the first one's runs have each a process of their own.
 ALONE = 64
 
 
@@ -50,7 +50,7 @@ def begin(path, forks, libraries):
 def one(tried, seed):
     """What comes of a seed, and what it reached. Where its runs share a process, that begins with it."""
     REACHED.clear()
-    program = PLAIN if seed % ALONE == ALONE - 1 else SHARED
+    program = PLAIN if seed % ALONE == 0 else SHARED
     program.anew()
     try:
         return *tried(program, seed), dict(REACHED)

@@ -172,41 +172,64 @@ fn before(order: &Order) -> (usize, u64) {
     }
 }
 
-// Whether a mirror stands as so many entries of a job make it, but that its lock may be given back, and as much was told.
-fn stands(
+// Whether a mirror stands as so many entries of a job make it, but that its lock may be given back.
+fn stands(store: &RepoStore<MemDisk>, order: &Order, count: usize, is_released: bool) -> bool {
+    let Some(((head, merged, copying, lock, log), _)) = row_of(order, count) else {
+        return false;
+    };
+    let lock = if is_released { b"".as_slice() } else { lock };
+    is_so(store, &(head, merged, copying, lock, log))
+}
+
+// Whether so many entries of a job tell that.
+fn tells(order: &Order, count: usize, told: u64) -> bool {
+    match row_of(order, count) {
+        Some((_, due)) => told == due,
+        None => false,
+    }
+}
+
+// How many entries of a job stand but for the release, and whether the lock stays, behind one that the disk failed: the
+// last one's gate may be open, and nothing told of it.
+fn left_by_disk(
     store: &RepoStore<MemDisk>,
     order: &Order,
     count: usize,
     told: u64,
-    is_released: bool,
-) -> bool {
-    let Some(((head, merged, copying, lock, log), due)) = row_of(order, count) else {
-        return false;
-    };
-    let lock = if is_released { b"".as_slice() } else { lock };
-    told == due && is_so(store, &(head, merged, copying, lock, log))
+) -> Option<(usize, bool)> {
+    let is_told = tells(order, count, told) || tells(order, count.saturating_sub(1), told);
+    let is_so = is_told && stands(store, order, count, false);
+    is_so.then_some((count, 0 < count && count < entries_of(order)))
 }
 
-// How many entries of a refused job stand but for the release, and whether the lock stays, by all that stand and the
-// refusal. Where the disk failed nothing came behind that; else the lock is given back, but where that was refused.
+// The same behind one that was refused otherwise: the lock is given back, but where that is what was refused.
+fn left_by_job(
+    store: &RepoStore<MemDisk>,
+    order: &Order,
+    count: usize,
+    told: u64,
+) -> Option<(usize, bool)> {
+    let is_last = count.saturating_add(1) == entries_of(order);
+    let may_stay = (count == 0 || is_last) && tells(order, count, told);
+    if may_stay && stands(store, order, count, false) {
+        return Some((count, count > 0));
+    }
+    let work = count.checked_sub(1)?;
+    let is_released = tells(order, work, told) && stands(store, order, work, true);
+    is_released.then_some((work, false))
+}
+
 fn left(
     store: &RepoStore<MemDisk>,
     order: &Order,
     count: usize,
     ran: Ran,
 ) -> Option<(usize, bool)> {
-    let is_last = count.saturating_add(1) == entries_of(order);
-    let may_stay = match ran.number {
-        31 => true,
-        60 | 70 => count == 0 || is_last,
-        _ => return None,
-    };
-    if may_stay && stands(store, order, count, ran.told, false) {
-        return Some((count, 0 < count && count < entries_of(order)));
+    match ran.number {
+        31 => left_by_disk(store, order, count, ran.told),
+        60 | 70 => left_by_job(store, order, count, ran.told),
+        _ => None,
     }
-    let work = count.checked_sub(1)?;
-    let is_released = ran.number != 31 && stands(store, order, work, ran.told, true);
-    is_released.then_some((work, false))
 }
 
 // Whether a job ends so, and its store.
@@ -221,6 +244,25 @@ fn ends(
     (store, ran == Some(wanted))
 }
 
+// How a job ends behind one of its own that left so many entries and no lock.
+fn again(order: &Order, work: usize) -> Ran {
+    match order {
+        Order::Initialize if work > 0 => ended(0, 52),
+        Order::Initialize => ended(COPIED_0, 0),
+        Order::Synchronize | Order::Steal => ended(told_later(work), 0),
+        Order::Copy(_, _) => ended(COPIED_BOTH, 0),
+    }
+}
+
+// How a synchronisation that steals ends behind these two.
+fn stealing(order: &Order, work: usize, is_held: bool) -> Ran {
+    match order {
+        Order::Initialize => ended(COMMITTED_1, 0),
+        Order::Synchronize | Order::Steal if is_held => again(order, work),
+        Order::Synchronize | Order::Steal | Order::Copy(_, _) => ended(0, 0),
+    }
+}
+
 // Whether the jobs behind a refused one do what it has left, where so many of its entries stand; and the mirror is then
 // at rest, and as its master.
 fn goes_on(
@@ -231,34 +273,17 @@ fn goes_on(
     work: usize,
     is_held: bool,
 ) -> bool {
-    let (_, told) = before(order);
-    let later = match order {
-        Order::Initialize | Order::Copy(_, _) => told,
-        Order::Synchronize | Order::Steal => told_later(work),
-    };
     let due = if is_held {
         ended(0, 54)
     } else {
-        ended(later, 0)
+        again(order, work)
     };
     let (store, first) = ends(alloc, store, source, order, due);
-    let (store, second) = match order {
-        Order::Initialize => ends(
-            alloc,
-            store,
-            source,
-            &Order::Synchronize,
-            ended(COMMITTED_1, 0),
-        ),
-        Order::Synchronize | Order::Steal => {
-            let told = if is_held { later } else { 0 };
-            ends(alloc, store, source, &Order::Steal, ended(told, 0))
-        }
-        Order::Copy(_, _) => ends(alloc, store, source, &Order::Steal, ended(0, 0)),
-    };
+    let due = stealing(order, work, is_held);
+    let (store, second) = ends(alloc, store, source, &Order::Steal, due);
     let (store, third) = match order {
         Order::Initialize | Order::Synchronize | Order::Steal => (store, true),
-        Order::Copy(_, _) => ends(alloc, store, source, order, ended(told, 0)),
+        Order::Copy(_, _) => ends(alloc, store, source, order, ended(COPIED_BOTH, 0)),
     };
     first && second && third && is_at_rest(alloc, store.into_disk(), source)
 }
