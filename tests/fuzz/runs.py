@@ -239,14 +239,18 @@ class Program:
         """What differs of each of some runs one behind another: each has its words, its input, what is wanted, and in
         which pieces its input is read, or written where reads can't be cut, if it is in pieces."""
         runs = [(*it, 0)[:4] for it in runs]
-        if self.waits:
-            found = self.all_ended(self.all_began([(words, given, pieces, ()) for words, given, _, pieces in runs]))
-            if len(found) < len(runs):
-                raise Differs(f'one run of {len(runs)} ended the process: {found}')
-        else:
-            found = [ran_in_pieces(self.path, words, given, pieces) if pieces else self.ended(self.began(words, given))
-                     for words, given, _, pieces in runs]
+        found = self.all_of([(words, given, pieces) for words, given, _, pieces in runs])
         return [difference(words, it, wanted) for (words, _, wanted, _), it in zip(runs, found)]
+
+    def all_of(self, runs):
+        """The status, what is on standard error, and the output of each of some runs, of words, an input and pieces."""
+        if not self.waits:
+            return [ran_in_pieces(self.path, words, given, pieces) if pieces else self.ended(self.began(words, given))
+                    for words, given, pieces in runs]
+        found = self.all_ended(self.all_began([(*it, ()) for it in runs]))
+        if len(found) < len(runs):
+            raise Differs(f'one run of {len(runs)} ended the process: {found}')
+        return found
 
     def anew(self):
         """The next runs are in new processes."""

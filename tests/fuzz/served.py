@@ -37,7 +37,9 @@ def free_port():
 def got(port, data, pieces):
     """What comes back where these bytes are sent and no more, and whether it was cut off."""
     found = b''
-    with socket.create_connection(('127.0.0.1', port), timeout=60) as line:
+    with socket.socket() as line:
+        line.settimeout(60)
+        line.connect(('127.0.0.1', port))
         line.setsockopt(socket.IPPROTO_TCP, socket.TCP_NODELAY, 1)
         try:
             for at in range(0, len(data), pieces):
