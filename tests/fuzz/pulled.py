@@ -40,6 +40,8 @@ class Mirror:
         self.url = 'svn://127.0.0.1:%d/' % self.listener.getsockname()[1]
         self.server = Server(self.trees, self.props, [], UUID, self.url.encode(), TEXTS)
         self.line, self.come, self.lines = None, b'', []
+        # whether all answers of a session are told before anything is asked: what is to be told then, and asked behind it
+        self.is_ahead, self.ahead, self.due = False, [], []
         # how often something is said in pieces: seldom, where the program's reads are cut in some runs, which is cheaper
         self.pieces = 0.001 if program.waits else 0.02
         program.ran(['create', self.folder, '--uuid', MIRROR], b'', (DONE, b''))
@@ -65,6 +67,12 @@ class Mirror:
             self.come += piece
 
     def say(self, data):
+        if self.is_ahead:
+            self.ahead.append(data)
+        else:
+            self.tell(data)
+
+    def tell(self, data):
         size = self.random.choice([1, 7]) if self.random.random() < self.pieces else max(len(data), 1)
         try:
             for at in range(0, len(data), size):
@@ -80,14 +88,43 @@ class Mirror:
             pass
 
     def asked(self, name, *params):
-        item = self.item()
-        if item != [Word(name), [*params]]:
-            raise Differs(f'it asks {item}, and not {name} {params}')
+        self.hears([Word(name), [*params]])
+
+    def hears(self, wanted):
+        """The client's next item is this one, or one that a call answers with these bytes."""
+        if self.is_ahead:
+            self.due.append(wanted)
+        else:
+            self.judge(wanted, self.item())
+
+    def judge(self, wanted, item):
+        if type(wanted) is tuple and item is not None:
+            call, answer = wanted
+            is_well = call(item) == answer
+        else:
+            is_well = item == wanted
+        if not is_well:
+            raise Differs(f'it asks {item}, and not {wanted}')
+
+    def flush(self, is_last):
+        """Tells what is to be told ahead, and nothing more where that is so, and hears what is asked."""
+        self.is_ahead = False
+        if self.ahead:
+            self.tell(b''.join(self.ahead))
+        if is_last:
+            self.end()
+        for it in self.due:
+            self.judge(it, self.item())
+        self.ahead, self.due = [], []
 
     def opening(self):
         self.say(GREETING)
-        self.say(self.server.hello(self.item()))
-        self.say(self.server.login(self.item()))
+        answer = success([Word(b'ANONYMOUS')], UUID)
+        self.hears((self.server.hello, answer))
+        self.say(answer)
+        answer = SUCCESS + success(UUID, self.url.encode(), [])
+        self.hears((self.server.login, answer))
+        self.say(answer)
 
     def copy(self):
         """The head's properties are asked for."""
@@ -117,7 +154,7 @@ class Mirror:
             reached(fault)
             self.say(AUTHORISED + command(b'revprops', *([name, it] for name, it in sorted(props.items()))) + data)
             if may_wait:
-                self.end()
+                self.flush(True)
             if fault is not None:
                 return fault
             self.trees.append(tree)
@@ -140,7 +177,9 @@ class Mirror:
             with self.line:
                 self.line.setsockopt(socket.IPPROTO_TCP, socket.TCP_NODELAY, 1)
                 self.line.settimeout(60)
+                self.is_ahead = self.random.random() < 0.75
                 fault = session()
+                self.flush(False)
                 while self.item() is not None:
                     pass
         finally:

@@ -18,11 +18,14 @@
 #include <unistd.h>
 
 static long made, grown;
+// The file that tells the calls, where it is open.
+static int teller = -1;
 
-// Counts from 1 again, for one run behind another in the same process.
+// Counts from 1 again, for one run behind another in the same process, whose files are closed.
 void calls_begin(void)
 {
     made = grown = 0;
+    teller = -1;
 }
 
 extern void *__libc_malloc(size_t);
@@ -80,7 +83,6 @@ static void tell(int file, const char *call, const char *name, long long at, con
 static int is_refused(const char *call, const char *name, long long at, const void *bytes, size_t count)
 {
     long fail = number_in("FAIL_AT");
-    int file;
 
     made++;
     if (number_in("STOP_AT") == made)
@@ -89,11 +91,10 @@ static int is_refused(const char *call, const char *name, long long at, const vo
         errno = EIO;
         return 1;
     }
-    file = open(getenv("CALLS"), O_WRONLY | O_APPEND | O_CREAT, 0644);
-    if (file >= 0) {
-        tell(file, call, name, at, bytes, count);
-        close(file);
-    }
+    if (teller < 0)
+        teller = open(getenv("CALLS"), O_WRONLY | O_APPEND | O_CREAT | O_CLOEXEC, 0644);
+    if (teller >= 0)
+        tell(teller, call, name, at, bytes, count);
     return 0;
 }
 
