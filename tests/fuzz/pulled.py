@@ -39,7 +39,7 @@ class Mirror:
         self.listener.settimeout(60)
         self.url = 'svn://127.0.0.1:%d/' % self.listener.getsockname()[1]
         self.server = Server(self.trees, self.props, [], UUID, self.url.encode(), TEXTS)
-        self.line, self.come, self.lines = None, b'', []
+        self.line, self.come, self.lines = None, Input(b''), []
         # whether all answers of a session are told before anything is asked: what is to be told then, and asked behind it
         self.is_ahead, self.ahead, self.due = False, [], []
         # how often something is said in pieces: seldom, where the program's reads are cut in some runs, which is cheaper
@@ -51,20 +51,20 @@ class Mirror:
     def item(self):
         """The client's next item, or None where it has gone."""
         while True:
-            taken = Input(self.come)
-            try:
-                item = taken.item()
-                self.come = self.come[taken.at:]
-                return item
-            except Ends:
-                pass
+            at = self.come.at
+            if at < len(self.come.data):
+                try:
+                    return self.come.item()
+                except Ends:
+                    # (more of it is to come)
+                    pass
             try:
                 piece = self.line.recv(1 << 16)
             except ConnectionResetError:
                 piece = b''
             if not piece:
                 return None
-            self.come += piece
+            self.come = Input(self.come.data[at:] + piece)
 
     def say(self, data):
         if self.is_ahead:
@@ -170,7 +170,7 @@ class Mirror:
 
     def held(self, words, session):
         """Runs a command beside a session, and holds it to its lines and to what that is refused for."""
-        self.lines, self.come = [], b''
+        self.lines, self.come = [], Input(b'')
         run = self.program.began(words, pieces=self.random.choice([1, 7]) if self.random.random() < 0.02 else 0)
         try:
             self.line, _ = self.listener.accept()
