@@ -432,7 +432,8 @@ class Edit:
         self.build.prop(self.innermost(token, b'file'), name, value)
 
     def at_apply_textdelta(self, params):
-        token, _ = params.next(bytes), params.maybe(lambda it: it.next(bytes))
+        # (whatever is in the list: the sum isn't looked at)
+        token, _ = params.next(bytes), params.next(list)
         path = self.innermost(token, b'file')
         wanted(self.text is None)
         self.text = Windows()
