@@ -541,7 +541,9 @@ class Maker:
         for it in self.random.sample(PROPS, len(PROPS)):
             if it in props:
                 self.say(name, token, it, [props[it]])
-                self.build.prop(path, it, props[it])
+                # (what was opened in spite of a fault may be gone)
+                if path in self.build.tree:
+                    self.build.prop(path, it, props[it])
             elif self.random.random() < 0.05:
                 self.say(name, token, it, [])
 
