@@ -1,18 +1,21 @@
 """Dumps of formats 2 and 3, read and applied once more in plain Python, as docs/FORMATS.md and docs/MODEL.md say it.
 
-It is slow and short on purpose, and shares nothing with the program: the whole input is at hand, a tree is a dictionary
-from paths (tuples of names) to nodes, and each revision's tree is a copy of the one before.
+It is short on purpose, and shares nothing with the program: the whole input is at hand, a tree is a dictionary from paths
+(tuples of names) to nodes, and each revision's tree is a copy of the one before. Headers and blocks that were read well
+are kept, since most inputs are another one with little changed.
 """
+import functools
 import hashlib
 import re
 
 VERSION = b'SVN-fs-dump-format-version: 2'
 LATER = b'SVN-fs-dump-format-version: 3'
 LINE, BLOCK, TEXT = 4096, 33554432, 1048576
-NUMBERS = {b'Revision-number', b'Node-copyfrom-rev', b'Text-content-length', b'Prop-content-length', b'Content-length'}
-NODE_ONLY = [b'Node-path', b'Node-kind', b'Node-action', b'Node-copyfrom-rev', b'Node-copyfrom-path', b'Text-content-md5',
-             b'Text-content-length']
-KNOWN = {*NUMBERS, *NODE_ONLY, b'UUID', b'Text-delta', b'Prop-delta'}
+NAME, COUNT, DIGITS, EMPTY = (re.compile(it) for it in (rb'[^\x00-\x1f\x7f]+', rb'([0-9]+)\n', rb'[0-9]*', rb'\n*'))
+NODE_ONLY = {b'Node-path', b'Node-kind', b'Node-action', b'Node-copyfrom-rev', b'Node-copyfrom-path', b'Text-content-md5',
+             b'Text-content-length'}
+WITH_IDENTITY = {b'UUID', b'Text-delta', b'Prop-delta'}
+CONTENT = {b'Prop-content-length', b'Text-content-length'}
 
 
 class Refused(Exception):
@@ -29,7 +32,7 @@ def is_text(name):
         name.decode('utf-8')
     except UnicodeDecodeError:
         return False
-    return bool(name) and not any(byte < 0x20 or byte == 0x7f for byte in name)
+    return NAME.fullmatch(name) is not None
 
 
 def path_of(spelled):
@@ -46,9 +49,43 @@ def path_of(spelled):
 
 
 def number_of(digits, most):
-    if not re.fullmatch(rb'[0-9]+', digits) or int(digits) > most:
+    if not digits.isdigit() or int(digits) > most:
         raise Refused(3)
     return int(digits)
+
+
+def revision(digits):
+    return number_of(digits, 65535)
+
+
+def length(digits):
+    return number_of(digits, 2 ** 64 - 1)
+
+
+def like(pattern):
+    """A header's value as it stands, where it has this form."""
+    form = re.compile(pattern)
+
+    def read(value):
+        if not form.fullmatch(value):
+            raise Refused(2)
+        return value
+    return read
+
+
+def text_delta(value):
+    if value == b'true':
+        raise Refused(9)
+    return value
+
+
+# The headers that are known, and what reads the value of each.
+HEADERS = {
+    b'UUID': like(rb'[0-9a-fA-F]{8}(-[0-9a-fA-F]{4}){3}-[0-9a-fA-F]{12}'), b'Revision-number': revision, b'Node-path': path_of,
+    b'Node-kind': like(rb'file|dir'), b'Node-action': like(rb'change|add|delete|replace'), b'Node-copyfrom-rev': revision,
+    b'Node-copyfrom-path': path_of, b'Text-content-md5': like(rb'[0-9a-fA-F]{32}'), b'Text-content-length': length,
+    b'Prop-content-length': length, b'Content-length': length, b'Text-delta': text_delta, b'Prop-delta': bytes,
+}
 
 
 class Bytes:
@@ -57,30 +94,19 @@ class Bytes:
     def __init__(self, data):
         self.data, self.at = data, 0
 
-    def is_done(self):
-        return self.at == len(self.data)
-
     def line(self):
-        end = self.data.find(b'\n', self.at)
-        if (end < 0 or end - self.at > LINE) and len(self.data) - self.at > LINE:
-            raise Refused(8)
+        end = self.data.find(b'\n', self.at, self.at + LINE + 1)
         if end < 0:
-            raise Refused(7)
+            raise Refused(8 if len(self.data) - self.at > LINE else 7)
         found, self.at = self.data[self.at:end], end + 1
         return found
-
-    def byte(self):
-        if self.is_done():
-            raise Refused(7)
-        self.at += 1
-        return self.data[self.at - 1]
 
     def take(self, count):
         """So many bytes, or 7."""
         found = self.data[self.at:self.at + count]
-        self.at += len(found)
         if len(found) < count:
             raise Refused(7)
+        self.at += count
         return found
 
 
@@ -94,46 +120,44 @@ def is_full(names, name):
 
 
 class Block:
-    """A property block of an announced length, read byte by byte: a whole list, or a delta, which may remove names."""
+    """A property block of an announced length: a whole list, or a delta, which may remove names.
+
+    What comes to the announced end before it may is refused (5), and what comes to the input's end before that (7)."""
 
     def __init__(self, data, length, is_delta):
-        self.data, self.rest, self.is_delta = data, length, is_delta
+        # (the bytes of it that came)
+        self.data, self.at, self.end, self.is_delta = data, 0, length, is_delta
 
-    def byte(self):
-        """The next byte, which isn't the last announced one."""
-        found = self.data.byte()
-        self.rest -= 1
-        if self.rest == 0:
-            raise Refused(5)
-        return found
+    def ends(self, at):
+        """Refuses that nothing is left from this place on."""
+        raise Refused(7 if at == len(self.data) < self.end else 5)
 
     def expect(self, wanted):
-        for byte in wanted:
-            if self.byte() != byte:
-                raise Refused(5)
+        """These bytes, none of which is the last announced one."""
+        found = self.data[self.at:min(self.at + len(wanted), self.end - 1)]
+        if not wanted.startswith(found):
+            raise Refused(5)
+        self.at += len(found)
+        if found != wanted:
+            self.ends(self.at)
 
     def count(self, most):
-        digits = b''
-        while True:
-            # (a count's own fault is told at its LF before the announced end is)
-            found = self.data.byte()
-            self.rest -= 1
-            if found == 10 and digits:
-                break
-            if not 48 <= found <= 57 or self.rest == 0:
-                raise Refused(5)
-            digits += bytes([found])
-        if int(digits) > most:
+        found = COUNT.match(self.data, self.at, self.end)
+        if not found:
+            self.ends(DIGITS.match(self.data, self.at, self.end).end())
+        count, self.at = int(found[1]), found.end()
+        # (a count's own fault is told at its LF before the announced end is)
+        if count > most:
             raise Refused(8)
-        if int(digits) + 1 > self.rest or self.rest == 0:
+        if count >= self.end - self.at:
             raise Refused(5)
-        return int(digits)
+        return count
 
     def counted(self, count):
-        found = self.data.take(count)
-        self.rest -= count
-        if self.rest == 0:
-            raise Refused(5)
+        found = self.data[self.at:self.at + count]
+        if len(found) < count:
+            raise Refused(7)
+        self.at += count
         return found
 
     def name(self, known):
@@ -151,73 +175,81 @@ class Block:
         """The properties, and the names that are removed."""
         props, removed = {}, []
         while True:
-            first = self.byte()
-            if first == ord('P'):
+            first = self.data[self.at:self.at + 1]
+            self.expect(first or b'P')
+            if first == b'P':
                 self.expect(b'ROPS-END')
-                if self.data.byte() != 10:
-                    raise Refused(5)
-                self.rest -= 1
-                if self.rest:
-                    raise Refused(5)
+                self.last()
                 return props, removed
-            if first != ord('K') and not (first == ord('D') and self.is_delta):
+            if first != b'K' and not (first == b'D' and self.is_delta):
                 raise Refused(5)
             name = self.name([*props, *removed])
-            if is_full(removed if first == ord('D') else props, name):
+            if is_full(removed if first == b'D' else props, name):
                 raise Refused(8)
-            if first == ord('D'):
+            if first == b'D':
                 removed.append(name)
             else:
                 self.expect(b'\nV ')
                 props[name] = self.counted(self.count(65536))
             self.expect(b'\n')
 
+    def last(self):
+        """The LF that is the last announced byte."""
+        if self.at == len(self.data):
+            raise Refused(7)
+        if self.data[self.at] != 10 or self.at + 1 != self.end:
+            raise Refused(5)
+
+
+@functools.lru_cache(1024)
+def block_in(data, length, is_delta):
+    """What is in a block of this length, of which these bytes came."""
+    return Block(data, length, is_delta).read()
+
+
+def headers(data):
+    """A record's headers that are known, up to the empty line behind them."""
+    values = {}
+    while (line := data.line()) != b'':
+        name, colon, value = line.partition(b': ')
+        if not colon or name in values:
+            raise Refused(2)
+        if name in HEADERS:
+            values[name] = HEADERS[name](value)
+    return values
+
+
+@functools.lru_cache(1024)
+def headers_in(text):
+    return headers(Bytes(text))
+
 
 class Record:
     """The headers of a record, and its content."""
 
-    def __init__(self):
+    def __init__(self, values):
         # of a delta the names that are set stand in props, and those that are removed in removed
-        self.values, self.props, self.removed, self.text = {}, None, None, None
-
-    def header(self, line):
-        name, colon, value = line.partition(b': ')
-        if not colon or (name in KNOWN and name in self.values):
-            raise Refused(2)
-        if name not in KNOWN:
-            return
-        if name in NUMBERS:
-            is_revision = name in (b'Revision-number', b'Node-copyfrom-rev')
-            value = number_of(value, 65535 if is_revision else 2 ** 64 - 1)
-        elif name in (b'Node-path', b'Node-copyfrom-path'):
-            value = path_of(value)
-        elif name == b'Text-delta' and value == b'true':
-            raise Refused(9)
-        wanted = {b'UUID': rb'[0-9a-fA-F]{8}(-[0-9a-fA-F]{4}){3}-[0-9a-fA-F]{12}', b'Node-kind': b'file|dir',
-                  b'Node-action': b'change|add|delete|replace', b'Text-content-md5': b'[0-9a-fA-F]{32}'}
-        if name in wanted and not re.fullmatch(wanted[name], value):
-            raise Refused(2)
-        self.values[name] = value
+        self.values, self.props, self.removed, self.text = values, None, None, None
 
     def get(self, name):
         return self.values.get(name)
 
-    def has(self, *names):
-        return any(name in self.values for name in names)
+    def has(self, name):
+        return name in self.values
 
     def form(self, version, is_first, is_below):
         """Refuses (2) what is no record's form."""
         if self.has(b'UUID'):
-            is_well = is_first and not self.has(*(KNOWN - {b'UUID', b'Text-delta', b'Prop-delta'}))
+            is_well = is_first and self.values.keys() <= WITH_IDENTITY
         elif self.has(b'Revision-number'):
-            is_well = not self.has(*NODE_ONLY)
+            is_well = self.values.keys().isdisjoint(NODE_ONLY)
         else:
             action = self.get(b'Node-action')
             is_well = is_below and self.has(b'Node-path') and action is not None
             is_well &= self.has(b'Node-copyfrom-rev') == self.has(b'Node-copyfrom-path')
             is_well &= not self.has(b'Node-copyfrom-rev') or action in (b'add', b'replace')
-            is_well &= action != b'delete' or not self.has(b'Prop-content-length', b'Text-content-length')
-        may_be_delta = version == 3 and not self.has(b'UUID', b'Revision-number')
+            is_well &= action != b'delete' or self.values.keys().isdisjoint(CONTENT)
+        may_be_delta = version == 3 and not self.has(b'UUID') and not self.has(b'Revision-number')
         if not is_well or (self.is_delta() and not may_be_delta):
             raise Refused(2)
 
@@ -233,7 +265,8 @@ class Record:
         if block is not None:
             if block == 0:
                 raise Refused(5)
-            self.props, removed = Block(data, block, self.is_delta()).read()
+            self.props, removed = block_in(data.data[data.at:data.at + block], block, self.is_delta())
+            data.at += block
             self.removed = removed if self.is_delta() else None
         if text is not None:
             self.text = data.take(text)
@@ -252,13 +285,10 @@ def records(dump):
     if data.line() != b'':
         raise Refused(2)
     is_first, is_below = True, False
-    while not data.is_done():
-        if data.data[data.at] == 10:
-            data.at += 1
-            continue
-        record = Record()
-        while (line := data.line()) != b'':
-            record.header(line)
+    while (at := EMPTY.match(dump, data.at).end()) < len(dump):
+        data.at, end = at, dump.find(b'\n\n', at) + 2
+        record = Record(headers_in(dump[at:end]) if end > at else headers(data))
+        data.at = end
         record.form(version, is_first, is_below)
         record.content(data)
         is_first, is_below = False, is_below or record.has(b'Revision-number')
@@ -429,10 +459,15 @@ def head_of(identity):
     return spelled + (b'UUID: %s\n\n' % identity.lower() if identity else b'')
 
 
-def revision_of(number, props, changes):
-    """A revision in its canonical spelling."""
+def properties_of(number, props):
+    """What stands in front of a revision's changes."""
     block = block_of(props)
-    spelled = b'Revision-number: %d\nProp-content-length: %d\nContent-length: %d\n\n%s\n' % (number, len(block), len(block), block)
+    return b'Revision-number: %d\nProp-content-length: %d\nContent-length: %d\n\n%s\n' % (number, len(block), len(block), block)
+
+
+def changes_of(changes):
+    """The changes of a revision in their canonical spelling."""
+    spelled = b''
     for change in changes:
         lines = [b'Node-path: ' + b'/'.join(change.path)]
         if change.action != b'delete':
@@ -454,21 +489,27 @@ def revision_of(number, props, changes):
     return spelled
 
 
+def revision_of(number, props, changes):
+    """A revision in its canonical spelling."""
+    return properties_of(number, props) + changes_of(changes)
+
+
 class History:
-    """What a dump's revisions come to: their trees, what is written of each, and why it stopped, if it did."""
+    """What a dump's revisions come to: their trees, and why it stopped, if it did."""
 
     def __init__(self, dump):
-        self.identity, self.trees, self.written, self.fault = None, [{(): node(b'dir', {}, None, 0)}], [], None
-        self.first_props, self.is_begun = {}, False
+        self.identity, self.trees, self.fault = None, [{(): node(b'dir', {}, None, 0)}], None
         # each revision's properties, revision 0's as its last record has them, and its changes
         self.props, self.changes = [{}], [[]]
+        # whether revision 0 is settled: what comes next isn't one more of it
+        self.is_begun = False
         # the revision whose records come, not judged yet: its number, its properties, its changes
         self.open = None
         try:
             for record in records(dump):
                 self.take(record)
             self.close()
-            self.begin()
+            self.is_begun = True
         except Refused as refused:
             self.fault = refused.number
 
@@ -478,25 +519,18 @@ class History:
         elif record.has(b'Revision-number'):
             self.close()
             self.open = record.get(b'Revision-number'), record.props or {}, []
-            if self.open[0] > 0:
-                self.begin()
+            self.is_begun |= self.open[0] > 0
         elif self.open[0] == 0:
             raise Refused(16)
         else:
             self.open[2].append(Change(record))
-
-    def begin(self):
-        """Revision 0 is settled: what comes next isn't one more of it."""
-        if not self.is_begun:
-            self.written.append(revision_of(0, self.first_props, []))
-            self.is_begun = True
 
     def close(self):
         if self.open is None:
             return
         number, props, nodes = self.open
         if number == 0 and not self.is_begun:
-            self.first_props = self.props[0] = props
+            self.props[0] = props
         elif number != len(self.trees):
             raise Refused(16)
         else:
@@ -504,12 +538,15 @@ class History:
             self.trees.append(applied(self.trees, changes))
             self.props.append(props)
             self.changes.append(changes)
-            self.written.append(revision_of(number, props, changes))
         self.open = None
+
+    def written(self):
+        """The revisions in their canonical spelling."""
+        return [revision_of(number, *it) for number, it in enumerate(zip(self.props, self.changes))]
 
     def canon(self):
         """What `canon` writes; nothing before revision 0 is settled."""
-        return (head_of(self.identity) if self.is_begun else b'') + b''.join(self.written)
+        return head_of(self.identity) + b''.join(self.written()) if self.is_begun else b''
 
     def listing(self):
         """What `list` prints; nothing of a dump that is refused."""

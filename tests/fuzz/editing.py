@@ -15,6 +15,8 @@ from told import loose_chunks
 
 MADE, TEXT, VALUE = 102400, 1048576, 65536
 BLANKS, NUMBER, WORD = (re.compile(it) for it in (rb'[ \n]*', rb'[0-9]*', rb'[A-Za-z][A-Za-z0-9-]*'))
+# an item, or the front of one, that is well whatever its value
+TOKEN = re.compile(rb'[ \n]*(?:(?P<length>[0-9]{1,6}):|(?:(?P<number>[0-9]{1,19})|(?P<word>[A-Za-z][A-Za-z0-9-]{0,63})|(?P<list>\()|(?P<end>\)))[ \n])')
 
 
 # ---- items, with the number of what is wrong
@@ -44,15 +46,52 @@ class Items:
         return None if self.at == len(self.data) else self.item(0)
 
     def item(self, depth):
-        first = self.peek()
-        if first == 40:
-            found = self.list(depth)
-        elif 48 <= first <= 57:
-            found = self.number_or_string()
-        else:
-            found = self.word()
+        """An item and the white space behind it, or None at the end of the list around it."""
+        found = TOKEN.match(self.data, self.at)
+        kind = found.lastgroup if found else None
+        if kind is None or kind == 'end' and not depth:
+            return self.other(depth)
+        self.at = found.end()
+        if kind == 'length':
+            return self.string(int(found[kind]))
+        if kind == 'list':
+            return self.list(depth)
+        if kind == 'word':
+            return Word(found[kind])
+        return int(found[kind]) if kind == 'number' else None
+
+    def list(self, depth):
+        if depth == 16:
+            raise Refused(42)
+        found = []
+        while (item := self.item(depth + 1)) is not None:
+            found.append(item)
+        return found
+
+    def string(self, length):
+        if length > TEXT:
+            raise Refused(8)
+        found = self.data[self.at:self.at + length]
+        if len(found) < length:
+            raise Refused(7)
+        self.at += length
         self.white()
         return found
+
+    def other(self, depth):
+        """What the pattern doesn't take: a number of many digits, or an item with something wrong."""
+        self.skip()
+        first = self.peek()
+        if 48 <= first <= 57:
+            return self.number_or_string()
+        if first == 40 and depth == 16:
+            raise Refused(42)
+        if first == 40 or first == 41 and depth:
+            self.at += 1
+        else:
+            self.word()
+        # (here it isn't white, as the pattern has it)
+        return self.white()
 
     def word(self):
         found = WORD.match(self.data, self.at)
@@ -61,35 +100,17 @@ class Items:
         if found.end() - self.at > 64:
             raise Refused(8)
         self.at = found.end()
-        return Word(found[0])
-
-    def list(self, depth):
-        if depth == 16:
-            raise Refused(42)
-        self.at += 1
-        self.white()
-        found = []
-        while True:
-            self.skip()
-            if self.peek() == 41:
-                self.at += 1
-                return found
-            found.append(self.item(depth + 1))
 
     def number_or_string(self):
         found = NUMBER.match(self.data, self.at)
         number, self.at = int(found[0]), found.end()
         if number >= 2 ** 64:
             raise Refused(41)
-        if self.peek() != 58:
-            return number
-        if number > TEXT:
-            raise Refused(8)
-        self.at += 1
-        if len(self.data) - self.at < number:
-            raise Refused(7)
-        self.at += number
-        return self.data[self.at - number:self.at]
+        if self.peek() == 58:
+            self.at += 1
+            return self.string(number)
+        self.white()
+        return number
 
 
 # ---- windows
@@ -98,16 +119,25 @@ class Windows:
     """A text, as the bytes of its windows come."""
 
     def __init__(self):
-        self.text, self.is_between, self.rest = bytearray(), False, 0
+        # how many bytes are left of the instructions, and how many of the text then
+        self.text, self.is_between, self.rest, self.new = bytearray(), False, 0, 0
         self.run = self.read()
         next(self.run)
 
     def feed(self, piece):
-        for byte in piece:
-            self.run.send(byte)
+        at = 0
+        while at < len(piece):
+            if self.new:
+                part = piece[at:at + self.new]
+                self.text += part
+                self.new -= len(part)
+                at += len(part)
+            else:
+                self.run.send(piece[at])
+                at += 1
 
     def finish(self):
-        if not self.is_between:
+        if not self.is_between or self.new:
             raise Refused(44)
 
     def number(self, byte):
@@ -151,6 +181,7 @@ class Windows:
         return found
 
     def window(self, first):
+        """A window but for its new data."""
         numbers = [(yield from self.number(first))]
         while len(numbers) < 5:
             numbers.append((yield from self.number((yield))))
@@ -164,8 +195,7 @@ class Windows:
             lengths += yield from self.instruction()
         if (lengths, lengths) != (made, new):
             raise Refused(44)
-        for _ in range(new):
-            self.text.append((yield))
+        self.new = new
 
     def read(self):
         for wanted in b'SVN\0':
@@ -325,14 +355,13 @@ class Edit:
     def takes(self, item):
         """Takes a command. Whether it was the last one."""
         wanted(type(item) is list and len(item) > 1 and type(item[0]) is Word and type(item[1]) is list)
-        name, params = bytes(item[0]), Given(item[1])
+        name, params = item[0], Given(item[1])
         # (behind close-edit nothing but the end comes)
         wanted(not self.is_ended or name == b'finish-replay')
         if name == b'failure':
             raise Refused(60)
-        method = getattr(self, 'at_' + name.decode().replace('-', '_'), None)
-        wanted(method is not None and b'_' not in name)
-        return method(params)
+        wanted(name in COMMANDS)
+        return COMMANDS[name](self, params)
 
     def innermost(self, token, kind):
         wanted(bool(self.open) and self.open[-1][:2] == (token, kind), 46)
@@ -403,7 +432,8 @@ class Edit:
         self.build.prop(self.innermost(token, b'file'), name, value)
 
     def at_apply_textdelta(self, params):
-        token, _ = params.next(bytes), params.maybe(lambda it: it.next(bytes))
+        # (whatever is in the list: the sum isn't looked at)
+        token, _ = params.next(bytes), params.next(list)
         path = self.innermost(token, b'file')
         wanted(self.text is None)
         self.text = Windows()
@@ -446,6 +476,10 @@ class Edit:
     def at_finish_replay(self, _params):
         wanted(not self.open, 46)
         return True
+
+
+# The methods by the commands that they take.
+COMMANDS = {name[3:].replace('_', '-').encode(): method for name, method in vars(Edit).items() if name.startswith('at_')}
 
 
 # ---- edits made from a seed
@@ -507,7 +541,9 @@ class Maker:
         for it in self.random.sample(PROPS, len(PROPS)):
             if it in props:
                 self.say(name, token, it, [props[it]])
-                self.build.prop(path, it, props[it])
+                # (what was opened in spite of a fault may be gone)
+                if path in self.build.tree:
+                    self.build.prop(path, it, props[it])
             elif self.random.random() < 0.05:
                 self.say(name, token, it, [])
 
@@ -588,6 +624,8 @@ ODD = [[Word(b'close-edit'), []], [Word(b'abort-edit'), []], [Word(b'finish-repl
 
 def bent(random, items):
     """The items with one of them lost, twice there, elsewhere or another, or something of one changed."""
+    if not items:
+        return [random.choice(ODD)]
     items, at = [*items], random.randrange(len(items))
     way = random.randrange(7)
     if way == 0:

@@ -8,14 +8,16 @@ from dumps import LATER, Change, Record, Refused, applied, block_of, combined, h
 NAMES = [b'a', b'b', b'a-b', b'c', b'd', b'trunk', b'x y', b'\xc3\xa9', b'PROPS-END', b'K 1', b'0']
 ODD_NAMES = [b'.', b'..', b'\x01', b'\x7f', b'\xff', b'\xed\xa0\x80', b'n' * 255, b'n' * 256, b'']
 PROPS = [b'p', b'svn:log', b'svn:executable', b'svn:sync-x', b'a/b', b'..', b'\xc3\xa9']
+# those of a master's revisions
+PLAIN = [it for it in PROPS if not it.startswith(b'svn:sync-')]
 
 
 def some(random, most):
-    return bytes(random.choice(b'ab\n\x00\xff PK1') for _ in range(random.randrange(most)))
+    return bytes(random.choices(b'ab\n\x00\xff PK1', k=random.randrange(most)))
 
 
-def props_of(random):
-    return {random.choice(PROPS): some(random, 12) for _ in range(random.choice([0, 0, 1, 1, 2, 4]))}
+def props_of(random, names=PROPS):
+    return {random.choice(names): some(random, 12) for _ in range(random.choice([0, 0, 1, 1, 2, 4]))}
 
 
 def name_of(random):
@@ -50,10 +52,10 @@ class Maker:
             record.text = some(self.random, 40)
 
     def record(self, tree):
-        random, record = self.random, Record()
+        random, record = self.random, Record({})
         action = random.choice([b'add'] * 5 + [b'change'] * 2 + [b'delete', b'replace'])
         path = self.new_path(tree) if action == b'add' else self.path(tree)
-        record.values = {b'Node-path': path, b'Node-action': action}
+        record.values.update({b'Node-path': path, b'Node-action': action})
         kind = random.choice([b'file', b'dir'])
         if action in (b'add', b'replace') and random.random() < 0.35:
             revision = random.randrange(len(self.trees) + (random.random() < 0.03))
@@ -74,8 +76,7 @@ class Maker:
         """A replacement as a deletion and an addition, at times."""
         if record.get(b'Node-action') != b'replace' or self.random.random() < 0.5:
             return [record]
-        gone = Record()
-        gone.values = {b'Node-path': record.get(b'Node-path'), b'Node-action': b'delete'}
+        gone = Record({b'Node-path': record.get(b'Node-path'), b'Node-action': b'delete'})
         record.values[b'Node-action'] = b'add'
         return [gone, record]
 
@@ -86,7 +87,7 @@ class Maker:
             for _ in range(self.random.choice([0, 1, 1, 2, 3, 5])):
                 record = self.record(tree)
                 try:
-                    tree = applied([*self.trees[:-1], tree], [Change(record)]) if self.random.random() < 0.9 else tree
+                    tree = applied([*self.trees[:-1], tree], combined([Change(record)])) if self.random.random() < 0.9 else tree
                 except Refused:
                     if self.random.random() < 0.95:
                         continue
@@ -103,7 +104,7 @@ class Maker:
 
 
 def digits(random, number):
-    return b'0' * random.choice([0] * 9 + [1, 30]) + b'%d' % number
+    return b'0' * (random.choice([1, 30]) if random.random() < 0.18 else 0) + b'%d' % number
 
 
 def spelled(random, record):
@@ -136,13 +137,13 @@ def spelled(random, record):
 
 
 def revision_record(random, number, props):
-    record = Record()
-    record.values, record.props = {b'Revision-number': number}, props
+    record = Record({b'Revision-number': number})
+    record.props = props
     return spelled(random, record)
 
 
-def made(random):
-    """A dump, and whether something in it was made wrong on purpose."""
+def made(random, names=PROPS):
+    """A dump whose revisions have properties of these names."""
     version = random.choice([2, 2, 3])
     maker = Maker(random, version)
     identity = str(uuid.UUID(int=random.getrandbits(128))).encode() if random.random() < 0.7 else None
@@ -150,11 +151,11 @@ def made(random):
         identity = identity.upper()
     dump = (LATER + b'\n\n' if version == 3 else head_of(None)) + (b'UUID: %s\n\n' % identity if identity else b'') + b'\n' * random.choice([0, 0, 1])
     for _ in range(random.choice([0, 1, 1, 1, 2])):
-        dump += revision_record(random, 0, props_of(random))
+        dump += revision_record(random, 0, props_of(random, names))
     for number in range(1, random.choice([1, 2, 4, 8, 12])):
         records = maker.revision()
         number += random.random() < 0.003
-        dump += revision_record(random, number, props_of(random) if random.random() < 0.8 else None)
+        dump += revision_record(random, number, props_of(random, names) if random.random() < 0.8 else None)
         dump += b''.join(spelled(random, it) for it in records)
     return dump
 

@@ -6,7 +6,7 @@ from dumps import Refused
 from editing import Edit, Items
 from sessions import AUTHORISED, DONE as SUCCESS, GREETING, Ends, Input, Server, Word, command, success
 from dumps import History, node
-from trials import DONE, TEXTS, UUID, Differs, began, ended, ran
+from trials import DONE, TEXTS, UUID, Differs, reached
 
 MIRROR = '6a1f0c3e-0000-4000-8000-0000000000c1'
 NEWEST = 65535
@@ -39,37 +39,44 @@ class Mirror:
         self.listener.settimeout(60)
         self.url = 'svn://127.0.0.1:%d/' % self.listener.getsockname()[1]
         self.server = Server(self.trees, self.props, [], UUID, self.url.encode(), TEXTS)
-        self.line, self.come, self.lines = None, b'', []
-        ran(program, ['create', self.folder, '--uuid', MIRROR], b'', (DONE, b''))
+        self.line, self.come, self.lines = None, Input(b''), []
+        # whether all answers of a session are told before anything is asked: what is to be told then, and asked behind it
+        self.is_ahead, self.ahead, self.due = False, [], []
+        # how often something is said in pieces: seldom, where the program's reads are cut in some runs, which is cheaper
+        self.pieces = 0.001 if program.waits else 0.02
+        program.ran(['create', self.folder, '--uuid', MIRROR], b'', (DONE, b''))
 
     # ---- a session
 
     def item(self):
         """The client's next item, or None where it has gone."""
         while True:
-            taken = Input(self.come)
-            try:
-                item = taken.item()
-                self.come = self.come[taken.at:]
-                return item
-            except Ends:
-                pass
+            at = self.come.at
+            if at < len(self.come.data):
+                try:
+                    return self.come.item()
+                except Ends:
+                    # (more of it is to come)
+                    pass
             try:
                 piece = self.line.recv(1 << 16)
             except ConnectionResetError:
                 piece = b''
             if not piece:
                 return None
-            self.come += piece
+            self.come = Input(self.come.data[at:] + piece)
 
     def say(self, data):
+        if self.is_ahead:
+            self.ahead.append(data)
+        else:
+            self.tell(data)
+
+    def tell(self, data):
+        size = self.random.choice([1, 7]) if self.random.random() < self.pieces else max(len(data), 1)
         try:
-            if self.random.random() < 0.02:
-                size = self.random.choice([1, 7])
-                for at in range(0, len(data), size):
-                    self.line.sendall(data[at:at + size])
-            else:
-                self.line.sendall(data)
+            for at in range(0, len(data), size):
+                self.line.sendall(data[at:at + size])
         except (BrokenPipeError, ConnectionResetError):
             # (the client has gone: it says why)
             pass
@@ -81,14 +88,43 @@ class Mirror:
             pass
 
     def asked(self, name, *params):
-        item = self.item()
-        if item != [Word(name), [*params]]:
-            raise Differs(f'it asks {item}, and not {name} {params}')
+        self.hears([Word(name), [*params]])
+
+    def hears(self, wanted):
+        """The client's next item is this one, or one that a call answers with these bytes."""
+        if self.is_ahead:
+            self.due.append(wanted)
+        else:
+            self.judge(wanted, self.item())
+
+    def judge(self, wanted, item):
+        if type(wanted) is tuple and item is not None:
+            call, answer = wanted
+            is_well = call(item) == answer
+        else:
+            is_well = item == wanted
+        if not is_well:
+            raise Differs(f'it asks {item}, and not {wanted}')
+
+    def flush(self, is_last):
+        """Tells what is to be told ahead, and nothing more where that is so, and hears what is asked."""
+        self.is_ahead = False
+        if self.ahead:
+            self.tell(b''.join(self.ahead))
+        if is_last:
+            self.end()
+        for it in self.due:
+            self.judge(it, self.item())
+        self.ahead, self.due = [], []
 
     def opening(self):
         self.say(GREETING)
-        self.say(self.server.hello(self.item()))
-        self.say(self.server.login(self.item()))
+        answer = success([Word(b'ANONYMOUS')], UUID)
+        self.hears((self.server.hello, answer))
+        self.say(answer)
+        answer = SUCCESS + success(UUID, self.url.encode(), [])
+        self.hears((self.server.login, answer))
+        self.say(answer)
 
     def copy(self):
         """The head's properties are asked for."""
@@ -115,9 +151,10 @@ class Mirror:
                 return 60
             data, may_wait = given
             tree, fault = judged(self.trees, data)
+            reached(fault)
             self.say(AUTHORISED + command(b'revprops', *([name, it] for name, it in sorted(props.items()))) + data)
             if may_wait:
-                self.end()
+                self.flush(True)
             if fault is not None:
                 return fault
             self.trees.append(tree)
@@ -133,18 +170,20 @@ class Mirror:
 
     def held(self, words, session):
         """Runs a command beside a session, and holds it to its lines and to what that is refused for."""
-        self.lines, self.come = [], b''
-        run = began(self.program, words)
+        self.lines, self.come = [], Input(b'')
+        run = self.program.began(words, pieces=self.random.choice([1, 7]) if self.random.random() < 0.02 else 0)
         try:
             self.line, _ = self.listener.accept()
             with self.line:
                 self.line.setsockopt(socket.IPPROTO_TCP, socket.TCP_NODELAY, 1)
                 self.line.settimeout(60)
+                self.is_ahead = self.random.random() < 0.75
                 fault = session()
+                self.flush(False)
                 while self.item() is not None:
                     pass
         finally:
-            found = ended(run)
+            found = self.program.ended(run)
         wanted = ((1, line_of(fault)) if fault else DONE), b''.join(self.lines)
         if found != wanted:
             raise Differs(f'{words[0]}: {found} and not {wanted}')
@@ -173,7 +212,7 @@ class Mirror:
 
 
 def dumped(program, folder):
-    done, output = ended(began(program, ['dump', folder]))
+    done, output = program.ended(program.began(['dump', folder]))
     history = History(output)
     if done != DONE or history.fault:
         raise Differs(f'dump: {done}, {history.fault}')

@@ -1,15 +1,31 @@
 """A server of the program's, and what a client of it gets."""
+import itertools
+import multiprocessing
+import re
 import socket
-import subprocess
 from random import SystemRandom
 
 from trials import Differs
 
+# Ports that are taken one behind another, below those that the host gives to clients: 750 for each of sixteen processes.
+FIRST, EACH, SHARES = 20000, 750, 16
+
+
+def ports():
+    """This process's ports in a circle, from some one on."""
+    share = int(re.search(r'\d*$', multiprocessing.current_process().name)[0] or 0) % SHARES
+    begin = SystemRandom().randrange(EACH)
+    for number in itertools.count(begin):
+        yield FIRST + share * EACH + number % EACH
+
+
+PORTS = ports()
+
 
 def free_port():
-    """A port that nobody has, below those that the host gives to clients."""
+    """A port that nobody has."""
     while True:
-        port = SystemRandom().randrange(20000, 32000)
+        port = next(PORTS)
         with socket.socket() as it:
             try:
                 it.bind(('127.0.0.1', port))
@@ -21,7 +37,9 @@ def free_port():
 def got(port, data, pieces):
     """What comes back where these bytes are sent and no more, and whether it was cut off."""
     found = b''
-    with socket.create_connection(('127.0.0.1', port), timeout=60) as line:
+    with socket.socket() as line:
+        line.settimeout(60)
+        line.connect(('127.0.0.1', port))
         line.setsockopt(socket.IPPROTO_TCP, socket.TCP_NODELAY, 1)
         try:
             for at in range(0, len(data), pieces):
@@ -40,11 +58,11 @@ def listening(program, folder, connections):
     """A port and the server that listens on it; where somebody else was given the port meanwhile, another one."""
     for _ in range(5):
         port = free_port()
-        words = [program, 'serve', folder, '--port', str(port), '--connections', str(connections)]
-        started = subprocess.Popen(words, stdout=subprocess.PIPE, stderr=subprocess.PIPE)
-        if started.stdout.readline() == b'listening on 127.0.0.1:%d\n' % port:
-            return port, started
-        errors = started.communicate(timeout=60)[1]
-        if errors != b'svnfleet: 49 stream failed\n':
+        run = program.began(['serve', folder, '--port', str(port), '--connections', str(connections)], is_piped=True)
+        said = program.says(run)
+        if said == b'listening on 127.0.0.1:%d\n' % port:
+            return port, run
+        ended = program.ended(run)
+        if ended[0] != (1, b'svnfleet: 49 stream failed\n'):
             break
-    raise Differs(f'serve: its line, {errors!r}')
+    raise Differs(f'serve: its line, {said!r}, {ended}')

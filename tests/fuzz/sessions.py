@@ -3,6 +3,7 @@
 What came of a client is read as items, and each answered out of the dictionaries that dumps.py makes of a history. It
 shares nothing with the program. An edit is spelled by one walk over a revision's changes.
 """
+import collections
 import hashlib
 import re
 
@@ -24,51 +25,47 @@ class Ends(Exception):
 
 # ---- items
 
+# An item, or the front of one that goes on, with what has to stand behind it.
+TOKEN = re.compile(rb'[ \n]*(?:(?P<length>[0-9]+):|(?:(?P<number>[0-9]+)|(?P<word>[A-Za-z][A-Za-z0-9-]{0,63})|(?P<list>\()|(?P<end>\)))[ \n])')
+
+
 class Input:
     """What came of a client, and a place in it."""
 
     def __init__(self, data):
         self.data, self.at = data, 0
 
-    def matches(self, pattern):
-        found = re.compile(pattern, re.S).match(self.data, self.at)
+    def item(self, depth=0):
+        """The next item, and one white space behind it; None at the end of the list around it."""
+        found = TOKEN.match(self.data, self.at)
         if not found:
             raise Ends()
-        self.at = found.end()
-        return found[0]
-
-    def item(self, depth=0):
-        """The next item, and one white space behind it."""
-        first = self.matches(rb'[ \n]*[0-9A-Za-z(]')[-1:]
-        self.at -= 1
-        if first == b'(':
-            found = self.list(depth + 1)
-        elif first.isdigit():
-            found = self.number_or_string()
-        else:
-            found = Word(self.matches(rb'[A-Za-z][A-Za-z0-9-]{0,63}'))
-        self.matches(rb'[ \n]')
-        return found
-
-    def number_or_string(self):
-        number = int(self.matches(rb'[0-9]+'))
-        if self.data[self.at:self.at + 1] != b':':
-            if number >= 2 ** 64:
-                raise Ends()
-            return number
-        if number > 1048576 or len(self.data) < self.at + 1 + number:
+        kind, self.at = found.lastgroup, found.end()
+        if kind == 'list':
+            return self.list(depth + 1)
+        if kind == 'length':
+            return self.string(int(found[kind]))
+        if kind == 'word':
+            return Word(found[kind])
+        if kind == 'end' and depth:
+            return None
+        if kind == 'end' or int(found[kind]) >= 2 ** 64:
             raise Ends()
-        self.at += 1 + number
-        return self.data[self.at - number:self.at]
+        return int(found[kind])
+
+    def string(self, length):
+        end = self.at + length
+        if length > 1048576 or self.data[end:end + 1] not in (b' ', b'\n'):
+            raise Ends()
+        found, self.at = self.data[self.at:end], end + 1
+        return found
 
     def list(self, depth):
         if depth > 16:
             raise Ends()
-        self.matches(rb'\([ \n]')
         found = []
-        while not re.compile(rb'[ \n]*\)').match(self.data, self.at):
-            found.append(self.item(depth))
-        self.matches(rb'[ \n]*\)')
+        while (item := self.item(depth)) is not None:
+            found.append(item)
         return found
 
 
@@ -84,15 +81,16 @@ def items(data):
 
 def spelled(item):
     """An item in the one spelling that is written."""
-    if isinstance(item, Word):
+    kind = type(item)
+    if kind is list:
+        return b'( %b) ' % b''.join([spelled(it) for it in item])
+    if kind is bytes:
+        return b'%d:%b ' % (len(item), item)
+    if kind is Word:
         return item + b' '
-    if isinstance(item, bool):
+    if kind is bool:
         return b'true ' if item else b'false '
-    if isinstance(item, int):
-        return b'%d ' % item
-    if isinstance(item, bytes):
-        return b'%d:%s ' % (len(item), item)
-    return b'( ' + b''.join(map(spelled, item)) + b') '
+    return b'%d ' % item
 
 
 def success(*content):
@@ -261,8 +259,11 @@ class Server:
         self.trees, self.props, self.edits = trees, [dict(it) for it in props], edits
         self.identity, self.url, self.texts = identity, url, texts
         self.is_mirror = b'svn:sync-from-url' in self.props[0]
+        # how often each refusal was answered
+        self.refused = collections.Counter()
 
     def failure(self, number):
+        self.refused[number] += 1
         return spelled([Word(b'failure'), [[number, self.texts[number].encode(), b'', 0]]])
 
     def session(self, data):

@@ -13,16 +13,16 @@ MADE = 102400
 def padded(random, number):
     """A number of a window, at times with groups of zeros in front, ten bytes at most."""
     found = groups(number)
-    return b'\x80' * min(random.choice([0] * 20 + [1, 9]), 10 - len(found)) + found
+    return found if random.random() < 0.91 else b'\x80' * min(random.choice([1, 9]), 10 - len(found)) + found
 
 
 def one_window(random, text):
     """A window that makes this text, by one instruction or several."""
     cuts = sorted(random.sample(range(1, len(text)), min(len(text) - 1, random.choice([0, 0, 1, 3])))) if len(text) > 1 else []
     lengths = [end - begin for begin, end in zip([0, *cuts], [*cuts, len(text)])] if text else []
-    code = b''.join(bytes([128 | it]) if 0 < it < 64 and random.random() < 0.9 else b'\x80' + padded(random, it) for it in lengths)
+    code = b''.join([bytes([128 | it]) if 0 < it < 64 and random.random() < 0.9 else b'\x80' + padded(random, it) for it in lengths])
     head = [random.choice([0, 0, 7, 2 ** 64 - 1]), 0, len(text), len(code), len(text)]
-    return b''.join(padded(random, it) for it in head) + code + text
+    return b''.join([padded(random, it) for it in head]) + code + text
 
 
 def loose_chunks(random):

@@ -1,12 +1,14 @@
-"""What the runs over seeds share: a program's run beside what was computed, and the loop over the seeds."""
+"""What the tests over seeds share: the loop over the seeds, and what a refusal is told as."""
+import collections
 import concurrent.futures
 import functools
+import multiprocessing.util
 import os
 import re
-import select
-import signal
-import subprocess
 import sys
+import tempfile
+
+from runs import Differs, Program, library_of  # noqa: F401 (Differs is for those that use this)
 
 HERE = os.path.dirname(os.path.realpath(__file__))
 UUID = b'6a1f0c3e-0000-4000-8000-000000000001'
@@ -20,6 +22,13 @@ def texts():
 
 TEXTS = texts()
 DONE = 0, b''
+# How often each refusal was due in what a process tried, by its number; by 0 how often none was.
+REACHED = collections.Counter()
+
+
+def reached(fault):
+    """Counts a refusal, None where there was none, or so many of each."""
+    REACHED.update(fault if isinstance(fault, dict) else [fault or 0])
 
 
 def told(fault):
@@ -27,69 +36,58 @@ def told(fault):
     return (1, b'svnfleet: %d %s\n' % (fault, TEXTS[fault].encode())) if fault else DONE
 
 
-class Differs(Exception):
-    """What the program does isn't what was computed."""
+# Of so many seeds the first one's runs have each a process of their own.
+ALONE = 64
 
 
-def began(program, words, given=b'', environment=None):
-    """A program that was started on an input, beside which other things may be done before it is waited for."""
-    files = [os.memfd_create(name) for name in ('given', 'output', 'errors')]
-    os.write(files[0], given)
-    os.lseek(files[0], 0, os.SEEK_SET)
-    put = [(os.POSIX_SPAWN_DUP2, file, number) for number, file in enumerate(files)]
-    return os.posix_spawn(program, [program, *words], os.environ if environment is None else environment, file_actions=put), files
+def begin(path, forks, libraries):
+    """A process that tries seeds: the program as those have it whose runs share a process, and as the others do."""
+    global SHARED, PLAIN
+    SHARED, PLAIN = Program(path, forks, libraries), Program(path, None, libraries)
+    multiprocessing.util.Finalize(None, SHARED.close, exitpriority=1)
 
 
-def ended(run, seconds=60):
-    """The status, the error line and the output of a program that was started, which is waited for."""
-    child, files = run
-    watched, poll = os.pidfd_open(child), select.poll()
-    poll.register(watched, select.POLLIN)
-    is_late = not poll.poll(seconds * 1000)
-    if is_late:
-        os.kill(child, signal.SIGKILL)
-    status = os.waitstatus_to_exitcode(os.waitpid(child, 0)[1])
-    output, errors = (os.pread(file, os.fstat(file).st_size, 0) for file in files[1:])
-    for it in [watched, *files]:
-        os.close(it)
-    if is_late:
-        raise Differs(f'it did not end, and wrote {errors!r}')
-    return (status, errors), output
-
-
-def ran(program, words, given, wanted, pieces=None):
-    """Runs the program on an input, whole or in pieces, and holds it to a status, an error line and an output."""
-    if pieces:
-        found = ran_in_pieces(program, words, given, pieces)
-    else:
-        found = ended(began(program, words, given))
-    if found != wanted:
-        raise Differs(f'{" ".join(words)}: {found[0]} and not {wanted[0]}, {len(found[1])} bytes and not {len(wanted[1])}')
-
-
-def ran_in_pieces(program, words, given, pieces):
-    started = subprocess.Popen([program, *words], stdin=subprocess.PIPE, stdout=subprocess.PIPE, stderr=subprocess.PIPE)
+def one(tried, seed):
+    """What comes of a seed, and what it reached. Where its runs share a process, that begins with it."""
+    REACHED.clear()
+    program = PLAIN if seed % ALONE == 0 else SHARED
+    program.anew()
     try:
-        for at in range(0, len(given), pieces):
-            os.write(started.stdin.fileno(), given[at:at + pieces])
-    except BrokenPipeError:
-        pass
-    output, errors = started.communicate(b'', timeout=60)
-    return (started.returncode, errors), output
+        return *tried(program, seed), dict(REACHED)
+    except Exception as error:  # pylint: disable=broad-except
+        # (a fault of what makes or computes: the other seeds are tried all the same)
+        return 0, [f'seed {seed}: {error!r}'], dict(REACHED)
 
 
-def over_seeds(tried, words, *given):
-    """Tries PROGRAM SEEDS [FIRST] side by side, as many at once as there are processors or FUZZ_JOBS says, each with what is
-    given, prints what differs and the closing line; the status."""
+def over_seeds(tried, words, *sources):
+    """Tries PROGRAM SEEDS [FIRST] side by side, as many at once as there are processors or FUZZ_JOBS says, prints what
+    differs, how often each refusal was due, and the closing line; the status. The program has these sources in C loaded
+    with it, beside forks.c; where there are some and no C compiler, nothing is tried."""
     if len(words) not in (3, 4) or not all(it.isdigit() for it in words[2:]):
         sys.exit(f'{os.path.basename(words[0])} PROGRAM SEEDS [FIRST]')
-    program, (seeds, first), passed, failed = os.path.realpath(words[1]), map(int, [*words[2:], '0'][:2]), 0, 0
+    path, (seeds, first) = os.path.realpath(words[1]), map(int, [*words[2:], '0'][:2])
+    with tempfile.TemporaryDirectory(prefix='svnfleet-forks-') as room:
+        forks, *libraries = (library_of(it, room) for it in (f'{HERE}/forks.c', *sources))
+        if None in libraries:
+            print('there is no C compiler: stops and failures are skipped')
+            print('0 passed, 0 failed, 1 skipped')
+            return 0
+        return closed(tried, range(first, first + seeds), path, forks, libraries)
+
+
+def closed(tried, seeds, *program):
+    """Tries these seeds, and prints what comes of them; the status."""
+    passed, failed, due = 0, 0, collections.Counter()
     jobs = int(os.environ.get('FUZZ_JOBS') or len(os.sched_getaffinity(0)))
-    with concurrent.futures.ProcessPoolExecutor(jobs) as pool:
-        for well, wrong in pool.map(functools.partial(tried, program, *given), range(first, first + seeds), chunksize=8):
+    with concurrent.futures.ProcessPoolExecutor(jobs, initializer=begin, initargs=program) as pool:
+        for well, wrong, count in pool.map(functools.partial(one, tried), seeds, chunksize=8):
             passed += well
             failed += len(wrong)
+            due.update(count)
             for it in wrong:
                 print(it, flush=True)
+    if failed:
+        print(f'(one seed alone: {sys.argv[0]} {program[0]} 1 SEED)')
+    print('due:', ', '.join(f'{number} {count} times' for number, count in sorted(due.items())))
     print(f'{passed} passed, {failed} failed')
     return 1 if failed else 0

@@ -14,9 +14,19 @@
 #include <stdlib.h>
 #include <string.h>
 #include <sys/mman.h>
+#include <sys/syscall.h>
 #include <unistd.h>
 
 static long made, grown;
+// The file that tells the calls, where it is open.
+static int teller = -1;
+
+// Counts from 1 again, for one run behind another in the same process, whose files are closed.
+void calls_begin(void)
+{
+    made = grown = 0;
+    teller = -1;
+}
 
 extern void *__libc_malloc(size_t);
 extern void *__libc_realloc(void *, size_t);
@@ -47,11 +57,32 @@ static long number_in(const char *name)
     return text ? atol(text) : 0;
 }
 
+// Writes a call's line to the file that tells them.
+static void tell(int file, const char *call, const char *name, long long at, const unsigned char *bytes, size_t count)
+{
+    static const char digits[] = "0123456789abcdef";
+    char line[4096];
+    size_t length = snprintf(line, sizeof line, "%s %s %lld ", call, name, at);
+
+    for (size_t i = 0; i <= count; i++) {
+        if (length + 2 > sizeof line) {
+            syscall(SYS_write, file, line, length);
+            length = 0;
+        }
+        if (i == count) {
+            line[length++] = '\n';
+        } else {
+            line[length++] = digits[bytes[i] >> 4];
+            line[length++] = digits[bytes[i] & 15];
+        }
+    }
+    syscall(SYS_write, file, line, length);
+}
+
 // Counts a call and tells it. Whether it is refused.
 static int is_refused(const char *call, const char *name, long long at, const void *bytes, size_t count)
 {
     long fail = number_in("FAIL_AT");
-    int file;
 
     made++;
     if (number_in("STOP_AT") == made)
@@ -60,14 +91,10 @@ static int is_refused(const char *call, const char *name, long long at, const vo
         errno = EIO;
         return 1;
     }
-    file = open(getenv("CALLS"), O_WRONLY | O_APPEND | O_CREAT, 0644);
-    if (file >= 0) {
-        dprintf(file, "%s %s %lld ", call, name, at);
-        for (size_t i = 0; i < count; i++)
-            dprintf(file, "%02x", ((const unsigned char *)bytes)[i]);
-        dprintf(file, "\n");
-        close(file);
-    }
+    if (teller < 0)
+        teller = open(getenv("CALLS"), O_WRONLY | O_APPEND | O_CREAT | O_CLOEXEC, 0644);
+    if (teller >= 0)
+        tell(teller, call, name, at, bytes, count);
     return 0;
 }
 

@@ -69,6 +69,11 @@ def images(start, calls):
     return [dict(zip(FILES, it)) for it in itertools.product(*each)]
 
 
+def some_image(random, start, calls):
+    """One of these."""
+    return {name: random.choice(states(start[name] or b'', [it for it in calls if it[1] == name])) for name in FILES}
+
+
 def is_second(image):
     """Whether it is of the second version, whose gates and sums are in `slots`."""
     slots, gate = image['slots'], image['gate']

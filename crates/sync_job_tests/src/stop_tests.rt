@@ -25,7 +25,7 @@ const CALLS: usize = 5;
 
 // How a mirror stands: its head; on revision 0 what is merged, what is being copied, and the lock's token; and revision
 // 1's log. Nothing where it has none.
-type Row = (
+pub(crate) type Row = (
     u16,
     &'static [u8],
     &'static [u8],
@@ -69,7 +69,7 @@ fn row_in(rows: &[(Row, u64)], count: usize) -> Option<(Row, u64)> {
 }
 
 // What stands behind so many entries of a job, and what it has told by then.
-fn row_of(order: &Order, count: usize) -> Option<(Row, u64)> {
+pub(crate) fn row_of(order: &Order, count: usize) -> Option<(Row, u64)> {
     match order {
         Order::Initialize => row_in(&BEGINNING, count),
         Order::Synchronize | Order::Steal => row_in(&SYNCHRONISING, count),
@@ -78,7 +78,7 @@ fn row_of(order: &Order, count: usize) -> Option<(Row, u64)> {
 }
 
 // How many entries a job has.
-fn entries_of(order: &Order) -> usize {
+pub(crate) fn entries_of(order: &Order) -> usize {
     match order {
         Order::Initialize => 1,
         Order::Synchronize | Order::Steal => 7,
@@ -107,7 +107,7 @@ fn says(store: &RepoStore<MemDisk>, number: u16, name: &[u8], text: &[u8]) -> bo
     }
 }
 
-fn is_so(store: &RepoStore<MemDisk>, row: &Row) -> bool {
+pub(crate) fn is_so(store: &RepoStore<MemDisk>, row: &Row) -> bool {
     let (head, merged, copying, lock, log) = row;
     store.repo().head().get() == *head
         && says(store, 0, b"svn:sync-last-merged-rev", merged)
@@ -139,7 +139,7 @@ fn are_alike(alloc: Global, store: &RepoStore<MemDisk>, source: &RepoStore<MemDi
 }
 
 // Whether a disk opens as a mirror at rest with its master's one revision.
-fn is_at_rest(alloc: Global, disk: MemDisk, source: &RepoStore<MemDisk>) -> bool {
+pub(crate) fn is_at_rest(alloc: Global, disk: MemDisk, source: &RepoStore<MemDisk>) -> bool {
     match RepoStore::open(alloc, disk) {
         Ok(store) => {
             let is_so = is_merged(&store, 1, b"1") && are_alike(alloc, &store, source);
@@ -151,7 +151,7 @@ fn is_at_rest(alloc: Global, disk: MemDisk, source: &RepoStore<MemDisk>) -> bool
 }
 
 // What the later synchronisation tells, by the entries of the stopped one that stand.
-fn told_later(entries: usize) -> u64 {
+pub(crate) fn told_later(entries: usize) -> u64 {
     match entries {
         0..=2 => COMMITTED_1,
         3 | 4 => COPIED_1,
