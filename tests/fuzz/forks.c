@@ -20,9 +20,11 @@
 #include <malloc.h>
 #include <poll.h>
 #include <setjmp.h>
+#include <signal.h>
 #include <stdlib.h>
 #include <string.h>
 #include <sys/mman.h>
+#include <sys/prctl.h>
 #include <sys/socket.h>
 #include <sys/syscall.h>
 #include <sys/wait.h>
@@ -161,14 +163,18 @@ static int waits(int argc, char **argv, char **environment)
     pid_t child;
 
     (void)argc, (void)argv, (void)environment;
+    // (nobody is left that asks)
+    prctl(PR_SET_PDEATHSIG, SIGKILL);
     // (memory that a run has given back stays for the next one)
     mallopt(M_TRIM_THRESHOLD, 1 << 30);
     mallopt(M_MMAP_THRESHOLD, 1 << 25);
     mallopt(M_TOP_PAD, 1 << 20);
     while (poll(&line, 1, -1) < 0 || recv(LINE, &byte, 1, MSG_PEEK) > 0) {
         child = fork();
-        if (child == 0)
+        if (child == 0) {
+            prctl(PR_SET_PDEATHSIG, SIGKILL);
             runs();
+        }
         while (waitpid(child, &status, 0) < 0 && errno == EINTR)
             ;
         if (*is_running) {
