@@ -17,5 +17,6 @@ pub mod PathOrder
 pub mod Permuted
 pub mod Reparted
 pub mod Sorting
+pub mod Unblocked
 pub mod Walk
 pub mod Within

@@ -11,6 +11,9 @@ use Rattle.node_base.specs.declared.node.Action.TheVariants.{Modify, Add, Delete
 use Rattle.node_base.specs.declared.node.NodeKind.{NodeKind}
 use Rattle.node_base.specs.declared.node.NodeKind.TheVariants.{File, Dir}
 use Rattle.node_base.specs.declared.node.Source.{Source}
+use Rattle.node_base.specs.Refusals.{refusal_number}
+use Rattle.node_base.specs.declared.refusal.Refusal.{Refusal}
+use Rattle.node_base.specs.declared.refusal.Refusal.TheVariants as table
 use Rattle.node_base.specs.declared.fault.TreeFault.{TreeFault}
 use Rattle.node_base.specs.declared.fault.TreeFault.TheVariants.{TooLong, BadPath, NoSuchPath, PathThere, NotDir, NoSource, KindMismatch}
 use Rattle.dump_load.specs.declared.change.Change.{Change}
@@ -43,12 +46,17 @@ abbrev pub same_kind : NodeKind → NodeKind → Bool
 same_kind File k = is_file k
 same_kind Dir k = not (is_file k)
 
--- the kind that counts: of the node that is there, of the source, or the one that is given
+-- the kind that counts for an add or a replace: the source's, or the one that is given
+abbrev pub brought_kind : List PathMap → Change → Option NodeKind
+brought_kind trees c = option_map_or (λ s. option_map kind_of (source_at trees s [])) c.source c.kind
+
+-- the kind that counts where this stands, if anything does
+abbrev pub kind_over : List PathMap → Option Node → Change → Option NodeKind
+kind_over trees there c = if brings c then brought_kind trees c else option_map kind_of there
+
+-- the kind that counts
 abbrev pub judged : List PathMap → (Path → Option Node) → Change → Option NodeKind
-judged trees before c =
-    if brings c
-    then option_map_or (λ s. option_map kind_of (source_at trees s [])) c.source c.kind
-    else option_map kind_of (before c.path)
+judged trees before c = kind_over trees (before c.path) c
 
 -- a kind that is given and differs, or a text for a directory
 abbrev pub mismatches : Option NodeKind → Bool → NodeKind → Bool
@@ -106,16 +114,20 @@ IsNoSet s refusal.OutOfOrder = (length s ≤ 4096) × (IsInOrder s → ⊥)
 IsNoSet s refusal.BadHeader = (length s ≤ 4096) × IsInOrder s × (IsNormal s → ⊥)
 IsNoSet s e = ⊥
 
--- the number of a refusal
+-- the refusal of the table that it is
+abbrev pub change_refusal : ChangeFault → Refusal
+change_refusal refusal.BadHeader = table.BadHeader
+change_refusal refusal.TooLong = table.TooLong
+change_refusal refusal.BadPath = table.BadPath
+change_refusal refusal.NoSuchPath = table.NoSuchPath
+change_refusal refusal.PathThere = table.PathThere
+change_refusal refusal.NotDir = table.NotDir
+change_refusal refusal.NoSource = table.NoSource
+change_refusal refusal.OutOfOrder = table.OutOfOrder
+change_refusal refusal.WrongNumber = table.WrongNumber
+change_refusal refusal.KindMismatch = table.KindMismatch
+change_refusal refusal.OutOfMemory = table.OutOfMemory
+
+-- its number
 abbrev pub number_of : ChangeFault → ℕ
-number_of refusal.BadHeader = 2
-number_of refusal.TooLong = 8
-number_of refusal.BadPath = 10
-number_of refusal.NoSuchPath = 11
-number_of refusal.PathThere = 12
-number_of refusal.NotDir = 13
-number_of refusal.NoSource = 14
-number_of refusal.OutOfOrder = 15
-number_of refusal.WrongNumber = 16
-number_of refusal.KindMismatch = 17
-number_of refusal.OutOfMemory = 70
+number_of f = refusal_number (change_refusal f)

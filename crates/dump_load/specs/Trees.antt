@@ -1,5 +1,5 @@
 -- The tree that a set of changes makes, as one map.
-use Rattle.std.specs.Prelude.{List, [], ◌∷◌, ◌++◌, map, length, ◌-◌, drop, Option}
+use Rattle.std.specs.Prelude.{◌≡◌, List, [], ◌∷◌, ◌++◌, map, length, ◌-◌, drop, Option, None}
 use Rattle.std.specs.Option.{option_map_or}
 use Rattle.std.specs.List.{slice_get, flat_map}
 use Rattle.std.specs.FinMap as finite
@@ -9,6 +9,7 @@ use Rattle.node_base.specs.declared.node.Source.{Source}
 use Rattle.node_base.specs.Tree.{PathMap}
 use Rattle.dump_load.specs.declared.change.Change.{Change}
 use Rattle.dump_load.specs.Effect.{effect}
+use Rattle.dump_load.specs.Faults.{fault}
 
 -- the nodes that f has at these paths
 abbrev pub nodes_at : (Path → Option Node) → List Path → PathMap
@@ -30,3 +31,8 @@ paths_of trees c = c.path ∷ option_map_or (λ s. option_map_or (copied_paths c
 -- the tree that a set makes of the trees before it
 unfoldable pub effect_tree : List PathMap → List Change → PathMap
 effect_tree trees s = nodes_at (effect trees s) (base_paths trees ++ flat_map (paths_of trees) s)
+
+-- the set has no fault over the trees before it, and makes the tree
+pub record Makes (trees : List PathMap) (set : List Change) (tree : PathMap) : Type 0 where
+  pub faultless : fault trees set ≡ None
+  pub effect : tree ≡ effect_tree trees set

@@ -2,6 +2,8 @@
 ghost use Rattle.std.specs.Prelude.{◌≡◌, true, false, IfOk};
 ghost use Rattle.dump_load.specs.Changes.{settles, is_delete, is_add, is_plain, brings, has_form, IsDescribed, IsWhole};
 ghost use Rattle.dump_load.specs.Records.{change_of, record_of};
+ghost use Rattle.dump_text.specs.declared.record.PropPart.TheVariants.{Whole};
+ghost use Rattle.std.specs.Option.{option_map};
 
 use dump_text::{NodeRecord, PropPart};
 use node_base::{Action, NodeKind, NodePath, Props, Source, Text};
@@ -147,6 +149,28 @@ impl Change {
         })
     }
 
+    /// The record that states this change, which it becomes: nothing is copied.
+    pub fn into_record(self) -> NodeRecord
+        ensures { result ≡ record_of self }
+    {
+        let Change {
+            path,
+            action,
+            kind,
+            source,
+            props,
+            text,
+        } = self;
+        NodeRecord {
+            path,
+            kind,
+            action,
+            source,
+            props: whole_part(props),
+            text,
+        }
+    }
+
     /// The same change once more. Properties and text are shared with it.
     pub fn share(&self, alloc: Global) -> Result<Change, AllocError>
         ensures { IfOk result (λ c. c ≡ self.now) }
@@ -159,6 +183,16 @@ impl Change {
             props: share_props(&self.props)?,
             text: share_text(&self.text)?,
         })
+    }
+}
+
+// Properties as a record gives the whole list of them.
+fn whole_part(props: Option<Props>) -> Option<PropPart>
+    ensures { result ≡ option_map Whole props }
+{
+    match props {
+        Some(props) => Some(PropPart::Whole(props)),
+        None => None,
     }
 }
 

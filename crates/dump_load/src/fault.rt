@@ -1,8 +1,8 @@
 //! What is wrong with a set of changes.
 ghost use Rattle.std.specs.Prelude.{◌≡◌};
-ghost use Rattle.dump_load.specs.Faults.{refused, number_of};
+ghost use Rattle.dump_load.specs.Faults.{change_refusal, number_of};
 
-use node_base::TreeFault;
+use node_base::{Refusal, TreeFault};
 use std::alloc::{AllocError, AllocFailed};
 use thiserror::Error;
 
@@ -50,19 +50,27 @@ impl ChangeFault {
     pub fn number(self) -> u8
         ensures { result ≡ number_of self }
     {
-        match self {
-            ChangeFault::BadHeader => 2,
-            ChangeFault::TooLong => 8,
-            ChangeFault::BadPath => 10,
-            ChangeFault::NoSuchPath => 11,
-            ChangeFault::PathThere => 12,
-            ChangeFault::NotDir => 13,
-            ChangeFault::NoSource => 14,
-            ChangeFault::OutOfOrder => 15,
-            ChangeFault::WrongNumber => 16,
-            ChangeFault::KindMismatch => 17,
-            ChangeFault::OutOfMemory => 70,
-        }
+        change_refusal(self).number()
+    }
+}
+
+/// The refusal of the table that a fault of a set of changes is.
+pub fn change_refusal(fault: ChangeFault) -> Refusal
+    ensures value { result ≡ change_refusal fault }
+    ensures no_peer { result ≡ Refusal.PeerFailed → ⊥ }
+{
+    match fault {
+        ChangeFault::BadHeader => Refusal::BadHeader,
+        ChangeFault::TooLong => Refusal::TooLong,
+        ChangeFault::BadPath => Refusal::BadPath,
+        ChangeFault::NoSuchPath => Refusal::NoSuchPath,
+        ChangeFault::PathThere => Refusal::PathThere,
+        ChangeFault::NotDir => Refusal::NotDir,
+        ChangeFault::NoSource => Refusal::NoSource,
+        ChangeFault::OutOfOrder => Refusal::OutOfOrder,
+        ChangeFault::WrongNumber => Refusal::WrongNumber,
+        ChangeFault::KindMismatch => Refusal::KindMismatch,
+        ChangeFault::OutOfMemory => Refusal::OutOfMemory,
     }
 }
 

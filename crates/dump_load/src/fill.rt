@@ -8,7 +8,7 @@ ghost use Rattle.dump_load.specs.declared.fault.ChangeFault.TheVariants.{BadHead
 ghost use Rattle.dump_load.specs.Changes.{IsDescribed, IsInOrder};
 ghost use Rattle.dump_load.specs.Effect.{effect, stepped};
 ghost use Rattle.node_base.specs.Path.{Path};
-ghost use Rattle.dump_load.specs.Faults.{IsRefusal, fault, fault_if, fault_of};
+ghost use Rattle.dump_load.specs.Faults.{IsRefusal, fault, fault_if, fault_of, judged};
 ghost use Rattle.dump_load.specs.Deltas.{delta_fault, AreSorted};
 ghost use Rattle.dump_load.specs.Records.{is_unsaid, with_blanks, with_kind, filled_after, Filling};
 ghost use Rattle.std.specs.Option.{option_or};
@@ -61,15 +61,25 @@ fn with_blanks(alloc: Global, change: Change) -> Result<Change, AllocError>
     })
 }
 
+// The kind that is given, and else the one that counts.
+fn kind_or_judged(trees: &[Tree], tree: &Tree, change: &Change) -> Option<NodeKind>
+    ensures { result ≡ option_or change.now.kind (judged trees.now (map.get tree.now) change.now) }
+{
+    match change.kind {
+        Some(kind) => Some(kind),
+        None => judged(trees, tree, change),
+    }
+}
+
 // The kind that counts, where none is given.
 fn with_kind(trees: &[Tree], tree: &Tree, change: Change) -> Change
     ensures { result ≡ with_kind trees.now (map.get tree.now) change }
 {
-    let judged = judged(trees, tree, &change);
+    let counted = kind_or_judged(trees, tree, &change);
     let Change {
         path,
         action,
-        kind,
+        kind: _,
         source,
         props,
         text,
@@ -77,7 +87,7 @@ fn with_kind(trees: &[Tree], tree: &Tree, change: Change) -> Change
     Change {
         path,
         action,
-        kind: kind.or(judged),
+        kind: counted,
         source,
         props,
         text,

@@ -3,15 +3,15 @@ ghost use Rattle.std.specs.Prelude.{◌≡◌, ◌&&◌, [], Some, None, is_some
 ghost use Rattle.std.specs.Option.{option_map_or, option_copied};
 ghost use Rattle.std.specs.FinMap as map;
 ghost use Rattle.node_base.specs.Path.{same_path};
-ghost use Rattle.node_base.specs.Tree.{source_at};
+ghost use Rattle.node_base.specs.Tree.{blocked, source_at};
 ghost use Rattle.node_base.specs.declared.fault.TreeFault.TheVariants.{BadPath, NoSource, KindMismatch, TooLong};
 ghost use Rattle.dump_load.specs.Changes.{settles, brings};
-ghost use Rattle.dump_load.specs.Faults.{fault_if, fault_of, place_fault, judged, mismatches, lacks_source};
-ghost use Rattle.dump_load.specs.Faults.{copies_too_long};
+ghost use Rattle.dump_load.specs.Faults.{fault_if, fault_of, place_fault, judged, kind_over, brought_kind};
+ghost use Rattle.dump_load.specs.Faults.{mismatches, lacks_source, copies_too_long};
 
 use crate::Change;
 use crate::change::settles;
-use node_base::{Action, Node, NodeKind, Source, TreeFault};
+use node_base::{Action, Node, NodeKind, NodePath, Source, TreeFault};
 use path_tree::Tree;
 
 /// The node at a source, if there is one in an earlier revision.
@@ -69,19 +69,39 @@ fn source_fault(trees: &[Tree], change: &Change) -> Option<TreeFault>
     }
 }
 
+// The kind that counts for an add or a replace.
+fn brought_kind(trees: &[Tree], change: &Change) -> Option<NodeKind>
+    ensures { result ≡ brought_kind trees.now change.now }
+{
+    match &change.source {
+        None => change.kind,
+        Some(source) => match source_node(trees, source) {
+            Some(node) => Some(node.kind()),
+            None => None,
+        },
+    }
+}
+
+// The kind that counts for a change where this stands at its path.
+fn kind_over(trees: &[Tree], found: Option<&Node>, change: &Change) -> Option<NodeKind>
+    ensures { result ≡ kind_over trees.now (option_copied found.entry) change.now }
+{
+    if change.brings() {
+        return brought_kind(trees, change);
+    }
+    match found {
+        Some(node) => Some(node.kind()),
+        None => None,
+    }
+}
+
 /// The kind that counts for a change: that of the source of a copy, the one that is given for another add or
 /// replace, and else that of the node that is there.
 pub fn judged(trees: &[Tree], tree: &Tree, change: &Change) -> Option<NodeKind>
     ensures { result ≡ judged trees.now (map.get tree.now) change.now }
 {
     if change.brings() {
-        return match &change.source {
-            None => change.kind,
-            Some(source) => match source_node(trees, source) {
-                Some(node) => Some(node.kind()),
-                None => None,
-            },
-        };
+        return brought_kind(trees, change);
     }
     match tree.get(change.path.names()) {
         Some(node) => Some(node.kind()),
@@ -135,6 +155,19 @@ fn copy_fault(trees: &[Tree], change: &Change) -> Option<TreeFault>
     }
 }
 
+// The fault of the first proper front of a path, from the root down, that is no directory. Where something is at the
+// path there is none, and the tree isn't walked again.
+fn front_fault(tree: &Tree, path: &NodePath, there: bool) -> Option<TreeFault>
+    requires { there ≡ is_some (map.get tree.now path.now) }
+    ensures { result ≡ blocked (map.get tree.now) path.now }
+{
+    if there {
+        tree.is_tree();
+        return None;
+    }
+    tree.blocked(path.names())
+}
+
 /// The first of a change's faults, in their order, where `tree` is what the changes before it left: the root is
 /// added, deleted or replaced (10), a front of the path is absent (11) or a file (13), an add finds something (12)
 /// or another change nothing (11), the source isn't there (14), a kind differs or a directory is given a text (17),
@@ -142,11 +175,12 @@ fn copy_fault(trees: &[Tree], change: &Change) -> Option<TreeFault>
 pub fn fault_of(trees: &[Tree], tree: &Tree, change: &Change) -> Option<TreeFault>
     ensures { result ≡ fault_of trees.now (map.get tree.now) change.now }
 {
-    let there = tree.get(change.path.names()).is_some();
-    let kind = judged(trees, tree, change);
+    let found = tree.get(change.path.names());
+    let there = found.is_some();
+    let kind = kind_over(trees, found, change);
     let copy = copy_fault(trees, change).or(None);
     let last = kind_fault(change.kind, change.text.is_some(), kind).or(copy);
     let source = source_fault(trees, change).or(last);
     let place = place_fault(change.action, there).or(source);
-    root_fault(change).or(tree.blocked(change.path.names()).or(place))
+    root_fault(change).or(front_fault(tree, &change.path, there).or(place))
 }

@@ -2,9 +2,9 @@
 #![tactic(auto)]
 
 pub use change::{Change, is_add, is_delete, settles, share_props, share_text};
-pub use fault::ChangeFault;
+pub use fault::{ChangeFault, change_refusal};
 pub use judge::{fault_of, judged, source_node};
-pub use load::{apply, load_revision};
+pub use load::{Applied, apply, load_revision};
 pub use order::{count_paths, in_path_order};
 pub use set::ChangeSet;
 pub use steps::{begin, blank, next_number, step};

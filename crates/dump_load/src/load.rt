@@ -5,7 +5,7 @@ ghost use Rattle.std.specs.FinMap as map;
 ghost use Rattle.node_base.specs.Path.{Path};
 ghost use Rattle.dump_load.specs.Changes.{IsNormal};
 ghost use Rattle.dump_load.specs.Effect.{effect};
-ghost use Rattle.dump_load.specs.Trees.{effect_tree};
+ghost use Rattle.dump_load.specs.Trees.{Makes};
 ghost use Rattle.dump_load.specs.Faults.{fault, refused, IsRefusal};
 ghost use Rattle.dump_load.specs.Records.{IsNormalSetOf, IsLoadRefusal};
 
@@ -18,12 +18,22 @@ use node_base::RevNo;
 use path_tree::Tree;
 use std::alloc::Global;
 
+/// A set of changes that was judged over some trees, and the tree that it makes of them: whoever takes both needn't
+/// apply the set again.
+#[derive(Drop)]
+pub struct Applied {
+    /// The changes, which have no fault over those trees.
+    pub set: ChangeSet,
+    /// The tree after them.
+    pub tree: Tree,
+}
+
 /// The tree that a set of changes makes of the trees before it, or the set's first fault in path order. The result
 /// is a share of the newest tree, changed along the set's paths.
 pub fn apply(alloc: Global, trees: &[Tree], set: &ChangeSet) -> Result<Tree, ChangeFault>
     requires { length trees.now ≤ 65535 }
     ensures effect { IfOk result (λ t. (q : Path) → map.get t q ≡ effect trees.now set.now q) }
-    ensures whole { IfOk result (λ t. t ≡ effect_tree trees.now set.now) }
+    ensures makes { IfOk result (λ t. Makes trees.now set.now t) }
     ensures no_fault { OnOk result (fault trees.now set.now ≡ None) }
     ensures fault { IfErr result (λ e. IsRefusal e (option_map refused (fault trees.now set.now))) }
 {
@@ -38,7 +48,7 @@ pub fn apply(alloc: Global, trees: &[Tree], set: &ChangeSet) -> Result<Tree, Cha
     Ok(tree)
 }
 
-/// The set of changes of a revision and the tree that it makes, from the revision's number and records, over the
+/// The set of changes of a revision with the tree that it makes, from the revision's number and records, over the
 /// trees before it. Refused are a number that isn't the next one (16), then what makes no set, then the set's first
 /// fault.
 pub fn load_revision(
@@ -46,13 +56,12 @@ pub fn load_revision(
     trees: &[Tree],
     number: RevNo,
     records: Vec<NodeRecord>,
-) -> Result<(ChangeSet, Tree), ChangeFault>
+) -> Result<Applied, ChangeFault>
     requires { length trees.now ≤ 65535 }
     ensures number { OnOk result (number ≡ length trees.now) }
-    ensures set { IfOk result (λ r. IsNormalSetOf trees.now records.items r.0) }
-    ensures tree { IfOk result (λ r. (q : Path) → map.get r.1 q ≡ effect trees.now r.0 q) }
-    ensures whole { IfOk result (λ r. r.1 ≡ effect_tree trees.now r.0) }
-    ensures no_fault { IfOk result (λ r. fault trees.now r.0 ≡ None) }
+    ensures set { IfOk result (λ a. IsNormalSetOf trees.now records.items a.set) }
+    ensures tree { IfOk result (λ a. (q : Path) → map.get a.tree q ≡ effect trees.now a.set q) }
+    ensures makes { IfOk result (λ a. Makes trees.now a.set a.tree) }
     ensures refused { IfErr result (λ e. IsLoadRefusal trees.now number records.items e) }
 {
     if number.index() != trees.len() {
@@ -62,5 +71,8 @@ pub fn load_revision(
     if let Some(fault) = gathered.fault {
         return Err(ChangeFault::from(fault));
     }
-    Ok((gathered.set, gathered.tree))
+    Ok(Applied {
+        set: gathered.set,
+        tree: gathered.tree,
+    })
 }

@@ -71,13 +71,14 @@ impl ChangeSet {
         if changes.len() > CHANGES {
             return Err(ChangeFault::TooLong);
         }
-        if !is_in_order(&changes) {
-            return Err(ChangeFault::OutOfOrder);
+        if is_normal(&changes) {
+            return Ok(ChangeSet::new(changes));
         }
-        if !is_normal(&changes) {
-            return Err(ChangeFault::BadHeader);
+        if is_in_order(&changes) {
+            Err(ChangeFault::BadHeader)
+        } else {
+            Err(ChangeFault::OutOfOrder)
         }
-        Ok(ChangeSet::new(changes))
     }
 
     /// The changes alone, in path order.
@@ -109,6 +110,16 @@ impl ChangeSet {
             changes.push(change.share(alloc)?)?;
         }
         Ok(ChangeSet { changes })
+    }
+
+    /// The records that state its changes, in path order, which they become: nothing of them is copied.
+    pub fn into_records(self, alloc: Global) -> Result<Vec<NodeRecord>, AllocError>
+        ensures { IfOk result (λ r. r.items ≡ map record_of self) }
+    {
+        self.changes
+            .into_iter()
+            .map(|change| change.into_record())
+            .collect(alloc)
     }
 
     /// The records that state its changes, in path order. Where the set came from records over some trees, these give

@@ -74,8 +74,8 @@ fn three_trees(rt: &impl Abort, alloc: Global) -> Vec<Tree> {
     let third = stated(rt, alloc, "change t/x\t=p=1\nchange t/y\t=s=5");
     assert!(rt; trees.len() <= 65_535);
     let loaded = load_revision(alloc, trees.as_slice(), RevNo::new(2), third);
-    let (_, tree) = loaded.expect(rt, "a revision");
-    trees.push(tree).expect(rt, "memory");
+    let applied = loaded.expect(rt, "a revision");
+    trees.push(applied.tree).expect(rt, "memory");
     trees
 }
 
@@ -85,7 +85,7 @@ fn third(rt: &impl Abort, alloc: Global, lines: &str) -> Result<Tree, ChangeFaul
     assert!(rt; trees.len() <= 65_535);
     let all = stated(rt, alloc, lines);
     let loaded = load_revision(alloc, trees.as_slice(), RevNo::new(3), all);
-    loaded.map(|(_, tree)| tree)
+    loaded.map(|applied| applied.tree)
 }
 
 // Whether revision 3 with these records leaves this list at a path.

@@ -169,8 +169,8 @@ fn nested(rt: &impl Abort, alloc: Global, letters: &[u8], times: usize) -> Vec<T
         .expect(rt, "memory");
     let stated = directories(rt, alloc, letters, times);
     let loaded = load_revision(alloc, trees.as_slice(), RevNo::new(1), stated);
-    let (_, tree) = loaded.expect(rt, "a revision");
-    trees.push(tree).expect(rt, "memory");
+    let applied = loaded.expect(rt, "a revision");
+    trees.push(applied.tree).expect(rt, "memory");
     trees
 }
 

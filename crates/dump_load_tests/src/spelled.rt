@@ -90,8 +90,8 @@ fn add(rt: &impl Abort, alloc: Global, trees: &mut Vec<Tree>, stated: Vec<NodeRe
     let number = trees.len();
     assert!(rt; number <= 65_535);
     let loaded = load_revision(alloc, trees.as_slice(), RevNo::new(number as u16), stated);
-    let (_, tree) = loaded.expect(rt, "a revision");
-    trees.push(tree).expect(rt, "memory");
+    let applied = loaded.expect(rt, "a revision");
+    trees.push(applied.tree).expect(rt, "memory");
 }
 
 // Revision 0, and revision 1 with a directory t and the files t/x and t/y.
@@ -112,7 +112,7 @@ pub(crate) fn second(
     let trees = two_trees(rt, alloc);
     assert!(rt; trees.len() <= 65_535);
     let loaded = load_revision(alloc, trees.as_slice(), RevNo::new(2), stated);
-    loaded.map(|(_, tree)| tree)
+    loaded.map(|applied| applied.tree)
 }
 
 // The number of the refusal of revision 2 with these records, or 0.

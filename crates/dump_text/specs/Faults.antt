@@ -1,19 +1,26 @@
--- The numbers of the refusals.
+-- The refusals of dump text.
 use Rattle.std.specs.Prelude.{ℕ}
+use Rattle.node_base.specs.Refusals.{refusal_number}
+use Rattle.node_base.specs.declared.refusal.Refusal.{Refusal}
+use Rattle.node_base.specs.declared.refusal.Refusal.TheVariants as refusal
 use Rattle.dump_text.specs.declared.fault.DumpFault.{DumpFault}
-use Rattle.dump_text.specs.declared.fault.DumpFault.TheVariants.{BadVersion, BadHeader, BadNumber, BadLength, BadProps, BadSum, Truncated, TooLong, TextDelta, BadPath, Failed, OutOfMemory}
+use Rattle.dump_text.specs.declared.fault.DumpFault.TheVariants as dump
 
--- the number by which a refusal is named
+-- the refusal of the table that a fault is
+abbrev pub dump_refusal : DumpFault → Refusal
+dump_refusal dump.BadVersion = refusal.BadVersion
+dump_refusal dump.BadHeader = refusal.BadHeader
+dump_refusal dump.BadNumber = refusal.BadNumber
+dump_refusal dump.BadLength = refusal.BadLength
+dump_refusal dump.BadProps = refusal.BadProps
+dump_refusal dump.BadSum = refusal.BadSum
+dump_refusal dump.Truncated = refusal.Truncated
+dump_refusal dump.TooLong = refusal.TooLong
+dump_refusal dump.TextDelta = refusal.TextDelta
+dump_refusal dump.BadPath = refusal.BadPath
+dump_refusal dump.Failed = refusal.Failed
+dump_refusal dump.OutOfMemory = refusal.OutOfMemory
+
+-- its number
 abbrev pub number_of_fault : DumpFault → ℕ
-number_of_fault BadVersion = 1
-number_of_fault BadHeader = 2
-number_of_fault BadNumber = 3
-number_of_fault BadLength = 4
-number_of_fault BadProps = 5
-number_of_fault BadSum = 6
-number_of_fault Truncated = 7
-number_of_fault TooLong = 8
-number_of_fault TextDelta = 9
-number_of_fault BadPath = 10
-number_of_fault Failed = 32
-number_of_fault OutOfMemory = 70
+number_of_fault f = refusal_number (dump_refusal f)

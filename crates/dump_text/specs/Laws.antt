@@ -10,9 +10,9 @@ use Rattle.dump_text.specs.Written.{AreRecords, IsRevision, AreRevisions, IsIden
 use Rattle.dump_text.specs.declared.record.DumpRecord.{DumpRecord}
 use Rattle.dump_text.specs.declared.fault.DumpFault.{DumpFault}
 use Rattle.dump_text.specs.declared.state.Place.TheVariants as at
-use Rattle.dump_text.specs.Streams.{Stream, Reads, Refuses, reading, dump, begin, is_between}
+use Rattle.dump_text.specs.Streams.{Stream, Reads, Refuses, reading, dump, begin, behind_version, is_between}
 use Rattle.dump_text.specs.declared.state.ReadState.{ReadState}
-use Rattle.dump_text.specs.Grammar.{DumpOf, Dump, stage_behind}
+use Rattle.dump_text.specs.Grammar.{DumpOf, Dump, stage_behind, version_line}
 
 -- it doesn't matter how the bytes are cut
 abbrev pub PiecesJoin : Type 0
@@ -25,6 +25,10 @@ RefusalsStay = (bytes more : List ℕ) (rs : List DumpRecord) (f : DumpFault) �
 -- a dump of the grammar is read as its records, and the reader then stands between two records
 abbrev pub DumpsAreRead : Type 0
 DumpsAreRead = (version : ℕ) (bytes : List ℕ) (rs : List DumpRecord) → DumpOf version bytes rs → dump bytes ≡ Reads rs (begin version at.Between (stage_behind First rs))
+
+-- the version block of format 2 leaves a reader where one begins that is behind it
+abbrev pub VersionIsRead : Type 0
+VersionIsRead = (bytes : List ℕ) → dump (version_line ++ 10 ∷ 10 ∷ bytes) ≡ reading (Reads [] behind_version) bytes
 
 -- what is read to an end between two records is a dump of the grammar, of the format that its first line names
 abbrev pub ReadsAreDumps : Type 0

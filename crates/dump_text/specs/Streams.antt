@@ -33,6 +33,10 @@ begin version place stage = record { version = version; place = place; stage = s
 abbrev pub fresh : ReadState
 fresh = begin 0 at.Version First
 
+-- behind the version block of format 2
+abbrev pub behind_version : ReadState
+behind_version = begin 2 at.Between First
+
 -- a record is whole
 abbrev pub given : List DumpRecord → ReadState → Option DumpRecord → Stream
 given rs r None = Refuses rs BadHeader

@@ -1,9 +1,10 @@
 //! Why a dump isn't taken.
 
 ghost use Rattle.std.specs.Prelude.{◌≡◌};
-ghost use Rattle.dump_text.specs.Faults.{number_of_fault};
+ghost use Rattle.dump_text.specs.Faults.{dump_refusal, number_of_fault};
 ghost use Rattle.dump_text.specs.declared.fault.DumpFault.TheVariants.{OutOfMemory};
 
+use node_base::Refusal;
 use std::alloc::{AllocError, AllocFailed};
 use thiserror::Error;
 
@@ -53,20 +54,28 @@ impl DumpFault {
     pub fn number(&self) -> u32
         ensures { result ≡ number_of_fault self.now }
     {
-        match self {
-            DumpFault::BadVersion => 1,
-            DumpFault::BadHeader => 2,
-            DumpFault::BadNumber => 3,
-            DumpFault::BadLength => 4,
-            DumpFault::BadProps => 5,
-            DumpFault::BadSum => 6,
-            DumpFault::Truncated => 7,
-            DumpFault::TooLong => 8,
-            DumpFault::TextDelta => 9,
-            DumpFault::BadPath => 10,
-            DumpFault::Failed => 32,
-            DumpFault::OutOfMemory => 70,
-        }
+        u32::from(dump_refusal(*self).number())
+    }
+}
+
+/// The refusal of the table that a fault is.
+pub fn dump_refusal(fault: DumpFault) -> Refusal
+    ensures value { result ≡ dump_refusal fault }
+    ensures no_peer { result ≡ Refusal.PeerFailed → ⊥ }
+{
+    match fault {
+        DumpFault::BadVersion => Refusal::BadVersion,
+        DumpFault::BadHeader => Refusal::BadHeader,
+        DumpFault::BadNumber => Refusal::BadNumber,
+        DumpFault::BadLength => Refusal::BadLength,
+        DumpFault::BadProps => Refusal::BadProps,
+        DumpFault::BadSum => Refusal::BadSum,
+        DumpFault::Truncated => Refusal::Truncated,
+        DumpFault::TooLong => Refusal::TooLong,
+        DumpFault::TextDelta => Refusal::TextDelta,
+        DumpFault::BadPath => Refusal::BadPath,
+        DumpFault::Failed => Refusal::Failed,
+        DumpFault::OutOfMemory => Refusal::OutOfMemory,
     }
 }
 

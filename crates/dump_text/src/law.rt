@@ -2,7 +2,7 @@
 
 ghost use Rattle.dump_text.specs.Laws.{PiecesJoin, RefusalsStay, DumpsAreRead, ReadsAreDumps, RefusalsHaveAByte};
 ghost use Rattle.dump_text.specs.Laws.{RefusedIsNoFront, OneReading, EntriesAreReadAgain, RevisionsAreReadAgain};
-ghost use Rattle.dump_text.specs.Laws.{WrittenIsRead, DumpsGoOn};
+ghost use Rattle.dump_text.specs.Laws.{WrittenIsRead, DumpsGoOn, VersionIsRead};
 ghost use Rattle.dump_text.specs.Refusals.{RefusedForCause, DueIsRefused};
 
 /// It doesn't matter how a dump is cut into pieces.
@@ -18,6 +18,11 @@ pub fn refusals_stay()
 /// A dump of the grammar is read as its records.
 pub fn dumps_are_read()
     ensures { DumpsAreRead }
+{}
+
+/// A reader behind the version block of format 2 reads as one that was fed it.
+pub fn version_is_read()
+    ensures { VersionIsRead }
 {}
 
 /// What is read to an end between two records is a dump of the grammar.

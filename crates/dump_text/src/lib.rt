@@ -1,7 +1,7 @@
 //! Dump text of Subversion, formats 2 and 3: bytes to records, and records to format 2, in any pieces.
 #![tactic(auto)]
 
-pub use fault::DumpFault;
+pub use fault::{DumpFault, dump_refusal};
 pub use reader::DumpReader;
 pub use record::{DumpRecord, NodeRecord, PropPart, RevRecord};
 pub use writer::{write_head, write_props_entry, write_revision};

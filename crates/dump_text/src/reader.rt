@@ -1,8 +1,8 @@
 //! Dumps that come in pieces.
 
 ghost use Rattle.std.specs.Prelude.{◌≡◌, ℕ, List, ◌≤◌, ◌+◌, length, Ok, Err, OnOk, OnErr, true, false, if◌then◌else◌};
-ghost use Rattle.dump_text.specs.Streams.{version_of, kept, StreamIs, Reads, fresh, spent, reading, dump, has_failed};
-ghost use Rattle.dump_text.specs.Streams.{is_between, IsFront};
+ghost use Rattle.dump_text.specs.Streams.{version_of, kept, StreamIs, Reads, fresh, behind_version, spent, reading, dump};
+ghost use Rattle.dump_text.specs.Streams.{has_failed, is_between, IsFront};
 ghost use Rattle.dump_text.specs.Grammar.{Dump};
 ghost use Rattle.dump_text.specs.declared.record.DumpRecord.{DumpRecord};
 ghost use Rattle.dump_text.specs.declared.fault.DumpFault.TheVariants.{Failed, Truncated};
@@ -43,6 +43,16 @@ impl DumpReader {
         DumpReader {
             alloc,
             state: ReadState::new(alloc),
+        }
+    }
+
+    /// Behind the version block of format 2, as if its bytes had come (`law::version_is_read`).
+    pub fn behind_version(alloc: Global) -> DumpReader
+        ensures { result ≡ behind_version }
+    {
+        DumpReader {
+            alloc,
+            state: ReadState::behind_version(alloc),
         }
     }
 

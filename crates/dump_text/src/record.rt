@@ -41,7 +41,22 @@ impl NodeRecord {
     }
 }
 
+// What a node's headers have, more or less.
+const NODE_BYTES: usize = 512;
+
 impl RevRecord {
+    /// Room for its spelling, more or less: its texts, and some bytes for each node.
+    pub fn room(&self) -> usize {
+        let mut room = NODE_BYTES;
+        for node in &self.nodes {
+            room = room.saturating_add(NODE_BYTES);
+            if let Some(text) = &node.text {
+                room = room.saturating_add(text.len());
+            }
+        }
+        room
+    }
+
     /// Whether that is so of each node, so that the revision may be written.
     pub fn is_whole(&self) -> bool
         ensures { result ≡ are_whole self.now.nodes.items }

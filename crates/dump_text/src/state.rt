@@ -4,10 +4,12 @@ ghost use Rattle.std.specs.Prelude.{◌≡◌, ◌≤◌, ◌<◌, ◌+◌, ◌+
 ghost use Rattle.std.specs.Prelude.{None, Ok, Err, IfOk, IfSome, OnErr, true, false, if◌then◌else◌};
 ghost use Rattle.md5.specs.Md5.{md5};
 ghost use Rattle.node_base.specs.Blocks.{begun};
-ghost use Rattle.dump_text.specs.Streams.{StreamIs, Reads, Refuses, begin, fresh, spent, has_failed, give, text_is};
+ghost use Rattle.dump_text.specs.Streams.{StreamIs, Reads, Refuses, begin, fresh, behind_version, spent, has_failed};
+ghost use Rattle.dump_text.specs.Streams.{give, text_is};
 ghost use Rattle.dump_text.specs.Streams.{after_block, content, judged, line_is, reading, sum_holds, is_line_place};
 ghost use Rattle.dump_text.specs.Streams.{is_failed, is_between, kept, of_prop_fault, of_text_fault, GoesOn, NoLf};
 ghost use Rattle.dump_text.specs.Streams.{IsFront};
+ghost use Rattle.dump_text.specs.declared.form.Stage.TheVariants.{First};
 ghost use Rattle.dump_text.specs.declared.state.Place.TheVariants as at;
 
 use crate::fault::DumpFault;
@@ -112,13 +114,13 @@ fn text_fault(fault: TextFault) -> DumpFault
 }
 
 impl ReadState {
-    /// Before the first byte.
-    pub fn new(alloc: Global) -> ReadState
-        ensures { result ≡ fresh }
+    // Nothing of an element has come.
+    fn begin(alloc: Global, version: u8, place: Place) -> ReadState
+        ensures { result ≡ begin version place First }
     {
         ReadState {
-            version: 0,
-            place: Place::Version,
+            version,
+            place,
             stage: Stage::First,
             head: Head::new(),
             block: BlockReader::new(alloc, 0),
@@ -127,19 +129,25 @@ impl ReadState {
         }
     }
 
+    /// Before the first byte.
+    pub fn new(alloc: Global) -> ReadState
+        ensures { result ≡ fresh }
+    {
+        ReadState::begin(alloc, 0, Place::Version)
+    }
+
+    /// Behind the version block of format 2.
+    pub fn behind_version(alloc: Global) -> ReadState
+        ensures { result ≡ behind_version }
+    {
+        ReadState::begin(alloc, 2, Place::Between)
+    }
+
     /// After a refusal: nothing is kept.
     pub fn spent(alloc: Global) -> ReadState
         ensures { result ≡ spent }
     {
-        ReadState {
-            version: 0,
-            place: Place::Failed,
-            stage: Stage::First,
-            head: Head::new(),
-            block: BlockReader::new(alloc, 0),
-            props: None,
-            held: HeldBytes::new(alloc),
-        }
+        ReadState::begin(alloc, 0, Place::Failed)
     }
 
     /// Whether bytes were refused.

@@ -104,6 +104,27 @@ fn refused_memory_is_answered(rt: HostRuntime) {
     assert!(rt; ends_well(rt.alloc(), 4096) && ends_well(rt.alloc(), 7));
 }
 
+// Whether a reader behind the version block reads this as one record, of format 2, and may end there.
+fn is_one_record(alloc: Global, bytes: &[u8]) -> bool {
+    let mut reader = DumpReader::behind_version(alloc);
+    let mut out = Vec::new(alloc);
+    reader.feed(bytes, &mut out).is_ok()
+        && out.len() == 1
+        && reader.version() == 2
+        && reader.finish().is_ok()
+}
+
+#[test]
+fn a_record_behind_the_version_block(rt: HostRuntime) {
+    assert!(rt;
+        is_one_record(
+            rt.alloc(),
+            b"Revision-number: 7\nProp-content-length: 10\n\nPROPS-END\n"
+        )
+    );
+    assert!(rt; !is_one_record(rt.alloc(), b"SVN-fs-dump-format-version: 2\n\n"));
+}
+
 /// Whether a reader keeps so many bytes of a dump's first bytes, and has read this number of the format.
 pub(crate) fn keeps(alloc: Global, bytes: &[u8], held: u128, version: u8) -> bool {
     let mut reader = DumpReader::new(alloc);

@@ -30,7 +30,7 @@ next_edit editor built set trees before after was is new over same at r = record
   calls = r.calls;
   taken = r.taken;
   spelled = r.spelled;
-  made = subst (λ z. IsSetWithin trees z r.calls) (sym at) (subst (λ t. IsSetWithin t (set_within built) r.calls) (same ∙ over) (r.shown [] new));
+  made = subst (λ z. IsSetWithin trees z r.calls) (sym at) (subst (λ t. IsSetWithin t (set_within built) r.calls) (same ∙ over) (λ n. (r.shown [] new n).0));
 }
 
 pub received_set : DriveIsReceived → (set : List Change) (trees : List PathMap) → ((s : List Change) → MayBeSent trees s → IsSent trees s) → (before after : Option (List ℕ)) (was is : List ℕ → Stream) → IsSetOfItems trees before after was is set → ReceivesSet trees set before after was is

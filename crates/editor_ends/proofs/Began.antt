@@ -29,7 +29,8 @@ use Rattle.delta_editor.specs.declared.fault.EditorFault.{EditorFault}
 use Rattle.delta_editor.specs.declared.fault.EditorFault.TheVariants as refusal
 use Rattle.editor_ends.specs.BuildFaults.{is_below, begun, begin_fault}
 use Rattle.editor_ends.specs.Built.{filled, is_taken, is_above, is_given, is_full, is_late_in, Made, Begins, First, Again}
-use Rattle.editor_ends.proofs.Filled.{Nodes, Gap, or_no, or_yes, or_swap, rest_itself, parts_stay, some_stays, none_in_gap, clear_in_gap, clear_of_deleted, all_of, all_two, all_append, all_front, all_rest, deleted_gone, there_above, not_both, above_through, not_below}
+use Rattle.editor_ends.proofs.Filled.{Nodes, Gap, or_no, or_yes, or_swap, rest_itself, parts_stay, some_stays, none_in_gap, clear_in_gap, clear_of_deleted, all_of, all_two, all_append, all_front, all_rest, deleted_gone, there_above, not_both, above_through, not_below, normal_amid, normal_without, later_than, gap_of}
+use Rattle.editor_ends.proofs.Sound.{sound_more, sound_again}
 
 -- ---- what is fresh
 
@@ -69,24 +70,6 @@ pub begin_faulty : (trees : List PathMap) (f : Nodes) (late : Bool) (x : Change)
 begin_faulty trees f late x e root l h = (λ i. option_or (fault_if (root i) refusal.BadPath) (option_or (fault_if (l i) refusal.OutOfOrder) (option_or (h i) None)))
 
 -- ---- the set with one more, or with another in one's place
-
-pub normal_amid : (front rest : List Change) (x : Change) → IsNormal (front ++ rest) → Follows front x → AllByRecursion (Precedes x) rest → IsWhole x → IsNormal (front ++ x ∷ rest)
-normal_amid [] rest x n f r w = (w, r, n)
-normal_amid (c ∷ front) rest x n f r w = (n.0, amid front rest (all_front _ front rest n.1) f.0 (all_rest _ front rest n.1), normal_amid front rest x n.2 f.1 r w)
-  where
-    amid : (s t : List Change) → AllByRecursion (Precedes c) s → Precedes c x → AllByRecursion (Precedes c) t → AllByRecursion (Precedes c) (s ++ x ∷ t)
-    amid s t h k l = all_append _ s (x ∷ t) h (k, l)
-
-pub normal_without : (front rest : List Change) (d : Change) → IsNormal (front ++ d ∷ rest) → IsNormal (front ++ rest)
-normal_without [] rest d n = n.2
-normal_without (c ∷ front) rest d n = (n.0, all_append _ front rest (all_front _ front (d ∷ rest) n.1) (all_rest _ front (d ∷ rest) n.1).1, normal_without front rest d n.2)
-
-pub later_than : (front rest : List Change) (d : Change) → IsNormal (front ++ d ∷ rest) → AllByRecursion (Precedes d) rest
-later_than [] rest d n = n.1
-later_than (c ∷ front) rest d n = later_than front rest d n.2
-
-pub gap_of : (front rest : List Change) (d : Change) → IsNormal (front ++ d ∷ rest) → Gap front rest d.path
-gap_of front rest d n = (all_of front (λ c h. h.rises) (normal_follows front rest d n), all_of rest (λ c h. h.rises) (later_than front rest d n))
 
 -- the change at a path where there was none
 pub change_at-amid : (front rest : List Change) (x : Change) → change_at (front ++ rest) x.path ≡ None → (p : Path) → change_at (front ++ x ∷ rest) p ≡ cond (same_path x.path p) (Some x) (change_at (front ++ rest) p)
@@ -194,8 +177,11 @@ module _ (trees : List PathMap) (tree new_tree : PathMap) (x : Change) (step : (
             at true h = h
             at false h = refl
 
-    pub begins_new : (late : is_late_in (front ++ rest) x ≡ false) → (same_path x.path [] && settles x.action) ≡ false → Begins trees tree (front ++ rest) new_tree (front ++ x ∷ rest) x
-    begins_new late root = record {
+    normal_new : IsNormal (front ++ x ∷ rest)
+    normal_new = normal_amid front rest x m.normal before after w
+
+    pub begins_new : (late : is_late_in (front ++ rest) x ≡ false) → (same_path x.path [] && settles x.action) ≡ false → (settles x.action ≡ false → x.text ≡ None) → Begins trees tree (front ++ rest) new_tree (front ++ x ∷ rest) x
+    begins_new late root bare = record {
       fault = begin_none trees (get tree) (is_late_in (front ++ rest) x) x root late fault;
       tree_is = step;
       made = record {
@@ -204,7 +190,8 @@ module _ (trees : List PathMap) (tree new_tree : PathMap) (x : Change) (step : (
             ∙ effect_one_more (map (filled (get tree)) front) (map (filled (get tree)) rest) x spread_none trees spread q
             ∙ (λ i. stepped trees (λ r. (ap (λ s. effect trees s r) (sym (map-append (filled (get tree)) front rest)) ∙ m.made r) i) x q)
             ∙ sym (step q);
-        normal = normal_amid front rest x m.normal before after w;
+        normal = normal_new;
+        faultless = sound_more trees front rest tree x m normal_new fault cleared bare;
         stands = stands_on trees tree new_tree (front ++ rest) (front ++ x ∷ rest) x m.stands free clear step (above-amid front rest x);
       };
       taken = taken-amid front rest x none;
@@ -261,7 +248,8 @@ module _ (trees : List PathMap) (tree new_tree : PathMap) (x : Change) (step : (
             ∙ (λ i. stepped trees (λ r. (ap (λ s. effect trees s r) (sym (map-append (filled (get tree)) front (d ∷ rest))) ∙ m.made r) i) replacing q)
             ∙ same_step q x.action adds
             ∙ sym (step q);
-        normal = normal_amid front rest replacing (normal_without front rest d m.normal) (all_of front (λ c h. record { rises = ap (path_cmp c.path) (sym same) ∙ h.rises; stands = λ e. ap (is_front c.path) (sym same) ∙ h.stands e }) (normal_follows front rest d m.normal)) (all_of rest (λ c h. record { rises = ap (λ p. path_cmp p c.path) (sym same) ∙ h.rises; stands = λ e. cc e }) (later_than front rest d m.normal)) (whole_again x.action adds w);
+        normal = normal_again;
+        faultless = sound_again trees front rest tree d x m same gone adds fault normal_again;
         stands = stands_on trees tree new_tree (front ++ d ∷ rest) (front ++ replacing ∷ rest) x m.stands free (λ _. nothing_below) step above;
       };
       taken = taken;
@@ -326,6 +314,9 @@ module _ (trees : List PathMap) (tree new_tree : PathMap) (x : Change) (step : (
         whole_again Add e w = w
         whole_again Delete e w = cc
         whole_again Replace e w = cc
+
+        normal_again : IsNormal (front ++ replacing ∷ rest)
+        normal_again = normal_amid front rest replacing (normal_without front rest d m.normal) (all_of front (λ c h. record { rises = ap (path_cmp c.path) (sym same) ∙ h.rises; stands = λ e. ap (is_front c.path) (sym same) ∙ h.stands e }) (normal_follows front rest d m.normal)) (all_of rest (λ c h. record { rises = ap (λ p. path_cmp p c.path) (sym same) ∙ h.rises; stands = λ e. cc e }) (later_than front rest d m.normal)) (whole_again x.action adds w)
 
         filled_again : filled (get new_tree) replacing ≡ replacing
         filled_again = λ i. record (fresh i) { action = Replace }

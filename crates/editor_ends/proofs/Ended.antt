@@ -16,15 +16,16 @@ use Rattle.dump_load.proofs.PathOrder.{less_differs, greater_differs, no_front_n
 use Rattle.dump_load.proofs.Bare.{effect_bare, counted_from_below}
 use Rattle.editor_ends.specs.BuildFaults.{is_below}
 use Rattle.editor_ends.specs.Built.{filled, is_full, is_given, is_taken, is_above, is_needed, is_idle, leads_on, IsLean, Keeps, Made, IsFilledOf, IsSetOver, IsTooMany}
-use Rattle.editor_ends.proofs.Filled.{Nodes, and_split, none_in_gap, normal-filled, or_no, or_yes, all_of, all_two, above_through}
-use Rattle.editor_ends.proofs.Began.{gap_of, normal_without, change_at-amid, above-amid}
+use Rattle.editor_ends.proofs.Filled.{Nodes, and_split, none_in_gap, normal-filled, or_no, or_yes, all_of, all_two, above_through, gap_of, normal_without}
+use Rattle.editor_ends.proofs.Began.{change_at-amid, above-amid}
+use Rattle.editor_ends.proofs.Sound.{fault_filled, sound_less}
 use Rattle.editor_ends.proofs.Walks.{front_rest}
 
 pub keeps_same : (trees : List PathMap) (s new : List Change) → new ≡ s → IsNormal s → Keeps trees s new
-keeps_same trees s new e n = subst (Keeps trees s) (sym e) (record { normal = n; effect_is = λ q. refl; above = λ p. refl; stays = λ p c h. h; keeps = λ p c h k. h })
+keeps_same trees s new e n = subst (Keeps trees s) (sym e) (record { normal = n; faultless = λ h. h; effect_is = λ q. refl; above = λ p. refl; stays = λ p c h. h; keeps = λ p c h k. h })
 
 pub keeps_twice : (trees : List PathMap) (s t u : List Change) → Keeps trees s t → Keeps trees t u → Keeps trees s u
-keeps_twice trees s t u a b = record { normal = b.normal; effect_is = λ q. b.effect_is q ∙ a.effect_is q; above = λ p. b.above p ∙ a.above p; stays = λ p c h. a.stays p c (b.stays p c h); keeps = λ p c h k. b.keeps p c (a.keeps p c h k) (elim k as (λ _. (is_full c ≡ true) ⊎ (is_above t p ≡ false)) [ inl e ↦ inl e | inr e ↦ inr (a.above p ∙ e) ]) }
+keeps_twice trees s t u a b = record { normal = b.normal; faultless = λ h. b.faultless (a.faultless h); effect_is = λ q. b.effect_is q ∙ a.effect_is q; above = λ p. b.above p ∙ a.above p; stays = λ p c h. a.stays p c (b.stays p c h); keeps = λ p c h k. b.keeps p c (a.keeps p c h k) (elim k as (λ _. (is_full c ≡ true) ⊎ (is_above t p ≡ false)) [ inl e ↦ inl e | inr e ↦ inr (a.above p ∙ e) ]) }
 
 -- one behind the others
 pub keeps_behind : (trees : List PathMap) (rest old new : List Change) (c : Change) → new ≡ old ++ c ∷ [] → IsNormal (old ++ c ∷ rest) → Keeps trees (old ++ c ∷ rest) (new ++ rest)
@@ -106,6 +107,7 @@ keeps_idle trees rest old front new l c o e idle n =
       stays = stays;
       keeps = keeps;
       normal = normal_without front (c ∷ rest) l normal;
+      faultless = λ h. sound_less trees front (c ∷ rest) l normal bare.stays bare.text h;
       effect_is = λ q. sym (effect_bare trees front (c ∷ rest) l bare (none_in_gap front (c ∷ rest) l.path (gap_of front (c ∷ rest) l normal)) (counted_from_below (front ++ c ∷ rest) l.path below) q);
     }
 
@@ -286,7 +288,7 @@ pub over_all : (trees : List PathMap) (tree : PathMap) (changes kept : List Chan
 over_all trees tree changes kept m k lean few =
     let n = normal-filled (get tree) changes m.normal in
     let h = subst (Keeps trees (map (filled (get tree)) changes)) (append-nil kept) (k n) in
-    record { normal = h.normal; effect_is = λ q. h.effect_is q ∙ m.made q; needed = needed_all (get tree) trees changes kept h (lean n); whole = whole_all (get tree) trees changes kept m.normal h; stems = stems_all (get tree) trees changes kept h; few = few }
+    record { normal = h.normal; faultless = h.faultless (fault_filled trees (get tree) changes m.normal ∙ m.faultless); effect_is = λ q. h.effect_is q ∙ m.made q; needed = needed_all (get tree) trees changes kept h (lean n); whole = whole_all (get tree) trees changes kept m.normal h; stems = stems_all (get tree) trees changes kept h; few = few }
 
 pub too_large : (trees : List PathMap) (tree : PathMap) (changes kept : List Change) → Made trees tree changes → (IsNormal (map (filled (get tree)) changes) → Keeps trees (map (filled (get tree)) changes) (kept ++ [])) → (IsNormal (map (filled (get tree)) changes) → IsLean kept) → 4096 < length kept → IsTooMany trees (get tree) changes
 too_large trees tree changes kept m k lean many =

@@ -12,7 +12,7 @@ use Rattle.node_base.specs.Tree.{PathMap, with_number, marked, changed_at, graft
 use Rattle.node_base.specs.declared.node.Node.{Node}
 use Rattle.node_base.specs.declared.fault.TreeFault.TheVariants.{NoSuchPath, NotDir}
 use Rattle.dump_load.specs.declared.change.Change.{Change}
-use Rattle.dump_load.specs.Changes.{settles, is_delete, brings, change_at, IsClear, IsWhole, IsNormal, Precedes}
+use Rattle.dump_load.specs.Changes.{settles, is_delete, brings, change_at, IsClear, IsWhole, IsNormal, Precedes, Follows}
 use Rattle.dump_load.specs.Effect.{effect, stepped, arrives, with_parts}
 use Rattle.dump_load.proofs.PathOrder.{no_front_none, less_differs, greater_differs}
 use Rattle.dump_load.proofs.OneMore.{clear_of_follows}
@@ -149,6 +149,25 @@ all_rest P (c ∷ s) t h = all_rest P s t h.1
 pub none_in_gap : (front rest : List Change) (p : Path) → Gap front rest p → change_at (front ++ rest) p ≡ None
 none_in_gap front rest p g = none_apart (front ++ rest) p (all_append _ front rest (all_of front (λ c h. less_differs c.path p h) g.0) (all_of rest (λ c h. greater_differs p c.path h) g.1))
 
+-- one more in a normal set, and one less
+pub normal_amid : (front rest : List Change) (x : Change) → IsNormal (front ++ rest) → Follows front x → AllByRecursion (Precedes x) rest → IsWhole x → IsNormal (front ++ x ∷ rest)
+normal_amid [] rest x n f r w = (w, r, n)
+normal_amid (c ∷ front) rest x n f r w = (n.0, amid front rest (all_front _ front rest n.1) f.0 (all_rest _ front rest n.1), normal_amid front rest x n.2 f.1 r w)
+  where
+    amid : (s t : List Change) → AllByRecursion (Precedes c) s → Precedes c x → AllByRecursion (Precedes c) t → AllByRecursion (Precedes c) (s ++ x ∷ t)
+    amid s t h k l = all_append _ s (x ∷ t) h (k, l)
+
+pub normal_without : (front rest : List Change) (d : Change) → IsNormal (front ++ d ∷ rest) → IsNormal (front ++ rest)
+normal_without [] rest d n = n.2
+normal_without (c ∷ front) rest d n = (n.0, all_append _ front rest (all_front _ front (d ∷ rest) n.1) (all_rest _ front (d ∷ rest) n.1).1, normal_without front rest d n.2)
+
+pub later_than : (front rest : List Change) (d : Change) → IsNormal (front ++ d ∷ rest) → AllByRecursion (Precedes d) rest
+later_than [] rest d n = n.1
+later_than (c ∷ front) rest d n = later_than front rest d n.2
+
+pub gap_of : (front rest : List Change) (d : Change) → IsNormal (front ++ d ∷ rest) → Gap front rest d.path
+gap_of front rest d n = (all_of front (λ c h. h.rises) (normal_follows front rest d n), all_of rest (λ c h. h.rises) (later_than front rest d n))
+
 -- none is above where nothing is changed below
 pub not_below : (s : List Change) (p : Path) → is_above s p ≡ false → AllByRecursion (λ c. is_below p c.path ≡ false) s
 not_below [] p e = tt
@@ -170,11 +189,7 @@ clear_in_gap front rest x g e =
 pub clear_of_deleted : (front rest : List Change) (d : Change) → IsNormal (front ++ d ∷ rest) → is_delete d.action ≡ true → IsClear (front ++ rest) d
 clear_of_deleted front rest d n del =
     all_append _ front rest (clear_of_follows front d (normal_follows front rest d n))
-    (all_of rest (λ e h. no_front_none d.path e.path (h.stands del)) (later front n))
-  where
-    later : (front : List Change) → IsNormal (front ++ d ∷ rest) → AllByRecursion (Precedes d) rest
-    later [] n = n.1
-    later (c ∷ front) n = later front n.2
+    (all_of rest (λ e h. no_front_none d.path e.path (h.stands del)) (later_than front rest d n))
 
 -- ---- one step
 

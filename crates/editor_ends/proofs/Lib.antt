@@ -19,5 +19,6 @@ pub mod Partfree
 pub mod Places
 pub mod Showing
 pub mod Shows
+pub mod Sound
 pub mod Unrefused
 pub mod Walks

@@ -1,6 +1,6 @@
 -- A change that a call begins, where a search has found its place.
-use Rattle.std.proofs.Common.{◌≡◌, ℕ, ◌<◌, ◌+◌, Bool, true, false, not, ◌&&◌, ◌||◌, List, [], ◌∷◌, ◌++◌, length, take, drop, get_or, Option, Some, None, IsSome, is_some, Ok, Err, refl, sym, ap, subst, ◌∙◌, suc, zero}
-use Rattle.std.specs.Prelude.{slice_set}
+use Rattle.std.proofs.Common.{◌≡◌, ℕ, ◌<◌, ◌+◌, Bool, true, false, cond, not, ◌&&◌, ◌||◌, List, [], ◌∷◌, ◌++◌, length, take, drop, get_or, Option, Some, None, IsSome, is_some, Ok, Err, refl, sym, ap, subst, ◌∙◌, suc, zero}
+use Rattle.std.specs.Prelude.{slice_set, is_none}
 use Rattle.std.specs.Option.{option_map, option_map_or}
 use Rattle.std.specs.List.{AllByRecursion, slice_get}
 use Rattle.std.proofs.lemmas.List.{take-append-drop}
@@ -23,7 +23,7 @@ use Rattle.dump_load.proofs.Faultless.{faultless}
 use Rattle.delta_editor.specs.Faults.{refused}
 use Rattle.delta_editor.specs.declared.fault.EditorFault.{EditorFault}
 use Rattle.delta_editor.specs.declared.fault.EditorFault.TheVariants as refusal
-use Rattle.editor_ends.specs.BuildFaults.{is_below, begin_fault}
+use Rattle.editor_ends.specs.BuildFaults.{is_below, blank_text, begin_fault}
 use Rattle.editor_ends.specs.Built.{filled, is_taken, is_above, is_late_in, Made, Begins, IsFresh, IsFaultOr, Placed}
 use Rattle.editor_ends.proofs.Filled.{Nodes, none_in_gap, deleted_gone, or_yes}
 use Rattle.editor_ends.proofs.Began.{fresh_begun, begin_late, begin_faulty, begins_new, begins_again}
@@ -32,6 +32,16 @@ use Rattle.editor_ends.proofs.Shows.{either, fault_or}
 
 fresh_now : (trees : List PathMap) (f g : Nodes) (x : Change) → IsFresh x → g x.path ≡ stepped trees f x x.path → filled g x ≡ x
 fresh_now trees f g x is step = ap (filled g) is ∙ fresh_begun trees f g x.action x.kind x.path x.source (step ∙ ap (λ z. stepped trees f z x.path) is) ∙ sym is
+
+-- a change of what is there begins without a text
+fresh_bare : (x : Change) → IsFresh x → settles x.action ≡ false → x.text ≡ None
+fresh_bare x is stays = ap (λ (c : Change). c.text) is ∙ ap (λ b. cond (b && is_none x.source) (blank_text x.kind) None) (no_add x.action stays)
+  where
+    no_add : (a : Action) → settles a ≡ false → is_add a ≡ false
+    no_add Modify e = refl
+    no_add Add e = cc
+    no_add Delete e = cc
+    no_add Replace e = cc
 
 no_deletion : (a : Action) → (is_add a || not (settles a)) ≡ true → is_delete a ≡ false
 no_deletion Modify e = refl
@@ -55,7 +65,7 @@ module _ (trees : List PathMap) (tree new_tree : PathMap) (s : List Change) (i :
   put_new clear late w fresh root step fault new e =
       subst (λ z. Begins trees tree s new_tree z x) (sym e)
       (subst (λ z. Begins trees tree z new_tree (take i s ++ x ∷ drop i s) x) (take-append-drop i s)
-      (begins_new trees tree new_tree x step w (fresh_now trees (get tree) (get new_tree) x fresh (step x.path)) fault (take i s) (drop i s) spread p (λ k. ap (λ z. is_above z x.path) (take-append-drop i s) ∙ clear k) (ap (λ z. is_late_in z x) (take-append-drop i s) ∙ late) root))
+      (begins_new trees tree new_tree x step w (fresh_now trees (get tree) (get new_tree) x fresh (step x.path)) fault (take i s) (drop i s) spread p (λ k. ap (λ z. is_above z x.path) (take-append-drop i s) ∙ clear k) (ap (λ z. is_late_in z x) (take-append-drop i s) ∙ late) root (fresh_bare x fresh)))
 
   -- what is added isn't there, so nothing is changed below it
   free_below : (is_add x.action || not (settles x.action)) ≡ true → fault_of trees (get tree) x ≡ None → settles x.action ≡ true → is_above s x.path ≡ false

@@ -8,14 +8,16 @@ use Rattle.std.specs.FinMap as finite
 use Rattle.std.specs.FinMap.{get}
 use Rattle.node_base.specs.Path.{Path, Name, path_cmp, same_path}
 use Rattle.node_base.specs.Props.{PropMap}
-use Rattle.node_base.specs.Tree.{PathMap, changed_at, with_given}
+use Rattle.node_base.specs.Tree.{PathMap, blocked, changed_at, kind_of, with_given}
 use Rattle.node_base.specs.NodeEdits.{prop_put, with_prop, with_piece}
 use Rattle.node_base.specs.declared.node.Action.{Action}
 use Rattle.node_base.specs.declared.node.Action.TheVariants.{Modify, Add, Delete, Replace}
 use Rattle.node_base.specs.declared.node.Node.{Node}
+use Rattle.node_base.specs.declared.node.NodeKind.TheVariants.{File, Dir}
 use Rattle.dump_load.specs.declared.change.Change.{Change}
 use Rattle.dump_load.specs.Changes.{settles, is_delete, brings, change_at, IsWhole, IsNormal, regiven, is_described}
 use Rattle.dump_load.specs.Effect.{effect}
+use Rattle.dump_load.specs.Faults.{fault}
 use Rattle.dump_load.proofs.PathOrder.{less_differs, greater_differs}
 use Rattle.dump_load.proofs.Reparted.{effect_reparted}
 use Rattle.dump_load.proofs.Walk.{normal_follows, whole_in}
@@ -25,16 +27,17 @@ use Rattle.std.specs.Prelude.{slice_set}
 use Rattle.std.specs.List.{slice_get}
 use Rattle.std.proofs.lemmas.Option.{slice_get-get_or}
 use Rattle.node_base.specs.declared.fault.TreeFault.{TreeFault}
-use Rattle.node_base.specs.declared.fault.TreeFault.TheVariants.{KindMismatch}
+use Rattle.node_base.specs.declared.fault.TreeFault.TheVariants.{NoSuchPath, KindMismatch}
 use Rattle.path_tree.specs.Calls.{Answers, is_dir, change_fault, text_fault}
 use Rattle.path_tree.specs.NodeCalls.{piece_fault}
 use Rattle.path_tree.proofs.Faults.{first_none, second_none, test_fails}
 use Rattle.editor_ends.proofs.Places.{split_at, set_at}
 use Rattle.editor_ends.proofs.Given.{changed_alike}
-use Rattle.editor_ends.proofs.Filled.{Nodes, or_yes, SameParts, same_all, none_in_gap, all_of}
-use Rattle.editor_ends.proofs.Began.{gap_of, normal_without, normal_amid, later_than, change_at-amid, taken-amid, given-amid, above-amid}
+use Rattle.editor_ends.proofs.Filled.{Nodes, or_yes, SameParts, same_all, none_in_gap, all_of, gap_of, normal_without, normal_amid, later_than}
+use Rattle.editor_ends.proofs.Began.{change_at-amid, taken-amid, given-amid, above-amid}
+use Rattle.editor_ends.proofs.Sound.{sound_props, sound_text}
 
-module _ (trees : List PathMap) (tree new_tree : PathMap) (front rest : List Change) (c e : Change) (m : Made trees tree (front ++ c ∷ rest)) (k : Change → Change) (becomes : e ≡ k c) (full : is_full e ≡ true) (same : e.path ≡ c.path) (does : e.action ≡ c.action) (whole : IsWhole c → IsWhole e) (g : Node → Node) (step : (q : Path) → get new_tree q ≡ changed_at (get tree) c.path g q) (text : Option (List ℕ)) (props : Option PropMap) (is : filled (get new_tree) e ≡ regiven text props (filled (get tree) c)) (gives : (x : Node) → get tree c.path ≡ Some x → with_given text props x ≡ g x) where
+module _ (trees : List PathMap) (tree new_tree : PathMap) (front rest : List Change) (c e : Change) (m : Made trees tree (front ++ c ∷ rest)) (k : Change → Change) (becomes : e ≡ k c) (full : is_full e ≡ true) (same : e.path ≡ c.path) (does : e.action ≡ c.action) (whole : IsWhole c → IsWhole e) (g : Node → Node) (step : (q : Path) → get new_tree q ≡ changed_at (get tree) c.path g q) (text : Option (List ℕ)) (props : Option PropMap) (is : filled (get new_tree) e ≡ regiven text props (filled (get tree) c)) (gives : (x : Node) → get tree c.path ≡ Some x → with_given text props x ≡ g x) (sound : IsNormal (front ++ e ∷ rest) → fault trees (front ++ e ∷ rest) ≡ None) where
   none : change_at (front ++ rest) c.path ≡ None
   none = none_in_gap front rest c.path (gap_of front rest c m.normal)
 
@@ -81,6 +84,7 @@ module _ (trees : List PathMap) (tree new_tree : PathMap) (front rest : List Cha
       numbered = m.numbered;
       made = given_made;
       normal = normal;
+      faultless = sound normal;
       stands = λ p h. subst IsSome (sym (step p)) (mapped _ (get tree p) (m.stands p (sym (above p) ∙ h)));
     };
     taken = λ q. taken-amid front rest e none_e q ∙ (λ i. is_taken (front ++ rest) q || (same_path (same i) q && not (is_delete (does i)))) ∙ sym (taken-amid front rest c none q);
@@ -154,6 +158,7 @@ pub gives_props : (trees : List PathMap) (tree new_tree : PathMap) (front rest :
 gives_props trees tree new_tree front rest c name value stands m step =
     gives_parts trees tree new_tree front rest c (giving_props c) m giving_props refl (or_yes (settles c.action)) refl refl (whole_props c stands) (with_prop name value) step None (Some (new_props name value c (get tree c.path))) (ap (props_of c) (step c.path ∙ here_changed (get tree) c.path (with_prop name value)) ∙ props_after name value c (get tree c.path))
     (λ x e. λ i. record { text = x.text; props = new_props name value c (e i); changed = x.changed })
+    (λ n. sound_props trees front rest c m.normal n m.faultless)
 
 abbrev pub new_text : (Node → Node) → Change → Option Node → List ℕ
 new_text g c o = option_map_or (λ x. unwrap_or (g x).text (unwrap_or c.text [])) o (unwrap_or c.text [])
@@ -170,13 +175,26 @@ some_is : (o : Option (List ℕ)) (t : List ℕ) → IsSome o → Some (unwrap_o
 some_is None t h = cc h
 some_is (Some s) t h = refl
 
-pub gives_text : (trees : List PathMap) (tree new_tree : PathMap) (front rest : List Change) (c : Change) (g : Node → Node) → ((x : Node) → (g x).props ≡ x.props) → ((x : Node) → (g x).changed ≡ x.changed) → ((x : Node) → get tree c.path ≡ Some x → IsSome (g x).text) → is_delete c.action ≡ false → Made trees tree (front ++ c ∷ rest) → ((q : Path) → get new_tree q ≡ changed_at (get tree) c.path g q) → Gives trees tree (front ++ c ∷ rest) new_tree (front ++ giving_text c ∷ rest) c.path g giving_text
-gives_text trees tree new_tree front rest c g props number has stands m step =
+pub gives_text : (trees : List PathMap) (tree new_tree : PathMap) (front rest : List Change) (c : Change) (g : Node → Node) → ((x : Node) → (g x).props ≡ x.props) → ((x : Node) → (g x).changed ≡ x.changed) → ((x : Node) → get tree c.path ≡ Some x → IsSome (g x).text) → is_delete c.action ≡ false → option_map kind_of (get tree c.path) ≡ Some File → Made trees tree (front ++ c ∷ rest) → ((q : Path) → get new_tree q ≡ changed_at (get tree) c.path g q) → Gives trees tree (front ++ c ∷ rest) new_tree (front ++ giving_text c ∷ rest) c.path g giving_text
+gives_text trees tree new_tree front rest c g props number has stands file m step =
     gives_parts trees tree new_tree front rest c (giving_text c) m giving_text refl (ap (λ b. settles c.action || b) (or_yes (is_some c.props)) ∙ or_yes (settles c.action)) refl refl (whole_text c stands) g step (Some (new_text g c (get tree c.path))) None (ap (text_of c) (step c.path ∙ here_changed (get tree) c.path g) ∙ text_after g c props (get tree c.path))
     (λ x e. λ i. record { text = text_is x e i; props = sym (props x) i; changed = sym (number x) i })
+    (λ n. sound_text trees front rest tree c m n stands file)
   where
     text_is : (x : Node) → get tree c.path ≡ Some x → Some (new_text g c (get tree c.path)) ≡ (g x).text
     text_is x e = ap (λ o. Some (option_map_or (λ y. unwrap_or (g y).text (unwrap_or c.text [])) o (unwrap_or c.text []))) e ∙ some_is (g x).text (unwrap_or c.text []) (has x e)
+
+-- a text is given to a file alone
+file_there : (f : Nodes) (p : Path) → text_fault f p ≡ None → option_map kind_of (f p) ≡ Some File
+file_there f p e = at (f p) (test_fails (is_none (f p)) NoSuchPath (second_none (blocked f p) _ (first_none (change_fault f p) _ e))) (test_fails (is_dir (f p)) KindMismatch (second_none (change_fault f p) _ e))
+  where
+    there : (t : Option (List ℕ)) → is_none t ≡ false → cond (is_some t) File Dir ≡ File
+    there None d = cc
+    there (Some t) d = refl
+
+    at : (o : Option Node) → is_none o ≡ false → is_dir o ≡ false → option_map kind_of o ≡ Some File
+    at None n d = cc
+    at (Some x) n d = ap Some (there x.text d)
 
 -- ---- at the place that a search found
 
@@ -195,20 +213,23 @@ module _ (trees : List PathMap) (tree new_tree : PathMap) (s : List Change) (i :
       subst (λ z. Gives trees tree s new_tree z p g k) (sym (set_at s i e here ∙ ap (λ x. take i s ++ x ∷ drop (i + 1) s) is))
       (subst (λ z. Gives trees tree z new_tree (take i s ++ f ∷ drop (i + 1) s) p g k) (sym (split_at s i d here at)) (subst (λ z. Gives trees tree (take i s ++ d ∷ drop (i + 1) s) new_tree (take i s ++ f ∷ drop (i + 1) s) z g k) found_path h))
 
+  file_at : text_fault (get tree) p ≡ None → option_map kind_of (get tree d.path) ≡ Some File
+  file_at fault = ap (λ z. option_map kind_of (get tree z)) found_path ∙ file_there (get tree) p fault
+
   pub props_at : (name : Name) (value : Option (List ℕ)) → e ≡ giving_props d → ((q : Path) → get new_tree q ≡ changed_at (get tree) p (with_prop name value) q) → Gives trees tree s new_tree (slice_set s i e) p (with_prop name value) giving_props
   props_at name value is step =
       brought_back (giving_props d) (with_prop name value) giving_props is
       (gives_props trees tree new_tree (take i s) (drop (i + 1) s) d name value stands split_made (λ q. step q ∙ ap (λ z. changed_at (get tree) z (with_prop name value) q) (sym found_path)))
 
-  pub started_at : e ≡ giving_text d → ((q : Path) → get new_tree q ≡ changed_at (get tree) p (with_given (Some []) None) q) → Gives trees tree s new_tree (slice_set s i e) p (with_given (Some []) None) giving_text
-  started_at is step =
+  pub started_at : e ≡ giving_text d → text_fault (get tree) p ≡ None → ((q : Path) → get new_tree q ≡ changed_at (get tree) p (with_given (Some []) None) q) → Gives trees tree s new_tree (slice_set s i e) p (with_given (Some []) None) giving_text
+  started_at is fault step =
       brought_back (giving_text d) (with_given (Some []) None) giving_text is
-      (gives_text trees tree new_tree (take i s) (drop (i + 1) s) d (with_given (Some []) None) (λ x. refl) (λ x. refl) (λ x h. refl) stands split_made (λ q. step q ∙ ap (λ z. changed_at (get tree) z (with_given (Some []) None) q) (sym found_path)))
+      (gives_text trees tree new_tree (take i s) (drop (i + 1) s) d (with_given (Some []) None) (λ x. refl) (λ x. refl) (λ x h. refl) stands (file_at fault) split_made (λ q. step q ∙ ap (λ z. changed_at (get tree) z (with_given (Some []) None) q) (sym found_path)))
 
   pub appended_at : (piece : List ℕ) → e ≡ giving_text d → piece_fault (get tree) p piece ≡ None → ((q : Path) → get new_tree q ≡ changed_at (get tree) p (with_piece piece) q) → Gives trees tree s new_tree (slice_set s i e) p (with_piece piece) giving_text
   appended_at piece is fault step =
       brought_back (giving_text d) (with_piece piece) giving_text is
-      (gives_text trees tree new_tree (take i s) (drop (i + 1) s) d (with_piece piece) (λ x. refl) (λ x. refl) (λ x h. longer x.text (has_text (get tree p) x (test_fails (is_dir (get tree p)) KindMismatch (second_none (change_fault (get tree) p) _ (first_none (text_fault (get tree) p) _ fault))) (ap (get tree) (sym found_path) ∙ h))) stands split_made (λ q. step q ∙ ap (λ z. changed_at (get tree) z (with_piece piece) q) (sym found_path)))
+      (gives_text trees tree new_tree (take i s) (drop (i + 1) s) d (with_piece piece) (λ x. refl) (λ x. refl) (λ x h. longer x.text (has_text (get tree p) x (test_fails (is_dir (get tree p)) KindMismatch (second_none (change_fault (get tree) p) _ (first_none (text_fault (get tree) p) _ fault))) (ap (get tree) (sym found_path) ∙ h))) stands (file_at (first_none (text_fault (get tree) p) _ fault)) split_made (λ q. step q ∙ ap (λ z. changed_at (get tree) z (with_piece piece) q) (sym found_path)))
     where
       has_text : (o : Option Node) (x : Node) → is_dir o ≡ false → o ≡ Some x → IsSome x.text
       has_text o x e h = there x.text (ap is_dir (sym h) ∙ e)

@@ -19,6 +19,7 @@ use Rattle.dump_load.specs.declared.change.Change.{Change}
 use Rattle.dump_load.specs.Changes.{is_delete, change_at, IsNormal}
 use Rattle.dump_load.specs.Effect.{effect, stepped}
 use Rattle.dump_load.specs.Faults.{fault_if}
+use Rattle.dump_load.proofs.EffectTrees.{effect_tree_is}
 use Rattle.dump_load.proofs.Walk.{effect_none}
 use Rattle.delta_editor.specs.declared.call.Call.{Call}
 use Rattle.delta_editor.specs.declared.call.Call.TheVariants as call
@@ -29,7 +30,7 @@ use Rattle.delta_editor.specs.declared.fault.EditorFault.TheVariants as refusal
 use Rattle.delta_editor.proofs.CallLemmas.{all_called-append}
 use Rattle.editor_ends.specs.BuildFaults.{is_below, takes, acts_below, gives, is_changed, begin_fault, beginning, call_fault, refusal_after, first_refusal, IsCallRefusal, OfMemory, OfCall, OfSize, RefusesWithin}
 use Rattle.editor_ends.specs.BuildFaults as faults
-use Rattle.editor_ends.specs.Built.{is_taken, is_above, is_given, is_full, is_needed, is_late_in, Made, Begins, Gives, IsFaultOr, IsSetOver, IsFinishRefusal, seen, giving_props, giving_text, AreBare, AreBlank, Builds, BuildsWithin, IsSetWithin}
+use Rattle.editor_ends.specs.Built.{is_taken, is_above, is_given, is_full, is_needed, is_late_in, Made, Begins, Gives, IsFaultOr, IsSetOver, IsFinishRefusal, seen, giving_props, giving_text, AreBare, AreBlank, Builds, BuildsWithin, IsBuiltOf}
 use Rattle.editor_ends.specs.Built as built
 use Rattle.editor_ends.proofs.Asked.{or_none, or_assoc, AskedStep, AsksNothing, AsksFor, Tells, one_more, stays, begun_step, begun_bare, begun_blank, given_step, given_bare, given_blank, asked_end}
 use Rattle.editor_ends.proofs.Filled.{Nodes, or_no, or_yes, all_of}
@@ -563,7 +564,7 @@ refuses_given trees tree s c p e fault none open_at same h calls builds t r =
 pub new_shown : (trees : List PathMap) (tree : PathMap) → length trees ≤ 65535 → ((q : Path) → get tree q ≡ effect trees [] q) → BuildsWithin trees tree [] []
 new_shown trees tree few is stage e = subst (Builds trees tree [] []) (same_stage Before stage e) (record {
   called = λ q. is q ∙ effect_none trees q;
-  made = record { numbered = few; made = λ q. sym (is q); normal = tt; stands = λ p h. cc };
+  made = record { numbered = few; made = λ q. sym (is q); normal = tt; faultless = refl; stands = λ p h. cc };
   taken = λ p. refl;
   above = λ p. refl;
   given = λ p. refl;
@@ -588,21 +589,22 @@ change_end calls p = λ i. none (gives p) refl i || (none (takes p) refl i && no
     none : (test : Call → Bool) → test call.CloseEdit ≡ false → list_any test (calls ++ call.CloseEdit ∷ []) ≡ list_any test calls
     none test e = list_any-append test calls (call.CloseEdit ∷ []) ∙ ap (λ b. list_any test calls || (b || false)) e ∙ or_no (list_any test calls)
 
-pub adds_end : (trees : List PathMap) (tree : PathMap) (s set : List Change) → (Made trees tree s → IsSetOver trees (get tree) s set) → (calls : List Call) → BuildsWithin trees tree s calls → IsSetWithin trees set (calls ++ call.CloseEdit ∷ [])
+pub adds_end : (trees : List PathMap) (tree : PathMap) (s set : List Change) → (Made trees tree s → IsSetOver trees (get tree) s set) → (calls : List Call) → BuildsWithin trees tree s calls → IsBuiltOf trees set tree (calls ++ call.CloseEdit ∷ [])
 adds_end trees tree s set h calls builds e =
     let l = last calls call.CloseEdit After e in
     let b = builds l.stage l.ran in
     let o = h b.made in
     let nodes : (q : Path) → get tree q ≡ call_effect trees (calls ++ call.CloseEdit ∷ []) q = λ q. b.called q ∙ ends_within l.stage l.goes trees (call_effect trees calls) q ∙ (λ i. sym (all_called-append trees (base trees) calls (call.CloseEdit ∷ [])) i q) in
-    record {
+    (record {
       unrefused = first-end trees calls call.CloseEdit b.unrefused refl;
       normal = o.normal;
+      faultless = o.faultless;
       effect_is = λ q. o.effect_is q ∙ nodes q;
       changed = all_of set (λ c k. change_end calls c.path ∙ sym (needs_change trees tree s calls l.stage b c.path) ∙ k) o.needed;
       whole = λ p k. o.whole p (needs_change trees tree s calls l.stage b p ∙ sym (change_end calls p) ∙ k);
       asked = all_of set (λ c stem. asked_end trees calls s (get tree) c b.asked b.blank nodes stem) o.stems;
       few = o.few;
-    }
+    }, record { faultless = o.faultless; effect = effect_tree_is trees set tree (λ q. sym (o.effect_is q)) })
 
 pub refuses_end : (trees : List PathMap) (tree : PathMap) (s : List Change) (e : EditorFault) → (Made trees tree s → IsFinishRefusal trees (get tree) s e) → (calls : List Call) → BuildsWithin trees tree s calls → RefusesWithin trees calls call.CloseEdit e
 refuses_end trees tree s e h calls builds t r = at (h b.made)

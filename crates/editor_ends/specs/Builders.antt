@@ -5,7 +5,7 @@ use Rattle.delta_editor.specs.declared.call.Call.{Call}
 use Rattle.dump_load.specs.declared.change.Change.{Change}
 use Rattle.editor_ends.specs.declared.build.BuildEditor.{BuildEditor}
 use Rattle.editor_ends.specs.declared.build.Built.{Built}
-use Rattle.editor_ends.specs.Built.{BuildsWithin, IsSetWithin}
+use Rattle.editor_ends.specs.Built.{BuildsWithin, IsBuiltOf}
 
 abbrev pub has_shown : BuildEditor → List Call → Type 0
 has_shown e calls = BuildsWithin e.trees.now e.tree e.changes.items calls
@@ -23,4 +23,4 @@ built_over d = d.trees.now
 
 -- it was made of these calls
 abbrev pub is_made_of : Built → List Call → Type 0
-is_made_of d calls = IsSetWithin d.trees.now d.set calls
+is_made_of d calls = IsBuiltOf d.trees.now d.set d.tree calls

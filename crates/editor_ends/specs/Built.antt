@@ -17,6 +17,8 @@ use Rattle.path_tree.specs.declared.error.TreeError.TheVariants as error
 use Rattle.delta_editor.specs.Faults.{refused}
 use Rattle.std.specs.Prelude.{is_none, is_some}
 use Rattle.dump_load.specs.Effect.{effect, stepped}
+use Rattle.dump_load.specs.Faults.{fault}
+use Rattle.dump_load.specs.Trees.{Makes}
 use Rattle.delta_editor.specs.declared.call.Call.{Call}
 use Rattle.delta_editor.specs.CallEffect.{call_effect}
 use Rattle.delta_editor.specs.Nesting.{Stage, Before, Within, After, run, IsNested}
@@ -65,11 +67,12 @@ is_needed s p = is_given s p || (is_taken s p && not (is_above s p))
 abbrev pub is_late_in : List Change → Change → Bool
 is_late_in s x = is_taken s x.path || (is_delete x.action && is_above s x.path)
 
--- the changes, their parts filled in, have the tree as their effect; they are a normal set; and something is above each
+-- the changes, their parts filled in, have the tree as their effect; they are a normal set without a fault; and something is above each
 pub record Made (trees : List PathMap) (tree : PathMap) (s : List Change) : Type 0 where
   pub numbered : length trees ≤ 65535
   pub made : (q : Path) → effect trees (map (filled (finite.get tree)) s) q ≡ finite.get tree q
   pub normal : IsNormal s
+  pub faultless : fault trees s ≡ None
   pub stands : (p : Path) → is_above s p ≡ true → IsSome (finite.get tree p)
 
 -- a change stands where there was none; or an add in the place of a deletion, as a replace
@@ -125,10 +128,11 @@ abbrev pub IsLean : List Change → Type 0
 IsLean [] = Unit {0}
 IsLean (c ∷ s) = (leads_on c s ≡ false) × IsLean s
 
--- a normal set with the effect of another, of whose changes it has some, and some below each path that had some below; those that give
--- something, and those with nothing below, stay
+-- a normal set with the effect of another, and without a fault where that has none, of whose changes it has some, and some below each path
+-- that had some below; those that give something, and those with nothing below, stay
 pub record Keeps (trees : List PathMap) (s new : List Change) : Type 0 where
   pub normal : IsNormal new
+  pub faultless : fault trees s ≡ None → fault trees new ≡ None
   pub effect_is : (q : Path) → effect trees new q ≡ effect trees s q
   pub above : (p : Path) → is_above new p ≡ is_above s p
   pub stays : (p : Path) (c : Change) → change_at new p ≡ Some c → change_at s p ≡ Some c
@@ -140,10 +144,11 @@ pub record IsFilledOf (f : Path → Option Node) (changes : List Change) (c : Ch
   pub at : change_at changes c.path ≡ Some stem
   pub is : c ≡ filled f stem
 
--- a normal set of no more than 4,096 changes has this effect, and each of them is needed and one of those before, and each that is
--- needed is there
+-- a normal set of no more than 4,096 changes has no fault and this effect, and each of them is needed and one of those before, and each
+-- that is needed is there
 pub record IsSetOver (trees : List PathMap) (f : Path → Option Node) (changes set : List Change) : Type 0 where
   pub normal : IsNormal set
+  pub faultless : fault trees set ≡ None
   pub effect_is : (q : Path) → effect trees set q ≡ f q
   pub needed : AllByRecursion (λ c. is_needed changes c.path ≡ true) set
   pub whole : (p : Path) → is_needed changes p ≡ true → IsSome (change_at set p)
@@ -206,10 +211,12 @@ pub record Builds (trees : List PathMap) (tree : PathMap) (s : List Change) (cal
 abbrev pub BuildsWithin : List PathMap → PathMap → List Change → List Call → Type 0
 BuildsWithin trees tree s calls = (stage : Stage) → run Before calls ≡ Some stage → Builds trees tree s calls stage
 
--- the set is what the calls come to: it has their effect, and a change, as they ask for it, of each path that they change and of no other
+-- the set is what the calls come to: it has no fault over the trees before it, their effect, and a change, as they ask for it, of each path
+-- that they change and of no other
 pub record IsSetOf (trees : List PathMap) (set : List Change) (calls : List Call) : Type 0 where
   pub unrefused : first_refusal trees calls ≡ None
   pub normal : IsNormal set
+  pub faultless : fault trees set ≡ None
   pub effect_is : (q : Path) → effect trees set q ≡ call_effect trees calls q
   pub changed : AllByRecursion (λ c. is_changed calls c.path ≡ true) set
   pub whole : (p : Path) → is_changed calls p ≡ true → IsSome (change_at set p)
@@ -218,3 +225,7 @@ pub record IsSetOf (trees : List PathMap) (set : List Change) (calls : List Call
 
 abbrev pub IsSetWithin : List PathMap → List Change → List Call → Type 0
 IsSetWithin trees set calls = IsNested calls → IsSetOf trees set calls
+
+-- the set is what the calls come to, and makes the tree
+abbrev pub IsBuiltOf : List PathMap → List Change → PathMap → List Call → Type 0
+IsBuiltOf trees set tree calls = IsNested calls → IsSetOf trees set calls × Makes trees set tree

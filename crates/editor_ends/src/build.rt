@@ -7,6 +7,7 @@ ghost use Rattle.node_base.specs.Tree.{PathMap};
 ghost use Rattle.delta_editor.specs.Nesting.{IsNested};
 ghost use Rattle.delta_editor.specs.declared.call.Call.{Call};
 ghost use Rattle.dump_load.specs.Changes.{is_add, is_delete, settles, IsNormal};
+ghost use Rattle.dump_load.specs.Trees.{Makes};
 ghost use Rattle.editor_ends.specs.BuildFaults.{begun, begin_fault};
 ghost use Rattle.editor_ends.specs.Built.{Made, Begins, IsFaultOr, IsSetOf, is_late_in};
 ghost use Rattle.editor_ends.specs.Builders.{has_shown, trees_of, set_within, built_over, is_made_of};
@@ -14,7 +15,7 @@ ghost use Rattle.editor_ends.specs.Builders.{has_shown, trees_of, set_within, bu
 use crate::building::{append_text, delete, new_change, open_or_add, put_prop, start_text};
 use crate::finish::finish;
 use delta_editor::{Editor, EditorFault, Source};
-use dump_load::{Change, ChangeSet, begin};
+use dump_load::{Applied, Change, ChangeSet, begin};
 use node_base::{Action, NodeKind, NodePath, PropName, RevNo};
 use path_tree::Tree;
 use std::alloc::{AllocError, Global};
@@ -34,11 +35,12 @@ pub struct BuildEditor<'a> {
     changes: Vec<Change>,
 }
 
-/// A set of changes and the trees that it was built over.
+/// A set of changes, the trees that it was built over and the tree that it makes of them.
 #[derive(Drop)]
 pub struct Built<'a> {
     trees: &'a [Tree],
     set: ChangeSet,
+    tree: Tree,
 }
 
 /// A directory that is open in a `BuildEditor`. It has to be closed or discarded.
@@ -52,9 +54,10 @@ pub struct BuiltFile {
 }
 
 impl<'a> Built<'a> {
-    /// The set that the calls come to: a normal set of 4,096 changes at most, with the effect of the calls. It has
-    /// a change of each path that they change and of no other, with the action, the kind and the source that they
-    /// ask for there, and with the properties, and the text, that they come to, where they say what these are.
+    /// The set that the calls come to: a normal set of 4,096 changes at most, without a fault over the trees before
+    /// it and with the effect of the calls. It has a change of each path that they change and of no other, with the
+    /// action, the kind and the source that they ask for there, and with the properties, and the text, that they
+    /// come to, where they say what these are.
     pub fn set(&self) -> &ChangeSet
         ensures within { result.now ≡ set_within self.now }
         ensures built { (calls : List Call) → is_made_of self.now calls → IsNested calls
@@ -69,8 +72,26 @@ impl<'a> Built<'a> {
         ensures built { (calls : List Call) → is_made_of self.entry calls → IsNested calls
             → IsSetOf (built_over self.entry) result calls }
     {
-        let Built { trees: _, set } = self;
+        let Built {
+            trees: _,
+            set,
+            tree: _,
+        } = self;
         set
+    }
+
+    /// The set with the tree that it makes, so that who commits it needn't apply it again.
+    pub fn into_applied(self) -> Applied
+        ensures within { result.set ≡ set_within self.entry }
+        ensures makes { (calls : List Call) → is_made_of self.entry calls → IsNested calls
+            → Makes (built_over self.entry) result.set result.tree }
+    {
+        let Built {
+            trees: _,
+            set,
+            tree,
+        } = self;
+        Applied { set, tree }
     }
 }
 
@@ -124,7 +145,7 @@ impl<'a> BuildEditor<'a> {
 impl<'a> Editor for BuildEditor<'a> {
     ghost use Rattle.delta_editor.specs.declared.call.Call.{Call};
     ghost use Rattle.editor_ends.specs.BuildFaults.{RefusesWithin};
-    ghost use Rattle.editor_ends.specs.Built.{BuildsWithin, IsSetWithin};
+    ghost use Rattle.editor_ends.specs.Built.{BuildsWithin, IsBuiltOf};
 
     type Dir = BuiltDir;
 
@@ -134,7 +155,7 @@ impl<'a> Editor for BuildEditor<'a> {
 
     ghost shows = { λ e calls. BuildsWithin e.trees.now e.tree e.changes.items calls };
 
-    ghost done_shows = { λ d calls. IsSetWithin d.trees.now d.set calls };
+    ghost done_shows = { λ d calls. IsBuiltOf d.trees.now d.set d.tree calls };
 
     ghost dir_path = { λ d. d.path };
 
@@ -299,7 +320,7 @@ impl<'a> Editor for BuildEditor<'a> {
             changes,
         } = self;
         let set = finish(alloc, &tree, changes)?;
-        Ok(Built { trees, set })
+        Ok(Built { trees, set, tree })
     }
 
     fn abort_edit(self) {

@@ -8,15 +8,13 @@ use Rattle.std.specs.List.{flat_map}
 use Rattle.std.proofs.Math.Bool.{or-true}
 use Rattle.std.proofs.lemmas.Bool.{ne_eqb, false≢true, true≢false, cases_Bool}
 use Rattle.std.proofs.lemmas.Grind.{flat_map-append}
-use Rattle.node_base.specs.Props.{PropMap}
-use Rattle.dump_text.specs.Canon.{canon_head, canon_entry}
 use Rattle.dump_text.specs.declared.record.DumpRecord.{DumpRecord}
 use Rattle.dump_text.specs.declared.record.DumpRecord.TheVariants.{Identity, Revision, Node}
 use Rattle.fleet_engines.specs.declared.product.Product.{Product}
 use Rattle.fleet_engines.specs.declared.product.Product.TheVariants.{List as ListIt, Canon}
 use Rattle.fleet_engines.specs.Revisions.{Rev, Told, untold, is_lone, is_past_zero, no_revision, revision_0, a_revision, Closes, Takes}
 use Rattle.fleet_engines.proofs.Telling.{tells_one, tells_count}
-use Rattle.fleet_engines.specs.Runs.{canon_of, due, has_begun, head_of, whole, Stands}
+use Rattle.fleet_engines.specs.Runs.{adds, canon_of, due, ending, has_begun, head_of, whole, Stands}
 
 -- once another revision has begun, an identity doesn't count
 same_told : (lone : Bool) (last : Option Rev) (x y : Told) → (not lone || is_past_zero last) ≡ true → (if lone && is_none last then x else y) ≡ y
@@ -93,11 +91,7 @@ begun_now : (b : Bool) (head : List ℕ) → (if b then head ++ [] else []) ≡ 
 begun_now true head = refl
 begun_now false head = refl
 
--- what one record adds
-abbrev pub adds : Told → Told → List Rev → List ℕ
-adds t u out = (if not (has_begun t) && has_begun u then head_of u else []) ++ flat_map canon_of out
-
-pub canon_step : (t u : Told) (r : DumpRecord) (outs out : List Rev) → length t.trees ≡ suc (length outs) → Takes t r u out → due Canon u (outs ++ out) ≡ due Canon t outs ++ adds t u out
+pub canon_step : (t u : Told) (r : DumpRecord) (outs out : List Rev) → length t.trees ≡ suc (length outs) → Takes t r u out → due Canon u (outs ++ out) ≡ due Canon t outs ++ adds Canon t u out
 canon_step t u r outs out n p = elim (cases_Bool (has_begun t)) [
   | inl h ↦
       let g = begun_stays t u r out (length outs) n p h in
@@ -119,11 +113,11 @@ canon_step t u r outs out n p = elim (cases_Bool (has_begun t)) [
 pub count : (c : Product) (rs : List DumpRecord) (t : Told) (start now : Option (List ℕ)) (s : Stands c rs t start now) → length t.trees ≡ suc (length s.out)
 count c rs t start now s = let e : length t.trees ≡ 1 + length s.out = tells_count untold t rs s.out s.tells in omega (arith, e)
 
-pub canon_stands : (rs : List DumpRecord) (t u : Told) (r : DumpRecord) (out : List Rev) (start now later : Option (List ℕ)) → Takes t r u out → Appends now later (adds t u out) → Stands Canon rs t start now → Stands Canon (rs ++ r ∷ []) u start later
+pub canon_stands : (rs : List DumpRecord) (t u : Told) (r : DumpRecord) (out : List Rev) (start now later : Option (List ℕ)) → Takes t r u out → Appends now later (adds Canon t u out) → Stands Canon rs t start now → Stands Canon (rs ++ r ∷ []) u start later
 canon_stands rs t u r out start now later p w s = record {
   out = s.out ++ out;
   tells = tells_one untold t u rs r s.out out s.tells p;
-  written = subst (Appends start later) (sym (canon_step t u r s.out out (count Canon rs t start now s) p)) (Appends-trans start now later (due Canon t s.out) (adds t u out) s.written w);
+  written = subst (Appends start later) (sym (canon_step t u r s.out out (count Canon rs t start now s) p)) (Appends-trans start now later (due Canon t s.out) (adds Canon t u out) s.written w);
 }
 
 pub list_stands : (rs : List DumpRecord) (t u : Told) (r : DumpRecord) (out : List Rev) (start now : Option (List ℕ)) → Takes t r u out → Stands ListIt rs t start now → Stands ListIt (rs ++ r ∷ []) u start now
@@ -135,11 +129,7 @@ head_kept t u newest (no_revision e d o) h = ap head_of d
 head_kept t u newest (revision_0 r e z d o) h = absurd (not_past (is_lone t.trees) (r.number == 0) z (ap (λ l. not (is_lone t.trees) || is_past_zero l) (sym e) ∙ h))
 head_kept t u newest (a_revision r set tree e z mk d o) h = ap head_of d
 
--- what the end adds
-abbrev pub ends : Told → Told → List Rev → List ℕ
-ends t u newest = (if not (has_begun t) then head_of u else []) ++ flat_map canon_of newest
-
-canon_end : (t u : Told) (outs newest : List Rev) → length t.trees ≡ suc (length outs) → Closes t u newest → whole Canon u (outs ++ newest) ≡ due Canon t outs ++ ends t u newest
+canon_end : (t u : Told) (outs newest : List Rev) → length t.trees ≡ suc (length outs) → Closes t u newest → whole Canon u (outs ++ newest) ≡ due Canon t outs ++ ending Canon t u newest
 canon_end t u outs newest n p = elim (cases_Bool (has_begun t)) [
   | inl h ↦
       ap (λ x. x ++ flat_map canon_of (outs ++ newest)) (head_kept t u newest p h)
@@ -153,20 +143,8 @@ canon_end t u outs newest n p = elim (cases_Bool (has_begun t)) [
       ∙ ap (λ v. (if v then head_of t ++ flat_map canon_of outs else []) ++ ((if not v then head_of u else []) ++ flat_map canon_of newest)) (sym h)
 ]
 
-pub canon_ends : (rs : List DumpRecord) (t u : Told) (newest : List Rev) (start now later : Option (List ℕ)) → Closes t u newest → Appends now later (ends t u newest) → (s : Stands Canon rs t start now) → Appends start later (whole Canon u (s.out ++ newest))
-canon_ends rs t u newest start now later p w s = subst (Appends start later) (sym (canon_end t u s.out newest (count Canon rs t start now s) p)) (Appends-trans start now later (due Canon t s.out) (ends t u newest) s.written w)
+pub canon_ends : (rs : List DumpRecord) (t u : Told) (newest : List Rev) (start now later : Option (List ℕ)) → Closes t u newest → Appends now later (ending Canon t u newest) → (s : Stands Canon rs t start now) → Appends start later (whole Canon u (s.out ++ newest))
+canon_ends rs t u newest start now later p w s = subst (Appends start later) (sym (canon_end t u s.out newest (count Canon rs t start now s) p)) (Appends-trans start now later (due Canon t s.out) (ending Canon t u newest) s.written w)
 
-pub begin_written : (a b d : Option (List ℕ)) (is_due : Bool) (t : Told) (id : Option (List ℕ)) (zero : PropMap) → is_due ≡ true → id ≡ t.identity → zero ≡ t.zero
-    → Appends a b (canon_head id) → Appends b d (canon_entry 0 zero) → Appends a d (if is_due then head_of t else [])
-begin_written a b d is_due t id zero e i z p q =
-    subst (λ v. Appends a d (if v then head_of t else [])) (sym e)
-    (subst (λ v. Appends a d (canon_head v ++ canon_entry 0 t.zero)) i (subst (λ v. Appends a d (canon_head id ++ canon_entry 0 v)) z (Appends-trans a b d (canon_head id) (canon_entry 0 zero) p q)))
-
-pub rewritten : (rs : List DumpRecord) (t u : Told) (r : DumpRecord) (out : List Rev) (start now later : Option (List ℕ)) (is_due : Bool) → is_due ≡ (not (has_begun t) && has_begun u) → Takes t r u out
-    → Appends now later ((if is_due then head_of u else []) ++ flat_map canon_of out) → Stands Canon rs t start now → Stands Canon (rs ++ r ∷ []) u start later
-rewritten rs t u r out start now later is_due e k p s =
-    canon_stands rs t u r out start now later k (subst (λ v. Appends now later ((if v then head_of u else []) ++ flat_map canon_of out)) e p) s
-
-pub ended : (t u : Told) (newest : List Rev) (now later : Option (List ℕ)) (had : Bool) → had ≡ has_begun t
-    → Appends now later ((if not had then head_of u else []) ++ flat_map canon_of newest) → Appends now later (ends t u newest)
-ended t u newest now later had e p = subst (λ v. Appends now later ((if not v then head_of u else []) ++ flat_map canon_of newest)) e p
+pub due_written : (now later : Option (List ℕ)) (head rest : List ℕ) (is_due due : Bool) → is_due ≡ due → Appends now later ((if is_due then head else []) ++ rest) → Appends now later ((if due then head else []) ++ rest)
+due_written now later head rest is_due due e p = subst (λ v. Appends now later ((if v then head else []) ++ rest)) e p

@@ -1,10 +1,9 @@
 pub mod Behind
 pub mod Due
-pub mod Ending
 pub mod Feeding
 pub mod Groups
 pub mod Identities
+pub mod Makers
 pub mod Spelled
 pub mod Streaming
-pub mod Taking
 pub mod Telling

@@ -2,6 +2,6 @@ pub mod Grouping
 pub mod Histories
 pub mod Listing
 pub mod Pieces
-pub mod Refusals
 pub mod Revisions
 pub mod Runs
+pub mod Takers

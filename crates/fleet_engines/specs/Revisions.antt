@@ -2,7 +2,6 @@
 use Rattle.std.specs.Prelude.{◌≡◌, ℕ, ◌==◌, ◌&&◌, not, Bool, true, false, List, [], ◌∷◌, ◌++◌, map, length, Option, Some, None, is_none, if◌then◌else◌}
 use Rattle.std.specs.Option.{option_map_or}
 use Rattle.std.specs.FinMap as finite
-use Rattle.node_base.specs.Path.{Path}
 use Rattle.node_base.specs.Props.{PropMap}
 use Rattle.node_base.specs.Tree.{PathMap, new_dir}
 use Rattle.node_base.specs.declared.refusal.Refusal.{Refusal}
@@ -12,10 +11,9 @@ use Rattle.dump_text.specs.declared.record.DumpRecord.{DumpRecord}
 use Rattle.dump_text.specs.declared.record.DumpRecord.TheVariants.{Identity, Revision, Node}
 use Rattle.dump_load.specs.declared.change.Change.{Change}
 use Rattle.dump_load.specs.declared.fault.ChangeFault.{ChangeFault}
-use Rattle.dump_load.specs.Effect.{effect}
-use Rattle.dump_load.specs.Faults.{fault}
+use Rattle.dump_load.specs.Faults.{change_refusal}
+use Rattle.dump_load.specs.Trees.{Makes as MakesTree}
 use Rattle.dump_load.specs.Records.{record_of, IsNormalSetOf, IsLoadRefusal}
-use Rattle.fleet_engines.specs.Refusals.{change_refusal}
 
 -- a revision: its number, its properties and its node records
 pub record Rev : Type 0 where
@@ -42,8 +40,7 @@ untold = record { identity = None; zero = finite.empty; trees = root_alone ∷ [
 pub record Makes (trees : List PathMap) (r : Rev) (set : List Change) (tree : PathMap) : Type 0 where
   pub next : r.number ≡ length trees
   pub normal : IsNormalSetOf trees r.nodes set
-  pub sound : fault trees set ≡ None
-  pub left : (q : Path) → finite.get tree q ≡ effect trees set q
+  pub made : MakesTree trees set tree
 
 -- over the trees before it, a revision is refused
 abbrev pub IsUnfit : List PathMap → Rev → Refusal → Type 0

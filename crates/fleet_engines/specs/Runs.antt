@@ -1,5 +1,5 @@
 -- What is made of a dump, and what the answer says of the bytes that were read.
-use Rattle.std.specs.Prelude.{◌≡◌, ◌≤◌, ℕ, ◌-◌, ◌⊎◌, ◌||◌, not, Bool, true, false, List, [], ◌∷◌, ◌++◌, length, Option, Result, Ok, Err, if◌then◌else◌}
+use Rattle.std.specs.Prelude.{◌≡◌, ◌≤◌, ℕ, ◌-◌, ◌⊎◌, ◌&&◌, ◌||◌, not, Bool, true, false, List, [], ◌∷◌, ◌++◌, length, Option, Result, Ok, Err, if◌then◌else◌}
 use Rattle.std.specs.Option.{option_map_or}
 use Rattle.std.specs.List.{flat_map, slice_get}
 use Rattle.std.specs.Io.KnownBytes.{Appends}
@@ -15,8 +15,8 @@ use Rattle.dump_text.specs.Streams.{Reads, Refuses, dump, records_of, is_between
 use Rattle.fleet_engines.specs.declared.product.Product.{Product}
 use Rattle.fleet_engines.specs.declared.product.Product.TheVariants.{List as ListIt, Canon}
 use Rattle.fleet_engines.specs.Listing.{listing}
-use Rattle.fleet_engines.specs.Refusals.{dump_refusal}
-use Rattle.fleet_engines.specs.Revisions.{Rev, Told, untold, is_lone, is_past_zero, Closes, CantClose, CantTake, Tells}
+use Rattle.dump_text.specs.Faults.{dump_refusal}
+use Rattle.fleet_engines.specs.Revisions.{Rev, Told, untold, is_lone, is_past_zero, Closes, CantClose, Takes, CantTake, Tells}
 
 -- a revision in its canonical spelling
 abbrev pub canon_of : Rev → List ℕ
@@ -44,35 +44,43 @@ abbrev pub whole : Product → Told → List Rev → List ℕ
 whole ListIt t out = newest_listing t.trees
 whole Canon t out = head_of t ++ flat_map canon_of out
 
+-- what a record adds: nothing to a listing; to a canonical spelling the head and revision 0, where another revision begins by it, and the revision that is whole by it
+abbrev pub adds : Product → Told → Told → List Rev → List ℕ
+adds ListIt t u out = []
+adds Canon t u out = (if not (has_begun t) && has_begun u then head_of u else []) ++ flat_map canon_of out
+
+-- what the end adds
+abbrev pub ending : Product → Told → Told → List Rev → List ℕ
+ending ListIt t u newest = newest_listing u.trees
+ending Canon t u newest = (if not (has_begun t) then head_of u else []) ++ flat_map canon_of newest
+
+-- what the records have told, what a writer holds, and how often it failed
+pub record Held : Type 0 where
+  pub told : Told
+  pub contents : Option (List ℕ)
+  pub failures : ℕ
+
+-- a record more is taken
+abbrev pub TakesOne : Product → Held → DumpRecord → Held → Type 0
+TakesOne c p r q = (out : List Rev) × Takes p.told r q.told out × Appends p.contents q.contents (adds c p.told q.told out) × (q.failures ≡ p.failures)
+
+-- it isn't: the writer failed; or nothing is written, and memory ran out or the record is refused
+abbrev pub RefusesOne : Held → DumpRecord → Refusal → Held → Type 0
+RefusesOne p r e q = Rose p.failures q.failures ⊎ ((q.contents ≡ p.contents) × ((e ≡ OutOfMemory) ⊎ CantTake p.told r e))
+
+-- the last revision is whole, and what the end adds is written
+abbrev pub EndsWith : Product → Held → Held → Type 0
+EndsWith c p q = (all : Told) × (newest : List Rev) × Closes p.told all newest × Appends p.contents q.contents (ending c p.told all newest)
+
+-- it isn't: the writer failed; or nothing is written, and memory ran out or the last revision is refused
+abbrev pub CantEnd : Held → Refusal → Held → Type 0
+CantEnd p e q = Rose p.failures q.failures ⊎ ((q.contents ≡ p.contents) × ((e ≡ OutOfMemory) ⊎ CantClose p.told e))
+
 -- the records have told that, and what a writer holds is what it held at the start and what is due
 pub record Stands (c : Product) (rs : List DumpRecord) (t : Told) (start now : Option (List ℕ)) : Type 0 where
   pub out : List Rev
   pub tells : Tells untold rs t out
   pub written : Appends start now (due c t out)
-
--- some records more lead from what stood so to what stands so
-abbrev pub Moves : Product → Told → Told → Option (List ℕ) → Option (List ℕ) → List DumpRecord → Type 0
-Moves c t u before now new = (rs : List DumpRecord) (start : Option (List ℕ)) → Stands c rs t start before → Stands c (rs ++ new) u start now
-
--- bytes were read as records, and these stand so
-pub record Reached (c : Product) (bytes : List ℕ) (reader : ReadState) (t : Told) (start now : Option (List ℕ)) : Type 0 where
-  pub records : List DumpRecord
-  pub read : dump bytes ≡ Reads records reader
-  pub stands : Stands c records t start now
-
--- bytes lead from what stood so before them to what stands so behind them
-abbrev pub Leads : Product → ReadState → Told → Option (List ℕ) → List ℕ → ReadState → Told → Option (List ℕ) → Type 0
-Leads c old t before bytes new u now = (start : Option (List ℕ)) → Reached c [] old t start before → Reached c bytes new u start now
-
--- some records were taken, and what stopped the others
-pub record Stops (c : Product) (rs new : List DumpRecord) (start now : Option (List ℕ)) (e : Refusal) : Type 0 where
-  pub taken : List DumpRecord
-  pub first : DumpRecord
-  pub rest : List DumpRecord
-  pub split : new ≡ taken ++ first ∷ rest
-  pub told : Told
-  pub stands : Stands c (rs ++ taken) told start now
-  pub why : (e ≡ OutOfMemory) ⊎ CantTake told first e
 
 -- why a stream is refused behind some records that told that: the next record can't be taken; or the byte behind them shows a fault of the text; or the stream ends there, in a record; or the last revision can't be closed; or memory ran out, or a peer failed, before the next record was taken
 pub data Why (bytes : List ℕ) (rs : List DumpRecord) (t : Told) (e : Refusal) : Type 0 where

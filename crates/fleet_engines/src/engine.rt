@@ -1,31 +1,31 @@
-//! What is made of a dump, record by record and piece by piece.
-ghost use Rattle.std.specs.Prelude.{◌≡◌, ◌&&◌, ◌∷◌, ◌++◌, ◌⊎◌, [], ℕ, List, Option, Some, IfOk, IfErr, OnOk};
-ghost use Rattle.std.specs.Prelude.{not, if◌then◌else◌};
+//! What `list` and `canon` make of a dump, record by record.
+ghost use Rattle.std.specs.Prelude.{◌≡◌, ◌&&◌, ◌++◌, ◌⊎◌, [], Some, IfOk, IfErr, OnOk, not, if◌then◌else◌};
 ghost use Rattle.std.specs.Io.KnownBytes.{Appends};
 ghost use Rattle.std.specs.List.{flat_map};
 ghost use Rattle.byte_streams.specs.Causes.{Rose};
-ghost use Rattle.dump_text.specs.declared.record.DumpRecord.{DumpRecord as RecordOf};
-ghost use Rattle.fleet_engines.specs.Histories.{revs_of, told_of};
-ghost use Rattle.fleet_engines.specs.Revisions.{CantClose, CantTake, Closes, Rev, Told, untold};
-ghost use Rattle.fleet_engines.specs.Runs.{canon_of, has_begun, head_of, newest_listing, Accepted, Counted, Moves};
-ghost use Rattle.fleet_engines.specs.Runs.{Reached, Refused, Stands, Stops};
+ghost use Rattle.fleet_engines.specs.Histories.{held, held_by, revs_of, told_of};
+ghost use Rattle.fleet_engines.specs.Runs.{canon_of, has_begun, head_of, CantEnd, Counted, EndsWith, RefusesOne, TakesOne};
 
 use crate::history::History;
-use crate::listing::push_listing;
+use crate::listing::newest_listing;
 use crate::product::Product;
-use crate::refusals::dump_refusal;
 use crate::stream::write;
+use crate::taker::Taker;
 use byte_streams::Output;
-use dump_text::{DumpReader, DumpRecord, RevRecord, write_head, write_props_entry, write_revision};
+use dump_text::{DumpRecord, RevRecord, write_head, write_props_entry, write_revision};
 use node_base::{Refusal, RevNo};
 use std::alloc::{AllocError, Global};
 
-/// What is made, and what the records so far have told.
+/// Who lists the newest tree of a dump at its end.
 #[derive(Drop)]
-pub struct Engine {
-    alloc: Global,
-    product: Product,
-    history: History,
+pub struct Lister {
+    pub alloc: Global,
+}
+
+/// Who writes a dump in its canonical spelling.
+#[derive(Drop)]
+pub struct Rewriter {
+    pub alloc: Global,
 }
 
 // Whether a revision other than 0 has begun that hadn't before.
@@ -68,6 +68,14 @@ fn push_closed(closed: &Option<RevRecord>, bytes: &mut Vec<u8>) -> Result<(), Al
     }
 }
 
+// Room for the revision that is whole, more or less.
+fn room_for(closed: &Option<RevRecord>) -> usize {
+    match closed {
+        Some(revision) => revision.room(),
+        None => 0,
+    }
+}
+
 // What is due: the head and revision 0, or not, and then the revision that is whole, if there is one.
 fn due_bytes(
     alloc: Global,
@@ -78,7 +86,7 @@ fn due_bytes(
     ensures { IfOk result (λ v. v.items ≡ (if is_due then head_of (told_of history.now) else [])
         ++ flat_map canon_of (revs_of closed.now)) }
 {
-    let mut bytes = Vec::new(alloc);
+    let mut bytes = Vec::with_capacity(alloc, room_for(closed))?;
     push_beginning(is_due, history, &mut bytes)?;
     push_closed(closed, &mut bytes)?;
     Ok(bytes)
@@ -104,122 +112,41 @@ fn write_due<O: Output>(
     }
 }
 
-impl Engine {
-    /// Before the first record.
-    pub fn new(alloc: Global, product: Product) -> Result<Engine, Refusal>
-        ensures new { IfOk result (λ e. (e.product ≡ product) × (told_of e.history ≡ untold)) }
-        ensures memory { IfErr result (λ e. e ≡ Refusal.OutOfMemory) }
-    {
-        let history = History::new(alloc)?;
-        Ok(Engine {
-            alloc,
-            product,
-            history,
-        })
+// A record more of a dump that is listed: nothing is written.
+fn list_record<O: Output>(
+    history: &mut History,
+    next: DumpRecord,
+    output: &mut O,
+) -> Result<(), Refusal>
+    ensures ok { OnOk result (TakesOne Product.List (held_by O.Output history.old output.old) next
+        (held_by O.Output history.new output.new)) }
+    ensures refused { IfErr result (λ e. RefusesOne (held_by O.Output history.old output.old) next e
+        (held_by O.Output history.new output.new)) }
+    ensures peer { Counted result (O.failures output.old) (O.failures output.new) }
+{
+    match history.take(next) {
+        Ok(_closed) => Ok(()),
+        Err(fault) => Err(fault),
     }
+}
 
-    // A record more. What is due of it is written.
-    fn take<O: Output>(&mut self, next: DumpRecord, output: &mut O) -> Result<(), Refusal>
-        ensures ok { OnOk result (Moves self.old.product (told_of self.old.history) (told_of self.new.history)
-            (O.contents output.old) (O.contents output.new) (next ∷ [])) }
-        ensures refused { IfErr result (λ e. Rose (O.failures output.old) (O.failures output.new)
-            ⊎ ((O.contents output.new ≡ O.contents output.old)
-            × ((e ≡ Refusal.OutOfMemory) ⊎ CantTake (told_of self.old.history) next e))) }
-        ensures peer { Counted result (O.failures output.old) (O.failures output.new) }
-        ensures product { self.new.product ≡ self.old.product }
-    {
-        match self.product {
-            Product::List => {
-                self.history.take(next)?;
-                Ok(())
-            }
-            Product::Canon => self.rewrite(next, output),
-        }
-    }
-
-    // A record more of a dump that is written in its canonical spelling.
-    fn rewrite<O: Output>(&mut self, next: DumpRecord, output: &mut O) -> Result<(), Refusal>
-        ensures ok { OnOk result (Moves Product.Canon (told_of self.old.history) (told_of self.new.history)
-            (O.contents output.old) (O.contents output.new) (next ∷ [])) }
-        ensures refused { IfErr result (λ e. Rose (O.failures output.old) (O.failures output.new)
-            ⊎ ((O.contents output.new ≡ O.contents output.old)
-            × ((e ≡ Refusal.OutOfMemory) ⊎ CantTake (told_of self.old.history) next e))) }
-        ensures peer { Counted result (O.failures output.old) (O.failures output.new) }
-        ensures product { self.new.product ≡ self.old.product }
-    {
-        let had_begun = self.history.has_begun();
-        let closed = self.history.take(next)?;
-        let is_due = begins(had_begun, &self.history);
-        write_due(self.alloc, is_due, &self.history, &closed, output)
-    }
-
-    // Some records more.
-    fn take_all<O: Output>(
-        &mut self,
-        records: Vec<DumpRecord>,
-        output: &mut O,
-    ) -> Result<(), Refusal>
-        ensures ok { OnOk result (Moves self.old.product (told_of self.old.history) (told_of self.new.history)
-            (O.contents output.old) (O.contents output.new) records.items) }
-        ensures refused { IfErr result (λ e. Rose (O.failures output.old) (O.failures output.new)
-            ⊎ ((rs : List RecordOf) (start : Option (List ℕ))
-            → Stands self.old.product rs (told_of self.old.history) start (O.contents output.old)
-            → Stops self.old.product rs records.items start (O.contents output.new) e)) }
-        ensures peer { Counted result (O.failures output.old) (O.failures output.new) }
-        ensures product { self.new.product ≡ self.old.product }
-    {
-        for next in records {
-            self.take(next, output)?;
-        }
-        Ok(())
-    }
-
-    /// Takes the next piece of a dump.
-    pub fn feed<O: Output>(
-        &mut self,
-        reader: &mut DumpReader,
-        piece: &[u8],
-        output: &mut O,
-    ) -> Result<(), Refusal>
-        ensures ok { OnOk result ((bytes : List ℕ) (start : Option (List ℕ))
-            → Reached self.old.product bytes reader.old (told_of self.old.history) start (O.contents output.old)
-            → Reached self.old.product (bytes ++ piece.now) reader.new (told_of self.new.history) start
-            (O.contents output.new)) }
-        ensures refused { IfErr result (λ e. Rose (O.failures output.old) (O.failures output.new)
-            ⊎ ((bytes rest : List ℕ) (start : Option (List ℕ))
-            → Reached self.old.product bytes reader.old (told_of self.old.history) start (O.contents output.old)
-            → Refused self.old.product ((bytes ++ piece.now) ++ rest) start (O.contents output.new) e)) }
-        ensures peer { Counted result (O.failures output.old) (O.failures output.new) }
-        ensures product { self.new.product ≡ self.old.product }
-    {
-        let mut records = Vec::new(self.alloc);
-        let fed = reader.feed(piece, &mut records);
-        self.take_all(records, output)?;
-        match fed {
-            Ok(()) => Ok(()),
-            Err(fault) => Err(dump_refusal(fault)),
-        }
-    }
-
-    /// The end of the dump.
-    pub fn finish<O: Output>(&mut self, reader: DumpReader, output: &mut O) -> Result<(), Refusal>
-        ensures ok { OnOk result ((bytes : List ℕ) (start : Option (List ℕ))
-            → Reached self.old.product bytes reader (told_of self.old.history) start (O.contents output.old)
-            → Accepted self.old.product bytes start (O.contents output.new)) }
-        ensures refused { IfErr result (λ e. Rose (O.failures output.old) (O.failures output.new)
-            ⊎ ((bytes : List ℕ) (start : Option (List ℕ)) → Reached self.old.product bytes reader
-            (told_of self.old.history) start (O.contents output.old)
-            → Refused self.old.product bytes start (O.contents output.new) e)) }
-        ensures peer { Counted result (O.failures output.old) (O.failures output.new) }
-    {
-        if let Err(fault) = reader.finish() {
-            return Err(dump_refusal(fault));
-        }
-        match self.product {
-            Product::List => finish_list(self.alloc, &mut self.history, output),
-            Product::Canon => finish_canon(self.alloc, &mut self.history, output),
-        }
-    }
+// A record more of a dump that is written in its canonical spelling. What is due of it is written.
+fn rewrite<O: Output>(
+    alloc: Global,
+    history: &mut History,
+    next: DumpRecord,
+    output: &mut O,
+) -> Result<(), Refusal>
+    ensures ok { OnOk result (TakesOne Product.Canon (held_by O.Output history.old output.old) next
+        (held_by O.Output history.new output.new)) }
+    ensures refused { IfErr result (λ e. RefusesOne (held_by O.Output history.old output.old) next e
+        (held_by O.Output history.new output.new)) }
+    ensures peer { Counted result (O.failures output.old) (O.failures output.new) }
+{
+    let had_begun = history.has_begun();
+    let closed = history.take(next)?;
+    let is_due = begins(had_begun, history);
+    write_due(alloc, is_due, history, &closed, output)
 }
 
 // The listing of the newest tree.
@@ -228,17 +155,15 @@ fn finish_list<O: Output>(
     history: &mut History,
     output: &mut O,
 ) -> Result<(), Refusal>
-    ensures ok { OnOk result ((all : Told) × (newest : List Rev) × Closes (told_of history.old) all newest
-        × Appends (O.contents output.old) (O.contents output.new) (newest_listing all.trees)) }
-    ensures refused { IfErr result (λ e. Rose (O.failures output.old) (O.failures output.new)
-        ⊎ ((O.contents output.new ≡ O.contents output.old)
-        × ((e ≡ Refusal.OutOfMemory) ⊎ CantClose (told_of history.old) e))) }
+    ensures ok { OnOk result (EndsWith Product.List (held_by O.Output history.old output.old)
+        (held_by O.Output history.new output.new)) }
+    ensures refused { IfErr result (λ e. CantEnd (held_by O.Output history.old output.old) e
+        (held_by O.Output history.new output.new)) }
     ensures peer { Counted result (O.failures output.old) (O.failures output.new) }
 {
     history.close()?;
-    let mut text = String::new(alloc);
-    match push_listing(alloc, &mut text, history.trees()) {
-        Ok(()) => write(output, text.as_str().as_bytes()),
+    match newest_listing(alloc, history.trees()) {
+        Ok(text) => write(output, text.as_str().as_bytes()),
         Err(_) => Err(Refusal::OutOfMemory),
     }
 }
@@ -249,15 +174,67 @@ fn finish_canon<O: Output>(
     history: &mut History,
     output: &mut O,
 ) -> Result<(), Refusal>
-    ensures ok { OnOk result ((all : Told) × (newest : List Rev) × Closes (told_of history.old) all newest
-        × Appends (O.contents output.old) (O.contents output.new)
-        ((if not (has_begun (told_of history.old)) then head_of all else []) ++ flat_map canon_of newest)) }
-    ensures refused { IfErr result (λ e. Rose (O.failures output.old) (O.failures output.new)
-        ⊎ ((O.contents output.new ≡ O.contents output.old)
-        × ((e ≡ Refusal.OutOfMemory) ⊎ CantClose (told_of history.old) e))) }
+    ensures ok { OnOk result (EndsWith Product.Canon (held_by O.Output history.old output.old)
+        (held_by O.Output history.new output.new)) }
+    ensures refused { IfErr result (λ e. CantEnd (held_by O.Output history.old output.old) e
+        (held_by O.Output history.new output.new)) }
     ensures peer { Counted result (O.failures output.old) (O.failures output.new) }
 {
     let had_begun = history.has_begun();
     let closed = history.close()?;
     write_due(alloc, !had_begun, history, &closed, output)
+}
+
+impl<O: Output> Taker<History, O> for Lister {
+    ghost use Rattle.fleet_engines.specs.declared.product.Product.{Product};
+
+    ghost takes = { λ p next q. TakesOne Product.List (held O.Output p) next (held O.Output q) };
+
+    ghost refuses = { λ p next e q. RefusesOne (held O.Output p) next e (held O.Output q) };
+
+    ghost ends = { λ p q. EndsWith Product.List (held O.Output p) (held O.Output q) };
+
+    ghost cant_end = { λ p e q. CantEnd (held O.Output p) e (held O.Output q) };
+
+    ghost failures = { O.failures };
+
+    fn take(
+        &mut self,
+        next: DumpRecord,
+        store: &mut History,
+        output: &mut O,
+    ) -> Result<(), Refusal> {
+        list_record(store, next, output)
+    }
+
+    fn end(&mut self, store: &mut History, output: &mut O) -> Result<(), Refusal> {
+        finish_list(self.alloc, store, output)
+    }
+}
+
+impl<O: Output> Taker<History, O> for Rewriter {
+    ghost use Rattle.fleet_engines.specs.declared.product.Product.{Product};
+
+    ghost takes = { λ p next q. TakesOne Product.Canon (held O.Output p) next (held O.Output q) };
+
+    ghost refuses = { λ p next e q. RefusesOne (held O.Output p) next e (held O.Output q) };
+
+    ghost ends = { λ p q. EndsWith Product.Canon (held O.Output p) (held O.Output q) };
+
+    ghost cant_end = { λ p e q. CantEnd (held O.Output p) e (held O.Output q) };
+
+    ghost failures = { O.failures };
+
+    fn take(
+        &mut self,
+        next: DumpRecord,
+        store: &mut History,
+        output: &mut O,
+    ) -> Result<(), Refusal> {
+        rewrite(self.alloc, store, next, output)
+    }
+
+    fn end(&mut self, store: &mut History, output: &mut O) -> Result<(), Refusal> {
+        finish_canon(self.alloc, store, output)
+    }
 }

@@ -6,13 +6,13 @@ ghost use Rattle.dump_load.specs.declared.change.Change.{Change};
 ghost use Rattle.dump_text.specs.Canon.{now_of};
 ghost use Rattle.node_base.specs.Tree.{PathMap};
 ghost use Rattle.fleet_engines.specs.Histories.{told_of, revs_of, rev_of};
-ghost use Rattle.fleet_engines.specs.Revisions.{by_set, is_past_zero, is_zero, root_alone, untold, Makes, IsUnfit};
+ghost use Rattle.fleet_engines.specs.Revisions.{by_set, is_zero, root_alone, untold, Makes, IsUnfit};
 ghost use Rattle.fleet_engines.specs.Revisions.{Closes, CantClose, Takes, CantTake};
 ghost use Rattle.fleet_engines.specs.Runs.{has_begun};
 
-use crate::refusals::change_refusal;
-use dump_load::load_revision;
-use dump_text::{DumpRecord, NodeRecord, RevRecord};
+use crate::open_revision::OpenRevision;
+use dump_load::{Applied, change_refusal, load_revision};
+use dump_text::{DumpRecord, RevRecord};
 use node_base::{Props, Refusal, RevNo};
 use path_tree::Tree;
 use std::alloc::{AllocError, Global};
@@ -26,7 +26,7 @@ pub struct History {
     uuid: Option<Uuid>,
     zero: Props,
     trees: Vec<Tree>,
-    last: Option<RevRecord>,
+    last: OpenRevision,
 }
 
 // Whether it is revision 0, before any other.
@@ -60,7 +60,7 @@ impl History {
             uuid: None,
             zero: Props::empty(),
             trees,
-            last: None,
+            last: OpenRevision::none(alloc),
         })
     }
 
@@ -80,59 +80,13 @@ impl History {
             }
             DumpRecord::Revision(number, props) => {
                 let closed = self.close()?;
-                self.begin(number, props);
+                self.last.begin(number, props);
                 Ok(closed)
             }
-            DumpRecord::Node(node) => {
-                self.add_node(node)?;
-                Ok(None)
-            }
-        }
-    }
-
-    fn begin(&mut self, number: RevNo, props: Props)
-        ensures { told_of self.new ≡ record (told_of self.old) {
-          last = Some
-              (record { number = number; props = props; nodes = [] });
-        } }
-    {
-        let nodes = Vec::new(self.alloc);
-        self.last = Some(RevRecord {
-            number,
-            props,
-            nodes,
-        });
-    }
-
-    // A node record of no revision, or of revision 0, is WrongNumber (16).
-    fn add_node(&mut self, node: NodeRecord) -> Result<(), Refusal>
-        ensures taken { IfOk result (λ _. Takes (told_of self.old) (DumpRecord.Node node) (told_of self.new) []) }
-        ensures refused { IfErr result (λ e. (e ≡ Refusal.OutOfMemory)
-            ⊎ CantTake (told_of self.old) (DumpRecord.Node node) e) }
-        ensures no_peer { IfErr result (λ e. e ≡ Refusal.PeerFailed → ⊥) }
-    {
-        if !self.is_past_zero() {
-            return Err(Refusal::WrongNumber);
-        }
-        let Some(mut revision) = self.last.take() else {
-            return Err(Refusal::WrongNumber);
-        };
-        match revision.nodes.push(node) {
-            Ok(()) => {
-                self.last = Some(revision);
-                Ok(())
-            }
-            Err(_) => Err(Refusal::OutOfMemory),
-        }
-    }
-
-    // Whether a revision other than 0 is read.
-    fn is_past_zero(&self) -> bool
-        ensures { result ≡ is_past_zero (told_of self.now).last }
-    {
-        match &self.last {
-            Some(revision) => revision.number != RevNo::ZERO,
-            None => false,
+            DumpRecord::Node(node) => match self.last.add_node(node) {
+                Ok(()) => Ok(None),
+                Err(fault) => Err(fault),
+            },
         }
     }
 
@@ -171,11 +125,11 @@ impl History {
         if number.index() != self.trees.len() {
             return Err(Refusal::WrongNumber);
         }
-        let (set, tree) = match load_revision(self.alloc, &self.trees, number, nodes) {
+        let Applied { set, tree } = match load_revision(self.alloc, &self.trees, number, nodes) {
             Ok(loaded) => loaded,
             Err(fault) => return Err(change_refusal(fault)),
         };
-        let Ok(nodes) = set.to_records(self.alloc) else {
+        let Ok(nodes) = set.into_records(self.alloc) else {
             return Err(Refusal::OutOfMemory);
         };
         match self.trees.push(tree) {
@@ -192,7 +146,7 @@ impl History {
     pub fn has_begun(&self) -> bool
         ensures { result ≡ has_begun (told_of self.now) }
     {
-        self.trees.len() != 1 || self.is_past_zero()
+        self.trees.len() != 1 || self.last.is_past_zero()
     }
 
     /// The identity, where the dump told one.

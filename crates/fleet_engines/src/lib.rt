@@ -7,9 +7,11 @@ ghost use Rattle.fleet_engines.specs.Pieces.{RecordsDontMatter};
 pub use commands::{run_canon, run_list};
 pub use line::write_line;
 pub use lines::{push_node_line, push_path};
+pub use open_revision::OpenRevision;
 pub use product::Product;
-pub use refusals::{change_refusal, dump_refusal};
 pub use stream::{hand_on, read, write, write_count, write_parts};
+pub use taker::Taker;
+pub use whole_stream::read_stream;
 
 mod commands;
 mod engine;
@@ -17,9 +19,11 @@ mod history;
 mod line;
 mod lines;
 mod listing;
+mod open_revision;
 mod product;
-mod refusals;
 mod stream;
+mod taker;
+mod whole_stream;
 
 /// What comes next of a stream doesn't depend on the records that are whole.
 pub fn records_dont_matter()

@@ -1,25 +1,13 @@
 //! The line that tells a refusal. Writing it takes no memory.
-ghost use Rattle.std.specs.Prelude.{◌≡◌, ◌++◌, [], false, IfErr, OnOk, OnErr};
+ghost use Rattle.std.specs.Prelude.{◌≡◌, ◌++◌, [], IfErr, OnOk, OnErr};
 ghost use Rattle.std.specs.Io.KnownBytes.{Appends};
 ghost use Rattle.byte_streams.specs.Causes.{Rose};
-ghost use Rattle.node_base.specs.Refusals.{fault_line, inconsistent_text, number_or_dash, refusal_text, shown_byte};
-ghost use Rattle.node_base.specs.Refusals.{shown_token, tells_more};
+ghost use Rattle.node_base.specs.Refusals.{fault_line, inconsistent_text, number_or_dash, refusal_text, shown_token};
 ghost use Rattle.fleet_engines.specs.Runs.{Counted};
 
 use crate::stream::{write, write_count, write_parts};
 use byte_streams::Output;
-use node_base::{Refusal, RevNo};
-
-// A byte of a token as it is printed.
-fn shown_byte(byte: u8) -> u8
-    ensures { result ≡ shown_byte byte }
-{
-    if (0x20..=0x7E).contains(&byte) {
-        byte
-    } else {
-        b'?'
-    }
-}
+use node_base::{Refusal, RevNo, shown_byte};
 
 // Writes a token as it is printed.
 fn write_shown<O: Output>(output: &mut O, token: &[u8]) -> Result<(), Refusal>
@@ -68,57 +56,6 @@ fn write_count_or_dash<O: Output>(
     match number {
         Some(number) => write_count(output, before, number, after),
         None => write_parts(output, before, b"-", after),
-    }
-}
-
-// The text of a refusal that tells no more than that it is this one.
-fn fixed_text(refusal: &Refusal) -> &'static str
-    ensures { tells_more refusal.now ≡ false → result.now ≡ refusal_text refusal.now }
-{
-    match refusal {
-        Refusal::BadVersion => "unsupported dump format version",
-        Refusal::BadHeader => "bad header",
-        Refusal::BadNumber => "bad number",
-        Refusal::BadLength => "lengths do not agree",
-        Refusal::BadProps => "bad property block",
-        Refusal::BadSum => "checksum mismatch",
-        Refusal::Truncated => "unexpected end of input",
-        Refusal::TooLong => "limit exceeded",
-        Refusal::TextDelta => "text deltas are not supported",
-        Refusal::BadPath => "bad path",
-        Refusal::NoSuchPath => "no such path",
-        Refusal::PathThere => "path already exists",
-        Refusal::NotDir => "not a directory",
-        Refusal::NoSource => "no such copy source",
-        Refusal::OutOfOrder => "changes of one path do not combine",
-        Refusal::WrongNumber => "revision out of sequence",
-        Refusal::KindMismatch => "node kind mismatch",
-        Refusal::NoSuchRevision => "no such revision",
-        Refusal::BaseMismatch => "the property is not as expected",
-        Refusal::Full => "no more revisions",
-        Refusal::ReadOnly => "the mirror is read-only",
-        Refusal::DeviceFailed => "device failed",
-        Refusal::Failed => "failed before",
-        Refusal::NoRepository => "no repository",
-        Refusal::ThereAlready => "repository already there",
-        Refusal::LogFull => "journal is full",
-        Refusal::BadItem => "bad item",
-        Refusal::TooDeep => "nesting too deep",
-        Refusal::ReplayForm => "replay form not supported",
-        Refusal::BadWindow => "bad window",
-        Refusal::CopyWindow => "window copies",
-        Refusal::BadToken => "bad token",
-        Refusal::UnknownCommand => "unknown command",
-        Refusal::BadShape => "bad command shape",
-        Refusal::PeerFailed => "stream failed",
-        Refusal::NotInitialised => "not initialized",
-        Refusal::AlreadyInitialised => "already initialized",
-        Refusal::NotEmpty => "the mirror has revisions",
-        Refusal::WrongMaster => "the source is another repository",
-        Refusal::NotHolder => "the sync lock is not held",
-        Refusal::OutOfTurn => "call out of turn",
-        Refusal::OutOfMemory => "out of memory",
-        _ => "",
     }
 }
 
@@ -177,7 +114,7 @@ fn write_text<O: Output>(output: &mut O, refusal: &Refusal) -> Result<(), Refusa
         Refusal::MasterFailed(text) => {
             write_parts(output, b"master: ", text.as_str().as_bytes(), b"")
         }
-        other => write(output, fixed_text(other).as_bytes()),
+        other => write(output, other.fixed_text().as_bytes()),
     }
 }
 

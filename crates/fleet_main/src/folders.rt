@@ -160,8 +160,9 @@ fn folder_refusal(fault: FolderFault) -> Refusal
     }
 }
 
-/// Gives a folder the disk of its store back. What a stop leaves of a store that works keeps its repository; of one whose
-/// device failed, that or the one after the entry in doubt.
+/// Gives a folder the disk of its store back, and no memory of what the store has: it is for a process that ends behind
+/// it. What a stop leaves of a store that works keeps its repository; of one whose device failed, that or the one after
+/// the entry in doubt.
 pub fn closed<F: Folders>(folders: &mut F, folder: &str, store: RepoStore<F::Place>)
     ensures back { TakesBack F.Place.Disk F.Folders folders.old folders.new folder.now (disk_of store) }
     ensures kept { F.Place.honest (disk_of store) → ¬ HasFailed store → (left : Image)
@@ -169,7 +170,7 @@ pub fn closed<F: Folders>(folders: &mut F, folder: &str, store: RepoStore<F::Pla
     ensures either { IsKept store }
 {
     let _repo = store.repo();
-    folders.close(folder, store.into_disk());
+    folders.close(folder, store.leave());
 }
 
 /// Begins a repository in a folder, which is made where it is missing; the folder's disk is lent then. ThereAlready (35)

@@ -14,7 +14,7 @@ pub use prop_fault::PropFault;
 pub use prop_name::PropName;
 pub use prop_value::PropValue;
 pub use props::Props;
-pub use refusal::Refusal;
+pub use refusal::{Refusal, ShownToken, shown_byte};
 pub use revision::RevNo;
 pub use text::Text;
 pub use text_fault::TextFault;

@@ -199,8 +199,8 @@ impl Refusal {
         }
     }
 
-    /// The text of a refusal that tells no more than that it is this one.
-    fn fixed_text(&self) -> &'static str
+    /// The text of a refusal that tells no more than that it is this one; of one that tells more, none.
+    pub fn fixed_text(&self) -> &'static str
         ensures { tells_more self.now ≡ false → result.now ≡ refusal_text self.now }
     {
         match self {
@@ -316,7 +316,7 @@ fn shown(token: &Vec<u8>) -> ShownToken<'_>
 
 /// A token as it is printed: `?` for each byte that isn't printable ASCII.
 #[derive(Drop)]
-struct ShownToken<'a>(&'a [u8]);
+pub struct ShownToken<'a>(pub &'a [u8]);
 
 impl fmt::Display for ShownToken<'_> {
     ghost output = { λ t. Some (shown_token t.0.now) };
@@ -329,8 +329,8 @@ impl fmt::Display for ShownToken<'_> {
     }
 }
 
-/// A byte of a token as it is printed.
-fn shown_byte(byte: u8) -> u8
+/// A byte of a token as it is printed: `?` where it isn't printable ASCII.
+pub fn shown_byte(byte: u8) -> u8
     ensures shown { result ≡ shown_byte byte }
     ensures ascii { result < 128 }
 {

@@ -1,5 +1,5 @@
 -- What an edit and a number on the way to it do to the whole map.
-use Rattle.std.proofs.Common.{◌≡◌, ℕ, Bool, true, false, cond, [], ◌∷◌, ◌++◌, Option, Some, None, is_some, refl, sym, ap, subst, ◌∙◌, append-nil}
+use Rattle.std.proofs.Common.{◌≡◌, ℕ, Bool, true, false, cond, [], ◌∷◌, ◌++◌, Option, Some, None, is_some, refl, sym, ap, ◌∙◌, append-nil}
 use Rattle.std.specs.Prelude.{IsSome, IfSome, IsSomeAnd, IsNone}
 use Rattle.std.specs.Option.{option_and_then, option_map_or, option_map}
 use Rattle.std.specs.Arc.{arc_value}

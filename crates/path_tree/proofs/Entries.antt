@@ -16,11 +16,11 @@ shown-append : (es fs : List Entry) → shown (es ++ fs) ≡ shown es ++ shown f
 shown-append [] fs = refl
 shown-append (e ∷ es) fs = ap (λ s. (shown_names e.path.items, e.node.now) ∷ s) (shown-append es fs)
 
-under-append : (p : Path) (es fs : List (Path × Node)) → under p (es ++ fs) ≡ under p es ++ under p fs
+pub under-append : (p : Path) (es fs : List (Path × Node)) → under p (es ++ fs) ≡ under p es ++ under p fs
 under-append p [] fs = refl
 under-append p (e ∷ es) fs = ap (λ s. (p ++ e.0, e.1) ∷ s) (under-append p es fs)
 
-under-behind : (p : Path) (n : Name) (es : List (Path × Node)) → under p (behind n es) ≡ under (p ++ n ∷ []) es
+pub under-behind : (p : Path) (n : Name) (es : List (Path × Node)) → under p (behind n es) ≡ under (p ++ n ∷ []) es
 under-behind p n [] = refl
 under-behind p n (e ∷ es) = λ i. (sym (append_assoc p (n ∷ []) e.0) i, e.1) ∷ under-behind p n es i
 

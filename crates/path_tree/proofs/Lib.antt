@@ -11,3 +11,5 @@ pub mod Marks
 pub mod Place
 pub mod Reaches
 pub mod Rows
+pub mod Visits
+pub mod InPlace

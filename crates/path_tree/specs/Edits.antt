@@ -1,10 +1,11 @@
 -- Edits of a node and what is below it, by the map.
-use Rattle.std.specs.Prelude.{ℕ, [], ◌∷◌, ◌++◌, Option, None, unwrap_or}
+use Rattle.std.specs.Prelude.{◌≡◌, ℕ, List, [], ◌∷◌, ◌++◌, Option, Some, None, unwrap_or}
 use Rattle.std.specs.Arc.{arc_value}
 use Rattle.std.specs.FinMap as map
-use Rattle.node_base.specs.Path.{Path, is_front}
+use Rattle.std.specs.FinMap.Entries.{put}
+use Rattle.node_base.specs.Path.{Name, Path, name_cmp, is_front}
 use Rattle.node_base.specs.declared.node.Node.{Node}
-use Rattle.node_base.specs.Tree.{grafted, edited, changed_at, with_given}
+use Rattle.node_base.specs.Tree.{PathMap, grafted, edited, changed_at, with_given}
 use Rattle.node_base.specs.NodeEdits.{with_prop, with_piece}
 use Rattle.path_tree.specs.declared.edit.Edit.{Edit}
 use Rattle.path_tree.specs.declared.edit.Edit.TheVariants.{Parts, Prop, Piece, Graft, Prune}
@@ -28,3 +29,11 @@ renumbered number x = record { text = x.text; props = x.props; changed = unwrap_
 -- the same on each front of the path that is there
 abbrev pub marked_by : Option ℕ → (Path → Option Node) → Path → Path → Option Node
 marked_by number f p = edited f (λ q. is_front q p) (renumbered number)
+
+-- of children, the one of that name is edited at a path below it and numbered on the way, and the others stay
+pub record ChildAlters (old new : List (Name × PathMap)) (x : Name) (p : Path) (e : Edit) (number : Option ℕ) : Type 0 where
+  pub before : PathMap
+  pub after : PathMap
+  pub found : map.find name_cmp x old ≡ Some before
+  pub placed : new ≡ put name_cmp x after old
+  pub altered : (q : Path) → map.get after q ≡ edit_at e (marked_by number (map.get before) p) p q

@@ -2,7 +2,7 @@
 ghost use Rattle.std.specs.Prelude.{◌≡◌, ◌++◌, ◌≤◌, [], not, IfOk, OnOk, OnErr};
 ghost use Rattle.std.specs.Prelude.{IsSome, None, Some, MatchOption};
 ghost use Rattle.std.specs.FinMap as map;
-ghost use Rattle.std.specs.List.{list_any};
+ghost use Rattle.std.specs.List.{list_any, flat_map};
 ghost use Rattle.node_base.specs.Path.{Path};
 ghost use Rattle.node_base.specs.Limits.{fits_after};
 ghost use Rattle.node_base.specs.Tree.{marked, blocked, changed_at};
@@ -15,7 +15,11 @@ ghost use Rattle.path_tree.specs.Reach.{reach_to};
 use crate::Entry;
 use crate::edit::Edit;
 use crate::reach::Reach;
-use crate::row::{Row, Twig, child_of, list_row, reach_in, shared, with, with_branch, without};
+use crate::row::{
+    Row, Twig, alter_in, child_of, list_row, put_in, reach_in, shared, visit_row, with_branch,
+    without,
+};
+use crate::visit::Visitor;
 use node_base::{Node, NodeName, PropName, PropValue, RevNo, TreeFault};
 use std::alloc::{AllocError, Global};
 use std::marker::Model;
@@ -50,11 +54,11 @@ impl Model for Branch {
 }
 
 // Gives a node the number, where there is one.
-fn renumber(node: &mut Node, number: Option<RevNo>)
-    ensures { node.new ≡ renumbered number node.old }
+fn renumber(node: &mut Node, number: &Option<RevNo>)
+    ensures { node.new ≡ renumbered number.now node.old }
 {
     if let Some(number) = number {
-        node.changed = number;
+        node.changed = *number;
     }
 }
 
@@ -182,6 +186,7 @@ impl Branch {
 
     /// Gives the number, where there is one, to each front of a path, and edits the node at the path. What has other
     /// owners is copied first.
+    #[cycle(alters)]
     pub fn alter(
         &mut self,
         alloc: Global,
@@ -196,18 +201,11 @@ impl Branch {
     {
         match path {
             [] => self.alter_top(alloc, edit, number),
-            [first, rest @ ..] => match child_of(&self.children, first) {
-                Some(child) => {
-                    let mut child = child.again()?;
-                    child.alter(alloc, rest, edit, number)?;
-                    self.children = with_branch(alloc, &self.children, first, child)?;
-                    if let Some(number) = &number {
-                        self.node.changed = *number;
-                    }
-                    Ok(())
-                }
-                None => unreachable!(),
-            },
+            [first, rest @ ..] => {
+                alter_in(alloc, &mut self.children, first, rest, edit, number)?;
+                renumber(&mut self.node, &number);
+                Ok(())
+            }
         }
     }
 
@@ -231,7 +229,7 @@ impl Branch {
     pub fn number(&mut self, number: Option<RevNo>)
         ensures { (q : Path) → map.get self.new q ≡ marked_by number (map.get self.old) [] q }
     {
-        renumber(&mut self.node, number);
+        renumber(&mut self.node, &number);
     }
 
     // Puts a value at a property's name of the node at the top, or takes the one there away. A value that would
@@ -277,10 +275,7 @@ impl Branch {
             }
             Edit::Prop(name, value) => self.put_prop(alloc, name, value),
             Edit::Piece(piece) => self.append_text(alloc, piece.as_slice()),
-            Edit::Graft(child) => {
-                self.children = with(alloc, &self.children, &child)?;
-                Ok(())
-            }
+            Edit::Graft(child) => put_in(alloc, &mut self.children, &child),
             Edit::Prune(name) => {
                 self.children = without(alloc, &self.children, &name)?;
                 Ok(())
@@ -310,5 +305,21 @@ impl Branch {
             node: &self.node,
         })?;
         list_row(&self.children, alloc, above, out)
+    }
+
+    /// Shows each node with its path, in path order. The path's names stand behind those above it, which come back as
+    /// they were.
+    #[cycle(visits)]
+    pub fn visit_into<'a, V: Visitor>(
+        &'a self,
+        above: &mut Vec<&'a NodeName>,
+        visitor: &mut V,
+    ) -> Result<(), AllocError>
+        ensures said { OnOk result (V.said visitor.new ≡ V.said visitor.old
+            ++ flat_map V.line (under (shown_names above.old.items) (map.entries self.now))) }
+        ensures above { OnOk result (shown_names above.new.items ≡ shown_names above.old.items) }
+    {
+        visitor.visit(above.as_slice(), &self.node)?;
+        visit_row(&self.children, above, visitor)
     }
 }

@@ -4,6 +4,7 @@
 pub use error::TreeError;
 pub use listing::Entry;
 pub use tree::Tree;
+pub use visit::Visitor;
 
 mod branch;
 mod calls;
@@ -15,3 +16,4 @@ mod node_calls;
 mod reach;
 mod row;
 mod tree;
+mod visit;

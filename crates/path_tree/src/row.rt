@@ -1,18 +1,24 @@
 //! The children of a node: a balanced search tree, whose parts are shared by all rows that have them.
-ghost use Rattle.std.specs.Prelude.{◌≡◌, ◌++◌, ◌∷◌, ◌≤◌, IfOk, OnOk, MatchOption, None, Some};
+ghost use Rattle.std.specs.Prelude.{◌≡◌, ◌++◌, ◌∷◌, ◌≤◌, IfOk, OnOk, OnErr, IsSome, MatchOption, None, Some};
+ghost use Rattle.std.specs.Prelude.{if◌then◌else◌};
 ghost use Rattle.std.specs.Arc.{arc_value};
+ghost use Rattle.std.specs.List.{flat_map};
 ghost use Rattle.std.specs.FinMap as map;
 ghost use Rattle.std.specs.FinMap.Entries.{put, where_key};
 ghost use Rattle.node_base.specs.Path.{name_cmp};
-ghost use Rattle.path_tree.specs.Joined.{AreChildren, behind, below, under};
+ghost use Rattle.node_base.specs.Path.{Path};
+ghost use Rattle.path_tree.specs.Edits.{ChildAlters, edit_at, marked_by};
+ghost use Rattle.path_tree.specs.Joined.{AreChildren, behind, below, child_at, under};
 ghost use Rattle.path_tree.specs.Listed.{shown, shown_names};
 ghost use Rattle.path_tree.specs.Reach.{reach_of, reach_to};
 ghost use Rattle.path_tree.specs.Rows.{in_row, differs};
 
 use crate::Entry;
 use crate::branch::Branch;
+use crate::edit::Edit;
 use crate::reach::Reach;
-use node_base::NodeName;
+use crate::visit::Visitor;
+use node_base::{NodeName, RevNo};
 use std::alloc::{AllocError, Global};
 use std::cmp::Ordering;
 use std::marker::Model;
@@ -246,6 +252,276 @@ pub fn with_branch(
     with(alloc, row, &child)
 }
 
+// How high a twig over two rows stands.
+fn height_over(before: &Row, behind: &Row) -> u8 {
+    height(before).max(height(behind)).saturating_add(1)
+}
+
+// How far the paths to a child, and to those before it and behind it, reach.
+fn reach_over(before: &Row, child: &(NodeName, Branch), behind: &Row) -> Reach
+    ensures reach { result ≡ reach_of (in_row before.now ++ child.now ∷ in_row behind.now) }
+    ensures rooted { 1 ≤ map.len child.now.1 }
+{
+    let front = reach_in(before).either(reach_to(child));
+    front.either(reach_in(behind))
+}
+
+// Whether the rows of its top are as high as each other but for one.
+fn is_balanced(row: &Row) -> bool {
+    match row {
+        Some(top) => {
+            let twig: &Twig = top;
+            let (front, back) = (height(&twig.before), height(&twig.behind));
+            front <= back.saturating_add(1) && back <= front.saturating_add(1)
+        }
+        None => true,
+    }
+}
+
+// The same children in balance, where one came or went since they were.
+fn turned(alloc: Global, row: &Row) -> Result<Row, AllocError>
+    ensures { IfOk result (λ r. in_row r ≡ in_row row.now) }
+{
+    match row {
+        Some(top) => {
+            let twig: &Twig = top;
+            let before = shared(&twig.before)?;
+            let here = Arc::try_clone(&twig.child)?;
+            let behind = shared(&twig.behind)?;
+            balanced(alloc, before, here, behind)
+        }
+        None => Ok(None),
+    }
+}
+
+// Brings a row into balance. Without memory for that it stays as it is: how high it stands is no matter of what it has.
+fn turn(alloc: Global, row: &mut Row)
+    ensures { in_row row.new ≡ in_row row.old }
+{
+    if is_balanced(row) {
+        return;
+    }
+    if let Ok(other) = turned(alloc, row) {
+        *row = other;
+    }
+}
+
+// Puts a child in its place between two rows, or in the place of the one between them.
+#[cycle(puts)]
+fn put_beside(
+    alloc: Global,
+    before: &mut Row,
+    here: &mut Arc<(NodeName, Branch)>,
+    behind: &mut Row,
+    child: &Arc<(NodeName, Branch)>,
+) -> Result<(), AllocError>
+    requires { AreChildren (in_row before.old ++ arc_value here.old ∷ in_row behind.old) }
+    ensures ok { OnOk result (in_row before.new ++ arc_value here.new ∷ in_row behind.new
+        ≡ put name_cmp (arc_value child.now).0 (arc_value child.now).1
+        (in_row before.old ++ arc_value here.old ∷ in_row behind.old)) }
+    ensures err { OnErr result ((in_row before.new ≡ in_row before.old) × (arc_value here.new ≡ arc_value here.old)
+        × (in_row behind.new ≡ in_row behind.old)) }
+{
+    match child.0.compare(&here.0) {
+        Ordering::Less => put_in(alloc, before, child),
+        Ordering::Equal => {
+            *here = Arc::try_clone(child)?;
+            Ok(())
+        }
+        Ordering::Greater => put_in(alloc, behind, child),
+    }
+}
+
+// Puts a child in its place where nobody shares the top, and says whether it did.
+#[cycle(puts)]
+fn put_own(
+    alloc: Global,
+    row: &mut Row,
+    child: &Arc<(NodeName, Branch)>,
+) -> Result<bool, AllocError>
+    requires { AreChildren (in_row row.old) }
+    ensures done { IfOk result (λ done. in_row row.new ≡ (if done
+        then put name_cmp (arc_value child.now).0 (arc_value child.now).1 (in_row row.old) else in_row row.old)) }
+    ensures err { OnErr result (in_row row.new ≡ in_row row.old) }
+{
+    let Some(top) = row else {
+        return Ok(false);
+    };
+    let Some(twig) = Arc::get_mut(top) else {
+        return Ok(false);
+    };
+    twig.put_under(alloc, child)?;
+    Ok(true)
+}
+
+/// Puts a child in its place, or in the place of the one of its name. What nobody shares is changed where it stands.
+#[cycle(puts)]
+pub fn put_in(
+    alloc: Global,
+    row: &mut Row,
+    child: &Arc<(NodeName, Branch)>,
+) -> Result<(), AllocError>
+    requires { AreChildren (in_row row.old) }
+    ensures ok { OnOk result (in_row row.new
+        ≡ put name_cmp (arc_value child.now).0 (arc_value child.now).1 (in_row row.old)) }
+    ensures err { OnErr result (in_row row.new ≡ in_row row.old) }
+{
+    if put_own(alloc, row, child)? {
+        turn(alloc, row);
+        return Ok(());
+    }
+    *row = with(alloc, row, child)?;
+    Ok(())
+}
+
+// Edits the child of that name between two rows or in them, at a path below it.
+#[cycle(alters)]
+fn alter_beside(
+    alloc: Global,
+    before: &mut Row,
+    here: &mut Arc<(NodeName, Branch)>,
+    behind: &mut Row,
+    name: &NodeName,
+    path: &[NodeName],
+    edit: Edit,
+    number: Option<RevNo>,
+) -> Result<(), AllocError>
+    requires children { AreChildren (in_row before.old ++ arc_value here.old ∷ in_row behind.old) }
+    requires rooted { 1 ≤ map.len (arc_value here.old).1 }
+    requires there { IsSome (child_at (in_row before.old ++ arc_value here.old ∷ in_row behind.old) name.now path.now) }
+    ensures ok { OnOk result (ChildAlters (in_row before.old ++ arc_value here.old ∷ in_row behind.old)
+        (in_row before.new ++ arc_value here.new ∷ in_row behind.new) name.now path.now edit number) }
+    ensures err { OnErr result ((in_row before.new ≡ in_row before.old) × (arc_value here.new ≡ arc_value here.old)
+        × (in_row behind.new ≡ in_row behind.old)) }
+{
+    match name.compare(&here.0) {
+        Ordering::Less => alter_in(alloc, before, name, path, edit, number),
+        Ordering::Equal => alter_child(alloc, here, path, edit, number),
+        Ordering::Greater => alter_in(alloc, behind, name, path, edit, number),
+    }
+}
+
+// Edits a child at a path below it, and gives the number on the way. One that is shared is copied.
+#[cycle(alters)]
+fn alter_child(
+    alloc: Global,
+    child: &mut Arc<(NodeName, Branch)>,
+    path: &[NodeName],
+    edit: Edit,
+    number: Option<RevNo>,
+) -> Result<(), AllocError>
+    requires { IsSome (map.get (arc_value child.old).1 path.now) }
+    ensures name { (arc_value child.new).0 ≡ (arc_value child.old).0 }
+    ensures ok { OnOk result ((q : Path) → map.get (arc_value child.new).1 q
+        ≡ edit_at edit (marked_by number (map.get (arc_value child.old).1) path.now) path.now q) }
+    ensures err { OnErr result (arc_value child.new ≡ arc_value child.old) }
+{
+    if let Some(own) = Arc::get_mut(child) {
+        return own.1.alter(alloc, path, edit, number);
+    }
+    let name = child.0.copy(alloc)?;
+    let mut branch = child.1.again()?;
+    branch.alter(alloc, path, edit, number)?;
+    *child = Arc::new(alloc, (name, branch))?;
+    Ok(())
+}
+
+/// Edits the child of that name at a path below it, and gives the number on the way. What nobody shares is changed
+/// where it stands, and else copied.
+#[cycle(alters)]
+pub fn alter_in(
+    alloc: Global,
+    row: &mut Row,
+    name: &NodeName,
+    path: &[NodeName],
+    edit: Edit,
+    number: Option<RevNo>,
+) -> Result<(), AllocError>
+    requires children { AreChildren (in_row row.old) }
+    requires there { IsSome (child_at (in_row row.old) name.now path.now) }
+    ensures ok { OnOk result (ChildAlters (in_row row.old) (in_row row.new) name.now path.now edit number) }
+    ensures err { OnErr result (in_row row.new ≡ in_row row.old) }
+{
+    let Some(top) = row else { unreachable!() };
+    if let Some(twig) = Arc::get_mut(top) {
+        return twig.alter_under(alloc, name, path, edit, number);
+    }
+    let mut twig = top.again()?;
+    twig.alter_under(alloc, name, path, edit, number)?;
+    *top = Arc::new(alloc, twig)?;
+    Ok(())
+}
+
+impl Twig {
+    // The same twig once more: what it has is shared.
+    fn again(&self) -> Result<Twig, AllocError>
+        ensures { IfOk result (λ t. t ≡ self.now) }
+    {
+        Ok(Twig {
+            child: Arc::try_clone(&self.child)?,
+            before: shared(&self.before)?,
+            behind: shared(&self.behind)?,
+            height: self.height,
+            reach: self.reach,
+        })
+    }
+
+    // Puts a child in its place beside its own, or in the place of that.
+    #[cycle(puts)]
+    fn put_under(
+        &mut self,
+        alloc: Global,
+        child: &Arc<(NodeName, Branch)>,
+    ) -> Result<(), AllocError>
+        requires { AreChildren self.old }
+        ensures ok { OnOk result (self.new
+            ≡ put name_cmp (arc_value child.now).0 (arc_value child.now).1 self.old) }
+        ensures err { OnErr result (self.new ≡ self.old) }
+    {
+        put_beside(
+            alloc,
+            &mut self.before,
+            &mut self.child,
+            &mut self.behind,
+            child,
+        )?;
+        self.height = height_over(&self.before, &self.behind);
+        self.reach = reach_over(&self.before, &self.child, &self.behind);
+        Ok(())
+    }
+
+    // Edits the child of that name at a path below it.
+    #[cycle(alters)]
+    fn alter_under(
+        &mut self,
+        alloc: Global,
+        name: &NodeName,
+        path: &[NodeName],
+        edit: Edit,
+        number: Option<RevNo>,
+    ) -> Result<(), AllocError>
+        requires children { AreChildren self.old }
+        requires there { IsSome (child_at self.old name.now path.now) }
+        ensures ok { OnOk result (ChildAlters self.old self.new name.now path.now edit number) }
+        ensures err { OnErr result (self.new ≡ self.old) }
+    {
+        let (before, behind) = (&mut self.before, &mut self.behind);
+        alter_beside(
+            alloc,
+            before,
+            &mut self.child,
+            behind,
+            name,
+            path,
+            edit,
+            number,
+        )?;
+        let reach = reach_over(&self.before, &self.child, &self.behind);
+        self.reach = reach;
+        Ok(())
+    }
+}
+
 // The first child, and the row of the others.
 fn parted(alloc: Global, twig: &Twig) -> Result<(Arc<(NodeName, Branch)>, Row), AllocError>
     ensures { IfOk result (λ p. arc_value p.0 ∷ in_row p.1 ≡ twig.now) }
@@ -343,6 +619,45 @@ pub fn list_row<'a>(
             list_row(&twig.before, alloc, above, out)?;
             list_child(&twig.child, alloc, above, out)?;
             list_row(&twig.behind, alloc, above, out)
+        }
+        None => Ok(()),
+    }
+}
+
+// Shows the nodes of a child with their paths, in path order.
+#[cycle(visits)]
+fn visit_child<'a, V: Visitor>(
+    child: &'a (NodeName, Branch),
+    above: &mut Vec<&'a NodeName>,
+    visitor: &mut V,
+) -> Result<(), AllocError>
+    ensures said { OnOk result (V.said visitor.new ≡ V.said visitor.old ++ flat_map V.line
+        (under (shown_names above.old.items) (behind child.now.0 (map.entries child.now.1)))) }
+    ensures above { OnOk result (shown_names above.new.items ≡ shown_names above.old.items) }
+{
+    above.push(&child.0)?;
+    child.1.visit_into(above, visitor)?;
+    let _ = above.pop();
+    Ok(())
+}
+
+/// Shows the nodes of each child with their paths, in path order. The names above come back as they were.
+#[cycle(visits)]
+pub fn visit_row<'a, V: Visitor>(
+    row: &'a Row,
+    above: &mut Vec<&'a NodeName>,
+    visitor: &mut V,
+) -> Result<(), AllocError>
+    ensures said { OnOk result (V.said visitor.new ≡ V.said visitor.old ++ flat_map V.line
+        (under (shown_names above.old.items) (below (in_row row.now)))) }
+    ensures above { OnOk result (shown_names above.new.items ≡ shown_names above.old.items) }
+{
+    match row {
+        Some(top) => {
+            let twig: &Twig = top;
+            visit_row(&twig.before, above, visitor)?;
+            visit_child(&twig.child, above, visitor)?;
+            visit_row(&twig.behind, above, visitor)
         }
         None => Ok(()),
     }

@@ -1,6 +1,7 @@
 //! Whole trees, whose owners share what they have in common.
 ghost use Rattle.std.specs.Prelude.{◌≡◌, ◌++◌, [], true, false, IfOk, OnOk, OnErr, IsSome, IfSome, None};
 ghost use Rattle.std.specs.Option.{option_copied};
+ghost use Rattle.std.specs.List.{flat_map};
 ghost use Rattle.std.specs.FinMap as map;
 ghost use Rattle.node_base.specs.Path.{Path, same_path};
 ghost use Rattle.node_base.specs.Limits.{fits};
@@ -18,6 +19,7 @@ use crate::Entry;
 use crate::branch::Branch;
 use crate::edit::Edit;
 use crate::limits::{node_limits, path_limits, props_limits, text_limits};
+use crate::visit::Visitor;
 use node_base::{Node, NodeName, NodePath, Props, RevNo, Text, TreeFault};
 use std::alloc::{AllocError, Global};
 use std::marker::Model;
@@ -95,6 +97,14 @@ impl Tree {
         let mut out = Vec::new(alloc);
         self.root.list_into(alloc, &mut above, &mut out)?;
         Ok(out)
+    }
+
+    /// Shows every path with its node, in path order. It wants memory for the names of one path alone.
+    pub fn visit_nodes<V: Visitor>(&self, alloc: Global, visitor: &mut V) -> Result<(), AllocError>
+        ensures { OnOk result (V.said visitor.new ≡ V.said visitor.old ++ flat_map V.line (map.entries self.now)) }
+    {
+        let mut above = Vec::new(alloc);
+        self.root.visit_into(&mut above, visitor)
     }
 
     /// The fault of the first proper front of a path, from the root down, that is no directory.

@@ -159,3 +159,42 @@ fn copy_into_itself_keeps_the_source(rt: HostRuntime) {
     assert!(rt; is_listed::<Tree>(&rt, rt.alloc()));
     assert!(rt; is_listed::<plain_tree::Tree>(&rt, rt.alloc()));
 }
+
+// What one owner of a tree does to it, what another does to its share, and what the first does then.
+const OURS: [(Call, u8); 4] = [
+    (Call::File("d/b"), 0),
+    (Call::Text("d/e/f"), 0),
+    (Call::File("d/e/g"), 0),
+    (Call::Gone("f"), 0),
+];
+const THEIRS: [(Call, u8); 4] = [
+    (Call::Text("d/e/f"), 0),
+    (Call::Dir("d/a"), 0),
+    (Call::File("d/a/f"), 0),
+    (Call::Text("f"), 0),
+];
+const OURS_AGAIN: [(Call, u8); 3] = [
+    (Call::Text("d/e/f"), 0),
+    (Call::Dir("d/a"), 0),
+    (Call::Text("d/b"), 0),
+];
+
+// What is listed of both trees behind these calls.
+fn parted<T: Calls>(rt: &impl Abort, alloc: Global) -> (String, String) {
+    let mut ours = small::<T>(rt, alloc);
+    assert!(rt; answers(rt, alloc, &mut ours, &[(Call::File("d/e/f"), 0)], 2));
+    let mut theirs = again(rt, &ours);
+    assert!(rt; answers(rt, alloc, &mut ours, &OURS, 3));
+    assert!(rt; answers(rt, alloc, &mut theirs, &THEIRS, 4));
+    assert!(rt; answers(rt, alloc, &mut ours, &OURS_AGAIN, 5));
+    (lines(rt, alloc, &ours), lines(rt, alloc, &theirs))
+}
+
+#[test]
+fn a_change_of_one_owners_tree_leaves_the_others(rt: HostRuntime) {
+    let (ours, theirs) = parted::<Tree>(&rt, rt.alloc());
+    let (plain_ours, plain_theirs) = parted::<plain_tree::Tree>(&rt, rt.alloc());
+    assert!(rt; is_same(&ours, &plain_ours));
+    assert!(rt; is_same(&theirs, &plain_theirs));
+    assert!(rt; has(&ours, "F 5 d e f", 1) && has(&theirs, "F 4 d e f", 1));
+}

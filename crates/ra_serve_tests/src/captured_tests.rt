@@ -63,10 +63,10 @@ fn commit_next(
     nodes: Vec<NodeRecord>,
 ) {
     assert!(rt; number.index() == repo.trees().len());
-    let (set, _tree) = load_revision(alloc, repo.trees(), number, nodes).expect(rt, "a set");
+    let loaded = load_revision(alloc, repo.trees(), number, nodes).expect(rt, "a revision");
     let head = repo.head();
     let _number = repo
-        .commit(alloc, head, set, props, None)
+        .commit(alloc, head, loaded.set, props, None)
         .expect(rt, "a revision");
 }
 

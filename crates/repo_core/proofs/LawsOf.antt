@@ -7,9 +7,9 @@ use Rattle.jiff.proofs.Family.{epoch_day_injective, civil_nanos_injective, time_
 use Rattle.node_base.specs.Props.{PropMap}
 use Rattle.node_base.specs.Tree.{PathMap}
 use Rattle.dump_load.specs.declared.change.Change.{Change}
-use Rattle.dump_load.specs.Trees.{effect_tree}
+use Rattle.dump_load.specs.Trees.{effect_tree, Makes}
 use Rattle.dump_load.specs.Faults.{fault}
-use Rattle.repo_core.specs.Repository.{Revision, trees_of, root_alone, Makes, AllMade}
+use Rattle.repo_core.specs.Repository.{Revision, trees_of, root_alone, AllMade}
 use Rattle.repo_core.specs.Entries.{Revised, Mapped, with_props, with_entry}
 use Rattle.repo_core.specs.Laws.{EntriesJoin, FreshIsOne, SetsMakeTrees, EntriesKeep, OneDate}
 use Rattle.repo_core.proofs.MadeTrees.{made-push}

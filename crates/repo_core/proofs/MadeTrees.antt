@@ -2,7 +2,8 @@
 use Rattle.std.proofs.Common.{◌≡◌, suc, List, [], ◌∷◌, ◌++◌, length, refl, sym, ap, subst, append-nil, append_assoc}
 use Rattle.node_base.specs.Tree.{PathMap}
 use Rattle.dump_load.specs.declared.change.Change.{Change}
-use Rattle.repo_core.specs.Repository.{Revision, Makes, AllMade, trees_of}
+use Rattle.dump_load.specs.Trees.{Makes}
+use Rattle.repo_core.specs.Repository.{Revision, AllMade, trees_of}
 
 pub length-made : (before : List PathMap) (ss : List (List Change)) (ts : List PathMap) → AllMade before ss ts → length ss ≡ length ts
 length-made before [] [] m = refl

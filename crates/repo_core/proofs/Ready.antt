@@ -10,7 +10,8 @@ use Rattle.dump_load.specs.Trees.{effect_tree}
 use Rattle.repo_core.specs.Repository.{Revision, trees_of}
 use Rattle.repo_core.specs.Entries.{Revised, Mapped}
 use Rattle.repo_core.specs.Refusals.{by_repository, limit_fault}
-use Rattle.repo_core.specs.declared.fault.RepoFault.TheVariants.{NoSuchRevision}
+use Rattle.repo_core.specs.declared.fault.RepoFault.{RepoFault}
+use Rattle.repo_core.specs.declared.fault.RepoFault.TheVariants.{NoSuchRevision, Full}
 use Rattle.repo_core.specs.Staging.{StagedEntry, IsReady, IsNext, new_tree}
 
 not_full : (n : ℕ) → n ≤ 65535 → nat_lt 65535 n ≡ false
@@ -57,6 +58,13 @@ pub missed_past : (x : List Revision) (n : ℕ) → None ≡ option_map (λ (y :
 missed_past [] n e = omega arith
 missed_past (y ∷ x) zero e = some_none _ (sym e)
 missed_past (y ∷ x) (suc n) e = let past = missed_past x n e in omega arith
+
+too_many : (n : ℕ) → 65535 < n → nat_lt 65535 n ≡ true
+too_many n h = grind (arith)
+
+-- there is no room for a revision more
+pub refuses_full : (x : List Revision) (n : ℕ) (set : List Change) (props : PropMap) (e : RepoFault) → (e ≡ Full) × (65535 < length x) → by_repository x (Revised n set props) ≡ Some e
+refuses_full x n set props e full = rw (too_many (length x) full.1, full.0) refl
 
 pub refuses_past : (x : List Revision) (n : ℕ) (props : PropMap) → length x ≤ n → by_repository x (Mapped n props) ≡ Some NoSuchRevision
 refuses_past x n props h = rw (is_past n (length x) h) refl

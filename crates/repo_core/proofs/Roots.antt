@@ -6,7 +6,8 @@ use Rattle.node_base.specs.Path.{Path, path_cmp, paths_total, paths_exact}
 use Rattle.node_base.specs.Tree.{PathMap, alone, new_dir}
 use Rattle.dump_load.specs.Effect.{effect}
 use Rattle.dump_load.proofs.Walk.{effect_none}
-use Rattle.repo_core.specs.Repository.{root_alone, Makes}
+use Rattle.dump_load.specs.Trees.{Makes}
+use Rattle.repo_core.specs.Repository.{root_alone}
 use Rattle.dump_load.proofs.EffectTrees.{effect_tree_is}
 
 pub get-root_alone : (q : Path) → map.get root_alone q ≡ alone new_dir q

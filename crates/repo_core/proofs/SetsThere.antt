@@ -6,7 +6,8 @@ use Rattle.std.specs.Borrow.{Bor}
 use Rattle.std.proofs.lemmas.Option.{slice_get-map}
 use Rattle.node_base.specs.Tree.{PathMap}
 use Rattle.dump_load.specs.declared.change.Change.{Change}
-use Rattle.repo_core.specs.Repository.{Revision, Repository, trees_of, tree_at, Makes, IsRepository}
+use Rattle.dump_load.specs.Trees.{Makes}
+use Rattle.repo_core.specs.Repository.{Revision, Repository, trees_of, tree_at, IsRepository}
 use Rattle.repo_core.proofs.LawsOf.{sets_make_trees}
 use Rattle.repo_core.proofs.MadeTrees.{length-made, length-trees}
 

@@ -3,7 +3,8 @@ use Rattle.std.specs.Prelude.{◌≡◌, ℕ, List, ◌++◌, take, slice_get, S
 use Rattle.jiff.specs.Types.{DateTime}
 use Rattle.dump_load.specs.declared.change.Change.{Change}
 use Rattle.node_base.specs.Tree.{PathMap}
-use Rattle.repo_core.specs.Repository.{Revision, Repository, trees_of, tree_at, fresh, Makes, IsRepository}
+use Rattle.dump_load.specs.Trees.{Makes}
+use Rattle.repo_core.specs.Repository.{Revision, Repository, trees_of, tree_at, fresh, IsRepository}
 use Rattle.repo_core.specs.Entries.{Entry, with_entry_in, revisions_after}
 use Rattle.repo_core.specs.Refusals.{by_repository}
 use Rattle.repo_core.specs.Dates.{IsMoment, date_text}

@@ -5,8 +5,10 @@ use Rattle.std.specs.List.{list_all}
 use Rattle.std.specs.FinMap as map
 use Rattle.node_base.specs.Path.{Name, same_name}
 use Rattle.node_base.specs.Props.{PropMap, props_fit}
-use Rattle.dump_load.specs.Faults.{fault_if, first_of, fault, refused}
-use Rattle.dump_load.specs.Faults as changes
+use Rattle.node_base.specs.Refusals.{refusal_number}
+use Rattle.node_base.specs.declared.refusal.Refusal.{Refusal}
+use Rattle.node_base.specs.declared.refusal.Refusal.TheVariants as table
+use Rattle.dump_load.specs.Faults.{fault_if, first_of, fault, refused, change_refusal}
 use Rattle.repo_core.specs.Repository.{Revision, trees_of, head_of, props_at}
 use Rattle.repo_core.specs.Entries.{Entry, Revised, Mapped}
 use Rattle.repo_core.specs.declared.expected.Expected.{Expected}
@@ -86,12 +88,16 @@ abbrev pub IsDue : RepoFault → Option RepoFault → Type 0
 IsDue refusal.OutOfMemory due = Unit {0}
 IsDue e due = due ≡ Some e
 
--- the number of a refusal
+-- the refusal of the table that it is
+abbrev pub repo_refusal : RepoFault → Refusal
+repo_refusal refusal.NoSuchRevision = table.NoSuchRevision
+repo_refusal (refusal.BaseMismatch found) = table.BaseMismatch
+repo_refusal refusal.Full = table.Full
+repo_refusal (refusal.Behind head) = table.Behind head
+repo_refusal (refusal.Change f) = change_refusal f
+repo_refusal refusal.TooLong = table.TooLong
+repo_refusal refusal.OutOfMemory = table.OutOfMemory
+
+-- its number
 abbrev pub number_of : RepoFault → ℕ
-number_of refusal.TooLong = 8
-number_of refusal.NoSuchRevision = 21
-number_of (refusal.BaseMismatch found) = 22
-number_of refusal.Full = 23
-number_of (refusal.Behind head) = 25
-number_of (refusal.Change f) = changes.number_of f
-number_of refusal.OutOfMemory = 70
+number_of f = refusal_number (repo_refusal f)

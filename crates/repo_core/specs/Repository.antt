@@ -1,5 +1,5 @@
 -- A repository: an identity, and revisions.
-use Rattle.std.specs.Prelude.{◌≡◌, ℕ, ◌-◌, ◌<◌, ◌≤◌, List, [], ◌∷◌, ◌++◌, map, length, slice_get, Option, None, refl}
+use Rattle.std.specs.Prelude.{◌≡◌, ℕ, ◌-◌, ◌<◌, ◌≤◌, List, [], ◌∷◌, ◌++◌, map, length, slice_get, Option, refl}
 use Rattle.std.specs.Option.{option_map, option_map_or}
 use Rattle.std.specs.FinMap as finite
 use Rattle.std.specs.Coded.{Coded, coded×, coded_list, code_by}
@@ -8,8 +8,7 @@ use Rattle.node_base.specs.Props.{PropMap, coded_props}
 use Rattle.node_base.specs.Tree.{PathMap, coded_tree, new_dir}
 use Rattle.dump_load.specs.declared.change.Change.{Change}
 use Rattle.dump_load.specs.Coded.{coded_set}
-use Rattle.dump_load.specs.Faults.{fault}
-use Rattle.dump_load.specs.Trees.{effect_tree}
+use Rattle.dump_load.specs.Trees.{Makes}
 
 -- the tree and the properties of a revision
 pub record Revision : Type 0 where
@@ -54,11 +53,6 @@ props_at x n = option_map_or (λ y. y.props) (slice_get x n) finite.empty
 -- a repository as it begins: revision 0 without properties, which an empty set makes
 abbrev pub fresh : List ℕ → Repository
 fresh identity = record { identity = identity; revisions = record { tree = root_alone; props = finite.empty } ∷ []; sets = [] ∷ [] }
-
--- the set has no fault over the trees before it, and makes the tree
-pub record Makes (trees : List PathMap) (set : List Change) (tree : PathMap) : Type 0 where
-  pub faultless : fault trees set ≡ None
-  pub effect : tree ≡ effect_tree trees set
 
 -- after the trees before them, each set makes its tree
 abbrev pub AllMade : List PathMap → List (List Change) → List PathMap → Type 0

@@ -1,9 +1,9 @@
 //! Why a repository refuses a call.
 ghost use Rattle.std.specs.Prelude.{◌≡◌};
-ghost use Rattle.repo_core.specs.Refusals.{number_of};
+ghost use Rattle.repo_core.specs.Refusals.{number_of, repo_refusal};
 
-use dump_load::ChangeFault;
-use node_base::{PropValue, RevNo};
+use dump_load::{ChangeFault, change_refusal};
+use node_base::{PropValue, Refusal, RevNo};
 use std::alloc::{AllocError, AllocFailed};
 use thiserror::Error;
 
@@ -49,6 +49,22 @@ impl RepoFault {
             RepoFault::Change(fault) => fault.number(),
             RepoFault::OutOfMemory => 70,
         }
+    }
+}
+
+/// The refusal of the table that a repository's fault is.
+pub fn repo_refusal(fault: RepoFault) -> Refusal
+    ensures value { result ≡ repo_refusal fault }
+    ensures no_peer { result ≡ Refusal.PeerFailed → ⊥ }
+{
+    match fault {
+        RepoFault::NoSuchRevision => Refusal::NoSuchRevision,
+        RepoFault::BaseMismatch(_) => Refusal::BaseMismatch,
+        RepoFault::Full => Refusal::Full,
+        RepoFault::Behind(head) => Refusal::Behind(head),
+        RepoFault::Change(fault) => change_refusal(fault),
+        RepoFault::TooLong => Refusal::TooLong,
+        RepoFault::OutOfMemory => Refusal::OutOfMemory,
     }
 }
 

@@ -20,7 +20,7 @@
 
 pub use entry::Entry;
 pub use expected::Expected;
-pub use fault::RepoFault;
+pub use fault::{RepoFault, repo_refusal};
 pub use moment::Moment;
 pub use repo::Repo;
 pub use staged::Staged;

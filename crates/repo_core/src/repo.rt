@@ -4,7 +4,8 @@ ghost use Rattle.std.specs.Prelude.{IsSomeAnd, OnOk, IfOk};
 ghost use Rattle.std.specs.Option.{option_map, option_copied};
 ghost use Rattle.node_base.specs.Props.{PropMap};
 ghost use Rattle.node_base.specs.Tree.{PathMap};
-ghost use Rattle.repo_core.specs.Repository.{fresh, trees_of, tree_at, head_of, Makes, IsRepository};
+ghost use Rattle.dump_load.specs.Trees.{Makes};
+ghost use Rattle.repo_core.specs.Repository.{fresh, trees_of, tree_at, head_of, IsRepository};
 ghost use Rattle.repo_core.specs.Entries.{Revised, Mapped, with_entry_in};
 ghost use Rattle.repo_core.specs.Staging.{IsReady};
 

@@ -2,7 +2,8 @@
 ghost use Rattle.std.specs.Prelude.{◌≡◌, ◌≢◌, ◌<◌, ◌≤◌, length, None, Some, IfOk, OnOk, IfErr};
 ghost use Rattle.std.specs.Prelude.{OnErr, IsOk};
 ghost use Rattle.std.specs.Option.{option_copied};
-ghost use Rattle.repo_core.specs.Repository.{props_at};
+ghost use Rattle.dump_load.specs.Trees.{Makes};
+ghost use Rattle.repo_core.specs.Repository.{props_at, trees_of};
 ghost use Rattle.repo_core.specs.Dates.{dated};
 ghost use Rattle.repo_core.specs.Entries.{Revised, Mapped};
 ghost use Rattle.repo_core.specs.Staging.{IsReady};
@@ -11,7 +12,7 @@ ghost use Rattle.repo_core.specs.declared.fault.RepoFault.TheVariants.{Full, NoS
 
 use crate::maps::{dated, value_at, with_value};
 use crate::{Expected, Moment, Repo, RepoFault, Staged};
-use dump_load::{ChangeSet, apply};
+use dump_load::{Applied, ChangeSet, apply};
 use node_base::{PropName, Props, RevNo};
 use std::alloc::Global;
 
@@ -42,7 +43,24 @@ impl Repo {
         let number = self.next_number()?;
         let tree = apply(alloc, self.trees(), &set)?;
         let props = dated(alloc, props, moment)?;
-        Ok(Staged::revision(number, set, props, tree))
+        Ok(Staged::revision(number, Applied { set, tree }, props))
+    }
+
+    /// Makes the revision after the head ready, of a set that was judged over the revisions that are there: it isn't
+    /// applied again, and takes no memory. Refused is the revision after 65,535 (23).
+    pub fn stage_applied(&self, applied: Applied, props: Props) -> Result<Staged, RepoFault>
+        requires { Makes (trees_of self.now.revisions) applied.set applied.tree }
+        ensures entry { IfOk result (λ s. s.entry ≡ Revised (length self.now.revisions) applied.set props) }
+        ensures ready { IfOk result (IsReady self.now.revisions) }
+        ensures refused { IfErr result (λ e. by_repository self.now.revisions
+            (Revised (length self.now.revisions) applied.set props) ≡ Some e) }
+        ensures room { length self.now.revisions ≤ 65535 → IsOk result }
+    {
+        let _ = props.entries();
+        match self.next_number() {
+            Ok(number) => Ok(Staged::revision(number, applied, props)),
+            Err(fault) => Err(fault),
+        }
     }
 
     /// Makes a conditional change of one property of a revision ready: the value stands at the name, or none does.

@@ -5,7 +5,7 @@ ghost use Rattle.repo_core.specs.Entries.{Revised, Mapped};
 ghost use Rattle.repo_core.specs.Staging.{StagedEntry};
 
 use crate::Entry;
-use dump_load::ChangeSet;
+use dump_load::Applied;
 use node_base::{Props, RevNo};
 use path_tree::Tree;
 use std::marker::Model;
@@ -30,10 +30,11 @@ impl Model for Staged {
 
 impl Staged {
     /// A revision with the tree that its changes make.
-    pub(crate) fn revision(number: RevNo, set: ChangeSet, props: Props, tree: Tree) -> Staged
-        ensures entry { result.entry ≡ Revised number set props }
-        ensures tree { result.tree ≡ Some tree }
+    pub(crate) fn revision(number: RevNo, applied: Applied, props: Props) -> Staged
+        ensures entry { result.entry ≡ Revised number applied.set props }
+        ensures tree { result.tree ≡ Some applied.tree }
     {
+        let Applied { set, tree } = applied;
         Staged {
             entry: Entry::Revised { number, set, props },
             tree: Some(tree),

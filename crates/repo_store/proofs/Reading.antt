@@ -3,9 +3,8 @@ use Rattle.std.proofs.Common.{◌≡◌, ℕ, List, [], ◌∷◌, ◌++◌, map
 use Rattle.std.proofs.lemmas.List.{append-nil}
 use Rattle.std.specs.FinMap as finite
 use Rattle.node_base.specs.Props.{PropMap}
-use Rattle.dump_text.specs.Streams.{Stream, Reads, Refuses, reading, records_of, fresh}
+use Rattle.dump_text.specs.Streams.{records_of}
 use Rattle.dump_text.specs.Grammar.{version_line}
-use Rattle.dump_text.specs.declared.state.ReadState.{ReadState}
 use Rattle.dump_text.specs.declared.record.NodeRecord.{NodeRecord}
 use Rattle.dump_text.specs.declared.record.RevRecord.{RevRecord}
 use Rattle.dump_text.specs.declared.record.DumpRecord.{DumpRecord}
@@ -27,27 +26,7 @@ use Rattle.repo_core.specs.Staging.{number_in, props_in}
 use Rattle.repo_core.specs.declared.entry.Entry.{Entry}
 use Rattle.repo_core.specs.declared.entry.Entry.TheVariants.{Revised, Mapped}
 use Rattle.repo_store.specs.Journal.{IsBeginning, Spells, records_in, spelling}
-use Rattle.repo_store.specs.Readings.{records_of as records_of_revision, AreReadAs, IsDumpOf, IsRevisionOf, behind, so_far}
-
--- the version block alone
-pub version_read : reading (Reads [] fresh) (version_line ++ 10 ∷ 10 ∷ []) ≡ Reads [] behind
-version_read = refl
-
-abbrev state_of : Stream → ReadState
-state_of (Reads rs r) = r
-state_of (Refuses rs f) = fresh
-
-pub version_read_of : (items : List DumpRecord) (start : ReadState) → items ≡ [] → start ≡ fresh → reading (Reads items start) (version_line ++ 10 ∷ 10 ∷ []) ≡ Reads [] behind
-version_read_of items start none new = ap₂ (λ (i : List DumpRecord) (s : ReadState). reading (Reads i s) (version_line ++ 10 ∷ 10 ∷ [])) none new ∙ version_read
-
--- what it leaves
-pub came_records : (items : List DumpRecord) (start : ReadState) → items ≡ [] → start ≡ fresh → (rs : List DumpRecord) (r : ReadState)
-    → reading (Reads items start) (version_line ++ 10 ∷ 10 ∷ []) ≡ Reads rs r → rs ≡ []
-came_records items start none new rs r h = ap records_of (sym h ∙ version_read_of items start none new)
-
-pub came_state : (items : List DumpRecord) (start : ReadState) → items ≡ [] → start ≡ fresh → (rs : List DumpRecord) (r : ReadState)
-    → reading (Reads items start) (version_line ++ 10 ∷ 10 ∷ []) ≡ Reads rs r → r ≡ behind
-came_state items start none new rs r h = ap state_of (sym h ∙ version_read_of items start none new)
+use Rattle.repo_store.specs.Readings.{records_of as records_of_revision, AreReadAs, IsDumpOf, IsRevisionOf, so_far}
 
 revision_among : (ns nodes : List NodeRecord) (number : ℕ) (props : PropMap) (rest : List DumpRecord) → map Node ns ++ Revision number props ∷ rest ≡ map Node nodes → ⊥
 revision_among [] [] number props rest h = cc
@@ -79,11 +58,6 @@ early_node node rest n ps nodes h = cc
 -- no revision has no record
 pub no_record : (n : ℕ) (ps : PropMap) (nodes : List NodeRecord) → [] ≡ Revision n ps ∷ map Node nodes → ⊥
 no_record n ps nodes h = cc
-
--- from there on
-pub joined : (items : List DumpRecord) (start : ReadState) (bytes : List ℕ) → items ≡ [] → start ≡ behind → (rs : List DumpRecord) (r : ReadState)
-    → reading (Reads items start) bytes ≡ Reads rs r → reading (Reads [] behind) bytes ≡ Reads rs r
-joined items start bytes none new rs r h = ap₂ (λ (i : List DumpRecord) (s : ReadState). reading (Reads i s) bytes) (sym none) (sym new) ∙ h
 
 -- what is an entry is read as its records
 pub spelled_read : (law : DumpsAreRead) (bytes : List ℕ) (e : Entry) → Spells bytes e → AreReadAs bytes (records_in e)

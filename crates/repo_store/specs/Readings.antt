@@ -1,10 +1,8 @@
 -- How entries are read.
 use Rattle.std.specs.Prelude.{◌≡◌, ℕ, true, List, [], ◌∷◌, map, Option, Some, None}
 use Rattle.dump_text.specs.Canon.{canon_revision}
-use Rattle.dump_text.specs.Streams.{reading, Reads, begin, dump}
+use Rattle.dump_text.specs.Streams.{reading, Reads, behind_version, dump}
 use Rattle.dump_text.specs.Written.{AreFormed, AreRecords, are_whole, read_revision}
-use Rattle.dump_text.specs.declared.form.Stage.TheVariants.{First}
-use Rattle.dump_text.specs.declared.state.Place.TheVariants as at
 use Rattle.dump_text.specs.declared.state.ReadState.{ReadState}
 use Rattle.dump_text.specs.declared.record.RevRecord.{RevRecord}
 use Rattle.dump_text.specs.declared.record.DumpRecord.{DumpRecord}
@@ -19,13 +17,9 @@ abbrev pub so_far : Option RevRecord → List DumpRecord
 so_far None = []
 so_far (Some r) = records_of r
 
--- behind the version block
-abbrev pub behind : ReadState
-behind = begin 2 at.Between First
-
 -- bytes behind the version block are read as these records
 abbrev pub AreReadAs : List ℕ → List DumpRecord → Type 0
-AreReadAs bytes rs = (r : ReadState) × (reading (Reads [] behind) bytes ≡ Reads rs r)
+AreReadAs bytes rs = (r : ReadState) × (reading (Reads [] behind_version) bytes ≡ Reads rs r)
 
 -- so are the bytes of a dump
 abbrev pub IsDumpOf : List ℕ → List DumpRecord → Type 0

@@ -4,11 +4,9 @@ use Rattle.gate_log.specs.Faults as log
 use Rattle.gate_log.specs.declared.fault.LogFault.{LogFault}
 use Rattle.gate_log.specs.declared.fault.LogFault.TheVariants.{DeviceFailed, Failed, Damaged, NoRepository, ThereAlready, LogFull, OutOfMemory}
 use Rattle.repo_core.specs.Refusals as core
-use Rattle.repo_core.specs.declared.fault.RepoFault.{RepoFault}
-use Rattle.repo_core.specs.declared.fault.RepoFault.TheVariants as fault
+pub use Rattle.repo_core.specs.Refusals.{repo_refusal}
 use Rattle.node_base.specs.declared.refusal.Refusal.{Refusal}
 use Rattle.node_base.specs.declared.refusal.Refusal.TheVariants as refusal
-use Rattle.fleet_engines.specs.Refusals.{change_refusal}
 use Rattle.repo_store.specs.declared.fault.StoreFault.{StoreFault}
 use Rattle.repo_store.specs.declared.fault.StoreFault.TheVariants.{Repo, Log}
 
@@ -46,16 +44,6 @@ log_refusal NoRepository = refusal.NoRepository
 log_refusal ThereAlready = refusal.ThereAlready
 log_refusal LogFull = refusal.LogFull
 log_refusal OutOfMemory = refusal.OutOfMemory
-
--- the one that a fault of the repository is
-abbrev pub repo_refusal : RepoFault → Refusal
-repo_refusal fault.NoSuchRevision = refusal.NoSuchRevision
-repo_refusal (fault.BaseMismatch found) = refusal.BaseMismatch
-repo_refusal fault.Full = refusal.Full
-repo_refusal (fault.Behind head) = refusal.Behind head
-repo_refusal (fault.Change f) = change_refusal f
-repo_refusal fault.TooLong = refusal.TooLong
-repo_refusal fault.OutOfMemory = refusal.OutOfMemory
 
 -- the one that a fault of the store is
 abbrev pub store_refusal : StoreFault → Refusal

@@ -2,7 +2,8 @@
 ghost use Rattle.std.specs.Prelude.{◌≡◌, ◌<◌, length, Option, None, IfOk, IfErr};
 ghost use Rattle.std.specs.Option.{option_copied};
 ghost use Rattle.gate_log.specs.Log.{entries_of, entry_of};
-ghost use Rattle.repo_core.specs.Repository.{Revision, props_at};
+ghost use Rattle.dump_load.specs.Trees.{Makes};
+ghost use Rattle.repo_core.specs.Repository.{Revision, props_at, trees_of};
 ghost use Rattle.repo_core.specs.Dates.{dated};
 ghost use Rattle.repo_core.specs.Refusals.{by_repository, change_fault, commit_fault, with_value};
 ghost use Rattle.repo_core.specs.Staging.{IsReady};
@@ -14,7 +15,7 @@ ghost use Rattle.repo_store.specs.Words.{entry_in, log_of, revisions_of, HasFail
 
 use crate::spell::entry_bytes;
 use crate::{Committed, RepoStore, Staged, StoreFault};
-use dump_load::ChangeSet;
+use dump_load::{Applied, ChangeSet};
 use fleet_disk::Disk;
 use gate_log::{LogFault, Receipt};
 use node_base::{PropName, Props, RevNo};
@@ -49,6 +50,22 @@ impl<D: Disk> RepoStore<D> {
             Stages entry (commit_fault (revisions_of self.old) base entry) self.old self.new result }
     {
         let judged = self.repo.stage_commit(alloc, base, set, props, moment);
+        self.ready(alloc, judged)
+    }
+
+    /// Makes the revision after the head ready, of a set that was judged over this store's revisions: it isn't applied
+    /// again. Refused is what `stage` refuses but for the set's fault.
+    pub fn stage_applied(
+        &mut self,
+        alloc: Global,
+        applied: Applied,
+        props: Props,
+    ) -> Result<Staged, StoreFault>
+        requires { Makes (trees_of (revisions_of self.old)) applied.set applied.tree }
+        ensures stages { let entry = Revised (length (revisions_of self.old)) applied.set props in
+            Stages entry (by_repository (revisions_of self.old) entry) self.old self.new result }
+    {
+        let judged = judge_applied(&self.repo, applied, props);
         self.ready(alloc, judged)
     }
 
@@ -111,6 +128,27 @@ impl<D: Disk> RepoStore<D> {
         let receipt = self.install(staged)?;
         let number = self.repo.head();
         Ok(Committed { receipt, number })
+    }
+
+    /// Commits a set that was judged over this store's revisions: `stage_applied`, then `install`.
+    pub fn commit_applied(
+        &mut self,
+        alloc: Global,
+        applied: Applied,
+        props: Props,
+    ) -> Result<Committed, StoreFault>
+        requires { Makes (trees_of (revisions_of self.old)) applied.set applied.tree }
+        ensures change { let entry = Revised (length (revisions_of self.old)) applied.set props in
+            Changes entry (by_repository (revisions_of self.old) entry) self.old self.new result }
+        ensures number { IfOk result (λ c. c.number ≡ length (revisions_of self.old)) }
+        ensures receipt { IfOk result (λ c. entry_of c.receipt ≡ length (entries_of (log_of self.old))) }
+    {
+        let staged = self.stage_applied(alloc, applied, props)?;
+        let receipt = self.install(staged)?;
+        Ok(Committed {
+            receipt,
+            number: self.repo.head(),
+        })
     }
 
     /// Puts a value at the name of a property of a revision, or takes it away, where the present value is as expected:
@@ -181,6 +219,20 @@ impl<D: Disk> RepoStore<D> {
             Err(fault) => Err(StoreFault::Log(fault)),
         }
     }
+}
+
+// What a repository makes of a set that was judged over its revisions.
+fn judge_applied(
+    repo: &Repo,
+    applied: Applied,
+    props: Props,
+) -> Result<repo_core::Staged, RepoFault>
+    requires { Makes (trees_of repo.now.revisions) applied.set applied.tree }
+    ensures judged { let entry = Revised (length repo.now.revisions) applied.set props in
+        IsJudged entry (by_repository repo.now.revisions entry) result }
+    ensures ready { IfOk result (IsReady repo.now.revisions) }
+{
+    repo.stage_applied(applied, props)
 }
 
 // What a repository makes of an entry.

@@ -1,11 +1,10 @@
 //! Why a store refuses a call, and the refusal that this is.
 ghost use Rattle.std.specs.Prelude.{◌≡◌};
-ghost use Rattle.repo_store.specs.Refusals.{number_of, log_refusal, repo_refusal, store_refusal};
+ghost use Rattle.repo_store.specs.Refusals.{number_of, log_refusal, store_refusal};
 
-use fleet_engines::change_refusal;
 use gate_log::LogFault;
 use node_base::Refusal;
-use repo_core::RepoFault;
+use repo_core::{RepoFault, repo_refusal};
 use std::alloc::{AllocError, AllocFailed};
 use thiserror::Error;
 
@@ -91,22 +90,6 @@ pub fn log_refusal(fault: LogFault) -> Refusal
         LogFault::ThereAlready => Refusal::ThereAlready,
         LogFault::LogFull => Refusal::LogFull,
         LogFault::OutOfMemory => Refusal::OutOfMemory,
-    }
-}
-
-/// The refusal that a repository's fault is.
-pub fn repo_refusal(fault: RepoFault) -> Refusal
-    ensures value { result ≡ repo_refusal fault }
-    ensures no_peer { result ≡ Refusal.PeerFailed → ⊥ }
-{
-    match fault {
-        RepoFault::NoSuchRevision => Refusal::NoSuchRevision,
-        RepoFault::BaseMismatch(_) => Refusal::BaseMismatch,
-        RepoFault::Full => Refusal::Full,
-        RepoFault::Behind(head) => Refusal::Behind(head),
-        RepoFault::Change(fault) => change_refusal(fault),
-        RepoFault::TooLong => Refusal::TooLong,
-        RepoFault::OutOfMemory => Refusal::OutOfMemory,
     }
 }
 

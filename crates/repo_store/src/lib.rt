@@ -21,7 +21,7 @@
 #![tactic(auto)]
 
 pub use committed::Committed;
-pub use fault::{StoreFault, log_refusal, repo_refusal, store_refusal};
+pub use fault::{StoreFault, log_refusal, store_refusal};
 pub use numbers::commits_in_order;
 pub use staged::Staged;
 pub use store::RepoStore;

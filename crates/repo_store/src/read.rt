@@ -87,13 +87,8 @@ fn records_behind(alloc: Global, bytes: &[u8]) -> Result<Vec<DumpRecord>, ReadFa
     ensures read { IfOk result (λ rs. AreReadAs bytes.now rs.items) }
     ensures bad { IsErrOf result ReadFault.Bad → (rs : List RecordOf) → AreReadAs bytes.now rs → ⊥ }
 {
-    let mut reader = DumpReader::new(alloc);
+    let mut reader = DumpReader::behind_version(alloc);
     let mut records = Vec::new(alloc);
-    feed(
-        &mut reader,
-        b"SVN-fs-dump-format-version: 2\n\n",
-        &mut records,
-    )?;
     feed(&mut reader, bytes, &mut records)?;
     Ok(records)
 }

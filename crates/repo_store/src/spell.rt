@@ -14,21 +14,6 @@ use repo_core::Entry;
 use std::alloc::{AllocError, Global};
 use uuid::Uuid;
 
-// What a node's headers have, more or less.
-const NODE_BYTES: usize = 512;
-
-// Room for a revision's entry, more or less.
-fn room_for(set: &ChangeSet) -> usize {
-    let mut room = NODE_BYTES;
-    for change in set.changes() {
-        room = room.saturating_add(NODE_BYTES);
-        if let Some(text) = &change.text {
-            room = room.saturating_add(text.len());
-        }
-    }
-    room
-}
-
 /// The first entry: the head with the identity, and revision 0's record.
 #[tactic(auto, using(crate::proofs::Spelling::beginning_spelled))]
 pub fn beginning(alloc: Global, identity: &Uuid, props: &Props) -> Result<Vec<u8>, AllocError>
@@ -58,12 +43,12 @@ fn map_bytes(alloc: Global, number: RevNo, props: &Props) -> Result<Vec<u8>, All
 }
 
 // The canonical spelling of a revision.
-fn text_of(alloc: Global, room: usize, revision: &RevRecord) -> Result<Vec<u8>, AllocError>
+fn text_of(alloc: Global, revision: &RevRecord) -> Result<Vec<u8>, AllocError>
     ensures canonical { IfOk result (λ v. v.items ≡ canon_revision revision.now) }
     ensures readable { OnOk result (AreFormed revision.now.nodes.items
         → AreRecords (canon_revision revision.now) (read_revision revision.now)) }
 {
-    let mut bytes = Vec::with_capacity(alloc, room)?;
+    let mut bytes = Vec::with_capacity(alloc, revision.room())?;
     if write_revision(&mut bytes, revision).is_err() {
         return Err(AllocError);
     }
@@ -88,7 +73,7 @@ pub fn revision_bytes(
         props: props.share()?,
         nodes: set.to_records(alloc)?,
     };
-    text_of(alloc, room_for(set), &revision)
+    text_of(alloc, &revision)
 }
 
 /// The bytes of an entry.

@@ -26,6 +26,7 @@ use gate_log::{GateLog, LogFault};
 use node_base::{Props, RevNo};
 use repo_core::{Entry, Repo, RepoFault};
 use std::alloc::{AllocError, Global};
+use std::mem::forget;
 use uuid::Uuid;
 
 /// A repository on a disk, and in memory. Its calls that change it are `stage`, which makes an entry ready, and
@@ -194,6 +195,21 @@ impl<D: Disk> RepoStore<D> {
             repo: _,
             doubt: _,
         } = self;
+        log.into_disk()
+    }
+
+    /// The disk, with what the calls have left there. The memory of the repository isn't given back: it is for a process
+    /// that ends behind it.
+    pub fn leave(self) -> D
+        ensures { result ≡ disk_of self }
+    {
+        let RepoStore {
+            log,
+            repo,
+            doubt: _,
+        } = self;
+        // (to take the trees apart costs a tenth of an opening)
+        forget(repo);
         log.into_disk()
     }
 

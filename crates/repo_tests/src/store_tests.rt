@@ -3,6 +3,7 @@ ghost use Rattle.repo_store.specs.Changes.{IsNumbered};
 ghost use Rattle.repo_store.specs.Words.{revisions_of};
 
 use crate::made::{LOG, log_of, name, set_of_file};
+use dump_load::{Applied, apply};
 use fleet_disk::{Disk, DiskFile, Fuse, FuseDisk, MemDisk, Pick};
 use node_base::{Refusal, RevNo};
 use repo_core::{Entry, Expected};
@@ -216,6 +217,32 @@ fn staged_file(rt: &impl Abort, alloc: Global, store: &mut RepoStore<MemDisk>) -
         props: log_of(rt, alloc, b"hi"),
     };
     staged(alloc, store, entry, true)
+}
+
+// The next revision, which adds a file with a log: its set is applied here.
+fn applied_file(rt: &impl Abort, alloc: Global, store: &mut RepoStore<MemDisk>) -> bool {
+    let trees = store.repo().trees();
+    if trees.len() > 65_535 {
+        return false;
+    }
+    let set = set_of_file(rt, alloc, "a", b"hello\n");
+    match apply(alloc, trees, &set) {
+        Ok(tree) => {
+            let props = log_of(rt, alloc, b"hi");
+            store
+                .commit_applied(alloc, Applied { set, tree }, props)
+                .is_ok()
+        }
+        Err(_) => false,
+    }
+}
+
+#[test]
+fn a_set_that_was_judged_is_committed(rt: HostRuntime) {
+    let mut store = created(&rt, rt.alloc());
+    assert!(rt; applied_file(&rt, rt.alloc(), &mut store));
+    assert!(rt; exports(rt.alloc(), &store, SECOND));
+    assert!(rt; is_journal(&store.into_disk(), &[FIRST, SECOND]));
 }
 
 // Other properties of revision 1.

@@ -11,7 +11,8 @@ use Rattle.dump_load.specs.Effect.{effect}
 use Rattle.dump_load.specs.Faults.{fault}
 use Rattle.dump_load.proofs.EffectTrees.{effect_tree_at}
 use Rattle.edit_road.specs.Sent.{IsSent, MayBeSent}
-use Rattle.repo_core.specs.Repository.{Repository, Revision, Makes, trees_of, tree_at, props_at}
+use Rattle.dump_load.specs.Trees.{Makes}
+use Rattle.repo_core.specs.Repository.{Repository, Revision, trees_of, tree_at, props_at}
 use Rattle.ra_serve.specs.Ports.{set_of}
 use Rattle.session_road.specs.Told.{MayBeHeard}
 

@@ -1,5 +1,5 @@
 -- The commit of a directory: what is due, with a message past its limit too.
-use Rattle.std.proofs.Common.{◌≡◌, ℕ, ◌<◌, ◌+◌, ◌^◌, ◌⊎◌, ◌↔◌, Bool, true, false, cond, not, ◌&&◌, nat_le, nat_lt, List, [], ◌∷◌, length, Result, Ok, Err, Option, Some, None, is_some, refl, sym, ap, subst, ◌∙◌, arith, inl, inr, codes}
+use Rattle.std.proofs.Common.{◌≡◌, ℕ, ◌<◌, ◌⊎◌, Bool, true, false, cond, not, ◌&&◌, nat_le, nat_lt, List, [], ◌∷◌, length, Result, Ok, Err, Option, Some, None, is_some, refl, sym, ap, subst, ◌∙◌, arith, inl, inr, codes}
 use Rattle.std.proofs.lemmas.Bool.{true≢false}
 use Rattle.std.specs.Bool.{if◌then◌else◌}
 use Rattle.std.specs.Option.{option_map}
@@ -15,7 +15,6 @@ use Rattle.node_base.specs.PathText.{path_read}
 use Rattle.node_base.specs.Props.{PropMap, props_fit}
 use Rattle.node_base.specs.declared.refusal.Refusal.{Refusal}
 use Rattle.node_base.specs.declared.refusal.Refusal.TheVariants as refusal
-use Rattle.node_base.specs.declared.fault.PathFault.{PathFault}
 use Rattle.dump_load.specs.Faults.{fault_if, first_of, fault, refused}
 use Rattle.dump_load.specs.declared.change.Change.{Change}
 use Rattle.repo_core.specs.Dates.{dated, date_name, date_text}
@@ -25,21 +24,15 @@ use Rattle.repo_core.specs.Refusals.{is_short, within_limits, limit_fault, base_
 use Rattle.repo_core.specs.declared.entry.Entry.TheVariants.{Revised}
 use Rattle.repo_core.specs.declared.fault.RepoFault.{RepoFault}
 use Rattle.repo_core.specs.declared.fault.RepoFault.TheVariants as core
-use Rattle.repo_store.specs.declared.fault.StoreFault.{StoreFault}
-use Rattle.repo_store.specs.declared.fault.StoreFault.TheVariants.{Repo, Log}
 use Rattle.store_engines.specs.Commits.{committed_line, directory_entry, directory_fault, directory_set, fault_there, logged, IsCommitted, NotCommitted, bare_entry, commit_refused, commit_stops, commit_not_kept, commit_unsaid}
 use Rattle.fleet_disk.specs.declared.disk.Disk.{Ghosts}
-use Rattle.repo_store.specs.Words.{log_of, repository_of, revisions_of, HasFailed}
+use Rattle.repo_store.specs.Words.{repository_of}
 use Rattle.repo_store.specs.declared.store.RepoStore.{RepoStore}
-use Rattle.repo_store.specs.Journal.{spelling}
-use Rattle.gate_log.specs.Log.{size_of, ends_of}
-use Rattle.gate_log.specs.Standing.{last_end}
-use Rattle.gate_log.specs.declared.fault.LogFault.TheVariants as log
 use Rattle.repo_core.specs.declared.entry.Entry.{Entry}
-use Rattle.store_engines.specs.Devices.{CantKeep, failed_before, no_room}
+use Rattle.store_engines.specs.Devices.{CantKeep}
 use Rattle.store_engines.specs.Loads.{entry_fault}
 use Rattle.store_engines.specs.Mirrors.{is_mirror}
-use Rattle.store_engines.specs.Refusals.{log_refusal, path_refusal, repo_refusal, store_refusal}
+use Rattle.store_engines.specs.Refusals.{repo_refusal}
 
 -- ---- a value past its limit
 
@@ -159,20 +152,6 @@ taken_long x base set moment m b d path message same long =
 fault_is : (x : List Revision) (bytes message : List ℕ) (moment : DateTime) (path : Path) → is_mirror x ≡ false → path_read bytes ≡ Ok path → directory_fault x bytes message moment ≡ option_map repo_refusal (entry_fault x (directory_entry x path message moment))
 fault_is x bytes message moment path m r =
     ap (λ b. if b then Some refusal.ReadOnly else fault_there x message moment (path_read bytes)) m ∙ ap (fault_there x message moment) r
-
--- a mirror
-pub mirror_refused : {D : Type 0} {G : Ghosts D} (x : RepoStore D G) (bytes message : List ℕ) (moment : DateTime) (before : Option (List ℕ)) (fails : Type 0) (e : Refusal) → (e ≡ refusal.ReadOnly) × (is_mirror (revisions_of x) ≡ true) → NotCommitted (repository_of x) bytes message moment x before before fails e
-mirror_refused x bytes message moment before fails e (d, m) =
-    commit_refused (ap (λ b. if b then Some refusal.ReadOnly else fault_there (revisions_of x) message moment (path_read bytes)) m ∙ ap Some (sym d)) refl refl
-
--- bytes that are no path
-pub path_refused : {D : Type 0} {G : Ghosts D} (x : RepoStore D G) (bytes message : List ℕ) (moment : DateTime) (before : Option (List ℕ)) (fails : Type 0) (e : Refusal) → is_mirror (revisions_of x) ≡ false → (e ≡ refusal.OutOfMemory) ⊎ ((f : PathFault) × (path_read bytes ≡ Err f) × (e ≡ path_refusal f))
-    → NotCommitted (repository_of x) bytes message moment x before before fails e
-path_refused x bytes message moment before fails e m (inl d) = commit_stops d refl refl
-path_refused x bytes message moment before fails e m (inr (f, r, d)) =
-    commit_refused
-    (ap (λ b. if b then Some refusal.ReadOnly else fault_there (revisions_of x) message moment (path_read bytes)) m ∙ ap (fault_there (revisions_of x) message moment) r ∙ ap Some (sym d))
-    refl refl
 
 -- a message past its limit
 pub message_refused : {D : Type 0} {G : Ghosts D} (x : Repository) (y : RepoStore D G) (bytes message : List ℕ) (moment : DateTime) (path : Path) (set : List Change) (before : Option (List ℕ)) (fails : Type 0) (e : Refusal) → repository_of y ≡ x → set ≡ directory_set path → 65536 < length message

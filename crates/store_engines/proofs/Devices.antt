@@ -4,12 +4,10 @@ use Rattle.std.proofs.lemmas.Bool.{true≢false}
 use Rattle.node_base.specs.Refusals.{refusal_number}
 use Rattle.node_base.specs.declared.refusal.Refusal.{Refusal}
 use Rattle.node_base.specs.declared.refusal.Refusal.TheVariants as refusal
-use Rattle.node_base.specs.declared.fault.PathFault.{PathFault}
-use Rattle.node_base.specs.declared.fault.PathFault.TheVariants as path
 use Rattle.dump_load.specs.declared.fault.ChangeFault.{ChangeFault}
 use Rattle.dump_load.specs.declared.fault.ChangeFault.TheVariants as change
 use Rattle.fleet_disk.specs.Image.{Image}
-use Rattle.fleet_disk.specs.Rules.{LeavesOnly, Rose}
+use Rattle.fleet_disk.specs.Rules.{LeavesOnly}
 use Rattle.fleet_disk.specs.declared.disk.Disk.{Ghosts}
 use Rattle.fleet_disk.proofs.Moments.{started, joined, weaker}
 use Rattle.gate_log.specs.Standing.{last_end}
@@ -22,14 +20,14 @@ use Rattle.repo_core.specs.declared.fault.RepoFault.{RepoFault}
 use Rattle.repo_core.specs.declared.fault.RepoFault.TheVariants as core
 use Rattle.repo_store.specs.Journal.{spelling, Keeps, IsBeforeOrAfter}
 use Rattle.repo_store.specs.Changes.{IsBroken, IsRefused, IsTaken, Refuses, Stays}
-use Rattle.repo_store.specs.Words.{disk_of, log_of, repository_of, HasFailed}
+use Rattle.repo_store.specs.Words.{disk_of, repository_of, HasFailed}
 use Rattle.repo_store.specs.declared.store.RepoStore.{RepoStore}
 use Rattle.repo_store.specs.declared.fault.StoreFault.{StoreFault}
 use Rattle.repo_store.specs.declared.fault.StoreFault.TheVariants.{Repo, Log}
 use Rattle.repo_store.proofs.Going.{rose_on}
-use Rattle.fleet_engines.specs.Refusals.{change_refusal}
+use Rattle.dump_load.specs.Faults.{change_refusal}
 use Rattle.store_engines.specs.Devices.{is_device, repository_after, IsSafe, CantKeep, IsOnTheWay, Serves, failed_before, no_room, device_fails}
-use Rattle.store_engines.specs.Refusals.{log_refusal, path_refusal, repo_refusal, store_refusal}
+use Rattle.store_engines.specs.Refusals.{repo_refusal, store_refusal}
 
 -- ---- which refusals tell of the device
 
@@ -45,11 +43,6 @@ change_no_device change.OutOfOrder = refl
 change_no_device change.WrongNumber = refl
 change_no_device change.KindMismatch = refl
 change_no_device change.OutOfMemory = refl
-
-pub path_no_device : (f : PathFault) → is_device (path_refusal f) ≡ false
-path_no_device path.TooLong = refl
-path_no_device path.BadPath = refl
-path_no_device path.OutOfMemory = refl
 
 repo_no_device : (f : RepoFault) → is_device (repo_refusal f) ≡ false
 repo_no_device core.NoSuchRevision = refl

@@ -1,5 +1,5 @@
 -- Revisions written one after another.
-use Rattle.std.proofs.Common.{◌≡◌, ℕ, zero, suc, ◌<◌, ◌≤◌, ◌+◌, ◌-◌, ◌⊎◌, Bool, true, List, [], ◌∷◌, ◌++◌, length, Option, Some, Result, Ok, Err, sym, ap, subst, ◌∙◌, append-nil, arith, inl, inr}
+use Rattle.std.proofs.Common.{◌≡◌, ℕ, zero, suc, ◌<◌, ◌+◌, ◌-◌, ◌⊎◌, List, [], ◌∷◌, ◌++◌, length, Option, Some, Result, Ok, Err, sym, ap, subst, ◌∙◌, append-nil, arith, inl, inr}
 use Rattle.std.proofs.KnownBytes.{Appends-trans}
 use Rattle.std.specs.List.{flat_map, range_with_len}
 use Rattle.std.specs.Io.KnownBytes.{Appends}
@@ -8,16 +8,11 @@ use Rattle.dump_text.specs.Canon.{canon_head}
 use Rattle.node_base.specs.declared.refusal.Refusal.{Refusal}
 use Rattle.node_base.specs.declared.refusal.Refusal.TheVariants as refusal
 use Rattle.repo_core.specs.Repository.{Repository}
-use Rattle.repo_core.specs.declared.fault.RepoFault.TheVariants as core
 use Rattle.repo_store.specs.Journal.{spelling, IsExport}
-use Rattle.repo_store.specs.declared.fault.StoreFault.{StoreFault}
-use Rattle.repo_store.specs.declared.fault.StoreFault.TheVariants.{Repo, Log}
-use Rattle.gate_log.specs.declared.fault.LogFault.TheVariants as log
 use Rattle.std.proofs.lemmas.Grind.{flat_map-append}
 use Rattle.store_engines.specs.Dumps.{dump_of, revision_now, revisions_text, DumpStops, no_memory, writer_fails}
 use Rattle.store_engines.specs.Ranges.{first_wanted, last_wanted, count_wanted}
 use Rattle.store_engines.specs.declared.range.RevRange.{RevRange}
-use Rattle.store_engines.specs.Refusals.{store_refusal}
 
 -- one number more
 range_more : (a n : ℕ) → range_with_len a (n + 1) ≡ range_with_len a n ++ (a + n) ∷ []
@@ -42,11 +37,6 @@ export_now r n bytes (y, set, revision, made, text) = rw (revision, made) text
 pub written_more : (r : Repository) (first n number : ℕ) (a b d : Option (List ℕ)) → number ≡ first + n → Appends a b (revisions_text r first n) → Appends b d (spelling (revision_now r number)) → Appends a d (revisions_text r first (n + 1))
 written_more r first n number a b d e p q =
     subst (Appends a d) (sym (text_more r first n)) (Appends-trans a b d (revisions_text r first n) (spelling (revision_now r (first + n))) p (subst (λ k. Appends b d (spelling (revision_now r k))) e q))
-
--- a revision that is there isn't exported: memory
-pub unexported : (e : StoreFault) (n count : ℕ) → n < count → ((e ≡ Repo core.NoSuchRevision) × (count ≤ n)) ⊎ (e ≡ Log log.OutOfMemory) → store_refusal e ≡ refusal.OutOfMemory
-unexported e n count h (inl p) = let no : ⊥ = omega (arith, h, p.1) in absurd no
-unexported e n count h (inr p) = ap store_refusal p
 
 -- a head, and the revisions behind it
 whole : (r : Repository) (range : Option RevRange) (id : List ℕ) (first written : ℕ) (a b d : Option (List ℕ)) → id ≡ r.identity → first ≡ first_wanted range → Appends a b (canon_head (Some id)) → Appends b d (revisions_text r first written)

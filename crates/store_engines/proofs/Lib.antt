@@ -2,8 +2,7 @@ pub mod Beginning
 pub mod Committing
 pub mod Devices
 pub mod Dumping
-pub mod Faults
-pub mod Feeding
+pub mod Loaded
 pub mod Loading
 pub mod Serving
 pub mod Stopping

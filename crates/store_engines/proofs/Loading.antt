@@ -1,35 +1,40 @@
 -- Revisions loaded one after another, and the records that they are.
-use Rattle.std.proofs.Common.{◌≡◌, ◌<◌, ◌+◌, ℕ, ◌⊎◌, arith, length-append, ◌==◌, ◌&&◌, not, Bool, true, false, List, [], ◌∷◌, ◌++◌, length, Result, Ok, Err, Option, Some, None, is_none, refl, sym, ap, subst, ◌∙◌, append_assoc, append-nil, inl, inr}
+use Rattle.std.specs.Prelude.{nat_lt}
+use Rattle.std.proofs.lemmas.Bool.Decides.{nat_tests}
+use Rattle.std.specs.Option.{option_or}
+use Rattle.dump_load.specs.Faults.{fault_if, first_of}
+use Rattle.std.proofs.Common.{◌≡◌, ◌<◌, ◌+◌, ℕ, ◌⊎◌, arith, length-append, ◌==◌, ◌&&◌, Bool, true, false, List, [], ◌∷◌, ◌++◌, length, Result, Ok, Err, Option, Some, None, is_none, refl, sym, ap, subst, ◌∙◌, append_assoc, append-nil, inl, inr}
 use Rattle.std.proofs.KnownBytes.{Appends-nil, Appends-trans}
-use Rattle.std.specs.List.{filter, flat_map}
+use Rattle.std.specs.List.{flat_map}
 use Rattle.std.specs.Io.KnownBytes.{Appends}
 use Rattle.std.proofs.lemmas.Bool.{false≢true, true≢false, eqb-true}
 use Rattle.std.specs.Result.{OnOk, OnErr, IfErr}
 use Rattle.node_base.specs.Tree.{PathMap}
 use Rattle.dump_load.specs.declared.change.Change.{Change}
-use Rattle.repo_core.specs.Refusals.{IsDue}
+use Rattle.repo_core.specs.Refusals.{IsDue, by_repository}
 use Rattle.repo_core.specs.declared.fault.RepoFault.{RepoFault}
+use Rattle.repo_core.specs.declared.fault.RepoFault.TheVariants.{NoSuchRevision, Behind}
 use Rattle.repo_core.specs.declared.entry.Entry.TheVariants.{Revised, Mapped}
 use Rattle.store_engines.specs.Refusals.{repo_refusal}
 use Rattle.std.proofs.lemmas.Grind.{flat_map-append}
-use Rattle.std.proofs.lemmas.List.{map-append, length-map}
-use Rattle.std.proofs.lemmas.List.Elements.{filter-append}
+use Rattle.std.proofs.lemmas.List.{length-map}
 use Rattle.node_base.specs.Props.{PropMap}
 use Rattle.node_base.specs.declared.refusal.Refusal.{Refusal}
 use Rattle.node_base.specs.declared.refusal.Refusal.TheVariants as refusal
 use Rattle.dump_text.specs.declared.record.NodeRecord.{NodeRecord}
 use Rattle.dump_text.specs.declared.record.DumpRecord.{DumpRecord}
-use Rattle.dump_text.specs.declared.record.DumpRecord.TheVariants.{Identity, Revision as Begins, Node}
-use Rattle.repo_core.specs.Repository.{Repository, Revision, trees_of}
+use Rattle.dump_text.specs.declared.record.DumpRecord.TheVariants.{Revision as Begins, Node}
+use Rattle.repo_core.specs.Repository.{Repository, Revision, trees_of, head_of}
 use Rattle.repo_core.specs.Entries.{with_entry_in}
 use Rattle.repo_core.specs.declared.entry.Entry.{Entry}
+use Rattle.fleet_engines.specs.Runs.{Counted}
 use Rattle.fleet_engines.specs.Revisions.{Rev, Makes, is_lone, is_zero, is_past_zero}
-use Rattle.fleet_engines.specs.Grouping.{records_of_rev, is_no_identity}
+use Rattle.fleet_engines.specs.Grouping.{records_of_rev}
 use Rattle.fleet_disk.specs.declared.disk.Disk.{Ghosts}
 use Rattle.repo_store.specs.Words.{repository_of}
 use Rattle.repo_store.specs.declared.store.RepoStore.{RepoStore}
 use Rattle.store_engines.specs.Devices.{CantKeep}
-use Rattle.store_engines.specs.Loads.{IsLoaded, Loads, IsBare, Stands, Gathered, Moves, CantLoad, CantClose, CantTake, NotLoaded, Stops, load_refused, load_stops, load_not_kept, load_unsaid, close_refused, close_stops, close_not_kept, close_unsaid, not_closed, no_revision, take_stops, entry_refused, revision_0, a_revision, loaded_line, entry_fault}
+use Rattle.store_engines.specs.Loads.{IsLoaded, Loads, IsBare, Stands, Gathered, CantLoad, CantClose, CantTake, NotLoaded, load_refused, load_stops, load_not_kept, load_unsaid, close_refused, close_stops, close_not_kept, close_unsaid, not_closed, no_revision, take_stops, entry_refused, revision_0, a_revision, loaded_line, entry_fault}
 
 loads_more : (x : Repository) (rs : List Rev) (y : Repository) (said : List ℕ) (r : Rev) (e : Entry) (line : List ℕ) → Loads x rs y said → IsLoaded y.revisions r e line → entry_fault y.revisions e ≡ None → Loads x (rs ++ r ∷ []) (with_entry_in y e) (said ++ line)
 loads_more x [] y said r e line p k t =
@@ -61,49 +66,6 @@ closes x rs y z r e line start before now s k t d w = record {
 pub closes_none : (x : Repository) (rs : List DumpRecord) (y : Repository) (start now : Option (List ℕ)) → Stands x rs y None start now → Gathered x rs y start now
 closes_none x rs y start now s = record { whole = s.whole; said = s.said; records = s.records ∙ append-nil (flat_map records_of_rev s.whole); loads = s.loads; written = s.written }
 
--- a revision begins
-pub begins : (x : Repository) (rs : List DumpRecord) (y : Repository) (start now : Option (List ℕ)) (n : ℕ) (props : PropMap) → Gathered x rs y start now → Stands x (rs ++ Begins n props ∷ []) y (Some (record { number = n; props = props; nodes = [] })) start now
-begins x rs y start now n props g = record {
-  whole = g.whole;
-  said = g.said;
-  records = filter-append is_no_identity rs (Begins n props ∷ []) ∙ ap (λ l. l ++ Begins n props ∷ []) g.records;
-  begun = λ e. absurd (some_none (record { number = n; props = props; nodes = [] }) e);
-  bare = λ _. refl;
-  loads = g.loads;
-  written = g.written;
-}
-
-not_zero : (n : ℕ) → not (n == 0) ≡ true → n ≡ 0 → ⊥
-not_zero n h e = false≢true (sym (ap (λ k. not (k == 0)) e) ∙ h)
-
--- a node more
-pub one_node : (x : Repository) (rs : List DumpRecord) (y : Repository) (start now : Option (List ℕ)) (r : Rev) (node : NodeRecord) → is_past_zero (Some r) ≡ true → Stands x rs y (Some r) start now → Stands x (rs ++ Node node ∷ []) y (Some (record r { nodes = r.nodes ++ node ∷ [] })) start now
-one_node x rs y start now r node past s = record {
-  whole = s.whole;
-  said = s.said;
-  records =
-      filter-append is_no_identity rs (Node node ∷ [])
-      ∙ ap (λ l. l ++ Node node ∷ []) s.records
-      ∙ append_assoc (flat_map records_of_rev s.whole) (records_of_rev r) (Node node ∷ [])
-      ∙ ap (λ l. flat_map records_of_rev s.whole ++ (Begins r.number r.props ∷ l)) (sym (map-append Node r.nodes (node ∷ [])));
-  begun = λ e. absurd (some_none (record r { nodes = r.nodes ++ node ∷ [] }) e);
-  bare = λ e. absurd (not_zero r.number past e);
-  loads = s.loads;
-  written = s.written;
-}
-
--- an identity is passed over
-pub one_identity : (x : Repository) (rs : List DumpRecord) (y : Repository) (last : Option Rev) (start now : Option (List ℕ)) (id : List ℕ) → Stands x rs y last start now → Stands x (rs ++ Identity id ∷ []) y last start now
-one_identity x rs y last start now id s = record {
-  whole = s.whole;
-  said = s.said;
-  records = filter-append is_no_identity rs (Identity id ∷ []) ∙ append-nil (filter is_no_identity rs) ∙ s.records;
-  begun = s.begun;
-  bare = s.bare;
-  loads = s.loads;
-  written = s.written;
-}
-
 -- the revision that is read isn't loaded
 pub cant_close : {D : Type 0} {G : Ghosts D} (x : Repository) (rs : List DumpRecord) (y : Repository) (z : RepoStore D G) (r : Rev) (start before now : Option (List ℕ)) (fails : Type 0) (e : Refusal) → Stands x rs y (Some r) start before → NotLoaded y r z before now fails e → CantClose x rs z start now fails e
 cant_close x rs y z r start before now fails e s (load_refused k d w) =
@@ -113,24 +75,6 @@ cant_close x rs y z r start before now fails e s (load_stops k d w) =
 cant_close x rs y z r start before now fails e s (load_not_kept entry line l k d w) =
     rw w (close_not_kept r entry line (subst (λ (v : Repository). Stands x rs v (Some r) start before) (sym d) s) (subst (λ (v : Repository). IsLoaded v.revisions r entry line) (sym d) l) k)
 cant_close x rs y z r start before now fails e s (load_unsaid entry line k t d f p) = close_unsaid y r entry line before s k t d f p
-
-pub moves_none : (y : Repository) (last : Option Rev) (a : Option (List ℕ)) → Moves y last a [] y last a
-moves_none y last a x rs start s = subst (λ l. Stands x l y last start a) (sym (append-nil rs)) s
-
-pub moves_more : (y m z : Repository) (last mid later : Option Rev) (a b d : Option (List ℕ)) (ys : List DumpRecord) (next : DumpRecord) → Moves y last a ys m mid b → Moves m mid b (next ∷ []) z later d → Moves y last a (ys ++ next ∷ []) z later d
-moves_more y m z last mid later a b d ys next p q x rs start s =
-    subst (λ l. Stands x l z later start d) (append_assoc rs ys (next ∷ [])) (q x (rs ++ ys) start (p x rs start s))
-
-pub stops_here : {D : Type 0} {G : Ghosts D} (y m : Repository) (z : RepoStore D G) (last mid : Option Rev) (a b now : Option (List ℕ)) (all ys rest : List DumpRecord) (next : DumpRecord) (fails : Type 0) (e : Refusal) → Moves y last a ys m mid b → all ≡ ys ++ next ∷ rest
-    → ((x : Repository) (rs : List DumpRecord) (start : Option (List ℕ)) → Stands x rs m mid start b → CantTake x rs next z start now fails e)
-    → (x : Repository) (rs : List DumpRecord) (start : Option (List ℕ)) → Stands x rs y last start a → Stops x rs all z start now fails e
-stops_here y m z last mid a b now all ys rest next fails e p d w x rs start s = record {
-  taken = ys;
-  first = next;
-  rest = rest;
-  split = d;
-  why = w x (rs ++ ys) start (p x rs start s);
-}
 
 -- a record can't be taken because the revision before it can't be closed
 pub cant_take : {D : Type 0} {G : Ghosts D} (x : Repository) (rs : List DumpRecord) (next : DumpRecord) (z : RepoStore D G) (start now : Option (List ℕ)) (fails : Type 0) (e : Refusal) (n : ℕ) (props : PropMap) → next ≡ Begins n props → CantClose x rs z start now fails e → CantTake x rs next z start now fails e
@@ -194,3 +138,25 @@ pub next_unsaid : {D : Type 0} {G : Ghosts D} (y : Repository) (z : RepoStore D 
     → entry_fault y.revisions (Revised (length y.revisions) set rev.props) ≡ None → repository_of z ≡ with_entry_in y (Revised (length y.revisions) set rev.props) → OnErr r fails → IfErr r (λ e. e ≡ refusal.PeerFailed) → IfErr r (λ e. NotLoaded y rev z a b fails e)
 next_unsaid y z rev set trees t a b fails (Ok u) later m n k f p = tt
 next_unsaid y z rev set trees t a b fails (Err e) later m n k f p = load_unsaid (Revised (length y.revisions) set rev.props) (loaded_line rev.number) (next_loaded y.revisions rev set trees t later m) n k f p
+
+-- what isn't refused for a stream leaves its count
+pub none_failed : (r : Result (Unit {0}) Refusal) (n : ℕ) → IfErr r (λ e. e ≡ refusal.PeerFailed → ⊥) → Counted r n n
+none_failed (Ok u) n h = refl
+none_failed (Err e) n h = inr (h, refl)
+
+-- ---- what is due at the head
+
+not_less : (n : ℕ) → nat_lt n n ≡ false
+not_less n = grind (arith, nat_tests)
+
+or_none : (o : Option RepoFault) → option_or o None ≡ o
+or_none None = refl
+or_none (Some f) = refl
+
+-- of an entry that is committed against the head what the repository refuses of it is due
+pub due_at_head : (x : List Revision) (set : List Change) (props : PropMap) → by_repository x (Revised (length x) set props) ≡ entry_fault x (Revised (length x) set props)
+due_at_head x set props =
+    let due = by_repository x (Revised (length x) set props) in
+    let at : (b : Bool) → b ≡ false → due ≡ first_of (first_of (fault_if b NoSuchRevision ∷ fault_if b (Behind (head_of x)) ∷ []) ∷ due ∷ []) =
+    λ b e. sym (or_none due) ∙ ap (λ b. first_of (first_of (fault_if b NoSuchRevision ∷ fault_if b (Behind (head_of x)) ∷ []) ∷ due ∷ [])) (sym e) in
+    at (nat_lt (head_of x) (head_of x)) (not_less (head_of x))

@@ -1,5 +1,5 @@
 -- What a load makes of a repository, revision by revision.
-use Rattle.std.specs.Prelude.{◌≡◌, ℕ, ◌⊎◌, Bool, true, false, List, [], ◌∷◌, ◌++◌, Option, Some, None, Result, IfSome, IsErr, OnOk, codes}
+use Rattle.std.specs.Prelude.{◌≡◌, ℕ, ◌⊎◌, true, false, List, [], ◌∷◌, ◌++◌, Option, Some, None, Result, IfErr, IfSome, IsErr, OnErr, OnOk, codes}
 use Rattle.std.specs.List.{filter, flat_map}
 use Rattle.std.specs.Fmt.{decimal}
 use Rattle.std.specs.Io.KnownBytes.{Appends}
@@ -12,7 +12,7 @@ use Rattle.dump_text.specs.declared.record.DumpRecord.{DumpRecord}
 use Rattle.dump_text.specs.declared.record.DumpRecord.TheVariants.{Revision as Begins, Node}
 use Rattle.dump_text.specs.declared.fault.DumpFault.{DumpFault}
 use Rattle.dump_text.specs.declared.state.ReadState.{ReadState}
-use Rattle.dump_text.specs.Streams.{Reads, Refuses, dump, reading, records_of, is_between}
+use Rattle.dump_text.specs.Streams.{Reads, Refuses, dump, records_of, is_between}
 use Rattle.dump_load.specs.declared.change.Change.{Change}
 use Rattle.repo_core.specs.Repository.{Repository, Revision, trees_of, head_of}
 use Rattle.repo_core.specs.Entries.{with_entry, with_entry_in}
@@ -20,13 +20,15 @@ use Rattle.repo_core.specs.declared.entry.Entry.{Entry}
 use Rattle.repo_core.specs.declared.entry.Entry.TheVariants.{Revised, Mapped}
 use Rattle.repo_core.specs.Refusals.{by_repository, commit_fault, IsDue}
 use Rattle.repo_core.specs.declared.fault.RepoFault.{RepoFault}
+use Rattle.fleet_disk.specs.Image.{Image}
 use Rattle.fleet_disk.specs.declared.disk.Disk.{Ghosts}
-use Rattle.repo_store.specs.Words.{repository_of, revisions_of}
+use Rattle.repo_store.specs.Journal.{Keeps}
+use Rattle.repo_store.specs.Words.{disk_of, repository_of, revisions_of}
 use Rattle.repo_store.specs.declared.store.RepoStore.{RepoStore}
-use Rattle.fleet_engines.specs.Refusals.{dump_refusal}
+use Rattle.dump_text.specs.Faults.{dump_refusal}
 use Rattle.fleet_engines.specs.Revisions.{Rev, Makes, IsUnfit, is_zero, is_past_zero}
 use Rattle.fleet_engines.specs.Grouping.{records_of_rev, is_no_identity}
-use Rattle.store_engines.specs.Devices.{CantKeep, Serves}
+use Rattle.store_engines.specs.Devices.{CantKeep, IsSafe, Serves}
 use Rattle.store_engines.specs.Refusals.{repo_refusal}
 
 -- what is said of a revision that was loaded
@@ -104,20 +106,6 @@ pub data CantTake {D : Type 0} {G : Ghosts D} (x : Repository) (rs : List DumpRe
 abbrev pub Moves : Repository → Option Rev → Option (List ℕ) → List DumpRecord → Repository → Option Rev → Option (List ℕ) → Type 0
 Moves y last before new z later now = (x : Repository) (rs : List DumpRecord) (start : Option (List ℕ)) → Stands x rs y last start before → Stands x (rs ++ new) z later start now
 
--- some records were taken, and what stopped the others
-pub record Stops {D : Type 0} {G : Ghosts D} (x : Repository) (rs new : List DumpRecord) (store : RepoStore D G) (start now : Option (List ℕ)) (fails : Type 0) (e : Refusal) : Type 0 where
-  pub taken : List DumpRecord
-  pub first : DumpRecord
-  pub rest : List DumpRecord
-  pub split : new ≡ taken ++ first ∷ rest
-  pub why : CantTake x (rs ++ taken) first store start now fails e
-
--- bytes were read as records, and these stand so
-pub record Reached (x : Repository) (bytes : List ℕ) (reader : ReadState) (y : Repository) (last : Option Rev) (start now : Option (List ℕ)) : Type 0 where
-  pub records : List DumpRecord
-  pub read : dump bytes ≡ Reads records reader
-  pub stands : Stands x records y last start now
-
 -- a dump is loaded whole: it is whole revisions, each of them is loaded, and is said
 pub record Loaded (x : Repository) (bytes : List ℕ) (y : Repository) (start now : Option (List ℕ)) : Type 0 where
   pub records : List DumpRecord
@@ -134,10 +122,6 @@ pub data Refused {D : Type 0} {G : Ghosts D} (x : Repository) (bytes : List ℕ)
   at_end : (rs : List DumpRecord) (reader : ReadState) → dump bytes ≡ Reads rs reader → is_between reader ≡ true → CantClose x rs store start now fails e → Refused x bytes store start now fails e
   stopped : (rs more : List DumpRecord) (last : Option Rev) → records_of (dump bytes) ≡ rs ++ more → Stands x rs (repository_of store) last start now → (e ≡ refusal.OutOfMemory) ⊎ (e ≡ refusal.PeerFailed) → Refused x bytes store start now fails e
 
--- bytes lead from what stood so before them to what stands so behind them
-abbrev pub Leads : ReadState → Repository → Option Rev → Option (List ℕ) → List ℕ → ReadState → Repository → Option Rev → Option (List ℕ) → Type 0
-Leads old y last before bytes new z later now = (x : Repository) (start : Option (List ℕ)) → Reached x [] old y last start before → Reached x bytes new z later start now
-
 -- over a repository's revisions a whole revision is this entry: revision 0 without others gives its properties, and another one is the next, with the set that it makes
 pub data IsEntryOf (x : List Revision) (r : Rev) (e : Entry) : Type 0 where
   of_zero : is_zero (trees_of x) r ≡ true → e ≡ Mapped 0 r.props → IsEntryOf x r e
@@ -153,6 +137,16 @@ pub record ServesOne {D : Type 0} {G : Ghosts D} (entry : Entry) (old new : Repo
   pub serves : Serves old new result
   pub one : (serves.taken ++ serves.begun ≡ entry ∷ []) ⊎ (IsErr result × (serves.taken ++ serves.begun ≡ []))
 
+-- an entry is committed, and stands; or nothing is done: memory ran out, or the store can't keep it, or it is refused for what is due
+pub record Commits {D : Type 0} {G : Ghosts D} (entry : Entry) (old new : RepoStore D G) (result : Result (Unit {0}) Refusal) : Type 0 where
+  pub ok : OnOk result (repository_of new ≡ with_entry_in (repository_of old) entry)
+  pub taken : OnOk result (entry_fault (revisions_of old) entry ≡ None)
+  pub stands : OnOk result (G.honest (disk_of new) → (image : Image) → G.may_leave (disk_of new) image → Keeps (repository_of new) image)
+  pub same : OnErr result (repository_of new ≡ repository_of old)
+  pub refused : IfErr result (λ e. (e ≡ refusal.OutOfMemory) ⊎ CantKeep new entry e ⊎ ((f : RepoFault) × IsDue f (entry_fault (revisions_of old) entry) × (e ≡ repo_refusal f)))
+  pub no_peer : IfErr result (λ e. e ≡ refusal.PeerFailed → ⊥)
+  pub device : IsSafe old → ServesOne entry old new result
+
 -- what a call that had these records ahead did to a store and its device: the entries that were taken, and then the one that was begun, are those of the first whole revisions of them; and where it is Ok, of all but what is left
 pub record ServesRecords {D : Type 0} {G : Ghosts D} (ahead : List DumpRecord) (old new : RepoStore D G) (result : Result (Unit {0}) Refusal) (left : List DumpRecord) : Type 0 where
   pub serves : Serves old new result
@@ -161,7 +155,3 @@ pub record ServesRecords {D : Type 0} {G : Ghosts D} (ahead : List DumpRecord) (
   pub records : ahead ≡ flat_map records_of_rev whole ++ more
   pub entries : AreEntriesOf (revisions_of old) whole (serves.taken ++ serves.begun)
   pub all : OnOk result (more ≡ left)
-
--- the records, identities apart, that are still to be loaded: those of the revision that is still read, and those that further bytes say
-abbrev pub coming : Option Rev → ReadState → List ℕ → List DumpRecord
-coming last reader bytes = read_of last ++ filter is_no_identity (records_of (reading (Reads [] reader) bytes))

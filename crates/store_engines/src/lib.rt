@@ -17,7 +17,8 @@ pub use load::run_load;
 pub use make_dir::run_mkdir;
 pub use mirror::is_mirror;
 pub use range::RevRange;
-pub use repo_store::{log_refusal, repo_refusal, store_refusal};
+pub use repo_core::repo_refusal;
+pub use repo_store::{log_refusal, store_refusal};
 pub use report::LoadReport;
 pub use upgrade::run_upgrade;
 

@@ -2,52 +2,45 @@
 ghost use Rattle.std.specs.List.{filter};
 ghost use Rattle.std.specs.Prelude.{◌≡◌, ◌≢◌, ◌⊎◌, ◌<◌, ◌∷◌, ◌++◌, [], ℕ, List};
 ghost use Rattle.std.specs.Prelude.{Option, Some, None, length, true};
-ghost use Rattle.std.specs.Prelude.{false, IfOk, IfErr, IfSome, OnOk, OnErr};
-ghost use Rattle.std.specs.Io.KnownBytes.{Appends, Consumes, IsAtEnd};
+ghost use Rattle.std.specs.Prelude.{false, IfOk, IfErr, IfSome, OnOk};
+ghost use Rattle.std.specs.Io.KnownBytes.{Appends};
 ghost use Rattle.byte_streams.specs.Causes.{Rose, counts};
 ghost use Rattle.node_base.specs.Props.{PropMap};
-ghost use Rattle.node_base.specs.Tree.{PathMap};
 ghost use Rattle.dump_load.specs.declared.change.Change.{Change as ChangeOf};
-ghost use Rattle.dump_text.specs.Streams.{dump, has_failed, records_of};
+ghost use Rattle.dump_text.specs.Streams.{dump, records_of};
 ghost use Rattle.dump_text.specs.declared.record.DumpRecord.{DumpRecord as RecordOf};
 ghost use Rattle.repo_core.specs.Repository.{Repository, trees_of};
 ghost use Rattle.repo_core.specs.Entries.{with_entry_in};
 ghost use Rattle.repo_core.specs.declared.entry.Entry.{Entry};
 ghost use Rattle.repo_core.specs.declared.entry.Entry.TheVariants.{Mapped};
-ghost use Rattle.repo_core.specs.Refusals.{IsDue};
-ghost use Rattle.repo_core.specs.declared.fault.RepoFault.{RepoFault as RepoFaultOf};
 ghost use Rattle.fleet_disk.specs.Image.{Image};
 ghost use Rattle.repo_store.specs.Journal.{Keeps};
 ghost use Rattle.repo_store.specs.Words.{disk_of, repository_of, revisions_of, HasFailed, IsKept};
 ghost use Rattle.fleet_engines.specs.Grouping.{is_no_identity, records_of_rev};
 ghost use Rattle.fleet_engines.specs.Histories.{rev_of};
-ghost use Rattle.fleet_engines.specs.Revisions.{Rev, Makes, IsUnfit, is_zero, is_past_zero};
+ghost use Rattle.fleet_engines.specs.Revisions.{Makes, IsUnfit, is_zero};
 ghost use Rattle.fleet_engines.specs.Runs.{Counted, BothCounted};
-ghost use Rattle.store_engines.specs.Loaders.{last_of};
-ghost use Rattle.store_engines.specs.Devices.{is_device, CantKeep, IsSafe, Serves};
-ghost use Rattle.store_engines.specs.Loads.{coming, entry_fault, read_of, CantTake, CantClose, Gathered};
-ghost use Rattle.store_engines.specs.Loads.{IsBare, IsLoaded, Leads, Loaded, Moves, NotLoaded, Reached, Refused};
-ghost use Rattle.store_engines.specs.Loads.{ServesOne, ServesRecords, Stands, Stops};
+ghost use Rattle.fleet_engines.specs.Takers.{place};
+ghost use Rattle.store_engines.specs.Loaders.{last_of, TakesRecord, RefusesRecord, EndsLoad, CantEndLoad};
+ghost use Rattle.store_engines.specs.Devices.{is_device, IsSafe, Serves};
+ghost use Rattle.store_engines.specs.Loads.{entry_fault, read_of, CantTake, CantClose, Gathered, IsBare, IsLoaded};
+ghost use Rattle.store_engines.specs.Loads.{Commits, Loaded, Moves, NotLoaded, Refused, ServesRecords, Stands};
 ghost use Rattle.store_engines.specs.Mirrors.{is_mirror};
 ghost use Rattle.store_engines.specs.Telling.{AllStand, KeepsTold};
-ghost use Rattle.store_engines.specs.Refusals.{repo_refusal};
 
-use crate::commits::commit;
+use crate::commits::commit_applied;
 use crate::mirror::refuse_mirror;
 use crate::report::LoadReport;
-use byte_streams::{Input, MOST_READS};
-use dump_load::{ChangeSet, load_revision};
-use dump_text::{DumpReader, DumpRecord, NodeRecord, RevRecord};
+use byte_streams::Input;
+use dump_load::{Applied, change_refusal, load_revision};
+use dump_text::{DumpRecord, NodeRecord, RevRecord};
 use fleet_disk::Disk;
-use fleet_engines::{change_refusal, dump_refusal, read};
+use fleet_engines::{OpenRevision, Taker, read_stream};
 use node_base::{Props, Refusal, RevNo};
 use path_tree::Tree;
 use repo_core::Repo;
 use repo_store::{RepoStore, store_refusal};
 use std::alloc::Global;
-
-// How many bytes are read at a time: 64 KiB.
-const PIECE: usize = 65_536;
 
 // Whether it is revision 0 of a repository without any other.
 fn is_zero(repo: &Repo, revision: &RevRecord) -> bool
@@ -56,16 +49,16 @@ fn is_zero(repo: &Repo, revision: &RevRecord) -> bool
     repo.trees().len() == 1 && revision.number == RevNo::ZERO
 }
 
-// The set of the revision after the head. WrongNumber (16) where the number isn't its, and then what makes no set or
-// has a fault over the trees so far.
+// The set of the revision after the head with the tree that it makes. WrongNumber (16) where the number isn't its, and
+// then what makes no set or has a fault over the trees so far.
 fn judge(
     alloc: Global,
     trees: &[Tree],
     number: RevNo,
     nodes: Vec<NodeRecord>,
-) -> Result<ChangeSet, Refusal>
-    ensures set { IfOk result (λ s. (props : PropMap) → (tree : PathMap)
-        × Makes trees.now (record { number = number; props = props; nodes = nodes.items }) s tree) }
+) -> Result<Applied, Refusal>
+    ensures made { IfOk result (λ a. (props : PropMap)
+        → Makes trees.now (record { number = number; props = props; nodes = nodes.items }) a.set a.tree) }
     ensures refused { IfErr result (λ e. (e ≡ Refusal.OutOfMemory)
         ⊎ ((props : PropMap) → IsUnfit trees.now
         (record { number = number; props = props; nodes = nodes.items }) e)) }
@@ -76,7 +69,7 @@ fn judge(
         return Err(Refusal::WrongNumber);
     }
     match load_revision(alloc, trees, number, nodes) {
-        Ok((set, _tree)) => Ok(set),
+        Ok(applied) => Ok(applied),
         Err(fault) => Err(change_refusal(fault)),
     }
 }
@@ -87,14 +80,7 @@ fn put_zero<D: Disk + Drop>(
     store: &mut RepoStore<D>,
     props: Props,
 ) -> Result<(), Refusal>
-    ensures ok { OnOk result (repository_of store.new ≡ with_entry_in (repository_of store.old) (Mapped 0 props)) }
-    ensures same { OnErr result (repository_of store.new ≡ repository_of store.old) }
-    ensures taken { OnOk result (entry_fault (revisions_of store.old) (Mapped 0 props) ≡ None) }
-    ensures refused { IfErr result (λ e. (e ≡ Refusal.OutOfMemory) ⊎ CantKeep store.new (Mapped 0 props) e
-        ⊎ ((f : RepoFaultOf) × IsDue f (entry_fault (revisions_of store.old) (Mapped 0 props))
-        × (e ≡ repo_refusal f))) }
-    ensures device { IsSafe store.old → ServesOne (Mapped 0 props) store.old store.new result }
-    ensures no_peer { IfErr result (λ e. e ≡ Refusal.PeerFailed → ⊥) }
+    ensures { Commits (Mapped 0 props) store.old store.new result }
 {
     match store.put_props(alloc, RevNo::ZERO, props) {
         Ok(_receipt) => Ok(()),
@@ -127,8 +113,8 @@ fn load_next<D: Disk + Drop, T: LoadReport>(
         props,
         nodes,
     } = revision;
-    let set = judge(alloc, store.repo().trees(), number, nodes)?;
-    commit(alloc, store, set, props, None)?;
+    let applied = judge(alloc, store.repo().trees(), number, nodes)?;
+    commit_applied(alloc, store, applied, props)?;
     report.loaded(store, number)
 }
 
@@ -162,7 +148,7 @@ fn load_one<D: Disk + Drop, T: LoadReport>(
 #[derive(Drop)]
 pub struct Loader {
     alloc: Global,
-    last: Option<RevRecord>,
+    last: OpenRevision,
 }
 
 impl Loader {
@@ -170,11 +156,14 @@ impl Loader {
     fn new(alloc: Global) -> Loader
         ensures { last_of result ≡ None }
     {
-        Loader { alloc, last: None }
+        Loader {
+            alloc,
+            last: OpenRevision::none(alloc),
+        }
     }
 
     // A record more. Where it begins a revision, the one before it is whole, and is loaded.
-    fn take<D: Disk + Drop, T: LoadReport>(
+    fn take_record<D: Disk + Drop, T: LoadReport>(
         &mut self,
         next: DumpRecord,
         store: &mut RepoStore<D>,
@@ -196,56 +185,10 @@ impl Loader {
             DumpRecord::Identity(_identity) => Ok(()),
             DumpRecord::Revision(number, props) => {
                 self.close(store, report)?;
-                self.begin(number, props);
+                self.last.begin(number, props);
                 Ok(())
             }
-            DumpRecord::Node(node) => self.add_node(node),
-        }
-    }
-
-    fn begin(&mut self, number: RevNo, props: Props)
-        ensures { last_of self.new ≡ Some (record { number = number; props = props; nodes = [] }) }
-    {
-        let nodes = Vec::new(self.alloc);
-        self.last = Some(RevRecord {
-            number,
-            props,
-            nodes,
-        });
-    }
-
-    // A node record of no revision, or of revision 0, is WrongNumber (16).
-    fn add_node(&mut self, node: NodeRecord) -> Result<(), Refusal>
-        ensures ok { OnOk result ((r : Rev) × (last_of self.old ≡ Some r)
-            × (is_past_zero (last_of self.old) ≡ true)
-            × (last_of self.new ≡ Some (record r { nodes = r.nodes ++ node ∷ [] }))) }
-        ensures refused { IfErr result (λ e. ((e ≡ Refusal.OutOfMemory)
-            ⊎ ((e ≡ Refusal.WrongNumber) × (is_past_zero (last_of self.old) ≡ false)))) }
-        ensures no_device { IfErr result (λ e. is_device e ≡ false) }
-        ensures no_peer { IfErr result (λ e. e ≡ Refusal.PeerFailed → ⊥) }
-    {
-        if !self.is_past_zero() {
-            return Err(Refusal::WrongNumber);
-        }
-        let Some(mut revision) = self.last.take() else {
-            return Err(Refusal::WrongNumber);
-        };
-        match revision.nodes.push(node) {
-            Ok(()) => {
-                self.last = Some(revision);
-                Ok(())
-            }
-            Err(_) => Err(Refusal::OutOfMemory),
-        }
-    }
-
-    // Whether a revision other than 0 is read.
-    fn is_past_zero(&self) -> bool
-        ensures { result ≡ is_past_zero (last_of self.now) }
-    {
-        match &self.last {
-            Some(revision) => revision.number != RevNo::ZERO,
-            None => false,
+            DumpRecord::Node(node) => self.last.add_node(node),
         }
     }
 
@@ -272,127 +215,60 @@ impl Loader {
         }
     }
 
-    // Some records more.
-    fn take_all<D: Disk + Drop, T: LoadReport>(
+    // The same in one word each.
+    fn take_next<D: Disk + Drop, T: LoadReport>(
         &mut self,
-        records: Vec<DumpRecord>,
+        next: DumpRecord,
         store: &mut RepoStore<D>,
         report: &mut T,
     ) -> Result<(), Refusal>
-        ensures ok { OnOk result (Moves (repository_of store.old) (last_of self.old) (T.contents report.old)
-            records.items (repository_of store.new) (last_of self.new) (T.contents report.new)) }
-        ensures refused { IfErr result (λ e. (x : Repository) (rs : List RecordOf) (start : Option (List ℕ))
-            → Stands x rs (repository_of store.old) (last_of self.old) start (T.contents report.old)
-            → Stops x rs records.items store.new start (T.contents report.new) (Rose (T.failures report.old) (T.failures report.new)) e) }
-        ensures device { IsSafe store.old
-            → ServesRecords (read_of (last_of self.old) ++ filter is_no_identity records.items) store.old store.new
-            result (read_of (last_of self.new)) }
-        ensures told { KeepsTold store.old store.new (T.told report.old) (T.told report.new) }
+        ensures ok { OnOk result (TakesRecord T.LoadReport (place self.old store.old report.old) next
+            (place self.new store.new report.new)) }
+        ensures refused { IfErr result (λ e. RefusesRecord T.LoadReport (place self.old store.old report.old) next e
+            (place self.new store.new report.new)) }
         ensures peer { Counted result (T.failures report.old) (T.failures report.new) }
     {
-        for next in records {
-            self.take(next, store, report)?;
-        }
-        Ok(())
+        self.take_record(next, store, report)
     }
 
-    // Takes the next piece of a dump.
-    fn feed<D: Disk + Drop, T: LoadReport>(
+    fn take_end<D: Disk + Drop, T: LoadReport>(
         &mut self,
-        reader: &mut DumpReader,
-        piece: &[u8],
         store: &mut RepoStore<D>,
         report: &mut T,
     ) -> Result<(), Refusal>
-        ensures ok { OnOk result ((x : Repository) (bytes : List ℕ) (start : Option (List ℕ))
-            → Reached x bytes reader.old (repository_of store.old) (last_of self.old) start
-            (T.contents report.old)
-            → Reached x (bytes ++ piece.now) reader.new (repository_of store.new) (last_of self.new) start
-            (T.contents report.new)) }
-        ensures refused { IfErr result
-            (λ e. (rest : List ℕ) (x : Repository) (bytes : List ℕ) (start : Option (List ℕ))
-            → Reached x bytes reader.old (repository_of store.old) (last_of self.old) start
-            (T.contents report.old)
-            → Refused x ((bytes ++ piece.now) ++ rest) store.new start (T.contents report.new) (Rose (T.failures report.old) (T.failures report.new))
-            e) }
-        ensures reading { OnOk result (has_failed reader.old ≡ false → has_failed reader.new ≡ false) }
-        ensures device { (rest : List ℕ) → has_failed reader.old ≡ false → IsSafe store.old
-            → ServesRecords (coming (last_of self.old) reader.old (piece.now ++ rest)) store.old store.new result
-            (coming (last_of self.new) reader.new rest) }
-        ensures told { KeepsTold store.old store.new (T.told report.old) (T.told report.new) }
+        ensures ok { OnOk result (EndsLoad T.LoadReport (place self.old store.old report.old)
+            (place self.new store.new report.new)) }
+        ensures refused { IfErr result (λ e. CantEndLoad T.LoadReport (place self.old store.old report.old) e
+            (place self.new store.new report.new)) }
         ensures peer { Counted result (T.failures report.old) (T.failures report.new) }
     {
-        let mut records = Vec::new(self.alloc);
-        let fed = reader.feed(piece, &mut records);
-        self.take_all(records, store, report)?;
-        match fed {
-            Ok(()) => Ok(()),
-            Err(fault) => Err(dump_refusal(fault)),
-        }
-    }
-
-    // The end of the dump.
-    fn finish<D: Disk + Drop, T: LoadReport>(
-        &mut self,
-        reader: DumpReader,
-        store: &mut RepoStore<D>,
-        report: &mut T,
-    ) -> Result<(), Refusal>
-        ensures ok { OnOk result ((x : Repository) (bytes : List ℕ) (start : Option (List ℕ))
-            → Reached x bytes reader (repository_of store.old) (last_of self.old) start (T.contents report.old)
-            → Loaded x bytes (repository_of store.new) start (T.contents report.new)) }
-        ensures refused { IfErr result (λ e. (x : Repository) (bytes : List ℕ) (start : Option (List ℕ))
-            → Reached x bytes reader (repository_of store.old) (last_of self.old) start (T.contents report.old)
-            → Refused x bytes store.new start (T.contents report.new) (Rose (T.failures report.old) (T.failures report.new)) e) }
-        ensures device { has_failed reader ≡ false → IsSafe store.old
-            → ServesRecords (read_of (last_of self.old)) store.old store.new result [] }
-        ensures told { KeepsTold store.old store.new (T.told report.old) (T.told report.new) }
-        ensures peer { Counted result (T.failures report.old) (T.failures report.new) }
-    {
-        if let Err(fault) = reader.finish() {
-            return Err(dump_refusal(fault));
-        }
         self.close(store, report)
     }
 }
 
-// Reads a stream to its end, piece by piece.
-fn read_all<D: Disk + Drop, I: Input, T: LoadReport>(
-    loader: &mut Loader,
-    reader: &mut DumpReader,
-    piece: &mut [u8],
-    store: &mut RepoStore<D>,
-    input: &mut I,
-    report: &mut T,
-) -> Result<(), Refusal>
-    ensures ok { OnOk result (0 < length piece.old → (bytes : List ℕ)
-        × Consumes (I.remaining input.old) (I.remaining input.new) bytes
-        × IsAtEnd (I.remaining input.new)
-        × Leads reader.old (repository_of store.old) (last_of loader.old)
-        (T.contents report.old) bytes reader.new
-        (repository_of store.new) (last_of loader.new) (T.contents report.new)) }
-    ensures refused { IfErr result (λ e. (x : Repository) (start : Option (List ℕ))
-        → Reached x [] reader.old (repository_of store.old) (last_of loader.old) start (T.contents report.old)
-        → IfSome (I.remaining input.old)
-        (λ bytes. Refused x bytes store.new start (T.contents report.new)
-        (Rose (T.failures report.old) (T.failures report.new)) e)) }
-    ensures reading { OnOk result (has_failed reader.old ≡ false → has_failed reader.new ≡ false) }
-    ensures device { has_failed reader.old ≡ false → IsSafe store.old → Serves store.old store.new result }
-    ensures entries { 0 < length piece.old → has_failed reader.old ≡ false → IsSafe store.old
-        → IfSome (I.remaining input.old) (λ bytes. ServesRecords (coming (last_of loader.old) reader.old bytes)
-        store.old store.new result (read_of (last_of loader.new))) }
-    ensures told { has_failed reader.old ≡ false
-        → KeepsTold store.old store.new (T.told report.old) (T.told report.new) }
-    ensures peer { BothCounted result (counts I.failures I.reads input.old input.new) (T.failures report.old) (T.failures report.new) }
-{
-    for _turn in 0..MOST_READS {
-        let n = read(input, piece)?;
-        if n == 0 {
-            return Ok(());
-        }
-        loader.feed(reader, &piece[..n], store, report)?;
+impl<D: Disk + Drop, T: LoadReport> Taker<RepoStore<D>, T> for Loader {
+    ghost takes = { λ p next q. TakesRecord T.LoadReport p next q };
+
+    ghost refuses = { λ p next e q. RefusesRecord T.LoadReport p next e q };
+
+    ghost ends = { λ p q. EndsLoad T.LoadReport p q };
+
+    ghost cant_end = { λ p e q. CantEndLoad T.LoadReport p e q };
+
+    ghost failures = { T.failures };
+
+    fn take(
+        &mut self,
+        next: DumpRecord,
+        store: &mut RepoStore<D>,
+        output: &mut T,
+    ) -> Result<(), Refusal> {
+        self.take_next(next, store, output)
     }
-    Err(Refusal::PeerFailed)
+
+    fn end(&mut self, store: &mut RepoStore<D>, output: &mut T) -> Result<(), Refusal> {
+        self.take_end(store, output)
+    }
 }
 
 // Loads a dump into a repository that is no mirror.
@@ -415,19 +291,7 @@ fn load_stream<D: Disk + Drop, I: Input, T: LoadReport>(
     ensures peer { BothCounted result (counts I.failures I.reads input.old input.new) (T.failures report.old) (T.failures report.new) }
 {
     let mut loader = Loader::new(alloc);
-    let mut reader = DumpReader::new(alloc);
-    let Ok(mut piece) = Vec::from_elem(alloc, 0u8, PIECE) else {
-        return Err(Refusal::OutOfMemory);
-    };
-    read_all(
-        &mut loader,
-        &mut reader,
-        piece.as_mut_slice(),
-        store,
-        input,
-        report,
-    )?;
-    loader.finish(reader, store, report)
+    read_stream(alloc, &mut loader, store, report, input)
 }
 
 /// Loads a dump: each revision when its last record has been read, judged whole, committed, and told in a line. The

@@ -3,7 +3,8 @@ use Rattle.std.proofs.Common.{zero, suc, ◌≡◌, ◌⊎◌, inl, inr, ◌<◌
 use Rattle.std.specs.Prelude.{slice_get}
 use Rattle.std.specs.Option.{option_map}
 use Rattle.node_base.specs.Tree.{PathMap}
-use Rattle.repo_core.specs.Repository.{Repository, Revision, IsRepository, Makes, trees_of}
+use Rattle.dump_load.specs.Trees.{Makes}
+use Rattle.repo_core.specs.Repository.{Repository, Revision, IsRepository, trees_of}
 use Rattle.repo_core.specs.Laws.{SetsMakeTrees}
 use Rattle.rev_row.specs.declared.rev.Rev.{Rev}
 use Rattle.rev_row.specs.Row.{rev_at}

@@ -1,7 +1,7 @@
 -- Each revision that is seen is made by its changes from those before it.
 use Rattle.std.specs.Prelude.{◌≤◌, ◌++◌, ℕ, zero, suc, List, [], ◌∷◌, Option, Some, None}
 use Rattle.node_base.specs.Tree.{PathMap}
-use Rattle.repo_core.specs.Repository.{Makes}
+use Rattle.dump_load.specs.Trees.{Makes}
 use Rattle.rev_row.specs.declared.rev.Rev.{Rev}
 
 abbrev pub tree_in : Option Rev → List PathMap

@@ -5,8 +5,10 @@ use Rattle.std.specs.Fmt.{decimal}
 use Rattle.node_base.specs.Refusals.{refusal_number, refusal_text, shown_token}
 use Rattle.node_base.specs.declared.refusal.Refusal.{Refusal}
 use Rattle.node_base.specs.declared.refusal.Refusal.TheVariants as refusal
+use Rattle.dump_load.specs.Faults.{change_refusal}
 use Rattle.dump_load.specs.declared.fault.ChangeFault.{ChangeFault}
 use Rattle.dump_load.specs.declared.fault.ChangeFault.TheVariants as change
+use Rattle.repo_core.specs.Refusals.{repo_refusal}
 use Rattle.repo_core.specs.declared.fault.RepoFault.{RepoFault}
 use Rattle.repo_core.specs.declared.fault.RepoFault.TheVariants as repo
 use Rattle.sync_core.specs.Names.{Number, Absent, Misspelt, Spelt, Huge, number_of}
@@ -85,24 +87,11 @@ tells_more f = false
 
 -- a fault of a set of changes
 abbrev pub of_changes : ChangeFault → SyncFault
-of_changes change.BadHeader = fault.Other refusal.BadHeader
-of_changes change.TooLong = fault.Other refusal.TooLong
-of_changes change.BadPath = fault.Other refusal.BadPath
-of_changes change.NoSuchPath = fault.Other refusal.NoSuchPath
-of_changes change.PathThere = fault.Other refusal.PathThere
-of_changes change.NotDir = fault.Other refusal.NotDir
-of_changes change.NoSource = fault.Other refusal.NoSource
-of_changes change.OutOfOrder = fault.Other refusal.OutOfOrder
-of_changes change.WrongNumber = fault.Other refusal.WrongNumber
-of_changes change.KindMismatch = fault.Other refusal.KindMismatch
 of_changes change.OutOfMemory = fault.OutOfMemory
+of_changes f = fault.Other (change_refusal f)
 
 -- what a repository refuses
 abbrev pub of_repository : RepoFault → SyncFault
-of_repository repo.NoSuchRevision = fault.Other refusal.NoSuchRevision
-of_repository (repo.BaseMismatch found) = fault.Other refusal.BaseMismatch
-of_repository repo.Full = fault.Other refusal.Full
-of_repository (repo.Behind head) = fault.Other (refusal.Behind head)
 of_repository (repo.Change f) = of_changes f
-of_repository repo.TooLong = fault.Other refusal.TooLong
 of_repository repo.OutOfMemory = fault.OutOfMemory
+of_repository f = fault.Other (repo_refusal f)

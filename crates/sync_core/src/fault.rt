@@ -5,9 +5,9 @@ ghost use Rattle.sync_core.specs.Faults.{refusal_of, of_changes};
 
 use crate::lock_token::LockToken;
 use crate::told_number::ToldNumber;
-use dump_load::ChangeFault;
+use dump_load::{ChangeFault, change_refusal};
 use node_base::{Refusal, RevNo};
-use repo_core::RepoFault;
+use repo_core::{RepoFault, repo_refusal};
 use std::alloc::{AllocError, AllocFailed};
 use std::error::Error;
 
@@ -134,13 +134,9 @@ impl From<RepoFault> for SyncFault {
 
     fn from(fault: RepoFault) -> SyncFault {
         match fault {
-            RepoFault::NoSuchRevision => SyncFault::Other(Refusal::NoSuchRevision),
-            RepoFault::BaseMismatch(_) => SyncFault::Other(Refusal::BaseMismatch),
-            RepoFault::Full => SyncFault::Other(Refusal::Full),
-            RepoFault::Behind(head) => SyncFault::Other(Refusal::Behind(head)),
             RepoFault::Change(fault) => of_changes(fault),
-            RepoFault::TooLong => SyncFault::Other(Refusal::TooLong),
             RepoFault::OutOfMemory => SyncFault::OutOfMemory,
+            fault => SyncFault::Other(repo_refusal(fault)),
         }
     }
 }
@@ -150,16 +146,7 @@ fn of_changes(fault: ChangeFault) -> SyncFault
     ensures { result ≡ of_changes fault }
 {
     match fault {
-        ChangeFault::BadHeader => SyncFault::Other(Refusal::BadHeader),
-        ChangeFault::TooLong => SyncFault::Other(Refusal::TooLong),
-        ChangeFault::BadPath => SyncFault::Other(Refusal::BadPath),
-        ChangeFault::NoSuchPath => SyncFault::Other(Refusal::NoSuchPath),
-        ChangeFault::PathThere => SyncFault::Other(Refusal::PathThere),
-        ChangeFault::NotDir => SyncFault::Other(Refusal::NotDir),
-        ChangeFault::NoSource => SyncFault::Other(Refusal::NoSource),
-        ChangeFault::OutOfOrder => SyncFault::Other(Refusal::OutOfOrder),
-        ChangeFault::WrongNumber => SyncFault::Other(Refusal::WrongNumber),
-        ChangeFault::KindMismatch => SyncFault::Other(Refusal::KindMismatch),
         ChangeFault::OutOfMemory => SyncFault::OutOfMemory,
+        fault => SyncFault::Other(change_refusal(fault)),
     }
 }

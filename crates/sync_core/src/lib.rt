@@ -86,7 +86,6 @@ mod reply;
 mod resting;
 mod seat;
 mod shape;
-mod shown_bytes;
 mod standing;
 mod state;
 mod sync_job;

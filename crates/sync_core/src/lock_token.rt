@@ -1,7 +1,7 @@
 //! What stands in a mirror's lock, as it is told.
 ghost use Rattle.std.specs.Prelude.{◌≡◌, IfOk};
 
-use crate::shown_bytes::ShownBytes;
+use node_base::ShownToken;
 use std::alloc::{AllocError, Global};
 use std::fmt;
 
@@ -30,6 +30,6 @@ impl fmt::Display for LockToken {
     ghost output = { λ t. Some (shown_token t.bytes.items) };
 
     fn fmt<W: fmt::Write>(&self, f: &mut fmt::Formatter<W>) -> fmt::Result {
-        write!(f, "{}", ShownBytes::of(self.bytes.as_slice()))
+        write!(f, "{}", ShownToken(self.bytes.as_slice()))
     }
 }

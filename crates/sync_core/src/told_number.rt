@@ -3,8 +3,7 @@ ghost use Rattle.std.specs.Prelude.{◌≡◌};
 ghost use Rattle.sync_core.specs.Faults.{told_of, spelt_told};
 
 use crate::number::Number;
-use crate::shown_bytes::ShownBytes;
-use node_base::PropValue;
+use node_base::{PropValue, ShownToken};
 use std::fmt;
 
 /// What a refusal tells of a number in a mirror's properties.
@@ -56,7 +55,7 @@ impl fmt::Display for ToldNumber {
         match self {
             ToldNumber::Missing => f.write_str("-"),
             ToldNumber::Spelt(number) => write!(f, "{number}"),
-            ToldNumber::Huge(digits) => write!(f, "{}", ShownBytes::of(digits.as_slice())),
+            ToldNumber::Huge(digits) => write!(f, "{}", ShownToken(digits.as_slice())),
         }
     }
 }

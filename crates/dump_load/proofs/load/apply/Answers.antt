@@ -34,5 +34,8 @@ returns-clause-no_fault c =
     ap (fault c.args.trees.now) (sym c.changes-changes.ensures.value)
     ∙ walked_no_fault c.args.trees.now c.changes-changes.result.now c.loop-change.change-index c.loop-change.tree c.loop-change.invariant (omega arith)
 
-pub returns-clause-whole : goal.returns-clause-whole
-returns-clause-whole c = effect_tree_is c.args.trees.now c.args.set.now c.loop-change.tree (returns-clause-effect c)
+pub returns-clause-makes : goal.returns-clause-makes
+returns-clause-makes c = record {
+  faultless = returns-clause-no_fault c;
+  effect = effect_tree_is c.args.trees.now c.args.set.now c.loop-change.tree (returns-clause-effect c);
+}

@@ -11,8 +11,11 @@ returns-in-Some-clause-refused c =
     faulty c.in_ok-gathered.gathered.set (sym c.index.ensures.number ∙ c.if-index-trees.false) c.in_ok-gathered.ensures.set
     (refused_is c.from.result c.in-Some.fault (fault c.args.trees.now c.in_ok-gathered.gathered.set) c.from.ensures (sym c.in_ok-gathered.ensures.fault ∙ c.in-Some.is))
 
-pub returns-clause-whole : goal.returns-clause-whole
-returns-clause-whole c = effect_tree_is c.args.trees.now c.in_ok-gathered.gathered.set c.in_ok-gathered.gathered.tree (c.in_ok-gathered.ensures.tree c.in_default.is)
+pub returns-clause-makes : goal.returns-clause-makes
+returns-clause-makes c = record {
+  faultless = sym c.in_ok-gathered.ensures.fault ∙ c.in_default.is;
+  effect = effect_tree_is c.args.trees.now c.in_ok-gathered.gathered.set c.in_ok-gathered.gathered.tree (c.in_ok-gathered.ensures.tree c.in_default.is);
+}
 
 pub returns-in_err-gathered-clause-refused : goal.returns-in_err-gathered-clause-refused
 returns-in_err-gathered-clause-refused c =

@@ -8,10 +8,10 @@ use Rattle.store_engines.proofs.load.judge.Goals as goal
 pub returns-then-index-trees-clause-refused : goal.returns-then-index-trees-clause-refused
 returns-then-index-trees-clause-refused c = inr (λ props. (change.WrongNumber, refl, out_of_turn (λ e. c.if-index-trees.true (c.index.ensures.number ∙ e)) refl))
 
-pub returns-in-Ok-clause-set : goal.returns-in-Ok-clause-set
-returns-in-Ok-clause-set c =
+pub returns-in-Ok-clause-made : goal.returns-in-Ok-clause-made
+returns-in-Ok-clause-made c =
     let e = c.in-Ok.ensures in
-    λ props. (c.in-Ok._tree, record { next = e.number; normal = e.set; sound = e.no_fault; left = e.tree })
+    λ props. record { next = e.number; normal = e.set; made = e.makes }
 
 pub returns-in-Err-clause-refused : goal.returns-in-Err-clause-refused
 returns-in-Err-clause-refused c = inr (λ props. (c.in-Err.fault, c.change_refusal.ensures.value, c.in-Err.ensures.refused))

@@ -6,7 +6,7 @@ use Rattle.repo_store.specs.Words.{repository_of}
 use Rattle.repo_core.specs.declared.entry.Entry.TheVariants.{Mapped}
 use Rattle.byte_streams.specs.Causes.{Rose}
 use Rattle.store_engines.specs.Loads.{of_zero}
-use Rattle.store_engines.proofs.Loading.{zero_said, zero_err}
+use Rattle.store_engines.proofs.Loading.{none_failed, zero_said, zero_err}
 use Rattle.store_engines.proofs.Serving.{of_entry}
 use Rattle.store_engines.proofs.Telling.{moved_on}
 use Rattle.store_engines.proofs.load.load_one.Goals as goal
@@ -31,3 +31,6 @@ returns-then-is_zero-clause-device g c safe =
 
 pub returns-then-is_zero-clause-told : goal.returns-then-is_zero-clause-told
 returns-then-is_zero-clause-told g c safe works h = moved_on c.args.store.now c.put_zero.new.store c.put_zero.result (g.T.LoadReport.told c.args.report.now) works (c.put_zero.ensures.device safe).serves h
+
+pub returns-then-is_zero-clause-peer : goal.returns-then-is_zero-clause-peer
+returns-then-is_zero-clause-peer g c = none_failed c.put_zero.result (g.T.LoadReport.failures c.args.report.now) c.put_zero.ensures.no_peer

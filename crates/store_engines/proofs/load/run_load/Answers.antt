@@ -3,7 +3,8 @@ use Rattle.std.specs.List.{filter}
 use Rattle.dump_text.specs.Streams.{dump, records_of}
 use Rattle.fleet_engines.specs.Grouping.{is_no_identity}
 use Rattle.store_engines.specs.Loads.{ServesRecords}
-use Rattle.store_engines.proofs.Serving.{nothing, some_all}
+use Rattle.fleet_engines.proofs.Streaming.{some_all}
+use Rattle.store_engines.proofs.Serving.{nothing}
 use Rattle.std.proofs.lemmas.Result.{err_from_is_err_and}
 use Rattle.repo_store.specs.Words.{disk_of}
 use Rattle.store_engines.specs.Devices.{is_device}

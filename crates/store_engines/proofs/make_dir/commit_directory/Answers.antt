@@ -1,4 +1,4 @@
-use Rattle.std.proofs.Common.{◌≡◌, ◌<◌, ◌⊎◌, None, Ok, Err, ◌∙◌, ap, refl, subst, length, arith}
+use Rattle.std.proofs.Common.{◌≡◌, ◌<◌, ◌⊎◌, None, Ok, Err, ◌∙◌, ap, refl, subst, length, arith, inr}
 use Rattle.repo_core.specs.Entries.{with_entry_in}
 use Rattle.repo_core.specs.declared.entry.Entry.{Entry}
 use Rattle.repo_core.specs.Repository.{Repository}
@@ -75,3 +75,8 @@ returns-in_err-commit-clause-device g c safe =
 
 pub returns-then-message-gt-PROP_VALUE_BYTES-clause-device : goal.returns-then-message-gt-PROP_VALUE_BYTES-clause-device
 returns-then-message-gt-PROP_VALUE_BYTES-clause-device g c safe = c.refused_message.ensures.device (directory_entry (revisions_of c.args.store.now) c.args.path c.args.message.now c.args.moment) safe
+
+pub returns-in_err-commit-clause-peer : goal.returns-in_err-commit-clause-peer
+returns-in_err-commit-clause-peer g c =
+    let p = err_from_is_err_and c.from_residual-in_err-commit.result c.from_residual-in_err-commit.ensures.1 in
+    rw (p.1, p.2) (inr (c.in_err-commit.ensures.no_peer, refl))

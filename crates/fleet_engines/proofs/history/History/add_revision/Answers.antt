@@ -15,9 +15,9 @@ returns-in-Ok-push-clause-made c =
     let e = c.in-Ok.ensures in
     let r = rev_of c.args.revision in
     let d = c.deref.ensures.value in (
-      c.in-Ok.loaded.0,
-      c.in-Ok.loaded.1,
-      rw (← d) (record { next = e.number; normal = e.set; sound = e.no_fault; left = e.tree }),
-      ap (λ ns. record r { nodes = ns }) c.in-Ok-to_records.ensures.records,
+      c.in-Ok.loaded.set,
+      c.in-Ok.loaded.tree,
+      rw (← d) (record { next = e.number; normal = e.set; made = e.makes }),
+      ap (λ ns. record r { nodes = ns }) c.in-Ok-into_records.ensures,
       ap (λ ts. record (told_of c.args.self.now) { trees = ts }) c.in-Ok-push.ensures.items,
     )

@@ -7,6 +7,7 @@ use Rattle.node_base.specs.NodeEdits.{with_piece}
 use Rattle.path_tree.specs.Edits.{edit_here}
 use Rattle.path_tree.specs.Rows.{in_row}
 use Rattle.path_tree.proofs.Rows.{swaps_with, swaps_without}
+use Rattle.path_tree.proofs.InPlace.{rises_put}
 use Rattle.path_tree.proofs.Edits.{edits_as, edited_here, grafts_as, graft_in_child, on_ok}
 use Rattle.path_tree.proofs.branch.Branch.alter_here.Goals as goal
 
@@ -26,16 +27,21 @@ returns-in-Piece-clause-ok c =
     c.append_text.ensures.ok
 
 pub invariant_of-self-in-Graft : goal.invariant_of-self-in-Graft
-invariant_of-self-in-Graft c = (swaps_with (in_row c.self-in-Graft.inside.children) _ (arc_value c.in-Graft.child).0 c.self-in-Graft.invariant (arc_value c.in-Graft.child).1 c.in_ok-self-inside-in-Graft.ensures).rising
+invariant_of-self-in-Graft c =
+    let k = arc_value c.in-Graft.child in
+    rises_put c.put_in.result (in_row c.self-in-Graft.inside.children) _ k.0 k.1 c.self-in-Graft.invariant c.put_in.ensures.ok c.put_in.ensures.err
 
-pub returns-in_ok-self-inside-in-Graft-clause-ok : goal.returns-in_ok-self-inside-in-Graft-clause-ok
-returns-in_ok-self-inside-in-Graft-clause-ok c = λ q.
+pub returns-in-Graft-clause-ok : goal.returns-in-Graft-clause-ok
+returns-in-Graft-clause-ok c =
     let m = (arc_value c.in-Graft.child).1 in
     let x = (arc_value c.in-Graft.child).0 in
     let cs = in_row c.self-in-Graft.inside.children in
+    on_ok c.put_in.result _ _
+    (λ h q.
     grafts_as _ _ c.args.self.now (x ∷ []) (x ∷ []) (get m) c.self-in-Graft.view_is refl
-    (graft_in_child c.self-in-Graft.inside.node cs _ x (Some m) c.self-in-Graft.invariant (swaps_with cs _ x c.self-in-Graft.invariant m c.in_ok-self-inside-in-Graft.ensures) [] (get m) (λ q. refl)) q
-    ∙ ap (λ e. edit_here e (get c.args.self.now) q) (sym c.in-Graft.is)
+    (graft_in_child c.self-in-Graft.inside.node cs _ x (Some m) c.self-in-Graft.invariant (swaps_with cs _ x c.self-in-Graft.invariant m h) [] (get m) (λ q. refl)) q
+    ∙ ap (λ e. edit_here e (get c.args.self.now) q) (sym c.in-Graft.is))
+    c.put_in.ensures.ok
 
 pub invariant_of-self-in-Prune : goal.invariant_of-self-in-Prune
 invariant_of-self-in-Prune c = (swaps_without (in_row c.self-in-Prune.inside.children) _ c.in-Prune.name c.self-in-Prune.invariant c.in_ok-self-inside-in-Prune.ensures).rising

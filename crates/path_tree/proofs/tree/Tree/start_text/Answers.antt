@@ -1,4 +1,4 @@
-use Rattle.std.proofs.Common.{[], Some, None, length, ◌≤◌, arith, sym, ap, subst, ◌∙◌}
+use Rattle.std.proofs.Common.{Some, None, length, ◌≤◌, arith, sym, subst, ◌∙◌}
 use Rattle.std.specs.Prelude.{IsSome}
 use Rattle.std.specs.FinMap.{get}
 use Rattle.node_base.specs.Tree.{IsDirAt, changed_at, with_given}

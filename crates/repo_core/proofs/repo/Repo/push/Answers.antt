@@ -1,5 +1,6 @@
 use Rattle.std.proofs.Common.{◌∷◌, [], refl, ap, sym, subst, ◌∙◌, arith, length-append}
-use Rattle.repo_core.specs.Repository.{Makes, trees_of}
+use Rattle.dump_load.specs.Trees.{Makes}
+use Rattle.repo_core.specs.Repository.{trees_of}
 use Rattle.repo_core.proofs.Lists.{length-revisions, trees-revisions, revisions-push}
 use Rattle.repo_core.proofs.MadeTrees.{length-made, made-push}
 use Rattle.repo_core.proofs.repo.Repo.push.Goals as goal

@@ -1,0 +1,58 @@
+use Rattle.std.proofs.Common.{Err, refl, inr}
+use Rattle.std.proofs.lemmas.Result.{err_from_is_err_and, on_ok_weaker, IfErr-weaker}
+use Rattle.byte_streams.specs.Causes.{counts}
+use Rattle.fleet_engines.specs.Takers.{place, end_refused}
+use Rattle.fleet_engines.proofs.Feeding.{ends_between, is_cut}
+use Rattle.fleet_engines.proofs.Streaming.{later_counted}
+use Rattle.fleet_engines.proofs.whole_stream.read_dump.Goals as goal
+
+pub returns-in_err-read_all-clause-refused : goal.returns-in_err-read_all-clause-refused
+returns-in_err-read_all-clause-refused g c =
+    let p = err_from_is_err_and c.from_residual.result c.from_residual.ensures.1 in
+    rw (p.1, p.2) c.in_err-read_all.ensures.refused
+
+pub returns-in_err-read_all-clause-peer : goal.returns-in_err-read_all-clause-peer
+returns-in_err-read_all-clause-peer g c =
+    let p = err_from_is_err_and c.from_residual.result c.from_residual.ensures.1 in
+    rw (p.1, p.2) c.in_err-read_all.ensures.peer
+
+pub returns-in-Err-clause-refused : goal.returns-in-Err-clause-refused
+returns-in-Err-clause-refused g c =
+    let k = g.K.Taker in
+    let r = c.in_ok-read_all.ensures.ok in
+    let first = place c.args.taker.now c.args.store.now c.args.output.now in
+    let now = place c.read_all.new.taker c.read_all.new.store c.read_all.new.output in
+    rw c.dump_refusal.ensures.value
+    (record { bytes = r.0; read = r.1; holds = inr (r.2, is_cut k.takes k.refuses k.cant_end r.0 c.read_all.new.reader first now c.finish.result c.in-Err.fault c.finish.ensures.ended c.in-Err.is r.3) })
+
+pub returns-in-Err-clause-peer : goal.returns-in-Err-clause-peer
+returns-in-Err-clause-peer g c =
+    let f = c.in_ok-read_all.ensures.peer in
+    let failures = g.K.Taker.failures in
+    later_counted (Err c.dump_refusal.result) (counts g.I.Input.failures g.I.Input.reads c.args.input.now c.read_all.new.input) (failures c.args.output.now) (failures c.read_all.new.output) (failures c.read_all.new.output) f.0 f.1 (inr (c.dump_refusal.ensures.no_peer, refl))
+
+pub returns-clause-ok : goal.returns-clause-ok
+returns-clause-ok g c =
+    let r = c.in_ok-read_all.ensures.ok in
+    let first = place c.args.taker.now c.args.store.now c.args.output.now in
+    let now = place c.read_all.new.taker c.read_all.new.store c.read_all.new.output in
+    let ended = ends_between g.K.Taker.takes r.0 c.read_all.new.reader first now c.finish.result c.in_default.field-0 c.finish.ensures.ended c.in_default.is r.3 in
+    on_ok_weaker c.end.result
+    (λ k. record { bytes = r.0; read = r.1; holds = inr (r.2, record { reader = c.read_all.new.reader; before = now; reached = r.3; ended = ended; end = k }) })
+    c.end.ensures.ok
+
+pub returns-clause-refused : goal.returns-clause-refused
+returns-clause-refused g c =
+    let r = c.in_ok-read_all.ensures.ok in
+    let first = place c.args.taker.now c.args.store.now c.args.output.now in
+    let now = place c.read_all.new.taker c.read_all.new.store c.read_all.new.output in
+    let ended = ends_between g.K.Taker.takes r.0 c.read_all.new.reader first now c.finish.result c.in_default.field-0 c.finish.ensures.ended c.in_default.is r.3 in
+    IfErr-weaker c.end.result _ _
+    (λ e k. record { bytes = r.0; read = r.1; holds = inr (r.2, end_refused c.read_all.new.reader now r.3 ended k) })
+    c.end.ensures.refused
+
+pub returns-clause-peer : goal.returns-clause-peer
+returns-clause-peer g c =
+    let f = c.in_ok-read_all.ensures.peer in
+    let failures = g.K.Taker.failures in
+    later_counted c.end.result (counts g.I.Input.failures g.I.Input.reads c.args.input.now c.read_all.new.input) (failures c.args.output.now) (failures c.read_all.new.output) (failures c.end.new.output) f.0 f.1 c.end.ensures.peer

@@ -1,0 +1,89 @@
+//! The revision of a dump that is read.
+ghost use Rattle.std.specs.Prelude.{◌≡◌, ◌∷◌, ◌++◌, ◌⊎◌, [], Some, None, is_none, true, false, IfErr, OnOk};
+ghost use Rattle.std.specs.Option.{option_map};
+ghost use Rattle.fleet_engines.specs.Histories.{open_in, rev_of};
+ghost use Rattle.fleet_engines.specs.Revisions.{Rev, is_past_zero};
+
+use dump_text::{NodeRecord, RevRecord};
+use node_base::{Props, Refusal, RevNo};
+use std::alloc::Global;
+
+/// The revision whose records are read, where one has begun: its own record, and those of its nodes so far.
+#[derive(Drop)]
+pub struct OpenRevision {
+    alloc: Global,
+    revision: Option<RevRecord>,
+}
+
+impl OpenRevision {
+    /// None has begun.
+    pub fn none(alloc: Global) -> OpenRevision
+        ensures { open_in result ≡ None }
+    {
+        OpenRevision {
+            alloc,
+            revision: None,
+        }
+    }
+
+    /// One begins, in the place of the one before it.
+    pub fn begin(&mut self, number: RevNo, props: Props)
+        ensures { open_in self.new ≡ Some (record { number = number; props = props; nodes = [] }) }
+    {
+        let nodes = Vec::new(self.alloc);
+        self.revision = Some(RevRecord {
+            number,
+            props,
+            nodes,
+        });
+    }
+
+    /// A node of it. One of no revision, or of revision 0, is WrongNumber (16); OutOfMemory (70).
+    pub fn add_node(&mut self, node: NodeRecord) -> Result<(), Refusal>
+        ensures ok { OnOk result ((r : Rev) × (open_in self.old ≡ Some r)
+            × (is_past_zero (open_in self.old) ≡ true)
+            × (open_in self.new ≡ Some (record r { nodes = r.nodes ++ node ∷ [] }))) }
+        ensures refused { IfErr result (λ e. ((e ≡ Refusal.OutOfMemory)
+            ⊎ ((e ≡ Refusal.WrongNumber) × (is_past_zero (open_in self.old) ≡ false)))) }
+        ensures no_peer { IfErr result (λ e. e ≡ Refusal.PeerFailed → ⊥) }
+    {
+        if !self.is_past_zero() {
+            return Err(Refusal::WrongNumber);
+        }
+        let Some(mut revision) = self.revision.take() else {
+            return Err(Refusal::WrongNumber);
+        };
+        match revision.nodes.push(node) {
+            Ok(()) => {
+                self.revision = Some(revision);
+                Ok(())
+            }
+            Err(_) => Err(Refusal::OutOfMemory),
+        }
+    }
+
+    /// It, which is whole now, where one has begun; none is read any more.
+    pub fn take(&mut self) -> Option<RevRecord>
+        ensures taken { option_map rev_of result ≡ open_in self.old }
+        ensures none { open_in self.new ≡ None }
+    {
+        self.revision.take()
+    }
+
+    /// Whether none is read.
+    pub fn is_none(&self) -> bool
+        ensures { result ≡ is_none (open_in self.now) }
+    {
+        self.revision.is_none()
+    }
+
+    /// Whether one other than revision 0 is read.
+    pub fn is_past_zero(&self) -> bool
+        ensures { result ≡ is_past_zero (open_in self.now) }
+    {
+        match &self.revision {
+            Some(revision) => revision.number != RevNo::ZERO,
+            None => false,
+        }
+    }
+}

@@ -1,0 +1,141 @@
+//! A dump that is read to its end, by whoever takes its records.
+ghost use Rattle.std.specs.Prelude.{◌≡◌, ◌<◌, ◌++◌, ℕ, List, length, IfErr, OnOk};
+ghost use Rattle.std.specs.Io.KnownBytes.{Consumes, IsAtEnd};
+ghost use Rattle.byte_streams.specs.Causes.{counts};
+ghost use Rattle.dump_text.specs.Streams.{fresh};
+ghost use Rattle.fleet_engines.specs.Runs.{BothCounted, Counted};
+ghost use Rattle.fleet_engines.specs.Takers.{place, Place, TakesAll, Stops, Reached, Done, Halts, OfStream};
+
+use crate::stream::read;
+use crate::taker::Taker;
+use byte_streams::{Input, MOST_READS};
+use dump_text::{DumpReader, DumpRecord, dump_refusal};
+use node_base::Refusal;
+use std::alloc::Global;
+
+// How many bytes are read at a time: 64 KiB.
+const PIECE: usize = 65_536;
+
+// Some records more.
+fn take_all<S, O, K: Taker<S, O>>(
+    taker: &mut K,
+    records: Vec<DumpRecord>,
+    store: &mut S,
+    output: &mut O,
+) -> Result<(), Refusal>
+    ensures ok { OnOk result (TakesAll K.takes (place taker.old store.old output.old) records.items
+        (place taker.new store.new output.new)) }
+    ensures refused { IfErr result (λ e. Stops K.takes K.refuses (place taker.old store.old output.old) records.items e
+        (place taker.new store.new output.new)) }
+    ensures peer { Counted result (K.failures output.old) (K.failures output.new) }
+{
+    for next in records {
+        taker.take(next, store, output)?;
+    }
+    Ok(())
+}
+
+// The next piece of a dump.
+fn feed<S, O, K: Taker<S, O>>(
+    alloc: Global,
+    taker: &mut K,
+    reader: &mut DumpReader,
+    piece: &[u8],
+    store: &mut S,
+    output: &mut O,
+) -> Result<(), Refusal>
+    ensures ok { OnOk result ((bytes : List ℕ) (first : Place K S O)
+        → Reached K.takes bytes reader.old first (place taker.old store.old output.old)
+        → Reached K.takes (bytes ++ piece.now) reader.new first (place taker.new store.new output.new)) }
+    ensures refused { IfErr result (λ e. (bytes rest : List ℕ) (first : Place K S O)
+        → Reached K.takes bytes reader.old first (place taker.old store.old output.old)
+        → Halts K.takes K.refuses K.cant_end ((bytes ++ piece.now) ++ rest) first e
+        (place taker.new store.new output.new)) }
+    ensures peer { Counted result (K.failures output.old) (K.failures output.new) }
+{
+    let mut records = Vec::new(alloc);
+    let fed = reader.feed(piece, &mut records);
+    take_all(taker, records, store, output)?;
+    match fed {
+        Ok(()) => Ok(()),
+        Err(fault) => Err(dump_refusal(fault)),
+    }
+}
+
+// All pieces, up to the end of the stream.
+fn read_all<S, O, K: Taker<S, O>, I: Input>(
+    alloc: Global,
+    taker: &mut K,
+    reader: &mut DumpReader,
+    piece: &mut [u8],
+    store: &mut S,
+    output: &mut O,
+    input: &mut I,
+) -> Result<(), Refusal>
+    requires begins { reader.old ≡ fresh }
+    requires room { 0 < length piece.old }
+    ensures ok { OnOk result ((bytes : List ℕ) × Consumes (I.remaining input.old) (I.remaining input.new) bytes
+        × IsAtEnd (I.remaining input.new)
+        × Reached K.takes bytes reader.new (place taker.old store.old output.old)
+        (place taker.new store.new output.new)) }
+    ensures refused { IfErr result (λ e. OfStream (I.remaining input.old) (I.remaining input.new) (λ bytes.
+        Halts K.takes K.refuses K.cant_end bytes (place taker.old store.old output.old) e
+        (place taker.new store.new output.new))) }
+    ensures peer { BothCounted result (counts I.failures I.reads input.old input.new) (K.failures output.old) (K.failures output.new) }
+{
+    for _turn in 0..MOST_READS {
+        let n = read(input, piece)?;
+        if n == 0 {
+            return Ok(());
+        }
+        feed(alloc, taker, reader, &piece[..n], store, output)?;
+    }
+    Err(Refusal::PeerFailed)
+}
+
+// A dump by way of a piece of memory, and its end.
+fn read_dump<S, O, K: Taker<S, O>, I: Input>(
+    alloc: Global,
+    taker: &mut K,
+    piece: &mut [u8],
+    store: &mut S,
+    output: &mut O,
+    input: &mut I,
+) -> Result<(), Refusal>
+    requires { 0 < length piece.old }
+    ensures ok { OnOk result (OfStream (I.remaining input.old) (I.remaining input.new) (λ bytes.
+        Done K.takes K.ends bytes (place taker.old store.old output.old) (place taker.new store.new output.new))) }
+    ensures refused { IfErr result (λ e. OfStream (I.remaining input.old) (I.remaining input.new) (λ bytes.
+        Halts K.takes K.refuses K.cant_end bytes (place taker.old store.old output.old) e
+        (place taker.new store.new output.new))) }
+    ensures peer { BothCounted result (counts I.failures I.reads input.old input.new) (K.failures output.old) (K.failures output.new) }
+{
+    let mut reader = DumpReader::new(alloc);
+    read_all(alloc, taker, &mut reader, piece, store, output, input)?;
+    if let Err(fault) = reader.finish() {
+        return Err(dump_refusal(fault));
+    }
+    taker.end(store, output)
+}
+
+/// Reads a dump piece by piece, and gives its records, and then its end, to who takes them. What is refused of them, a
+/// fault of the text (1 to 10), a failure of a stream (49) and want of memory (70) end it.
+pub fn read_stream<S, O, K: Taker<S, O>, I: Input>(
+    alloc: Global,
+    taker: &mut K,
+    store: &mut S,
+    output: &mut O,
+    input: &mut I,
+) -> Result<(), Refusal>
+    ensures ok { OnOk result (OfStream (I.remaining input.old) (I.remaining input.new) (λ bytes.
+        Done K.takes K.ends bytes (place taker.old store.old output.old) (place taker.new store.new output.new))) }
+    ensures refused { IfErr result (λ e. OfStream (I.remaining input.old) (I.remaining input.new) (λ bytes.
+        Halts K.takes K.refuses K.cant_end bytes (place taker.old store.old output.old) e
+        (place taker.new store.new output.new))) }
+    ensures peer { BothCounted result (counts I.failures I.reads input.old input.new) (K.failures output.old) (K.failures output.new) }
+{
+    match Vec::from_elem(alloc, 0u8, PIECE) {
+        Ok(mut piece) => read_dump(alloc, taker, piece.as_mut_slice(), store, output, input),
+        Err(_) => Err(Refusal::OutOfMemory),
+    }
+}
