@@ -29,7 +29,7 @@ use Rattle.delta_editor.specs.declared.fault.EditorFault.{EditorFault}
 use Rattle.delta_editor.specs.declared.fault.EditorFault.TheVariants as refusal
 use Rattle.editor_ends.specs.BuildFaults.{is_below, begun, begin_fault}
 use Rattle.editor_ends.specs.Built.{filled, is_taken, is_above, is_given, is_full, is_late_in, Made, Begins, First, Again}
-use Rattle.editor_ends.proofs.Filled.{Nodes, Gap, or_no, or_yes, or_swap, rest_itself, parts_stay, some_stays, none_in_gap, clear_in_gap, clear_of_deleted, all_of, all_two, all_append, all_front, all_rest, deleted_gone, there_above, not_both, above_through, not_below, normal_amid, normal_without, later_than, gap_of}
+use Rattle.editor_ends.proofs.Filled.{Nodes, Gap, or_no, or_yes, or_swap, rest_itself, parts_stay, some_stays, none_in_gap, clear_in_gap, clear_of_deleted, all_of, all_two, all_front, all_rest, deleted_gone, there_above, not_both, above_through, not_below, normal_amid, normal_without, later_than, gap_of}
 use Rattle.editor_ends.proofs.Sound.{sound_more, sound_again}
 
 -- ---- what is fresh

@@ -156,7 +156,7 @@ above_it g (m ∷ d) n r e = at (g []) refl e (above_it (λ q. g (m ∷ q)) d n 
 
 -- ---- changes that a call begins
 
-unfaulted : (trees : List PathMap) (f : Nodes) (c : Change) → Faultless trees f c → fault_of trees f c ≡ None
+pub unfaulted : (trees : List PathMap) (f : Nodes) (c : Change) → Faultless trees f c → fault_of trees f c ≡ None
 unfaulted trees f c h = λ i. first_of (fault_if (h.root i) BadPath ∷ h.free i ∷ h.place i ∷ fault_if (h.source i) NoSource ∷ fault_if (h.kind i) KindMismatch ∷ fault_if (h.copy i) TooLong ∷ [])
 
 begins_free : (trees : List PathMap) (f : Nodes) (late : Bool) (x : Change) → (same_path x.path [] && settles x.action) ≡ false → late ≡ false → fault_of trees f x ≡ None → begin_fault trees f late x ≡ None

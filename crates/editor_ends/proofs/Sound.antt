@@ -1,6 +1,6 @@
 -- Sets without a fault: what a change more, another in its place, a part more and a bare change less leave of that.
-use Rattle.std.proofs.Common.{◌≡◌, ℕ, Bool, true, false, cond, not, ◌&&◌, ◌||◌, List, [], ◌∷◌, ◌++◌, length, map, Option, Some, None, is_some, refl, sym, ap, subst, ◌∙◌, append_assoc, append-nil}
-use Rattle.std.specs.Prelude.{is_none, unwrap_or}
+use Rattle.std.proofs.Common.{◌≡◌, ℕ, Bool, true, false, cond, not, ◌&&◌, List, [], ◌∷◌, ◌++◌, length, map, Option, Some, None, is_some, refl, sym, ap, subst, ◌∙◌, append_assoc, append-nil}
+use Rattle.std.specs.Prelude.{unwrap_or}
 use Rattle.std.specs.Option.{option_map, option_map_or, option_or}
 use Rattle.std.specs.List.{AllByRecursion}
 use Rattle.std.specs.FinMap.{get}
@@ -147,10 +147,10 @@ kinds_on trees f g c m t same q h =
 
 -- a text, where a file is left without it
 module _ (trees : List PathMap) (f : Nodes) (c : Change) (m : Option PropMap) (t : List ℕ) (file : kinds (stepped trees f c) c.path ≡ Some File) where
-  came : Change → Bool → Option Node → Option NodeKind
+  abbrev came : Change → Bool → Option Node → Option NodeKind
   came d b o = option_map kind_of (option_map (λ x. cond b (with_number (length trees) (with_parts d x)) x) o)
 
-  stood : Change → Bool → Option Node → Option NodeKind
+  abbrev stood : Change → Bool → Option Node → Option NodeKind
   stood d b o = option_map kind_of (option_map (λ x. cond b (with_parts d x) x) o)
 
   text_apart : (q : Path) → same_path c.path q ≡ false → kinds (stepped trees f (other c m (Some t))) q ≡ kinds (stepped trees f c) q
@@ -257,15 +257,15 @@ kinds_end : (trees : List PathMap) (done s : List Change) (c : Change) (q : Path
 kinds_end trees done s c q n = ap (option_map kind_of) (effect-end trees done c (normal_follows done s c n) (deletes_settle c.action) q)
 
 -- the changes that follow are those that follow with one more done
-on : {P : List Change → Type 0} (done : List Change) (c : Change) (s : List Change) → P (done ++ c ∷ s) → P ((done ++ c ∷ []) ++ s)
-on {P} done c s h = subst P (sym (append_assoc done (c ∷ []) s)) h
+on : (P : List Change → Type 0) (done : List Change) (c : Change) (s : List Change) → P (done ++ c ∷ s) → P ((done ++ c ∷ []) ++ s)
+on P done c s h = subst P (sym (append_assoc done (c ∷ []) s)) h
 
 -- changes that aren't above a path leave its kind
 pub kinds_before : (trees : List PathMap) (done s : List Change) (q : Path) → IsNormal (done ++ s) → AllByRecursion (λ c. rest_after c.path q ≡ None) s → kinds (effect trees (done ++ s)) q ≡ kinds (effect trees done) q
 kinds_before trees done [] q n h = ap (λ s. kinds (effect trees s) q) (append-nil done)
 kinds_before trees done (c ∷ s) q n h =
     ap (λ t. kinds (effect trees t) q) (sym (append_assoc done (c ∷ []) s))
-    ∙ kinds_before trees (done ++ c ∷ []) s q (on {P = IsNormal} done c s n) h.1
+    ∙ kinds_before trees (done ++ c ∷ []) s q (on IsNormal done c s n) h.1
     ∙ kinds_end trees done s c q n
     ∙ kinds_apart trees (effect trees done) c q h.0
 
@@ -273,7 +273,7 @@ kinds_before trees done (c ∷ s) q n h =
 pub faults_alike : (trees : List PathMap) (done new s : List Change) → IsNormal (done ++ s) → IsNormal (new ++ s) → AllByRecursion (λ c. AlikeTo c.path (effect trees done) (effect trees new)) s → fault_after trees done s ≡ fault_after trees new s
 faults_alike trees done new [] n m h = refl
 faults_alike trees done new (c ∷ s) n m h =
-    λ i. option_or (fault_alike trees (effect trees done) (effect trees new) c c.props c.text refl h.0 i) (faults_alike trees (done ++ c ∷ []) (new ++ c ∷ []) s (on {P = IsNormal} done c s n) (on {P = IsNormal} new c s m) (all_of s (λ d k q f. one q (k q f)) h.1) i)
+    λ i. option_or (fault_alike trees (effect trees done) (effect trees new) c c.props c.text refl h.0 i) (faults_alike trees (done ++ c ∷ []) (new ++ c ∷ []) s (on IsNormal done c s n) (on IsNormal new c s m) (all_of s (λ d k q f. one q (k q f)) h.1) i)
   where
     one : (q : Path) → kinds (effect trees done) q ≡ kinds (effect trees new) q → kinds (effect trees (done ++ c ∷ [])) q ≡ kinds (effect trees (new ++ c ∷ [])) q
     one q e = kinds_end trees done s c q n ∙ kinds_on trees (effect trees done) (effect trees new) c c.props c.text refl q e ∙ sym (kinds_end trees new s c q m)
@@ -293,7 +293,7 @@ module _ (trees : List PathMap) (h : Nodes) where
   faults_filled : (done new s : List Change) → IsNormal (done ++ map (filled h) s) → IsNormal (new ++ s) → ((q : Path) → kinds (effect trees done) q ≡ kinds (effect trees new) q) → fault_after trees done (map (filled h) s) ≡ fault_after trees new s
   faults_filled done new [] n m k = refl
   faults_filled done new (c ∷ s) n m k =
-      λ i. option_or (fault_alike trees (effect trees done) (effect trees new) c (filled h c).props (filled h c).text (fills_text c) (λ q _. k q) i) (faults_filled (done ++ filled h c ∷ []) (new ++ c ∷ []) s (on {P = IsNormal} done (filled h c) (map (filled h) s) n) (on {P = IsNormal} new c s m) (one_filled done new s c n m k) i)
+      λ i. option_or (fault_alike trees (effect trees done) (effect trees new) c (filled h c).props (filled h c).text (fills_text c) (λ q _. k q) i) (faults_filled (done ++ filled h c ∷ []) (new ++ c ∷ []) s (on IsNormal done (filled h c) (map (filled h) s) n) (on IsNormal new c s m) (one_filled done new s c n m k) i)
 
   -- a set has the fault of the changes that it was filled from
   pub fault_filled : (s : List Change) → IsNormal s → fault trees (map (filled h) s) ≡ fault trees s
@@ -303,7 +303,7 @@ module _ (trees : List PathMap) (h : Nodes) where
   all_filled done new [] n m k q = ap (λ t. kinds (effect trees t) q) (append-nil done) ∙ k q ∙ ap (λ t. kinds (effect trees t) q) (sym (append-nil new))
   all_filled done new (c ∷ s) n m k q =
       ap (λ t. kinds (effect trees t) q) (sym (append_assoc done (filled h c ∷ []) (map (filled h) s)))
-      ∙ all_filled (done ++ filled h c ∷ []) (new ++ c ∷ []) s (on {P = IsNormal} done (filled h c) (map (filled h) s) n) (on {P = IsNormal} new c s m) (one_filled done new s c n m k) q
+      ∙ all_filled (done ++ filled h c ∷ []) (new ++ c ∷ []) s (on IsNormal done (filled h c) (map (filled h) s) n) (on IsNormal new c s m) (one_filled done new s c n m k) q
       ∙ ap (λ t. kinds (effect trees t) q) (append_assoc new (c ∷ []) s)
 
   -- and its kinds
@@ -344,7 +344,7 @@ module _ (trees : List PathMap) (front rest : List Change) where
     -- a change more: it has no fault over the tree, and what settles its path has none below it
     pub sound_more : (x : Change) → Made trees tree (front ++ rest) → IsNormal (front ++ x ∷ rest) → fault_of trees (get tree) x ≡ None
         → (settles x.action ≡ true → IsClear (front ++ rest) x) → (settles x.action ≡ false → x.text ≡ None) → Sound trees (front ++ x ∷ rest)
-    sound_more x m n none clear bare = amid_sound x (front_sound rest m.faultless) here (faults_alike trees (front ++ x ∷ []) front rest (on {P = IsNormal} front x rest n) m.normal others ∙ behind_sound rest m.faultless)
+    sound_more x m n none clear bare = amid_sound x (front_sound rest m.faultless) here (faults_alike trees (front ++ x ∷ []) front rest (on IsNormal front x rest n) m.normal others ∙ behind_sound rest m.faultless)
       where
         later : AllByRecursion (λ c. path_cmp x.path c.path ≡ Less) rest
         later = (gap_of front rest x n).1
@@ -373,7 +373,7 @@ module _ (trees : List PathMap) (front rest : List Change) where
     pub sound_again : (d x : Change) → Made trees tree (front ++ d ∷ rest) → d.path ≡ x.path → is_delete d.action ≡ true → is_add x.action ≡ true → fault_of trees (get tree) x ≡ None
         → IsNormal (front ++ replacing x ∷ rest) → Sound trees (front ++ replacing x ∷ rest)
     sound_again d x m same gone adds none n =
-        amid_sound y (front_sound (d ∷ rest) m.faultless) here (faults_alike trees (front ++ y ∷ []) (front ++ d ∷ []) rest (on {P = IsNormal} front y rest n) (on {P = IsNormal} front d rest m.normal) (each rest (all_rest _ front rest clear)) ∙ none_rest (fault_of trees (effect trees front) d) (fault_after trees (front ++ d ∷ []) rest) (behind_sound (d ∷ rest) m.faultless))
+        amid_sound y (front_sound (d ∷ rest) m.faultless) here (faults_alike trees (front ++ y ∷ []) (front ++ d ∷ []) rest (on IsNormal front y rest n) (on IsNormal front d rest m.normal) (each rest (all_rest _ front rest clear)) ∙ none_rest (fault_of trees (effect trees front) d) (fault_after trees (front ++ d ∷ []) rest) (behind_sound (d ∷ rest) m.faultless))
       where
         y : Change
         y = replacing x
@@ -430,7 +430,7 @@ module _ (trees : List PathMap) (front rest : List Change) where
       → fault_of trees (effect trees front) (other c m t) ≡ None → ((q : Path) → kinds (stepped trees (effect trees front) (other c m t)) q ≡ kinds (stepped trees (effect trees front) c) q) → Sound trees (front ++ other c m t ∷ rest)
   sound_given c m t n k s none step =
       amid_sound (other c m t) (front_sound (c ∷ rest) s) none
-      (faults_alike trees (front ++ other c m t ∷ []) (front ++ c ∷ []) rest (on {P = IsNormal} front (other c m t) rest k) (on {P = IsNormal} front c rest n) (each rest) ∙ none_rest (fault_of trees (effect trees front) c) (fault_after trees (front ++ c ∷ []) rest) (behind_sound (c ∷ rest) s))
+      (faults_alike trees (front ++ other c m t ∷ []) (front ++ c ∷ []) rest (on IsNormal front (other c m t) rest k) (on IsNormal front c rest n) (each rest) ∙ none_rest (fault_of trees (effect trees front) c) (fault_after trees (front ++ c ∷ []) rest) (behind_sound (c ∷ rest) s))
     where
       each : (s : List Change) → AllByRecursion (λ d. AlikeTo d.path (effect trees (front ++ other c m t ∷ [])) (effect trees (front ++ c ∷ []))) s
       each [] = tt
@@ -448,7 +448,7 @@ module _ (trees : List PathMap) (front rest : List Change) where
 
       behind : fault_after trees front rest ≡ None
       behind =
-          faults_alike trees front (front ++ c ∷ []) rest (normal_without front rest c n) (on {P = IsNormal} front c rest n) (each rest)
+          faults_alike trees front (front ++ c ∷ []) rest (normal_without front rest c n) (on IsNormal front c rest n) (each rest)
           ∙ none_rest (fault_of trees (effect trees front) c) (fault_after trees (front ++ c ∷ []) rest) (behind_sound (c ∷ rest) s)
 
   fault_there : (t : Change) → Sound trees (front ++ t ∷ rest) → fault_of trees (effect trees front) t ≡ None
@@ -472,7 +472,7 @@ module _ (trees : List PathMap) (front rest : List Change) where
       behind : kinds (stepped trees f c) c.path ≡ Some File
       behind =
           sym (kinds_end trees front rest c c.path m.normal)
-          ∙ sym (kinds_before trees (front ++ c ∷ []) rest c.path (on {P = IsNormal} front c rest m.normal) (all_of rest (λ d l. later_is_no_front d.path c.path l) (gap_of front rest c m.normal).1))
+          ∙ sym (kinds_before trees (front ++ c ∷ []) rest c.path (on IsNormal front c rest m.normal) (all_of rest (λ d l. later_is_no_front d.path c.path l) (gap_of front rest c m.normal).1))
           ∙ ap (λ t. kinds (effect trees t) c.path) (append_assoc front (c ∷ []) rest)
           ∙ sym (kinds_filled trees (get tree) (front ++ c ∷ rest) m.normal c.path)
           ∙ ap (option_map kind_of) (m.made c.path)
