@@ -594,17 +594,19 @@ adds_end trees tree s set h calls builds e =
     let l = last calls call.CloseEdit After e in
     let b = builds l.stage l.ran in
     let o = h b.made in
-    let nodes : (q : Path) → get tree q ≡ call_effect trees (calls ++ call.CloseEdit ∷ []) q = λ q. b.called q ∙ ends_within l.stage l.goes trees (call_effect trees calls) q ∙ (λ i. sym (all_called-append trees (base trees) calls (call.CloseEdit ∷ [])) i q) in
-    (record {
-      unrefused = first-end trees calls call.CloseEdit b.unrefused refl;
-      normal = o.normal;
-      faultless = o.faultless;
-      effect_is = λ q. o.effect_is q ∙ nodes q;
-      changed = all_of set (λ c k. change_end calls c.path ∙ sym (needs_change trees tree s calls l.stage b c.path) ∙ k) o.needed;
-      whole = λ p k. o.whole p (needs_change trees tree s calls l.stage b p ∙ sym (change_end calls p) ∙ k);
-      asked = all_of set (λ c stem. asked_end trees calls s (get tree) c b.asked b.blank nodes stem) o.stems;
-      few = o.few;
-    }, record { faultless = o.faultless; effect = effect_tree_is trees set tree (λ q. sym (o.effect_is q)) })
+    let nodes : (q : Path) → get tree q ≡ call_effect trees (calls ++ call.CloseEdit ∷ []) q = λ q. b.called q ∙ ends_within l.stage l.goes trees (call_effect trees calls) q ∙ (λ i. sym (all_called-append trees (base trees) calls (call.CloseEdit ∷ [])) i q) in (
+      record {
+        unrefused = first-end trees calls call.CloseEdit b.unrefused refl;
+        normal = o.normal;
+        faultless = o.faultless;
+        effect_is = λ q. o.effect_is q ∙ nodes q;
+        changed = all_of set (λ c k. change_end calls c.path ∙ sym (needs_change trees tree s calls l.stage b c.path) ∙ k) o.needed;
+        whole = λ p k. o.whole p (needs_change trees tree s calls l.stage b p ∙ sym (change_end calls p) ∙ k);
+        asked = all_of set (λ c stem. asked_end trees calls s (get tree) c b.asked b.blank nodes stem) o.stems;
+        few = o.few;
+      },
+      record { faultless = o.faultless; effect = effect_tree_is trees set tree (λ q. sym (o.effect_is q)) },
+    )
 
 pub refuses_end : (trees : List PathMap) (tree : PathMap) (s : List Change) (e : EditorFault) → (Made trees tree s → IsFinishRefusal trees (get tree) s e) → (calls : List Call) → BuildsWithin trees tree s calls → RefusesWithin trees calls call.CloseEdit e
 refuses_end trees tree s e h calls builds t r = at (h b.made)

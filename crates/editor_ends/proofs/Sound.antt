@@ -215,9 +215,9 @@ module _ (trees : List PathMap) (f : Nodes) (c : Change) (m : Option PropMap) (t
             ap (λ b. cond b (brought_kind trees c) (kinds f c.path)) (λ i. e i && not (stands i))
             ∙ from c.source c.kind
             ((λ i. option_map kind_of (option_map (G (sym bare i)) (cond (sym stands i) None (option_map_or (source_at trees) c.source (alone (blank c.kind)) []))))
-              ∙ sym (ap (λ (z : Option Path). option_map kind_of (option_map_or (arrives trees c) z (marked f c.path (length trees) c.path))) (rest_itself c.path))
-              ∙ ap (λ b. kinds (cond {A = Nodes} b (grafted (marked f c.path (length trees)) c.path (arrives trees c)) (changed_at (marked f c.path (length trees)) c.path (with_parts c))) c.path) (sym e)
-              ∙ file)
+            ∙ sym (ap (λ (z : Option Path). option_map kind_of (option_map_or (arrives trees c) z (marked f c.path (length trees) c.path))) (rest_itself c.path))
+            ∙ ap (λ b. kinds (cond {A = Nodes} b (grafted (marked f c.path (length trees)) c.path (arrives trees c)) (changed_at (marked f c.path (length trees)) c.path (with_parts c))) c.path) (sym e)
+            ∙ file)
 
     pub text_fits : fault_of trees f c ≡ None → fault_of trees f (other c m (Some t)) ≡ None
     text_fits none =
@@ -419,11 +419,13 @@ module _ (trees : List PathMap) (front rest : List Change) where
 
         each : (t : List Change) → IsClear t d → AllByRecursion (λ c. AlikeTo c.path (effect trees (front ++ y ∷ [])) (effect trees (front ++ d ∷ []))) t
         each [] h = tt
-        each (c ∷ t) h =
-            (λ q f.
+        each (c ∷ t) h = (
+          λ q f.
               let apart = rest_through d.path q c.path f h.0 in
               kinds_end trees front rest y q n ∙ kinds_apart trees (effect trees front) y q (ap (λ p. rest_after p q) (sym same) ∙ apart)
-              ∙ sym (kinds_end trees front rest d q m.normal ∙ kinds_apart trees (effect trees front) d q apart), each t h.1)
+              ∙ sym (kinds_end trees front rest d q m.normal ∙ kinds_apart trees (effect trees front) d q apart),
+          each t h.1,
+        )
 
   -- properties more, or a text where one was given or the kind stays: other parts, with the same kinds behind them
   pub sound_given : (c : Change) (m : Option PropMap) (t : Option (List ℕ)) → IsNormal (front ++ c ∷ rest) → IsNormal (front ++ other c m t ∷ rest) → Sound trees (front ++ c ∷ rest)
