@@ -4,6 +4,7 @@ ghost use Rattle.std.specs.Fmt.{decimal};
 ghost use Rattle.fleet_engines.specs.Listing.{node_line, shown_path};
 ghost use Rattle.node_base.specs.PathText.{path_text, slashed};
 
+use itoa::Buffer;
 use node_base::{Node, NodeName};
 use std::alloc::AllocError;
 
@@ -58,7 +59,12 @@ fn push_file_front(line: &mut String, changed: u16, length: usize) -> Result<(),
     ensures { OnOk result (string_bytes line.new ≡ string_bytes line.old ++ codes "F " ++ decimal changed ++ codes " "
         ++ decimal length ++ codes " ") }
 {
-    write!(line, "F {changed} {length} ")
+    line.push_str("F ")?;
+    push_count(line, usize::from(changed))?;
+    line.push_str(" ")?;
+    push_count(line, length)?;
+    line.push_str(" ")?;
+    Ok(())
 }
 
 // Adds what stands before a directory's path: its revision.
@@ -66,5 +72,17 @@ fn push_dir_front(line: &mut String, changed: u16) -> Result<(), AllocError>
     ensures { OnOk result (string_bytes line.new ≡ string_bytes line.old ++ codes "D " ++ decimal changed
         ++ codes " ") }
 {
-    write!(line, "D {changed} ")
+    line.push_str("D ")?;
+    push_count(line, usize::from(changed))?;
+    line.push_str(" ")?;
+    Ok(())
+}
+
+// Adds a number.
+fn push_count(line: &mut String, count: usize) -> Result<(), AllocError>
+    ensures { OnOk result (string_bytes line.new ≡ string_bytes line.old ++ decimal count) }
+{
+    let mut digits = Buffer::new();
+    line.push_str(digits.format(count))?;
+    Ok(())
 }

@@ -13,6 +13,7 @@ mod error;
 pub mod limits;
 mod listing;
 mod node_calls;
+mod order;
 mod reach;
 mod row;
 mod tree;

@@ -16,6 +16,7 @@ ghost use Rattle.path_tree.specs.Rows.{in_row, differs};
 use crate::Entry;
 use crate::branch::Branch;
 use crate::edit::Edit;
+use crate::order::compare;
 use crate::reach::Reach;
 use crate::visit::Visitor;
 use node_base::{NodeName, RevNo};
@@ -105,7 +106,7 @@ pub fn child_of<'a>(row: &'a Row, name: &NodeName) -> Option<&'a Branch>
     match row {
         Some(top) => {
             let twig: &Twig = top;
-            match name.compare(&twig.child.0) {
+            match compare(name, &twig.child.0) {
                 Ordering::Less => child_of(&twig.before, name),
                 Ordering::Equal => Some(&twig.child.1),
                 Ordering::Greater => child_of(&twig.behind, name),
@@ -217,7 +218,7 @@ pub fn with(alloc: Global, row: &Row, child: &Arc<(NodeName, Branch)>) -> Result
     match row {
         Some(top) => {
             let twig: &Twig = top;
-            match child.0.compare(&twig.child.0) {
+            match compare(&child.0, &twig.child.0) {
                 Ordering::Less => {
                     let before = with(alloc, &twig.before, child)?;
                     let here = Arc::try_clone(&twig.child)?;
@@ -322,7 +323,7 @@ fn put_beside(
     ensures err { OnErr result ((in_row before.new ≡ in_row before.old) × (arc_value here.new ≡ arc_value here.old)
         × (in_row behind.new ≡ in_row behind.old)) }
 {
-    match child.0.compare(&here.0) {
+    match compare(&child.0, &here.0) {
         Ordering::Less => put_in(alloc, before, child),
         Ordering::Equal => {
             *here = Arc::try_clone(child)?;
@@ -394,7 +395,7 @@ fn alter_beside(
     ensures err { OnErr result ((in_row before.new ≡ in_row before.old) × (arc_value here.new ≡ arc_value here.old)
         × (in_row behind.new ≡ in_row behind.old)) }
 {
-    match name.compare(&here.0) {
+    match compare(name, &here.0) {
         Ordering::Less => alter_in(alloc, before, name, path, edit, number),
         Ordering::Equal => alter_child(alloc, here, path, edit, number),
         Ordering::Greater => alter_in(alloc, behind, name, path, edit, number),
@@ -557,7 +558,7 @@ pub fn without(alloc: Global, row: &Row, name: &NodeName) -> Result<Row, AllocEr
     match row {
         Some(top) => {
             let twig: &Twig = top;
-            match name.compare(&twig.child.0) {
+            match compare(name, &twig.child.0) {
                 Ordering::Less => {
                     let before = without(alloc, &twig.before, name)?;
                     let here = Arc::try_clone(&twig.child)?;
