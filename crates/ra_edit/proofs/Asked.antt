@@ -28,11 +28,8 @@ one : (c : Call) (to : At) (s : Answer) → said (c ∷ []) to ≡ Some s → s.
 one c to s e = sym (ap calls_of e)
 
 by_says : (at : At) (x : Item) (s : Answer) → by at x ≡ Some s → by_item at x ≡ Some s
-by_says Begun x s e = e
-by_says Targeted x s e = e
-by_says (Inside os) x s e = e
-by_says (Announced root) x s e = e
 by_says Ended x s e = cc
+by_says at x s e = e
 
 path_says : (p : Path) (q : Item) (f : Path → Said) → IsPath p q → then_path q f ≡ f p
 path_says p q f h = ap (λ y. then_path y f) h.2 ∙ path_said h.0 p f h.1
@@ -44,10 +41,7 @@ name_says n q f h = ap (λ y. then_name y f) h.2 ∙ name_said h.0 n f h.1
 
 target_asks : (at : At) (n : ℕ) (ps : Items) (s : Answer) → target at (Then (Number n) ps) ≡ Some s → s.0 ≡ call.Target n ∷ []
 target_asks Begun n ps s e = one (call.Target n) Targeted s e
-target_asks Targeted n ps s e = cc
-target_asks (Inside os) n ps s e = cc
-target_asks (Announced root) n ps s e = cc
-target_asks Ended n ps s e = cc
+target_asks at n ps s e = cc
 
 delete_asks : (at : At) (q b : Item) (p : Path) (base : Option ℕ) (ps : Items) (s : Answer) → IsPath p q → IsRevision base b → delete_entry at (Then q (Then b ps)) ≡ Some s → s.0 ≡ call.DeleteEntry (path_at at) p base ∷ []
 delete_asks (Inside (o ∷ os)) q b p base ps s path rev e =
@@ -103,9 +97,7 @@ grown_asks o os all pieces more (Refuses text f) s k e = cc
 
 taken_asks : (o : Named) (os : List Named) (bytes : List ℕ) (held : Held) (pieces : List (List ℕ)) (s : Answer) → ReadFirst held bytes pieces → taken o os bytes held ≡ Some s → (rest : List Call) × (s.0 ≡ map (call.TextPiece o.path) pieces ++ rest)
 taken_asks o os bytes (Within text r) pieces s h e = grown_asks o os (pieces_in r bytes) pieces (pieces_in h.1 h.0) (reading (Reads text r) bytes) s h.3 e
-taken_asks o os bytes Dir pieces s h e = absurd h
-taken_asks o os bytes Fresh pieces s h e = absurd h
-taken_asks o os bytes (Told text) pieces s h e = absurd h
+taken_asks o os bytes held pieces s h e = absurd h
 
 chunk_asks : (at : At) (t : Item) (bytes : List ℕ) (ps : Items) (pieces : List (List ℕ)) (s : Answer) → ReadFirst (held_at at) bytes pieces → chunk at (Then t (Then (Text bytes) ps)) ≡ Some s → (rest : List Call) × (s.0 ≡ map (call.TextPiece (path_at at)) pieces ++ rest)
 chunk_asks (Inside (o ∷ os)) t bytes ps pieces s h e = taken_asks o os bytes o.held pieces s h e
@@ -113,9 +105,7 @@ chunk_asks _ t bytes ps pieces s h e = cc
 
 ended_asks : (o : Named) (os : List Named) (held : Held) (s : Answer) → ended o os held ≡ Some s → s.0 ≡ call.TextEnd o.path ∷ []
 ended_asks o os (Within text r) s e = one (call.TextEnd o.path) _ s e
-ended_asks o os Dir s e = cc
-ended_asks o os Fresh s e = cc
-ended_asks o os (Told text) s e = cc
+ended_asks o os held s e = cc
 
 end_asks : (at : At) (ps : Items) (s : Answer) → text_end at ps ≡ Some s → s.0 ≡ call.TextEnd (path_at at) ∷ []
 end_asks (Inside (o ∷ os)) ps s e = ended_asks o os o.held s e
@@ -131,10 +121,7 @@ close_dir_asks _ ps s e = cc
 
 finish_asks : (at : At) (s : Answer) → finish at ≡ Some s → s.0 ≡ last_calls (is_rooted at)
 finish_asks Begun s e = sym (ap calls_of e)
-finish_asks Targeted s e = sym (ap calls_of e)
-finish_asks (Inside os) s e = sym (ap calls_of e)
-finish_asks (Announced root) s e = sym (ap calls_of e)
-finish_asks Ended s e = sym (ap calls_of e)
+finish_asks at s e = sym (ap calls_of e)
 
 -- ---- any command
 

@@ -130,39 +130,3 @@ end_refused shows began refuses start old new a b s t before failed stands f is 
   unended = stay k.at k.here;
   stops = inr (inr (record { item = k.last; why = f; is = t; taken = k.taken; same = refl; due = λ x e. subst (λ y. IsRefused (Meets (ShownBefore shows k.calls) began refuses old) y k.last f) (sym e) (inr (command.Finish, k.end, why k.at k.here, own_map f (λ g m. met_before shows began refuses old new k.calls k.at command.Finish g k.shown same (m k.at k.here)) own)) }));
 })
-
--- ---- a failed read
-
-next_peer : (e : NextFault) (xs : List Item) (a b : Option (List ℕ)) (s : List ℕ → Stream) (spent : Bool) (failed : Counts) → of_next e ≡ fault.PeerFailed → Stops xs a b s spent failed e → Fails failed
-next_peer (next.Items item.Truncated) xs a b s spent failed p q = cc
-next_peer (next.Items item.TooLong) xs a b s spent failed p q = cc
-next_peer (next.Items item.Failed) xs a b s spent failed p q = cc
-next_peer (next.Items item.BadItem) xs a b s spent failed p q = cc
-next_peer (next.Items item.TooDeep) xs a b s spent failed p q = cc
-next_peer (next.Items item.OutOfMemory) xs a b s spent failed p q = cc
-next_peer next.PeerFailed xs a b s spent failed p q = q
-
-no_peer : (f : CommandFault) → of_command f ≡ fault.PeerFailed → ⊥
-no_peer why.BadSum p = cc
-no_peer why.TooLong p = cc
-no_peer why.Failed p = cc
-no_peer why.BadWindow p = cc
-no_peer why.CopyWindow p = cc
-no_peer why.BadToken p = cc
-no_peer why.BadShape p = cc
-no_peer why.Refused p = cc
-no_peer why.OutOfMemory p = cc
-no_peer (why.Editor e) p = cc
-
-shape_no_peer : fault.BadShape ≡ fault.PeerFailed → ⊥
-shape_no_peer p = cc
-
--- a drive is refused so only where its input failed
-pub drive_peer : {E O : Type 0} (shows : E → List Call → Type 0) (began : E → O) (refuses : O → List Call → Call → EditorFault → Type 0) (editor : E) (a b : Option (List ℕ)) (s : List ℕ → Stream) (spent : Bool) (failed : Counts) (f : EditFault) → RefusesDrive shows began refuses editor a b s spent failed f → f ≡ fault.PeerFailed → Fails failed
-drive_peer shows began refuses editor a b s spent failed f r p = elim r.stops [
-  | inl q ↦ next_peer q.0 r.items a b s spent failed (sym q.1 ∙ p) q.2
-  | inr q ↦ elim q [
-    | inl e ↦ absurd (shape_no_peer (sym e.0 ∙ p))
-    | inr i ↦ absurd (no_peer i.why (sym i.same ∙ p))
-  ]
-]

@@ -33,25 +33,12 @@ Refusing O = O → List Call → Call → EditorFault → Type 0
 -- ---- faults
 
 pub own_map : {P Q : EditorFault → Type 0} (f : CommandFault) → ((e : EditorFault) → P e → Q e) → IfOwn P f → IfOwn Q f
-own_map fault.BadSum g h = tt
-own_map fault.TooLong g h = tt
-own_map fault.Failed g h = tt
-own_map fault.BadWindow g h = tt
-own_map fault.CopyWindow g h = tt
-own_map fault.BadToken g h = tt
-own_map fault.BadShape g h = tt
-own_map fault.Refused g h = tt
-own_map fault.OutOfMemory g h = tt
 own_map (fault.Editor e) g h = g e h
-
-pub not_own : (Q : EditorFault → Type 0) (f : CommandFault) → IfOwn (λ e. ⊥) f → IfOwn Q f
-not_own Q f h = own_map f (λ e k. absurd k) h
+own_map f g h = tt
 
 pub window_own : (Q : EditorFault → Type 0) (f : WindowFault) → IfOwn Q (of_window f)
 window_own Q window.TooLong = tt
-window_own Q window.Failed = tt
-window_own Q window.BadWindow = tt
-window_own Q window.CopyWindow = tt
+window_own Q f = tt
 
 -- ---- one call
 
@@ -90,25 +77,6 @@ pub file_met : {D F S O : Type 0} (dp : D → Path) (fp : F → Path) (shows : S
     → Stands dp fp st dirs file at → RefusesOne shows began refuses old (k (fp x.baton) ∷ []) f → Meets shows began refuses old at c f
 file_met dp fp shows began refuses old st dirs x file at k c f is asks h r =
     record { calls = k (fp x.baton) ∷ []; asked = asks (fp x.baton) (sym (ap path_at (with_file dp fp st dirs file x at is h).3)); one = r }
-
--- ---- pieces of a text
-
-pub first_read : (held : Held) (r : Reading) (bytes rest : List ℕ) (new : Reading) (pieces : List (List ℕ)) (text : List ℕ) → held ≡ Within text r → reading (Reads text r) bytes ≡ reading (Reads (text ++ concat pieces) new) rest → pieces_in r bytes ≡ pieces ++ pieces_in new rest → ReadFirst held bytes pieces
-first_read held r bytes rest new pieces text e h k = subst (λ x. ReadFirst x bytes pieces) (sym e) (rest, new, h, k)
-
-pub chunk_met : {D F S O : Type 0} (dp : D → Path) (fp : F → Path) (shows : S → List Call → Type 0) (began : S → O) (refuses : Refusing O) (old : S) (st : Stage) (dirs : List (OpenDir D)) (x : OpenFile F) (file : Option (OpenFile F)) (at : At) (bytes : List ℕ) (c : Command) (f : EditorFault)
-    → file ≡ Some x
-    → ((pieces : List (List ℕ)) (p : Path) → ReadFirst (held_at at) bytes pieces → p ≡ path_at at → Asks at c (map (call.TextPiece p) pieces))
-    → ((held : Held) → GivenIs x.given held → (pieces : List (List ℕ)) × ReadFirst held bytes pieces × RefusesOne shows began refuses old (map (call.TextPiece (fp x.baton)) pieces) f)
-    → Stands dp fp st dirs file at → Meets shows began refuses old at c f
-chunk_met dp fp shows began refuses old st dirs x file at bytes c f is asks k h =
-    let w = with_file dp fp st dirs file x at is h in
-    let r = k w.0 w.1 in
-    record {
-      calls = map (call.TextPiece (fp x.baton)) r.0;
-      asked = asks r.0 (fp x.baton) (subst (λ y. ReadFirst y bytes r.0) (sym (ap held_at w.3)) r.1) (sym (ap path_at w.3));
-      one = r.2;
-    }
 
 -- ---- the end
 

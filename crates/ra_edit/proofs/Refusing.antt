@@ -7,7 +7,7 @@ use Rattle.ra_edit.specs.EditFaults.{of_window}
 use Rattle.ra_edit.specs.Edits.{Held, Dir, Named, named, At, Begun, Targeted, Inside, Announced, Ended, is_free, IsOpenDir}
 use Rattle.svndiff.specs.Reading.{is_failed, byte_step, Refused}
 use Rattle.svndiff.specs.Streams.{Stream, Reads, Refuses, of_step, reading}
-use Rattle.ra_edit.specs.Refusals.{open_of, unless, is_dir, for_token, in_file, of_stream, at_close, is_finish, due, refusal, RefusedFor}
+use Rattle.ra_edit.specs.Refusals.{open_of, unless, is_dir, for_token, in_file, of_stream, at_close, is_finish, due, behind_end, refusal, RefusedFor}
 use Rattle.ra_edit.specs.Edit.{dir_named, dirs_named, GivenIs, Stands, is_announced}
 use Rattle.ra_edit.specs.declared.command_fault.CommandFault.{CommandFault}
 use Rattle.ra_edit.specs.declared.command_fault.CommandFault.TheVariants as fault
@@ -98,22 +98,15 @@ same_fault r f g e h = ap (λ x. fault_of x f) (sym e ∙ h)
 
 pub own : (f : WindowFault) → RefusedFor (of_window f) (Some (of_window f))
 own window.TooLong = refl
-own window.Failed = refl
-own window.BadWindow = refl
-own window.CopyWindow = refl
+own f = refl
 
 stays : (text bytes : List ℕ) (f : WindowFault) → reading (Refuses text f) bytes ≡ Refuses text f
 stays text [] f = refl
 stays text (b ∷ bytes) f = stays text bytes f
 
 spent_place : (p : Place) (r : Reading) (b : ℕ) → is_failed (record r { place = p }) ≡ true → byte_step p r b ≡ Refused window.Failed
-spent_place (place.Magic k) r b e = cc
-spent_place place.Between r b e = cc
-spent_place (place.Head f count n) r b e = cc
-spent_place place.Instruction r b e = cc
-spent_place (place.Length count n) r b e = cc
-spent_place place.NewData r b e = cc
 spent_place place.Failed r b e = refl
+spent_place p r b e = cc
 
 of_spent : (text : List ℕ) (r : Reading) (rest : List ℕ) → is_failed r ≡ true → (rest ≡ [] → ⊥) → of_stream (reading (Reads text r) rest) ≡ Some fault.Failed
 of_spent text r [] e some = absurd (some refl)
@@ -141,62 +134,27 @@ pub as_refused : (r : Result (Unit {0}) CommandFault) (c d : Command) (P : At �
 as_refused (Ok u) c d P e h = tt
 as_refused (Err f) c d P e h = λ at n p. subst (λ x. RefusedFor f (due at x)) (sym e) (h at p)
 
-pub abort_due : (at : At) → due at command.Abort ≡ Some fault.Refused
-abort_due Begun = refl
-abort_due Targeted = refl
-abort_due (Inside []) = refl
-abort_due (Inside (o ∷ os)) = refl
-abort_due (Announced b) = refl
-abort_due Ended = refl
+either : {A : Type 0} (b : Bool) (x : A) → (if b then x else x) ≡ x
+either true x = refl
+either false x = refl
 
 -- before an end was announced
 pub refusal_due : {D F : Type 0} (dp : D → Path) (fp : F → Path) (st : Stage) (dirs : List (OpenDir D)) (file : Option (OpenFile F)) (at : At) (c : Command) → is_announced st ≡ false → Stands dp fp st dirs file at → refusal at c ≡ due at c
-refusal_due dp fp stage.Begun dirs file at c e h = ap (λ a. refusal a c) h.0 ∙ sym (ap (λ a. due a c) h.0)
-refusal_due dp fp stage.Targeted dirs file at c e h = ap (λ a. refusal a c) h.0 ∙ sym (ap (λ a. due a c) h.0)
-refusal_due dp fp stage.Inside dirs file at c e h = ap (λ a. refusal a c) (h.1) ∙ sym (ap (λ a. due a c) (h.1))
-refusal_due dp fp (stage.Announced b) dirs file at c e h = cc
+refusal_due dp fp st dirs file at c e h =
+    let before : behind_end at (due at c) ≡ due at c = before_end dp fp st dirs file at (due at c) e h in
+    ap (λ x. if is_finish c then due at c else x) before ∙ either (is_finish c) (due at c)
+  where
+    before_end : {D F : Type 0} (dp : D → Path) (fp : F → Path) (st : Stage) (dirs : List (OpenDir D)) (file : Option (OpenFile F)) (at : At) (what : Option CommandFault) → is_announced st ≡ false → Stands dp fp st dirs file at → behind_end at what ≡ what
+    before_end dp fp stage.Begun dirs file at what e h = ap (λ a. behind_end a what) h.0
+    before_end dp fp stage.Targeted dirs file at what e h = ap (λ a. behind_end a what) h.0
+    before_end dp fp stage.Inside dirs file at what e h = ap (λ a. behind_end a what) h.1
+    before_end dp fp (stage.Announced b) dirs file at what e h = cc
 
 pub not_finish : (c : Command) → (c ≡ command.Finish → ⊥) → is_finish c ≡ false
-not_finish (command.Target n) k = refl
-not_finish (command.OpenRoot b t) k = refl
-not_finish (command.DeleteEntry p b u) k = refl
-not_finish (command.AddDir p u t f) k = refl
-not_finish (command.OpenDir p u t b) k = refl
-not_finish (command.DirProp t n v) k = refl
-not_finish (command.CloseDir t) k = refl
-not_finish (command.AddFile p u t f) k = refl
-not_finish (command.OpenFile p u t b) k = refl
-not_finish (command.FileProp t n v) k = refl
-not_finish (command.TextStart t) k = refl
-not_finish (command.Chunk t b) k = refl
-not_finish (command.TextEnd t) k = refl
-not_finish (command.CloseFile t s) k = refl
-not_finish command.CloseEdit k = refl
-not_finish command.Abort k = refl
 not_finish command.Finish k = absurd (k refl)
-
-after_end : (r : Bool) (c : Command) → (c ≡ command.Finish → ⊥) → refusal (Announced r) c ≡ Some fault.BadShape
-after_end r (command.Target n) k = refl
-after_end r (command.OpenRoot b t) k = refl
-after_end r (command.DeleteEntry p b u) k = refl
-after_end r (command.AddDir p u t f) k = refl
-after_end r (command.OpenDir p u t b) k = refl
-after_end r (command.DirProp t n v) k = refl
-after_end r (command.CloseDir t) k = refl
-after_end r (command.AddFile p u t f) k = refl
-after_end r (command.OpenFile p u t b) k = refl
-after_end r (command.FileProp t n v) k = refl
-after_end r (command.TextStart t) k = refl
-after_end r (command.Chunk t b) k = refl
-after_end r (command.TextEnd t) k = refl
-after_end r (command.CloseFile t s) k = refl
-after_end r command.CloseEdit k = refl
-after_end r command.Finish k = absurd (k refl)
-after_end r command.Abort k = refl
+not_finish c k = refl
 
 -- behind an end that was announced
 pub announced_refused : {D F : Type 0} (dp : D → Path) (fp : F → Path) (st : Stage) (dirs : List (OpenDir D)) (file : Option (OpenFile F)) (at : At) (c : Command) → is_announced st ≡ true → (c ≡ command.Finish → ⊥) → Stands dp fp st dirs file at → refusal at c ≡ Some fault.BadShape
-announced_refused dp fp stage.Begun dirs file at c e k h = cc
-announced_refused dp fp stage.Targeted dirs file at c e k h = cc
-announced_refused dp fp stage.Inside dirs file at c e k h = cc
-announced_refused dp fp (stage.Announced b) dirs file at c e k h = ap (λ a. refusal a c) h.0 ∙ after_end b c k
+announced_refused dp fp (stage.Announced b) dirs file at c e k h = ap (λ f. if f then due at c else behind_end at (due at c)) (not_finish c k) ∙ ap (λ a. behind_end a (due at c)) h.0
+announced_refused dp fp st dirs file at c e k h = cc
