@@ -28,9 +28,5 @@ returns-clause-moved g c =
 pub returns-in_err-baton-clause-own : goal.returns-in_err-baton-clause-own
 returns-in_err-baton-clause-own g c =
     let p = err_from_is_err_and c.from_residual-in_err-baton.result c.from_residual-in_err-baton.ensures.1 in
-    let old = c.args.self.now in
-    let mid = c.take_parent.new.self in
-    let d = c.in_ok-dir.dir in
     let t = c.in_ok-dir.ensures in
-    let dp = g.E.Editor.dir_path in
-    rw (p.1, p.2) (λ at h. dir_met dp g.E.Editor.file_path g.E.Editor.shows g.E.Editor.began g.E.Editor.refuses old.editor mid.editor old.stage old.dirs.items mid.dirs.items d old.file at (λ q. call.AddFile q c.args.path c.args.from) (call.AddFile (dp d.baton) c.args.path (option_copied c.as_ref.result)) _ c.in_err-baton.field-0.0 t.taken.0 t.taken.2 t.editor (ap (λ x. call.AddFile (dp d.baton) c.args.path x) c.as_ref.ensures.value) (λ q e. ap (λ r. call.AddFile r c.args.path c.args.from ∷ []) e) h c.in_err-baton.ensures.refused)
+    rw (p.1, p.2) (λ at h. dir_met _ _ _ _ _ _ _ _ _ _ _ _ at (λ q. call.AddFile q c.args.path c.args.from) _ _ _ t.taken.0 t.taken.2 t.editor (ap (λ x. call.AddFile (g.E.Editor.dir_path c.in_ok-dir.dir.baton) c.args.path x) c.as_ref.ensures.value) (λ q e. ap (λ r. call.AddFile r c.args.path c.args.from ∷ []) e) h c.in_err-baton.ensures.refused)
