@@ -131,7 +131,3 @@ met_before shows began refuses old mid calls at c f adds same m = record {
     met = λ all k. subst (λ t. refuses t (all ++ m.one.before) m.one.next f) same (subst (λ l. refuses (began mid) (l ++ m.one.before) m.one.next f) (sym k.2) (m.one.met (k.0 ++ calls) (adds k.0 k.1)));
   };
 }
-
--- what holds of one command holds of the command that is it
-pub as_own : {S O : Type 0} (shows : S → List Call → Type 0) (began : S → O) (refuses : Refusing O) (e : S) (r : Result (Unit {0}) CommandFault) (c d : Command) (P : At → Type 0) → c ≡ d → IfErr r (IfOwn (λ f. (at : At) → P at → Meets shows began refuses e at d f)) → IfErr r (IfOwn (λ f. (at : At) → P at → Meets shows began refuses e at c f))
-as_own shows began refuses e r c d P is h = subst (λ x. IfErr r (IfOwn (λ f. (at : At) → P at → Meets shows began refuses e at x f))) (sym is) h

@@ -129,10 +129,10 @@ bad_sum g found s sum held is es k h =
 
 -- ---- commands
 
--- what holds of one command holds of the command that is it
-pub as_refused : (r : Result (Unit {0}) CommandFault) (c d : Command) (P : At → Type 0) → c ≡ d → IfErr r (λ f. (at : At) → P at → RefusedFor f (due at d)) → IfErr r (λ f. (at : At) → is_finish c ≡ false → P at → RefusedFor f (due at c))
-as_refused (Ok u) c d P e h = tt
-as_refused (Err f) c d P e h = λ at n p. subst (λ x. RefusedFor f (due at x)) (sym e) (h at p)
+-- what is refused anyway is refused where more is known
+pub as_refused : {A E : Type 0} (Q : Type 0) (P : E → Type 0) (r : Result A E) → IfErr r P → IfErr r (λ f. Q → P f)
+as_refused Q P (Ok a) h = tt
+as_refused Q P (Err f) h = λ q. h
 
 either : {A : Type 0} (b : Bool) (x : A) → (if b then x else x) ≡ x
 either true x = refl

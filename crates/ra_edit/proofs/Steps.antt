@@ -393,10 +393,6 @@ prop_in_dir dp fp shows old new stage.Inside dirs now (Some f) t p n value v' q 
       now = (h.0, refl, (h.2.0, h.2.1, h.2.2 ∙ ap (λ l. x ∷ l) (sym same)));
     }
 
--- what holds of one command holds of the command that is it
-pub as_command : (r : Result (Unit {0}) CommandFault) (c d : Command) (P : At → Type 0) (Q : At → Item → Type 0) → c ≡ d → OnOk r ((at : At) (item : Item) → Forms d item → P at → Q at item) → OnOk r ((at : At) (item : Item) → Forms c item → P at → Q at item)
-as_command r c d P Q e h = subst (λ x. OnOk r ((at : At) (item : Item) → Forms x item → P at → Q at item)) (sym e) h
-
 -- ---- the end
 
 pub ends : {D F : Type 0} (dp : D → Path) (fp : F → Path) (st : Stage) (dirs : List (OpenDir D)) (file : Option (OpenFile F)) (item : Item) (at : At) (root : Bool)

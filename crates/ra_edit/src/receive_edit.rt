@@ -131,8 +131,8 @@ impl<E: Editor> Edit<E> {
     // Does what a command says that isn't the end.
     fn perform(&mut self, command: Command) -> Result<(), CommandFault>
         ensures moved { OnOk result (Performs E.dir_path E.file_path E.shows self.old self.new command) }
-        ensures refused { IfErr result (λ f. (at : At) → is_finish command ≡ false
-            → StandsAt E.dir_path E.file_path self.old at → RefusedFor f (due at command)) }
+        ensures refused { IfErr result
+            (λ f. is_finish command ≡ false → RefusedAs E.dir_path E.file_path self.old command f) }
         ensures own { IfErr result (IfOwn (MetAs E.dir_path E.file_path E.shows E.began E.refuses self.old command)) }
         ensures began { E.began self.new.editor ≡ E.began self.old.editor }
     {
