@@ -43,34 +43,28 @@ target_asks : (at : At) (n : ℕ) (ps : Items) (s : Answer) → target at (Then 
 target_asks Begun n ps s e = one (call.Target n) Targeted s e
 target_asks at n ps s e = cc
 
+-- a call at a path that is read, with what stands beside it
+at_path : {A : Type 0} (k : Path → A → Call) (to : Path → At) (q : Item) (p : Path) (found is : A) (s : Answer) → IsPath p q → found ≡ is → then_path q (λ p. said (k p found ∷ []) (to p)) ≡ Some s → s.0 ≡ k p is ∷ []
+at_path k to q p found is s path same e = one (k p found) (to p) s (sym (path_says p q (λ p. said (k p found ∷ []) (to p)) path) ∙ e) ∙ ap (λ v. k p v ∷ []) same
+
 delete_asks : (at : At) (q b : Item) (p : Path) (base : Option ℕ) (ps : Items) (s : Answer) → IsPath p q → IsRevision base b → delete_entry at (Then q (Then b ps)) ≡ Some s → s.0 ≡ call.DeleteEntry (path_at at) p base ∷ []
-delete_asks (Inside (o ∷ os)) q b p base ps s path rev e =
-    one (call.DeleteEntry o.path p (base_of b)) (Inside (o ∷ os)) s (sym (path_says p q (λ p. said (call.DeleteEntry o.path p (base_of b) ∷ []) (Inside (o ∷ os))) path) ∙ e)
-    ∙ ap (λ v. call.DeleteEntry o.path p v ∷ []) (revision_says base b rev)
+delete_asks (Inside (o ∷ os)) q b p base ps s path rev e = at_path (call.DeleteEntry o.path) _ q p _ base s path (revision_says base b rev) e
 delete_asks _ q b p base ps s path rev e = cc
 
 add_dir_asks : (at : At) (q u t z : Item) (p : Path) (from : Option Source) (ps : Items) (s : Answer) → IsPath p q → IsSource from z → add_dir at (Then q (Then u (Then t (Then z ps)))) ≡ Some s → s.0 ≡ call.AddDir (path_at at) p from ∷ []
-add_dir_asks (Inside (o ∷ os)) q u t z p from ps s path src e =
-    one (call.AddDir o.path p (source_of z)) _ s (sym (path_says p q _ path) ∙ e)
-    ∙ ap (λ v. call.AddDir o.path p v ∷ []) (source_says from z src)
+add_dir_asks (Inside (o ∷ os)) q u t z p from ps s path src e = at_path (call.AddDir o.path) _ q p _ from s path (source_says from z src) e
 add_dir_asks _ q u t z p from ps s path src e = cc
 
 open_dir_asks : (at : At) (q u t b : Item) (p : Path) (base : Option ℕ) (ps : Items) (s : Answer) → IsPath p q → IsRevision base b → open_dir at (Then q (Then u (Then t (Then b ps)))) ≡ Some s → s.0 ≡ call.OpenDir (path_at at) p base ∷ []
-open_dir_asks (Inside (o ∷ os)) q u t b p base ps s path rev e =
-    one (call.OpenDir o.path p (base_of b)) _ s (sym (path_says p q _ path) ∙ e)
-    ∙ ap (λ v. call.OpenDir o.path p v ∷ []) (revision_says base b rev)
+open_dir_asks (Inside (o ∷ os)) q u t b p base ps s path rev e = at_path (call.OpenDir o.path) _ q p _ base s path (revision_says base b rev) e
 open_dir_asks _ q u t b p base ps s path rev e = cc
 
 add_file_asks : (at : At) (q u t z : Item) (p : Path) (from : Option Source) (ps : Items) (s : Answer) → IsPath p q → IsSource from z → add_file at (Then q (Then u (Then t (Then z ps)))) ≡ Some s → s.0 ≡ call.AddFile (path_at at) p from ∷ []
-add_file_asks (Inside (o ∷ os)) q u t z p from ps s path src e =
-    one (call.AddFile o.path p (source_of z)) _ s (sym (path_says p q _ path) ∙ e)
-    ∙ ap (λ v. call.AddFile o.path p v ∷ []) (source_says from z src)
+add_file_asks (Inside (o ∷ os)) q u t z p from ps s path src e = at_path (call.AddFile o.path) _ q p _ from s path (source_says from z src) e
 add_file_asks _ q u t z p from ps s path src e = cc
 
 open_file_asks : (at : At) (q u t b : Item) (p : Path) (base : Option ℕ) (ps : Items) (s : Answer) → IsPath p q → IsRevision base b → open_file at (Then q (Then u (Then t (Then b ps)))) ≡ Some s → s.0 ≡ call.OpenFile (path_at at) p base ∷ []
-open_file_asks (Inside (o ∷ os)) q u t b p base ps s path rev e =
-    one (call.OpenFile o.path p (base_of b)) _ s (sym (path_says p q _ path) ∙ e)
-    ∙ ap (λ v. call.OpenFile o.path p v ∷ []) (revision_says base b rev)
+open_file_asks (Inside (o ∷ os)) q u t b p base ps s path rev e = at_path (call.OpenFile o.path) _ q p _ base s path (revision_says base b rev) e
 open_file_asks _ q u t b p base ps s path rev e = cc
 
 dir_prop_asks : (at : At) (t : List ℕ) (q v : Item) (p : Path) (n : List ℕ) (value : Option (List ℕ)) (ps : Items) (s : Answer) → Distinct at → IsOpenDir t p (open_of at) → IsPropName n q → IsString value v → dir_prop at (Then (Text t) (Then q (Then v ps))) ≡ Some s → s.0 ≡ call.DirProp p n value ∷ []

@@ -84,23 +84,9 @@ received shows done_shows start old new done a b s t stands e k finish =
 -- ---- refusals
 
 -- where an edit's commands stand, it hasn't ended
-begun_not : Begun ≡ Ended → ⊥
-begun_not e = cc
-
-targeted_not : Targeted ≡ Ended → ⊥
-targeted_not e = cc
-
-inside_not : (os : List Named) → Inside os ≡ Ended → ⊥
-inside_not os e = cc
-
-announced_not : (root : Bool) → Announced root ≡ Ended → ⊥
-announced_not root e = cc
-
 pub not_ended : {D F : Type 0} (dp : D → Path) (fp : F → Path) (st : Stage) (dirs : List (OpenDir D)) (file : Option (OpenFile F)) (at : At) → Stands dp fp st dirs file at → at ≡ Ended → ⊥
-not_ended dp fp stage.Begun dirs file at h e = begun_not (sym h.0 ∙ e)
-not_ended dp fp stage.Targeted dirs file at h e = targeted_not (sym h.0 ∙ e)
-not_ended dp fp stage.Inside dirs file at h e = inside_not h.0 (sym h.1 ∙ e)
-not_ended dp fp (stage.Announced root) dirs file at h e = announced_not root (sym h.0 ∙ e)
+not_ended dp fp stage.Inside dirs file at h e = cc h.1
+not_ended dp fp st dirs file at h e = cc h.0
 
 pub spent_not : (new old : Bool) → new ≡ false → new ≡ true → old ≡ true
 spent_not true old e h = cc

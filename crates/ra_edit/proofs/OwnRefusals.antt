@@ -56,11 +56,9 @@ met shows began refuses old mid at k d c f e same asked h = record { calls = k �
 
 -- a directory is open where it is one of those that are
 pub open_in : {D F : Type 0} (dp : D → Path) (fp : F → Path) (st : Stage) (dirs : List (OpenDir D)) (file : Option (OpenFile F)) (at : At) (t : List ℕ) (p : Path) → Stands dp fp st dirs file at → IsOpenDir t p (dirs_named dp dirs) → IsOpenDir t p (open_of at)
-open_in dp fp stage.Begun dirs file at t p h is = absurd (not_here dp dirs t p h.1 is)
-open_in dp fp stage.Targeted dirs file at t p h is = absurd (not_here dp dirs t p h.1 is)
-open_in dp fp (stage.Announced b) dirs file at t p h is = absurd (not_here dp dirs t p h.1 is)
 open_in dp fp stage.Inside dirs None at t p h is = subst (λ a. IsOpenDir t p (open_of a)) (sym h.1) (subst (λ o. IsOpenDir t p o) (sym h.2) is)
 open_in dp fp stage.Inside dirs (Some f) at t p h is = subst (λ a. IsOpenDir t p (open_of a)) (sym h.1) (subst (λ o. IsOpenDir t p o) (sym h.2.2) (behind (named f.token.items (fp f.baton) h.2.0) t p (dirs_named dp dirs) is))
+open_in dp fp st dirs file at t p h is = absurd (not_here dp dirs t p h.1 is)
 
 -- where the innermost open thing is a directory
 pub dir_met : {D F S O : Type 0} (dp : D → Path) (fp : F → Path) (shows : S → List Call → Type 0) (began : S → O) (refuses : Refusing O) (old mid : S) (st : Stage) (dirs outer : List (OpenDir D)) (d : OpenDir D) (file : Option (OpenFile F)) (at : At) (k : Path → Call) (c' : Call) (c : Command) (f : EditorFault)
@@ -81,10 +79,8 @@ file_met dp fp shows began refuses old st dirs x file at k c f is asks h r =
 -- ---- the end
 
 rooted : {D F : Type 0} (dp : D → Path) (fp : F → Path) (st : Stage) (dirs : List (OpenDir D)) (file : Option (OpenFile F)) (at : At) → Stands dp fp st dirs file at → is_rooted at ≡ has_root st
-rooted dp fp stage.Begun dirs file at h = ap is_rooted h.0
-rooted dp fp stage.Targeted dirs file at h = ap is_rooted h.0
 rooted dp fp stage.Inside dirs file at h = ap is_rooted h.1
-rooted dp fp (stage.Announced b) dirs file at h = ap is_rooted h.0
+rooted dp fp st dirs file at h = ap is_rooted h.0
 
 -- after these calls were shown
 pub one_later : {S O : Type 0} (shows : S → List Call → Type 0) (began : S → O) (refuses : Refusing O) (old mid : S) (front : List Call) (c d : Call) (rest : List Call) (f : EditorFault) → Adds shows old mid front → began mid ≡ began old → d ≡ c → Refused shows began refuses mid d f → RefusesOne shows began refuses old (front ++ c ∷ rest) f

@@ -42,16 +42,13 @@ dirs_no_file dp dirs t f (inr k) = ap (λ d. in_file t (dirs_named dp d) f) k.2 
 
 -- where no file is open
 pub no_file : {D F : Type 0} (dp : D → Path) (fp : F → Path) (st : Stage) (dirs : List (OpenDir D)) (file : Option (OpenFile F)) (at : At) (t : List ℕ) (f : Held → Option CommandFault) → file ≡ None → Stands dp fp st dirs file at → in_file t (open_of at) f ≡ Some fault.BadToken
-no_file dp fp stage.Begun dirs file at t f e h = ap (λ a. in_file t (open_of a) f) h.0
-no_file dp fp stage.Targeted dirs file at t f e h = ap (λ a. in_file t (open_of a) f) h.0
-no_file dp fp (stage.Announced b) dirs file at t f e h = ap (λ a. in_file t (open_of a) f) h.0
 no_file dp fp stage.Inside dirs None at t f e h = ap (λ a. in_file t (open_of a) f) h.1 ∙ ap (λ os. in_file t os f) h.2 ∙ dirs_no_file dp dirs t f (last_or_none dirs)
 no_file dp fp stage.Inside dirs (Some x) at t f e h = cc
+no_file dp fp st dirs file at t f e h = ap (λ a. in_file t (open_of a) f) h.0
 
 held_not_dir : (g : Given) (held : Held) → GivenIs g held → is_dir held ≡ false
 held_not_dir given.Nothing held h = ap is_dir h
-held_not_dir (given.Begun r sum) held h = ap is_dir h.1
-held_not_dir (given.Whole sum) held h = ap is_dir h.1
+held_not_dir g held h = ap is_dir h.1
 
 -- where a file is open
 pub in_open : {D F : Type 0} (dp : D → Path) (fp : F → Path) (st : Stage) (dirs : List (OpenDir D)) (file : Option (OpenFile F)) (f : OpenFile F) (at : At) (t : List ℕ) (what : Held → Option CommandFault) (e : CommandFault) → file ≡ Some f → ((held : Held) → GivenIs f.given held → RefusedFor e (for_token t f.token.items (what held))) → Stands dp fp st dirs file at → RefusedFor e (in_file t (open_of at) what)
@@ -145,10 +142,9 @@ refusal_due dp fp st dirs file at c e h =
     ap (λ x. if is_finish c then due at c else x) before ∙ either (is_finish c) (due at c)
   where
     before_end : {D F : Type 0} (dp : D → Path) (fp : F → Path) (st : Stage) (dirs : List (OpenDir D)) (file : Option (OpenFile F)) (at : At) (what : Option CommandFault) → is_announced st ≡ false → Stands dp fp st dirs file at → behind_end at what ≡ what
-    before_end dp fp stage.Begun dirs file at what e h = ap (λ a. behind_end a what) h.0
-    before_end dp fp stage.Targeted dirs file at what e h = ap (λ a. behind_end a what) h.0
     before_end dp fp stage.Inside dirs file at what e h = ap (λ a. behind_end a what) h.1
     before_end dp fp (stage.Announced b) dirs file at what e h = cc
+    before_end dp fp st dirs file at what e h = ap (λ a. behind_end a what) h.0
 
 pub not_finish : (c : Command) → (c ≡ command.Finish → ⊥) → is_finish c ≡ false
 not_finish command.Finish k = absurd (k refl)

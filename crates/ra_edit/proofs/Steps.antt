@@ -373,9 +373,6 @@ not_here dp dirs t p e is = none_open t p (subst (λ d. IsOpenDir t p (dirs_name
 pub prop_in_dir : {D F S : Type 0} (dp : D → Path) (fp : F → Path) (shows : S → List Call → Type 0) (old new : S) (st : Stage) (dirs now : List (OpenDir D)) (file : Option (OpenFile F)) (t : List ℕ) (p : Path) (n : Name) (value v' : Option (List ℕ)) (q v item : Item) (at : At)
     → dirs_named dp now ≡ dirs_named dp dirs → IsOpenDir t p (dirs_named dp dirs) → v' ≡ value → IsPropName n q → IsString value v → IsCommand (codes "change-dir-prop") (Text t ∷ q ∷ v ∷ []) item
     → Stands dp fp st dirs file at → Adds shows old new (call.DirProp p n v' ∷ []) → Moves shows old new item at (Stands dp fp st now file)
-prop_in_dir dp fp shows old new stage.Begun dirs now file t p n value v' q v item at same is ev name str cmd h s = absurd (not_here dp dirs t p h.1 is)
-prop_in_dir dp fp shows old new stage.Targeted dirs now file t p n value v' q v item at same is ev name str cmd h s = absurd (not_here dp dirs t p h.1 is)
-prop_in_dir dp fp shows old new (stage.Announced b) dirs now file t p n value v' q v item at same is ev name str cmd h s = absurd (not_here dp dirs t p h.1 is)
 prop_in_dir dp fp shows old new stage.Inside dirs now None t p n value v' q v item at same is ev name str cmd h s = record {
   calls = call.DirProp p n value ∷ [];
   to = Inside h.0;
@@ -392,6 +389,7 @@ prop_in_dir dp fp shows old new stage.Inside dirs now (Some f) t p n value v' q 
       shown = says_shown shows old old new (call.DirProp p n value) (call.DirProp p n v') refl (ap (call.DirProp p n) ev) s;
       now = (h.0, refl, (h.2.0, h.2.1, h.2.2 ∙ ap (λ l. x ∷ l) (sym same)));
     }
+prop_in_dir dp fp shows old new st dirs now file t p n value v' q v item at same is ev name str cmd h s = absurd (not_here dp dirs t p h.1 is)
 
 -- ---- the end
 

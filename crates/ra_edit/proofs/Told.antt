@@ -84,31 +84,25 @@ top test new (o ∷ os) s e = by (test o) refl e
     by true t h = record { first = o; rest = os; are = refl; passes = t; made = some_is (Within (new o os)) s h }
     by false t h = cc
 
-or_false : (b : Bool) → (b || false) ≡ true → b ≡ true
+pub or_false : (b : Bool) → (b || false) ≡ true → b ≡ true
 or_false true e = refl
 or_false false e = e
 
-or_falses : (b : Bool) → ((b || false) || false) ≡ true → b ≡ true
+pub or_falses : (b : Bool) → ((b || false) || false) ≡ true → b ≡ true
 or_falses true e = refl
 or_falses false e = e
 
 dir_at : (p : Path) (o : Opened) → is_dir p o ≡ true → path_of o ≡ p
 dir_at p (OpenDir q) e = sym (path_of_same p q e)
-dir_at p (OpenFile q) e = cc
-dir_at p (OpenText q) e = cc
-dir_at p (TextDone q) e = cc
+dir_at p o e = cc
 
 fresh_at : (p : Path) (o : Opened) → is_fresh p o ≡ true → path_of o ≡ p
-fresh_at p (OpenDir q) e = cc
 fresh_at p (OpenFile q) e = sym (path_of_same p q e)
-fresh_at p (OpenText q) e = cc
-fresh_at p (TextDone q) e = cc
+fresh_at p o e = cc
 
 text_at : (p : Path) (o : Opened) → is_in_text p o ≡ true → path_of o ≡ p
-text_at p (OpenDir q) e = cc
-text_at p (OpenFile q) e = cc
 text_at p (OpenText q) e = sym (path_of_same p q e)
-text_at p (TextDone q) e = cc
+text_at p o e = cc
 
 file_at : (p : Path) (o : Opened) → (is_fresh p o || is_in_text p o || is_told p o) ≡ true → path_of o ≡ p
 file_at p (OpenDir q) e = cc
