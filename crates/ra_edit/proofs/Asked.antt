@@ -8,13 +8,13 @@ use Rattle.node_base.specs.Path.{Path, Name}
 use Rattle.node_base.specs.declared.node.Source.{Source}
 use Rattle.delta_editor.specs.declared.call.Call.{Call}
 use Rattle.delta_editor.specs.declared.call.Call.TheVariants as call
-use Rattle.ra_edit.specs.Edits.{IsRevision, IsString, IsSum, IsSource, Held, Dir, Fresh, Within, Told, Named, IsOpenDir, At, Begun, Targeted, Inside, Announced, Ended, Says, last_calls}
+use Rattle.ra_edit.specs.Edits.{IsRevision, IsString, IsSum, IsSource, Held, Within, Named, IsOpenDir, At, Begun, Targeted, Inside, Ended, Says, last_calls}
 use Rattle.ra_edit.specs.Receiving.{IsPath, IsPropName, Forms}
 use Rattle.ra_edit.specs.Refusals.{open_of, path_at, held_at, is_rooted, ReadFirst, Asks}
 use Rattle.svndiff.specs.Streams.{Stream, Reads, Refuses, reading, pieces_in}
 use Rattle.ra_edit.specs.declared.receive_command.Command.{Command}
 use Rattle.ra_edit.specs.declared.receive_command.Command.TheVariants as command
-use Rattle.ra_edit.proofs.OneEdit.{Said, said, base_of, source_of, string_of, sum_of, revision_says, source_says, string_says, sum_says, then_path, path_said, then_name, name_said, target, add_dir, open_dir, delete_entry, add_file, open_file, dir_prop, file_prop, text_start, grown, taken, chunk, ended, text_end, close_file, close_dir, finish, by_item, by, Distinct, found, says_this, calls_of}
+use Rattle.ra_edit.proofs.OneEdit.{Said, said, base_of, string_of, sum_of, revision_says, source_says, string_says, sum_says, then_path, path_said, then_name, name_said, target, add_dir, open_dir, delete_entry, add_file, open_file, dir_prop, file_prop, text_start, grown, taken, chunk, ended, text_end, close_file, close_dir, finish, by_item, by, Distinct, found, says_this, calls_of}
 
 abbrev Answer : Type 0
 Answer = List Call × At

@@ -1,17 +1,12 @@
 -- Items of a drive, one after another.
-use Rattle.std.proofs.Common.{◌≡◌, ℕ, Bool, true, false, inl, inr, List, [], ◌∷◌, ◌++◌, Option, refl, sym, subst, ◌∙◌, append_assoc, append-nil, codes}
+use Rattle.std.proofs.Common.{◌≡◌, ℕ, Bool, true, false, inl, inr, List, [], ◌∷◌, ◌++◌, Option, refl, sym, subst, append_assoc, append-nil, codes}
 use Rattle.ra_item.specs.Items.{Item}
 use Rattle.ra_item.specs.Streams.{Stream}
 use Rattle.delta_editor.specs.declared.call.Call.{Call}
-use Rattle.ra_edit.specs.Edits.{Named, At, Begun, Targeted, Inside, Announced, Ended, Says, AllSay, Nothing, Then, IsCommand}
+use Rattle.ra_edit.specs.Edits.{At, Begun, Ended, Says, AllSay, Nothing, Then, IsCommand}
 use Rattle.ra_edit.specs.Edit.{Stands, Moves, Finishes}
 use Rattle.byte_streams.specs.Causes.{Counts, Fails}
-use Rattle.ra_item.specs.declared.fault.ItemFault.TheVariants as item
-use Rattle.ra_item.specs.declared.fault.NextFault.{NextFault}
-use Rattle.ra_item.specs.declared.fault.NextFault.TheVariants as next
-use Rattle.ra_edit.specs.EditFaults.{of_command, of_next}
-use Rattle.ra_edit.specs.declared.command_fault.CommandFault.TheVariants as why
-use Rattle.ra_edit.specs.declared.edit_fault.EditFault.TheVariants as fault
+use Rattle.ra_edit.specs.EditFaults.{of_command}
 use Rattle.ra_item.specs.ItemStreams.{Takes, Ends, Stops}
 use Rattle.ra_edit.specs.Received.{Goes, Comes, Received, IsRefused, StopsBehind, ShownBefore, RefusesDrive}
 use Rattle.ra_edit.specs.Refusals.{refusal, RefusedFor, Meets, IfOwn}

@@ -1,23 +1,20 @@
 -- What an editor itself refuses.
-use Rattle.std.proofs.Common.{◌≡◌, ℕ, Bool, List, [], ◌∷◌, ◌++◌, map, Option, Some, None, Result, IfErr, refl, sym, ap, subst, ◌∙◌, append_assoc, append-nil}
-use Rattle.std.specs.List.{concat}
+use Rattle.std.proofs.Common.{◌≡◌, ℕ, Bool, List, [], ◌∷◌, ◌++◌, map, Option, Some, None, refl, sym, ap, subst, ◌∙◌, append_assoc, append-nil}
 use Rattle.std.proofs.lemmas.List.{map-append}
 use Rattle.node_base.specs.Path.{Path}
 use Rattle.delta_editor.specs.Calls.{Adds, Refused}
 use Rattle.delta_editor.specs.declared.call.Call.{Call}
 use Rattle.delta_editor.specs.declared.call.Call.TheVariants as call
 use Rattle.delta_editor.specs.declared.fault.EditorFault.{EditorFault}
-use Rattle.ra_edit.specs.Edits.{Held, Within, At, last_calls, IsOpenDir, named}
-use Rattle.ra_edit.specs.Edit.{dirs_named, Stands, GivenIs, has_root}
+use Rattle.ra_edit.specs.Edits.{At, last_calls, IsOpenDir, named}
+use Rattle.ra_edit.specs.Edit.{dirs_named, Stands, has_root}
 use Rattle.ra_edit.specs.EditFaults.{of_window}
 use Rattle.ra_edit.specs.Received.{ShownBefore}
-use Rattle.ra_edit.specs.Refusals.{open_of, RefusesOne, path_at, held_at, is_rooted, ReadFirst, Asks, Meets, IfOwn}
-use Rattle.svndiff.specs.Streams.{reading, pieces_in, Reads}
+use Rattle.ra_edit.specs.Refusals.{open_of, RefusesOne, path_at, is_rooted, Asks, Meets, IfOwn}
 use Rattle.ra_edit.specs.declared.command_fault.CommandFault.{CommandFault}
 use Rattle.ra_edit.specs.declared.command_fault.CommandFault.TheVariants as fault
 use Rattle.svndiff.specs.declared.fault.WindowFault.{WindowFault}
 use Rattle.svndiff.specs.declared.fault.WindowFault.TheVariants as window
-use Rattle.svndiff.specs.declared.reading.Reading.{Reading}
 use Rattle.ra_edit.specs.declared.receive_command.Command.{Command}
 use Rattle.ra_edit.specs.declared.receive_command.Command.TheVariants as command
 use Rattle.ra_edit.specs.declared.receive_edit.OpenDir.{OpenDir}

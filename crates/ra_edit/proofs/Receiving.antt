@@ -1,6 +1,6 @@
 -- Commands and their items.
 use Rattle.std.proofs.Common.{◌≡◌, ℕ, List, [], ◌∷◌, ◌++◌, refl, sym, ap, subst, ◌∙◌, inl, inr}
-use Rattle.std.specs.Prelude.{◌⊎◌, reverse, codes}
+use Rattle.std.specs.Prelude.{◌⊎◌, reverse}
 use Rattle.std.proofs.lemmas.List.{reverse-append}
 use Rattle.ra_item.specs.Items.{Item, Word}
 use Rattle.ra_edit.specs.Commands.{list}

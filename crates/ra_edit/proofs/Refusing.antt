@@ -4,7 +4,7 @@ use Rattle.std.specs.Prelude.{◌⊎◌, ◌<◌, length, map, slice_index_or, �
 use Rattle.md5.specs.Md5.{md5}
 use Rattle.node_base.specs.Path.{Path, same_name}
 use Rattle.ra_edit.specs.EditFaults.{of_window}
-use Rattle.ra_edit.specs.Edits.{Held, Dir, Named, named, At, Begun, Targeted, Inside, Announced, Ended, is_free, IsOpenDir}
+use Rattle.ra_edit.specs.Edits.{Held, Dir, Named, named, At, is_free, IsOpenDir}
 use Rattle.svndiff.specs.Reading.{is_failed, byte_step, Refused}
 use Rattle.svndiff.specs.Streams.{Stream, Reads, Refuses, of_step, reading}
 use Rattle.ra_edit.specs.Refusals.{open_of, unless, is_dir, for_token, in_file, of_stream, at_close, is_finish, due, behind_end, refusal, RefusedFor}

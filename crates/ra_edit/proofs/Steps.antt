@@ -1,9 +1,9 @@
 -- What commands do.
 use Rattle.std.proofs.Common.{◌≡◌, ℕ, zero, suc, Bool, true, false, List, [], ◌∷◌, ◌++◌, Option, Some, None, Ok, refl, sym, ap, subst, ◌∙◌, append_assoc, append-nil, inl, inr}
-use Rattle.std.specs.Prelude.{map, reverse, codes, ◌≤◌, Result, Err, OnOk, IsSomeAnd, slice_get, slice_set, slice_index_or}
+use Rattle.std.specs.Prelude.{map, reverse, codes, ◌≤◌, Result, Err, IsSomeAnd, slice_get, slice_set, slice_index_or}
 use Rattle.std.specs.Ordering.{is_eq}
 use Rattle.std.specs.declared.cmp.Ordering.{Ordering}
-use Rattle.std.specs.declared.cmp.Ordering.TheVariants.{Less, Equal, Greater}
+use Rattle.std.specs.declared.cmp.Ordering.TheVariants.{Equal}
 use Rattle.std.proofs.lemmas.List.{map-append, reverse-append}
 use Rattle.node_base.specs.Path.{Path, Name, name_cmp, names_exact, same_name}
 use Rattle.md5.specs.Md5.{Holds, md5}
@@ -19,9 +19,7 @@ use Rattle.svndiff.specs.Reading.{begin}
 use Rattle.svndiff.specs.Streams.{reading, pieces_in, Reads}
 use Rattle.ra_edit.specs.Edits.{IsSum, SumsTo}
 use Rattle.svndiff.specs.declared.reading.Reading.{Reading}
-use Rattle.ra_edit.specs.Receiving.{IsPath, IsPropName, Forms}
-use Rattle.ra_edit.specs.declared.command_fault.CommandFault.{CommandFault}
-use Rattle.ra_edit.specs.declared.receive_command.Command.{Command}
+use Rattle.ra_edit.specs.Receiving.{IsPath, IsPropName}
 use Rattle.ra_edit.specs.Edit.{dir_named, dirs_named, GivenIs, Stands, Moves, is_unopened, is_announced, has_root, TextEnds, SumIs, FileMoves}
 use Rattle.ra_edit.specs.declared.receive_edit.Given.{Given}
 use Rattle.ra_edit.specs.declared.receive_edit.Given.TheVariants as given

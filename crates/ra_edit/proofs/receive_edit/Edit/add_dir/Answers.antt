@@ -1,4 +1,4 @@
-use Rattle.std.proofs.Common.{◌∙◌, ap, sym, ◌∷◌, []}
+use Rattle.std.proofs.Common.{◌∙◌, ap, ◌∷◌, []}
 use Rattle.delta_editor.specs.declared.call.Call.TheVariants as call
 use Rattle.ra_edit.specs.Edits.{Dir, named}
 use Rattle.ra_edit.proofs.Steps.{dir_opened, says_add_dir}
