@@ -8,13 +8,13 @@ use Rattle.node_base.specs.Path.{Path, Name}
 use Rattle.node_base.specs.declared.node.Source.{Source}
 use Rattle.delta_editor.specs.declared.call.Call.{Call}
 use Rattle.delta_editor.specs.declared.call.Call.TheVariants as call
-use Rattle.ra_edit.specs.Edits.{IsRevision, IsString, IsSum, IsSource, Held, Dir, Fresh, Within, Told, Named, IsOpenDir, At, Begun, Targeted, Inside, Announced, Ended, Says, last_calls}
+use Rattle.ra_edit.specs.Edits.{IsRevision, IsString, IsSum, IsSource, Held, Within, Named, IsOpenDir, At, Begun, Targeted, Inside, Ended, Says, last_calls}
 use Rattle.ra_edit.specs.Receiving.{IsPath, IsPropName, Forms}
 use Rattle.ra_edit.specs.Refusals.{open_of, path_at, held_at, is_rooted, ReadFirst, Asks}
 use Rattle.svndiff.specs.Streams.{Stream, Reads, Refuses, reading, pieces_in}
 use Rattle.ra_edit.specs.declared.receive_command.Command.{Command}
 use Rattle.ra_edit.specs.declared.receive_command.Command.TheVariants as command
-use Rattle.ra_edit.proofs.OneEdit.{Said, said, base_of, source_of, string_of, sum_of, revision_says, source_says, string_says, sum_says, then_path, path_said, then_name, name_said, target, add_dir, open_dir, delete_entry, add_file, open_file, dir_prop, file_prop, text_start, grown, taken, chunk, ended, text_end, close_file, close_dir, finish, by_item, by, Distinct, found, says_this, calls_of}
+use Rattle.ra_edit.proofs.OneEdit.{Said, said, base_of, string_of, sum_of, revision_says, source_says, string_says, sum_says, then_path, path_said, then_name, name_said, target, add_dir, open_dir, delete_entry, add_file, open_file, dir_prop, file_prop, text_start, grown, taken, chunk, ended, text_end, close_file, close_dir, finish, by_item, by, Distinct, found, says_this, calls_of}
 
 abbrev Answer : Type 0
 Answer = List Call × At
@@ -28,11 +28,8 @@ one : (c : Call) (to : At) (s : Answer) → said (c ∷ []) to ≡ Some s → s.
 one c to s e = sym (ap calls_of e)
 
 by_says : (at : At) (x : Item) (s : Answer) → by at x ≡ Some s → by_item at x ≡ Some s
-by_says Begun x s e = e
-by_says Targeted x s e = e
-by_says (Inside os) x s e = e
-by_says (Announced root) x s e = e
 by_says Ended x s e = cc
+by_says at x s e = e
 
 path_says : (p : Path) (q : Item) (f : Path → Said) → IsPath p q → then_path q f ≡ f p
 path_says p q f h = ap (λ y. then_path y f) h.2 ∙ path_said h.0 p f h.1
@@ -44,39 +41,30 @@ name_says n q f h = ap (λ y. then_name y f) h.2 ∙ name_said h.0 n f h.1
 
 target_asks : (at : At) (n : ℕ) (ps : Items) (s : Answer) → target at (Then (Number n) ps) ≡ Some s → s.0 ≡ call.Target n ∷ []
 target_asks Begun n ps s e = one (call.Target n) Targeted s e
-target_asks Targeted n ps s e = cc
-target_asks (Inside os) n ps s e = cc
-target_asks (Announced root) n ps s e = cc
-target_asks Ended n ps s e = cc
+target_asks at n ps s e = cc
+
+-- a call at a path that is read, with what stands beside it
+at_path : {A : Type 0} (k : Path → A → Call) (to : Path → At) (q : Item) (p : Path) (found is : A) (s : Answer) → IsPath p q → found ≡ is → then_path q (λ p. said (k p found ∷ []) (to p)) ≡ Some s → s.0 ≡ k p is ∷ []
+at_path k to q p found is s path same e = one (k p found) (to p) s (sym (path_says p q (λ p. said (k p found ∷ []) (to p)) path) ∙ e) ∙ ap (λ v. k p v ∷ []) same
 
 delete_asks : (at : At) (q b : Item) (p : Path) (base : Option ℕ) (ps : Items) (s : Answer) → IsPath p q → IsRevision base b → delete_entry at (Then q (Then b ps)) ≡ Some s → s.0 ≡ call.DeleteEntry (path_at at) p base ∷ []
-delete_asks (Inside (o ∷ os)) q b p base ps s path rev e =
-    one (call.DeleteEntry o.path p (base_of b)) (Inside (o ∷ os)) s (sym (path_says p q (λ p. said (call.DeleteEntry o.path p (base_of b) ∷ []) (Inside (o ∷ os))) path) ∙ e)
-    ∙ ap (λ v. call.DeleteEntry o.path p v ∷ []) (revision_says base b rev)
+delete_asks (Inside (o ∷ os)) q b p base ps s path rev e = at_path (call.DeleteEntry o.path) _ q p _ base s path (revision_says base b rev) e
 delete_asks _ q b p base ps s path rev e = cc
 
 add_dir_asks : (at : At) (q u t z : Item) (p : Path) (from : Option Source) (ps : Items) (s : Answer) → IsPath p q → IsSource from z → add_dir at (Then q (Then u (Then t (Then z ps)))) ≡ Some s → s.0 ≡ call.AddDir (path_at at) p from ∷ []
-add_dir_asks (Inside (o ∷ os)) q u t z p from ps s path src e =
-    one (call.AddDir o.path p (source_of z)) _ s (sym (path_says p q _ path) ∙ e)
-    ∙ ap (λ v. call.AddDir o.path p v ∷ []) (source_says from z src)
+add_dir_asks (Inside (o ∷ os)) q u t z p from ps s path src e = at_path (call.AddDir o.path) _ q p _ from s path (source_says from z src) e
 add_dir_asks _ q u t z p from ps s path src e = cc
 
 open_dir_asks : (at : At) (q u t b : Item) (p : Path) (base : Option ℕ) (ps : Items) (s : Answer) → IsPath p q → IsRevision base b → open_dir at (Then q (Then u (Then t (Then b ps)))) ≡ Some s → s.0 ≡ call.OpenDir (path_at at) p base ∷ []
-open_dir_asks (Inside (o ∷ os)) q u t b p base ps s path rev e =
-    one (call.OpenDir o.path p (base_of b)) _ s (sym (path_says p q _ path) ∙ e)
-    ∙ ap (λ v. call.OpenDir o.path p v ∷ []) (revision_says base b rev)
+open_dir_asks (Inside (o ∷ os)) q u t b p base ps s path rev e = at_path (call.OpenDir o.path) _ q p _ base s path (revision_says base b rev) e
 open_dir_asks _ q u t b p base ps s path rev e = cc
 
 add_file_asks : (at : At) (q u t z : Item) (p : Path) (from : Option Source) (ps : Items) (s : Answer) → IsPath p q → IsSource from z → add_file at (Then q (Then u (Then t (Then z ps)))) ≡ Some s → s.0 ≡ call.AddFile (path_at at) p from ∷ []
-add_file_asks (Inside (o ∷ os)) q u t z p from ps s path src e =
-    one (call.AddFile o.path p (source_of z)) _ s (sym (path_says p q _ path) ∙ e)
-    ∙ ap (λ v. call.AddFile o.path p v ∷ []) (source_says from z src)
+add_file_asks (Inside (o ∷ os)) q u t z p from ps s path src e = at_path (call.AddFile o.path) _ q p _ from s path (source_says from z src) e
 add_file_asks _ q u t z p from ps s path src e = cc
 
 open_file_asks : (at : At) (q u t b : Item) (p : Path) (base : Option ℕ) (ps : Items) (s : Answer) → IsPath p q → IsRevision base b → open_file at (Then q (Then u (Then t (Then b ps)))) ≡ Some s → s.0 ≡ call.OpenFile (path_at at) p base ∷ []
-open_file_asks (Inside (o ∷ os)) q u t b p base ps s path rev e =
-    one (call.OpenFile o.path p (base_of b)) _ s (sym (path_says p q _ path) ∙ e)
-    ∙ ap (λ v. call.OpenFile o.path p v ∷ []) (revision_says base b rev)
+open_file_asks (Inside (o ∷ os)) q u t b p base ps s path rev e = at_path (call.OpenFile o.path) _ q p _ base s path (revision_says base b rev) e
 open_file_asks _ q u t b p base ps s path rev e = cc
 
 dir_prop_asks : (at : At) (t : List ℕ) (q v : Item) (p : Path) (n : List ℕ) (value : Option (List ℕ)) (ps : Items) (s : Answer) → Distinct at → IsOpenDir t p (open_of at) → IsPropName n q → IsString value v → dir_prop at (Then (Text t) (Then q (Then v ps))) ≡ Some s → s.0 ≡ call.DirProp p n value ∷ []
@@ -103,9 +91,7 @@ grown_asks o os all pieces more (Refuses text f) s k e = cc
 
 taken_asks : (o : Named) (os : List Named) (bytes : List ℕ) (held : Held) (pieces : List (List ℕ)) (s : Answer) → ReadFirst held bytes pieces → taken o os bytes held ≡ Some s → (rest : List Call) × (s.0 ≡ map (call.TextPiece o.path) pieces ++ rest)
 taken_asks o os bytes (Within text r) pieces s h e = grown_asks o os (pieces_in r bytes) pieces (pieces_in h.1 h.0) (reading (Reads text r) bytes) s h.3 e
-taken_asks o os bytes Dir pieces s h e = absurd h
-taken_asks o os bytes Fresh pieces s h e = absurd h
-taken_asks o os bytes (Told text) pieces s h e = absurd h
+taken_asks o os bytes held pieces s h e = absurd h
 
 chunk_asks : (at : At) (t : Item) (bytes : List ℕ) (ps : Items) (pieces : List (List ℕ)) (s : Answer) → ReadFirst (held_at at) bytes pieces → chunk at (Then t (Then (Text bytes) ps)) ≡ Some s → (rest : List Call) × (s.0 ≡ map (call.TextPiece (path_at at)) pieces ++ rest)
 chunk_asks (Inside (o ∷ os)) t bytes ps pieces s h e = taken_asks o os bytes o.held pieces s h e
@@ -113,9 +99,7 @@ chunk_asks _ t bytes ps pieces s h e = cc
 
 ended_asks : (o : Named) (os : List Named) (held : Held) (s : Answer) → ended o os held ≡ Some s → s.0 ≡ call.TextEnd o.path ∷ []
 ended_asks o os (Within text r) s e = one (call.TextEnd o.path) _ s e
-ended_asks o os Dir s e = cc
-ended_asks o os Fresh s e = cc
-ended_asks o os (Told text) s e = cc
+ended_asks o os held s e = cc
 
 end_asks : (at : At) (ps : Items) (s : Answer) → text_end at ps ≡ Some s → s.0 ≡ call.TextEnd (path_at at) ∷ []
 end_asks (Inside (o ∷ os)) ps s e = ended_asks o os o.held s e
@@ -131,10 +115,7 @@ close_dir_asks _ ps s e = cc
 
 finish_asks : (at : At) (s : Answer) → finish at ≡ Some s → s.0 ≡ last_calls (is_rooted at)
 finish_asks Begun s e = sym (ap calls_of e)
-finish_asks Targeted s e = sym (ap calls_of e)
-finish_asks (Inside os) s e = sym (ap calls_of e)
-finish_asks (Announced root) s e = sym (ap calls_of e)
-finish_asks Ended s e = sym (ap calls_of e)
+finish_asks at s e = sym (ap calls_of e)
 
 -- ---- any command
 

@@ -11,15 +11,12 @@ use Rattle.svndiff.proofs.Written.{appends_join, shorter}
 
 -- room for more parts changes nothing
 enough_parts : (j k : ℕ) (text : List ℕ) → length text ≤ j → length text ≤ k → parts_within j text ≡ parts_within k text
-enough_parts zero zero text h l = refl
-enough_parts zero (suc k) [] h l = refl
-enough_parts (suc j) zero [] h l = refl
 enough_parts zero (suc k) (b ∷ text) h l = absurd (omega (arith, h))
 enough_parts (suc j) zero (b ∷ text) h l = absurd (omega (arith, l))
-enough_parts (suc j) (suc k) [] h l = refl
 enough_parts (suc j) (suc k) (b ∷ text) h l =
     let d = length-drop 65536 (b ∷ text) in
     ap (λ t. take 65536 (b ∷ text) ∷ t) (enough_parts j k (drop 65536 (b ∷ text)) (omega (arith, d, h)) (omega (arith, d, l)))
+enough_parts j k text h l = refl
 
 one_part : (text : List ℕ) → 0 < length text → parts text ≡ take 65536 text ∷ parts (drop 65536 text)
 one_part [] h = absurd (omega (arith, h))

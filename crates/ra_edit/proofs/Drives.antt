@@ -1,17 +1,12 @@
 -- Items of a drive, one after another.
-use Rattle.std.proofs.Common.{◌≡◌, ℕ, Bool, true, false, inl, inr, List, [], ◌∷◌, ◌++◌, Option, refl, sym, subst, ◌∙◌, append_assoc, append-nil, codes}
+use Rattle.std.proofs.Common.{◌≡◌, ℕ, Bool, true, false, inl, inr, List, [], ◌∷◌, ◌++◌, Option, refl, sym, subst, append_assoc, append-nil, codes}
 use Rattle.ra_item.specs.Items.{Item}
 use Rattle.ra_item.specs.Streams.{Stream}
 use Rattle.delta_editor.specs.declared.call.Call.{Call}
-use Rattle.ra_edit.specs.Edits.{Named, At, Begun, Targeted, Inside, Announced, Ended, Says, AllSay, Nothing, Then, IsCommand}
+use Rattle.ra_edit.specs.Edits.{At, Begun, Ended, Says, AllSay, Nothing, Then, IsCommand}
 use Rattle.ra_edit.specs.Edit.{Stands, Moves, Finishes}
 use Rattle.byte_streams.specs.Causes.{Counts, Fails}
-use Rattle.ra_item.specs.declared.fault.ItemFault.TheVariants as item
-use Rattle.ra_item.specs.declared.fault.NextFault.{NextFault}
-use Rattle.ra_item.specs.declared.fault.NextFault.TheVariants as next
-use Rattle.ra_edit.specs.EditFaults.{of_command, of_next}
-use Rattle.ra_edit.specs.declared.command_fault.CommandFault.TheVariants as why
-use Rattle.ra_edit.specs.declared.edit_fault.EditFault.TheVariants as fault
+use Rattle.ra_edit.specs.EditFaults.{of_command}
 use Rattle.ra_item.specs.ItemStreams.{Takes, Ends, Stops}
 use Rattle.ra_edit.specs.Received.{Goes, Comes, Received, IsRefused, StopsBehind, ShownBefore, RefusesDrive}
 use Rattle.ra_edit.specs.Refusals.{refusal, RefusedFor, Meets, IfOwn}
@@ -84,23 +79,9 @@ received shows done_shows start old new done a b s t stands e k finish =
 -- ---- refusals
 
 -- where an edit's commands stand, it hasn't ended
-begun_not : Begun ≡ Ended → ⊥
-begun_not e = cc
-
-targeted_not : Targeted ≡ Ended → ⊥
-targeted_not e = cc
-
-inside_not : (os : List Named) → Inside os ≡ Ended → ⊥
-inside_not os e = cc
-
-announced_not : (root : Bool) → Announced root ≡ Ended → ⊥
-announced_not root e = cc
-
 pub not_ended : {D F : Type 0} (dp : D → Path) (fp : F → Path) (st : Stage) (dirs : List (OpenDir D)) (file : Option (OpenFile F)) (at : At) → Stands dp fp st dirs file at → at ≡ Ended → ⊥
-not_ended dp fp stage.Begun dirs file at h e = begun_not (sym h.0 ∙ e)
-not_ended dp fp stage.Targeted dirs file at h e = targeted_not (sym h.0 ∙ e)
-not_ended dp fp stage.Inside dirs file at h e = inside_not h.0 (sym h.1 ∙ e)
-not_ended dp fp (stage.Announced root) dirs file at h e = announced_not root (sym h.0 ∙ e)
+not_ended dp fp stage.Inside dirs file at h e = cc h.1
+not_ended dp fp st dirs file at h e = cc h.0
 
 pub spent_not : (new old : Bool) → new ≡ false → new ≡ true → old ≡ true
 spent_not true old e h = cc
@@ -130,39 +111,3 @@ end_refused shows began refuses start old new a b s t before failed stands f is 
   unended = stay k.at k.here;
   stops = inr (inr (record { item = k.last; why = f; is = t; taken = k.taken; same = refl; due = λ x e. subst (λ y. IsRefused (Meets (ShownBefore shows k.calls) began refuses old) y k.last f) (sym e) (inr (command.Finish, k.end, why k.at k.here, own_map f (λ g m. met_before shows began refuses old new k.calls k.at command.Finish g k.shown same (m k.at k.here)) own)) }));
 })
-
--- ---- a failed read
-
-next_peer : (e : NextFault) (xs : List Item) (a b : Option (List ℕ)) (s : List ℕ → Stream) (spent : Bool) (failed : Counts) → of_next e ≡ fault.PeerFailed → Stops xs a b s spent failed e → Fails failed
-next_peer (next.Items item.Truncated) xs a b s spent failed p q = cc
-next_peer (next.Items item.TooLong) xs a b s spent failed p q = cc
-next_peer (next.Items item.Failed) xs a b s spent failed p q = cc
-next_peer (next.Items item.BadItem) xs a b s spent failed p q = cc
-next_peer (next.Items item.TooDeep) xs a b s spent failed p q = cc
-next_peer (next.Items item.OutOfMemory) xs a b s spent failed p q = cc
-next_peer next.PeerFailed xs a b s spent failed p q = q
-
-no_peer : (f : CommandFault) → of_command f ≡ fault.PeerFailed → ⊥
-no_peer why.BadSum p = cc
-no_peer why.TooLong p = cc
-no_peer why.Failed p = cc
-no_peer why.BadWindow p = cc
-no_peer why.CopyWindow p = cc
-no_peer why.BadToken p = cc
-no_peer why.BadShape p = cc
-no_peer why.Refused p = cc
-no_peer why.OutOfMemory p = cc
-no_peer (why.Editor e) p = cc
-
-shape_no_peer : fault.BadShape ≡ fault.PeerFailed → ⊥
-shape_no_peer p = cc
-
--- a drive is refused so only where its input failed
-pub drive_peer : {E O : Type 0} (shows : E → List Call → Type 0) (began : E → O) (refuses : O → List Call → Call → EditorFault → Type 0) (editor : E) (a b : Option (List ℕ)) (s : List ℕ → Stream) (spent : Bool) (failed : Counts) (f : EditFault) → RefusesDrive shows began refuses editor a b s spent failed f → f ≡ fault.PeerFailed → Fails failed
-drive_peer shows began refuses editor a b s spent failed f r p = elim r.stops [
-  | inl q ↦ next_peer q.0 r.items a b s spent failed (sym q.1 ∙ p) q.2
-  | inr q ↦ elim q [
-    | inl e ↦ absurd (shape_no_peer (sym e.0 ∙ p))
-    | inr i ↦ absurd (no_peer i.why (sym i.same ∙ p))
-  ]
-]

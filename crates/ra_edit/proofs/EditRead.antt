@@ -121,14 +121,6 @@ pub ran : (b : Bool) (s : Stage) (cs : List Call) → option_and_then (λ t. run
 ran true s cs e = (refl, e)
 ran false s cs e = cc
 
-pub or_false : (b : Bool) → (b || false) ≡ true → b ≡ true
-or_false true e = refl
-or_false false e = e
-
-pub or_falses : (b : Bool) → ((b || false) || false) ≡ true → b ≡ true
-or_falses true e = refl
-or_falses false e = e
-
 pub shorter_all : (p d : Path) (ds : List Path) → nat_lt (length d) (length p) ≡ true → Shorter d ds → Shorter p ds
 shorter_all p d [] h s = refl
 shorter_all p d (q ∷ ds) h s =

@@ -17,8 +17,8 @@ use Rattle.svndiff.specs.Spelling.{head}
 use Rattle.ra_edit.specs.Wire.{AllDeeper, is_deeper}
 use Rattle.svndiff.specs.declared.reading.Place.TheVariants as at
 use Rattle.svndiff.specs.declared.reading.Reading.{Reading}
-use Rattle.ra_edit.proofs.Told.{both}
-use Rattle.ra_edit.proofs.EditRead.{revision_is, string_is, source_is, sum_is, open_dirs, dirs, Fine, fine_kept, fine_grown, grown, free, is_open, behind, ran, or_false, or_falses, below, parts_are, parts_join, Awaits, in_text, pieces_say, room_for}
+use Rattle.ra_edit.proofs.Told.{both, or_false, or_falses}
+use Rattle.ra_edit.proofs.EditRead.{revision_is, string_is, source_is, sum_is, open_dirs, dirs, Fine, fine_kept, fine_grown, grown, free, is_open, behind, ran, below, parts_are, parts_join, Awaits, in_text, pieces_say, room_for}
 
 mutual
   dirs_say : (opened ds : List Path) (cs : List Call) (text : Option (List ℕ)) → Fine opened ds → run (Within (open_dirs ds)) cs ≡ Some After → AllDeeper cs → AllWithin cs → list_all is_no_target cs ≡ true → TextsFit text cs → room_for opened cs → AllSay (Inside (dirs opened ds)) (spelled_after opened cs) (cut_all cs) Ended

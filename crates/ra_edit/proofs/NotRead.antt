@@ -119,23 +119,7 @@ name_at = first_of names
 
 name_back : (n : Name) → name_at (word_of n) ≡ Some n
 name_back name.TargetRev = refl
-name_back name.OpenRoot = refl
-name_back name.DeleteEntry = refl
-name_back name.AddDir = refl
-name_back name.OpenDir = refl
-name_back name.ChangeDirProp = refl
-name_back name.CloseDir = refl
-name_back name.AddFile = refl
-name_back name.OpenFile = refl
-name_back name.ChangeFileProp = refl
-name_back name.ApplyTextdelta = refl
-name_back name.TextdeltaChunk = refl
-name_back name.TextdeltaEnd = refl
-name_back name.CloseFile = refl
-name_back name.CloseEdit = refl
-name_back name.FinishReplay = refl
-name_back name.AbortEdit = refl
-name_back name.Failure = refl
+name_back n = refl
 
 some_same : (n m : Name) → Some n ≡ Some m → n ≡ m
 some_same n m e = cc

@@ -1,23 +1,20 @@
 -- What an editor itself refuses.
-use Rattle.std.proofs.Common.{◌≡◌, ℕ, Bool, List, [], ◌∷◌, ◌++◌, map, Option, Some, None, Result, IfErr, refl, sym, ap, subst, ◌∙◌, append_assoc, append-nil}
-use Rattle.std.specs.List.{concat}
+use Rattle.std.proofs.Common.{◌≡◌, ℕ, Bool, List, [], ◌∷◌, ◌++◌, map, Option, Some, None, refl, sym, ap, subst, ◌∙◌, append_assoc, append-nil}
 use Rattle.std.proofs.lemmas.List.{map-append}
 use Rattle.node_base.specs.Path.{Path}
 use Rattle.delta_editor.specs.Calls.{Adds, Refused}
 use Rattle.delta_editor.specs.declared.call.Call.{Call}
 use Rattle.delta_editor.specs.declared.call.Call.TheVariants as call
 use Rattle.delta_editor.specs.declared.fault.EditorFault.{EditorFault}
-use Rattle.ra_edit.specs.Edits.{Held, Within, At, last_calls, IsOpenDir, named}
-use Rattle.ra_edit.specs.Edit.{dirs_named, Stands, GivenIs, has_root}
+use Rattle.ra_edit.specs.Edits.{At, last_calls, IsOpenDir, named}
+use Rattle.ra_edit.specs.Edit.{dirs_named, Stands, has_root}
 use Rattle.ra_edit.specs.EditFaults.{of_window}
 use Rattle.ra_edit.specs.Received.{ShownBefore}
-use Rattle.ra_edit.specs.Refusals.{open_of, RefusesOne, path_at, held_at, is_rooted, ReadFirst, Asks, Meets, IfOwn}
-use Rattle.svndiff.specs.Streams.{reading, pieces_in, Reads}
+use Rattle.ra_edit.specs.Refusals.{open_of, RefusesOne, path_at, is_rooted, Asks, Meets, IfOwn}
 use Rattle.ra_edit.specs.declared.command_fault.CommandFault.{CommandFault}
 use Rattle.ra_edit.specs.declared.command_fault.CommandFault.TheVariants as fault
 use Rattle.svndiff.specs.declared.fault.WindowFault.{WindowFault}
 use Rattle.svndiff.specs.declared.fault.WindowFault.TheVariants as window
-use Rattle.svndiff.specs.declared.reading.Reading.{Reading}
 use Rattle.ra_edit.specs.declared.receive_command.Command.{Command}
 use Rattle.ra_edit.specs.declared.receive_command.Command.TheVariants as command
 use Rattle.ra_edit.specs.declared.receive_edit.OpenDir.{OpenDir}
@@ -33,25 +30,12 @@ Refusing O = O → List Call → Call → EditorFault → Type 0
 -- ---- faults
 
 pub own_map : {P Q : EditorFault → Type 0} (f : CommandFault) → ((e : EditorFault) → P e → Q e) → IfOwn P f → IfOwn Q f
-own_map fault.BadSum g h = tt
-own_map fault.TooLong g h = tt
-own_map fault.Failed g h = tt
-own_map fault.BadWindow g h = tt
-own_map fault.CopyWindow g h = tt
-own_map fault.BadToken g h = tt
-own_map fault.BadShape g h = tt
-own_map fault.Refused g h = tt
-own_map fault.OutOfMemory g h = tt
 own_map (fault.Editor e) g h = g e h
-
-pub not_own : (Q : EditorFault → Type 0) (f : CommandFault) → IfOwn (λ e. ⊥) f → IfOwn Q f
-not_own Q f h = own_map f (λ e k. absurd k) h
+own_map f g h = tt
 
 pub window_own : (Q : EditorFault → Type 0) (f : WindowFault) → IfOwn Q (of_window f)
 window_own Q window.TooLong = tt
-window_own Q window.Failed = tt
-window_own Q window.BadWindow = tt
-window_own Q window.CopyWindow = tt
+window_own Q f = tt
 
 -- ---- one call
 
@@ -69,11 +53,9 @@ met shows began refuses old mid at k d c f e same asked h = record { calls = k �
 
 -- a directory is open where it is one of those that are
 pub open_in : {D F : Type 0} (dp : D → Path) (fp : F → Path) (st : Stage) (dirs : List (OpenDir D)) (file : Option (OpenFile F)) (at : At) (t : List ℕ) (p : Path) → Stands dp fp st dirs file at → IsOpenDir t p (dirs_named dp dirs) → IsOpenDir t p (open_of at)
-open_in dp fp stage.Begun dirs file at t p h is = absurd (not_here dp dirs t p h.1 is)
-open_in dp fp stage.Targeted dirs file at t p h is = absurd (not_here dp dirs t p h.1 is)
-open_in dp fp (stage.Announced b) dirs file at t p h is = absurd (not_here dp dirs t p h.1 is)
 open_in dp fp stage.Inside dirs None at t p h is = subst (λ a. IsOpenDir t p (open_of a)) (sym h.1) (subst (λ o. IsOpenDir t p o) (sym h.2) is)
 open_in dp fp stage.Inside dirs (Some f) at t p h is = subst (λ a. IsOpenDir t p (open_of a)) (sym h.1) (subst (λ o. IsOpenDir t p o) (sym h.2.2) (behind (named f.token.items (fp f.baton) h.2.0) t p (dirs_named dp dirs) is))
+open_in dp fp st dirs file at t p h is = absurd (not_here dp dirs t p h.1 is)
 
 -- where the innermost open thing is a directory
 pub dir_met : {D F S O : Type 0} (dp : D → Path) (fp : F → Path) (shows : S → List Call → Type 0) (began : S → O) (refuses : Refusing O) (old mid : S) (st : Stage) (dirs outer : List (OpenDir D)) (d : OpenDir D) (file : Option (OpenFile F)) (at : At) (k : Path → Call) (c' : Call) (c : Command) (f : EditorFault)
@@ -91,32 +73,11 @@ pub file_met : {D F S O : Type 0} (dp : D → Path) (fp : F → Path) (shows : S
 file_met dp fp shows began refuses old st dirs x file at k c f is asks h r =
     record { calls = k (fp x.baton) ∷ []; asked = asks (fp x.baton) (sym (ap path_at (with_file dp fp st dirs file x at is h).3)); one = r }
 
--- ---- pieces of a text
-
-pub first_read : (held : Held) (r : Reading) (bytes rest : List ℕ) (new : Reading) (pieces : List (List ℕ)) (text : List ℕ) → held ≡ Within text r → reading (Reads text r) bytes ≡ reading (Reads (text ++ concat pieces) new) rest → pieces_in r bytes ≡ pieces ++ pieces_in new rest → ReadFirst held bytes pieces
-first_read held r bytes rest new pieces text e h k = subst (λ x. ReadFirst x bytes pieces) (sym e) (rest, new, h, k)
-
-pub chunk_met : {D F S O : Type 0} (dp : D → Path) (fp : F → Path) (shows : S → List Call → Type 0) (began : S → O) (refuses : Refusing O) (old : S) (st : Stage) (dirs : List (OpenDir D)) (x : OpenFile F) (file : Option (OpenFile F)) (at : At) (bytes : List ℕ) (c : Command) (f : EditorFault)
-    → file ≡ Some x
-    → ((pieces : List (List ℕ)) (p : Path) → ReadFirst (held_at at) bytes pieces → p ≡ path_at at → Asks at c (map (call.TextPiece p) pieces))
-    → ((held : Held) → GivenIs x.given held → (pieces : List (List ℕ)) × ReadFirst held bytes pieces × RefusesOne shows began refuses old (map (call.TextPiece (fp x.baton)) pieces) f)
-    → Stands dp fp st dirs file at → Meets shows began refuses old at c f
-chunk_met dp fp shows began refuses old st dirs x file at bytes c f is asks k h =
-    let w = with_file dp fp st dirs file x at is h in
-    let r = k w.0 w.1 in
-    record {
-      calls = map (call.TextPiece (fp x.baton)) r.0;
-      asked = asks r.0 (fp x.baton) (subst (λ y. ReadFirst y bytes r.0) (sym (ap held_at w.3)) r.1) (sym (ap path_at w.3));
-      one = r.2;
-    }
-
 -- ---- the end
 
 rooted : {D F : Type 0} (dp : D → Path) (fp : F → Path) (st : Stage) (dirs : List (OpenDir D)) (file : Option (OpenFile F)) (at : At) → Stands dp fp st dirs file at → is_rooted at ≡ has_root st
-rooted dp fp stage.Begun dirs file at h = ap is_rooted h.0
-rooted dp fp stage.Targeted dirs file at h = ap is_rooted h.0
 rooted dp fp stage.Inside dirs file at h = ap is_rooted h.1
-rooted dp fp (stage.Announced b) dirs file at h = ap is_rooted h.0
+rooted dp fp st dirs file at h = ap is_rooted h.0
 
 -- after these calls were shown
 pub one_later : {S O : Type 0} (shows : S → List Call → Type 0) (began : S → O) (refuses : Refusing O) (old mid : S) (front : List Call) (c d : Call) (rest : List Call) (f : EditorFault) → Adds shows old mid front → began mid ≡ began old → d ≡ c → Refused shows began refuses mid d f → RefusesOne shows began refuses old (front ++ c ∷ rest) f
@@ -163,7 +124,3 @@ met_before shows began refuses old mid calls at c f adds same m = record {
     met = λ all k. subst (λ t. refuses t (all ++ m.one.before) m.one.next f) same (subst (λ l. refuses (began mid) (l ++ m.one.before) m.one.next f) (sym k.2) (m.one.met (k.0 ++ calls) (adds k.0 k.1)));
   };
 }
-
--- what holds of one command holds of the command that is it
-pub as_own : {S O : Type 0} (shows : S → List Call → Type 0) (began : S → O) (refuses : Refusing O) (e : S) (r : Result (Unit {0}) CommandFault) (c d : Command) (P : At → Type 0) → c ≡ d → IfErr r (IfOwn (λ f. (at : At) → P at → Meets shows began refuses e at d f)) → IfErr r (IfOwn (λ f. (at : At) → P at → Meets shows began refuses e at c f))
-as_own shows began refuses e r c d P is h = subst (λ x. IfErr r (IfOwn (λ f. (at : At) → P at → Meets shows began refuses e at x f))) (sym is) h

@@ -4,10 +4,10 @@ use Rattle.std.specs.Prelude.{◌⊎◌, ◌<◌, length, map, slice_index_or, �
 use Rattle.md5.specs.Md5.{md5}
 use Rattle.node_base.specs.Path.{Path, same_name}
 use Rattle.ra_edit.specs.EditFaults.{of_window}
-use Rattle.ra_edit.specs.Edits.{Held, Dir, Named, named, At, Begun, Targeted, Inside, Announced, Ended, is_free, IsOpenDir}
+use Rattle.ra_edit.specs.Edits.{Held, Dir, Named, named, At, is_free, IsOpenDir}
 use Rattle.svndiff.specs.Reading.{is_failed, byte_step, Refused}
 use Rattle.svndiff.specs.Streams.{Stream, Reads, Refuses, of_step, reading}
-use Rattle.ra_edit.specs.Refusals.{open_of, unless, is_dir, for_token, in_file, of_stream, at_close, is_finish, due, refusal, RefusedFor}
+use Rattle.ra_edit.specs.Refusals.{open_of, unless, is_dir, for_token, in_file, of_stream, at_close, is_finish, due, behind_end, refusal, RefusedFor}
 use Rattle.ra_edit.specs.Edit.{dir_named, dirs_named, GivenIs, Stands, is_announced}
 use Rattle.ra_edit.specs.declared.command_fault.CommandFault.{CommandFault}
 use Rattle.ra_edit.specs.declared.command_fault.CommandFault.TheVariants as fault
@@ -42,16 +42,13 @@ dirs_no_file dp dirs t f (inr k) = ap (λ d. in_file t (dirs_named dp d) f) k.2 
 
 -- where no file is open
 pub no_file : {D F : Type 0} (dp : D → Path) (fp : F → Path) (st : Stage) (dirs : List (OpenDir D)) (file : Option (OpenFile F)) (at : At) (t : List ℕ) (f : Held → Option CommandFault) → file ≡ None → Stands dp fp st dirs file at → in_file t (open_of at) f ≡ Some fault.BadToken
-no_file dp fp stage.Begun dirs file at t f e h = ap (λ a. in_file t (open_of a) f) h.0
-no_file dp fp stage.Targeted dirs file at t f e h = ap (λ a. in_file t (open_of a) f) h.0
-no_file dp fp (stage.Announced b) dirs file at t f e h = ap (λ a. in_file t (open_of a) f) h.0
 no_file dp fp stage.Inside dirs None at t f e h = ap (λ a. in_file t (open_of a) f) h.1 ∙ ap (λ os. in_file t os f) h.2 ∙ dirs_no_file dp dirs t f (last_or_none dirs)
 no_file dp fp stage.Inside dirs (Some x) at t f e h = cc
+no_file dp fp st dirs file at t f e h = ap (λ a. in_file t (open_of a) f) h.0
 
 held_not_dir : (g : Given) (held : Held) → GivenIs g held → is_dir held ≡ false
 held_not_dir given.Nothing held h = ap is_dir h
-held_not_dir (given.Begun r sum) held h = ap is_dir h.1
-held_not_dir (given.Whole sum) held h = ap is_dir h.1
+held_not_dir g held h = ap is_dir h.1
 
 -- where a file is open
 pub in_open : {D F : Type 0} (dp : D → Path) (fp : F → Path) (st : Stage) (dirs : List (OpenDir D)) (file : Option (OpenFile F)) (f : OpenFile F) (at : At) (t : List ℕ) (what : Held → Option CommandFault) (e : CommandFault) → file ≡ Some f → ((held : Held) → GivenIs f.given held → RefusedFor e (for_token t f.token.items (what held))) → Stands dp fp st dirs file at → RefusedFor e (in_file t (open_of at) what)
@@ -98,22 +95,15 @@ same_fault r f g e h = ap (λ x. fault_of x f) (sym e ∙ h)
 
 pub own : (f : WindowFault) → RefusedFor (of_window f) (Some (of_window f))
 own window.TooLong = refl
-own window.Failed = refl
-own window.BadWindow = refl
-own window.CopyWindow = refl
+own f = refl
 
 stays : (text bytes : List ℕ) (f : WindowFault) → reading (Refuses text f) bytes ≡ Refuses text f
 stays text [] f = refl
 stays text (b ∷ bytes) f = stays text bytes f
 
 spent_place : (p : Place) (r : Reading) (b : ℕ) → is_failed (record r { place = p }) ≡ true → byte_step p r b ≡ Refused window.Failed
-spent_place (place.Magic k) r b e = cc
-spent_place place.Between r b e = cc
-spent_place (place.Head f count n) r b e = cc
-spent_place place.Instruction r b e = cc
-spent_place (place.Length count n) r b e = cc
-spent_place place.NewData r b e = cc
 spent_place place.Failed r b e = refl
+spent_place p r b e = cc
 
 of_spent : (text : List ℕ) (r : Reading) (rest : List ℕ) → is_failed r ≡ true → (rest ≡ [] → ⊥) → of_stream (reading (Reads text r) rest) ≡ Some fault.Failed
 of_spent text r [] e some = absurd (some refl)
@@ -136,67 +126,31 @@ bad_sum g found s sum held is es k h =
 
 -- ---- commands
 
--- what holds of one command holds of the command that is it
-pub as_refused : (r : Result (Unit {0}) CommandFault) (c d : Command) (P : At → Type 0) → c ≡ d → IfErr r (λ f. (at : At) → P at → RefusedFor f (due at d)) → IfErr r (λ f. (at : At) → is_finish c ≡ false → P at → RefusedFor f (due at c))
-as_refused (Ok u) c d P e h = tt
-as_refused (Err f) c d P e h = λ at n p. subst (λ x. RefusedFor f (due at x)) (sym e) (h at p)
+-- what is refused anyway is refused where more is known
+pub as_refused : {A E : Type 0} (Q : Type 0) (P : E → Type 0) (r : Result A E) → IfErr r P → IfErr r (λ f. Q → P f)
+as_refused Q P (Ok a) h = tt
+as_refused Q P (Err f) h = λ q. h
 
-pub abort_due : (at : At) → due at command.Abort ≡ Some fault.Refused
-abort_due Begun = refl
-abort_due Targeted = refl
-abort_due (Inside []) = refl
-abort_due (Inside (o ∷ os)) = refl
-abort_due (Announced b) = refl
-abort_due Ended = refl
+either : {A : Type 0} (b : Bool) (x : A) → (if b then x else x) ≡ x
+either true x = refl
+either false x = refl
 
 -- before an end was announced
 pub refusal_due : {D F : Type 0} (dp : D → Path) (fp : F → Path) (st : Stage) (dirs : List (OpenDir D)) (file : Option (OpenFile F)) (at : At) (c : Command) → is_announced st ≡ false → Stands dp fp st dirs file at → refusal at c ≡ due at c
-refusal_due dp fp stage.Begun dirs file at c e h = ap (λ a. refusal a c) h.0 ∙ sym (ap (λ a. due a c) h.0)
-refusal_due dp fp stage.Targeted dirs file at c e h = ap (λ a. refusal a c) h.0 ∙ sym (ap (λ a. due a c) h.0)
-refusal_due dp fp stage.Inside dirs file at c e h = ap (λ a. refusal a c) (h.1) ∙ sym (ap (λ a. due a c) (h.1))
-refusal_due dp fp (stage.Announced b) dirs file at c e h = cc
+refusal_due dp fp st dirs file at c e h =
+    let before : behind_end at (due at c) ≡ due at c = before_end dp fp st dirs file at (due at c) e h in
+    ap (λ x. if is_finish c then due at c else x) before ∙ either (is_finish c) (due at c)
+  where
+    before_end : {D F : Type 0} (dp : D → Path) (fp : F → Path) (st : Stage) (dirs : List (OpenDir D)) (file : Option (OpenFile F)) (at : At) (what : Option CommandFault) → is_announced st ≡ false → Stands dp fp st dirs file at → behind_end at what ≡ what
+    before_end dp fp stage.Inside dirs file at what e h = ap (λ a. behind_end a what) h.1
+    before_end dp fp (stage.Announced b) dirs file at what e h = cc
+    before_end dp fp st dirs file at what e h = ap (λ a. behind_end a what) h.0
 
 pub not_finish : (c : Command) → (c ≡ command.Finish → ⊥) → is_finish c ≡ false
-not_finish (command.Target n) k = refl
-not_finish (command.OpenRoot b t) k = refl
-not_finish (command.DeleteEntry p b u) k = refl
-not_finish (command.AddDir p u t f) k = refl
-not_finish (command.OpenDir p u t b) k = refl
-not_finish (command.DirProp t n v) k = refl
-not_finish (command.CloseDir t) k = refl
-not_finish (command.AddFile p u t f) k = refl
-not_finish (command.OpenFile p u t b) k = refl
-not_finish (command.FileProp t n v) k = refl
-not_finish (command.TextStart t) k = refl
-not_finish (command.Chunk t b) k = refl
-not_finish (command.TextEnd t) k = refl
-not_finish (command.CloseFile t s) k = refl
-not_finish command.CloseEdit k = refl
-not_finish command.Abort k = refl
 not_finish command.Finish k = absurd (k refl)
-
-after_end : (r : Bool) (c : Command) → (c ≡ command.Finish → ⊥) → refusal (Announced r) c ≡ Some fault.BadShape
-after_end r (command.Target n) k = refl
-after_end r (command.OpenRoot b t) k = refl
-after_end r (command.DeleteEntry p b u) k = refl
-after_end r (command.AddDir p u t f) k = refl
-after_end r (command.OpenDir p u t b) k = refl
-after_end r (command.DirProp t n v) k = refl
-after_end r (command.CloseDir t) k = refl
-after_end r (command.AddFile p u t f) k = refl
-after_end r (command.OpenFile p u t b) k = refl
-after_end r (command.FileProp t n v) k = refl
-after_end r (command.TextStart t) k = refl
-after_end r (command.Chunk t b) k = refl
-after_end r (command.TextEnd t) k = refl
-after_end r (command.CloseFile t s) k = refl
-after_end r command.CloseEdit k = refl
-after_end r command.Finish k = absurd (k refl)
-after_end r command.Abort k = refl
+not_finish c k = refl
 
 -- behind an end that was announced
 pub announced_refused : {D F : Type 0} (dp : D → Path) (fp : F → Path) (st : Stage) (dirs : List (OpenDir D)) (file : Option (OpenFile F)) (at : At) (c : Command) → is_announced st ≡ true → (c ≡ command.Finish → ⊥) → Stands dp fp st dirs file at → refusal at c ≡ Some fault.BadShape
-announced_refused dp fp stage.Begun dirs file at c e k h = cc
-announced_refused dp fp stage.Targeted dirs file at c e k h = cc
-announced_refused dp fp stage.Inside dirs file at c e k h = cc
-announced_refused dp fp (stage.Announced b) dirs file at c e k h = ap (λ a. refusal a c) h.0 ∙ after_end b c k
+announced_refused dp fp (stage.Announced b) dirs file at c e k h = ap (λ f. if f then due at c else behind_end at (due at c)) (not_finish c k) ∙ ap (λ a. behind_end a (due at c)) h.0
+announced_refused dp fp st dirs file at c e k h = cc

@@ -1,9 +1,9 @@
 -- What commands do.
 use Rattle.std.proofs.Common.{◌≡◌, ℕ, zero, suc, Bool, true, false, List, [], ◌∷◌, ◌++◌, Option, Some, None, Ok, refl, sym, ap, subst, ◌∙◌, append_assoc, append-nil, inl, inr}
-use Rattle.std.specs.Prelude.{map, reverse, codes, ◌≤◌, Result, Err, OnOk, IsSomeAnd, slice_get, slice_set, slice_index_or}
+use Rattle.std.specs.Prelude.{map, reverse, codes, ◌≤◌, Result, Err, IsSomeAnd, slice_get, slice_set, slice_index_or}
 use Rattle.std.specs.Ordering.{is_eq}
 use Rattle.std.specs.declared.cmp.Ordering.{Ordering}
-use Rattle.std.specs.declared.cmp.Ordering.TheVariants.{Less, Equal, Greater}
+use Rattle.std.specs.declared.cmp.Ordering.TheVariants.{Equal}
 use Rattle.std.proofs.lemmas.List.{map-append, reverse-append}
 use Rattle.node_base.specs.Path.{Path, Name, name_cmp, names_exact, same_name}
 use Rattle.md5.specs.Md5.{Holds, md5}
@@ -19,9 +19,7 @@ use Rattle.svndiff.specs.Reading.{begin}
 use Rattle.svndiff.specs.Streams.{reading, pieces_in, Reads}
 use Rattle.ra_edit.specs.Edits.{IsSum, SumsTo}
 use Rattle.svndiff.specs.declared.reading.Reading.{Reading}
-use Rattle.ra_edit.specs.Receiving.{IsPath, IsPropName, Forms}
-use Rattle.ra_edit.specs.declared.command_fault.CommandFault.{CommandFault}
-use Rattle.ra_edit.specs.declared.receive_command.Command.{Command}
+use Rattle.ra_edit.specs.Receiving.{IsPath, IsPropName}
 use Rattle.ra_edit.specs.Edit.{dir_named, dirs_named, GivenIs, Stands, Moves, is_unopened, is_announced, has_root, TextEnds, SumIs, FileMoves}
 use Rattle.ra_edit.specs.declared.receive_edit.Given.{Given}
 use Rattle.ra_edit.specs.declared.receive_edit.Given.TheVariants as given
@@ -31,9 +29,8 @@ use Rattle.ra_edit.specs.declared.receive_edit.Stage.{Stage}
 use Rattle.ra_edit.specs.declared.receive_edit.Stage.TheVariants as stage
 
 equal_of : (o : Ordering) → is_eq o ≡ true → o ≡ Equal
-equal_of Less h = cc
 equal_of Equal h = refl
-equal_of Greater h = cc
+equal_of o h = cc
 
 pub name_of_same : (n m : Name) → same_name n m ≡ true → n ≡ m
 name_of_same n m h = names_exact n m (equal_of (name_cmp n m) h)
@@ -48,24 +45,17 @@ pub dirs_snoc : {D : Type 0} (path : D → Path) (outer : List (OpenDir D)) (d :
 dirs_snoc path outer d = ap reverse (map-append (dir_named path) outer (d ∷ [])) ∙ reverse-append (map (dir_named path) outer) (dir_named path d ∷ [])
 
 pub inner : {D F : Type 0} (dp : D → Path) (fp : F → Path) (st : Stage) (dirs outer : List (OpenDir D)) (d : OpenDir D) (file : Option (OpenFile F)) (at : At) → dirs ≡ outer ++ d ∷ [] → file ≡ None → Stands dp fp st dirs file at → (st ≡ stage.Inside) × (at ≡ Inside (dir_named dp d ∷ dirs_named dp outer))
-inner dp fp stage.Begun dirs outer d file at e n h = absurd (snoc_some outer d (sym e ∙ h.1))
-inner dp fp stage.Targeted dirs outer d file at e n h = absurd (snoc_some outer d (sym e ∙ h.1))
-inner dp fp (stage.Announced b) dirs outer d file at e n h = absurd (snoc_some outer d (sym e ∙ h.1))
 inner dp fp stage.Inside dirs outer d None at e n h = (refl, h.1 ∙ ap Inside (h.2 ∙ ap (dirs_named dp) e ∙ dirs_snoc dp outer d))
 inner dp fp stage.Inside dirs outer d (Some f) at e n h = cc
+inner dp fp st dirs outer d file at e n h = absurd (snoc_some outer d (sym e ∙ h.1))
 
 pub stands_dirs : {D F : Type 0} (dp : D → Path) (fp : F → Path) (st : Stage) (now : List (OpenDir D)) (file : Option (OpenFile F)) (os : List Named) → st ≡ stage.Inside → file ≡ None → os ≡ dirs_named dp now → Stands dp fp st now file (Inside os)
 stands_dirs dp fp stage.Inside now None os s n e = (os, refl, e)
-stands_dirs dp fp stage.Inside now (Some f) os s n e = cc
-stands_dirs dp fp stage.Begun now file os s n e = cc
-stands_dirs dp fp stage.Targeted now file os s n e = cc
-stands_dirs dp fp (stage.Announced b) now file os s n e = cc
+stands_dirs dp fp st now file os s n e = cc
 
 pub stands_file : {D F : Type 0} (dp : D → Path) (fp : F → Path) (st : Stage) (now : List (OpenDir D)) (file : Option (OpenFile F)) (f : OpenFile F) (held : Held) (os : List Named) → st ≡ stage.Inside → file ≡ Some f → GivenIs f.given held → os ≡ named f.token.items (fp f.baton) held ∷ dirs_named dp now → Stands dp fp st now file (Inside os)
 stands_file dp fp stage.Inside now file f held os s n g e = subst (λ x. Stands dp fp stage.Inside now x (Inside os)) (sym n) (os, refl, (held, g, e))
-stands_file dp fp stage.Begun now file f held os s n g e = cc
-stands_file dp fp stage.Targeted now file f held os s n g e = cc
-stands_file dp fp (stage.Announced b) now file f held os s n g e = cc
+stands_file dp fp st now file f held os s n g e = cc
 
 -- ---- calls in the innermost directory
 
@@ -184,15 +174,12 @@ target_moves dp fp shows old new stage.Begun dirs file n item at e small is h s 
   shown = s;
   now = (refl, h.1, h.2);
 }
-target_moves dp fp shows old new stage.Targeted dirs file n item at e small is h s = cc
-target_moves dp fp shows old new stage.Inside dirs file n item at e small is h s = cc
-target_moves dp fp shows old new (stage.Announced b) dirs file n item at e small is h s = cc
+target_moves dp fp shows old new st dirs file n item at e small is h s = cc
 
 pub unopened : {D F : Type 0} (dp : D → Path) (fp : F → Path) (st : Stage) (dirs : List (OpenDir D)) (file : Option (OpenFile F)) (at : At) → is_unopened st ≡ true → Stands dp fp st dirs file at → IsUnopened at × (dirs ≡ []) × (file ≡ None)
 unopened dp fp stage.Begun dirs file at e h = (inl h.0, h.1, h.2)
 unopened dp fp stage.Targeted dirs file at e h = (inr h.0, h.1, h.2)
-unopened dp fp stage.Inside dirs file at e h = cc
-unopened dp fp (stage.Announced b) dirs file at e h = cc
+unopened dp fp st dirs file at e h = cc
 
 pub root_moves : {D F S : Type 0} (dp : D → Path) (fp : F → Path) (shows : S → List Call → Type 0) (old new : S) (st : Stage) (dirs now : List (OpenDir D)) (d : OpenDir D) (file : Option (OpenFile F)) (base : Option ℕ) (b item : Item) (at : At)
     → is_unopened st ≡ true → now ≡ dirs ++ d ∷ [] → dp d.baton ≡ [] → IsRevision base b → IsCommand (codes "open-root") (b ∷ Text d.token.items ∷ []) item → Stands dp fp st dirs file at → Adds shows old new (call.OpenRoot base ∷ []) → Moves shows old new item at (Stands dp fp stage.Inside now file)
@@ -322,12 +309,6 @@ file_closed dp fp shows old mid new st st' dirs dirs' file file' f t sum s item 
       now = stands_dirs dp fp st' dirs' file' os (es ∙ w.2) e' (ap (dirs_named dp) (sym ed));
     }
 
-pub prop_moves : {D F S : Type 0} (dp : D → Path) (fp : F → Path) (shows : S → List Call → Type 0) (old new : S) (st : Stage) (dirs : List (OpenDir D)) (file : Option (OpenFile F)) (f f' : OpenFile F) (t : List ℕ) (n : Name) (value v' : Option (List ℕ)) (q v item : Item) (at : At)
-    → file ≡ Some f → f'.token.items ≡ f.token.items → fp f'.baton ≡ fp f.baton → f'.given ≡ f.given → f.token.items ≡ t → v' ≡ value → IsPropName n q → IsString value v → IsCommand (codes "change-file-prop") (Text t ∷ q ∷ v ∷ []) item
-    → Stands dp fp st dirs file at → Adds shows old new (call.FileProp (fp f.baton) n v' ∷ []) → Moves shows old new item at (Stands dp fp st dirs (Some f'))
-prop_moves dp fp shows old new st dirs file f f' t n value v' q v item at e tk path eg tok ev name is cmd h s =
-    in_file dp fp shows old new st dirs file (Some f') f f' (call.FileProp (fp f.baton) n value ∷ []) item at e refl tk path (says_file_prop fp f f' t n value q v item eg tok name is cmd) h (says_shown shows old old new (call.FileProp (fp f.baton) n value) (call.FileProp (fp f.baton) n v') refl (ap (call.FileProp (fp f.baton) n) ev) s)
-
 -- what moved inside the open file has moved
 pub file_moved : {D F S : Type 0} (dp : D → Path) (fp : F → Path) (shows : S → List Call → Type 0) (old new : S) (st : Stage) (dirs : List (OpenDir D)) (file : Option (OpenFile F)) (f f' : OpenFile F) (item : Item) (at : At)
     → file ≡ Some f → Stands dp fp st dirs file at → FileMoves fp shows old new item f f' → Moves shows old new item at (Stands dp fp st dirs (Some f'))
@@ -390,9 +371,6 @@ not_here dp dirs t p e is = none_open t p (subst (λ d. IsOpenDir t p (dirs_name
 pub prop_in_dir : {D F S : Type 0} (dp : D → Path) (fp : F → Path) (shows : S → List Call → Type 0) (old new : S) (st : Stage) (dirs now : List (OpenDir D)) (file : Option (OpenFile F)) (t : List ℕ) (p : Path) (n : Name) (value v' : Option (List ℕ)) (q v item : Item) (at : At)
     → dirs_named dp now ≡ dirs_named dp dirs → IsOpenDir t p (dirs_named dp dirs) → v' ≡ value → IsPropName n q → IsString value v → IsCommand (codes "change-dir-prop") (Text t ∷ q ∷ v ∷ []) item
     → Stands dp fp st dirs file at → Adds shows old new (call.DirProp p n v' ∷ []) → Moves shows old new item at (Stands dp fp st now file)
-prop_in_dir dp fp shows old new stage.Begun dirs now file t p n value v' q v item at same is ev name str cmd h s = absurd (not_here dp dirs t p h.1 is)
-prop_in_dir dp fp shows old new stage.Targeted dirs now file t p n value v' q v item at same is ev name str cmd h s = absurd (not_here dp dirs t p h.1 is)
-prop_in_dir dp fp shows old new (stage.Announced b) dirs now file t p n value v' q v item at same is ev name str cmd h s = absurd (not_here dp dirs t p h.1 is)
 prop_in_dir dp fp shows old new stage.Inside dirs now None t p n value v' q v item at same is ev name str cmd h s = record {
   calls = call.DirProp p n value ∷ [];
   to = Inside h.0;
@@ -409,10 +387,7 @@ prop_in_dir dp fp shows old new stage.Inside dirs now (Some f) t p n value v' q 
       shown = says_shown shows old old new (call.DirProp p n value) (call.DirProp p n v') refl (ap (call.DirProp p n) ev) s;
       now = (h.0, refl, (h.2.0, h.2.1, h.2.2 ∙ ap (λ l. x ∷ l) (sym same)));
     }
-
--- what holds of one command holds of the command that is it
-pub as_command : (r : Result (Unit {0}) CommandFault) (c d : Command) (P : At → Type 0) (Q : At → Item → Type 0) → c ≡ d → OnOk r ((at : At) (item : Item) → Forms d item → P at → Q at item) → OnOk r ((at : At) (item : Item) → Forms c item → P at → Q at item)
-as_command r c d P Q e h = subst (λ x. OnOk r ((at : At) (item : Item) → Forms x item → P at → Q at item)) (sym e) h
+prop_in_dir dp fp shows old new st dirs now file t p n value v' q v item at same is ev name str cmd h s = absurd (not_here dp dirs t p h.1 is)
 
 -- ---- the end
 

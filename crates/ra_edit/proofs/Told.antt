@@ -61,20 +61,7 @@ said t n call.CloseEdit = command (codes "finish-replay") [] ∷ []
 
 spelled_said : (opened : List Path) (c : Call) → spelled opened c ≡ said (number_of opened (acted c)) (length opened) c
 spelled_said opened (call.Target k) = refl
-spelled_said opened (call.OpenRoot base) = refl
-spelled_said opened (call.AddDir up p from) = refl
-spelled_said opened (call.OpenDir up p base) = refl
-spelled_said opened (call.DeleteEntry up p base) = refl
-spelled_said opened (call.AddFile up p from) = refl
-spelled_said opened (call.OpenFile up p base) = refl
-spelled_said opened (call.DirProp p name value) = refl
-spelled_said opened (call.FileProp p name value) = refl
-spelled_said opened (call.TextStart p) = refl
-spelled_said opened (call.TextPiece p piece) = refl
-spelled_said opened (call.TextEnd p) = refl
-spelled_said opened (call.CloseFile p sum) = refl
-spelled_said opened (call.CloseDir p) = refl
-spelled_said opened call.CloseEdit = refl
+spelled_said opened c = refl
 
 -- ---- what is innermost
 
@@ -97,31 +84,25 @@ top test new (o ∷ os) s e = by (test o) refl e
     by true t h = record { first = o; rest = os; are = refl; passes = t; made = some_is (Within (new o os)) s h }
     by false t h = cc
 
-or_false : (b : Bool) → (b || false) ≡ true → b ≡ true
+pub or_false : (b : Bool) → (b || false) ≡ true → b ≡ true
 or_false true e = refl
 or_false false e = e
 
-or_falses : (b : Bool) → ((b || false) || false) ≡ true → b ≡ true
+pub or_falses : (b : Bool) → ((b || false) || false) ≡ true → b ≡ true
 or_falses true e = refl
 or_falses false e = e
 
 dir_at : (p : Path) (o : Opened) → is_dir p o ≡ true → path_of o ≡ p
 dir_at p (OpenDir q) e = sym (path_of_same p q e)
-dir_at p (OpenFile q) e = cc
-dir_at p (OpenText q) e = cc
-dir_at p (TextDone q) e = cc
+dir_at p o e = cc
 
 fresh_at : (p : Path) (o : Opened) → is_fresh p o ≡ true → path_of o ≡ p
-fresh_at p (OpenDir q) e = cc
 fresh_at p (OpenFile q) e = sym (path_of_same p q e)
-fresh_at p (OpenText q) e = cc
-fresh_at p (TextDone q) e = cc
+fresh_at p o e = cc
 
 text_at : (p : Path) (o : Opened) → is_in_text p o ≡ true → path_of o ≡ p
-text_at p (OpenDir q) e = cc
-text_at p (OpenFile q) e = cc
 text_at p (OpenText q) e = sym (path_of_same p q e)
-text_at p (TextDone q) e = cc
+text_at p o e = cc
 
 file_at : (p : Path) (o : Opened) → (is_fresh p o || is_in_text p o || is_told p o) ≡ true → path_of o ≡ p
 file_at p (OpenDir q) e = cc
@@ -403,10 +384,6 @@ told_open contents old new c p mid bytes o st tk g is a k w = λ calls h t e d.
   where
     one_more : (n : ℕ) → n + 1 ≡ suc n
     one_more n = omega arith
-
--- the item of a call that has one
-pub one_item : (x : Item) → spell x ≡ spell_all (row (x ∷ []))
-one_item x = sym (append-nil (spell x))
 
 -- an answer, where the command was whole and went out
 pub answered : {A E F : Type 0} (w : Result A E) (r : Result A F) (P Q R S : Type 0) → OnOk w P → OnOk r (IsOk w) → OnOk r Q → OnOk r R → (P → Q → R → S) → OnOk r S

@@ -37,20 +37,7 @@ pieces_bytes p (x ∷ pieces) = ap (λ l. map (one p) x ++ l) (pieces_bytes p pi
 
 one_cut : (c : Call) → byte_by_byte (cut c) ≡ each_byte c
 one_cut (call.TextPiece p piece) = pieces_bytes p (parts piece) ∙ ap (map (one p)) (parts_join (length piece) piece (omega arith))
-one_cut (call.Target n) = refl
-one_cut (call.OpenRoot base) = refl
-one_cut (call.AddDir up p from) = refl
-one_cut (call.OpenDir up p base) = refl
-one_cut (call.DeleteEntry up p base) = refl
-one_cut (call.AddFile up p from) = refl
-one_cut (call.OpenFile up p base) = refl
-one_cut (call.DirProp p name value) = refl
-one_cut (call.FileProp p name value) = refl
-one_cut (call.TextStart p) = refl
-one_cut (call.TextEnd p) = refl
-one_cut (call.CloseFile p sum) = refl
-one_cut (call.CloseDir p) = refl
-one_cut call.CloseEdit = refl
+one_cut c = refl
 
 cut_bytes : (cs : List Call) → byte_by_byte (cut_all cs) ≡ byte_by_byte cs
 cut_bytes [] = refl

@@ -8,6 +8,12 @@ use Rattle.node_base.specs.Path.{Path}
 use Rattle.delta_editor.specs.Calls.{Adds}
 use Rattle.delta_editor.specs.declared.call.Call.{Call}
 use Rattle.ra_edit.specs.Edits.{Held, Dir, Fresh, Within, Told, Named, named, At, Begun, Targeted, Inside, Announced, Ended, Says, IsCommand}
+use Rattle.ra_edit.specs.Receiving.{Forms}
+use Rattle.ra_edit.specs.Refusals.{due, RefusedFor, Meets}
+use Rattle.delta_editor.specs.declared.fault.EditorFault.{EditorFault}
+use Rattle.ra_edit.specs.declared.command_fault.CommandFault.{CommandFault}
+use Rattle.ra_edit.specs.declared.receive_command.Command.{Command}
+use Rattle.ra_edit.specs.declared.receive_edit.Edit.{Edit}
 use Rattle.ra_edit.specs.declared.receive_edit.Given.{Given}
 use Rattle.ra_edit.specs.declared.receive_edit.Given.TheVariants as given
 use Rattle.ra_edit.specs.declared.receive_edit.OpenDir.{OpenDir}
@@ -98,3 +104,21 @@ Stepped shows old new item at stands true = IsCommand (word_of word.FinishReplay
 -- `finish-replay` ends the edit, and this was shown by it
 abbrev pub Finishes : {E D : Type 0} → (E → List Call → Type 0) → (D → List Call → Type 0) → E → D → Item → At → Type 0
 Finishes shows done_shows editor done item at = (calls : List Call) × Says at item calls Ended × ((shown : List Call) → shows editor shown → done_shows done (shown ++ calls))
+
+-- ---- a command in an edit
+
+-- where the commands of an edit stand
+abbrev pub StandsAt : {E D F T : Type 0} → (D → Path) → (F → Path) → Edit E T D F → At → Type 0
+StandsAt dir_path file_path e at = Stands dir_path file_path e.stage e.dirs.items e.file at
+
+-- the command was done, in whichever form it came
+abbrev pub Performs : {E D F T : Type 0} → (D → Path) → (F → Path) → (E → List Call → Type 0) → Edit E T D F → Edit E T D F → Command → Type 0
+Performs dir_path file_path shows old new c = (at : At) (item : Item) → Forms c item → StandsAt dir_path file_path old at → Moves shows old.editor new.editor item at (StandsAt dir_path file_path new)
+
+-- it is refused for what is due where the commands stand
+abbrev pub RefusedAs : {E D F T : Type 0} → (D → Path) → (F → Path) → Edit E T D F → Command → CommandFault → Type 0
+RefusedAs dir_path file_path e c f = (at : At) → StandsAt dir_path file_path e at → RefusedFor f (due at c)
+
+-- the editor refuses one of the calls that it asks for
+abbrev pub MetAs : {E D F T O : Type 0} → (D → Path) → (F → Path) → (E → List Call → Type 0) → (E → O) → (O → List Call → Call → EditorFault → Type 0) → Edit E T D F → Command → EditorFault → Type 0
+MetAs dir_path file_path shows began refuses e c f = (at : At) → StandsAt dir_path file_path e at → Meets shows began refuses e.editor at c f

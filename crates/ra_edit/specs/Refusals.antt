@@ -82,13 +82,30 @@ abbrev pub is_finish : Command → Bool
 is_finish command.Finish = true
 is_finish _ = false
 
+-- the target comes first, and the root is opened once
+abbrev pub at_target : At → Option CommandFault
+at_target Begun = None
+at_target _ = Some fault.BadShape
+
+abbrev pub at_root : At → Option CommandFault
+at_root (Inside os) = Some fault.BadShape
+at_root (Announced root) = Some fault.BadShape
+at_root _ = None
+
+-- the end is announced once, where nothing is open, and comes so
+abbrev pub at_close_edit : At → Option CommandFault
+at_close_edit (Inside (o ∷ os)) = Some fault.BadToken
+at_close_edit (Announced root) = Some fault.BadShape
+at_close_edit _ = None
+
+abbrev pub at_finish : At → Option CommandFault
+at_finish (Inside (o ∷ os)) = Some fault.BadToken
+at_finish _ = None
+
 -- what a command is refused for before the end was announced, but for memory and the editor's own refusals
 abbrev pub due : At → Command → Option CommandFault
-due Begun (command.Target n) = None
-due at (command.Target n) = Some fault.BadShape
-due (Inside os) (command.OpenRoot base t) = Some fault.BadShape
-due (Announced root) (command.OpenRoot base t) = Some fault.BadShape
-due at (command.OpenRoot base t) = None
+due at (command.Target n) = at_target at
+due at (command.OpenRoot base t) = at_root at
 due at (command.DeleteEntry p base u) = unless (is_in_dir u.items (open_of at)) fault.BadToken
 due at (command.AddDir p u t from) = unless (is_free t.items (open_of at) && is_in_dir u.items (open_of at)) fault.BadToken
 due at (command.OpenDir p u t base) = unless (is_free t.items (open_of at) && is_in_dir u.items (open_of at)) fault.BadToken
@@ -101,18 +118,17 @@ due at (command.TextStart t) = in_file t.items (open_of at) at_start
 due at (command.Chunk t bytes) = in_file t.items (open_of at) (at_chunk bytes.items)
 due at (command.TextEnd t) = in_file t.items (open_of at) at_end
 due at (command.CloseFile t sum) = in_file t.items (open_of at) (at_close sum)
-due (Inside (o ∷ os)) command.CloseEdit = Some fault.BadToken
-due (Announced root) command.CloseEdit = Some fault.BadShape
-due at command.CloseEdit = None
-due (Inside (o ∷ os)) command.Finish = Some fault.BadToken
-due at command.Finish = None
+due at command.CloseEdit = at_close_edit at
+due at command.Finish = at_finish at
 due at command.Abort = Some fault.Refused
 
 -- behind `close-edit` nothing but the end comes
+abbrev pub behind_end : At → Option CommandFault → Option CommandFault
+behind_end (Announced root) what = Some fault.BadShape
+behind_end _ what = what
+
 abbrev pub refusal : At → Command → Option CommandFault
-refusal (Announced root) command.Finish = None
-refusal (Announced root) c = Some fault.BadShape
-refusal at c = due at c
+refusal at c = if is_finish c then due at c else behind_end at (due at c)
 
 -- why a command wasn't done: memory, the editor, or this
 abbrev pub RefusedFor : CommandFault → Option CommandFault → Type 0

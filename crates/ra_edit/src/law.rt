@@ -10,21 +10,25 @@ pub use svndiff::law::{
 };
 
 /// The items that are written for an edit are one of its forms that are read, with each piece of a text in its parts.
+#[tactic(auto, using(crate::proofs::EditSays::written_is_edit))]
 pub fn written_is_edit()
     ensures { WrittenIsEdit }
 {}
 
 /// Items are the calls of one edit at most.
+#[tactic(auto, using(crate::proofs::OneEdit::one_edit))]
 pub fn one_edit()
     ensures { OneEdit }
 {}
 
 /// No edit begins with another one.
+#[tactic(auto, using(crate::proofs::OneEdit::ends_once))]
 pub fn ends_once()
     ensures { EndsOnce }
 {}
 
 /// An item that is an edit's next, where the commands stand, is refused for nothing that it says.
+#[tactic(auto, using(crate::proofs::NothingDue::nothing_due))]
 pub fn nothing_due()
     ensures { NothingDue }
 {}
@@ -54,6 +58,7 @@ pub fn written_is_received()
 }
 
 /// An item that is an edit's next, where the commands stand, has the form of a command.
+#[tactic(auto, using(crate::proofs::NotRefused::says_some_command))]
 pub fn says_some_command()
     ensures { SaysSomeCommand }
 {}

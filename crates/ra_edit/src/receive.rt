@@ -1,7 +1,7 @@
 //! An edit from its items.
 
 ghost use Rattle.std.specs.Prelude.{◌≡◌, ◌≤◌, ◌<◌, IfOk, IfErr, OnOk, OnErr, [], true, false};
-ghost use Rattle.ra_edit.specs.Edit.{Stands};
+ghost use Rattle.ra_edit.specs.Edit.{StandsAt};
 ghost use Rattle.ra_edit.specs.Edits.{Begun};
 ghost use Rattle.ra_item.specs.ItemStreams.{reader_of, meanwhile, is_spent, left, ahead};
 ghost use Rattle.byte_streams.specs.Causes.{Fails};
@@ -65,12 +65,12 @@ fn take_commands<I: Input + Drop, E: Editor>(
     items: &mut ItemStream<I>,
     edit: &mut Edit<E>,
 ) -> Result<(), EditFault>
-    requires begun { Stands E.dir_path E.file_path edit.old.stage edit.old.dirs.items edit.old.file Begun }
+    requires begun { StandsAt E.dir_path E.file_path edit.old Begun }
     ensures began { E.began edit.new.editor ≡ E.began edit.old.editor }
     ensures comes { OnOk result
         (Comes E.shows edit.old.editor edit.new.editor (I.remaining (reader_of items.old))
         (I.remaining (reader_of items.new)) (ahead items.old) (ahead items.new)
-        (Stands E.dir_path E.file_path edit.new.stage edit.new.dirs.items edit.new.file)) }
+        (StandsAt E.dir_path E.file_path edit.new)) }
     ensures refused { IfErr result
         (RefusesDrive E.shows E.began E.refuses edit.old.editor (I.remaining (reader_of items.old))
         (I.remaining (reader_of items.new)) (ahead items.old) (is_spent items.old)
@@ -95,11 +95,11 @@ fn take_command<I: Input + Drop, E: Editor>(
     ensures taken { IfOk result
         (TakesOne E.shows edit.old.editor edit.new.editor (I.remaining (reader_of items.old))
         (I.remaining (reader_of items.new)) (ahead items.old) (ahead items.new)
-        (Stands E.dir_path E.file_path edit.old.stage edit.old.dirs.items edit.old.file)
-        (Stands E.dir_path E.file_path edit.new.stage edit.new.dirs.items edit.new.file)) }
+        (StandsAt E.dir_path E.file_path edit.old)
+        (StandsAt E.dir_path E.file_path edit.new)) }
     ensures refused { IfErr result
         (StopsBehind (Meets E.shows E.began E.refuses edit.old.editor) []
-        (Stands E.dir_path E.file_path edit.old.stage edit.old.dirs.items edit.old.file)
+        (StandsAt E.dir_path E.file_path edit.old)
         (I.remaining (reader_of items.old)) (I.remaining (reader_of items.new)) (ahead items.old) (is_spent items.old)
         (meanwhile I.failures I.reads items.old items.new)) }
     ensures failures { I.failures (reader_of items.old) ≤ I.failures (reader_of items.new) }

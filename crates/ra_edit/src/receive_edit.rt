@@ -21,7 +21,7 @@ ghost use Rattle.ra_edit.specs.Refusals.{at_chunk, at_end, at_close, is_finish, 
 ghost use Rattle.ra_edit.specs.Refusals.{RefusesOne, Meets, IfOwn};
 ghost use Rattle.ra_edit.specs.declared.command_fault.CommandFault.{CommandFault};
 ghost use Rattle.ra_edit.specs.declared.command_fault.CommandFault.TheVariants as fault;
-ghost use Rattle.ra_edit.specs.Edit.{Stands, GivenIs, Moves, dirs_named, is_unopened, is_announced, has_root, TextEnds};
+ghost use Rattle.ra_edit.specs.Edit.{StandsAt, Performs, RefusedAs, MetAs, GivenIs, dirs_named, is_unopened, is_announced, has_root, TextEnds};
 ghost use Rattle.ra_edit.specs.Edit.{SumIs, FileMoves, Stepped, Finishes};
 ghost use Rattle.ra_edit.specs.declared.receive_command.Command.TheVariants as command;
 ghost use Rattle.ra_edit.specs.declared.receive_edit.Given.TheVariants as given;
@@ -96,7 +96,7 @@ impl<E: Editor> Edit<E> {
     /// Before the first command.
     pub fn new(alloc: Global, editor: E) -> Edit<E>
         ensures editor { result.editor ≡ editor }
-        ensures stands { Stands E.dir_path E.file_path result.stage result.dirs.items result.file Begun }
+        ensures stands { StandsAt E.dir_path E.file_path result Begun }
     {
         Edit {
             editor,
@@ -109,15 +109,13 @@ impl<E: Editor> Edit<E> {
     /// Does what a command says; `finish-replay` answers true, and nothing is done for it yet.
     pub fn step(&mut self, command: Command) -> Result<bool, CommandFault>
         ensures moved { IfOk result (λ done. (at : At) (item : Item) → Forms command item
-            → Stands E.dir_path E.file_path self.old.stage self.old.dirs.items self.old.file at
+            → StandsAt E.dir_path E.file_path self.old at
             → Stepped E.shows self.old.editor self.new.editor item at
-            (Stands E.dir_path E.file_path self.new.stage self.new.dirs.items self.new.file) done) }
+            (StandsAt E.dir_path E.file_path self.new) done) }
         ensures refused { IfErr result (λ f. (at : At)
-            → Stands E.dir_path E.file_path self.old.stage self.old.dirs.items self.old.file at
+            → StandsAt E.dir_path E.file_path self.old at
             → RefusedFor f (refusal at command)) }
-        ensures own { IfErr result (IfOwn (λ f. (at : At)
-            → Stands E.dir_path E.file_path self.old.stage self.old.dirs.items self.old.file at
-            → Meets E.shows E.began E.refuses self.old.editor at command f)) }
+        ensures own { IfErr result (IfOwn (MetAs E.dir_path E.file_path E.shows E.began E.refuses self.old command)) }
         ensures began { E.began self.new.editor ≡ E.began self.old.editor }
     {
         if let Command::Finish = &command {
@@ -132,16 +130,10 @@ impl<E: Editor> Edit<E> {
 
     // Does what a command says that isn't the end.
     fn perform(&mut self, command: Command) -> Result<(), CommandFault>
-        ensures moved { OnOk result ((at : At) (item : Item) → Forms command item
-            → Stands E.dir_path E.file_path self.old.stage self.old.dirs.items self.old.file at
-            → Moves E.shows self.old.editor self.new.editor item at
-            (Stands E.dir_path E.file_path self.new.stage self.new.dirs.items self.new.file)) }
-        ensures refused { IfErr result (λ f. (at : At) → is_finish command ≡ false
-            → Stands E.dir_path E.file_path self.old.stage self.old.dirs.items self.old.file at
-            → RefusedFor f (due at command)) }
-        ensures own { IfErr result (IfOwn (λ f. (at : At)
-            → Stands E.dir_path E.file_path self.old.stage self.old.dirs.items self.old.file at
-            → Meets E.shows E.began E.refuses self.old.editor at command f)) }
+        ensures moved { OnOk result (Performs E.dir_path E.file_path E.shows self.old self.new command) }
+        ensures refused { IfErr result
+            (λ f. is_finish command ≡ false → RefusedAs E.dir_path E.file_path self.old command f) }
+        ensures own { IfErr result (IfOwn (MetAs E.dir_path E.file_path E.shows E.began E.refuses self.old command)) }
         ensures began { E.began self.new.editor ≡ E.began self.old.editor }
     {
         match command {
@@ -166,16 +158,9 @@ impl<E: Editor> Edit<E> {
     }
 
     fn target(&mut self, rev: RevNo) -> Result<(), CommandFault>
-        ensures moved { OnOk result ((at : At) (item : Item) → Forms (command.Target rev) item
-            → Stands E.dir_path E.file_path self.old.stage self.old.dirs.items self.old.file at
-            → Moves E.shows self.old.editor self.new.editor item at
-            (Stands E.dir_path E.file_path self.new.stage self.new.dirs.items self.new.file)) }
-        ensures refused { IfErr result (λ f. (at : At)
-            → Stands E.dir_path E.file_path self.old.stage self.old.dirs.items self.old.file at
-            → RefusedFor f (due at (command.Target rev))) }
-        ensures own { IfErr result (IfOwn (λ f. (at : At)
-            → Stands E.dir_path E.file_path self.old.stage self.old.dirs.items self.old.file at
-            → Meets E.shows E.began E.refuses self.old.editor at (command.Target rev) f)) }
+        ensures moved { OnOk result (Performs E.dir_path E.file_path E.shows self.old self.new (command.Target rev)) }
+        ensures refused { IfErr result (RefusedAs E.dir_path E.file_path self.old (command.Target rev)) }
+        ensures own { IfErr result (IfOwn (MetAs E.dir_path E.file_path E.shows E.began E.refuses self.old (command.Target rev))) }
         ensures began { E.began self.new.editor ≡ E.began self.old.editor }
     {
         let Stage::Begun = self.stage else {
@@ -207,16 +192,9 @@ impl<E: Editor> Edit<E> {
     }
 
     fn open_root(&mut self, base: Option<RevNo>, token: Vec<u8>) -> Result<(), CommandFault>
-        ensures moved { OnOk result ((at : At) (item : Item) → Forms (command.OpenRoot base token) item
-            → Stands E.dir_path E.file_path self.old.stage self.old.dirs.items self.old.file at
-            → Moves E.shows self.old.editor self.new.editor item at
-            (Stands E.dir_path E.file_path self.new.stage self.new.dirs.items self.new.file)) }
-        ensures refused { IfErr result (λ f. (at : At)
-            → Stands E.dir_path E.file_path self.old.stage self.old.dirs.items self.old.file at
-            → RefusedFor f (due at (command.OpenRoot base token))) }
-        ensures own { IfErr result (IfOwn (λ f. (at : At)
-            → Stands E.dir_path E.file_path self.old.stage self.old.dirs.items self.old.file at
-            → Meets E.shows E.began E.refuses self.old.editor at (command.OpenRoot base token) f)) }
+        ensures moved { OnOk result (Performs E.dir_path E.file_path E.shows self.old self.new (command.OpenRoot base token)) }
+        ensures refused { IfErr result (RefusedAs E.dir_path E.file_path self.old (command.OpenRoot base token)) }
+        ensures own { IfErr result (IfOwn (MetAs E.dir_path E.file_path E.shows E.began E.refuses self.old (command.OpenRoot base token))) }
         ensures began { E.began self.new.editor ≡ E.began self.old.editor }
     {
         if !self.is_unopened() {
@@ -234,7 +212,7 @@ impl<E: Editor> Edit<E> {
         ensures taken { IfOk result (λ d. (self.old.dirs.items ≡ self.new.dirs.items ++ d ∷ [])
             × (d.token.items ≡ token.now) × (self.old.file ≡ None)) }
         ensures refused { IfErr result (λ f. (at : At)
-            → Stands E.dir_path E.file_path self.old.stage self.old.dirs.items self.old.file at
+            → StandsAt E.dir_path E.file_path self.old at
             → RefusedFor f (unless (is_in_dir token.now (open_of at)) fault.BadToken)) }
         ensures own { IfErr result (IfOwn (λ f. ⊥)) }
         ensures room { OnOk result ((vec_len self.new.dirs + 1 ≡ vec_len self.old.dirs)
@@ -277,7 +255,7 @@ impl<E: Editor> Edit<E> {
         ensures taken { IfOk result (λ d. (self.old.dirs.items ≡ self.new.dirs.items ++ d ∷ [])
             × (d.token.items ≡ up.now) × (self.old.file ≡ None)) }
         ensures refused { IfErr result (λ f. (at : At)
-            → Stands E.dir_path E.file_path self.old.stage self.old.dirs.items self.old.file at
+            → StandsAt E.dir_path E.file_path self.old at
             → RefusedFor f (unless (is_free token.now (open_of at)
             && is_in_dir up.now (open_of at)) fault.BadToken)) }
         ensures own { IfErr result (IfOwn (λ f. ⊥)) }
@@ -300,16 +278,9 @@ impl<E: Editor> Edit<E> {
         base: Option<RevNo>,
         up: Vec<u8>,
     ) -> Result<(), CommandFault>
-        ensures moved { OnOk result ((at : At) (item : Item) → Forms (command.DeleteEntry path base up) item
-            → Stands E.dir_path E.file_path self.old.stage self.old.dirs.items self.old.file at
-            → Moves E.shows self.old.editor self.new.editor item at
-            (Stands E.dir_path E.file_path self.new.stage self.new.dirs.items self.new.file)) }
-        ensures refused { IfErr result (λ f. (at : At)
-            → Stands E.dir_path E.file_path self.old.stage self.old.dirs.items self.old.file at
-            → RefusedFor f (due at (command.DeleteEntry path base up))) }
-        ensures own { IfErr result (IfOwn (λ f. (at : At)
-            → Stands E.dir_path E.file_path self.old.stage self.old.dirs.items self.old.file at
-            → Meets E.shows E.began E.refuses self.old.editor at (command.DeleteEntry path base up) f)) }
+        ensures moved { OnOk result (Performs E.dir_path E.file_path E.shows self.old self.new (command.DeleteEntry path base up)) }
+        ensures refused { IfErr result (RefusedAs E.dir_path E.file_path self.old (command.DeleteEntry path base up)) }
+        ensures own { IfErr result (IfOwn (MetAs E.dir_path E.file_path E.shows E.began E.refuses self.old (command.DeleteEntry path base up))) }
         ensures began { E.began self.new.editor ≡ E.began self.old.editor }
     {
         let mut dir = self.take_innermost(up.as_slice())?;
@@ -326,16 +297,9 @@ impl<E: Editor> Edit<E> {
         token: Vec<u8>,
         from: Option<Source>,
     ) -> Result<(), CommandFault>
-        ensures moved { OnOk result ((at : At) (item : Item) → Forms (command.AddDir path up token from) item
-            → Stands E.dir_path E.file_path self.old.stage self.old.dirs.items self.old.file at
-            → Moves E.shows self.old.editor self.new.editor item at
-            (Stands E.dir_path E.file_path self.new.stage self.new.dirs.items self.new.file)) }
-        ensures refused { IfErr result (λ f. (at : At)
-            → Stands E.dir_path E.file_path self.old.stage self.old.dirs.items self.old.file at
-            → RefusedFor f (due at (command.AddDir path up token from))) }
-        ensures own { IfErr result (IfOwn (λ f. (at : At)
-            → Stands E.dir_path E.file_path self.old.stage self.old.dirs.items self.old.file at
-            → Meets E.shows E.began E.refuses self.old.editor at (command.AddDir path up token from) f)) }
+        ensures moved { OnOk result (Performs E.dir_path E.file_path E.shows self.old self.new (command.AddDir path up token from)) }
+        ensures refused { IfErr result (RefusedAs E.dir_path E.file_path self.old (command.AddDir path up token from)) }
+        ensures own { IfErr result (IfOwn (MetAs E.dir_path E.file_path E.shows E.began E.refuses self.old (command.AddDir path up token from))) }
         ensures began { E.began self.new.editor ≡ E.began self.old.editor }
     {
         let mut dir = self.take_parent(up.as_slice(), token.as_slice())?;
@@ -353,16 +317,9 @@ impl<E: Editor> Edit<E> {
         token: Vec<u8>,
         base: Option<RevNo>,
     ) -> Result<(), CommandFault>
-        ensures moved { OnOk result ((at : At) (item : Item) → Forms (command.OpenDir path up token base) item
-            → Stands E.dir_path E.file_path self.old.stage self.old.dirs.items self.old.file at
-            → Moves E.shows self.old.editor self.new.editor item at
-            (Stands E.dir_path E.file_path self.new.stage self.new.dirs.items self.new.file)) }
-        ensures refused { IfErr result (λ f. (at : At)
-            → Stands E.dir_path E.file_path self.old.stage self.old.dirs.items self.old.file at
-            → RefusedFor f (due at (command.OpenDir path up token base))) }
-        ensures own { IfErr result (IfOwn (λ f. (at : At)
-            → Stands E.dir_path E.file_path self.old.stage self.old.dirs.items self.old.file at
-            → Meets E.shows E.began E.refuses self.old.editor at (command.OpenDir path up token base) f)) }
+        ensures moved { OnOk result (Performs E.dir_path E.file_path E.shows self.old self.new (command.OpenDir path up token base)) }
+        ensures refused { IfErr result (RefusedAs E.dir_path E.file_path self.old (command.OpenDir path up token base)) }
+        ensures own { IfErr result (IfOwn (MetAs E.dir_path E.file_path E.shows E.began E.refuses self.old (command.OpenDir path up token base))) }
         ensures began { E.began self.new.editor ≡ E.began self.old.editor }
     {
         let mut dir = self.take_parent(up.as_slice(), token.as_slice())?;
@@ -395,16 +352,9 @@ impl<E: Editor> Edit<E> {
         name: PropName,
         value: Option<Vec<u8>>,
     ) -> Result<(), CommandFault>
-        ensures moved { OnOk result ((at : At) (item : Item) → Forms (command.DirProp token name value) item
-            → Stands E.dir_path E.file_path self.old.stage self.old.dirs.items self.old.file at
-            → Moves E.shows self.old.editor self.new.editor item at
-            (Stands E.dir_path E.file_path self.new.stage self.new.dirs.items self.new.file)) }
-        ensures refused { IfErr result (λ f. (at : At)
-            → Stands E.dir_path E.file_path self.old.stage self.old.dirs.items self.old.file at
-            → RefusedFor f (due at (command.DirProp token name value))) }
-        ensures own { IfErr result (IfOwn (λ f. (at : At)
-            → Stands E.dir_path E.file_path self.old.stage self.old.dirs.items self.old.file at
-            → Meets E.shows E.began E.refuses self.old.editor at (command.DirProp token name value) f)) }
+        ensures moved { OnOk result (Performs E.dir_path E.file_path E.shows self.old self.new (command.DirProp token name value)) }
+        ensures refused { IfErr result (RefusedAs E.dir_path E.file_path self.old (command.DirProp token name value)) }
+        ensures own { IfErr result (IfOwn (MetAs E.dir_path E.file_path E.shows E.began E.refuses self.old (command.DirProp token name value))) }
         ensures began { E.began self.new.editor ≡ E.began self.old.editor }
     {
         let at = self.find(token.as_slice())?;
@@ -415,16 +365,9 @@ impl<E: Editor> Edit<E> {
     }
 
     fn close_dir(&mut self, token: Vec<u8>) -> Result<(), CommandFault>
-        ensures moved { OnOk result ((at : At) (item : Item) → Forms (command.CloseDir token) item
-            → Stands E.dir_path E.file_path self.old.stage self.old.dirs.items self.old.file at
-            → Moves E.shows self.old.editor self.new.editor item at
-            (Stands E.dir_path E.file_path self.new.stage self.new.dirs.items self.new.file)) }
-        ensures refused { IfErr result (λ f. (at : At)
-            → Stands E.dir_path E.file_path self.old.stage self.old.dirs.items self.old.file at
-            → RefusedFor f (due at (command.CloseDir token))) }
-        ensures own { IfErr result (IfOwn (λ f. (at : At)
-            → Stands E.dir_path E.file_path self.old.stage self.old.dirs.items self.old.file at
-            → Meets E.shows E.began E.refuses self.old.editor at (command.CloseDir token) f)) }
+        ensures moved { OnOk result (Performs E.dir_path E.file_path E.shows self.old self.new (command.CloseDir token)) }
+        ensures refused { IfErr result (RefusedAs E.dir_path E.file_path self.old (command.CloseDir token)) }
+        ensures own { IfErr result (IfOwn (MetAs E.dir_path E.file_path E.shows E.began E.refuses self.old (command.CloseDir token))) }
         ensures began { E.began self.new.editor ≡ E.began self.old.editor }
     {
         let OpenDir { token: _, baton } = self.take_innermost(token.as_slice())?;
@@ -439,16 +382,9 @@ impl<E: Editor> Edit<E> {
         token: Vec<u8>,
         from: Option<Source>,
     ) -> Result<(), CommandFault>
-        ensures moved { OnOk result ((at : At) (item : Item) → Forms (command.AddFile path up token from) item
-            → Stands E.dir_path E.file_path self.old.stage self.old.dirs.items self.old.file at
-            → Moves E.shows self.old.editor self.new.editor item at
-            (Stands E.dir_path E.file_path self.new.stage self.new.dirs.items self.new.file)) }
-        ensures refused { IfErr result (λ f. (at : At)
-            → Stands E.dir_path E.file_path self.old.stage self.old.dirs.items self.old.file at
-            → RefusedFor f (due at (command.AddFile path up token from))) }
-        ensures own { IfErr result (IfOwn (λ f. (at : At)
-            → Stands E.dir_path E.file_path self.old.stage self.old.dirs.items self.old.file at
-            → Meets E.shows E.began E.refuses self.old.editor at (command.AddFile path up token from) f)) }
+        ensures moved { OnOk result (Performs E.dir_path E.file_path E.shows self.old self.new (command.AddFile path up token from)) }
+        ensures refused { IfErr result (RefusedAs E.dir_path E.file_path self.old (command.AddFile path up token from)) }
+        ensures own { IfErr result (IfOwn (MetAs E.dir_path E.file_path E.shows E.began E.refuses self.old (command.AddFile path up token from))) }
         ensures began { E.began self.new.editor ≡ E.began self.old.editor }
     {
         let mut dir = self.take_parent(up.as_slice(), token.as_slice())?;
@@ -466,16 +402,9 @@ impl<E: Editor> Edit<E> {
         token: Vec<u8>,
         base: Option<RevNo>,
     ) -> Result<(), CommandFault>
-        ensures moved { OnOk result ((at : At) (item : Item) → Forms (command.OpenFile path up token base) item
-            → Stands E.dir_path E.file_path self.old.stage self.old.dirs.items self.old.file at
-            → Moves E.shows self.old.editor self.new.editor item at
-            (Stands E.dir_path E.file_path self.new.stage self.new.dirs.items self.new.file)) }
-        ensures refused { IfErr result (λ f. (at : At)
-            → Stands E.dir_path E.file_path self.old.stage self.old.dirs.items self.old.file at
-            → RefusedFor f (due at (command.OpenFile path up token base))) }
-        ensures own { IfErr result (IfOwn (λ f. (at : At)
-            → Stands E.dir_path E.file_path self.old.stage self.old.dirs.items self.old.file at
-            → Meets E.shows E.began E.refuses self.old.editor at (command.OpenFile path up token base) f)) }
+        ensures moved { OnOk result (Performs E.dir_path E.file_path E.shows self.old self.new (command.OpenFile path up token base)) }
+        ensures refused { IfErr result (RefusedAs E.dir_path E.file_path self.old (command.OpenFile path up token base)) }
+        ensures own { IfErr result (IfOwn (MetAs E.dir_path E.file_path E.shows E.began E.refuses self.old (command.OpenFile path up token base))) }
         ensures began { E.began self.new.editor ≡ E.began self.old.editor }
     {
         let mut dir = self.take_parent(up.as_slice(), token.as_slice())?;
@@ -511,16 +440,9 @@ impl<E: Editor> Edit<E> {
         name: PropName,
         value: Option<Vec<u8>>,
     ) -> Result<(), CommandFault>
-        ensures moved { OnOk result ((at : At) (item : Item) → Forms (command.FileProp token name value) item
-            → Stands E.dir_path E.file_path self.old.stage self.old.dirs.items self.old.file at
-            → Moves E.shows self.old.editor self.new.editor item at
-            (Stands E.dir_path E.file_path self.new.stage self.new.dirs.items self.new.file)) }
-        ensures refused { IfErr result (λ f. (at : At)
-            → Stands E.dir_path E.file_path self.old.stage self.old.dirs.items self.old.file at
-            → RefusedFor f (due at (command.FileProp token name value))) }
-        ensures own { IfErr result (IfOwn (λ f. (at : At)
-            → Stands E.dir_path E.file_path self.old.stage self.old.dirs.items self.old.file at
-            → Meets E.shows E.began E.refuses self.old.editor at (command.FileProp token name value) f)) }
+        ensures moved { OnOk result (Performs E.dir_path E.file_path E.shows self.old self.new (command.FileProp token name value)) }
+        ensures refused { IfErr result (RefusedAs E.dir_path E.file_path self.old (command.FileProp token name value)) }
+        ensures own { IfErr result (IfOwn (MetAs E.dir_path E.file_path E.shows E.began E.refuses self.old (command.FileProp token name value))) }
         ensures began { E.began self.new.editor ≡ E.began self.old.editor }
     {
         let Some(file) = &mut self.file else {
@@ -531,16 +453,9 @@ impl<E: Editor> Edit<E> {
     }
 
     fn text_start(&mut self, token: Vec<u8>) -> Result<(), CommandFault>
-        ensures moved { OnOk result ((at : At) (item : Item) → Forms (command.TextStart token) item
-            → Stands E.dir_path E.file_path self.old.stage self.old.dirs.items self.old.file at
-            → Moves E.shows self.old.editor self.new.editor item at
-            (Stands E.dir_path E.file_path self.new.stage self.new.dirs.items self.new.file)) }
-        ensures refused { IfErr result (λ f. (at : At)
-            → Stands E.dir_path E.file_path self.old.stage self.old.dirs.items self.old.file at
-            → RefusedFor f (due at (command.TextStart token))) }
-        ensures own { IfErr result (IfOwn (λ f. (at : At)
-            → Stands E.dir_path E.file_path self.old.stage self.old.dirs.items self.old.file at
-            → Meets E.shows E.began E.refuses self.old.editor at (command.TextStart token) f)) }
+        ensures moved { OnOk result (Performs E.dir_path E.file_path E.shows self.old self.new (command.TextStart token)) }
+        ensures refused { IfErr result (RefusedAs E.dir_path E.file_path self.old (command.TextStart token)) }
+        ensures own { IfErr result (IfOwn (MetAs E.dir_path E.file_path E.shows E.began E.refuses self.old (command.TextStart token))) }
         ensures began { E.began self.new.editor ≡ E.began self.old.editor }
     {
         let Some(file) = &mut self.file else {
@@ -551,16 +466,9 @@ impl<E: Editor> Edit<E> {
     }
 
     fn chunk(&mut self, token: Vec<u8>, bytes: Vec<u8>) -> Result<(), CommandFault>
-        ensures moved { OnOk result ((at : At) (item : Item) → Forms (command.Chunk token bytes) item
-            → Stands E.dir_path E.file_path self.old.stage self.old.dirs.items self.old.file at
-            → Moves E.shows self.old.editor self.new.editor item at
-            (Stands E.dir_path E.file_path self.new.stage self.new.dirs.items self.new.file)) }
-        ensures refused { IfErr result (λ f. (at : At)
-            → Stands E.dir_path E.file_path self.old.stage self.old.dirs.items self.old.file at
-            → RefusedFor f (due at (command.Chunk token bytes))) }
-        ensures own { IfErr result (IfOwn (λ f. (at : At)
-            → Stands E.dir_path E.file_path self.old.stage self.old.dirs.items self.old.file at
-            → Meets E.shows E.began E.refuses self.old.editor at (command.Chunk token bytes) f)) }
+        ensures moved { OnOk result (Performs E.dir_path E.file_path E.shows self.old self.new (command.Chunk token bytes)) }
+        ensures refused { IfErr result (RefusedAs E.dir_path E.file_path self.old (command.Chunk token bytes)) }
+        ensures own { IfErr result (IfOwn (MetAs E.dir_path E.file_path E.shows E.began E.refuses self.old (command.Chunk token bytes))) }
         ensures began { E.began self.new.editor ≡ E.began self.old.editor }
     {
         let Some(file) = &mut self.file else {
@@ -571,16 +479,9 @@ impl<E: Editor> Edit<E> {
     }
 
     fn text_end(&mut self, token: Vec<u8>) -> Result<(), CommandFault>
-        ensures moved { OnOk result ((at : At) (item : Item) → Forms (command.TextEnd token) item
-            → Stands E.dir_path E.file_path self.old.stage self.old.dirs.items self.old.file at
-            → Moves E.shows self.old.editor self.new.editor item at
-            (Stands E.dir_path E.file_path self.new.stage self.new.dirs.items self.new.file)) }
-        ensures refused { IfErr result (λ f. (at : At)
-            → Stands E.dir_path E.file_path self.old.stage self.old.dirs.items self.old.file at
-            → RefusedFor f (due at (command.TextEnd token))) }
-        ensures own { IfErr result (IfOwn (λ f. (at : At)
-            → Stands E.dir_path E.file_path self.old.stage self.old.dirs.items self.old.file at
-            → Meets E.shows E.began E.refuses self.old.editor at (command.TextEnd token) f)) }
+        ensures moved { OnOk result (Performs E.dir_path E.file_path E.shows self.old self.new (command.TextEnd token)) }
+        ensures refused { IfErr result (RefusedAs E.dir_path E.file_path self.old (command.TextEnd token)) }
+        ensures own { IfErr result (IfOwn (MetAs E.dir_path E.file_path E.shows E.began E.refuses self.old (command.TextEnd token))) }
         ensures began { E.began self.new.editor ≡ E.began self.old.editor }
     {
         let Some(file) = &mut self.file else {
@@ -591,16 +492,9 @@ impl<E: Editor> Edit<E> {
     }
 
     fn close_file(&mut self, token: Vec<u8>, sum: Option<[u8; 16]>) -> Result<(), CommandFault>
-        ensures moved { OnOk result ((at : At) (item : Item) → Forms (command.CloseFile token sum) item
-            → Stands E.dir_path E.file_path self.old.stage self.old.dirs.items self.old.file at
-            → Moves E.shows self.old.editor self.new.editor item at
-            (Stands E.dir_path E.file_path self.new.stage self.new.dirs.items self.new.file)) }
-        ensures refused { IfErr result (λ f. (at : At)
-            → Stands E.dir_path E.file_path self.old.stage self.old.dirs.items self.old.file at
-            → RefusedFor f (due at (command.CloseFile token sum))) }
-        ensures own { IfErr result (IfOwn (λ f. (at : At)
-            → Stands E.dir_path E.file_path self.old.stage self.old.dirs.items self.old.file at
-            → Meets E.shows E.began E.refuses self.old.editor at (command.CloseFile token sum) f)) }
+        ensures moved { OnOk result (Performs E.dir_path E.file_path E.shows self.old self.new (command.CloseFile token sum)) }
+        ensures refused { IfErr result (RefusedAs E.dir_path E.file_path self.old (command.CloseFile token sum)) }
+        ensures own { IfErr result (IfOwn (MetAs E.dir_path E.file_path E.shows E.began E.refuses self.old (command.CloseFile token sum))) }
         ensures began { E.began self.new.editor ≡ E.began self.old.editor }
     {
         let OpenFile {
@@ -621,7 +515,7 @@ impl<E: Editor> Edit<E> {
         ensures taken { IfOk result (λ f. (self.old.file ≡ Some f) × (f.token.items ≡ token.now)
             × SumIs f.given sum) }
         ensures refused { IfErr result (λ f. (at : At)
-            → Stands E.dir_path E.file_path self.old.stage self.old.dirs.items self.old.file at
+            → StandsAt E.dir_path E.file_path self.old at
             → RefusedFor f (in_file token.now (open_of at) (at_close sum))) }
         ensures own { IfErr result (IfOwn (λ f. ⊥)) }
         ensures none { OnOk result (self.new.file ≡ None) }
@@ -651,16 +545,9 @@ impl<E: Editor> Edit<E> {
     }
 
     fn close_edit(&mut self) -> Result<(), CommandFault>
-        ensures moved { OnOk result ((at : At) (item : Item) → Forms (command.CloseEdit) item
-            → Stands E.dir_path E.file_path self.old.stage self.old.dirs.items self.old.file at
-            → Moves E.shows self.old.editor self.new.editor item at
-            (Stands E.dir_path E.file_path self.new.stage self.new.dirs.items self.new.file)) }
-        ensures refused { IfErr result (λ f. (at : At)
-            → Stands E.dir_path E.file_path self.old.stage self.old.dirs.items self.old.file at
-            → RefusedFor f (due at (command.CloseEdit))) }
-        ensures own { IfErr result (IfOwn (λ f. (at : At)
-            → Stands E.dir_path E.file_path self.old.stage self.old.dirs.items self.old.file at
-            → Meets E.shows E.began E.refuses self.old.editor at (command.CloseEdit) f)) }
+        ensures moved { OnOk result (Performs E.dir_path E.file_path E.shows self.old self.new command.CloseEdit) }
+        ensures refused { IfErr result (RefusedAs E.dir_path E.file_path self.old command.CloseEdit) }
+        ensures own { IfErr result (IfOwn (MetAs E.dir_path E.file_path E.shows E.began E.refuses self.old command.CloseEdit)) }
         ensures began { E.began self.new.editor ≡ E.began self.old.editor }
     {
         if self.is_announced() {
@@ -690,14 +577,14 @@ impl<E: Editor> Edit<E> {
     /// aborted.
     pub fn finish(self) -> Result<E::Done, CommandFault>
         ensures done { IfOk result (λ d. (at : At) (item : Item) → IsCommand (word_of word.FinishReplay) [] item
-            → Stands E.dir_path E.file_path self.stage self.dirs.items self.file at
+            → StandsAt E.dir_path E.file_path self at
             → Finishes E.shows E.done_shows self.editor d item at) }
         ensures began { IfOk result (λ d. E.done_began d ≡ E.began self.editor) }
         ensures refused { IfErr result (λ f. (at : At)
-            → Stands E.dir_path E.file_path self.stage self.dirs.items self.file at
+            → StandsAt E.dir_path E.file_path self at
             → RefusedFor f (refusal at command.Finish)) }
         ensures own { IfErr result (IfOwn (λ f. (at : At)
-            → Stands E.dir_path E.file_path self.stage self.dirs.items self.file at
+            → StandsAt E.dir_path E.file_path self at
             → Meets E.shows E.began E.refuses self.editor at command.Finish f)) }
     {
         if !self.is_closed() {

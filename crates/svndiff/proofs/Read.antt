@@ -1,5 +1,5 @@
 -- What the grammar calls a text is read.
-use Rattle.std.proofs.Common.{◌≡◌, inl, inr, ℕ, zero, ◌+◌, ◌-◌, ◌*◌, ◌≤◌, ◌<◌, ◌^◌, ◌==◌, ◌&&◌, not, Bool, true, false, List, [], ◌∷◌, ◌++◌, length, nat_lt, refl, sym, ap, ◌∙◌, append_assoc, append-nil, length-append, arith}
+use Rattle.std.proofs.Common.{◌≡◌, inl, inr, ℕ, zero, ◌+◌, ◌-◌, ◌*◌, ◌≤◌, ◌<◌, ◌^◌, ◌==◌, not, Bool, true, false, List, [], ◌∷◌, ◌++◌, length, nat_lt, refl, sym, ap, ◌∙◌, append_assoc, append-nil, length-append, arith}
 use Rattle.std.proofs.lemmas.Bool.Decides.{nat_tests}
 use Rattle.std.proofs.lemmas.List.{nil_from_length}
 use Rattle.std.specs.Bool.{if◌then◌else◌}
@@ -14,11 +14,7 @@ use Rattle.svndiff.specs.declared.reading.Place.TheVariants as at
 use Rattle.svndiff.specs.declared.reading.Reading.{Reading}
 use Rattle.svndiff.specs.Reading.{Next, begin, is_between, digit, filled, head_digit, length_digit, more_data, instructed, judged, summed, within, instruction, one_less, given}
 use Rattle.svndiff.specs.Streams.{Stream, Reads, Refuses, of_step, reading, pieces_in}
-use Rattle.svndiff.proofs.Runs.{lt_true, lt_false, state, data_run, data_pieces, no_pieces}
-
-both : (a b : Bool) → (a && b) ≡ true → (a ≡ true) × (b ≡ true)
-both true b e = (refl, e)
-both false b e = cc
+use Rattle.svndiff.proofs.Runs.{lt_true, lt_false, both, state, data_run, data_pieces, no_pieces}
 
 negated : (a : Bool) → not a ≡ true → a ≡ false
 negated true e = cc
@@ -46,11 +42,8 @@ less k r = record r { instructions = r.instructions - k }
 
 -- the place is left behind
 filled_placed : (f : Field) (p : Place) (r : Reading) (n : ℕ) → filled f (placed p r) n ≡ filled f r n
-filled_placed field.SourceOffset p r n = refl
-filled_placed field.SourceLength p r n = refl
-filled_placed field.TargetLength p r n = refl
-filled_placed field.InstructionLength p r n = refl
 filled_placed field.NewLength p r n = refl
+filled_placed f p r n = refl
 
 -- a number in front of a window
 number_bytes : (text : List ℕ) (r : Reading) (f : Field) (count n : ℕ) (bytes more : List ℕ) → ends_once bytes ≡ true → count + length bytes ≤ 10 → number_after n bytes < 2 ^ 64 → reading (Reads text (placed (at.Head f count n) r)) (bytes ++ more) ≡ reading (of_step text (filled f r (number_after n bytes))) more

@@ -1,15 +1,11 @@
 -- What is written is in the grammar.
 use Rattle.std.proofs.Common.{◌≡◌, inl, inr, ℕ, zero, suc, ◌+◌, ◌-◌, ◌*◌, ◌/◌, ◌%◌, ◌≤◌, ◌<◌, ◌^◌, Bool, true, false, List, [], ◌∷◌, ◌++◌, length, take, drop, nat_lt, refl, sym, subst, append_assoc, append-nil, arith}
-use Rattle.std.proofs.lemmas.Bool.Decides.{nat_tests}
 use Rattle.std.proofs.lemmas.List.{length-take, length-drop, take-append-drop}
 use Rattle.std.specs.Bool.{if◌then◌else◌}
 use Rattle.svndiff.specs.Groups.{is_last, group, Spells}
 use Rattle.svndiff.specs.Grammar.{IsNew, AreNew, None, More, IsWindow, AreWindows, Empty, Then, IsText}
 use Rattle.svndiff.specs.Spelling.{groups, new_data, window, windows, windows_within, spelled}
-use Rattle.svndiff.proofs.Runs.{lt_true, lt_false}
-
-lt_from : (a b : ℕ) → nat_lt a b ≡ true → a < b
-lt_from a b e = grind (arith, nat_tests)
+use Rattle.svndiff.proofs.Runs.{lt_true, lt_false, lt_from}
 
 -- the seven bits of a byte with its high bit set, and of one without
 high : (n : ℕ) → (is_last (128 + n) ≡ false) × (group (128 + n) ≡ n)

@@ -18,7 +18,7 @@ use Rattle.svndiff.specs.Reading.{Step, Next, Gives, Refused, begin, is_between,
 use Rattle.svndiff.specs.Streams.{Stream, Reads, Refuses, of_step, one_byte, reading, stream_of}
 use Rattle.svndiff.specs.Refusals.{Whole_windows, Offset, AndSource, AndTarget, AndSize, Numbers, IsPast, IsOverfull, HasSource, Copies, IsDue, RefusedForCause, RefusedIsNoFront}
 use Rattle.svndiff.proofs.Read.{texts_are_read}
-use Rattle.svndiff.proofs.Runs.{state, reading-append, reading-refused}
+use Rattle.svndiff.proofs.Runs.{lt_from, both, state, reading-append, reading-refused}
 
 -- bytes of a number that goes on
 abbrev none_last : List ℕ → Bool
@@ -79,9 +79,6 @@ if_fine : (text bytes : List ℕ) (t : Bool) (x y : Step) → (t ≡ true → Fi
 if_fine text bytes true x y h k = h refl
 if_fine text bytes false x y h k = k refl
 
-lt_from : (a b : ℕ) → nat_lt a b ≡ true → a < b
-lt_from a b e = grind (arith, nat_tests)
-
 le_from : (a b : ℕ) → nat_lt a b ≡ false → b ≤ a
 le_from a b e = grind (arith, nat_tests)
 
@@ -90,10 +87,6 @@ eq_from a b e = grind (arith, nat_tests)
 
 positive : (n : ℕ) → (n == 0) ≡ false → 0 < n
 positive n e = grind (arith, nat_tests)
-
-both : (a b : Bool) → (a && b) ≡ true → (a ≡ true) × (b ≡ true)
-both true b e = (refl, e)
-both false b e = cc
 
 -- a byte more of a number
 number_after-snoc : (n : ℕ) (bs : List ℕ) (b : ℕ) → number_after n (bs ++ b ∷ []) ≡ number_after n bs * 128 + group b
@@ -325,14 +318,10 @@ judged_fine p source target left fresh sum room text bytes front numbers w m j =
 filled_fine : (f : Field) (p : Place) (source target left fresh sum room n : ℕ) (text bytes front numbers digits : List ℕ) → Whole_windows front text room → InFront f source target left numbers → Spells digits n → bytes ≡ front ++ (numbers ++ digits) → Fine text bytes (filled f (state p source target left fresh sum room) n)
 filled_fine field.SourceOffset p source target left fresh sum room n text bytes front numbers digits w i s j =
     (front, digits, [], w, (n, s), none_begun, j ∙ ap (λ x. front ++ (x ++ digits)) i ∙ ap (λ x. front ++ x) (sym (append-nil digits)))
-filled_fine field.SourceLength p source target left fresh sum room n text bytes front numbers digits w i s j =
-    (front, numbers ++ digits, [], w, (numbers, digits, i, s, refl), none_begun, j ∙ ap (λ x. front ++ x) (sym (append-nil (numbers ++ digits))))
-filled_fine field.TargetLength p source target left fresh sum room n text bytes front numbers digits w i s j =
-    (front, numbers ++ digits, [], w, (numbers, digits, i, s, refl), none_begun, j ∙ ap (λ x. front ++ x) (sym (append-nil (numbers ++ digits))))
-filled_fine field.InstructionLength p source target left fresh sum room n text bytes front numbers digits w i s j =
-    (front, numbers ++ digits, [], w, (numbers, digits, i, s, refl), none_begun, j ∙ ap (λ x. front ++ x) (sym (append-nil (numbers ++ digits))))
 filled_fine field.NewLength p source target left fresh sum room n text bytes front numbers digits w i s j =
     judged_fine p source target left n sum room text bytes front (numbers ++ digits) w (numbers, digits, i, s, refl) j
+filled_fine f p source target left fresh sum room n text bytes front numbers digits w i s j =
+    (front, numbers ++ digits, [], w, (numbers, digits, i, s, refl), none_begun, j ∙ ap (λ x. front ++ x) (sym (append-nil (numbers ++ digits))))
 
 head_fine : (f : Field) (source target left fresh sum room count n : ℕ) (text bytes : List ℕ) (b : ℕ) (p : Place) → Part (at.Head f count n) source target left fresh sum room text bytes → Fine text (bytes ++ b ∷ []) (head_digit f (state p source target left fresh sum room) (digit count n b))
 head_fine f source target left fresh sum room count n text bytes b p (front, numbers, digits, w, i, begun, j) =

@@ -12,15 +12,12 @@ appends_join (Some a) (Some b) (Some c) x y h k = k ∙ ap (λ t. t ++ y) h ∙ 
 
 -- room for more windows changes nothing
 pub enough : (j k : ℕ) (text : List ℕ) → length text ≤ j → length text ≤ k → windows_within j text ≡ windows_within k text
-enough zero zero text h l = refl
-enough zero (suc k) [] h l = refl
-enough (suc j) zero [] h l = refl
 enough zero (suc k) (b ∷ text) h l = absurd (omega (arith, h))
 enough (suc j) zero (b ∷ text) h l = absurd (omega (arith, l))
-enough (suc j) (suc k) [] h l = refl
 enough (suc j) (suc k) (b ∷ text) h l =
     let d = length-drop 65536 (b ∷ text) in
     ap (λ t. window (take 65536 (b ∷ text)) ++ t) (enough j k (drop 65536 (b ∷ text)) (omega (arith, d, h)) (omega (arith, d, l)))
+enough j k text h l = refl
 
 one_window : (text : List ℕ) → 0 < length text → windows text ≡ window (take 65536 text) ++ windows (drop 65536 text)
 one_window [] h = absurd (omega (arith, h))

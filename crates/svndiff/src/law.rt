@@ -9,6 +9,7 @@ pub fn pieces_join()
 {}
 
 /// What the grammar calls a text is read as that text.
+#[tactic(auto, using(crate::proofs::Read::texts_are_read))]
 pub fn texts_are_read()
     ensures { TextsAreRead }
 {}
@@ -19,6 +20,7 @@ pub fn one_text()
 {}
 
 /// What is written is in the grammar.
+#[tactic(auto, using(crate::proofs::Spelled::written_is_text))]
 pub fn written_is_text()
     ensures { WrittenIsText }
 {}
@@ -29,6 +31,7 @@ pub fn written_is_read()
 {}
 
 /// What is read, up to an end between windows, is in the grammar.
+#[tactic(auto, using(crate::proofs::Standing::read_is_text))]
 pub fn read_is_text()
     ensures { ReadIsText }
 {}
@@ -40,6 +43,7 @@ pub fn refused_is_no_front()
 
 /// Which number refused bytes get, and at which of them: 8 where a window's numbers are past a limit, 45 where it
 /// has a source or an instruction of another kind, 44 where no text goes on so.
+#[tactic(auto, using(crate::proofs::Standing::refused_for_cause))]
 pub fn refused_for_cause()
     ensures { RefusedForCause }
 {}

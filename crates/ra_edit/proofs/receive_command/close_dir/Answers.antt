@@ -1,10 +1,5 @@
-use Rattle.ra_item.specs.Items.{Text}
-use Rattle.ra_edit.specs.Receiving.{left_of}
-use Rattle.ra_edit.specs.Names.{word_of}
-use Rattle.ra_edit.specs.declared.name.Name.TheVariants as name
 use Rattle.ra_edit.proofs.Receiving.{named1}
 use Rattle.ra_edit.proofs.receive_command.close_dir.Goals as goal
 
 pub returns-clause-forms : goal.returns-clause-forms
-returns-clause-forms c =
-    λ rest. named1 (word_of name.CloseDir) (left_of c.args.params.now) (left_of c.text.new.self) rest (Text c.in_ok-text.field-0.items) c.in_ok-text.ensures.read
+returns-clause-forms c = named1 c.in_ok-text.ensures.read

@@ -1,8 +1,4 @@
 use Rattle.std.proofs.Common.{◌∙◌, Ok, ap, sym}
-use Rattle.ra_item.specs.Items.{Text}
-use Rattle.ra_edit.specs.Receiving.{left_of}
-use Rattle.ra_edit.specs.Names.{word_of}
-use Rattle.ra_edit.specs.declared.name.Name.TheVariants as name
 use Rattle.ra_edit.proofs.Receiving.{named4}
 use Rattle.ra_edit.proofs.receive_command.open_dir.Goals as goal
 
@@ -10,4 +6,4 @@ pub returns-clause-forms : goal.returns-clause-forms
 returns-clause-forms c =
     let q = c.in_ok-path.ensures.read in
     let s = c.in_ok-base.ensures.read in
-    λ rest. (q.item, s.item, (q.is.0, q.is.1 ∙ ap Ok (sym c.path-2.view_is), q.is.2), s.is, named4 (word_of name.OpenDir) (left_of c.args.params.now) (left_of c.path.new.self) (left_of c.text.new.self) (left_of c.text-2.new.self) (left_of c.base.new.self) rest q.item (Text c.in_ok-up.up.items) (Text c.in_ok-token.token.items) s.item q.joined c.in_ok-up.ensures.read c.in_ok-token.ensures.read s.joined)
+    λ rest. (q.item, s.item, (q.is.0, q.is.1 ∙ ap Ok (sym c.path-2.view_is), q.is.2), s.is, named4 q.joined c.in_ok-up.ensures.read c.in_ok-token.ensures.read s.joined rest)

@@ -15,9 +15,5 @@ returns-clause-moved g c =
 pub returns-in_err-close_dir-clause-own : goal.returns-in_err-close_dir-clause-own
 returns-in_err-close_dir-clause-own g c =
     let p = err_from_is_err_and c.from_residual-in_err-close_dir.result c.from_residual-in_err-close_dir.ensures.1 in
-    let old = c.args.self.now in
-    let mid = c.take_innermost.new.self in
-    let d = c.in_ok-baton.field-0 in
     let t = c.in_ok-baton.ensures in
-    let dp = g.E.Editor.dir_path in
-    rw (p.1, p.2) (λ at h. dir_met dp g.E.Editor.file_path g.E.Editor.shows g.E.Editor.began g.E.Editor.refuses old.editor mid.editor old.stage old.dirs.items mid.dirs.items d old.file at (λ q. call.CloseDir q) (call.CloseDir (dp d.baton)) _ c.in_err-close_dir.field-0.0 t.taken.0 t.taken.2 t.editor refl (λ q e. ap (λ r. call.CloseDir r ∷ []) e) h c.in_err-close_dir.ensures.refused)
+    rw (p.1, p.2) (λ at h. dir_met _ _ _ _ _ _ _ _ _ _ _ _ at (λ q. call.CloseDir q) _ _ _ t.taken.0 t.taken.2 t.editor refl (λ q e. ap (λ r. call.CloseDir r ∷ []) e) h c.in_err-close_dir.ensures.refused)

@@ -7,20 +7,11 @@ use Rattle.ra_edit.proofs.receive_edit.Edit.close_file.Goals as goal
 
 pub returns-clause-moved : goal.returns-clause-moved
 returns-clause-moved g c =
-    let old = c.args.self.now in
-    let mid = c.take_file.new.self in
     let t = c.in_ok-baton.ensures in
-    let f = c.in_ok-baton.field-0 in
-    λ at item k h. file_closed g.E.Editor.dir_path g.E.Editor.file_path g.E.Editor.shows old.editor mid.editor c.close_file.new.self old.stage mid.stage old.dirs.items mid.dirs.items old.file mid.file f c.args.token.items c.args.sum k.0 item at t.taken.0 t.none (t.taken.1 ∙ c.as_slice.ensures.value) t.taken.2 t.editor t.stage (ap (λ v. v.items) t.dirs) k.1 k.2 h c.in_ok-close_file.ensures.shown
+    λ at item k h. file_closed _ _ _ _ _ _ _ _ _ _ _ _ _ _ _ k.0 item at t.taken.0 t.none (t.taken.1 ∙ c.as_slice.ensures.value) t.taken.2 t.editor t.stage (ap (λ v. v.items) t.dirs) k.1 k.2 h c.in_ok-close_file.ensures.shown
 
 pub returns-in_err-close_file-clause-own : goal.returns-in_err-close_file-clause-own
 returns-in_err-close_file-clause-own g c =
     let p = err_from_is_err_and c.from_residual-in_err-close_file.result c.from_residual-in_err-close_file.ensures.1 in
-    let old = c.args.self.now in
-    let mid = c.take_file.new.self in
     let t = c.in_ok-baton.ensures in
-    let x = c.in_ok-baton.field-0 in
-    let fp = g.E.Editor.file_path in
-    let k = call.CloseFile (fp x.baton) c.args.sum in
-    let f = c.in_err-close_file.field-0.0 in
-    rw (p.1, p.2) (λ at h. file_met g.E.Editor.dir_path fp g.E.Editor.shows g.E.Editor.began g.E.Editor.refuses old.editor old.stage old.dirs.items x old.file at (λ q. call.CloseFile q c.args.sum) _ f t.taken.0 (λ q e. ap (λ r. call.CloseFile r c.args.sum ∷ []) e) h (at_once g.E.Editor.shows g.E.Editor.began g.E.Editor.refuses old.editor mid.editor k k f t.editor refl c.in_err-close_file.ensures.refused))
+    rw (p.1, p.2) (λ at h. file_met _ _ _ _ _ _ _ _ _ _ at (λ q. call.CloseFile q c.args.sum) _ _ t.taken.0 (λ q e. ap (λ r. call.CloseFile r c.args.sum ∷ []) e) h (at_once _ _ _ _ _ _ _ _ t.editor refl c.in_err-close_file.ensures.refused))

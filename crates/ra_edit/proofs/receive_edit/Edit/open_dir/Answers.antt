@@ -1,7 +1,6 @@
-use Rattle.std.proofs.Common.{◌∙◌, ap, sym, refl, ◌∷◌, []}
+use Rattle.std.proofs.Common.{◌∙◌, ap, refl, ◌∷◌, []}
 use Rattle.delta_editor.specs.declared.call.Call.TheVariants as call
-use Rattle.ra_edit.specs.Edits.{Dir, named, is_free}
-use Rattle.ra_edit.specs.Edit.{dirs_named}
+use Rattle.ra_edit.specs.Edits.{Dir, named}
 use Rattle.ra_edit.proofs.Steps.{dir_opened, says_open_dir}
 use Rattle.std.proofs.lemmas.Result.{err_from_is_err_and}
 use Rattle.ra_edit.proofs.OwnRefusals.{dir_met}
@@ -9,22 +8,16 @@ use Rattle.ra_edit.proofs.receive_edit.Edit.open_dir.Goals as goal
 
 pub returns-clause-moved : goal.returns-clause-moved
 returns-clause-moved g c =
-    let old = c.args.self.now in
-    let mid = c.take_parent.new.self in
     let d = c.in_ok-dir.dir in
     let t = c.in_ok-dir.ensures in
     let dp = g.E.Editor.dir_path in
-    λ at item f h. dir_opened dp g.E.Editor.file_path g.E.Editor.shows old.editor mid.editor c.open_dir-done.new.self old.stage mid.stage old.dirs.items mid.dirs.items c.push_reserved.new.self.items c.push_reserved-2.new.self.items d (record d { baton = c.open_dir-done.new.up }) (record { token = c.args.token; baton = c.in_ok-baton.baton }) old.file mid.file (call.OpenDir (dp d.baton) c.args.path c.args.base) (call.OpenDir (dp d.baton) c.args.path c.args.base) item at
+    λ at item f h. dir_opened dp _ _ _ _ _ _ _ _ _ _ _ d (record d { baton = c.open_dir-done.new.up }) (record { token = c.args.token; baton = c.in_ok-baton.baton }) _ _ _ _ item at
     t.taken.0 t.taken.2 c.push_reserved.ensures.items c.push_reserved-2.ensures.items (ap (λ x. named d.token.items x Dir) c.in_ok-baton.ensures.up) t.editor t.stage t.file refl
-    (ap (λ x. is_free x (dirs_named dp old.dirs.items)) (sym c.as_slice-2.ensures.value) ∙ t.free)
+    (rw c.as_slice-2.ensures.value at t.free)
     (says_open_dir dp d (record { token = c.args.token; baton = c.in_ok-baton.baton }) c.args.path c.args.base c.args.up.items f.0 f.1 item f.2 f.3 f.4 (t.taken.1 ∙ c.as_slice.ensures.value) c.in_ok-baton.ensures.baton) h c.in_ok-baton.ensures.shown
 
 pub returns-in_err-baton-clause-own : goal.returns-in_err-baton-clause-own
 returns-in_err-baton-clause-own g c =
     let p = err_from_is_err_and c.from_residual-in_err-baton.result c.from_residual-in_err-baton.ensures.1 in
-    let old = c.args.self.now in
-    let mid = c.take_parent.new.self in
-    let d = c.in_ok-dir.dir in
     let t = c.in_ok-dir.ensures in
-    let dp = g.E.Editor.dir_path in
-    rw (p.1, p.2) (λ at h. dir_met dp g.E.Editor.file_path g.E.Editor.shows g.E.Editor.began g.E.Editor.refuses old.editor mid.editor old.stage old.dirs.items mid.dirs.items d old.file at (λ q. call.OpenDir q c.args.path c.args.base) (call.OpenDir (dp d.baton) c.args.path c.args.base) _ c.in_err-baton.field-0.0 t.taken.0 t.taken.2 t.editor refl (λ q e. ap (λ r. call.OpenDir r c.args.path c.args.base ∷ []) e) h c.in_err-baton.ensures.refused)
+    rw (p.1, p.2) (λ at h. dir_met _ _ _ _ _ _ _ _ _ _ _ _ at (λ q. call.OpenDir q c.args.path c.args.base) _ _ _ t.taken.0 t.taken.2 t.editor refl (λ q e. ap (λ r. call.OpenDir r c.args.path c.args.base ∷ []) e) h c.in_err-baton.ensures.refused)

@@ -1,8 +1,6 @@
-use Rattle.std.proofs.Common.{◌∙◌, ◌∷◌, [], ap, sym, refl, subst}
-use Rattle.delta_editor.specs.Calls.{Adds}
+use Rattle.std.proofs.Common.{◌∙◌, ◌∷◌, [], ap, refl}
 use Rattle.delta_editor.specs.declared.call.Call.TheVariants as call
-use Rattle.ra_edit.specs.Edits.{Dir, named, is_free}
-use Rattle.ra_edit.specs.Edit.{dirs_named}
+use Rattle.ra_edit.specs.Edits.{Dir, named}
 use Rattle.ra_edit.specs.declared.receive_edit.Given.TheVariants as given
 use Rattle.ra_edit.proofs.Steps.{file_opened, says_open_file}
 use Rattle.std.proofs.lemmas.Result.{err_from_is_err_and}
@@ -11,25 +9,18 @@ use Rattle.ra_edit.proofs.receive_edit.Edit.open_file.Goals as goal
 
 pub returns-clause-moved : goal.returns-clause-moved
 returns-clause-moved g c =
-    let old = c.args.self.now in
-    let mid = c.take_parent.new.self in
-    let new = c.hold.new.self in
     let d = c.in_ok-dir.dir in
     let t = c.in_ok-dir.ensures in
     let dp = g.E.Editor.dir_path in
     let fp = g.E.Editor.file_path in
-    λ at item f h. file_opened dp fp g.E.Editor.shows old.editor mid.editor new.editor old.stage new.stage old.dirs.items mid.dirs.items new.dirs.items d (record d { baton = c.open_file-done.new.up }) old.file new.file (record { token = c.args.token; baton = c.in_ok-baton.baton; given = given.Nothing }) (call.OpenFile (dp d.baton) c.args.path c.args.base) (call.OpenFile (dp d.baton) c.args.path c.args.base) item at
+    λ at item f h. file_opened dp fp _ _ _ _ _ _ _ _ _ d (record d { baton = c.open_file-done.new.up }) _ _ (record { token = c.args.token; baton = c.in_ok-baton.baton; given = given.Nothing }) _ _ item at
     t.taken.0 t.taken.2 (ap (λ v. v.items) c.hold.ensures.dirs ∙ c.push_reserved.ensures.items) (ap (λ x. named d.token.items x Dir) c.in_ok-baton.ensures.up) t.editor (c.hold.ensures.stage ∙ t.stage) c.hold.ensures.file refl refl
-    (ap (λ x. is_free x (dirs_named dp old.dirs.items)) (sym c.as_slice-2.ensures.value) ∙ t.free)
+    (rw c.as_slice-2.ensures.value at t.free)
     (says_open_file dp fp d (record { token = c.args.token; baton = c.in_ok-baton.baton; given = given.Nothing }) c.args.path c.args.base c.args.up.items f.0 f.1 item f.2 f.3 f.4 (t.taken.1 ∙ c.as_slice.ensures.value) c.in_ok-baton.ensures.baton) h
-    (subst (λ x. Adds g.E.Editor.shows mid.editor x ((call.OpenFile (dp d.baton) c.args.path c.args.base) ∷ [])) (sym c.hold.ensures.editor) c.in_ok-baton.ensures.shown)
+    (rw c.hold.ensures.editor c.in_ok-baton.ensures.shown)
 
 pub returns-in_err-baton-clause-own : goal.returns-in_err-baton-clause-own
 returns-in_err-baton-clause-own g c =
     let p = err_from_is_err_and c.from_residual-in_err-baton.result c.from_residual-in_err-baton.ensures.1 in
-    let old = c.args.self.now in
-    let mid = c.take_parent.new.self in
-    let d = c.in_ok-dir.dir in
     let t = c.in_ok-dir.ensures in
-    let dp = g.E.Editor.dir_path in
-    rw (p.1, p.2) (λ at h. dir_met dp g.E.Editor.file_path g.E.Editor.shows g.E.Editor.began g.E.Editor.refuses old.editor mid.editor old.stage old.dirs.items mid.dirs.items d old.file at (λ q. call.OpenFile q c.args.path c.args.base) (call.OpenFile (dp d.baton) c.args.path c.args.base) _ c.in_err-baton.field-0.0 t.taken.0 t.taken.2 t.editor refl (λ q e. ap (λ r. call.OpenFile r c.args.path c.args.base ∷ []) e) h c.in_err-baton.ensures.refused)
+    rw (p.1, p.2) (λ at h. dir_met _ _ _ _ _ _ _ _ _ _ _ _ at (λ q. call.OpenFile q c.args.path c.args.base) _ _ _ t.taken.0 t.taken.2 t.editor refl (λ q e. ap (λ r. call.OpenFile r c.args.path c.args.base ∷ []) e) h c.in_err-baton.ensures.refused)

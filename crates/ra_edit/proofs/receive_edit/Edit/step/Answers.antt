@@ -6,12 +6,10 @@ use Rattle.ra_edit.proofs.receive_edit.Edit.step.Goals as goal
 
 pub returns-then-is_announced-clause-refused : goal.returns-then-is_announced-clause-refused
 returns-then-is_announced-clause-refused g c =
-    let old = c.args.self.now in
-    λ at h. announced_refused g.E.Editor.dir_path g.E.Editor.file_path old.stage old.dirs.items old.file at c.args.command (sym c.is_announced.ensures ∙ c.if-is_announced.true) c.in_default.not-Finish h
+    λ at h. announced_refused _ _ _ _ _ at c.args.command (sym c.is_announced.ensures ∙ c.if-is_announced.true) c.in_default.not-Finish h
 
 pub returns-in_err-perform-clause-refused : goal.returns-in_err-perform-clause-refused
 returns-in_err-perform-clause-refused g c =
-    let old = c.args.self.now in
     let p = err_from_is_err_and c.from_residual.result c.from_residual.ensures.1 in
     let f = c.in_err-perform.field-0.0 in
-    rw (p.1, p.2) (λ at h. subst (λ x. RefusedFor f x) (sym (refusal_due g.E.Editor.dir_path g.E.Editor.file_path old.stage old.dirs.items old.file at c.args.command (sym c.is_announced.ensures ∙ c.if-is_announced.false) h)) (c.in_err-perform.ensures.refused at (not_finish c.args.command c.in_default.not-Finish) h))
+    rw (p.1, p.2) (λ at h. subst (λ x. RefusedFor f x) (sym (refusal_due _ _ _ _ _ at c.args.command (sym c.is_announced.ensures ∙ c.if-is_announced.false) h)) (c.in_err-perform.ensures.refused (not_finish c.args.command c.in_default.not-Finish) at h))
