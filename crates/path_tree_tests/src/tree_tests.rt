@@ -167,12 +167,14 @@ const OURS: [(Call, u8); 4] = [
     (Call::File("d/e/g"), 0),
     (Call::Gone("f"), 0),
 ];
+
 const THEIRS: [(Call, u8); 4] = [
     (Call::Text("d/e/f"), 0),
     (Call::Dir("d/a"), 0),
     (Call::File("d/a/f"), 0),
     (Call::Text("f"), 0),
 ];
+
 const OURS_AGAIN: [(Call, u8); 3] = [
     (Call::Text("d/e/f"), 0),
     (Call::Dir("d/a"), 0),
