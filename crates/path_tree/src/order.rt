@@ -1,5 +1,4 @@
-//! The order of names. They are short and differ early, so they are compared byte by byte: to compare runs of bytes
-//! costs more than it saves.
+//! The order of names, byte by byte.
 ghost use Rattle.std.specs.Prelude.{◌≡◌};
 ghost use Rattle.node_base.specs.Path.{name_cmp};
 
