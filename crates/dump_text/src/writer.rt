@@ -1,6 +1,8 @@
 //! The canonical spelling.
 
 ghost use Rattle.std.specs.Prelude.{◌≡◌, ◌+◌, [], ◌∷◌, length, Some, true, false, OnOk, codes};
+ghost use Rattle.std.specs.Fmt.{decimal as printed};
+ghost use Rattle.node_base.specs.PathText.{path_text, slashed};
 ghost use Rattle.std.specs.List.{flat_map};
 ghost use Rattle.std.specs.Io.KnownBytes.{Appends};
 ghost use Rattle.hex.specs.Hex.{encode_lower};
@@ -14,7 +16,8 @@ ghost use Rattle.dump_text.specs.Canon.{block_of, block_line, text_of, text_line
 
 use crate::limits::{entry_reads_again, revision_reads_again};
 use crate::record::{NodeRecord, PropPart, RevRecord};
-use node_base::{Action, NodeKind, Props, RevNo, Source, Text};
+use itoa::Buffer;
+use node_base::{Action, NodeKind, NodeName, NodePath, Props, RevNo, Source, Text};
 use std::io;
 use std::io::{ErrorKind, Write};
 use uuid::Uuid;
@@ -64,13 +67,69 @@ pub fn write_props_entry<W: Write>(out: &mut W, number: RevNo, props: &Props) ->
     Ok(())
 }
 
+// Writes a header line: its name with colon and blank, its value, an LF.
+fn write_line<W: Write>(out: &mut W, name: &[u8], value: &[u8]) -> io::Result<()>
+    ensures { OnOk result (Appends (W.contents out.old) (W.contents out.new) (header_line name.now value.now)) }
+{
+    out.write_all(name)?;
+    out.write_all(value)?;
+    out.write_all(b"\n")
+}
+
+// Writes a header line with a number.
+fn write_count<W: Write>(out: &mut W, name: &[u8], count: u64) -> io::Result<()>
+    ensures { OnOk result (Appends (W.contents out.old) (W.contents out.new) (header_line name.now (printed count))) }
+{
+    let mut digits = Buffer::new();
+    write_line(out, name, digits.format(count).as_bytes())
+}
+
+// Writes names, each behind a slash.
+fn write_slashed<W: Write>(out: &mut W, names: &[NodeName]) -> io::Result<()>
+    ensures { OnOk result (Appends (W.contents out.old) (W.contents out.new) (slashed names.now)) }
+{
+    for name in names {
+        out.write_all(b"/")?;
+        out.write_all(name.as_str().as_bytes())?;
+    }
+    Ok(())
+}
+
+// Writes a name, and others behind slashes.
+fn write_first<W: Write>(out: &mut W, first: &NodeName, rest: &[NodeName]) -> io::Result<()>
+    ensures { OnOk result (Appends (W.contents out.old) (W.contents out.new) (path_text (first.now ∷ rest.now))) }
+{
+    out.write_all(first.as_str().as_bytes())?;
+    write_slashed(out, rest)
+}
+
+// Writes names with a slash between each two.
+fn write_names<W: Write>(out: &mut W, names: &[NodeName]) -> io::Result<()>
+    ensures { OnOk result (Appends (W.contents out.old) (W.contents out.new) (path_text names.now)) }
+{
+    match names.split_first() {
+        Some((first, rest)) => write_first(out, first, rest),
+        None => Ok(()),
+    }
+}
+
+// Writes a header line with a path.
+fn write_path<W: Write>(out: &mut W, name: &[u8], path: &NodePath) -> io::Result<()>
+    ensures { OnOk result (Appends (W.contents out.old) (W.contents out.new)
+        (header_line name.now (path_text path.now))) }
+{
+    out.write_all(name)?;
+    write_names(out, path.names())?;
+    out.write_all(b"\n")
+}
+
 fn write_entry<W: Write>(out: &mut W, number: RevNo, props: &Props) -> io::Result<()>
     ensures { OnOk result (Appends (W.contents out.old) (W.contents out.new) (canon_entry number props.now)) }
 {
     let len = props.block_len();
-    write!(out, "Revision-number: {number}\n")?;
-    write!(out, "Prop-content-length: {len}\n")?;
-    write!(out, "Content-length: {len}\n")?;
+    write_count(out, b"Revision-number: ", u64::from(number.get()))?;
+    write_count(out, b"Prop-content-length: ", len)?;
+    write_count(out, b"Content-length: ", len)?;
     out.write_all(b"\n")?;
     props.write_block(out)?;
     out.write_all(b"\n")?;
@@ -115,11 +174,10 @@ fn write_nodes<W: Write>(out: &mut W, nodes: &[NodeRecord]) -> io::Result<()>
 fn write_node<W: Write>(out: &mut W, node: &NodeRecord) -> io::Result<()>
     ensures { OnOk result (Appends (W.contents out.old) (W.contents out.new) (canon_node node.now)) }
 {
-    let path = &node.path;
     let action = action_word(node.action);
-    write!(out, "Node-path: {path}\n")?;
+    write_path(out, b"Node-path: ", &node.path)?;
     write_kind(out, told_kind(node.action, node.kind))?;
-    write!(out, "Node-action: {action}\n")?;
+    write_line(out, b"Node-action: ", action.as_bytes())?;
     write_source(out, &node.source)?;
     write_block_line(out, &node.props)?;
     write_text_lines(out, &node.text)?;
@@ -163,7 +221,7 @@ fn write_kind<W: Write>(out: &mut W, kind: Option<NodeKind>) -> io::Result<()>
 {
     if let Some(kind) = kind {
         let word = kind_word(kind);
-        write!(out, "Node-kind: {word}\n")?;
+        write_line(out, b"Node-kind: ", word.as_bytes())?;
     }
     Ok(())
 }
@@ -173,9 +231,8 @@ fn write_source<W: Write>(out: &mut W, source: &Option<Source>) -> io::Result<()
 {
     if let Some(source) = source {
         let number = source.revision;
-        let path = &source.path;
-        write!(out, "Node-copyfrom-rev: {number}\n")?;
-        write!(out, "Node-copyfrom-path: {path}\n")?;
+        write_count(out, b"Node-copyfrom-rev: ", u64::from(number.get()))?;
+        write_path(out, b"Node-copyfrom-path: ", &source.path)?;
     }
     Ok(())
 }
@@ -184,8 +241,7 @@ fn write_block_line<W: Write>(out: &mut W, props: &Option<PropPart>) -> io::Resu
     ensures { OnOk result (Appends (W.contents out.old) (W.contents out.new) (block_line props.now)) }
 {
     if let Some(PropPart::Whole(props)) = props {
-        let len = props.block_len();
-        write!(out, "Prop-content-length: {len}\n")?;
+        write_count(out, b"Prop-content-length: ", props.block_len())?;
     }
     Ok(())
 }
@@ -194,8 +250,7 @@ fn write_text_lines<W: Write>(out: &mut W, text: &Option<Text>) -> io::Result<()
     ensures { OnOk result (Appends (W.contents out.old) (W.contents out.new) (text_lines text.now)) }
 {
     if let Some(text) = text {
-        let len = text.len();
-        write!(out, "Text-content-length: {len}\n")?;
+        write_count(out, b"Text-content-length: ", text.len() as u64)?;
         write_sum(out, text)?;
     }
     Ok(())
@@ -244,8 +299,9 @@ fn write_content_line<W: Write>(
     ensures { OnOk result (Appends (W.contents out.old) (W.contents out.new) (content_line props.now text.now)) }
 {
     if props.is_some() || text.is_some() {
-        let len = content_len(props, text);
-        write!(out, "Content-length: {len}\n")?;
+        let mut digits = Buffer::new();
+        let len = digits.format(content_len(props, text));
+        write_line(out, b"Content-length: ", len.as_bytes())?;
     }
     Ok(())
 }

@@ -3,6 +3,7 @@ pub mod Due
 pub mod Feeding
 pub mod Groups
 pub mod Identities
+pub mod Listed
 pub mod Makers
 pub mod Spelled
 pub mod Streaming

@@ -52,7 +52,7 @@ pub fn run_canon<I: Input, O: Output>(
     ensures peer { BothCounted result (counts I.failures I.reads input.old input.new) (O.failures output.old) (O.failures output.new) }
 {
     let mut history = History::new(alloc)?;
-    let mut rewriter = Rewriter { alloc };
+    let mut rewriter = Rewriter::new(alloc);
     let done = read_stream(alloc, &mut rewriter, &mut history, output, input);
     forget(history);
     done

@@ -25,7 +25,17 @@ pub struct Lister {
 /// Who writes a dump in its canonical spelling.
 #[derive(Drop)]
 pub struct Rewriter {
-    pub alloc: Global,
+    // What is due, made whole before it is written. Its memory serves every revision.
+    due: Vec<u8>,
+}
+
+impl Rewriter {
+    /// Nothing is due yet.
+    pub fn new(alloc: Global) -> Rewriter {
+        Rewriter {
+            due: Vec::new(alloc),
+        }
+    }
 }
 
 // Whether a revision other than 0 has begun that hadn't before.
@@ -76,28 +86,29 @@ fn room_for(closed: &Option<RevRecord>) -> usize {
     }
 }
 
-// What is due: the head and revision 0, or not, and then the revision that is whole, if there is one.
-fn due_bytes(
-    alloc: Global,
+// Makes the bytes those that are due: the head and revision 0, or not, and then the revision that is whole, if there
+// is one.
+fn make_due(
     is_due: bool,
     history: &History,
     closed: &Option<RevRecord>,
-) -> Result<Vec<u8>, AllocError>
-    ensures { IfOk result (λ v. v.items ≡ (if is_due then head_of (told_of history.now) else [])
+    bytes: &mut Vec<u8>,
+) -> Result<(), AllocError>
+    ensures { OnOk result (bytes.new.items ≡ (if is_due then head_of (told_of history.now) else [])
         ++ flat_map canon_of (revs_of closed.now)) }
 {
-    let mut bytes = Vec::with_capacity(alloc, room_for(closed))?;
-    push_beginning(is_due, history, &mut bytes)?;
-    push_closed(closed, &mut bytes)?;
-    Ok(bytes)
+    bytes.clear();
+    bytes.reserve(room_for(closed))?;
+    push_beginning(is_due, history, bytes)?;
+    push_closed(closed, bytes)
 }
 
 // Writes what is due. It is made whole before: where memory runs out nothing of it is written.
 fn write_due<O: Output>(
-    alloc: Global,
     is_due: bool,
     history: &History,
     closed: &Option<RevRecord>,
+    bytes: &mut Vec<u8>,
     output: &mut O,
 ) -> Result<(), Refusal>
     ensures ok { OnOk result (Appends (O.contents output.old) (O.contents output.new)
@@ -106,8 +117,8 @@ fn write_due<O: Output>(
         ⊎ ((O.contents output.new ≡ O.contents output.old) × (e ≡ Refusal.OutOfMemory))) }
     ensures peer { Counted result (O.failures output.old) (O.failures output.new) }
 {
-    match due_bytes(alloc, is_due, history, closed) {
-        Ok(bytes) => write(output, &bytes),
+    match make_due(is_due, history, closed, bytes) {
+        Ok(()) => write(output, bytes.as_slice()),
         Err(_) => Err(Refusal::OutOfMemory),
     }
 }
@@ -132,7 +143,7 @@ fn list_record<O: Output>(
 
 // A record more of a dump that is written in its canonical spelling. What is due of it is written.
 fn rewrite<O: Output>(
-    alloc: Global,
+    bytes: &mut Vec<u8>,
     history: &mut History,
     next: DumpRecord,
     output: &mut O,
@@ -146,7 +157,7 @@ fn rewrite<O: Output>(
     let had_begun = history.has_begun();
     let closed = history.take(next)?;
     let is_due = begins(had_begun, history);
-    write_due(alloc, is_due, history, &closed, output)
+    write_due(is_due, history, &closed, bytes, output)
 }
 
 // The listing of the newest tree.
@@ -163,14 +174,14 @@ fn finish_list<O: Output>(
 {
     history.close()?;
     match newest_listing(alloc, history.trees()) {
-        Ok(text) => write(output, text.as_str().as_bytes()),
+        Ok(bytes) => write(output, bytes.as_slice()),
         Err(_) => Err(Refusal::OutOfMemory),
     }
 }
 
 // What isn't written yet of the canonical spelling.
 fn finish_canon<O: Output>(
-    alloc: Global,
+    bytes: &mut Vec<u8>,
     history: &mut History,
     output: &mut O,
 ) -> Result<(), Refusal>
@@ -182,7 +193,7 @@ fn finish_canon<O: Output>(
 {
     let had_begun = history.has_begun();
     let closed = history.close()?;
-    write_due(alloc, !had_begun, history, &closed, output)
+    write_due(!had_begun, history, &closed, bytes, output)
 }
 
 impl<O: Output> Taker<History, O> for Lister {
@@ -231,10 +242,10 @@ impl<O: Output> Taker<History, O> for Rewriter {
         store: &mut History,
         output: &mut O,
     ) -> Result<(), Refusal> {
-        rewrite(self.alloc, store, next, output)
+        rewrite(&mut self.due, store, next, output)
     }
 
     fn end(&mut self, store: &mut History, output: &mut O) -> Result<(), Refusal> {
-        finish_canon(self.alloc, store, output)
+        finish_canon(&mut self.due, store, output)
     }
 }

@@ -6,7 +6,6 @@ ghost use Rattle.fleet_engines.specs.Pieces.{RecordsDontMatter};
 
 pub use commands::{run_canon, run_list};
 pub use line::write_line;
-pub use lines::{push_node_line, push_path};
 pub use open_revision::OpenRevision;
 pub use product::Product;
 pub use stream::{hand_on, read, write, write_count, write_parts};

@@ -7,9 +7,9 @@ use Rattle.node_base.specs.Path.{Name}
 use Rattle.node_base.specs.Props.{PropMap}
 use Rattle.node_base.specs.BlockGrammar.{property, block_end}
 
--- a letter with the count of some bytes, and the bytes, each line with its LF
+-- a letter with its blank and the count of some bytes, and the bytes, each line with its LF
 abbrev pub counted : List ℕ → List ℕ → List ℕ
-counted letter bytes = letter ++ 32 ∷ (decimal (length bytes) ++ 10 ∷ (bytes ++ 10 ∷ []))
+counted letter bytes = letter ++ (decimal (length bytes) ++ 10 ∷ (bytes ++ 10 ∷ []))
 
 -- counts without leading zeros
 abbrev pub canon_property : Name × List ℕ → List ℕ

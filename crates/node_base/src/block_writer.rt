@@ -5,15 +5,18 @@ ghost use Rattle.std.specs.Fmt.{decimal};
 ghost use Rattle.node_base.specs.BlockCanon.{counted, canon_property, canon_block};
 
 use crate::{PropName, PropValue, Props};
+use itoa::Buffer;
 use std::io;
 use std::io::Write;
 
-// Writes a letter with the count of some bytes, and the bytes, each line with its LF.
-fn write_counted<W: Write>(out: &mut W, letter: &str, bytes: &[u8]) -> io::Result<()>
+// Writes the count of some bytes behind a letter and a blank, and the bytes, each line with its LF.
+fn write_counted<W: Write>(out: &mut W, letter: &[u8], bytes: &[u8]) -> io::Result<()>
     ensures { OnOk result (Appends (W.contents out.old) (W.contents out.new) (counted letter.now bytes.now)) }
 {
-    let n = bytes.len();
-    write!(out, "{letter} {n}\n")?;
+    let mut digits = Buffer::new();
+    out.write_all(letter)?;
+    out.write_all(digits.format(bytes.len()).as_bytes())?;
+    out.write_all(b"\n")?;
     out.write_all(bytes)?;
     out.write_all(b"\n")
 }
@@ -22,8 +25,8 @@ fn write_counted<W: Write>(out: &mut W, letter: &str, bytes: &[u8]) -> io::Resul
 fn write_property<W: Write>(out: &mut W, name: &PropName, value: &PropValue) -> io::Result<()>
     ensures { OnOk result (Appends (W.contents out.old) (W.contents out.new) (canon_property (name.now, value.now))) }
 {
-    write_counted(out, "K", name.as_bytes())?;
-    write_counted(out, "V", value.as_slice())
+    write_counted(out, b"K ", name.as_bytes())?;
+    write_counted(out, b"V ", value.as_slice())
 }
 
 // How many digits a number has.

@@ -54,9 +54,11 @@ impl Bytes {
         Ok(())
     }
 
+    // Adds bytes. There is room for one more behind them, which most often comes.
     pub fn extend(&mut self, piece: &[u8]) -> Result<(), AllocError>
         ensures { IfOk result (λ _. self.new ≡ self.old ++ piece.now) }
     {
+        self.bytes.reserve(piece.len().saturating_add(1))?;
         self.bytes.extend_from_slice(piece)?;
         Ok(())
     }

@@ -240,7 +240,8 @@ fn has_many_names(bytes: &[u8]) -> bool
     requires { length bytes.now ≤ 1024 }
     ensures { result ≡ nat_lt 64 (length (pieces bytes.now)) }
 {
-    Pieces::of(bytes).count() > PATH_NAMES
+    // (so few bytes have no more names: they needn't be counted)
+    bytes.len() >= PATH_NAMES && Pieces::of(bytes).count() > PATH_NAMES
 }
 
 /// Whether a name has more than 255 bytes.

@@ -10,3 +10,4 @@ pub mod Reach
 pub mod RowLemmas
 pub mod Rows
 pub mod Shape
+pub mod Visited

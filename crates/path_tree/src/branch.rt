@@ -11,6 +11,7 @@ ghost use Rattle.path_tree.specs.Joined.{under};
 ghost use Rattle.path_tree.specs.Listed.{shown, shown_names};
 ghost use Rattle.path_tree.specs.Edits.{edit_here, edit_at, marked_by, renumbered};
 ghost use Rattle.path_tree.specs.Reach.{reach_to};
+ghost use Rattle.path_tree.specs.Visited.{texts};
 
 use crate::Entry;
 use crate::edit::Edit;
@@ -307,17 +308,17 @@ impl Branch {
         list_row(&self.children, alloc, above, out)
     }
 
-    /// Shows each node with its path, in path order. The path's names stand behind those above it, which come back as
-    /// they were.
+    /// Shows each node with its path's text, in path order. It stands behind the text above it, which comes back as
+    /// it was.
     #[cycle(visits)]
-    pub fn visit_into<'a, V: Visitor>(
-        &'a self,
-        above: &mut Vec<&'a NodeName>,
+    pub fn visit_into<V: Visitor>(
+        &self,
+        above: &mut Vec<u8>,
         visitor: &mut V,
     ) -> Result<(), AllocError>
         ensures said { OnOk result (V.said visitor.new ≡ V.said visitor.old
-            ++ flat_map V.line (under (shown_names above.old.items) (map.entries self.now))) }
-        ensures above { OnOk result (shown_names above.new.items ≡ shown_names above.old.items) }
+            ++ flat_map V.line (texts above.old.items (map.entries self.now))) }
+        ensures above { OnOk result (above.new.items ≡ above.old.items) }
     {
         visitor.visit(above.as_slice(), &self.node)?;
         visit_row(&self.children, above, visitor)

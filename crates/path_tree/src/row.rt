@@ -12,6 +12,7 @@ ghost use Rattle.path_tree.specs.Joined.{AreChildren, behind, below, child_at, u
 ghost use Rattle.path_tree.specs.Listed.{shown, shown_names};
 ghost use Rattle.path_tree.specs.Reach.{reach_of, reach_to};
 ghost use Rattle.path_tree.specs.Rows.{in_row, differs};
+ghost use Rattle.path_tree.specs.Visited.{texts};
 
 use crate::Entry;
 use crate::branch::Branch;
@@ -625,33 +626,35 @@ pub fn list_row<'a>(
     }
 }
 
-// Shows the nodes of a child with their paths, in path order.
+// Shows the nodes of a child with their paths' texts, in path order.
 #[cycle(visits)]
-fn visit_child<'a, V: Visitor>(
-    child: &'a (NodeName, Branch),
-    above: &mut Vec<&'a NodeName>,
+fn visit_child<V: Visitor>(
+    child: &(NodeName, Branch),
+    above: &mut Vec<u8>,
     visitor: &mut V,
 ) -> Result<(), AllocError>
     ensures said { OnOk result (V.said visitor.new ≡ V.said visitor.old ++ flat_map V.line
-        (under (shown_names above.old.items) (behind child.now.0 (map.entries child.now.1)))) }
-    ensures above { OnOk result (shown_names above.new.items ≡ shown_names above.old.items) }
+        (texts above.old.items (behind child.now.0 (map.entries child.now.1)))) }
+    ensures above { OnOk result (above.new.items ≡ above.old.items) }
 {
-    above.push(&child.0)?;
+    let len = above.as_slice().len();
+    above.push(b'/')?;
+    above.extend_from_slice(child.0.as_str().as_bytes())?;
     child.1.visit_into(above, visitor)?;
-    let _ = above.pop();
+    above.truncate(len);
     Ok(())
 }
 
-/// Shows the nodes of each child with their paths, in path order. The names above come back as they were.
+/// Shows the nodes of each child with their paths' texts, in path order. The text above comes back as it was.
 #[cycle(visits)]
-pub fn visit_row<'a, V: Visitor>(
-    row: &'a Row,
-    above: &mut Vec<&'a NodeName>,
+pub fn visit_row<V: Visitor>(
+    row: &Row,
+    above: &mut Vec<u8>,
     visitor: &mut V,
 ) -> Result<(), AllocError>
     ensures said { OnOk result (V.said visitor.new ≡ V.said visitor.old ++ flat_map V.line
-        (under (shown_names above.old.items) (below (in_row row.now)))) }
-    ensures above { OnOk result (shown_names above.new.items ≡ shown_names above.old.items) }
+        (texts above.old.items (below (in_row row.now)))) }
+    ensures above { OnOk result (above.new.items ≡ above.old.items) }
 {
     match row {
         Some(top) => {

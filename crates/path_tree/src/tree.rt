@@ -14,6 +14,7 @@ ghost use Rattle.path_tree.specs.Edits.{edit_at, marked_by};
 ghost use Rattle.path_tree.specs.Listed.{shown};
 ghost use Rattle.path_tree.specs.Nodes.{IsNode, HasNodes, IsSmallTree};
 ghost use Rattle.path_tree.specs.Shape.{IsShape};
+ghost use Rattle.path_tree.specs.Visited.{texts};
 
 use crate::Entry;
 use crate::branch::Branch;
@@ -99,9 +100,9 @@ impl Tree {
         Ok(out)
     }
 
-    /// Shows every path with its node, in path order. It wants memory for the names of one path alone.
+    /// Shows every path's text with its node, in path order. It wants memory for the text of one path alone.
     pub fn visit_nodes<V: Visitor>(&self, alloc: Global, visitor: &mut V) -> Result<(), AllocError>
-        ensures { OnOk result (V.said visitor.new ≡ V.said visitor.old ++ flat_map V.line (map.entries self.now)) }
+        ensures { OnOk result (V.said visitor.new ≡ V.said visitor.old ++ flat_map V.line (texts [] (map.entries self.now))) }
     {
         let mut above = Vec::new(alloc);
         self.root.visit_into(&mut above, visitor)

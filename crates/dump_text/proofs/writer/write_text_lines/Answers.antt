@@ -14,6 +14,6 @@ returns-in_ok-write_sum g c =
     let len = header_line name (printed (length c.in-Some.text)) in
     let sum = header_line (codes "Text-content-md5: ") (encode_lower (md5 c.in-Some.text)) in
     wrote_as (w c.args.out.now) (w c.write_sum.new.out) (len ++ sum) (text_lines c.args.text.now) (ap text_lines (sym c.in-Some.is))
-    (join (w c.args.out.now) (w c.write.new.self) (w c.write_sum.new.out) len sum
-    (wrote_as (w c.args.out.now) (w c.write.new.self) (header_line name (printed c.len-len.result)) len (ap (λ n. header_line name (printed n)) c.len-len.ensures.len) c.in_ok-write.ensures.bytes)
+    (join (w c.args.out.now) (w c.write_count.new.out) (w c.write_sum.new.out) len sum
+    (wrote_as (w c.args.out.now) (w c.write_count.new.out) (header_line name (printed c.len.result)) len (ap (λ n. header_line name (printed n)) c.len.ensures.len) c.in_ok-write_count.ensures)
     c.in_ok-write_sum.ensures)
