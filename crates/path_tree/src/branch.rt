@@ -5,7 +5,7 @@ ghost use Rattle.std.specs.FinMap as map;
 ghost use Rattle.std.specs.List.{list_any, flat_map};
 ghost use Rattle.node_base.specs.Path.{Path};
 ghost use Rattle.node_base.specs.Limits.{fits_after};
-ghost use Rattle.node_base.specs.Tree.{marked, blocked, changed_at};
+ghost use Rattle.node_base.specs.Tree.{marked, blocked, changed_at, with_given};
 ghost use Rattle.node_base.specs.NodeEdits.{with_prop, with_piece};
 ghost use Rattle.path_tree.specs.Joined.{under};
 ghost use Rattle.path_tree.specs.Listed.{shown, shown_names};
@@ -14,14 +14,14 @@ ghost use Rattle.path_tree.specs.Reach.{reach_to};
 ghost use Rattle.path_tree.specs.Visited.{texts};
 
 use crate::Entry;
-use crate::edit::Edit;
+use crate::edit::{Edit, copy_value, share_props, share_text};
 use crate::reach::Reach;
 use crate::row::{
     Row, Twig, alter_in, child_of, list_row, put_in, reach_in, shared, visit_row, with_branch,
     without,
 };
 use crate::visit::Visitor;
-use node_base::{Node, NodeName, PropName, PropValue, RevNo, TreeFault};
+use node_base::{Node, NodeName, PropName, PropValue, Props, RevNo, Text, TreeFault};
 use std::alloc::{AllocError, Global};
 use std::marker::Model;
 use std::sync::Arc;
@@ -192,12 +192,12 @@ impl Branch {
         &mut self,
         alloc: Global,
         path: &[NodeName],
-        edit: Edit,
+        edit: &Edit,
         number: Option<RevNo>,
     ) -> Result<(), AllocError>
         requires { IsSome (map.get self.old path.now) }
         ensures ok { OnOk result ((q : Path)
-            → map.get self.new q ≡ edit_at edit (marked_by number (map.get self.old) path.now) path.now q) }
+            → map.get self.new q ≡ edit_at edit.now (marked_by number (map.get self.old) path.now) path.now q) }
         ensures err { OnErr result (self.new ≡ self.old) }
     {
         match path {
@@ -214,11 +214,11 @@ impl Branch {
     fn alter_top(
         &mut self,
         alloc: Global,
-        edit: Edit,
+        edit: &Edit,
         number: Option<RevNo>,
     ) -> Result<(), AllocError>
         ensures ok { OnOk result ((q : Path)
-            → map.get self.new q ≡ edit_here edit (marked_by number (map.get self.old) []) q) }
+            → map.get self.new q ≡ edit_here edit.now (marked_by number (map.get self.old) []) q) }
         ensures err { OnErr result (self.new ≡ self.old) }
     {
         self.alter_here(alloc, edit)?;
@@ -233,18 +233,32 @@ impl Branch {
         renumber(&mut self.node, &number);
     }
 
+    // Gives the node at the top a text and properties, where they are given. They are shared with those given.
+    fn put_parts(&mut self, text: &Option<Text>, props: &Option<Props>) -> Result<(), AllocError>
+        ensures ok { OnOk result ((q : Path)
+            → map.get self.new q ≡ changed_at (map.get self.old) [] (with_given text.now props.now) q) }
+        ensures err { OnErr result (self.new ≡ self.old) }
+    {
+        let text = share_text(text)?;
+        let props = share_props(props)?;
+        self.node.put_parts(text, props);
+        Ok(())
+    }
+
     // Puts a value at a property's name of the node at the top, or takes the one there away. A value that would
     // take the properties past their limits is no want of memory, and callers refuse it before.
     fn put_prop(
         &mut self,
         alloc: Global,
-        name: PropName,
-        value: Option<PropValue>,
+        name: &PropName,
+        value: &Option<PropValue>,
     ) -> Result<(), AllocError>
         ensures ok { OnOk result ((q : Path)
-            → map.get self.new q ≡ changed_at (map.get self.old) [] (with_prop name value) q) }
+            → map.get self.new q ≡ changed_at (map.get self.old) [] (with_prop name.now value.now) q) }
         ensures err { OnErr result (self.new ≡ self.old) }
     {
+        let name = name.copy(alloc)?;
+        let value = copy_value(alloc, value)?;
         let Ok(()) = self.node.put_prop(alloc, name, value) else {
             return Err(AllocError);
         };
@@ -265,20 +279,17 @@ impl Branch {
     }
 
     // Edits the node at the top.
-    fn alter_here(&mut self, alloc: Global, edit: Edit) -> Result<(), AllocError>
-        ensures ok { OnOk result ((q : Path) → map.get self.new q ≡ edit_here edit (map.get self.old) q) }
+    fn alter_here(&mut self, alloc: Global, edit: &Edit) -> Result<(), AllocError>
+        ensures ok { OnOk result ((q : Path) → map.get self.new q ≡ edit_here edit.now (map.get self.old) q) }
         ensures err { OnErr result (self.new ≡ self.old) }
     {
         match edit {
-            Edit::Parts(text, props) => {
-                self.node.put_parts(text, props);
-                Ok(())
-            }
+            Edit::Parts(text, props) => self.put_parts(text, props),
             Edit::Prop(name, value) => self.put_prop(alloc, name, value),
             Edit::Piece(piece) => self.append_text(alloc, piece.as_slice()),
-            Edit::Graft(child) => put_in(alloc, &mut self.children, &child),
+            Edit::Graft(child) => put_in(alloc, &mut self.children, child),
             Edit::Prune(name) => {
-                self.children = without(alloc, &self.children, &name)?;
+                self.children = without(alloc, &self.children, name)?;
                 Ok(())
             }
         }

@@ -1,7 +1,9 @@
 //! Edits of a node and what is below it.
+ghost use Rattle.std.specs.Prelude.{◌≡◌, IfOk};
 
 use crate::branch::Branch;
 use node_base::{NodeName, PropName, PropValue, Props, Text};
+use std::alloc::{AllocError, Global};
 use std::sync::Arc;
 
 // What is done at one node.
@@ -17,4 +19,34 @@ pub enum Edit {
     Graft(Arc<(NodeName, Branch)>),
     /// Removes the child of that name.
     Prune(NodeName),
+}
+
+/// The text for another owner, where there is one.
+pub fn share_text(text: &Option<Text>) -> Result<Option<Text>, AllocError>
+    ensures { IfOk result (λ t. t ≡ text.now) }
+{
+    match text {
+        Some(text) => Ok(Some(text.share()?)),
+        None => Ok(None),
+    }
+}
+
+/// The properties for another owner, where there are some.
+pub fn share_props(props: &Option<Props>) -> Result<Option<Props>, AllocError>
+    ensures { IfOk result (λ p. p ≡ props.now) }
+{
+    match props {
+        Some(props) => Ok(Some(props.share()?)),
+        None => Ok(None),
+    }
+}
+
+/// The value once more, where there is one.
+pub fn copy_value(alloc: Global, value: &Option<PropValue>) -> Result<Option<PropValue>, AllocError>
+    ensures { IfOk result (λ v. v ≡ value.now) }
+{
+    match value {
+        Some(value) => Ok(Some(value.copy(alloc)?)),
+        None => Ok(None),
+    }
 }

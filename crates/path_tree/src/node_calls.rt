@@ -35,7 +35,7 @@ impl Tree {
         self.limits();
         name_limits(&name);
         value_limits(&value);
-        Ok(self.edit(alloc, path.names(), Edit::Prop(name, value))?)
+        Ok(self.edit(alloc, path.names(), &Edit::Prop(name, value))?)
     }
 
     /// Puts an empty text in the place of a file's. Refused: as `set_text` is.
@@ -50,7 +50,7 @@ impl Tree {
         }
         self.limits();
         let text = Text::empty(alloc)?;
-        Ok(self.edit(alloc, path.names(), Edit::Parts(Some(text), None))?)
+        Ok(self.edit(alloc, path.names(), &Edit::Parts(Some(text), None))?)
     }
 
     /// Puts bytes behind a file's text. Refused: as `set_text` is, and then a text past 1,048,576 bytes (8).
@@ -70,7 +70,7 @@ impl Tree {
         }
         self.limits();
         let piece = Vec::from_slice(alloc, piece)?;
-        Ok(self.edit(alloc, path.names(), Edit::Piece(piece))?)
+        Ok(self.edit(alloc, path.names(), &Edit::Piece(piece))?)
     }
 
     fn prop_fault(&self, path: &NodePath, name: &PropName, puts: bool) -> Option<TreeFault>

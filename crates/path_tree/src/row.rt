@@ -385,14 +385,14 @@ fn alter_beside(
     behind: &mut Row,
     name: &NodeName,
     path: &[NodeName],
-    edit: Edit,
+    edit: &Edit,
     number: Option<RevNo>,
 ) -> Result<(), AllocError>
     requires children { AreChildren (in_row before.old ++ arc_value here.old ∷ in_row behind.old) }
     requires rooted { 1 ≤ map.len (arc_value here.old).1 }
     requires there { IsSome (child_at (in_row before.old ++ arc_value here.old ∷ in_row behind.old) name.now path.now) }
     ensures ok { OnOk result (ChildAlters (in_row before.old ++ arc_value here.old ∷ in_row behind.old)
-        (in_row before.new ++ arc_value here.new ∷ in_row behind.new) name.now path.now edit number) }
+        (in_row before.new ++ arc_value here.new ∷ in_row behind.new) name.now path.now edit.now number) }
     ensures err { OnErr result ((in_row before.new ≡ in_row before.old) × (arc_value here.new ≡ arc_value here.old)
         × (in_row behind.new ≡ in_row behind.old)) }
 {
@@ -409,13 +409,13 @@ fn alter_child(
     alloc: Global,
     child: &mut Arc<(NodeName, Branch)>,
     path: &[NodeName],
-    edit: Edit,
+    edit: &Edit,
     number: Option<RevNo>,
 ) -> Result<(), AllocError>
     requires { IsSome (map.get (arc_value child.old).1 path.now) }
     ensures name { (arc_value child.new).0 ≡ (arc_value child.old).0 }
     ensures ok { OnOk result ((q : Path) → map.get (arc_value child.new).1 q
-        ≡ edit_at edit (marked_by number (map.get (arc_value child.old).1) path.now) path.now q) }
+        ≡ edit_at edit.now (marked_by number (map.get (arc_value child.old).1) path.now) path.now q) }
     ensures err { OnErr result (arc_value child.new ≡ arc_value child.old) }
 {
     if let Some(own) = Arc::get_mut(child) {
@@ -436,12 +436,12 @@ pub fn alter_in(
     row: &mut Row,
     name: &NodeName,
     path: &[NodeName],
-    edit: Edit,
+    edit: &Edit,
     number: Option<RevNo>,
 ) -> Result<(), AllocError>
     requires children { AreChildren (in_row row.old) }
     requires there { IsSome (child_at (in_row row.old) name.now path.now) }
-    ensures ok { OnOk result (ChildAlters (in_row row.old) (in_row row.new) name.now path.now edit number) }
+    ensures ok { OnOk result (ChildAlters (in_row row.old) (in_row row.new) name.now path.now edit.now number) }
     ensures err { OnErr result (in_row row.new ≡ in_row row.old) }
 {
     let Some(top) = row else { unreachable!() };
@@ -499,20 +499,19 @@ impl Twig {
         alloc: Global,
         name: &NodeName,
         path: &[NodeName],
-        edit: Edit,
+        edit: &Edit,
         number: Option<RevNo>,
     ) -> Result<(), AllocError>
         requires children { AreChildren self.old }
         requires there { IsSome (child_at self.old name.now path.now) }
-        ensures ok { OnOk result (ChildAlters self.old self.new name.now path.now edit number) }
+        ensures ok { OnOk result (ChildAlters self.old self.new name.now path.now edit.now number) }
         ensures err { OnErr result (self.new ≡ self.old) }
     {
-        let (before, behind) = (&mut self.before, &mut self.behind);
         alter_beside(
             alloc,
-            before,
+            &mut self.before,
             &mut self.child,
-            behind,
+            &mut self.behind,
             name,
             path,
             edit,

@@ -207,7 +207,7 @@ impl Tree {
             return self.mark(alloc, path, number);
         };
         let name = name.copy(alloc)?;
-        self.alter(alloc, above, Edit::Prune(name), Some(number))
+        self.alter(alloc, above, &Edit::Prune(name), Some(number))
     }
 
     /// Gives the node at a path a text and properties, where they are given. The number goes to the path and to its
@@ -231,7 +231,7 @@ impl Tree {
         };
         text_limits(&text);
         props_limits(&props);
-        self.alter(alloc, path, Edit::Parts(text, props), Some(number))
+        self.alter(alloc, path, &Edit::Parts(text, props), Some(number))
     }
 
     // Puts a branch in the place of what stands at a path and below it, and a number on the fronts of the path.
@@ -257,7 +257,7 @@ impl Tree {
             unreachable!()
         };
         let child = Arc::new(alloc, (name.copy(alloc)?, branch))?;
-        self.alter(alloc, above, Edit::Graft(child), Some(number))
+        self.alter(alloc, above, &Edit::Graft(child), Some(number))
     }
 
     // Edits the node at a path, and gives no number.
@@ -265,12 +265,12 @@ impl Tree {
         &mut self,
         alloc: Global,
         path: &[NodeName],
-        edit: Edit,
+        edit: &Edit,
     ) -> Result<(), AllocError>
         requires there { IsSome (map.get self.old path.now) }
-        requires shape { IsShape (edit_at edit (map.get self.old) path.now) }
-        requires nodes { HasNodes (edit_at edit (map.get self.old) path.now) }
-        ensures ok { OnOk result ((q : Path) → map.get self.new q ≡ edit_at edit (map.get self.old) path.now q) }
+        requires shape { IsShape (edit_at edit.now (map.get self.old) path.now) }
+        requires nodes { HasNodes (edit_at edit.now (map.get self.old) path.now) }
+        ensures ok { OnOk result ((q : Path) → map.get self.new q ≡ edit_at edit.now (map.get self.old) path.now q) }
         ensures err { OnErr result (self.new ≡ self.old) }
     {
         self.alter(alloc, path, edit, None)
@@ -282,14 +282,14 @@ impl Tree {
         &mut self,
         alloc: Global,
         path: &[NodeName],
-        edit: Edit,
+        edit: &Edit,
         number: Option<RevNo>,
     ) -> Result<(), AllocError>
         requires there { IsSome (map.get self.old path.now) }
-        requires shape { IsShape (edit_at edit (marked_by number (map.get self.old) path.now) path.now) }
-        requires nodes { HasNodes (edit_at edit (marked_by number (map.get self.old) path.now) path.now) }
+        requires shape { IsShape (edit_at edit.now (marked_by number (map.get self.old) path.now) path.now) }
+        requires nodes { HasNodes (edit_at edit.now (marked_by number (map.get self.old) path.now) path.now) }
         ensures ok { OnOk result ((q : Path)
-            → map.get self.new q ≡ edit_at edit (marked_by number (map.get self.old) path.now) path.now q) }
+            → map.get self.new q ≡ edit_at edit.now (marked_by number (map.get self.old) path.now) path.now q) }
         ensures err { OnErr result (self.new ≡ self.old) }
     {
         if let Some(root) = Arc::get_mut(&mut self.root) {

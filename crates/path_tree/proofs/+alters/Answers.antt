@@ -50,7 +50,7 @@ row::alter_beside-returns-in-Less-clause-ok t c =
     let r = in_row c.args.behind.now in
     let x = c.args.name.now in
     let e : name_cmp x k.0 ≡ _ = ap (λ z. name_cmp x z.0) (sym c.deref.ensures) ∙ sym c.compare.ensures ∙ c.in-Less.is in
-    on_ok c.alter_in.result _ _ (alters_before _ l k r refl c.requires.children x c.args.path.now c.args.edit c.args.number e _ k r refl refl) c.alter_in.ensures.ok
+    on_ok c.alter_in.result _ _ (alters_before _ l k r refl c.requires.children x c.args.path.now c.args.edit.now c.args.number e _ k r refl refl) c.alter_in.ensures.ok
 
 pub row::alter_beside-returns-in-Equal-clause-ok : goal.row::alter_beside-returns-in-Equal-clause-ok
 row::alter_beside-returns-in-Equal-clause-ok t c =
@@ -59,7 +59,7 @@ row::alter_beside-returns-in-Equal-clause-ok t c =
     let r = in_row c.args.behind.now in
     let x = c.args.name.now in
     let e : name_cmp x k.0 ≡ _ = ap (λ z. name_cmp x z.0) (sym c.deref.ensures) ∙ sym c.compare.ensures ∙ c.in-Equal.is in
-    on_ok c.alter_child.result _ _ (alters_here _ l k r refl c.requires.children x c.args.path.now c.args.edit c.args.number e l _ r refl refl c.alter_child.ensures.name) c.alter_child.ensures.ok
+    on_ok c.alter_child.result _ _ (alters_here _ l k r refl c.requires.children x c.args.path.now c.args.edit.now c.args.number e l _ r refl refl c.alter_child.ensures.name) c.alter_child.ensures.ok
 
 pub row::alter_beside-returns-in-Greater-clause-ok : goal.row::alter_beside-returns-in-Greater-clause-ok
 row::alter_beside-returns-in-Greater-clause-ok t c =
@@ -68,7 +68,7 @@ row::alter_beside-returns-in-Greater-clause-ok t c =
     let r = in_row c.args.behind.now in
     let x = c.args.name.now in
     let e : name_cmp x k.0 ≡ _ = ap (λ z. name_cmp x z.0) (sym c.deref.ensures) ∙ sym c.compare.ensures ∙ c.in-Greater.is in
-    on_ok c.alter_in-in-Greater.result _ _ (alters_behind _ l k r refl c.requires.children x c.args.path.now c.args.edit c.args.number e l k _ refl refl) c.alter_in-in-Greater.ensures.ok
+    on_ok c.alter_in-in-Greater.result _ _ (alters_behind _ l k r refl c.requires.children x c.args.path.now c.args.edit.now c.args.number e l k _ refl refl) c.alter_in-in-Greater.ensures.ok
 
 pub row::Twig::alter_under-alter_beside-requires : goal.row::Twig::alter_under-alter_beside-requires
 row::Twig::alter_under-alter_beside-requires t c =
@@ -89,9 +89,9 @@ branch::Branch::alter-alter_in-requires t c =
 pub branch::Branch::alter-invariant_of-self-in-len1-up : goal.branch::Branch::alter-invariant_of-self-in-len1-up
 branch::Branch::alter-invariant_of-self-in-len1-up t c =
     let x = c.first-item.result in
-    rises_altered c.self.inside.node (in_row c.self.inside.children) c.self.invariant c.args.self.now c.self.view_is x _ c.args.path.now (first_and_rest c.args.path.now x c.first-item.is (omega arith)) _ c.args.edit c.args.number c.in_ok-alter_in-in-len1-up.ensures.ok
+    rises_altered c.self.inside.node (in_row c.self.inside.children) c.self.invariant c.args.self.now c.self.view_is x _ c.args.path.now (first_and_rest c.args.path.now x c.first-item.is (omega arith)) _ c.args.edit.now c.args.number c.in_ok-alter_in-in-len1-up.ensures.ok
 
 pub branch::Branch::alter-returns-in_ok-alter_in-in-len1-up-clause-ok : goal.branch::Branch::alter-returns-in_ok-alter_in-in-len1-up-clause-ok
 branch::Branch::alter-returns-in_ok-alter_in-in-len1-up-clause-ok t c =
     let x = c.first-item.result in
-    altered_below c.self.inside.node (in_row c.self.inside.children) c.self.invariant c.args.self.now c.self.view_is x _ c.args.path.now (first_and_rest c.args.path.now x c.first-item.is (omega arith)) _ c.args.edit c.args.number c.in_ok-alter_in-in-len1-up.ensures.ok _ c.renumber.ensures
+    altered_below c.self.inside.node (in_row c.self.inside.children) c.self.invariant c.args.self.now c.self.view_is x _ c.args.path.now (first_and_rest c.args.path.now x c.first-item.is (omega arith)) _ c.args.edit.now c.args.number c.in_ok-alter_in-in-len1-up.ensures.ok _ c.renumber.ensures

@@ -12,10 +12,7 @@ use Rattle.path_tree.proofs.Edits.{edits_as, edited_here, grafts_as, graft_in_ch
 use Rattle.path_tree.proofs.branch.Branch.alter_here.Goals as goal
 
 pub returns-in-Parts-clause-ok : goal.returns-in-Parts-clause-ok
-returns-in-Parts-clause-ok c = λ q.
-    edits_as _ _ c.args.self.now (same_path []) (same_path []) (with_given c.in-Parts.text c.in-Parts.props) c.self.view_is (λ q. refl)
-    (rw c.put_parts.ensures (edited_here c.self.inside.node (same_path []) (with_given c.in-Parts.text c.in-Parts.props) (in_row c.self.inside.children) c.self.invariant (λ y q. refl))) q
-    ∙ ap (λ e. edit_here e (get c.args.self.now) q) (sym c.in-Parts.is)
+returns-in-Parts-clause-ok c = on_ok c.put_parts.result _ _ (λ h q. h q ∙ ap (λ e. edit_here e (get c.args.self.now) q) (sym c.in-Parts.is)) c.put_parts.ensures.ok
 
 pub returns-in-Prop-clause-ok : goal.returns-in-Prop-clause-ok
 returns-in-Prop-clause-ok c = on_ok c.put_prop.result _ _ (λ h q. h q ∙ ap (λ e. edit_here e (get c.args.self.now) q) (sym c.in-Prop.is)) c.put_prop.ensures.ok
@@ -26,20 +23,20 @@ returns-in-Piece-clause-ok c =
     (λ h q. h q ∙ ap (λ p. changed_at (get c.args.self.now) [] (with_piece p) q) c.as_slice.ensures.value ∙ ap (λ e. edit_here e (get c.args.self.now) q) (sym c.in-Piece.is))
     c.append_text.ensures.ok
 
-pub invariant_of-self-in-Graft : goal.invariant_of-self-in-Graft
-invariant_of-self-in-Graft c =
+pub invariant_of-self : goal.invariant_of-self
+invariant_of-self c =
     let k = arc_value c.in-Graft.child in
-    rises_put c.put_in.result (in_row c.self-in-Graft.inside.children) _ k.0 k.1 c.self-in-Graft.invariant c.put_in.ensures.ok c.put_in.ensures.err
+    rises_put c.put_in.result (in_row c.self.inside.children) _ k.0 k.1 c.self.invariant c.put_in.ensures.ok c.put_in.ensures.err
 
 pub returns-in-Graft-clause-ok : goal.returns-in-Graft-clause-ok
 returns-in-Graft-clause-ok c =
     let m = (arc_value c.in-Graft.child).1 in
     let x = (arc_value c.in-Graft.child).0 in
-    let cs = in_row c.self-in-Graft.inside.children in
+    let cs = in_row c.self.inside.children in
     on_ok c.put_in.result _ _
     (λ h q.
-    grafts_as _ _ c.args.self.now (x ∷ []) (x ∷ []) (get m) c.self-in-Graft.view_is refl
-    (graft_in_child c.self-in-Graft.inside.node cs _ x (Some m) c.self-in-Graft.invariant (swaps_with cs _ x c.self-in-Graft.invariant m h) [] (get m) (λ q. refl)) q
+    grafts_as _ _ c.args.self.now (x ∷ []) (x ∷ []) (get m) c.self.view_is refl
+    (graft_in_child c.self.inside.node cs _ x (Some m) c.self.invariant (swaps_with cs _ x c.self.invariant m h) [] (get m) (λ q. refl)) q
     ∙ ap (λ e. edit_here e (get c.args.self.now) q) (sym c.in-Graft.is))
     c.put_in.ensures.ok
 

@@ -7,5 +7,6 @@ use Rattle.path_tree.proofs.branch.Branch.put_prop.Goals as goal
 
 pub returns-clause-ok : goal.returns-clause-ok
 returns-clause-ok c =
-    edits_as _ _ c.args.self.now (same_path []) (same_path []) (with_prop c.args.name c.args.value) c.self.view_is (λ q. refl)
-    (rw c.in-Ok.ensures.ok (edited_here c.self.inside.node (same_path []) (with_prop c.args.name c.args.value) (in_row c.self.inside.children) c.self.invariant (λ y q. refl)))
+    let change = with_prop c.args.name.now c.args.value.now in
+    edits_as _ _ c.args.self.now (same_path []) (same_path []) change c.self.view_is (λ q. refl)
+    (rw (c.in-Ok.ensures.ok, c.in_ok-name.ensures, c.in_ok-value.ensures) (edited_here c.self.inside.node (same_path []) change (in_row c.self.inside.children) c.self.invariant (λ y q. refl)))
