@@ -8,6 +8,7 @@ mod Kept
 mod Lines
 mod PathLines
 mod Records
+mod Splits
 mod StreamRuns
 mod SumLines
 mod Writes
