@@ -1,19 +1,17 @@
 -- A child that is edited among children, from the parts of a row.
-use Rattle.std.proofs.Common.{◌≡◌, ℕ, ◌≤◌, ◌∷◌, ◌++◌, Option, Result, Ok, Err, OnOk, OnErr, IsSome, sym, ap, subst, ◌∙◌}
+use Rattle.std.proofs.Common.{◌≡◌, ℕ, ◌∷◌, ◌++◌, Option, Result, Ok, Err, IfOk, OnOk, OnErr, IsSome, sym, ap, subst, ◌∙◌}
 use Rattle.std.specs.Option.{option_and_then}
 use Rattle.std.specs.declared.cmp.Ordering.TheVariants.{Less, Equal, Greater}
-use Rattle.std.specs.FinMap.{get, len}
+use Rattle.std.specs.FinMap.{get}
 use Rattle.std.specs.FinMap.Entries.{put}
 use Rattle.node_base.specs.Path.{Name, Path, name_cmp, names_exact}
 use Rattle.node_base.specs.declared.node.Node.{Node}
 use Rattle.node_base.specs.Tree.{PathMap}
 use Rattle.path_tree.specs.declared.edit.Edit.{Edit}
-use Rattle.path_tree.specs.declared.reach.Reach.{Reach}
 use Rattle.path_tree.specs.Edits.{ChildAlters, edit_at, marked_by, renumbered}
 use Rattle.path_tree.specs.Joined.{AreChildren, child_at, joined}
 use Rattle.path_tree.specs.JoinedLemmas.{get-joined}
-use Rattle.path_tree.specs.Reach.{reach_of}
-use Rattle.path_tree.specs.Rows.{Children, IsTwig}
+use Rattle.path_tree.specs.Rows.{Children}
 use Rattle.path_tree.proofs.Alters.{altered_in_child}
 use Rattle.path_tree.proofs.Rows.{row_find_before, row_find_here, row_find_behind, row_put_before, row_put_here, row_put_behind, swaps_with}
 
@@ -64,17 +62,10 @@ pub rises_put : {T E : Type 0} (o : Result T E) (old new : Children) (x : Name) 
 rises_put (Ok a) old new x m s ok err = (swaps_with old new x s m ok).rising
 rises_put (Err a) old new x m s ok err = subst AreChildren (sym err) s
 
--- ---- the same twig once more
-
-module _ (l l' : Children) (k k' : Name × PathMap) (r r' : Children) (el : l' ≡ l) (ek : k' ≡ k) (er : r' ≡ r) where
-  pub twig_again : (ρ : Reach) → IsTwig l k r ρ → IsTwig l' k' r' ρ
-  twig_again ρ h = record {
-    rooted = subst (λ z. 1 ≤ len z.1) (sym ek) h.rooted;
-    reach = h.reach ∙ ap reach_of (λ i. sym el i ++ sym ek i ∷ sym er i);
-  }
-
-  pub row_again : (self : Children) → l ++ k ∷ r ≡ self → l' ++ k' ∷ r' ≡ self
-  row_again self is = (λ i. el i ++ ek i ∷ er i) ∙ is
+-- what holds of a list holds of a row that is answered and has it
+pub if_ok_holds : {R E : Type 0} (o : Result R E) (f : R → Children) (P : Children → Type 0) (a : Children) → P a → IfOk o (λ r. f r ≡ a) → IfOk o (λ r. P (f r))
+if_ok_holds (Ok r) f P a p h = subst P (sym h) p
+if_ok_holds (Err e) f P a p h = tt
 
 -- ---- below a node
 

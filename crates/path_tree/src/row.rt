@@ -126,9 +126,8 @@ fn joint(
 ) -> Result<Row, AllocError>
     ensures { IfOk result (λ r. in_row r ≡ in_row before ++ arc_value child ∷ in_row behind) }
 {
-    let front = reach_in(&before).either(reach_to(&child));
-    let reach = front.either(reach_in(&behind));
-    let height = height(&before).max(height(&behind)).saturating_add(1);
+    let height = height_over(&before, &behind);
+    let reach = reach_over(&before, &child, &behind);
     let twig = Twig {
         child,
         before,
@@ -421,11 +420,63 @@ fn alter_child(
     if let Some(own) = Arc::get_mut(child) {
         return own.1.alter(alloc, path, edit, number);
     }
+    *child = altered_child(alloc, child, path, edit, number)?;
+    Ok(())
+}
+
+// A child with the edit at a path below it, and with the number on the way.
+#[cycle(alters)]
+fn altered_child(
+    alloc: Global,
+    child: &Arc<(NodeName, Branch)>,
+    path: &[NodeName],
+    edit: &Edit,
+    number: Option<RevNo>,
+) -> Result<Arc<(NodeName, Branch)>, AllocError>
+    requires { IsSome (map.get (arc_value child.now).1 path.now) }
+    ensures name { IfOk result (λ c. (arc_value c).0 ≡ (arc_value child.now).0) }
+    ensures altered { IfOk result (λ c. (q : Path) → map.get (arc_value c).1 q
+        ≡ edit_at edit.now (marked_by number (map.get (arc_value child.now).1) path.now) path.now q) }
+{
     let name = child.0.copy(alloc)?;
     let mut branch = child.1.again()?;
     branch.alter(alloc, path, edit, number)?;
-    *child = Arc::new(alloc, (name, branch))?;
-    Ok(())
+    Ok(Arc::new(alloc, (name, branch))?)
+}
+
+// The row with the edit of the child of that name at a path below it, and with the number on the way. Its twigs on
+// the way are made anew.
+#[cycle(alters)]
+fn altered(
+    alloc: Global,
+    row: &Row,
+    name: &NodeName,
+    path: &[NodeName],
+    edit: &Edit,
+    number: Option<RevNo>,
+) -> Result<Row, AllocError>
+    requires children { AreChildren (in_row row.now) }
+    requires there { IsSome (child_at (in_row row.now) name.now path.now) }
+    ensures { IfOk result (λ r. ChildAlters (in_row row.now) (in_row r) name.now path.now edit.now number) }
+{
+    let Some(top) = row else { unreachable!() };
+    let twig: &Twig = top;
+    match compare(name, &twig.child.0) {
+        Ordering::Less => {
+            let before = altered(alloc, &twig.before, name, path, edit, number)?;
+            let here = Arc::try_clone(&twig.child)?;
+            joint(alloc, before, here, shared(&twig.behind)?)
+        }
+        Ordering::Equal => {
+            let here = altered_child(alloc, &twig.child, path, edit, number)?;
+            joint(alloc, shared(&twig.before)?, here, shared(&twig.behind)?)
+        }
+        Ordering::Greater => {
+            let behind = altered(alloc, &twig.behind, name, path, edit, number)?;
+            let here = Arc::try_clone(&twig.child)?;
+            joint(alloc, shared(&twig.before)?, here, behind)
+        }
+    }
 }
 
 /// Edits the child of that name at a path below it, and gives the number on the way. What nobody shares is changed
@@ -448,26 +499,11 @@ pub fn alter_in(
     if let Some(twig) = Arc::get_mut(top) {
         return twig.alter_under(alloc, name, path, edit, number);
     }
-    let mut twig = top.again()?;
-    twig.alter_under(alloc, name, path, edit, number)?;
-    *top = Arc::new(alloc, twig)?;
+    *row = altered(alloc, row, name, path, edit, number)?;
     Ok(())
 }
 
 impl Twig {
-    // The same twig once more: what it has is shared.
-    fn again(&self) -> Result<Twig, AllocError>
-        ensures { IfOk result (λ t. t ≡ self.now) }
-    {
-        Ok(Twig {
-            child: Arc::try_clone(&self.child)?,
-            before: shared(&self.before)?,
-            behind: shared(&self.behind)?,
-            height: self.height,
-            reach: self.reach,
-        })
-    }
-
     // Puts a child in its place beside its own, or in the place of that.
     #[cycle(puts)]
     fn put_under(

@@ -1,12 +1,13 @@
-use Rattle.std.proofs.Common.{◌≡◌, IsSome, length, refl, sym, ap, subst, ◌∙◌, arith}
+use Rattle.std.proofs.Common.{◌≡◌, ◌∷◌, ◌++◌, IsSome, length, refl, sym, ap, subst, ◌∙◌, arith}
 use Rattle.std.specs.Arc.{arc_value}
 use Rattle.std.specs.FinMap.{len}
 use Rattle.node_base.specs.Path.{name_cmp}
+use Rattle.path_tree.specs.Edits.{ChildAlters}
 use Rattle.path_tree.specs.Joined.{AreChildren, below, child_at}
 use Rattle.path_tree.specs.RowLemmas.{length-below, len-joined}
 use Rattle.path_tree.specs.Rows.{in_row}
 use Rattle.path_tree.proofs.Edits.{first_and_rest, on_ok}
-use Rattle.path_tree.proofs.InPlace.{there_before, there_here, there_behind, alters_before, alters_here, alters_behind, there_below, rises_altered, altered_below}
+use Rattle.path_tree.proofs.InPlace.{there_before, there_here, there_behind, alters_before, alters_here, alters_behind, if_ok_holds, there_below, rises_altered, altered_below}
 use Rattle.path_tree.proofs.Rows.{row_rises_before, row_rises_behind}
 use Rattle.path_tree.proofs.+alters.Goals as goal
 
@@ -69,6 +70,78 @@ row::alter_beside-returns-in-Greater-clause-ok t c =
     let x = c.args.name.now in
     let e : name_cmp x k.0 ≡ _ = ap (λ z. name_cmp x z.0) (sym c.deref.ensures) ∙ sym c.compare.ensures ∙ c.in-Greater.is in
     on_ok c.alter_in-in-Greater.result _ _ (alters_behind _ l k r refl c.requires.children x c.args.path.now c.args.edit.now c.args.number e l k _ refl refl) c.alter_in-in-Greater.ensures.ok
+
+pub row::altered-altered-requires : goal.row::altered-altered-requires
+row::altered-altered-requires t c =
+    let w = c.twig.inside in
+    let is : in_row w.before ++ arc_value w.child ∷ in_row w.behind ≡ in_row c.args.row.now = c.twig.view_is ∙ c.deref-twig.ensures ∙ ap in_row (sym c.in-Some.is) in
+    let l = in_row w.before in
+    let k = arc_value w.child in
+    let r = in_row w.behind in
+    let x = c.args.name.now in
+    let e : name_cmp x k.0 ≡ _ = ap (λ z. name_cmp x z.0) (sym c.deref.ensures) ∙ sym c.compare.ensures ∙ c.in-Less.is in (
+      omega (arith, ap (λ cs. length (below cs)) is, length-below l k r, c.twig.invariant.rooted),
+      (row_rises_before _ l k r is c.requires.children, there_before _ l k r is c.requires.children x c.args.path.now e c.requires.there),
+    )
+
+pub row::altered-altered_child-requires : goal.row::altered-altered_child-requires
+row::altered-altered_child-requires t c =
+    let w = c.twig.inside in
+    let is : in_row w.before ++ arc_value w.child ∷ in_row w.behind ≡ in_row c.args.row.now = c.twig.view_is ∙ c.deref-twig.ensures ∙ ap in_row (sym c.in-Some.is) in
+    let l = in_row w.before in
+    let k = arc_value w.child in
+    let r = in_row w.behind in
+    let x = c.args.name.now in
+    let e : name_cmp x k.0 ≡ _ = ap (λ z. name_cmp x z.0) (sym c.deref.ensures) ∙ sym c.compare.ensures ∙ c.in-Equal.is in (
+      omega (arith, ap (λ cs. length (below cs)) is, length-below l k r),
+      there_here _ l k r is c.requires.children x c.args.path.now e c.requires.there,
+    )
+
+pub row::altered-altered-requires-in-Greater : goal.row::altered-altered-requires-in-Greater
+row::altered-altered-requires-in-Greater t c =
+    let w = c.twig.inside in
+    let is : in_row w.before ++ arc_value w.child ∷ in_row w.behind ≡ in_row c.args.row.now = c.twig.view_is ∙ c.deref-twig.ensures ∙ ap in_row (sym c.in-Some.is) in
+    let l = in_row w.before in
+    let k = arc_value w.child in
+    let r = in_row w.behind in
+    let x = c.args.name.now in
+    let e : name_cmp x k.0 ≡ _ = ap (λ z. name_cmp x z.0) (sym c.deref.ensures) ∙ sym c.compare.ensures ∙ c.in-Greater.is in (
+      omega (arith, ap (λ cs. length (below cs)) is, length-below l k r, c.twig.invariant.rooted),
+      (row_rises_behind _ l k r is c.requires.children, there_behind _ l k r is c.requires.children x c.args.path.now e c.requires.there),
+    )
+
+pub row::altered-returns-in_ok-shared-in-Less : goal.row::altered-returns-in_ok-shared-in-Less
+row::altered-returns-in_ok-shared-in-Less t c =
+    let w = c.twig.inside in
+    let is : in_row w.before ++ arc_value w.child ∷ in_row w.behind ≡ in_row c.args.row.now = c.twig.view_is ∙ c.deref-twig.ensures ∙ ap in_row (sym c.in-Some.is) in
+    let l = in_row w.before in
+    let k = arc_value w.child in
+    let r = in_row w.behind in
+    let x = c.args.name.now in
+    let e : name_cmp x k.0 ≡ _ = ap (λ z. name_cmp x z.0) (sym c.deref.ensures) ∙ sym c.compare.ensures ∙ c.in-Less.is in
+    if_ok_holds c.joint.result in_row (λ cs. ChildAlters (in_row c.args.row.now) cs x c.args.path.now c.args.edit.now c.args.number) _ (alters_before _ l k r is c.requires.children x c.args.path.now c.args.edit.now c.args.number e _ _ _ c.in_ok-here-in-Less.ensures c.in_ok-shared-in-Less.ensures c.in_ok-before-in-Less.ensures) c.joint.ensures
+
+pub row::altered-returns-in_ok-shared-in-Equal-2 : goal.row::altered-returns-in_ok-shared-in-Equal-2
+row::altered-returns-in_ok-shared-in-Equal-2 t c =
+    let w = c.twig.inside in
+    let is : in_row w.before ++ arc_value w.child ∷ in_row w.behind ≡ in_row c.args.row.now = c.twig.view_is ∙ c.deref-twig.ensures ∙ ap in_row (sym c.in-Some.is) in
+    let l = in_row w.before in
+    let k = arc_value w.child in
+    let r = in_row w.behind in
+    let x = c.args.name.now in
+    let e : name_cmp x k.0 ≡ _ = ap (λ z. name_cmp x z.0) (sym c.deref.ensures) ∙ sym c.compare.ensures ∙ c.in-Equal.is in
+    if_ok_holds c.joint-in-Equal.result in_row (λ cs. ChildAlters (in_row c.args.row.now) cs x c.args.path.now c.args.edit.now c.args.number) _ (alters_here _ l k r is c.requires.children x c.args.path.now c.args.edit.now c.args.number e _ _ _ c.in_ok-shared-in-Equal.ensures c.in_ok-shared-in-Equal-2.ensures c.in_ok-here-in-Equal.ensures.name c.in_ok-here-in-Equal.ensures.altered) c.joint-in-Equal.ensures
+
+pub row::altered-returns-in_ok-shared-in-Greater : goal.row::altered-returns-in_ok-shared-in-Greater
+row::altered-returns-in_ok-shared-in-Greater t c =
+    let w = c.twig.inside in
+    let is : in_row w.before ++ arc_value w.child ∷ in_row w.behind ≡ in_row c.args.row.now = c.twig.view_is ∙ c.deref-twig.ensures ∙ ap in_row (sym c.in-Some.is) in
+    let l = in_row w.before in
+    let k = arc_value w.child in
+    let r = in_row w.behind in
+    let x = c.args.name.now in
+    let e : name_cmp x k.0 ≡ _ = ap (λ z. name_cmp x z.0) (sym c.deref.ensures) ∙ sym c.compare.ensures ∙ c.in-Greater.is in
+    if_ok_holds c.joint-in-Greater.result in_row (λ cs. ChildAlters (in_row c.args.row.now) cs x c.args.path.now c.args.edit.now c.args.number) _ (alters_behind _ l k r is c.requires.children x c.args.path.now c.args.edit.now c.args.number e _ _ _ c.in_ok-shared-in-Greater.ensures c.in_ok-here-in-Greater.ensures c.in_ok-behind-in-Greater.ensures) c.joint-in-Greater.ensures
 
 pub row::Twig::alter_under-alter_beside-requires : goal.row::Twig::alter_under-alter_beside-requires
 row::Twig::alter_under-alter_beside-requires t c =

@@ -1,14 +1,13 @@
 use Rattle.std.proofs.Common.{[], ◌∷◌, None, Some, refl, sym, ap, ◌∙◌}
 use Rattle.std.specs.FinMap.{get}
 use Rattle.std.specs.Arc.{arc_value}
-use Rattle.node_base.specs.Path.{same_path}
-use Rattle.node_base.specs.Tree.{changed_at, with_given}
+use Rattle.node_base.specs.Tree.{changed_at}
 use Rattle.node_base.specs.NodeEdits.{with_piece}
 use Rattle.path_tree.specs.Edits.{edit_here}
 use Rattle.path_tree.specs.Rows.{in_row}
 use Rattle.path_tree.proofs.Rows.{swaps_with, swaps_without}
 use Rattle.path_tree.proofs.InPlace.{rises_put}
-use Rattle.path_tree.proofs.Edits.{edits_as, edited_here, grafts_as, graft_in_child, on_ok}
+use Rattle.path_tree.proofs.Edits.{grafts_as, graft_in_child, on_ok}
 use Rattle.path_tree.proofs.branch.Branch.alter_here.Goals as goal
 
 pub returns-in-Parts-clause-ok : goal.returns-in-Parts-clause-ok
