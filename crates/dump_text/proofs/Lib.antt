@@ -8,7 +8,6 @@ mod Kept
 mod Lines
 mod PathLines
 mod Records
-mod Splits
 mod StreamRuns
 mod SumLines
 mod Writes

@@ -1,5 +1,5 @@
 -- Names and values of header lines.
-use Rattle.std.specs.Prelude.{◌≡◌, ℕ, ◌==◌, ◌+◌, ◌&&◌, Bool, List, [], ◌∷◌, ◌++◌, Option, Some, None, option_map, Result, Ok, Err, if◌then◌else◌, codes, eqb, take, drop, slice_index_or}
+use Rattle.std.specs.Prelude.{◌≡◌, ℕ, ◌==◌, ◌&&◌, Bool, List, [], ◌∷◌, ◌++◌, Option, Some, None, option_map, Result, Ok, Err, if◌then◌else◌, codes, eqb}
 use Rattle.std.specs.Borrow.{Bor}
 use lib.Pointwise.{pointwise}
 use Rattle.uuid.specs.Text.{parsed_hyphenated}
@@ -98,7 +98,3 @@ behind_pair front p = (front ++ p.0, p.1)
 
 abbrev pub behind : List ℕ → Option (List ℕ × List ℕ) → Option (List ℕ × List ℕ)
 behind front o = option_map (behind_pair front) o
-
--- a line is split as what it has from the byte at a place on is, behind what stands before it
-abbrev pub SplitsFrom : List ℕ → ℕ → Type 0
-SplitsFrom line k = behind (take k line) (split_after (slice_index_or line k 0) (drop (k + 1) line)) ≡ split_line line

@@ -1,11 +1,10 @@
 //! Names and values of header lines.
 
-ghost use Rattle.std.specs.Prelude.{◌≡◌, ◌≤◌, ◌<◌, ◌^◌, Option, Some, None, IfOk, MatchOption, codes, length, nat_lt, ◌&&◌};
+ghost use Rattle.std.specs.Prelude.{◌≡◌, ◌≤◌, ◌<◌, ◌^◌, Option, Some, None, IfOk, MatchOption, codes, nat_lt, ◌&&◌};
 ghost use Rattle.dump_text.specs.Headers.{known_name, split_line, kind_of, action_of, identity_of, dump_path, pair_now};
-ghost use Rattle.dump_text.specs.Headers.{without_slash, version_in, PathIs, SplitsFrom};
+ghost use Rattle.dump_text.specs.Headers.{without_slash, version_in, PathIs};
 
 use crate::fault::DumpFault;
-use memchr::memchr;
 use node_base::{Action, NodeKind, NodePath, PathFault};
 use std::alloc::Global;
 use uuid::Uuid;
@@ -76,28 +75,16 @@ pub fn header_named(name: &[u8]) -> Option<HeaderName>
     }
 }
 
-// The same, where no colon stands before that place, at which one stands.
-fn split_from(line: &[u8], colon: usize) -> Option<(&[u8], &[u8])>
-    requires within { colon < length line.now }
-    requires first { SplitsFrom line.now colon }
+/// The name and the value of a line: what stands before and behind its first colon and blank.
+pub fn split_line(line: &[u8]) -> Option<(&[u8], &[u8])>
     ensures { pair_now result ≡ split_line line.now }
 {
-    for i in colon + 1..line.len() {
+    for i in 1..line.len() {
         if line[i - 1] == 58 && line[i] == 32 {
             return Some((&line[..i - 1], &line[i + 1..]));
         }
     }
     None
-}
-
-/// The name and the value of a line: what stands before and behind its first colon and blank.
-pub fn split_line(line: &[u8]) -> Option<(&[u8], &[u8])>
-    ensures { pair_now result ≡ split_line line.now }
-{
-    match memchr(b':', line) {
-        Some(colon) => split_from(line, colon),
-        None => None,
-    }
 }
 
 /// The path that a value spells, past one leading slash.
