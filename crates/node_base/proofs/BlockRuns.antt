@@ -1,11 +1,12 @@
 -- Runs over a property block.
-use Rattle.std.proofs.Common.{◌≡◌, ℕ, zero, suc, ◌+◌, ◌-◌, ◌<◌, true, List, [], ◌∷◌, ◌++◌, length, take, drop, get_or, Err, Option, nat_lt, subst, refl, sym, ap, ◌∙◌, append_assoc, append-nil, length-append, arith}
+use Rattle.std.proofs.Common.{◌≡◌, ℕ, zero, suc, ◌+◌, ◌-◌, ◌<◌, Bool, true, false, List, [], ◌∷◌, ◌++◌, length, take, drop, get_or, Err, Option, nat_lt, subst, refl, sym, ap, ◌∙◌, append_assoc, append-nil, length-append, arith}
 use Rattle.std.proofs.lemmas.Bool.Decides.{nat_tests}
 use Rattle.std.proofs.lemmas.List.{nil_from_length, drop_more, drop-drop, length-take, take-append-drop}
 use Rattle.node_base.specs.Props.{PropMap}
 use Rattle.node_base.specs.declared.prop_fault.PropFault.{PropFault}
 use Rattle.node_base.specs.declared.prop_fault.PropFault.TheVariants.{OutOfMemory}
-use Rattle.node_base.specs.declared.block_part.Part.TheVariants.{Name, Value}
+use Rattle.node_base.specs.BlockGrammar.{block_end}
+use Rattle.node_base.specs.declared.block_part.Part.TheVariants.{Name, Tag, Value}
 use Rattle.node_base.specs.declared.block.BlockReader.{BlockReader}
 use Rattle.node_base.specs.Blocks.{Next, Whole, Run, Done, Fault, of_step, run_block, block_step, one_more, after, held_more, MayKeep, StepIs, BlockIs}
 
@@ -93,3 +94,11 @@ whole_at r props removed piece at h e = step_at r piece at h ∙ ap (λ s. after
 pub refused_at : (f : PropFault) (r new : BlockReader) (piece : List ℕ) (at : ℕ) → at < length piece → StepIs (Err f) new (block_step r (get_or piece at 0)) → BlockIs (Err f) new piece (run_block r (drop at piece))
 refused_at OutOfMemory r new piece at h e = tt
 refused_at f r new piece at h e = step_at r piece at h ∙ ap (λ s. after (of_step s) (drop (at + 1) piece)) e ∙ after-refused f (drop (at + 1) piece)
+
+-- the line that ends a block, where it is due
+ended_so : (r : BlockReader) (d : Bool) (rest : List ℕ) → run_block (record r { left = 10; part = Tag; held = []; delta = d }) (block_end ++ rest) ≡ Done r.props r.removed rest
+ended_so r true rest = after-whole r.props r.removed [] rest
+ended_so r false rest = after-whole r.props r.removed [] rest
+
+pub ended : (r : BlockReader) (rest : List ℕ) → r.left ≡ 10 → r.part ≡ Tag → r.held ≡ [] → run_block r (block_end ++ rest) ≡ Done r.props r.removed rest
+ended r rest l p h = (λ i. run_block (record r { left = l i; part = p i; held = h i }) (block_end ++ rest)) ∙ ended_so r r.delta rest

@@ -54,6 +54,39 @@ pub few_pieces : (bs : List ℕ) → length (pieces bs) ≤ length bs + 1
 few_pieces [] = omega arith
 few_pieces (b ∷ bs) = omega (arith, length-slice_split is_slash (b ∷ bs), count_by-le-length is_slash (b ∷ bs))
 
+-- ---- how long pieces are: no longer than the whole
+abbrev Within : ℕ → List Name → Type 0
+Within k [] = Unit {0}
+Within k (n ∷ ns) = (length n ≤ k) × Within k ns
+
+widened : (k m : ℕ) (ns : List Name) → k ≤ m → Within k ns → Within m ns
+widened k m [] h w = tt
+widened k m (n ∷ ns) h w = let first : length n ≤ k = w.0 in (omega arith, widened k m ns h w.1)
+
+first_longer : (k b : ℕ) (ns : List Name) → Within k ns → Within (k + 1) (onto_first b ns)
+first_longer k b [] w = (omega arith, tt)
+first_longer k b (n ∷ ns) w = let first : length n ≤ k = w.0 in (omega arith, widened k (k + 1) ns (omega arith) w.1)
+
+parts_within : (bs : List ℕ) → Within (length bs) (slice_split is_slash bs)
+parts_within [] = (omega arith, tt)
+parts_within (b ∷ bs) =
+    let more : length bs + 1 ≡ length (b ∷ bs) = omega arith in
+    elim (is_slash b) as (λ t. Within (length (b ∷ bs)) (cond t ([] ∷ slice_split is_slash bs) (onto_first b (slice_split is_slash bs)))) [
+      | true ↦ (omega arith, widened (length bs) (length (b ∷ bs)) (slice_split is_slash bs) (omega arith) (parts_within bs))
+      | false ↦ rw (← more) (first_longer (length bs) b (slice_split is_slash bs) (parts_within bs))
+    ]
+
+none_long : (ns : List Name) → Within 255 ns → list_any is_long_name ns ≡ false
+none_long [] w = refl
+none_long (n ∷ ns) w =
+    let short : length n ≤ 255 = w.0 in
+    let first : nat_lt 255 (length n) ≡ false = grind (arith, nat_tests) in
+    ap (λ t. t || list_any is_long_name ns) first ∙ none_long ns w.1
+
+pub short_pieces : (bs : List ℕ) → length bs ≤ 255 → list_any is_long_name (pieces bs) ≡ false
+short_pieces [] h = refl
+short_pieces (b ∷ bs) h = none_long (slice_split is_slash (b ∷ bs)) (widened (length (b ∷ bs)) 255 (slice_split is_slash (b ∷ bs)) h (parts_within (b ∷ bs)))
+
 -- ---- the pieces joined
 pub text_of_pieces : (bs : List ℕ) → path_text (pieces bs) ≡ bs
 text_of_pieces [] = refl

@@ -161,6 +161,10 @@ BlockIs (Ok (Some k)) new piece run = run ≡ Done new.props new.removed (drop k
 BlockIs (Err OutOfMemory) new piece run = Unit {0}
 BlockIs (Err f) new piece run = run ≡ Fault f
 
+-- the bytes begin with the end of the block
+abbrev pub EndsHere : BlockReader → List ℕ → Type 0
+EndsHere r bytes = (10 ≤ length bytes) × (run_block r bytes ≡ Done r.props r.removed (drop 10 bytes))
+
 -- so many bytes can be kept at once
 abbrev pub MayKeep : BlockReader → ℕ → Type 0
 MayKeep r n = (s more : List ℕ) → length s ≤ n → run_block r (s ++ more) ≡ run_block (held_more r s) more

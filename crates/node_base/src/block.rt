@@ -1,9 +1,10 @@
 //! Reading property blocks, as the notes on the dump file format (dump-load-format) describe them.
-ghost use Rattle.std.specs.Prelude.{◌≡◌, ◌+◌, ◌<◌, ◌≤◌, ◌^◌, [], ◌∷◌, ◌++◌, length, IfOk, IfSome, MatchOption};
+ghost use Rattle.std.specs.Prelude.{◌≡◌, ◌+◌, ◌<◌, ◌≤◌, ◌^◌, [], ◌∷◌, ◌++◌, length, drop, IfOk, IfSome, MatchOption};
 ghost use Rattle.std.specs.Prelude.{◌&&◌, ◌||◌, not, true, false};
 ghost use Rattle.std.specs.FinMap as map;
+ghost use Rattle.node_base.specs.BlockGrammar.{block_end};
 ghost use Rattle.node_base.specs.Numbers.{is_digit, number_of};
-ghost use Rattle.node_base.specs.Blocks.{StepIs, BlockIs, MayKeep, held_more, run_block, part_step, block_step, keep};
+ghost use Rattle.node_base.specs.Blocks.{StepIs, BlockIs, EndsHere, MayKeep, held_more, run_block, part_step, block_step, keep};
 ghost use Rattle.node_base.specs.Blocks.{go, only, begins, name_is, value_is, begun, new_block, unfinished};
 ghost use Rattle.node_base.specs.BlockKept.{kept_bytes, kept_after};
 ghost use Rattle.node_base.specs.declared.block_part.Part.TheVariants.{Tag, KeyCount, ValueCount, Ending};
@@ -51,6 +52,13 @@ fn count_of(digits: &[u8], limit: u32) -> Option<u32>
         }
     }
     Some(n)
+}
+
+// Whether bytes begin with the line that ends a block.
+fn is_block_end(bytes: &[u8]) -> bool
+    ensures { result ≡ true → bytes.now ≡ block_end ++ drop 10 bytes.now }
+{
+    bytes.starts_with(b"PROPS-END\n")
 }
 
 // What follows the first byte of PROPS-END.
@@ -324,6 +332,22 @@ impl BlockReader {
         Ok(())
     }
 
+    // Whether the end of the block comes next, whole, where it is due.
+    fn is_ended_by(&self, rest: &[u8]) -> bool
+        ensures { result ≡ true → EndsHere self.now rest.now }
+    {
+        if self.left != 10 {
+            return false;
+        }
+        if self.held.len() != 0 {
+            return false;
+        }
+        match self.part {
+            Part::Tag => is_block_end(rest),
+            _ => false,
+        }
+    }
+
     /// Takes bytes up to the block's end. The answer is how many of them there were up to it, where it came.
     /// BadProps or TooLong in the piece that brings the byte that shows it; after an error the reader isn't to be fed.
     /// What it keeps never grows by more than the bytes that come: nothing is kept for what is announced alone.
@@ -343,6 +367,9 @@ impl BlockReader {
     {
         let mut at = 0;
         while at < piece.len() {
+            if self.is_ended_by(&piece[at..]) {
+                return Ok(Some(at + 10));
+            }
             let stretch = self.room().min(piece.len() - at);
             if stretch > 0 {
                 self.keep_all(&piece[at..at + stretch])?;

@@ -248,6 +248,10 @@ fn has_many_names(bytes: &[u8]) -> bool
 fn has_long_name(bytes: &[u8]) -> bool
     ensures { result ≡ list_any is_long_name (pieces bytes.now) }
 {
+    // (so few bytes have no name of more)
+    if bytes.len() <= NAME_BYTES {
+        return false;
+    }
     for piece in Pieces::of(bytes) {
         if piece.len() > NAME_BYTES {
             return true;

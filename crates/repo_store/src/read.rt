@@ -169,8 +169,13 @@ fn revision_of(alloc: Global, records: Vec<DumpRecord>) -> Result<RevRecord, Rea
     }
 }
 
-// Whether bytes are the canonical spelling of a revision, whose property lists are then whole.
-fn is_canonical(alloc: Global, revision: &RevRecord, bytes: &[u8]) -> Result<bool, AllocError>
+// Whether bytes are the canonical spelling of a revision, whose property lists are then whole. It is written to be
+// compared, in memory that serves the next entry too.
+fn is_canonical(
+    revision: &RevRecord,
+    bytes: &[u8],
+    written: &mut Vec<u8>,
+) -> Result<bool, AllocError>
     ensures holds { IfOk result (λ b. IsTrue b ↔ ((are_whole revision.now.nodes.items ≡ true)
         × (canon_revision revision.now ≡ bytes.now))) }
     ensures readable { IfOk result (λ b. IsTrue b → AreFormed revision.now.nodes.items
@@ -179,23 +184,29 @@ fn is_canonical(alloc: Global, revision: &RevRecord, bytes: &[u8]) -> Result<boo
     if !revision.is_whole() {
         return Ok(false);
     }
-    let mut written = Vec::with_capacity(alloc, bytes.len())?;
-    if write_revision(&mut written, revision).is_err() {
+    written.clear();
+    written.reserve(bytes.len())?;
+    if write_revision(written, revision).is_err() {
         return Err(AllocError);
     }
     Ok(written.as_slice() == bytes)
 }
 
-/// The revision that an entry's bytes spell, its nodes in their order.
+/// The revision that an entry's bytes spell, its nodes in their order. What they are compared with is written to
+/// memory of the caller, which serves the next entry too.
 #[tactic(auto, using(crate::proofs::Reading::is_revision))]
-pub fn read_revision(alloc: Global, bytes: &[u8]) -> Result<RevRecord, ReadFault>
+pub fn read_revision(
+    alloc: Global,
+    bytes: &[u8],
+    written: &mut Vec<u8>,
+) -> Result<RevRecord, ReadFault>
     ensures read { IfOk result (IsRevisionOf bytes.now) }
     ensures bad { IsErrOf result ReadFault.Bad → (e : EntryOf) → Spells bytes.now e → ⊥ }
 {
     dumps_are_read();
     let records = records_behind(alloc, bytes)?;
     let revision = revision_of(alloc, records)?;
-    let canonical = is_canonical(alloc, &revision, bytes)?;
+    let canonical = is_canonical(&revision, bytes, written)?;
     if canonical {
         Ok(revision)
     } else {

@@ -100,7 +100,12 @@ fn take_set(alloc: Global, repo: &mut Repo, set: ChangeSet, props: Props) -> Res
 }
 
 // One entry more.
-fn take_entry(alloc: Global, repo: &mut Repo, bytes: &[u8]) -> Result<(), ReadFault>
+fn take_entry(
+    alloc: Global,
+    repo: &mut Repo,
+    bytes: &[u8],
+    written: &mut Vec<u8>,
+) -> Result<(), ReadFault>
     ensures taken { OnOk result ((e : EntryOf) × Spells bytes.now e × Takes repo.old.revisions e
         × (repo.new ≡ with_entry_in repo.old e)) }
     ensures bad { IsErrOf result ReadFault.Bad → (e : EntryOf) → Spells bytes.now e → Takes repo.old.revisions e
@@ -111,7 +116,7 @@ fn take_entry(alloc: Global, repo: &mut Repo, bytes: &[u8]) -> Result<(), ReadFa
         number,
         props,
         nodes,
-    } = read_revision(alloc, bytes)?;
+    } = read_revision(alloc, bytes, written)?;
     let next = repo.head().index() + 1;
     if number.index() < next {
         if nodes.is_empty() {
@@ -143,6 +148,7 @@ fn read_next<D: Disk>(
     log: &mut GateLog<D>,
     entry: u64,
     repo: &mut Repo,
+    written: &mut Vec<u8>,
 ) -> Result<(), LogFault>
     requires there { entry < length (ends_of log.old) }
     requires working { ¬ HasFailed log.old }
@@ -168,7 +174,7 @@ fn read_next<D: Disk>(
     ensures later { D.failures (disk_of log.old) ≤ D.failures (disk_of log.new) }
 {
     let bytes = log.read_entry(alloc, entry)?;
-    match take_entry(alloc, repo, &bytes) {
+    match take_entry(alloc, repo, &bytes, written) {
         Ok(()) => Ok(()),
         Err(fault) => Err(damaged(entry, fault)),
     }
@@ -228,8 +234,9 @@ pub fn replay<D: Disk>(alloc: Global, log: &mut GateLog<D>) -> Result<Repo, LogF
 {
     dumps_are_read();
     let mut repo = read_first(alloc, log)?;
+    let mut written = Vec::new(alloc);
     for entry in 1..log.len() {
-        read_next(alloc, log, entry, &mut repo)?;
+        read_next(alloc, log, entry, &mut repo, &mut written)?;
     }
     Ok(repo)
 }
