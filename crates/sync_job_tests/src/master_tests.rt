@@ -11,8 +11,8 @@ use std::alloc::Global;
 use std::process::Abort;
 use std::rt::HostRuntime;
 use sync_job::{
-    AloneMirror, Fetched, JobPorts, LentMaster, MasterFault, MasterPort, run_copy_revprops, run_init,
-    run_sync,
+    AloneMirror, Fetched, JobPorts, LentMaster, MasterFault, MasterPort, run_copy_revprops,
+    run_init, run_sync,
 };
 
 // A master that answers so many questions, and refuses all later ones.
