@@ -1,13 +1,12 @@
 //! A master that threads share, as the port of one job.
 
-use dump_load::ChangeSet;
 use fleet_disk::MemDisk;
 use node_base::{PropValue, Props, Refusal, RevNo};
 use path_tree::Tree;
 use std::alloc::Global;
 use std::sync::Wait;
 use store_share::{MasterShare, ReaderSeat, RowName};
-use sync_job::{MasterFault, MasterPort};
+use sync_job::{Fetched, MasterFault, MasterPort};
 
 /// A master that threads share, as one job sees it.
 #[derive(Drop)]
@@ -44,9 +43,9 @@ impl<R: Wait, L: RowName> MasterPort for SeatMaster<'_, R, L> {
         alloc: Global,
         number: RevNo,
         _trees: &[Tree],
-    ) -> Result<(ChangeSet, Props), MasterFault> {
+    ) -> Result<Fetched, MasterFault> {
         match self.share.fetch(self.rt, alloc, &mut self.reader, number) {
-            Ok(revision) => Ok(revision),
+            Ok((set, props)) => Ok(Fetched::without_tree(set, props)),
             Err(_) => Err(MasterFault::Other),
         }
     }

@@ -28,7 +28,6 @@ use Rattle.ra_item.specs.Laws.{WrittenIsRead}
 use Rattle.ra_edit.specs.Commands.{parts_within}
 use Rattle.ra_edit.specs.EditLaws.{cut, cut_all, each_byte, byte_by_byte, AreSameCalls}
 use Rattle.ra_edit.specs.Refusals.{RefusesOne}
-use Rattle.ra_edit.specs.declared.edit_fault.EditFault.TheVariants as fault
 use Rattle.ra_edit.proofs.WrittenReceived.{written_is_received}
 use Rattle.ra_edit.proofs.NotRefused.{known, written_is_not_refused}
 use Rattle.edit_road.specs.Laws.{HaveBytes}

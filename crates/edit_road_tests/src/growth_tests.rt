@@ -30,7 +30,7 @@ fn is_sent(alloc: Global, trees: &[Tree], set: &ChangeSet) -> bool {
 fn is_passed_on(alloc: Global, trees: &[Tree], size: usize) -> bool {
     let mut items = items_from(alloc, ADDED, size, false);
     match received(alloc, trees, &mut items) {
-        Ok(set) => is_sent(alloc, trees, &set),
+        Ok(found) => is_sent(alloc, trees, &found.set),
         Err(fault) => {
             fault.number() == 70
                 && received(alloc, trees, &mut items).err() == Some(EditFault::Failed)

@@ -2,7 +2,7 @@
 
 use byte_streams::{Input, Output};
 use delta_editor::EditorFault;
-use dump_load::{Change, ChangeSet, apply};
+use dump_load::{Applied, Change, ChangeSet, apply};
 use edit_road::law::set_may_be_sent;
 use edit_road::receive::receive_set;
 use edit_road::send::{Unsent, send_set, send_set_to};
@@ -180,6 +180,17 @@ pub(crate) fn make_one(alloc: Global, trees: &[Tree], one: &ChangeSet, other: &C
     }
 }
 
+// Whether a set makes this tree of these.
+fn makes(alloc: Global, trees: &[Tree], set: &ChangeSet, tree: &Tree) -> bool {
+    if trees.len() > 65_535 {
+        return false;
+    }
+    match apply(alloc, trees, set) {
+        Ok(made) => same_tree(alloc, &made, tree),
+        Err(_) => false,
+    }
+}
+
 /// Sends a set over so few trees that it may be sent.
 pub(crate) fn sent<W: Write + Drop>(
     alloc: Global,
@@ -212,19 +223,19 @@ pub(crate) fn sent_to<O: Output + Drop>(
     send_set_to(alloc, trees, set, out)
 }
 
-/// Receives a set over so few trees that one may be received.
+/// Receives a set, with its tree, over so few trees that one may be received.
 pub(crate) fn received<I: Input + Drop>(
     alloc: Global,
     trees: &[Tree],
     items: &mut ItemStream<I>,
-) -> Result<ChangeSet, EditFault> {
+) -> Result<Applied, EditFault> {
     if trees.len() > 65_535 {
         return Err(EditFault::TooLong);
     }
     receive_set(alloc, trees, items)
 }
 
-/// Whether the next set that is received makes the same tree as this one.
+/// Whether the next set that is received makes the same tree as this one, and comes with it.
 pub(crate) fn comes_next<I: Input + Drop>(
     alloc: Global,
     trees: &[Tree],
@@ -232,7 +243,9 @@ pub(crate) fn comes_next<I: Input + Drop>(
     items: &mut ItemStream<I>,
 ) -> bool {
     match received(alloc, trees, items) {
-        Ok(found) => make_one(alloc, trees, set, &found),
+        Ok(found) => {
+            make_one(alloc, trees, set, &found.set) && makes(alloc, trees, set, &found.tree)
+        }
         Err(_) => false,
     }
 }

@@ -1,6 +1,7 @@
 //! A shared master as the port of a job.
-ghost use Rattle.std.specs.Prelude.{◌≡◌, ◌≤◌, ◌-◌, ◌⊎◌, length, take, Some, IfOk, IfErr, OnErr};
+ghost use Rattle.std.specs.Prelude.{◌≡◌, ◌≤◌, ◌-◌, ◌⊎◌, length, take, Some, IfOk, IfErr, IfSome, OnErr};
 ghost use Rattle.std.specs.Option.{option_map};
+ghost use Rattle.dump_load.specs.Trees.{Makes};
 ghost use Rattle.node_base.specs.declared.refusal.Refusal.TheVariants as refusal;
 ghost use Rattle.store_share.specs.Seats.{known_by, seen_by};
 ghost use Rattle.sync_core.specs.World.{Origin, moment_of, map_at};
@@ -9,7 +10,6 @@ ghost use Rattle.sync_job.specs.Masters.{IsTrue};
 ghost use Rattle.sync_job.specs.declared.master.MasterFault.TheVariants as fault;
 ghost use Rattle.fleet_shares.specs.Faults.{master_fault};
 
-use dump_load::ChangeSet;
 use fleet_disk::Disk;
 use node_base::{PropValue, Props, Refusal, RevNo};
 use path_tree::Tree;
@@ -17,7 +17,7 @@ use repo_store::StoreFault;
 use std::alloc::{AllocError, Global};
 use std::sync::Wait;
 use store_share::{MasterShare, ReaderSeat, RowName};
-use sync_job::{MasterFault, MasterPort};
+use sync_job::{Fetched, MasterFault, MasterPort};
 use uuid::Uuid;
 
 /// A shared master as one job sees it, from a reader's seat. What it tells of a revision is what its seat, and so every
@@ -80,10 +80,10 @@ impl<R: Wait, L: RowName, D: Disk> MasterPort for SharedMaster<'_, R, L, D> {
         alloc: Global,
         number: RevNo,
         trees: &[Tree],
-    ) -> Result<(ChangeSet, Props), MasterFault>
+    ) -> Result<Fetched, MasterFault>
         ensures within { IfOk result (λ p. number ≤ seen_by (seat_of self.new)) }
         ensures changes { IfOk result
-            (λ p. option_map (λ x. x.set) (known_by (seat_of self.new) number) ≡ Some p.0) }
+            (λ r. option_map (λ x. x.set) (known_by (seat_of self.new) number) ≡ Some r.set) }
         ensures kept { (r : _) → r ≤ seen_by (seat_of self.old)
             → known_by (seat_of self.new) r ≡ known_by (seat_of self.old) r }
         ensures seen { seen_by (seat_of self.old) ≤ seen_by (seat_of self.new) }
@@ -91,11 +91,12 @@ impl<R: Wait, L: RowName, D: Disk> MasterPort for SharedMaster<'_, R, L, D> {
             ⊎ (f ≡ fault.Refused refusal.OutOfMemory)) }
         ensures set { IsTrue IsNowhere IsNowhere
             (λ o. take number o.trees ≡ trees.now → IfOk result
-            (λ r. MakesTree o number r.0 × (map_at o (moment_of o) number ≡ Some r.1))) }
+            (λ r. MakesTree o number r.set × (map_at o (moment_of o) number ≡ Some r.props))) }
+        ensures tree { IfOk result (λ r. IfSome r.tree (Makes trees.now r.set)) }
     {
         let _ = trees;
         match self.share.fetch(self.rt, alloc, &mut self.seat, number) {
-            Ok(revision) => Ok(revision),
+            Ok((set, props)) => Ok(Fetched::without_tree(set, props)),
             Err(fault) => Err(master_fault(fault)),
         }
     }

@@ -1,6 +1,7 @@
 //! A shared mirror whose holder carries its numbers, as the port of a job.
-ghost use Rattle.std.specs.Prelude.{◌≡◌, ◌≤◌, ◌↔◌, ◌++◌, ◌∷◌, [], ℕ, List, Some, IfOk, IfErr};
+ghost use Rattle.std.specs.Prelude.{◌≡◌, ◌≤◌, ◌↔◌, ◌++◌, ◌∷◌, [], ℕ, List, length, Some, IfOk, IfErr};
 ghost use Rattle.std.specs.Option.{option_map};
+ghost use Rattle.node_base.specs.Tree.{PathMap};
 ghost use Rattle.repo_core.specs.Repository.{tree_at};
 ghost use Rattle.store_share.specs.Seats.{known_by, seen_by};
 ghost use Rattle.sync_core.specs.Calls.{call_of};
@@ -69,7 +70,7 @@ impl<'a, R: Wait, N: HolderName, D: Disk> HolderMirror<'a, R, N, D> {
 
 impl<R: Wait, N: HolderName, D: Disk> MirrorPort for HolderMirror<'_, R, N, D> {
     ghost use Rattle.std.specs.Prelude.{ℕ};
-    ghost use Rattle.mirror_share.specs.Ports.{NowhereStands};
+    ghost use Rattle.mirror_share.specs.Ports.{NowhereStands, TellsNothing};
     ghost use Rattle.mirror_share.specs.Seats.{place_of};
     ghost use Rattle.holder_share.specs.Asked.{WasAsked};
     ghost use Rattle.holder_share.specs.Ports.{reader_of, seat_of, share_of};
@@ -85,13 +86,23 @@ impl<R: Wait, N: HolderName, D: Disk> MirrorPort for HolderMirror<'_, R, N, D> {
 
     ghost left_since = { λ _ _ _. ⊥ };
 
+    // Others write the mirror: nothing is said of its trees, and a tree that comes with a call isn't used.
+    ghost begins_with = { λ _ trees. TellsNothing trees };
+
     ghost asked = { λ now first calls. WasAsked now first calls };
 
     ghost kept_now = { λ port m image honest stands left. absurd honest };
 
+    ghost begins = { λ _. tt };
+
     /// One step of the book. While the seat holds the lock it carries what the mirror's numbers are through it, so that a
     /// lawful call of its job isn't refused for the lock (59) or the turn (61).
-    fn step(&mut self, alloc: Global, call: &MirrorCall<'_>) -> Result<Reply, SyncFault>
+    fn step(
+        &mut self,
+        alloc: Global,
+        call: &MirrorCall<'_>,
+        _tree: Option<Tree>,
+    ) -> Result<Reply, SyncFault>
         ensures fits { IfOk result (IsFit (call_of call.now)) }
         ensures refused { IfErr result (IsRefusalOf (call_of call.now)) }
         ensures carried { IsCarried (hand_of (seat_of self.old)) (hand_of (seat_of self.new)) (call_of call.now) result }
@@ -103,6 +114,7 @@ impl<R: Wait, N: HolderName, D: Disk> MirrorPort for HolderMirror<'_, R, N, D> {
             m (place_of (job_of (seat_of self.old))) (call_of call.now) result }
         ensures asked { (first : _) (calls : List Asked) → WasAsked self.old first calls
             → WasAsked self.new first (calls ++ asked_as (call_of call.now) result ∷ []) }
+        ensures first { (trees : List PathMap) → TellsNothing trees → TellsNothing trees }
     {
         self.share.step(self.rt, alloc, &mut self.seat, call)
     }
@@ -124,6 +136,9 @@ impl<R: Wait, N: HolderName, D: Disk> MirrorPort for HolderMirror<'_, R, N, D> {
             m }
         ensures asked { (first : _) (calls : List Asked) → WasAsked self.old first calls
             → WasAsked self.new first calls }
+        ensures first { (trees : List PathMap) → TellsNothing trees → TellsNothing trees }
+        ensures next { (trees : List PathMap) → TellsNothing trees → number ≡ length trees → IfOk result
+            (λ t. TellsNothing (trees ++ t ∷ [])) }
     {
         if self.reader.seen() < number {
             let _newest = self.share.latest(self.rt, &mut self.reader);

@@ -1,6 +1,7 @@
 -- A shared mirror as a port.
 use Rattle.std.specs.Prelude.{◌≡◌, List}
 use Rattle.std.specs.List.{AllByRecursion}
+use Rattle.node_base.specs.Tree.{PathMap}
 use Rattle.store_share.specs.declared.seat.ReaderSeat.{ReaderSeat}
 use Rattle.sync_job.specs.Asked.{Asked}
 use Rattle.sync_job.specs.Mirrors.{MirrorNow}
@@ -13,6 +14,10 @@ use Rattle.mirror_share.specs.Seats.{place_of}
 -- of no mirror it is known that it stands there: others may call it between the calls of the job
 abbrev pub NowhereStands : MirrorNow → Type 0
 NowhereStands m = ⊥
+
+-- nothing is said of the trees that it begins with
+abbrev pub TellsNothing : List PathMap → Type 0
+TellsNothing trees = Unit {0}
 
 -- the job's seat
 abbrev pub seat_of : {R L D : Type 0} {r : _} {g : _} → SeatMirror R L D r g → JobSeat L

@@ -1,6 +1,7 @@
 //! A shared mirror as the port of a job.
-ghost use Rattle.std.specs.Prelude.{◌≡◌, ◌≤◌, ◌↔◌, ◌++◌, ◌∷◌, [], ℕ, List, Some, IfOk, IfErr, OnOk};
+ghost use Rattle.std.specs.Prelude.{◌≡◌, ◌≤◌, ◌↔◌, ◌++◌, ◌∷◌, [], ℕ, List, length, Some, IfOk, IfErr, OnOk};
 ghost use Rattle.std.specs.Option.{option_map};
+ghost use Rattle.node_base.specs.Tree.{PathMap};
 ghost use Rattle.repo_core.specs.Repository.{tree_at};
 ghost use Rattle.store_share.specs.Seats.{known_by, seen_by};
 ghost use Rattle.sync_core.specs.Calls.{call_of};
@@ -69,7 +70,7 @@ impl<'a, R: Wait, L: RowName, D: Disk> SeatMirror<'a, R, L, D> {
 impl<R: Wait, L: RowName, D: Disk> MirrorPort for SeatMirror<'_, R, L, D> {
     ghost use Rattle.std.specs.Prelude.{ℕ};
     ghost use Rattle.mirror_share.specs.Locked.{IsStepOf};
-    ghost use Rattle.mirror_share.specs.Ports.{reader_of, seat_of, share_of, NowhereStands, WasAsked};
+    ghost use Rattle.mirror_share.specs.Ports.{reader_of, seat_of, share_of, NowhereStands, TellsNothing, WasAsked};
     ghost use Rattle.mirror_share.specs.Seats.{place_of};
 
     ghost stands = { λ _ m. NowhereStands m };
@@ -82,13 +83,23 @@ impl<R: Wait, L: RowName, D: Disk> MirrorPort for SeatMirror<'_, R, L, D> {
 
     ghost left_since = { λ _ _ _. ⊥ };
 
+    // Others write the mirror: nothing is said of its trees, and a tree that comes with a call isn't used.
+    ghost begins_with = { λ _ trees. TellsNothing trees };
+
     ghost asked = { λ now first calls. WasAsked now first calls };
 
     ghost kept_now = { λ port m image honest stands left. absurd honest };
 
+    ghost begins = { λ _. tt };
+
     /// One step of the book; where it is taken the reader has seen all that is shown then: a revision that was committed,
     /// with its set, and the head that a look tells.
-    fn step(&mut self, alloc: Global, call: &MirrorCall<'_>) -> Result<Reply, SyncFault>
+    fn step(
+        &mut self,
+        alloc: Global,
+        call: &MirrorCall<'_>,
+        _tree: Option<Tree>,
+    ) -> Result<Reply, SyncFault>
         ensures fits { IfOk result (IsFit (call_of call.now)) }
         ensures refused { IfErr result (IsRefusalOf (call_of call.now)) }
         ensures stepped { IsStepOf (share_of self.old) (place_of (seat_of self.old)) (call_of call.now) result }
@@ -105,6 +116,7 @@ impl<R: Wait, L: RowName, D: Disk> MirrorPort for SeatMirror<'_, R, L, D> {
             m (place_of (seat_of self.old)) (call_of call.now) result }
         ensures asked { (first : _) (calls : List Asked) → WasAsked self.old first calls
             → WasAsked self.new first (calls ++ asked_as (call_of call.now) result ∷ []) }
+        ensures first { (trees : List PathMap) → TellsNothing trees → TellsNothing trees }
     {
         self.share
             .step_by(self.rt, alloc, &self.seat, &mut self.reader, call)
@@ -126,6 +138,9 @@ impl<R: Wait, L: RowName, D: Disk> MirrorPort for SeatMirror<'_, R, L, D> {
             m }
         ensures asked { (first : _) (calls : List Asked) → WasAsked self.old first calls
             → WasAsked self.new first calls }
+        ensures first { (trees : List PathMap) → TellsNothing trees → TellsNothing trees }
+        ensures next { (trees : List PathMap) → TellsNothing trees → number ≡ length trees → IfOk result
+            (λ t. TellsNothing (trees ++ t ∷ [])) }
     {
         if self.reader.seen() < number {
             let _newest = self.share.latest(self.rt, &mut self.reader);

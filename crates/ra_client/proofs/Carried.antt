@@ -1,5 +1,5 @@
 -- What is taken where it is to come.
-use Rattle.std.proofs.Common.{◌≡◌, ◌⊎◌, ◌≤◌, ℕ, ◌+◌, Bool, true, false, List, [], ◌∷◌, ◌++◌, Option, Some, None, Result, Ok, Err, inl, inr, refl, sym, ap, subst, ◌∙◌, append_assoc, length, length-append, arith}
+use Rattle.std.proofs.Common.{◌≡◌, ◌≤◌, ℕ, true, false, List, [], ◌∷◌, ◌++◌, Option, Some, Result, Ok, Err, inl, inr, refl, sym, ap, subst, ◌∙◌, append_assoc, length, length-append, arith}
 use Rattle.std.proofs.lemmas.Fmt.{length-decimal-le}
 use Rattle.std.proofs.lemmas.List.{append-nil}
 use Rattle.std.proofs.lemmas.Bool.Decides.{nat_tests}
@@ -15,6 +15,7 @@ use Rattle.node_base.specs.Props.{PropMap, IsProps}
 use Rattle.node_base.specs.Tree.{PathMap}
 use Rattle.node_base.specs.Path.{Path}
 use Rattle.dump_load.specs.declared.change.Change.{Change}
+use Rattle.dump_load.specs.declared.load.Applied.{Applied}
 use Rattle.dump_load.specs.Effect.{effect}
 use Rattle.delta_editor.specs.Faults.{number_of as editor_number}
 use Rattle.delta_editor.specs.declared.fault.EditorFault.{EditorFault}
@@ -36,8 +37,8 @@ use Rattle.ra_client.specs.Exchanges.{Asks, AsksLatest, AsksProps, AsksRevision,
 use Rattle.ra_client.specs.Faults.{number_of}
 use Rattle.ra_client.specs.Ports.{FailsMeanwhile}
 use Rattle.ra_client.specs.Said.{Reply, Told, same, authorised_said, done_said, number_said, proplist_said, revprops_said}
-use Rattle.ra_client.specs.Steps.{Follows, Stopped, Went, Gives, OnInput, OnOutput, TakesItem, OfItem, OfEnd, OfStream, TakesEdit, IsUnwritten, Goes, counts_of, IsLater}
-use Rattle.ra_client.specs.Telling.{IsToCome, IsExcused, TakesTold, IsRevision, number_told, proplist_told, revision_told}
+use Rattle.ra_client.specs.Steps.{Follows, Stopped, Went, Gives, TakesItem, OfItem, OfEnd, OfStream, TakesEdit, IsUnwritten, Goes, counts_of, IsLater}
+use Rattle.ra_client.specs.Telling.{IsToCome, IsExcused, TakesTold, IsRevisionMade, number_told, proplist_told, revision_told}
 use Rattle.ra_client.specs.declared.fault.ClientFault.{ClientFault}
 use Rattle.ra_client.specs.declared.fault.ClientFault.TheVariants as fault
 use Rattle.ra_wire.proofs.Listed.{props_again}
@@ -116,8 +117,8 @@ carry_gives : {R A : Type 0} {g : InputGhosts R} (bytes : List ℕ) (P : Unit {0
 carry_gives bytes P v step f old new (Ok w) more there h = (h.1, (f old new (Ok tt) more there h.0).1)
 carry_gives bytes P v step f old new (Err k) more there h = f old new (Err k) more there h
 
-pub carry_edit : {R : Type 0} {g : InputGhosts R} (trees : List PathMap) (s : List Change) → MayBeSent trees s → Carries {g = g} (edit_bytes (drive trees s)) (λ set. (q : Path) → effect trees set q ≡ effect trees s q) (TakesEdit trees)
-carry_edit trees s may old new (Ok set) more there h = let k = h.0.1 s more may there.0 in (k.0, (k.1, h.1.goes_on))
+pub carry_edit : {R : Type 0} {g : InputGhosts R} (trees : List PathMap) (s : List Change) → MayBeSent trees s → Carries {g = g} (edit_bytes (drive trees s)) (λ applied. (q : Path) → effect trees applied.set q ≡ effect trees s q) (TakesEdit trees)
+carry_edit trees s may old new (Ok applied) more there h = let k = h.0.1 s more may there.0 in (k.0, (k.1, h.1.goes_on))
 carry_edit trees s may old new (Err (fault.Edit e)) more there h = excused (λ k. k ≡ editor.OutOfMemory) (counts_of old new) e (λ k z. z) (h.0.1 s more may there.0 there.1)
 carry_edit trees s may old new (Err fault.Refused) more there h = absurd h.0
 carry_edit trees s may old new (Err fault.BadAnswer) more there h = absurd h.0
@@ -127,8 +128,8 @@ carry_edit trees s may old new (Err fault.BadAnswer) more there h = absurd h.0
 item_later : {R A T : Type 0} {g : InputGhosts R} (view : A → T) (what : Item → Option (Reply T)) (old new : ItemStream R g) (v : A) → TakesItem view what old new (Ok v) → IsLater old new
 item_later view what old new v h = h.1.later
 
-edit_later : {R : Type 0} {g : InputGhosts R} (trees : List PathMap) (old new : ItemStream R g) (set : List Change) → TakesEdit trees old new (Ok set) → IsLater old new
-edit_later trees old new set h = h.1.later
+edit_later : {R : Type 0} {g : InputGhosts R} (trees : List PathMap) (old new : ItemStream R g) (applied : Applied) → TakesEdit trees old new (Ok applied) → IsLater old new
+edit_later trees old new applied h = h.1.later
 
 pub authorised_fits : Within authorised
 authorised_fits = record { fits = ((refl, omega arith), ((tt, (omega arith, tt)), tt)); depth = omega arith; bytes = omega (arith, success_short (list [] ∷ Text [] ∷ []), short) }
@@ -173,11 +174,11 @@ latest_told taken comes n l = asks_told LatestRev (TakesItem same number_said) (
 pub props_told : {R O : Type 0} {g : InputGhosts R} {h : OutputGhosts O} → WrittenIsTaken → WrittenComes → (k : ℕ) (m : PropMap) → IsProps m → (old new : ItemStream R g × Sink O h) (r : Result PropMap ClientFault) → AsksProps k old new r → TakesTold (proplist_told m) (λ found. found ≡ m) old new r
 props_told taken comes k m t = asks_told (RevProplist k) (TakesItem same proplist_said) (proplist_told m) (λ found. found ≡ m) (carry_answer taken comes (spell (proplist m)) (λ found. found ≡ m) (TakesItem same proplist_said) (carry_item taken comes same proplist_said (proplist m) m (proplist_fits m t) (ap (option_map Some) (props_again m t).of_proplist)))
 
-carry_set : {R : Type 0} {g : InputGhosts R} → WrittenIsTaken → WrittenComes → (trees : List PathMap) (s : List Change) (m props : PropMap) → MayBeSent trees s → props ≡ m → Carries {g = g} (edit_bytes (drive trees s) ++ spell done) (IsRevision trees s m) (TakesSet trees props)
-carry_set {R} {g} taken comes trees s m props may e = carry_follows (edit_bytes (drive trees s)) (spell done) (λ set. (q : Path) → effect trees set q ≡ effect trees s q) (IsRevision trees s m) (TakesEdit trees) (λ set. Gives (TakesItem same done_said) (set, props)) (edit_later trees) (carry_edit trees s may)
-    (λ set is. carry_more (spell done) (λ w. w ≡ (set, props)) (IsRevision trees s m) (Gives (TakesItem same done_said) (set, props)) (λ w z. subst (IsRevision trees s m) (sym z) (record { effect_is = is; props_are = e }))
-    (carry_gives (spell done) (λ u. u ≡ tt) (set, props) (TakesItem same done_said) (carry_item taken comes same done_said done tt done_fits refl)))
+carry_set : {R : Type 0} {g : InputGhosts R} → WrittenIsTaken → WrittenComes → (trees : List PathMap) (s : List Change) (m props : PropMap) → MayBeSent trees s → props ≡ m → Carries {g = g} (edit_bytes (drive trees s) ++ spell done) (IsRevisionMade trees s m) (TakesSet trees props)
+carry_set {R} {g} taken comes trees s m props may e = carry_follows (edit_bytes (drive trees s)) (spell done) (λ applied. (q : Path) → effect trees applied.set q ≡ effect trees s q) (IsRevisionMade trees s m) (TakesEdit trees) (λ applied. Gives (TakesItem same done_said) (applied, props)) (edit_later trees) (carry_edit trees s may)
+    (λ applied is. carry_more (spell done) (λ w. w ≡ (applied, props)) (IsRevisionMade trees s m) (Gives (TakesItem same done_said) (applied, props)) (λ w z. subst (IsRevisionMade trees s m) (sym z) (record { effect_is = is; props_are = e }))
+    (carry_gives (spell done) (λ u. u ≡ tt) (applied, props) (TakesItem same done_said) (carry_item taken comes same done_said done tt done_fits refl)))
 
-pub revision_told_so : {R O : Type 0} {g : InputGhosts R} {h : OutputGhosts O} → WrittenIsTaken → WrittenComes → (k : ℕ) (trees : List PathMap) (s : List Change) (m : PropMap) → MayBeSent trees s → IsProps m → (old new : ItemStream R g × Sink O h) (r : Result (List Change × PropMap) ClientFault) → AsksRevision k trees old new r → TakesTold (revision_told trees s m) (IsRevision trees s m) old new r
-revision_told_so taken comes k trees s m may t = asks_told (ReplayRange k k) (TakesRevision trees) (revision_told trees s m) (IsRevision trees s m) (carry_answer taken comes (spell (revprops m) ++ (edit_bytes (drive trees s) ++ spell done)) (IsRevision trees s m) (TakesRevision trees)
-    (carry_follows (spell (revprops m)) (edit_bytes (drive trees s) ++ spell done) (λ props. props ≡ m) (IsRevision trees s m) (TakesItem same revprops_said) (TakesSet trees) (item_later same revprops_said) (carry_item taken comes same revprops_said (revprops m) m (revprops_fit m t) (ap (option_map Some) (props_again m t).of_revprops)) (λ props e. carry_set taken comes trees s m props may e)))
+pub revision_told_so : {R O : Type 0} {g : InputGhosts R} {h : OutputGhosts O} → WrittenIsTaken → WrittenComes → (k : ℕ) (trees : List PathMap) (s : List Change) (m : PropMap) → MayBeSent trees s → IsProps m → (old new : ItemStream R g × Sink O h) (r : Result (Applied × PropMap) ClientFault) → AsksRevision k trees old new r → TakesTold (revision_told trees s m) (IsRevisionMade trees s m) old new r
+revision_told_so taken comes k trees s m may t = asks_told (ReplayRange k k) (TakesRevision trees) (revision_told trees s m) (IsRevisionMade trees s m) (carry_answer taken comes (spell (revprops m) ++ (edit_bytes (drive trees s) ++ spell done)) (IsRevisionMade trees s m) (TakesRevision trees)
+    (carry_follows (spell (revprops m)) (edit_bytes (drive trees s) ++ spell done) (λ props. props ≡ m) (IsRevisionMade trees s m) (TakesItem same revprops_said) (TakesSet trees) (item_later same revprops_said) (carry_item taken comes same revprops_said (revprops m) m (revprops_fit m t) (ap (option_map Some) (props_again m t).of_revprops)) (λ props e. carry_set taken comes trees s m props may e)))

@@ -1,5 +1,5 @@
 -- Where a failed stream is told.
-use Rattle.std.proofs.Common.{◌≡◌, ◌⊎◌, ◌≤◌, ℕ, Bool, true, false, List, [], Option, Result, Ok, Err, OnOk, IfErr, inl, inr, refl, sym, ap, subst, ◌∙◌, arith}
+use Rattle.std.proofs.Common.{◌≡◌, ◌⊎◌, ◌≤◌, ℕ, Bool, true, false, List, [], Option, Result, Ok, Err, OnOk, IfErr, inl, inr, refl, ap, subst, arith}
 use Rattle.byte_streams.specs.Causes.{Rose, Fails}
 use Rattle.byte_streams.specs.Sinks.{inner_of}
 use Rattle.byte_streams.specs.declared.input.Input.{Ghosts as InputGhosts}
@@ -7,20 +7,19 @@ use Rattle.byte_streams.specs.declared.output.Output.{Ghosts as OutputGhosts}
 use Rattle.byte_streams.specs.declared.sink.Sink.{Sink}
 use Rattle.node_base.specs.Props.{PropMap}
 use Rattle.node_base.specs.Tree.{PathMap}
-use Rattle.dump_load.specs.declared.change.Change.{Change}
+use Rattle.dump_load.specs.declared.load.Applied.{Applied}
 use Rattle.ra_item.specs.Items.{Item, spell}
 use Rattle.ra_item.specs.ItemStreams.{reader_of, Stops, is_spent, ahead}
 use Rattle.ra_item.specs.declared.fault.ItemFault.TheVariants as item
 use Rattle.ra_item.specs.declared.fault.NextFault.{NextFault}
 use Rattle.ra_item.specs.declared.fault.NextFault.TheVariants as next
 use Rattle.ra_item.specs.declared.stream.ItemStream.{ItemStream}
-use Rattle.ra_edit.specs.declared.edit_fault.EditFault.{EditFault}
 use Rattle.ra_edit.specs.declared.edit_fault.EditFault.TheVariants as edit
 use Rattle.ra_client.specs.Faults.{of_next}
 use Rattle.ra_wire.specs.Commands.{Command, LatestRev, RevProplist, ReplayRange}
 use Rattle.ra_wire.specs.Requests.{hello, anonymous, command_item}
 use Rattle.ra_client.specs.Exchanges.{Asks, AsksLatest, AsksProps, AsksRevision, TakesRevision, LogsIn, Opens}
-use Rattle.ra_client.specs.Said.{Reply, Told, Repository, same, authorised_said, done_said, number_said, proplist_said, revprops_said, greeting_said, asks_said, welcome_said}
+use Rattle.ra_client.specs.Said.{Reply, Repository, same, authorised_said, done_said, number_said, proplist_said, revprops_said, greeting_said, asks_said, welcome_said}
 use Rattle.ra_client.specs.Steps.{Follows, Stopped, Went, Gives, IsIdle, OnInput, OnOutput, TakesItem, OfItem, OfEnd, OfStream, TakesEdit, Sends, IsUnwritten, counts_of, IsLater}
 use Rattle.ra_client.specs.Ports.{FailsMeanwhile, TellsPeer}
 use Rattle.ra_client.specs.declared.fault.ClientFault.{ClientFault}
@@ -98,7 +97,7 @@ item_fair view what old new (Ok v) h = record { later = h.1.later; peer = tt }
 item_fair view what old new (Err f) h = record { later = tt; peer = item_peer view what old new f h }
 
 edit_fair : {R : Type 0} {g : InputGhosts R} (trees : List PathMap) → AreFair {S = ItemStream R g} LaterIn FailsIn (TakesEdit trees)
-edit_fair trees old new (Ok set) h = record { later = h.1.later; peer = tt }
+edit_fair trees old new (Ok applied) h = record { later = h.1.later; peer = tt }
 edit_fair trees old new (Err (fault.Edit e)) h = record { later = tt; peer = λ told. let d : e ≡ edit.PeerFailed = cc in h.0.2 d }
 edit_fair trees old new (Err fault.Refused) h = absurd h.0
 edit_fair trees old new (Err fault.BadAnswer) h = absurd h.0
@@ -149,9 +148,9 @@ pub props_tells : {R O : Type 0} {g : InputGhosts R} {h : OutputGhosts O} (n : �
 props_tells n old new r k = (asks_fair (RevProplist n) _ (item_fair same proplist_said) old new r k).peer
 
 revision_fair : {R : Type 0} {g : InputGhosts R} (trees : List PathMap) → AreFair {S = ItemStream R g} LaterIn FailsIn (TakesRevision trees)
-revision_fair trees = follows_fair LaterIn FailsIn _ _ joins_in (item_fair same revprops_said) (λ props. follows_fair LaterIn FailsIn _ _ joins_in (edit_fair trees) (λ set. gives_fair LaterIn FailsIn _ (set, props) (item_fair same done_said)))
+revision_fair trees = follows_fair LaterIn FailsIn _ _ joins_in (item_fair same revprops_said) (λ props. follows_fair LaterIn FailsIn _ _ joins_in (edit_fair trees) (λ applied. gives_fair LaterIn FailsIn _ (applied, props) (item_fair same done_said)))
 
-pub revision_tells : {R O : Type 0} {g : InputGhosts R} {h : OutputGhosts O} (n : ℕ) (trees : List PathMap) (old new : ItemStream R g × Sink O h) (r : Result (List Change × PropMap) ClientFault) → AsksRevision n trees old new r → TellsPeer old new r
+pub revision_tells : {R O : Type 0} {g : InputGhosts R} {h : OutputGhosts O} (n : ℕ) (trees : List PathMap) (old new : ItemStream R g × Sink O h) (r : Result (Applied × PropMap) ClientFault) → AsksRevision n trees old new r → TellsPeer old new r
 revision_tells n trees old new r k = (asks_fair (ReplayRange n n) _ (revision_fair trees) old new r k).peer
 
 logs_fair : {R O : Type 0} {g : InputGhosts R} {h : OutputGhosts O} (asks : Bool) → AreFair {S = ItemStream R g × Sink O h} LaterOn FailsOn (LogsIn asks)

@@ -1,5 +1,5 @@
 -- Properties are told in items within the limits of items.
-use Rattle.std.proofs.Common.{◌≡◌, ℕ, ◌+◌, ◌*◌, ◌≤◌, max, List, [], ◌∷◌, ◌++◌, map, length, codes, refl, length-append, arith}
+use Rattle.std.proofs.Common.{ℕ, ◌+◌, ◌*◌, ◌≤◌, max, List, [], ◌∷◌, ◌++◌, map, length, codes, refl, length-append, arith}
 use Rattle.std.proofs.lemmas.Fmt.{length-decimal-le}
 use Rattle.std.specs.Fmt.{decimal}
 use Rattle.std.specs.FinMap as finite
@@ -7,9 +7,9 @@ use Rattle.std.specs.List.{AllByRecursion}
 use Rattle.node_base.specs.Path.{Name}
 use Rattle.node_base.specs.Props.{PropMap, IsProps}
 use Rattle.node_base.proofs.BlockLengths.{few_entries}
-use Rattle.ra_item.specs.Items.{Item, Word, Text, row, spell, spell_all, nesting, deepest, AllFit, Within}
+use Rattle.ra_item.specs.Items.{Item, Text, row, spell, spell_all, nesting, deepest, AllFit, Within}
 use Rattle.edit_road.proofs.Limits.{IsEntry, entries_fit}
-use Rattle.ra_wire.specs.Replies.{list, answer_of, success, property, properties, proplist, revprops}
+use Rattle.ra_wire.specs.Replies.{answer_of, success, property, properties, proplist, revprops}
 
 max_least : (a b n : ℕ) → a ≤ n → b ≤ n → max a b ≤ n
 max_least a b n h k = grind arith

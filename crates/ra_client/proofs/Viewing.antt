@@ -1,5 +1,5 @@
 -- An opening, seen by what comes of it.
-use Rattle.std.proofs.Common.{◌≡◌, ℕ, Bool, List, Option, Result, Ok, Err, ap}
+use Rattle.std.proofs.Common.{ℕ, List, Option, Result, Ok, Err, ap}
 use Rattle.byte_streams.specs.declared.input.Input.{Ghosts as InputGhosts}
 use Rattle.byte_streams.specs.declared.output.Output.{Ghosts as OutputGhosts}
 use Rattle.byte_streams.specs.declared.sink.Sink.{Sink}
@@ -7,7 +7,7 @@ use Rattle.ra_item.specs.Items.{Item}
 use Rattle.ra_item.specs.declared.stream.ItemStream.{ItemStream}
 use Rattle.ra_client.specs.Exchanges.{Opens}
 use Rattle.ra_client.specs.Said.{Reply, Repository, Told, welcome_said}
-use Rattle.ra_client.specs.Steps.{Follows, Stopped, Went, OnInput, Goes, TakesItem, OfItem, OfEnd, OfStream}
+use Rattle.ra_client.specs.Steps.{Follows, Stopped, Went, Goes, TakesItem, OfItem, OfEnd, OfStream}
 use Rattle.ra_client.specs.declared.fault.ClientFault.{ClientFault}
 use Rattle.ra_client.specs.declared.fault.ClientFault.TheVariants as fault
 

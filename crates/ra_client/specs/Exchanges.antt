@@ -5,7 +5,7 @@ use Rattle.byte_streams.specs.declared.output.Output.{Ghosts as OutputGhosts}
 use Rattle.byte_streams.specs.declared.sink.Sink.{Sink}
 use Rattle.node_base.specs.Props.{PropMap}
 use Rattle.node_base.specs.Tree.{PathMap}
-use Rattle.dump_load.specs.declared.change.Change.{Change}
+use Rattle.dump_load.specs.declared.load.Applied.{Applied}
 use Rattle.ra_item.specs.Items.{spell}
 use Rattle.ra_item.specs.declared.stream.ItemStream.{ItemStream}
 use Rattle.ra_wire.specs.Commands.{Command, LatestRev, RevProplist, ReplayRange}
@@ -36,13 +36,13 @@ abbrev pub AsksProps : {R O : Type 0} {g : InputGhosts R} {h : OutputGhosts O} �
 AsksProps n = Asks (RevProplist n) (TakesItem same proplist_said)
 
 -- a revision: its edit over the trees before it, and that this was all, behind its properties
-abbrev pub TakesSet : {R : Type 0} {g : InputGhosts R} → List PathMap → PropMap → ItemStream R g → ItemStream R g → Result (List Change × PropMap) ClientFault → Type 0
-TakesSet trees props = Follows (TakesEdit trees) (λ set. Gives (TakesItem same done_said) (set, props))
+abbrev pub TakesSet : {R : Type 0} {g : InputGhosts R} → List PathMap → PropMap → ItemStream R g → ItemStream R g → Result (Applied × PropMap) ClientFault → Type 0
+TakesSet trees props = Follows (TakesEdit trees) (λ applied. Gives (TakesItem same done_said) (applied, props))
 
-abbrev pub TakesRevision : {R : Type 0} {g : InputGhosts R} → List PathMap → ItemStream R g → ItemStream R g → Result (List Change × PropMap) ClientFault → Type 0
+abbrev pub TakesRevision : {R : Type 0} {g : InputGhosts R} → List PathMap → ItemStream R g → ItemStream R g → Result (Applied × PropMap) ClientFault → Type 0
 TakesRevision trees = Follows (TakesItem same revprops_said) (TakesSet trees)
 
-abbrev pub AsksRevision : {R O : Type 0} {g : InputGhosts R} {h : OutputGhosts O} → ℕ → List PathMap → ItemStream R g × Sink O h → ItemStream R g × Sink O h → Result (List Change × PropMap) ClientFault → Type 0
+abbrev pub AsksRevision : {R O : Type 0} {g : InputGhosts R} {h : OutputGhosts O} → ℕ → List PathMap → ItemStream R g × Sink O h → ItemStream R g × Sink O h → Result (Applied × PropMap) ClientFault → Type 0
 AsksRevision n trees = Asks (ReplayRange n n) (TakesRevision trees)
 
 -- ---- the opening

@@ -1,5 +1,5 @@
 -- What a client does to its input and its output, step by step.
-use Rattle.std.specs.Prelude.{◌≡◌, ◌⊎◌, ℕ, ◌≤◌, Bool, true, false, List, [], ◌∷◌, Option, Some, Result, Ok, Err, OnOk, IfErr}
+use Rattle.std.specs.Prelude.{◌≡◌, ◌⊎◌, ℕ, ◌≤◌, Bool, true, false, List, [], ◌∷◌, Option, Result, Ok, Err, OnOk, IfErr}
 use Rattle.std.specs.Io.KnownBytes.{Appends, Keeps}
 use Rattle.std.specs.declared.io.Error.{Error}
 use Rattle.byte_streams.specs.declared.input.Input.{Ghosts as InputGhosts}
@@ -8,13 +8,12 @@ use Rattle.byte_streams.specs.Causes.{Counts, Rose, Fails}
 use Rattle.byte_streams.specs.Sinks.{inner_of}
 use Rattle.byte_streams.specs.declared.sink.Sink.{Sink}
 use Rattle.node_base.specs.Tree.{PathMap}
-use Rattle.dump_load.specs.declared.change.Change.{Change}
+use Rattle.dump_load.specs.declared.load.Applied.{Applied}
 use Rattle.ra_item.specs.Items.{Item}
 use Rattle.ra_item.specs.Streams.{Stream}
 use Rattle.ra_item.specs.ItemStreams.{Takes, Ends, Stops, reader_of, meanwhile, is_spent, ahead}
 use Rattle.ra_item.specs.declared.fault.NextFault.{NextFault}
 use Rattle.ra_item.specs.declared.stream.ItemStream.{ItemStream}
-use Rattle.ra_edit.specs.declared.edit_fault.EditFault.{EditFault}
 use Rattle.ra_edit.specs.declared.edit_fault.EditFault.TheVariants as edit
 use Rattle.edit_road.specs.Receiving.{IsNextEdit, Receives, Refuses, RefusesEdit}
 use Rattle.ra_client.specs.Faults.{of_next}
@@ -71,12 +70,12 @@ TakesItem {R} {A} {T} {g} view what old new result = IsNext view what (g.remaini
 
 -- the next items are an edit of which this set is made over these trees, and it has the effect of a set that was to come; or they
 -- aren't, and where one was to come, that is for memory or a read that failed
-abbrev pub IsEdit : {R : Type 0} {g : InputGhosts R} → List PathMap → ItemStream R g → ItemStream R g → Result (List Change) ClientFault → Type 0
-IsEdit {R} {g} trees old new (Ok set) = IsNextEdit g.remaining trees old new set × Receives g.remaining trees old new set
+abbrev pub IsEdit : {R : Type 0} {g : InputGhosts R} → List PathMap → ItemStream R g → ItemStream R g → Result Applied ClientFault → Type 0
+IsEdit {R} {g} trees old new (Ok a) = IsNextEdit g.remaining trees old new a.set × Receives g.remaining trees old new a.set
 IsEdit {R} {g} trees old new (Err (fault.Edit e)) = RefusesEdit g.remaining g.failures g.reads trees old new e × Refuses g.remaining g.failures g.reads trees old new e × (e ≡ edit.PeerFailed → Fails (counts_of old new))
 IsEdit trees old new (Err f) = ⊥
 
-abbrev pub TakesEdit : {R : Type 0} {g : InputGhosts R} → List PathMap → ItemStream R g → ItemStream R g → Result (List Change) ClientFault → Type 0
+abbrev pub TakesEdit : {R : Type 0} {g : InputGhosts R} → List PathMap → ItemStream R g → ItemStream R g → Result Applied ClientFault → Type 0
 TakesEdit trees old new result = IsEdit trees old new result × Goes old new result
 
 -- ---- writing

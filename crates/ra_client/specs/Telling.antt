@@ -7,6 +7,7 @@ use Rattle.node_base.specs.Path.{Path}
 use Rattle.node_base.specs.Props.{PropMap, IsProps}
 use Rattle.node_base.specs.Tree.{PathMap}
 use Rattle.dump_load.specs.declared.change.Change.{Change}
+use Rattle.dump_load.specs.declared.load.Applied.{Applied}
 use Rattle.dump_load.specs.Effect.{effect}
 use Rattle.editor_ends.specs.Drive.{drive}
 use Rattle.ra_item.specs.Items.{spell}
@@ -65,5 +66,9 @@ pub record IsRevision (trees : List PathMap) (s : List Change) (m : PropMap) (fo
   pub effect_is : (q : Path) → effect trees found.0 q ≡ effect trees s q
   pub props_are : found.1 ≡ m
 
-abbrev pub HearsRevision : {R O : Type 0} {g : InputGhosts R} {h : OutputGhosts O} → List PathMap → ClientPort R O g h → ClientPort R O g h → Result (List Change × PropMap) ClientFault → Type 0
-HearsRevision trees old new result = (s : List Change) (m : PropMap) → MayBeSent trees s → IsProps m → Hears (revision_told trees s m) (IsRevision trees s m) old new result
+-- the same of a set that comes with its tree
+abbrev pub IsRevisionMade : List PathMap → List Change → PropMap → Applied × PropMap → Type 0
+IsRevisionMade trees s m found = IsRevision trees s m (found.0.set, found.1)
+
+abbrev pub HearsRevision : {R O : Type 0} {g : InputGhosts R} {h : OutputGhosts O} → List PathMap → ClientPort R O g h → ClientPort R O g h → Result (Applied × PropMap) ClientFault → Type 0
+HearsRevision trees old new result = (s : List Change) (m : PropMap) → MayBeSent trees s → IsProps m → Hears (revision_told trees s m) (IsRevisionMade trees s m) old new result

@@ -1,6 +1,7 @@
 //! Commands and their answers.
 
-ghost use Rattle.std.specs.Prelude.{◌≡◌, ◌≤◌, List, ℕ, length, IfErr, OnOk, Ok};
+ghost use Rattle.std.specs.Prelude.{◌≡◌, ◌≤◌, List, ℕ, length, IfErr, IfOk, OnOk, Ok};
+ghost use Rattle.dump_load.specs.Trees.{Makes};
 ghost use Rattle.std.specs.Io.KnownBytes.{Appends};
 ghost use Rattle.byte_streams.specs.Sinks.{inner_of};
 ghost use Rattle.ra_wire.specs.Commands.{command_as};
@@ -14,7 +15,7 @@ use crate::take::{
     take_authorised, take_done, take_number, take_proplist, take_revprops, take_set,
 };
 use byte_streams::{Input, Output, Sink};
-use dump_load::ChangeSet;
+use dump_load::Applied;
 use node_base::{Props, RevNo};
 use path_tree::Tree;
 use ra_item::stream::ItemStream;
@@ -119,16 +120,18 @@ fn take_props<I: Input + Drop>(
     }
 }
 
-/// Asks for a revision: the set that makes it from the trees before it, and its properties.
+/// Asks for a revision: the set that makes it from the trees before it, with the tree that it makes, and its
+/// properties.
 pub fn ask_revision<I: Input + Drop, O: Output + Drop>(
     alloc: Global,
     items: &mut ItemStream<I>,
     out: &mut Sink<O>,
     number: RevNo,
     trees: &[Tree],
-) -> Result<(ChangeSet, Props), ClientFault>
+) -> Result<(Applied, Props), ClientFault>
     requires few { length trees.now ≤ 65535 }
     ensures asked { AsksRevision number trees.now (items.old, out.old) (items.new, out.new) result }
+    ensures makes { IfOk result (λ r. Makes trees.now r.0.set r.0.tree) }
 {
     let n = as_written(number);
     match send(out, &Command::ReplayRange(n, n)) {
@@ -142,9 +145,10 @@ fn take_replay<I: Input + Drop>(
     alloc: Global,
     items: &mut ItemStream<I>,
     trees: &[Tree],
-) -> Result<(ChangeSet, Props), ClientFault>
+) -> Result<(Applied, Props), ClientFault>
     requires few { length trees.now ≤ 65535 }
     ensures taken { TakesAnswer (TakesRevision trees.now) items.old items.new result }
+    ensures makes { IfOk result (λ r. Makes trees.now r.0.set r.0.tree) }
 {
     match take_authorised(alloc, items) {
         Ok(()) => take_revision(alloc, items, trees),
@@ -157,9 +161,10 @@ fn take_revision<I: Input + Drop>(
     alloc: Global,
     items: &mut ItemStream<I>,
     trees: &[Tree],
-) -> Result<(ChangeSet, Props), ClientFault>
+) -> Result<(Applied, Props), ClientFault>
     requires few { length trees.now ≤ 65535 }
     ensures taken { TakesRevision trees.now items.old items.new result }
+    ensures makes { IfOk result (λ r. Makes trees.now r.0.set r.0.tree) }
 {
     match take_revprops(alloc, items) {
         Ok(props) => take_changes(alloc, items, trees, props),
@@ -173,12 +178,13 @@ fn take_changes<I: Input + Drop>(
     items: &mut ItemStream<I>,
     trees: &[Tree],
     props: Props,
-) -> Result<(ChangeSet, Props), ClientFault>
+) -> Result<(Applied, Props), ClientFault>
     requires few { length trees.now ≤ 65535 }
     ensures taken { TakesSet trees.now props items.old items.new result }
+    ensures makes { IfOk result (λ r. Makes trees.now r.0.set r.0.tree) }
 {
     match take_set(alloc, trees, items) {
-        Ok(set) => take_end(items, set, props),
+        Ok(applied) => take_end(items, applied, props),
         Err(fault) => Err(fault),
     }
 }
@@ -186,13 +192,13 @@ fn take_changes<I: Input + Drop>(
 // Takes the end of the answer.
 fn take_end<I: Input + Drop>(
     items: &mut ItemStream<I>,
-    set: ChangeSet,
+    applied: Applied,
     props: Props,
-) -> Result<(ChangeSet, Props), ClientFault>
-    ensures taken { Gives (TakesItem same done_said) (set, props) items.old items.new result }
+) -> Result<(Applied, Props), ClientFault>
+    ensures taken { Gives (TakesItem same done_said) (applied, props) items.old items.new result }
 {
     match take_done(items) {
-        Ok(()) => Ok((set, props)),
+        Ok(()) => Ok((applied, props)),
         Err(fault) => Err(fault),
     }
 }

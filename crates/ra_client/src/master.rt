@@ -8,12 +8,12 @@ use crate::fault::ClientFault;
 use crate::port::ClientPort;
 use byte_streams::{Input, Output};
 use delta_editor::EditorFault;
-use dump_load::ChangeSet;
+use dump_load::Applied;
 use node_base::{PropValue, Props, Refusal, RevNo};
 use path_tree::Tree;
 use ra_edit::edit_fault::EditFault;
 use std::alloc::{AllocError, Global};
-use sync_job::{MasterFault, MasterPort};
+use sync_job::{Fetched, MasterFault, MasterPort};
 use uuid::Uuid;
 
 impl<I: Input + Drop, O: Output + Drop> MasterPort for ClientPort<I, O> {
@@ -39,12 +39,16 @@ impl<I: Input + Drop, O: Output + Drop> MasterPort for ClientPort<I, O> {
         _alloc: Global,
         number: RevNo,
         trees: &[Tree],
-    ) -> Result<(ChangeSet, Props), MasterFault> {
+    ) -> Result<Fetched, MasterFault> {
         if trees.len() != number.index() {
             return Err(MasterFault::Refused(Refusal::WrongNumber));
         }
         match ClientPort::fetch(self, number, trees) {
-            Ok(revision) => Ok(revision),
+            Ok((Applied { set, tree }, props)) => Ok(Fetched {
+                set,
+                tree: Some(tree),
+                props,
+            }),
             Err(fault) => Err(MasterFault::from(fault)),
         }
     }

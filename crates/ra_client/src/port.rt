@@ -1,13 +1,14 @@
 //! A client's session with a server.
 
-ghost use Rattle.std.specs.Prelude.{◌≡◌, length};
+ghost use Rattle.std.specs.Prelude.{◌≡◌, length, IfOk};
+ghost use Rattle.dump_load.specs.Trees.{Makes};
 ghost use Rattle.ra_client.specs.Faults.{over_after, over_by};
 
 use crate::ask::{ask_latest, ask_props, ask_revision};
 use crate::fault::ClientFault;
 use crate::opening::introduce;
 use byte_streams::{Input, Output, Sink};
-use dump_load::ChangeSet;
+use dump_load::Applied;
 use node_base::{Props, RevNo};
 use path_tree::Tree;
 use ra_edit::law::{written_comes, written_is_taken};
@@ -98,14 +99,12 @@ impl<I: Input + Drop, O: Output + Drop> ClientPort<I, O> {
         answer
     }
 
-    /// The set of changes that makes a revision from the trees before it, and its properties.
-    pub fn fetch(
-        &mut self,
-        number: RevNo,
-        trees: &[Tree],
-    ) -> Result<(ChangeSet, Props), ClientFault>
+    /// The set of changes that makes a revision from the trees before it, with the tree that it makes, and its
+    /// properties.
+    pub fn fetch(&mut self, number: RevNo, trees: &[Tree]) -> Result<(Applied, Props), ClientFault>
         requires before { length trees.now ≡ number }
         ensures call { Calls (AsksRevision number trees.now) self.old self.new result }
+        ensures makes { IfOk result (λ r. Makes trees.now r.0.set r.0.tree) }
         ensures told { HearsRevision trees.now self.old self.new result }
         ensures peer { TellsPeerAnew self.old self.new result }
     {

@@ -1,6 +1,7 @@
 //! Items of a stream, as what they say to a client.
 
-ghost use Rattle.std.specs.Prelude.{◌≡◌, ◌≤◌, length};
+ghost use Rattle.std.specs.Prelude.{◌≡◌, ◌≤◌, length, IfOk};
+ghost use Rattle.dump_load.specs.Trees.{Makes};
 ghost use Rattle.ra_client.specs.Found.{repository_as};
 ghost use Rattle.ra_client.specs.Said.{authorised_said, done_said, number_said, proplist_said, revprops_said, same};
 ghost use Rattle.ra_client.specs.Said.{greeting_said, asks_said, welcome_said};
@@ -10,7 +11,7 @@ use crate::answer;
 use crate::answer::Repository;
 use crate::fault::ClientFault;
 use byte_streams::Input;
-use dump_load::ChangeSet;
+use dump_load::Applied;
 use edit_road::receive::receive_set;
 use node_base::{Props, RevNo};
 use path_tree::Tree;
@@ -88,17 +89,18 @@ pub fn take_revprops<I: Input + Drop>(
     }
 }
 
-/// Takes a revision's edit, as the set that it makes over the trees before it.
+/// Takes a revision's edit, as the set that it makes over the trees before it, with the tree that the set makes.
 pub fn take_set<I: Input + Drop>(
     alloc: Global,
     trees: &[Tree],
     items: &mut ItemStream<I>,
-) -> Result<ChangeSet, ClientFault>
+) -> Result<Applied, ClientFault>
     requires few { length trees.now ≤ 65535 }
     ensures taken { TakesEdit trees.now items.old items.new result }
+    ensures makes { IfOk result (λ a. Makes trees.now a.set a.tree) }
 {
     match receive_set(alloc, trees, items) {
-        Ok(set) => Ok(set),
+        Ok(applied) => Ok(applied),
         Err(fault) => Err(ClientFault::from(fault)),
     }
 }

@@ -1,8 +1,8 @@
 //! What is asked and answered.
 
 use crate::sessions::{Line, Port, SINGLE, WHOLE, is_said, open, told};
-use crate::sets::{history, makes_next};
-use dump_load::ChangeSet;
+use crate::sets::{history, is_next, makes_next};
+use dump_load::Applied;
 use node_base::{Props, RevNo};
 use path_tree::Tree;
 use std::alloc::Global;
@@ -50,12 +50,12 @@ fn has_log(port: &mut Port<'_>) -> bool {
     }
 }
 
-/// The changes of a revision and its properties, over as many of these trees as stand before it.
+/// The changes of a revision, with their tree, and its properties, over as many of these trees as stand before it.
 pub(crate) fn fetched(
     port: &mut Port<'_>,
     trees: &[Tree],
     number: u16,
-) -> Option<(ChangeSet, Props)> {
+) -> Option<(Applied, Props)> {
     let before = trees.get(..usize::from(number))?;
     port.fetch(RevNo::new(number), before).ok()
 }
@@ -63,8 +63,9 @@ pub(crate) fn fetched(
 // Whether a revision is fetched that makes its tree, and has a log or no properties.
 fn makes(alloc: Global, port: &mut Port<'_>, trees: &[Tree], number: u16, log: bool) -> bool {
     match fetched(port, trees, number) {
-        Some((set, props)) => {
-            makes_next(alloc, trees, usize::from(number), &set)
+        Some((found, props)) => {
+            makes_next(alloc, trees, usize::from(number), &found.set)
+                && is_next(alloc, trees, usize::from(number), &found.tree)
                 && (if log {
                     is_log(&props)
                 } else {

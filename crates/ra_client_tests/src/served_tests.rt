@@ -2,7 +2,7 @@
 
 use crate::answer_tests::fetched;
 use crate::sessions::{Line, Port, SAID, SINGLE, URL, WHOLE, is_said, number_of, open};
-use crate::sets::{first, makes_next, second};
+use crate::sets::{first, is_next, makes_next, second};
 use byte_streams::CountedReader;
 use dump_load::ChangeSet;
 use node_base::{PropName, PropValue, Props, RevNo};
@@ -69,11 +69,13 @@ pub(crate) fn served(rt: &impl Abort, alloc: Global, asked: &[u8]) -> Vec<u8> {
     }
 }
 
-// Whether a revision makes its tree.
+// Whether a revision makes its tree, and comes with it.
 fn makes(alloc: Global, port: &mut Port<'_>, trees: &[Tree], number: u16, props: usize) -> bool {
     match fetched(port, trees, number) {
-        Some((set, found)) => {
-            found.len() == props && makes_next(alloc, trees, usize::from(number), &set)
+        Some((applied, found)) => {
+            found.len() == props
+                && makes_next(alloc, trees, usize::from(number), &applied.set)
+                && is_next(alloc, trees, usize::from(number), &applied.tree)
         }
         None => false,
     }

@@ -132,6 +132,14 @@ pub(crate) fn same_tree(alloc: Global, one: &Tree, other: &Tree) -> bool {
     true
 }
 
+/// Whether a tree is the next one of these behind the first so many.
+pub(crate) fn is_next(alloc: Global, trees: &[Tree], count: usize, tree: &Tree) -> bool {
+    match trees.get(count) {
+        Some(next) => same_tree(alloc, tree, next),
+        None => false,
+    }
+}
+
 /// Whether a set makes the next one of these trees from those before it, of which there are so many.
 pub(crate) fn makes_next(alloc: Global, trees: &[Tree], count: usize, set: &ChangeSet) -> bool {
     let (Some(before), Some(next)) = (trees.get(..count), trees.get(count)) else {

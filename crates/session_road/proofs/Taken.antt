@@ -9,6 +9,7 @@ use Rattle.node_base.specs.Path.{Path}
 use Rattle.node_base.specs.Props.{PropMap, IsProps}
 use Rattle.node_base.specs.Tree.{PathMap}
 use Rattle.dump_load.specs.declared.change.Change.{Change}
+use Rattle.dump_load.specs.declared.load.Applied.{Applied}
 use Rattle.dump_load.specs.Effect.{effect}
 use Rattle.editor_ends.specs.Drive.{drive}
 use Rattle.edit_road.specs.Sent.{MayBeSent}
@@ -80,8 +81,8 @@ hears_props taken comes m fit old new r h more there = carry_item taken comes sa
 
 -- ---- one revision
 
-pub edit_heard : {R : Type 0} {g : InputGhosts R} (trees : List PathMap) (props : PropMap) (old new : ItemStream R g) (set : List Change) → TakesEdit trees old new (Ok set) → HearsEdit trees props old new (Ok (set, props))
-edit_heard trees props old new set h s may more there = let m = carry_edit trees s may old new (Ok set) more there h in (record { effect_is = m.0; props_are = refl }, m.1)
+pub edit_heard : {R : Type 0} {g : InputGhosts R} (trees : List PathMap) (props : PropMap) (old new : ItemStream R g) (applied : Applied) → TakesEdit trees old new (Ok applied) → HearsEdit trees props old new (Ok (applied.set, props))
+edit_heard trees props old new applied h s may more there = let m = carry_edit trees s may old new (Ok applied) more there h in (record { effect_is = m.0; props_are = refl }, m.1)
 
 pub edit_unheard : {R : Type 0} {g : InputGhosts R} (trees : List PathMap) (props : PropMap) (old new : ItemStream R g) (f : ClientFault) → TakesEdit trees old new (Err f) → HearsEdit trees props old new (Err f)
 edit_unheard trees props old new f h s may more there = carry_edit trees s may old new (Err f) more there h

@@ -11,7 +11,7 @@ ghost use Rattle.session_road.specs.Ranges.{HearsFrom, HearsNext, HearsEdit, IsR
 
 use crate::law::each_revision_may_be_heard;
 use byte_streams::Input;
-use dump_load::ChangeSet;
+use dump_load::{Applied, ChangeSet};
 use node_base::{Props, RevNo};
 use path_tree::Tree;
 use ra_client::{ClientFault, take_authorised, take_done, take_revprops, take_set};
@@ -186,7 +186,10 @@ fn take_edit<I: Input + Drop>(
     ensures later { OnOk result (IsLater items.old items.new) }
 {
     match take_set(alloc, trees, items) {
-        Ok(set) => Ok((set, props)),
+        Ok(applied) => {
+            let Applied { set, tree: _ } = applied;
+            Ok((set, props))
+        }
         Err(fault) => Err(fault),
     }
 }

@@ -2,6 +2,7 @@ pub mod Causes
 pub mod Devices
 pub mod Endings
 pub mod Fronts
+pub mod Made
 pub mod Nearer
 pub mod OtherEndings
 pub mod Releases

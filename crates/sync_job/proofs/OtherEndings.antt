@@ -27,7 +27,7 @@ use Rattle.std.specs.List.{range_with_len}
 use Rattle.std.proofs.lemmas.Bool.Decides.{nat_tests}
 use Rattle.sync_core.proofs.Lists.{range-next}
 use Rattle.node_base.specs.Props.{PropMap}
-use Rattle.sync_job.proofs.Endings.{EndsReleased, run_released, no_fine, same_fault, some_fine, never}
+use Rattle.sync_job.proofs.Endings.{EndsReleased, run_released, some_fine, never}
 use Rattle.sync_job.proofs.Rounds.{Laws, carry, silent, run_rightly, IsRightly}
 use Rattle.sync_job.proofs.Releases.{run_lets_go, begun_unlocked}
 use Rattle.sync_job.proofs.Causes.{run_reported, run_from, ended_refused, copy_looked_is, copy_begin_is, copy_next_is, said_right}

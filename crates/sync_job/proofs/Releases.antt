@@ -5,7 +5,6 @@ use Rattle.sync_core.specs.declared.answer.Answer.TheVariants as answer
 use Rattle.sync_core.specs.declared.fault.SyncFault.{SyncFault}
 use Rattle.sync_core.specs.declared.fault.SyncFault.TheVariants as fault
 use Rattle.sync_core.specs.declared.ending.Ending.{Ending}
-use Rattle.sync_core.specs.declared.ending.Ending.TheVariants as ending
 use Rattle.sync_core.specs.declared.state.JobState.{JobState}
 use Rattle.sync_core.specs.declared.state.JobState.TheVariants as state
 use Rattle.sync_core.specs.declared.init_job.InitPhase.{InitPhase}
@@ -16,19 +15,17 @@ use Rattle.sync_core.specs.declared.sync_job.SyncPhase.{SyncPhase}
 use Rattle.sync_core.specs.declared.sync_job.SyncPhase.TheVariants as phase
 use Rattle.sync_core.specs.declared.copy_job.CopyPhase.{CopyPhase}
 use Rattle.sync_core.specs.declared.copy_job.CopyPhase.TheVariants as copying
-use Rattle.sync_core.specs.Mirror.{Call, TakeLock, StealLock, ReleaseLock, Init, Look}
+use Rattle.sync_core.specs.Mirror.{ReleaseLock, Look}
 use Rattle.sync_core.specs.Jobs.{Job, Stage, Begun, Locked, Over}
-use Rattle.sync_core.specs.Deeds.{Deed, Calls, AsksIdentity, FetchesProps, Fetches, Ends, heard}
+use Rattle.sync_core.specs.Deeds.{Deed, Calls, AsksIdentity, Fetches, heard}
 use Rattle.sync_core.specs.States.{deed_in, after, ending_of}
 use Rattle.sync_core.specs.InitTable as init_table
 use Rattle.sync_core.specs.SyncTable as sync_table
 use Rattle.sync_core.specs.CopyTable as copy_table
-use Rattle.sync_job.specs.declared.report.Told.{Told}
-use Rattle.sync_core.specs.Copies.{outcome_of}
 use Rattle.sync_job.specs.Kept.{refused_as}
-use Rattle.sync_job.specs.Said.{Spoken, NoTree, told_by, made, Fits, IsRound, Done, Lacking, Treeless}
-use Rattle.sync_job.specs.Runs.{Round, said_by, Goes, answer_of, hears_all}
-use Rattle.sync_job.proofs.Rounds.{Laws, carry, silent, hears_append, heard_round}
+use Rattle.sync_job.specs.Said.{Spoken, NoTree, Fits, IsRound, Done, Lacking, Treeless}
+use Rattle.sync_job.specs.Runs.{Round, said_by, Goes, hears_all}
+use Rattle.sync_job.proofs.Rounds.{carry, hears_append, heard_round}
 use Rattle.sync_job.proofs.Causes.{next_is, looked_is, who_is, cleared_is, copy_looked_is, copy_begin_is, copy_next_is}
 
 -- what is known of a job's lock in a phase: none was asked for yet, or the job has ended and has none; in between it may have it

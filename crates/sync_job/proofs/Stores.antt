@@ -1,13 +1,11 @@
 -- What a call does to a mirror in a store.
-use Rattle.std.proofs.Common.{◌≡◌, ◌⊎◌, ◌↔◌, inl, inr, ℕ, ◌≤◌, List, [], ◌∷◌, Option, Some, None, IsSome, MatchOption, Result, Ok, Err, refl, sym, ap, subst, ◌∙◌, arith}
+use Rattle.std.proofs.Common.{◌≡◌, ◌⊎◌, ◌↔◌, inl, inr, ℕ, ◌≤◌, List, Option, Some, None, IsSome, MatchOption, Result, Ok, Err, refl, sym, ap, subst, ◌∙◌, arith}
 use Rattle.std.specs.Option.{option_map, option_map_or}
 use Rattle.fleet_disk.specs.Image.{Image}
 use Rattle.fleet_disk.specs.Rules.{LeavesOnly}
 use Rattle.fleet_disk.specs.declared.disk.Disk.{Ghosts}
 use Rattle.gate_log.specs.declared.fault.LogFault.TheVariants as log
 use Rattle.node_base.specs.declared.refusal.Refusal.TheVariants as refusal_is
-use Rattle.dump_load.specs.declared.change.Change.{Change}
-use Rattle.dump_load.specs.Faults.{first_of}
 use Rattle.repo_core.specs.Repository.{Revision}
 use Rattle.repo_core.specs.Entries.{with_entry_in}
 use Rattle.repo_core.specs.Refusals.{by_repository}

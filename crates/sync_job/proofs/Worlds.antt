@@ -424,7 +424,7 @@ map-set_tree [] n p = refl
 map-set_tree (r ∷ rs) zero p = refl
 map-set_tree (r ∷ rs) (suc n) p = ap (λ ts. r.tree ∷ ts) (map-set_tree rs n p)
 
-first_on : (x : List Revision) (e : Option Entry) (trees : List PathMap) → AreFirst trees (trees_of x) → AreFirst trees (trees_of (option_map_or (with_entry x) e x))
+pub first_on : (x : List Revision) (e : Option Entry) (trees : List PathMap) → AreFirst trees (trees_of x) → AreFirst trees (trees_of (option_map_or (with_entry x) e x))
 first_on x None trees f = f
 first_on x (Some (Mapped n p)) trees f = (f.0, f.1 ∙ sym (map-set_tree x n p))
 first_on x (Some (Revised n set p)) trees f =

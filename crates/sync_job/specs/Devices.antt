@@ -1,5 +1,5 @@
 -- What the answers of a mirror in a store tell of its device.
-use Rattle.std.specs.Prelude.{◌≡◌, ◌≤◌, ◌⊎◌, ℕ, List, Result, IfErr}
+use Rattle.std.specs.Prelude.{◌≡◌, ◌≤◌, ◌⊎◌, List, Result, IfErr}
 use Rattle.std.specs.List.{AllByRecursion}
 use Rattle.fleet_disk.specs.Rules.{Rose}
 use Rattle.fleet_disk.specs.declared.disk.Disk.{Ghosts}

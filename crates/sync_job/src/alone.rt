@@ -1,6 +1,10 @@
 //! A mirror held alone.
-ghost use Rattle.std.specs.Prelude.{◌≡◌, ◌↔◌, ◌∷◌, [], None, IfOk};
+ghost use Rattle.std.specs.Prelude.{◌≡◌, ◌↔◌, ◌∷◌, [], List, None, IfOk};
 ghost use Rattle.fleet_disk.specs.Image.{Image};
+ghost use Rattle.node_base.specs.Tree.{PathMap};
+ghost use Rattle.repo_core.specs.Refusals.{by_repository};
+ghost use Rattle.repo_core.specs.Repository.{trees_of};
+ghost use Rattle.repo_store.specs.Changes.{IsNumbered, Stages};
 ghost use Rattle.repo_store.specs.Journal.{Keeps};
 ghost use Rattle.repo_store.specs.Words.{disk_of, repository_of, revisions_of, HasFailed};
 ghost use Rattle.sync_core.specs.Calls.{call_of};
@@ -9,15 +13,18 @@ ghost use Rattle.sync_core.specs.Plans.{IsToWrite};
 ghost use Rattle.sync_job.specs.Alone.{StandsAt, Moved, begun, holder_of, store_of};
 ghost use Rattle.sync_job.specs.Asked.{asked_as};
 ghost use Rattle.sync_job.specs.Devices.{WasAsked};
+ghost use Rattle.sync_job.specs.Made.{ComesWith, IsTreeOf};
 ghost use Rattle.sync_job.specs.Mirrors.{MirrorNow, IsFit};
+ghost use Rattle.sync_job.specs.Worlds.{AreFirst};
 
 use crate::faults::fault_of;
 use crate::mirror::MirrorPort;
+use dump_load::Applied;
 use fleet_disk::Disk;
 use node_base::{Refusal, RevNo};
 use path_tree::Tree;
 use repo_core::Entry;
-use repo_store::RepoStore;
+use repo_store::{RepoStore, Staged, StoreFault};
 use std::alloc::Global;
 use sync_core::{MirrorCall, Planned, Reply, Seat, SyncFault, holder_after, plan};
 
@@ -71,16 +78,21 @@ impl<D: Disk + Drop> AloneMirror<D> {
         alloc: Global,
         call: &MirrorCall<'_>,
         entry: Entry,
+        tree: Option<Tree>,
     ) -> Result<Reply, SyncFault>
         requires planned { IsToWrite (mirror_with (revisions_of self.old.store) self.old.holder) 0
             (call_of call.now) entry }
+        requires made { ComesWith (λ trees. AreFirst trees (trees_of (revisions_of self.old.store)))
+            (call_of call.now) tree }
         ensures fits { IfOk result (IsFit (call_of call.now)) }
         ensures honest { D.honest (disk_of self.old.store) ↔ D.honest (disk_of self.new.store) }
         ensures moved { (m : MirrorNow) → StandsAt self.old.store self.old.holder m
             → Moved self.old.store self.new.store self.old.holder self.new.holder (call_of call.now) result m }
         ensures asked { WasAsked self.new.store self.old.store (asked_as (call_of call.now) result ∷ []) }
+        ensures first { (trees : List PathMap) → AreFirst trees (trees_of (revisions_of self.old.store))
+            → AreFirst trees (trees_of (revisions_of self.new.store)) }
     {
-        let staged = match self.store.stage(alloc, entry) {
+        let staged = match stage(alloc, &mut self.store, entry, tree) {
             Ok(staged) => staged,
             Err(fault) => return Err(fault_of(fault)),
         };
@@ -95,9 +107,12 @@ impl<D: Disk + Drop> AloneMirror<D> {
 }
 
 impl<D: Disk + Drop> MirrorPort for AloneMirror<D> {
-    ghost use Rattle.repo_store.specs.Words.{disk_of};
+    ghost use Rattle.std.proofs.Common.{refl};
+    ghost use Rattle.repo_core.specs.Repository.{trees_of};
+    ghost use Rattle.repo_store.specs.Words.{disk_of, revisions_of};
     ghost use Rattle.sync_job.specs.Alone.{StandsAt};
     ghost use Rattle.sync_job.specs.Devices.{WasAsked};
+    ghost use Rattle.sync_job.specs.Worlds.{AreFirst};
 
     ghost stands = { λ a m. StandsAt a.store a.holder m };
 
@@ -109,15 +124,24 @@ impl<D: Disk + Drop> MirrorPort for AloneMirror<D> {
 
     ghost left_since = { λ a t image. D.left_since (disk_of a.store) t image };
 
+    ghost begins_with = { λ a trees. AreFirst trees (trees_of (revisions_of a.store)) };
+
     ghost asked = { λ now first calls. WasAsked now.store first.store calls };
 
     ghost kept_now = { λ a m image honest stands left. stands.images honest image
         (D.only_now (disk_of a.store) image honest left) };
 
-    fn step(&mut self, alloc: Global, call: &MirrorCall<'_>) -> Result<Reply, SyncFault> {
+    ghost begins = { λ a. (trees_of (revisions_of a.store), refl) };
+
+    fn step(
+        &mut self,
+        alloc: Global,
+        call: &MirrorCall<'_>,
+        tree: Option<Tree>,
+    ) -> Result<Reply, SyncFault> {
         match plan(alloc, self.store.repo(), self.holder, Seat::new(0), call) {
             Ok(Planned::Tell(standing)) => Ok(Reply::Seen(standing)),
-            Ok(Planned::Write(entry)) => self.write(alloc, call, entry),
+            Ok(Planned::Write(entry)) => self.write(alloc, call, entry, tree),
             Err(fault) => Err(fault),
         }
     }
@@ -127,5 +151,29 @@ impl<D: Disk + Drop> MirrorPort for AloneMirror<D> {
             Some(tree) => Ok(tree.share()?),
             None => Err(SyncFault::Other(Refusal::NoSuchRevision)),
         }
+    }
+}
+
+// An entry is made ready, a revision with the tree that comes with it: its set is applied only where none does.
+fn stage<D: Disk>(
+    alloc: Global,
+    store: &mut RepoStore<D>,
+    entry: Entry,
+    tree: Option<Tree>,
+) -> Result<Staged, StoreFault>
+    requires numbered { IsNumbered (revisions_of store.old) entry }
+    requires made { IsTreeOf (trees_of (revisions_of store.old)) entry tree }
+    ensures stages { Stages entry (by_repository (revisions_of store.old) entry) store.old store.new result }
+{
+    let Some(tree) = tree else {
+        return store.stage(alloc, entry);
+    };
+    match entry {
+        Entry::Revised {
+            number: _,
+            set,
+            props,
+        } => store.stage_applied(alloc, Applied { set, tree }, props),
+        Entry::Mapped { number, props } => store.stage(alloc, Entry::Mapped { number, props }),
     }
 }

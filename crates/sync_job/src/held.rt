@@ -3,8 +3,7 @@ ghost use Rattle.std.specs.Prelude.{◌≡◌};
 ghost use Rattle.sync_job.specs.Alone.{master_in};
 
 use crate::lent::{identity_of, props_of, revision_of};
-use crate::master::{MasterFault, MasterPort};
-use dump_load::ChangeSet;
+use crate::master::{Fetched, MasterFault, MasterPort};
 use fleet_disk::Disk;
 use node_base::{PropValue, Props, RevNo};
 use path_tree::Tree;
@@ -59,7 +58,7 @@ impl<D: Disk + Drop> MasterPort for HeldMaster<D> {
         alloc: Global,
         number: RevNo,
         _trees: &[Tree],
-    ) -> Result<(ChangeSet, Props), MasterFault> {
+    ) -> Result<Fetched, MasterFault> {
         revision_of(alloc, &self.store, number)
     }
 

@@ -1,13 +1,12 @@
 //! A master that is lent.
-ghost use Rattle.std.specs.Prelude.{◌≡◌, Some, IfOk};
+ghost use Rattle.std.specs.Prelude.{◌≡◌, None, Some, IfOk};
 ghost use Rattle.uuid.specs.Text.{hyphenated_text, lower};
 ghost use Rattle.repo_store.specs.Words.{repository_of};
 ghost use Rattle.sync_core.specs.World.{Origin, map_at, moment_of};
 ghost use Rattle.sync_core.specs.World.{Makes as MakesTree};
 ghost use Rattle.sync_job.specs.Alone.{lent_in, IsMasterAt};
 
-use crate::master::{MasterFault, MasterPort};
-use dump_load::ChangeSet;
+use crate::master::{Fetched, MasterFault, MasterPort};
 use fleet_disk::Disk;
 use node_base::{PropValue, Props, Refusal, RevNo};
 use path_tree::Tree;
@@ -49,7 +48,7 @@ impl<'a, D: Disk + Drop> MasterPort for LentMaster<'a, D> {
         alloc: Global,
         number: RevNo,
         _trees: &[Tree],
-    ) -> Result<(ChangeSet, Props), MasterFault> {
+    ) -> Result<Fetched, MasterFault> {
         revision_of(alloc, self.store, number)
     }
 
@@ -76,14 +75,15 @@ pub(crate) fn revision_of<D: Disk>(
     alloc: Global,
     store: &RepoStore<D>,
     number: RevNo,
-) -> Result<(ChangeSet, Props), MasterFault>
-    ensures { (o : Origin) → IsMasterAt (repository_of store.now) o → IfOk result
-        (λ r. MakesTree o number r.0 × (map_at o (moment_of o) number ≡ Some r.1)) }
+) -> Result<Fetched, MasterFault>
+    ensures revision { (o : Origin) → IsMasterAt (repository_of store.now) o → IfOk result
+        (λ r. MakesTree o number r.set × (map_at o (moment_of o) number ≡ Some r.props)) }
+    ensures treeless { IfOk result (λ r. r.tree ≡ None) }
 {
     let props = props_of(store, number)?;
     match store.repo().set(number) {
         Some(set) => match set.share(alloc) {
-            Ok(set) => Ok((set, props)),
+            Ok(set) => Ok(Fetched::without_tree(set, props)),
             Err(_) => Err(MasterFault::Refused(Refusal::OutOfMemory)),
         },
         None => Err(MasterFault::Refused(Refusal::NoSuchRevision)),

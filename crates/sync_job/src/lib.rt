@@ -22,7 +22,7 @@
 pub use alone::AloneMirror;
 pub use held::HeldMaster;
 pub use lent::LentMaster;
-pub use master::{MasterFault, MasterPort};
+pub use master::{Fetched, MasterFault, MasterPort};
 pub use mirror::MirrorPort;
 pub use port_call::PortCall;
 pub use ports::JobPorts;

@@ -13,18 +13,19 @@ ghost use Rattle.sync_job.specs.Kept.{refused_as};
 ghost use Rattle.sync_job.specs.declared.report.Told.{Told as IsTold};
 ghost use Rattle.sync_job.specs.declared.report.Told.TheVariants.{Committed, Copied};
 ghost use Rattle.node_base.specs.Tree.{PathMap};
+ghost use Rattle.dump_load.specs.Trees.{Makes};
 ghost use Rattle.sync_core.specs.World.{Origin, map_at, moment_of};
 ghost use Rattle.sync_core.specs.World.{Makes as MakesTree};
+ghost use Rattle.sync_job.specs.Made.{ComesWith, IsKeptFor, IsMadeBy, KeepsMade, StillBegins, BeginsOn, MakesOf};
 ghost use Rattle.sync_job.specs.Rooms.{IsReady, KeepsRoom};
 ghost use Rattle.sync_job.specs.Said.{Acted, Fits, IsQuestion, Tells, told_of};
 ghost use Rattle.sync_job.specs.Telling.{IsOther, KeepsTelling};
 ghost use Rattle.sync_job.specs.Worlds.{IsAnswerAt, Happens, TakesTrees};
 
-use crate::master::{MasterFault, MasterPort};
+use crate::master::{Fetched, MasterFault, MasterPort};
 use crate::mirror::MirrorPort;
 use crate::port_call::PortCall;
 use crate::report::{Report, Told};
-use dump_load::ChangeSet;
 use node_base::{PropValue, Props, Refusal, RevNo};
 use path_tree::Tree;
 use std::alloc::{AllocError, Global};
@@ -36,16 +37,20 @@ use sync_core::{Action, Answer, KeptCall, MirrorCall, Reply, SyncFault};
 /// Room for a call, and for its report, is made before it: want of memory then leaves the ports alone. Room for the
 /// release of a lock is made with the lock and kept, so want of memory keeps no lock from being given back. Where an
 /// answer can't be kept for want of memory, it counts as 70.
+///
+/// The tree that comes with a fetched revision is kept for the call behind it: with that revision's commit the mirror
+/// takes it.
 #[derive(Drop)]
 pub struct JobPorts<M: MasterPort + Drop, N: MirrorPort + Drop, R: Report + Drop> {
     master: M,
     mirror: N,
     report: R,
     calls: Vec<PortCall>,
+    tree: Option<Tree>,
 }
 
 impl<M: MasterPort + Drop, N: MirrorPort + Drop, R: Report + Drop> JobPorts<M, N, R> {
-    ghost use Rattle.sync_job.specs.Words.{calls_of, master_of, mirror_of, report_of, HasRoom};
+    ghost use Rattle.sync_job.specs.Words.{calls_of, master_of, mirror_of, report_of, tree_of, HasRoom};
 
     /// The ports, through which nothing was said yet.
     pub fn new(alloc: Global, master: M, mirror: N, report: R) -> JobPorts<M, N, R>
@@ -57,6 +62,7 @@ impl<M: MasterPort + Drop, N: MirrorPort + Drop, R: Report + Drop> JobPorts<M, N
             mirror,
             report,
             calls: Vec::new(alloc),
+            tree: None,
         }
     }
 
@@ -69,6 +75,7 @@ impl<M: MasterPort + Drop, N: MirrorPort + Drop, R: Report + Drop> JobPorts<M, N
             mirror,
             report,
             calls: _,
+            tree: _,
         } = self;
         (master, mirror, report)
     }
@@ -89,6 +96,7 @@ impl<M: MasterPort + Drop, N: MirrorPort + Drop, R: Report + Drop> JobPorts<M, N
     ) -> Answer
         requires goes { deed_of action.now ≡ Ends → ⊥ }
         requires ready { IsReady (deed_of action.now) self.old }
+        requires made { IsKeptFor (N.begins_with (mirror_of self.old)) (deed_of action.now) (tree_of self.old) }
         ensures room { KeepsRoom (deed_of action.now) result self.old self.new }
         ensures can { CanBe result }
         ensures said { Acted (deed_of action.now) result (calls_of self.old) (calls_of self.new)
@@ -101,6 +109,8 @@ impl<M: MasterPort + Drop, N: MirrorPort + Drop, R: Report + Drop> JobPorts<M, N
         ensures happens { Happens (M.is_at (master_of self.old)) (M.is_at (master_of self.new))
             (N.stands (mirror_of self.old)) (N.stands (mirror_of self.new)) (N.seat (mirror_of self.old))
             (N.seat (mirror_of self.new)) (deed_of action.now) result trees.old.items trees.new.items }
+        ensures first { BeginsOn N.begins_with (mirror_of self.old) (mirror_of self.new) trees.old.items trees.new.items }
+        ensures kept { KeepsMade trees.new.items (deed_of action.now) result (tree_of self.new) }
     {
         match action {
             Action::Call(call) => self.step(alloc, call),
@@ -115,6 +125,7 @@ impl<M: MasterPort + Drop, N: MirrorPort + Drop, R: Report + Drop> JobPorts<M, N
     // A call of the mirror, and its report.
     fn step(&mut self, alloc: Global, call: &MirrorCall<'_>) -> Answer
         requires ready { IsReady (Calls (call_of call.now)) self.old }
+        requires made { ComesWith (N.begins_with (mirror_of self.old)) (call_of call.now) (tree_of self.old) }
         ensures room { KeepsRoom (Calls (call_of call.now)) result self.old self.new }
         ensures can { CanBe result }
         ensures said { Acted (Calls (call_of call.now)) result (calls_of self.old) (calls_of self.new)
@@ -127,12 +138,14 @@ impl<M: MasterPort + Drop, N: MirrorPort + Drop, R: Report + Drop> JobPorts<M, N
         ensures happens { (trees : List PathMap) → Happens (M.is_at (master_of self.old)) (M.is_at (master_of self.new))
             (N.stands (mirror_of self.old)) (N.stands (mirror_of self.new)) (N.seat (mirror_of self.old))
             (N.seat (mirror_of self.new)) (Calls (call_of call.now)) result trees trees }
+        ensures first { StillBegins N.begins_with (mirror_of self.old) (mirror_of self.new) }
     {
         let kept = match self.room_for(alloc, call) {
             Ok(kept) => kept,
             Err(_) => return Answer::Refused(SyncFault::OutOfMemory),
         };
-        match self.mirror.step(alloc, call) {
+        let tree = self.tree.take();
+        match self.mirror.step(alloc, call, tree) {
             Ok(Reply::Done) => {
                 self.calls.push_reserved(PortCall::Step(kept, Answer::Done));
                 self.tell(call);
@@ -158,6 +171,7 @@ impl<M: MasterPort + Drop, N: MirrorPort + Drop, R: Report + Drop> JobPorts<M, N
         ensures room { OnOk result (HasRoom self.new) }
         ensures more { OnOk result ((call_of call.now ≡ ReleaseLock)
             ⊎ (length self.new.calls.items + 4 ≤ vec_capacity self.new.calls)) }
+        ensures tree { tree_of self.new ≡ tree_of self.old }
         ensures keeps { HasRoom self.old → HasRoom self.new }
         ensures made { OnErr result (call_of call.now ≢ ReleaseLock) }
         ensures calls { calls_of self.new ≡ calls_of self.old }
@@ -230,6 +244,7 @@ impl<M: MasterPort + Drop, N: MirrorPort + Drop, R: Report + Drop> JobPorts<M, N
         ensures happens { (trees : List PathMap) → Happens (M.is_at (master_of self.old)) (M.is_at (master_of self.new))
             (N.stands (mirror_of self.old)) (N.stands (mirror_of self.new)) (N.seat (mirror_of self.old))
             (N.seat (mirror_of self.new)) AsksIdentity result trees trees }
+        ensures first { StillBegins N.begins_with (mirror_of self.old) (mirror_of self.new) }
     {
         if self.calls.reserve(3).is_err() {
             return Answer::Refused(SyncFault::OutOfMemory);
@@ -252,6 +267,7 @@ impl<M: MasterPort + Drop, N: MirrorPort + Drop, R: Report + Drop> JobPorts<M, N
         ensures happens { (trees : List PathMap) → Happens (M.is_at (master_of self.old)) (M.is_at (master_of self.new))
             (N.stands (mirror_of self.old)) (N.stands (mirror_of self.new)) (N.seat (mirror_of self.old))
             (N.seat (mirror_of self.new)) AsksLatest result trees trees }
+        ensures first { StillBegins N.begins_with (mirror_of self.old) (mirror_of self.new) }
     {
         if self.calls.reserve(3).is_err() {
             return Answer::Refused(SyncFault::OutOfMemory);
@@ -274,6 +290,8 @@ impl<M: MasterPort + Drop, N: MirrorPort + Drop, R: Report + Drop> JobPorts<M, N
         ensures happens { Happens (M.is_at (master_of self.old)) (M.is_at (master_of self.new))
             (N.stands (mirror_of self.old)) (N.stands (mirror_of self.new)) (N.seat (mirror_of self.old))
             (N.seat (mirror_of self.new)) (Fetches number) result trees.old.items trees.new.items }
+        ensures first { BeginsOn N.begins_with (mirror_of self.old) (mirror_of self.new) trees.old.items trees.new.items }
+        ensures kept { IsMadeBy trees.new.items number result (tree_of self.new) }
     {
         if let Some(refusal) = self.fill(alloc, number, trees) {
             return refusal;
@@ -281,7 +299,7 @@ impl<M: MasterPort + Drop, N: MirrorPort + Drop, R: Report + Drop> JobPorts<M, N
         if self.calls.reserve(3).is_err() {
             return Answer::Refused(SyncFault::OutOfMemory);
         }
-        let answer = revision_answer(
+        let (answer, tree) = revision_answer(
             alloc,
             number,
             self.master
@@ -289,6 +307,7 @@ impl<M: MasterPort + Drop, N: MirrorPort + Drop, R: Report + Drop> JobPorts<M, N
         );
         let (first, second) = twice(alloc, answer);
         self.calls.push_reserved(PortCall::Fetch(number, first));
+        self.tree = tree;
         second
     }
 
@@ -305,6 +324,7 @@ impl<M: MasterPort + Drop, N: MirrorPort + Drop, R: Report + Drop> JobPorts<M, N
         ensures happens { (trees : List PathMap) → Happens (M.is_at (master_of self.old)) (M.is_at (master_of self.new))
             (N.stands (mirror_of self.old)) (N.stands (mirror_of self.new)) (N.seat (mirror_of self.old))
             (N.seat (mirror_of self.new)) (FetchesProps number) result trees trees }
+        ensures first { StillBegins N.begins_with (mirror_of self.old) (mirror_of self.new) }
     {
         if self.calls.reserve(3).is_err() {
             return Answer::Refused(SyncFault::OutOfMemory);
@@ -332,6 +352,7 @@ impl<M: MasterPort + Drop, N: MirrorPort + Drop, R: Report + Drop> JobPorts<M, N
         ensures trees { TakesTrees (N.stands (mirror_of self.old)) (N.stands (mirror_of self.new))
             (N.seat (mirror_of self.old)) (N.seat (mirror_of self.new)) trees.old.items trees.new.items result }
         ensures many { result ≡ None → number ≤ length trees.new.items }
+        ensures first { BeginsOn N.begins_with (mirror_of self.old) (mirror_of self.new) trees.old.items trees.new.items }
     {
         for i in trees.len()..number.index() {
             let refusal = self.take_tree(alloc, number, RevNo::new(i as u16), trees);
@@ -365,6 +386,7 @@ impl<M: MasterPort + Drop, N: MirrorPort + Drop, R: Report + Drop> JobPorts<M, N
         ensures trees { TakesTrees (N.stands (mirror_of self.old)) (N.stands (mirror_of self.new))
             (N.seat (mirror_of self.old)) (N.seat (mirror_of self.new)) trees.old.items trees.new.items result }
         ensures one { result ≡ None → length trees.new.items ≡ length trees.old.items + 1 }
+        ensures first { BeginsOn N.begins_with (mirror_of self.old) (mirror_of self.new) trees.old.items trees.new.items }
     {
         let _ = of;
         if self.calls.reserve(3).is_err() || trees.reserve(1).is_err() {
@@ -466,21 +488,25 @@ fn latest_answer(alloc: Global, answer: Result<RevNo, MasterFault>) -> Answer
     }
 }
 
+// The answer of a fetch, and the tree that came with it.
 fn revision_answer(
     alloc: Global,
     number: RevNo,
-    answer: Result<(ChangeSet, Props), MasterFault>,
-) -> Answer
-    ensures can { CanBe result }
-    ensures other { IsOther (outcome_of result) }
-    ensures fits { Fits (Fetches number) result }
-    ensures at { (o : Origin) → IfOk answer (λ r. MakesTree o number r.0 × (map_at o (moment_of o) number ≡ Some r.1))
-        → IsAnswerAt o (Fetches number) result }
+    answer: Result<Fetched, MasterFault>,
+) -> (Answer, Option<Tree>)
+    ensures can { CanBe result.0 }
+    ensures other { IsOther (outcome_of result.0) }
+    ensures fits { Fits (Fetches number) result.0 }
+    ensures at { (o : Origin)
+        → IfOk answer (λ r. MakesTree o number r.set × (map_at o (moment_of o) number ≡ Some r.props))
+        → IsAnswerAt o (Fetches number) result.0 }
+    ensures tree { (trees : List PathMap) → IfOk answer (λ r. IfSome r.tree (Makes trees r.set))
+        → MakesOf trees result.0 result.1 }
 {
     let _ = number;
     match answer {
-        Ok((set, props)) => Answer::Revision(set, props),
-        Err(fault) => failed(alloc, fault),
+        Ok(Fetched { set, tree, props }) => (Answer::Revision(set, props), tree),
+        Err(fault) => (failed(alloc, fault), None),
     }
 }
 

@@ -6,9 +6,10 @@ ghost use Rattle.sync_core.specs.States.{deed_in, ending_of, Follows};
 ghost use Rattle.sync_job.specs.Said.{Acted};
 ghost use Rattle.sync_job.specs.Fronts.{WentAt, Moving, accepted_by, counted_by};
 ghost use Rattle.sync_core.specs.Copies.{outcome_of};
-ghost use Rattle.sync_job.specs.Words.{calls_of, master_of, mirror_of, report_of};
+ghost use Rattle.sync_job.specs.Words.{calls_of, master_of, mirror_of, report_of, tree_of};
 ghost use Rattle.sync_job.specs.Worlds.{Happens, IsEvents};
 ghost use Rattle.sync_core.specs.Jobs.{Order, begun};
+ghost use Rattle.sync_job.specs.Made.{BeginsOn, IsKeptFor, KeepsMade};
 ghost use Rattle.sync_job.specs.Rooms.{IsReady, IsUnlocked, KeepsRoom};
 ghost use Rattle.sync_job.specs.Telling.{KeepsTelling};
 ghost use Rattle.sync_job.specs.Runs.{Ran, answer_to, IsSyncRun, IsInitRun, IsCopyRun};
@@ -136,7 +137,8 @@ fn next<M: MasterPort + Drop, N: MirrorPort + Drop, R: Report + Drop>(
     trees: &mut Vec<Tree>,
     state: &JobState,
 ) -> Option<Answer>
-    requires { IsReady (deed_in state.now) ports.old }
+    requires ready { IsReady (deed_in state.now) ports.old }
+    requires made { IsKeptFor (N.begins_with (mirror_of ports.old)) (deed_in state.now) (tree_of ports.old) }
     ensures room { IfSome result (λ a. KeepsRoom (deed_in state.now) a ports.old ports.new) }
     ensures can { IfSome result CanBe }
     ensures none { result ≡ None → (deed_in state.now ≡ Ends) × (calls_of ports.new ≡ calls_of ports.old) ×
@@ -155,6 +157,8 @@ fn next<M: MasterPort + Drop, N: MirrorPort + Drop, R: Report + Drop>(
     ensures happens { IfSome result (λ a. Happens (M.is_at (master_of ports.old)) (M.is_at (master_of ports.new))
         (N.stands (mirror_of ports.old)) (N.stands (mirror_of ports.new)) (N.seat (mirror_of ports.old))
         (N.seat (mirror_of ports.new)) (deed_in state.now) a trees.old.items trees.new.items) }
+    ensures first { BeginsOn N.begins_with (mirror_of ports.old) (mirror_of ports.new) trees.old.items trees.new.items }
+    ensures kept { IfSome result (λ a. KeepsMade trees.new.items (deed_in state.now) a (tree_of ports.new)) }
 {
     match decide(state) {
         Action::End => None,

@@ -3,7 +3,6 @@ use crate::made::{
     COMMITTED_1, COMMITTED_ALONE, COPIED_0, COPIED_1, COPIED_BOTH, Heard, Order, Ran, empty, ended,
     initialised, master, number_of, rests, run, synchronised, token, value,
 };
-use dump_load::ChangeSet;
 use fleet_disk::{Disk, MemDisk};
 use node_base::{PropValue, Props, Refusal, RevNo};
 use path_tree::Tree;
@@ -12,8 +11,8 @@ use std::alloc::Global;
 use std::process::Abort;
 use std::rt::HostRuntime;
 use sync_job::{
-    AloneMirror, JobPorts, LentMaster, MasterFault, MasterPort, run_copy_revprops, run_init,
-    run_sync,
+    AloneMirror, Fetched, JobPorts, LentMaster, MasterFault, MasterPort, run_copy_revprops,
+    run_init, run_sync,
 };
 
 // A master that answers so many questions, and refuses all later ones.
@@ -52,7 +51,7 @@ impl<'a, D: Disk + Drop> MasterPort for Refusing<'a, D> {
         alloc: Global,
         number: RevNo,
         trees: &[Tree],
-    ) -> Result<(ChangeSet, Props), MasterFault> {
+    ) -> Result<Fetched, MasterFault> {
         self.answers()?;
         self.master.fetch(alloc, number, trees)
     }

@@ -1,18 +1,17 @@
-use Rattle.std.proofs.Common.{◌≡◌, Ok, Err, ap, subst, ◌∙◌}
+use Rattle.std.proofs.Common.{Ok, Err, ap, subst, ◌∙◌}
 use Rattle.repo_store.specs.Words.{disk_of, revisions_of}
 use Rattle.sync_core.specs.declared.reply.Reply.TheVariants as given
-use Rattle.sync_core.specs.Mirror.{Look, mirror_with, standing_of}
+use Rattle.sync_core.specs.Mirror.{mirror_with, standing_of}
 use Rattle.sync_core.specs.Plain.{AnswersErr}
 use Rattle.sync_core.specs.Calls.{call_of}
 use Rattle.sync_job.proofs.Devices.{asked_refused, asked_seen, one_asked}
 use Rattle.sync_job.proofs.Stores.{seen, look_told, not_planned, as_moves}
 use Rattle.sync_job.proofs.alone.AloneMirrorMirrorPort.step.Goals as goal
 
-told : (g : _) (c : goal.In-Ok-Tell g) → (call_of c.args.call.now ≡ Look) × (c.in-Ok-Tell.standing ≡ standing_of c.repo.result.now.revisions)
-told g c = look_told (mirror_with c.repo.result.now.revisions c.args.self.now.holder) c.new.result (call_of c.args.call.now) c.in-Ok-Tell.field-0 c.in-Ok-Tell.standing c.in-Ok-Tell.field-0-is c.in-Ok-Tell.ensures.planned
-
 pub returns-in-Ok-Tell-clause-moves : goal.returns-in-Ok-Tell-clause-moves
-returns-in-Ok-Tell-clause-moves g c = λ m s. as_moves c.args.self.now c.args.self.now (call_of c.args.call.now) _ m (seen c.args.self.now.store c.args.self.now.holder (call_of c.args.call.now) c.in-Ok-Tell.standing m (λ image honest left. g.met.D.Disk.only_now (disk_of c.args.self.now.store) image honest left) s (told g c).0 ((told g c).1 ∙ ap (λ r. standing_of r.revisions) c.repo.ensures.value))
+returns-in-Ok-Tell-clause-moves g c =
+    let told = look_told (mirror_with c.repo.result.now.revisions c.args.self.now.holder) c.new.result (call_of c.args.call.now) c.in-Ok-Tell.field-0 c.in-Ok-Tell.standing c.in-Ok-Tell.field-0-is c.in-Ok-Tell.ensures.planned in
+    λ m s. as_moves c.args.self.now c.args.self.now (call_of c.args.call.now) _ m (seen c.args.self.now.store c.args.self.now.holder (call_of c.args.call.now) c.in-Ok-Tell.standing m (λ image honest left. g.met.D.Disk.only_now (disk_of c.args.self.now.store) image honest left) s told.0 (told.1 ∙ ap (λ r. standing_of r.revisions) c.repo.ensures.value))
 
 pub returns-in-Ok-Write-clause-moves : goal.returns-in-Ok-Write-clause-moves
 returns-in-Ok-Write-clause-moves g c = λ m s. as_moves c.args.self.now c.write.new.self (call_of c.args.call.now) c.write.result m (c.write.ensures.moved m s)
