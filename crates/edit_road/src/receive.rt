@@ -17,8 +17,9 @@ use ra_edit::stream::ItemStream;
 use std::alloc::Global;
 
 /// Receives the set of changes that the next edit makes as the revision after these trees, 65,535 at most, the newest
-/// last, and the tree that the set makes of them, whoever sent the edit. Where a set that was sent over the same trees is to come, what is received has its effect, the stream stands
-/// before what follows, and only want of memory (70) or an input that failed (49) refuses it.
+/// last, and the tree that the set makes of them, whoever sent the edit. Where a set that was sent over the same trees
+/// is to come, what is received has its effect, the stream stands before what follows, and only want of memory (70) or
+/// an input that failed (49) refuses it.
 ///
 /// Refused: as `receive` refuses an edit, and as an editor that builds a set refuses one of its calls. After a refusal
 /// the stream answers `Failed` (32) from then on.
