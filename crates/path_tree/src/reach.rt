@@ -4,12 +4,12 @@ ghost use Rattle.path_tree.specs.Reach.{behind_name, either, nowhere, past};
 
 use node_base::NodeName;
 
-/// The most names of a path, and the most bytes with one more for each name. A count past the greatest `usize`
-/// stands there.
+/// The most names of a path, and the most bytes with one more for each name. A count past the greatest `u32` stands
+/// there.
 #[derive(Clone, Copy)]
 pub struct Reach {
-    pub names: usize,
-    pub bytes: usize,
+    pub names: u32,
+    pub bytes: u32,
 }
 
 impl Reach {
@@ -36,7 +36,7 @@ impl Reach {
     {
         Reach {
             names: self.names.saturating_add(1),
-            bytes: self.bytes.saturating_add(name.len() + 1),
+            bytes: self.bytes.saturating_add(name.len() as u32 + 1),
         }
     }
 
@@ -44,6 +44,7 @@ impl Reach {
     pub fn exceeds(self, names: usize, bytes: usize) -> bool
         ensures { result ≡ past names bytes self }
     {
-        names.saturating_add(self.names) > 64 || bytes.saturating_add(self.bytes) > 1025
+        names.saturating_add(self.names as usize) > 64
+            || bytes.saturating_add(self.bytes as usize) > 1025
     }
 }
