@@ -12,9 +12,9 @@ abbrev pub greatest : (Path → ℕ) → List Path → ℕ
 greatest f [] = 0
 greatest f (k ∷ ks) = max (f k) (greatest f ks)
 
--- a count, as far as 32 bits hold it
+-- a count, as far as 16 bits hold it
 abbrev pub held : ℕ → ℕ
-held n = min n 4294967295
+held n = min n 65535
 
 -- the most names of these paths, and their greatest weight
 abbrev pub farthest : List Path → Reach

@@ -4,12 +4,12 @@ ghost use Rattle.path_tree.specs.Reach.{behind_name, either, nowhere, past};
 
 use node_base::NodeName;
 
-/// The most names of a path, and the most bytes with one more for each name. A count past the greatest `u32` stands
+/// The most names of a path, and the most bytes with one more for each name. A count past the greatest `u16` stands
 /// there.
 #[derive(Clone, Copy)]
 pub struct Reach {
-    pub names: u32,
-    pub bytes: u32,
+    pub names: u16,
+    pub bytes: u16,
 }
 
 impl Reach {
@@ -36,7 +36,7 @@ impl Reach {
     {
         Reach {
             names: self.names.saturating_add(1),
-            bytes: self.bytes.saturating_add(name.len() as u32 + 1),
+            bytes: self.bytes.saturating_add(name.len() as u16 + 1),
         }
     }
 
