@@ -3,7 +3,7 @@
 ghost use Rattle.std.specs.Prelude.{◌≡◌};
 ghost use Rattle.store_share.specs.Opened.{cells_of};
 
-use crate::made::{copied, disk, log, log_name};
+use crate::stores::{copied, disk, log, log_name};
 use dump_load::ChangeSet;
 use fleet_disk::{Disk, MemDisk};
 use node_base::RevNo;
