@@ -67,9 +67,10 @@ pub(crate) fn copied(rt: &impl Abort, alloc: Global, at: &[u8]) -> ChangeSet {
 /// A store of revision 0 alone.
 pub(crate) fn created(rt: &impl Abort, alloc: Global, identity: &str) -> RepoStore<MemDisk> {
     let identity = Uuid::parse_str(identity).expect(rt, "an identity");
-    RepoStore::create(alloc, MemDisk::new(alloc), identity)
-        .map_err(|refused| refused.0)
-        .expect(rt, "a store")
+    match RepoStore::create(alloc, MemDisk::new(alloc), identity) {
+        Ok(store) => store,
+        Err(_refused) => rt.abort(),
+    }
 }
 
 /// The disk of a store whose revision 1 adds a directory, with the log `hi`.
