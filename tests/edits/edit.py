@@ -98,7 +98,9 @@ def owner_of(header):
     if len(names) == 1 or names[0] == "Drop":
         return names[-1]
     of_trait = header.split(" for ")[0].rpartition(names[0])[2]
-    return names[1] + names[0] + "".join(re.findall(r"\w+", of_trait))
+    # (a type parameter of the impl has no part in the name)
+    parameters = re.findall(r"[<,] ?(\w+)(?=[:,>])", header.partition(names[0])[0])
+    return names[1] + names[0] + "".join(it for it in re.findall(r"\w+", of_trait) if it not in parameters)
 
 
 def module_of(file):

@@ -1,46 +1,23 @@
 //! The stores that the tests share.
 
+use crate::stores::{MASTER, added, created};
 use byte_streams::MemOutput;
-use dump_load::{Change, ChangeSet};
 use fleet_disk::MemDisk;
-use fleet_shares::{Answered, FleetStores};
+use fleet_jobs::StartGate;
+use fleet_shares::{Answered, FleetStores, run_fleet};
 use mirror_engines::run_initialize;
-use node_base::{Action, NodeKind, NodePath, PropValue, Props, Refusal};
+use node_base::{PropValue, Props, Refusal};
 use repo_store::RepoStore;
 use std::alloc::{AllocError, Global};
 use std::process::Abort;
+use std::sync::Wait;
+use std::thread::Threads;
 use sync_job::LentMaster;
-use uuid::Uuid;
-
-const MASTER: &str = "6a1f0c3e-0000-4000-8000-000000000001";
 
 const MIRROR: &str = "6a1f0c3e-0000-4000-8000-000000000002";
 
 // What stands for the refusal of a number among what is told.
 const REFUSED: u32 = 100_000;
-
-// A set that adds a directory.
-fn added(rt: &impl Abort, alloc: Global, name: u8) -> ChangeSet {
-    let mut changes = Vec::new(alloc);
-    changes
-        .push(Change {
-            path: NodePath::parse(alloc, &[name]).expect(rt, "a path"),
-            action: Action::Add,
-            kind: Some(NodeKind::Dir),
-            source: None,
-            props: Some(Props::empty()),
-            text: None,
-        })
-        .expect(rt, "memory");
-    ChangeSet::from_changes(changes).expect(rt, "a normal set")
-}
-
-fn created(rt: &impl Abort, alloc: Global, identity: &str) -> RepoStore<MemDisk> {
-    let identity = Uuid::parse_str(identity).expect(rt, "an identity");
-    RepoStore::create(alloc, MemDisk::new(alloc), identity)
-        .map_err(|refused| refused.0)
-        .expect(rt, "a store")
-}
 
 /// A store that is no mirror.
 pub(crate) fn blank(rt: &impl Abort, alloc: Global) -> RepoStore<MemDisk> {
@@ -51,7 +28,7 @@ pub(crate) fn blank(rt: &impl Abort, alloc: Global) -> RepoStore<MemDisk> {
 fn master(rt: &impl Abort, alloc: Global, count: u8) -> RepoStore<MemDisk> {
     let mut store = created(rt, alloc, MASTER);
     for i in 0..count {
-        let set = added(rt, alloc, b'a' + (i & 15));
+        let set = added(rt, alloc, &[b'a' + (i & 15)]);
         let head = store.repo().head();
         let _committed = store
             .commit(alloc, head, set, Props::empty(), None)
@@ -89,7 +66,7 @@ pub(crate) fn fleet_of<R: Abort>(
 }
 
 /// So many places without a refusal.
-pub(crate) fn unrefused(rt: &impl Abort, alloc: Global, count: u8) -> Vec<Option<Refusal>> {
+pub(crate) fn unrefused(rt: &impl Abort, alloc: Global, count: usize) -> Vec<Option<Refusal>> {
     let mut refusals = Vec::new(alloc);
     for _ in 0..count {
         refusals.push(None).expect(rt, "memory");
@@ -110,8 +87,8 @@ pub(crate) fn refused(number: u8) -> u32 {
     REFUSED + u32::from(number)
 }
 
-/// Whether just this is told, place by place.
-pub(crate) fn are(answers: &Result<Vec<Answered>, AllocError>, wanted: &[u32]) -> bool {
+// Whether just this is told, place by place.
+fn are(answers: &Result<Vec<Answered>, AllocError>, wanted: &[u32]) -> bool {
     match answers {
         Ok(answers) => are_all(answers.as_slice(), wanted),
         Err(_) => false,
@@ -130,8 +107,8 @@ fn are_all(answers: &[Answered], wanted: &[u32]) -> bool {
     true
 }
 
-/// Whether the first so many slots have a store of that newest revision.
-pub(crate) fn stand_at(stores: &FleetStores<MemDisk>, count: usize, head: u16) -> bool {
+// Whether the first so many slots have a store of that newest revision.
+fn stand_at(stores: &FleetStores<MemDisk>, count: usize, head: u16) -> bool {
     for slot in 0..count {
         let stands = match stores.head_at(slot) {
             Some(newest) => newest.get() == head,
@@ -142,4 +119,65 @@ pub(crate) fn stand_at(stores: &FleetStores<MemDisk>, count: usize, head: u16) -
         }
     }
     true
+}
+
+/// The stores as a run of so many workers leaves them, and whether it tells just this.
+pub(crate) fn ran<
+    R: Threads + Wait + Clone + Send + Drop + 'static,
+    G: StartGate + Send + Sync + Drop + 'static,
+>(
+    rt: &R,
+    alloc: Global,
+    stores: FleetStores<MemDisk>,
+    refusals: Vec<Option<Refusal>>,
+    workers: usize,
+    gate: G,
+    wanted: &[u32],
+) -> (FleetStores<MemDisk>, bool) {
+    let (stores, told) = run_fleet(rt, alloc, stores, refusals, workers, gate);
+    let is_told = are(&told, wanted);
+    (stores, is_told)
+}
+
+fn let_go_of(store: Option<RepoStore<MemDisk>>) {
+    if let Some(store) = store {
+        let _disk = store.into_disk();
+    }
+}
+
+// Takes a fleet's stores apart: where they are dropped as they are, the proof takes ten times as long.
+fn let_go(stores: FleetStores<MemDisk>) {
+    let FleetStores {
+        master,
+        first,
+        second,
+        third,
+        fourth,
+    } = stores;
+    let _disk = master.into_disk();
+    let_go_of(first);
+    let_go_of(second);
+    let_go_of(third);
+    let_go_of(fourth);
+}
+
+/// Whether a run of so many workers tells just this, and leaves the first so many mirrors at that newest revision.
+pub(crate) fn tells<
+    R: Threads + Wait + Clone + Send + Drop + 'static,
+    G: StartGate + Send + Sync + Drop + 'static,
+>(
+    rt: &R,
+    alloc: Global,
+    stores: FleetStores<MemDisk>,
+    refusals: Vec<Option<Refusal>>,
+    workers: usize,
+    gate: G,
+    wanted: &[u32],
+    mirrors: usize,
+    head: u16,
+) -> bool {
+    let (stores, is_told) = ran(rt, alloc, stores, refusals, workers, gate, wanted);
+    let stand = stand_at(&stores, mirrors, head);
+    let_go(stores);
+    stand && is_told
 }

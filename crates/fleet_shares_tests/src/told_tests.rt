@@ -1,7 +1,7 @@
 //! What is told of each mirror, and what comes back.
 
-use crate::made::{are, blank, fleet_of, refused, stand_at, unrefused};
-use fleet_shares::{Unheld, run_fleet};
+use crate::made::{blank, fleet_of, ran, refused, tells, unrefused};
+use fleet_shares::Unheld;
 use node_base::Refusal;
 use std::alloc::Global;
 use std::process::Abort;
@@ -9,32 +9,35 @@ use std::sync::Wait;
 use std::test::Fail;
 use std::thread::Threads;
 
-// Whether so many mirrors of a master of so many revisions are all brought up by so many workers.
+// Whether all mirrors of a master of so many revisions are brought up by so many workers.
 fn brings_up<R: Threads + Wait + Abort + Clone + Send + Drop + 'static>(
     rt: &R,
     alloc: Global,
     revisions: u8,
-    mirrors: u8,
     workers: usize,
+    wanted: &[u32],
 ) -> bool {
-    let count = usize::from(mirrors);
-    let stores = fleet_of(rt, alloc, revisions, count);
-    let refusals = unrefused(rt, alloc, mirrors);
-    let (stores, told) = run_fleet(rt, alloc, stores, refusals, workers, Unheld);
-    let head = u32::from(revisions);
-    let wanted = [head, head, head, head];
-    let as_wanted = match wanted.get(..count) {
-        Some(wanted) => are(&told, wanted),
-        None => false,
-    };
-    as_wanted && stand_at(&stores, count, u16::from(revisions))
+    let stores = fleet_of(rt, alloc, revisions, wanted.len());
+    let refusals = unrefused(rt, alloc, wanted.len());
+    let head = u16::from(revisions);
+    tells(
+        rt,
+        alloc,
+        stores,
+        refusals,
+        workers,
+        Unheld,
+        wanted,
+        wanted.len(),
+        head,
+    )
 }
 
 #[test]
 fn mirrors_are_brought_up(rt: HostRuntime) -> Result<(), Fail> {
-    assert!(rt; brings_up(&rt, rt.alloc(), 1, 2, 2));
-    assert!(rt; brings_up(&rt, rt.alloc(), 12, 4, 1));
-    assert!(rt; brings_up(&rt, rt.alloc(), 12, 4, 4));
+    assert!(rt; brings_up(&rt, rt.alloc(), 1, 2, &[1, 1]));
+    assert!(rt; brings_up(&rt, rt.alloc(), 12, 1, &[12, 12, 12, 12]));
+    assert!(rt; brings_up(&rt, rt.alloc(), 12, 4, &[12, 12, 12, 12]));
     Ok(())
 }
 
@@ -45,8 +48,26 @@ fn tells_of_a_blank<R: Threads + Wait + Abort + Clone + Send + Drop + 'static>(
 ) -> bool {
     let stores = fleet_of(rt, alloc, 1, 1).put(1, blank(rt, alloc));
     let refusals = unrefused(rt, alloc, 2);
-    let (stores, told) = run_fleet(rt, alloc, stores, refusals, 2, Unheld);
-    are(&told, &[1, refused(51)]) && stand_at(&stores, 1, 1)
+    tells(
+        rt,
+        alloc,
+        stores,
+        refusals,
+        2,
+        Unheld,
+        &[1, refused(51)],
+        1,
+        1,
+    )
+}
+
+// One place without a refusal, and one with that of a folder.
+fn refused_folder(rt: &impl Abort, alloc: Global) -> Vec<Option<Refusal>> {
+    let mut refusals = unrefused(rt, alloc, 1);
+    refusals
+        .push(Some(Refusal::Damaged(3)))
+        .expect(rt, "memory");
+    refusals
 }
 
 // Whether a folder's refusal is told in its place, and the mirrors beside it are brought up.
@@ -54,13 +75,19 @@ fn tells_of_a_folder<R: Threads + Wait + Abort + Clone + Send + Drop + 'static>(
     rt: &R,
     alloc: Global,
 ) -> bool {
-    let mut refusals = unrefused(rt, alloc, 1);
-    refusals
-        .push(Some(Refusal::Damaged(3)))
-        .expect(rt, "memory");
+    let refusals = refused_folder(rt, alloc);
     let stores = fleet_of(rt, alloc, 1, 1);
-    let (stores, told) = run_fleet(rt, alloc, stores, refusals, 1, Unheld);
-    are(&told, &[1, refused(33)]) && stand_at(&stores, 1, 1)
+    tells(
+        rt,
+        alloc,
+        stores,
+        refusals,
+        1,
+        Unheld,
+        &[1, refused(33)],
+        1,
+        1,
+    )
 }
 
 // Whether a place without a store is told as one without a repository.
@@ -70,8 +97,8 @@ fn tells_of_a_gap<R: Threads + Wait + Abort + Clone + Send + Drop + 'static>(
 ) -> bool {
     let stores = fleet_of(rt, alloc, 1, 1);
     let refusals = unrefused(rt, alloc, 3);
-    let (_stores, told) = run_fleet(rt, alloc, stores, refusals, 2, Unheld);
-    are(&told, &[1, refused(34), refused(34)])
+    let wanted = [1, refused(34), refused(34)];
+    tells(rt, alloc, stores, refusals, 2, Unheld, &wanted, 1, 1)
 }
 
 // Whether without a worker each order has failed, and the stores come back as they were.
@@ -81,8 +108,8 @@ fn tells_of_no_worker<R: Threads + Wait + Abort + Clone + Send + Drop + 'static>
 ) -> bool {
     let stores = fleet_of(rt, alloc, 1, 2);
     let refusals = unrefused(rt, alloc, 2);
-    let (stores, told) = run_fleet(rt, alloc, stores, refusals, 0, Unheld);
-    are(&told, &[refused(32), refused(32)]) && stand_at(&stores, 2, 0)
+    let wanted = [refused(32), refused(32)];
+    tells(rt, alloc, stores, refusals, 0, Unheld, &wanted, 2, 0)
 }
 
 #[test]
@@ -100,9 +127,17 @@ fn runs_again<R: Threads + Wait + Abort + Clone + Send + Drop + 'static>(
     alloc: Global,
 ) -> bool {
     let stores = fleet_of(rt, alloc, 3, 2);
-    let (stores, first) = run_fleet(rt, alloc, stores, unrefused(rt, alloc, 2), 2, Unheld);
-    let (stores, second) = run_fleet(rt, alloc, stores, unrefused(rt, alloc, 2), 1, Unheld);
-    are(&first, &[3, 3]) && are(&second, &[3, 3]) && stand_at(&stores, 2, 3)
+    let (stores, first) = ran(
+        rt,
+        alloc,
+        stores,
+        unrefused(rt, alloc, 2),
+        2,
+        Unheld,
+        &[3, 3],
+    );
+    let refusals = unrefused(rt, alloc, 2);
+    tells(rt, alloc, stores, refusals, 1, Unheld, &[3, 3], 2, 3) && first
 }
 
 #[test]

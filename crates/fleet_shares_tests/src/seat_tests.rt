@@ -3,7 +3,7 @@
 ghost use Rattle.std.specs.Prelude.{◌≡◌};
 ghost use Rattle.store_share.specs.Opened.{cells_of};
 
-use crate::made::{copied, disk, log, log_name};
+use crate::stores::{copied, disk, log, log_name};
 use dump_load::ChangeSet;
 use fleet_disk::{Disk, MemDisk};
 use node_base::RevNo;
@@ -259,12 +259,14 @@ fn judged_of<R: Threads + Wait + Abort + Sync, L: RowName + Send + Sync>(
 
 // An opened store of revisions 0 and 1.
 fn opened(rt: &impl Abort, alloc: Global) -> OpenedStore<MemDisk> {
-    let store = RepoStore::open(alloc, disk(rt, alloc))
-        .map_err(|refused| refused.0)
-        .expect(rt, "a store");
-    OpenedStore::of(alloc, store)
-        .map_err(|refused| refused.0)
-        .expect(rt, "a row")
+    let store = match RepoStore::open(alloc, disk(rt, alloc)) {
+        Ok(store) => store,
+        Err(_refused) => rt.abort(),
+    };
+    match OpenedStore::of(alloc, store) {
+        Ok(opened) => opened,
+        Err(_refused) => rt.abort(),
+    }
 }
 
 fn passes<R: Threads + Wait + Abort + Sync>(rt: &R, alloc: Global, case: Case) -> bool {

@@ -1,66 +1,17 @@
 //! Workers that run beside one another, and what each does with an order.
 
-use crate::made::{Plain, numbered, order};
+use crate::gates::{Holding, Seen, nothing_seen, shared};
+use crate::orders::{Plain, numbered, order};
 use fleet_jobs::{Fleet, Order, Runner, StartGate, Work};
 use node_base::RevNo;
 use std::alloc::Global;
 use std::process::Abort;
 use std::rt::HostRuntime;
-use std::sync::atomic::{AtomicU64, Ordering};
+use std::sync::atomic::Ordering;
 use std::sync::{Arc, Wait};
-use std::thread;
 use std::thread::Threads;
-use std::time::{Clock, Duration};
+use std::time::Clock;
 use sync_core::SyncFault;
-
-// What a gate and a runner have seen.
-#[derive(Drop)]
-struct Seen {
-    begun: AtomicU64,
-    ended: AtomicU64,
-    ran: AtomicU64,
-    waited: AtomicU64,
-}
-
-fn nothing_seen(rt: &impl Abort, alloc: Global) -> Arc<Seen> {
-    let seen = Seen {
-        begun: AtomicU64::new(0),
-        ended: AtomicU64::new(0),
-        ran: AtomicU64::new(0),
-        waited: AtomicU64::new(0),
-    };
-    Arc::new(alloc, seen).expect(rt, "memory")
-}
-
-fn shared(rt: &impl Abort, seen: &Arc<Seen>) -> Arc<Seen> {
-    Arc::try_clone(seen).expect(rt, "memory")
-}
-
-// Holds order 0 until order 1 has ended, for at most 10,000 turns of a millisecond.
-#[derive(Drop)]
-struct Holding<C: Clock + Drop> {
-    clock: C,
-    seen: Arc<Seen>,
-}
-
-impl<C: Clock + Drop> StartGate for Holding<C> {
-    fn begin(&self, order: u64) {
-        if order != 0 {
-            return;
-        }
-        for _turn in 0..10_000u32 {
-            if self.seen.ended.load(Ordering::SeqCst) >= 1 {
-                self.seen.waited.store(1, Ordering::SeqCst);
-                return;
-            }
-            thread::sleep(&self.clock, Duration::from_millis(1));
-        }
-    }
-
-    fn ended(&self, _order: u64) {
-        self.seen.ended.fetch_add(1, Ordering::SeqCst);
-    }
-}
 
 // Whether, of two orders over two workers, the first is held until the second has ended, and both end.
 fn run_beside<R: Threads + Wait + Abort + Clock + Clone + Send + Sync + Drop + 'static>(

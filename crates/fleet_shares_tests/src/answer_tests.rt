@@ -2,7 +2,7 @@
 
 ghost use Rattle.std.specs.Prelude.{◌≡◌, IfSome, IsErr};
 
-use crate::made::{Open, Plain, order};
+use crate::orders::{Open, Plain, order};
 use fleet_jobs::{Fleet, Order, Outcome, Work};
 use std::alloc::Global;
 use std::rt::HostRuntime;

@@ -2,7 +2,7 @@ use denote.Param.Send.{sendable}
 use Rattle.fleet_disk.proofs.memory.MemDisk.TheSendSync as disk
 use Rattle.fleet_disk.specs.contracts.memory.MemDiskDisk.TheImpl.{ghosts}
 use Rattle.store_share.proofs.Crosses.{share_sync}
-use Rattle.store_share_tests.proofs.seat_tests.is_the_same.Goals as goal
+use Rattle.fleet_shares_tests.proofs.seat_tests.reads_beside.Goals as goal
 
 pub join-number-requires-send-F : goal.join-number-requires-send-F
 join-number-requires-send-F g c κs within =

@@ -8,6 +8,9 @@ use std::alloc::Global;
 use std::process::Abort;
 use uuid::Uuid;
 
+/// The identity of a master.
+pub(crate) const MASTER: &str = "6a1f0c3e-0000-4000-8000-000000000001";
+
 /// The name of the property that the tests change.
 pub(crate) fn log_name(rt: &impl Abort, alloc: Global) -> PropName {
     PropName::parse(alloc, b"svn:log").expect(rt, "a name")
@@ -43,8 +46,8 @@ fn alone(rt: &impl Abort, alloc: Global, change: Change) -> ChangeSet {
     ChangeSet::from_changes(changes).expect(rt, "a normal set")
 }
 
-// A directory that is added.
-fn added(rt: &impl Abort, alloc: Global, at: &[u8]) -> ChangeSet {
+/// A directory that is added.
+pub(crate) fn added(rt: &impl Abort, alloc: Global, at: &[u8]) -> ChangeSet {
     let mut change = bare(rt, alloc, at);
     change.kind = Some(NodeKind::Dir);
     change.props = Some(Props::empty());
@@ -61,16 +64,20 @@ pub(crate) fn copied(rt: &impl Abort, alloc: Global, at: &[u8]) -> ChangeSet {
     alone(rt, alloc, change)
 }
 
+/// A store of revision 0 alone.
+pub(crate) fn created(rt: &impl Abort, alloc: Global, identity: &str) -> RepoStore<MemDisk> {
+    let identity = Uuid::parse_str(identity).expect(rt, "an identity");
+    match RepoStore::create(alloc, MemDisk::new(alloc), identity) {
+        Ok(store) => store,
+        Err(_refused) => rt.abort(),
+    }
+}
+
 /// The disk of a store whose revision 1 adds a directory, with the log `hi`.
 pub(crate) fn disk(rt: &impl Abort, alloc: Global) -> MemDisk {
-    let identity = Uuid::parse_str("6a1f0c3e-0000-4000-8000-000000000001").expect(
-        rt,
-        "an identity",
-    );
     let set = added(rt, alloc, b"t");
     let props = log(rt, alloc, b"hi");
-    let made = RepoStore::create(alloc, MemDisk::new(alloc), identity);
-    let mut store = made.map_err(|refused| refused.0).expect(rt, "a store");
+    let mut store = created(rt, alloc, MASTER);
     let _number = store
         .commit(alloc, RevNo::ZERO, set, props, None)
         .expect(rt, "a revision");

@@ -1,6 +1,6 @@
 //! Orders that are given, and their outcomes.
 
-use crate::made::{Open, Plain, are_right, numbered, order};
+use crate::orders::{Open, Plain, are_right, numbered, order};
 use fleet_jobs::{Fleet, FleetFault, Order, Refused, StartGate, Work};
 use node_base::Refusal;
 use std::alloc::Global;
@@ -146,20 +146,19 @@ fn without_a_worker_orders_come_back(rt: HostRuntime) {
     assert!(rt; refuses_without_worker(&rt, rt.alloc()));
 }
 
+// Whether a fault and its refusal have this number and text.
+fn is_told(alloc: Global, fault: FleetFault, number: u8, text: &str) -> bool {
+    let refusal = Refusal::from(fault);
+    fault.number() == number
+        && refusal.number() == number
+        && format!(in alloc; "{fault}").is_ok_and(|told| told.as_str() == text)
+        && format!(in alloc; "{refusal}").is_ok_and(|told| told.as_str() == text)
+}
+
 #[test]
 fn refusals_have_their_numbers_and_texts(rt: HostRuntime) {
-    let rows = [
-        (FleetFault::Failed, 32, "failed before"),
-        (FleetFault::NoRepository, 34, "no repository"),
-        (FleetFault::OutOfMemory, 70, "out of memory"),
-    ];
-    for (fault, number, text) in rows {
-        let refusal = Refusal::from(fault);
-        assert_eq!(rt; fault.number(), number);
-        assert_eq!(rt; refusal.number(), number);
-        let told = format!(in rt.alloc(); "{fault}").expect(&rt, "memory");
-        let refused = format!(in rt.alloc(); "{refusal}").expect(&rt, "memory");
-        assert_eq!(rt; told.as_str(), text);
-        assert_eq!(rt; refused.as_str(), text);
-    }
+    let alloc = rt.alloc();
+    assert!(rt; is_told(alloc, FleetFault::Failed, 32, "failed before"));
+    assert!(rt; is_told(alloc, FleetFault::NoRepository, 34, "no repository"));
+    assert!(rt; is_told(alloc, FleetFault::OutOfMemory, 70, "out of memory"));
 }

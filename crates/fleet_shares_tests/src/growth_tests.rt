@@ -1,6 +1,6 @@
 //! Growths that are refused: each test here answers for a refusal itself, at whatever growth it comes.
 
-use crate::made::{Open, Plain, is_right, numbered};
+use crate::orders::{Open, Plain, is_right, numbered};
 use fleet_jobs::{Fleet, Outcome};
 use std::alloc::Global;
 use std::rt::HostRuntime;
