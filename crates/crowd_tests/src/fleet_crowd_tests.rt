@@ -13,7 +13,7 @@ use fleet_shares::{FleetShares, FleetStores, OpenedFleet, stores_of};
 use mirror_share::MirrorShare;
 use node_base::RevNo;
 use repo_store::RepoStore;
-use std::alloc::{AllocError, Global};
+use std::alloc::Global;
 use std::marker::Brand;
 use std::process::Abort;
 use std::rt::HostRuntime;
@@ -76,9 +76,10 @@ fn together<
 {
     let shares = FleetShares::<M, L0, L1, L2, L3, MemDisk>::of(alloc, fleet);
     let begun = begins_in(rt, alloc, &shares.first) && begins_in(rt, alloc, &shares.second);
-    let shares = Arc::new(alloc, shares)
-        .map_err(|_failed| AllocError)
-        .expect(rt, "memory");
+    let shares = match Arc::new(alloc, shares) {
+        Ok(shares) => shares,
+        Err(_failed) => rt.abort(),
+    };
     let is_well = begun && goes(rt, alloc, &shares) == 0 && brings_up(rt, alloc, &shares);
     (stores_of(rt, shares), is_well)
 }
@@ -95,20 +96,46 @@ fn has_all(
     }
 }
 
+// (a store that is dropped as it is costs its function's proof much)
+fn let_go_of(store: Option<RepoStore<MemDisk>>) {
+    if let Some(store) = store {
+        let _disk = store.into_disk();
+    }
+}
+
+// Whether both mirrors of a fleet, and its master, have all that the committers made.
+fn have_all(alloc: Global, stores: FleetStores<MemDisk>) -> bool {
+    let FleetStores {
+        master,
+        first,
+        second,
+        third,
+        fourth,
+    } = stores;
+    let head = master.repo().head() == RevNo::new(ALL);
+    let both = has_all(alloc, &first, &master) && has_all(alloc, &second, &master);
+    let _disk = master.into_disk();
+    let_go_of(first);
+    let_go_of(second);
+    let_go_of(third);
+    let_go_of(fourth);
+    head && both
+}
+
 // Whether a fleet's jobs bring two mirrors up beside committers and readers.
 fn is_brought_up<R: Threads + Wait + Abort + Clone + Send + Sync + Drop + 'static>(
     rt: &R,
     alloc: Global,
 ) -> bool {
-    let mut fleet = OpenedFleet::of(opened(rt, alloc, blank(rt, alloc, MASTER)));
-    fleet.first = Some(opened(rt, alloc, blank(rt, alloc, MIRROR)));
-    fleet.second = Some(opened(rt, alloc, blank(rt, alloc, MIRROR)));
+    let fleet = OpenedFleet {
+        master: opened(rt, alloc, blank(rt, alloc, MASTER)),
+        first: Some(opened(rt, alloc, blank(rt, alloc, MIRROR))),
+        second: Some(opened(rt, alloc, blank(rt, alloc, MIRROR))),
+        third: None,
+        fourth: None,
+    };
     let (stores, is_well) = together::<R, Brand, Brand, Brand, Brand, Brand>(rt, alloc, fleet);
-    let head = stores.master.repo().head();
-    is_well
-        && head == RevNo::new(ALL)
-        && has_all(alloc, &stores.first, &stores.master)
-        && has_all(alloc, &stores.second, &stores.master)
+    have_all(alloc, stores) && is_well
 }
 
 #[test]

@@ -66,20 +66,22 @@ pub(crate) fn added(rt: &impl Abort, alloc: Global, at: &[u8]) -> ChangeSet {
 /// The disk of a store of revision 0 alone.
 pub(crate) fn blank(rt: &impl Abort, alloc: Global, identity: &str) -> MemDisk {
     let identity = Uuid::parse_str(identity).expect(rt, "an identity");
-    RepoStore::create(alloc, MemDisk::new(alloc), identity)
-        .map_err(|refused| refused.0)
-        .expect(rt, "a store")
-        .into_disk()
+    match RepoStore::create(alloc, MemDisk::new(alloc), identity) {
+        Ok(store) => store.into_disk(),
+        Err(_refused) => rt.abort(),
+    }
 }
 
 /// A store that is opened on a disk.
 pub(crate) fn opened<D: Disk + Drop>(rt: &impl Abort, alloc: Global, disk: D) -> OpenedStore<D> {
-    let store = RepoStore::open(alloc, disk)
-        .map_err(|refused| refused.0)
-        .expect(rt, "a store");
-    OpenedStore::of(alloc, store)
-        .map_err(|refused| refused.0)
-        .expect(rt, "a row")
+    let store = match RepoStore::open(alloc, disk) {
+        Ok(store) => store,
+        Err(_refused) => rt.abort(),
+    };
+    match OpenedStore::of(alloc, store) {
+        Ok(opened) => opened,
+        Err(_refused) => rt.abort(),
+    }
 }
 
 /// A seat for a job.
