@@ -15,20 +15,29 @@ unreachable-requires c = ?
 """
 
 
+def opening_of(lines, first):
+    """The line with the brace that opens the body of the function at a line. None where it is only declared, or stands on one line."""
+    within = lines[first][: len(lines[first]) - len(lines[first].lstrip())]
+    for n in range(first, len(lines)):
+        line = lines[n]
+        # (what stands further to the left ends the trait or impl)
+        if n > first and (FUNCTION.match(line) or line.strip() and not line.startswith(within)):
+            return None
+        # what stands as far to the right as the `fn` is its signature, or behind it
+        if re.match(rf"{within}\S", line) and line.endswith(("{", "}", ";")):
+            return n if line.endswith(("{", "{}")) else None
+    return None
+
+
 def functions_in(lines):
     """The functions of a text that `rt fmt` has laid out: the lines of each one's `fn`, its opening and its closing brace."""
     found, last = [], -1
     for first, line in enumerate(lines):
-        if first <= last or not FUNCTION.match(line):
-            continue
-        within = line[: len(line) - len(line.lstrip())]
-        # what stands as far to the right as the `fn`: its signature, the brace that opens the body, the one that closes it
-        level = [n for n in range(first, len(lines)) if re.match(rf"{within}\S", lines[n])]
-        opens = next((n for n in level if lines[n].endswith(("{", "{}", ";"))), None)
-        if opens is None or lines[opens].endswith(";"):
-            continue
-        last = opens if lines[opens].endswith("{}") else next(n for n in level if n > opens and lines[n] == f"{within}}}")
-        found.append((first, opens, last))
+        opens = opening_of(lines, first) if first > last and FUNCTION.match(line) else None
+        if opens is not None:
+            closing = line[: len(line) - len(line.lstrip())] + "}"
+            last = opens if lines[opens].endswith("{}") else lines.index(closing, opens)
+            found.append((first, opens, last))
     return found
 
 
