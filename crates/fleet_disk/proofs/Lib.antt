@@ -1,3 +1,4 @@
+pub mod AheadLemmas
 pub mod InFolder
 pub mod Kept
 pub mod Moments

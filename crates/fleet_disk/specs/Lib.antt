@@ -1,3 +1,4 @@
+pub mod Ahead
 pub mod Contents
 pub mod Fused
 pub mod Host

@@ -18,9 +18,11 @@
 //! ```
 #![tactic(auto)]
 
+mod ahead;
 mod call;
 mod calls;
 mod contents;
+mod copy;
 mod disk;
 mod files;
 mod folder;

@@ -9,6 +9,7 @@ ghost use Rattle.fleet_disk.specs.Rules.{Elapses, HasCause};
 
 use crate::call::{DiskCall, Pick};
 use crate::contents::Contents;
+use crate::copy::copy_from;
 use crate::disk::{Disk, DiskFault, DiskFile};
 use std::alloc::{AllocError, Global};
 
@@ -263,16 +264,4 @@ impl Disk for MemDisk {
         self.calls.push_reserved(DiskCall::Sync);
         Ok(())
     }
-}
-
-// Copies the bytes from an offset on into the front of a buffer, and says how many.
-fn copy_from(file: &[u8], at: usize, buf: &mut [u8]) -> usize
-    ensures { IsRead file.now at result buf.old buf.new }
-{
-    if at >= file.len() {
-        return 0;
-    }
-    let count = buf.len().min(file.len() - at);
-    buf[..count].copy_from_slice(&file[at..at + count]);
-    count
 }
