@@ -26,7 +26,7 @@ impl<F: Read + Write + Seek + OpenFile + Drop> HostDisk<StdFiles<F>> {
         let gate = format!(in alloc; "{folder}/gate")?;
         let slots = format!(in alloc; "{folder}/slots")?;
         let files = found(rt, journal.as_str(), gate.as_str(), slots.as_str())?;
-        Ok(HostDisk::new(files))
+        Ok(HostDisk::new(alloc, files))
     }
 
     /// Opens the files of a folder, and makes those that are missing, so that all are open; but where one of them is
@@ -47,12 +47,12 @@ impl<F: Read + Write + Seek + OpenFile + Drop> HostDisk<StdFiles<F>> {
         let slots = format!(in alloc; "{folder}/slots")?;
         let files = found(rt, journal.as_str(), gate.as_str(), slots.as_str())?;
         if has_bytes(rt, &files)? {
-            return Ok(HostDisk::new(files));
+            return Ok(HostDisk::new(alloc, files));
         }
         let files = completed(rt, files, journal.as_str(), gate.as_str(), slots.as_str())?;
         // The names of new files last once the folder is synced.
         sync_folder(rt, folder)?;
-        Ok(HostDisk::new(files))
+        Ok(HostDisk::new(alloc, files))
     }
 
     /// Opens the files of a folder as `open` does, and makes `slots` where that alone is missing: a log that has its
@@ -74,14 +74,14 @@ impl<F: Read + Write + Seek + OpenFile + Drop> HostDisk<StdFiles<F>> {
         let slots = format!(in alloc; "{folder}/slots")?;
         let files = found(rt, journal.as_str(), gate.as_str(), slots.as_str())?;
         if files.journal.is_none() {
-            return Ok(HostDisk::new(files));
+            return Ok(HostDisk::new(alloc, files));
         }
         if files.gate.is_none() {
-            return Ok(HostDisk::new(files));
+            return Ok(HostDisk::new(alloc, files));
         }
         let files = with_slots(rt, files, slots.as_str())?;
         // Also where an earlier call was stopped before it came to this.
         sync_folder(rt, folder)?;
-        Ok(HostDisk::new(files))
+        Ok(HostDisk::new(alloc, files))
     }
 }
