@@ -32,10 +32,10 @@ use std::alloc::{AllocError, Global};
 fn changes_of(alloc: Global, nodes: Vec<NodeRecord>) -> Result<Vec<Change>, AllocError>
     ensures { IfOk result (λ v. v.items ≡ map change_of nodes.items) }
 {
-    nodes
-        .into_iter()
-        .map(|node| Change::from_record(node))
-        .collect(alloc)
+    // (a set keeps this memory, so it asks for no more)
+    let mut changes = Vec::with_capacity(alloc, nodes.len())?;
+    changes.extend(nodes.into_iter().map(|node| Change::from_record(node)))?;
+    Ok(changes)
 }
 
 // The set that an entry's nodes are.
