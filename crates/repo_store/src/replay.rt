@@ -32,9 +32,12 @@ use std::alloc::{AllocError, Global};
 fn changes_of(alloc: Global, nodes: Vec<NodeRecord>) -> Result<Vec<Change>, AllocError>
     ensures { IfOk result (λ v. v.items ≡ map change_of nodes.items) }
 {
-    // (a set keeps this memory, so it asks for no more)
-    let mut changes = Vec::with_capacity(alloc, nodes.len())?;
-    changes.extend(nodes.into_iter().map(|node| Change::from_record(node)))?;
+    let mut changes: Vec<Change> = nodes
+        .into_iter()
+        .map(|node| Change::from_record(node))
+        .collect(alloc)?;
+    // A set keeps its memory for good.
+    changes.shrink_to_fit();
     Ok(changes)
 }
 
