@@ -1,8 +1,10 @@
 //! Stops, folders and fuses: disks by what is read of them.
 
-use fleet_disk::{Disk, DiskFault, DiskFile, Fuse, FuseDisk, HostDisk, MemDisk, OverDisk, Pick};
+use crate::folders::{Deed, first_undone};
+use crate::steps::{GATE, JOURNAL, SLOTS, Step, first_wrong, none_wrong};
+use fleet_disk::{Disk, DiskFile, Fuse, FuseDisk, HostDisk, MemDisk, OverDisk, Pick};
 use std::alloc::Global;
-use std::{fs, io};
+use std::process::Abort;
 
 // Whether a stop with this pick leaves these bytes of a file, on a disk that was asked nothing.
 fn is_left(disk: &MemDisk, file: DiskFile, pick: Pick, wanted: &[u8]) -> bool {
@@ -19,158 +21,138 @@ fn are_left(disk: &MemDisk, file: DiskFile, old: &[u8], new: &[u8], other: &[u8]
         && is_left(disk, file, Pick::Fill(b'#'), other)
 }
 
-fn journal_left(disk: &MemDisk, old: &[u8], new: &[u8], other: &[u8]) -> bool {
-    are_left(disk, DiskFile::Journal, old, new, other)
+// A call of a disk in memory, which is taken, or what is found there.
+#[derive(Clone, Copy)]
+enum Call<'a> {
+    Write(DiskFile, u64, &'a [u8]),
+    Cut(DiskFile, u64),
+    Sync,
+    // A stop leaves the old bytes of a file, the new ones, or those with `#`.
+    Leaves(DiskFile, &'a [u8], &'a [u8], &'a [u8]),
+    // So many calls were made.
+    Calls(usize),
 }
 
-fn gate_left(disk: &MemDisk, old: &[u8], new: &[u8], other: &[u8]) -> bool {
-    are_left(disk, DiskFile::Gate, old, new, other)
+// Whether a call is taken, or what is to be there is.
+fn is_taken(disk: &mut MemDisk, call: &Call<'_>) -> bool {
+    match *call {
+        Call::Write(file, at, bytes) => {
+            at <= disk.bytes(file).len() as u64 && disk.write_at(file, at, bytes).is_ok()
+        }
+        Call::Cut(file, len) => {
+            len <= disk.bytes(file).len() as u64 && disk.cut(file, len).is_ok()
+        }
+        Call::Sync => disk.sync().is_ok(),
+        Call::Leaves(file, old, new, other) => are_left(disk, file, old, new, other),
+        Call::Calls(count) => disk.calls().len() == count,
+    }
 }
 
-fn slots_left(disk: &MemDisk, old: &[u8], new: &[u8], other: &[u8]) -> bool {
-    are_left(disk, DiskFile::Slots, old, new, other)
+// The first of these calls that isn't, on a disk with six bytes in its journal.
+fn first_refused(rt: &impl Abort, alloc: Global, calls: &[Call<'_>]) -> Option<u64> {
+    let mut disk = MemDisk::with_bytes(alloc, b"abcdef", b"", b"").expect(rt, "memory");
+    for (number, call) in calls.iter().enumerate() {
+        if !is_taken(&mut disk, call) {
+            return Some(number as u64);
+        }
+    }
+    None
 }
 
-// Whether a stop before a sync leaves what it may: the old bytes, the new ones, or others where there was a write.
-fn may_leave_either(alloc: Global) -> bool {
-    let Ok(mut disk) = MemDisk::with_bytes(alloc, b"abcdef", b"", b"") else {
-        return false;
-    };
-    disk.write_at(DiskFile::Journal, 4, b"12345").is_ok()
-        && journal_left(&disk, b"abcdef", b"abcd12345", b"abcd#####")
-        && disk.cut(DiskFile::Journal, 5).is_ok()
-        && journal_left(&disk, b"abcdef", b"abcd1", b"abcd#####")
-        && disk.write_at(DiskFile::Gate, 0, b"x").is_ok()
-        && gate_left(&disk, b"", b"x", b"#")
-        && disk.write_at(DiskFile::Slots, 0, b"yz").is_ok()
-        && slots_left(&disk, b"", b"yz", b"##")
-}
+// A stop before a sync leaves what it may: the old bytes, the new ones, or others where there was a write.
+const UNSYNCED: [Call<'static>; 8] = [
+    Call::Write(JOURNAL, 4, b"12345"),
+    Call::Leaves(JOURNAL, b"abcdef", b"abcd12345", b"abcd#####"),
+    Call::Cut(JOURNAL, 5),
+    Call::Leaves(JOURNAL, b"abcdef", b"abcd1", b"abcd#####"),
+    Call::Write(GATE, 0, b"x"),
+    Call::Leaves(GATE, b"", b"x", b"#"),
+    Call::Write(SLOTS, 0, b"yz"),
+    Call::Leaves(SLOTS, b"", b"yz", b"##"),
+];
 
-// Whether a stop after a sync leaves what a read gives, but for what was written since.
-fn leaves_what_was_synced(alloc: Global) -> bool {
-    let Ok(mut disk) = MemDisk::with_bytes(alloc, b"abcdef", b"", b"") else {
-        return false;
-    };
-    disk.cut(DiskFile::Journal, 5).is_ok()
-        && disk.write_at(DiskFile::Journal, 4, b"1").is_ok()
-        && disk.write_at(DiskFile::Gate, 0, b"x").is_ok()
-        && disk.sync().is_ok()
-        && journal_left(&disk, b"abcd1", b"abcd1", b"abcd1")
-        && disk.write_at(DiskFile::Journal, 0, b"z").is_ok()
-        && journal_left(&disk, b"abcd1", b"zbcd1", b"#bcd1")
-        && gate_left(&disk, b"x", b"x", b"x")
-        && disk.calls().len() == 5
-}
+// A stop after a sync leaves what a read gives, but for what was written since.
+const SYNCED: [Call<'static>; 9] = [
+    Call::Cut(JOURNAL, 5),
+    Call::Write(JOURNAL, 4, b"1"),
+    Call::Write(GATE, 0, b"x"),
+    Call::Sync,
+    Call::Leaves(JOURNAL, b"abcd1", b"abcd1", b"abcd1"),
+    Call::Write(JOURNAL, 0, b"z"),
+    Call::Leaves(JOURNAL, b"abcd1", b"zbcd1", b"#bcd1"),
+    Call::Leaves(GATE, b"x", b"x", b"x"),
+    Call::Calls(5),
+];
 
 #[test]
 fn a_stop_between_two_syncs(rt: HostRuntime) {
-    assert!(rt; may_leave_either(rt.alloc()));
-    assert!(rt; leaves_what_was_synced(rt.alloc()));
+    none_wrong(&rt, "unsynced", first_refused(&rt, rt.alloc(), &UNSYNCED));
+    none_wrong(&rt, "synced", first_refused(&rt, rt.alloc(), &SYNCED));
 }
 
 // Whether the journal is empty at first, and this is written over it and cut.
-fn is_written<D: Disk>(disk: &mut D) -> Result<bool, DiskFault> {
-    let before = disk.len(DiskFile::Journal)?;
-    disk.write_at(DiskFile::Journal, 0, b"hello")?;
-    disk.write_at(DiskFile::Journal, 3, b"p!")?;
-    disk.cut(DiskFile::Journal, 4)?;
-    disk.sync()?;
-    Ok(before == 0)
+fn is_written<D: Disk>(disk: &mut D) -> bool {
+    disk.len(JOURNAL) == Ok(0)
+        && disk.write_at(JOURNAL, 0, b"hello").is_ok()
+        && disk.write_at(JOURNAL, 3, b"p!").is_ok()
+        && disk.cut(JOURNAL, 4).is_ok()
+        && disk.sync().is_ok()
 }
 
 // Whether a read from the second byte on gives what was written, and one at the end nothing.
-fn is_read<D: Disk>(disk: &mut D) -> Result<bool, DiskFault> {
+fn is_read<D: Disk>(disk: &mut D) -> bool {
     let mut buf = *b"......";
-    let count = disk.read(DiskFile::Journal, 1, &mut buf)?;
-    let behind = disk.read(DiskFile::Journal, 4, &mut [0u8; 6])?;
-    Ok(count == 3 && behind == 0 && buf == *b"elp...")
+    disk.read(JOURNAL, 1, &mut buf) == Ok(3)
+        && disk.read(JOURNAL, 4, &mut [0u8; 6]) == Ok(0)
+        && buf == *b"elp..."
 }
 
-// Whether a disk with empty files can be written, asked and read.
-fn goes_round<D: Disk>(disk: &mut D) -> Result<bool, DiskFault> {
-    let written = is_written(disk)?;
-    let journal = disk.len(DiskFile::Journal)?;
-    let gate = disk.len(DiskFile::Gate)?;
-    let slots = disk.len(DiskFile::Slots)?;
-    Ok(written && journal == 4 && gate == 0 && slots == 0 && is_read(disk)?)
-}
+const LENGTHS: [Step<'static>; 3] = [
+    Step::Len(JOURNAL, 4),
+    Step::Len(GATE, 0),
+    Step::Len(SLOTS, 0),
+];
 
-// Whether that was so, and nothing was refused.
-fn is_so(answer: Result<bool, DiskFault>) -> bool {
-    answer == Ok(true)
+/// Whether a disk with empty files can be written, asked and read.
+pub(crate) fn goes_round<D: Disk>(disk: &mut D) -> bool {
+    is_written(disk) && first_wrong(disk, &LENGTHS).is_none() && is_read(disk)
 }
 
 #[test]
 fn a_disk_in_memory(rt: HostRuntime) {
-    let mut disk = MemDisk::new(rt.alloc());
-    assert!(rt; is_so(goes_round(&mut disk)));
+    assert!(rt; goes_round(&mut MemDisk::new(rt.alloc())));
 }
 
 // The calls of a host that go to a disk in memory.
 #[test]
 fn a_disk_over_calls(rt: HostRuntime) {
-    let mut disk = HostDisk::new(OverDisk::new(MemDisk::new(rt.alloc())));
-    assert!(rt; is_so(goes_round(&mut disk)));
+    assert!(rt; goes_round(&mut HostDisk::new(OverDisk::new(MemDisk::new(rt.alloc())))));
 }
 
-// Whether a call was refused.
-fn is_refused(answer: Result<(), DiskFault>) -> bool {
-    answer == Err(DiskFault::DeviceFailed)
-}
-
-// Whether a folder without files is one of two empty files that can't be written.
-fn has_no_files(rt: &HostRuntime, folder: &str) -> bool {
-    match HostDisk::open(rt, rt.alloc(), folder) {
-        Ok(mut none) => {
-            none.len(DiskFile::Gate) == Ok(0) && is_refused(none.write_at(DiskFile::Gate, 0, b"x"))
-        }
-        Err(_) => false,
-    }
-}
-
-// Whether a folder's disk that is made now can be written, asked and read.
-fn is_made(rt: &HostRuntime, folder: &str) -> bool {
-    match HostDisk::create(rt, rt.alloc(), folder) {
-        Ok(mut disk) => is_so(goes_round(&mut disk)),
-        Err(_) => false,
-    }
-}
-
-// Whether the journal of a folder is so long.
-fn is_as_long(rt: &HostRuntime, folder: &str, count: u64) -> bool {
-    match HostDisk::open(rt, rt.alloc(), folder) {
-        Ok(mut disk) => disk.len(DiskFile::Journal) == Ok(count),
-        Err(_) => false,
-    }
-}
-
-// An empty folder of this name.
-pub(crate) fn empty_folder(rt: &HostRuntime, folder: &str) -> io::Result<()> {
-    let _missing = fs::remove_dir_all(rt, folder);
-    fs::create_dir(rt, folder)
-}
+// A folder without files is one of empty files that can't be written; one that is made can be.
+const FOLDER: [Deed<'static>; 5] = [
+    Deed::Empty,
+    Deed::Opened(&[Step::Len(GATE, 0), Step::Unwritten(GATE)]),
+    Deed::Round,
+    Deed::Opened(&[Step::Len(JOURNAL, 4)]),
+    Deed::Gone,
+];
 
 #[test]
-fn a_folder(rt: HostRuntime) -> io::Result<()> {
-    let folder = "fleet_disk_folder";
-    empty_folder(&rt, folder)?;
-    assert!(rt; has_no_files(&rt, folder));
-    assert!(rt; is_made(&rt, folder));
-    assert!(rt; is_as_long(&rt, folder, 4));
-    fs::remove_dir_all(&rt, folder)
-}
-
-// Whether a folder is refused.
-fn is_in_use(rt: &HostRuntime, folder: &str) -> bool {
-    HostDisk::open(rt, rt.alloc(), folder).is_err()
-        && HostDisk::create(rt, rt.alloc(), folder).is_err()
+fn a_folder(rt: HostRuntime) {
+    none_wrong(
+        &rt,
+        "a folder",
+        first_undone(&rt, "fleet_disk_folder", &FOLDER),
+    );
 }
 
 // Whether a folder is refused while it is open, and can be written meanwhile.
 fn is_held(rt: &HostRuntime, folder: &str) -> bool {
     match HostDisk::create(rt, rt.alloc(), folder) {
         Ok(mut disk) => {
-            is_in_use(rt, folder) && disk.write_at(DiskFile::Journal, 0, b"kept").is_ok()
+            first_undone(rt, folder, &[Deed::Refused]).is_none()
+                && disk.write_at(JOURNAL, 0, b"kept").is_ok()
         }
         Err(_) => false,
     }
@@ -178,51 +160,34 @@ fn is_held(rt: &HostRuntime, folder: &str) -> bool {
 
 // While a folder is open, nobody else has it.
 #[test]
-fn a_folder_in_use(rt: HostRuntime) -> io::Result<()> {
+fn a_folder_in_use(rt: HostRuntime) {
     let folder = "fleet_disk_folder_in_use";
-    empty_folder(&rt, folder)?;
+    none_wrong(&rt, "before", first_undone(&rt, folder, &[Deed::Empty]));
     assert!(rt; is_held(&rt, folder));
-    assert!(rt; is_as_long(&rt, folder, 4));
-    fs::remove_dir_all(&rt, folder)
+    let left = [Deed::Opened(&[Step::Len(JOURNAL, 4)]), Deed::Gone];
+    none_wrong(&rt, "behind", first_undone(&rt, folder, &left));
 }
 
 // A disk in memory of which so many calls pass.
-fn fused(rt: &HostRuntime, calls: u64, fuse: Fuse) -> FuseDisk<MemDisk> {
-    FuseDisk::new(MemDisk::new(rt.alloc()), calls, fuse)
+fn fused(alloc: Global, calls: u64, fuse: Fuse) -> FuseDisk<MemDisk> {
+    FuseDisk::new(MemDisk::new(alloc), calls, fuse)
 }
 
-// Whether a sync passes and the write behind it doesn't.
-fn burns(disk: &mut FuseDisk<MemDisk>) -> bool {
-    disk.sync().is_ok() && is_refused(disk.write_at(DiskFile::Gate, 0, b"x"))
+// Whether these calls come to what they say where one passes, and leave this gate.
+fn leaves(alloc: Global, fuse: Fuse, steps: &[Step<'_>], gate: &[u8]) -> bool {
+    let mut disk = fused(alloc, 1, fuse);
+    first_wrong(&mut disk, steps).is_none() && disk.into_inner().bytes(GATE) == gate
 }
 
-// Whether the gate has these bytes.
-fn has_gate(disk: &MemDisk, bytes: &[u8]) -> bool {
-    disk.bytes(DiskFile::Gate) == bytes
-}
+// The call behind the one that fails passes.
+const ONCE: [Step<'static>; 3] = [Step::Sync, Step::Unwritten(GATE), Step::Write(GATE, b"y")];
 
-// Whether a fuse of ten calls lets them pass.
-fn lets_ten_pass(rt: &HostRuntime) -> bool {
-    is_so(goes_round(&mut fused(rt, 10, Fuse::ForGood)))
-}
-
-// Whether the call behind the one that fails passes.
-fn fails_once(rt: &HostRuntime) -> bool {
-    let mut once = fused(rt, 1, Fuse::Once);
-    let passes = burns(&mut once) && once.write_at(DiskFile::Gate, 0, b"y").is_ok();
-    passes && has_gate(&once.into_inner(), b"y")
-}
-
-// Whether each later call fails.
-fn fails_for_good(rt: &HostRuntime) -> bool {
-    let mut good = fused(rt, 1, Fuse::ForGood);
-    let fails = burns(&mut good) && is_refused(good.sync());
-    fails && has_gate(&good.into_inner(), b"")
-}
+// Each later call fails.
+const FOR_GOOD: [Step<'static>; 3] = [Step::Sync, Step::Unwritten(GATE), Step::Unsynced];
 
 #[test]
 fn a_fuse(rt: HostRuntime) {
-    assert!(rt; lets_ten_pass(&rt));
-    assert!(rt; fails_once(&rt));
-    assert!(rt; fails_for_good(&rt));
+    assert!(rt; goes_round(&mut fused(rt.alloc(), 10, Fuse::ForGood)));
+    assert!(rt; leaves(rt.alloc(), Fuse::Once, &ONCE, b"y"));
+    assert!(rt; leaves(rt.alloc(), Fuse::ForGood, &FOR_GOOD, b""));
 }

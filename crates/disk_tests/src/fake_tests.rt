@@ -1,6 +1,7 @@
 //! A disk over a host that remembers what was asked of it, and that may fail.
 ghost use Rattle.std.specs.Prelude.{◌≡◌, ⊤, IfOk};
 
+use crate::steps::{GATE, Step, first_wrong, none_wrong};
 use fleet_disk::{Disk, DiskFile, HeldFiles, HostDisk, StdFiles};
 use std::alloc::{Allocator, Global};
 use std::cell::Cell;
@@ -256,12 +257,17 @@ fn what_a_change_is_asked(rt: HostRuntime) {
     assert!(rt; writes_all(&mut disk, &asked));
 }
 
+// Whether there is no disk.
+fn is_refused(made: io::Result<HostDisk<StdFiles<FakeFile<'_>>>>) -> bool {
+    made.is_err()
+}
+
 // A folder that is completed is held, and its names are synced.
 #[test]
 fn what_a_completion_is_asked(rt: HostRuntime) {
     let asked = nothing_asked();
     let host = FakeHost { asked: &asked };
-    assert!(rt; HostDisk::complete(&host, rt.alloc(), "folder").is_ok());
+    assert!(rt; !is_refused(HostDisk::complete(&host, rt.alloc(), "folder")));
     assert!(rt; was_asked(&asked, 1, 0, 1));
 }
 
@@ -271,20 +277,20 @@ fn a_folder_that_is_held(rt: HostRuntime) {
     let asked = nothing_asked();
     asked.fails.set(true);
     let host = FakeHost { asked: &asked };
-    assert!(rt; HostDisk::create(&host, rt.alloc(), "folder").is_err());
-    assert!(rt; HostDisk::open(&host, rt.alloc(), "folder").is_err());
-    assert!(rt; HostDisk::complete(&host, rt.alloc(), "folder").is_err());
+    assert!(rt; is_refused(HostDisk::create(&host, rt.alloc(), "folder")));
+    assert!(rt; is_refused(HostDisk::open(&host, rt.alloc(), "folder")));
+    assert!(rt; is_refused(HostDisk::complete(&host, rt.alloc(), "folder")));
     assert!(rt; was_asked(&asked, 3, 0, 0));
 }
 
-// Whether each call of a disk is refused.
-fn refuses_all<'a>(disk: &mut HostDisk<StdFiles<FakeFile<'a>>>) -> bool {
-    disk.sync().is_err()
-        && disk.len(DiskFile::Gate).is_err()
-        && disk.cut(DiskFile::Gate, 0).is_err()
-        && disk.write_at(DiskFile::Gate, 0, b"x").is_err()
-        && disk.read(DiskFile::Gate, 0, &mut [0u8; 1]).is_err()
-}
+// Each call of a disk is refused.
+const ALL_REFUSED: [Step<'static>; 5] = [
+    Step::Unsynced,
+    Step::Untold(GATE),
+    Step::Uncut(GATE),
+    Step::Unwritten(GATE),
+    Step::Unread(GATE),
+];
 
 // A host that fails is a device that does.
 #[test]
@@ -292,5 +298,5 @@ fn a_folder_that_fails(rt: HostRuntime) {
     let asked = nothing_asked();
     let mut disk = made(&rt, rt.alloc(), &asked);
     asked.fails.set(true);
-    assert!(rt; refuses_all(&mut disk));
+    none_wrong(&rt, "all refused", first_wrong(&mut disk, &ALL_REFUSED));
 }

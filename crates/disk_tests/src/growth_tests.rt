@@ -1,8 +1,9 @@
 //! Growths that are refused. `rt try --test --fail-alloc N` refuses the growth of number N and no other: an assertion
 //! that fails then is a wrong answer, and an error that ends a test is that refusal.
 
-use crate::disk_tests::empty_folder;
+use crate::folders::empty_folder;
 use crate::log_tests::{created, opened};
+use crate::steps::none_wrong;
 use fleet_disk::{Disk, HostDisk, MemDisk};
 use gate_log::{GateLog, LogFault};
 use std::alloc::Global;
@@ -63,32 +64,66 @@ fn are_added<D: Disk>(log: &mut GateLog<D>) -> bool {
     is_added(log, b"first") && is_added(log, b"second") && is_added(log, b"third")
 }
 
+// Whether a log is begun in a folder and takes the three.
+fn begins_and_adds(rt: &HostRuntime, folder: &str) -> Result<bool, LogFault> {
+    match HostDisk::create(rt, rt.alloc(), folder) {
+        Ok(disk) => match created(rt.alloc(), disk) {
+            Ok(mut log) => Ok(are_added(&mut log)),
+            Err(fault) => Err(fault),
+        },
+        Err(_) => Err(LogFault::DeviceFailed),
+    }
+}
+
 // A folder's disk takes no memory, so each growth is the log's, and the append behind `reserve` has none.
 #[test]
 fn an_append_behind_reserve_takes_no_memory(rt: HostRuntime) -> Result<(), Fail> {
     let folder = "gate_log_growths";
     empty_folder(&rt, folder)?;
-    let mut log = created(rt.alloc(), HostDisk::create(&rt, rt.alloc(), folder)?)?;
-    assert!(rt; are_added(&mut log));
+    assert!(rt; begins_and_adds(&rt, folder)?);
     fs::remove_dir_all(&rt, folder)?;
+    Ok(())
+}
+
+// Adds the three texts, up to one that is refused.
+fn add_three<D: Disk>(log: &mut GateLog<D>) -> Result<(), LogFault> {
+    let _first = log.append(b"first")?;
+    let _second = log.append(b"second")?;
+    let _third = log.append(b"third")?;
     Ok(())
 }
 
 // A disk with the three texts.
 fn three_texts<D: Disk + Drop>(alloc: Global, disk: D) -> Result<D, LogFault> {
-    let mut log = created(alloc, disk)?;
-    let _first = log.append(b"first")?;
-    let _second = log.append(b"second")?;
-    let _third = log.append(b"third")?;
-    Ok(log.into_disk())
+    match created(alloc, disk) {
+        Ok(mut log) => {
+            let added = add_three(&mut log);
+            let disk = log.into_disk();
+            match added {
+                Ok(()) => Ok(disk),
+                Err(fault) => Err(fault),
+            }
+        }
+        Err(fault) => Err(fault),
+    }
+}
+
+// Whether an opening finds the three texts in a folder.
+fn is_found_in(rt: &HostRuntime, folder: &str) -> Result<bool, LogFault> {
+    match HostDisk::create(rt, rt.alloc(), folder) {
+        Ok(disk) => match three_texts(rt.alloc(), disk) {
+            Ok(disk) => Ok(is_found(rt.alloc(), disk)),
+            Err(fault) => Err(fault),
+        },
+        Err(_) => Err(LogFault::DeviceFailed),
+    }
 }
 
 #[test]
 fn an_opening_and_a_read_with_a_growth_refused(rt: HostRuntime) -> Result<(), Fail> {
     let folder = "gate_log_refused";
     empty_folder(&rt, folder)?;
-    let disk = HostDisk::create(&rt, rt.alloc(), folder)?;
-    assert!(rt; is_found(rt.alloc(), three_texts(rt.alloc(), disk)?));
+    assert!(rt; is_found_in(&rt, folder)?);
     fs::remove_dir_all(&rt, folder)?;
     Ok(())
 }
@@ -122,16 +157,24 @@ fn finds_or_tells(alloc: Global, disk: MemDisk, whole: u64) -> bool {
     }
 }
 
+// The first of the texts for which an addition answers otherwise, up to one that is refused.
+fn first_untold(log: &mut GateLog<MemDisk>) -> Option<u64> {
+    for (place, text) in TEXTS.iter().enumerate() {
+        let whole = log.len();
+        if !adds_or_tells(log, *text) {
+            return Some(place as u64);
+        }
+        if log.len() == whole {
+            return None;
+        }
+    }
+    None
+}
+
 #[test]
 fn a_growth_refused_in_the_disk_is_a_failure_of_it(rt: HostRuntime) -> Result<(), Fail> {
     let mut log = created(rt.alloc(), MemDisk::new(rt.alloc()))?;
-    for text in TEXTS {
-        let whole = log.len();
-        assert!(rt; adds_or_tells(&mut log, text));
-        if log.len() == whole {
-            break;
-        }
-    }
+    none_wrong(&rt, "text", first_untold(&mut log));
     let whole = log.len();
     assert!(rt; finds_or_tells(rt.alloc(), log.into_disk(), whole));
     Ok(())

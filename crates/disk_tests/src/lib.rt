@@ -2,14 +2,20 @@
 #![tactic(auto)]
 
 #[cfg(test)]
+mod ahead_tests;
+#[cfg(test)]
 mod disk_tests;
 #[cfg(test)]
 mod fake_tests;
 #[cfg(test)]
 mod folder_tests;
 #[cfg(test)]
+mod folders;
+#[cfg(test)]
 mod growth_tests;
 #[cfg(test)]
 mod log_tests;
+#[cfg(test)]
+mod steps;
 #[cfg(test)]
 mod upgrade_tests;

@@ -1,15 +1,13 @@
 //! Logs over disks in memory and a folder: what an opening finds after each stop and each failure.
 
-use crate::disk_tests::empty_folder;
+use crate::folders::{Deed, first_undone};
+use crate::steps::none_wrong;
 use fleet_disk::{Disk, DiskFile, Fuse, FuseDisk, HostDisk, MemDisk, Pick};
 use gate_log::{GateLog, LogFault, LogVersion, one_verdict};
 use std::alloc::Global;
 use std::process::Abort;
-use std::{fs, io};
 
 pub(crate) const PICKS: [Pick; 4] = [Pick::Old, Pick::New, Pick::Fill(1), Pick::Fill(0x37)];
-
-const VERSIONS: [LogVersion; 2] = [LogVersion::First, LogVersion::Second];
 
 // What stands after so many calls of an append, for each pick: the gate's write decides.
 const STANDING: [[u64; 4]; 6] = [
@@ -22,11 +20,17 @@ const STANDING: [[u64; 4]; 6] = [
 ];
 
 pub(crate) fn created<D: Disk + Drop>(alloc: Global, disk: D) -> Result<GateLog<D>, LogFault> {
-    GateLog::create(alloc, disk).map_err(|refused| refused.0)
+    match GateLog::create(alloc, disk) {
+        Ok(log) => Ok(log),
+        Err((fault, _disk)) => Err(fault),
+    }
 }
 
 pub(crate) fn opened<D: Disk + Drop>(alloc: Global, disk: D) -> Result<GateLog<D>, LogFault> {
-    GateLog::open(alloc, disk).map_err(|refused| refused.0)
+    match GateLog::open(alloc, disk) {
+        Ok(log) => Ok(log),
+        Err((fault, _disk)) => Err(fault),
+    }
 }
 
 // The number of the entry that is added; None where it is refused.
@@ -78,9 +82,26 @@ fn opens_with<D: Disk + Drop>(alloc: Global, disk: D, count: u64) -> bool {
     }
 }
 
+// Why no log is begun on a disk, or None where one is; and the disk.
+fn tried_to_begin<D: Disk + Drop>(alloc: Global, disk: D) -> (Option<LogFault>, D) {
+    match GateLog::create(alloc, disk) {
+        Ok(log) => (None, log.into_disk()),
+        Err((fault, disk)) => (Some(fault), disk),
+    }
+}
+
+// Why a disk isn't opened, or None where it is; and the disk.
+fn tried_to_open<D: Disk + Drop>(alloc: Global, disk: D) -> (Option<LogFault>, D) {
+    match GateLog::open(alloc, disk) {
+        Ok(log) => (None, log.into_disk()),
+        Err((fault, disk)) => (Some(fault), disk),
+    }
+}
+
 // Why a disk isn't opened; None where it is.
 fn not_opened<D: Disk + Drop>(alloc: Global, disk: D) -> Option<LogFault> {
-    opened(alloc, disk).err()
+    let (fault, _disk) = tried_to_open(alloc, disk);
+    fault
 }
 
 // A log on a disk with nothing on it.
@@ -100,11 +121,10 @@ pub(crate) fn crashed(rt: &impl Abort, disk: &MemDisk, pick: Pick) -> MemDisk {
 
 // A disk with one entry, all of it synced.
 fn one_entry(rt: &impl Abort, alloc: Global, version: LogVersion) -> MemDisk {
-    let disk = match version {
-        LogVersion::First => MemDisk::with_bytes(alloc, b"first", ONE_GATE, b""),
-        LogVersion::Second => MemDisk::with_bytes(alloc, b"first", b"", ONE_SLOT),
-    };
-    disk.expect(rt, "memory")
+    match version {
+        LogVersion::First => with_files(rt, alloc, ONE_GATE, b""),
+        LogVersion::Second => with_files(rt, alloc, b"", ONE_SLOT),
+    }
 }
 
 // How many calls the opening of such a disk makes.
@@ -138,37 +158,41 @@ fn stopped(rt: &impl Abort, alloc: Global, version: LogVersion, calls: u64, pick
 
 // Whether a disk that was stopped after so many calls opens with so many entries, in either version.
 fn stands(rt: &impl Abort, alloc: Global, calls: u64, pick: Pick, count: u64) -> bool {
-    VERSIONS.iter().all(|version| opens_with(
-        alloc,
-        stopped(rt, alloc, *version, calls, pick),
-        count,
-    ))
+    let first = stopped(rt, alloc, LogVersion::First, calls, pick);
+    let second = stopped(rt, alloc, LogVersion::Second, calls, pick);
+    opens_with(alloc, first, count) && opens_with(alloc, second, count)
+}
+
+// How many entries stand after so many calls, for each pick, and how many more: each append makes five calls.
+fn standing(calls: u64) -> ([u64; 4], u64) {
+    if calls < 6 {
+        (STANDING[calls as usize], 0)
+    } else {
+        (STANDING[(calls % 5) as usize], calls / 5)
+    }
+}
+
+// The first number of calls below this one after which something else stands.
+fn first_fallen(rt: &impl Abort, alloc: Global, most: u64) -> Option<u64> {
+    for calls in 0..most {
+        let (row, more) = standing(calls);
+        for (pick, wanted) in PICKS.iter().zip(row.iter()) {
+            if !stands(rt, alloc, calls, *pick, wanted.saturating_add(more)) {
+                return Some(calls);
+            }
+        }
+    }
+    None
 }
 
 #[test]
 fn an_append_stopped_after_each_call(rt: HostRuntime) {
-    for (calls, row) in STANDING.iter().enumerate() {
-        for (pick, wanted) in PICKS.iter().zip(row) {
-            assert!(rt;
-                stands(&rt, rt.alloc(), calls as u64, *pick, *wanted),
-                "after {calls} calls"
-            );
-        }
-    }
+    none_wrong(&rt, "calls", first_fallen(&rt, rt.alloc(), 6));
 }
 
 #[test]
 fn three_appends_stopped_after_each_call(rt: HostRuntime) {
-    for calls in 0u64..16 {
-        let row = STANDING[(calls % 5) as usize];
-        for (pick, wanted) in PICKS.iter().zip(row.iter()) {
-            let count = wanted.saturating_add(calls / 5);
-            assert!(rt;
-                stands(&rt, rt.alloc(), calls, *pick, count),
-                "after {calls} calls"
-            );
-        }
-    }
+    none_wrong(&rt, "calls", first_fallen(&rt, rt.alloc(), 16));
 }
 
 // Whether each call of a log with one entry answers that it failed before.
@@ -213,24 +237,26 @@ fn a_read_fails(rt: HostRuntime) {
 // Whether a creation ends where this call of it fails, and another on the disk that it hands back ends so.
 fn is_created_again(alloc: Global, calls: u64, wanted: Option<LogFault>) -> bool {
     let fused = FuseDisk::new(MemDisk::new(alloc), calls, Fuse::Once);
-    match GateLog::create(alloc, fused) {
-        Ok(_) => false,
-        Err((fault, disk)) => {
-            fault == LogFault::DeviceFailed && created(alloc, disk).err() == wanted
+    let (fault, disk) = tried_to_begin(alloc, fused);
+    let (again, _disk) = tried_to_begin(alloc, disk);
+    fault == Some(LogFault::DeviceFailed) && again == wanted
+}
+
+// The first call for which that isn't so.
+fn first_not_created(alloc: Global, again: &[Option<LogFault>]) -> Option<u64> {
+    for (calls, wanted) in again.iter().enumerate() {
+        if !is_created_again(alloc, calls as u64, *wanted) {
+            return Some(calls as u64);
         }
     }
+    None
 }
 
 #[test]
 fn a_create_whose_call_fails_hands_the_disk_back(rt: HostRuntime) {
     // The gate is written by the fourth call, and synced by the fifth.
     let again = [None, None, None, None, Some(LogFault::ThereAlready)];
-    for (calls, wanted) in again.iter().enumerate() {
-        assert!(rt;
-            is_created_again(rt.alloc(), calls as u64, *wanted),
-            "call {calls}"
-        );
-    }
+    none_wrong(&rt, "call", first_not_created(rt.alloc(), &again));
 }
 
 // A disk whose second entry and its slot lie behind a closed gate.
@@ -240,105 +266,115 @@ fn torn(rt: &impl Abort, alloc: Global, version: LogVersion) -> MemDisk {
 
 // Whether an opening ends where this call of it fails, and the disk that it hands back opens then.
 fn is_opened_again(alloc: Global, disk: MemDisk, calls: u64) -> bool {
-    match GateLog::open(alloc, FuseDisk::new(disk, calls, Fuse::Once)) {
-        Ok(_) => false,
-        Err((fault, disk)) => fault == LogFault::DeviceFailed && opens_with(alloc, disk, 1),
+    let (fault, disk) = tried_to_open(alloc, FuseDisk::new(disk, calls, Fuse::Once));
+    fault == Some(LogFault::DeviceFailed) && opens_with(alloc, disk, 1)
+}
+
+// The first call of an opening for which that isn't so.
+fn first_not_opened(rt: &impl Abort, alloc: Global) -> Option<u64> {
+    let torn = torn(rt, alloc, LogVersion::Second);
+    for calls in 0..opening_calls(rt, alloc, &torn) {
+        if !is_opened_again(alloc, crashed(rt, &torn, Pick::New), calls) {
+            return Some(calls);
+        }
     }
+    None
 }
 
 #[test]
 fn an_opening_whose_call_fails_hands_the_disk_back(rt: HostRuntime) {
-    let torn = torn(&rt, rt.alloc(), LogVersion::Second);
-    for calls in 0..opening_calls(&rt, rt.alloc(), &torn) {
-        let disk = crashed(&rt, &torn, Pick::New);
-        assert!(rt; is_opened_again(rt.alloc(), disk, calls), "call {calls}");
-    }
+    none_wrong(&rt, "call", first_not_opened(&rt, rt.alloc()));
 }
 
-// The disk behind a creation that was stopped after so many calls; None where it wasn't.
-fn begun_until(alloc: Global, calls: u64) -> Option<MemDisk> {
+// Whether a creation that was stopped after so many calls leaves a disk without a repository.
+fn is_none_left(rt: &impl Abort, alloc: Global, calls: u64, pick: Pick) -> bool {
     let fused = FuseDisk::new(MemDisk::new(alloc), calls, Fuse::ForGood);
-    match GateLog::create(alloc, fused) {
-        Ok(_) => None,
-        Err((fault, disk)) => (fault == LogFault::DeviceFailed).then_some(disk.into_inner()),
-    }
+    let (fault, disk) = tried_to_begin(alloc, fused);
+    let left = crashed(rt, &disk.into_inner(), pick);
+    fault == Some(LogFault::DeviceFailed) && not_opened(alloc, left) == Some(LogFault::NoRepository)
 }
 
-// What an opening answers behind such a creation; None where either ends well.
-fn found_after(rt: &impl Abort, alloc: Global, calls: u64, pick: Pick) -> Option<LogFault> {
-    match begun_until(alloc, calls) {
-        Some(disk) => not_opened(alloc, crashed(rt, &disk, pick)),
-        None => None,
+// The first of its five calls for which that isn't so.
+fn first_left(rt: &impl Abort, alloc: Global) -> Option<u64> {
+    for calls in 0u64..5 {
+        for pick in &PICKS {
+            if !is_none_left(rt, alloc, calls, *pick) {
+                return Some(calls);
+            }
+        }
     }
-}
-
-// Whether that is so.
-fn is_found(rt: &impl Abort, alloc: Global, calls: u64, pick: Pick, wanted: LogFault) -> bool {
-    found_after(rt, alloc, calls, pick) == Some(wanted)
+    None
 }
 
 #[test]
 fn a_create_stopped_after_each_call(rt: HostRuntime) {
-    for calls in 0u64..5 {
-        for pick in PICKS {
-            assert!(rt;
-                is_found(&rt, rt.alloc(), calls, pick, LogFault::NoRepository),
-                "{calls} calls"
-            );
+    none_wrong(&rt, "calls", first_left(&rt, rt.alloc()));
+}
+
+// Whether an opening that was stopped after so many calls leaves a disk that opens with its one entry.
+fn is_left_open(rt: &impl Abort, alloc: Global, torn: &MemDisk, calls: u64, pick: Pick) -> bool {
+    let fused = FuseDisk::new(crashed(rt, torn, Pick::New), calls, Fuse::ForGood);
+    let (fault, disk) = tried_to_open(alloc, fused);
+    let left = crashed(rt, &disk.into_inner(), pick);
+    fault == Some(LogFault::DeviceFailed) && opens_with(alloc, left, 1)
+}
+
+// The first call of an opening for which that isn't so.
+fn first_shut(rt: &impl Abort, alloc: Global, version: LogVersion) -> Option<u64> {
+    let torn = torn(rt, alloc, version);
+    for calls in 0..opening_calls(rt, alloc, &torn) {
+        for pick in &PICKS {
+            if !is_left_open(rt, alloc, &torn, calls, *pick) {
+                return Some(calls);
+            }
         }
     }
-}
-
-// The disk behind an opening that was stopped after so many calls; None where it wasn't.
-fn opened_until(alloc: Global, disk: MemDisk, calls: u64) -> Option<MemDisk> {
-    match GateLog::open(alloc, FuseDisk::new(disk, calls, Fuse::ForGood)) {
-        Ok(_) => None,
-        Err((fault, disk)) => (fault == LogFault::DeviceFailed).then_some(disk.into_inner()),
-    }
-}
-
-// Whether that leaves a disk that opens with its one entry.
-fn is_left_open(rt: &impl Abort, alloc: Global, torn: &MemDisk, calls: u64, pick: Pick) -> bool {
-    match opened_until(alloc, crashed(rt, torn, Pick::New), calls) {
-        Some(disk) => opens_with(alloc, crashed(rt, &disk, pick), 1),
-        None => false,
-    }
+    None
 }
 
 #[test]
 fn an_opening_stopped_after_each_call(rt: HostRuntime) {
-    for version in VERSIONS {
-        let torn = torn(&rt, rt.alloc(), version);
-        for calls in 0..opening_calls(&rt, rt.alloc(), &torn) {
-            for pick in &PICKS {
-                assert!(rt;
-                    is_left_open(&rt, rt.alloc(), &torn, calls, *pick),
-                    "after {calls} calls"
-                );
-            }
-        }
-    }
+    none_wrong(
+        &rt,
+        "calls in the first version",
+        first_shut(&rt, rt.alloc(), LogVersion::First),
+    );
+    none_wrong(
+        &rt,
+        "calls in the second version",
+        first_shut(&rt, rt.alloc(), LogVersion::Second),
+    );
+}
+
+// Whether the opening of a disk with one entry leaves this gate and these slots.
+fn opens_to(rt: &impl Abort, alloc: Global, disk: MemDisk, gate: &[u8], slots: &[u8]) -> bool {
+    has_files(&found(rt, alloc, disk).into_disk(), b"first", gate, slots)
+}
+
+// Whether that of one that was torn in this version does.
+fn cuts_to(rt: &impl Abort, alloc: Global, version: LogVersion, gate: &[u8], slots: &[u8]) -> bool {
+    opens_to(rt, alloc, torn(rt, alloc, version), gate, slots)
 }
 
 #[test]
 fn an_opening_cuts_what_is_behind(rt: HostRuntime) {
-    let torn_first = torn(&rt, rt.alloc(), LogVersion::First);
-    let first = found(&rt, rt.alloc(), torn_first).into_disk();
-    assert!(rt; has_files(&first, b"first", ONE_GATE, b""));
-    let torn_second = torn(&rt, rt.alloc(), LogVersion::Second);
-    let second = found(&rt, rt.alloc(), torn_second).into_disk();
-    assert!(rt; has_files(&second, b"first", b"", ONE_SLOT));
+    assert!(rt; cuts_to(&rt, rt.alloc(), LogVersion::First, ONE_GATE, b""));
+    assert!(rt; cuts_to(&rt, rt.alloc(), LogVersion::Second, b"", ONE_SLOT));
+}
+
+// A disk with one entry, and this gate and these slots.
+fn with_files(rt: &impl Abort, alloc: Global, gate: &[u8], slots: &[u8]) -> MemDisk {
+    MemDisk::with_bytes(alloc, b"first", gate, slots).expect(rt, "memory")
 }
 
 // A gate that an upgrade has left is cut, and what it has left of `slots` stays.
 #[test]
 fn an_opening_and_the_other_file(rt: HostRuntime) {
-    let left = MemDisk::with_bytes(rt.alloc(), b"first", b"left", ONE_SLOT);
-    let cut = found(&rt, rt.alloc(), left.expect(&rt, "memory")).into_disk();
-    assert!(rt; has_files(&cut, b"first", b"", ONE_SLOT));
-    let begun = MemDisk::with_bytes(rt.alloc(), b"first", ONE_GATE, b"\0left");
-    let kept = found(&rt, rt.alloc(), begun.expect(&rt, "memory")).into_disk();
-    assert!(rt; has_files(&kept, b"first", ONE_GATE, b"\0left"));
+    let alloc = rt.alloc();
+    let cut = with_files(&rt, alloc, b"left", ONE_SLOT);
+    assert!(rt; opens_to(&rt, alloc, cut, b"", ONE_SLOT));
+    let kept = with_files(&rt, alloc, ONE_GATE, b"\0left");
+    assert!(rt; opens_to(&rt, alloc, kept, ONE_GATE, b"\0left"));
 }
 
 // The gate of an entry of five bytes.
@@ -415,7 +451,10 @@ fn the_numbers(rt: HostRuntime) {
 
 // Whether a fault is told so.
 fn is_told_as(alloc: Global, fault: LogFault, text: &str) -> bool {
-    format!(in alloc; "{fault}").is_ok_and(|told| told.as_str() == text)
+    match format!(in alloc; "{fault}") {
+        Ok(told) => told.as_str() == text,
+        Err(_) => false,
+    }
 }
 
 #[test]
@@ -428,17 +467,26 @@ fn the_law_is_called() {
     one_verdict();
 }
 
-// Whether the journal of two entries with this gate file is refused so.
-fn is_damaged(alloc: Global, gate: &[u8], wanted: LogFault) -> bool {
-    are_damaged(alloc, b"firstsecond", gate, b"", wanted)
+// Why these files aren't opened; None where they are.
+fn refusal(alloc: Global, journal: &[u8], gate: &[u8], slots: &[u8]) -> Option<LogFault> {
+    match MemDisk::with_bytes(alloc, journal, gate, slots) {
+        Ok(disk) => not_opened(alloc, disk),
+        Err(_) => Some(LogFault::OutOfMemory),
+    }
 }
 
-// Whether these files are refused so.
-fn are_damaged(alloc: Global, journal: &[u8], gate: &[u8], slots: &[u8], wanted: LogFault) -> bool {
-    match MemDisk::with_bytes(alloc, journal, gate, slots) {
-        Ok(disk) => not_opened(alloc, disk) == Some(wanted),
-        Err(_) => false,
+// A journal, its gate and its slots, and how they are refused.
+type Refused<'a> = (&'a [u8], &'a [u8], &'a [u8], LogFault);
+
+// The first of these that isn't refused so.
+fn first_taken(alloc: Global, table: &[Refused<'_>]) -> Option<u64> {
+    for (place, files) in table.iter().enumerate() {
+        let (journal, gate, slots, wanted) = *files;
+        if refusal(alloc, journal, gate, slots) != Some(wanted) {
+            return Some(place as u64);
+        }
     }
+    None
 }
 
 // The gate of two entries of five and six bytes.
@@ -470,11 +518,8 @@ fn whole_entries(rt: HostRuntime) {
 
 // Whether a log with one byte of an entry changed opens in the first version, and is refused in the second.
 fn is_told(alloc: Global, journal: &[u8], entry: u64) -> bool {
-    let Ok(disk) = MemDisk::with_bytes(alloc, journal, WHOLE, b"") else {
-        return false;
-    };
-    opened(alloc, disk).is_ok()
-        && are_damaged(alloc, journal, b"", WHOLE_SLOTS, LogFault::Damaged(entry))
+    refusal(alloc, journal, WHOLE, b"").is_none()
+        && refusal(alloc, journal, b"", WHOLE_SLOTS) == Some(LogFault::Damaged(entry))
 }
 
 // A changed byte in either entry, also with more behind it.
@@ -485,64 +530,25 @@ fn a_changed_byte(rt: HostRuntime) {
     assert!(rt; is_told(rt.alloc(), b"FirstsEcondmore", 0));
 }
 
+const NONE: &[u8] = b"";
+
+// Two entries in the journal.
+const BOTH: &[u8] = b"firstsecond";
+
 // Slots: a length that doesn't rise, one past the journal's end, a cut sum, no next gate, a closed first gate, and less
 // than an entry and a gate.
 #[test]
 fn damaged_slots(rt: HostRuntime) {
-    assert!(rt;
-        are_damaged(
-            rt.alloc(),
-            b"firstsecond",
-            b"",
-            FALLING,
-            LogFault::Damaged(1)
-        )
-    );
-    assert!(rt;
-        are_damaged(
-            rt.alloc(),
-            b"firstsecon",
-            b"",
-            WHOLE_SLOTS,
-            LogFault::Damaged(1)
-        )
-    );
-    assert!(rt;
-        are_damaged(
-            rt.alloc(),
-            b"firstsecond",
-            b"",
-            &WHOLE_SLOTS[..49],
-            LogFault::Damaged(1)
-        )
-    );
-    assert!(rt;
-        are_damaged(
-            rt.alloc(),
-            b"firstsecond",
-            b"",
-            &WHOLE_SLOTS[..50],
-            LogFault::Damaged(1)
-        )
-    );
-    assert!(rt;
-        are_damaged(
-            rt.alloc(),
-            b"firstsecond",
-            b"",
-            b"\0",
-            LogFault::NoRepository
-        )
-    );
-    assert!(rt;
-        are_damaged(
-            rt.alloc(),
-            b"firstsecond",
-            b"",
-            &WHOLE_SLOTS[..25],
-            LogFault::NoRepository
-        )
-    );
+    let second = LogFault::Damaged(1);
+    let table = [
+        (BOTH, NONE, FALLING, second),
+        (&BOTH[..10], NONE, WHOLE_SLOTS, second),
+        (BOTH, NONE, &WHOLE_SLOTS[..49], second),
+        (BOTH, NONE, &WHOLE_SLOTS[..50], second),
+        (BOTH, NONE, b"\0".as_slice(), LogFault::NoRepository),
+        (BOTH, NONE, &WHOLE_SLOTS[..25], LogFault::NoRepository),
+    ];
+    none_wrong(&rt, "files", first_taken(rt.alloc(), &table));
 }
 
 // The slots of `first` and of a second entry that ends with it.
@@ -552,24 +558,32 @@ const FALLING: &[u8] =
 // A length that doesn't rise, one past the journal's end, a cut length, no next gate, a closed first gate.
 #[test]
 fn damage(rt: HostRuntime) {
-    let falling = b"\x01\0\0\0\0\0\0\0\x05\x01\0\0\0\0\0\0\0\x05\0";
-    assert!(rt; is_damaged(rt.alloc(), falling, LogFault::Damaged(1)));
-    let beyond = b"\x01\0\0\0\0\0\0\0\x0C\0";
-    assert!(rt; is_damaged(rt.alloc(), beyond, LogFault::Damaged(0)));
-    assert!(rt; is_damaged(rt.alloc(), &WHOLE[..12], LogFault::Damaged(1)));
-    assert!(rt; is_damaged(rt.alloc(), &WHOLE[..18], LogFault::Damaged(1)));
-    assert!(rt; is_damaged(rt.alloc(), b"\0", LogFault::NoRepository));
+    let falling = b"\x01\0\0\0\0\0\0\0\x05\x01\0\0\0\0\0\0\0\x05\0".as_slice();
+    let beyond = b"\x01\0\0\0\0\0\0\0\x0C\0".as_slice();
+    let table = [
+        (BOTH, falling, NONE, LogFault::Damaged(1)),
+        (BOTH, beyond, NONE, LogFault::Damaged(0)),
+        (BOTH, &WHOLE[..12], NONE, LogFault::Damaged(1)),
+        (BOTH, &WHOLE[..18], NONE, LogFault::Damaged(1)),
+        (BOTH, b"\0".as_slice(), NONE, LogFault::NoRepository),
+    ];
+    none_wrong(&rt, "files", first_taken(rt.alloc(), &table));
 }
 
-// Whether a log is begun in a folder and takes two entries.
-fn is_begun(rt: &HostRuntime, folder: &str) -> bool {
-    let Ok(disk) = HostDisk::create(rt, rt.alloc(), folder) else {
-        return false;
-    };
-    match created(rt.alloc(), disk) {
+// Whether a log is begun on a disk and takes two entries.
+fn takes_both<D: Disk + Drop>(alloc: Global, disk: D) -> bool {
+    match created(alloc, disk) {
         Ok(mut log) => {
             added(&mut log, b"first") == Some(0) && added(&mut log, b"second") == Some(1)
         }
+        Err(_) => false,
+    }
+}
+
+// Whether that is so in a folder.
+fn is_begun(rt: &HostRuntime, folder: &str) -> bool {
+    match HostDisk::create(rt, rt.alloc(), folder) {
+        Ok(disk) => takes_both(rt.alloc(), disk),
         Err(_) => false,
     }
 }
@@ -593,7 +607,10 @@ fn is_kept(rt: &HostRuntime, folder: &str) -> bool {
 // Whether no log is begun where there is one.
 fn is_there(rt: &HostRuntime, folder: &str) -> bool {
     match HostDisk::create(rt, rt.alloc(), folder) {
-        Ok(disk) => created(rt.alloc(), disk).err() == Some(LogFault::ThereAlready),
+        Ok(disk) => {
+            let (fault, _disk) = tried_to_begin(rt.alloc(), disk);
+            fault == Some(LogFault::ThereAlready)
+        }
         Err(_) => false,
     }
 }
@@ -607,13 +624,13 @@ fn damages(rt: &HostRuntime, folder: &str) -> bool {
 }
 
 #[test]
-fn a_folder_of_the_host(rt: HostRuntime) -> io::Result<()> {
+fn a_folder_of_the_host(rt: HostRuntime) {
     let folder = "gate_log_folder";
-    empty_folder(&rt, folder)?;
+    none_wrong(&rt, "before", first_undone(&rt, folder, &[Deed::Empty]));
     assert!(rt; is_refused(&rt, folder, LogFault::NoRepository));
     assert!(rt; is_begun(&rt, folder));
     assert!(rt; is_kept(&rt, folder));
     assert!(rt; is_there(&rt, folder));
     assert!(rt; damages(&rt, folder) && is_refused(&rt, folder, LogFault::Damaged(1)));
-    fs::remove_dir_all(&rt, folder)
+    none_wrong(&rt, "behind", first_undone(&rt, folder, &[Deed::Gone]));
 }

@@ -3,6 +3,7 @@
 use crate::log_tests::{
     PICKS, WHOLE, WHOLE_SLOTS, crashed, found, has_entries, has_files, opened, opening_calls,
 };
+use crate::steps::none_wrong;
 use fleet_disk::{Disk, Fuse, FuseDisk, MemDisk, Pick};
 use gate_log::{GateLog, LogFault, LogVersion};
 use std::alloc::Global;
@@ -66,36 +67,30 @@ fn stopped(rt: &impl Abort, alloc: Global, slots: &[u8], calls: u64) -> MemDisk 
     log.into_disk().into_inner()
 }
 
-#[test]
-fn an_upgrade_stopped_after_each_call(rt: HostRuntime) {
-    let before = calls_before(&rt, rt.alloc(), b"");
+// The first number of calls after which another version is left, where `slots` has these bytes before.
+fn first_wrong(rt: &impl Abort, alloc: Global, slots: &[u8]) -> Option<u64> {
+    let before = calls_before(rt, alloc, slots);
     for (calls, row) in LEFT.iter().enumerate() {
-        let disk = stopped(&rt, rt.alloc(), b"", before.saturating_add(calls as u64));
+        let disk = stopped(rt, alloc, slots, before.saturating_add(calls as u64));
         for (pick, wanted) in PICKS.iter().zip(row) {
-            let left = crashed(&rt, &disk, *pick);
-            assert!(rt;
-                is_upgraded(rt.alloc(), left, *wanted),
-                "after {calls} calls"
-            );
+            if !is_upgraded(alloc, crashed(rt, &disk, *pick), *wanted) {
+                return Some(calls as u64);
+            }
         }
     }
+    None
+}
+
+#[test]
+fn an_upgrade_stopped_after_each_call(rt: HostRuntime) {
+    none_wrong(&rt, "calls", first_wrong(&rt, rt.alloc(), b""));
 }
 
 // The same where an earlier one has left something in `slots`.
 #[test]
 fn an_upgrade_behind_a_stopped_one(rt: HostRuntime) {
     let left = b"\0what an earlier upgrade has left";
-    let before = calls_before(&rt, rt.alloc(), left);
-    for (calls, row) in LEFT.iter().enumerate() {
-        let disk = stopped(&rt, rt.alloc(), left, before.saturating_add(calls as u64));
-        for (pick, wanted) in PICKS.iter().zip(row) {
-            let left = crashed(&rt, &disk, *pick);
-            assert!(rt;
-                is_upgraded(rt.alloc(), left, *wanted),
-                "after {calls} calls"
-            );
-        }
-    }
+    none_wrong(&rt, "calls", first_wrong(&rt, rt.alloc(), left));
 }
 
 // Whether an upgrade is refused by its device, and then for that.
@@ -106,22 +101,35 @@ fn fails_for_good<D: Disk>(alloc: Global, log: &mut GateLog<D>) -> bool {
         && log.reserve(1) == Err(LogFault::Failed)
 }
 
-#[test]
-fn each_call_of_an_upgrade_fails(rt: HostRuntime) {
-    let opening = opening_calls(&rt, rt.alloc(), &two_entries(&rt, rt.alloc(), b""));
-    let last = calls_before(&rt, rt.alloc(), b"").saturating_add(10);
+// Whether an upgrade whose call of this number fails is refused for it, and leaves this version.
+fn fails_and_leaves(rt: &impl Abort, alloc: Global, calls: u64, wanted: LogVersion) -> bool {
+    let disk = two_entries(rt, alloc, b"");
+    let mut log = found(rt, alloc, FuseDisk::new(disk, calls, Fuse::Once));
+    let fails = fails_for_good(alloc, &mut log);
+    let left = crashed(rt, &log.into_disk().into_inner(), Pick::New);
+    fails && is_upgraded(alloc, left, wanted)
+}
+
+// The first call of an upgrade for which that isn't so: behind its last three but one the second version is left.
+fn first_passed(rt: &impl Abort, alloc: Global) -> Option<u64> {
+    let opening = opening_calls(rt, alloc, &two_entries(rt, alloc, b""));
+    let last = calls_before(rt, alloc, b"").saturating_add(10);
     for calls in opening..last {
-        let disk = two_entries(&rt, rt.alloc(), b"");
-        let mut log = found(&rt, rt.alloc(), FuseDisk::new(disk, calls, Fuse::Once));
-        assert!(rt; fails_for_good(rt.alloc(), &mut log), "call {calls}");
-        let left = crashed(&rt, &log.into_disk().into_inner(), Pick::New);
         let wanted = if calls < last.saturating_sub(3) {
             FIRST
         } else {
             SECOND
         };
-        assert!(rt; is_upgraded(rt.alloc(), left, wanted), "call {calls}");
+        if !fails_and_leaves(rt, alloc, calls, wanted) {
+            return Some(calls);
+        }
     }
+    None
+}
+
+#[test]
+fn each_call_of_an_upgrade_fails(rt: HostRuntime) {
+    none_wrong(&rt, "call", first_passed(&rt, rt.alloc()));
 }
 
 // An append behind an upgrade, and one in a repository that stays in the first version.

@@ -12,7 +12,13 @@ fn begins(rt: &HostRuntime, folder: &str) -> bool {
         return false;
     };
     match HostDisk::create(rt, rt.alloc(), folder) {
-        Ok(disk) => RepoStore::create(rt.alloc(), disk, identity).is_ok(),
+        Ok(disk) => match RepoStore::create(rt.alloc(), disk, identity) {
+            Ok(store) => {
+                let _disk = store.into_disk();
+                true
+            }
+            Err(_refused) => false,
+        },
         Err(_) => false,
     }
 }

@@ -14,6 +14,11 @@ pub(crate) const DIR: Option<NodeKind> = Some(NodeKind::Dir);
 
 pub(crate) const LOG: &[u8] = b"svn:log";
 
+// Nothing of this was wrong: it is asserted here for all tests, and what is wrong is told.
+pub(crate) fn none_wrong(rt: &impl Abort, what: &str, wrong: Option<u64>) {
+    assert_eq!(rt; wrong, None, "{what}");
+}
+
 pub(crate) fn path(rt: &impl Abort, alloc: Global, text: &str) -> NodePath {
     NodePath::parse(alloc, text.as_bytes()).expect(rt, "a path")
 }

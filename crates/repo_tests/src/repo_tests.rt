@@ -1,12 +1,15 @@
 //! A repository's calls, with the values that the formats fix.
 
-use crate::made::{DIR, FILE, LOG, Stated, log_of, name, path, set, value};
+use crate::made::{DIR, FILE, LOG, Stated, log_of, name, none_wrong, path, set, value};
 use dump_load::ChangeSet;
 use node_base::{Action, NodeKind, Props, RevNo};
 use repo_core::{Expected, Moment, Repo, RepoFault};
 use std::alloc::Global;
 use std::process::Abort;
 use uuid::Uuid;
+
+/// Lets go of a repository, here alone: what a function drops is proved with it each time.
+pub(crate) fn let_go(_repo: Repo) {}
 
 pub(crate) fn empty_repo(rt: &impl Abort, alloc: Global) -> Repo {
     let identity = Uuid::parse_str("6a1f0c3e-0000-4000-8000-000000000001");
@@ -79,7 +82,10 @@ fn is_told(alloc: Global, repo: &mut Repo, base: u16, text: &str) -> bool {
     let none = ChangeSet::empty(alloc);
     match repo.commit(alloc, RevNo::new(base), none, Props::empty(), None) {
         Ok(_) => false,
-        Err(fault) => format!(in alloc; "{fault}").is_ok_and(|told| told.as_str() == text),
+        Err(fault) => match format!(in alloc; "{fault}") {
+            Ok(told) => told.as_str() == text,
+            Err(_) => false,
+        },
     }
 }
 
@@ -91,15 +97,17 @@ fn a_commit_is_made_against_the_head(rt: HostRuntime) {
     assert!(rt;
         is_told(rt.alloc(), &mut repo, 0, "the base is not the head 1") && has_head(&repo, 1)
     );
+    let_go(repo);
 }
 
 // Whether a moment's text is the one that is told.
 fn dates(alloc: Global, micros: u64, text: &str) -> bool {
     match Moment::from_micros(micros) {
         None => false,
-        Some(moment) => moment
-            .date_text(alloc)
-            .is_ok_and(|told| told.as_str() == text),
+        Some(moment) => match moment.date_text(alloc) {
+            Ok(told) => told.as_str() == text,
+            Err(_) => false,
+        },
     }
 }
 
@@ -126,6 +134,7 @@ fn a_commit_with_a_moment_has_its_date(rt: HostRuntime) {
     assert!(rt; has(&repo, 1, LOG, Some(b"hi")));
     let again = [("a", Action::Add, DIR, None)];
     assert!(rt; commit(&rt, rt.alloc(), &mut repo, 1, &again) == 12);
+    let_go(repo);
 }
 
 // A change of the log of revision 1, with a value that is expected or that is to be absent.
@@ -164,6 +173,7 @@ fn a_change_finds_what_it_expects(rt: HostRuntime) {
     assert!(rt; finds(&rt, rt.alloc(), &mut repo, None, b"hi") && has(&repo, 1, LOG, Some(b"hi")));
     assert!(rt; relog(&rt, rt.alloc(), &mut repo, b"ho", Some(b"hi")).is_ok());
     assert!(rt; finds(&rt, rt.alloc(), &mut repo, Some(b"hi"), b"ho"));
+    let_go(repo);
 }
 
 // Takes the log of revision 1 away, whatever it is.
@@ -179,6 +189,7 @@ fn a_change_that_expects_nothing(rt: HostRuntime) {
     assert!(rt; number(relog(&rt, rt.alloc(), &mut repo, b"ho", Some(b"hi"))) == 22);
     assert!(rt; number(relog(&rt, rt.alloc(), &mut repo, b"ho", None)) == 0);
     assert!(rt; has(&repo, 1, LOG, Some(b"ho")));
+    let_go(repo);
 }
 
 // The number that refuses a change of a property of a revision to a value of so many bytes, which is to be absent.
@@ -204,13 +215,22 @@ const LOGS: [(u16, usize, u8); 4] = [
     (0, 65_536, 0),
 ];
 
+// The first of these changes that is answered otherwise.
+fn first_wrong(rt: &impl Abort, alloc: Global, repo: &mut Repo) -> Option<u64> {
+    for (place, change) in LOGS.iter().enumerate() {
+        let (at, len, wanted) = *change;
+        if refused(rt, alloc, repo, at, LOG, len) != wanted {
+            return Some(place as u64);
+        }
+    }
+    None
+}
+
 #[test]
 fn refusals_of_a_change_in_their_order(rt: HostRuntime) {
     let mut repo = first_repo(&rt, rt.alloc());
-    for (at, len, wanted) in &LOGS {
-        let found = refused(&rt, rt.alloc(), &mut repo, *at, LOG, *len);
-        assert!(rt; found == *wanted, "revision {at}, {len} bytes");
-    }
+    none_wrong(&rt, "change", first_wrong(&rt, rt.alloc(), &mut repo));
+    let_go(repo);
 }
 
 // As many properties as there may be, and none of them the date.
@@ -236,6 +256,7 @@ fn one_property_too_many(rt: HostRuntime) {
     assert!(rt; refused(&rt, rt.alloc(), &mut repo, 0, LOG, 1) == 8);
     assert!(rt; refused(&rt, rt.alloc(), &mut repo, 0, b"svn:sync-lock", 1) == 0);
     assert!(rt; refused(&rt, rt.alloc(), &mut repo, 0, b"p7", 1) == 22);
+    let_go(repo);
 }
 
 // The refusal of a commit of this set with a full map and a date.
@@ -252,6 +273,7 @@ fn a_date_too_many_comes_last(rt: HostRuntime) {
     let again = set(&rt, rt.alloc(), &[("a", Action::Add, FILE, None)]);
     assert!(rt; overfull(&rt, rt.alloc(), &mut repo, again) == 12);
     assert!(rt; has_head(&repo, 1));
+    let_go(repo);
 }
 
 // Puts a whole map: the number of the refusal, or 0.
@@ -266,6 +288,7 @@ fn a_whole_map_takes_the_place_of_another(rt: HostRuntime) {
     assert!(rt; put(&mut repo, 1, Props::empty()) == 0 && has(&repo, 1, LOG, None));
     let begun = log_of(&rt, rt.alloc(), b"begun");
     assert!(rt; put(&mut repo, 0, begun) == 0 && has(&repo, 0, LOG, Some(b"begun")));
+    let_go(repo);
 }
 
 // Revision 1 adds the directory t with the files t/x and t/y.
@@ -299,6 +322,7 @@ fn a_copy_into_itself_keeps_the_source(rt: HostRuntime) {
     assert!(rt;
         there(&rt, rt.alloc(), &repo, 2, "t/in/x") && !there(&rt, rt.alloc(), &repo, 2, "t/in/in")
     );
+    let_go(repo);
 }
 
 // Whether a repository has nothing of a revision.
@@ -310,6 +334,7 @@ fn has_none(repo: &Repo, revision: RevNo) -> bool {
 fn what_is_above_the_head(rt: HostRuntime) {
     let repo = first_repo(&rt, rt.alloc());
     assert!(rt; has_none(&repo, RevNo::new(2)));
+    let_go(repo);
 }
 
 // How many changes made the tree of a revision.
@@ -325,6 +350,7 @@ fn the_changes_of_a_revision(rt: HostRuntime) {
     let repo = with_directory(&rt, rt.alloc());
     assert!(rt; changes(&repo, 0) == Some(0));
     assert!(rt; changes(&repo, 1) == Some(3) && repo.trees().len() == 2);
+    let_go(repo);
 }
 
 // Commits nothing, against each head up to the last. Whether all of them are taken.
@@ -344,4 +370,5 @@ fn a_repository_that_is_full(rt: HostRuntime) {
     assert!(rt; fill(rt.alloc(), &mut repo) && has_head(&repo, 65_535));
     assert!(rt; commit(&rt, rt.alloc(), &mut repo, 65_535, &[]) == 23);
     assert!(rt; has_head(&repo, 65_535));
+    let_go(repo);
 }

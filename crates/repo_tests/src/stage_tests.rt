@@ -1,7 +1,7 @@
 //! What is staged: it changes nothing until it is installed.
 
 use crate::made::{DIR, LOG, name, path, set};
-use crate::repo_tests::{empty_repo, first_repo, has_head, there};
+use crate::repo_tests::{empty_repo, first_repo, has_head, let_go, there};
 use node_base::{Action, Props, RevNo};
 use repo_core::{Entry, Expected, Repo, Staged};
 use std::alloc::Global;
@@ -13,6 +13,9 @@ fn staged(rt: &impl Abort, alloc: Global, repo: &Repo) -> Staged {
     let staged = repo.stage_commit(alloc, RevNo::new(1), added, Props::empty(), None);
     staged.expect(rt, "a staged revision")
 }
+
+// Drops what is staged.
+fn drop_staged(_staged: Staged) {}
 
 // Whether the tree that is staged has something at a path.
 fn has(rt: &impl Abort, alloc: Global, staged: &Staged, text: &str) -> bool {
@@ -27,8 +30,9 @@ fn what_was_staged_and_dropped_changes_nothing(rt: HostRuntime) {
     let repo = first_repo(&rt, rt.alloc());
     let staged = staged(&rt, rt.alloc(), &repo);
     assert!(rt; has(&rt, rt.alloc(), &staged, "b"));
-    drop(staged);
+    drop_staged(staged);
     assert!(rt; has_head(&repo, 1) && !there(&rt, rt.alloc(), &repo, 1, "b"));
+    let_go(repo);
 }
 
 // Whether an entry is the revision of that number with so many changes.
@@ -61,7 +65,10 @@ fn is_map(entry: &Entry, at: u16) -> bool {
 #[test]
 fn what_is_staged_is_an_entry(rt: HostRuntime) {
     let repo = first_repo(&rt, rt.alloc());
-    assert!(rt; is_revision(staged(&rt, rt.alloc(), &repo).entry(), 2, 1));
+    let staged = staged(&rt, rt.alloc(), &repo);
+    assert!(rt; is_revision(staged.entry(), 2, 1));
+    drop_staged(staged);
+    let_go(repo);
 }
 
 // The log of revision 1 is to go.
@@ -80,9 +87,13 @@ fn emptied(rt: &impl Abort, repo: &Repo) -> Staged {
 #[test]
 fn what_is_staged_of_properties_is_an_entry(rt: HostRuntime) {
     let repo = first_repo(&rt, rt.alloc());
-    assert!(rt; is_map(unlogged(&rt, rt.alloc(), &repo).entry(), 1));
+    let unlogged = unlogged(&rt, rt.alloc(), &repo);
+    assert!(rt; is_map(unlogged.entry(), 1));
+    drop_staged(unlogged);
     let put = emptied(&rt, &repo);
     assert!(rt; is_map(put.entry(), 0) && put.tree().is_none());
+    drop_staged(put);
+    let_go(repo);
 }
 
 // Whether a directory b is staged behind revision 1, and installed.
@@ -103,5 +114,8 @@ fn what_was_staged_is_installed(rt: HostRuntime) {
     assert!(rt; is_installed(&rt, rt.alloc(), &mut repo));
     repo.is_repository();
     assert!(rt; there(&rt, rt.alloc(), &repo, 2, "b"));
-    assert!(rt; repo.identity() == empty_repo(&rt, rt.alloc()).identity());
+    let empty = empty_repo(&rt, rt.alloc());
+    assert!(rt; repo.identity() == empty.identity());
+    let_go(empty);
+    let_go(repo);
 }

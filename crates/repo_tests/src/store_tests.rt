@@ -2,7 +2,7 @@
 ghost use Rattle.repo_store.specs.Changes.{IsNumbered};
 ghost use Rattle.repo_store.specs.Words.{revisions_of};
 
-use crate::made::{LOG, log_of, name, set_of_file};
+use crate::made::{LOG, log_of, name, none_wrong, set_of_file};
 use dump_load::{Applied, apply};
 use fleet_disk::{Disk, DiskFile, Fuse, FuseDisk, MemDisk, Pick};
 use node_base::{Refusal, RevNo};
@@ -49,7 +49,10 @@ fn created(rt: &impl Abort, alloc: Global) -> RepoStore<MemDisk> {
 }
 
 pub(crate) fn opened<D: Disk + Drop>(alloc: Global, disk: D) -> Result<RepoStore<D>, StoreFault> {
-    RepoStore::open(alloc, disk).map_err(|refused| refused.0)
+    match RepoStore::open(alloc, disk) {
+        Ok(store) => Ok(store),
+        Err((fault, _disk)) => Err(fault),
+    }
 }
 
 // The store of a disk.
@@ -63,7 +66,10 @@ pub(crate) fn found<D: Disk + Drop>(rt: &impl Abort, alloc: Global, disk: D) -> 
 // Why a disk isn't opened, or 0.
 pub(crate) fn refusal<D: Disk + Drop>(alloc: Global, disk: D) -> u8 {
     match opened(alloc, disk) {
-        Ok(_) => 0,
+        Ok(store) => {
+            let _disk = store.into_disk();
+            0
+        }
         Err(fault) => fault.number(),
     }
 }
@@ -103,7 +109,11 @@ pub(crate) fn has_head<D: Disk>(store: &RepoStore<D>, revision: u16) -> bool {
 // Whether a disk opens at this head.
 fn opens_at<D: Disk + Drop>(alloc: Global, disk: D, revision: u16) -> bool {
     match opened(alloc, disk) {
-        Ok(store) => has_head(&store, revision),
+        Ok(store) => {
+            let at_head = has_head(&store, revision);
+            let _disk = store.into_disk();
+            at_head
+        }
         Err(_) => false,
     }
 }
@@ -147,7 +157,11 @@ fn exports<D: Disk>(alloc: Global, store: &RepoStore<D>, text: &[u8]) -> bool {
 // Whether a disk opens at this head, and its first revision is the file's.
 fn opens_with_file<D: Disk + Drop>(alloc: Global, disk: D, revision: u16) -> bool {
     match opened(alloc, disk) {
-        Ok(store) => has_head(&store, revision) && exports(alloc, &store, SECOND),
+        Ok(store) => {
+            let whole = has_head(&store, revision) && exports(alloc, &store, SECOND);
+            let _disk = store.into_disk();
+            whole
+        }
         Err(_) => false,
     }
 }
@@ -193,6 +207,7 @@ fn a_property_is_an_entry(rt: HostRuntime) {
     );
     let again = found(&rt, rt.alloc(), disk);
     assert!(rt; exports_other(rt.alloc(), &again));
+    let _disk = again.into_disk();
 }
 
 // Makes an entry ready, and drops it or installs it. Whether that is answered well.
@@ -200,7 +215,8 @@ fn staged(alloc: Global, store: &mut RepoStore<MemDisk>, entry: Entry, installed
     requires { IsNumbered (revisions_of store.old) entry }
 {
     match store.stage(alloc, entry) {
-        Ok(staged) => !installed || store.install(staged).is_ok(),
+        Ok(staged) if installed => store.install(staged).is_ok(),
+        Ok(_dropped) => true,
         Err(_) => false,
     }
 }
@@ -273,24 +289,38 @@ fn entries_are_staged_and_installed(rt: HostRuntime) {
 // Why a disk with this journal and the gate of both entries isn't opened.
 fn damage(alloc: Global, journal: &[u8]) -> Option<StoreFault> {
     match MemDisk::with_bytes(alloc, journal, TWO_GATES, b"") {
-        Ok(disk) => opened(alloc, disk).err(),
+        Ok(disk) => match opened(alloc, disk) {
+            Ok(store) => {
+                let _disk = store.into_disk();
+                None
+            }
+            Err(fault) => Some(fault),
+        },
         Err(_) => None,
     }
 }
 
-// Both entries, with another byte in the place of the o of hello.
-fn damaged(rt: &impl Abort, alloc: Global) -> Vec<u8> {
+// Both entries, with this byte at that place.
+fn changed(rt: &impl Abort, alloc: Global, at: usize, new: u8) -> Vec<u8> {
     let mut journal = Vec::from_slice(alloc, FIRST).expect(rt, "memory");
     journal.extend_from_slice(SECOND).expect(rt, "memory");
-    if let Some(byte) = journal.as_mut_slice().get_mut(149 + 271) {
-        *byte = b'p';
+    if let Some(byte) = journal.as_mut_slice().get_mut(at) {
+        *byte = new;
     }
     journal
 }
 
+// Both entries, with another byte in the place of the o of hello.
+fn damaged(rt: &impl Abort, alloc: Global) -> Vec<u8> {
+    changed(rt, alloc, 149 + 271, b'p')
+}
+
 // Whether a fault is told so.
 fn is_told(alloc: Global, fault: &StoreFault, text: &str) -> bool {
-    format!(in alloc; "{fault}").is_ok_and(|told| told.as_str() == text)
+    match format!(in alloc; "{fault}") {
+        Ok(told) => told.as_str() == text,
+        Err(_) => false,
+    }
 }
 
 #[test]
@@ -303,12 +333,7 @@ fn a_damaged_entry(rt: HostRuntime) {
 
 // Both entries, with `Hi` in place of `hi`.
 fn capital(rt: &impl Abort, alloc: Global) -> Vec<u8> {
-    let mut journal = Vec::from_slice(alloc, FIRST).expect(rt, "memory");
-    journal.extend_from_slice(SECOND).expect(rt, "memory");
-    if let Some(byte) = journal.as_mut_slice().get_mut(228) {
-        *byte = b'H';
-    }
-    journal
+    changed(rt, alloc, 228, b'H')
 }
 
 // The number that a disk with this journal and both entries is refused with, or 0.
@@ -367,19 +392,23 @@ fn heads(calls: u64) -> ([u16; 4], u16) {
     }
 }
 
-#[test]
-fn a_commit_stopped_after_each_call(rt: HostRuntime) {
+// The first number of calls after which another head stands.
+fn first_fallen(rt: &impl Abort, alloc: Global) -> Option<u64> {
     for calls in 0u64..11 {
         let (row, more) = heads(calls);
         for (pick, wanted) in PICKS.iter().zip(row.iter()) {
-            let disk = stopped(&rt, rt.alloc(), calls, *pick);
-            let head = wanted.saturating_add(more);
-            assert!(rt;
-                opens_with_file(rt.alloc(), disk, head),
-                "after {calls} calls"
-            );
+            let disk = stopped(rt, alloc, calls, *pick);
+            if !opens_with_file(alloc, disk, wanted.saturating_add(more)) {
+                return Some(calls);
+            }
         }
     }
+    None
+}
+
+#[test]
+fn a_commit_stopped_after_each_call(rt: HostRuntime) {
+    none_wrong(&rt, "calls", first_fallen(&rt, rt.alloc()));
 }
 
 // Whether a revision of this number may stand on the disk or not.
@@ -405,12 +434,16 @@ fn the_third_call_fails(rt: HostRuntime) {
     assert!(rt; is_in_doubt(&store, 2));
     let mut store = found(&rt, rt.alloc(), store.into_disk());
     assert!(rt; has_head(&store, 1) && commit(&rt, rt.alloc(), &mut store, "b") == 0);
+    let _disk = store.into_disk();
 }
 
 // Whether a creation over another repository is refused, and leaves that.
 fn is_refused_over(rt: &impl Abort, alloc: Global, disk: MemDisk) -> bool {
     match RepoStore::create(alloc, disk, identity(rt)) {
-        Ok(_) => false,
+        Ok(store) => {
+            let _disk = store.into_disk();
+            false
+        }
         Err((fault, disk)) => fault.number() == 35 && is_journal(&disk, &[FIRST, SECOND]),
     }
 }
@@ -425,18 +458,26 @@ fn a_store_where_one_is(rt: HostRuntime) {
 fn creation(rt: &impl Abort, alloc: Global, calls: u64) -> u8 {
     let disk = FuseDisk::new(MemDisk::new(alloc), calls, Fuse::Once);
     match RepoStore::create(alloc, disk, identity(rt)) {
-        Ok(_) => 0,
+        Ok(store) => {
+            let _disk = store.into_disk();
+            0
+        }
         Err((fault, _disk)) => fault.number(),
     }
 }
 
-#[test]
-fn a_create_whose_call_fails(rt: HostRuntime) {
+// The first call of a creation for which it isn't refused by the device.
+fn first_passed(rt: &impl Abort, alloc: Global) -> Option<u64> {
     // Four calls begin the log, and five append the first entry.
     for calls in 0u64..9 {
-        assert!(rt;
-            creation(&rt, rt.alloc(), calls) == 31,
-            "after {calls} calls"
-        );
+        if creation(rt, alloc, calls) != 31 {
+            return Some(calls);
+        }
     }
+    None
+}
+
+#[test]
+fn a_create_whose_call_fails(rt: HostRuntime) {
+    none_wrong(&rt, "call", first_passed(&rt, rt.alloc()));
 }

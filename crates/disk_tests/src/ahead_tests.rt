@@ -1,0 +1,196 @@
+//! What a folder's disk reads ahead: short reads are served from half a kilobyte that its host was asked for at once. A
+//! fuse tells how often the host is asked.
+
+use crate::steps::{GATE, JOURNAL, SLOTS, Step, first_wrong, none_wrong, reads};
+use fleet_disk::{Fuse, FuseDisk, HostDisk, MemDisk, OverDisk};
+use std::alloc::Global;
+use std::process::Abort;
+
+type Host = HostDisk<OverDisk<FuseDisk<MemDisk>>>;
+
+// More calls than a test makes.
+const MANY: u64 = 1_000;
+
+// A disk over a host with these bytes in its journal, of whose calls so many pass.
+fn over(rt: &impl Abort, alloc: Global, journal: &[u8], calls: u64, fuse: Fuse) -> Host {
+    let disk = MemDisk::with_bytes(alloc, journal, b"ghijkl", b"mnopqr").expect(rt, "memory");
+    HostDisk::new(OverDisk::new(FuseDisk::new(disk, calls, fuse)))
+}
+
+// The first step that doesn't come to what it says, where so many calls of the host pass.
+fn wrong(
+    rt: &impl Abort,
+    alloc: Global,
+    calls: u64,
+    fuse: Fuse,
+    steps: &[Step<'_>],
+) -> Option<u64> {
+    first_wrong(&mut over(rt, alloc, b"abcdef", calls, fuse), steps)
+}
+
+// 1,040 bytes.
+fn long_text(rt: &impl Abort, alloc: Global) -> Vec<u8> {
+    let mut text = Vec::new(alloc);
+    for at in 0u64..1040 {
+        text.push((at % 251) as u8).expect(rt, "memory");
+    }
+    text
+}
+
+// Where the first of short reads in a row fails or gives another text, where so many calls of the host pass.
+fn ends_at(disk: &mut Host, text: &[u8]) -> Option<u64> {
+    let mut at: u64 = 0;
+    for wanted in text.chunks(16) {
+        if !reads(disk, JOURNAL, at, &mut [0u8; 16], wanted) {
+            return Some(at);
+        }
+        at = at.saturating_add(16);
+    }
+    None
+}
+
+// Whether short reads of a long file fail there where so many calls of the host pass.
+fn asks_so_often(
+    rt: &impl Abort,
+    alloc: Global,
+    text: &[u8],
+    calls: u64,
+    end: Option<u64>,
+) -> bool {
+    ends_at(&mut over(rt, alloc, text, calls, Fuse::ForGood), text) == end
+}
+
+#[test]
+fn short_reads_in_a_row_ask_once_for_half_a_kilobyte(rt: HostRuntime) {
+    let text = long_text(&rt, rt.alloc());
+    assert!(rt; asks_so_often(&rt, rt.alloc(), text.as_slice(), 1, Some(512)));
+    assert!(rt; asks_so_often(&rt, rt.alloc(), text.as_slice(), 2, Some(1_024)));
+    assert!(rt; asks_so_often(&rt, rt.alloc(), text.as_slice(), 3, None));
+}
+
+// Reads of 32 bytes are served from what one call gave; one of 33 asks the host.
+const LONGER: [Step<'static>; 4] = [
+    Step::Wide(0, 6),
+    Step::Wide(1, 5),
+    Step::Unwide,
+    Step::Read(JOURNAL, 2, b"cdef"),
+];
+
+#[test]
+fn a_long_read_asks_the_host(rt: HostRuntime) {
+    none_wrong(
+        &rt,
+        "longer",
+        wrong(&rt, rt.alloc(), 1, Fuse::ForGood, &LONGER),
+    );
+}
+
+// Changes of the file that was read.
+const CHANGED: [Step<'static>; 7] = [
+    Step::Read(JOURNAL, 0, b"abcd"),
+    Step::Write(JOURNAL, b"xy"),
+    Step::Read(JOURNAL, 0, b"xycd"),
+    Step::Cut(JOURNAL),
+    Step::Read(JOURNAL, 0, b""),
+    Step::Write(JOURNAL, b"new"),
+    Step::Read(JOURNAL, 0, b"new"),
+];
+
+// Changes of another one.
+const CHANGED_BESIDE: [Step<'static>; 8] = [
+    Step::Read(GATE, 0, b"ghij"),
+    Step::Read(JOURNAL, 0, b"abcd"),
+    Step::Write(GATE, b"xy"),
+    Step::Read(JOURNAL, 1, b"bcde"),
+    Step::Read(GATE, 0, b"xyij"),
+    Step::Cut(GATE),
+    Step::Read(JOURNAL, 2, b"cdef"),
+    Step::Read(GATE, 0, b""),
+];
+
+#[test]
+fn a_short_read_sees_a_write_and_a_cut(rt: HostRuntime) {
+    none_wrong(
+        &rt,
+        "changed",
+        wrong(&rt, rt.alloc(), MANY, Fuse::ForGood, &CHANGED),
+    );
+    none_wrong(
+        &rt,
+        "changed beside",
+        wrong(&rt, rt.alloc(), MANY, Fuse::ForGood, &CHANGED_BESIDE),
+    );
+}
+
+const ENDS: [Step<'static>; 7] = [
+    Step::Read(JOURNAL, 6, b""),
+    Step::Read(JOURNAL, 4, b"ef"),
+    Step::Read(JOURNAL, 0, b"abcd"),
+    Step::Read(JOURNAL, 6, b""),
+    Step::Read(JOURNAL, 7, b""),
+    Step::Read(JOURNAL, 1_000, b""),
+    Step::Read(JOURNAL, 5, b"f"),
+];
+
+#[test]
+fn a_short_read_at_the_end_and_past_it(rt: HostRuntime) {
+    none_wrong(
+        &rt,
+        "ends",
+        wrong(&rt, rt.alloc(), MANY, Fuse::ForGood, &ENDS),
+    );
+}
+
+const BY_TURNS: [Step<'static>; 4] = [
+    Step::Read(JOURNAL, 1, b"bcde"),
+    Step::Read(GATE, 1, b"hijk"),
+    Step::Read(SLOTS, 1, b"nopq"),
+    Step::Read(JOURNAL, 2, b"cdef"),
+];
+
+#[test]
+fn another_file_has_its_own_bytes(rt: HostRuntime) {
+    none_wrong(
+        &rt,
+        "by turns",
+        wrong(&rt, rt.alloc(), MANY, Fuse::ForGood, &BY_TURNS),
+    );
+}
+
+// The first read fails.
+const AT_FIRST: [Step<'static>; 2] = [Step::Unread(JOURNAL), Step::Read(JOURNAL, 0, b"abcd")];
+
+// A read of the gate fails behind one of the journal.
+const BEHIND_ANOTHER: [Step<'static>; 5] = [
+    Step::Read(JOURNAL, 0, b"abcd"),
+    Step::Unread(GATE),
+    Step::Read(JOURNAL, 2, b"cdef"),
+    Step::Read(GATE, 0, b"ghij"),
+    Step::Read(JOURNAL, 0, b"abcd"),
+];
+
+// A write fails.
+const AT_A_WRITE: [Step<'static>; 3] = [
+    Step::Read(JOURNAL, 0, b"abcd"),
+    Step::Unwritten(JOURNAL),
+    Step::Read(JOURNAL, 0, b"abcd"),
+];
+
+#[test]
+fn a_host_that_fails_is_told(rt: HostRuntime) {
+    none_wrong(
+        &rt,
+        "at first",
+        wrong(&rt, rt.alloc(), 0, Fuse::Once, &AT_FIRST),
+    );
+    none_wrong(
+        &rt,
+        "behind another",
+        wrong(&rt, rt.alloc(), 1, Fuse::Once, &BEHIND_ANOTHER),
+    );
+    none_wrong(
+        &rt,
+        "at a write",
+        wrong(&rt, rt.alloc(), 1, Fuse::Once, &AT_A_WRITE),
+    );
+}
