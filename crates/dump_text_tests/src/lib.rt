@@ -2,6 +2,8 @@
 #![tactic(auto)]
 
 #[cfg(test)]
+mod checked;
+#[cfg(test)]
 mod delta_tests;
 #[cfg(test)]
 mod line_tests;
