@@ -10,26 +10,20 @@ fn is_told(alloc: Global, refusal: &Refusal, line: &str) -> bool {
     is_text(refusal.line(alloc), line)
 }
 
+// The same of one that is let go of.
+fn tells(alloc: Global, refusal: Refusal, line: &str) -> bool {
+    is_told(alloc, &refusal, line)
+}
+
 #[test]
 fn refusals_with_a_number(rt: HostRuntime) {
+    let alloc = rt.alloc();
     let behind = Refusal::Behind(RevNo::new(3));
-    assert!(rt;
-        is_told(
-            rt.alloc(),
-            &behind,
-            "svnfleet: 25 the base is not the head 3\n"
-        )
-    );
+    assert!(rt; tells(alloc, behind, "svnfleet: 25 the base is not the head 3\n"));
     let damaged = Refusal::Damaged(12);
-    assert!(rt; is_told(rt.alloc(), &damaged, "svnfleet: 33 entry 12 is damaged\n"));
+    assert!(rt; tells(alloc, damaged, "svnfleet: 33 entry 12 is damaged\n"));
     let later = Refusal::NotYetCopied(RevNo::new(5));
-    assert!(rt;
-        is_told(
-            rt.alloc(),
-            &later,
-            "svnfleet: 58 revision 5 is not copied yet\n"
-        )
-    );
+    assert!(rt; tells(alloc, later, "svnfleet: 58 revision 5 is not copied yet\n"));
 }
 
 // These bytes.
@@ -39,48 +33,42 @@ fn holder(rt: &impl Abort, alloc: Global, bytes: &[u8]) -> Vec<u8> {
 
 #[test]
 fn refusals_with_a_holder(rt: HostRuntime) {
-    let held = Refusal::LockHeld(holder(&rt, rt.alloc(), b"job"));
-    let running = Refusal::HolderRunning(holder(&rt, rt.alloc(), b"a\x1F\x7F~ \xC3"));
-    let held_line = "svnfleet: 54 the sync lock is held by job\n";
-    let running_line = "svnfleet: 55 the holder a??~ ? is running\n";
-    all_hold(
-        &rt,
-        &[
-            (is_told(rt.alloc(), &held, held_line), held_line),
-            (is_told(rt.alloc(), &running, running_line), running_line),
-        ],
+    let alloc = rt.alloc();
+    let held = Refusal::LockHeld(holder(&rt, alloc, b"job"));
+    assert!(rt; tells(alloc, held, "svnfleet: 54 the sync lock is held by job\n"));
+    let running = Refusal::HolderRunning(holder(&rt, alloc, b"a\x1F\x7F~ \xC3"));
+    assert!(rt;
+        tells(
+            alloc,
+            running,
+            "svnfleet: 55 the holder a??~ ? is running\n"
+        )
     );
 }
 
-// Whether a refusal has this number and text.
-fn is_of(alloc: Global, refusal: &Refusal, number: u8, text: &str) -> bool {
+// Whether a refusal, which is let go of, has this number and text.
+fn is_of(alloc: Global, refusal: Refusal, number: u8, text: &str) -> bool {
     refusal.number() == number && is_text(format!(in alloc; "{refusal}"), text)
 }
 
-const INCONSISTENT: &str = "master: inconsistent: merged 4, copying -, head 6";
-
-// Whether a master's refusal, and that of a master that refused, are told.
-fn are_of_master(rt: &impl Abort, alloc: Global) -> (bool, bool) {
-    let inner = Refusal::Inconsistent {
-        merged: Some(4),
-        copying: None,
-        head: RevNo::new(6),
-    };
-    let failed = Refusal::master_failed(alloc, &inner).expect(rt, "memory");
-    let refused = Refusal::master_refused(alloc).expect(rt, "memory");
-    (
-        is_of(alloc, &failed, 60, INCONSISTENT),
-        is_told(alloc, &refused, "svnfleet: 60 master: refused\n"),
-    )
+// What a master's refusal is told as.
+fn of_master(rt: &impl Abort, alloc: Global, inner: Refusal) -> Refusal {
+    Refusal::master_failed(alloc, &inner).expect(rt, "memory")
 }
 
 #[test]
 fn refusals_of_a_master(rt: HostRuntime) {
-    let (failed, refused) = are_of_master(&rt, rt.alloc());
-    all_hold(
-        &rt,
-        &[(failed, INCONSISTENT), (refused, "a master that refused")],
-    );
+    let alloc = rt.alloc();
+    let inconsistent = Refusal::Inconsistent {
+        merged: Some(4),
+        copying: None,
+        head: RevNo::new(6),
+    };
+    let told = of_master(&rt, alloc, inconsistent);
+    let text = "master: inconsistent: merged 4, copying -, head 6";
+    assert!(rt; is_of(alloc, told, 60, text));
+    let refused = Refusal::master_refused(alloc).expect(&rt, "memory");
+    assert!(rt; tells(alloc, refused, "svnfleet: 60 master: refused\n"));
 }
 
 const PLAIN: [(Refusal, &str); 5] = [
@@ -121,7 +109,7 @@ const PLACES: [(TreeFault, u8, &str); 7] = [
 
 // Whether a fault has this number and text, and its refusal this number.
 fn is_fault(alloc: Global, fault: TreeFault, number: u8, text: &str) -> bool {
-    is_numbered(&Refusal::from(fault), fault.number(), number)
+    is_numbered(Refusal::from(fault), fault.number(), number)
         && is_text(format!(in alloc; "{fault}"), text)
 }
 
@@ -140,24 +128,24 @@ fn faults_of_places_are_refusals(rt: HostRuntime) {
     none_is_wrong(&rt, other_fault(rt.alloc()));
 }
 
-// Whether a refusal has this number, and the fault that it is of too.
-fn is_numbered(refusal: &Refusal, of_fault: u8, number: u8) -> bool {
+// Whether a refusal, which is let go of, has this number, and the fault that it is of too.
+fn is_numbered(refusal: Refusal, of_fault: u8, number: u8) -> bool {
     refusal.number() == number && of_fault == number
 }
 
 // Whether a fault and its refusal have this number.
 fn is_of_path(fault: PathFault, number: u8) -> bool {
-    is_numbered(&Refusal::from(fault), fault.number(), number)
+    is_numbered(Refusal::from(fault), fault.number(), number)
 }
 
 // The same.
 fn is_of_props(fault: PropFault, number: u8) -> bool {
-    is_numbered(&Refusal::from(fault), fault.number(), number)
+    is_numbered(Refusal::from(fault), fault.number(), number)
 }
 
 // The same.
 fn is_of_text(fault: TextFault, number: u8) -> bool {
-    is_numbered(&Refusal::from(fault), fault.number(), number)
+    is_numbered(Refusal::from(fault), fault.number(), number)
 }
 
 #[test]

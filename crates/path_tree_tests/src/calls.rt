@@ -273,7 +273,7 @@ fn cut(words: &str) -> (&str, &str) {
     }
 }
 
-// What a tree answers to the call that a word names.
+// What a tree answers to the call that a word names: a copy, where it is none of these.
 fn answer<T: Calls>(
     rt: &impl Abort,
     alloc: Global,
@@ -315,7 +315,7 @@ fn is_answered<T: Calls>(
 }
 
 /// Whether a tree answers so to calls one after another, of that number. Each is a line: a word, the path behind a
-/// slash and the answer, and for a copy (any other word than these) its source, which is of the tree before the first of the calls.
+/// slash and the answer, and for a copy its source, which is of the tree before the first of the calls.
 pub(crate) fn answers<T: Calls>(
     rt: &impl Abort,
     alloc: Global,
@@ -330,13 +330,4 @@ pub(crate) fn answers<T: Calls>(
         }
     }
     true
-}
-
-/// Ends the test with the first case that doesn't hold, if one doesn't.
-pub(crate) fn all_hold(rt: &impl Abort, cases: &[(bool, &str)]) {
-    for (holds, case) in cases {
-        if !*holds {
-            rt.panic(*case);
-        }
-    }
 }

@@ -1,6 +1,7 @@
 //! A node that is built bit by bit, and why that is refused.
 
-use crate::calls::{again, all_hold, done, fresh, one, path};
+use crate::calls::{again, done, fresh, one, path};
+use crate::checked::all_hold;
 use node_base::{NodePath, PropName, PropValue, Props, Refusal, RevNo, TreeFault};
 use path_tree::{Tree, TreeError};
 use std::alloc::Global;

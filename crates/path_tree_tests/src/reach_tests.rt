@@ -1,6 +1,7 @@
 //! Copies of the root into itself, which double a tree each time: no answer walks what is shared.
 
-use crate::calls::{add, again, all_hold, copied, copy_root, deep, filed, fresh, gone};
+use crate::calls::{add, again, copied, copy_root, deep, filed, fresh, gone};
+use crate::checked::all_hold;
 use path_tree::Tree;
 use std::alloc::Global;
 use std::process::Abort;

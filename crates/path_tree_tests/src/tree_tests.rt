@@ -1,6 +1,7 @@
 //! Both bodies on the same calls, and the refusals in their order.
 
-use crate::calls::{Calls, again, all_hold, answers, copied, copy_root, deep, fresh, lines};
+use crate::calls::{Calls, again, answers, copied, copy_root, deep, fresh, lines};
+use crate::checked::all_hold;
 use path_tree::Tree;
 use std::alloc::Global;
 use std::process::Abort;

@@ -140,7 +140,8 @@ fn a_record_behind_the_version_block(rt: HostRuntime) {
 pub(crate) fn keeps(alloc: Global, bytes: &[u8], held: u128, version: u8) -> bool {
     let mut reader = DumpReader::new(alloc);
     let mut out = Vec::new(alloc);
-    takes(&mut reader, &mut out, bytes, version) && reader.held() == held
+    let taken = takes(&mut reader, &mut out, bytes, version);
+    taken && reader.held() == held
 }
 
 // The first bytes of a dump, up to the name of the first property, and up to its value.

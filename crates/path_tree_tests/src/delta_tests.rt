@@ -67,19 +67,22 @@ fn gives_delta(node: &NodeRecord) -> bool {
     }
 }
 
-// Whether the last of these records is that node.
-fn end_later(records: &[DumpRecord]) -> bool {
-    match records.last() {
+// Whether a reader takes the dump as one of format 3 whose last record is that node.
+fn takes_later(reader: &mut DumpReader, out: &mut Vec<DumpRecord>) -> bool {
+    if !takes(reader, out, LATER, 3) {
+        return false;
+    }
+    match out.last() {
         Some(record) => is_later(record),
         None => false,
     }
 }
 
-// Whether the last record of the dump is that node, and the reader then says that it is of format 3.
+// The same of a new reader.
 fn ends_with_delta(alloc: Global) -> bool {
     let mut reader = DumpReader::new(alloc);
     let mut out = Vec::new(alloc);
-    takes(&mut reader, &mut out, LATER, 3) && end_later(out.as_slice())
+    takes_later(&mut reader, &mut out)
 }
 
 #[test]
