@@ -1,8 +1,8 @@
-//! What a folder's disk reads ahead: short reads are served from half a kilobyte that its host was asked for at once. A
-//! fuse tells how often the host is asked.
+//! What a folder's disk reads ahead: reads are served from 64 KiB that its host was asked for at once. A fuse tells how
+//! often the host is asked.
 
 use crate::steps::{GATE, JOURNAL, SLOTS, Step, first_wrong, none_wrong, reads};
-use fleet_disk::{Fuse, FuseDisk, HostDisk, MemDisk, OverDisk};
+use fleet_disk::{Disk, Fuse, FuseDisk, HostDisk, MemDisk, OverDisk};
 use std::alloc::Global;
 use std::process::Abort;
 
@@ -14,7 +14,7 @@ const MANY: u64 = 1_000;
 // A disk over a host with these bytes in its journal, of whose calls so many pass.
 fn over(rt: &impl Abort, alloc: Global, journal: &[u8], calls: u64, fuse: Fuse) -> Host {
     let disk = MemDisk::with_bytes(alloc, journal, b"ghijkl", b"mnopqr").expect(rt, "memory");
-    HostDisk::new(OverDisk::new(FuseDisk::new(disk, calls, fuse)))
+    HostDisk::new(alloc, OverDisk::new(FuseDisk::new(disk, calls, fuse)))
 }
 
 // The first step that doesn't come to what it says, where so many calls of the host pass.
@@ -28,10 +28,10 @@ fn wrong(
     first_wrong(&mut over(rt, alloc, b"abcdef", calls, fuse), steps)
 }
 
-// 1,040 bytes.
+// 131,104 bytes: twice 64 KiB and a little more.
 fn long_text(rt: &impl Abort, alloc: Global) -> Vec<u8> {
     let mut text = Vec::new(alloc);
-    for at in 0u64..1040 {
+    for at in 0u64..131_104 {
         text.push((at % 251) as u8).expect(rt, "memory");
     }
     text
@@ -61,28 +61,20 @@ fn asks_so_often(
 }
 
 #[test]
-fn short_reads_in_a_row_ask_once_for_half_a_kilobyte(rt: HostRuntime) {
+fn short_reads_in_a_row_ask_once_for_64_kibibytes(rt: HostRuntime) {
     let text = long_text(&rt, rt.alloc());
-    assert!(rt; asks_so_often(&rt, rt.alloc(), text.as_slice(), 1, Some(512)));
-    assert!(rt; asks_so_often(&rt, rt.alloc(), text.as_slice(), 2, Some(1_024)));
+    assert!(rt; asks_so_often(&rt, rt.alloc(), text.as_slice(), 1, Some(65_536)));
+    assert!(rt; asks_so_often(&rt, rt.alloc(), text.as_slice(), 2, Some(131_072)));
     assert!(rt; asks_so_often(&rt, rt.alloc(), text.as_slice(), 3, None));
 }
 
-// Reads of 32 bytes are served from what one call gave; one of 33 asks the host.
-const LONGER: [Step<'static>; 4] = [
-    Step::Wide(0, 6),
-    Step::Wide(1, 5),
-    Step::Unwide,
-    Step::Read(JOURNAL, 2, b"cdef"),
-];
-
 #[test]
 fn a_long_read_asks_the_host(rt: HostRuntime) {
-    none_wrong(
-        &rt,
-        "longer",
-        wrong(&rt, rt.alloc(), 1, Fuse::ForGood, &LONGER),
-    );
+    let mut disk = over(&rt, rt.alloc(), b"abcdef", 1, Fuse::ForGood);
+    let mut long = vec![in rt.alloc(); 0u8; 65_536].expect(&rt, "memory");
+    assert!(rt; reads(&mut disk, JOURNAL, 0, &mut long[..65_535], b"abcdef"));
+    assert!(rt; disk.read(JOURNAL, 0, &mut long).is_err());
+    assert!(rt; reads(&mut disk, JOURNAL, 2, &mut [0u8; 4], b"cdef"));
 }
 
 // Changes of the file that was read.

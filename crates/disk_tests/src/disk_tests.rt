@@ -126,7 +126,9 @@ fn a_disk_in_memory(rt: HostRuntime) {
 // The calls of a host that go to a disk in memory.
 #[test]
 fn a_disk_over_calls(rt: HostRuntime) {
-    assert!(rt; goes_round(&mut HostDisk::new(OverDisk::new(MemDisk::new(rt.alloc())))));
+    assert!(rt;
+        goes_round(&mut HostDisk::new(rt.alloc(), OverDisk::new(MemDisk::new(rt.alloc()))))
+    );
 }
 
 // A folder without files is one of empty files that can't be written; one that is made can be.

@@ -14,8 +14,6 @@ pub(crate) const SLOTS: DiskFile = DiskFile::Slots;
 pub(crate) enum Step<'a> {
     /// A read of four bytes from this place on gives these.
     Read(DiskFile, u64, &'a [u8]),
-    /// A read of 32 bytes of the journal from this place on gives so many.
-    Wide(u64, usize),
     /// So long is a file.
     Len(DiskFile, u64),
     /// A write over the front of a file.
@@ -26,8 +24,6 @@ pub(crate) enum Step<'a> {
     Sync,
     /// A read of four bytes is refused.
     Unread(DiskFile),
-    /// One of 33 bytes of the journal.
-    Unwide,
     /// The question how long a file is.
     Untold(DiskFile),
     /// A write.
@@ -56,13 +52,11 @@ pub(crate) fn reads<D: Disk>(
 fn comes<D: Disk>(disk: &mut D, step: &Step<'_>) -> bool {
     match *step {
         Step::Read(file, at, wanted) => reads(disk, file, at, &mut [0u8; 4], wanted),
-        Step::Wide(at, count) => disk.read(JOURNAL, at, &mut [0u8; 32]) == Ok(count),
         Step::Len(file, count) => disk.len(file) == Ok(count),
         Step::Write(file, bytes) => disk.write_at(file, 0, bytes).is_ok(),
         Step::Cut(file) => disk.cut(file, 0).is_ok(),
         Step::Sync => disk.sync().is_ok(),
         Step::Unread(file) => disk.read(file, 0, &mut [0u8; 4]).is_err(),
-        Step::Unwide => disk.read(JOURNAL, 0, &mut [0u8; 33]).is_err(),
         Step::Untold(file) => disk.len(file).is_err(),
         Step::Unwritten(file) => disk.write_at(file, 0, b"x").is_err(),
         Step::Uncut(file) => disk.cut(file, 0).is_err(),

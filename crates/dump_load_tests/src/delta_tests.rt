@@ -1,9 +1,9 @@
 //! Property lists that records give as changes of what is there.
 
-use crate::spelled::{path, records, two_trees};
-use dump_load::{ChangeFault, ChangeSet, load_revision};
+use crate::spelled::{add, next, none_is_wrong, path, records, two_trees};
+use dump_load::{ChangeFault, ChangeSet};
 use dump_text::{NodeRecord, PropPart};
-use node_base::{PropDelta, PropName, PropValue, Props, RevNo};
+use node_base::{PropDelta, PropName, PropValue, Props};
 use path_tree::Tree;
 use std::alloc::Global;
 use std::process::Abort;
@@ -27,29 +27,38 @@ fn list(rt: &impl Abort, alloc: Global, words: &str) -> Props {
     list
 }
 
-// What a record gives of properties, as words spell it: `=` and a list, `~` and the names that are set, `-` and those
-// that are removed, or nothing.
+// The list of the names that words spell, with commas between, each with an empty value.
+fn names(rt: &impl Abort, alloc: Global, words: &str) -> Props {
+    let mut list = Props::empty();
+    for name in words.split(',') {
+        if !name.is_empty() {
+            put(rt, alloc, &mut list, name, "");
+        }
+    }
+    list
+}
+
+// The delta that words spell: the names that are set, and behind `-` those that are removed.
+fn delta(rt: &impl Abort, alloc: Global, words: &str) -> PropDelta {
+    let (sets, removes) = match words.split_once('-') {
+        Some(both) => both,
+        None => (words, ""),
+    };
+    PropDelta {
+        sets: list(rt, alloc, sets),
+        removed: names(rt, alloc, removes),
+    }
+}
+
+// What a record gives of properties, as words spell it: `=` and a list, `~` and a delta, or nothing.
 fn part(rt: &impl Abort, alloc: Global, words: &str) -> Option<PropPart> {
     if let Some(whole) = words.strip_prefix("=") {
         return Some(PropPart::Whole(list(rt, alloc, whole)));
     }
-    let Some(delta) = words.strip_prefix("~") else {
-        return None;
-    };
-    let (sets, removes) = match delta.split_once('-') {
-        Some((sets, removes)) => (sets, removes),
-        None => (delta, ""),
-    };
-    let mut removed = Props::empty();
-    for name in removes.split(',') {
-        if !name.is_empty() {
-            put(rt, alloc, &mut removed, name, "");
-        }
+    match words.strip_prefix("~") {
+        Some(words) => Some(PropPart::Delta(delta(rt, alloc, words))),
+        None => None,
     }
-    Some(PropPart::Delta(PropDelta {
-        sets: list(rt, alloc, sets),
-        removed,
-    }))
 }
 
 // The records that lines spell: a record without parts, a tabulator and what it gives of properties.
@@ -72,30 +81,28 @@ fn stated(rt: &impl Abort, alloc: Global, lines: &str) -> Vec<NodeRecord> {
 fn three_trees(rt: &impl Abort, alloc: Global) -> Vec<Tree> {
     let mut trees = two_trees(rt, alloc);
     let third = stated(rt, alloc, "change t/x\t=p=1\nchange t/y\t=s=5");
-    assert!(rt; trees.len() <= 65_535);
-    let loaded = load_revision(alloc, trees.as_slice(), RevNo::new(2), third);
-    let applied = loaded.expect(rt, "a revision");
-    trees.push(applied.tree).expect(rt, "memory");
+    add(rt, alloc, &mut trees, third);
     trees
 }
 
 // What revision 3 makes of these records.
 fn third(rt: &impl Abort, alloc: Global, lines: &str) -> Result<Tree, ChangeFault> {
     let trees = three_trees(rt, alloc);
-    assert!(rt; trees.len() <= 65_535);
-    let all = stated(rt, alloc, lines);
-    let loaded = load_revision(alloc, trees.as_slice(), RevNo::new(3), all);
-    loaded.map(|applied| applied.tree)
+    next(rt, alloc, trees.as_slice(), stated(rt, alloc, lines))
+}
+
+// Whether a tree has this list at a path.
+fn has(rt: &impl Abort, alloc: Global, tree: &Tree, at: &str, words: &str) -> bool {
+    match tree.get(path(rt, alloc, at).names()) {
+        Some(node) => node.props.equals(&list(rt, alloc, words)),
+        None => false,
+    }
 }
 
 // Whether revision 3 with these records leaves this list at a path.
 fn leaves(rt: &impl Abort, alloc: Global, lines: &str, at: &str, words: &str) -> bool {
-    let wanted = list(rt, alloc, words);
-    let place = path(rt, alloc, at);
     match third(rt, alloc, lines) {
-        Ok(tree) => tree
-            .get(place.names())
-            .is_some_and(|node| node.props.equals(&wanted)),
+        Ok(tree) => has(rt, alloc, &tree, at, words),
         Err(_) => false,
     }
 }
@@ -128,7 +135,7 @@ const THERE: [(&str, &str, &str); 5] = [
 
 #[test]
 fn a_delta_counts_from_what_is_there(rt: HostRuntime) {
-    assert_eq!(rt; first_other(&rt, rt.alloc(), &THERE), None);
+    none_is_wrong(&rt, first_other(&rt, rt.alloc(), &THERE));
 }
 
 const ADDED: [(&str, &str, &str); 6] = [
@@ -142,7 +149,7 @@ const ADDED: [(&str, &str, &str); 6] = [
 
 #[test]
 fn a_delta_at_an_add_or_a_replace(rt: HostRuntime) {
-    assert_eq!(rt; first_other(&rt, rt.alloc(), &ADDED), None);
+    none_is_wrong(&rt, first_other(&rt, rt.alloc(), &ADDED));
 }
 
 // A replacement or an add of what is above comes first: the node is that of the copy.
@@ -154,7 +161,7 @@ const BEHIND: [(&str, &str, &str); 3] = [
 
 #[test]
 fn a_delta_behind_earlier_changes(rt: HostRuntime) {
-    assert_eq!(rt; first_other(&rt, rt.alloc(), &BEHIND), None);
+    none_is_wrong(&rt, first_other(&rt, rt.alloc(), &BEHIND));
 }
 
 // The number of what `from_records` refuses, or 0.
@@ -190,7 +197,7 @@ const NOTHING_THERE: [(&str, u8); 7] = [
 
 #[test]
 fn a_delta_that_finds_nothing(rt: HostRuntime) {
-    assert_eq!(rt; first_wrong(&rt, rt.alloc(), &NOTHING_THERE), None);
+    none_is_wrong(&rt, first_wrong(&rt, rt.alloc(), &NOTHING_THERE));
 }
 
 const BEFORE: [(&str, u8); 3] = [
@@ -201,7 +208,7 @@ const BEFORE: [(&str, u8); 3] = [
 
 #[test]
 fn what_comes_before_a_delta(rt: HostRuntime) {
-    assert_eq!(rt; first_wrong(&rt, rt.alloc(), &BEFORE), None);
+    none_is_wrong(&rt, first_wrong(&rt, rt.alloc(), &BEFORE));
 }
 
 // A delta that sets 256 names.
@@ -236,12 +243,17 @@ const PAST: [(&str, u8); 5] = [
     ("add z", 2),
 ];
 
+// The first records of these that are answered with another number.
+fn first_past(rt: &impl Abort, alloc: Global) -> Option<&'static str> {
+    for (lines, number) in &PAST {
+        if refusal(rt, alloc, overfull(rt, alloc, *lines)) != *number {
+            return Some(*lines);
+        }
+    }
+    None
+}
+
 #[test]
 fn a_list_past_the_limits(rt: HostRuntime) {
-    for (lines, number) in &PAST {
-        assert!(rt;
-            refusal(&rt, rt.alloc(), overfull(&rt, rt.alloc(), *lines)) == *number,
-            "{lines}"
-        );
-    }
+    none_is_wrong(&rt, first_past(&rt, rt.alloc()));
 }

@@ -1,6 +1,7 @@
 //! The limits of sets and of copies.
 
-use dump_load::{Change, ChangeSet, load_revision};
+use crate::spelled::{add, all_hold, next, number_of};
+use dump_load::{Change, ChangeSet};
 use dump_text::NodeRecord;
 use node_base::{Action, NodeKind, NodePath, RevNo, Source};
 use path_tree::Tree;
@@ -118,9 +119,24 @@ fn changes_of_one_twice(rt: &impl Abort, alloc: Global, count: u16) -> Result<us
 
 #[test]
 fn many_paths_before_what_is_wrong_with_them(rt: HostRuntime) {
-    assert!(rt; changes_of_adds(&rt, rt.alloc(), 4_097, None) == Err(8));
-    assert!(rt; changes_of_one_twice(&rt, rt.alloc(), 4_097) == Err(8));
-    assert!(rt; changes_of_one_twice(&rt, rt.alloc(), 4_096) == Err(15));
+    let alloc = rt.alloc();
+    all_hold(
+        &rt,
+        &[
+            (
+                changes_of_adds(&rt, alloc, 4_097, None) == Err(8),
+                "adds without a kind",
+            ),
+            (
+                changes_of_one_twice(&rt, alloc, 4_097) == Err(8),
+                "4,097 paths and one twice",
+            ),
+            (
+                changes_of_one_twice(&rt, alloc, 4_096) == Err(15),
+                "4,096 paths and one twice",
+            ),
+        ],
+    );
 }
 
 // The same of so many paths, each deleted and added.
@@ -168,9 +184,7 @@ fn nested(rt: &impl Abort, alloc: Global, letters: &[u8], times: usize) -> Vec<T
         .push(Tree::empty(alloc).expect(rt, "memory"))
         .expect(rt, "memory");
     let stated = directories(rt, alloc, letters, times);
-    let loaded = load_revision(alloc, trees.as_slice(), RevNo::new(1), stated);
-    let applied = loaded.expect(rt, "a revision");
-    trees.push(applied.tree).expect(rt, "memory");
+    add(rt, alloc, &mut trees, stated);
     trees
 }
 
@@ -183,7 +197,6 @@ fn copy(
     to: NodePath,
     kind: Option<NodeKind>,
 ) -> u8 {
-    assert!(rt; trees.len() <= 65_535);
     let source = Source {
         path: from,
         revision: RevNo::new(1),
@@ -192,10 +205,7 @@ fn copy(
     stated
         .push(record(to, Action::Add, kind, Some(source)))
         .expect(rt, "memory");
-    match load_revision(alloc, trees, RevNo::new(2), stated) {
-        Ok(_) => 0,
-        Err(fault) => fault.number(),
-    }
+    number_of(next(rt, alloc, trees, stated))
 }
 
 // The same of a copy of the directory a to a path of these letters, each 255 times.
@@ -213,9 +223,18 @@ fn long_copy(
 #[test]
 fn copies_past_1024_bytes(rt: HostRuntime) {
     let trees = nested(&rt, rt.alloc(), b"abc", 255);
-    assert!(rt; long_copy(&rt, rt.alloc(), trees.as_slice(), b"ad", DIR) == 0);
-    assert!(rt; long_copy(&rt, rt.alloc(), trees.as_slice(), b"abd", None) == 8);
-    assert!(rt; long_copy(&rt, rt.alloc(), trees.as_slice(), b"abd", FILE) == 17);
+    let over = trees.as_slice();
+    all_hold(
+        &rt,
+        &[
+            (long_copy(&rt, rt.alloc(), over, b"ad", DIR) == 0, "ad"),
+            (long_copy(&rt, rt.alloc(), over, b"abd", None) == 8, "abd"),
+            (
+                long_copy(&rt, rt.alloc(), over, b"abd", FILE) == 17,
+                "abd, of another kind",
+            ),
+        ],
+    );
 }
 
 const LETTERS: &[u8] = b"ddddddddddddddddddddddddddddddddd";

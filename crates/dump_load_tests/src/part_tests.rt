@@ -1,6 +1,6 @@
 //! The parts of a set, one by one: faults, steps, texts, and sets of changes that came from no records.
 
-use crate::spelled::{is_as_told, path, records, two_trees};
+use crate::spelled::{all_hold, is_as_told, none_is_wrong, path, records, two_trees};
 use dump_load::{
     Change, ChangeSet, apply, begin, blank, count_paths, fault_of, in_path_order, is_add,
     is_delete, judged, laws, next_number, settles, share_props, share_text, source_node, step,
@@ -42,23 +42,51 @@ fn refusal(rt: &impl Abort, alloc: Global, lines: &str) -> u8 {
     }
 }
 
+// A source where nothing is made; what is out of order comes first.
+const NO_SETS: [(&str, u8); 5] = [
+    ("delete b/x\nchange b/x/y", 15),
+    ("add q dir", 2),
+    ("change b - t 1", 2),
+    ("delete b - t 1", 2),
+    ("change b - t 1\nadd a - t 1", 15),
+];
+
+// The first changes that are refused with another number.
+fn other_refusal(rt: &impl Abort, alloc: Global) -> Option<&'static str> {
+    for (lines, number) in &NO_SETS {
+        if refusal(rt, alloc, *lines) != *number {
+            return Some(*lines);
+        }
+    }
+    None
+}
+
 #[test]
 fn why_changes_are_no_set(rt: HostRuntime) {
-    assert!(rt; refusal(&rt, rt.alloc(), "delete b/x\nchange b/x/y") == 15);
-    assert!(rt; refusal(&rt, rt.alloc(), "add q dir") == 2);
-    // A source where nothing is made; what is out of order comes first.
-    assert!(rt; refusal(&rt, rt.alloc(), "change b - t 1") == 2);
-    assert!(rt; refusal(&rt, rt.alloc(), "delete b - t 1") == 2);
-    assert!(rt; refusal(&rt, rt.alloc(), "change b - t 1\nadd a - t 1") == 15);
+    none_is_wrong(&rt, other_refusal(&rt, rt.alloc()));
+}
+
+const SETS: [(&str, bool, bool); 5] = [
+    ("add b - t 1\ndelete b/x", true, true),
+    ("delete b/x\nadd b - t 1", false, true),
+    ("delete b/x\nchange b/x/y", false, false),
+    ("delete b/x\ndelete b/x", false, false),
+    ("add q dir", false, false),
+];
+
+// The first changes of which another thing is so.
+fn other_set(rt: &impl Abort, alloc: Global) -> Option<&'static str> {
+    for (lines, as_they_come, in_order) in &SETS {
+        if !is_set(rt, alloc, *lines, *as_they_come, *in_order) {
+            return Some(*lines);
+        }
+    }
+    None
 }
 
 #[test]
 fn changes_that_are_a_set(rt: HostRuntime) {
-    assert!(rt; is_set(&rt, rt.alloc(), "add b - t 1\ndelete b/x", true, true));
-    assert!(rt; is_set(&rt, rt.alloc(), "delete b/x\nadd b - t 1", false, true));
-    assert!(rt; is_set(&rt, rt.alloc(), "delete b/x\nchange b/x/y", false, false));
-    assert!(rt; is_set(&rt, rt.alloc(), "delete b/x\ndelete b/x", false, false));
-    assert!(rt; is_set(&rt, rt.alloc(), "add q dir", false, false));
+    none_is_wrong(&rt, other_set(&rt, rt.alloc()));
 }
 
 // How many paths changes have.
@@ -67,6 +95,11 @@ fn paths_of(rt: &impl Abort, alloc: Global, lines: &str) -> usize {
         Ok(all) => count_paths(&all),
         Err(_) => 0,
     }
+}
+
+// The set of changes once they are in path order.
+fn ordered_set(rt: &impl Abort, alloc: Global, lines: &str) -> ChangeSet {
+    ChangeSet::from_changes(ordered(rt, alloc, lines)).expect(rt, "a set")
 }
 
 // Whether a share of a set has so many changes.
@@ -80,10 +113,16 @@ fn shares(alloc: Global, set: &ChangeSet, count: usize) -> bool {
 #[test]
 fn a_set_and_its_changes(rt: HostRuntime) {
     let lines = "add b - t 1\ndelete c";
-    assert!(rt; paths_of(&rt, rt.alloc(), lines) == 2);
-    let set = ChangeSet::from_changes(ordered(&rt, rt.alloc(), lines)).expect(&rt, "a set");
-    assert!(rt; shares(rt.alloc(), &set, 2));
-    assert!(rt; ChangeSet::empty(rt.alloc()).changes().is_empty());
+    let set = ordered_set(&rt, rt.alloc(), lines);
+    let empty = ChangeSet::empty(rt.alloc());
+    all_hold(
+        &rt,
+        &[
+            (paths_of(&rt, rt.alloc(), lines) == 2, "its paths"),
+            (shares(rt.alloc(), &set, 2), "its share"),
+            (empty.changes().is_empty(), "an empty set"),
+        ],
+    );
 }
 
 // What there is to say of a change of revision 2 where it comes: its fault, the kind that counts, and whether the tree
@@ -114,19 +153,40 @@ fn is_judged(rt: &impl Abort, alloc: Global, line: &str, wanted: Judged) -> bool
 
 #[test]
 fn a_change_where_it_comes(rt: HostRuntime) {
-    assert!(rt; is_judged(&rt, rt.alloc(), "add b - t 1", (None, DIR, true)));
-    assert!(rt; is_judged(&rt, rt.alloc(), "delete t/x", (None, FILE, false)));
+    let alloc = rt.alloc();
     let absent = (Some(TreeFault::NoSuchPath), None, false);
-    assert!(rt; is_judged(&rt, rt.alloc(), "change n", absent));
+    all_hold(
+        &rt,
+        &[
+            (
+                is_judged(&rt, alloc, "add b - t 1", (None, DIR, true)),
+                "a copy",
+            ),
+            (
+                is_judged(&rt, alloc, "delete t/x", (None, FILE, false)),
+                "a deletion",
+            ),
+            (is_judged(&rt, alloc, "change n", absent), "an absent path"),
+        ],
+    );
+}
+
+// The number of the next revision, and whether its first tree is as lines tell.
+fn beginning(rt: &impl Abort, alloc: Global, trees: &[Tree], lines: &str) -> (u16, bool) {
+    assert!(rt; trees.len() <= 65_535);
+    let tree = begin(alloc, trees).expect(rt, "memory");
+    (
+        next_number(trees).get(),
+        is_as_told(rt, alloc, &tree, lines),
+    )
 }
 
 #[test]
 fn what_a_revision_begins_with(rt: HostRuntime) {
     let trees = two_trees(&rt, rt.alloc());
-    assert!(rt; trees.len() <= 65_535);
-    assert!(rt; next_number(trees.as_slice()).get() == 2);
-    let tree = begin(rt.alloc(), trees.as_slice()).expect(&rt, "memory");
-    assert!(rt; is_as_told(&rt, rt.alloc(), &tree, "dir2 /\ndir1 t"));
+    let lines = "dir2 /\ndir1 t";
+    let (number, is_told) = beginning(&rt, rt.alloc(), trees.as_slice(), lines);
+    all_hold(&rt, &[(number == 2, "the number"), (is_told, lines)]);
 }
 
 // Whether t/x of this revision is a source.
@@ -141,9 +201,15 @@ fn is_source(rt: &impl Abort, alloc: Global, trees: &[Tree], number: u16) -> boo
 #[test]
 fn sources(rt: HostRuntime) {
     let trees = two_trees(&rt, rt.alloc());
-    assert!(rt; is_source(&rt, rt.alloc(), trees.as_slice(), 1));
-    assert!(rt; !is_source(&rt, rt.alloc(), trees.as_slice(), 0));
-    assert!(rt; !is_source(&rt, rt.alloc(), trees.as_slice(), 2));
+    let over = trees.as_slice();
+    all_hold(
+        &rt,
+        &[
+            (is_source(&rt, rt.alloc(), over, 1), "revision 1"),
+            (!is_source(&rt, rt.alloc(), over, 0), "revision 0"),
+            (!is_source(&rt, rt.alloc(), over, 2), "revision 2"),
+        ],
+    );
 }
 
 // The kind of a node of this kind that has nothing.
@@ -151,14 +217,25 @@ fn blank_kind(rt: &impl Abort, alloc: Global, kind: Option<NodeKind>) -> NodeKin
     blank(alloc, kind).expect(rt, "memory").kind()
 }
 
+// Whether nothing is shared of nothing.
+fn shares_nothing() -> bool {
+    matches!(share_props(&None), Ok(None)) && matches!(share_text(&None), Ok(None))
+}
+
 #[test]
 fn kinds_and_parts(rt: HostRuntime) {
-    assert!(rt; blank_kind(&rt, rt.alloc(), FILE) == NodeKind::File);
-    assert!(rt; blank_kind(&rt, rt.alloc(), None) == NodeKind::Dir);
-    assert!(rt; settles(Action::Replace) && is_delete(Action::Delete) && is_add(Action::Add));
-    let props = share_props(&None).expect(&rt, "memory");
-    let text = share_text(&None).expect(&rt, "memory");
-    assert!(rt; props.is_none() && text.is_none());
+    let acts = settles(Action::Replace) && is_delete(Action::Delete) && is_add(Action::Add);
+    let file = blank_kind(&rt, rt.alloc(), FILE) == NodeKind::File;
+    let dir = blank_kind(&rt, rt.alloc(), None) == NodeKind::Dir;
+    all_hold(
+        &rt,
+        &[
+            (file, "a file"),
+            (dir, "a directory"),
+            (acts, "actions"),
+            (shares_nothing(), "no parts"),
+        ],
+    );
 }
 
 // A text.
@@ -189,10 +266,10 @@ fn leaves_text(rt: &impl Abort, alloc: Global, set: &ChangeSet, bytes: &[u8]) ->
     let path = path(rt, alloc, "t/x");
     let tree = applied(rt, alloc, set);
     match tree.get(path.names()) {
-        Some(node) => node
-            .text
-            .as_ref()
-            .is_some_and(|text| text.as_slice() == bytes),
+        Some(node) => match &node.text {
+            Some(text) => text.as_slice() == bytes,
+            None => false,
+        },
         None => false,
     }
 }
@@ -201,9 +278,14 @@ fn leaves_text(rt: &impl Abort, alloc: Global, set: &ChangeSet, bytes: &[u8]) ->
 fn an_old_text_stays(rt: HostRuntime) {
     let alloc = rt.alloc();
     let with_text = giving(&rt, alloc, None, Some(text(&rt, alloc, b"new")));
-    assert!(rt; leaves_text(&rt, alloc, &with_text, b"new"));
     let with_props = giving(&rt, alloc, Some(Props::empty()), None);
-    assert!(rt; leaves_text(&rt, alloc, &with_props, b""));
+    all_hold(
+        &rt,
+        &[
+            (leaves_text(&rt, alloc, &with_text, b"new"), "a new text"),
+            (leaves_text(&rt, alloc, &with_props, b""), "an old text"),
+        ],
+    );
 }
 
 #[test]

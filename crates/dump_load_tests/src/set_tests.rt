@@ -1,6 +1,6 @@
 //! Sets of small revisions, and what they make of trees.
 
-use crate::spelled::{answer, records, two_trees};
+use crate::spelled::{all_hold, answer, records, two_trees};
 use dump_load::{ChangeSet, load_revision};
 use dump_text::{NodeRecord, RevRecord, write_revision};
 use node_base::{Action, NodeKind, Props, RevNo, Text};
@@ -31,8 +31,14 @@ fn records_of(rt: &impl Abort, alloc: Global, set: &ChangeSet) -> Vec<NodeRecord
 #[test]
 fn a_deletion_and_an_add_are_one_replace(rt: HostRuntime) {
     let set = set_of(&rt, rt.alloc(), "delete t file\nadd t - t 1");
-    assert!(rt; is_one(&set, Action::Replace));
-    assert!(rt; records_of(&rt, rt.alloc(), &set).len() == 1);
+    let records = records_of(&rt, rt.alloc(), &set);
+    all_hold(
+        &rt,
+        &[
+            (is_one(&set, Action::Replace), "the change"),
+            (records.len() == 1, "the record"),
+        ],
+    );
 }
 
 // The number of the refusal of the record that a line spells with a text.
@@ -57,10 +63,17 @@ fn a_text_for_a_directory(rt: HostRuntime) {
     assert!(rt; answer_with_text(&rt, rt.alloc(), "change t") == 17);
 }
 
+// The number of the refusal of revision 1 where none is before it, or 0.
+fn answer_out_of_turn(alloc: Global) -> u8 {
+    match load_revision(alloc, &[], RevNo::new(1), Vec::new(alloc)) {
+        Ok(_) => 0,
+        Err(fault) => fault.number(),
+    }
+}
+
 #[test]
 fn a_number_out_of_turn(rt: HostRuntime) {
-    let loaded = load_revision(rt.alloc(), &[], RevNo::new(1), Vec::new(rt.alloc()));
-    assert!(rt; loaded.is_err_and(|fault| fault.number() == 16));
+    assert!(rt; answer_out_of_turn(rt.alloc()) == 16);
 }
 
 // The second revision of a copied directory without one of its files, as it is written.

@@ -85,16 +85,28 @@ pub(crate) fn records(rt: &impl Abort, alloc: Global, lines: &str) -> Vec<NodeRe
     all
 }
 
-// Adds the tree that records make of those before.
-fn add(rt: &impl Abort, alloc: Global, trees: &mut Vec<Tree>, stated: Vec<NodeRecord>) {
+/// The tree of the next revision that records make.
+pub(crate) fn next(
+    rt: &impl Abort,
+    alloc: Global,
+    trees: &[Tree],
+    stated: Vec<NodeRecord>,
+) -> Result<Tree, ChangeFault> {
     let number = trees.len();
     assert!(rt; number <= 65_535);
-    let loaded = load_revision(alloc, trees.as_slice(), RevNo::new(number as u16), stated);
-    let applied = loaded.expect(rt, "a revision");
-    trees.push(applied.tree).expect(rt, "memory");
+    match load_revision(alloc, trees, RevNo::new(number as u16), stated) {
+        Ok(applied) => Ok(applied.tree),
+        Err(fault) => Err(fault),
+    }
 }
 
-// Revision 0, and revision 1 with a directory t and the files t/x and t/y.
+/// Adds the tree that records make of those before.
+pub(crate) fn add(rt: &impl Abort, alloc: Global, trees: &mut Vec<Tree>, stated: Vec<NodeRecord>) {
+    let tree = next(rt, alloc, trees.as_slice(), stated).expect(rt, "a revision");
+    trees.push(tree).expect(rt, "memory");
+}
+
+/// Revision 0, and revision 1 with a directory t and the files t/x and t/y.
 pub(crate) fn two_trees(rt: &impl Abort, alloc: Global) -> Vec<Tree> {
     let mut trees = Vec::new(alloc);
     add(rt, alloc, &mut trees, Vec::new(alloc));
@@ -103,23 +115,42 @@ pub(crate) fn two_trees(rt: &impl Abort, alloc: Global) -> Vec<Tree> {
     trees
 }
 
-// The tree that revision 2 makes of these records.
+/// The tree that revision 2 makes of these records.
 pub(crate) fn second(
     rt: &impl Abort,
     alloc: Global,
     stated: Vec<NodeRecord>,
 ) -> Result<Tree, ChangeFault> {
     let trees = two_trees(rt, alloc);
-    assert!(rt; trees.len() <= 65_535);
-    let loaded = load_revision(alloc, trees.as_slice(), RevNo::new(2), stated);
-    loaded.map(|applied| applied.tree)
+    next(rt, alloc, trees.as_slice(), stated)
 }
 
-// The number of the refusal of revision 2 with these records, or 0.
-pub(crate) fn answer(rt: &impl Abort, alloc: Global, stated: Vec<NodeRecord>) -> u8 {
-    match second(rt, alloc, stated) {
+/// The number of a refusal, or 0 where there is a tree.
+pub(crate) fn number_of(made: Result<Tree, ChangeFault>) -> u8 {
+    match made {
         Ok(_) => 0,
         Err(fault) => fault.number(),
+    }
+}
+
+/// The number of the refusal of revision 2 with these records, or 0.
+pub(crate) fn answer(rt: &impl Abort, alloc: Global, stated: Vec<NodeRecord>) -> u8 {
+    number_of(second(rt, alloc, stated))
+}
+
+/// Ends the test with the case that is wrong, if one is.
+pub(crate) fn none_is_wrong(rt: &impl Abort, wrong: Option<&str>) {
+    if let Some(case) = wrong {
+        rt.panic(case);
+    }
+}
+
+/// Ends the test with the first case that doesn't hold, if one doesn't.
+pub(crate) fn all_hold(rt: &impl Abort, cases: &[(bool, &str)]) {
+    for (holds, case) in cases {
+        if !*holds {
+            rt.panic(*case);
+        }
     }
 }
 

@@ -1,6 +1,6 @@
 //! The corners of sets, faults and effects, over revision 1 with a directory t and the files t/x and t/y.
 
-use crate::spelled::{answer, is_as_told, records, second};
+use crate::spelled::{answer, is_as_told, none_is_wrong, records, second};
 use std::alloc::Global;
 use std::process::Abort;
 
@@ -32,7 +32,7 @@ const COMBINED: [(&str, u8); 13] = [
 
 #[test]
 fn what_combines(rt: HostRuntime) {
-    assert_eq!(rt; first_wrong(&rt, rt.alloc(), &COMBINED), None);
+    none_is_wrong(&rt, first_wrong(&rt, rt.alloc(), &COMBINED));
 }
 
 const FAULTS: [(&str, u8); 13] = [
@@ -53,7 +53,7 @@ const FAULTS: [(&str, u8); 13] = [
 
 #[test]
 fn which_fault_is_first(rt: HostRuntime) {
-    assert_eq!(rt; first_wrong(&rt, rt.alloc(), &FAULTS), None);
+    none_is_wrong(&rt, first_wrong(&rt, rt.alloc(), &FAULTS));
 }
 
 const PLACES: [(&str, u8); 13] = [
@@ -74,7 +74,7 @@ const PLACES: [(&str, u8); 13] = [
 
 #[test]
 fn what_is_there(rt: HostRuntime) {
-    assert_eq!(rt; first_wrong(&rt, rt.alloc(), &PLACES), None);
+    none_is_wrong(&rt, first_wrong(&rt, rt.alloc(), &PLACES));
 }
 
 const SOURCES: [(&str, u8); 12] = [
@@ -94,7 +94,7 @@ const SOURCES: [(&str, u8); 12] = [
 
 #[test]
 fn what_a_source_is(rt: HostRuntime) {
-    assert_eq!(rt; first_wrong(&rt, rt.alloc(), &SOURCES), None);
+    none_is_wrong(&rt, first_wrong(&rt, rt.alloc(), &SOURCES));
 }
 
 // Whether the tree that records make is as the lines tell.
@@ -105,34 +105,68 @@ fn makes(rt: &impl Abort, alloc: Global, lines: &str, expected: &str) -> bool {
     }
 }
 
+// The first records of a table that make another tree.
+fn first_other<'a>(
+    rt: &impl Abort,
+    alloc: Global,
+    table: &'a [(&'a str, &'a str)],
+) -> Option<&'a str> {
+    for (lines, expected) in table {
+        if !makes(rt, alloc, *lines, *expected) {
+            return Some(*lines);
+        }
+    }
+    None
+}
+
+const COPIES: [(&str, &str); 3] = [
+    (
+        "add b - t 1\ndelete b/x",
+        "dir2 b\nfile1 b/y\nnone b/x\ndir1 t\ndir2 /",
+    ),
+    (
+        "add b/x/deep file\nreplace b/x dir\nadd b - t 1",
+        "dir2 b/x\nfile2 b/x/deep\nfile1 b/y\nfile1 t/x",
+    ),
+    (
+        "add t/in dir t 1",
+        "dir2 t\ndir2 t/in\nfile1 t/in/x\nnone t/in/in",
+    ),
+];
+
 #[test]
 fn what_copies_make(rt: HostRuntime) {
-    let left = "dir2 b\nfile1 b/y\nnone b/x\ndir1 t\ndir2 /";
-    assert!(rt; makes(&rt, rt.alloc(), "add b - t 1\ndelete b/x", left));
-    let replaced = "add b/x/deep file\nreplace b/x dir\nadd b - t 1";
-    let with_deep = "dir2 b/x\nfile2 b/x/deep\nfile1 b/y\nfile1 t/x";
-    assert!(rt; makes(&rt, rt.alloc(), replaced, with_deep));
-    let twice = "dir2 t\ndir2 t/in\nfile1 t/in/x\nnone t/in/in";
-    assert!(rt; makes(&rt, rt.alloc(), "add t/in dir t 1", twice));
+    none_is_wrong(&rt, first_other(&rt, rt.alloc(), &COPIES));
 }
+
+const COPIES_OF_COPIES: [(&str, &str); 3] = [
+    (
+        "add b - / 1",
+        "dir2 b\ndir1 b/t\nfile1 b/t/x\nnone b/b\ndir1 t",
+    ),
+    (
+        "replace t - t 1\nchange t/x",
+        "dir2 t\nfile2 t/x\nfile1 t/y",
+    ),
+    (
+        "delete t\nadd t dir\nadd t/old - t 1\ndelete t/old/x\nadd t/old/x dir",
+        "none t/x\ndir2 t/old\ndir2 t/old/x\nfile1 t/old/y",
+    ),
+];
 
 #[test]
 fn what_copies_of_copies_make(rt: HostRuntime) {
-    let all = "dir2 b\ndir1 b/t\nfile1 b/t/x\nnone b/b\ndir1 t";
-    assert!(rt; makes(&rt, rt.alloc(), "add b - / 1", all));
-    let itself = "replace t - t 1\nchange t/x";
-    assert!(rt; makes(&rt, rt.alloc(), itself, "dir2 t\nfile2 t/x\nfile1 t/y"));
-    let emptied = "delete t\nadd t dir\nadd t/old - t 1\ndelete t/old/x\nadd t/old/x dir";
-    let inside = "none t/x\ndir2 t/old\ndir2 t/old/x\nfile1 t/old/y";
-    assert!(rt; makes(&rt, rt.alloc(), emptied, inside));
+    none_is_wrong(&rt, first_other(&rt, rt.alloc(), &COPIES_OF_COPIES));
 }
+
+const NUMBERED: [(&str, &str); 4] = [
+    ("", "dir2 /\ndir1 t\nfile1 t/x\nfile1 t/y"),
+    ("change /", "dir2 /\ndir1 t\nfile1 t/x\nfile1 t/y"),
+    ("change t", "dir2 /\ndir2 t\nfile1 t/x"),
+    ("delete t/x", "dir2 /\ndir2 t\nnone t/x\nfile1 t/y"),
+];
 
 #[test]
 fn what_is_numbered(rt: HostRuntime) {
-    let nothing = "dir2 /\ndir1 t\nfile1 t/x\nfile1 t/y";
-    assert!(rt; makes(&rt, rt.alloc(), "", nothing));
-    assert!(rt; makes(&rt, rt.alloc(), "change /", nothing));
-    assert!(rt; makes(&rt, rt.alloc(), "change t", "dir2 /\ndir2 t\nfile1 t/x"));
-    let deleted = "dir2 /\ndir2 t\nnone t/x\nfile1 t/y";
-    assert!(rt; makes(&rt, rt.alloc(), "delete t/x", deleted));
+    none_is_wrong(&rt, first_other(&rt, rt.alloc(), &NUMBERED));
 }

@@ -1,7 +1,6 @@
 //! Sets driven to an editor that builds them again, and calls that it refuses.
 use crate::sets::{
-    add, bare, commit, file, first_set, one_revision, over, over_two, path, props, set_of,
-    set_of_one, tree_of,
+    COPY_LESS_ONE, TWO, changes, cut, none_is_wrong, over, path, set, set_of, source, tree_of,
 };
 use delta_editor::{Editor, EditorFault};
 use dump_load::{Change, ChangeSet, in_path_order};
@@ -117,48 +116,32 @@ fn are(rt: &impl Abort, alloc: Global, set: &ChangeSet, lines: &str) -> bool {
     all.as_str() == lines
 }
 
-fn copied(rt: &impl Abort, alloc: Global, at: &str, from: &str) -> Change {
-    let mut change = bare(rt, alloc, at, Action::Add);
-    change.source = Some(Source {
-        path: path(rt, alloc, from),
-        revision: RevNo::new(1),
-    });
-    change
+// Whether the set that lines spell, over the revision that others spell, comes back.
+fn comes_back_over(rt: &impl Abort, alloc: Global, first: &str, lines: &str) -> bool {
+    let trees = over(rt, alloc, first);
+    comes_back(rt, alloc, trees.as_slice(), &set(rt, alloc, lines))
 }
 
-// A copy of t without x.
-fn copy_less_one(rt: &impl Abort, alloc: Global) -> ChangeSet {
-    let mut changes = Vec::new(alloc);
-    add(rt, &mut changes, copied(rt, alloc, "b", "t"));
-    add(rt, &mut changes, bare(rt, alloc, "b/x", Action::Delete));
-    set_of(rt, changes)
+// Whether it is built again as these changes, whose tree lists these paths.
+fn is_built_again(rt: &impl Abort, alloc: Global, lines: &str, built: &str, listed: &str) -> bool {
+    let trees = over(rt, alloc, TWO);
+    let again = again(rt, alloc, trees.as_slice(), &set(rt, alloc, lines));
+    are(rt, alloc, &again, built) && makes(rt, alloc, trees.as_slice(), &again, listed)
 }
+
+// Whether a set makes a tree of these paths.
+fn makes(rt: &impl Abort, alloc: Global, trees: &[Tree], set: &ChangeSet, listed: &str) -> bool {
+    is_listed(rt, alloc, &tree_of(rt, alloc, trees, set), listed)
+}
+
+const BUILT: &str = "add /b false false\ndelete /b/x false false\n";
+
+const LISTED: &str = "2 /\n2 /b\n1 /b/y\n1 /t\n1 /t/x\n1 /t/y\n";
 
 #[test]
 fn a_deletion_under_a_copy_is_built_again(rt: HostRuntime) {
-    let alloc = rt.alloc();
-    let mut trees = one_revision(&rt, alloc);
-    let first = first_set(&rt, alloc);
-    assert!(rt; comes_back(&rt, alloc, trees.as_slice(), &first));
-    commit(&rt, alloc, &mut trees, &first);
-    let again = again(&rt, alloc, trees.as_slice(), &copy_less_one(&rt, alloc));
-    assert!(rt;
-        are(
-            &rt,
-            alloc,
-            &again,
-            "add /b false false\ndelete /b/x false false\n"
-        )
-    );
-    let tree = tree_of(&rt, alloc, trees.as_slice(), &again);
-    assert!(rt;
-        is_listed(
-            &rt,
-            alloc,
-            &tree,
-            "2 /\n2 /b\n1 /b/y\n1 /t\n1 /t/x\n1 /t/y\n"
-        )
-    );
+    assert!(rt; comes_back_over(&rt, rt.alloc(), "", TWO));
+    assert!(rt; is_built_again(&rt, rt.alloc(), COPY_LESS_ONE, BUILT, LISTED));
 }
 
 // Whether a set is one change, a copy of a path at a revision.
@@ -174,15 +157,22 @@ fn is_copy_of(set: &ChangeSet, path: &NodePath, revision: u16) -> bool {
     }
 }
 
+// Whether a copy of t/x is built again as a copy.
+fn is_built_as_a_copy(rt: &impl Abort, alloc: Global) -> bool {
+    let trees = over(rt, alloc, TWO);
+    let again = again(
+        rt,
+        alloc,
+        trees.as_slice(),
+        &set(rt, alloc, "add c - t/x 1"),
+    );
+    are(rt, alloc, &again, "add /c false false\n") && is_copy_of(&again, &path(rt, alloc, "t/x"), 1)
+}
+
 // An add of the same bytes would have the same effect.
 #[test]
 fn a_copied_file_is_built_as_a_copy(rt: HostRuntime) {
-    let alloc = rt.alloc();
-    let trees = over_two(&rt, alloc);
-    let set = set_of_one(&rt, alloc, copied(&rt, alloc, "c", "t/x"));
-    let again = again(&rt, alloc, trees.as_slice(), &set);
-    assert!(rt; are(&rt, alloc, &again, "add /c false false\n"));
-    assert!(rt; is_copy_of(&again, &path(&rt, alloc, "t/x"), 1));
+    assert!(rt; is_built_as_a_copy(&rt, rt.alloc()));
 }
 
 // Adds the path of an entry with the number of the revision that last changed it.
@@ -209,19 +199,10 @@ fn is_listed(rt: &impl Abort, alloc: Global, tree: &Tree, lines: &str) -> bool {
     all.as_str() == lines
 }
 
-// A file a with two properties is added.
-fn with_props(rt: &impl Abort, alloc: Global) -> ChangeSet {
-    let mut added = file(rt, alloc, "a", "hello");
-    added.props = Some(props(rt, alloc, &[("p", "1"), ("q", "2")]));
-    set_of_one(rt, alloc, added)
-}
+// A file a with two properties is added, and then its properties are others.
+const WITH_PROPS: &str = "add a file\tp=1,q=2\thello";
 
-// Its properties are others.
-fn other_props(rt: &impl Abort, alloc: Global) -> ChangeSet {
-    let mut changed = bare(rt, alloc, "a", Action::Modify);
-    changed.props = Some(props(rt, alloc, &[("q", "2"), ("r", "3")]));
-    set_of_one(rt, alloc, changed)
-}
+const OTHER_PROPS: &str = "change a\tq=2,r=3";
 
 // Whether a set is one change that gives two properties, r among them.
 fn gives_two(set: &ChangeSet) -> bool {
@@ -234,78 +215,87 @@ fn gives_two(set: &ChangeSet) -> bool {
     }
 }
 
+// Whether what is built again of the other properties gives them.
+fn gives_them_again(rt: &impl Abort, alloc: Global) -> bool {
+    let trees = over(rt, alloc, WITH_PROPS);
+    let again = again(rt, alloc, trees.as_slice(), &set(rt, alloc, OTHER_PROPS));
+    are(rt, alloc, &again, "change /a true false\n") && gives_two(&again)
+}
+
 #[test]
 fn properties_are_built_again(rt: HostRuntime) {
-    let alloc = rt.alloc();
-    let trees = over(&rt, alloc, &with_props(&rt, alloc));
-    let set = other_props(&rt, alloc);
-    assert!(rt; comes_back(&rt, alloc, trees.as_slice(), &set));
-    let again = again(&rt, alloc, trees.as_slice(), &set);
-    assert!(rt; are(&rt, alloc, &again, "change /a true false\n") && gives_two(&again));
+    assert!(rt; comes_back_over(&rt, rt.alloc(), WITH_PROPS, OTHER_PROPS));
+    assert!(rt; gives_them_again(&rt, rt.alloc()));
 }
 
-// What is done in the root that is open.
-#[derive(Clone, Copy, Drop)]
-enum Doing<'a> {
-    AddDir(&'a str),
-    AddFile(&'a str),
-    Copy(&'a str, &'a str, u16),
-    OpenDir(&'a str),
-    OpenFile(&'a str),
-    Delete(&'a str),
-}
-
-fn do_one<E: Editor>(
-    alloc: Global,
-    editor: &mut E,
-    root: &mut E::Dir,
-    doing: &Doing<'_>,
+// Adds a directory, which is a copy where there is a source.
+fn add_dir(
+    editor: &mut BuildEditor<'_>,
+    root: &mut BuiltDir,
+    at: &NodePath,
+    from: Option<&Source>,
 ) -> Result<(), EditorFault> {
-    match doing {
-        Doing::AddDir(at) => {
-            let dir = editor.add_dir(root, &parsed(alloc, at)?, None)?;
-            editor.close_dir(dir)
-        }
-        Doing::AddFile(at) => {
-            let file = editor.add_file(root, &parsed(alloc, at)?, None)?;
-            editor.close_file(file, None)
-        }
-        Doing::Copy(at, from, revision) => {
-            let source = Source {
-                path: parsed(alloc, from)?,
-                revision: RevNo::new(*revision),
-            };
-            let dir = editor.add_dir(root, &parsed(alloc, at)?, Some(&source))?;
-            editor.close_dir(dir)
-        }
-        Doing::OpenDir(at) => {
-            let dir = editor.open_dir(root, &parsed(alloc, at)?, None)?;
-            editor.close_dir(dir)
-        }
-        Doing::OpenFile(at) => {
-            let file = editor.open_file(root, &parsed(alloc, at)?, None)?;
-            editor.close_file(file, None)
-        }
-        Doing::Delete(at) => editor.delete_entry(root, &parsed(alloc, at)?, None),
-    }
+    let dir = editor.add_dir(root, at, from)?;
+    editor.close_dir(dir)
 }
 
-fn parsed(alloc: Global, text: &str) -> Result<NodePath, EditorFault> {
-    match NodePath::parse(alloc, text.as_bytes()) {
-        Ok(path) => Ok(path),
-        Err(_) => Err(EditorFault::OutOfMemory),
+fn add_file(
+    editor: &mut BuildEditor<'_>,
+    root: &mut BuiltDir,
+    at: &NodePath,
+) -> Result<(), EditorFault> {
+    let file = editor.add_file(root, at, None)?;
+    editor.close_file(file, None)
+}
+
+fn open_dir(
+    editor: &mut BuildEditor<'_>,
+    root: &mut BuiltDir,
+    at: &NodePath,
+) -> Result<(), EditorFault> {
+    let dir = editor.open_dir(root, at, None)?;
+    editor.close_dir(dir)
+}
+
+fn open_file(
+    editor: &mut BuildEditor<'_>,
+    root: &mut BuiltDir,
+    at: &NodePath,
+) -> Result<(), EditorFault> {
+    let file = editor.open_file(root, at, None)?;
+    editor.close_file(file, None)
+}
+
+// Does in the root what a line says: a word, a path, and for a directory that is added maybe a source.
+fn do_one(
+    rt: &impl Abort,
+    alloc: Global,
+    editor: &mut BuildEditor<'_>,
+    root: &mut BuiltDir,
+    line: &str,
+) -> Result<(), EditorFault> {
+    let (word, rest) = cut(line);
+    let (at, from) = cut(rest);
+    let at = path(rt, alloc, at);
+    match word {
+        "dir" => add_dir(editor, root, &at, source(rt, alloc, from).as_ref()),
+        "file" => add_file(editor, root, &at),
+        "open" => open_dir(editor, root, &at),
+        "read" => open_file(editor, root, &at),
+        _ => editor.delete_entry(root, &at, None),
     }
 }
 
 // Whether all of these are done in the root, in order: the first refusal.
 fn do_all(
+    rt: &impl Abort,
     alloc: Global,
     editor: &mut BuildEditor<'_>,
     root: &mut BuiltDir,
-    all: &[Doing<'_>],
+    lines: &str,
 ) -> Result<(), EditorFault> {
-    for doing in all {
-        do_one(alloc, editor, root, doing)?;
+    for line in lines.lines() {
+        do_one(rt, alloc, editor, root, line)?;
     }
     Ok(())
 }
@@ -321,13 +311,16 @@ fn closed(editor: BuildEditor<'_>, root: BuiltDir) -> Result<ChangeSet, EditorFa
 }
 
 // The set that is built of what is done in the root, in order.
-fn done(alloc: Global, trees: &[Tree], all: &[Doing<'_>]) -> Result<ChangeSet, EditorFault> {
-    if trees.len() > 65_535 {
-        return Err(EditorFault::TooLong);
-    }
-    let mut editor = BuildEditor::new(alloc, trees)?;
-    let mut root = editor.open_root(None)?;
-    match do_all(alloc, &mut editor, &mut root, all) {
+fn done(
+    rt: &impl Abort,
+    alloc: Global,
+    trees: &[Tree],
+    lines: &str,
+) -> Result<ChangeSet, EditorFault> {
+    assert!(rt; trees.len() <= 65_535);
+    let mut editor = BuildEditor::new(alloc, trees).expect(rt, "memory");
+    let mut root = editor.open_root(None).expect(rt, "a root");
+    match do_all(rt, alloc, &mut editor, &mut root, lines) {
         Ok(()) => closed(editor, root),
         Err(fault) => {
             editor.discard_dir(root);
@@ -338,111 +331,87 @@ fn done(alloc: Global, trees: &[Tree], all: &[Doing<'_>]) -> Result<ChangeSet, E
 }
 
 // The number of the refusal that these meet, and 0 where there is none.
-fn refusal(alloc: Global, trees: &[Tree], all: &[Doing<'_>]) -> u8 {
-    match done(alloc, trees, all) {
+fn refusal(rt: &impl Abort, alloc: Global, trees: &[Tree], lines: &str) -> u8 {
+    match done(rt, alloc, trees, lines) {
         Ok(_) => 0,
         Err(fault) => fault.number(),
     }
 }
 
-// Whether these over two revisions, the second with t, t/x and t/y, are refused with this number.
-fn meets(alloc: Global, trees: &[Tree], all: &[Doing<'_>], number: u8) -> bool {
-    refusal(alloc, trees, all) == number
-}
-
-const ALONE: [(Doing<'static>, u8); 12] = [
-    (Doing::Delete(""), 10),
-    (Doing::OpenDir("u"), 11),
-    (Doing::AddDir("t"), 12),
-    (Doing::AddFile("t/x/z"), 13),
-    (Doing::Copy("c", "t", 2), 14),
-    (Doing::Copy("c", "t/x", 1), 17),
-    (Doing::OpenFile("t"), 17),
-    (Doing::OpenDir("t/x"), 17),
-    (Doing::Delete("u"), 11),
-    (Doing::OpenDir(""), 15),
-    (Doing::AddDir(""), 10),
-    (Doing::AddDir("u"), 0),
-];
-
-// The place of the first of these that is answered with another number.
-fn first_other(alloc: Global, trees: &[Tree]) -> Option<usize> {
-    for (place, (doing, number)) in ALONE.iter().enumerate() {
-        if !meets(alloc, trees, &[*doing], *number) {
-            return Some(place);
+// The first of these, over two revisions, the second with t, t/x and t/y, that meet another number.
+fn first_other<'a>(rt: &impl Abort, alloc: Global, cases: &'a [(&'a str, u8)]) -> Option<&'a str> {
+    let trees = over(rt, alloc, TWO);
+    for (lines, number) in cases {
+        if refusal(rt, alloc, trees.as_slice(), *lines) != *number {
+            return Some(*lines);
         }
     }
     None
 }
+
+const ALONE: [(&str, u8); 12] = [
+    ("delete /", 10),
+    ("open u", 11),
+    ("dir t", 12),
+    ("file t/x/z", 13),
+    ("dir c t 2", 14),
+    ("dir c t/x 1", 17),
+    ("read t", 17),
+    ("open t/x", 17),
+    ("delete u", 11),
+    ("open /", 15),
+    ("dir /", 10),
+    ("dir u", 0),
+];
 
 #[test]
 fn a_faulty_call_is_refused_with_its_number(rt: HostRuntime) {
-    let trees = over_two(&rt, rt.alloc());
-    assert_eq!(rt; first_other(rt.alloc(), trees.as_slice()), None);
+    none_is_wrong(&rt, first_other(&rt, rt.alloc(), &ALONE));
 }
 
-const TWICE: [(&[Doing<'static>], u8); 9] = [
-    (&[Doing::OpenFile("t/x"), Doing::OpenFile("t/x")], 15),
-    (&[Doing::AddDir("u"), Doing::AddDir("u")], 15),
-    (&[Doing::OpenDir("t"), Doing::Delete("t")], 15),
-    (&[Doing::OpenFile("t/x"), Doing::Delete("t")], 15),
-    (&[Doing::Delete("t/x"), Doing::Delete("t")], 15),
-    (&[Doing::Delete("t/x"), Doing::Delete("t/x")], 11),
-    (
-        &[Doing::Delete("t"), Doing::AddFile("t"), Doing::Delete("t")],
-        15,
-    ),
-    (&[Doing::Delete("t"), Doing::OpenDir("t")], 11),
-    (&[Doing::Delete("t/x"), Doing::AddDir("t/x")], 0),
+const TWICE: [(&str, u8); 9] = [
+    ("read t/x\nread t/x", 15),
+    ("dir u\ndir u", 15),
+    ("open t\ndelete t", 15),
+    ("read t/x\ndelete t", 15),
+    ("delete t/x\ndelete t", 15),
+    ("delete t/x\ndelete t/x", 11),
+    ("delete t\nfile t\ndelete t", 15),
+    ("delete t\nopen t", 11),
+    ("delete t/x\ndir t/x", 0),
 ];
-
-// The place of the first of these that is answered with another number.
-fn first_twice(alloc: Global, trees: &[Tree]) -> Option<usize> {
-    for (place, (all, number)) in TWICE.iter().enumerate() {
-        if !meets(alloc, trees, *all, *number) {
-            return Some(place);
-        }
-    }
-    None
-}
 
 #[test]
 fn what_is_touched_twice_is_out_of_order(rt: HostRuntime) {
-    let trees = over_two(&rt, rt.alloc());
-    assert_eq!(rt; first_twice(rt.alloc(), trees.as_slice()), None);
+    none_is_wrong(&rt, first_other(&rt, rt.alloc(), &TWICE));
 }
 
-// Whether these are done, and make this set.
-fn makes(rt: &impl Abort, alloc: Global, trees: &[Tree], all: &[Doing<'_>], lines: &str) -> bool {
-    match done(alloc, trees, all) {
-        Ok(set) => are(rt, alloc, &set, lines),
+// Whether these are done over these trees, and make this set.
+fn builds(rt: &impl Abort, alloc: Global, lines: &str, set: &str) -> bool {
+    let trees = over(rt, alloc, TWO);
+    match done(rt, alloc, trees.as_slice(), lines) {
+        Ok(built) => are(rt, alloc, &built, set),
         Err(_) => false,
     }
 }
 
-const OPENED_AGAIN: [Doing<'static>; 3] = [
-    Doing::AddDir("u"),
-    Doing::Delete("t"),
-    Doing::OpenDir(""),
-];
+const OPENED_AGAIN: [(&str, u8); 1] = [("dir u\ndelete t\nopen /", 15)];
 
-const REPLACING: [Doing<'static>; 4] = [
-    Doing::AddDir("u"),
-    Doing::Delete("t"),
-    Doing::AddFile("t"),
-    Doing::AddDir("u/v"),
-];
-
-const OPENING: [Doing<'static>; 2] = [Doing::OpenDir("t"), Doing::OpenFile("t/x")];
+const REPLACED: &str = "replace /t true true\nadd /u true false\nadd /u/v true false\n";
 
 #[test]
 fn a_deletion_and_an_add_are_a_replace(rt: HostRuntime) {
-    let trees = over_two(&rt, rt.alloc());
-    let over = trees.as_slice();
-    assert!(rt; meets(rt.alloc(), over, &OPENED_AGAIN, 15));
-    let replaced = "replace /t true true\nadd /u true false\nadd /u/v true false\n";
-    assert!(rt; makes(&rt, rt.alloc(), over, &REPLACING, replaced));
-    assert!(rt; makes(&rt, rt.alloc(), over, &OPENING, "change /t/x false false\n"));
+    none_is_wrong(&rt, first_other(&rt, rt.alloc(), &OPENED_AGAIN));
+    let replacing = "dir u\ndelete t\nfile t\ndir u/v";
+    assert!(rt; builds(&rt, rt.alloc(), replacing, REPLACED));
+    assert!(rt;
+        builds(
+            &rt,
+            rt.alloc(),
+            "open t\nread t/x",
+            "change /t/x false false\n"
+        )
+    );
 }
 
 // Whether an editor refuses another target than the next revision, and then takes that.
@@ -452,30 +421,28 @@ fn aims(editor: &mut BuildEditor<'_>) -> bool {
 }
 
 // Whether one over these trees does.
-fn aims_at_the_next(alloc: Global, trees: &[Tree]) -> bool {
-    if trees.len() > 65_535 {
-        return false;
-    }
-    match BuildEditor::new(alloc, trees) {
-        Ok(mut editor) => {
-            let aims = aims(&mut editor);
-            editor.abort_edit();
-            aims
-        }
-        Err(_) => false,
-    }
+fn aims_at_the_next(rt: &impl Abort, alloc: Global, trees: &[Tree]) -> bool {
+    assert!(rt; trees.len() <= 65_535);
+    let mut editor = BuildEditor::new(alloc, trees).expect(rt, "memory");
+    let aims = aims(&mut editor);
+    editor.abort_edit();
+    aims
+}
+
+// Whether an edit without calls makes this set, and that a tree of these paths.
+fn is_empty(rt: &impl Abort, alloc: Global, trees: &[Tree], lines: &str, listed: &str) -> bool {
+    let set = done(rt, alloc, trees, "").expect(rt, "a set");
+    are(rt, alloc, &set, lines) && makes(rt, alloc, trees, &set, listed)
 }
 
 // Calls without a target and without a change: the root alone.
 #[test]
 fn an_empty_edit_changes_the_root(rt: HostRuntime) {
-    let alloc = rt.alloc();
-    let trees = over_two(&rt, alloc);
-    let set = done(alloc, trees.as_slice(), &[]).expect(&rt, "a set");
-    assert!(rt; are(&rt, alloc, &set, "change / false false\n"));
-    let tree = tree_of(&rt, alloc, trees.as_slice(), &set);
-    assert!(rt; is_listed(&rt, alloc, &tree, "2 /\n1 /t\n1 /t/x\n1 /t/y\n"));
-    assert!(rt; aims_at_the_next(alloc, trees.as_slice()));
+    let trees = over(&rt, rt.alloc(), TWO);
+    let over = trees.as_slice();
+    let listed = "2 /\n1 /t\n1 /t/x\n1 /t/y\n";
+    assert!(rt; is_empty(&rt, rt.alloc(), over, "change / false false\n", listed));
+    assert!(rt; aims_at_the_next(&rt, rt.alloc(), over));
 }
 
 // Gives the root a property of these bytes.
@@ -520,63 +487,41 @@ fn is_limited(rt: &impl Abort, alloc: Global, trees: &[Tree]) -> bool {
 
 #[test]
 fn what_is_past_a_limit(rt: HostRuntime) {
-    let trees = over_two(&rt, rt.alloc());
+    let trees = over(&rt, rt.alloc(), TWO);
     assert!(rt; is_limited(&rt, rt.alloc(), trees.as_slice()));
 }
 
-// Adds so many directories.
-fn add_dirs(
-    rt: &impl Abort,
-    alloc: Global,
-    editor: &mut BuildEditor<'_>,
-    root: &mut BuiltDir,
-    count: u16,
-) -> Result<(), EditorFault> {
+// A line for each of so many numbers, between a front and a back.
+fn numbered(rt: &impl Abort, alloc: Global, front: &str, count: u16, back: &str) -> String {
+    let mut lines = String::new(alloc);
     for i in 0..count {
-        let name = format!(in alloc; "{i}").expect(rt, "memory");
-        do_one(alloc, editor, root, &Doing::AddDir(name.as_str()))?;
+        let line = format!(in alloc; "{front}{i}{back}").expect(rt, "memory");
+        lines.push_str(line.as_str()).expect(rt, "memory");
     }
-    Ok(())
+    lines
 }
 
 // How many changes so many added directories make, or why they make none.
-fn add_many(
-    rt: &impl Abort,
-    alloc: Global,
-    trees: &[Tree],
-    count: u16,
-) -> Result<usize, EditorFault> {
-    assert!(rt; trees.len() <= 65_535);
-    let mut editor = BuildEditor::new(alloc, trees).expect(rt, "memory");
-    let mut root = editor.open_root(None).expect(rt, "a root");
-    match add_dirs(rt, alloc, &mut editor, &mut root, count) {
-        Ok(()) => match closed(editor, root) {
-            Ok(set) => Ok(set.changes().len()),
-            Err(fault) => Err(fault),
-        },
-        Err(fault) => {
-            editor.discard_dir(root);
-            editor.abort_edit();
-            Err(fault)
-        }
+fn add_many(rt: &impl Abort, alloc: Global, count: u16) -> Result<usize, EditorFault> {
+    let trees = over(rt, alloc, TWO);
+    let lines = numbered(rt, alloc, "dir ", count, "\n");
+    match done(rt, alloc, trees.as_slice(), lines.as_str()) {
+        Ok(set) => Ok(set.changes().len()),
+        Err(fault) => Err(fault),
     }
 }
 
 #[test]
 fn a_set_of_too_many_changes(rt: HostRuntime) {
-    let trees = over_two(&rt, rt.alloc());
-    assert!(rt; add_many(&rt, rt.alloc(), trees.as_slice(), 4_096) == Ok(4_096));
-    assert!(rt; add_many(&rt, rt.alloc(), trees.as_slice(), 4_097) == Err(EditorFault::TooLong));
+    assert!(rt; add_many(&rt, rt.alloc(), 4_096) == Ok(4_096));
+    assert!(rt; add_many(&rt, rt.alloc(), 4_097) == Err(EditorFault::TooLong));
 }
 
 // So many empty files in t, whose names are numbers.
 fn files_in_t(rt: &impl Abort, alloc: Global, count: u16) -> ChangeSet {
-    let mut changes = Vec::new(alloc);
-    for i in 0..count {
-        let at = format!(in alloc; "t/{i}").expect(rt, "memory");
-        add(rt, &mut changes, file(rt, alloc, at.as_str(), ""));
-    }
-    set_of(rt, in_path_order(changes).expect(rt, "memory"))
+    let lines = numbered(rt, alloc, "add t/", count, " file\t\t;");
+    let ordered = in_path_order(changes(rt, alloc, lines.as_str())).expect(rt, "memory");
+    set_of(rt, ordered)
 }
 
 fn adds_a_file(change: &Change) -> bool {
@@ -593,11 +538,16 @@ fn adds_files_alone(set: &ChangeSet, count: usize) -> bool {
     set.changes().len() == count
 }
 
+// Whether what is built of so many added files adds them alone.
+fn is_built_of_files(rt: &impl Abort, alloc: Global, count: u16) -> bool {
+    let trees = over(rt, alloc, TWO);
+    let most = files_in_t(rt, alloc, count);
+    let again = again(rt, alloc, trees.as_slice(), &most);
+    adds_files_alone(&again, usize::from(count))
+}
+
 // Of the root, t and 4,096 files, which are all opened or added, the files alone are changes of the set.
 #[test]
 fn the_way_to_many_files_is_no_change(rt: HostRuntime) {
-    let trees = over_two(&rt, rt.alloc());
-    let most = files_in_t(&rt, rt.alloc(), 4_096);
-    let again = again(&rt, rt.alloc(), trees.as_slice(), &most);
-    assert!(rt; adds_files_alone(&again, 4_096));
+    assert!(rt; is_built_of_files(&rt, rt.alloc(), 4_096));
 }

@@ -1,10 +1,10 @@
 //! Sets that a generator makes, driven to an editor that builds them again.
 use crate::build_tests::comes_back;
-use crate::sets::{add, bare, commit, dir, file, one_revision, path, props};
+use crate::sets::{change, commit, over, props};
 use dump_load::{Change, ChangeSet, apply, in_path_order};
-use node_base::{Action, RevNo, Source};
+use node_base::{Action, Props};
 use path_tree::Tree;
-use std::alloc::Global;
+use std::alloc::{AllocError, Global};
 use std::process::Abort;
 
 // A sequence of numbers that look random, the same at each run (Knuth's multiplier modulo 2^64).
@@ -35,44 +35,42 @@ impl Numbers {
 
 const PATHS: [&str; 8] = ["a", "a/b", "a/b/c", "a/x", "a-b", "d", "d/e", "f"];
 
-// What is done at a path.
-fn some_action(
-    rt: &impl Abort,
-    alloc: Global,
-    numbers: &mut Numbers,
-    at: &str,
-    head: u16,
-) -> Change {
-    match numbers.below(6) {
-        0 => bare(rt, alloc, at, Action::Delete),
-        1 => bare(rt, alloc, at, Action::Modify),
-        2 | 3 => dir(rt, alloc, at),
-        4 => file(rt, alloc, at, numbers.one_of(&PATHS)),
-        _ => copied(rt, alloc, numbers, at, head),
-    }
+// The line of what is done at a path.
+fn some_line(rt: &impl Abort, alloc: Global, numbers: &mut Numbers, at: &str, head: u16) -> String {
+    let line = match numbers.below(6) {
+        0 => format!(in alloc; "delete {at}"),
+        1 => format!(in alloc; "change {at}"),
+        2 | 3 => format!(in alloc; "add {at} dir\t"),
+        4 => format!(in alloc; "add {at} file\t\t{}", numbers.one_of(&PATHS)),
+        _ => copied(alloc, numbers, at, head),
+    };
+    line.expect(rt, "memory")
+}
+
+// The line of a copy of some path at some revision.
+fn copied(alloc: Global, numbers: &mut Numbers, at: &str, head: u16) -> Result<String, AllocError> {
+    let from = numbers.one_of(&PATHS);
+    let number = numbers.below(u64::from(head) + 1);
+    format!(in alloc; "add {at} - {from} {number}")
+}
+
+// Two properties, one of some value.
+fn some_props(rt: &impl Abort, alloc: Global, numbers: &mut Numbers) -> Props {
+    let value = numbers.one_of(&PATHS);
+    let words = format!(in alloc; "p={value},q=2").expect(rt, "memory");
+    props(rt, alloc, words.as_str())
 }
 
 fn some_change(rt: &impl Abort, alloc: Global, numbers: &mut Numbers, head: u16) -> Change {
     let at = numbers.one_of(&PATHS);
-    let mut change = some_action(rt, alloc, numbers, at, head);
+    let line = some_line(rt, alloc, numbers, at, head);
+    let mut change = change(rt, alloc, line.as_str());
     if numbers.below(4) == 0 && change.action == Action::Add {
         change.action = Action::Replace;
     }
     if numbers.below(3) == 0 && change.action != Action::Delete {
-        let value = numbers.one_of(&PATHS);
-        change.props = Some(props(rt, alloc, &[("p", value), ("q", "2")]));
+        change.props = Some(some_props(rt, alloc, numbers));
     }
-    change
-}
-
-fn copied(rt: &impl Abort, alloc: Global, numbers: &mut Numbers, at: &str, head: u16) -> Change {
-    let mut change = bare(rt, alloc, at, Action::Add);
-    let from = path(rt, alloc, numbers.one_of(&PATHS));
-    let number = u16::try_from(numbers.below(u64::from(head) + 1)).unwrap_or(0);
-    change.source = Some(Source {
-        path: from,
-        revision: RevNo::new(number),
-    });
     change
 }
 
@@ -80,7 +78,9 @@ fn copied(rt: &impl Abort, alloc: Global, numbers: &mut Numbers, at: &str, head:
 fn some_changes(rt: &impl Abort, alloc: Global, numbers: &mut Numbers, head: u16) -> Vec<Change> {
     let mut changes = Vec::new(alloc);
     for _ in 0..numbers.below(5) {
-        add(rt, &mut changes, some_change(rt, alloc, numbers, head));
+        changes
+            .push(some_change(rt, alloc, numbers, head))
+            .expect(rt, "memory");
     }
     in_path_order(changes).expect(rt, "memory")
 }
@@ -130,7 +130,7 @@ fn one_try(
 // How many sets came of so many tries; none where one didn't come back with its effect.
 fn all_come_back(rt: &impl Abort, alloc: Global, seed: u64, tries: u32) -> Option<u32> {
     let mut numbers = Numbers { state: seed };
-    let mut trees = one_revision(rt, alloc);
+    let mut trees = over(rt, alloc, "");
     let mut count = 0u32;
     for _ in 0..tries {
         match one_try(rt, alloc, &mut numbers, &mut trees) {

@@ -1,22 +1,18 @@
 //! Property blocks against spellings from outside.
 
+use crate::checked::{add_end, add_lines, all_hold, none_is_wrong, put, with_byte};
 use node_base::block_law::{
     block_pieces_join, blocks_are_read, blocks_are_written, reads_are_blocks,
 };
-use node_base::{BlockReader, PropFault, PropName, PropValue, Props};
+use node_base::{BlockReader, PropFault, Props};
 use std::alloc::Global;
 use std::process::Abort;
 
-#[derive(Debug, Drop)]
-enum Answer {
-    GoesOn,
-    Whole(usize, Props),
-    Refused(PropFault),
-}
+/// What a reader answers to a block: how many bytes there were of it, or that it goes on, or the fault.
+pub(crate) type Told = Result<Option<usize>, PropFault>;
 
-// What a reader answers to bytes that come so many at a time.
-fn fed(alloc: Global, announced: u64, bytes: &[u8], by: usize) -> Answer {
-    let mut reader = BlockReader::new(alloc, announced);
+/// What a reader answers to bytes that come so many at a time, of which it keeps no more than came.
+pub(crate) fn fed(reader: &mut BlockReader, bytes: &[u8], by: usize) -> Told {
     let by = by.max(1);
     for at in 0..bytes.len() {
         if at % by != 0 {
@@ -24,76 +20,67 @@ fn fed(alloc: Global, announced: u64, bytes: &[u8], by: usize) -> Answer {
         }
         let end = at.saturating_add(by).min(bytes.len());
         match reader.feed(&bytes[at..end]) {
-            Err(fault) => return Answer::Refused(fault),
-            Ok(Some(count)) => return Answer::Whole(at.saturating_add(count), reader.take()),
+            Err(fault) => return Err(fault),
+            Ok(Some(count)) => return Ok(Some(at.saturating_add(count))),
             Ok(None) => {}
         }
         if reader.held() > end {
-            return Answer::GoesOn;
+            return Ok(None);
         }
     }
-    Answer::GoesOn
+    Ok(None)
 }
 
-fn are_alike(these: &Answer, those: &Answer) -> bool {
-    match (these, those) {
-        (Answer::GoesOn, Answer::GoesOn) => true,
-        (Answer::Whole(n, props), Answer::Whole(m, others)) => n == m && props.equals(others),
-        (Answer::Refused(fault), Answer::Refused(other)) => fault == other,
-        _ => false,
+// The map that was read, where the block is whole.
+fn taken(reader: &mut BlockReader, told: Told) -> Props {
+    match told {
+        Ok(Some(_)) => reader.take(),
+        _ => Props::empty(),
     }
 }
 
-// Whether an answer is this one where the bytes come so many at a time.
-fn is_answer(alloc: Global, announced: u64, bytes: &[u8], by: usize, answer: &Answer) -> bool {
-    are_alike(&fed(alloc, announced, bytes, by), answer)
+// What is told of a block that comes so many bytes at a time, and its map.
+fn read(alloc: Global, announced: u64, bytes: &[u8], by: usize) -> (Told, Props) {
+    let mut reader = BlockReader::new(alloc, announced);
+    let told = fed(&mut reader, bytes, by);
+    (told, taken(&mut reader, told))
 }
 
-// The fault that an answer is.
-fn fault_in(answer: &Answer) -> Option<PropFault> {
-    match answer {
-        Answer::Refused(fault) => Some(*fault),
-        _ => None,
-    }
+// Whether this is told where the bytes come so many at a time, and this is the map.
+fn is_read(
+    alloc: Global,
+    announced: u64,
+    bytes: &[u8],
+    by: usize,
+    told: Told,
+    props: &Props,
+) -> bool {
+    let (found, others) = read(alloc, announced, bytes, by);
+    found == told && props.equals(&others)
 }
 
-// How many properties an answer has.
-fn count_in(answer: &Answer) -> Option<usize> {
-    match answer {
-        Answer::Whole(_, props) => Some(props.len()),
-        _ => None,
-    }
+// Whether this is told of bytes, whole and byte by byte, and the map has so many properties.
+fn is_told(alloc: Global, announced: u64, bytes: &[u8], told: Told, count: usize) -> bool {
+    let (found, props) = read(alloc, announced, bytes, 1_000_000);
+    found == told && props.len() == count && is_read(alloc, announced, bytes, 1, told, &props)
 }
 
-// Whether bytes that are announced so are refused with this fault, whole and byte by byte.
-fn is_fault(alloc: Global, want: PropFault, announced: u64, bytes: &[u8]) -> bool {
-    let whole = fed(alloc, announced, bytes, 1_000_000);
-    is_answer(alloc, announced, bytes, 1, &whole) && fault_in(&whole) == Some(want)
+/// Whether bytes that are announced so are refused with this fault, whole and byte by byte.
+pub(crate) fn is_fault(alloc: Global, want: PropFault, announced: u64, bytes: &[u8]) -> bool {
+    is_told(alloc, announced, bytes, Err(want), 0)
 }
 
-// Whether bytes are read as so many properties, whole and byte by byte.
+// Whether bytes are read whole as so many properties, and byte by byte as the same.
 fn is_count(alloc: Global, want: usize, announced: u64, bytes: &[u8]) -> bool {
-    let whole = fed(alloc, announced, bytes, 1_000_000);
-    is_answer(alloc, announced, bytes, 1, &whole) && count_in(&whole) == Some(want)
-}
-
-// Adds these bytes to a block.
-fn add(rt: &impl Abort, block: &mut Vec<u8>, bytes: &[u8]) {
-    block.extend_from_slice(bytes).expect(rt, "memory");
+    is_told(alloc, announced, bytes, Ok(Some(announced as usize)), want)
 }
 
 // A block of names made of a front and a number, each with the value `x`.
 fn block_of(rt: &impl Abort, alloc: Global, sync: usize, others: usize) -> Vec<u8> {
     let mut block = Vec::new(alloc);
-    for i in 0..sync {
-        let line = format!(in alloc; "K 14\nsvn:sync-{i:05}\nV 1\nx\n").expect(rt, "memory");
-        add(rt, &mut block, line.as_bytes());
-    }
-    for i in 0..others {
-        let line = format!(in alloc; "K 6\np{i:05}\nV 1\nx\n").expect(rt, "memory");
-        add(rt, &mut block, line.as_bytes());
-    }
-    add(rt, &mut block, b"PROPS-END\n");
+    add_lines(rt, alloc, &mut block, "K 14\nsvn:sync-", sync, "\nV 1\nx\n");
+    add_lines(rt, alloc, &mut block, "K 6\np", others, "\nV 1\nx\n");
+    add_end(rt, &mut block);
     block
 }
 
@@ -123,7 +110,7 @@ const LINES: [Case<'static>; 8] = [
 
 #[test]
 fn refuses_lines_at_the_byte_that_shows_it(rt: HostRuntime) {
-    assert_eq!(rt; other_fault(rt.alloc(), PropFault::BadProps, &LINES), None);
+    none_is_wrong(&rt, other_fault(rt.alloc(), PropFault::BadProps, &LINES));
 }
 
 const NAMES: [Case<'static>; 7] = [
@@ -138,7 +125,7 @@ const NAMES: [Case<'static>; 7] = [
 
 #[test]
 fn refuses_names_outside_the_rule(rt: HostRuntime) {
-    assert_eq!(rt; other_fault(rt.alloc(), PropFault::BadProps, &NAMES), None);
+    none_is_wrong(&rt, other_fault(rt.alloc(), PropFault::BadProps, &NAMES));
 }
 
 const NUMBERS: [Case<'static>; 5] = [
@@ -151,21 +138,33 @@ const NUMBERS: [Case<'static>; 5] = [
 
 #[test]
 fn refuses_numbers_past_the_limits(rt: HostRuntime) {
-    assert_eq!(rt; other_fault(rt.alloc(), PropFault::TooLong, &NUMBERS), None);
+    none_is_wrong(&rt, other_fault(rt.alloc(), PropFault::TooLong, &NUMBERS));
 }
 
-// The announced length of a block, its bytes, and how many properties it has.
-const ORDERS: [(u64, &[u8], usize); 3] = [
-    (10, b"PROPS-END\n", 0),
-    (34, b"K 1\nz\nV 1\n1\nK 1\na\nV 1\n2\nPROPS-END\nmore", 2),
-    (25, b"K 002\n..\nV 00\n\nPROPS-END\n", 1),
+// The length of a block, its bytes and more, how many properties it has, and what it shows.
+type Whole<'a> = (u64, &'a [u8], usize, &'a str);
+
+const ORDERS: [Whole<'static>; 3] = [
+    (10, b"PROPS-END\n", 0, "an empty block"),
+    (
+        34,
+        b"K 1\nz\nV 1\n1\nK 1\na\nV 1\n2\nPROPS-END\nmore",
+        2,
+        "names out of order",
+    ),
+    (
+        25,
+        b"K 002\n..\nV 00\n\nPROPS-END\n",
+        1,
+        "zeros before the numbers",
+    ),
 ];
 
-// The announced length of the first of these that is read as another number.
-fn other_count(alloc: Global) -> Option<u64> {
-    for (announced, bytes, count) in &ORDERS {
+// The first of these that is read as another number.
+fn other_count(alloc: Global) -> Option<&'static str> {
+    for (announced, bytes, count, shows) in &ORDERS {
         if !is_count(alloc, *count, *announced, *bytes) {
-            return Some(*announced);
+            return Some(*shows);
         }
     }
     None
@@ -173,13 +172,18 @@ fn other_count(alloc: Global) -> Option<u64> {
 
 #[test]
 fn reads_blocks_of_any_order(rt: HostRuntime) {
-    assert_eq!(rt; other_count(rt.alloc()), None);
+    none_is_wrong(&rt, other_count(rt.alloc()));
+}
+
+// Whether a block of as many properties as may stand is read.
+fn is_full(rt: &impl Abort, alloc: Global) -> bool {
+    let full = block_of(rt, alloc, 16, 256);
+    is_count(alloc, 272, full.len() as u64, full.as_slice())
 }
 
 #[test]
 fn reads_as_many_properties_as_may_stand(rt: HostRuntime) {
-    let full = block_of(&rt, rt.alloc(), 16, 256);
-    assert!(rt; is_count(rt.alloc(), 272, full.len() as u64, full.as_slice()));
+    assert!(rt; is_full(&rt, rt.alloc()));
 }
 
 // Whether a block of so many properties is past the limits.
@@ -191,8 +195,13 @@ fn is_too_long(rt: &impl Abort, alloc: Global, sync: usize, others: usize) -> bo
 
 #[test]
 fn refuses_one_property_more(rt: HostRuntime) {
-    assert!(rt; is_too_long(&rt, rt.alloc(), 17, 0));
-    assert!(rt; is_too_long(&rt, rt.alloc(), 0, 257));
+    all_hold(
+        &rt,
+        &[
+            (is_too_long(&rt, rt.alloc(), 17, 0), "17 of a mirror"),
+            (is_too_long(&rt, rt.alloc(), 0, 257), "257 others"),
+        ],
+    );
 }
 
 const SMALL: &[u8] = b"K 1\na\nV 2\nxy\nK 02\n\xc3\xa9\nV 0\n\nPROPS-END\n";
@@ -200,13 +209,8 @@ const SMALL: &[u8] = b"K 1\na\nV 2\nxy\nK 02\n\xc3\xa9\nV 0\n\nPROPS-END\n";
 // Whether the block that is cut here goes on, and the whole one is refused where this end is announced.
 fn is_cut(alloc: Global, end: usize) -> bool {
     let end = end.min(SMALL.len());
-    is_answer(
-        alloc,
-        SMALL.len() as u64,
-        &SMALL[..end],
-        1_000,
-        &Answer::GoesOn,
-    ) && is_fault(alloc, PropFault::BadProps, end as u64, SMALL)
+    is_told(alloc, SMALL.len() as u64, &SMALL[..end], Ok(None), 0)
+        && is_fault(alloc, PropFault::BadProps, end as u64, SMALL)
 }
 
 #[test]
@@ -216,19 +220,13 @@ fn cuts_and_short_announcements(rt: HostRuntime) {
     }
 }
 
-// Whether bytes have the same answer however they are cut.
-fn is_steady(alloc: Global, announced: u64, bytes: &[u8]) -> bool {
-    let whole = fed(alloc, announced, bytes, 1_000);
-    is_answer(alloc, announced, bytes, 1, &whole) && is_answer(alloc, announced, bytes, 3, &whole)
-}
-
-// Whether a block with another byte has.
+// Whether a block with another byte has the same answer however it is cut.
 fn is_steady_with(rt: &impl Abort, alloc: Global, at: usize, byte: u8) -> bool {
-    let mut block = Vec::from_slice(alloc, SMALL).expect(rt, "memory");
-    if at < block.len() {
-        block[at] = byte;
-    }
-    is_steady(alloc, SMALL.len() as u64, block.as_slice())
+    let block = with_byte(rt, alloc, SMALL, at, byte);
+    let announced = SMALL.len() as u64;
+    let (told, props) = read(alloc, announced, block.as_slice(), 1_000);
+    is_read(alloc, announced, block.as_slice(), 1, told, &props)
+        && is_read(alloc, announced, block.as_slice(), 3, told, &props)
 }
 
 const BYTES: [u8; 16] = [
@@ -245,15 +243,6 @@ fn cuts_change_no_answer(rt: HostRuntime) {
             );
         }
     }
-}
-
-// Gives a map a property, for which it has room.
-pub(crate) fn put(rt: &impl Abort, alloc: Global, props: &mut Props, name: &[u8], value: &[u8]) {
-    let name = PropName::parse(alloc, name).expect(rt, "a name");
-    let bytes = Vec::from_slice(alloc, value).expect(rt, "memory");
-    let value = PropValue::new(bytes).expect(rt, "a value");
-    assert!(rt; props.fits_with(name.as_bytes()));
-    props.set(alloc, name, value).expect(rt, "memory");
 }
 
 // The map in the order of its names, `z` twice given.
@@ -279,13 +268,15 @@ fn is_written(alloc: Global, props: &Props, bytes: &[u8]) -> bool {
 
 #[test]
 fn writes_in_the_order_of_the_names(rt: HostRuntime) {
-    assert!(rt; is_written(rt.alloc(), &three(&rt, rt.alloc()), WRITTEN));
+    let props = three(&rt, rt.alloc());
+    assert!(rt; is_written(rt.alloc(), &props, WRITTEN));
 }
 
 #[test]
 fn reads_what_is_written(rt: HostRuntime) {
-    let whole = Answer::Whole(WRITTEN.len(), three(&rt, rt.alloc()));
-    assert!(rt; is_answer(rt.alloc(), WRITTEN.len() as u64, WRITTEN, 7, &whole));
+    let props = three(&rt, rt.alloc());
+    let told = Ok(Some(WRITTEN.len()));
+    assert!(rt; is_read(rt.alloc(), WRITTEN.len() as u64, WRITTEN, 7, told, &props));
 }
 
 #[test]

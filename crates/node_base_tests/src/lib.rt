@@ -4,6 +4,8 @@
 #[cfg(test)]
 mod block_tests;
 #[cfg(test)]
+mod checked;
+#[cfg(test)]
 mod delta_tests;
 #[cfg(test)]
 mod path_tests;

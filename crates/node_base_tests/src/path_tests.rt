@@ -1,5 +1,6 @@
 //! Which bytes are names, paths and numbers, and the order of paths: vectors from outside.
 
+use crate::checked::{all_hold, is_text, none_is_wrong};
 use node_base::{NodeName, NodePath, PathFault, RevNo, read_decimal, rest_after};
 use std::alloc::Global;
 use std::cmp::Ordering;
@@ -20,101 +21,135 @@ fn add(rt: &impl Abort, text: &mut String, more: &str) {
     text.push_str(more).expect(rt, "memory");
 }
 
-// `a` so many times, with that between each two.
-fn row_of(rt: &impl Abort, alloc: Global, count: usize, between: &str) -> String {
+// A text so many times, with that between each two.
+fn row_of(rt: &impl Abort, alloc: Global, one: &str, count: usize, between: &str) -> String {
     let mut text = String::new(alloc);
     for i in 0..count {
         if i > 0 {
             add(rt, &mut text, between);
         }
-        add(rt, &mut text, "a");
+        add(rt, &mut text, one);
     }
     text
 }
 
-// Whether all of them have that fate.
-fn all_are(alloc: Global, table: &[&[u8]], wanted: &str) -> bool {
-    for bytes in table {
-        if fate(alloc, *bytes) != wanted {
-            return false;
+// Bytes, what becomes of them, and what they show.
+type Case<'a> = (&'a [u8], &'a str, &'a str);
+
+// The first of these that has another fate.
+fn other_fate<'a>(alloc: Global, cases: &'a [Case<'a>]) -> Option<&'a str> {
+    for (bytes, wanted, shows) in cases {
+        if fate(alloc, *bytes) != *wanted {
+            return Some(*shows);
         }
     }
-    true
+    None
 }
+
+const BY_BYTES: [Case<'static>; 19] = [
+    (b"", "taken", "the root"),
+    (b"a", "taken", "a letter"),
+    (b" ", "taken", "a blank"),
+    (b"~", "taken", "the last character of ASCII"),
+    (b"a\\b", "taken", "a backslash"),
+    (b"\0", "bad", "zero"),
+    (b"\x1F", "bad", "the last control byte"),
+    (b"a\n", "bad", "a line's end"),
+    (b"\x7F", "bad", "the byte of DEL"),
+    (b"...", "taken", "three dots"),
+    (b".a/..b", "taken", "names that begin with dots"),
+    (b".", "bad", "one dot"),
+    (b"..", "bad", "two dots"),
+    (b"a/.", "bad", "one dot behind a name"),
+    (b"../a", "bad", "two dots before a name"),
+    (b"/", "bad", "a slash"),
+    (b"/a", "bad", "a slash before a name"),
+    (b"a/", "bad", "a slash behind a name"),
+    (b"a//b", "bad", "two slashes"),
+];
 
 #[test]
 fn names_by_their_bytes(rt: HostRuntime) {
-    let alloc = rt.alloc();
-    assert!(rt; all_are(alloc, &[b"", b"a", b" ", b"~", b"a\\b"], "taken"));
-    assert!(rt; all_are(alloc, &[b"\0", b"\x1F", b"a\n", b"\x7F"], "bad"));
-    assert!(rt; all_are(alloc, &[b"...", b".a/..b"], "taken"));
-    assert!(rt; all_are(alloc, &[b".", b"..", b"a/.", b"../a"], "bad"));
-    assert!(rt; all_are(alloc, &[b"/", b"/a", b"a/", b"a//b"], "bad"));
+    none_is_wrong(&rt, other_fate(rt.alloc(), &BY_BYTES));
 }
 
-// The last character of two, of three and of four bytes.
-const LAST_OF_EACH: [&[u8]; 3] = [b"\xC2\x80", b"\xEF\xBF\xBF", b"\xF4\x8F\xBF\xBF"];
-
-// Surrogates, and past the last character.
-const SURROGATES: [&[u8]; 3] = [b"\xED\xA0\x80", b"\xED\xBF\xBF", b"\xF4\x90\x80\x80"];
+const IN_UTF8: [Case<'static>; 12] = [
+    (b"\xC2\x80", "taken", "the last character of two bytes"),
+    (
+        b"\xEF\xBF\xBF",
+        "taken",
+        "the last character of three bytes",
+    ),
+    (b"\xF4\x8F\xBF\xBF", "taken", "the last of four bytes"),
+    (b"\x80", "bad", "a second byte alone"),
+    (b"\xFF", "bad", "a byte of no character"),
+    (b"\xE2\x82", "bad", "a character that is cut"),
+    (b"\xC0\xAF", "bad", "overlong in two bytes"),
+    (b"\xC1\xBF", "bad", "overlong in two bytes, the last"),
+    (b"\xE0\x80\xAF", "bad", "overlong in three bytes"),
+    (b"\xED\xA0\x80", "bad", "the first surrogate"),
+    (b"\xED\xBF\xBF", "bad", "the last surrogate"),
+    (b"\xF4\x90\x80\x80", "bad", "past the last character"),
+];
 
 #[test]
 fn names_are_utf8(rt: HostRuntime) {
-    let alloc = rt.alloc();
-    assert!(rt; all_are(alloc, &LAST_OF_EACH, "taken"));
-    assert!(rt; all_are(alloc, &[b"\x80", b"\xFF", b"\xE2\x82"], "bad"));
-    // overlong
-    assert!(rt; all_are(alloc, &[b"\xC0\xAF", b"\xC1\xBF", b"\xE0\x80\xAF"], "bad"));
-    assert!(rt; all_are(alloc, &SURROGATES, "bad"));
+    none_is_wrong(&rt, other_fate(rt.alloc(), &IN_UTF8));
 }
 
-// Whether that becomes of `a` so many times, with this between each two.
-fn is_row(rt: &impl Abort, alloc: Global, count: usize, between: &str, wanted: &str) -> bool {
-    fate(alloc, row_of(rt, alloc, count, between).as_bytes()) == wanted
+// A text, how often it comes, what stands between each two, what becomes of them, and what they show.
+type Row<'a> = (&'a str, usize, &'a str, &'a str, &'a str);
+
+// The first of these rows that has another fate.
+fn other_row<'a>(rt: &impl Abort, alloc: Global, rows: &'a [Row<'a>]) -> Option<&'a str> {
+    for (one, count, between, wanted, shows) in rows {
+        let row = row_of(rt, alloc, *one, *count, *between);
+        if fate(alloc, row.as_bytes()) != *wanted {
+            return Some(*shows);
+        }
+    }
+    None
 }
+
+const AT_THE_LIMITS: [Row<'static>; 4] = [
+    ("a", 255, "", "taken", "a name of 255 bytes"),
+    ("a", 256, "", "too long", "a name of 256 bytes"),
+    ("a", 64, "/", "taken", "64 names"),
+    ("a", 65, "/", "too long", "65 names"),
+];
 
 #[test]
 fn names_at_the_limits(rt: HostRuntime) {
-    assert!(rt; is_row(&rt, rt.alloc(), 255, "", "taken"));
-    assert!(rt; is_row(&rt, rt.alloc(), 256, "", "too long"));
-    assert!(rt; is_row(&rt, rt.alloc(), 64, "/", "taken"));
-    assert!(rt; is_row(&rt, rt.alloc(), 65, "/", "too long"));
+    none_is_wrong(&rt, other_row(&rt, rt.alloc(), &AT_THE_LIMITS));
 }
 
-// Five names of 204 bytes: 1,024 bytes.
-fn longest(rt: &impl Abort, alloc: Global) -> String {
-    let name = row_of(rt, alloc, 204, "");
-    let mut path = row_of(rt, alloc, 204, "");
-    for _ in 0..4 {
-        add(rt, &mut path, "/");
-        add(rt, &mut path, name.as_str());
-    }
-    path
+// What becomes of five names of 204 bytes, which are a path of 1,024 bytes, and of more behind them.
+fn fate_with(rt: &impl Abort, alloc: Global, more: &str) -> (usize, &'static str) {
+    let name = row_of(rt, alloc, "a", 204, "");
+    let mut path = row_of(rt, alloc, name.as_str(), 5, "/");
+    add(rt, &mut path, more);
+    (path.len(), fate(alloc, path.as_bytes()))
 }
 
 #[test]
 fn paths_at_the_limits(rt: HostRuntime) {
-    let mut path = longest(&rt, rt.alloc());
-    assert!(rt; path.len() == 1_024 && fate(rt.alloc(), path.as_bytes()) == "taken");
-    add(&rt, &mut path, "a");
-    assert!(rt; fate(rt.alloc(), path.as_bytes()) == "too long");
+    assert!(rt; fate_with(&rt, rt.alloc(), "") == (1_024, "taken"));
+    assert!(rt; fate_with(&rt, rt.alloc(), "a") == (1_025, "too long"));
 }
 
-// Whether that becomes of a byte so many times.
-fn is_run(rt: &impl Abort, alloc: Global, byte: u8, count: usize, wanted: &str) -> bool {
-    let bytes = Vec::from_elem(alloc, byte, count).expect(rt, "memory");
-    fate(alloc, bytes.as_slice()) == wanted
-}
+const BEFORE_THE_RULE: [Row<'static>; 2] = [
+    ("/", 64, "", "too long", "65 names that are none"),
+    ("\x01", 256, "", "too long", "256 bytes that are no name"),
+];
 
 #[test]
 fn a_limit_comes_before_the_rule(rt: HostRuntime) {
-    assert!(rt; is_run(&rt, rt.alloc(), b'/', 64, "too long"));
-    assert!(rt; is_run(&rt, rt.alloc(), 1, 256, "too long"));
+    none_is_wrong(&rt, other_row(&rt, rt.alloc(), &BEFORE_THE_RULE));
 }
 
 // Whether a path is written so.
 fn is_path(alloc: Global, path: &NodePath, text: &str) -> bool {
-    format!(in alloc; "{path}").is_ok_and(|written| written.as_str() == text)
+    is_text(format!(in alloc; "{path}"), text)
 }
 
 // The path that bytes spell.
@@ -139,22 +174,27 @@ fn the_root_is_written(rt: HostRuntime) {
     assert!(rt; root.is_root() && is_path(rt.alloc(), &root, ""));
 }
 
+// Whether a path of two names has so many bytes, and is written so.
+fn is_of_two(alloc: Global, path: &NodePath, len: usize, text: &str) -> bool {
+    path.text_len() == len && path.names().len() == 2 && is_path(alloc, path, text)
+}
+
 #[test]
 fn paths_are_made_of_names(rt: HostRuntime) {
     let trunk = below(&rt, rt.alloc(), &NodePath::root(rt.alloc()), b"trunk");
     let path = below(&rt, rt.alloc(), &trunk, b"x y");
-    assert!(rt; path.text_len() == 9 && path.names().len() == 2);
-    assert!(rt; is_path(rt.alloc(), &path, "trunk/x y"));
+    assert!(rt; is_of_two(rt.alloc(), &path, 9, "trunk/x y"));
+}
+
+// Whether a name is written so.
+fn is_name(alloc: Global, found: &NodeName, name: &str) -> bool {
+    found.len() == name.len() && is_text(format!(in alloc; "{found}"), name)
 }
 
 // Whether a path's last name is this, and so many names are above it.
 fn ends(alloc: Global, path: &NodePath, name: &str, above: usize) -> bool {
     match path.split_last() {
-        Some((front, last)) => {
-            front.len() == above
-                && last.len() == name.len()
-                && format!(in alloc; "{last}").is_ok_and(|written| written.as_str() == name)
-        }
+        Some((front, last)) => front.len() == above && is_name(alloc, last, name),
         None => false,
     }
 }
@@ -174,9 +214,24 @@ fn is_order(rt: &impl Abort, alloc: Global, first: &[u8], second: &[u8], order: 
 
 #[test]
 fn paths_are_ordered_by_names(rt: HostRuntime) {
-    assert!(rt; is_order(&rt, rt.alloc(), b"a", b"a/x", Ordering::Less));
-    assert!(rt; is_order(&rt, rt.alloc(), b"a/x", b"a-b", Ordering::Less));
-    assert!(rt; is_order(&rt, rt.alloc(), b"a-b", b"a", Ordering::Greater));
+    let alloc = rt.alloc();
+    all_hold(
+        &rt,
+        &[
+            (
+                is_order(&rt, alloc, b"a", b"a/x", Ordering::Less),
+                "a before a/x",
+            ),
+            (
+                is_order(&rt, alloc, b"a/x", b"a-b", Ordering::Less),
+                "a/x before a-b",
+            ),
+            (
+                is_order(&rt, alloc, b"a-b", b"a", Ordering::Greater),
+                "a-b behind a",
+            ),
+        ],
+    );
 }
 
 // The copy of a path.
@@ -184,13 +239,20 @@ fn copied(rt: &impl Abort, alloc: Global, path: &NodePath) -> NodePath {
     path.copy(alloc).expect(rt, "memory")
 }
 
+// Whether a path has so many names behind those of another.
+fn is_behind(path: &NodePath, above: &NodePath, count: usize) -> bool {
+    match rest_after(above.names(), path.names()) {
+        Some(names) => names.len() == count,
+        None => false,
+    }
+}
+
 #[test]
 fn copied_paths_are_equal(rt: HostRuntime) {
     let above = parsed(&rt, rt.alloc(), b"a");
     let path = parsed(&rt, rt.alloc(), b"a/x");
-    assert!(rt; copied(&rt, rt.alloc(), &path).compare(&path) == Ordering::Equal);
-    let rest = rest_after(above.names(), path.names());
-    assert!(rt; rest.is_some_and(|names| names.len() == 1));
+    let again = copied(&rt, rt.alloc(), &path);
+    assert!(rt; again.compare(&path) == Ordering::Equal && is_behind(&path, &above, 1));
 }
 
 // Each path behind a blank.
@@ -203,20 +265,29 @@ fn row_of_paths(rt: &impl Abort, alloc: Global, paths: &[NodePath]) -> String {
     row
 }
 
-// Three paths, out of order.
-fn three(rt: &impl Abort, alloc: Global) -> Vec<NodePath> {
+// Adds a path to others.
+fn push(rt: &impl Abort, alloc: Global, paths: &mut Vec<NodePath>, bytes: &[u8]) {
+    paths.push(parsed(rt, alloc, bytes)).expect(rt, "memory");
+}
+
+// Three paths out of order, once they are sorted.
+fn sorted(rt: &impl Abort, alloc: Global) -> String {
     let mut paths = Vec::new(alloc);
-    paths.push(parsed(rt, alloc, b"a-b")).expect(rt, "memory");
-    paths.push(parsed(rt, alloc, b"a/x")).expect(rt, "memory");
-    paths.push(parsed(rt, alloc, b"a")).expect(rt, "memory");
-    paths
+    push(rt, alloc, &mut paths, b"a-b");
+    push(rt, alloc, &mut paths, b"a/x");
+    push(rt, alloc, &mut paths, b"a");
+    paths.as_mut_slice().sort_unstable();
+    row_of_paths(rt, alloc, paths.as_slice())
 }
 
 #[test]
 fn paths_are_sorted(rt: HostRuntime) {
-    let mut paths = three(&rt, rt.alloc());
-    paths.as_mut_slice().sort_unstable();
-    assert!(rt; row_of_paths(&rt, rt.alloc(), paths.as_slice()).as_str() == " a a/x a-b");
+    assert!(rt; sorted(&rt, rt.alloc()).as_str() == " a a/x a-b");
+}
+
+// Whether one path is above another, and no other than a copy of itself.
+fn is_above(above: &NodePath, below: &NodePath, again: &NodePath) -> bool {
+    above < below && above != below && above == again && below.cmp(above) == Ordering::Greater
 }
 
 #[test]
@@ -224,47 +295,85 @@ fn paths_are_compared(rt: HostRuntime) {
     let above = parsed(&rt, rt.alloc(), b"a");
     let below = parsed(&rt, rt.alloc(), b"a/x");
     let again = copied(&rt, rt.alloc(), &above);
-    assert!(rt; above < below && above != below && above == again);
-    assert!(rt; below.cmp(&above) == Ordering::Greater);
+    assert!(rt; is_above(&above, &below, &again));
+}
+
+// Whether one name comes before another, in each way to compare them.
+fn is_before(small: &NodeName, large: &NodeName) -> bool {
+    small < large
+        && large > small
+        && small != large
+        && small.cmp(large) == Ordering::Less
+        && large.partial_cmp(large) == Some(Ordering::Equal)
 }
 
 #[test]
 fn names_are_compared(rt: HostRuntime) {
     let small = named(&rt, rt.alloc(), b"a");
     let large = named(&rt, rt.alloc(), b"a-b");
-    assert!(rt; small < large && large > small && small != large);
-    assert!(rt; small.cmp(&large) == Ordering::Less);
-    assert!(rt; large.partial_cmp(&large) == Some(Ordering::Equal));
+    assert!(rt; is_before(&small, &large));
 }
 
-// Whether none of them is a number.
-fn none_is_read(table: &[&[u8]]) -> bool {
-    table.iter().all(|bytes| read_decimal(bytes).is_none())
-}
+// Bytes, the number that they spell, and what they show.
+type Number<'a> = (&'a [u8], Option<u64>, &'a str);
 
-// Whether bytes are read as a number.
-fn is_read(bytes: &[u8], number: u64) -> bool {
-    read_decimal(bytes) == Some(number)
+const DECIMALS: [Number<'static>; 13] = [
+    (b"0", Some(0), "zero"),
+    (b"0042", Some(42), "zeros before it"),
+    (
+        b"18446744073709551615",
+        Some(18_446_744_073_709_551_615),
+        "the last",
+    ),
+    (b"18446744073709551616", None, "2^64"),
+    (b"99999999999999999999", None, "past 2^64"),
+    (b"", None, "nothing"),
+    (b"-1", None, "a minus"),
+    (b"+1", None, "a plus"),
+    (b" 1", None, "a blank before it"),
+    (b"1 ", None, "a blank behind it"),
+    (b"1a", None, "a letter"),
+    (b"/", None, "the byte before the digits"),
+    (b":", None, "the byte behind the digits"),
+];
+
+// The first of these that is read as another number.
+fn other_number() -> Option<&'static str> {
+    for (bytes, number, shows) in &DECIMALS {
+        if read_decimal(*bytes) != *number {
+            return Some(*shows);
+        }
+    }
+    None
 }
 
 #[test]
 fn numbers(rt: HostRuntime) {
-    assert!(rt; is_read(b"0", 0));
-    assert!(rt; is_read(b"0042", 42));
-    assert!(rt; is_read(b"18446744073709551615", 18_446_744_073_709_551_615));
-    assert!(rt; none_is_read(&[b"18446744073709551616", b"99999999999999999999"]));
-    assert!(rt; none_is_read(&[b"", b"-1", b"+1", b" 1", b"1 "]));
-    assert!(rt; none_is_read(&[b"1a", b"/", b":"]));
+    none_is_wrong(&rt, other_number());
 }
 
 // Whether a revision is written so.
 fn is_written(alloc: Global, revision: RevNo, text: &str) -> bool {
-    format!(in alloc; "r{revision}").is_ok_and(|written| written.as_str() == text)
+    is_text(format!(in alloc; "r{revision}"), text)
+}
+
+// Whether bytes spell a revision of that number.
+fn is_revision(bytes: &[u8], number: u16) -> bool {
+    match RevNo::parse(bytes) {
+        Some(revision) => revision.get() == number,
+        None => false,
+    }
 }
 
 #[test]
 fn revisions(rt: HostRuntime) {
-    assert!(rt; RevNo::parse(b"65535").is_some_and(|r| r.get() == 65_535));
-    assert!(rt; RevNo::parse(b"65536").is_none() && RevNo::ZERO.index() == 0);
-    assert!(rt; is_written(rt.alloc(), RevNo::new(407), "r407"));
+    all_hold(
+        &rt,
+        &[
+            (is_revision(b"65535", 65_535), "the last"),
+            (RevNo::parse(b"65536").is_none(), "past the last"),
+            (RevNo::ZERO.index() == 0, "the first"),
+            (is_written(rt.alloc(), RevNo::new(407), "r407"), "written"),
+        ],
+    );
 }

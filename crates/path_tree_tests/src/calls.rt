@@ -1,6 +1,6 @@
 //! The calls of both bodies by the texts of paths, for tests.
 
-use node_base::{NodePath, Props, RevNo, Text};
+use node_base::{NodePath, Props, RevNo, Text, read_decimal};
 use path_tree::{Entry, Tree, TreeError};
 use std::alloc::{AllocError, Global};
 use std::process::Abort;
@@ -218,6 +218,29 @@ pub(crate) fn made<T: Calls>(
     tree.dir(alloc, &path(rt, alloc, at), RevNo::new(number))
 }
 
+/// What it answers where what is at a path is taken away.
+pub(crate) fn gone<T: Calls>(
+    rt: &impl Abort,
+    alloc: Global,
+    tree: &mut T,
+    at: &str,
+    number: u16,
+) -> u8 {
+    tree.gone(alloc, &path(rt, alloc, at), RevNo::new(number))
+}
+
+/// A path of so many names, all but the last of which are directories that are made.
+pub(crate) fn deep<T: Calls>(rt: &impl Abort, alloc: Global, tree: &mut T, names: u8) -> String {
+    let mut path = String::new(alloc);
+    for _ in 1u8..names {
+        add(rt, &mut path, "a");
+        assert!(rt; made(rt, alloc, tree, path.as_str(), 3) == 0);
+        add(rt, &mut path, "/");
+    }
+    add(rt, &mut path, "b");
+    path
+}
+
 // Adds the kind, the revision that changed it, and the names.
 fn add_line(rt: &impl Abort, alloc: Global, entry: &Entry, lines: &mut String) {
     let node = entry.node;
@@ -242,47 +265,67 @@ pub(crate) fn lines<T: Calls>(rt: &impl Abort, alloc: Global, tree: &T) -> Strin
     lines
 }
 
-/// A call by the text of its path. A copy's source is of the tree before the first of the calls.
-#[derive(Clone, Copy, Drop)]
-pub(crate) enum Call {
-    File(&'static str),
-    Dir(&'static str),
-    Props(&'static str),
-    Text(&'static str),
-    Gone(&'static str),
-    Copy(&'static str, &'static str),
+// What stands before a blank, and what behind it.
+fn cut(words: &str) -> (&str, &str) {
+    match words.split_once(' ') {
+        Some(both) => both,
+        None => (words, ""),
+    }
 }
 
-// What a tree answers to a call of that number.
+// What a tree answers to the call that a word names: a copy, where it is none of these.
 fn answer<T: Calls>(
     rt: &impl Abort,
     alloc: Global,
     tree: &mut T,
     before: &T,
-    call: Call,
+    (word, at, source): (&str, &str, &str),
     number: u16,
 ) -> u8 {
-    match call {
-        Call::File(at) => filed(rt, alloc, tree, at, number),
-        Call::Dir(at) => made(rt, alloc, tree, at, number),
-        Call::Props(at) => tree.props(alloc, &path(rt, alloc, at), RevNo::new(number)),
-        Call::Text(at) => texted(rt, alloc, tree, at, number),
-        Call::Gone(at) => tree.gone(alloc, &path(rt, alloc, at), RevNo::new(number)),
-        Call::Copy(at, source) => copied(rt, alloc, tree, at, before, source, number),
+    match word {
+        "file" => filed(rt, alloc, tree, at, number),
+        "dir" => made(rt, alloc, tree, at, number),
+        "props" => tree.props(alloc, &path(rt, alloc, at), RevNo::new(number)),
+        "text" => texted(rt, alloc, tree, at, number),
+        "gone" => gone(rt, alloc, tree, at, number),
+        _ => copied(rt, alloc, tree, at, before, source, number),
     }
 }
 
-/// Whether a tree answers so to calls one after another, of that number.
+// A path without the slash before it.
+fn bare(path: &str) -> &str {
+    path.strip_prefix("/").unwrap_or(path)
+}
+
+// Whether a tree answers to a call as its line tells.
+fn is_answered<T: Calls>(
+    rt: &impl Abort,
+    alloc: Global,
+    tree: &mut T,
+    before: &T,
+    line: &str,
+    number: u16,
+) -> bool {
+    let (word, rest) = cut(line);
+    let (at, rest) = cut(rest);
+    let (wanted, source) = cut(rest);
+    let call = (word, bare(at), bare(source));
+    let found = answer(rt, alloc, tree, before, call, number);
+    read_decimal(wanted.as_bytes()) == Some(u64::from(found))
+}
+
+/// Whether a tree answers so to calls one after another, of that number. Each is a line: a word, the path behind a
+/// slash and the answer, and for a copy its source, which is of the tree before the first of the calls.
 pub(crate) fn answers<T: Calls>(
     rt: &impl Abort,
     alloc: Global,
     tree: &mut T,
-    calls: &[(Call, u8)],
+    calls: &str,
     number: u16,
 ) -> bool {
     let before = again(rt, tree);
-    for (call, want) in calls {
-        if answer(rt, alloc, tree, &before, *call, number) != *want {
+    for line in calls.lines() {
+        if !is_answered(rt, alloc, tree, &before, line, number) {
             return false;
         }
     }

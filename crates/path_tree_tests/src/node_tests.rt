@@ -1,6 +1,7 @@
 //! A node that is built bit by bit, and why that is refused.
 
-use crate::calls::{done, fresh, one, path};
+use crate::calls::{again, done, fresh, one, path};
+use crate::checked::all_hold;
 use node_base::{NodePath, PropName, PropValue, Props, Refusal, RevNo, TreeFault};
 use path_tree::{Tree, TreeError};
 use std::alloc::Global;
@@ -27,7 +28,10 @@ fn small(rt: &impl Abort, alloc: Global) -> Tree {
 // Whether a file has that text.
 fn reads(tree: &Tree, file: &NodePath, text: &[u8]) -> bool {
     match tree.get(file.names()) {
-        Some(node) => node.text.as_ref().is_some_and(|t| t.as_slice() == text),
+        Some(node) => match &node.text {
+            Some(found) => found.as_slice() == text,
+            None => false,
+        },
         None => false,
     }
 }
@@ -45,10 +49,15 @@ fn is_built(alloc: Global, tree: &mut Tree, file: &NodePath) -> bool {
 #[test]
 fn a_text_is_built_in_pieces(rt: HostRuntime) {
     let mut tree = small(&rt, rt.alloc());
-    let before = tree.share().expect(&rt, "memory");
+    let before = again(&rt, &tree);
     let file = path(&rt, rt.alloc(), "f");
-    assert!(rt; is_built(rt.alloc(), &mut tree, &file));
-    assert!(rt; reads(&before, &file, b"one"));
+    all_hold(
+        &rt,
+        &[
+            (is_built(rt.alloc(), &mut tree, &file), "the text"),
+            (reads(&before, &file, b"one"), "its share"),
+        ],
+    );
 }
 
 // The name of a property.
@@ -92,9 +101,17 @@ fn builds_properties(rt: &impl Abort, alloc: Global, tree: &mut Tree) -> bool {
 #[test]
 fn properties_are_built_one_by_one(rt: HostRuntime) {
     let mut tree = small(&rt, rt.alloc());
-    let before = tree.share().expect(&rt, "memory");
-    assert!(rt; builds_properties(&rt, rt.alloc(), &mut tree));
-    assert!(rt; has(&rt, rt.alloc(), &before, "d", 0));
+    let before = again(&rt, &tree);
+    all_hold(
+        &rt,
+        &[
+            (
+                builds_properties(&rt, rt.alloc(), &mut tree),
+                "the properties",
+            ),
+            (has(&rt, rt.alloc(), &before, "d", 0), "their share"),
+        ],
+    );
 }
 
 // A file with 256 properties.
@@ -115,16 +132,28 @@ fn answers_when_full(rt: &impl Abort, alloc: Global, name: &[u8], want: u8, coun
 
 #[test]
 fn one_property_more_is_refused(rt: HostRuntime) {
-    assert!(rt; answers_when_full(&rt, rt.alloc(), b"q", 8, 256));
-    assert!(rt; answers_when_full(&rt, rt.alloc(), b"p7", 0, 256));
-    assert!(rt; answers_when_full(&rt, rt.alloc(), b"svn:sync-x", 0, 257));
+    all_hold(
+        &rt,
+        &[
+            (answers_when_full(&rt, rt.alloc(), b"q", 8, 256), "another"),
+            (
+                answers_when_full(&rt, rt.alloc(), b"p7", 0, 256),
+                "one that is there",
+            ),
+            (
+                answers_when_full(&rt, rt.alloc(), b"svn:sync-x", 0, 257),
+                "a mirror's own",
+            ),
+        ],
+    );
 }
 
 #[test]
 fn a_property_that_is_absent_is_taken_away(rt: HostRuntime) {
     let mut tree = full(&rt, rt.alloc());
-    assert!(rt; clear(&rt, rt.alloc(), &mut tree, "f", b"q") == 0);
-    assert!(rt; has(&rt, rt.alloc(), &tree, "f", 256));
+    let cleared = clear(&rt, rt.alloc(), &mut tree, "f", b"q") == 0;
+    let kept = has(&rt, rt.alloc(), &tree, "f", 256);
+    all_hold(&rt, &[(cleared, "the answer"), (kept, "what is left")]);
 }
 
 // A property of what is absent, and of what is below a file.
@@ -166,13 +195,26 @@ fn a_text_past_the_limit_is_refused(rt: HostRuntime) {
 
 // Whether an error prints so.
 fn prints(alloc: Global, error: TreeError, text: &str) -> bool {
-    format!(in alloc; "{error}").is_ok_and(|told| told.as_str() == text)
+    match format!(in alloc; "{error}") {
+        Ok(told) => told.as_str() == text,
+        Err(_) => false,
+    }
+}
+
+// Whether an error's refusal has this number.
+fn is_numbered(error: TreeError, number: u8) -> bool {
+    Refusal::from(error).number() == number
 }
 
 #[test]
 fn errors_tell_the_refusal(rt: HostRuntime) {
     let error = TreeError::Fault(TreeFault::NotDir);
-    assert!(rt; prints(rt.alloc(), error, "not a directory"));
-    assert!(rt; Refusal::from(error).number() == 13);
-    assert!(rt; Refusal::from(TreeError::OutOfMemory).number() == 70);
+    all_hold(
+        &rt,
+        &[
+            (prints(rt.alloc(), error, "not a directory"), "its text"),
+            (is_numbered(error, 13), "its number"),
+            (is_numbered(TreeError::OutOfMemory, 70), "memory"),
+        ],
+    );
 }

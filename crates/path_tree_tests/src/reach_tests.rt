@@ -1,7 +1,7 @@
 //! Copies of the root into itself, which double a tree each time: no answer walks what is shared.
 
-use crate::calls::{add, again, copied, copy_root, filed, fresh, made, path};
-use node_base::RevNo;
+use crate::calls::{add, again, copied, copy_root, deep, filed, fresh, gone};
+use crate::checked::all_hold;
 use path_tree::Tree;
 use std::alloc::Global;
 use std::process::Abort;
@@ -23,18 +23,6 @@ fn doubled(rt: &impl Abort, alloc: Global, count: u8) -> Tree {
     tree
 }
 
-// A path of so many names, all but the last of which are directories that are made.
-fn deep(rt: &impl Abort, alloc: Global, tree: &mut Tree, names: u8) -> String {
-    let mut path = String::new(alloc);
-    for _ in 1u8..names {
-        add(rt, &mut path, "a");
-        assert!(rt; made(rt, alloc, tree, path.as_str(), 3) == 0);
-        add(rt, &mut path, "/");
-    }
-    add(rt, &mut path, "b");
-    path
-}
-
 // After 40 copies a path has 41 names at most, so that a copy at 23 names has 64, and one at 24 has 65.
 fn answer_at(rt: &impl Abort, alloc: Global, names: u8) -> u8 {
     let mut tree = doubled(rt, alloc, 40);
@@ -45,29 +33,34 @@ fn answer_at(rt: &impl Abort, alloc: Global, names: u8) -> u8 {
 
 #[test]
 fn forty_copies_are_copied_where_they_fit(rt: HostRuntime) {
-    assert!(rt; answer_at(&rt, rt.alloc(), 1) == 0);
-    assert!(rt; answer_at(&rt, rt.alloc(), 23) == 0);
-    assert!(rt; answer_at(&rt, rt.alloc(), 24) == 8);
-}
-
-// Takes what is at a path away, if anything is.
-fn take(rt: &impl Abort, alloc: Global, tree: &mut Tree, gone: &str) {
-    let _absent = tree.remove(alloc, &path(rt, alloc, gone), RevNo::new(3));
+    all_hold(
+        &rt,
+        &[
+            (answer_at(&rt, rt.alloc(), 1) == 0, "at one name"),
+            (answer_at(&rt, rt.alloc(), 23) == 0, "at 23 names"),
+            (answer_at(&rt, rt.alloc(), 24) == 8, "at 24 names"),
+        ],
+    );
 }
 
 // After 63 copies a path has 64 names, and one more copy would make it 65. Without the last copy, or with a tree that
 // was shared before it, there is room for one.
-fn answer_after(rt: &impl Abort, alloc: Global, gone: &str) -> u8 {
+fn answer_after(rt: &impl Abort, alloc: Global, without: &str) -> u8 {
     let mut tree = doubled(rt, alloc, 63);
-    take(rt, alloc, &mut tree, gone);
+    let _absent = gone(rt, alloc, &mut tree, without, 3);
     copy_root(rt, alloc, &mut tree, "d", 3)
 }
 
 #[test]
 fn a_removal_makes_room_where_nothing_else_is_as_deep(rt: HostRuntime) {
-    assert!(rt; answer_after(&rt, rt.alloc(), "none") == 8);
-    assert!(rt; answer_after(&rt, rt.alloc(), "c61") == 8);
-    assert!(rt; answer_after(&rt, rt.alloc(), "c62") == 0);
+    all_hold(
+        &rt,
+        &[
+            (answer_after(&rt, rt.alloc(), "none") == 8, "with all"),
+            (answer_after(&rt, rt.alloc(), "c61") == 8, "without c61"),
+            (answer_after(&rt, rt.alloc(), "c62") == 0, "without c62"),
+        ],
+    );
 }
 
 // Two copies of a tree in it.
@@ -80,11 +73,9 @@ fn twice(rt: &impl Abort, alloc: Global, tree: &mut Tree) -> bool {
 // Of two that are as deep the other one stays.
 fn other_stays(rt: &impl Abort, alloc: Global) -> bool {
     let mut tree = doubled(rt, alloc, 62);
-    let both = twice(rt, alloc, &mut tree);
-    let gone = tree
-        .remove(alloc, &path(rt, alloc, "x"), RevNo::new(3))
-        .is_ok();
-    both && gone && copy_root(rt, alloc, &mut tree, "d", 3) == 8
+    twice(rt, alloc, &mut tree)
+        && gone(rt, alloc, &mut tree, "x", 3) == 0
+        && copy_root(rt, alloc, &mut tree, "d", 3) == 8
 }
 
 #[test]

@@ -1,7 +1,6 @@
 //! Folders of many children, which come, change and go in several orders.
 
-use crate::calls::{Calls, again, filed, fresh, lines, made, path};
-use node_base::RevNo;
+use crate::calls::{Calls, again, filed, fresh, gone, lines, made};
 use path_tree::Tree;
 use std::alloc::Global;
 use std::process::Abort;
@@ -34,7 +33,7 @@ fn thinned<T: Calls>(rt: &impl Abort, alloc: Global, tree: &mut T, step: u16) {
         let number = place(count, step);
         if number % 3 != 0 {
             let at = child(rt, alloc, number);
-            assert!(rt; tree.gone(alloc, &path(rt, alloc, at.as_str()), RevNo::new(3)) == 0);
+            assert!(rt; gone(rt, alloc, tree, at.as_str(), 3) == 0);
         }
     }
 }

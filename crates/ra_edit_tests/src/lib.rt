@@ -3,6 +3,8 @@
 #![tactic(auto)]
 
 #[cfg(test)]
+mod checked;
+#[cfg(test)]
 mod counting_tests;
 #[cfg(test)]
 mod growth_tests;

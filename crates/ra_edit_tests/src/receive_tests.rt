@@ -1,5 +1,6 @@
 //! Drives spelled out by hand, whole and cut anyhow.
 
+use crate::checked::none_is_wrong;
 use crate::streams_for_tests::{Failing, items_from};
 use crate::wire_tests::COPY;
 use delta_editor::{Call, Recorder};
@@ -114,18 +115,18 @@ fn name_of(call: &Call) -> &'static str {
     }
 }
 
-// Whether calls have these names.
-fn are_named(calls: &[Call], names: &[&str]) -> bool {
-    for (call, name) in calls.iter().zip(names.iter()) {
-        if name_of(call) != *name {
+// Whether calls have these names, with blanks between them.
+fn are_named(calls: &[Call], names: &str) -> bool {
+    for (call, name) in calls.iter().zip(names.split(' ')) {
+        if name_of(call) != name {
             return false;
         }
     }
-    calls.len() == names.len()
+    calls.len() == names.split(' ').count()
 }
 
 // Whether a drive in pieces of a size is received as calls of these names.
-fn calls_are(alloc: Global, bytes: &[u8], size: usize, names: &[&str]) -> bool {
+fn calls_are(alloc: Global, bytes: &[u8], size: usize, names: &str) -> bool {
     let mut items = items_from(alloc, bytes, size, false);
     match receive(alloc, &mut items, Recorder::new(alloc)) {
         Ok(calls) => are_named(&calls, names),
@@ -133,39 +134,32 @@ fn calls_are(alloc: Global, bytes: &[u8], size: usize, names: &[&str]) -> bool {
     }
 }
 
-const ADDED_CALLS: [&str; 9] = [
-    "target",
-    "open_root",
-    "add_file",
-    "text_start",
-    "text_piece",
-    "text_end",
-    "close_file",
-    "close_dir",
-    "close_edit",
+// Drives, and the names of their calls.
+const CALLS: [(&[u8], &str); 3] = [
+    (
+        ADDED,
+        "target open_root add_file text_start text_piece text_end close_file close_dir close_edit",
+    ),
+    (
+        COPY,
+        "target open_root add_dir delete_entry close_dir close_dir close_edit",
+    ),
+    (NOTHING, "target open_root close_dir close_edit"),
 ];
 
-const COPY_CALLS: [&str; 7] = [
-    "target",
-    "open_root",
-    "add_dir",
-    "delete_entry",
-    "close_dir",
-    "close_dir",
-    "close_edit",
-];
-
-const NO_CALLS: [&str; 4] = ["target", "open_root", "close_dir", "close_edit"];
+// The place of the first of these that is received as others, whole or one byte at a time.
+fn first_misnamed(alloc: Global) -> Option<usize> {
+    for (case, (bytes, names)) in CALLS.iter().enumerate() {
+        if !calls_are(alloc, bytes, bytes.len(), *names) || !calls_are(alloc, bytes, 1, *names) {
+            return Some(case);
+        }
+    }
+    None
+}
 
 #[test]
 fn calls_come_in_their_order(rt: HostRuntime) {
-    let alloc = rt.alloc();
-    assert!(rt; calls_are(alloc, ADDED, ADDED.len(), &ADDED_CALLS));
-    assert!(rt; calls_are(alloc, ADDED, 1, &ADDED_CALLS));
-    assert!(rt; calls_are(alloc, COPY, COPY.len(), &COPY_CALLS));
-    assert!(rt; calls_are(alloc, COPY, 1, &COPY_CALLS));
-    assert!(rt; calls_are(alloc, NOTHING, NOTHING.len(), &NO_CALLS));
-    assert!(rt; calls_are(alloc, NOTHING, 1, &NO_CALLS));
+    none_is_wrong(&rt, first_misnamed(rt.alloc()));
 }
 
 // Drives that name what they may not by a token.
@@ -182,7 +176,7 @@ const TOKENS: [&[u8]; 8] = [
 
 #[test]
 fn tokens_are_refused(rt: HostRuntime) {
-    assert_eq!(rt; first_other(rt.alloc(), &TOKENS, 46), None);
+    none_is_wrong(&rt, first_other(rt.alloc(), &TOKENS, 46));
 }
 
 // Drives that have no command where one has to be, or one out of its place.
@@ -212,16 +206,27 @@ const OTHERS: [(&[u8], u8); 4] = [
     (b"( failure ( ( 21 1:x 0: 0 ) ) ) ", 60),
 ];
 
+// The place of the first of these that doesn't give its number.
+fn first_wrong(alloc: Global, cases: &[(&[u8], u8)]) -> Option<usize> {
+    for (case, (bytes, number)) in cases.iter().enumerate() {
+        if !gives(alloc, bytes, *number) {
+            return Some(case);
+        }
+    }
+    None
+}
+
+// Whether the first so many bytes of a drive give this.
+fn front_gives(alloc: Global, count: usize, number: u8) -> bool {
+    gives(alloc, ADDED.get(..count).unwrap_or(b""), number)
+}
+
 #[test]
 fn shapes_are_refused(rt: HostRuntime) {
-    assert_eq!(rt; first_other(rt.alloc(), &SHAPES, 48), None);
-    for (bytes, number) in &OTHERS {
-        assert!(rt; gives(rt.alloc(), bytes, *number));
-    }
-    let unended = ADDED.get(..UNENDED).unwrap_or(b"");
-    assert!(rt; gives(rt.alloc(), unended, 48));
-    let cut = ADDED.get(..ADDED.len().saturating_sub(1)).unwrap_or(b"");
-    assert!(rt; gives(rt.alloc(), cut, 7));
+    none_is_wrong(&rt, first_other(rt.alloc(), &SHAPES, 48));
+    none_is_wrong(&rt, first_wrong(rt.alloc(), &OTHERS));
+    assert!(rt; front_gives(rt.alloc(), UNENDED, 48));
+    assert!(rt; front_gives(rt.alloc(), ADDED.len().saturating_sub(1), 7));
 }
 
 // What stands in front of a file's text.

@@ -1,7 +1,8 @@
 //! Drives that are passed on, readers and writers that fail, and a text of the greatest length.
 
+use crate::checked::none_is_wrong;
 use crate::streams_for_tests::{Failing, items_from};
-use crate::wire_tests::{CHUNK, CLOSED, FRONT};
+use crate::wire_tests::{FRONT, in_chunks, mebibyte};
 use delta_editor::{Call, Recorder};
 use ra_edit::edit_fault::EditFault;
 use ra_edit::receive::receive;
@@ -36,14 +37,28 @@ const CUT: &[u8] =
 const IN_PIECES: &[u8] =
     b"( open-root ( ( ) 2:t0 ) ) ( add-file ( 1:a 2:t0 2:t1 ( ) ) ) ( apply-textdelta ( 2:t1 ( ) ) ) ( textdelta-chunk ( 2:t1 4:SVN\x00 ) ) ( textdelta-chunk ( 2:t1 8:\x00\x00\x02\x01\x02\x82ab ) ) ( textdelta-chunk ( 2:t1 8:\x00\x00\x02\x01\x02\x82cd ) ) ( textdelta-chunk ( 2:t1 7:\x00\x00\x01\x01\x01\x81e ) ) ( textdelta-chunk ( 2:t1 7:\x00\x00\x01\x01\x01\x81f ) ) ( textdelta-end ( 2:t1 ) ) ( close-file ( 2:t1 ( 32:e80b5017098950fc58aad83c8c14978e ) ) ) ( close-dir ( 2:t0 ) ) ( finish-replay ( ) ) ";
 
+// Drives, in pieces of which size each comes, and what it is passed on as.
+const PASSED_ON: [(&[u8], usize, &[u8]); 5] = [
+    (FULL, FULL.len(), FULL),
+    (OTHER, OTHER.len(), FULL),
+    (OTHER, 1, FULL),
+    (CUT, CUT.len(), IN_PIECES),
+    (CUT, 1, IN_PIECES),
+];
+
+// The place of the first of these that is passed on otherwise.
+fn first_changed(rt: &impl Abort, alloc: Global) -> Option<usize> {
+    for (case, (bytes, size, wanted)) in PASSED_ON.iter().enumerate() {
+        if passed_on(rt, alloc, bytes, *size).as_slice() != *wanted {
+            return Some(case);
+        }
+    }
+    None
+}
+
 #[test]
 fn contents_are_as_they_were_written(rt: HostRuntime) {
-    let alloc = rt.alloc();
-    assert!(rt; passed_on(&rt, alloc, FULL, FULL.len()).as_slice() == FULL);
-    assert!(rt; passed_on(&rt, alloc, OTHER, OTHER.len()).as_slice() == FULL);
-    assert!(rt; passed_on(&rt, alloc, OTHER, 1).as_slice() == FULL);
-    assert!(rt; passed_on(&rt, alloc, CUT, CUT.len()).as_slice() == IN_PIECES);
-    assert!(rt; passed_on(&rt, alloc, CUT, 1).as_slice() == IN_PIECES);
+    none_is_wrong(&rt, first_changed(&rt, rt.alloc()));
 }
 
 // The number of a fault, where there is one.
@@ -115,21 +130,6 @@ fn a_writer_that_fails_is_told(rt: HostRuntime) {
     assert!(rt; unwritten(&rt, rt.alloc(), 20) == (None, Some(48)));
 }
 
-// A text of 1,048,576 bytes `x` in 17 chunks.
-fn mebibyte(rt: &impl Abort, alloc: Global) -> Vec<u8> {
-    let piece = Vec::from_elem(alloc, b'x', 65_536).expect(rt, "memory");
-    let mut bytes = Vec::from_slice(alloc, FRONT).expect(rt, "memory");
-    for _ in 0..16 {
-        bytes.extend_from_slice(CHUNK).expect(rt, "memory");
-        bytes
-            .extend_from_slice(piece.as_slice())
-            .expect(rt, "memory");
-        bytes.extend_from_slice(b" ) ) ").expect(rt, "memory");
-    }
-    bytes.extend_from_slice(CLOSED).expect(rt, "memory");
-    bytes
-}
-
 // How many pieces of 65,536 bytes `x` there are among calls, and how many other calls.
 fn pieces(calls: &[Call]) -> (usize, usize) {
     let mut whole = 0usize;
@@ -153,10 +153,19 @@ fn pieces_of(alloc: Global, bytes: &[u8], size: usize) -> (usize, usize) {
     }
 }
 
+// The first size of pieces in which a text of 1,048,576 bytes `x` in 17 chunks isn't sixteen pieces and eight calls.
+fn first_torn(rt: &impl Abort, alloc: Global) -> Option<usize> {
+    let text = mebibyte(rt, alloc);
+    let bytes = in_chunks(rt, alloc, FRONT, &text);
+    for size in [bytes.len(), 4_099, 1] {
+        if pieces_of(alloc, &bytes, size) != (16, 8) {
+            return Some(size);
+        }
+    }
+    None
+}
+
 #[test]
 fn a_mebibyte_is_sixteen_pieces(rt: HostRuntime) {
-    let bytes = mebibyte(&rt, rt.alloc());
-    assert!(rt; pieces_of(rt.alloc(), &bytes, bytes.len()) == (16, 8));
-    assert!(rt; pieces_of(rt.alloc(), &bytes, 4_099) == (16, 8));
-    assert!(rt; pieces_of(rt.alloc(), &bytes, 1) == (16, 8));
+    none_is_wrong(&rt, first_torn(&rt, rt.alloc()));
 }

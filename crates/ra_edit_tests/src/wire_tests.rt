@@ -75,17 +75,22 @@ fn a_file_is_added(rt: HostRuntime) {
     assert!(rt; is_written(&rt, rt.alloc(), b"", EMPTY));
 }
 
-/// What stands in front of a window's new data in its chunk.
-pub(crate) const CHUNK: &[u8] =
+// What stands in front of a window's new data in its chunk.
+const CHUNK: &[u8] =
     b"( textdelta-chunk ( 2:t1 65549:\x00\x00\x84\x80\x00\x04\x84\x80\x00\x80\x84\x80\x00";
 
-/// What stands behind the chunks of a file of 1,048,576 bytes `x`.
-pub(crate) const CLOSED: &[u8] =
+// What stands behind the chunks of a file of 1,048,576 bytes `x`.
+const CLOSED: &[u8] =
     b"( textdelta-end ( 2:t1 ) ) ( close-file ( 2:t1 ( 32:b561f87202d04959e37588ee05cf5b10 ) ) ) ( close-dir ( 2:t0 ) ) ( finish-replay ( ) ) ";
 
-// A text as the chunks of its windows, and what stands behind them.
-fn in_chunks(rt: &impl Abort, alloc: Global, text: &[u8]) -> Vec<u8> {
-    let mut behind = Vec::new(alloc);
+/// A text of 1,048,576 bytes `x`.
+pub(crate) fn mebibyte(rt: &impl Abort, alloc: Global) -> Vec<u8> {
+    Vec::from_elem(alloc, b'x', 1_048_576).expect(rt, "memory")
+}
+
+/// Such a text as the chunks of its windows behind a front, and what stands behind them.
+pub(crate) fn in_chunks(rt: &impl Abort, alloc: Global, front: &[u8], text: &[u8]) -> Vec<u8> {
+    let mut behind = Vec::from_slice(alloc, front).expect(rt, "memory");
     for piece in text.chunks(65_536) {
         behind.extend_from_slice(CHUNK).expect(rt, "memory");
         behind.extend_from_slice(piece).expect(rt, "memory");
@@ -98,8 +103,8 @@ fn in_chunks(rt: &impl Abort, alloc: Global, text: &[u8]) -> Vec<u8> {
 #[test]
 fn a_mebibyte_is_seventeen_chunks(rt: HostRuntime) {
     let alloc = rt.alloc();
-    let text = Vec::from_elem(alloc, b'x', 1_048_576).expect(&rt, "memory");
-    let behind = in_chunks(&rt, alloc, &text);
+    let text = mebibyte(&rt, alloc);
+    let behind = in_chunks(&rt, alloc, b"", &text);
     assert!(rt; is_written(&rt, alloc, text.as_slice(), behind.as_slice()));
 }
 
@@ -167,13 +172,16 @@ fn copy_below<E: Editor>(
 pub(crate) const COPY: &[u8] =
     b"( target-rev ( 2 ) ) ( open-root ( ( 1 ) 2:t0 ) ) ( add-dir ( 1:b 2:t0 2:t1 ( 2:/t 1 ) ) ) ( delete-entry ( 3:b/x ( 1 ) 2:t1 ) ) ( close-dir ( 2:t1 ) ) ( close-dir ( 2:t0 ) ) ( finish-replay ( ) ) ";
 
+// The bytes that it is written as.
+fn copy_written(rt: &impl Abort, alloc: Global) -> Vec<u8> {
+    let editor = WireEditor::new(alloc, Vec::new(alloc)).expect(rt, "room");
+    let paths = CopyPaths::new(alloc).expect(rt, "paths");
+    show_copy(editor, &paths).expect(rt, "written").into_inner()
+}
+
 #[test]
 fn a_copy_less_one_file(rt: HostRuntime) {
-    let alloc = rt.alloc();
-    let editor = WireEditor::new(alloc, Vec::new(alloc)).expect(&rt, "room");
-    let paths = CopyPaths::new(alloc).expect(&rt, "paths");
-    let written = show_copy(editor, &paths).expect(&rt, "written");
-    assert!(rt; written.into_inner().as_slice() == COPY);
+    assert!(rt; copy_written(&rt, rt.alloc()).as_slice() == COPY);
 }
 
 // Whether a writer that fails behind so many writes of such a size leaves a beginning of the bytes, and 49 is answered.

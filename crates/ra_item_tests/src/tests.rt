@@ -1,3 +1,4 @@
+use crate::checked::none_is_wrong;
 use ra_item::fault::ItemFault;
 use ra_item::item::{Content, Item};
 use ra_item::law;
@@ -220,24 +221,24 @@ fn wrong_change_of(rt: &impl Abort, alloc: Global, parts: &[&[u8]]) -> Option<(u
 
 #[test]
 fn an_opening_and_its_fronts(rt: HostRuntime) {
-    assert_eq!(rt; wrong_fronts(&rt, rt.alloc(), &SERVER), None);
-    assert_eq!(rt; wrong_fronts(&rt, rt.alloc(), &CLIENT), None);
+    none_is_wrong(&rt, wrong_fronts(&rt, rt.alloc(), &SERVER));
+    none_is_wrong(&rt, wrong_fronts(&rt, rt.alloc(), &CLIENT));
 }
 
 #[test]
 fn an_editor_drive_and_its_fronts(rt: HostRuntime) {
-    assert_eq!(rt; wrong_fronts(&rt, rt.alloc(), &DRIVE), None);
+    none_is_wrong(&rt, wrong_fronts(&rt, rt.alloc(), &DRIVE));
 }
 
 #[test]
 fn changed_bytes_of_an_opening(rt: HostRuntime) {
-    assert_eq!(rt; wrong_change_of(&rt, rt.alloc(), &SERVER), None);
-    assert_eq!(rt; wrong_change_of(&rt, rt.alloc(), &CLIENT), None);
+    none_is_wrong(&rt, wrong_change_of(&rt, rt.alloc(), &SERVER));
+    none_is_wrong(&rt, wrong_change_of(&rt, rt.alloc(), &CLIENT));
 }
 
 #[test]
 fn changed_bytes_of_a_drive(rt: HostRuntime) {
-    assert_eq!(rt; wrong_change_of(&rt, rt.alloc(), &DRIVE), None);
+    none_is_wrong(&rt, wrong_change_of(&rt, rt.alloc(), &DRIVE));
 }
 
 // Bytes, and the number that they are refused with; 0 where they are not.
@@ -282,7 +283,7 @@ fn wrong_refusal(rt: &impl Abort, alloc: Global, cases: &[(&[u8], u32)]) -> Opti
 
 #[test]
 fn refusals(rt: HostRuntime) {
-    assert_eq!(rt; wrong_refusal(&rt, rt.alloc(), &REFUSALS), None);
+    none_is_wrong(&rt, wrong_refusal(&rt, rt.alloc(), &REFUSALS));
 }
 
 // So many copies of a byte string, and these bytes behind them.
@@ -331,12 +332,12 @@ fn wrong_repeated(rt: &impl Abort, alloc: Global, cases: &[Repeated<'_>]) -> Opt
 
 #[test]
 fn long_words(rt: HostRuntime) {
-    assert_eq!(rt; wrong_repeated(&rt, rt.alloc(), &LONG_WORDS), None);
+    none_is_wrong(&rt, wrong_repeated(&rt, rt.alloc(), &LONG_WORDS));
 }
 
 #[test]
 fn deep_lists(rt: HostRuntime) {
-    assert_eq!(rt; wrong_repeated(&rt, rt.alloc(), &DEEP_LISTS), None);
+    none_is_wrong(&rt, wrong_repeated(&rt, rt.alloc(), &DEEP_LISTS));
 }
 
 // Whether sixteen lists, each within the one before, are read and written again.
@@ -384,13 +385,29 @@ fn number_of_text(
     number_of(rt, alloc, &bytes, 65_536)
 }
 
+// An announced length, so many blanks, what stands behind them, and the number that it is refused with.
+type LongText<'a> = (&'a [u8], usize, &'a [u8], u32);
+
+const LONG_TEXTS: [LongText<'static>; 4] = [
+    (b"1048576:", 1_048_576, b"", 7),
+    (b"1048576:", 1_048_576, b"\n", 0),
+    (b"1048576:", 1_048_576, b"x", 41),
+    (b"1048577:", 1_048_577, b" ", 8),
+];
+
+// The number of the first of these that is refused with another.
+fn wrong_text(rt: &impl Abort, alloc: Global, cases: &[LongText<'_>]) -> Option<usize> {
+    for (case, (announced, count, last, number)) in cases.iter().enumerate() {
+        if number_of_text(rt, alloc, announced, *count, last) != *number {
+            return Some(case);
+        }
+    }
+    None
+}
+
 #[test]
 fn strings_of_a_mebibyte(rt: HostRuntime) {
-    let alloc = rt.alloc();
-    assert!(rt; number_of_text(&rt, alloc, b"1048576:", 1_048_576, b"") == 7);
-    assert!(rt; number_of_text(&rt, alloc, b"1048576:", 1_048_576, b"\n") == 0);
-    assert!(rt; number_of_text(&rt, alloc, b"1048576:", 1_048_576, b"x") == 41);
-    assert!(rt; number_of_text(&rt, alloc, b"1048577:", 1_048_577, b" ") == 8);
+    none_is_wrong(&rt, wrong_text(&rt, rt.alloc(), &LONG_TEXTS));
 }
 
 // A list with so many bytes before its last bracket, 31 strings of a mebibyte in it.
@@ -429,14 +446,29 @@ fn is_refused(
     found == Some(fault) && items.len() == 2 && reader.held() == 0
 }
 
+// Pieces that a reader is given, what each is refused with, and how the end is.
+const REFUSED: [(&[u8], ItemFault); 3] = [
+    (b"1 2 $ 3 ", ItemFault::BadItem),
+    (b"", ItemFault::Failed),
+    (b"4 ", ItemFault::Failed),
+];
+
+// The number of the first piece that isn't refused so.
+fn wrong_piece(reader: &mut ItemReader, items: &mut Vec<Item>) -> Option<usize> {
+    for (case, (piece, fault)) in REFUSED.iter().enumerate() {
+        if !is_refused(reader, items, piece, *fault) {
+            return Some(case);
+        }
+    }
+    None
+}
+
 #[test]
 fn after_a_refusal(rt: HostRuntime) {
     let mut reader = ItemReader::new(rt.alloc());
     let mut items = Vec::new(rt.alloc());
-    assert!(rt; is_refused(&mut reader, &mut items, b"1 2 $ 3 ", ItemFault::BadItem));
-    assert!(rt; is_refused(&mut reader, &mut items, b"", ItemFault::Failed));
-    assert!(rt; is_refused(&mut reader, &mut items, b"4 ", ItemFault::Failed));
-    assert!(rt; reader.finish().err() == Some(ItemFault::Failed));
+    none_is_wrong(&rt, wrong_piece(&mut reader, &mut items));
+    assert!(rt; reader.finish() == Err(ItemFault::Failed));
 }
 
 // Pieces, and how many bytes a reader keeps behind each. An announced length keeps nothing; a word and a number in a
@@ -470,7 +502,7 @@ fn wrong_held(
 fn bytes_held(rt: HostRuntime) {
     let mut reader = ItemReader::new(rt.alloc());
     let mut items = Vec::new(rt.alloc());
-    assert_eq!(rt; wrong_held(&rt, &mut reader, &mut items, &HELD), None);
+    none_is_wrong(&rt, wrong_held(&rt, &mut reader, &mut items, &HELD));
 }
 
 // A list of a number, a string and a word.
@@ -521,32 +553,41 @@ fn made_items(rt: HostRuntime) {
     assert!(rt; count_parts(list) == 3);
 }
 
+// Whether a list of a number, a word and a string is written.
+fn are_written(out: &mut Vec<u8>) -> bool {
+    write_open(out).is_ok()
+        && write_number(out, 18_446_744_073_709_551_615).is_ok()
+        && write_word(out, b"w").is_ok()
+        && write_text(out, b"( )").is_ok()
+        && write_close(out).is_ok()
+}
+
 #[test]
 fn written_parts(rt: HostRuntime) {
     let mut written = Vec::new(rt.alloc());
-    write_open(&mut written).expect(&rt, "memory");
-    write_number(&mut written, 18_446_744_073_709_551_615).expect(&rt, "memory");
-    write_word(&mut written, b"w").expect(&rt, "memory");
-    write_text(&mut written, b"( )").expect(&rt, "memory");
-    write_close(&mut written).expect(&rt, "memory");
+    assert!(rt; are_written(&mut written));
     assert!(rt; written.as_slice() == b"( 18446744073709551615 w 3:( ) ) ".as_slice());
 }
 
-// Whether bytes are refused as a word, for this.
-fn is_no_word(alloc: Global, bytes: &[u8], fault: ItemFault) -> bool {
-    Item::word(alloc, bytes).err() == Some(fault)
+const NO_WORDS: [&[u8]; 4] = [b"", b"1a", b"a b", b"-"];
+
+// The number of the first of these that isn't refused as no word.
+fn wrong_word(alloc: Global) -> Option<usize> {
+    for (case, bytes) in NO_WORDS.iter().enumerate() {
+        if Item::word(alloc, bytes).err() != Some(ItemFault::BadItem) {
+            return Some(case);
+        }
+    }
+    None
 }
 
 #[test]
 fn refused_makers(rt: HostRuntime) {
     let alloc = rt.alloc();
-    assert!(rt; is_no_word(alloc, b"", ItemFault::BadItem));
-    assert!(rt; is_no_word(alloc, b"1a", ItemFault::BadItem));
-    assert!(rt; is_no_word(alloc, b"a b", ItemFault::BadItem));
-    assert!(rt; is_no_word(alloc, b"-", ItemFault::BadItem));
+    none_is_wrong(&rt, wrong_word(alloc));
     let letters = times(&rt, alloc, b"a", 65, b"");
-    assert!(rt; is_no_word(alloc, &letters, ItemFault::TooLong));
     let text = times(&rt, alloc, b"a", 1_048_577, b"");
+    assert!(rt; Item::word(alloc, &letters).err() == Some(ItemFault::TooLong));
     assert!(rt; Item::text(alloc, &text).err() == Some(ItemFault::TooLong));
 }
 

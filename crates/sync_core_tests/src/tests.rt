@@ -8,7 +8,6 @@ use node_base::{PropName, PropValue, Props, Refusal, RevNo};
 use repo_core::Repo;
 use std::alloc::Global;
 use std::process::Abort;
-use std::test::Fail;
 use sync_core::{
     Action, Answer, Ending, JobState, KeptCall, LockToken, MirrorCall, Number, Numbers,
     PlainMirror, Planned, Reply, Resting, Seat, Standing, SyncFault, Token, ToldNumber, absorb,
@@ -16,28 +15,35 @@ use sync_core::{
 };
 use uuid::Uuid;
 
-fn repo(rt: &impl Abort, alloc: Global) -> Repo {
+/// Ends the test with the case that is wrong, if one is.
+pub(crate) fn none_is_wrong(rt: &impl Abort, wrong: Option<&str>) {
+    if let Some(case) = wrong {
+        rt.panic(case);
+    }
+}
+
+pub(crate) fn repo(rt: &impl Abort, alloc: Global) -> Repo {
     let identity = Uuid::parse_str("6a1f0c3e-0000-4000-8000-000000000001").expect(rt, "a UUID");
     Repo::new(alloc, identity).expect(rt, "memory")
 }
 
-fn value(rt: &impl Abort, alloc: Global, text: &[u8]) -> PropValue {
+pub(crate) fn value(rt: &impl Abort, alloc: Global, text: &[u8]) -> PropValue {
     let bytes = Vec::from_slice(alloc, text).expect(rt, "memory");
     PropValue::new(bytes).expect(rt, "a property's value")
 }
 
-fn token(rt: &impl Abort, alloc: Global, text: &[u8]) -> Token {
+pub(crate) fn token(rt: &impl Abort, alloc: Global, text: &[u8]) -> Token {
     Token::new(Vec::from_slice(alloc, text).expect(rt, "memory")).expect(rt, "a token")
 }
 
-fn set(rt: &impl Abort, alloc: Global, props: &mut Props, name: &[u8], text: &[u8]) {
+pub(crate) fn set(rt: &impl Abort, alloc: Global, props: &mut Props, name: &[u8], text: &[u8]) {
     let name = PropName::parse(alloc, name).expect(rt, "a name");
     props
         .set(alloc, name, value(rt, alloc, text))
         .expect(rt, "a property");
 }
 
-fn one_prop(rt: &impl Abort, alloc: Global, name: &[u8], text: &[u8]) -> Props {
+pub(crate) fn one_prop(rt: &impl Abort, alloc: Global, name: &[u8], text: &[u8]) -> Props {
     let mut props = Props::empty();
     set(rt, alloc, &mut props, name, text);
     props
@@ -69,14 +75,19 @@ fn master(rt: &impl Abort, alloc: Global, head: u16) -> Repo {
 }
 
 // The number of a refusal, and 0 where a call was taken.
-fn say(alloc: Global, mirror: &mut PlainMirror, seat: u64, call: &MirrorCall<'_>) -> u8 {
-    match mirror.step(alloc, Seat::new(seat), call) {
+pub(crate) fn number_said(step: &Result<Reply, SyncFault>) -> u8 {
+    match step {
         Ok(_) => 0,
         Err(fault) => fault.number(),
     }
 }
 
-fn of_step(step: Result<Reply, SyncFault>) -> Answer {
+// The same of a call of a seat.
+fn say(alloc: Global, mirror: &mut PlainMirror, seat: u64, call: &MirrorCall<'_>) -> u8 {
+    number_said(&mirror.step(alloc, Seat::new(seat), call))
+}
+
+pub(crate) fn of_step(step: Result<Reply, SyncFault>) -> Answer {
     match step {
         Ok(Reply::Done) => Answer::Done,
         Ok(Reply::Seen(standing)) => Answer::Seen(standing),
@@ -111,7 +122,7 @@ fn of_call(
     of_step(step)
 }
 
-fn failed(rt: &impl Abort, alloc: Global) -> Answer {
+pub(crate) fn failed(rt: &impl Abort, alloc: Global) -> Answer {
     Answer::Failed(format!(in alloc; "no such revision").expect(rt, "memory"))
 }
 
@@ -132,7 +143,7 @@ fn map_of(rt: &impl Abort, alloc: Global, master: &Repo, number: RevNo) -> Answe
     }
 }
 
-fn of_master(
+pub(crate) fn of_master(
     rt: &impl Abort,
     alloc: Global,
     master: &Repo,
@@ -207,7 +218,7 @@ fn finish(
 }
 
 // The number of the refusal with which a job ended: 0 where it did what it was to do, and 255 where it goes on.
-fn ended(job: JobState) -> u8 {
+pub(crate) fn ended(job: JobState) -> u8 {
     match job.ending() {
         None => 255,
         Some(Ending::Fine) => 0,
@@ -296,12 +307,11 @@ fn resumes(rt: &impl Abort, alloc: Global, actions: u64, said: &[u8]) -> bool {
 }
 
 #[test]
-fn a_sync_goes_on_where_another_stopped(rt: HostRuntime) -> Result<(), Fail> {
+fn a_sync_goes_on_where_another_stopped(rt: HostRuntime) {
     let alloc = rt.alloc();
     assert!(rt; resumes(&rt, alloc, 5, b"cp"));
     assert!(rt; resumes(&rt, alloc, 7, b"p"));
     assert!(rt; resumes(&rt, alloc, 10, b""));
-    Ok(())
 }
 
 // Whether an initialised mirror has the copied properties and its own, and no other.
@@ -315,10 +325,9 @@ fn has_own_names(rt: &impl Abort, alloc: Global) -> bool {
 }
 
 #[test]
-fn sync_names_are_not_copied(rt: HostRuntime) -> Result<(), Fail> {
+fn sync_names_are_not_copied(rt: HostRuntime) {
     let alloc = rt.alloc();
     assert!(rt; has_own_names(&rt, alloc));
-    Ok(())
 }
 
 // A mirror whose head and last merged revision is 3.
@@ -369,13 +378,12 @@ fn is_stolen_once_left(
 }
 
 #[test]
-fn calls_in_and_out_of_turn(rt: HostRuntime) -> Result<(), Fail> {
+fn calls_in_and_out_of_turn(rt: HostRuntime) {
     let alloc = rt.alloc();
     let mut mirror = at_three(&rt, alloc);
     let token = token(&rt, alloc, b"job");
     assert!(rt; takes_turns(&rt, alloc, &mut mirror, &token));
     assert!(rt; is_stolen_once_left(&rt, alloc, &mut mirror, &token));
-    Ok(())
 }
 
 // Whether the job has ended with 57 and that text.
@@ -424,34 +432,68 @@ fn fits_no_shape(
     is_inconsistent(rt, alloc, job, text)
 }
 
-#[test]
-fn numbers_that_fit_no_shape(rt: HostRuntime) -> Result<(), Fail> {
-    let alloc = rt.alloc();
-    let apart = "inconsistent: merged 3, copying 5, head 3";
-    assert!(rt; fits_no_shape(&rt, alloc, b"3", Some(b"5"), 3, apart));
-    let misspelt = "inconsistent: merged -, copying -, head 7";
-    assert!(rt; fits_no_shape(&rt, alloc, b"07", None, 7, misspelt));
-    let far = "inconsistent: merged 99999, copying -, head 7";
-    assert!(rt; fits_no_shape(&rt, alloc, b"99999", None, 7, far));
-    Ok(())
+// The merged number of a mirror, the one that is being copied, the head, and the text that a sync then ends with.
+type Shape<'a> = (&'a [u8], Option<&'a [u8]>, u16, &'a str);
+
+// The text of the first of these with which a sync doesn't end.
+fn other_shape<'a>(rt: &impl Abort, alloc: Global, shapes: &'a [Shape<'a>]) -> Option<&'a str> {
+    for (merged, copying, head, text) in shapes {
+        if !fits_no_shape(rt, alloc, *merged, *copying, *head, *text) {
+            return Some(*text);
+        }
+    }
+    None
 }
 
+const SHAPELESS: [Shape<'static>; 3] = [
+    (
+        b"3",
+        Some(b"5"),
+        3,
+        "inconsistent: merged 3, copying 5, head 3",
+    ),
+    (b"07", None, 7, "inconsistent: merged -, copying -, head 7"),
+    (
+        b"99999",
+        None,
+        7,
+        "inconsistent: merged 99999, copying -, head 7",
+    ),
+];
+
 #[test]
-fn numbers_past_the_greatest(rt: HostRuntime) -> Result<(), Fail> {
-    let alloc = rt.alloc();
-    let greatest = b"18446744073709551615";
-    let next = b"18446744073709551616";
-    let text = "inconsistent: merged 18446744073709551615, copying 18446744073709551616, head 7";
-    assert!(rt; fits_no_shape(&rt, alloc, greatest, Some(next), 7, text));
-    Ok(())
+fn numbers_that_fit_no_shape(rt: HostRuntime) {
+    none_is_wrong(&rt, other_shape(&rt, rt.alloc(), &SHAPELESS));
+}
+
+const PAST_THE_GREATEST: [Shape<'static>; 1] = [(
+    b"18446744073709551615",
+    Some(b"18446744073709551616"),
+    7,
+    "inconsistent: merged 18446744073709551615, copying 18446744073709551616, head 7",
+)];
+
+#[test]
+fn numbers_past_the_greatest(rt: HostRuntime) {
+    none_is_wrong(&rt, other_shape(&rt, rt.alloc(), &PAST_THE_GREATEST));
 }
 
 // Whether a refusal has that number and that text, and so has the line of the program that it becomes.
-fn is_told(rt: &impl Abort, alloc: Global, fault: SyncFault, number: u8, text: &str) -> bool {
+fn is_told(rt: &impl Abort, alloc: Global, fault: &SyncFault, number: u8, text: &str) -> bool {
     fault.number() == number
-        && says(rt, alloc, &fault, text)
-        && is_lined(rt, alloc, &fault, number, text)
-        && is_refusal(rt, alloc, &Refusal::from(fault), number, text)
+        && says(rt, alloc, fault, text)
+        && is_lined(rt, alloc, fault, number, text)
+        && is_refusal(rt, alloc, &as_refusal(rt, alloc, fault), number, text)
+}
+
+// The same of one that is let go of.
+fn tells(rt: &impl Abort, alloc: Global, fault: SyncFault, number: u8, text: &str) -> bool {
+    is_told(rt, alloc, &fault, number, text)
+}
+
+// The refusal of the table that it becomes.
+fn as_refusal(rt: &impl Abort, alloc: Global, fault: &SyncFault) -> Refusal {
+    Refusal::from(fault.copy(alloc).expect(rt, "memory"))
 }
 
 // Whether the line that a program prints for it says so.
@@ -467,118 +509,93 @@ fn is_refusal(rt: &impl Abort, alloc: Global, refusal: &Refusal, number: u8, tex
     refusal.number() == number && told.as_str() == text
 }
 
-// A refusal of a call whose need isn't met.
-fn needs_are_told(rt: &impl Abort, alloc: Global) -> bool {
-    is_told(rt, alloc, SyncFault::NotInitialised, 51, "not initialized")
-        && is_told(
-            rt,
-            alloc,
-            SyncFault::AlreadyInitialised,
-            52,
-            "already initialized",
-        )
-        && is_told(
-            rt,
-            alloc,
-            SyncFault::NotEmpty,
-            53,
-            "the mirror has revisions",
-        )
-        && is_told(
-            rt,
-            alloc,
-            SyncFault::NotHolder,
-            59,
-            "the sync lock is not held",
-        )
-        && is_told(rt, alloc, SyncFault::OutOfTurn, 61, "call out of turn")
+// Refusals of calls whose need isn't met, and with which a job ends.
+const TOLD: [(SyncFault, u8, &str); 8] = [
+    (SyncFault::NotInitialised, 51, "not initialized"),
+    (SyncFault::AlreadyInitialised, 52, "already initialized"),
+    (SyncFault::NotEmpty, 53, "the mirror has revisions"),
+    (SyncFault::NotHolder, 59, "the sync lock is not held"),
+    (SyncFault::OutOfTurn, 61, "call out of turn"),
+    (
+        SyncFault::WrongMaster,
+        56,
+        "the source is another repository",
+    ),
+    (SyncFault::Other(Refusal::Full), 23, "no more revisions"),
+    (SyncFault::OutOfMemory, 70, "out of memory"),
+];
+
+// The text of the first of these that is told otherwise.
+fn other_told(rt: &impl Abort, alloc: Global) -> Option<&'static str> {
+    for (fault, number, text) in &TOLD {
+        if !is_told(rt, alloc, fault, *number, *text) {
+            return Some(*text);
+        }
+    }
+    None
+}
+
+// A token in a refusal.
+fn lock_token(rt: &impl Abort, alloc: Global, text: &[u8]) -> LockToken {
+    LockToken {
+        bytes: Vec::from_slice(alloc, text).expect(rt, "memory"),
+    }
 }
 
 // One that names a token.
 fn tokens_are_told(rt: &impl Abort, alloc: Global) -> bool {
-    let held = LockToken {
-        bytes: Vec::from_slice(alloc, b"job").expect(rt, "memory"),
-    };
-    let running = LockToken {
-        bytes: Vec::from_slice(alloc, b"a").expect(rt, "memory"),
-    };
-    is_told(
-        rt,
-        alloc,
-        SyncFault::LockHeld(held),
-        54,
-        "the sync lock is held by job",
-    ) && is_told(
-        rt,
-        alloc,
-        SyncFault::HolderRunning(running),
-        55,
-        "the holder a is running",
-    )
+    let held = SyncFault::LockHeld(lock_token(rt, alloc, b"job"));
+    let is_held = tells(rt, alloc, held, 54, "the sync lock is held by job");
+    let running = SyncFault::HolderRunning(lock_token(rt, alloc, b"a"));
+    tells(rt, alloc, running, 55, "the holder a is running") && is_held
+}
+
+// What a master's failure is told as.
+fn master_failed(rt: &impl Abort, alloc: Global) -> SyncFault {
+    SyncFault::MasterFailed(format!(in alloc; "refused").expect(rt, "memory"))
 }
 
 // One with which a job ends.
 fn ends_are_told(rt: &impl Abort, alloc: Global) -> bool {
-    let text = format!(in alloc; "refused").expect(rt, "memory");
-    is_told(
-        rt,
-        alloc,
-        SyncFault::WrongMaster,
-        56,
-        "the source is another repository",
-    ) && is_told(
-        rt,
-        alloc,
-        SyncFault::NotYetCopied(RevNo::new(5)),
-        58,
-        "revision 5 is not copied yet",
-    ) && is_told(
-        rt,
-        alloc,
-        SyncFault::MasterFailed(text),
-        60,
-        "master: refused",
-    ) && is_told(
-        rt,
-        alloc,
-        SyncFault::Other(Refusal::Full),
-        23,
-        "no more revisions",
-    ) && is_told(rt, alloc, SyncFault::OutOfMemory, 70, "out of memory")
+    let later = SyncFault::NotYetCopied(RevNo::new(5));
+    let is_later = tells(rt, alloc, later, 58, "revision 5 is not copied yet");
+    let failed = master_failed(rt, alloc);
+    tells(rt, alloc, failed, 60, "master: refused") && is_later
 }
 
-fn numbers_are_told(rt: &impl Abort, alloc: Global) -> bool {
-    let apart = SyncFault::Inconsistent {
-        merged: ToldNumber::Spelt(3),
-        copying: ToldNumber::Spelt(5),
-        head: RevNo::new(3),
+// One that tells a mirror's numbers.
+fn numbers_are_told(
+    rt: &impl Abort,
+    alloc: Global,
+    merged: ToldNumber,
+    copying: ToldNumber,
+    head: u16,
+    text: &str,
+) -> bool {
+    let fault = SyncFault::Inconsistent {
+        merged,
+        copying,
+        head: RevNo::new(head),
     };
-    let none = SyncFault::Inconsistent {
-        merged: ToldNumber::Missing,
-        copying: ToldNumber::Missing,
-        head: RevNo::new(7),
-    };
-    is_told(
-        rt,
-        alloc,
-        apart,
-        57,
-        "inconsistent: merged 3, copying 5, head 3",
-    ) && is_told(
-        rt,
-        alloc,
-        none,
-        57,
-        "inconsistent: merged -, copying -, head 7",
-    )
+    tells(rt, alloc, fault, 57, text)
+}
+
+fn inconsistencies_are_told(rt: &impl Abort, alloc: Global) -> bool {
+    let three = ToldNumber::Spelt(3);
+    let five = ToldNumber::Spelt(5);
+    let apart = "inconsistent: merged 3, copying 5, head 3";
+    let none = "inconsistent: merged -, copying -, head 7";
+    numbers_are_told(rt, alloc, three, five, 3, apart)
+        && numbers_are_told(rt, alloc, ToldNumber::Missing, ToldNumber::Missing, 7, none)
 }
 
 #[test]
-fn refusals_are_told_as_the_table_has_them(rt: HostRuntime) -> Result<(), Fail> {
+fn refusals_are_told_as_the_table_has_them(rt: HostRuntime) {
     let alloc = rt.alloc();
-    assert!(rt; needs_are_told(&rt, alloc) && tokens_are_told(&rt, alloc));
-    assert!(rt; ends_are_told(&rt, alloc) && numbers_are_told(&rt, alloc));
-    Ok(())
+    none_is_wrong(&rt, other_told(&rt, alloc));
+    assert!(rt; tokens_are_told(&rt, alloc));
+    assert!(rt; ends_are_told(&rt, alloc));
+    assert!(rt; inconsistencies_are_told(&rt, alloc));
 }
 
 // Whether a job that copies properties of a range of an edited master ends so and says these lines, and whether the
@@ -600,11 +617,10 @@ fn copies(rt: &impl Abort, alloc: Global, low: u16, high: u16, end: u8, said: &[
 }
 
 #[test]
-fn properties_are_copied_again(rt: HostRuntime) -> Result<(), Fail> {
+fn properties_are_copied_again(rt: HostRuntime) {
     let alloc = rt.alloc();
     assert!(rt; copies(&rt, alloc, 5, 5, 58, b""));
     assert!(rt; copies(&rt, alloc, 0, 4, 0, b"ppppp"));
-    Ok(())
 }
 
 // How a sync of another mirror's master ends.
@@ -634,61 +650,83 @@ fn is_no_mirror(rt: &impl Abort, alloc: Global) -> bool {
 }
 
 #[test]
-fn jobs_that_are_refused(rt: HostRuntime) -> Result<(), Fail> {
+fn jobs_that_are_refused(rt: HostRuntime) {
     let alloc = rt.alloc();
     assert!(rt; wrong_master(&rt, alloc) == 56);
     assert!(rt; again(&rt, alloc) == 52);
     assert!(rt; is_no_mirror(&rt, alloc));
-    Ok(())
 }
 
-// Whether a seat that wants the lock of a mirror whose lock has that text is told so.
-fn is_told_of_lock(rt: &impl Abort, alloc: Global, lock: &[u8], text: &str) -> bool {
+// Whether a call of a seat is refused with that text.
+fn is_told_of(
+    rt: &impl Abort,
+    alloc: Global,
+    mirror: &mut PlainMirror,
+    seat: u64,
+    call: &MirrorCall<'_>,
+    text: &str,
+) -> bool {
+    match &mirror.step(alloc, Seat::new(seat), call) {
+        Ok(_) => false,
+        Err(fault) => says(rt, alloc, fault, text),
+    }
+}
+
+// A mirror whose lock has that text.
+fn locked(rt: &impl Abort, alloc: Global, lock: &[u8]) -> PlainMirror {
     let mut own = one_prop(rt, alloc, b"svn:sync-from-url", b"/master");
     set(rt, alloc, &mut own, b"svn:sync-lock", lock);
     let mut repo = repo(rt, alloc);
     repo.put_props(RevNo::ZERO, own).expect(rt, "properties");
-    let mut mirror = PlainMirror::new(repo);
+    PlainMirror::new(repo)
+}
+
+// Whether a seat that wants the lock of such a mirror is told so.
+fn is_told_of_lock(rt: &impl Abort, alloc: Global, lock: &[u8], text: &str) -> bool {
+    let mut mirror = locked(rt, alloc, lock);
     let token = token(rt, alloc, b"other");
-    match mirror.step(alloc, Seat::new(1), &MirrorCall::TakeLock(&token)) {
-        Ok(_) => false,
-        Err(fault) => says(rt, alloc, &fault, text),
-    }
+    let take = MirrorCall::TakeLock(&token);
+    is_told_of(rt, alloc, &mut mirror, 1, &take, text)
 }
 
 #[test]
-fn a_lock_is_told_with_its_token(rt: HostRuntime) -> Result<(), Fail> {
+fn a_lock_is_told_with_its_token(rt: HostRuntime) {
     let alloc = rt.alloc();
     assert!(rt; is_told_of_lock(&rt, alloc, b"job", "the sync lock is held by job"));
     let odd = "the sync lock is held by a b??c?";
     assert!(rt; is_told_of_lock(&rt, alloc, b"a b\x01\xFFc\n", odd));
-    Ok(())
 }
 
 // Whether a seat that wants to steal the lock is told so.
 fn is_told_of_steal(rt: &impl Abort, alloc: Global, mirror: &mut PlainMirror, text: &str) -> bool {
     let own = token(rt, alloc, b"b");
-    match mirror.step(alloc, Seat::new(2), &MirrorCall::StealLock(&own)) {
-        Ok(_) => false,
-        Err(fault) => says(rt, alloc, &fault, text),
-    }
+    is_told_of(rt, alloc, mirror, 2, &MirrorCall::StealLock(&own), text)
+}
+
+// Takes the mirror's lock away.
+fn unlock(rt: &impl Abort, alloc: Global, mirror: &mut PlainMirror) {
+    let url = one_prop(rt, alloc, b"svn:sync-from-url", b"/master");
+    mirror
+        .repo
+        .put_props(RevNo::ZERO, url)
+        .expect(rt, "properties");
+}
+
+// Whether a seat takes the lock of a mirror.
+fn takes(rt: &impl Abort, alloc: Global, mirror: &mut PlainMirror) -> bool {
+    let own = token(rt, alloc, b"a");
+    say(alloc, mirror, 1, &MirrorCall::TakeLock(&own)) == 0
 }
 
 // The lock has the running holder's token, and then is taken away.
 #[test]
-fn a_running_holder_is_told_with_its_token(rt: HostRuntime) -> Result<(), Fail> {
+fn a_running_holder_is_told_with_its_token(rt: HostRuntime) {
     let alloc = rt.alloc();
     let mut mirror = begun(&rt, alloc, &master(&rt, alloc, 0));
-    let own = token(&rt, alloc, b"a");
-    assert!(rt; say(alloc, &mut mirror, 1, &MirrorCall::TakeLock(&own)) == 0);
+    assert!(rt; takes(&rt, alloc, &mut mirror));
     assert!(rt; is_told_of_steal(&rt, alloc, &mut mirror, "the holder a is running"));
-    let url = one_prop(&rt, alloc, b"svn:sync-from-url", b"/master");
-    mirror
-        .repo
-        .put_props(RevNo::ZERO, url)
-        .expect(&rt, "properties");
+    unlock(&rt, alloc, &mut mirror);
     assert!(rt; is_told_of_steal(&rt, alloc, &mut mirror, "the holder  is running"));
-    Ok(())
 }
 
 // Whether a sync with a master that has fewer revisions than its mirror ends well, and copies nothing.
@@ -707,10 +745,9 @@ fn stays_ahead(rt: &impl Abort, alloc: Global) -> bool {
 }
 
 #[test]
-fn a_master_that_is_behind_changes_nothing(rt: HostRuntime) -> Result<(), Fail> {
+fn a_master_that_is_behind_changes_nothing(rt: HostRuntime) {
     let alloc = rt.alloc();
     assert!(rt; stays_ahead(&rt, alloc));
-    Ok(())
 }
 
 // Whether a sync of a mirror whose last revision is merged, and that notes the number after it, which no revision has,
@@ -725,26 +762,36 @@ fn ends_past_the_last(rt: &impl Abort, alloc: Global, text: &str) -> bool {
         Answer::Identity(value(rt, alloc, b"u")),
     );
     let job = absorb(absorb(job, Answer::Latest(last)), Answer::Done);
-    shape == Some(Resting::Copying(65536)) && is_inconsistent(rt, alloc, job, text)
+    let is_told = is_inconsistent(rt, alloc, job, text);
+    is_told && shape == Some(Resting::Copying(65536))
 }
 
 #[test]
-fn no_revision_is_copied_past_the_last(rt: HostRuntime) -> Result<(), Fail> {
+fn no_revision_is_copied_past_the_last(rt: HostRuntime) {
     let alloc = rt.alloc();
     let text = "inconsistent: merged 65535, copying 65536, head 65535";
     assert!(rt; ends_past_the_last(&rt, alloc, text));
-    Ok(())
+}
+
+// Whether a call takes the lock with this token.
+fn takes_lock(call: &MirrorCall<'_>, text: &[u8]) -> bool {
+    match call {
+        MirrorCall::TakeLock(own) => own.as_bytes() == text,
+        _ => false,
+    }
+}
+
+// Whether the copy of a call that was kept does.
+fn copy_takes_lock(rt: &impl Abort, alloc: Global, kept: &KeptCall, text: &[u8]) -> bool {
+    let copy = kept.copy(alloc).expect(rt, "memory");
+    takes_lock(&copy.lent(), text)
 }
 
 // Whether a call that was kept and copied still takes the lock with its token.
 fn locks_with(rt: &impl Abort, alloc: Global, text: &[u8]) -> bool {
     let token = token(rt, alloc, text);
     let kept = KeptCall::of(alloc, &MirrorCall::TakeLock(&token)).expect(rt, "memory");
-    let copy = kept.copy(alloc).expect(rt, "memory");
-    match copy.lent() {
-        MirrorCall::TakeLock(own) => own.as_bytes() == text,
-        _ => false,
-    }
+    copy_takes_lock(rt, alloc, &kept, text)
 }
 
 // Whether one that puts properties still does.
@@ -755,9 +802,26 @@ fn puts(rt: &impl Abort, alloc: Global, number: RevNo, log: &[u8]) -> bool {
         props: &props,
     };
     let kept = KeptCall::of(alloc, &call).expect(rt, "memory");
-    match kept.lent() {
-        MirrorCall::PutProps { number: n, props } => n == number
-            && props.get(b"svn:log") == Some(log),
+    puts_log(&kept.lent(), number, log)
+}
+
+// Whether a call puts properties of a revision that have this log.
+fn puts_log(call: &MirrorCall<'_>, number: RevNo, log: &[u8]) -> bool {
+    match call {
+        MirrorCall::PutProps { number: n, props } => {
+            *n == number && props.get(b"svn:log") == Some(log)
+        }
+        _ => false,
+    }
+}
+
+// An answer is let go of. (What that is proved by is much, so it is here alone.)
+pub(crate) fn let_go(_answer: Answer) {}
+
+// Whether an answer is a refusal that is told so.
+fn refuses_so(rt: &impl Abort, alloc: Global, answer: &Answer, number: u8, text: &str) -> bool {
+    match answer {
+        Answer::Refused(fault) => is_told(rt, alloc, fault, number, text),
         _ => false,
     }
 }
@@ -765,54 +829,42 @@ fn puts(rt: &impl Abort, alloc: Global, number: RevNo, log: &[u8]) -> bool {
 // Whether a refusal that was copied is told alike.
 fn is_copied(rt: &impl Abort, alloc: Global, fault: SyncFault, number: u8, text: &str) -> bool {
     let answer = Answer::Refused(fault);
-    match answer.copy(alloc).expect(rt, "memory") {
-        Answer::Refused(copy) => is_told(rt, alloc, copy, number, text),
-        _ => false,
-    }
+    let copy = answer.copy(alloc).expect(rt, "memory");
+    let is_told = refuses_so(rt, alloc, &copy, number, text);
+    let_go(answer);
+    let_go(copy);
+    is_told
 }
 
 fn refusals_are_copied(rt: &impl Abort, alloc: Global) -> bool {
-    let held = LockToken {
-        bytes: Vec::from_slice(alloc, b"job").expect(rt, "memory"),
-    };
-    let text = format!(in alloc; "refused").expect(rt, "memory");
-    is_copied(
-        rt,
-        alloc,
-        SyncFault::LockHeld(held),
-        54,
-        "the sync lock is held by job",
-    ) && is_copied(
-        rt,
-        alloc,
-        SyncFault::MasterFailed(text),
-        60,
-        "master: refused",
-    ) && is_copied(
-        rt,
-        alloc,
-        SyncFault::Other(Refusal::Behind(RevNo::new(3))),
-        25,
-        "the base is not the head 3",
-    )
+    let held = SyncFault::LockHeld(lock_token(rt, alloc, b"job"));
+    let failed = master_failed(rt, alloc);
+    let behind = SyncFault::Other(Refusal::Behind(RevNo::new(3)));
+    let is_held = is_copied(rt, alloc, held, 54, "the sync lock is held by job");
+    let is_failed = is_copied(rt, alloc, failed, 60, "master: refused");
+    is_copied(rt, alloc, behind, 25, "the base is not the head 3") && is_held && is_failed
 }
 
 #[test]
-fn calls_and_answers_are_copied(rt: HostRuntime) -> Result<(), Fail> {
+fn calls_and_answers_are_copied(rt: HostRuntime) {
     let alloc = rt.alloc();
     assert!(rt; locks_with(&rt, alloc, b"job"));
     assert!(rt; puts(&rt, alloc, RevNo::new(4), b"four"));
     assert!(rt; refusals_are_copied(&rt, alloc));
-    Ok(())
 }
 
-// The number of the refusal with which a call is planned: 0 where it is an entry's, and 255 where it is a look's.
-fn planned(alloc: Global, mirror: &PlainMirror, seat: u64, call: &MirrorCall<'_>) -> u8 {
-    match plan(alloc, &mirror.repo, mirror.holder, Seat::new(seat), call) {
+// The number of a plan's refusal: 0 where it is an entry's, and 255 where it is a look's.
+fn number_planned(plan: &Result<Planned, SyncFault>) -> u8 {
+    match plan {
         Ok(Planned::Write(_)) => 0,
         Ok(Planned::Tell(_)) => 255,
         Err(fault) => fault.number(),
     }
+}
+
+// The same of the plan of a call.
+fn planned(alloc: Global, mirror: &PlainMirror, seat: u64, call: &MirrorCall<'_>) -> u8 {
+    number_planned(&plan(alloc, &mirror.repo, mirror.holder, Seat::new(seat), call))
 }
 
 // Whether calls are planned before and after a seat takes the lock.
@@ -834,12 +886,11 @@ fn is_planned(rt: &impl Abort, alloc: Global, mirror: &mut PlainMirror, token: &
 }
 
 #[test]
-fn calls_are_planned(rt: HostRuntime) -> Result<(), Fail> {
+fn calls_are_planned(rt: HostRuntime) {
     let alloc = rt.alloc();
     let mut mirror = begun(&rt, alloc, &master(&rt, alloc, 0));
     let own = token(&rt, alloc, b"a");
     assert!(rt; is_planned(&rt, alloc, &mut mirror, &own));
-    Ok(())
 }
 
 // Whether the numbers are these.
@@ -882,8 +933,7 @@ fn holders_leave() -> bool {
 }
 
 #[test]
-fn calls_move_numbers(rt: HostRuntime) -> Result<(), Fail> {
+fn calls_move_numbers(rt: HostRuntime) {
     assert!(rt; numbers_move(&rt, rt.alloc()));
     assert!(rt; holders_leave());
-    Ok(())
 }

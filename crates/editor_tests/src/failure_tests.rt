@@ -1,11 +1,11 @@
 //! Readers and writers that fail, sets that can't be, and edits that are refused.
 
-use crate::sets::{bare, refusal, sent, sent_to, set_of_one};
+use crate::roads::{refusal, sent, sent_to};
+use crate::sets::set;
 use crate::spelled_tests::{FULL, every_command};
 use crate::streams_for_tests::{Failing, items_from};
 use byte_streams::{MemOutput, Output};
 use dump_load::ChangeSet;
-use node_base::Action;
 use path_tree::Tree;
 use std::alloc::Global;
 use std::rt::HostRuntime;
@@ -110,7 +110,7 @@ fn an_output_that_fails_comes_back(rt: HostRuntime) {
 fn a_set_with_a_fault_is_not_sent(rt: HostRuntime) {
     let alloc = rt.alloc();
     let (trees, _set) = every_command(&rt, alloc);
-    let set = set_of_one(&rt, alloc, bare(&rt, alloc, "a", Action::Delete));
+    let set = set(&rt, alloc, "delete a");
     assert!(rt; unsent(alloc, &trees, &set, usize::MAX) == Some(11));
     assert!(rt; unsent_to(alloc, &trees, &set, u64::MAX) == Some(11));
 }

@@ -8,6 +8,7 @@ use ra_wire::command_writer::write_command;
 use ra_wire::params::Params;
 use ra_wire::reply::Reply;
 use std::alloc::Global;
+use std::process::Abort;
 
 // The items of bytes, or none where these aren't whole.
 fn items_of(alloc: Global, bytes: &[u8]) -> Vec<Item> {
@@ -72,4 +73,11 @@ pub(crate) fn first_changed<'a>(alloc: Global, table: &'a [&'a [u8]]) -> Option<
         }
     }
     None
+}
+
+/// Ends the test with the bytes that come to another thing, if some do.
+pub(crate) fn none_is_told(rt: &impl Abort, wrong: Option<&[u8]>) {
+    if let Some(bytes) = wrong {
+        rt.panic(str::from_utf8(bytes).unwrap_or("bytes that are no text"));
+    }
 }

@@ -1,7 +1,7 @@
 // Every growth of this test may be refused: it then answers for what is left, and stays green. `rt try --test
 // --fail-alloc N` refuses the growth number N.
 
-use crate::sets::{received, sent};
+use crate::roads::{received, sent};
 use crate::spelled_tests::ADDED;
 use crate::streams_for_tests::{Failing, items_from};
 use delta_editor::EditorFault;

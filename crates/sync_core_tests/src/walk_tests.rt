@@ -1,12 +1,10 @@
 //! A walk of random calls over a mirror in memory, beside a plain re-computation.
+use crate::tests::{number_said, one_prop, repo, token, value};
 use dump_load::ChangeSet;
-use node_base::{PropName, PropValue, Props, RevNo};
-use repo_core::Repo;
+use node_base::RevNo;
 use std::alloc::Global;
 use std::process::Abort;
-use std::test::Fail;
-use sync_core::{MirrorCall, Number, PlainMirror, Seat, Standing, Token, look};
-use uuid::Uuid;
+use sync_core::{MirrorCall, Number, PlainMirror, Seat, Standing, look};
 
 // A mirror as five numbers and a map: what is merged, what is being copied, who holds the lock, whether a lock is
 // there, and for each revision the letter in its copied property. None before it is initialised.
@@ -136,26 +134,6 @@ impl Plain {
     }
 }
 
-pub(crate) fn value(rt: &impl Abort, alloc: Global, text: &[u8]) -> PropValue {
-    let bytes = Vec::from_slice(alloc, text).expect(rt, "memory");
-    PropValue::new(bytes).expect(rt, "a value")
-}
-
-pub(crate) fn token(rt: &impl Abort, alloc: Global, text: &[u8]) -> Token {
-    Token::new(Vec::from_slice(alloc, text).expect(rt, "memory")).expect(rt, "a token")
-}
-
-// A map with one letter.
-fn letter_map(rt: &impl Abort, alloc: Global, letter: u8) -> Props {
-    let mut props = Props::empty();
-    let mut bytes = Vec::new(alloc);
-    bytes.push(letter).expect(rt, "memory");
-    let value = PropValue::new(bytes).expect(rt, "a value");
-    let name = PropName::parse(alloc, b"p").expect(rt, "a name");
-    props.set(alloc, name, value).expect(rt, "a property");
-    props
-}
-
 // The same call of the mirror. A leaving seat is no call.
 fn say(
     rt: &impl Abort,
@@ -166,10 +144,14 @@ fn say(
     n: u16,
     letter: u8,
 ) -> u8 {
+    if kind == Kind::Leave {
+        mirror.leave(seat);
+        return 0;
+    }
     let number = RevNo::new(n);
     let url = value(rt, alloc, b"/master");
     let token = token(rt, alloc, b"job");
-    let props = letter_map(rt, alloc, letter);
+    let props = one_prop(rt, alloc, b"p", &[letter]);
     let set = ChangeSet::empty(alloc);
     let call = match kind {
         Kind::Init => MirrorCall::Init {
@@ -191,16 +173,9 @@ fn say(
             props: &props,
         },
         Kind::Merge => MirrorCall::SetMerged(number),
-        Kind::Clear => MirrorCall::ClearCopying,
-        Kind::Leave => {
-            mirror.leave(seat);
-            return 0;
-        }
+        Kind::Clear | Kind::Leave => MirrorCall::ClearCopying,
     };
-    match mirror.step(alloc, seat, &call) {
-        Ok(_) => 0,
-        Err(fault) => fault.number(),
-    }
+    number_said(&mirror.step(alloc, seat, &call))
 }
 
 fn spelt(number: Number) -> Option<u64> {
@@ -245,11 +220,6 @@ pub(crate) fn shuffled(state: u64) -> u64 {
         .wrapping_add(1_442_695_040_888_963_407)
 }
 
-fn new_mirror(rt: &impl Abort, alloc: Global) -> PlainMirror {
-    let identity = Uuid::parse_str("6a1f0c3e-0000-4000-8000-000000000001").expect(rt, "a UUID");
-    PlainMirror::new(Repo::new(alloc, identity).expect(rt, "memory"))
-}
-
 fn new_plain(rt: &impl Abort, alloc: Global) -> Plain {
     let mut letters = Vec::new(alloc);
     letters.push(0).expect(rt, "memory");
@@ -285,7 +255,7 @@ fn fits(
 
 // The head after so many random calls; None where the mirror and the re-computation differ.
 fn walk(rt: &impl Abort, alloc: Global, calls: u64) -> Option<u16> {
-    let mut mirror = new_mirror(rt, alloc);
+    let mut mirror = PlainMirror::new(repo(rt, alloc));
     let mut plain = new_plain(rt, alloc);
     let mut state = 1u64;
     for _ in 0..calls {
@@ -298,9 +268,8 @@ fn walk(rt: &impl Abort, alloc: Global, calls: u64) -> Option<u16> {
 }
 
 #[test]
-fn random_calls_are_answered_as_the_protocol_says(rt: HostRuntime) -> Result<(), Fail> {
+fn random_calls_are_answered_as_the_protocol_says(rt: HostRuntime) {
     let alloc = rt.alloc();
     let head = walk(&rt, alloc, 8000);
     assert!(rt; head > Some(10));
-    Ok(())
 }

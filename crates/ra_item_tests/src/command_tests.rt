@@ -1,11 +1,10 @@
 //! Which items are which command.
 
-use crate::helpers_for_tests::{first_changed, first_wrong, item_of};
+use crate::helpers_for_tests::{first_changed, first_wrong, item_of, none_is_told};
 use crate::sessions::{CHANGES, COPY, DUMP, INIT, LOOKS, MIRROR, SYNC};
 use ra_wire::command::Command;
 use ra_wire::law;
 use std::alloc::Global;
-use std::test::Fail;
 
 // Each command in the spelling that is written.
 const PLAIN: [&[u8]; 16] = [
@@ -28,9 +27,8 @@ const PLAIN: [&[u8]; 16] = [
 ];
 
 #[test]
-fn each_command_is_itself(rt: HostRuntime) -> Result<(), Fail> {
-    assert_eq!(rt; first_changed(rt.alloc(), PLAIN.as_slice()), None);
-    Ok(())
+fn each_command_is_itself(rt: HostRuntime) {
+    none_is_told(&rt, first_changed(rt.alloc(), PLAIN.as_slice()));
 }
 
 // Other spellings of them: a slash in front, a missing last part, elements that the prototype doesn't have, leading
@@ -69,9 +67,8 @@ const OTHERS: [(&[u8], &[u8]); 9] = [
 ];
 
 #[test]
-fn other_spellings(rt: HostRuntime) -> Result<(), Fail> {
-    assert_eq!(rt; first_wrong(rt.alloc(), OTHERS.as_slice()), None);
-    Ok(())
+fn other_spellings(rt: HostRuntime) {
+    none_is_told(&rt, first_wrong(rt.alloc(), OTHERS.as_slice()));
 }
 
 // No commands: another form is 48, an unknown name 47 whatever its parameters are, another form of a replay 43.
@@ -96,24 +93,21 @@ const REFUSED: [(&[u8], &[u8]); 17] = [
 ];
 
 #[test]
-fn refused(rt: HostRuntime) -> Result<(), Fail> {
-    assert_eq!(rt; first_wrong(rt.alloc(), REFUSED.as_slice()), None);
-    Ok(())
+fn refused(rt: HostRuntime) {
+    none_is_told(&rt, first_wrong(rt.alloc(), REFUSED.as_slice()));
 }
 
 // Each is in the one spelling already.
 #[test]
-fn commands_of_clients(rt: HostRuntime) -> Result<(), Fail> {
+fn commands_of_clients(rt: HostRuntime) {
     let own: [&[u8]; 6] = [DUMP, INIT, SYNC, COPY, CHANGES, MIRROR];
-    assert_eq!(rt; first_changed(rt.alloc(), own.as_slice()), None);
-    Ok(())
+    none_is_told(&rt, first_changed(rt.alloc(), own.as_slice()));
 }
 
 // What `svn` asks has elements that the prototypes don't have, and commands of other names.
 #[test]
-fn looks_of_clients(rt: HostRuntime) -> Result<(), Fail> {
-    assert_eq!(rt; first_wrong(rt.alloc(), LOOKS.as_slice()), None);
-    Ok(())
+fn looks_of_clients(rt: HostRuntime) {
+    none_is_told(&rt, first_wrong(rt.alloc(), LOOKS.as_slice()));
 }
 
 // Whether bytes are a command, which the law of its reading takes.
@@ -132,7 +126,7 @@ fn is_command(alloc: Global, bytes: &[u8]) -> bool {
 
 // Laws take nothing, or a value, and do nothing.
 #[test]
-fn laws_can_be_named(rt: HostRuntime) -> Result<(), Fail> {
+fn laws_can_be_named(rt: HostRuntime) {
     law::forms_are_read();
     law::one_command();
     law::unknown_is_told();
@@ -141,5 +135,4 @@ fn laws_can_be_named(rt: HostRuntime) -> Result<(), Fail> {
     law::openings_are_read_again();
     law::answers_are_read_again();
     assert!(rt; is_command(rt.alloc(), b"( check-path ( 1:a ( 3 ) ) ) "));
-    Ok(())
 }

@@ -2,7 +2,9 @@
 
 ghost use Rattle.std.specs.Prelude.{◌<◌};
 
-use dump_text::{DumpReader, DumpRecord, RevRecord, write_head, write_revision};
+use crate::checked::all_hold;
+use dump_text::{DumpReader, DumpRecord, NodeRecord, RevRecord, write_head, write_revision};
+use node_base::{Props, RevNo};
 use std::alloc::Global;
 use std::process::Abort;
 
@@ -104,14 +106,23 @@ fn refused_memory_is_answered(rt: HostRuntime) {
     assert!(rt; ends_well(rt.alloc(), 4096) && ends_well(rt.alloc(), 7));
 }
 
+/// Whether a reader takes a piece, and has read this number of the format.
+pub(crate) fn takes(
+    reader: &mut DumpReader,
+    out: &mut Vec<DumpRecord>,
+    piece: &[u8],
+    version: u8,
+) -> bool {
+    reader.feed(piece, out).is_ok() && reader.version() == version
+}
+
 // Whether a reader behind the version block reads this as one record, of format 2, and may end there.
 fn is_one_record(alloc: Global, bytes: &[u8]) -> bool {
     let mut reader = DumpReader::behind_version(alloc);
     let mut out = Vec::new(alloc);
-    reader.feed(bytes, &mut out).is_ok()
-        && out.len() == 1
-        && reader.version() == 2
-        && reader.finish().is_ok()
+    let taken = takes(&mut reader, &mut out, bytes, 2);
+    let ended = end_of(reader) == 0;
+    taken && ended && out.len() == 1
 }
 
 #[test]
@@ -129,7 +140,8 @@ fn a_record_behind_the_version_block(rt: HostRuntime) {
 pub(crate) fn keeps(alloc: Global, bytes: &[u8], held: u128, version: u8) -> bool {
     let mut reader = DumpReader::new(alloc);
     let mut out = Vec::new(alloc);
-    reader.feed(bytes, &mut out).is_ok() && reader.held() == held && reader.version() == version
+    let taken = takes(&mut reader, &mut out, bytes, version);
+    taken && reader.held() == held
 }
 
 // The first bytes of a dump, up to the name of the first property, and up to its value.
@@ -141,24 +153,34 @@ const IN_A_VALUE: &[u8] =
 
 #[test]
 fn unfinished_bytes_are_kept(rt: HostRuntime) {
-    assert!(rt; keeps(rt.alloc(), b"SVN-fs-du", 9, 0));
-    assert!(rt; keeps(rt.alloc(), IN_A_NAME, 2, 2));
-    assert!(rt; keeps(rt.alloc(), IN_A_VALUE, 3, 2));
+    all_hold(
+        &rt,
+        &[
+            (keeps(rt.alloc(), b"SVN-fs-du", 9, 0), "in the first line"),
+            (keeps(rt.alloc(), IN_A_NAME, 2, 2), "in a name"),
+            (keeps(rt.alloc(), IN_A_VALUE, 3, 2), "in a value"),
+        ],
+    );
 }
 
-// Whether the first so many bytes of the dump are answered alike whole and byte by byte.
-fn front_agrees(alloc: Global, end: usize) -> bool {
-    match two_revisions().get(..end) {
+// Whether the first so many bytes of a dump are answered alike whole and byte by byte.
+fn front_agrees(alloc: Global, dump: &[u8], end: usize) -> bool {
+    match dump.get(..end) {
         Some(front) => answer(alloc, front, 4096) == answer(alloc, front, 1),
         None => false,
     }
 }
 
+/// Ends the test with the length of the first front of a dump that isn't answered alike whole and byte by byte.
+pub(crate) fn each_front_agrees(rt: &impl Abort, alloc: Global, dump: &[u8]) {
+    for end in 0..=dump.len() {
+        assert!(rt; front_agrees(alloc, dump, end), "cut at {end}");
+    }
+}
+
 #[test]
 fn each_truncation_answers_the_same_byte_by_byte(rt: HostRuntime) {
-    for end in 0..two_revisions().len() {
-        assert!(rt; front_agrees(rt.alloc(), end), "cut at {end}");
-    }
+    each_front_agrees(&rt, rt.alloc(), two_revisions());
 }
 
 // The number of the first refusal of a front in one piece and the rest byte by byte, or 0.
@@ -194,12 +216,7 @@ fn agrees_with(rt: &impl Abort, alloc: Global, dump: &[u8], at: usize, value: u8
 }
 
 // The place and the value of the first change of a byte of a dump, to one of 32 values, that isn't.
-pub(crate) fn wrong_change(
-    rt: &impl Abort,
-    alloc: Global,
-    dump: &[u8],
-    first: u8,
-) -> Option<(usize, u8)> {
+fn wrong_change(rt: &impl Abort, alloc: Global, dump: &[u8], first: u8) -> Option<(usize, u8)> {
     for at in 0..dump.len() {
         for value in first..=first.saturating_add(31) {
             if !agrees_with(rt, alloc, dump, at, value) {
@@ -210,44 +227,51 @@ pub(crate) fn wrong_change(
     None
 }
 
+/// Ends the test with that place and that value, if there is one.
+pub(crate) fn each_change_agrees(rt: &impl Abort, alloc: Global, dump: &[u8], first: u8) {
+    if let Some((at, value)) = wrong_change(rt, alloc, dump, first) {
+        panic!(rt; "{value} at {at}");
+    }
+}
+
 #[test]
 fn each_change_of_a_byte_agrees_from_0(rt: HostRuntime) {
-    assert!(rt; wrong_change(&rt, rt.alloc(), two_revisions(), 0).is_none());
+    each_change_agrees(&rt, rt.alloc(), two_revisions(), 0);
 }
 
 #[test]
 fn each_change_of_a_byte_agrees_from_32(rt: HostRuntime) {
-    assert!(rt; wrong_change(&rt, rt.alloc(), two_revisions(), 32).is_none());
+    each_change_agrees(&rt, rt.alloc(), two_revisions(), 32);
 }
 
 #[test]
 fn each_change_of_a_byte_agrees_from_64(rt: HostRuntime) {
-    assert!(rt; wrong_change(&rt, rt.alloc(), two_revisions(), 64).is_none());
+    each_change_agrees(&rt, rt.alloc(), two_revisions(), 64);
 }
 
 #[test]
 fn each_change_of_a_byte_agrees_from_96(rt: HostRuntime) {
-    assert!(rt; wrong_change(&rt, rt.alloc(), two_revisions(), 96).is_none());
+    each_change_agrees(&rt, rt.alloc(), two_revisions(), 96);
 }
 
 #[test]
 fn each_change_of_a_byte_agrees_from_128(rt: HostRuntime) {
-    assert!(rt; wrong_change(&rt, rt.alloc(), two_revisions(), 128).is_none());
+    each_change_agrees(&rt, rt.alloc(), two_revisions(), 128);
 }
 
 #[test]
 fn each_change_of_a_byte_agrees_from_160(rt: HostRuntime) {
-    assert!(rt; wrong_change(&rt, rt.alloc(), two_revisions(), 160).is_none());
+    each_change_agrees(&rt, rt.alloc(), two_revisions(), 160);
 }
 
 #[test]
 fn each_change_of_a_byte_agrees_from_192(rt: HostRuntime) {
-    assert!(rt; wrong_change(&rt, rt.alloc(), two_revisions(), 192).is_none());
+    each_change_agrees(&rt, rt.alloc(), two_revisions(), 192);
 }
 
 #[test]
 fn each_change_of_a_byte_agrees_from_224(rt: HostRuntime) {
-    assert!(rt; wrong_change(&rt, rt.alloc(), two_revisions(), 224).is_none());
+    each_change_agrees(&rt, rt.alloc(), two_revisions(), 224);
 }
 
 // A canonical dump with an identity, a copy and a deletion.
@@ -311,6 +335,29 @@ Node-action: delete
         .as_slice()
 }
 
+// Puts a revision without nodes.
+fn begin(
+    rt: &impl Abort,
+    alloc: Global,
+    revisions: &mut Vec<RevRecord>,
+    number: RevNo,
+    props: Props,
+) {
+    let revision = RevRecord {
+        number,
+        props,
+        nodes: Vec::new(alloc),
+    };
+    revisions.push(revision).expect(rt, "memory");
+}
+
+// Puts a node to the last revision.
+fn add_node(rt: &impl Abort, revisions: &mut Vec<RevRecord>, node: NodeRecord) {
+    if let Some(last) = revisions.last_mut() {
+        last.nodes.push(node).expect(rt, "memory");
+    }
+}
+
 // Writes the identity, and puts each revision with its nodes.
 fn take(
     rt: &impl Abort,
@@ -321,20 +368,8 @@ fn take(
 ) {
     match record {
         DumpRecord::Identity(uuid) => write_head(written, Some(&uuid)).expect(rt, "memory"),
-        DumpRecord::Revision(number, props) => {
-            let nodes = Vec::new(alloc);
-            let revision = RevRecord {
-                number,
-                props,
-                nodes,
-            };
-            revisions.push(revision).expect(rt, "memory");
-        }
-        DumpRecord::Node(node) => {
-            if let Some(last) = revisions.last_mut() {
-                last.nodes.push(node).expect(rt, "memory");
-            }
-        }
+        DumpRecord::Revision(number, props) => begin(rt, alloc, revisions, number, props),
+        DumpRecord::Node(node) => add_node(rt, revisions, node),
     }
 }
 

@@ -1,5 +1,5 @@
 use Rattle.std.proofs.Common.{length}
-use Rattle.svndiff_tests.proofs.window_tests.take.Given as goal
+use Rattle.ra_item_tests.proofs.window_tests.take.Given as goal
 
 abbrev pub decreases-loop-rest : goal.decreases-loop-rest
 decreases-loop-rest g l = length l.rest

@@ -1,18 +1,16 @@
 //! The lines of dumps and the refusals that they show: vectors from outside.
 
+use crate::checked::{all_hold, joined, none_is_wrong};
 use crate::piece_tests::{answer, gives};
 use dump_text::{DumpFault, DumpReader};
 use std::alloc::Global;
 use std::process::Abort;
 
+const OF_2: &[u8] = b"SVN-fs-dump-format-version: 2\n\n";
+
 // Whether lines behind the version block are refused with this number, whole and byte by byte.
 fn is_judged(rt: &impl Abort, alloc: Global, lines: &str, number: u32) -> bool {
-    let mut bytes = Vec::from_slice(alloc, b"SVN-fs-dump-format-version: 2\n\n").expect(
-        rt, "memory",
-    );
-    bytes
-        .extend_from_slice(lines.as_bytes())
-        .expect(rt, "memory");
+    let bytes = joined(rt, alloc, OF_2, lines.as_bytes());
     let (count, found) = answer(alloc, bytes.as_slice(), 4096);
     found == number && gives(alloc, bytes.as_slice(), 1, count, number)
 }
@@ -49,7 +47,7 @@ const HEADER_LINES: [(&str, u32); 17] = [
 
 #[test]
 fn header_lines_are_judged(rt: HostRuntime) {
-    assert!(rt; first_other(&rt, rt.alloc(), &HEADER_LINES).is_none());
+    none_is_wrong(&rt, first_other(&rt, rt.alloc(), &HEADER_LINES));
 }
 
 const EMPTY_LINES: [(&str, u32); 10] = [
@@ -88,17 +86,14 @@ const EMPTY_LINES: [(&str, u32); 10] = [
 
 #[test]
 fn empty_lines_judge(rt: HostRuntime) {
-    assert!(rt; first_other(&rt, rt.alloc(), &EMPTY_LINES).is_none());
+    none_is_wrong(&rt, first_other(&rt, rt.alloc(), &EMPTY_LINES));
 }
 
 // Whether a header line of so many bytes, its LF not counted, is refused with this number, whole and byte by byte.
 fn is_long(rt: &impl Abort, alloc: Global, count: usize, last: &[u8], number: u32) -> bool {
-    let mut bytes = Vec::from_slice(alloc, b"SVN-fs-dump-format-version: 2\n\nX: ").expect(
-        rt, "memory",
-    );
     let rest = Vec::from_elem(alloc, b'x', count.saturating_sub(3)).expect(rt, "memory");
-    bytes.extend_from_slice(&rest).expect(rt, "memory");
-    bytes.extend_from_slice(last).expect(rt, "memory");
+    let line = joined(rt, alloc, b"SVN-fs-dump-format-version: 2\n\nX: ", &rest);
+    let bytes = joined(rt, alloc, &line, last);
     gives(alloc, bytes.as_slice(), 10_000, 0, number)
         && gives(alloc, bytes.as_slice(), 1, 0, number)
 }
@@ -106,26 +101,41 @@ fn is_long(rt: &impl Abort, alloc: Global, count: usize, last: &[u8], number: u3
 // A line ends behind 4,096 bytes at most; the next one that isn't its LF is one too many.
 #[test]
 fn long_lines_are_refused(rt: HostRuntime) {
-    assert!(rt; is_long(&rt, rt.alloc(), 4_096, b"\n", 7));
-    assert!(rt; is_long(&rt, rt.alloc(), 4_096, b"", 7));
-    assert!(rt; is_long(&rt, rt.alloc(), 4_097, b"", 8));
-    assert!(rt; is_long(&rt, rt.alloc(), 4_097, b"\n", 8));
+    all_hold(
+        &rt,
+        &[
+            (is_long(&rt, rt.alloc(), 4_096, b"\n", 7), "4,096 and LF"),
+            (is_long(&rt, rt.alloc(), 4_096, b"", 7), "4,096"),
+            (is_long(&rt, rt.alloc(), 4_097, b"", 8), "4,097"),
+            (is_long(&rt, rt.alloc(), 4_097, b"\n", 8), "4,097 and LF"),
+        ],
+    );
 }
 
-// Whether bytes are refused with this number before any record.
-fn is_refused(alloc: Global, bytes: &[u8], number: u32) -> bool {
-    gives(alloc, bytes, 7, 0, number)
+const FIRST_LINES: [(&str, u32); 8] = [
+    ("SVN-fs-dump-format-version: 02\n\n", 1),
+    ("SVN-fs-dump-format-version: 4\n\n", 1),
+    ("SVN-fs-dump-format-version: 03\n\n", 1),
+    ("SVN-fs-dump-format-version: 3\n\n", 0),
+    ("SVN-fs-dump-format-version: 3\nX: 1\n", 2),
+    ("SVN-fs-dump-format-version: 2\nX: 1\n", 2),
+    ("SVN", 7),
+    ("", 7),
+];
+
+// The first of these that aren't refused with their number before any record.
+fn other_first_line(alloc: Global) -> Option<&'static str> {
+    for (lines, number) in &FIRST_LINES {
+        if !gives(alloc, lines.as_bytes(), 7, 0, *number) {
+            return Some(*lines);
+        }
+    }
+    None
 }
 
 #[test]
 fn first_lines_are_judged(rt: HostRuntime) {
-    assert!(rt; is_refused(rt.alloc(), b"SVN-fs-dump-format-version: 02\n\n", 1));
-    assert!(rt; is_refused(rt.alloc(), b"SVN-fs-dump-format-version: 4\n\n", 1));
-    assert!(rt; is_refused(rt.alloc(), b"SVN-fs-dump-format-version: 03\n\n", 1));
-    assert!(rt; is_refused(rt.alloc(), b"SVN-fs-dump-format-version: 3\n\n", 0));
-    assert!(rt; is_refused(rt.alloc(), b"SVN-fs-dump-format-version: 3\nX: 1\n", 2));
-    assert!(rt; is_refused(rt.alloc(), b"SVN-fs-dump-format-version: 2\nX: 1\n", 2));
-    assert!(rt; is_refused(rt.alloc(), b"SVN", 7) && is_refused(rt.alloc(), b"", 7));
+    none_is_wrong(&rt, other_first_line(rt.alloc()));
 }
 
 // Whether a piece is refused with this fault.
@@ -137,7 +147,11 @@ fn refuses(alloc: Global, reader: &mut DumpReader, piece: &[u8], fault: DumpFaul
 #[test]
 fn a_refusal_stays(rt: HostRuntime) {
     let mut reader = DumpReader::new(rt.alloc());
-    assert!(rt; refuses(rt.alloc(), &mut reader, b"x\n", DumpFault::BadVersion));
-    assert!(rt; refuses(rt.alloc(), &mut reader, b"", DumpFault::Failed));
-    assert!(rt; reader.finish() == Err(DumpFault::Failed));
+    let first = refuses(rt.alloc(), &mut reader, b"x\n", DumpFault::BadVersion);
+    let second = refuses(rt.alloc(), &mut reader, b"", DumpFault::Failed);
+    let ended = reader.finish() == Err(DumpFault::Failed);
+    all_hold(
+        &rt,
+        &[(first, "a line"), (second, "nothing"), (ended, "the end")],
+    );
 }

@@ -15,7 +15,6 @@ use ra_wire::reply_writer::{
     write_value,
 };
 use std::alloc::Global;
-use std::test::Fail;
 
 // Whether the first of some refusals is this.
 fn begins_with(all: &[Refused], number: u64, text: &[u8], file: &[u8], line: u64) -> bool {
@@ -41,7 +40,7 @@ fn refuses(alloc: Global, bytes: &[u8], number: u64, text: &[u8], file: &[u8], l
 }
 
 #[test]
-fn failures(rt: HostRuntime) -> Result<(), Fail> {
+fn failures(rt: HostRuntime) {
     let alloc = rt.alloc();
     let unexpected: &[u8] = b"( failure ( ( 22 31:the property is not as expected 0: 0 ) ) ) ";
     let two: &[u8] = b"( failure ( ( 210005 2:no 8:replay.c 12 x ) ( 1 0: 0: 0 ) ) ) ";
@@ -58,18 +57,16 @@ fn failures(rt: HostRuntime) -> Result<(), Fail> {
     );
     assert!(rt; refuses(alloc, two, 210005, b"no", b"replay.c", 12));
     assert!(rt; refuses(alloc, NO_FILE, 160013, none, b"", 0));
-    Ok(())
 }
 
 // An answer without content, with more behind its elements, and two that are none: a failure, and another word.
 #[test]
-fn contents(rt: HostRuntime) -> Result<(), Fail> {
+fn contents(rt: HostRuntime) {
     let alloc = rt.alloc();
     assert!(rt; content_of(alloc, DONE).is_some());
     assert!(rt; content_of(alloc, b"( success ( 1 ) 2 ) ").is_some());
     assert!(rt; content_of(alloc, b"( failure ( ) ) ").is_none());
     assert!(rt; content_of(alloc, b"( step ( ) ) ").is_none());
-    Ok(())
 }
 
 // A number, or none where there isn't one.
@@ -83,14 +80,13 @@ fn kind_of(alloc: Global, bytes: &[u8]) -> Option<Option<NodeKind>> {
 }
 
 #[test]
-fn numbers_and_kinds(rt: HostRuntime) -> Result<(), Fail> {
+fn numbers_and_kinds(rt: HostRuntime) {
     let alloc = rt.alloc();
     assert!(rt; number(alloc, b"( success ( 10 ) ) ") == Some(10));
     assert!(rt; number(alloc, b"( success ( x ) ) ").is_none());
     assert!(rt; kind_of(alloc, b"( success ( file ) ) ") == Some(Some(NodeKind::File)));
     assert!(rt; kind_of(alloc, b"( success ( none ) ) ") == Some(None));
     assert!(rt; kind_of(alloc, b"( success ( unknown ) ) ").is_none());
-    Ok(())
 }
 
 // Whether an answer holds this value, or none.
@@ -116,12 +112,11 @@ fn asks_nothing(alloc: Global, bytes: &[u8]) -> bool {
 }
 
 #[test]
-fn values_and_nothing(rt: HostRuntime) -> Result<(), Fail> {
+fn values_and_nothing(rt: HostRuntime) {
     let alloc = rt.alloc();
     assert!(rt; holds(alloc, b"( success ( ( 2:hi ) ) ) ", Some(b"hi")));
     assert!(rt; holds(alloc, b"( success ( ( ) ) ) ", None));
     assert!(rt; asks_nothing(alloc, AUTHORISED));
-    Ok(())
 }
 
 // The properties of an answer, or none.
@@ -157,7 +152,7 @@ fn are_second(props: &Props) -> bool {
 }
 
 #[test]
-fn properties_of_a_server(rt: HostRuntime) -> Result<(), Fail> {
+fn properties_of_a_server(rt: HostRuntime) {
     let alloc = rt.alloc();
     assert!(rt; are_zero(&props_of(alloc, PROPLIST)));
     assert!(rt; are_second(&front_props(alloc, REVPROPS)));
@@ -168,7 +163,6 @@ fn properties_of_a_server(rt: HostRuntime) -> Result<(), Fail> {
             b"hi"
         )
     );
-    Ok(())
 }
 
 // Whether the properties that are read are written as they came, in an answer and in front of an edit.
@@ -182,9 +176,8 @@ fn are_written(alloc: Global) -> bool {
 }
 
 #[test]
-fn properties_are_written(rt: HostRuntime) -> Result<(), Fail> {
+fn properties_are_written(rt: HostRuntime) {
     assert!(rt; are_written(rt.alloc()));
-    Ok(())
 }
 
 fn are_last(props: &Props) -> bool {
@@ -193,13 +186,12 @@ fn are_last(props: &Props) -> bool {
 
 // In any order, the later of two with one name, and none of another form.
 #[test]
-fn properties_in_any_order(rt: HostRuntime) -> Result<(), Fail> {
+fn properties_in_any_order(rt: HostRuntime) {
     let alloc = rt.alloc();
     let twice: &[u8] = b"( success ( ( ( 1:b 1:x ) ( 1:a 0: ) ( 1:b 1:y ) ) ) ) ";
     assert!(rt; are_last(&props_of(alloc, twice)));
     assert!(rt; props_of(alloc, b"( success ( ( ( 1:a 0: ) ( 1:b x ) ) ) ) ").is_empty());
     assert!(rt; front_props(alloc, b"( revprop ( ( 1:a 0: ) ) ) ").is_empty());
-    Ok(())
 }
 
 // Writes an answer of each kind, and the failures that the rows have.
@@ -213,14 +205,13 @@ fn write_answers(out: &mut Vec<u8>) -> bool {
 }
 
 #[test]
-fn answers_are_written(rt: HostRuntime) -> Result<(), Fail> {
+fn answers_are_written(rt: HostRuntime) {
     let mut out = Vec::new(rt.alloc());
     assert!(rt; write_answers(&mut out));
     assert_eq!(rt;
         out.as_slice(),
         b"( success ( 3 ) ) ( success ( file ) ) ( success ( none ) ) ( success ( ( 2:hi ) ) ) ( success ( ( ) ) ) ( failure ( ( 21 16:no such revision 0: 0 ) ) ) ".as_slice()
     );
-    Ok(())
 }
 
 // What an answer says of a directory.
@@ -254,7 +245,7 @@ fn lists(alloc: Global, bytes: &[u8], size: u64, created: u64, author: Option<&[
 const DIR: &[u8] = b"( success ( 1 ( ) ( ( 1:a file 6 false 1 ( ) ( ) ) ) ) ) ";
 
 #[test]
-fn directories(rt: HostRuntime) -> Result<(), Fail> {
+fn directories(rt: HostRuntime) {
     let alloc = rt.alloc();
     let alice: &[u8] =
         b"( success ( 9 ( ) ( ( 1:a file 6 false 70000 ( 1:d ) ( 5:alice ) 1 ) ) ) ) ";
@@ -264,7 +255,6 @@ fn directories(rt: HostRuntime) -> Result<(), Fail> {
     assert!(rt; lists(alloc, alice, 6, 70000, Some(b"alice")));
     assert!(rt; dir_of(alloc, kindless).is_none());
     assert!(rt; dir_of(alloc, nameless).is_none());
-    Ok(())
 }
 
 // Whether a directory is written as it came, its properties wanted. The law of its reading takes it.
@@ -305,14 +295,13 @@ fn is_file_again(alloc: Global, bytes: &[u8]) -> bool {
 const FILE: &[u8] = b"( success ( ( 32:b1946ac92492d2347c6235b4d2611184 ) 1 ( ) ) ) ";
 
 #[test]
-fn browsing_is_written(rt: HostRuntime) -> Result<(), Fail> {
+fn browsing_is_written(rt: HostRuntime) {
     let alloc = rt.alloc();
     let dir: &[u8] =
         b"( success ( 1 ( ( 1:p 1:v ) ) ( ( 1:a file 6 false 1 ( ) ( ) ) ( 1:d dir 0 true 65535 ( 1:t ) ( 1:u ) ) ) ) ) ";
     assert!(rt; is_dir_again(alloc, DIR));
     assert!(rt; is_dir_again(alloc, dir));
     assert!(rt; is_file_again(alloc, FILE));
-    Ok(())
 }
 
 // Whether `svnserve` tells of a directory or a file with its three properties of an entry.
@@ -333,7 +322,6 @@ fn is_of_svnserve(alloc: Global) -> bool {
 }
 
 #[test]
-fn browsing_of_svnserve(rt: HostRuntime) -> Result<(), Fail> {
+fn browsing_of_svnserve(rt: HostRuntime) {
     assert!(rt; is_of_svnserve(rt.alloc()));
-    Ok(())
 }

@@ -1,5 +1,6 @@
 //! Windows spelled out by hand, whole and one byte at a time.
 
+use crate::checked::none_is_wrong;
 use std::alloc::Global;
 use std::process::Abort;
 use std::rt::HostRuntime;
@@ -153,17 +154,17 @@ fn first_taken(rt: &impl Abort, alloc: Global, cases: &[(&[u8], u32)]) -> Option
 
 #[test]
 fn copies_are_refused(rt: HostRuntime) {
-    assert_eq!(rt; first_taken(&rt, rt.alloc(), &COPIES), None);
+    none_is_wrong(&rt, first_taken(&rt, rt.alloc(), &COPIES));
 }
 
 #[test]
 fn bad_instructions_are_refused(rt: HostRuntime) {
-    assert_eq!(rt; first_taken(&rt, rt.alloc(), &BAD_INSTRUCTIONS), None);
+    none_is_wrong(&rt, first_taken(&rt, rt.alloc(), &BAD_INSTRUCTIONS));
 }
 
 #[test]
 fn bad_numbers_are_refused(rt: HostRuntime) {
-    assert_eq!(rt; first_taken(&rt, rt.alloc(), &BAD_NUMBERS), None);
+    none_is_wrong(&rt, first_taken(&rt, rt.alloc(), &BAD_NUMBERS));
     assert!(rt; gives(&rt, rt.alloc(), b"SVN\x01", b"", 44));
 }
 
@@ -246,21 +247,25 @@ fn outcome_behind(rt: &impl Abort, front: &[u8], rest: &[u8], text: &mut Vec<u8>
     }
 }
 
-// Whether a window's front that is changed at a byte, to any value, gives the same before a text, whole and one byte at a
-// time.
+// Whether a front before a text gives the same whole and one byte at a time.
+fn agrees_in_front(rt: &impl Abort, alloc: Global, front: &[u8], text: &[u8]) -> bool {
+    let mut bytes = Vec::from_slice(alloc, front).expect(rt, "memory");
+    bytes.extend_from_slice(text).expect(rt, "memory");
+    let mut whole = Vec::new(alloc);
+    let mut single = Vec::new(alloc);
+    let number = outcome(rt, bytes.as_slice(), bytes.len(), &mut whole);
+    let also = outcome_behind(rt, front, text, &mut single);
+    number == also && whole.as_slice() == single.as_slice()
+}
+
+// Whether a window's front that is changed at a byte, to any value, does.
 fn agrees_before(rt: &impl Abort, alloc: Global, text: &[u8], at: usize) -> bool {
     for value in 0..=u8::MAX {
         let mut front = Vec::from_slice(alloc, GREATEST).expect(rt, "memory");
         if let Some(place) = front.get_mut(at) {
             *place = value;
         }
-        let mut bytes = Vec::from_slice(alloc, front.as_slice()).expect(rt, "memory");
-        bytes.extend_from_slice(text).expect(rt, "memory");
-        let mut whole = Vec::new(alloc);
-        let mut single = Vec::new(alloc);
-        let number = outcome(rt, bytes.as_slice(), bytes.len(), &mut whole);
-        let also = outcome_behind(rt, front.as_slice(), text, &mut single);
-        if number != also || whole.as_slice() != single.as_slice() {
+        if !agrees_in_front(rt, alloc, front.as_slice(), text) {
             return false;
         }
     }

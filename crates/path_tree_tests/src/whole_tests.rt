@@ -1,6 +1,7 @@
 //! Two dumps as they are written, one of a file and one of a copy, cut and changed at each byte; and what is announced.
 
-use crate::piece_tests::{answer, gives, keeps, wrong_change};
+use crate::checked::all_hold;
+use crate::piece_tests::{each_change_agrees, each_front_agrees, gives, keeps};
 use std::alloc::Global;
 use std::process::Abort;
 
@@ -61,44 +62,30 @@ Node-action: delete
 
 ";
 
-// The length of the first front of a dump that isn't answered alike whole and byte by byte.
-fn wrong_front(alloc: Global, dump: &[u8]) -> Option<usize> {
-    for end in 0..=dump.len() {
-        let front = dump.get(..end).unwrap_or(b"");
-        if answer(alloc, front, 4096) != answer(alloc, front, 1) {
-            return Some(end);
-        }
-    }
-    None
-}
-
 #[test]
 fn they_are_read_and_each_front_agrees(rt: HostRuntime) {
-    assert!(rt; ADDED.len() == 380 && gives(rt.alloc(), ADDED, 4096, 3, 0));
-    assert!(rt; COPIED.len() == 31 + 203 && gives(rt.alloc(), COPIED, 4096, 3, 0));
-    assert!(rt; wrong_front(rt.alloc(), ADDED).is_none());
-    assert!(rt; wrong_front(rt.alloc(), COPIED).is_none());
+    let added = ADDED.len() == 380 && gives(rt.alloc(), ADDED, 4096, 3, 0);
+    let copied = COPIED.len() == 31 + 203 && gives(rt.alloc(), COPIED, 4096, 3, 0);
+    all_hold(&rt, &[(added, "the file"), (copied, "the copy")]);
+    each_front_agrees(&rt, rt.alloc(), ADDED);
+    each_front_agrees(&rt, rt.alloc(), COPIED);
 }
 
-// The first change of a byte that is answered otherwise byte by byte.
-fn first_change(rt: &impl Abort, alloc: Global, dump: &[u8]) -> Option<(usize, u8)> {
+// Ends the test with the first change of a byte that is answered otherwise byte by byte.
+fn all_changes_agree(rt: &impl Abort, alloc: Global, dump: &[u8]) {
     for first in 0..8u8 {
-        let wrong = wrong_change(rt, alloc, dump, first.saturating_mul(32));
-        if wrong.is_some() {
-            return wrong;
-        }
+        each_change_agrees(rt, alloc, dump, first.saturating_mul(32));
     }
-    None
 }
 
 #[test]
 fn each_change_of_an_added_file_agrees(rt: HostRuntime) {
-    assert!(rt; first_change(&rt, rt.alloc(), ADDED).is_none());
+    all_changes_agree(&rt, rt.alloc(), ADDED);
 }
 
 #[test]
 fn each_change_of_a_copy_agrees(rt: HostRuntime) {
-    assert!(rt; first_change(&rt, rt.alloc(), COPIED).is_none());
+    all_changes_agree(&rt, rt.alloc(), COPIED);
 }
 
 // What announces the greatest lengths: nothing is kept of what is to come.

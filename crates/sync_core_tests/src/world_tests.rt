@@ -2,19 +2,20 @@
 //! master commits, is edited and fails, jobs begin, ask, call, are refused and leave, a reader is given a revision, and
 //! a mirror stops before or within a call.
 use crate::plain_world::{Deed, Heard, Order, PlainMaster, PlainRoom, is_call, wanted};
-use crate::walk_tests::{shuffled, token, value};
+use crate::tests::{
+    ended, failed, let_go, none_is_wrong, of_master, of_step, one_prop, repo, token, value,
+};
+use crate::walk_tests::shuffled;
 use dump_load::{Change, ChangeSet};
-use node_base::{Action as What, NodeKind, NodePath, PropName, PropValue, Props, RevNo, Text};
+use node_base::{Action as What, NodeKind, NodePath, Props, RevNo, Text};
 use repo_core::Repo;
 use std::alloc::Global;
 use std::mem::swap;
 use std::process::Abort;
-use std::test::Fail;
 use sync_core::{
-    Action, Answer, Ending, JobState, MirrorCall, PlainMirror, Reply, Seat, Standing, SyncFault,
-    absorb, decide, look,
+    Action, Answer, JobState, MirrorCall, PlainMirror, Seat, Standing, SyncFault, absorb, decide,
+    look,
 };
-use uuid::Uuid;
 
 // A job, and what was answered to it.
 #[derive(Drop)]
@@ -85,11 +86,7 @@ fn digits(rt: &impl Abort, alloc: Global, moment: u64) -> Vec<u8> {
 
 // Properties with the digits of a moment.
 fn marked(rt: &impl Abort, alloc: Global, moment: u64) -> Props {
-    let mut props = Props::empty();
-    let name = PropName::parse(alloc, b"p").expect(rt, "a name");
-    let value = PropValue::new(digits(rt, alloc, moment)).expect(rt, "a value");
-    props.set(alloc, name, value).expect(rt, "a property");
-    props
+    one_prop(rt, alloc, b"p", digits(rt, alloc, moment).as_slice())
 }
 
 fn path(rt: &impl Abort, alloc: Global) -> NodePath {
@@ -148,33 +145,6 @@ impl World {
         }
     }
 
-    fn master_answers(&self, rt: &impl Abort, alloc: Global, action: &Action<'_>) -> Answer {
-        match action {
-            Action::AskIdentity => Answer::Identity(value(rt, alloc, b"u")),
-            Action::AskLatest => Answer::Latest(self.master.head()),
-            Action::Fetch(n) => self.revision(rt, alloc, *n),
-            Action::FetchProps(n) => self.map(rt, alloc, *n),
-            _ => Answer::Done,
-        }
-    }
-
-    fn revision(&self, rt: &impl Abort, alloc: Global, number: RevNo) -> Answer {
-        let (Some(set), Some(props)) = (self.master.set(number), self.master.props(number)) else {
-            return failed(rt, alloc);
-        };
-        Answer::Revision(
-            set.share(alloc).expect(rt, "memory"),
-            props.share().expect(rt, "memory"),
-        )
-    }
-
-    fn map(&self, rt: &impl Abort, alloc: Global, number: RevNo) -> Answer {
-        match self.master.props(number) {
-            Some(props) => Answer::Map(props.share().expect(rt, "memory")),
-            None => failed(rt, alloc),
-        }
-    }
-
     // The answer to what a job does; with want of memory nothing is done.
     fn answer(
         &mut self,
@@ -193,7 +163,7 @@ impl World {
                 if mishap == Mishap::Master {
                     return failed(rt, alloc);
                 }
-                self.master_answers(rt, alloc, other)
+                of_master(rt, alloc, &self.master, b"u", other)
             }
         }
     }
@@ -304,6 +274,7 @@ impl World {
         }
         let answer = self.answer(rt, alloc, seat, &runner.job, Mishap::None);
         let number = number_of(&answer);
+        let_go(answer);
         let expected = self.expected(rt, seat, &runner.heard, deed, Mishap::None);
         self.check(number == expected);
         self.counts.within = self.counts.within.saturating_add(1);
@@ -406,11 +377,6 @@ impl World {
     }
 }
 
-// The master fails.
-fn failed(rt: &impl Abort, alloc: Global) -> Answer {
-    Answer::Failed(format!(in alloc; "refused").expect(rt, "memory"))
-}
-
 // What a job does next.
 fn deed_next(job: &JobState) -> Deed {
     match &decide(job) {
@@ -423,28 +389,11 @@ fn deed_next(job: &JobState) -> Deed {
     }
 }
 
-fn of_step(step: Result<Reply, SyncFault>) -> Answer {
-    match step {
-        Ok(Reply::Done) => Answer::Done,
-        Ok(Reply::Seen(standing)) => Answer::Seen(standing),
-        Err(fault) => Answer::Refused(fault),
-    }
-}
-
 fn number_of(answer: &Answer) -> u8 {
     match answer {
         Answer::Refused(fault) => fault.number(),
         Answer::Failed(_) => 60,
         _ => 0,
-    }
-}
-
-// The number of the refusal with which a job ended: 0 where it did what it was to do, and 255 where it goes on.
-fn ended(job: JobState) -> u8 {
-    match job.ending() {
-        None => 255,
-        Some(Ending::Fine) => 0,
-        Some(Ending::Refused(fault)) => fault.number(),
     }
 }
 
@@ -522,11 +471,6 @@ fn at_seat(
     Some(world.step(rt, alloc, seat, runner, mishap))
 }
 
-fn new_repo(rt: &impl Abort, alloc: Global) -> Repo {
-    let identity = Uuid::parse_str("6a1f0c3e-0000-4000-8000-000000000001").expect(rt, "a UUID");
-    Repo::new(alloc, identity).expect(rt, "memory")
-}
-
 // A list of one zero.
 fn zero(rt: &impl Abort, alloc: Global) -> Vec<u64> {
     let mut numbers = Vec::new(alloc);
@@ -536,7 +480,7 @@ fn zero(rt: &impl Abort, alloc: Global) -> Vec<u64> {
 
 fn new_place(rt: &impl Abort, alloc: Global) -> Place {
     Place {
-        mirror: PlainMirror::new(new_repo(rt, alloc)),
+        mirror: PlainMirror::new(repo(rt, alloc)),
         room: PlainRoom {
             begun: false,
             merged: 0,
@@ -553,7 +497,7 @@ fn new_place(rt: &impl Abort, alloc: Global) -> Place {
 fn new_world(rt: &impl Abort, alloc: Global) -> World {
     let Place { mirror, room } = new_place(rt, alloc);
     World {
-        master: new_repo(rt, alloc),
+        master: repo(rt, alloc),
         mirror,
         origin: PlainMaster {
             moment: 0,
@@ -669,14 +613,26 @@ fn walk(rt: &impl Abort, alloc: Global, events: u64) -> World {
     world
 }
 
-#[test]
-fn random_events_go_as_the_protocol_says(rt: HostRuntime) -> Result<(), Fail> {
-    let alloc = rt.alloc();
-    let world = walk(&rt, alloc, 8000);
-    assert!(rt; !world.counts.wrong);
+// What a walk has too little of, or what is wrong with it.
+fn wrong_of(world: &World) -> Option<&'static str> {
     let counts = &world.counts;
-    assert!(rt; world.room.head() > 50 && world.other.room.head() > 50 && counts.fine > 50);
-    assert!(rt; counts.refused > 50 && counts.failed > 10 && counts.read > 50);
-    assert!(rt; counts.within > 10 && counts.stolen > 10 && counts.copied > 10);
-    Ok(())
+    if counts.wrong {
+        return Some("an answer or a mirror that isn't as re-computed");
+    }
+    if world.room.head() <= 50 || world.other.room.head() <= 50 || counts.fine <= 50 {
+        return Some("too few revisions, or jobs that ended well");
+    }
+    if counts.refused <= 50 || counts.failed <= 10 || counts.read <= 50 {
+        return Some("too few refusals, failures or reads");
+    }
+    if counts.within <= 10 || counts.stolen <= 10 || counts.copied <= 10 {
+        return Some("too few stops within a call, stolen locks or copies");
+    }
+    None
+}
+
+#[test]
+fn random_events_go_as_the_protocol_says(rt: HostRuntime) {
+    let world = walk(&rt, rt.alloc(), 8000);
+    none_is_wrong(&rt, wrong_of(&world));
 }

@@ -1,6 +1,7 @@
 //! Dumps of format 3, whose records may give property lists as deltas.
 
-use crate::piece_tests::{answer, gives, wrong_change};
+use crate::checked::{joined, none_is_wrong};
+use crate::piece_tests::{answer, each_change_agrees, each_front_agrees, gives, takes};
 use dump_text::{DumpReader, DumpRecord, NodeRecord, PropPart, RevRecord, write_revision};
 use node_base::{PropDelta, Props, RevNo};
 use std::alloc::Global;
@@ -66,13 +67,22 @@ fn gives_delta(node: &NodeRecord) -> bool {
     }
 }
 
-// Whether the last record of the dump is that node, and the reader then says that it is of format 3.
+// Whether a reader takes the dump as one of format 3 whose last record is that node.
+fn takes_later(reader: &mut DumpReader, out: &mut Vec<DumpRecord>) -> bool {
+    if !takes(reader, out, LATER, 3) {
+        return false;
+    }
+    match out.last() {
+        Some(record) => is_later(record),
+        None => false,
+    }
+}
+
+// The same of a new reader.
 fn ends_with_delta(alloc: Global) -> bool {
     let mut reader = DumpReader::new(alloc);
     let mut out = Vec::new(alloc);
-    reader.feed(LATER, &mut out).is_ok()
-        && reader.version() == 3
-        && out.last().is_some_and(|record| is_later(record))
+    takes_later(&mut reader, &mut out)
 }
 
 #[test]
@@ -80,34 +90,47 @@ fn what_a_delta_says(rt: HostRuntime) {
     assert!(rt; ends_with_delta(rt.alloc()));
 }
 
-// Whether the revision of a dump's last record is refused by the writer, with nothing written.
-fn is_unwritten(rt: &impl Abort, alloc: Global) -> bool {
+// The last record of the dump.
+fn last(rt: &impl Abort, alloc: Global) -> Option<DumpRecord> {
     let mut reader = DumpReader::new(alloc);
     let mut out = Vec::new(alloc);
     reader.feed(LATER, &mut out).expect(rt, "a dump");
-    let mut revision = RevRecord {
+    out.pop()
+}
+
+// A revision of one node.
+fn revision_of(rt: &impl Abort, alloc: Global, node: NodeRecord) -> RevRecord {
+    let mut nodes = Vec::new(alloc);
+    nodes.push(node).expect(rt, "memory");
+    RevRecord {
         number: RevNo::new(2),
         props: Props::empty(),
-        nodes: Vec::new(alloc),
-    };
-    if let Some(DumpRecord::Node(node)) = out.pop() {
-        revision.nodes.push(node).expect(rt, "memory");
+        nodes,
     }
+}
+
+// Whether a revision is refused by the writer, with nothing written.
+fn is_unwritten(alloc: Global, revision: &RevRecord) -> bool {
     let mut written = Vec::new(alloc);
-    !revision.is_whole() && write_revision(&mut written, &revision).is_err() && written.is_empty()
+    !revision.is_whole() && write_revision(&mut written, revision).is_err() && written.is_empty()
+}
+
+// Whether that of the dump's last record is.
+fn last_is_unwritten(rt: &impl Abort, alloc: Global) -> bool {
+    match last(rt, alloc) {
+        Some(DumpRecord::Node(node)) => is_unwritten(alloc, &revision_of(rt, alloc, node)),
+        _ => false,
+    }
 }
 
 #[test]
 fn a_delta_is_not_written(rt: HostRuntime) {
-    assert!(rt; is_unwritten(&rt, rt.alloc()));
+    assert!(rt; last_is_unwritten(&rt, rt.alloc()));
 }
 
 // The refusal of a node's lines behind these of a format, or 0.
 fn refusal(rt: &impl Abort, alloc: Global, front: &[u8], lines: &str) -> u32 {
-    let mut bytes = Vec::from_slice(alloc, front).expect(rt, "memory");
-    bytes
-        .extend_from_slice(lines.as_bytes())
-        .expect(rt, "memory");
+    let bytes = joined(rt, alloc, front, lines.as_bytes());
     let (_, number) = answer(alloc, bytes.as_slice(), 4096);
     number
 }
@@ -154,60 +177,50 @@ const PLACES: [(&str, u32, u32); 7] = [
 
 #[test]
 fn where_a_delta_may_stand(rt: HostRuntime) {
-    assert!(rt; first_other(&rt, rt.alloc(), &PLACES).is_none());
-}
-
-// Whether the first so many bytes of the dump are answered alike whole and byte by byte.
-fn front_agrees(alloc: Global, end: usize) -> bool {
-    match LATER.get(..end) {
-        Some(front) => answer(alloc, front, 4096) == answer(alloc, front, 1),
-        None => false,
-    }
+    none_is_wrong(&rt, first_other(&rt, rt.alloc(), &PLACES));
 }
 
 #[test]
 fn each_truncation_answers_the_same_byte_by_byte(rt: HostRuntime) {
-    for end in 0..LATER.len() {
-        assert!(rt; front_agrees(rt.alloc(), end), "cut at {end}");
-    }
+    each_front_agrees(&rt, rt.alloc(), LATER);
 }
 
 #[test]
 fn each_change_of_a_byte_agrees_from_0(rt: HostRuntime) {
-    assert!(rt; wrong_change(&rt, rt.alloc(), LATER, 0).is_none());
+    each_change_agrees(&rt, rt.alloc(), LATER, 0);
 }
 
 #[test]
 fn each_change_of_a_byte_agrees_from_32(rt: HostRuntime) {
-    assert!(rt; wrong_change(&rt, rt.alloc(), LATER, 32).is_none());
+    each_change_agrees(&rt, rt.alloc(), LATER, 32);
 }
 
 #[test]
 fn each_change_of_a_byte_agrees_from_64(rt: HostRuntime) {
-    assert!(rt; wrong_change(&rt, rt.alloc(), LATER, 64).is_none());
+    each_change_agrees(&rt, rt.alloc(), LATER, 64);
 }
 
 #[test]
 fn each_change_of_a_byte_agrees_from_96(rt: HostRuntime) {
-    assert!(rt; wrong_change(&rt, rt.alloc(), LATER, 96).is_none());
+    each_change_agrees(&rt, rt.alloc(), LATER, 96);
 }
 
 #[test]
 fn each_change_of_a_byte_agrees_from_128(rt: HostRuntime) {
-    assert!(rt; wrong_change(&rt, rt.alloc(), LATER, 128).is_none());
+    each_change_agrees(&rt, rt.alloc(), LATER, 128);
 }
 
 #[test]
 fn each_change_of_a_byte_agrees_from_160(rt: HostRuntime) {
-    assert!(rt; wrong_change(&rt, rt.alloc(), LATER, 160).is_none());
+    each_change_agrees(&rt, rt.alloc(), LATER, 160);
 }
 
 #[test]
 fn each_change_of_a_byte_agrees_from_192(rt: HostRuntime) {
-    assert!(rt; wrong_change(&rt, rt.alloc(), LATER, 192).is_none());
+    each_change_agrees(&rt, rt.alloc(), LATER, 192);
 }
 
 #[test]
 fn each_change_of_a_byte_agrees_from_224(rt: HostRuntime) {
-    assert!(rt; wrong_change(&rt, rt.alloc(), LATER, 224).is_none());
+    each_change_agrees(&rt, rt.alloc(), LATER, 224);
 }
