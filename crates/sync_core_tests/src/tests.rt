@@ -74,17 +74,24 @@ fn master(rt: &impl Abort, alloc: Global, head: u16) -> Repo {
     master
 }
 
-// The number of a refusal, and 0 where a call was taken.
-pub(crate) fn number_said(step: &Result<Reply, SyncFault>) -> u8 {
-    match step {
-        Ok(_) => 0,
-        Err(fault) => fault.number(),
+// An answer is let go of. (What that is proved by is much, so it is here alone.)
+pub(crate) fn let_go(_answer: Answer) {}
+
+/// The number of a refusal, 60 where the master failed, and 0 of any other answer.
+pub(crate) fn number_of(answer: &Answer) -> u8 {
+    match answer {
+        Answer::Refused(fault) => fault.number(),
+        Answer::Failed(_) => 60,
+        _ => 0,
     }
 }
 
-// The same of a call of a seat.
-fn say(alloc: Global, mirror: &mut PlainMirror, seat: u64, call: &MirrorCall<'_>) -> u8 {
-    number_said(&mirror.step(alloc, Seat::new(seat), call))
+/// The number of a call's refusal, and 0 where it was taken.
+pub(crate) fn say(alloc: Global, mirror: &mut PlainMirror, seat: u64, call: &MirrorCall<'_>) -> u8 {
+    let answer = of_step(mirror.step(alloc, Seat::new(seat), call));
+    let number = number_of(&answer);
+    let_go(answer);
+    number
 }
 
 pub(crate) fn of_step(step: Result<Reply, SyncFault>) -> Answer {
@@ -666,9 +673,17 @@ fn is_told_of(
     call: &MirrorCall<'_>,
     text: &str,
 ) -> bool {
-    match &mirror.step(alloc, Seat::new(seat), call) {
-        Ok(_) => false,
-        Err(fault) => says(rt, alloc, fault, text),
+    let answer = of_step(mirror.step(alloc, Seat::new(seat), call));
+    let is_told = says_so(rt, alloc, &answer, text);
+    let_go(answer);
+    is_told
+}
+
+// Whether an answer is a refusal with that text.
+fn says_so(rt: &impl Abort, alloc: Global, answer: &Answer, text: &str) -> bool {
+    match answer {
+        Answer::Refused(fault) => says(rt, alloc, fault, text),
+        _ => false,
     }
 }
 
@@ -814,9 +829,6 @@ fn puts_log(call: &MirrorCall<'_>, number: RevNo, log: &[u8]) -> bool {
         _ => false,
     }
 }
-
-// An answer is let go of. (What that is proved by is much, so it is here alone.)
-pub(crate) fn let_go(_answer: Answer) {}
 
 // Whether an answer is a refusal that is told so.
 fn refuses_so(rt: &impl Abort, alloc: Global, answer: &Answer, number: u8, text: &str) -> bool {

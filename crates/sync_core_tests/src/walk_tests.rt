@@ -1,5 +1,6 @@
 //! A walk of random calls over a mirror in memory, beside a plain re-computation.
-use crate::tests::{number_said, one_prop, repo, token, value};
+use crate::tests;
+use crate::tests::{one_prop, repo, token, value};
 use dump_load::ChangeSet;
 use node_base::RevNo;
 use std::alloc::Global;
@@ -139,13 +140,13 @@ fn say(
     rt: &impl Abort,
     alloc: Global,
     mirror: &mut PlainMirror,
-    seat: Seat,
+    seat: u64,
     kind: Kind,
     n: u16,
     letter: u8,
 ) -> u8 {
     if kind == Kind::Leave {
-        mirror.leave(seat);
+        mirror.leave(Seat::new(seat));
         return 0;
     }
     let number = RevNo::new(n);
@@ -175,7 +176,7 @@ fn say(
         Kind::Merge => MirrorCall::SetMerged(number),
         Kind::Clear | Kind::Leave => MirrorCall::ClearCopying,
     };
-    number_said(&mirror.step(alloc, seat, &call))
+    tests::say(alloc, mirror, seat, &call)
 }
 
 fn spelt(number: Number) -> Option<u64> {
@@ -249,7 +250,7 @@ fn fits(
         .saturating_sub(1);
     let letter = ((bits >> 3) & 0x3F) as u8;
     let wanted = plain.say(rt, seat, kind, n, letter);
-    let got = say(rt, alloc, mirror, Seat::new(seat), kind, n, letter);
+    let got = say(rt, alloc, mirror, seat, kind, n, letter);
     wanted == got && agree(rt, alloc, mirror, plain, n)
 }
 

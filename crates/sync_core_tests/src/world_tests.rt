@@ -3,7 +3,8 @@
 //! a mirror stops before or within a call.
 use crate::plain_world::{Deed, Heard, Order, PlainMaster, PlainRoom, is_call, wanted};
 use crate::tests::{
-    ended, failed, let_go, none_is_wrong, of_master, of_step, one_prop, repo, token, value,
+    ended, failed, let_go, none_is_wrong, number_of, of_master, of_step, one_prop, repo, token,
+    value,
 };
 use crate::walk_tests::shuffled;
 use dump_load::{Change, ChangeSet};
@@ -386,14 +387,6 @@ fn deed_next(job: &JobState) -> Deed {
         Action::Fetch(n) => Deed::Fetch(n.get()),
         Action::FetchProps(n) => Deed::FetchProps(n.get()),
         Action::End => Deed::End,
-    }
-}
-
-fn number_of(answer: &Answer) -> u8 {
-    match answer {
-        Answer::Refused(fault) => fault.number(),
-        Answer::Failed(_) => 60,
-        _ => 0,
     }
 }
 
