@@ -1,72 +1,26 @@
 //! A growth of memory that is refused anywhere in a job: the tests here answer for a refusal themselves, at whatever growth
 //! it comes. A preloaded malloc that answers nothing once, or `rt try --test --fail-alloc N`, refuses one.
 use crate::made::{
-    COMMITTED_1, COPIED_0, COPIED_BOTH, Heard, MASTER, OTHER, Order, Ran, ended, entries, number_of,
+    COMMITTED_1, COPIED_0, COPIED_BOTH, MASTER, OTHER, Order, Ran, ended, entries, job_over,
+    some_file, some_log, some_store, some_token, some_value,
 };
 use crate::stop_tests::{entries_of, is_at_rest, is_so, row_of, told_later};
-use dump_load::{Change, ChangeSet};
 use fleet_disk::MemDisk;
-use node_base::{Action, NodeKind, NodePath, PropName, PropValue, Props, RevNo, Text};
+use node_base::RevNo;
 use repo_store::RepoStore;
 use std::alloc::Global;
 use std::rt::HostRuntime;
-use sync_core::Token;
-use sync_job::{AloneMirror, JobPorts, LentMaster, run_copy_revprops, run_init, run_sync};
-use uuid::Uuid;
-
-fn value(alloc: Global, text: &[u8]) -> Option<PropValue> {
-    PropValue::new(Vec::from_slice(alloc, text).ok()?).ok()
-}
-
-fn token(alloc: Global) -> Option<Token> {
-    Token::new(Vec::from_slice(alloc, b"job").ok()?)
-}
-
-fn log(alloc: Global, text: &[u8]) -> Option<Props> {
-    let name = PropName::parse(alloc, b"svn:log").ok()?;
-    let value = value(alloc, text)?;
-    let mut props = Props::empty();
-    match props.set(alloc, name, value) {
-        Ok(()) => Some(props),
-        Err(_) => None,
-    }
-}
-
-// A set that adds a file.
-fn file(alloc: Global) -> Option<ChangeSet> {
-    let path = NodePath::parse(alloc, b"a").ok()?;
-    let text = Text::new(alloc, Vec::from_slice(alloc, b"hello\n").ok()?).ok()?;
-    let mut changes = Vec::new(alloc);
-    changes.reserve(1).ok()?;
-    changes.push_reserved(Change {
-        path,
-        action: Action::Add,
-        kind: Some(NodeKind::File),
-        source: None,
-        props: Some(Props::empty()),
-        text: Some(text),
-    });
-    ChangeSet::from_changes(changes).ok()
-}
-
-// A store that is begun with this identity.
-fn created(alloc: Global, identity: &str) -> Option<RepoStore<MemDisk>> {
-    let identity = Uuid::parse_str(identity).ok()?;
-    match RepoStore::create(alloc, MemDisk::new(alloc), identity) {
-        Ok(store) => Some(store),
-        Err(_) => None,
-    }
-}
+use sync_job::LentMaster;
 
 fn is_committed(alloc: Global, store: &mut RepoStore<MemDisk>) -> bool {
-    let (Some(set), Some(props)) = (file(alloc), log(alloc, b"hi")) else {
+    let (Some(set), Some(props)) = (some_file(alloc, "a"), some_log(alloc, b"hi")) else {
         return false;
     };
     store.commit(alloc, RevNo::ZERO, set, props, None).is_ok()
 }
 
 fn is_edited(alloc: Global, store: &mut RepoStore<MemDisk>) -> bool {
-    match log(alloc, b"ho") {
+    match some_log(alloc, b"ho") {
         Some(props) => store.put_props(alloc, RevNo::new(1), props).is_ok(),
         None => false,
     }
@@ -83,7 +37,7 @@ fn where_well(store: RepoStore<MemDisk>, is_well: bool) -> Option<RepoStore<MemD
 
 // The master: one file in revision 1.
 fn master(alloc: Global) -> Option<RepoStore<MemDisk>> {
-    let mut store = created(alloc, MASTER)?;
+    let mut store = some_store(alloc, MASTER)?;
     let is_well = is_committed(alloc, &mut store);
     where_well(store, is_well)
 }
@@ -95,29 +49,11 @@ fn job(
     source: &RepoStore<MemDisk>,
     order: &Order,
 ) -> (RepoStore<MemDisk>, Option<Ran>) {
-    let (Some(url), Some(token)) = (value(alloc, b"master"), token(alloc)) else {
+    let (Some(url), Some(token)) = (some_value(alloc, b"master"), some_token(alloc)) else {
         return (store, None);
     };
-    let mirror = AloneMirror::new(store);
-    let heard = Heard { told: 0 };
-    let mut ports = JobPorts::new(alloc, LentMaster::new(source), mirror, heard);
-    let answer = match order {
-        Order::Initialize => run_init(alloc, &mut ports, url),
-        Order::Synchronize => run_sync(alloc, &mut ports, token, false),
-        Order::Steal => run_sync(alloc, &mut ports, token, true),
-        Order::Copy(low, high) => run_copy_revprops(
-            alloc,
-            &mut ports,
-            token,
-            RevNo::new(*low),
-            RevNo::new(*high),
-        ),
-    };
-    let (_source, mirror, heard) = ports.into_parts();
-    (
-        mirror.into_store(),
-        Some(ended(heard.told, number_of(answer))),
-    )
+    let (store, ran) = job_over(alloc, LentMaster::new(source), store, order, url, token);
+    (store, Some(ran))
 }
 
 // The store behind a job that ended so.
@@ -138,7 +74,7 @@ fn begun(
     source: &mut RepoStore<MemDisk>,
     order: &Order,
 ) -> Option<RepoStore<MemDisk>> {
-    let store = created(alloc, OTHER)?;
+    let store = some_store(alloc, OTHER)?;
     match order {
         Order::Initialize => Some(store),
         Order::Synchronize | Order::Steal => behind(

@@ -7,7 +7,9 @@ use repo_store::RepoStore;
 use std::alloc::Global;
 use std::process::Abort;
 use sync_core::{SyncFault, Token};
-use sync_job::{AloneMirror, JobPorts, LentMaster, Report, run_copy_revprops, run_init, run_sync};
+use sync_job::{
+    AloneMirror, JobPorts, LentMaster, MasterPort, Report, run_copy_revprops, run_init, run_sync,
+};
 use uuid::Uuid;
 
 pub(crate) const MASTER: &str = "6a1f0c3e-0000-4000-8000-000000000001";
@@ -60,62 +62,71 @@ pub(crate) fn ended(told: u64, number: u8) -> Ran {
     Ran { told, number }
 }
 
-pub(crate) fn number_of(answer: Result<(), SyncFault>) -> u8 {
+fn number_of(answer: Result<(), SyncFault>) -> u8 {
     match answer {
         Ok(()) => 0,
         Err(fault) => fault.number(),
     }
 }
 
-pub(crate) fn value(rt: &impl Abort, alloc: Global, text: &[u8]) -> PropValue {
-    let bytes = Vec::from_slice(alloc, text).expect(rt, "memory");
-    PropValue::new(bytes).expect(rt, "a property's value")
+/// A property's value; None where memory is refused, as of all that follow.
+pub(crate) fn some_value(alloc: Global, text: &[u8]) -> Option<PropValue> {
+    PropValue::new(Vec::from_slice(alloc, text).ok()?).ok()
 }
 
-pub(crate) fn token(rt: &impl Abort, alloc: Global) -> Token {
-    let bytes = Vec::from_slice(alloc, b"job").expect(rt, "memory");
-    Token::new(bytes).expect(rt, "a token")
+pub(crate) fn some_token(alloc: Global) -> Option<Token> {
+    Token::new(Vec::from_slice(alloc, b"job").ok()?)
 }
 
-fn log(rt: &impl Abort, alloc: Global, text: &[u8]) -> Props {
+pub(crate) fn some_log(alloc: Global, text: &[u8]) -> Option<Props> {
+    let name = PropName::parse(alloc, b"svn:log").ok()?;
+    let value = some_value(alloc, text)?;
     let mut props = Props::empty();
-    let name = PropName::parse(alloc, b"svn:log").expect(rt, "a property's name");
-    props
-        .set(alloc, name, value(rt, alloc, text))
-        .expect(rt, "a property");
-    props
+    match props.set(alloc, name, value) {
+        Ok(()) => Some(props),
+        Err(_) => None,
+    }
 }
 
-// A set that adds a file with this text.
-fn file(rt: &impl Abort, alloc: Global, at: &str, text: &[u8]) -> ChangeSet {
-    let bytes = Vec::from_slice(alloc, text).expect(rt, "memory");
+/// A set that adds a file with six bytes.
+pub(crate) fn some_file(alloc: Global, at: &str) -> Option<ChangeSet> {
+    let path = NodePath::parse(alloc, at.as_bytes()).ok()?;
+    let text = Text::new(alloc, Vec::from_slice(alloc, b"hello\n").ok()?).ok()?;
     let mut changes = Vec::new(alloc);
-    changes
-        .push(Change {
-            path: NodePath::parse(alloc, at.as_bytes()).expect(rt, "a path"),
-            action: Action::Add,
-            kind: Some(NodeKind::File),
-            source: None,
-            props: Some(Props::empty()),
-            text: Some(Text::new(alloc, bytes).expect(rt, "a text")),
-        })
-        .expect(rt, "memory");
-    ChangeSet::from_changes(changes).expect(rt, "a normal set")
+    changes.reserve(1).ok()?;
+    changes.push_reserved(Change {
+        path,
+        action: Action::Add,
+        kind: Some(NodeKind::File),
+        source: None,
+        props: Some(Props::empty()),
+        text: Some(text),
+    });
+    ChangeSet::from_changes(changes).ok()
+}
+
+/// A store that is begun with this identity.
+pub(crate) fn some_store(alloc: Global, identity: &str) -> Option<RepoStore<MemDisk>> {
+    let identity = Uuid::parse_str(identity).ok()?;
+    match RepoStore::create(alloc, MemDisk::new(alloc), identity) {
+        Ok(store) => Some(store),
+        Err(_) => None,
+    }
 }
 
 /// A store that is begun with this identity.
 pub(crate) fn created(rt: &impl Abort, alloc: Global, identity: &str) -> RepoStore<MemDisk> {
-    let identity = Uuid::parse_str(identity).expect(rt, "an identity");
-    match RepoStore::create(alloc, MemDisk::new(alloc), identity) {
-        Ok(store) => store,
-        Err(_) => rt.abort(),
-    }
+    some_store(alloc, identity).expect(rt, "a store")
+}
+
+fn log(rt: &impl Abort, alloc: Global, text: &[u8]) -> Props {
+    some_log(alloc, text).expect(rt, "a log")
 }
 
 /// Commits a file with a log.
 pub(crate) fn commit(rt: &impl Abort, alloc: Global, store: &mut RepoStore<MemDisk>, at: &str) {
     let head = store.repo().head();
-    let set = file(rt, alloc, at, b"hello\n");
+    let set = some_file(alloc, at).expect(rt, "a set");
     match store.commit(alloc, head, set, log(rt, alloc, b"hi"), None) {
         Ok(_) => {}
         Err(_) => rt.abort(),
@@ -146,7 +157,40 @@ pub(crate) enum Order {
     Copy(u16, u16),
 }
 
-/// Runs a job at the mirror of a store, which comes back as the job's calls have left it.
+/// Runs a job over a master at the mirror of a store, which comes back as the job's calls have left it.
+pub(crate) fn job_over<M: MasterPort + Drop, D: Disk + Drop>(
+    alloc: Global,
+    master: M,
+    store: RepoStore<D>,
+    order: &Order,
+    url: PropValue,
+    token: Token,
+) -> (RepoStore<D>, Ran) {
+    let mirror = AloneMirror::new(store);
+    let mut ports = JobPorts::new(alloc, master, mirror, Heard { told: 0 });
+    let answer = match order {
+        Order::Initialize => run_init(alloc, &mut ports, url),
+        Order::Synchronize => run_sync(alloc, &mut ports, token, false),
+        Order::Steal => run_sync(alloc, &mut ports, token, true),
+        Order::Copy(low, high) => run_copy_revprops(
+            alloc,
+            &mut ports,
+            token,
+            RevNo::new(*low),
+            RevNo::new(*high),
+        ),
+    };
+    let (_master, mirror, heard) = ports.into_parts();
+    (mirror.into_store(), ended(heard.told, number_of(answer)))
+}
+
+/// The URL and the token of a job.
+pub(crate) fn words(rt: &impl Abort, alloc: Global) -> (PropValue, Token) {
+    let url = some_value(alloc, b"master").expect(rt, "a property's value");
+    (url, some_token(alloc).expect(rt, "a token"))
+}
+
+/// Runs a job over a store as its master.
 pub(crate) fn job<D: Disk + Drop>(
     rt: &impl Abort,
     alloc: Global,
@@ -154,23 +198,8 @@ pub(crate) fn job<D: Disk + Drop>(
     source: &RepoStore<MemDisk>,
     order: &Order,
 ) -> (RepoStore<D>, Ran) {
-    let mirror = AloneMirror::new(store);
-    let heard = Heard { told: 0 };
-    let mut ports = JobPorts::new(alloc, LentMaster::new(source), mirror, heard);
-    let answer = match order {
-        Order::Initialize => run_init(alloc, &mut ports, value(rt, alloc, b"master")),
-        Order::Synchronize => run_sync(alloc, &mut ports, token(rt, alloc), false),
-        Order::Steal => run_sync(alloc, &mut ports, token(rt, alloc), true),
-        Order::Copy(low, high) => run_copy_revprops(
-            alloc,
-            &mut ports,
-            token(rt, alloc),
-            RevNo::new(*low),
-            RevNo::new(*high),
-        ),
-    };
-    let (_source, mirror, heard) = ports.into_parts();
-    (mirror.into_store(), ended(heard.told, number_of(answer)))
+    let (url, token) = words(rt, alloc);
+    job_over(alloc, LentMaster::new(source), store, order, url, token)
 }
 
 /// Runs a job at the mirror of a disk, if that opens.
@@ -299,4 +328,50 @@ pub(crate) fn has_log(alloc: Global, disk: MemDisk, number: u16, text: &[u8]) ->
         }
         Err(_) => false,
     }
+}
+
+/// How long the gates of a disk's log are, where that is asked.
+#[derive(Clone, Copy)]
+pub(crate) enum Size {
+    Any,
+    /// The slots.
+    Slots(usize),
+    /// The gate file, of the first version, beside no slots.
+    Gate(usize),
+}
+
+fn has_size(disk: &MemDisk, size: &Size) -> bool {
+    match size {
+        Size::Any => true,
+        Size::Slots(count) => slots(disk) == *count,
+        Size::Gate(count) => gate(disk) == *count && slots(disk) == 0,
+    }
+}
+
+/// A job, how it ends, and how long the gates are then.
+pub(crate) type Step = (Order, u64, u8, Size);
+
+/// The first of these jobs, one behind another at the mirror of a disk, that ends otherwise; and the disk.
+pub(crate) fn run_all(
+    rt: &impl Abort,
+    alloc: Global,
+    disk: MemDisk,
+    source: &RepoStore<MemDisk>,
+    steps: &[Step],
+) -> (MemDisk, Option<u64>) {
+    let mut disk = disk;
+    for (place, step) in steps.iter().enumerate() {
+        let (order, told, number, size) = step;
+        let (left, ran) = run(rt, alloc, disk, source, order);
+        disk = left;
+        if ran != ended(*told, *number) || !has_size(&disk, size) {
+            return (disk, Some(place as u64));
+        }
+    }
+    (disk, None)
+}
+
+/// Nothing of this was wrong: it is asserted here for all tests, and what is wrong is told.
+pub(crate) fn none_wrong(rt: &impl Abort, what: &str, wrong: Option<u64>) {
+    assert_eq!(rt; wrong, None, "{what}");
 }

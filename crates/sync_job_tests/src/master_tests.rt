@@ -1,7 +1,7 @@
 //! A master that refuses a question.
 use crate::made::{
-    COMMITTED_1, COMMITTED_ALONE, COPIED_0, COPIED_1, COPIED_BOTH, Heard, Order, Ran, empty, ended,
-    initialised, master, number_of, rests, run, synchronised, token, value,
+    COMMITTED_1, COMMITTED_ALONE, COPIED_0, COPIED_1, COPIED_BOTH, Order, Ran, empty, ended,
+    initialised, job_over, master, none_wrong, rests, run, synchronised, words,
 };
 use fleet_disk::{Disk, MemDisk};
 use node_base::{PropValue, Props, Refusal, RevNo};
@@ -10,10 +10,7 @@ use repo_store::RepoStore;
 use std::alloc::Global;
 use std::process::Abort;
 use std::rt::HostRuntime;
-use sync_job::{
-    AloneMirror, Fetched, JobPorts, LentMaster, MasterFault, MasterPort, run_copy_revprops,
-    run_init, run_sync,
-};
+use sync_job::{Fetched, LentMaster, MasterFault, MasterPort};
 
 // A master that answers so many questions, and refuses all later ones.
 #[derive(Drop)]
@@ -79,22 +76,9 @@ fn refused_behind(
         master: LentMaster::new(source),
         left,
     };
-    let heard = Heard { told: 0 };
-    let mut ports = JobPorts::new(alloc, master, AloneMirror::new(store), heard);
-    let answer = match order {
-        Order::Initialize => run_init(alloc, &mut ports, value(rt, alloc, b"master")),
-        Order::Synchronize => run_sync(alloc, &mut ports, token(rt, alloc), false),
-        Order::Steal => run_sync(alloc, &mut ports, token(rt, alloc), true),
-        Order::Copy(low, high) => run_copy_revprops(
-            alloc,
-            &mut ports,
-            token(rt, alloc),
-            RevNo::new(*low),
-            RevNo::new(*high),
-        ),
-    };
-    let (_master, mirror, heard) = ports.into_parts();
-    (mirror.into_disk(), ended(heard.told, number_of(answer)))
+    let (url, token) = words(rt, alloc);
+    let (store, ran) = job_over(alloc, master, store, order, url, token);
+    (store.into_disk(), ran)
 }
 
 // What a job that was refused had told, where the refusal is told with 60 and the lock is given back: the next one goes
@@ -112,7 +96,52 @@ fn told_behind(
     let (disk, first) = refused_behind(rt, alloc, disk, source, order, left);
     let (disk, later) = run(rt, alloc, disk, source, order);
     let well = first.number == 60 && later == ended(told, 0) && rests(alloc, disk, head, merged);
-    well.then_some(first.told)
+    if well { Some(first.told) } else { None }
+}
+
+// The disk at which a job begins.
+fn begun_for(
+    rt: &impl Abort,
+    alloc: Global,
+    source: &RepoStore<MemDisk>,
+    order: &Order,
+) -> MemDisk {
+    match order {
+        Order::Initialize => empty(rt, alloc),
+        Order::Synchronize | Order::Steal => initialised(rt, alloc, source),
+        Order::Copy(_, _) => synchronised(rt, alloc, source),
+    }
+}
+
+// The first number of answers behind which a refused job, and the one that goes on, don't tell what is due; the job that
+// is answered all tells `all`.
+fn first_untold(
+    rt: &impl Abort,
+    alloc: Global,
+    order: &Order,
+    table: &[(u64, u64)],
+    all: u64,
+    head: u16,
+    merged: &[u8],
+) -> Option<u64> {
+    let source = master(rt, alloc);
+    let mut wrong = None;
+    for (left, (before, behind)) in table.iter().enumerate() {
+        let disk = begun_for(rt, alloc, &source, order);
+        let last = (*behind, head, &*merged);
+        let told = told_behind(rt, alloc, disk, &source, order, left as u64, last);
+        if told != Some(*before) && wrong.is_none() {
+            wrong = Some(left as u64);
+        }
+    }
+    let disk = begun_for(rt, alloc, &source, order);
+    let left = table.len() as u64;
+    let (_disk, last) = refused_behind(rt, alloc, disk, &source, order, left);
+    let _source = source.into_disk();
+    if wrong.is_none() && last != ended(all, 0) {
+        return Some(left);
+    }
+    wrong
 }
 
 // The identity, the newest revision, the revision, and its properties again: what was told by then, and what is left to
@@ -126,52 +155,35 @@ const SYNCHRONISING: [(u64, u64); 4] = [
 
 #[test]
 fn a_master_refuses_each_question(rt: HostRuntime) {
-    let source = master(&rt, rt.alloc());
-    for (left, (before, behind)) in SYNCHRONISING.iter().enumerate() {
-        let disk = initialised(&rt, rt.alloc(), &source);
-        let last: (u64, u16, &[u8]) = (*behind, 1, b"1");
-        let order = Order::Synchronize;
-        let told = told_behind(&rt, rt.alloc(), disk, &source, &order, left as u64, last);
-        assert!(rt; told == Some(*before), "behind {left} answers");
-    }
-    let disk = initialised(&rt, rt.alloc(), &source);
-    let (_disk, last) = refused_behind(&rt, rt.alloc(), disk, &source, &Order::Synchronize, 4);
-    assert!(rt; last == ended(COMMITTED_1, 0));
-    let _source = source.into_disk();
+    let order = Order::Synchronize;
+    let wrong = first_untold(
+        &rt,
+        rt.alloc(),
+        &order,
+        &SYNCHRONISING,
+        COMMITTED_1,
+        1,
+        b"1",
+    );
+    none_wrong(&rt, "answers", wrong);
 }
+
+// The identity, and the properties of revision 0.
+const BEGINNING: [(u64, u64); 2] = [(0, COPIED_0), (0, COPIED_0)];
 
 #[test]
 fn a_master_refuses_to_be_mirrored(rt: HostRuntime) {
-    let source = master(&rt, rt.alloc());
-    // the identity, and the properties of revision 0
-    for left in 0..2u64 {
-        let disk = empty(&rt, rt.alloc());
-        let last: (u64, u16, &[u8]) = (COPIED_0, 0, b"0");
-        let order = Order::Initialize;
-        let told = told_behind(&rt, rt.alloc(), disk, &source, &order, left, last);
-        assert!(rt; told == Some(0), "behind {left} answers");
-    }
-    let disk = empty(&rt, rt.alloc());
-    let (_disk, last) = refused_behind(&rt, rt.alloc(), disk, &source, &Order::Initialize, 2);
-    assert!(rt; last == ended(COPIED_0, 0));
-    let _source = source.into_disk();
+    let order = Order::Initialize;
+    let wrong = first_untold(&rt, rt.alloc(), &order, &BEGINNING, COPIED_0, 0, b"0");
+    none_wrong(&rt, "answers", wrong);
 }
 
-// The identity, and the properties of either revision: what was told by then.
-const COPYING: [u64; 3] = [0, 0, COPIED_0];
+// The identity, and the properties of either revision.
+const COPYING: [(u64, u64); 3] = [(0, COPIED_BOTH), (0, COPIED_BOTH), (COPIED_0, COPIED_BOTH)];
 
 #[test]
 fn a_master_refuses_each_map(rt: HostRuntime) {
-    let source = master(&rt, rt.alloc());
-    for (left, before) in COPYING.iter().enumerate() {
-        let disk = synchronised(&rt, rt.alloc(), &source);
-        let last: (u64, u16, &[u8]) = (COPIED_BOTH, 1, b"1");
-        let order = Order::Copy(0, 1);
-        let told = told_behind(&rt, rt.alloc(), disk, &source, &order, left as u64, last);
-        assert!(rt; told == Some(*before), "behind {left} answers");
-    }
-    let disk = synchronised(&rt, rt.alloc(), &source);
-    let (_disk, last) = refused_behind(&rt, rt.alloc(), disk, &source, &Order::Copy(0, 1), 3);
-    assert!(rt; last == ended(COPIED_BOTH, 0));
-    let _source = source.into_disk();
+    let order = Order::Copy(0, 1);
+    let wrong = first_untold(&rt, rt.alloc(), &order, &COPYING, COPIED_BOTH, 1, b"1");
+    none_wrong(&rt, "answers", wrong);
 }

@@ -388,15 +388,26 @@ fn tried(
 
 const VERSIONS: [LogVersion; 2] = [LogVersion::Second, LogVersion::First];
 
+// All stops and failures of a job are made up for, at a mirror of either version; those that aren't are told.
+fn stops_anywhere(
+    rt: &impl Abort,
+    alloc: Global,
+    source: &RepoStore<MemDisk>,
+    begun: &MemDisk,
+    order: &Order,
+) {
+    for version in &VERSIONS {
+        let begun = in_version(rt, alloc, begun, version);
+        let found = tried(rt, alloc, source, &begun, order);
+        assert_eq!(rt; found, (None, None));
+    }
+}
+
 #[test]
 fn a_synchronisation_stops_anywhere(rt: HostRuntime) {
     let source = master(&rt, rt.alloc());
     let begun = initialised(&rt, rt.alloc(), &source);
-    for version in &VERSIONS {
-        let begun = in_version(&rt, rt.alloc(), &begun, version);
-        let found = tried(&rt, rt.alloc(), &source, &begun, &Order::Synchronize);
-        assert_eq!(rt; found, (None, None));
-    }
+    stops_anywhere(&rt, rt.alloc(), &source, &begun, &Order::Synchronize);
     let _source = source.into_disk();
 }
 
@@ -404,11 +415,7 @@ fn a_synchronisation_stops_anywhere(rt: HostRuntime) {
 fn an_initialisation_stops_anywhere(rt: HostRuntime) {
     let source = master(&rt, rt.alloc());
     let begun = empty(&rt, rt.alloc());
-    for version in &VERSIONS {
-        let begun = in_version(&rt, rt.alloc(), &begun, version);
-        let found = tried(&rt, rt.alloc(), &source, &begun, &Order::Initialize);
-        assert_eq!(rt; found, (None, None));
-    }
+    stops_anywhere(&rt, rt.alloc(), &source, &begun, &Order::Initialize);
     let _source = source.into_disk();
 }
 
@@ -417,10 +424,6 @@ fn a_copying_stops_anywhere(rt: HostRuntime) {
     let mut source = master(&rt, rt.alloc());
     let begun = synchronised(&rt, rt.alloc(), &source);
     edit(&rt, rt.alloc(), &mut source, 1);
-    for version in &VERSIONS {
-        let begun = in_version(&rt, rt.alloc(), &begun, version);
-        let found = tried(&rt, rt.alloc(), &source, &begun, &Order::Copy(0, 1));
-        assert_eq!(rt; found, (None, None));
-    }
+    stops_anywhere(&rt, rt.alloc(), &source, &begun, &Order::Copy(0, 1));
     let _source = source.into_disk();
 }
