@@ -143,7 +143,8 @@ fn refuses(rt: &impl Abort, alloc: Global, store: &mut RepoStore<MemDisk>) -> bo
 
 #[test]
 fn what_a_store_refuses(rt: HostRuntime) {
-    let mut store = found(&rt, rt.alloc(), second_disk(&rt, rt.alloc()));
-    assert!(rt; refuses(&rt, rt.alloc(), &mut store));
+    let alloc = rt.alloc();
+    let mut store = found(&rt, alloc, second_disk(&rt, alloc));
+    assert!(rt; refuses(&rt, alloc, &mut store));
     assert!(rt; is_journal(&store.into_disk(), &[FIRST, SECOND]));
 }

@@ -91,12 +91,11 @@ fn is_told(alloc: Global, repo: &mut Repo, base: u16, text: &str) -> bool {
 
 #[test]
 fn a_commit_is_made_against_the_head(rt: HostRuntime) {
-    let mut repo = first_repo(&rt, rt.alloc());
-    assert!(rt; commit(&rt, rt.alloc(), &mut repo, 2, &[]) == 21);
-    assert!(rt; commit(&rt, rt.alloc(), &mut repo, 0, &[]) == 25);
-    assert!(rt;
-        is_told(rt.alloc(), &mut repo, 0, "the base is not the head 1") && has_head(&repo, 1)
-    );
+    let alloc = rt.alloc();
+    let mut repo = first_repo(&rt, alloc);
+    assert!(rt; commit(&rt, alloc, &mut repo, 2, &[]) == 21);
+    assert!(rt; commit(&rt, alloc, &mut repo, 0, &[]) == 25);
+    assert!(rt; is_told(alloc, &mut repo, 0, "the base is not the head 1") && has_head(&repo, 1));
     let_go(repo);
 }
 
@@ -113,27 +112,30 @@ fn dates(alloc: Global, micros: u64, text: &str) -> bool {
 
 #[test]
 fn first_and_last_moments(rt: HostRuntime) {
+    let alloc = rt.alloc();
     let last = 4_102_444_799_999_999;
-    assert!(rt; dates(rt.alloc(), 0, "1970-01-01T00:00:00.000000Z"));
-    assert!(rt; dates(rt.alloc(), last, "2099-12-31T23:59:59.999999Z"));
+    assert!(rt; dates(alloc, 0, "1970-01-01T00:00:00.000000Z"));
+    assert!(rt; dates(alloc, last, "2099-12-31T23:59:59.999999Z"));
     assert!(rt; Moment::from_micros(4_102_444_800_000_000).is_none());
 }
 
 #[test]
 fn moments_between(rt: HostRuntime) {
+    let alloc = rt.alloc();
     let (leap, later) = (951_782_400_000_000, 1_000_000_000_123_456);
-    assert!(rt; dates(rt.alloc(), leap, "2000-02-29T00:00:00.000000Z"));
-    assert!(rt; dates(rt.alloc(), later, "2001-09-09T01:46:40.123456Z"));
+    assert!(rt; dates(alloc, leap, "2000-02-29T00:00:00.000000Z"));
+    assert!(rt; dates(alloc, later, "2001-09-09T01:46:40.123456Z"));
 }
 
 #[test]
 fn a_commit_with_a_moment_has_its_date(rt: HostRuntime) {
+    let alloc = rt.alloc();
     let moment = Moment::from_micros(1_000_000_000_123_456);
-    let mut repo = logged(&rt, rt.alloc(), DIR, moment);
+    let mut repo = logged(&rt, alloc, DIR, moment);
     assert!(rt; has(&repo, 1, b"svn:date", Some(b"2001-09-09T01:46:40.123456Z")));
     assert!(rt; has(&repo, 1, LOG, Some(b"hi")));
     let again = [("a", Action::Add, DIR, None)];
-    assert!(rt; commit(&rt, rt.alloc(), &mut repo, 1, &again) == 12);
+    assert!(rt; commit(&rt, alloc, &mut repo, 1, &again) == 12);
     let_go(repo);
 }
 
@@ -169,10 +171,11 @@ fn finds(
 
 #[test]
 fn a_change_finds_what_it_expects(rt: HostRuntime) {
-    let mut repo = first_repo(&rt, rt.alloc());
-    assert!(rt; finds(&rt, rt.alloc(), &mut repo, None, b"hi") && has(&repo, 1, LOG, Some(b"hi")));
-    assert!(rt; relog(&rt, rt.alloc(), &mut repo, b"ho", Some(b"hi")).is_ok());
-    assert!(rt; finds(&rt, rt.alloc(), &mut repo, Some(b"hi"), b"ho"));
+    let alloc = rt.alloc();
+    let mut repo = first_repo(&rt, alloc);
+    assert!(rt; finds(&rt, alloc, &mut repo, None, b"hi") && has(&repo, 1, LOG, Some(b"hi")));
+    assert!(rt; relog(&rt, alloc, &mut repo, b"ho", Some(b"hi")).is_ok());
+    assert!(rt; finds(&rt, alloc, &mut repo, Some(b"hi"), b"ho"));
     let_go(repo);
 }
 
@@ -184,10 +187,11 @@ fn unlog(rt: &impl Abort, alloc: Global, repo: &mut Repo) -> u8 {
 
 #[test]
 fn a_change_that_expects_nothing(rt: HostRuntime) {
-    let mut repo = first_repo(&rt, rt.alloc());
-    assert!(rt; unlog(&rt, rt.alloc(), &mut repo) == 0 && has(&repo, 1, LOG, None));
-    assert!(rt; number(relog(&rt, rt.alloc(), &mut repo, b"ho", Some(b"hi"))) == 22);
-    assert!(rt; number(relog(&rt, rt.alloc(), &mut repo, b"ho", None)) == 0);
+    let alloc = rt.alloc();
+    let mut repo = first_repo(&rt, alloc);
+    assert!(rt; unlog(&rt, alloc, &mut repo) == 0 && has(&repo, 1, LOG, None));
+    assert!(rt; number(relog(&rt, alloc, &mut repo, b"ho", Some(b"hi"))) == 22);
+    assert!(rt; number(relog(&rt, alloc, &mut repo, b"ho", None)) == 0);
     assert!(rt; has(&repo, 1, LOG, Some(b"ho")));
     let_go(repo);
 }
@@ -228,8 +232,9 @@ fn first_wrong(rt: &impl Abort, alloc: Global, repo: &mut Repo) -> Option<u64> {
 
 #[test]
 fn refusals_of_a_change_in_their_order(rt: HostRuntime) {
-    let mut repo = first_repo(&rt, rt.alloc());
-    none_wrong(&rt, "change", first_wrong(&rt, rt.alloc(), &mut repo));
+    let alloc = rt.alloc();
+    let mut repo = first_repo(&rt, alloc);
+    none_wrong(&rt, "change", first_wrong(&rt, alloc, &mut repo));
     let_go(repo);
 }
 
@@ -251,11 +256,12 @@ fn full_props(rt: &impl Abort, alloc: Global) -> Props {
 
 #[test]
 fn one_property_too_many(rt: HostRuntime) {
-    let mut repo = empty_repo(&rt, rt.alloc());
-    assert!(rt; put(&mut repo, 0, full_props(&rt, rt.alloc())) == 0);
-    assert!(rt; refused(&rt, rt.alloc(), &mut repo, 0, LOG, 1) == 8);
-    assert!(rt; refused(&rt, rt.alloc(), &mut repo, 0, b"svn:sync-lock", 1) == 0);
-    assert!(rt; refused(&rt, rt.alloc(), &mut repo, 0, b"p7", 1) == 22);
+    let alloc = rt.alloc();
+    let mut repo = empty_repo(&rt, alloc);
+    assert!(rt; put(&mut repo, 0, full_props(&rt, alloc)) == 0);
+    assert!(rt; refused(&rt, alloc, &mut repo, 0, LOG, 1) == 8);
+    assert!(rt; refused(&rt, alloc, &mut repo, 0, b"svn:sync-lock", 1) == 0);
+    assert!(rt; refused(&rt, alloc, &mut repo, 0, b"p7", 1) == 22);
     let_go(repo);
 }
 
@@ -267,11 +273,12 @@ fn overfull(rt: &impl Abort, alloc: Global, repo: &mut Repo, set: ChangeSet) -> 
 
 #[test]
 fn a_date_too_many_comes_last(rt: HostRuntime) {
-    let mut repo = first_repo(&rt, rt.alloc());
-    let none = ChangeSet::empty(rt.alloc());
-    assert!(rt; overfull(&rt, rt.alloc(), &mut repo, none) == 8);
-    let again = set(&rt, rt.alloc(), &[("a", Action::Add, FILE, None)]);
-    assert!(rt; overfull(&rt, rt.alloc(), &mut repo, again) == 12);
+    let alloc = rt.alloc();
+    let mut repo = first_repo(&rt, alloc);
+    let none = ChangeSet::empty(alloc);
+    assert!(rt; overfull(&rt, alloc, &mut repo, none) == 8);
+    let again = set(&rt, alloc, &[("a", Action::Add, FILE, None)]);
+    assert!(rt; overfull(&rt, alloc, &mut repo, again) == 12);
     assert!(rt; has_head(&repo, 1));
     let_go(repo);
 }
@@ -283,10 +290,11 @@ fn put(repo: &mut Repo, at: u16, props: Props) -> u8 {
 
 #[test]
 fn a_whole_map_takes_the_place_of_another(rt: HostRuntime) {
-    let mut repo = first_repo(&rt, rt.alloc());
+    let alloc = rt.alloc();
+    let mut repo = first_repo(&rt, alloc);
     assert!(rt; put(&mut repo, 2, Props::empty()) == 21);
     assert!(rt; put(&mut repo, 1, Props::empty()) == 0 && has(&repo, 1, LOG, None));
-    let begun = log_of(&rt, rt.alloc(), b"begun");
+    let begun = log_of(&rt, alloc, b"begun");
     assert!(rt; put(&mut repo, 0, begun) == 0 && has(&repo, 0, LOG, Some(b"begun")));
     let_go(repo);
 }
@@ -316,12 +324,11 @@ fn copy(rt: &impl Abort, alloc: Global, repo: &mut Repo, from: u16) -> u8 {
 
 #[test]
 fn a_copy_into_itself_keeps_the_source(rt: HostRuntime) {
-    let mut repo = with_directory(&rt, rt.alloc());
-    assert!(rt; copy(&rt, rt.alloc(), &mut repo, 2) == 14);
-    assert!(rt; copy(&rt, rt.alloc(), &mut repo, 1) == 0);
-    assert!(rt;
-        there(&rt, rt.alloc(), &repo, 2, "t/in/x") && !there(&rt, rt.alloc(), &repo, 2, "t/in/in")
-    );
+    let alloc = rt.alloc();
+    let mut repo = with_directory(&rt, alloc);
+    assert!(rt; copy(&rt, alloc, &mut repo, 2) == 14);
+    assert!(rt; copy(&rt, alloc, &mut repo, 1) == 0);
+    assert!(rt; there(&rt, alloc, &repo, 2, "t/in/x") && !there(&rt, alloc, &repo, 2, "t/in/in"));
     let_go(repo);
 }
 
@@ -366,9 +373,10 @@ fn fill(alloc: Global, repo: &mut Repo) -> bool {
 
 #[test]
 fn a_repository_that_is_full(rt: HostRuntime) {
-    let mut repo = empty_repo(&rt, rt.alloc());
-    assert!(rt; fill(rt.alloc(), &mut repo) && has_head(&repo, 65_535));
-    assert!(rt; commit(&rt, rt.alloc(), &mut repo, 65_535, &[]) == 23);
+    let alloc = rt.alloc();
+    let mut repo = empty_repo(&rt, alloc);
+    assert!(rt; fill(alloc, &mut repo) && has_head(&repo, 65_535));
+    assert!(rt; commit(&rt, alloc, &mut repo, 65_535, &[]) == 23);
     assert!(rt; has_head(&repo, 65_535));
     let_go(repo);
 }

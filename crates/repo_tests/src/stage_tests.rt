@@ -27,11 +27,12 @@ fn has(rt: &impl Abort, alloc: Global, staged: &Staged, text: &str) -> bool {
 
 #[test]
 fn what_was_staged_and_dropped_changes_nothing(rt: HostRuntime) {
-    let repo = first_repo(&rt, rt.alloc());
-    let staged = staged(&rt, rt.alloc(), &repo);
-    assert!(rt; has(&rt, rt.alloc(), &staged, "b"));
+    let alloc = rt.alloc();
+    let repo = first_repo(&rt, alloc);
+    let staged = staged(&rt, alloc, &repo);
+    assert!(rt; has(&rt, alloc, &staged, "b"));
     drop_staged(staged);
-    assert!(rt; has_head(&repo, 1) && !there(&rt, rt.alloc(), &repo, 1, "b"));
+    assert!(rt; has_head(&repo, 1) && !there(&rt, alloc, &repo, 1, "b"));
     let_go(repo);
 }
 
@@ -64,8 +65,9 @@ fn is_map(entry: &Entry, at: u16) -> bool {
 
 #[test]
 fn what_is_staged_is_an_entry(rt: HostRuntime) {
-    let repo = first_repo(&rt, rt.alloc());
-    let staged = staged(&rt, rt.alloc(), &repo);
+    let alloc = rt.alloc();
+    let repo = first_repo(&rt, alloc);
+    let staged = staged(&rt, alloc, &repo);
     assert!(rt; is_revision(staged.entry(), 2, 1));
     drop_staged(staged);
     let_go(repo);
@@ -86,8 +88,9 @@ fn emptied(rt: &impl Abort, repo: &Repo) -> Staged {
 
 #[test]
 fn what_is_staged_of_properties_is_an_entry(rt: HostRuntime) {
-    let repo = first_repo(&rt, rt.alloc());
-    let unlogged = unlogged(&rt, rt.alloc(), &repo);
+    let alloc = rt.alloc();
+    let repo = first_repo(&rt, alloc);
+    let unlogged = unlogged(&rt, alloc, &repo);
     assert!(rt; is_map(unlogged.entry(), 1));
     drop_staged(unlogged);
     let put = emptied(&rt, &repo);
@@ -110,11 +113,12 @@ fn is_installed(rt: &impl Abort, alloc: Global, repo: &mut Repo) -> bool {
 
 #[test]
 fn what_was_staged_is_installed(rt: HostRuntime) {
-    let mut repo = first_repo(&rt, rt.alloc());
-    assert!(rt; is_installed(&rt, rt.alloc(), &mut repo));
+    let alloc = rt.alloc();
+    let mut repo = first_repo(&rt, alloc);
+    assert!(rt; is_installed(&rt, alloc, &mut repo));
     repo.is_repository();
-    assert!(rt; there(&rt, rt.alloc(), &repo, 2, "b"));
-    let empty = empty_repo(&rt, rt.alloc());
+    assert!(rt; there(&rt, alloc, &repo, 2, "b"));
+    let empty = empty_repo(&rt, alloc);
     assert!(rt; repo.identity() == empty.identity());
     let_go(empty);
     let_go(repo);

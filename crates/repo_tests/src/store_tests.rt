@@ -139,11 +139,12 @@ fn holds(disk: &MemDisk, entries: &[&[u8]], slots: &[u8]) -> bool {
 
 #[test]
 fn a_new_repository(rt: HostRuntime) {
-    let store = created(&rt, rt.alloc());
+    let alloc = rt.alloc();
+    let store = created(&rt, alloc);
     assert!(rt; has_head(&store, 0));
     let disk = store.into_disk();
     assert!(rt; holds(&disk, &[FIRST], ONE_SLOT));
-    assert!(rt; opens_at(rt.alloc(), disk, 0));
+    assert!(rt; opens_at(alloc, disk, 0));
 }
 
 // Whether this is the text of revision 1.
@@ -168,9 +169,10 @@ fn opens_with_file<D: Disk + Drop>(alloc: Global, disk: D, revision: u16) -> boo
 
 #[test]
 fn a_commit_is_an_entry(rt: HostRuntime) {
-    let disk = second_disk(&rt, rt.alloc());
+    let alloc = rt.alloc();
+    let disk = second_disk(&rt, alloc);
     assert!(rt; holds(&disk, &[FIRST, SECOND], TWO_SLOTS));
-    assert!(rt; opens_with_file(rt.alloc(), disk, 1));
+    assert!(rt; opens_with_file(alloc, disk, 1));
 }
 
 // Whether the text of revision 1 has as many bytes as before, and begins with the other properties.
@@ -199,14 +201,15 @@ fn relog(rt: &impl Abort, alloc: Global, store: &mut RepoStore<MemDisk>) -> bool
 
 #[test]
 fn a_property_is_an_entry(rt: HostRuntime) {
-    let store = relogged(&rt, rt.alloc());
-    assert!(rt; exports_other(rt.alloc(), &store));
+    let alloc = rt.alloc();
+    let store = relogged(&rt, alloc);
+    assert!(rt; exports_other(alloc, &store));
     let disk = store.into_disk();
     assert!(rt;
         is_journal(&disk, &[FIRST, SECOND, THIRD]) && disk.bytes(DiskFile::Slots).len() == 76
     );
-    let again = found(&rt, rt.alloc(), disk);
-    assert!(rt; exports_other(rt.alloc(), &again));
+    let again = found(&rt, alloc, disk);
+    assert!(rt; exports_other(alloc, &again));
     let _disk = again.into_disk();
 }
 
@@ -255,9 +258,10 @@ fn applied_file(rt: &impl Abort, alloc: Global, store: &mut RepoStore<MemDisk>) 
 
 #[test]
 fn a_set_that_was_judged_is_committed(rt: HostRuntime) {
-    let mut store = created(&rt, rt.alloc());
-    assert!(rt; applied_file(&rt, rt.alloc(), &mut store));
-    assert!(rt; exports(rt.alloc(), &store, SECOND));
+    let alloc = rt.alloc();
+    let mut store = created(&rt, alloc);
+    assert!(rt; applied_file(&rt, alloc, &mut store));
+    assert!(rt; exports(alloc, &store, SECOND));
     assert!(rt; is_journal(&store.into_disk(), &[FIRST, SECOND]));
 }
 
@@ -277,12 +281,13 @@ fn staged_log(
 
 #[test]
 fn entries_are_staged_and_installed(rt: HostRuntime) {
-    let mut store = created(&rt, rt.alloc());
-    assert!(rt; staged_file(&rt, rt.alloc(), &mut store));
-    assert!(rt; staged_log(&rt, rt.alloc(), &mut store, false));
-    let mut store = found(&rt, rt.alloc(), store.into_disk());
-    assert!(rt; exports(rt.alloc(), &store, SECOND));
-    assert!(rt; staged_log(&rt, rt.alloc(), &mut store, true));
+    let alloc = rt.alloc();
+    let mut store = created(&rt, alloc);
+    assert!(rt; staged_file(&rt, alloc, &mut store));
+    assert!(rt; staged_log(&rt, alloc, &mut store, false));
+    let mut store = found(&rt, alloc, store.into_disk());
+    assert!(rt; exports(alloc, &store, SECOND));
+    assert!(rt; staged_log(&rt, alloc, &mut store, true));
     assert!(rt; is_journal(&store.into_disk(), &[FIRST, SECOND, THIRD]));
 }
 
@@ -325,9 +330,10 @@ fn is_told(alloc: Global, fault: &StoreFault, text: &str) -> bool {
 
 #[test]
 fn a_damaged_entry(rt: HostRuntime) {
-    let journal = damaged(&rt, rt.alloc());
-    let fault = damage(rt.alloc(), journal.as_slice()).expect(&rt, "a damaged entry");
-    assert!(rt; fault.number() == 33 && is_told(rt.alloc(), &fault, "entry 1 is damaged"));
+    let alloc = rt.alloc();
+    let journal = damaged(&rt, alloc);
+    let fault = damage(alloc, journal.as_slice()).expect(&rt, "a damaged entry");
+    assert!(rt; fault.number() == 33 && is_told(alloc, &fault, "entry 1 is damaged"));
     assert!(rt; Refusal::from(fault).number() == 33);
 }
 
@@ -347,9 +353,10 @@ fn refused(alloc: Global, journal: &[u8], gate: &[u8], slots: &[u8]) -> u8 {
 // A byte that is damaged and still reads as an entry is seen by the entry's sum alone.
 #[test]
 fn a_changed_letter(rt: HostRuntime) {
-    let journal = capital(&rt, rt.alloc());
-    assert!(rt; refused(rt.alloc(), journal.as_slice(), TWO_GATES, b"") == 0);
-    assert!(rt; refused(rt.alloc(), journal.as_slice(), b"", TWO_SLOTS) == 33);
+    let alloc = rt.alloc();
+    let journal = capital(&rt, alloc);
+    assert!(rt; refused(alloc, journal.as_slice(), TWO_GATES, b"") == 0);
+    assert!(rt; refused(alloc, journal.as_slice(), b"", TWO_SLOTS) == 33);
 }
 
 // What stands after so many calls of a commit, for each pick: the gate's write decides.
@@ -429,11 +436,12 @@ fn fails(rt: &impl Abort, alloc: Global, store: &mut RepoStore<FuseDisk<MemDisk>
 
 #[test]
 fn the_third_call_fails(rt: HostRuntime) {
-    let mut store = fused(&rt, rt.alloc(), 2, Fuse::Once);
-    assert!(rt; fails(&rt, rt.alloc(), &mut store));
+    let alloc = rt.alloc();
+    let mut store = fused(&rt, alloc, 2, Fuse::Once);
+    assert!(rt; fails(&rt, alloc, &mut store));
     assert!(rt; is_in_doubt(&store, 2));
-    let mut store = found(&rt, rt.alloc(), store.into_disk());
-    assert!(rt; has_head(&store, 1) && commit(&rt, rt.alloc(), &mut store, "b") == 0);
+    let mut store = found(&rt, alloc, store.into_disk());
+    assert!(rt; has_head(&store, 1) && commit(&rt, alloc, &mut store, "b") == 0);
     let _disk = store.into_disk();
 }
 
@@ -450,8 +458,9 @@ fn is_refused_over(rt: &impl Abort, alloc: Global, disk: MemDisk) -> bool {
 
 #[test]
 fn a_store_where_one_is(rt: HostRuntime) {
-    assert!(rt; is_refused_over(&rt, rt.alloc(), second_disk(&rt, rt.alloc())));
-    assert!(rt; refusal(rt.alloc(), MemDisk::new(rt.alloc())) == 34);
+    let alloc = rt.alloc();
+    assert!(rt; is_refused_over(&rt, alloc, second_disk(&rt, alloc)));
+    assert!(rt; refusal(alloc, MemDisk::new(alloc)) == 34);
 }
 
 // The number of the refusal of a creation whose calls after the first ones fail once, and 0 where it isn't refused.
