@@ -133,11 +133,14 @@ fn a_short_read_at_the_end_and_past_it(rt: HostRuntime) {
     );
 }
 
-const BY_TURNS: [Step<'static>; 4] = [
+// Each file is asked for once.
+const BY_TURNS: [Step<'static>; 6] = [
     Step::Read(JOURNAL, 1, b"bcde"),
     Step::Read(GATE, 1, b"hijk"),
     Step::Read(SLOTS, 1, b"nopq"),
     Step::Read(JOURNAL, 2, b"cdef"),
+    Step::Read(GATE, 2, b"ijkl"),
+    Step::Read(SLOTS, 2, b"opqr"),
 ];
 
 #[test]
@@ -145,7 +148,7 @@ fn another_file_has_its_own_bytes(rt: HostRuntime) {
     none_wrong(
         &rt,
         "by turns",
-        wrong(&rt, rt.alloc(), MANY, Fuse::ForGood, &BY_TURNS),
+        wrong(&rt, rt.alloc(), 3, Fuse::ForGood, &BY_TURNS),
     );
 }
 

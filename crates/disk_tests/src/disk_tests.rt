@@ -86,8 +86,9 @@ const SYNCED: [Call<'static>; 9] = [
 
 #[test]
 fn a_stop_between_two_syncs(rt: HostRuntime) {
-    none_wrong(&rt, "unsynced", first_refused(&rt, rt.alloc(), &UNSYNCED));
-    none_wrong(&rt, "synced", first_refused(&rt, rt.alloc(), &SYNCED));
+    let alloc = rt.alloc();
+    none_wrong(&rt, "unsynced", first_refused(&rt, alloc, &UNSYNCED));
+    none_wrong(&rt, "synced", first_refused(&rt, alloc, &SYNCED));
 }
 
 // Whether the journal is empty at first, and this is written over it and cut.
@@ -126,9 +127,8 @@ fn a_disk_in_memory(rt: HostRuntime) {
 // The calls of a host that go to a disk in memory.
 #[test]
 fn a_disk_over_calls(rt: HostRuntime) {
-    assert!(rt;
-        goes_round(&mut HostDisk::new(rt.alloc(), OverDisk::new(MemDisk::new(rt.alloc()))))
-    );
+    let alloc = rt.alloc();
+    assert!(rt; goes_round(&mut HostDisk::new(alloc, OverDisk::new(MemDisk::new(alloc)))));
 }
 
 // A folder without files is one of empty files that can't be written; one that is made can be.
@@ -189,7 +189,8 @@ const FOR_GOOD: [Step<'static>; 3] = [Step::Sync, Step::Unwritten(GATE), Step::U
 
 #[test]
 fn a_fuse(rt: HostRuntime) {
-    assert!(rt; goes_round(&mut fused(rt.alloc(), 10, Fuse::ForGood)));
-    assert!(rt; leaves(rt.alloc(), Fuse::Once, &ONCE, b"y"));
-    assert!(rt; leaves(rt.alloc(), Fuse::ForGood, &FOR_GOOD, b""));
+    let alloc = rt.alloc();
+    assert!(rt; goes_round(&mut fused(alloc, 10, Fuse::ForGood)));
+    assert!(rt; leaves(alloc, Fuse::Once, &ONCE, b"y"));
+    assert!(rt; leaves(alloc, Fuse::ForGood, &FOR_GOOD, b""));
 }

@@ -274,12 +274,13 @@ fn what_a_completion_is_asked(rt: HostRuntime) {
 // A folder whose journal is held by another is neither made, nor opened, nor completed.
 #[test]
 fn a_folder_that_is_held(rt: HostRuntime) {
+    let alloc = rt.alloc();
     let asked = nothing_asked();
     asked.fails.set(true);
     let host = FakeHost { asked: &asked };
-    assert!(rt; is_refused(HostDisk::create(&host, rt.alloc(), "folder")));
-    assert!(rt; is_refused(HostDisk::open(&host, rt.alloc(), "folder")));
-    assert!(rt; is_refused(HostDisk::complete(&host, rt.alloc(), "folder")));
+    assert!(rt; is_refused(HostDisk::create(&host, alloc, "folder")));
+    assert!(rt; is_refused(HostDisk::open(&host, alloc, "folder")));
+    assert!(rt; is_refused(HostDisk::complete(&host, alloc, "folder")));
     assert!(rt; was_asked(&asked, 3, 0, 0));
 }
 

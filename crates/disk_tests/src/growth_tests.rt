@@ -173,9 +173,10 @@ fn first_untold(log: &mut GateLog<MemDisk>) -> Option<u64> {
 
 #[test]
 fn a_growth_refused_in_the_disk_is_a_failure_of_it(rt: HostRuntime) -> Result<(), Fail> {
-    let mut log = created(rt.alloc(), MemDisk::new(rt.alloc()))?;
+    let alloc = rt.alloc();
+    let mut log = created(alloc, MemDisk::new(alloc))?;
     none_wrong(&rt, "text", first_untold(&mut log));
     let whole = log.len();
-    assert!(rt; finds_or_tells(rt.alloc(), log.into_disk(), whole));
+    assert!(rt; finds_or_tells(alloc, log.into_disk(), whole));
     Ok(())
 }

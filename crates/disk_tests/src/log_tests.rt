@@ -1,7 +1,7 @@
 //! Logs over disks in memory and a folder: what an opening finds after each stop and each failure.
 
 use crate::folders::{Deed, first_undone};
-use crate::steps::none_wrong;
+use crate::steps::{GATE, SLOTS, none_wrong};
 use fleet_disk::{Disk, DiskFile, Fuse, FuseDisk, HostDisk, MemDisk, Pick};
 use gate_log::{GateLog, LogFault, LogVersion, one_verdict};
 use std::alloc::Global;
@@ -214,10 +214,11 @@ fn takes_a_second<D: Disk + Drop>(alloc: Global, disk: D) -> bool {
 
 #[test]
 fn the_third_call_fails(rt: HostRuntime) {
-    let mut log = fused(&rt, rt.alloc(), LogVersion::Second, 2, Fuse::Once);
+    let alloc = rt.alloc();
+    let mut log = fused(&rt, alloc, LogVersion::Second, 2, Fuse::Once);
     assert!(rt; not_added(&mut log) == Some(LogFault::DeviceFailed));
-    assert!(rt; has_failed_for_good(rt.alloc(), &mut log));
-    assert!(rt; takes_a_second(rt.alloc(), log.into_disk()));
+    assert!(rt; has_failed_for_good(alloc, &mut log));
+    assert!(rt; takes_a_second(alloc, log.into_disk()));
 }
 
 // Whether a read of a log with one entry fails, and then an append for that.
@@ -229,9 +230,10 @@ fn fails_to_read<D: Disk>(alloc: Global, log: &mut GateLog<D>) -> bool {
 
 #[test]
 fn a_read_fails(rt: HostRuntime) {
-    let mut log = fused(&rt, rt.alloc(), LogVersion::Second, 0, Fuse::Once);
-    assert!(rt; fails_to_read(rt.alloc(), &mut log));
-    assert!(rt; opens_with(rt.alloc(), log.into_disk(), 1));
+    let alloc = rt.alloc();
+    let mut log = fused(&rt, alloc, LogVersion::Second, 0, Fuse::Once);
+    assert!(rt; fails_to_read(alloc, &mut log));
+    assert!(rt; opens_with(alloc, log.into_disk(), 1));
 }
 
 // Whether a creation ends where this call of it fails, and another on the disk that it hands back ends so.
@@ -334,15 +336,16 @@ fn first_shut(rt: &impl Abort, alloc: Global, version: LogVersion) -> Option<u64
 
 #[test]
 fn an_opening_stopped_after_each_call(rt: HostRuntime) {
+    let alloc = rt.alloc();
     none_wrong(
         &rt,
         "calls in the first version",
-        first_shut(&rt, rt.alloc(), LogVersion::First),
+        first_shut(&rt, alloc, LogVersion::First),
     );
     none_wrong(
         &rt,
         "calls in the second version",
-        first_shut(&rt, rt.alloc(), LogVersion::Second),
+        first_shut(&rt, alloc, LogVersion::Second),
     );
 }
 
@@ -358,8 +361,9 @@ fn cuts_to(rt: &impl Abort, alloc: Global, version: LogVersion, gate: &[u8], slo
 
 #[test]
 fn an_opening_cuts_what_is_behind(rt: HostRuntime) {
-    assert!(rt; cuts_to(&rt, rt.alloc(), LogVersion::First, ONE_GATE, b""));
-    assert!(rt; cuts_to(&rt, rt.alloc(), LogVersion::Second, b"", ONE_SLOT));
+    let alloc = rt.alloc();
+    assert!(rt; cuts_to(&rt, alloc, LogVersion::First, ONE_GATE, b""));
+    assert!(rt; cuts_to(&rt, alloc, LogVersion::Second, b"", ONE_SLOT));
 }
 
 // A disk with one entry, and this gate and these slots.
@@ -404,7 +408,8 @@ fn takes_two(log: &mut GateLog<MemDisk>) -> bool {
 
 #[test]
 fn the_bytes_and_the_calls(rt: HostRuntime) {
-    let mut log = begun(&rt, rt.alloc(), MemDisk::new(rt.alloc()));
+    let alloc = rt.alloc();
+    let mut log = begun(&rt, alloc, MemDisk::new(alloc));
     assert!(rt; takes_two(&mut log));
     let disk = log.into_disk();
     assert!(rt;
@@ -419,11 +424,8 @@ fn the_bytes_and_the_calls(rt: HostRuntime) {
 // An append in the first version, whose gates have no sums.
 #[test]
 fn the_bytes_of_the_first_version(rt: HostRuntime) {
-    let mut log = found(
-        &rt,
-        rt.alloc(),
-        one_entry(&rt, rt.alloc(), LogVersion::First),
-    );
+    let alloc = rt.alloc();
+    let mut log = found(&rt, alloc, one_entry(&rt, alloc, LogVersion::First));
     assert!(rt; log.version() == LogVersion::First && added(&mut log, b"second") == Some(1));
     assert!(rt; has_files(&log.into_disk(), b"firstsecond", WHOLE, b""));
 }
@@ -436,17 +438,36 @@ fn has_room_for(log: &mut GateLog<MemDisk>, count: usize) -> bool {
 
 #[test]
 fn the_limit(rt: HostRuntime) {
-    let mut log = begun(&rt, rt.alloc(), MemDisk::new(rt.alloc()));
+    let alloc = rt.alloc();
+    let mut log = begun(&rt, alloc, MemDisk::new(alloc));
     assert!(rt; has_room_for(&mut log, 1 << 56));
     assert!(rt; added(&mut log, b"first") == Some(0) && has_room_for(&mut log, (1 << 56) - 5));
 }
 
+const NUMBERS: [(LogFault, u8); 7] = [
+    (LogFault::DeviceFailed, 31),
+    (LogFault::Failed, 32),
+    (LogFault::Damaged(7), 33),
+    (LogFault::NoRepository, 34),
+    (LogFault::ThereAlready, 35),
+    (LogFault::LogFull, 36),
+    (LogFault::OutOfMemory, 70),
+];
+
+// The first fault that has another number.
+fn first_misnumbered(table: &[(LogFault, u8)]) -> Option<u64> {
+    for (place, numbered) in table.iter().enumerate() {
+        let (fault, number) = *numbered;
+        if fault.number() != number {
+            return Some(place as u64);
+        }
+    }
+    None
+}
+
 #[test]
 fn the_numbers(rt: HostRuntime) {
-    assert!(rt; LogFault::DeviceFailed.number() == 31 && LogFault::Failed.number() == 32);
-    assert!(rt; LogFault::Damaged(7).number() == 33 && LogFault::NoRepository.number() == 34);
-    assert!(rt; LogFault::ThereAlready.number() == 35 && LogFault::LogFull.number() == 36);
-    assert!(rt; LogFault::OutOfMemory.number() == 70);
+    none_wrong(&rt, "faults", first_misnumbered(&NUMBERS));
 }
 
 // Whether a fault is told so.
@@ -475,14 +496,28 @@ fn refusal(alloc: Global, journal: &[u8], gate: &[u8], slots: &[u8]) -> Option<L
     }
 }
 
-// A journal, its gate and its slots, and how they are refused.
-type Refused<'a> = (&'a [u8], &'a [u8], &'a [u8], LogFault);
+// How many bytes the journal has of the two entries, its gate or its slots, with how many of their bytes are there, and how
+// they are refused.
+type Refused<'a> = (usize, DiskFile, &'a [u8], usize, LogFault);
+
+// So many of the first bytes, or all.
+fn front(bytes: &[u8], count: usize) -> &[u8] {
+    match bytes.get(..count) {
+        Some(front) => front,
+        None => bytes,
+    }
+}
 
 // The first of these that isn't refused so.
 fn first_taken(alloc: Global, table: &[Refused<'_>]) -> Option<u64> {
     for (place, files) in table.iter().enumerate() {
-        let (journal, gate, slots, wanted) = *files;
-        if refusal(alloc, journal, gate, slots) != Some(wanted) {
+        let (length, file, bytes, count, wanted) = *files;
+        let journal = front(BOTH, length);
+        let fault = match file {
+            DiskFile::Slots => refusal(alloc, journal, b"", front(bytes, count)),
+            _ => refusal(alloc, journal, front(bytes, count), b""),
+        };
+        if fault != Some(wanted) {
             return Some(place as u64);
         }
     }
@@ -507,13 +542,28 @@ fn are_whole(alloc: Global, gate: &[u8], slots: &[u8], version: LogVersion) -> b
     }
 }
 
+// What an upgrade leaves, too: slots behind a closed gate, and a gate beside open ones.
+const WHOLES: [(&[u8], &[u8], LogVersion); 4] = [
+    (WHOLE, b"", LogVersion::First),
+    (b"", WHOLE_SLOTS, LogVersion::Second),
+    (WHOLE, b"\0behind", LogVersion::First),
+    (b"\x37", WHOLE_SLOTS, LogVersion::Second),
+];
+
+// The first of these gates and slots that aren't whole.
+fn first_broken<'a>(alloc: Global, table: &'a [(&'a [u8], &'a [u8], LogVersion)]) -> Option<u64> {
+    for (place, files) in table.iter().enumerate() {
+        let (gate, slots, version) = *files;
+        if !are_whole(alloc, gate, slots, version) {
+            return Some(place as u64);
+        }
+    }
+    None
+}
+
 #[test]
 fn whole_entries(rt: HostRuntime) {
-    assert!(rt; are_whole(rt.alloc(), WHOLE, b"", LogVersion::First));
-    assert!(rt; are_whole(rt.alloc(), b"", WHOLE_SLOTS, LogVersion::Second));
-    // What an upgrade leaves: slots behind a closed gate, and a gate beside open ones.
-    assert!(rt; are_whole(rt.alloc(), WHOLE, b"\0behind", LogVersion::First));
-    assert!(rt; are_whole(rt.alloc(), b"\x37", WHOLE_SLOTS, LogVersion::Second));
+    none_wrong(&rt, "files", first_broken(rt.alloc(), &WHOLES));
 }
 
 // Whether a log with one byte of an entry changed opens in the first version, and is refused in the second.
@@ -525,30 +575,32 @@ fn is_told(alloc: Global, journal: &[u8], entry: u64) -> bool {
 // A changed byte in either entry, also with more behind it.
 #[test]
 fn a_changed_byte(rt: HostRuntime) {
-    assert!(rt; is_told(rt.alloc(), b"Firstsecond", 0));
-    assert!(rt; is_told(rt.alloc(), b"firstsEcond", 1));
-    assert!(rt; is_told(rt.alloc(), b"FirstsEcondmore", 0));
+    let alloc = rt.alloc();
+    assert!(rt; is_told(alloc, b"Firstsecond", 0));
+    assert!(rt; is_told(alloc, b"firstsEcond", 1));
+    assert!(rt; is_told(alloc, b"FirstsEcondmore", 0));
 }
-
-const NONE: &[u8] = b"";
 
 // Two entries in the journal.
 const BOTH: &[u8] = b"firstsecond";
 
+// As many bytes as there are.
+const ALL: usize = 1_000;
+
 // Slots: a length that doesn't rise, one past the journal's end, a cut sum, no next gate, a closed first gate, and less
 // than an entry and a gate.
+const DAMAGED_SLOTS: [Refused<'static>; 6] = [
+    (ALL, SLOTS, FALLING, ALL, LogFault::Damaged(1)),
+    (10, SLOTS, WHOLE_SLOTS, ALL, LogFault::Damaged(1)),
+    (ALL, SLOTS, WHOLE_SLOTS, 49, LogFault::Damaged(1)),
+    (ALL, SLOTS, WHOLE_SLOTS, 50, LogFault::Damaged(1)),
+    (ALL, SLOTS, b"\0", ALL, LogFault::NoRepository),
+    (ALL, SLOTS, WHOLE_SLOTS, 25, LogFault::NoRepository),
+];
+
 #[test]
 fn damaged_slots(rt: HostRuntime) {
-    let second = LogFault::Damaged(1);
-    let table = [
-        (BOTH, NONE, FALLING, second),
-        (&BOTH[..10], NONE, WHOLE_SLOTS, second),
-        (BOTH, NONE, &WHOLE_SLOTS[..49], second),
-        (BOTH, NONE, &WHOLE_SLOTS[..50], second),
-        (BOTH, NONE, b"\0".as_slice(), LogFault::NoRepository),
-        (BOTH, NONE, &WHOLE_SLOTS[..25], LogFault::NoRepository),
-    ];
-    none_wrong(&rt, "files", first_taken(rt.alloc(), &table));
+    none_wrong(&rt, "files", first_taken(rt.alloc(), &DAMAGED_SLOTS));
 }
 
 // The slots of `first` and of a second entry that ends with it.
@@ -556,18 +608,26 @@ const FALLING: &[u8] =
     b"\x01\0\0\0\0\0\0\0\x05\x8B\x04\xD5\xE3w])\x8ExE^\xFC\x5C\xA4\x04\xD5\x01\0\0\0\0\0\0\0\x05\xA9\xF0\xE6\x1A\x13}\x86\xAA\x9D\xB54e\xE0\x80\x16\x12\0";
 
 // A length that doesn't rise, one past the journal's end, a cut length, no next gate, a closed first gate.
+const DAMAGE: [Refused<'static>; 5] = [
+    (ALL, GATE, FALLING_GATE, ALL, LogFault::Damaged(1)),
+    (
+        ALL,
+        GATE,
+        b"\x01\0\0\0\0\0\0\0\x0C\0",
+        ALL,
+        LogFault::Damaged(0),
+    ),
+    (ALL, GATE, WHOLE, 12, LogFault::Damaged(1)),
+    (ALL, GATE, WHOLE, 18, LogFault::Damaged(1)),
+    (ALL, GATE, b"\0", ALL, LogFault::NoRepository),
+];
+
+// The gate of two entries, the second of which ends with the first.
+const FALLING_GATE: &[u8] = b"\x01\0\0\0\0\0\0\0\x05\x01\0\0\0\0\0\0\0\x05\0";
+
 #[test]
 fn damage(rt: HostRuntime) {
-    let falling = b"\x01\0\0\0\0\0\0\0\x05\x01\0\0\0\0\0\0\0\x05\0".as_slice();
-    let beyond = b"\x01\0\0\0\0\0\0\0\x0C\0".as_slice();
-    let table = [
-        (BOTH, falling, NONE, LogFault::Damaged(1)),
-        (BOTH, beyond, NONE, LogFault::Damaged(0)),
-        (BOTH, &WHOLE[..12], NONE, LogFault::Damaged(1)),
-        (BOTH, &WHOLE[..18], NONE, LogFault::Damaged(1)),
-        (BOTH, b"\0".as_slice(), NONE, LogFault::NoRepository),
-    ];
-    none_wrong(&rt, "files", first_taken(rt.alloc(), &table));
+    none_wrong(&rt, "files", first_taken(rt.alloc(), &DAMAGE));
 }
 
 // Whether a log is begun on a disk and takes two entries.

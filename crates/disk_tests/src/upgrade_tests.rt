@@ -135,9 +135,10 @@ fn each_call_of_an_upgrade_fails(rt: HostRuntime) {
 // An append behind an upgrade, and one in a repository that stays in the first version.
 #[test]
 fn both_go_on(rt: HostRuntime) {
-    let mut upgraded = found(&rt, rt.alloc(), two_entries(&rt, rt.alloc(), b""));
-    assert!(rt; upgraded.upgrade(rt.alloc()) == Ok(2));
-    assert!(rt; upgraded.append(b"third").is_ok() && has_entries(rt.alloc(), &mut upgraded, 3));
-    let mut reopened = found(&rt, rt.alloc(), upgraded.into_disk());
-    assert!(rt; reopened.version() == SECOND && has_entries(rt.alloc(), &mut reopened, 3));
+    let alloc = rt.alloc();
+    let mut upgraded = found(&rt, alloc, two_entries(&rt, alloc, b""));
+    assert!(rt; upgraded.upgrade(alloc) == Ok(2));
+    assert!(rt; upgraded.append(b"third").is_ok() && has_entries(alloc, &mut upgraded, 3));
+    let mut reopened = found(&rt, alloc, upgraded.into_disk());
+    assert!(rt; reopened.version() == SECOND && has_entries(alloc, &mut reopened, 3));
 }
