@@ -4,69 +4,17 @@
 ghost use Rattle.std.specs.Prelude.{◌≡◌};
 ghost use Rattle.store_share.specs.Opened.{cells_of};
 
-use dump_load::{Change, ChangeSet};
+use crate::calls::{Came, LIFE, Parts, came_of};
+use crate::made::{number_of, some_opened};
 use fleet_disk::{DiskFile, MemDisk};
 use mirror_share::{JobSeat, MirrorShare};
-use node_base::{Action, NodeKind, NodePath, PropName, PropValue, Props, RevNo};
-use repo_store::RepoStore;
+use node_base::RevNo;
 use std::alloc::Global;
 use std::marker::Brand;
 use std::rt::HostRuntime;
 use std::sync::Wait;
 use store_share::{OpenedStore, ReaderSeat, RowName};
-use sync_core::{MirrorCall, Numbers, Reply, Token};
-use uuid::Uuid;
-
-fn value(alloc: Global, text: &[u8]) -> Option<PropValue> {
-    PropValue::new(Vec::from_slice(alloc, text).ok()?).ok()
-}
-
-fn token(alloc: Global) -> Option<Token> {
-    Token::new(Vec::from_slice(alloc, b"job").ok()?)
-}
-
-// Properties with a log.
-fn log(alloc: Global) -> Option<Props> {
-    let name = PropName::parse(alloc, b"svn:log").ok()?;
-    let value = value(alloc, b"hi")?;
-    let mut props = Props::empty();
-    match props.set(alloc, name, value) {
-        Ok(()) => Some(props),
-        Err(_) => None,
-    }
-}
-
-// A set that adds a directory.
-fn added(alloc: Global) -> Option<ChangeSet> {
-    let path = NodePath::parse(alloc, b"t").ok()?;
-    let mut changes = Vec::new(alloc);
-    changes.reserve(1).ok()?;
-    changes.push_reserved(Change {
-        path,
-        action: Action::Add,
-        kind: Some(NodeKind::Dir),
-        source: None,
-        props: Some(Props::empty()),
-        text: None,
-    });
-    ChangeSet::from_changes(changes).ok()
-}
-
-// An opened store of revision 0 alone.
-fn opened(alloc: Global) -> Option<OpenedStore<MemDisk>> {
-    let identity = Uuid::parse_str("6a1f0c3e-0000-4000-8000-000000000002").ok()?;
-    let store = match RepoStore::create(alloc, MemDisk::new(alloc), identity) {
-        Ok(store) => store,
-        Err(_) => return None,
-    };
-    match OpenedStore::of(alloc, store) {
-        Ok(opened) => Some(opened),
-        Err((_, store)) => {
-            let _disk = store.into_disk();
-            None
-        }
-    }
-}
+use sync_core::{MirrorCall, Numbers, Reply};
 
 // How the mirror stands; None where memory is refused.
 fn told<R: Wait, L: RowName>(
@@ -81,15 +29,6 @@ fn told<R: Wait, L: RowName>(
     }
 }
 
-// What came of a call: it was done; it was refused for want of memory, and was done when it was made again; the disk's
-// own growth was refused (31), and nothing goes on; or it isn't as it is to be.
-#[derive(Clone, Copy, Debug, PartialEq, Eq)]
-enum Came {
-    Done,
-    Over,
-    Wrong,
-}
-
 // A call. Behind a refusal (70) the mirror stands as before, and the call is done when it is made again; behind a failure
 // of the disk (31) it stands as before, and no call is taken any more (32).
 fn made<R: Wait, L: RowName>(
@@ -101,37 +40,13 @@ fn made<R: Wait, L: RowName>(
     call: &MirrorCall<'_>,
 ) -> Came {
     let before = told(rt, alloc, share, seat);
-    let number = match share.step_by(rt, alloc, seat, reader, call) {
-        Ok(_) => return Came::Done,
-        Err(fault) => fault.number(),
-    };
+    let number = number_of(share.step_by(rt, alloc, seat, reader, call));
+    if number == 0 {
+        return Came::Done;
+    }
     let stands = before == told(rt, alloc, share, seat) || before.is_none();
-    let again = match share.step_by(rt, alloc, seat, reader, call) {
-        Ok(_) => 0,
-        Err(fault) => fault.number(),
-    };
-    match (number, again) {
-        (70, 0) if stands => Came::Done,
-        (31, 32) if stands => Came::Over,
-        _ => Came::Wrong,
-    }
-}
-
-// A call behind one that was done.
-fn then<R: Wait, L: RowName>(
-    before: Came,
-    rt: &R,
-    alloc: Global,
-    share: &MirrorShare<L, MemDisk>,
-    seat: &JobSeat<L>,
-    reader: &mut ReaderSeat<L>,
-    call: &MirrorCall<'_>,
-) -> Came {
-    if before == Came::Done {
-        made(rt, alloc, share, seat, reader, call)
-    } else {
-        before
-    }
+    let again = number_of(share.step_by(rt, alloc, seat, reader, call));
+    came_of(number, again, stands)
 }
 
 // The calls of a mirror of one revision, up to one that isn't done.
@@ -141,40 +56,15 @@ fn lives<R: Wait, L: RowName>(
     share: &MirrorShare<L, MemDisk>,
     seat: &JobSeat<L>,
     reader: &mut ReaderSeat<L>,
-) -> Option<Came> {
-    let number = RevNo::new(1);
-    let url = value(alloc, b"master")?;
-    let uuid = value(alloc, b"6a1f0c3e-0000-4000-8000-000000000001")?;
-    let props = log(alloc)?;
-    let set = added(alloc)?;
-    let token = token(alloc)?;
-    let init = MirrorCall::Init {
-        url: &url,
-        uuid: &uuid,
-        props: &props,
-    };
-    let commit = MirrorCall::Commit {
-        number,
-        set: &set,
-        props: &props,
-    };
-    let put = MirrorCall::PutProps {
-        number,
-        props: &props,
-    };
-    let take = MirrorCall::TakeLock(&token);
-    let copying = MirrorCall::SetCopying(number);
-    let merged = MirrorCall::SetMerged(number);
-    let begun = made(rt, alloc, share, seat, reader, &init);
-    let taken = then(begun, rt, alloc, share, seat, reader, &take);
-    let announced = then(taken, rt, alloc, share, seat, reader, &copying);
-    let committed = then(announced, rt, alloc, share, seat, reader, &commit);
-    let copied = then(committed, rt, alloc, share, seat, reader, &put);
-    let merged_then = then(copied, rt, alloc, share, seat, reader, &merged);
-    let clear = MirrorCall::ClearCopying;
-    let cleared = then(merged_then, rt, alloc, share, seat, reader, &clear);
-    let release = MirrorCall::ReleaseLock;
-    Some(then(cleared, rt, alloc, share, seat, reader, &release))
+    parts: &Parts,
+) -> Came {
+    for kind in &LIFE {
+        match made(rt, alloc, share, seat, reader, &parts.call(*kind)) {
+            Came::Done => {}
+            other => return other,
+        }
+    }
+    Came::Done
 }
 
 // Whether a reader who has seen the commit reads it.
@@ -186,15 +76,15 @@ fn judged<R: Wait, L: RowName>(
     rt: &R,
     alloc: Global,
     share: &MirrorShare<L, MemDisk>,
+    parts: &Parts,
 ) -> Option<bool> {
-    let token = token(alloc)?;
     let mut reader = share.enter_reader(rt, alloc).ok()?;
-    let Ok(seat) = share.enter_job(rt, alloc, &token) else {
+    let Ok(seat) = share.enter_job(rt, alloc, &parts.token) else {
         return None;
     };
-    let came = lives(rt, alloc, share, &seat, &mut reader);
+    let came = lives(rt, alloc, share, &seat, &mut reader, parts);
     share.leave(rt, seat);
-    match came? {
+    match came {
         Came::Done => Some(is_read(share, &mut reader)),
         Came::Over => None,
         Came::Wrong => Some(false),
@@ -207,16 +97,17 @@ fn life<R: Wait, L: RowName>(
     rt: &R,
     alloc: Global,
     opened: OpenedStore<MemDisk>,
+    parts: &Parts,
 ) -> (Option<bool>, MemDisk)
     requires { cells_of opened ≡ L.cells }
 {
     let share = MirrorShare::<L, MemDisk>::of(alloc, opened);
-    let answer = judged(rt, alloc, &share);
+    let answer = judged(rt, alloc, &share, parts);
     (answer, share.close().into_book().into_store().into_disk())
 }
 
-fn lived<R: Wait>(rt: &R, alloc: Global) -> Option<(bool, MemDisk)> {
-    let (answer, disk) = life::<R, Brand>(rt, alloc, opened(alloc)?);
+fn lived<R: Wait>(rt: &R, alloc: Global, parts: &Parts) -> Option<(bool, MemDisk)> {
+    let (answer, disk) = life::<R, Brand>(rt, alloc, some_opened(alloc)?, parts);
     match answer {
         Some(well) => Some((well, disk)),
         None => None,
@@ -225,10 +116,13 @@ fn lived<R: Wait>(rt: &R, alloc: Global) -> Option<(bool, MemDisk)> {
 
 // Two lives, of which one may meet the refusal: both went well, and wrote the same. So a refused call wrote nothing.
 fn are_alike<R: Wait>(rt: &R, alloc: Global) -> bool {
-    let Some((one, disk)) = lived(rt, alloc) else {
+    let Some(parts) = Parts::new(alloc, b"job") else {
         return true;
     };
-    let Some((other, same)) = lived(rt, alloc) else {
+    let Some((one, disk)) = lived(rt, alloc, &parts) else {
+        return true;
+    };
+    let Some((other, same)) = lived(rt, alloc, &parts) else {
         return one;
     };
     one && other && disk.bytes(DiskFile::Journal) == same.bytes(DiskFile::Journal)

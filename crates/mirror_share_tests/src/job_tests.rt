@@ -1,18 +1,16 @@
 //! Jobs at one mirror: who may come, who holds the lock, and what each call makes.
 
-ghost use Rattle.std.specs.Prelude.{◌≡◌};
-ghost use Rattle.store_share.specs.Opened.{cells_of};
-
-use crate::made::{added, blank, called, log, number_of, opened, seat, token, value};
+use crate::calls::{Kind, Parts};
+use crate::made::{called, number_of, seat, token};
+use crate::run_tests::{Case, passes};
 use fleet_disk::MemDisk;
 use mirror_share::{JobSeat, MirrorShare};
 use node_base::{Props, RevNo};
 use std::alloc::Global;
-use std::marker::Brand;
 use std::process::Abort;
 use std::rt::HostRuntime;
 use std::sync::Wait;
-use store_share::{OpenedStore, RowName};
+use store_share::RowName;
 use sync_core::{MirrorCall, Reply, SyncFault};
 
 // Makes the mirror one of a master that has the log `hi` on revision 0.
@@ -22,12 +20,8 @@ fn initialise<R: Wait + Abort, L: RowName>(
     share: &MirrorShare<L, MemDisk>,
     seat: &JobSeat<L>,
 ) -> u8 {
-    let call = MirrorCall::Init {
-        url: &value(rt, alloc, b"master"),
-        uuid: &value(rt, alloc, b"6a1f0c3e-0000-4000-8000-000000000001"),
-        props: &log(rt, alloc, b"hi"),
-    };
-    called(rt, alloc, share, seat, &call)
+    let parts = Parts::new(alloc, b"a").expect(rt, "memory");
+    called(rt, alloc, share, seat, &parts.call(Kind::Init))
 }
 
 // Whether the refusal is 55 and tells this token.
@@ -39,7 +33,7 @@ fn is_running<T: Drop>(answer: Result<T, SyncFault>, text: &[u8]) -> bool {
 }
 
 // While a job holds the lock its token doesn't come in again, and nobody steals; after it has left both succeed.
-fn one_holds<R: Wait + Abort, L: RowName>(
+pub(crate) fn one_holds<R: Wait + Abort, L: RowName>(
     rt: &R,
     alloc: Global,
     share: &MirrorShare<L, MemDisk>,
@@ -86,29 +80,18 @@ fn copies<R: Wait + Abort, L: RowName>(
     share: &MirrorShare<L, MemDisk>,
     seat: &JobSeat<L>,
 ) -> bool {
-    let number = RevNo::new(1);
-    let set = added(rt, alloc, b"t");
-    let props = log(rt, alloc, b"hi");
-    let commit = MirrorCall::Commit {
-        number,
-        set: &set,
-        props: &props,
-    };
-    let put = MirrorCall::PutProps {
-        number,
-        props: &props,
-    };
-    let copying = called(rt, alloc, share, seat, &MirrorCall::SetCopying(number));
-    let committed = called(rt, alloc, share, seat, &commit);
-    let copied = called(rt, alloc, share, seat, &put);
-    let merged = called(rt, alloc, share, seat, &MirrorCall::SetMerged(number));
-    let cleared = called(rt, alloc, share, seat, &MirrorCall::ClearCopying);
+    let parts = Parts::new(alloc, b"a").expect(rt, "memory");
+    let copying = called(rt, alloc, share, seat, &parts.call(Kind::Copying));
+    let committed = called(rt, alloc, share, seat, &parts.call(Kind::Commit));
+    let copied = called(rt, alloc, share, seat, &parts.call(Kind::Put));
+    let merged = called(rt, alloc, share, seat, &parts.call(Kind::Merged));
+    let cleared = called(rt, alloc, share, seat, &parts.call(Kind::Clear));
     (copying, committed, copied, merged, cleared) == (0, 0, 0, 0, 0)
 }
 
 // A reader sees a revision once it is committed, and reads it; what a call out of turn or of another seat would do isn't
 // done (61, 59).
-fn is_copied<R: Wait + Abort, L: RowName>(
+pub(crate) fn is_copied<R: Wait + Abort, L: RowName>(
     rt: &R,
     alloc: Global,
     share: &MirrorShare<L, MemDisk>,
@@ -158,7 +141,7 @@ fn is_copied<R: Wait + Abort, L: RowName>(
 }
 
 // Properties of revisions: those that were put, and 21 above the head.
-fn tells_props<R: Wait + Abort, L: RowName>(
+pub(crate) fn tells_props<R: Wait + Abort, L: RowName>(
     rt: &R,
     alloc: Global,
     share: &MirrorShare<L, MemDisk>,
@@ -178,37 +161,6 @@ fn tells_props<R: Wait + Abort, L: RowName>(
 
 fn has(props: &Props, name: &[u8], text: &[u8]) -> bool {
     props.get(name) == Some(text)
-}
-
-#[derive(Clone, Copy, Drop)]
-enum Case {
-    Holds,
-    Copied,
-    Props,
-}
-
-fn judged<R: Wait + Abort, L: RowName>(
-    rt: &R,
-    alloc: Global,
-    opened: OpenedStore<MemDisk>,
-    case: Case,
-) -> bool
-    requires { cells_of opened ≡ L.cells }
-{
-    let share = MirrorShare::<L, MemDisk>::of(alloc, opened);
-    let answer = match case {
-        Case::Holds => one_holds(rt, alloc, &share),
-        Case::Copied => is_copied(rt, alloc, &share),
-        Case::Props => tells_props(rt, alloc, &share),
-    };
-    let store = share.close().into_book().into_store();
-    let _disk = store.into_disk();
-    answer
-}
-
-fn passes<R: Wait + Abort>(rt: &R, alloc: Global, case: Case) -> bool {
-    let opened = opened(rt, alloc, blank(rt, alloc));
-    judged::<R, Brand>(rt, alloc, opened, case)
 }
 
 #[test]

@@ -40,49 +40,81 @@ pub(crate) fn number_of<T: Drop>(answer: Result<T, SyncFault>) -> u8 {
     }
 }
 
+/// A property's value; None where memory is refused, as of those that follow.
+pub(crate) fn some_value(alloc: Global, text: &[u8]) -> Option<PropValue> {
+    PropValue::new(Vec::from_slice(alloc, text).ok()?).ok()
+}
+
+/// A job's token.
+pub(crate) fn some_token(alloc: Global, text: &[u8]) -> Option<Token> {
+    Token::new(Vec::from_slice(alloc, text).ok()?)
+}
+
+/// Properties with a log.
+pub(crate) fn some_log(alloc: Global, text: &[u8]) -> Option<Props> {
+    let name = PropName::parse(alloc, b"svn:log").ok()?;
+    let value = some_value(alloc, text)?;
+    let mut props = Props::empty();
+    match props.set(alloc, name, value) {
+        Ok(()) => Some(props),
+        Err(_) => None,
+    }
+}
+
+/// A set that adds a directory.
+pub(crate) fn some_added(alloc: Global, at: &[u8]) -> Option<ChangeSet> {
+    let path = NodePath::parse(alloc, at).ok()?;
+    let mut changes = Vec::new(alloc);
+    changes.reserve(1).ok()?;
+    changes.push_reserved(Change {
+        path,
+        action: Action::Add,
+        kind: Some(NodeKind::Dir),
+        source: None,
+        props: Some(Props::empty()),
+        text: None,
+    });
+    ChangeSet::from_changes(changes).ok()
+}
+
+/// An opened store of revision 0 alone.
+pub(crate) fn some_opened(alloc: Global) -> Option<OpenedStore<MemDisk>> {
+    let identity = Uuid::parse_str(MIRROR).ok()?;
+    let store = match RepoStore::create(alloc, MemDisk::new(alloc), identity) {
+        Ok(store) => store,
+        Err(_) => return None,
+    };
+    match OpenedStore::of(alloc, store) {
+        Ok(opened) => Some(opened),
+        Err((_, store)) => {
+            let _disk = store.into_disk();
+            None
+        }
+    }
+}
+
 /// A property's value.
 pub(crate) fn value(rt: &impl Abort, alloc: Global, text: &[u8]) -> PropValue {
-    let bytes = Vec::from_slice(alloc, text).expect(rt, "memory");
-    PropValue::new(bytes).expect(rt, "a property's value")
+    some_value(alloc, text).expect(rt, "a property's value")
 }
 
 /// A job's token.
 pub(crate) fn token(rt: &impl Abort, alloc: Global, text: &[u8]) -> Token {
-    Token::new(Vec::from_slice(alloc, text).expect(rt, "memory")).expect(rt, "a token")
+    some_token(alloc, text).expect(rt, "a token")
 }
 
 /// Properties with a log.
-pub(crate) fn log(rt: &impl Abort, alloc: Global, text: &[u8]) -> Props {
-    let mut props = Props::empty();
-    let name = PropName::parse(alloc, b"svn:log").expect(rt, "a property's name");
-    props
-        .set(alloc, name, value(rt, alloc, text))
-        .expect(rt, "a property");
-    props
-}
-
-/// A set that adds a directory.
-pub(crate) fn added(rt: &impl Abort, alloc: Global, at: &[u8]) -> ChangeSet {
-    let mut changes = Vec::new(alloc);
-    changes
-        .push(Change {
-            path: NodePath::parse(alloc, at).expect(rt, "a path"),
-            action: Action::Add,
-            kind: Some(NodeKind::Dir),
-            source: None,
-            props: Some(Props::empty()),
-            text: None,
-        })
-        .expect(rt, "memory");
-    ChangeSet::from_changes(changes).expect(rt, "a normal set")
+fn log(rt: &impl Abort, alloc: Global, text: &[u8]) -> Props {
+    some_log(alloc, text).expect(rt, "a log")
 }
 
 /// A store of revision 0 alone.
-pub(crate) fn created(rt: &impl Abort, alloc: Global, identity: &str) -> RepoStore<MemDisk> {
+fn created(rt: &impl Abort, alloc: Global, identity: &str) -> RepoStore<MemDisk> {
     let identity = Uuid::parse_str(identity).expect(rt, "an identity");
-    RepoStore::create(alloc, MemDisk::new(alloc), identity)
-        .map_err(|refused| refused.0)
-        .expect(rt, "a store")
+    match RepoStore::create(alloc, MemDisk::new(alloc), identity) {
+        Ok(store) => store,
+        Err(_refused) => rt.abort(),
+    }
 }
 
 /// A master with a directory in each revision, all with the log `hi`, the second edited to `ho`.
@@ -90,7 +122,7 @@ pub(crate) fn master(rt: &impl Abort, alloc: Global) -> RepoStore<MemDisk> {
     let mut store = created(rt, alloc, MASTER);
     for i in 0..REVISIONS {
         let path = [b'a' + (i as u8 & 7)];
-        let set = added(rt, alloc, &path);
+        let set = some_added(alloc, &path).expect(rt, "a set");
         let head = store.repo().head();
         let _committed = store
             .commit(alloc, head, set, log(rt, alloc, b"hi"), None)
@@ -103,13 +135,15 @@ pub(crate) fn master(rt: &impl Abort, alloc: Global) -> RepoStore<MemDisk> {
 }
 
 /// A mirror that is opened on a disk.
-pub(crate) fn opened(rt: &impl Abort, alloc: Global, disk: MemDisk) -> OpenedStore<MemDisk> {
-    let store = RepoStore::open(alloc, disk)
-        .map_err(|refused| refused.0)
-        .expect(rt, "a store");
-    OpenedStore::of(alloc, store)
-        .map_err(|refused| refused.0)
-        .expect(rt, "a row")
+pub(crate) fn opened<D: Disk + Drop>(rt: &impl Abort, alloc: Global, disk: D) -> OpenedStore<D> {
+    let store = match RepoStore::open(alloc, disk) {
+        Ok(store) => store,
+        Err(_refused) => rt.abort(),
+    };
+    match OpenedStore::of(alloc, store) {
+        Ok(opened) => opened,
+        Err(_refused) => rt.abort(),
+    }
 }
 
 /// The disk of a mirror that isn't initialized.

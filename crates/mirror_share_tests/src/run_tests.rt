@@ -3,6 +3,7 @@
 ghost use Rattle.std.specs.Prelude.{◌≡◌};
 ghost use Rattle.store_share.specs.Opened.{cells_of};
 
+use crate::job_tests::{is_copied, one_holds, tells_props};
 use crate::made::{
     REVISIONS, Untold, blank, called, master, number_of, opened, seat, token, value,
 };
@@ -22,8 +23,8 @@ use sync_core::MirrorCall;
 use sync_job::{JobPorts, LentMaster, run_copy_revprops, run_init, run_sync};
 
 // What a job is to do.
-#[derive(Clone, Copy, Drop)]
-pub(crate) enum Order {
+#[derive(Clone, Copy)]
+enum Order {
     Initialise,
     Synchronise,
     Steal,
@@ -31,7 +32,7 @@ pub(crate) enum Order {
 }
 
 // The number of the refusal of a run, 0 where it ends well.
-pub(crate) fn ran<R: Wait + Abort, L: RowName>(
+fn ran<R: Wait + Abort, L: RowName>(
     rt: &R,
     alloc: Global,
     share: &MirrorShare<L, MemDisk>,
@@ -187,8 +188,12 @@ fn leaves_off<R: Wait + Abort, L: RowName>(
     (begun, taken, copying) == (0, 0, 0)
 }
 
-#[derive(Clone, Copy, Drop)]
-enum Case {
+// What is tried; the first three are those of `job_tests`.
+#[derive(Clone, Copy)]
+pub(crate) enum Case {
+    Holds,
+    Copied,
+    Props,
     Up,
     Beside,
     GoesOn,
@@ -205,6 +210,9 @@ fn judged<R: Threads + Wait + Abort + Sync, L: RowName + Send + Sync>(
 {
     let share = MirrorShare::<L, MemDisk>::of(alloc, opened);
     let answer = match case {
+        Case::Holds => one_holds(rt, alloc, &share),
+        Case::Copied => is_copied(rt, alloc, &share),
+        Case::Props => tells_props(rt, alloc, &share),
         Case::Up => is_brought_up(rt, alloc, &share),
         Case::Beside => is_read_beside(rt, alloc, &share),
         Case::GoesOn => goes_on(rt, alloc, &share),
@@ -224,7 +232,7 @@ fn on<R: Threads + Wait + Abort + Sync>(
     judged::<R, Brand>(rt, alloc, opened, case)
 }
 
-fn passes<R: Threads + Wait + Abort + Sync>(rt: &R, alloc: Global, case: Case) -> bool {
+pub(crate) fn passes<R: Threads + Wait + Abort + Sync>(rt: &R, alloc: Global, case: Case) -> bool {
     let (_disk, answer) = on(rt, alloc, blank(rt, alloc), case);
     answer
 }

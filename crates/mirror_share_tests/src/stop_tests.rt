@@ -3,7 +3,8 @@
 ghost use Rattle.std.specs.Prelude.{◌≡◌};
 ghost use Rattle.store_share.specs.Opened.{cells_of};
 
-use crate::made::{added, blank, called, log, seat, token, value};
+use crate::calls::{Kind, Parts};
+use crate::made::{blank, called, seat};
 use fleet_disk::{Fuse, FuseDisk, MemDisk, Pick};
 use mirror_share::{JobSeat, MirrorShare};
 use node_base::RevNo;
@@ -36,41 +37,23 @@ fn is_stopped<R: Wait, L: RowName>(
     Some((number, again, look) == (31, 32, 0))
 }
 
-// The first calls of a mirror, up to one that isn't done.
+// The first calls of a mirror.
+const FIRST: [Kind; 4] = [Kind::Init, Kind::Take, Kind::Copying, Kind::Commit];
+
+// Whether that is so of the first of them that isn't done.
 fn is_stopped_well<R: Wait + Abort, L: RowName>(
     rt: &R,
     alloc: Global,
     share: &MirrorShare<L, Failing>,
 ) -> bool {
-    let number = RevNo::new(1);
     let seat = seat(rt, alloc, share, b"a");
-    let url = value(rt, alloc, b"master");
-    let uuid = value(rt, alloc, b"6a1f0c3e-0000-4000-8000-000000000001");
-    let props = log(rt, alloc, b"hi");
-    let token = token(rt, alloc, b"a");
-    let set = added(rt, alloc, b"t");
-    let init = MirrorCall::Init {
-        url: &url,
-        uuid: &uuid,
-        props: &props,
-    };
-    let commit = MirrorCall::Commit {
-        number,
-        set: &set,
-        props: &props,
-    };
-    let take = MirrorCall::TakeLock(&token);
-    let copying = MirrorCall::SetCopying(number);
-    if let Some(well) = is_stopped(rt, alloc, share, &seat, &init) {
-        return well;
+    let parts = Parts::new(alloc, b"a").expect(rt, "memory");
+    for kind in &FIRST {
+        if let Some(well) = is_stopped(rt, alloc, share, &seat, &parts.call(*kind)) {
+            return well;
+        }
     }
-    if let Some(well) = is_stopped(rt, alloc, share, &seat, &take) {
-        return well;
-    }
-    if let Some(well) = is_stopped(rt, alloc, share, &seat, &copying) {
-        return well;
-    }
-    is_stopped(rt, alloc, share, &seat, &commit).unwrap_or(true)
+    true
 }
 
 fn judged<R: Wait + Abort, L: RowName>(
@@ -92,13 +75,17 @@ fn fails_well<R: Wait + Abort>(rt: &R, alloc: Global, calls: u64) -> bool {
     let Ok(store) = RepoStore::open(alloc, disk) else {
         return true;
     };
-    let opened = OpenedStore::of(alloc, store)
-        .map_err(|refused| refused.0)
-        .expect(rt, "a row");
+    let Ok(opened) = OpenedStore::of(alloc, store) else {
+        rt.abort()
+    };
     let (disk, answer) = judged::<R, Brand>(rt, alloc, opened);
     let again = disk.crash(Pick::New).expect(rt, "memory");
     let opens = match RepoStore::open(alloc, again) {
-        Ok(store) => store.repo().head() <= RevNo::new(1),
+        Ok(store) => {
+            let head = store.repo().head();
+            let _disk = store.into_disk();
+            head <= RevNo::new(1)
+        }
         Err(_) => false,
     };
     answer && opens

@@ -33,9 +33,13 @@ pub(crate) const OPENED: &[u8] = b"( success ( 2 2 ( ) ( edit-pipeline atomic-re
 /// The newest revision.
 pub(crate) const LATEST: &[u8] = b"( success ( 10 ) ) ";
 
+/// The properties of revision 0.
+pub(crate) const ZERO: &[u8] =
+    b"( success ( ( ( 11:custom:zero 13:on revision 0 ) ( 8:svn:date 27:2020-01-01T00:00:00.000000Z ) ) ) ) ";
+
 /// The properties of each revision.
 pub(crate) const PROPERTIES: [&[u8]; 11] = [
-    b"( success ( ( ( 11:custom:zero 13:on revision 0 ) ( 8:svn:date 27:2020-01-01T00:00:00.000000Z ) ) ) ) ",
+    ZERO,
     b"( success ( ( ( 10:svn:author 5:alice ) ( 8:svn:date 27:2020-01-01T00:16:40.007919Z ) ( 7:svn:log 27:first \
         import\nwith two lines ) ) ) ) ",
     b"( success ( ( ( 9:review:by 5:carol ) ( 10:svn:author 4:b\xc3\xb6b ) ( 8:svn:date \

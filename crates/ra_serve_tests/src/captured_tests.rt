@@ -2,9 +2,9 @@
 
 use crate::captured::{
     CLIENT, COPY_ASKS, DUMP, DUMP_ASKS, EDITS, INIT_ASKS, LATEST, OPENED, PROPERTIES, ROOT,
-    SYNC_ASKS,
+    SYNC_ASKS, ZERO,
 };
-use crate::sessions::{AUTHORISED, DONE, are};
+use crate::sessions::{AUTHORISED, DONE, rest_behind};
 use crate::streams_for_tests::items_from;
 use dump_load::load_revision;
 use dump_text::{DumpReader, DumpRecord, NodeRecord};
@@ -104,72 +104,85 @@ fn sent(rt: &impl Abort, alloc: Global, asked: &[u8]) -> Vec<u8> {
     sent
 }
 
-// Whether it is answered by these parts where its bytes come so many at a time.
-fn is_told(alloc: Global, port: &mut HeldRepo, sent: &[u8], size: usize, parts: &[&[u8]]) -> bool {
+// What a client is told behind these parts: nothing more, the edits of all revisions, or the properties of each.
+#[derive(Clone, Copy)]
+enum Then {
+    Nothing,
+    Edits,
+    Properties,
+}
+
+// Whether bytes are the properties of all revisions.
+fn are_properties(bytes: &[u8]) -> bool {
+    let mut rest = bytes;
+    for properties in &PROPERTIES {
+        match rest_behind(rest, &[AUTHORISED, *properties]) {
+            Some(behind) => rest = behind,
+            None => return false,
+        }
+    }
+    rest.is_empty()
+}
+
+// Whether bytes are these parts and what comes then.
+fn are_told(bytes: &[u8], parts: &[&[u8]], then: Then) -> bool {
+    match (rest_behind(bytes, parts), then) {
+        (Some(rest), Then::Nothing) => rest.is_empty(),
+        (Some(rest), Then::Edits) => rest_behind(rest, &EDITS) == Some(DONE),
+        (Some(rest), Then::Properties) => are_properties(rest),
+        (None, _) => false,
+    }
+}
+
+// Whether it is told these parts and what comes then where its bytes come so many at a time.
+fn is_told(
+    alloc: Global,
+    port: &mut HeldRepo,
+    sent: &[u8],
+    size: usize,
+    parts: &[&[u8]],
+    then: Then,
+) -> bool {
     let mut items = items_from(alloc, sent, size, u64::MAX);
     match serve(alloc, port, ROOT, &mut items, Vec::new(alloc)) {
-        Ok((told, end)) => end == End::Input && are(told.as_slice(), parts),
+        Ok((told, end)) => end == End::Input && are_told(told.as_slice(), parts, then),
         Err(_) => false,
     }
 }
 
-// Whether a client that asked this is answered by these parts, whole, in pieces and one byte at a time.
-fn is_answered(rt: &impl Abort, alloc: Global, asked: &[u8], parts: &[&[u8]]) -> bool {
+// Whether a client that asked this is told that, whole, in pieces and one byte at a time.
+fn is_answered(rt: &impl Abort, alloc: Global, asked: &[u8], parts: &[&[u8]], then: Then) -> bool {
     let sent = sent(rt, alloc, asked);
     let mut port = port(rt, alloc);
-    is_told(alloc, &mut port, &sent, sent.len(), parts)
-        && is_told(alloc, &mut port, &sent, 17, parts)
-        && is_told(alloc, &mut port, &sent, 1, parts)
-}
-
-// These parts, then the edits of all revisions.
-fn with_edits<'a>(rt: &impl Abort, alloc: Global, parts: &[&'a [u8]]) -> Vec<&'a [u8]> {
-    let mut all = Vec::from_slice(alloc, parts).expect(rt, "memory");
-    for edit in &EDITS {
-        all.push(*edit).expect(rt, "memory");
-    }
-    all.push(DONE).expect(rt, "memory");
-    all
+    is_told(alloc, &mut port, &sent, sent.len(), parts, then)
+        && is_told(alloc, &mut port, &sent, 17, parts, then)
+        && is_told(alloc, &mut port, &sent, 1, parts, then)
 }
 
 #[test]
 fn svnrdump_dump(rt: HostRuntime) {
-    let [zero, ..] = PROPERTIES;
-    let parts = [OPENED, AUTHORISED, LATEST, AUTHORISED, zero, AUTHORISED];
-    let parts = with_edits(&rt, rt.alloc(), &parts);
-    assert!(rt; is_answered(&rt, rt.alloc(), DUMP_ASKS, &parts));
+    let parts = [OPENED, AUTHORISED, LATEST, AUTHORISED, ZERO, AUTHORISED];
+    assert!(rt; is_answered(&rt, rt.alloc(), DUMP_ASKS, &parts, Then::Edits));
 }
 
 #[test]
 fn svnrdump_without_a_command(rt: HostRuntime) {
-    assert!(rt; is_answered(&rt, rt.alloc(), b"", &[OPENED]));
+    assert!(rt; is_answered(&rt, rt.alloc(), b"", &[OPENED], Then::Nothing));
 }
 
 #[test]
 fn svnsync_init(rt: HostRuntime) {
-    let [zero, ..] = PROPERTIES;
-    assert!(rt; is_answered(&rt, rt.alloc(), INIT_ASKS, &[OPENED, AUTHORISED, zero]));
+    let parts = [OPENED, AUTHORISED, ZERO];
+    assert!(rt; is_answered(&rt, rt.alloc(), INIT_ASKS, &parts, Then::Nothing));
 }
 
 #[test]
 fn svnsync_sync(rt: HostRuntime) {
-    let parts = with_edits(&rt, rt.alloc(), &[OPENED, AUTHORISED, LATEST, AUTHORISED]);
-    assert!(rt; is_answered(&rt, rt.alloc(), SYNC_ASKS, &parts));
-}
-
-// The opening, and the properties of all revisions.
-fn with_properties(rt: &impl Abort, alloc: Global) -> Vec<&'static [u8]> {
-    let mut all: Vec<&'static [u8]> = Vec::new(alloc);
-    all.push(OPENED).expect(rt, "memory");
-    for properties in &PROPERTIES {
-        all.push(AUTHORISED).expect(rt, "memory");
-        all.push(*properties).expect(rt, "memory");
-    }
-    all
+    let parts = [OPENED, AUTHORISED, LATEST, AUTHORISED];
+    assert!(rt; is_answered(&rt, rt.alloc(), SYNC_ASKS, &parts, Then::Edits));
 }
 
 #[test]
 fn svnsync_copies_properties(rt: HostRuntime) {
-    let parts = with_properties(&rt, rt.alloc());
-    assert!(rt; is_answered(&rt, rt.alloc(), COPY_ASKS, &parts));
+    assert!(rt; is_answered(&rt, rt.alloc(), COPY_ASKS, &[OPENED], Then::Properties));
 }

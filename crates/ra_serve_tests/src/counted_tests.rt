@@ -69,12 +69,17 @@ fn calls_wanted<P: RepoPort>(alloc: Global, port: &mut P, sent: &[u8]) -> Option
     None
 }
 
+// The same of the copy's repository.
+fn copy_calls(rt: &impl Abort, alloc: Global) -> Option<u64> {
+    let mut port = copy_port(rt, alloc);
+    let sent = asking(rt, alloc, ASKED);
+    calls_wanted(alloc, &mut port, &sent)
+}
+
 #[test]
 fn an_output_that_fails_comes_back(rt: HostRuntime) {
-    let mut port = copy_port(&rt, rt.alloc());
-    let sent = asking(&rt, rt.alloc(), ASKED);
     // each of the 14 items that are told takes a write or more, and four times all is handed on
-    assert!(rt; calls_wanted(rt.alloc(), &mut port, &sent).is_some_and(|calls| calls > 17));
+    assert!(rt; copy_calls(&rt, rt.alloc()) > Some(17));
 }
 
 // Whether a session told all where so many reads pass, and a later one leads to 49 told of the reader, to an output that
@@ -101,13 +106,17 @@ fn reads_wanted<P: RepoPort>(alloc: Global, port: &mut P, sent: &[u8]) -> Option
     None
 }
 
+// Whether the copy's repository wants one read for each byte, and the last one, which finds the end.
+fn copy_wants_each(rt: &impl Abort, alloc: Global) -> bool {
+    let mut port = copy_port(rt, alloc);
+    let sent = asking(rt, alloc, ASKED);
+    let bytes = sent.len() as u64;
+    reads_wanted(alloc, &mut port, &sent) == bytes.checked_add(1)
+}
+
 #[test]
 fn a_reader_that_fails_is_told(rt: HostRuntime) {
-    let mut port = copy_port(&rt, rt.alloc());
-    let sent = asking(&rt, rt.alloc(), ASKED);
-    let reads = sent.len() as u64;
-    // the last read finds the end
-    assert!(rt; reads_wanted(rt.alloc(), &mut port, &sent) == reads.checked_add(1));
+    assert!(rt; copy_wants_each(&rt, rt.alloc()));
 }
 
 // Commands of several kinds, one that isn't there among them, and bytes that end within an item.
@@ -115,47 +124,37 @@ const SEVERAL: &[u8] = b"( get-latest-rev ( ) ) ( get-dir ( 0: ( ) true true ) )
     ( get-file ( 1:a ( 1 ) true true ) ) ( frob ( ) ) ( replay-range ( 0 1 0 true ) ) \
     ( change-rev-prop ( 1 7:svn:log 2:ho ) ) ( rev-proplist ( 1 ) ) ( rev-prop ( 1";
 
-// Whether a session over an output ends so, with these bytes, all handed on.
-fn ends_so<P: RepoPort>(
-    alloc: Global,
-    port: &mut P,
-    sent: &[u8],
-    end: Result<End, ServeFault>,
-    bytes: &[u8],
-) -> bool {
-    let mut items = items_from(alloc, sent, 7, u64::MAX);
-    match serve_to(
-        alloc,
-        port,
-        URL,
-        &mut items,
-        MemOutput::new(alloc, u64::MAX),
-    ) {
-        Ok((out, ended)) => {
-            end == Ok(ended) && out.bytes() == bytes && out.handed_on() == bytes.len()
-        }
-        Err(_) => false,
-    }
-}
-
-// Whether one ends as one over a writer did, with the same bytes.
-fn ends_as<P: RepoPort>(alloc: Global, port: &mut P, sent: &[u8], whole: &Ended) -> bool {
+// Whether an output has the same bytes as one of a writer's session, all handed on.
+fn has_same(out: &MemOutput, whole: &Ended) -> bool {
     match &whole.out {
-        Some(there) => ends_so(alloc, port, sent, whole.end, there.bytes()),
+        Some(there) => {
+            let bytes = there.bytes();
+            out.bytes() == bytes && out.handed_on() == bytes.len()
+        }
         None => false,
     }
 }
 
+// Whether a session over an output ends as one over a writer did, with the same bytes.
+fn ends_as<P: RepoPort>(alloc: Global, port: &mut P, sent: &[u8], whole: &Ended) -> bool {
+    let mut items = items_from(alloc, sent, 7, u64::MAX);
+    let out = MemOutput::new(alloc, u64::MAX);
+    match serve_to(alloc, port, URL, &mut items, out) {
+        Ok((out, end)) => whole.end == Ok(end) && has_same(&out, whole),
+        Err(_) => false,
+    }
+}
+
 // Whether a session over an output ends as one over a writer does, with the same bytes, all handed on.
-fn is_same(rt: &impl Abort, alloc: Global, sent: &[u8]) -> bool {
+fn is_same(rt: &impl Abort, alloc: Global) -> bool {
+    let sent = asking(rt, alloc, SEVERAL);
     let mut port = file_port(rt, alloc, false);
-    let whole = run(alloc, &mut port, sent, sent.len(), u64::MAX, u64::MAX);
+    let whole = run(alloc, &mut port, &sent, sent.len(), u64::MAX, u64::MAX);
     let mut other = file_port(rt, alloc, false);
-    ends_as(alloc, &mut other, sent, &whole)
+    ends_as(alloc, &mut other, &sent, &whole)
 }
 
 #[test]
 fn an_output_gets_what_a_writer_gets(rt: HostRuntime) {
-    let sent = asking(&rt, rt.alloc(), SEVERAL);
-    assert!(rt; is_same(&rt, rt.alloc(), &sent));
+    assert!(rt; is_same(&rt, rt.alloc()));
 }

@@ -3,7 +3,8 @@
 use crate::made::{copy_port, file_port};
 use crate::replay_tests::{BARE, COPIED};
 use crate::sessions::{
-    AUTHORISED, CLIENT, DONE, Ended, GREETING, MECHANISMS, URL, WELCOME, asking, has_told, run,
+    AUTHORISED, CLIENT, DONE, Ended, GREETING, MECHANISMS, URL, WELCOME, asking, has_told,
+    none_is_wrong, run,
 };
 use crate::streams_for_tests::{Held, items_from};
 use ra_item::fault::{ItemFault, NextFault};
@@ -81,41 +82,54 @@ fn passes_wanted<P: RepoPort>(
     None
 }
 
+// The same of the copy's repository, and how many bytes its client sends.
+fn copy_wants(rt: &impl Abort, alloc: Global, fault: ServeFault) -> (Option<u64>, u64) {
+    let mut port = copy_port(rt, alloc);
+    let sent = asking(rt, alloc, ASKED);
+    let wanted = passes_wanted(alloc, &mut port, &sent, fault);
+    (wanted, sent.len() as u64)
+}
+
 #[test]
 fn a_reader_that_fails_is_told(rt: HostRuntime) {
-    let mut port = copy_port(&rt, rt.alloc());
-    let sent = asking(&rt, rt.alloc(), ASKED);
-    let reads = sent.len() as u64;
-    let wanted = passes_wanted(rt.alloc(), &mut port, &sent, ServeFault::ReadFailed);
+    let (wanted, bytes) = copy_wants(&rt, rt.alloc(), ServeFault::ReadFailed);
     // the last read finds the end
-    assert!(rt; wanted == reads.checked_add(1));
+    assert!(rt; wanted == bytes.checked_add(1));
 }
 
 #[test]
 fn a_writer_that_fails_is_told(rt: HostRuntime) {
-    let mut port = copy_port(&rt, rt.alloc());
-    let sent = asking(&rt, rt.alloc(), ASKED);
-    let wanted = passes_wanted(rt.alloc(), &mut port, &sent, ServeFault::WriteFailed);
+    let (wanted, _bytes) = copy_wants(&rt, rt.alloc(), ServeFault::WriteFailed);
     // each of the 14 items that are told takes a write or more
-    assert!(rt; wanted.is_some_and(|writes| writes > 13));
+    assert!(rt; wanted > Some(13));
 }
 
-// How a session ends whose writer doesn't hand on, and what it wrote.
-fn closed(rt: &impl Abort, alloc: Global, bytes: &mut Vec<u8>) -> Option<ServeFault> {
+// How a session ends whose bytes come so many at a time, where so many reads pass and the writer hands on or is closed;
+// what it wrote to, and what its stream says behind it.
+fn held(
+    rt: &impl Abort,
+    alloc: Global,
+    size: usize,
+    reads: u64,
+    closed: bool,
+    bytes: &mut Vec<u8>,
+) -> (Option<ServeFault>, Option<NextFault>) {
     let mut port = file_port(rt, alloc, false);
-    let mut items = items_from(alloc, CLIENT, CLIENT.len(), u64::MAX);
-    let out = Held {
-        bytes,
-        closed: true,
-    };
-    serve(alloc, &mut port, URL, &mut items, out).err()
+    let mut items = items_from(alloc, CLIENT, size, reads);
+    let fault = serve(alloc, &mut port, URL, &mut items, Held { bytes, closed }).err();
+    (fault, items.next().err())
+}
+
+// Whether one whose writer doesn't hand on ends by that, behind the greeting.
+fn is_closed(rt: &impl Abort, alloc: Global) -> bool {
+    let mut bytes = Vec::new(alloc);
+    let (fault, _next) = held(rt, alloc, CLIENT.len(), u64::MAX, true, &mut bytes);
+    fault == Some(ServeFault::WriteFailed) && bytes.as_slice() == GREETING
 }
 
 #[test]
 fn a_writer_that_does_not_hand_on_is_told(rt: HostRuntime) {
-    let mut bytes = Vec::new(rt.alloc());
-    assert!(rt; closed(&rt, rt.alloc(), &mut bytes) == Some(ServeFault::WriteFailed));
-    assert!(rt; bytes.as_slice() == GREETING);
+    assert!(rt; is_closed(&rt, rt.alloc()));
 }
 
 // What a client sends item by item, and what it is to have been told when the next one is awaited.
@@ -157,9 +171,10 @@ fn was_told<P: RepoPort>(rt: &impl Abort, alloc: Global, port: &mut P, count: us
 }
 
 // The first number of items behind which the answers weren't handed on when the next item was awaited.
-fn first_held_back<P: RepoPort>(rt: &impl Abort, alloc: Global, port: &mut P) -> Option<usize> {
+fn first_held_back(rt: &impl Abort, alloc: Global) -> Option<usize> {
+    let mut port = file_port(rt, alloc, false);
     for count in 1..6 {
-        if !was_told(rt, alloc, port, count) {
+        if !was_told(rt, alloc, &mut port, count) {
             return Some(count);
         }
     }
@@ -168,22 +183,17 @@ fn first_held_back<P: RepoPort>(rt: &impl Abort, alloc: Global, port: &mut P) ->
 
 #[test]
 fn answers_go_out_before_more_is_awaited(rt: HostRuntime) {
-    let mut port = file_port(&rt, rt.alloc(), false);
-    assert!(rt; first_held_back(&rt, rt.alloc(), &mut port).is_none());
+    none_is_wrong(&rt, first_held_back(&rt, rt.alloc()));
 }
 
 // Whether a stream is over behind a session whose reader failed.
 fn is_over(rt: &impl Abort, alloc: Global) -> bool {
-    let mut port = file_port(rt, alloc, false);
     let mut bytes = Vec::new(alloc);
-    let mut items = items_from(alloc, CLIENT, 7, 3);
-    let out = Held {
-        bytes: &mut bytes,
-        closed: false,
-    };
-    let fault = serve(alloc, &mut port, URL, &mut items, out).err();
-    fault == Some(ServeFault::ReadFailed)
-        && items.next().err() == Some(NextFault::Items(ItemFault::Failed))
+    let came = held(rt, alloc, 7, 3, false, &mut bytes);
+    came == (
+        Some(ServeFault::ReadFailed),
+        Some(NextFault::Items(ItemFault::Failed)),
+    )
 }
 
 #[test]

@@ -1,6 +1,7 @@
 // Every growth of this test may be refused: it then answers for what is left, and stays green. `rt try --test
 // --fail-alloc N` refuses the growth number N.
 
+use crate::failure_tests::begin;
 use crate::sessions::{
     AUTHORISED, DONE, GREETING, MECHANISMS, NO_MEMORY, URL, WELCOME, rest_behind,
 };
@@ -84,18 +85,6 @@ fn behind_answer<'a>(bytes: &'a [u8], parts: &[&[u8]]) -> Option<&'a [u8]> {
         }
     }
     Some(rest)
-}
-
-// Whether bytes are a beginning of these parts.
-fn begin(bytes: &[u8], parts: &[&[u8]]) -> bool {
-    let mut rest = bytes;
-    for part in parts {
-        match rest.strip_prefix(*part) {
-            Some(behind) => rest = behind,
-            None => return part.starts_with(rest),
-        }
-    }
-    rest.is_empty()
 }
 
 // Whether bytes are a beginning of an answer.

@@ -1,14 +1,16 @@
 //! Files, directories and revisions that a client looks at.
 
 use crate::made::{file_port, shelf_port};
-use crate::sessions::{AUTHORISED, BAD_SHAPE, NO_REVISION, UNKNOWN, first_wrong, is_answered};
-use ra_serve::RepoPort;
+use crate::sessions::{
+    AUTHORISED, Asked, BAD_SHAPE, NO_REVISION, UNKNOWN, answers, first_wrong, is_answered,
+    none_is_wrong,
+};
 use std::alloc::Global;
 use std::process::Abort;
 use std::rt::HostRuntime;
 
 // What is asked of a repository with one file.
-const ONE_FILE: [(&[u8], &[u8]); 7] = [
+const ONE_FILE: [Asked<'static>; 7] = [
     (b"( get-latest-rev ( ) ) ", b"( success ( 1 ) ) "),
     (b"( check-path ( 1:a ( ) ) ) ", b"( success ( file ) ) "),
     (
@@ -33,12 +35,12 @@ const ONE_FILE: [(&[u8], &[u8]); 7] = [
 #[test]
 fn one_file_is_looked_at(rt: HostRuntime) {
     let alloc = rt.alloc();
-    let mut port = file_port(&rt, alloc, false);
-    assert!(rt; first_wrong(&rt, alloc, &mut port, AUTHORISED, &ONE_FILE).is_none());
+    let port = file_port(&rt, alloc, false);
+    none_is_wrong(&rt, first_wrong(&rt, alloc, port, &ONE_FILE));
 }
 
 // What is asked of directories and files at revision 3, with properties or without, and of what isn't there.
-const SHELF: [(&[u8], &[u8]); 12] = [
+const SHELF: [Asked<'static>; 12] = [
     (b"( get-latest-rev ( ) ) ", b"( success ( 3 ) ) "),
     (
         b"( get-dir ( 1:d ( 1 ) true true ( kind size ) ) ) ",
@@ -83,8 +85,7 @@ const SHELF: [(&[u8], &[u8]); 12] = [
 #[test]
 fn directories_are_looked_at(rt: HostRuntime) {
     let alloc = rt.alloc();
-    let mut port = shelf_port(&rt, alloc);
-    assert!(rt; first_wrong(&rt, alloc, &mut port, AUTHORISED, &SHELF).is_none());
+    none_is_wrong(&rt, first_wrong(&rt, alloc, shelf_port(&rt, alloc), &SHELF));
 }
 
 // What is asked of revisions above the head, the greatest number among them.
@@ -97,17 +98,12 @@ const ABOVE: [&[u8]; 6] = [
     b"( change-rev-prop ( 4 7:svn:log 2:ho ) ) ",
 ];
 
-// The first of these that isn't refused so.
-fn first_taken<'a, P: RepoPort>(
-    rt: &impl Abort,
-    alloc: Global,
-    port: &mut P,
-    table: &'a [&'a [u8]],
-    answer: &[&[u8]],
-) -> Option<&'a [u8]> {
-    for asked in table {
-        if !is_answered(rt, alloc, port, asked, answer) {
-            return Some(*asked);
+// The first of these that isn't refused so by the shelf's repository.
+fn first_taken(rt: &impl Abort, alloc: Global, table: &[&[u8]], answer: &[&[u8]]) -> Option<usize> {
+    let mut port = shelf_port(rt, alloc);
+    for (place, asked) in table.iter().enumerate() {
+        if !is_answered(rt, alloc, &mut port, asked, answer) {
+            return Some(place);
         }
     }
     None
@@ -115,9 +111,10 @@ fn first_taken<'a, P: RepoPort>(
 
 #[test]
 fn there_is_no_such_revision(rt: HostRuntime) {
-    let alloc = rt.alloc();
-    let mut port = shelf_port(&rt, alloc);
-    assert!(rt; first_taken(&rt, alloc, &mut port, &ABOVE, &[AUTHORISED, NO_REVISION]).is_none());
+    none_is_wrong(
+        &rt,
+        first_taken(&rt, rt.alloc(), &ABOVE, &[AUTHORISED, NO_REVISION]),
+    );
 }
 
 // Items that are no commands: a word, a list that isn't, parameters that are missing or of another kind, paths and
@@ -137,31 +134,29 @@ const SHAPES: [&[u8]; 10] = [
 
 #[test]
 fn other_shapes_are_refused(rt: HostRuntime) {
-    let alloc = rt.alloc();
-    let mut port = shelf_port(&rt, alloc);
-    assert!(rt; first_taken(&rt, alloc, &mut port, &SHAPES, &[BAD_SHAPE]).is_none());
+    none_is_wrong(&rt, first_taken(&rt, rt.alloc(), &SHAPES, &[BAD_SHAPE]));
 }
+
+const COMMANDS: [&[u8]; 2] = [b"( frob ( ) ) ", b"( get-file-revs ( 1:a ( ) ( ) ) ) "];
 
 #[test]
 fn other_commands_are_refused(rt: HostRuntime) {
-    let alloc = rt.alloc();
-    let mut port = shelf_port(&rt, alloc);
-    let table: [&[u8]; 2] = [b"( frob ( ) ) ", b"( get-file-revs ( 1:a ( ) ( ) ) ) "];
-    assert!(rt; first_taken(&rt, alloc, &mut port, &table, &[UNKNOWN]).is_none());
+    none_is_wrong(&rt, first_taken(&rt, rt.alloc(), &COMMANDS, &[UNKNOWN]));
 }
+
+const REFUSED: &[u8] = b"( frob ( ) ) ( ) ( rev-proplist ( 9 ) )\n  ( get-latest-rev ( ) ) ";
+
+const GOING_ON: [&[u8]; 6] = [
+    UNKNOWN,
+    BAD_SHAPE,
+    AUTHORISED,
+    NO_REVISION,
+    AUTHORISED,
+    b"( success ( 1 ) ) ",
+];
 
 #[test]
 fn a_session_goes_on_behind_refusals(rt: HostRuntime) {
     let alloc = rt.alloc();
-    let mut port = file_port(&rt, alloc, false);
-    let asked = b"( frob ( ) ) ( ) ( rev-proplist ( 9 ) )\n  ( get-latest-rev ( ) ) ";
-    let answer: [&[u8]; 6] = [
-        UNKNOWN,
-        BAD_SHAPE,
-        AUTHORISED,
-        NO_REVISION,
-        AUTHORISED,
-        b"( success ( 1 ) ) ",
-    ];
-    assert!(rt; is_answered(&rt, alloc, &mut port, asked, &answer));
+    answers(&rt, alloc, file_port(&rt, alloc, false), REFUSED, &GOING_ON);
 }

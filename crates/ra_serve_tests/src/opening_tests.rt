@@ -2,7 +2,8 @@
 
 use crate::made::file_port;
 use crate::sessions::{
-    AUTHORISED, BAD_SHAPE, CLIENT, GREETING, MECHANISMS, WELCOME, asking, has_told, run,
+    AUTHORISED, BAD_SHAPE, CLIENT, Ended, GREETING, MECHANISMS, WELCOME, asking, has_told,
+    none_is_wrong, run,
 };
 use byte_streams::Output;
 use ra_item::fault::ItemFault;
@@ -24,32 +25,21 @@ fn lead_to<P: RepoPort>(
     has_told(&whole, Ok(end), parts) && has_told(&single, Ok(end), parts)
 }
 
-// The first of some bytes that don't lead there.
-fn first_from<'a, P: RepoPort>(
+// The first of some bytes that don't lead there over a repository of one file.
+fn first_other(
+    rt: &impl Abort,
     alloc: Global,
-    port: &mut P,
-    table: &'a [&'a [u8]],
+    table: &[&[u8]],
     end: End,
     parts: &[&[u8]],
-) -> Option<&'a [u8]> {
-    for sent in table {
-        if !lead_to(alloc, port, sent, end, parts) {
-            return Some(*sent);
+) -> Option<usize> {
+    let mut port = file_port(rt, alloc, false);
+    for (place, sent) in table.iter().enumerate() {
+        if !lead_to(alloc, &mut port, sent, end, parts) {
+            return Some(place);
         }
     }
     None
-}
-
-// The same over a repository of one file.
-fn first_other<'a>(
-    rt: &impl Abort,
-    alloc: Global,
-    table: &'a [&'a [u8]],
-    end: End,
-    parts: &[&[u8]],
-) -> Option<&'a [u8]> {
-    let mut port = file_port(rt, alloc, false);
-    first_from(alloc, &mut port, table, end, parts)
 }
 
 // Openings that a client of version 2 may send: with a token or none, with capabilities or none, with another URL, and
@@ -63,8 +53,11 @@ const OPENINGS: [&[u8]; 3] = [
 
 #[test]
 fn a_session_is_opened(rt: HostRuntime) {
-    let told: [&[u8]; 3] = [GREETING, MECHANISMS, WELCOME];
-    assert!(rt; first_other(&rt, rt.alloc(), &OPENINGS, End::Input, &told).is_none());
+    let told = [GREETING, MECHANISMS, WELCOME];
+    none_is_wrong(
+        &rt,
+        first_other(&rt, rt.alloc(), &OPENINGS, End::Input, &told),
+    );
 }
 
 // First items that are no greeting of version 2, with more behind them.
@@ -78,37 +71,57 @@ const STRANGERS: [&[u8]; 5] = [
 
 #[test]
 fn another_greeting_ends_the_session(rt: HostRuntime) {
-    let told: [&[u8]; 2] = [GREETING, BAD_SHAPE];
-    assert!(rt; first_other(&rt, rt.alloc(), &STRANGERS, End::Opening, &told).is_none());
+    let told = [GREETING, BAD_SHAPE];
+    none_is_wrong(
+        &rt,
+        first_other(&rt, rt.alloc(), &STRANGERS, End::Opening, &told),
+    );
 }
+
+const OTHER_MECHANISMS: [&[u8]; 2] = [
+    b"( 2 ( ) 0: ) ( CRAM-MD5 ( ) ) ( get-latest-rev ( ) ) ",
+    b"( 2 ( ) 0: ) ( anonymous ( ) ) ( get-latest-rev ( ) ) ",
+];
+
+const ONLY_ANONYMOUS: &[u8] = b"( failure ( 14:only ANONYMOUS ) ) ";
 
 #[test]
 fn another_mechanism_ends_the_session(rt: HostRuntime) {
-    let table: [&[u8]; 2] = [
-        b"( 2 ( ) 0: ) ( CRAM-MD5 ( ) ) ( get-latest-rev ( ) ) ",
-        b"( 2 ( ) 0: ) ( anonymous ( ) ) ( get-latest-rev ( ) ) ",
-    ];
-    let told: [&[u8]; 3] = [GREETING, MECHANISMS, b"( failure ( 14:only ANONYMOUS ) ) "];
-    assert!(rt; first_other(&rt, rt.alloc(), &table, End::Opening, &told).is_none());
+    let told = [GREETING, MECHANISMS, ONLY_ANONYMOUS];
+    none_is_wrong(
+        &rt,
+        first_other(&rt, rt.alloc(), &OTHER_MECHANISMS, End::Opening, &told),
+    );
 }
+
+const OTHER_LOGINS: [&[u8]; 3] = [
+    b"( 2 ( ) 0: ) ( ANONYMOUS ) ( get-latest-rev ( ) ) ",
+    b"( 2 ( ) 0: ) ( 9:ANONYMOUS ( ) ) ( get-latest-rev ( ) ) ",
+    b"( 2 ( ) 0: ) ANONYMOUS ( get-latest-rev ( ) ) ",
+];
 
 #[test]
 fn another_login_ends_the_session(rt: HostRuntime) {
-    let table: [&[u8]; 3] = [
-        b"( 2 ( ) 0: ) ( ANONYMOUS ) ( get-latest-rev ( ) ) ",
-        b"( 2 ( ) 0: ) ( 9:ANONYMOUS ( ) ) ( get-latest-rev ( ) ) ",
-        b"( 2 ( ) 0: ) ANONYMOUS ( get-latest-rev ( ) ) ",
-    ];
-    let told: [&[u8]; 3] = [GREETING, MECHANISMS, BAD_SHAPE];
-    assert!(rt; first_other(&rt, rt.alloc(), &table, End::Opening, &told).is_none());
+    let told = [GREETING, MECHANISMS, BAD_SHAPE];
+    none_is_wrong(
+        &rt,
+        first_other(&rt, rt.alloc(), &OTHER_LOGINS, End::Opening, &told),
+    );
 }
+
+const NOTHING: [&[u8]; 2] = [b"", b" \n "];
+
+const ONE_ITEM: [&[u8]; 1] = [b"( 2 ( ) 0: ) "];
 
 #[test]
 fn the_input_ends_in_the_opening(rt: HostRuntime) {
     let alloc = rt.alloc();
-    assert!(rt; first_other(&rt, alloc, &[b"", b" \n "], End::Input, &[GREETING]).is_none());
-    let told: [&[u8]; 2] = [GREETING, MECHANISMS];
-    assert!(rt; first_other(&rt, alloc, &[b"( 2 ( ) 0: ) "], End::Input, &told).is_none());
+    none_is_wrong(
+        &rt,
+        first_other(&rt, alloc, &NOTHING, End::Input, &[GREETING]),
+    );
+    let told = [GREETING, MECHANISMS];
+    assert!(rt; first_other(&rt, alloc, &ONE_ITEM, End::Input, &told).is_none());
 }
 
 // Bytes that are no items, and their faults: the end within one, a string past its limit, a byte that fits none, and
@@ -122,24 +135,15 @@ const FAULTS: [(&[u8], ItemFault); 6] = [
     (b"( ( ( ( ( ( ( ( ( ( ( ( ( ( ( ( ( ", ItemFault::TooDeep),
 ];
 
+const LATEST: &[u8] = b"( success ( 1 ) ) ";
+
 // Whether such bytes behind a command end the session behind its answer.
 fn ends_by(rt: &impl Abort, alloc: Global, bytes: &[u8], fault: ItemFault) -> bool {
     let mut sent = asking(rt, alloc, b"( get-latest-rev ( ) ) ");
     sent.extend_from_slice(bytes).expect(rt, "memory");
-    let told: [&[u8]; 5] = [
-        GREETING,
-        MECHANISMS,
-        WELCOME,
-        AUTHORISED,
-        b"( success ( 1 ) ) ",
-    ];
-    lead_to(
-        alloc,
-        &mut file_port(rt, alloc, false),
-        &sent,
-        End::Items(fault),
-        &told,
-    )
+    let told = [GREETING, MECHANISMS, WELCOME, AUTHORISED, LATEST];
+    let mut port = file_port(rt, alloc, false);
+    lead_to(alloc, &mut port, &sent, End::Items(fault), &told)
 }
 
 // Whether they end it behind the greeting where they come first.
@@ -148,11 +152,19 @@ fn begins_by(rt: &impl Abort, alloc: Global, bytes: &[u8], fault: ItemFault) -> 
     lead_to(alloc, &mut port, bytes, End::Items(fault), &[GREETING])
 }
 
+// The first of them for which that isn't so.
+fn first_unended(rt: &impl Abort, alloc: Global) -> Option<usize> {
+    for (place, (bytes, fault)) in FAULTS.iter().enumerate() {
+        if !ends_by(rt, alloc, bytes, *fault) {
+            return Some(place);
+        }
+    }
+    None
+}
+
 #[test]
 fn faults_of_items_end_the_session(rt: HostRuntime) {
-    for (bytes, fault) in &FAULTS {
-        assert!(rt; ends_by(&rt, rt.alloc(), bytes, *fault));
-    }
+    none_is_wrong(&rt, first_unended(&rt, rt.alloc()));
 }
 
 #[test]
@@ -163,17 +175,38 @@ fn faults_of_items_end_the_opening(rt: HostRuntime) {
 
 // ---- an opening that is cut or changed
 
-// Whether bytes lead to the same end and the same answers whole and one at a time.
-fn agree<P: RepoPort>(alloc: Global, port: &mut P, sent: &[u8]) -> bool {
-    let whole = run(alloc, port, sent, sent.len(), u64::MAX, u64::MAX);
-    let single = run(alloc, port, sent, 1, u64::MAX, u64::MAX);
-    match (&whole.out, &single.out) {
-        (Some(one), Some(other)) => whole.end == single.end && one.bytes() == other.bytes(),
+// Whether two sessions ended so with the same answers.
+fn are_alike(one: &Ended, other: &Ended) -> bool {
+    match (&one.out, &other.out) {
+        (Some(out), Some(same)) => one.end == other.end && out.bytes() == same.bytes(),
         _ => false,
     }
 }
 
-// Whether they do with the byte at a place changed to any value, and where they end before it.
+// Whether bytes lead to the same end and the same answers whole and one at a time.
+fn agree<P: RepoPort>(alloc: Global, port: &mut P, sent: &[u8]) -> bool {
+    let whole = run(alloc, port, sent, sent.len(), u64::MAX, u64::MAX);
+    let single = run(alloc, port, sent, 1, u64::MAX, u64::MAX);
+    are_alike(&whole, &single)
+}
+
+// Whether they do with the byte at a place changed to this value.
+fn agree_changed<P: RepoPort>(
+    rt: &impl Abort,
+    alloc: Global,
+    port: &mut P,
+    sent: &[u8],
+    at: usize,
+    value: u8,
+) -> bool {
+    let mut changed = Vec::from_slice(alloc, sent).expect(rt, "memory");
+    if let Some(place) = changed.get_mut(at) {
+        *place = value;
+    }
+    agree(alloc, port, &changed)
+}
+
+// Whether they do with it changed to any, and where they end before it.
 fn agree_at<P: RepoPort>(
     rt: &impl Abort,
     alloc: Global,
@@ -182,22 +215,26 @@ fn agree_at<P: RepoPort>(
     at: usize,
 ) -> bool {
     for value in 0..=u8::MAX {
-        let mut changed = Vec::from_slice(alloc, sent).expect(rt, "memory");
-        if let Some(place) = changed.get_mut(at) {
-            *place = value;
-        }
-        if !agree(alloc, port, &changed) {
+        if !agree_changed(rt, alloc, port, sent, at, value) {
             return false;
         }
     }
     agree(alloc, port, sent.get(..at).unwrap_or(b""))
 }
 
+// The first place at which they don't.
+fn first_apart(rt: &impl Abort, alloc: Global) -> Option<usize> {
+    let mut port = file_port(rt, alloc, false);
+    let sent = asking(rt, alloc, b"( get-latest-rev ( ) ) ");
+    for at in 0..sent.len() {
+        if !agree_at(rt, alloc, &mut port, &sent, at) {
+            return Some(at);
+        }
+    }
+    None
+}
+
 #[test]
 fn a_changed_opening_is_answered_alike(rt: HostRuntime) {
-    let mut port = file_port(&rt, rt.alloc(), false);
-    let sent = asking(&rt, rt.alloc(), b"( get-latest-rev ( ) ) ");
-    for at in 0..sent.len() {
-        assert!(rt; agree_at(&rt, rt.alloc(), &mut port, &sent, at), "at {at}");
-    }
+    none_is_wrong(&rt, first_apart(&rt, rt.alloc()));
 }

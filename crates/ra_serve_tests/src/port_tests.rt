@@ -2,7 +2,7 @@
 
 use crate::made::{copy_port, file_port};
 use crate::replay_tests::{BARE, COPIED, EMPTY};
-use crate::sessions::{AUTHORISED, DONE, NO_MEMORY, is_answered};
+use crate::sessions::{AUTHORISED, DONE, NO_MEMORY, answers, is_answered, none_is_wrong};
 use node_base::{PropName, Props, RevNo};
 use path_tree::Tree;
 use ra_serve::{HeldRepo, PortFault, Replay, RepoPort};
@@ -102,24 +102,27 @@ fn port_refusing(rt: &impl Abort, alloc: Global, at: u16, fault: PortFault) -> R
     }
 }
 
+const ALL: [&[u8]; 8] = [AUTHORISED, BARE, EMPTY, BARE, TWO_FILES, BARE, COPIED, DONE];
+
 #[test]
 fn all_revisions_are_replayed(rt: HostRuntime) {
     let alloc = rt.alloc();
-    let mut port = port_refusing(&rt, alloc, 9, PortFault::OutOfMemory);
-    let answer: [&[u8]; 8] = [AUTHORISED, BARE, EMPTY, BARE, TWO_FILES, BARE, COPIED, DONE];
-    let asked = b"( replay-range ( 0 2 0 true ) ) ";
-    assert!(rt; is_answered(&rt, alloc, &mut port, asked, &answer));
+    let port = port_refusing(&rt, alloc, 9, PortFault::OutOfMemory);
+    answers(&rt, alloc, port, b"( replay-range ( 0 2 0 true ) ) ", &ALL);
 }
+
+const AT_ITS_END: [&[u8]; 8] = [
+    AUTHORISED, BARE, EMPTY, BARE, TWO_FILES, NO_MEMORY, AUTHORISED, LATEST,
+];
+
+// A range, and the newest revision behind it.
+const RANGE: &[u8] = b"( replay-range ( 0 2 0 true ) ) ( get-latest-rev ( ) ) ";
 
 #[test]
 fn a_range_is_refused_at_its_end(rt: HostRuntime) {
     let alloc = rt.alloc();
-    let mut port = port_refusing(&rt, alloc, 2, PortFault::OutOfMemory);
-    let answer: [&[u8]; 8] = [
-        AUTHORISED, BARE, EMPTY, BARE, TWO_FILES, NO_MEMORY, AUTHORISED, LATEST,
-    ];
-    let asked = b"( replay-range ( 0 2 0 true ) ) ( get-latest-rev ( ) ) ";
-    assert!(rt; is_answered(&rt, alloc, &mut port, asked, &answer));
+    let port = port_refusing(&rt, alloc, 2, PortFault::OutOfMemory);
+    answers(&rt, alloc, port, RANGE, &AT_ITS_END);
 }
 
 // The refusals of a port's own, and how each is told.
@@ -143,15 +146,22 @@ const OWN: [(PortFault, &[u8]); 4] = [
 fn is_refused_within(rt: &impl Abort, alloc: Global, fault: PortFault, told: &[u8]) -> bool {
     let mut port = port_refusing(rt, alloc, 1, fault);
     let answer = [AUTHORISED, BARE, EMPTY, told, AUTHORISED, LATEST];
-    let asked = b"( replay-range ( 0 2 0 true ) ) ( get-latest-rev ( ) ) ";
-    is_answered(rt, alloc, &mut port, asked, &answer)
+    is_answered(rt, alloc, &mut port, RANGE, &answer)
+}
+
+// The first of these refusals for which that isn't so.
+fn first_within(rt: &impl Abort, alloc: Global) -> Option<usize> {
+    for (place, (fault, told)) in OWN.iter().enumerate() {
+        if !is_refused_within(rt, alloc, *fault, told) {
+            return Some(place);
+        }
+    }
+    None
 }
 
 #[test]
 fn a_range_is_refused_within(rt: HostRuntime) {
-    for (fault, told) in &OWN {
-        assert!(rt; is_refused_within(&rt, rt.alloc(), *fault, told));
-    }
+    none_is_wrong(&rt, first_within(&rt, rt.alloc()));
 }
 
 // Whether whatever is asked of that revision is refused so.
@@ -165,11 +175,19 @@ fn is_refused_whole(rt: &impl Abort, alloc: Global, fault: PortFault, told: &[u8
     is_answered(rt, alloc, &mut port, asked, &answer)
 }
 
+// The first of these refusals for which that isn't so.
+fn first_whole(rt: &impl Abort, alloc: Global) -> Option<usize> {
+    for (place, (fault, told)) in OWN.iter().enumerate() {
+        if !is_refused_whole(rt, alloc, *fault, told) {
+            return Some(place);
+        }
+    }
+    None
+}
+
 #[test]
 fn all_of_a_revision_is_refused(rt: HostRuntime) {
-    for (fault, told) in &OWN {
-        assert!(rt; is_refused_whole(&rt, rt.alloc(), *fault, told));
-    }
+    none_is_wrong(&rt, first_whole(&rt, rt.alloc()));
 }
 
 // Whether a change through a port is there in its repository.

@@ -2,8 +2,8 @@
 
 use crate::made::{copy_port, file_port, file_repo};
 use crate::sessions::{
-    AUTHORISED, DONE, Ended, GREETING, MECHANISMS, NO_REVISION, WELCOME, asking, first_wrong,
-    is_answered, rest_behind, run,
+    AUTHORISED, Asked, DONE, Ended, GREETING, MECHANISMS, NO_REVISION, WELCOME, answers, asking,
+    first_wrong, none_is_wrong, rest_behind, run,
 };
 use ra_serve::{End, HeldRepo};
 use std::alloc::Global;
@@ -34,43 +34,50 @@ const LOGGED: &[u8] = b"( revprops ( ( 7:svn:log 2:hi ) ) ) ";
 
 const OTHER_FORM: &[u8] = b"( failure ( ( 43 25:replay form not supported 0: 0 ) ) ) ";
 
+const ZERO: [&[u8]; 4] = [AUTHORISED, BARE, EMPTY, DONE];
+
 #[test]
 fn the_first_revision_is_replayed(rt: HostRuntime) {
     let alloc = rt.alloc();
-    let mut port = file_port(&rt, alloc, false);
-    let answer: [&[u8]; 4] = [AUTHORISED, BARE, EMPTY, DONE];
-    let asked = b"( replay-range ( 0 0 0 true ) ) ";
-    assert!(rt; is_answered(&rt, alloc, &mut port, asked, &answer));
+    let port = file_port(&rt, alloc, false);
+    answers(&rt, alloc, port, b"( replay-range ( 0 0 0 true ) ) ", &ZERO);
 }
+
+const COPY: [&[u8]; 4] = [AUTHORISED, BARE, COPIED, DONE];
 
 #[test]
 fn a_copy_is_replayed(rt: HostRuntime) {
     let alloc = rt.alloc();
-    let mut port = copy_port(&rt, alloc);
-    let answer: [&[u8]; 4] = [AUTHORISED, BARE, COPIED, DONE];
-    let asked = b"( replay-range ( 2 2 0 true ) ) ";
-    assert!(rt; is_answered(&rt, alloc, &mut port, asked, &answer));
+    let port = copy_port(&rt, alloc);
+    answers(&rt, alloc, port, b"( replay-range ( 2 2 0 true ) ) ", &COPY);
 }
+
+const RANGE: [&[u8]; 6] = [AUTHORISED, BARE, EMPTY, LOGGED, ADDED, DONE];
 
 #[test]
 fn a_range_is_replayed(rt: HostRuntime) {
     let alloc = rt.alloc();
-    let mut port = file_port(&rt, alloc, true);
-    let answer: [&[u8]; 6] = [AUTHORISED, BARE, EMPTY, LOGGED, ADDED, DONE];
-    let asked = b"( replay-range ( 0 1 0 true ) ) ";
-    assert!(rt; is_answered(&rt, alloc, &mut port, asked, &answer));
+    let port = file_port(&rt, alloc, true);
+    answers(
+        &rt,
+        alloc,
+        port,
+        b"( replay-range ( 0 1 0 true ) ) ",
+        &RANGE,
+    );
 }
+
+const ALONE: [&[u8]; 3] = [AUTHORISED, ADDED, DONE];
 
 #[test]
 fn one_revision_is_replayed_without_properties(rt: HostRuntime) {
     let alloc = rt.alloc();
-    let mut port = file_port(&rt, alloc, false);
-    let answer: [&[u8]; 3] = [AUTHORISED, ADDED, DONE];
-    assert!(rt; is_answered(&rt, alloc, &mut port, b"( replay ( 1 0 true ) ) ", &answer));
+    let port = file_port(&rt, alloc, false);
+    answers(&rt, alloc, port, b"( replay ( 1 0 true ) ) ", &ALONE);
 }
 
 // Ranges without a revision, in other forms, and past the head.
-const RANGES: [(&[u8], &[u8]); 9] = [
+const RANGES: [Asked<'static>; 9] = [
     (b"( replay-range ( 1 0 0 true ) ) ", DONE),
     (b"( replay-range ( 9 9 1 true ) ) ", OTHER_FORM),
     (b"( replay-range ( 0 1 0 false ) ) ", OTHER_FORM),
@@ -85,8 +92,8 @@ const RANGES: [(&[u8], &[u8]); 9] = [
 #[test]
 fn other_ranges_are_refused_or_empty(rt: HostRuntime) {
     let alloc = rt.alloc();
-    let mut port = file_port(&rt, alloc, false);
-    assert!(rt; first_wrong(&rt, alloc, &mut port, AUTHORISED, &RANGES).is_none());
+    let port = file_port(&rt, alloc, false);
+    none_is_wrong(&rt, first_wrong(&rt, alloc, port, &RANGES));
 }
 
 // How long the longest text is.
@@ -135,27 +142,54 @@ fn asked_of_longest(rt: &impl Abort, alloc: Global, asked: &[u8]) -> Ended {
     run(alloc, &mut port, &sent, sent.len(), u64::MAX, u64::MAX)
 }
 
-// What it told behind its opening, and behind this.
-fn told_behind<'a>(ended: &'a Ended, before: &[u8]) -> Option<&'a [u8]> {
-    let parts: [&[u8]; 5] = [GREETING, MECHANISMS, WELCOME, AUTHORISED, before];
-    match &ended.out {
-        Some(out) => rest_behind(out.bytes(), &parts),
-        None => None,
+// What a session tells behind its opening where it tells the longest text: this, each piece between these, and that.
+#[derive(Clone, Copy)]
+struct Longest<'a> {
+    before: &'a [u8],
+    front: &'a [u8],
+    end: &'a [u8],
+    behind: &'a [u8],
+}
+
+// Whether bytes are all of that.
+fn are_longest(bytes: &[u8], all: &Longest<'_>) -> bool {
+    let parts: [&[u8]; 5] = [GREETING, MECHANISMS, WELCOME, AUTHORISED, all.before];
+    match rest_behind(bytes, &parts) {
+        Some(told) => behind_pieces(told, all.front, all.end) == Some(all.behind),
+        None => false,
     }
 }
 
+// Whether a session that asks this of such a repository ends with its input, and tells that.
+fn tells_longest(rt: &impl Abort, alloc: Global, asked: &[u8], all: &Longest<'_>) -> bool {
+    let ended = asked_of_longest(rt, alloc, asked);
+    match &ended.out {
+        Some(out) => ended.end == Ok(End::Input) && are_longest(out.bytes(), all),
+        None => false,
+    }
+}
+
+const REPLAYED: Longest<'static> = Longest {
+    before: BEFORE_WINDOWS,
+    front: WINDOW,
+    end: b" ) ) ",
+    behind: BEHIND_WINDOWS,
+};
+
 #[test]
 fn the_longest_text_is_replayed(rt: HostRuntime) {
-    let ended = asked_of_longest(&rt, rt.alloc(), b"( replay ( 1 0 true ) ) ");
-    let told = told_behind(&ended, BEFORE_WINDOWS).unwrap_or(b"");
-    assert!(rt; ended.end == Ok(End::Input));
-    assert!(rt; behind_pieces(told, WINDOW, b" ) ) ") == Some(BEHIND_WINDOWS));
+    assert!(rt; tells_longest(&rt, rt.alloc(), b"( replay ( 1 0 true ) ) ", &REPLAYED));
 }
+
+const READ: Longest<'static> = Longest {
+    before: BEFORE_STRINGS,
+    front: b"65536:",
+    end: b" ",
+    behind: BEHIND_STRINGS,
+};
 
 #[test]
 fn the_longest_text_is_read(rt: HostRuntime) {
-    let ended = asked_of_longest(&rt, rt.alloc(), b"( get-file ( 1:a ( ) false true ) ) ");
-    let told = told_behind(&ended, BEFORE_STRINGS).unwrap_or(b"");
-    assert!(rt; ended.end == Ok(End::Input));
-    assert!(rt; behind_pieces(told, b"65536:", b" ") == Some(BEHIND_STRINGS));
+    let asked = b"( get-file ( 1:a ( ) false true ) ) ";
+    assert!(rt; tells_longest(&rt, rt.alloc(), asked, &READ));
 }

@@ -135,17 +135,39 @@ pub(crate) fn is_answered<P: RepoPort>(
     is_told(alloc, port, &sent, sent.len(), answer) && is_told(alloc, port, &sent, 1, answer)
 }
 
-/// The first commands of a table that aren't answered by what stands beside them, behind this.
-pub(crate) fn first_wrong<'a, P: RepoPort>(
+/// Ends the test where a port doesn't answer this by these parts.
+pub(crate) fn answers<P: RepoPort + Drop>(
     rt: &impl Abort,
     alloc: Global,
-    port: &mut P,
-    before: &[u8],
-    table: &'a [(&'a [u8], &'a [u8])],
-) -> Option<&'a [u8]> {
-    for (asked, answer) in table {
-        if !is_answered(rt, alloc, port, asked, &[before, *answer]) {
-            return Some(*asked);
+    port: P,
+    asked: &[u8],
+    parts: &[&[u8]],
+) {
+    let mut port = port;
+    assert!(rt; is_answered(rt, alloc, &mut port, asked, parts));
+}
+
+/// Ends the test with the place of the case that is wrong, if one is.
+pub(crate) fn none_is_wrong(rt: &impl Abort, wrong: Option<usize>) {
+    if let Some(case) = wrong {
+        panic!(rt; "case {case}");
+    }
+}
+
+/// Commands, and what each is answered behind its authorisation.
+pub(crate) type Asked<'a> = (&'a [u8], &'a [u8]);
+
+/// The first of these that a port answers otherwise.
+pub(crate) fn first_wrong<P: RepoPort + Drop>(
+    rt: &impl Abort,
+    alloc: Global,
+    port: P,
+    table: &[Asked<'_>],
+) -> Option<usize> {
+    let mut port = port;
+    for (place, (asked, answer)) in table.iter().enumerate() {
+        if !is_answered(rt, alloc, &mut port, asked, &[AUTHORISED, *answer]) {
+            return Some(place);
         }
     }
     None

@@ -2,7 +2,7 @@
 
 use crate::made::{identity, one_file, props};
 use crate::replay_tests::{ADDED, EMPTY};
-use crate::sessions::{AUTHORISED, DONE, asking, is_told};
+use crate::sessions::{AUTHORISED, DONE, asking, is_told, none_is_wrong};
 use fleet_disk::{Disk, DiskFile, Fuse, FuseDisk, MemDisk, Pick};
 use ra_serve::HeldStore;
 use repo_store::RepoStore;
@@ -31,8 +31,9 @@ const FAILED: &[u8] = b"( failure ( ( 32 13:failed before 0: 0 ) ) ) ";
 
 // A disk with a revision that adds one file, whose log is `hi`.
 fn file_disk(rt: &impl Abort, alloc: Global) -> MemDisk {
-    let made = RepoStore::create(alloc, MemDisk::new(alloc), identity(rt));
-    let mut store = made.map_err(|refused| refused.0).expect(rt, "a store");
+    let Ok(mut store) = RepoStore::create(alloc, MemDisk::new(alloc), identity(rt)) else {
+        rt.abort()
+    };
     let head = store.repo().head();
     let set = one_file(rt, alloc, b"hello\n");
     let log = props(rt, alloc, b"svn:log", b"hi");
@@ -49,9 +50,10 @@ fn port_over<D: Disk + Drop>(
     disk: D,
     mirror: bool,
 ) -> HeldStore<D> {
-    let opened = RepoStore::open(alloc, disk);
-    let store = opened.map_err(|refused| refused.0).expect(rt, "a store");
-    HeldStore::new(alloc, store, mirror)
+    match RepoStore::open(alloc, disk) {
+        Ok(store) => HeldStore::new(alloc, store, mirror),
+        Err(_refused) => rt.abort(),
+    }
 }
 
 // Serves commands over a disk, and gives it back with whether they are answered so.
@@ -78,6 +80,19 @@ fn has_behind(disk: &MemDisk, before: usize, entry: &[u8]) -> bool {
     }
 }
 
+// Whether commands over that disk are answered so, and leave the journal with this behind it.
+fn leaves(
+    rt: &impl Abort,
+    alloc: Global,
+    mirror: bool,
+    asked: &[u8],
+    answer: &[&[u8]],
+    entry: &[u8],
+) -> bool {
+    let (told, disk) = served(rt, alloc, file_disk(rt, alloc), mirror, asked, answer);
+    told && has_behind(&disk, BEFORE, entry)
+}
+
 #[test]
 fn a_store_is_read(rt: HostRuntime) {
     let asked = b"( get-latest-rev ( ) ) ( check-path ( 1:a ( ) ) ) ( rev-prop ( 1 7:svn:log ) ) ";
@@ -89,9 +104,7 @@ fn a_store_is_read(rt: HostRuntime) {
         AUTHORISED,
         HI,
     ];
-    let disk = file_disk(&rt, rt.alloc());
-    let (told, disk) = served(&rt, rt.alloc(), disk, true, asked, &answer);
-    assert!(rt; told && has_behind(&disk, BEFORE, b""));
+    assert!(rt; leaves(&rt, rt.alloc(), true, asked, &answer, b""));
 }
 
 #[test]
@@ -107,9 +120,7 @@ fn a_store_is_replayed(rt: HostRuntime) {
         AUTHORISED,
         b"( success ( ( ) ) ) ",
     ];
-    let disk = file_disk(&rt, rt.alloc());
-    let (told, disk) = served(&rt, rt.alloc(), disk, false, asked, &answer);
-    assert!(rt; told && has_behind(&disk, BEFORE, b""));
+    assert!(rt; leaves(&rt, rt.alloc(), false, asked, &answer, b""));
 }
 
 #[test]
@@ -118,18 +129,14 @@ fn a_change_is_an_entry_of_the_store(rt: HostRuntime) {
         ( change-rev-prop2 ( 1 7:svn:log ( 2:ho ) ( false 2:hi ) ) ) \
         ( rev-prop ( 1 7:svn:log ) ) ";
     let answer: [&[u8]; 6] = [AUTHORISED, NOT_EXPECTED, AUTHORISED, DONE, AUTHORISED, HO];
-    let disk = file_disk(&rt, rt.alloc());
-    let (told, disk) = served(&rt, rt.alloc(), disk, false, asked, &answer);
-    assert!(rt; told && has_behind(&disk, BEFORE, RELOGGED));
+    assert!(rt; leaves(&rt, rt.alloc(), false, asked, &answer, RELOGGED));
 }
 
 #[test]
 fn a_store_of_a_mirror_takes_no_change(rt: HostRuntime) {
     let asked = b"( change-rev-prop ( 1 7:svn:log 2:ho ) ) ( rev-prop ( 1 7:svn:log ) ) ";
     let answer: [&[u8]; 4] = [AUTHORISED, READ_ONLY, AUTHORISED, HI];
-    let disk = file_disk(&rt, rt.alloc());
-    let (told, disk) = served(&rt, rt.alloc(), disk, true, asked, &answer);
-    assert!(rt; told && has_behind(&disk, BEFORE, b""));
+    assert!(rt; leaves(&rt, rt.alloc(), true, asked, &answer, b""));
 }
 
 // How many calls the opening of a disk makes.
@@ -161,10 +168,18 @@ fn fails_behind(rt: &impl Abort, alloc: Global, calls: u64) -> bool {
     told
 }
 
+// The first number of calls for which that isn't so.
+fn first_unfailed(rt: &impl Abort, alloc: Global) -> Option<usize> {
+    // a change is five calls: two writes, a sync, a write and a sync
+    for calls in 0..5 {
+        if !fails_behind(rt, alloc, calls as u64) {
+            return Some(calls);
+        }
+    }
+    None
+}
+
 #[test]
 fn a_device_that_fails_is_told(rt: HostRuntime) {
-    // a change is five calls: two writes, a sync, a write and a sync
-    for calls in 0u64..5 {
-        assert!(rt; fails_behind(&rt, rt.alloc(), calls));
-    }
+    none_is_wrong(&rt, first_unfailed(&rt, rt.alloc()));
 }

@@ -1,18 +1,16 @@
 //! Seats at one mirror: who holds its lock, what a holder's looks tell, and what is left when it lets go.
 
-ghost use Rattle.std.specs.Prelude.{◌≡◌, ◌<◌};
-ghost use Rattle.store_share.specs.Opened.{cells_of};
-
-use crate::made::{added, begun, called, is_at, log, number_of, opened, seat, token};
+use crate::calls::{Kind, Parts};
+use crate::holder::{begun, called, is_at, seat};
+use crate::holder_run_tests::{Case, passes};
+use crate::made::{number_of, token};
 use fleet_disk::MemDisk;
-use holder_share::{Blanks, Count, HolderName, HolderNames, HolderSeat, HolderShare};
+use holder_share::{HolderName, HolderSeat, HolderShare};
 use node_base::RevNo;
 use std::alloc::Global;
-use std::marker::Brand;
 use std::process::Abort;
 use std::rt::HostRuntime;
 use std::sync::Wait;
-use store_share::{OpenedStore, RowName};
 use sync_core::MirrorCall;
 
 // A seat without the lock: its calls are refused (59), it can't take it (54), and it can't steal it (55).
@@ -41,31 +39,20 @@ fn copies<R: Wait + Abort, N: HolderName>(
     seat: &mut HolderSeat<N>,
     other: &mut HolderSeat<N>,
 ) -> bool {
-    let number = RevNo::new(1);
-    let set = added(rt, alloc, b"t");
-    let props = log(rt, alloc);
-    let commit = MirrorCall::Commit {
-        number,
-        set: &set,
-        props: &props,
-    };
-    let put = MirrorCall::PutProps {
-        number,
-        props: &props,
-    };
-    let copying = called(rt, alloc, share, seat, &MirrorCall::SetCopying(number));
+    let parts = Parts::new(alloc, b"a").expect(rt, "memory");
+    let copying = called(rt, alloc, share, seat, &parts.call(Kind::Copying));
     let beside = is_outside(rt, alloc, share, other);
-    let committed = called(rt, alloc, share, seat, &commit);
+    let committed = called(rt, alloc, share, seat, &parts.call(Kind::Commit));
     let between = is_outside(rt, alloc, share, other);
-    let copied = called(rt, alloc, share, seat, &put);
-    let merged = called(rt, alloc, share, seat, &MirrorCall::SetMerged(number));
-    let cleared = called(rt, alloc, share, seat, &MirrorCall::ClearCopying);
+    let copied = called(rt, alloc, share, seat, &parts.call(Kind::Put));
+    let merged = called(rt, alloc, share, seat, &parts.call(Kind::Merged));
+    let cleared = called(rt, alloc, share, seat, &parts.call(Kind::Clear));
     (copying, committed, copied) == (0, 0, 0) && (merged, cleared) == (0, 0) && beside && between
 }
 
 // While a seat holds the lock its looks tell what its own calls left, whichever seats call between; and the lock is free
 // behind its release.
-fn carries<R: Wait + Abort, N: HolderName>(
+pub(crate) fn carries<R: Wait + Abort, N: HolderName>(
     rt: &R,
     alloc: Global,
     share: &HolderShare<N, MemDisk>,
@@ -110,7 +97,7 @@ fn carries<R: Wait + Abort, N: HolderName>(
 }
 
 // Where the holder leaves, its token comes in again, and the lock stays until it is stolen.
-fn leaves<R: Wait + Abort, N: HolderName>(
+pub(crate) fn leaves<R: Wait + Abort, N: HolderName>(
     rt: &R,
     alloc: Global,
     share: &HolderShare<N, MemDisk>,
@@ -138,7 +125,7 @@ fn leaves<R: Wait + Abort, N: HolderName>(
 }
 
 // A reader sees a revision once it is committed, and reads it.
-fn is_read<R: Wait + Abort, N: HolderName>(
+pub(crate) fn is_read<R: Wait + Abort, N: HolderName>(
     rt: &R,
     alloc: Global,
     share: &HolderShare<N, MemDisk>,
@@ -153,47 +140,6 @@ fn is_read<R: Wait + Abort, N: HolderName>(
         None => false,
     };
     none && carried && newest && there
-}
-
-#[derive(Clone, Copy, Drop)]
-enum Case {
-    Carries,
-    Leaves,
-    Read,
-}
-
-fn judged<R: Wait + Abort, M: Count, C: Count, H: Count, K: Count, L: RowName>(
-    rt: &R,
-    alloc: Global,
-    opened: OpenedStore<MemDisk>,
-    blanks: Blanks,
-    case: Case,
-) -> bool
-    requires row { cells_of opened ≡ L.cells }
-    requires merged { (blanks.merged.name ≡ M.name) × (blanks.merged.parts ≡ M.parts) × (M.all ≡ M.parts) × (0 < M.all) }
-    requires copying { (blanks.copying.name ≡ C.name) × (blanks.copying.parts ≡ C.parts) × (C.all ≡ C.parts) × (0 < C.all) }
-    requires head { (blanks.head.name ≡ H.name) × (blanks.head.parts ≡ H.parts) × (H.all ≡ H.parts) × (0 < H.all) }
-    requires holder { (blanks.holder.name ≡ K.name) × (blanks.holder.parts ≡ K.parts) × (K.all ≡ K.parts) × (0 < K.all) }
-{
-    let share = HolderShare::<HolderNames<M, C, H, K, L>, MemDisk>::of(alloc, opened, blanks);
-    let answer = match case {
-        Case::Carries => carries(rt, alloc, &share),
-        Case::Leaves => leaves(rt, alloc, &share),
-        Case::Read => is_read(rt, alloc, &share),
-    };
-    let store = share.close().into_book().into_book().into_store();
-    let _disk = store.into_disk();
-    answer
-}
-
-fn passes<R: Wait + Abort>(rt: &R, alloc: Global, case: Case) -> bool {
-    judged::<R, Brand, Brand, Brand, Brand, Brand>(
-        rt,
-        alloc,
-        opened(rt, alloc),
-        Blanks::new(),
-        case,
-    )
 }
 
 #[test]

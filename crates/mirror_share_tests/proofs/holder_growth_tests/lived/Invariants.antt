@@ -1,5 +1,5 @@
 use Rattle.store_share.specs.Opened.{cells_of}
-use Rattle.holder_share_tests.proofs.growth_tests.lived.Given as goal
+use Rattle.mirror_share_tests.proofs.holder_growth_tests.lived.Given as goal
 
 abbrev pub ghosts-life-L-RowName : goal.ghosts-life-L-RowName
 ghosts-life-L-RowName g a = record { cells = cells_of a.opened }

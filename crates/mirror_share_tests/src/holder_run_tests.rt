@@ -4,7 +4,9 @@
 ghost use Rattle.std.specs.Prelude.{◌≡◌, ◌<◌};
 ghost use Rattle.store_share.specs.Opened.{cells_of};
 
-use crate::made::{REVISIONS, begun, master, number_of, opened, seat, token};
+use crate::holder::{begun, seat};
+use crate::made::{REVISIONS, Untold, blank, master, number_of, opened, token};
+use crate::seat_tests::{carries, is_read, leaves};
 use fleet_disk::MemDisk;
 use holder_share::{
     Blanks, Count, HolderMirror, HolderName, HolderNames, HolderShare, law, run_copy_revprops_at,
@@ -20,25 +22,13 @@ use std::sync::Wait;
 use std::thread;
 use std::thread::Threads;
 use store_share::{OpenedStore, RowName};
-use sync_job::{JobPorts, LentMaster, Report};
+use sync_job::{JobPorts, LentMaster};
 
 // How often a job runs at most; it ends before by what it sees.
 const RUNS: u32 = 100_000;
 
 // What a job answers that never saw the mirror whole.
 const MISSED: u8 = 255;
-
-// Nobody is told.
-#[derive(Drop)]
-struct Untold {}
-
-impl Report for Untold {
-    ghost heard = { λ now first told. Unit {0} };
-
-    fn committed(&mut self, _number: RevNo) {}
-
-    fn copied(&mut self, _number: RevNo) {}
-}
 
 // One run of a job: the number of its refusal, 0 where it ends well.
 fn ran<R: Wait + Abort, N: HolderName>(
@@ -124,6 +114,15 @@ fn run_beside<
     number == 0 && answers == (0, 0) && goes_on(rt, alloc, share)
 }
 
+// What is tried: a holder's looks, its leaving, a reader, or two jobs in threads.
+#[derive(Clone, Copy)]
+pub(crate) enum Case {
+    Carries,
+    Leaves,
+    Read,
+    Beside,
+}
+
 fn judged<
     R: Threads + Wait + Abort + Sync,
     M: Count + Send + Sync,
@@ -131,7 +130,7 @@ fn judged<
     H: Count + Send + Sync,
     K: Count + Send + Sync,
     L: RowName + Send + Sync,
->(rt: &R, alloc: Global, opened: OpenedStore<MemDisk>, blanks: Blanks) -> bool
+>(rt: &R, alloc: Global, opened: OpenedStore<MemDisk>, blanks: Blanks, case: Case) -> bool
     requires row { cells_of opened ≡ L.cells }
     requires merged { (blanks.merged.name ≡ M.name) × (blanks.merged.parts ≡ M.parts) × (M.all ≡ M.parts) × (0 < M.all) }
     requires copying { (blanks.copying.name ≡ C.name) × (blanks.copying.parts ≡ C.parts) × (C.all ≡ C.parts) × (0 < C.all) }
@@ -140,18 +139,27 @@ fn judged<
 {
     law::a_run_is_served();
     let share = HolderShare::<HolderNames<M, C, H, K, L>, MemDisk>::of(alloc, opened, blanks);
-    let answer = run_beside(rt, alloc, &share);
+    let answer = match case {
+        Case::Carries => carries(rt, alloc, &share),
+        Case::Leaves => leaves(rt, alloc, &share),
+        Case::Read => is_read(rt, alloc, &share),
+        Case::Beside => run_beside(rt, alloc, &share),
+    };
     let store = share.close().into_book().into_book().into_store();
-    let head = store.repo().head() == RevNo::new(REVISIONS);
+    let head = store.repo().head();
     let _disk = store.into_disk();
-    answer && head
+    match case {
+        Case::Beside => answer && head == RevNo::new(REVISIONS),
+        _ => answer,
+    }
 }
 
-fn passes<R: Threads + Wait + Abort + Sync>(rt: &R, alloc: Global) -> bool {
-    judged::<R, Brand, Brand, Brand, Brand, Brand>(rt, alloc, opened(rt, alloc), Blanks::new())
+pub(crate) fn passes<R: Threads + Wait + Abort + Sync>(rt: &R, alloc: Global, case: Case) -> bool {
+    let opened = opened(rt, alloc, blank(rt, alloc));
+    judged::<R, Brand, Brand, Brand, Brand, Brand>(rt, alloc, opened, Blanks::new(), case)
 }
 
 #[test]
 fn jobs_run_beside_one_another(rt: HostRuntime) {
-    assert!(rt; passes(&rt, rt.alloc()));
+    assert!(rt; passes(&rt, rt.alloc(), Case::Beside));
 }

@@ -4,7 +4,9 @@ ghost use Rattle.std.specs.Prelude.{◌≡◌, ◌<◌};
 ghost use Rattle.rev_row.specs.Row.{cells_in};
 ghost use Rattle.store_share.specs.Opened.{cells_of};
 
-use crate::made::{is_at, log, number_of, opened, token, value};
+use crate::calls::{Kind, Parts};
+use crate::holder::is_at;
+use crate::made::{blank, number_of, opened};
 use fleet_disk::MemDisk;
 use holder_share::{Blanks, Count, HolderBook, HolderName, HolderNames};
 use node_base::RevNo;
@@ -25,22 +27,17 @@ fn is_kept<R: Abort, N: HolderName>(
 ) -> bool
     requires { row.now ≡ N.Row.cells }
 {
-    let a = token(rt, alloc, b"a");
-    let call = MirrorCall::Init {
-        url: &value(rt, alloc, b"master"),
-        uuid: &value(rt, alloc, b"6a1f0c3e-0000-4000-8000-000000000001"),
-        props: &log(rt, alloc),
-    };
-    let mut seat = book.enter_job(alloc, &a).expect(rt, "a seat");
-    let begun = number_of(book.step(alloc, row, &mut seat, &call));
-    let taken = number_of(book.step(alloc, row, &mut seat, &MirrorCall::TakeLock(&a)));
+    let parts = Parts::new(alloc, b"a").expect(rt, "memory");
+    let mut seat = book.enter_job(alloc, &parts.token).expect(rt, "a seat");
+    let begun = number_of(book.step(alloc, row, &mut seat, &parts.call(Kind::Init)));
+    let taken = number_of(book.step(alloc, row, &mut seat, &parts.call(Kind::Take)));
     let looked = is_at(book.step(alloc, row, &mut seat, &MirrorCall::Look), 0, b"0");
-    let running = number_of(book.enter_job(alloc, &a));
+    let running = number_of(book.enter_job(alloc, &parts.token));
     book.is_whole();
     book.leave(seat);
     let mut reader = book.seat_reader(row.notes(alloc).expect(rt, "notes"));
     let newest = book.latest(&mut reader) == RevNo::ZERO;
-    let back = number_of(book.enter_job(alloc, &a));
+    let back = number_of(book.enter_job(alloc, &parts.token));
     (begun, taken, running, back) == (0, 0, 55, 0) && looked && newest
 }
 
@@ -65,7 +62,12 @@ fn judged<R: Abort, M: Count, C: Count, H: Count, K: Count, L: RowName>(
 }
 
 fn passes<R: Abort>(rt: &R, alloc: Global) -> bool {
-    judged::<R, Brand, Brand, Brand, Brand, Brand>(rt, alloc, opened(rt, alloc), Blanks::new())
+    judged::<R, Brand, Brand, Brand, Brand, Brand>(
+        rt,
+        alloc,
+        opened(rt, alloc, blank(rt, alloc)),
+        Blanks::new(),
+    )
 }
 
 #[test]

@@ -4,7 +4,7 @@ use Rattle.fleet_disk.proofs.memory.MemDisk.TheSendSync as disk
 use Rattle.fleet_disk.specs.contracts.memory.MemDiskDisk.TheImpl.{ghosts}
 use Rattle.holder_share.proofs.Crosses.{share_sync}
 use Rattle.holder_share.specs.contracts.name.HolderNames as HolderNames
-use Rattle.holder_share_tests.proofs.run_tests.run_beside.Goals as goal
+use Rattle.mirror_share_tests.proofs.holder_run_tests.run_beside.Goals as goal
 
 pub join-answers-requires-send-F : goal.join-answers-requires-send-F
 join-answers-requires-send-F g c κs within =

@@ -1,5 +1,5 @@
 use Rattle.store_share.specs.Opened.{cells_of}
-use Rattle.holder_share_tests.proofs.seat_tests.passes.Given as goal
+use Rattle.mirror_share_tests.proofs.holder_run_tests.passes.Given as goal
 
 abbrev pub ghosts-judged-L-RowName : goal.ghosts-judged-L-RowName
 ghosts-judged-L-RowName g a = record { cells = cells_of a.opened }
