@@ -97,19 +97,25 @@ fn all_answers(rt: &impl Abort, alloc: Global) -> Vec<u8> {
     bytes
 }
 
+// Whether that is so of bytes that come so.
+fn all_told_over(rt: &impl Abort, alloc: Global, line: &Line) -> bool {
+    let trees = history(rt, alloc);
+    let bytes = all_answers(rt, alloc);
+    all_told(alloc, &trees, bytes.as_slice(), line)
+}
+
 #[test]
 fn commands_are_answered(rt: HostRuntime) {
     let alloc = rt.alloc();
-    let trees = history(&rt, alloc);
-    let bytes = all_answers(&rt, alloc);
-    assert!(rt; all_told(alloc, &trees, bytes.as_slice(), &WHOLE));
-    assert!(rt; all_told(alloc, &trees, bytes.as_slice(), &SINGLE));
+    assert!(rt; all_told_over(&rt, alloc, &WHOLE));
+    assert!(rt; all_told_over(&rt, alloc, &SINGLE));
 }
 
 const GREATEST: &[u8] = b"( success ( ( ) 0: ) ) ( success ( 65535 9 ) 9 )\n";
 
-fn greatest(alloc: Global, bytes: &[u8]) -> Option<u16> {
-    match open(alloc, bytes, &WHOLE) {
+fn greatest(rt: &impl Abort, alloc: Global) -> Option<u16> {
+    let bytes = told(rt, alloc, GREATEST);
+    match open(alloc, bytes.as_slice(), &WHOLE) {
         Ok(mut port) => newest(&mut port),
         Err(_) => None,
     }
@@ -117,6 +123,5 @@ fn greatest(alloc: Global, bytes: &[u8]) -> Option<u16> {
 
 #[test]
 fn the_last_number_is_taken(rt: HostRuntime) {
-    let bytes = told(&rt, rt.alloc(), GREATEST);
-    assert!(rt; greatest(rt.alloc(), bytes.as_slice()) == Some(65_535));
+    assert!(rt; greatest(&rt, rt.alloc()) == Some(65_535));
 }

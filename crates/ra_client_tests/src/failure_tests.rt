@@ -6,6 +6,7 @@ use crate::sets::history;
 use node_base::RevNo;
 use path_tree::Tree;
 use std::alloc::Global;
+use std::process::Abort;
 use std::rt::HostRuntime;
 
 // What a fetch of revision 2 is refused for over these bytes.
@@ -24,14 +25,6 @@ fn all_break(alloc: Global, trees: &[Tree], bytes: &[u8]) -> bool {
         }
     }
     fetched(alloc, trees, bytes, &BROKEN) == Some(0)
-}
-
-#[test]
-fn a_reader_that_fails_is_told(rt: HostRuntime) {
-    let alloc = rt.alloc();
-    let trees = history(&rt, alloc);
-    let bytes = told(&rt, alloc, COPIED);
-    assert!(rt; all_break(alloc, &trees, bytes.as_slice()));
 }
 
 // What a fetch is refused for where so many writes pass; none where the opening is.
@@ -57,10 +50,29 @@ fn all_fail(alloc: Global, trees: &[Tree], bytes: &[u8]) -> bool {
     false
 }
 
+// What a stream is that fails.
+#[derive(Clone, Copy)]
+enum Failing {
+    Reader,
+    Writer,
+}
+
+// Whether that is so of the answer that copies.
+fn is_told(rt: &impl Abort, alloc: Global, failing: Failing) -> bool {
+    let trees = history(rt, alloc);
+    let bytes = told(rt, alloc, COPIED);
+    match failing {
+        Failing::Reader => all_break(alloc, &trees, bytes.as_slice()),
+        Failing::Writer => all_fail(alloc, &trees, bytes.as_slice()),
+    }
+}
+
+#[test]
+fn a_reader_that_fails_is_told(rt: HostRuntime) {
+    assert!(rt; is_told(&rt, rt.alloc(), Failing::Reader));
+}
+
 #[test]
 fn a_writer_that_fails_is_told(rt: HostRuntime) {
-    let alloc = rt.alloc();
-    let trees = history(&rt, alloc);
-    let bytes = told(&rt, alloc, COPIED);
-    assert!(rt; all_fail(alloc, &trees, bytes.as_slice()));
+    assert!(rt; is_told(&rt, rt.alloc(), Failing::Writer));
 }

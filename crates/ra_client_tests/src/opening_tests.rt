@@ -1,6 +1,8 @@
 //! Openings, and those that are refused.
 
-use crate::sessions::{BROKEN, Line, OPENED, SAID, SINGLE, URL, WHOLE, number_of, open};
+use crate::sessions::{
+    BROKEN, Line, OPENED, SAID, SINGLE, URL, WHOLE, none_is_wrong, number_of, open,
+};
 use byte_streams::Output;
 use ra_client::ClientFault;
 use ra_edit::edit_fault::EditFault;
@@ -24,8 +26,9 @@ fn opens(alloc: Global, bytes: &[u8], line: &Line, said: &[u8]) -> bool {
 
 #[test]
 fn it_is_done_however_it_comes(rt: HostRuntime) {
-    assert!(rt; opens(rt.alloc(), OPENED, &WHOLE, SAID));
-    assert!(rt; opens(rt.alloc(), OPENED, &SINGLE, SAID));
+    let alloc = rt.alloc();
+    assert!(rt; opens(alloc, OPENED, &WHOLE, SAID));
+    assert!(rt; opens(alloc, OPENED, &SINGLE, SAID));
 }
 
 // No way to say who one is, an old version beside the one that is spoken, an identity in capitals, and more behind
@@ -37,8 +40,9 @@ const HELLO: &[u8] = b"( 2 ( edit-pipeline ) 21:svn://127.0.0.1:3690/ ) ";
 
 #[test]
 fn nothing_is_said_where_nothing_is_asked(rt: HostRuntime) {
-    assert!(rt; opens(rt.alloc(), OTHER, &WHOLE, HELLO));
-    assert!(rt; opens(rt.alloc(), OTHER, &SINGLE, HELLO));
+    let alloc = rt.alloc();
+    assert!(rt; opens(alloc, OTHER, &WHOLE, HELLO));
+    assert!(rt; opens(alloc, OTHER, &SINGLE, HELLO));
 }
 
 const CRAM: &[u8] =
@@ -60,48 +64,71 @@ fn refusal(alloc: Global, bytes: &[u8]) -> Option<ClientFault> {
     if whole == single { whole } else { None }
 }
 
-fn is_bad(alloc: Global, bytes: &[u8]) -> bool {
-    refusal(alloc, bytes) == Some(ClientFault::BadAnswer)
+// The first of these openings that isn't refused for this.
+fn first_other(alloc: Global, table: &[&[u8]], fault: ClientFault) -> Option<usize> {
+    for (place, bytes) in table.iter().enumerate() {
+        if refusal(alloc, bytes) != Some(fault) {
+            return Some(place);
+        }
+    }
+    None
 }
 
-fn is_refused(alloc: Global, bytes: &[u8]) -> bool {
-    refusal(alloc, bytes) == Some(ClientFault::Refused)
+const VERSIONS: [&[u8]; 2] = [
+    b"( success ( 1 1 ( ) ( ) ) ) ",
+    b"( success ( 3 4 ( ) ( ) ) ) ",
+];
+
+#[test]
+fn another_version_is_refused(rt: HostRuntime) {
+    none_is_wrong(
+        &rt,
+        first_other(rt.alloc(), &VERSIONS, ClientFault::BadAnswer),
+    );
+}
+
+const FORMS: [&[u8]; 7] = [
+    b"( success ( 2 2 ( ) ) ) ",
+    b"( welcome ( 2 2 ( ) ( ) ) ) ",
+    b"( success 2 2 ( ) ( ) ) ",
+    b"220 ",
+    CRAM,
+    NO_IDENTITY,
+    NO_LISTS,
+];
+
+#[test]
+fn another_form_is_refused(rt: HostRuntime) {
+    none_is_wrong(&rt, first_other(rt.alloc(), &FORMS, ClientFault::BadAnswer));
+}
+
+const FAILURES: [&[u8]; 3] = [
+    b"( failure ( ( 48 3:bad 0: 0 ) ) ) ",
+    b"( failure ( 14:only ANONYMOUS ) ) ",
+    SEVERAL,
+];
+
+#[test]
+fn a_failure_is_told(rt: HostRuntime) {
+    none_is_wrong(
+        &rt,
+        first_other(rt.alloc(), &FAILURES, ClientFault::Refused),
+    );
 }
 
 fn is_fault(alloc: Global, bytes: &[u8], fault: EditFault) -> bool {
     refusal(alloc, bytes) == Some(ClientFault::Edit(fault))
 }
 
-#[test]
-fn another_version_is_refused(rt: HostRuntime) {
-    assert!(rt; is_bad(rt.alloc(), b"( success ( 1 1 ( ) ( ) ) ) "));
-    assert!(rt; is_bad(rt.alloc(), b"( success ( 3 4 ( ) ( ) ) ) "));
-}
-
-#[test]
-fn another_form_is_refused(rt: HostRuntime) {
-    assert!(rt; is_bad(rt.alloc(), b"( success ( 2 2 ( ) ) ) "));
-    assert!(rt; is_bad(rt.alloc(), b"( welcome ( 2 2 ( ) ( ) ) ) "));
-    assert!(rt; is_bad(rt.alloc(), b"( success 2 2 ( ) ( ) ) "));
-    assert!(rt; is_bad(rt.alloc(), b"220 "));
-    assert!(rt; is_bad(rt.alloc(), CRAM));
-    assert!(rt; is_bad(rt.alloc(), NO_IDENTITY));
-    assert!(rt; is_bad(rt.alloc(), NO_LISTS));
-}
-
-#[test]
-fn a_failure_is_told(rt: HostRuntime) {
-    assert!(rt; is_refused(rt.alloc(), b"( failure ( ( 48 3:bad 0: 0 ) ) ) "));
-    assert!(rt; is_refused(rt.alloc(), b"( failure ( 14:only ANONYMOUS ) ) "));
-    assert!(rt; is_refused(rt.alloc(), SEVERAL));
-}
+// Bytes that end between items.
+const ENDING: [&[u8]; 2] = [b"", b"( success ( 2 2 ( ) ( ) ) ) "];
 
 #[test]
 fn a_fault_of_items_is_told(rt: HostRuntime) {
-    assert!(rt; is_fault(rt.alloc(), b"( success ( 2 ", EditFault::Truncated));
-    assert!(rt; is_fault(rt.alloc(), b"HTTP/1.1 200 OK\r\n", EditFault::BadItem));
-    assert!(rt; is_bad(rt.alloc(), b""));
-    assert!(rt; is_bad(rt.alloc(), b"( success ( 2 2 ( ) ( ) ) ) "));
+    let alloc = rt.alloc();
+    assert!(rt; is_fault(alloc, b"( success ( 2 ", EditFault::Truncated));
+    assert!(rt; is_fault(alloc, b"HTTP/1.1 200 OK\r\n", EditFault::BadItem));
+    none_is_wrong(&rt, first_other(alloc, &ENDING, ClientFault::BadAnswer));
 }
 
 // The number of what an opening is refused for behind so many of its bytes, where the reader fails then or ends.
@@ -135,12 +162,21 @@ fn unwritten(alloc: Global, passing: u64) -> u8 {
     number_of(open(alloc, OPENED, &line))
 }
 
+// The first number of writes, of the four that an opening makes, behind which a failing one isn't told.
+fn first_unwritten(alloc: Global) -> Option<usize> {
+    for passing in 0..4 {
+        if unwritten(alloc, passing as u64) != 49 {
+            return Some(passing);
+        }
+    }
+    None
+}
+
 #[test]
 fn a_writer_that_fails_is_told(rt: HostRuntime) {
-    for passing in 0..4u64 {
-        assert!(rt; unwritten(rt.alloc(), passing) == 49);
-    }
-    assert!(rt; unwritten(rt.alloc(), 100) == 0);
+    let alloc = rt.alloc();
+    none_is_wrong(&rt, first_unwritten(alloc));
+    assert!(rt; unwritten(alloc, 100) == 0);
 }
 
 // Whether bytes come to the same at once and one at a time: a refusal, or an identity, a URL, and what the client said.
@@ -155,15 +191,20 @@ fn agree(alloc: Global, bytes: &[u8]) -> bool {
     }
 }
 
-// The place and the value of the first change of a byte with which an opening doesn't.
+// Whether it does with the byte at a place changed to this value.
+fn agrees_changed(rt: &impl Abort, alloc: Global, at: usize, value: u8) -> bool {
+    let mut changed = Vec::from_slice(alloc, OPENED).expect(rt, "memory");
+    if let Some(place) = changed.get_mut(at) {
+        *place = value;
+    }
+    agree(alloc, &changed)
+}
+
+// The place and the value of the first change with which it doesn't.
 fn wrong_change(rt: &impl Abort, alloc: Global) -> Option<(usize, u8)> {
     for at in 0..OPENED.len() {
         for value in 0..=u8::MAX {
-            let mut changed = Vec::from_slice(alloc, OPENED).expect(rt, "memory");
-            if let Some(place) = changed.get_mut(at) {
-                *place = value;
-            }
-            if !agree(alloc, &changed) {
+            if !agrees_changed(rt, alloc, at, value) {
                 return Some((at, value));
             }
         }
@@ -173,5 +214,7 @@ fn wrong_change(rt: &impl Abort, alloc: Global) -> Option<(usize, u8)> {
 
 #[test]
 fn a_changed_opening_is_told_alike(rt: HostRuntime) {
-    assert_eq!(rt; wrong_change(&rt, rt.alloc()), None);
+    if let Some((at, value)) = wrong_change(&rt, rt.alloc()) {
+        panic!(rt; "at {at}, {value}");
+    }
 }

@@ -102,14 +102,27 @@ fn is_refused(
     is_told && is_left && comes_up(rt, alloc, disk, source)
 }
 
+// How their bytes come.
+const STREAMS: [Stream; 2] = [WHOLE, SINGLE];
+
+// The first peer for which that isn't so, and how many of its bytes come at a time.
+fn first_believed(rt: &impl Abort, alloc: Global) -> Option<(usize, usize)> {
+    let source = repo(rt, alloc);
+    for (peer, (answers, line)) in PEERS.iter().enumerate() {
+        let bytes = told(rt, alloc, answers);
+        for stream in &STREAMS {
+            if !is_refused(rt, alloc, &source, bytes.as_slice(), stream, line) {
+                return Some((peer, stream.size));
+            }
+        }
+    }
+    None
+}
+
 #[test]
 fn a_peer_that_lies_is_refused(rt: HostRuntime) {
-    let source = repo(&rt, rt.alloc());
-    for (answers, line) in &PEERS {
-        let bytes = told(&rt, rt.alloc(), answers);
-        let bytes = bytes.as_slice();
-        assert!(rt; is_refused(&rt, rt.alloc(), &source, bytes, &WHOLE, line));
-        assert!(rt; is_refused(&rt, rt.alloc(), &source, bytes, &SINGLE, line));
+    if let Some((peer, size)) = first_believed(&rt, rt.alloc()) {
+        panic!(rt; "peer {peer}, {size} bytes at a time");
     }
 }
 
@@ -213,7 +226,7 @@ impl<'a> Trial<'a> {
 fn makes_up(
     rt: &impl Abort,
     alloc: Global,
-    begun: &MemDisk,
+    begun: MemDisk,
     asked: &[u8],
     job: &Job,
     lines: &[Line],
@@ -224,7 +237,7 @@ fn makes_up(
     let bytes = served(rt, alloc, asked);
     let trial = Trial {
         source: &source,
-        begun,
+        begun: &begun,
         bytes: bytes.as_slice(),
         job,
         lines,
@@ -237,35 +250,33 @@ fn makes_up(
 
 #[test]
 fn an_initialisation_whose_stream_fails(rt: HostRuntime) {
-    let disk = empty(&rt, rt.alloc());
-    assert!(rt; makes_up(&rt, rt.alloc(), &disk, BEGINS, &Job::Begin, &BEGUN, 3));
+    let alloc = rt.alloc();
+    let disk = empty(&rt, alloc);
+    assert!(rt; makes_up(&rt, alloc, disk, BEGINS, &Job::Begin, &BEGUN, 3));
 }
 
 #[test]
 fn a_synchronisation_whose_stream_fails(rt: HostRuntime) {
-    let disk = begun(&rt, rt.alloc());
-    assert!(rt;
-        makes_up(
-            &rt,
-            rt.alloc(),
-            &disk,
-            GOES_ON,
-            &Job::Synchronize,
-            &SYNCED,
-            7
-        )
-    );
+    let alloc = rt.alloc();
+    let disk = begun(&rt, alloc);
+    assert!(rt; makes_up(&rt, alloc, disk, GOES_ON, &Job::Synchronize, &SYNCED, 7));
 }
 
 const COPIED: [Line; 2] = [Line::Copied(0), Line::Copied(1)];
 
+// A mirror that is brought up to its master.
+fn brought_up(rt: &impl Abort, alloc: Global) -> MemDisk {
+    let bytes = served(rt, alloc, GOES_ON);
+    let disk = begun(rt, alloc);
+    let left = run_over(rt, alloc, disk, bytes.as_slice(), &WHOLE, &Job::Synchronize);
+    assert!(rt; left.number == 0);
+    left.disk
+}
+
 #[test]
 fn a_copying_whose_stream_fails(rt: HostRuntime) {
-    let bytes = served(&rt, rt.alloc(), GOES_ON);
-    let disk = begun(&rt, rt.alloc());
-    let job = Job::Synchronize;
-    let left = run_over(&rt, rt.alloc(), disk, bytes.as_slice(), &WHOLE, &job);
-    assert!(rt; left.number == 0);
+    let alloc = rt.alloc();
+    let disk = brought_up(&rt, alloc);
     let asked = b"( rev-proplist ( 0 ) ) ( rev-proplist ( 1 ) ) ";
-    assert!(rt; makes_up(&rt, rt.alloc(), &left.disk, asked, &Job::Copy, &COPIED, 4));
+    assert!(rt; makes_up(&rt, alloc, disk, asked, &Job::Copy, &COPIED, 4));
 }

@@ -9,6 +9,7 @@ use ra_item::stream::ItemStream;
 use repo_core::Repo;
 use session_road::range::{Heard, take_range};
 use std::alloc::Global;
+use std::process::Abort;
 use std::rt::HostRuntime;
 
 // The items of bytes that come so many at a time.
@@ -76,11 +77,16 @@ fn is_range_anyhow(alloc: Global, bytes: &[u8], source: &Repo, first: u16) -> bo
         && is_range(alloc, bytes, 1, source, first)
 }
 
+// Whether that is so of what a server writes that is asked this.
+fn is_served(rt: &impl Abort, alloc: Global, asked: &[u8], first: u16) -> bool {
+    let source = repo(rt, alloc);
+    let bytes = served(rt, alloc, asked);
+    is_range_anyhow(alloc, bytes.as_slice(), &source, first)
+}
+
 #[test]
 fn each_revision_of_a_range_is_taken(rt: HostRuntime) {
-    let source = repo(&rt, rt.alloc());
-    let all = served(&rt, rt.alloc(), b"( replay-range ( 0 2 0 true ) ) ");
-    let last = served(&rt, rt.alloc(), b"( replay-range ( 1 2 0 true ) ) ");
-    assert!(rt; is_range_anyhow(rt.alloc(), all.as_slice(), &source, 0));
-    assert!(rt; is_range_anyhow(rt.alloc(), last.as_slice(), &source, 1));
+    let alloc = rt.alloc();
+    assert!(rt; is_served(&rt, alloc, b"( replay-range ( 0 2 0 true ) ) ", 0));
+    assert!(rt; is_served(&rt, alloc, b"( replay-range ( 1 2 0 true ) ) ", 1));
 }

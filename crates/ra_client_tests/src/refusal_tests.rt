@@ -1,6 +1,6 @@
 //! What answers are refused for, and what follows a refusal.
 
-use crate::sessions::{Line, Port, SINGLE, WHOLE, is_said, number_of, open, told};
+use crate::sessions::{Line, Port, SINGLE, WHOLE, is_said, none_is_wrong, number_of, open, told};
 use crate::sets::history;
 use delta_editor::EditorFault;
 use node_base::RevNo;
@@ -56,28 +56,41 @@ fn refusal(rt: &impl Abort, alloc: Global, trees: &[Tree], answers: &[u8]) -> Op
     if whole == single { whole } else { None }
 }
 
-fn is_fault(
+// Answers, and what a fetch of revision 2 is refused for over them.
+type Refused<'a> = (&'a [u8], ClientFault);
+
+// The first of these that are refused otherwise, over these trees.
+fn first_over(
     rt: &impl Abort,
     alloc: Global,
     trees: &[Tree],
-    answers: &[u8],
-    fault: EditFault,
-) -> bool {
-    refusal(rt, alloc, trees, answers) == Some(ClientFault::Edit(fault))
+    table: &[Refused<'_>],
+) -> Option<usize> {
+    for (place, (answers, fault)) in table.iter().enumerate() {
+        if refusal(rt, alloc, trees, answers) != Some(*fault) {
+            return Some(place);
+        }
+    }
+    None
 }
 
-fn is_bad(rt: &impl Abort, alloc: Global, trees: &[Tree], answers: &[u8]) -> bool {
-    refusal(rt, alloc, trees, answers) == Some(ClientFault::BadAnswer)
+// The same, over those of revisions 0 to 2.
+fn first_other(rt: &impl Abort, alloc: Global, table: &[Refused<'_>]) -> Option<usize> {
+    let trees = history(rt, alloc);
+    first_over(rt, alloc, &trees, table)
 }
 
 const OTHER_NUMBER: &[u8] =
     b"( success ( ( ) 0: ) ) ( revprops ( ) ) ( target-rev ( 3 ) ) ( open-root ( ( 2 ) 2:t0 ) ) ( close-dir ( 2:t0 ) ) ( finish-replay ( ) ) ( success ( ) ) ";
 
+const NUMBERS: [Refused<'static>; 1] = [(
+    OTHER_NUMBER,
+    ClientFault::Edit(EditFault::Editor(EditorFault::WrongNumber)),
+)];
+
 #[test]
 fn an_edit_of_another_number_is_refused(rt: HostRuntime) {
-    let trees = history(&rt, rt.alloc());
-    let fault = EditFault::Editor(EditorFault::WrongNumber);
-    assert!(rt; is_fault(&rt, rt.alloc(), &trees, OTHER_NUMBER, fault));
+    none_is_wrong(&rt, first_other(&rt, rt.alloc(), &NUMBERS));
 }
 
 const COPYING: &[u8] =
@@ -95,16 +108,20 @@ const GIVEN_UP: &[u8] =
 const NO_PATH: &[u8] =
     b"( success ( ( ) 0: ) ) ( revprops ( ) ) ( target-rev ( 2 ) ) ( open-root ( ( 1 ) 2:t0 ) ) ( delete-entry ( 1:z ( 1 ) 2:t0 ) ) ";
 
+const EDITS: [Refused<'static>; 5] = [
+    (COPYING, ClientFault::Edit(EditFault::CopyWindow)),
+    (OTHER_SUM, ClientFault::Edit(EditFault::BadSum)),
+    (OTHER_TOKEN, ClientFault::Edit(EditFault::BadToken)),
+    (GIVEN_UP, ClientFault::Edit(EditFault::Refused)),
+    (
+        NO_PATH,
+        ClientFault::Edit(EditFault::Editor(EditorFault::NoSuchPath)),
+    ),
+];
+
 #[test]
 fn an_edit_that_is_none_is_refused(rt: HostRuntime) {
-    let alloc = rt.alloc();
-    let trees = history(&rt, alloc);
-    assert!(rt; is_fault(&rt, alloc, &trees, COPYING, EditFault::CopyWindow));
-    assert!(rt; is_fault(&rt, alloc, &trees, OTHER_SUM, EditFault::BadSum));
-    assert!(rt; is_fault(&rt, alloc, &trees, OTHER_TOKEN, EditFault::BadToken));
-    assert!(rt; is_fault(&rt, alloc, &trees, GIVEN_UP, EditFault::Refused));
-    let fault = EditFault::Editor(EditorFault::NoSuchPath);
-    assert!(rt; is_fault(&rt, alloc, &trees, NO_PATH, fault));
+    none_is_wrong(&rt, first_other(&rt, rt.alloc(), &EDITS));
 }
 
 // The input ends inside an item, between items inside an edit, and where an item of the answer is due.
@@ -114,14 +131,16 @@ const ENDS_IN_EDIT: &[u8] = b"( success ( ( ) 0: ) ) ( revprops ( ) ) ( target-r
 
 const ENDS_BEFORE: &[u8] = b"( success ( ( ) 0: ) ) ";
 
+const ENDING: [Refused<'static>; 4] = [
+    (ENDS_INSIDE, ClientFault::Edit(EditFault::Truncated)),
+    (ENDS_IN_EDIT, ClientFault::Edit(EditFault::BadShape)),
+    (ENDS_BEFORE, ClientFault::BadAnswer),
+    (b"", ClientFault::BadAnswer),
+];
+
 #[test]
 fn an_input_that_ends_is_told(rt: HostRuntime) {
-    let alloc = rt.alloc();
-    let trees = history(&rt, alloc);
-    assert!(rt; is_fault(&rt, alloc, &trees, ENDS_INSIDE, EditFault::Truncated));
-    assert!(rt; is_fault(&rt, alloc, &trees, ENDS_IN_EDIT, EditFault::BadShape));
-    assert!(rt; is_bad(&rt, alloc, &trees, ENDS_BEFORE));
-    assert!(rt; is_bad(&rt, alloc, &trees, b""));
+    none_is_wrong(&rt, first_other(&rt, rt.alloc(), &ENDING));
 }
 
 // Somebody is asked for, no properties come, and something else is said behind the edit.
@@ -137,15 +156,17 @@ const JUNK: &[u8] =
 
 const BAD_BYTE: &[u8] = b"( success ( ( ) 0: ) ) ( revprops ( ) ) ( target-rev ( 2 ) ) * ";
 
+const FORMS: [Refused<'static>; 5] = [
+    (ASKS, ClientFault::BadAnswer),
+    (NO_PROPS, ClientFault::BadAnswer),
+    (LONG_NAME, ClientFault::BadAnswer),
+    (JUNK, ClientFault::BadAnswer),
+    (BAD_BYTE, ClientFault::Edit(EditFault::BadItem)),
+];
+
 #[test]
 fn another_form_is_refused(rt: HostRuntime) {
-    let alloc = rt.alloc();
-    let trees = history(&rt, alloc);
-    assert!(rt; is_bad(&rt, alloc, &trees, ASKS));
-    assert!(rt; is_bad(&rt, alloc, &trees, NO_PROPS));
-    assert!(rt; is_bad(&rt, alloc, &trees, LONG_NAME));
-    assert!(rt; is_bad(&rt, alloc, &trees, JUNK));
-    assert!(rt; is_fault(&rt, alloc, &trees, BAD_BYTE, EditFault::BadItem));
+    none_is_wrong(&rt, first_other(&rt, rt.alloc(), &FORMS));
 }
 
 // ---- what is no end of a session
@@ -163,10 +184,12 @@ fn goes_on(port: &mut Port<'_>, trees: &[Tree]) -> bool {
         && port.latest().is_ok_and(|newest| newest.get() == 2)
 }
 
-// Whether that is so over bytes.
-fn goes_on_over(alloc: Global, trees: &[Tree], bytes: &[u8], line: &Line) -> bool {
-    match open(alloc, bytes, line) {
-        Ok(mut port) => goes_on(&mut port, trees),
+// Whether that is so over bytes that come so.
+fn goes_on_over(rt: &impl Abort, alloc: Global, line: &Line) -> bool {
+    let trees = history(rt, alloc);
+    let bytes = told(rt, alloc, NO_REVISION);
+    match open(alloc, bytes.as_slice(), line) {
+        Ok(mut port) => goes_on(&mut port, &trees),
         Err(_) => false,
     }
 }
@@ -174,10 +197,8 @@ fn goes_on_over(alloc: Global, trees: &[Tree], bytes: &[u8], line: &Line) -> boo
 #[test]
 fn a_session_goes_on_behind_a_failure(rt: HostRuntime) {
     let alloc = rt.alloc();
-    let trees = history(&rt, alloc);
-    let bytes = told(&rt, alloc, NO_REVISION);
-    assert!(rt; goes_on_over(alloc, &trees, bytes.as_slice(), &WHOLE));
-    assert!(rt; goes_on_over(alloc, &trees, bytes.as_slice(), &SINGLE));
+    assert!(rt; goes_on_over(&rt, alloc, &WHOLE));
+    assert!(rt; goes_on_over(&rt, alloc, &SINGLE));
 }
 
 // ---- other commands
@@ -225,9 +246,10 @@ fn is_over(port: &mut Port<'_>) -> bool {
     number_of(port.latest()) == 60 && number_of(port.latest()) == 60
 }
 
-// Whether that is so over these bytes.
-fn stays_over(alloc: Global, bytes: &[u8]) -> bool {
-    match open(alloc, bytes, &WHOLE) {
+// Whether that is so over these answers.
+fn stays_over(rt: &impl Abort, alloc: Global, answers: &[u8]) -> bool {
+    let bytes = told(rt, alloc, answers);
+    match open(alloc, bytes.as_slice(), &WHOLE) {
         Ok(mut port) => is_over(&mut port),
         Err(_) => false,
     }
@@ -235,6 +257,5 @@ fn stays_over(alloc: Global, bytes: &[u8]) -> bool {
 
 #[test]
 fn a_refusal_stays(rt: HostRuntime) {
-    let bytes = told(&rt, rt.alloc(), WORD);
-    assert!(rt; stays_over(rt.alloc(), bytes.as_slice()));
+    assert!(rt; stays_over(&rt, rt.alloc(), WORD));
 }

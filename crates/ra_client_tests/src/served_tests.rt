@@ -102,11 +102,16 @@ fn newest(port: &mut Port<'_>) -> Option<u16> {
     }
 }
 
+// Whether that is so of what a server writes, which comes so.
+fn is_taken(rt: &impl Abort, alloc: Global, line: &Line) -> bool {
+    let held = repo(rt, alloc);
+    let bytes = served(rt, alloc, ASKED);
+    is_told(alloc, held.trees(), bytes.as_slice(), line)
+}
+
 #[test]
 fn a_client_takes_what_is_served(rt: HostRuntime) {
     let alloc = rt.alloc();
-    let held = repo(&rt, alloc);
-    let bytes = served(&rt, alloc, ASKED);
-    assert!(rt; is_told(alloc, held.trees(), bytes.as_slice(), &WHOLE));
-    assert!(rt; is_told(alloc, held.trees(), bytes.as_slice(), &SINGLE));
+    assert!(rt; is_taken(&rt, alloc, &WHOLE));
+    assert!(rt; is_taken(&rt, alloc, &SINGLE));
 }

@@ -113,6 +113,13 @@ pub(crate) fn is_said(written: &[u8], asked: &[u8]) -> bool {
     }
 }
 
+/// Ends the test with the place of the case that is wrong, if one is.
+pub(crate) fn none_is_wrong(rt: &impl Abort, wrong: Option<usize>) {
+    if let Some(case) = wrong {
+        panic!(rt; "case {case}");
+    }
+}
+
 /// The number of a refusal, 0 where there is none.
 pub(crate) fn number_of<T: Drop>(answer: Result<T, ClientFault>) -> u8 {
     match answer {

@@ -245,19 +245,17 @@ fn by_folder(rt: &impl Abort, alloc: Global, source: &Repo) -> Option<MemDisk> {
     well_left(run_by(rt, alloc, begun.disk, master, &Job::Synchronize))
 }
 
-#[test]
-fn a_mirror_is_brought_up_to_date(rt: HostRuntime) {
-    let source = repo(&rt, rt.alloc());
-    let left = by_wire(&rt, rt.alloc());
-    assert!(rt; left_mirror(rt.alloc(), left, &source));
-}
-
-// Whether a disk is left that holds a mirror of a repository.
-fn left_mirror(alloc: Global, left: Option<MemDisk>, source: &Repo) -> bool {
-    match left {
-        Some(disk) => holds_mirror(alloc, disk, source),
+// Whether a mirror over the wire is one of its master.
+fn is_brought_up(rt: &impl Abort, alloc: Global) -> bool {
+    match by_wire(rt, alloc) {
+        Some(disk) => holds_mirror(alloc, disk, &repo(rt, alloc)),
         None => false,
     }
+}
+
+#[test]
+fn a_mirror_is_brought_up_to_date(rt: HostRuntime) {
+    assert!(rt; is_brought_up(&rt, rt.alloc()));
 }
 
 // Commits a revision of a repository at the head of a store.
@@ -336,17 +334,12 @@ fn hold_the_same(rt: &impl Abort, alloc: Global, one: MemDisk, other: MemDisk) -
     alike
 }
 
-// Whether both were left, and hold the same.
-fn left_the_same(
-    rt: &impl Abort,
-    alloc: Global,
-    one: Option<MemDisk>,
-    other: Option<MemDisk>,
-) -> bool {
-    let Some(one) = one else {
+// Whether a mirror over the wire and one by folder are both left, and hold the same.
+fn are_one(rt: &impl Abort, alloc: Global) -> bool {
+    let Some(one) = by_wire(rt, alloc) else {
         return false;
     };
-    match other {
+    match by_folder(rt, alloc, &repo(rt, alloc)) {
         Some(other) => hold_the_same(rt, alloc, one, other),
         None => false,
     }
@@ -354,24 +347,20 @@ fn left_the_same(
 
 #[test]
 fn a_mirror_over_the_wire_is_one_by_folder(rt: HostRuntime) {
-    let source = repo(&rt, rt.alloc());
-    let one = by_wire(&rt, rt.alloc());
-    let other = by_folder(&rt, rt.alloc(), &source);
-    assert!(rt; left_the_same(&rt, rt.alloc(), one, other));
+    assert!(rt; are_one(&rt, rt.alloc()));
+}
+
+// The numbers of a job that begins a mirror, and of one whose master says no more behind its newest revision.
+fn silent(rt: &impl Abort, alloc: Global) -> (u8, u8) {
+    let begins = served(rt, alloc, BEGINS);
+    let goes_on = served(rt, alloc, b"( get-latest-rev ( ) ) ");
+    let begun = run(rt, alloc, empty(rt, alloc), begins.as_slice(), &Job::Begin);
+    let number = begun.number;
+    let synced = run(rt, alloc, begun.disk, goes_on.as_slice(), &Job::Synchronize);
+    (number, synced.number)
 }
 
 #[test]
 fn a_master_that_goes_silent_is_told(rt: HostRuntime) {
-    let begins = served(&rt, rt.alloc(), BEGINS);
-    let goes_on = served(&rt, rt.alloc(), b"( get-latest-rev ( ) ) ");
-    let disk = empty(&rt, rt.alloc());
-    let begun = run(&rt, rt.alloc(), disk, begins.as_slice(), &Job::Begin);
-    let synced = run(
-        &rt,
-        rt.alloc(),
-        begun.disk,
-        goes_on.as_slice(),
-        &Job::Synchronize,
-    );
-    assert!(rt; begun.number == 0 && synced.number == 60);
+    assert!(rt; silent(&rt, rt.alloc()) == (0, 60));
 }
