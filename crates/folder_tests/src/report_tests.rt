@@ -42,7 +42,7 @@ fn loaded_behind_the_first(rt: &impl Abort, alloc: Global) -> Noted {
         agreed: true,
     };
     let Ok(mut store) = open_store(alloc, with_one_file(rt, alloc)) else {
-        return noted;
+        rt.abort()
     };
     let third = replaced(
         rt,
@@ -56,6 +56,7 @@ fn loaded_behind_the_first(rt: &impl Abort, alloc: Global) -> Noted {
     if run_load(alloc, &mut store, &mut input, &mut noted).is_err() {
         noted.agreed = false;
     }
+    let _disk = store.into_disk();
     noted
 }
 

@@ -151,21 +151,25 @@ fn run_over<F: Folders, I: Input>(
 // A command by its words, what there is to read, and what comes of it: what is printed, and the line of a refusal, where it is
 // refused.
 #[derive(Clone, Copy)]
-pub(crate) struct Step<'a> {
-    words: &'a [&'a str],
-    input: &'a [&'a str],
-    output: &'a [&'a str],
-    errors: &'a str,
-}
+pub(crate) struct Step<'a>(
+    pub(crate) &'a [&'a str],
+    pub(crate) &'a [&'a str],
+    pub(crate) &'a [&'a str],
+    pub(crate) &'a str,
+);
+
+// In place of a refusal's line.
+pub(crate) const DONE: &str = "";
 
 // Whether a run came to what a step says; what it wrote is handed on.
 fn came_to(ran: &Ran, step: &Step<'_>) -> bool {
-    let status = if step.errors.is_empty() { 0 } else { 1 };
+    let Step(_words, _input, output, errors) = *step;
+    let status = if errors.is_empty() { 0 } else { 1 };
     let written = ran.output.bytes();
     ran.status == status
-        && are(written, step.output)
+        && are(written, output)
         && ran.output.handed_on() == written.len()
-        && ran.errors.bytes() == step.errors.as_bytes()
+        && ran.errors.bytes() == errors.as_bytes()
 }
 
 // Whether a step over the folder `repo` on this disk comes to what it says.
@@ -177,8 +181,9 @@ pub(crate) fn comes<D: Disk + Drop>(
 ) -> bool
     requires { D.honest disk.old }
 {
-    let bytes = joined(rt, alloc, step.input);
-    let command = named(rt, alloc, step.words);
+    let Step(words, input, _output, _errors) = *step;
+    let bytes = joined(rt, alloc, input);
+    let command = named(rt, alloc, words);
     let mut folders = MemFolders::new("repo", disk);
     let ran = run_over(
         alloc,
@@ -187,6 +192,11 @@ pub(crate) fn comes<D: Disk + Drop>(
         &mut CountedReader::new(bytes.as_slice()),
     );
     came_to(&ran, step)
+}
+
+// Nothing of this was wrong: it is asserted here for all tests, and what is wrong is told.
+pub(crate) fn none_wrong(rt: &impl Abort, what: &str, wrong: Option<u64>) {
+    assert_eq!(rt; wrong, None, "{what}");
 }
 
 // The disk as a stop leaves it.
@@ -200,44 +210,20 @@ pub(crate) fn first_wrong(
     alloc: Global,
     disk: &mut MemDisk,
     steps: &[Step<'_>],
-) -> Option<usize> {
+) -> Option<u64> {
     for (number, step) in steps.iter().enumerate() {
         if !comes(rt, alloc, disk, step) {
-            return Some(number);
+            return Some(number as u64);
         }
         *disk = crashed(rt, disk, Pick::Old);
     }
     None
 }
 
-// A step that is done.
-pub(crate) fn done<'a>(
-    words: &'a [&'a str],
-    input: &'a [&'a str],
-    output: &'a [&'a str],
-) -> Step<'a> {
-    Step {
-        words,
-        input,
-        output,
-        errors: "",
-    }
-}
-
-// A step that is refused before anything is printed.
-pub(crate) fn refused<'a>(words: &'a [&'a str], input: &'a [&'a str], errors: &'a str) -> Step<'a> {
-    Step {
-        words,
-        input,
-        output: &[],
-        errors,
-    }
-}
-
 // A disk with revision 0 alone.
 pub(crate) fn begun(rt: &impl Abort, alloc: Global) -> MemDisk {
     let mut disk = MemDisk::new(alloc);
-    assert!(rt; comes(rt, alloc, &mut disk, &done(&CREATE, &[], &[])));
+    assert!(rt; comes(rt, alloc, &mut disk, &Step(&CREATE, &[], &[], DONE)));
     disk
 }
 
@@ -249,63 +235,73 @@ pub(crate) fn with_one_file(rt: &impl Abort, alloc: Global) -> MemDisk {
             rt,
             alloc,
             &mut disk,
-            &done(&LOAD, &[HEAD, ONE_FILE], &[LOADED])
+            &Step(&LOAD, &[HEAD, ONE_FILE], &[LOADED], DONE)
         )
     );
     crashed(rt, &disk, Pick::Old)
 }
 
+const CREATING: [Step<'static>; 5] = [
+    Step(&DUMP, &[], &[], "svnfleet: 34 no repository\n"),
+    Step(
+        &LOAD,
+        &[HEAD, ONE_FILE],
+        &[],
+        "svnfleet: 34 no repository\n",
+    ),
+    Step(&CREATE, &[], &[], DONE),
+    Step(&CREATE, &[], &[], "svnfleet: 35 repository already there\n"),
+    Step(&DUMP, &[], &[HEAD, IDENTITY, ZERO], DONE),
+];
+
 #[test]
 fn create_begins_a_repository(rt: HostRuntime) {
     let alloc = rt.alloc();
     let mut disk = MemDisk::new(alloc);
-    let steps = [
-        refused(&DUMP, &[], "svnfleet: 34 no repository\n"),
-        refused(&LOAD, &[HEAD, ONE_FILE], "svnfleet: 34 no repository\n"),
-        done(&CREATE, &[], &[]),
-        refused(&CREATE, &[], "svnfleet: 35 repository already there\n"),
-        done(&DUMP, &[], &[HEAD, IDENTITY, ZERO]),
-    ];
-    assert_eq!(rt; first_wrong(&rt, alloc, &mut disk, &steps), None);
+    none_wrong(&rt, "steps", first_wrong(&rt, alloc, &mut disk, &CREATING));
     // 149 bytes, with the sum that `md5sum` tells of them
     let slots = b"\x01\0\0\0\0\0\0\0\x95p\x03\x96\x9B\xE9H\x96\xF8`\xFA=\x8D\x10\xE4l\x11\0";
     assert!(rt; holds(&disk, &[HEAD, IDENTITY, ZERO], slots));
 }
 
+const LOADING: [Step<'static>; 4] = [
+    Step(&LOAD, &[HEAD, ONE_FILE], &[LOADED], DONE),
+    Step(&DUMP, &[], &[HEAD, IDENTITY, ZERO, ONE_FILE], DONE),
+    Step(&DUMP_ONE, &[], &[HEAD, IDENTITY, ONE_FILE], DONE),
+    Step(
+        &["dump", "repo", "-r", "0:2"],
+        &[],
+        &[],
+        "svnfleet: 21 no such revision\n",
+    ),
+];
+
 #[test]
 fn load_commits_each_revision(rt: HostRuntime) {
     let alloc = rt.alloc();
     let mut disk = begun(&rt, alloc);
-    let steps = [
-        done(&LOAD, &[HEAD, ONE_FILE], &[LOADED]),
-        done(&DUMP, &[], &[HEAD, IDENTITY, ZERO, ONE_FILE]),
-        done(&DUMP_ONE, &[], &[HEAD, IDENTITY, ONE_FILE]),
-        refused(
-            &["dump", "repo", "-r", "0:2"],
-            &[],
-            "svnfleet: 21 no such revision\n",
-        ),
-    ];
-    assert_eq!(rt; first_wrong(&rt, alloc, &mut disk, &steps), None);
+    none_wrong(&rt, "steps", first_wrong(&rt, alloc, &mut disk, &LOADING));
     // 149 bytes, and 424 with the next entry
     let slots =
         b"\x01\0\0\0\0\0\0\0\x95p\x03\x96\x9B\xE9H\x96\xF8`\xFA=\x8D\x10\xE4l\x11\x01\0\0\0\0\0\0\x01\xA8Gs\xE6\x8A\x10d\x15\x85\xA8\xD8\x98\x07\xC6\xFB\x8B\xCD\0";
     assert!(rt; holds(&disk, &[HEAD, IDENTITY, ZERO, ONE_FILE], slots));
 }
 
+const LATE: &str = "svnfleet: 16 revision out of sequence\n";
+
+const GOING_ON: [Step<'static>; 5] = [
+    Step(&LOAD, &[HEAD, IDENTITY, ZERO, ONE_FILE], &[LOADED], DONE),
+    Step(&LOAD, &[HEAD, ZERO], &[], LATE),
+    Step(&LOAD, &[HEAD, ONE_FILE], &[], LATE),
+    Step(&LOAD, &[HEAD, NO_FILE], &[LOADED_TWO], DONE),
+    Step(&DUMP, &[], &[HEAD, IDENTITY, ZERO, ONE_FILE, NO_FILE], DONE),
+];
+
 #[test]
 fn load_goes_on_from_the_head(rt: HostRuntime) {
     let alloc = rt.alloc();
     let mut disk = begun(&rt, alloc);
-    let late = "svnfleet: 16 revision out of sequence\n";
-    let steps = [
-        done(&LOAD, &[HEAD, IDENTITY, ZERO, ONE_FILE], &[LOADED]),
-        refused(&LOAD, &[HEAD, ZERO], late),
-        refused(&LOAD, &[HEAD, ONE_FILE], late),
-        done(&LOAD, &[HEAD, NO_FILE], &[LOADED_TWO]),
-        done(&DUMP, &[], &[HEAD, IDENTITY, ZERO, ONE_FILE, NO_FILE]),
-    ];
-    assert_eq!(rt; first_wrong(&rt, alloc, &mut disk, &steps), None);
+    none_wrong(&rt, "steps", first_wrong(&rt, alloc, &mut disk, &GOING_ON));
     // revision 0's properties were given once more
     let journal = disk.bytes(DiskFile::Journal);
     assert!(rt; are(journal, &[HEAD, IDENTITY, ZERO, ZERO, ONE_FILE, NO_FILE]));
@@ -322,12 +318,7 @@ fn ends(
     journal: &[&str],
 ) -> bool {
     let mut disk = begun(rt, alloc);
-    let step = Step {
-        words: &LOAD,
-        input: parts,
-        output,
-        errors,
-    };
+    let step = Step(&LOAD, parts, output, errors);
     let same = comes(rt, alloc, &mut disk, &step);
     let left = crashed(rt, &disk, Pick::Old);
     same && are(left.bytes(DiskFile::Journal), journal)
@@ -395,23 +386,33 @@ fn load_keeps_what_was_committed(rt: HostRuntime) {
     assert!(rt; ends(&rt, alloc, &parts, &[], line, &[HEAD, IDENTITY, ZERO]));
 }
 
+const READ_ONLY: &str = "svnfleet: 24 the mirror is read-only\n";
+
+const AT_A_MIRROR: [Step<'static>; 2] = [
+    Step(&LOAD, &[HEAD, MIRROR, ONE_FILE], &[LOADED], DONE),
+    Step(
+        &["mkdir", "repo", "/", "--message", "hi", "--moment", "1"],
+        &[],
+        &[],
+        READ_ONLY,
+    ),
+];
+
 #[test]
 fn mirrors_take_no_change(rt: HostRuntime) {
     let alloc = rt.alloc();
     let mut disk = begun(&rt, alloc);
-    let line = "svnfleet: 24 the mirror is read-only\n";
-    let words = ["mkdir", "repo", "/", "--message", "hi", "--moment", "1"];
-    let steps = [
-        done(&LOAD, &[HEAD, MIRROR, ONE_FILE], &[LOADED]),
-        refused(&words, &[], line),
-    ];
-    assert_eq!(rt; first_wrong(&rt, alloc, &mut disk, &steps), None);
+    none_wrong(
+        &rt,
+        "steps",
+        first_wrong(&rt, alloc, &mut disk, &AT_A_MIRROR),
+    );
     let mut folders = MemFolders::new("repo", &mut disk);
     let nothing = [];
     let mut unread = FuseInput::new(CountedReader::new(nothing.as_slice()), 0);
     let command = named(&rt, alloc, &LOAD);
     let ran = run_over(alloc, &mut folders, command, &mut unread);
-    assert!(rt; came_to(&ran, &refused(&LOAD, &[], line)) && unread.reads() == 0);
+    assert!(rt; came_to(&ran, &Step(&LOAD, &[], &[], READ_ONLY)) && unread.reads() == 0);
 }
 
 #[test]
@@ -422,36 +423,38 @@ fn folders_are_told_apart(rt: HostRuntime) {
     let mut folders = MemFolders::two("repo", &mut disk, "repo2", &mut empty);
     let nothing = [];
     let mut input = CountedReader::new(nothing.as_slice());
-    let elsewhere = refused(&["dump", "repo2"], &[], "svnfleet: 34 no repository\n");
-    let command = named(&rt, alloc, elsewhere.words);
+    let elsewhere = Step(&["dump", "repo2"], &[], &[], "svnfleet: 34 no repository\n");
+    let command = named(&rt, alloc, elsewhere.0);
     let first = run_over(alloc, &mut folders, command, &mut input);
     assert!(rt; came_to(&first, &elsewhere));
-    let here = done(&DUMP_ONE, &[], &[HEAD, IDENTITY, ONE_FILE]);
-    let command = named(&rt, alloc, here.words);
+    let here = Step(&DUMP_ONE, &[], &[HEAD, IDENTITY, ONE_FILE], DONE);
+    let command = named(&rt, alloc, here.0);
     let second = run_over(alloc, &mut folders, command, &mut input);
     assert!(rt; came_to(&second, &here));
 }
+
+const MAKE: [&str; 7] = [
+    "mkdir",
+    "repo",
+    "a",
+    "--message",
+    "hi",
+    "--moment",
+    "1000000000123456",
+];
+
+const MAKING: [Step<'static>; 4] = [
+    Step(&MAKE, &[], &["Committed revision 1.\n"], DONE),
+    Step(&DUMP_ONE, &[], &[HEAD, IDENTITY, DIRECTORY], DONE),
+    Step(&MAKE, &[], &[], "svnfleet: 12 path already exists\n"),
+    Step(&DUMP, &[], &[HEAD, IDENTITY, ZERO, DIRECTORY], DONE),
+];
 
 #[test]
 fn mkdir_commits_one_directory(rt: HostRuntime) {
     let alloc = rt.alloc();
     let mut disk = begun(&rt, alloc);
-    let words = [
-        "mkdir",
-        "repo",
-        "a",
-        "--message",
-        "hi",
-        "--moment",
-        "1000000000123456",
-    ];
-    let steps = [
-        done(&words, &[], &["Committed revision 1.\n"]),
-        done(&DUMP_ONE, &[], &[HEAD, IDENTITY, DIRECTORY]),
-        refused(&words, &[], "svnfleet: 12 path already exists\n"),
-        done(&DUMP, &[], &[HEAD, IDENTITY, ZERO, DIRECTORY]),
-    ];
-    assert_eq!(rt; first_wrong(&rt, alloc, &mut disk, &steps), None);
+    none_wrong(&rt, "steps", first_wrong(&rt, alloc, &mut disk, &MAKING));
 }
 
 // Whether a directory at this path with this message is refused with this line.
@@ -464,7 +467,7 @@ fn is_refused(
     line: &str,
 ) -> bool {
     let words = ["mkdir", "repo", path, "--message", message, "--moment", "1"];
-    comes(rt, alloc, disk, &refused(&words, &[], line))
+    comes(rt, alloc, disk, &Step(&words, &[], &[], line))
 }
 
 const PATHS: [(&str, &str); 7] = [
@@ -477,16 +480,22 @@ const PATHS: [(&str, &str); 7] = [
     ("a", "svnfleet: 12 path already exists\n"),
 ];
 
+// The first of these paths that is answered otherwise.
+fn first_taken(rt: &impl Abort, alloc: Global, disk: &mut MemDisk) -> Option<u64> {
+    for (place, judged) in PATHS.iter().enumerate() {
+        let (path, line) = *judged;
+        if !is_refused(rt, alloc, disk, path, "hi", line) {
+            return Some(place as u64);
+        }
+    }
+    None
+}
+
 #[test]
 fn mkdir_judges_its_path(rt: HostRuntime) {
     let alloc = rt.alloc();
     let mut disk = with_one_file(&rt, alloc);
-    for (path, line) in &PATHS {
-        assert!(rt;
-            is_refused(&rt, alloc, &mut disk, *path, "hi", *line),
-            "{path}"
-        );
-    }
+    none_wrong(&rt, "paths", first_taken(&rt, alloc, &mut disk));
     let journal = disk.bytes(DiskFile::Journal);
     assert!(rt; are(journal, &[HEAD, IDENTITY, ZERO, ONE_FILE]));
 }
@@ -503,7 +512,7 @@ fn is_committed(rt: &impl Abort, alloc: Global, disk: &mut MemDisk, message: &st
         rt,
         alloc,
         disk,
-        &done(&words, &[], &["Committed revision 1.\n"]),
+        &Step(&words, &[], &["Committed revision 1.\n"], DONE),
     )
 }
 
@@ -540,8 +549,11 @@ fn dump_has_the_changed_property(rt: HostRuntime) {
     let changed = replaced(&rt, alloc, ONE_FILE, "hi", "ho");
     let one = [HEAD, IDENTITY, changed.as_str()];
     let all = [HEAD, IDENTITY, ZERO, changed.as_str()];
-    let steps = [done(&DUMP_ONE, &[], &one), done(&DUMP, &[], &all)];
-    assert_eq!(rt; first_wrong(&rt, alloc, &mut disk, &steps), None);
+    let steps = [
+        Step(&DUMP_ONE, &[], &one, DONE),
+        Step(&DUMP, &[], &all, DONE),
+    ];
+    none_wrong(&rt, "steps", first_wrong(&rt, alloc, &mut disk, &steps));
 }
 
 // The file's repository with another byte in its text.
@@ -553,21 +565,28 @@ fn damaged(rt: &impl Abort, alloc: Global) -> MemDisk {
     MemDisk::with_bytes(alloc, journal.as_slice(), b"", slots).expect(rt, "memory")
 }
 
+const DAMAGED: &str = "svnfleet: 33 entry 1 is damaged\n";
+
+const OVER_DAMAGE: [Step<'static>; 2] = [
+    Step(&DUMP, &[], &[], DAMAGED),
+    Step(&LOAD, &[HEAD, NO_FILE], &[], DAMAGED),
+];
+
 #[test]
 fn damaged_entry_is_told(rt: HostRuntime) {
-    let mut disk = damaged(&rt, rt.alloc());
-    let line = "svnfleet: 33 entry 1 is damaged\n";
-    let steps = [
-        refused(&DUMP, &[], line),
-        refused(&LOAD, &[HEAD, NO_FILE], line),
-    ];
-    assert_eq!(rt; first_wrong(&rt, rt.alloc(), &mut disk, &steps), None);
+    let alloc = rt.alloc();
+    let mut disk = damaged(&rt, alloc);
+    none_wrong(
+        &rt,
+        "steps",
+        first_wrong(&rt, alloc, &mut disk, &OVER_DAMAGE),
+    );
 }
 
 // How many calls the opening of a disk makes: a dump makes no others.
 fn opening_calls(rt: &impl Abort, alloc: Global, disk: &MemDisk) -> u64 {
     let mut copy = crashed(rt, disk, Pick::New);
-    let step = done(&DUMP_ONE, &[], &[HEAD, IDENTITY, ONE_FILE]);
+    let step = Step(&DUMP_ONE, &[], &[HEAD, IDENTITY, ONE_FILE], DONE);
     assert!(rt; comes(rt, alloc, &mut copy, &step));
     copy.calls().len() as u64
 }
@@ -583,9 +602,9 @@ fn fused(rt: &impl Abort, alloc: Global, calls: u64) -> FuseDisk<MemDisk> {
 fn stopped(rt: &impl Abort, alloc: Global, calls: u64, pick: Pick) -> MemDisk {
     let mut fused = fused(rt, alloc, calls);
     let step = if calls < 5 {
-        refused(&LOAD, &[HEAD, NO_FILE], "svnfleet: 31 device failed\n")
+        Step(&LOAD, &[HEAD, NO_FILE], &[], "svnfleet: 31 device failed\n")
     } else {
-        done(&LOAD, &[HEAD, NO_FILE], &[LOADED_TWO])
+        Step(&LOAD, &[HEAD, NO_FILE], &[LOADED_TWO], DONE)
     };
     assert!(rt; comes(rt, alloc, &mut fused, &step));
     crashed(rt, &fused.into_inner(), pick)
@@ -595,11 +614,11 @@ fn stopped(rt: &impl Abort, alloc: Global, calls: u64, pick: Pick) -> MemDisk {
 fn opens_at(rt: &impl Abort, alloc: Global, disk: &mut MemDisk, second: bool) -> bool {
     if second {
         let all = [HEAD, IDENTITY, ZERO, ONE_FILE, NO_FILE];
-        return comes(rt, alloc, disk, &done(&DUMP, &[], &all));
+        return comes(rt, alloc, disk, &Step(&DUMP, &[], &all, DONE));
     }
     let all = [HEAD, IDENTITY, ZERO, ONE_FILE];
-    let next = done(&LOAD, &[HEAD, NO_FILE], &[LOADED_TWO]);
-    comes(rt, alloc, disk, &done(&DUMP, &[], &all)) && comes(rt, alloc, disk, &next)
+    let next = Step(&LOAD, &[HEAD, NO_FILE], &[LOADED_TWO], DONE);
+    comes(rt, alloc, disk, &Step(&DUMP, &[], &all, DONE)) && comes(rt, alloc, disk, &next)
 }
 
 const PICKS: [Pick; 4] = [Pick::Old, Pick::New, Pick::Fill(1), Pick::Fill(0x37)];
@@ -614,18 +633,22 @@ const STANDING: [[bool; 4]; 6] = [
     [true, true, true, true],
 ];
 
-#[test]
-fn load_is_stopped_after_each_call(rt: HostRuntime) {
-    let alloc = rt.alloc();
+// The first number of calls after which another revision stands.
+fn first_fallen(rt: &impl Abort, alloc: Global) -> Option<u64> {
     for (calls, row) in STANDING.iter().enumerate() {
         for (pick, second) in PICKS.iter().zip(row.iter()) {
-            let mut left = stopped(&rt, alloc, calls as u64, *pick);
-            assert!(rt;
-                opens_at(&rt, alloc, &mut left, *second),
-                "after {calls} calls"
-            );
+            let mut left = stopped(rt, alloc, calls as u64, *pick);
+            if !opens_at(rt, alloc, &mut left, *second) {
+                return Some(calls as u64);
+            }
         }
     }
+    None
+}
+
+#[test]
+fn load_is_stopped_after_each_call(rt: HostRuntime) {
+    none_wrong(&rt, "calls", first_fallen(&rt, rt.alloc()));
 }
 
 #[test]
@@ -640,12 +663,8 @@ fn failed_device_ends_a_load(rt: HostRuntime) {
         "Revision-number: 1",
         "Revision-number: 3",
     );
-    let step = Step {
-        words: &LOAD,
-        input: &[HEAD, NO_FILE, again.as_str()],
-        output: &[LOADED_TWO],
-        errors: "svnfleet: 31 device failed\n",
-    };
+    let input = [HEAD, NO_FILE, again.as_str()];
+    let step = Step(&LOAD, &input, &[LOADED_TWO], "svnfleet: 31 device failed\n");
     assert!(rt; comes(&rt, alloc, &mut fused, &step));
     let mut left = crashed(&rt, &fused.into_inner(), Pick::Old);
     assert!(rt; opens_at(&rt, alloc, &mut left, true));

@@ -35,19 +35,21 @@ fn tells<H: HeldFiles, I: Input>(
 
 #[test]
 fn failed_reader_is_told(rt: HostRuntime) {
-    let whole = joined(&rt, rt.alloc(), &[HEAD, ZERO, ONE_FILE]);
-    let written = joined(&rt, rt.alloc(), &[HEAD, ZERO]);
+    let alloc = rt.alloc();
+    let whole = joined(&rt, alloc, &[HEAD, ZERO, ONE_FILE]);
+    let written = joined(&rt, alloc, &[HEAD, ZERO]);
     let mut broken = FuseInput::new(CountedReader::new(whole.as_slice()), 1);
-    let (told, output) = tells(rt.alloc(), &rt, &mut broken, WRITES);
+    let (told, output) = tells(alloc, &rt, &mut broken, WRITES);
     assert!(rt; told && broken.reads() == 2);
     assert!(rt; output.bytes() == written.as_slice() && output.handed_on() == written.len());
 }
 
 #[test]
 fn failed_writer_is_told(rt: HostRuntime) {
-    let whole = joined(&rt, rt.alloc(), &[HEAD, ZERO, ONE_FILE]);
+    let alloc = rt.alloc();
+    let whole = joined(&rt, alloc, &[HEAD, ZERO, ONE_FILE]);
     let mut input = FuseInput::new(CountedReader::new(whole.as_slice()), 9);
-    let (told, output) = tells(rt.alloc(), &rt, &mut input, 0);
+    let (told, output) = tells(alloc, &rt, &mut input, 0);
     assert!(rt; told && output.count_failures() == 1 && input.reads() == 1);
 }
 
@@ -89,15 +91,10 @@ fn copies(alloc: Global, bytes: &[u8]) -> bool {
 
 #[test]
 fn commands_answer_without_a_status(rt: HostRuntime) {
-    let whole = joined(&rt, rt.alloc(), &[HEAD, ZERO, ONE_FILE]);
-    assert!(rt;
-        lists(
-            rt.alloc(),
-            whole.as_slice(),
-            b"revision 1\nD 1 /\nF 1 6 a\n"
-        )
-    );
-    assert!(rt; copies(rt.alloc(), whole.as_slice()));
+    let alloc = rt.alloc();
+    let whole = joined(&rt, alloc, &[HEAD, ZERO, ONE_FILE]);
+    assert!(rt; lists(alloc, whole.as_slice(), b"revision 1\nD 1 /\nF 1 6 a\n"));
+    assert!(rt; copies(alloc, whole.as_slice()));
 }
 
 #[test]

@@ -1,8 +1,8 @@
 //! Repositories of the first version, whose entries have no sums, and what `upgrade` makes of them.
 
 use crate::store_tests::{
-    DUMP, HEAD, IDENTITY, LOAD, LOADED_TWO, NO_FILE, ONE_FILE, ZERO, comes, done, first_wrong,
-    holds, joined, refused, replaced,
+    DONE, DUMP, HEAD, IDENTITY, LOAD, LOADED_TWO, NO_FILE, ONE_FILE, Step, ZERO, comes,
+    first_wrong, holds, joined, none_wrong, replaced,
 };
 use fleet_disk::{DiskFile, Fuse, FuseDisk, MemDisk};
 use std::alloc::Global;
@@ -38,39 +38,42 @@ fn dumps(rt: &impl Abort, alloc: Global, disk: &mut MemDisk, revision: &str) -> 
         rt,
         alloc,
         disk,
-        &done(&DUMP, &[], &[HEAD, IDENTITY, ZERO, revision]),
+        &Step(&DUMP, &[], &[HEAD, IDENTITY, ZERO, revision], DONE),
     )
 }
+
+const WHOLE: [&str; 4] = [HEAD, IDENTITY, ZERO, ONE_FILE];
+
+const UPGRADING: [Step<'static>; 5] = [
+    Step(&DUMP, &[], &WHOLE, DONE),
+    Step(&UPGRADE, &[], &["Upgraded 2 entries.\n"], DONE),
+    Step(&DUMP, &[], &WHOLE, DONE),
+    Step(&UPGRADE, &[], &["Upgraded 0 entries.\n"], DONE),
+    Step(&DUMP, &[], &WHOLE, DONE),
+];
 
 #[test]
 fn an_upgrade_gives_sums(rt: HostRuntime) {
     let alloc = rt.alloc();
     let mut disk = with_gates(&rt, alloc, ONE_FILE, TWO_GATES, b"");
-    let whole = [HEAD, IDENTITY, ZERO, ONE_FILE];
-    let steps = [
-        done(&DUMP, &[], &whole),
-        done(&UPGRADE, &[], &["Upgraded 2 entries.\n"]),
-        done(&DUMP, &[], &whole),
-        done(&UPGRADE, &[], &["Upgraded 0 entries.\n"]),
-        done(&DUMP, &[], &whole),
-    ];
-    assert_eq!(rt; first_wrong(&rt, alloc, &mut disk, &steps), None);
-    assert!(rt; holds(&disk, &whole, TWO_SLOTS));
+    none_wrong(&rt, "steps", first_wrong(&rt, alloc, &mut disk, &UPGRADING));
+    assert!(rt; holds(&disk, &WHOLE, TWO_SLOTS));
 }
+
+const STAYING: [Step<'static>; 2] = [
+    Step(&LOAD, &[HEAD, NO_FILE], &[LOADED_TWO], DONE),
+    Step(&DUMP, &[], &[HEAD, IDENTITY, ZERO, ONE_FILE, NO_FILE], DONE),
+];
 
 #[test]
 fn the_first_version_stays_in_use(rt: HostRuntime) {
     let alloc = rt.alloc();
     let mut disk = with_gates(&rt, alloc, ONE_FILE, TWO_GATES, b"");
-    let steps = [
-        done(&LOAD, &[HEAD, NO_FILE], &[LOADED_TWO]),
-        done(&DUMP, &[], &[HEAD, IDENTITY, ZERO, ONE_FILE, NO_FILE]),
-    ];
-    assert_eq!(rt; first_wrong(&rt, alloc, &mut disk, &steps), None);
+    none_wrong(&rt, "steps", first_wrong(&rt, alloc, &mut disk, &STAYING));
     assert!(rt; disk.bytes(DiskFile::Gate) == THREE_GATES);
     assert!(rt; disk.bytes(DiskFile::Slots).is_empty());
-    let steps = [done(&UPGRADE, &[], &["Upgraded 3 entries.\n"])];
-    assert_eq!(rt; first_wrong(&rt, alloc, &mut disk, &steps), None);
+    let steps = [Step(&UPGRADE, &[], &["Upgraded 3 entries.\n"], DONE)];
+    none_wrong(&rt, "steps", first_wrong(&rt, alloc, &mut disk, &steps));
 }
 
 #[test]
@@ -81,23 +84,24 @@ fn a_changed_byte_is_found_by_its_sum(rt: HostRuntime) {
     assert!(rt; dumps(&rt, alloc, &mut first, other.as_str()));
     let mut second = with_gates(&rt, alloc, other.as_str(), b"", TWO_SLOTS);
     let line = "svnfleet: 33 entry 1 is damaged\n";
-    let steps = [refused(&DUMP, &[], line), refused(&UPGRADE, &[], line)];
-    assert_eq!(rt; first_wrong(&rt, alloc, &mut second, &steps), None);
+    let steps = [Step(&DUMP, &[], &[], line), Step(&UPGRADE, &[], &[], line)];
+    none_wrong(&rt, "steps", first_wrong(&rt, alloc, &mut second, &steps));
 }
+
+const NOTHING: [Step<'static>; 1] = [Step(&UPGRADE, &[], &[], "svnfleet: 34 no repository\n")];
 
 #[test]
 fn nothing_to_upgrade(rt: HostRuntime) {
     let alloc = rt.alloc();
     let mut disk = MemDisk::new(alloc);
-    let steps = [refused(&UPGRADE, &[], "svnfleet: 34 no repository\n")];
-    assert_eq!(rt; first_wrong(&rt, alloc, &mut disk, &steps), None);
+    none_wrong(&rt, "steps", first_wrong(&rt, alloc, &mut disk, &NOTHING));
     assert!(rt; holds(&disk, &[], b""));
 }
 
 // How many calls an upgrade of the two entries makes, its opening counted in.
 fn upgrading_calls(rt: &impl Abort, alloc: Global) -> u64 {
     let mut disk = with_gates(rt, alloc, ONE_FILE, TWO_GATES, b"");
-    let step = done(&UPGRADE, &[], &["Upgraded 2 entries.\n"]);
+    let step = Step(&UPGRADE, &[], &["Upgraded 2 entries.\n"], DONE);
     assert!(rt; comes(rt, alloc, &mut disk, &step));
     disk.calls().len() as u64
 }
@@ -107,7 +111,7 @@ fn is_made_again(rt: &impl Abort, alloc: Global, call: u64) -> bool {
     let disk = with_gates(rt, alloc, ONE_FILE, TWO_GATES, b"");
     let mut fused = FuseDisk::new(disk, call, Fuse::Once);
     let whole = [HEAD, IDENTITY, ZERO, ONE_FILE];
-    let failed = refused(&UPGRADE, &[], "svnfleet: 31 device failed\n");
+    let failed = Step(&UPGRADE, &[], &[], "svnfleet: 31 device failed\n");
     if !comes(rt, alloc, &mut fused, &failed) {
         return false;
     }
@@ -118,15 +122,22 @@ fn is_made_again(rt: &impl Abort, alloc: Global, call: u64) -> bool {
     } else {
         "Upgraded 2 entries.\n"
     };
-    comes(rt, alloc, &mut left, &done(&DUMP, &[], &whole))
-        && comes(rt, alloc, &mut left, &done(&UPGRADE, &[], &[line]))
+    comes(rt, alloc, &mut left, &Step(&DUMP, &[], &whole, DONE))
+        && comes(rt, alloc, &mut left, &Step(&UPGRADE, &[], &[line], DONE))
         && holds(&left, &whole, TWO_SLOTS)
+}
+
+// The first call of an upgrade for which that isn't so.
+fn first_lost(rt: &impl Abort, alloc: Global) -> Option<u64> {
+    for call in 0..upgrading_calls(rt, alloc) {
+        if !is_made_again(rt, alloc, call) {
+            return Some(call);
+        }
+    }
+    None
 }
 
 #[test]
 fn an_upgrade_whose_device_fails(rt: HostRuntime) {
-    let alloc = rt.alloc();
-    for call in 0..upgrading_calls(&rt, alloc) {
-        assert!(rt; is_made_again(&rt, alloc, call), "call {call}");
-    }
+    none_wrong(&rt, "call", first_lost(&rt, rt.alloc()));
 }

@@ -1,7 +1,7 @@
 //! An edit that came over the wire, built again over the trees of a repository in memory, and committed to it.
 
 use crate::store_tests::{
-    HEAD, IDENTITY, LOAD, LOADED, ONE_FILE, begun, comes, done, with_one_file,
+    DONE, HEAD, IDENTITY, LOAD, LOADED, ONE_FILE, Step, begun, comes, with_one_file,
 };
 use byte_streams::CountedReader;
 use dump_load::ChangeSet;
@@ -70,10 +70,10 @@ fn with_edit(rt: &impl Abort, alloc: Global, disk: MemDisk, edit: &str) -> MemDi
 fn a_copied_directory_is_built_again(rt: HostRuntime) {
     let alloc = rt.alloc();
     let mut first = begun(&rt, alloc);
-    let step = done(&LOAD, &[HEAD, TWO_FILES], &[LOADED]);
+    let step = Step(&LOAD, &[HEAD, TWO_FILES], &[LOADED], DONE);
     assert!(rt; comes(&rt, alloc, &mut first, &step));
     let mut disk = with_edit(&rt, alloc, first, COPIED);
-    let step = done(&DUMP_TWO, &[], &[HEAD, IDENTITY, COPY]);
+    let step = Step(&DUMP_TWO, &[], &[HEAD, IDENTITY, COPY], DONE);
     assert!(rt; COPY.len() == 203 && comes(&rt, alloc, &mut disk, &step));
     let history = [HEAD, TWO_FILES, COPY];
     assert!(rt;
@@ -81,7 +81,7 @@ fn a_copied_directory_is_built_again(rt: HostRuntime) {
             &rt,
             alloc,
             &mut disk,
-            &done(&LIST, &history, &[COPY_LISTED])
+            &Step(&LIST, &history, &[COPY_LISTED], DONE)
         )
     );
 }
@@ -91,14 +91,14 @@ fn an_edit_without_a_change_changes_the_root(rt: HostRuntime) {
     let alloc = rt.alloc();
     let mut disk = with_edit(&rt, alloc, with_one_file(&rt, alloc), NOTHING);
     let dumped = [HEAD, IDENTITY, BARE_ROOT];
-    assert!(rt; comes(&rt, alloc, &mut disk, &done(&DUMP_TWO, &[], &dumped)));
+    assert!(rt; comes(&rt, alloc, &mut disk, &Step(&DUMP_TWO, &[], &dumped, DONE)));
     let history = [HEAD, ONE_FILE, BARE_ROOT];
     assert!(rt;
         comes(
             &rt,
             alloc,
             &mut disk,
-            &done(&LIST, &history, &[BARE_LISTED])
+            &Step(&LIST, &history, &[BARE_LISTED], DONE)
         )
     );
 }
