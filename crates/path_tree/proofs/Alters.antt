@@ -2,7 +2,6 @@
 use Rattle.std.proofs.Common.{◌≡◌, ℕ, Bool, true, false, cond, [], ◌∷◌, ◌++◌, Option, Some, None, is_some, refl, sym, ap, ◌∙◌, append-nil}
 use Rattle.std.specs.Prelude.{IsSome, IfSome, IsSomeAnd, IsNone}
 use Rattle.std.specs.Option.{option_and_then, option_map_or, option_map}
-use Rattle.std.specs.Arc.{arc_value}
 use Rattle.std.specs.Cmp.{eq_by_cmp_equiv}
 use Rattle.std.specs.FinMap.{find, get}
 use Rattle.node_base.specs.Path.{Name, Path, name_cmp, names_total, rest_after, is_front, same_name}
@@ -53,7 +52,7 @@ pub numbered_here : (number : Option ℕ) (e : Edit) (f : Path → Option Node) 
 numbered_here number (Parts text props) f q = edit_numbered number (with_given text props) (λ x. refl) f q
 numbered_here number (Prop name value) f q = edit_numbered number (with_prop name value) (λ x. refl) f q
 numbered_here number (Piece piece) f q = edit_numbered number (with_piece piece.items) (λ x. refl) f q
-numbered_here number (Graft c) f q = graft_numbered number (arc_value c).0 (get (arc_value c).1) f q
+numbered_here number (Graft c) f q = graft_numbered number c.0 (get c.1) f q
 numbered_here number (Prune x) f q = graft_numbered number x (λ _. None) f q
 
 -- a number at the top of what is joined

@@ -6,6 +6,7 @@ pub mod Faults
 pub mod Fronts
 pub mod Lengths
 pub mod Entries
+pub mod Heads
 pub mod Kept
 pub mod Marks
 pub mod Place

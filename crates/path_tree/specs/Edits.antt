@@ -1,6 +1,5 @@
 -- Edits of a node and what is below it, by the map.
 use Rattle.std.specs.Prelude.{◌≡◌, ℕ, List, [], ◌∷◌, ◌++◌, Option, Some, None, unwrap_or}
-use Rattle.std.specs.Arc.{arc_value}
 use Rattle.std.specs.FinMap as map
 use Rattle.std.specs.FinMap.Entries.{put}
 use Rattle.node_base.specs.Path.{Name, Path, name_cmp, is_front}
@@ -15,7 +14,7 @@ abbrev pub edit_here : Edit → (Path → Option Node) → Path → Option Node
 edit_here (Parts text props) f = changed_at f [] (with_given text props)
 edit_here (Prop name value) f = changed_at f [] (with_prop name value)
 edit_here (Piece piece) f = changed_at f [] (with_piece piece.items)
-edit_here (Graft c) f = grafted f ((arc_value c).0 ∷ []) (map.get (arc_value c).1)
+edit_here (Graft c) f = grafted f (c.0 ∷ []) (map.get c.1)
 edit_here (Prune x) f = grafted f (x ∷ []) (λ _. None)
 
 -- the same at a path

@@ -1,6 +1,7 @@
 pub mod Calls
 pub mod Copies
 pub mod Edits
+pub mod Heads
 pub mod Joined
 pub mod JoinedLemmas
 pub mod Listed

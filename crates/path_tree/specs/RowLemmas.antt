@@ -5,12 +5,13 @@ use Rattle.std.specs.FinMap.{entries, len, len-entries}
 use Rattle.node_base.specs.Path.{Name}
 use Rattle.node_base.specs.declared.node.Node.{Node}
 use Rattle.node_base.specs.Tree.{PathMap}
-use Rattle.path_tree.specs.declared.branch.Branch.TheDeep.{deep-Branch, deep-Twig}
+use Rattle.path_tree.specs.declared.branch.Branch.TheDeep.{deep-Branch, deep-Child, deep-Twig}
 use Rattle.path_tree.specs.declared.branch.Branch.TheInside.{Inside as BranchInside}
+use Rattle.path_tree.specs.declared.child.Child.TheInside.{Inside as ChildInside}
 use Rattle.path_tree.specs.declared.row.Twig.TheInside.{Inside as TwigInside}
 use Rattle.path_tree.specs.Joined.{AreChildren, behind, below, joined}
 use Rattle.path_tree.specs.JoinedLemmas.{entries-joined, length-behind}
-use Rattle.path_tree.specs.Rows.{Children, in_row, IsTwig, row_size, branch_size}
+use Rattle.path_tree.specs.Rows.{Children, in_row, IsTwig, row_size, branch_size, entry_size}
 
 pub below-append : (l r : Children) → below (l ++ r) ≡ below l ++ below r
 below-append [] r = refl
@@ -25,10 +26,14 @@ length-below l c r =
 pub len-joined : (n : Node) (cs : Children) → AreChildren cs → len (joined n cs) ≡ length (below cs) + 1
 len-joined n cs h = omega (arith, len-entries (joined n cs), ap length (entries-joined n cs h))
 
--- a child's branch and the rows beside it
-pub twig_falls : (a : TwigInside) → IsTwig (in_row a.before) (arc_value a.child) (in_row a.behind) a.reach → deep-Twig a ≤ row_size (in_row a.before ++ arc_value a.child ∷ in_row a.behind)
+-- a child's branch
+pub child_falls : (a : ChildInside) → deep-Child a ≤ entry_size ((arc_value a.entry).name, (arc_value a.entry).branch)
+child_falls a = omega arith
+
+-- a child and the rows beside it
+pub twig_falls : (a : TwigInside) → IsTwig (in_row a.before) a.child (in_row a.behind) a.reach → deep-Twig a ≤ row_size (in_row a.before ++ a.child ∷ in_row a.behind)
 twig_falls a h =
-    let c = arc_value a.child in
+    let c = a.child in
     elim a.before as (λ o. deep-Twig (record { child = a.child; before = o; behind = a.behind; height = a.height; reach = a.reach }) ≤ row_size (in_row o ++ c ∷ in_row a.behind)) [
       | None ↦ elim a.behind as (λ p. deep-Twig (record { child = a.child; before = None; behind = p; height = a.height; reach = a.reach }) ≤ row_size (c ∷ in_row p)) [
         | None ↦ omega (arith, length-below [] c [], h.rooted)

@@ -31,9 +31,12 @@ pub record IsTwig (before : Children) (child : Name × PathMap) (behind : Childr
   pub rooted : 1 ≤ len child.1
   pub reach : r ≡ reach_of (before ++ child ∷ behind)
 
--- more than each branch of a row, and less than the branch that has it
+-- more than a child's branch, more than each child of a row, and less than the branch that has the row
+abbrev pub entry_size : Name × PathMap → ℕ
+entry_size c = 3 * len c.1 + 1
+
 abbrev pub row_size : Children → ℕ
-row_size cs = 2 * length (below cs) + 1
+row_size cs = 3 * length (below cs) + 2
 
 abbrev pub branch_size : PathMap → ℕ
-branch_size m = 2 * len m
+branch_size m = 3 * len m

@@ -115,15 +115,13 @@ impl Branch {
                 if self.node.text.is_some() {
                     return Some(TreeFault::NotDir);
                 }
+                // (what stands at the path itself is no matter)
+                if rest.is_empty() {
+                    return None;
+                }
                 match child_of(&self.children, first) {
                     Some(child) => child.blocked(rest),
-                    None => {
-                        if rest.is_empty() {
-                            None
-                        } else {
-                            Some(TreeFault::NoSuchPath)
-                        }
-                    }
+                    None => Some(TreeFault::NoSuchPath),
                 }
             }
         }

@@ -1,10 +1,9 @@
 //! Edits of a node and what is below it.
 ghost use Rattle.std.specs.Prelude.{◌≡◌, IfOk};
 
-use crate::branch::Branch;
+use crate::child::Child;
 use node_base::{NodeName, PropName, PropValue, Props, Text};
 use std::alloc::{AllocError, Global};
-use std::sync::Arc;
 
 // What is done at one node.
 #[derive(Drop)]
@@ -16,7 +15,7 @@ pub enum Edit {
     /// Puts bytes behind a file's text.
     Piece(Vec<u8>),
     /// Puts a child in the place of the one of its name.
-    Graft(Arc<(NodeName, Branch)>),
+    Graft(Child),
     /// Removes the child of that name.
     Prune(NodeName),
 }

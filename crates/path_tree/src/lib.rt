@@ -8,8 +8,10 @@ pub use visit::Visitor;
 
 mod branch;
 mod calls;
+mod child;
 mod edit;
 mod error;
+mod head;
 pub mod limits;
 mod listing;
 mod node_calls;

@@ -16,8 +16,8 @@ ghost use Rattle.path_tree.specs.Visited.{texts};
 
 use crate::Entry;
 use crate::branch::Branch;
+use crate::child::{Child, Sought};
 use crate::edit::Edit;
-use crate::order::compare;
 use crate::reach::Reach;
 use crate::visit::Visitor;
 use node_base::{NodeName, RevNo};
@@ -33,7 +33,7 @@ pub type Row = Option<Arc<Twig>>;
 #[cycle(tree)]
 #[derive(Drop)]
 pub struct Twig {
-    child: Arc<(NodeName, Branch)>,
+    child: Child,
     before: Option<Arc<Twig>>,
     behind: Option<Arc<Twig>>,
     // The most twigs that stand above one another, this one on top.
@@ -53,9 +53,9 @@ impl Model for Twig {
 
     ghost use Rattle.path_tree.specs.Rows.{in_row, IsTwig, row_size};
 
-    ghost view = { λ a. in_row a.before ++ arc_value a.child ∷ in_row a.behind };
+    ghost view = { λ a. in_row a.before ++ a.child ∷ in_row a.behind };
 
-    ghost invariant = { λ a. IsTwig (in_row a.before) (arc_value a.child) (in_row a.behind) a.reach };
+    ghost invariant = { λ a. IsTwig (in_row a.before) a.child (in_row a.behind) a.reach };
 
     ghost size = { row_size };
 
@@ -104,13 +104,22 @@ pub fn child_of<'a>(row: &'a Row, name: &NodeName) -> Option<&'a Branch>
     ensures { MatchOption result (map.find name_cmp name.now (in_row row.now) ≡ None)
         (λ b. map.find name_cmp name.now (in_row row.now) ≡ Some b.now) }
 {
+    seek(row, &Sought::of(name))
+}
+
+// The same where the name's head is known.
+fn seek<'a>(row: &'a Row, name: &Sought<'_>) -> Option<&'a Branch>
+    requires { AreChildren (in_row row.now) }
+    ensures { MatchOption result (map.find name_cmp name.now (in_row row.now) ≡ None)
+        (λ b. map.find name_cmp name.now (in_row row.now) ≡ Some b.now) }
+{
     match row {
         Some(top) => {
             let twig: &Twig = top;
-            match compare(name, &twig.child.0) {
-                Ordering::Less => child_of(&twig.before, name),
-                Ordering::Equal => Some(&twig.child.1),
-                Ordering::Greater => child_of(&twig.behind, name),
+            match name.compare(&twig.child) {
+                Ordering::Less => seek(&twig.before, name),
+                Ordering::Equal => Some(twig.child.branch()),
+                Ordering::Greater => seek(&twig.behind, name),
             }
         }
         None => None,
@@ -118,13 +127,8 @@ pub fn child_of<'a>(row: &'a Row, name: &NodeName) -> Option<&'a Branch>
 }
 
 // A child between two rows, as they stand.
-fn joint(
-    alloc: Global,
-    before: Row,
-    child: Arc<(NodeName, Branch)>,
-    behind: Row,
-) -> Result<Row, AllocError>
-    ensures { IfOk result (λ r. in_row r ≡ in_row before ++ arc_value child ∷ in_row behind) }
+fn joint(alloc: Global, before: Row, child: Child, behind: Row) -> Result<Row, AllocError>
+    ensures { IfOk result (λ r. in_row r ≡ in_row before ++ child ∷ in_row behind) }
 {
     let height = height_over(&before, &behind);
     let reach = reach_over(&before, &child, &behind);
@@ -140,22 +144,17 @@ fn joint(
 
 // The same, with the top of those before the child above it, or the top of the row between the two, where that one
 // is the higher.
-fn lifted_before(
-    alloc: Global,
-    top: &Twig,
-    child: Arc<(NodeName, Branch)>,
-    behind: Row,
-) -> Result<Row, AllocError>
-    ensures { IfOk result (λ r. in_row r ≡ top.now ++ arc_value child ∷ in_row behind) }
+fn lifted_before(alloc: Global, top: &Twig, child: Child, behind: Row) -> Result<Row, AllocError>
+    ensures { IfOk result (λ r. in_row r ≡ top.now ++ child ∷ in_row behind) }
 {
     let outer = shared(&top.before)?;
-    let here = Arc::try_clone(&top.child)?;
+    let here = top.child.share()?;
     if height(&top.before) < height(&top.behind) {
         if let Some(between) = &top.behind {
             let inner: &Twig = between;
             let left = joint(alloc, outer, here, shared(&inner.before)?)?;
             let right = joint(alloc, shared(&inner.behind)?, child, behind)?;
-            return joint(alloc, left, Arc::try_clone(&inner.child)?, right);
+            return joint(alloc, left, inner.child.share()?, right);
         }
     }
     let lower = joint(alloc, shared(&top.behind)?, child, behind)?;
@@ -163,22 +162,17 @@ fn lifted_before(
 }
 
 // The same from the other side.
-fn lifted_behind(
-    alloc: Global,
-    before: Row,
-    child: Arc<(NodeName, Branch)>,
-    top: &Twig,
-) -> Result<Row, AllocError>
-    ensures { IfOk result (λ r. in_row r ≡ in_row before ++ arc_value child ∷ top.now) }
+fn lifted_behind(alloc: Global, before: Row, child: Child, top: &Twig) -> Result<Row, AllocError>
+    ensures { IfOk result (λ r. in_row r ≡ in_row before ++ child ∷ top.now) }
 {
     let outer = shared(&top.behind)?;
-    let here = Arc::try_clone(&top.child)?;
+    let here = top.child.share()?;
     if height(&top.behind) < height(&top.before) {
         if let Some(between) = &top.before {
             let inner: &Twig = between;
             let left = joint(alloc, before, child, shared(&inner.before)?)?;
             let right = joint(alloc, shared(&inner.behind)?, here, outer)?;
-            return joint(alloc, left, Arc::try_clone(&inner.child)?, right);
+            return joint(alloc, left, inner.child.share()?, right);
         }
     }
     let lower = joint(alloc, before, child, shared(&top.before)?)?;
@@ -186,13 +180,8 @@ fn lifted_behind(
 }
 
 // A child between two rows, in balance where each was and one child came or went since.
-fn balanced(
-    alloc: Global,
-    before: Row,
-    child: Arc<(NodeName, Branch)>,
-    behind: Row,
-) -> Result<Row, AllocError>
-    ensures { IfOk result (λ r. in_row r ≡ in_row before ++ arc_value child ∷ in_row behind) }
+fn balanced(alloc: Global, before: Row, child: Child, behind: Row) -> Result<Row, AllocError>
+    ensures { IfOk result (λ r. in_row r ≡ in_row before ++ child ∷ in_row behind) }
 {
     if height(&before) > height(&behind).saturating_add(1) {
         return match before {
@@ -210,32 +199,33 @@ fn balanced(
 }
 
 /// The row with a child in its place, or in the place of the one of its name.
-pub fn with(alloc: Global, row: &Row, child: &Arc<(NodeName, Branch)>) -> Result<Row, AllocError>
+pub fn with(alloc: Global, row: &Row, child: &Child) -> Result<Row, AllocError>
     requires { AreChildren (in_row row.now) }
     ensures { IfOk result (λ r. in_row r
-        ≡ put name_cmp (arc_value child.now).0 (arc_value child.now).1 (in_row row.now)) }
+        ≡ put name_cmp child.now.0 child.now.1 (in_row row.now)) }
 {
     match row {
         Some(top) => {
             let twig: &Twig = top;
-            match compare(&child.0, &twig.child.0) {
+            match child.compare(&twig.child) {
                 Ordering::Less => {
                     let before = with(alloc, &twig.before, child)?;
-                    let here = Arc::try_clone(&twig.child)?;
+                    let here = twig.child.share()?;
                     balanced(alloc, before, here, shared(&twig.behind)?)
                 }
                 Ordering::Equal => {
-                    let here = Arc::try_clone(child)?;
-                    joint(alloc, shared(&twig.before)?, here, shared(&twig.behind)?)
+                    let before = shared(&twig.before)?;
+                    let behind = shared(&twig.behind)?;
+                    joint(alloc, before, child.share()?, behind)
                 }
                 Ordering::Greater => {
                     let behind = with(alloc, &twig.behind, child)?;
-                    let here = Arc::try_clone(&twig.child)?;
+                    let here = twig.child.share()?;
                     balanced(alloc, shared(&twig.before)?, here, behind)
                 }
             }
         }
-        None => joint(alloc, None, Arc::try_clone(child)?, None),
+        None => joint(alloc, None, child.share()?, None),
     }
 }
 
@@ -249,7 +239,7 @@ pub fn with_branch(
     requires { AreChildren (in_row row.now) }
     ensures { IfOk result (λ r. in_row r ≡ put name_cmp name.now branch (in_row row.now)) }
 {
-    let child = Arc::new(alloc, (name.copy(alloc)?, branch))?;
+    let child = Child::new(alloc, name.copy(alloc)?, branch)?;
     with(alloc, row, &child)
 }
 
@@ -259,7 +249,7 @@ fn height_over(before: &Row, behind: &Row) -> u8 {
 }
 
 // How far the paths to a child, and to those before it and behind it, reach.
-fn reach_over(before: &Row, child: &(NodeName, Branch), behind: &Row) -> Reach
+fn reach_over(before: &Row, child: &Child, behind: &Row) -> Reach
     ensures reach { result ≡ reach_of (in_row before.now ++ child.now ∷ in_row behind.now) }
     ensures rooted { 1 ≤ map.len child.now.1 }
 {
@@ -287,7 +277,7 @@ fn turned(alloc: Global, row: &Row) -> Result<Row, AllocError>
         Some(top) => {
             let twig: &Twig = top;
             let before = shared(&twig.before)?;
-            let here = Arc::try_clone(&twig.child)?;
+            let here = twig.child.share()?;
             let behind = shared(&twig.behind)?;
             balanced(alloc, before, here, behind)
         }
@@ -312,21 +302,21 @@ fn turn(alloc: Global, row: &mut Row)
 fn put_beside(
     alloc: Global,
     before: &mut Row,
-    here: &mut Arc<(NodeName, Branch)>,
+    here: &mut Child,
     behind: &mut Row,
-    child: &Arc<(NodeName, Branch)>,
+    child: &Child,
 ) -> Result<(), AllocError>
-    requires { AreChildren (in_row before.old ++ arc_value here.old ∷ in_row behind.old) }
-    ensures ok { OnOk result (in_row before.new ++ arc_value here.new ∷ in_row behind.new
-        ≡ put name_cmp (arc_value child.now).0 (arc_value child.now).1
-        (in_row before.old ++ arc_value here.old ∷ in_row behind.old)) }
-    ensures err { OnErr result ((in_row before.new ≡ in_row before.old) × (arc_value here.new ≡ arc_value here.old)
+    requires { AreChildren (in_row before.old ++ here.old ∷ in_row behind.old) }
+    ensures ok { OnOk result (in_row before.new ++ here.new ∷ in_row behind.new
+        ≡ put name_cmp child.now.0 child.now.1
+        (in_row before.old ++ here.old ∷ in_row behind.old)) }
+    ensures err { OnErr result ((in_row before.new ≡ in_row before.old) × (here.new ≡ here.old)
         × (in_row behind.new ≡ in_row behind.old)) }
 {
-    match compare(&child.0, &here.0) {
+    match child.compare(here) {
         Ordering::Less => put_in(alloc, before, child),
         Ordering::Equal => {
-            *here = Arc::try_clone(child)?;
+            *here = child.share()?;
             Ok(())
         }
         Ordering::Greater => put_in(alloc, behind, child),
@@ -335,14 +325,10 @@ fn put_beside(
 
 // Puts a child in its place where nobody shares the top, and says whether it did.
 #[cycle(puts)]
-fn put_own(
-    alloc: Global,
-    row: &mut Row,
-    child: &Arc<(NodeName, Branch)>,
-) -> Result<bool, AllocError>
+fn put_own(alloc: Global, row: &mut Row, child: &Child) -> Result<bool, AllocError>
     requires { AreChildren (in_row row.old) }
     ensures done { IfOk result (λ done. in_row row.new ≡ (if done
-        then put name_cmp (arc_value child.now).0 (arc_value child.now).1 (in_row row.old) else in_row row.old)) }
+        then put name_cmp child.now.0 child.now.1 (in_row row.old) else in_row row.old)) }
     ensures err { OnErr result (in_row row.new ≡ in_row row.old) }
 {
     let Some(top) = row else {
@@ -357,14 +343,10 @@ fn put_own(
 
 /// Puts a child in its place, or in the place of the one of its name. What nobody shares is changed where it stands.
 #[cycle(puts)]
-pub fn put_in(
-    alloc: Global,
-    row: &mut Row,
-    child: &Arc<(NodeName, Branch)>,
-) -> Result<(), AllocError>
+pub fn put_in(alloc: Global, row: &mut Row, child: &Child) -> Result<(), AllocError>
     requires { AreChildren (in_row row.old) }
     ensures ok { OnOk result (in_row row.new
-        ≡ put name_cmp (arc_value child.now).0 (arc_value child.now).1 (in_row row.old)) }
+        ≡ put name_cmp child.now.0 child.now.1 (in_row row.old)) }
     ensures err { OnErr result (in_row row.new ≡ in_row row.old) }
 {
     if put_own(alloc, row, child)? {
@@ -380,68 +362,26 @@ pub fn put_in(
 fn alter_beside(
     alloc: Global,
     before: &mut Row,
-    here: &mut Arc<(NodeName, Branch)>,
+    here: &mut Child,
     behind: &mut Row,
-    name: &NodeName,
+    name: &Sought<'_>,
     path: &[NodeName],
     edit: &Edit,
     number: Option<RevNo>,
 ) -> Result<(), AllocError>
-    requires children { AreChildren (in_row before.old ++ arc_value here.old ∷ in_row behind.old) }
-    requires rooted { 1 ≤ map.len (arc_value here.old).1 }
-    requires there { IsSome (child_at (in_row before.old ++ arc_value here.old ∷ in_row behind.old) name.now path.now) }
-    ensures ok { OnOk result (ChildAlters (in_row before.old ++ arc_value here.old ∷ in_row behind.old)
-        (in_row before.new ++ arc_value here.new ∷ in_row behind.new) name.now path.now edit.now number) }
-    ensures err { OnErr result ((in_row before.new ≡ in_row before.old) × (arc_value here.new ≡ arc_value here.old)
+    requires children { AreChildren (in_row before.old ++ here.old ∷ in_row behind.old) }
+    requires rooted { 1 ≤ map.len here.old.1 }
+    requires there { IsSome (child_at (in_row before.old ++ here.old ∷ in_row behind.old) name.now path.now) }
+    ensures ok { OnOk result (ChildAlters (in_row before.old ++ here.old ∷ in_row behind.old)
+        (in_row before.new ++ here.new ∷ in_row behind.new) name.now path.now edit.now number) }
+    ensures err { OnErr result ((in_row before.new ≡ in_row before.old) × (here.new ≡ here.old)
         × (in_row behind.new ≡ in_row behind.old)) }
 {
-    match compare(name, &here.0) {
-        Ordering::Less => alter_in(alloc, before, name, path, edit, number),
-        Ordering::Equal => alter_child(alloc, here, path, edit, number),
-        Ordering::Greater => alter_in(alloc, behind, name, path, edit, number),
+    match name.compare(here) {
+        Ordering::Less => alter_sought(alloc, before, name, path, edit, number),
+        Ordering::Equal => here.alter(alloc, path, edit, number),
+        Ordering::Greater => alter_sought(alloc, behind, name, path, edit, number),
     }
-}
-
-// Edits a child at a path below it, and gives the number on the way. One that is shared is copied.
-#[cycle(alters)]
-fn alter_child(
-    alloc: Global,
-    child: &mut Arc<(NodeName, Branch)>,
-    path: &[NodeName],
-    edit: &Edit,
-    number: Option<RevNo>,
-) -> Result<(), AllocError>
-    requires { IsSome (map.get (arc_value child.old).1 path.now) }
-    ensures name { (arc_value child.new).0 ≡ (arc_value child.old).0 }
-    ensures ok { OnOk result ((q : Path) → map.get (arc_value child.new).1 q
-        ≡ edit_at edit.now (marked_by number (map.get (arc_value child.old).1) path.now) path.now q) }
-    ensures err { OnErr result (arc_value child.new ≡ arc_value child.old) }
-{
-    if let Some(own) = Arc::get_mut(child) {
-        return own.1.alter(alloc, path, edit, number);
-    }
-    *child = altered_child(alloc, child, path, edit, number)?;
-    Ok(())
-}
-
-// A child with the edit at a path below it, and with the number on the way.
-#[cycle(alters)]
-fn altered_child(
-    alloc: Global,
-    child: &Arc<(NodeName, Branch)>,
-    path: &[NodeName],
-    edit: &Edit,
-    number: Option<RevNo>,
-) -> Result<Arc<(NodeName, Branch)>, AllocError>
-    requires { IsSome (map.get (arc_value child.now).1 path.now) }
-    ensures name { IfOk result (λ c. (arc_value c).0 ≡ (arc_value child.now).0) }
-    ensures altered { IfOk result (λ c. (q : Path) → map.get (arc_value c).1 q
-        ≡ edit_at edit.now (marked_by number (map.get (arc_value child.now).1) path.now) path.now q) }
-{
-    let name = child.0.copy(alloc)?;
-    let mut branch = child.1.again()?;
-    branch.alter(alloc, path, edit, number)?;
-    Ok(Arc::new(alloc, (name, branch))?)
 }
 
 // The row with the edit of the child of that name at a path below it, and with the number on the way. Its twigs on
@@ -450,7 +390,7 @@ fn altered_child(
 fn altered(
     alloc: Global,
     row: &Row,
-    name: &NodeName,
+    name: &Sought<'_>,
     path: &[NodeName],
     edit: &Edit,
     number: Option<RevNo>,
@@ -461,19 +401,21 @@ fn altered(
 {
     let Some(top) = row else { unreachable!() };
     let twig: &Twig = top;
-    match compare(name, &twig.child.0) {
+    match name.compare(&twig.child) {
         Ordering::Less => {
             let before = altered(alloc, &twig.before, name, path, edit, number)?;
-            let here = Arc::try_clone(&twig.child)?;
+            let here = twig.child.share()?;
             joint(alloc, before, here, shared(&twig.behind)?)
         }
         Ordering::Equal => {
-            let here = altered_child(alloc, &twig.child, path, edit, number)?;
-            joint(alloc, shared(&twig.before)?, here, shared(&twig.behind)?)
+            let before = shared(&twig.before)?;
+            let behind = shared(&twig.behind)?;
+            let here = twig.child.edited(alloc, path, edit, number)?;
+            joint(alloc, before, here, behind)
         }
         Ordering::Greater => {
             let behind = altered(alloc, &twig.behind, name, path, edit, number)?;
-            let here = Arc::try_clone(&twig.child)?;
+            let here = twig.child.share()?;
             joint(alloc, shared(&twig.before)?, here, behind)
         }
     }
@@ -495,6 +437,24 @@ pub fn alter_in(
     ensures ok { OnOk result (ChildAlters (in_row row.old) (in_row row.new) name.now path.now edit.now number) }
     ensures err { OnErr result (in_row row.new ≡ in_row row.old) }
 {
+    alter_sought(alloc, row, &Sought::of(name), path, edit, number)
+}
+
+// The same where the name's head is known.
+#[cycle(alters)]
+fn alter_sought(
+    alloc: Global,
+    row: &mut Row,
+    name: &Sought<'_>,
+    path: &[NodeName],
+    edit: &Edit,
+    number: Option<RevNo>,
+) -> Result<(), AllocError>
+    requires children { AreChildren (in_row row.old) }
+    requires there { IsSome (child_at (in_row row.old) name.now path.now) }
+    ensures ok { OnOk result (ChildAlters (in_row row.old) (in_row row.new) name.now path.now edit.now number) }
+    ensures err { OnErr result (in_row row.new ≡ in_row row.old) }
+{
     let Some(top) = row else { unreachable!() };
     if let Some(twig) = Arc::get_mut(top) {
         return twig.alter_under(alloc, name, path, edit, number);
@@ -506,14 +466,10 @@ pub fn alter_in(
 impl Twig {
     // Puts a child in its place beside its own, or in the place of that.
     #[cycle(puts)]
-    fn put_under(
-        &mut self,
-        alloc: Global,
-        child: &Arc<(NodeName, Branch)>,
-    ) -> Result<(), AllocError>
+    fn put_under(&mut self, alloc: Global, child: &Child) -> Result<(), AllocError>
         requires { AreChildren self.old }
         ensures ok { OnOk result (self.new
-            ≡ put name_cmp (arc_value child.now).0 (arc_value child.now).1 self.old) }
+            ≡ put name_cmp child.now.0 child.now.1 self.old) }
         ensures err { OnErr result (self.new ≡ self.old) }
     {
         put_beside(
@@ -533,7 +489,7 @@ impl Twig {
     fn alter_under(
         &mut self,
         alloc: Global,
-        name: &NodeName,
+        name: &Sought<'_>,
         path: &[NodeName],
         edit: &Edit,
         number: Option<RevNo>,
@@ -560,16 +516,16 @@ impl Twig {
 }
 
 // The first child, and the row of the others.
-fn parted(alloc: Global, twig: &Twig) -> Result<(Arc<(NodeName, Branch)>, Row), AllocError>
-    ensures { IfOk result (λ p. arc_value p.0 ∷ in_row p.1 ≡ twig.now) }
+fn parted(alloc: Global, twig: &Twig) -> Result<(Child, Row), AllocError>
+    ensures { IfOk result (λ p. p.0 ∷ in_row p.1 ≡ twig.now) }
 {
     match &twig.before {
         Some(before) => {
             let (first, others) = parted(alloc, before)?;
-            let here = Arc::try_clone(&twig.child)?;
+            let here = twig.child.share()?;
             Ok((first, balanced(alloc, others, here, shared(&twig.behind)?)?))
         }
-        None => Ok((Arc::try_clone(&twig.child)?, shared(&twig.behind)?)),
+        None => Ok((twig.child.share()?, shared(&twig.behind)?)),
     }
 }
 
@@ -591,19 +547,27 @@ pub fn without(alloc: Global, row: &Row, name: &NodeName) -> Result<Row, AllocEr
     requires { AreChildren (in_row row.now) }
     ensures { IfOk result (λ r. in_row r ≡ where_key name_cmp (differs name.now) (in_row row.now)) }
 {
+    without_sought(alloc, row, &Sought::of(name))
+}
+
+// The same where the name's head is known.
+fn without_sought(alloc: Global, row: &Row, name: &Sought<'_>) -> Result<Row, AllocError>
+    requires { AreChildren (in_row row.now) }
+    ensures { IfOk result (λ r. in_row r ≡ where_key name_cmp (differs name.now) (in_row row.now)) }
+{
     match row {
         Some(top) => {
             let twig: &Twig = top;
-            match compare(name, &twig.child.0) {
+            match name.compare(&twig.child) {
                 Ordering::Less => {
-                    let before = without(alloc, &twig.before, name)?;
-                    let here = Arc::try_clone(&twig.child)?;
+                    let before = without_sought(alloc, &twig.before, name)?;
+                    let here = twig.child.share()?;
                     balanced(alloc, before, here, shared(&twig.behind)?)
                 }
                 Ordering::Equal => both(alloc, &twig.before, &twig.behind),
                 Ordering::Greater => {
-                    let behind = without(alloc, &twig.behind, name)?;
-                    let here = Arc::try_clone(&twig.child)?;
+                    let behind = without_sought(alloc, &twig.behind, name)?;
+                    let here = twig.child.share()?;
                     balanced(alloc, shared(&twig.before)?, here, behind)
                 }
             }
@@ -613,17 +577,17 @@ pub fn without(alloc: Global, row: &Row, name: &NodeName) -> Result<Row, AllocEr
 }
 
 // How far the paths to a child and below it reach. A child has its root at least.
-fn reach_to(child: &(NodeName, Branch)) -> Reach
+fn reach_to(child: &Child) -> Reach
     ensures reach { result ≡ reach_to child.now }
     ensures rooted { 1 ≤ map.len child.now.1 }
 {
-    child.1.reach_behind(&child.0)
+    child.branch().reach_behind(child.name())
 }
 
 // Adds the nodes of a child with their paths, in path order.
 #[cycle(lists)]
 fn list_child<'a>(
-    child: &'a (NodeName, Branch),
+    child: &'a Child,
     alloc: Global,
     above: &mut Vec<&'a NodeName>,
     out: &mut Vec<Entry<'a>>,
@@ -632,8 +596,8 @@ fn list_child<'a>(
         ≡ shown out.old.items ++ under (shown_names above.old.items) (behind child.now.0 (map.entries child.now.1))) }
     ensures above { OnOk result (shown_names above.new.items ≡ shown_names above.old.items) }
 {
-    above.push(&child.0)?;
-    child.1.list_into(alloc, above, out)?;
+    above.push(child.name())?;
+    child.branch().list_into(alloc, above, out)?;
     let _ = above.pop();
     Ok(())
 }
@@ -664,7 +628,7 @@ pub fn list_row<'a>(
 // Shows the nodes of a child with their paths' texts, in path order.
 #[cycle(visits)]
 fn visit_child<V: Visitor>(
-    child: &(NodeName, Branch),
+    child: &Child,
     above: &mut Vec<u8>,
     visitor: &mut V,
 ) -> Result<(), AllocError>
@@ -674,8 +638,8 @@ fn visit_child<V: Visitor>(
 {
     let len = above.as_slice().len();
     above.push(b'/')?;
-    above.extend_from_slice(child.0.as_str().as_bytes())?;
-    child.1.visit_into(above, visitor)?;
+    above.extend_from_slice(child.name().as_str().as_bytes())?;
+    child.branch().visit_into(above, visitor)?;
     above.truncate(len);
     Ok(())
 }

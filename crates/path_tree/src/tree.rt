@@ -18,6 +18,7 @@ ghost use Rattle.path_tree.specs.Visited.{texts};
 
 use crate::Entry;
 use crate::branch::Branch;
+use crate::child::Child;
 use crate::edit::Edit;
 use crate::limits::{node_limits, path_limits, props_limits, text_limits};
 use crate::visit::Visitor;
@@ -256,7 +257,7 @@ impl Tree {
         let Some((name, above)) = path.names().split_last() else {
             unreachable!()
         };
-        let child = Arc::new(alloc, (name.copy(alloc)?, branch))?;
+        let child = Child::new(alloc, name.copy(alloc)?, branch)?;
         self.alter(alloc, above, &Edit::Graft(child), Some(number))
     }
 

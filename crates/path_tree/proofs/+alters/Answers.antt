@@ -1,5 +1,4 @@
 use Rattle.std.proofs.Common.{◌≡◌, ◌∷◌, ◌++◌, IsSome, length, refl, sym, ap, subst, ◌∙◌, arith}
-use Rattle.std.specs.Arc.{arc_value}
 use Rattle.std.specs.FinMap.{len}
 use Rattle.node_base.specs.Path.{name_cmp}
 use Rattle.path_tree.specs.Edits.{ChildAlters}
@@ -11,35 +10,35 @@ use Rattle.path_tree.proofs.InPlace.{there_before, there_here, there_behind, alt
 use Rattle.path_tree.proofs.Rows.{row_rises_before, row_rises_behind}
 use Rattle.path_tree.proofs.+alters.Goals as goal
 
-pub row::alter_beside-alter_in-requires : goal.row::alter_beside-alter_in-requires
-row::alter_beside-alter_in-requires t c =
+pub row::alter_beside-alter_sought-requires : goal.row::alter_beside-alter_sought-requires
+row::alter_beside-alter_sought-requires t c =
     let l = in_row c.args.before.now in
-    let k = arc_value c.args.here.now in
+    let k = c.args.here.now in
     let r = in_row c.args.behind.now in
     let x = c.args.name.now in
-    let e : name_cmp x k.0 ≡ _ = ap (λ z. name_cmp x z.0) (sym c.deref.ensures) ∙ sym c.compare.ensures ∙ c.in-Less.is in (
+    let e : name_cmp x k.0 ≡ _ = sym c.compare.ensures ∙ c.in-Less.is in (
       omega (arith, length-below l k r, c.requires.rooted),
       (row_rises_before _ l k r refl c.requires.children, there_before _ l k r refl c.requires.children x c.args.path.now e c.requires.there),
     )
 
-pub row::alter_beside-alter_child-requires : goal.row::alter_beside-alter_child-requires
-row::alter_beside-alter_child-requires t c =
+pub row::alter_beside-alter-requires : goal.row::alter_beside-alter-requires
+row::alter_beside-alter-requires t c =
     let l = in_row c.args.before.now in
-    let k = arc_value c.args.here.now in
+    let k = c.args.here.now in
     let r = in_row c.args.behind.now in
     let x = c.args.name.now in
-    let e : name_cmp x k.0 ≡ _ = ap (λ z. name_cmp x z.0) (sym c.deref.ensures) ∙ sym c.compare.ensures ∙ c.in-Equal.is in (
+    let e : name_cmp x k.0 ≡ _ = sym c.compare.ensures ∙ c.in-Equal.is in (
       omega (arith, length-below l k r),
       there_here _ l k r refl c.requires.children x c.args.path.now e c.requires.there,
     )
 
-pub row::alter_beside-alter_in-requires-in-Greater : goal.row::alter_beside-alter_in-requires-in-Greater
-row::alter_beside-alter_in-requires-in-Greater t c =
+pub row::alter_beside-alter_sought-requires-in-Greater : goal.row::alter_beside-alter_sought-requires-in-Greater
+row::alter_beside-alter_sought-requires-in-Greater t c =
     let l = in_row c.args.before.now in
-    let k = arc_value c.args.here.now in
+    let k = c.args.here.now in
     let r = in_row c.args.behind.now in
     let x = c.args.name.now in
-    let e : name_cmp x k.0 ≡ _ = ap (λ z. name_cmp x z.0) (sym c.deref.ensures) ∙ sym c.compare.ensures ∙ c.in-Greater.is in (
+    let e : name_cmp x k.0 ≡ _ = sym c.compare.ensures ∙ c.in-Greater.is in (
       omega (arith, length-below l k r, c.requires.rooted),
       (row_rises_behind _ l k r refl c.requires.children, there_behind _ l k r refl c.requires.children x c.args.path.now e c.requires.there),
     )
@@ -47,52 +46,52 @@ row::alter_beside-alter_in-requires-in-Greater t c =
 pub row::alter_beside-returns-in-Less-clause-ok : goal.row::alter_beside-returns-in-Less-clause-ok
 row::alter_beside-returns-in-Less-clause-ok t c =
     let l = in_row c.args.before.now in
-    let k = arc_value c.args.here.now in
+    let k = c.args.here.now in
     let r = in_row c.args.behind.now in
     let x = c.args.name.now in
-    let e : name_cmp x k.0 ≡ _ = ap (λ z. name_cmp x z.0) (sym c.deref.ensures) ∙ sym c.compare.ensures ∙ c.in-Less.is in
-    on_ok c.alter_in.result _ _ (alters_before _ l k r refl c.requires.children x c.args.path.now c.args.edit.now c.args.number e _ k r refl refl) c.alter_in.ensures.ok
+    let e : name_cmp x k.0 ≡ _ = sym c.compare.ensures ∙ c.in-Less.is in
+    on_ok c.alter_sought.result _ _ (alters_before _ l k r refl c.requires.children x c.args.path.now c.args.edit.now c.args.number e _ k r refl refl) c.alter_sought.ensures.ok
 
 pub row::alter_beside-returns-in-Equal-clause-ok : goal.row::alter_beside-returns-in-Equal-clause-ok
 row::alter_beside-returns-in-Equal-clause-ok t c =
     let l = in_row c.args.before.now in
-    let k = arc_value c.args.here.now in
+    let k = c.args.here.now in
     let r = in_row c.args.behind.now in
     let x = c.args.name.now in
-    let e : name_cmp x k.0 ≡ _ = ap (λ z. name_cmp x z.0) (sym c.deref.ensures) ∙ sym c.compare.ensures ∙ c.in-Equal.is in
-    on_ok c.alter_child.result _ _ (alters_here _ l k r refl c.requires.children x c.args.path.now c.args.edit.now c.args.number e l _ r refl refl c.alter_child.ensures.name) c.alter_child.ensures.ok
+    let e : name_cmp x k.0 ≡ _ = sym c.compare.ensures ∙ c.in-Equal.is in
+    on_ok c.alter.result _ _ (alters_here _ l k r refl c.requires.children x c.args.path.now c.args.edit.now c.args.number e l _ r refl refl c.alter.ensures.name) c.alter.ensures.ok
 
 pub row::alter_beside-returns-in-Greater-clause-ok : goal.row::alter_beside-returns-in-Greater-clause-ok
 row::alter_beside-returns-in-Greater-clause-ok t c =
     let l = in_row c.args.before.now in
-    let k = arc_value c.args.here.now in
+    let k = c.args.here.now in
     let r = in_row c.args.behind.now in
     let x = c.args.name.now in
-    let e : name_cmp x k.0 ≡ _ = ap (λ z. name_cmp x z.0) (sym c.deref.ensures) ∙ sym c.compare.ensures ∙ c.in-Greater.is in
-    on_ok c.alter_in-in-Greater.result _ _ (alters_behind _ l k r refl c.requires.children x c.args.path.now c.args.edit.now c.args.number e l k _ refl refl) c.alter_in-in-Greater.ensures.ok
+    let e : name_cmp x k.0 ≡ _ = sym c.compare.ensures ∙ c.in-Greater.is in
+    on_ok c.alter_sought-in-Greater.result _ _ (alters_behind _ l k r refl c.requires.children x c.args.path.now c.args.edit.now c.args.number e l k _ refl refl) c.alter_sought-in-Greater.ensures.ok
 
 pub row::altered-altered-requires : goal.row::altered-altered-requires
 row::altered-altered-requires t c =
     let w = c.twig.inside in
-    let is : in_row w.before ++ arc_value w.child ∷ in_row w.behind ≡ in_row c.args.row.now = c.twig.view_is ∙ c.deref-twig.ensures ∙ ap in_row (sym c.in-Some.is) in
+    let is : in_row w.before ++ w.child ∷ in_row w.behind ≡ in_row c.args.row.now = c.twig.view_is ∙ c.deref-twig.ensures ∙ ap in_row (sym c.in-Some.is) in
     let l = in_row w.before in
-    let k = arc_value w.child in
+    let k = w.child in
     let r = in_row w.behind in
     let x = c.args.name.now in
-    let e : name_cmp x k.0 ≡ _ = ap (λ z. name_cmp x z.0) (sym c.deref.ensures) ∙ sym c.compare.ensures ∙ c.in-Less.is in (
+    let e : name_cmp x k.0 ≡ _ = sym c.compare.ensures ∙ c.in-Less.is in (
       omega (arith, ap (λ cs. length (below cs)) is, length-below l k r, c.twig.invariant.rooted),
       (row_rises_before _ l k r is c.requires.children, there_before _ l k r is c.requires.children x c.args.path.now e c.requires.there),
     )
 
-pub row::altered-altered_child-requires : goal.row::altered-altered_child-requires
-row::altered-altered_child-requires t c =
+pub row::altered-edited-requires : goal.row::altered-edited-requires
+row::altered-edited-requires t c =
     let w = c.twig.inside in
-    let is : in_row w.before ++ arc_value w.child ∷ in_row w.behind ≡ in_row c.args.row.now = c.twig.view_is ∙ c.deref-twig.ensures ∙ ap in_row (sym c.in-Some.is) in
+    let is : in_row w.before ++ w.child ∷ in_row w.behind ≡ in_row c.args.row.now = c.twig.view_is ∙ c.deref-twig.ensures ∙ ap in_row (sym c.in-Some.is) in
     let l = in_row w.before in
-    let k = arc_value w.child in
+    let k = w.child in
     let r = in_row w.behind in
     let x = c.args.name.now in
-    let e : name_cmp x k.0 ≡ _ = ap (λ z. name_cmp x z.0) (sym c.deref.ensures) ∙ sym c.compare.ensures ∙ c.in-Equal.is in (
+    let e : name_cmp x k.0 ≡ _ = sym c.compare.ensures ∙ c.in-Equal.is in (
       omega (arith, ap (λ cs. length (below cs)) is, length-below l k r),
       there_here _ l k r is c.requires.children x c.args.path.now e c.requires.there,
     )
@@ -100,12 +99,12 @@ row::altered-altered_child-requires t c =
 pub row::altered-altered-requires-in-Greater : goal.row::altered-altered-requires-in-Greater
 row::altered-altered-requires-in-Greater t c =
     let w = c.twig.inside in
-    let is : in_row w.before ++ arc_value w.child ∷ in_row w.behind ≡ in_row c.args.row.now = c.twig.view_is ∙ c.deref-twig.ensures ∙ ap in_row (sym c.in-Some.is) in
+    let is : in_row w.before ++ w.child ∷ in_row w.behind ≡ in_row c.args.row.now = c.twig.view_is ∙ c.deref-twig.ensures ∙ ap in_row (sym c.in-Some.is) in
     let l = in_row w.before in
-    let k = arc_value w.child in
+    let k = w.child in
     let r = in_row w.behind in
     let x = c.args.name.now in
-    let e : name_cmp x k.0 ≡ _ = ap (λ z. name_cmp x z.0) (sym c.deref.ensures) ∙ sym c.compare.ensures ∙ c.in-Greater.is in (
+    let e : name_cmp x k.0 ≡ _ = sym c.compare.ensures ∙ c.in-Greater.is in (
       omega (arith, ap (λ cs. length (below cs)) is, length-below l k r, c.twig.invariant.rooted),
       (row_rises_behind _ l k r is c.requires.children, there_behind _ l k r is c.requires.children x c.args.path.now e c.requires.there),
     )
@@ -113,34 +112,34 @@ row::altered-altered-requires-in-Greater t c =
 pub row::altered-returns-in_ok-shared-in-Less : goal.row::altered-returns-in_ok-shared-in-Less
 row::altered-returns-in_ok-shared-in-Less t c =
     let w = c.twig.inside in
-    let is : in_row w.before ++ arc_value w.child ∷ in_row w.behind ≡ in_row c.args.row.now = c.twig.view_is ∙ c.deref-twig.ensures ∙ ap in_row (sym c.in-Some.is) in
+    let is : in_row w.before ++ w.child ∷ in_row w.behind ≡ in_row c.args.row.now = c.twig.view_is ∙ c.deref-twig.ensures ∙ ap in_row (sym c.in-Some.is) in
     let l = in_row w.before in
-    let k = arc_value w.child in
+    let k = w.child in
     let r = in_row w.behind in
     let x = c.args.name.now in
-    let e : name_cmp x k.0 ≡ _ = ap (λ z. name_cmp x z.0) (sym c.deref.ensures) ∙ sym c.compare.ensures ∙ c.in-Less.is in
+    let e : name_cmp x k.0 ≡ _ = sym c.compare.ensures ∙ c.in-Less.is in
     if_ok_holds c.joint.result in_row (λ cs. ChildAlters (in_row c.args.row.now) cs x c.args.path.now c.args.edit.now c.args.number) _ (alters_before _ l k r is c.requires.children x c.args.path.now c.args.edit.now c.args.number e _ _ _ c.in_ok-here-in-Less.ensures c.in_ok-shared-in-Less.ensures c.in_ok-before-in-Less.ensures) c.joint.ensures
 
-pub row::altered-returns-in_ok-shared-in-Equal-2 : goal.row::altered-returns-in_ok-shared-in-Equal-2
-row::altered-returns-in_ok-shared-in-Equal-2 t c =
+pub row::altered-returns-in_ok-here-in-Equal : goal.row::altered-returns-in_ok-here-in-Equal
+row::altered-returns-in_ok-here-in-Equal t c =
     let w = c.twig.inside in
-    let is : in_row w.before ++ arc_value w.child ∷ in_row w.behind ≡ in_row c.args.row.now = c.twig.view_is ∙ c.deref-twig.ensures ∙ ap in_row (sym c.in-Some.is) in
+    let is : in_row w.before ++ w.child ∷ in_row w.behind ≡ in_row c.args.row.now = c.twig.view_is ∙ c.deref-twig.ensures ∙ ap in_row (sym c.in-Some.is) in
     let l = in_row w.before in
-    let k = arc_value w.child in
+    let k = w.child in
     let r = in_row w.behind in
     let x = c.args.name.now in
-    let e : name_cmp x k.0 ≡ _ = ap (λ z. name_cmp x z.0) (sym c.deref.ensures) ∙ sym c.compare.ensures ∙ c.in-Equal.is in
-    if_ok_holds c.joint-in-Equal.result in_row (λ cs. ChildAlters (in_row c.args.row.now) cs x c.args.path.now c.args.edit.now c.args.number) _ (alters_here _ l k r is c.requires.children x c.args.path.now c.args.edit.now c.args.number e _ _ _ c.in_ok-shared-in-Equal.ensures c.in_ok-shared-in-Equal-2.ensures c.in_ok-here-in-Equal.ensures.name c.in_ok-here-in-Equal.ensures.altered) c.joint-in-Equal.ensures
+    let e : name_cmp x k.0 ≡ _ = sym c.compare.ensures ∙ c.in-Equal.is in
+    if_ok_holds c.joint-in-Equal.result in_row (λ cs. ChildAlters (in_row c.args.row.now) cs x c.args.path.now c.args.edit.now c.args.number) _ (alters_here _ l k r is c.requires.children x c.args.path.now c.args.edit.now c.args.number e _ _ _ c.in_ok-before-in-Equal.ensures c.in_ok-behind-in-Equal.ensures c.in_ok-here-in-Equal.ensures.name c.in_ok-here-in-Equal.ensures.altered) c.joint-in-Equal.ensures
 
 pub row::altered-returns-in_ok-shared-in-Greater : goal.row::altered-returns-in_ok-shared-in-Greater
 row::altered-returns-in_ok-shared-in-Greater t c =
     let w = c.twig.inside in
-    let is : in_row w.before ++ arc_value w.child ∷ in_row w.behind ≡ in_row c.args.row.now = c.twig.view_is ∙ c.deref-twig.ensures ∙ ap in_row (sym c.in-Some.is) in
+    let is : in_row w.before ++ w.child ∷ in_row w.behind ≡ in_row c.args.row.now = c.twig.view_is ∙ c.deref-twig.ensures ∙ ap in_row (sym c.in-Some.is) in
     let l = in_row w.before in
-    let k = arc_value w.child in
+    let k = w.child in
     let r = in_row w.behind in
     let x = c.args.name.now in
-    let e : name_cmp x k.0 ≡ _ = ap (λ z. name_cmp x z.0) (sym c.deref.ensures) ∙ sym c.compare.ensures ∙ c.in-Greater.is in
+    let e : name_cmp x k.0 ≡ _ = sym c.compare.ensures ∙ c.in-Greater.is in
     if_ok_holds c.joint-in-Greater.result in_row (λ cs. ChildAlters (in_row c.args.row.now) cs x c.args.path.now c.args.edit.now c.args.number) _ (alters_behind _ l k r is c.requires.children x c.args.path.now c.args.edit.now c.args.number e _ _ _ c.in_ok-shared-in-Greater.ensures c.in_ok-here-in-Greater.ensures c.in_ok-behind-in-Greater.ensures) c.joint-in-Greater.ensures
 
 pub row::Twig::alter_under-alter_beside-requires : goal.row::Twig::alter_under-alter_beside-requires

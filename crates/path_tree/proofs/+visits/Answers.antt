@@ -1,5 +1,4 @@
-use Rattle.std.proofs.Common.{rules, ◌≡◌, ◌+◌, ◌*◌, ◌<◌, ◌∷◌, ◌++◌, length, take, refl, sym, ap, ◌∙◌, arith}
-use Rattle.std.specs.Arc.{arc_value}
+use Rattle.std.proofs.Common.{rules, ◌≡◌, ◌+◌, ◌*◌, ◌<◌, ◌∷◌, ◌++◌, length, take, sym, ap, ◌∙◌, arith}
 use Rattle.std.specs.List.{flat_map}
 use Rattle.std.specs.FinMap.{entries, len}
 use Rattle.path_tree.specs.Joined.{behind, below}
@@ -29,14 +28,14 @@ row::visit_child-returns-clause-said g t c =
     let p = c.args.above.now.items in
     let k = c.args.child.now in
     let out = g.V.Visitor.said c.args.visitor.now in
-    let pushed = text_more p c.push.new.self.items c.extend_from_slice.new.self.items k.0 c.in_ok-push.ensures.items (c.in_ok-extend_from_slice.ensures.items ∙ ap (λ n. c.push.new.self.items ++ n) (c.as_bytes.ensures.value ∙ c.as_str.ensures.text)) in
-    said_of_child g.V.Visitor.line p out (g.V.Visitor.said c.visit_into.new.visitor) k.0 k.1 (c.in_ok-visit_into.ensures.said ∙ ap (λ z. out ++ flat_map g.V.Visitor.line (texts z (entries k.1))) pushed)
+    let pushed = text_more p c.push.new.self.items c.extend_from_slice.new.self.items k.0 c.in_ok-push.ensures.items (c.in_ok-extend_from_slice.ensures.items ∙ ap (λ n. c.push.new.self.items ++ n) (c.as_bytes.ensures.value ∙ c.as_str.ensures.text ∙ c.name.ensures)) in
+    said_of_child g.V.Visitor.line p out (g.V.Visitor.said c.visit_into.new.visitor) k.0 k.1 (c.in_ok-visit_into.ensures.said ∙ (λ i. out ++ flat_map g.V.Visitor.line (texts (pushed i) (entries (c.branch-child.ensures i)))))
 
 pub row::visit_child-returns-clause-above : goal.row::visit_child-returns-clause-above
 row::visit_child-returns-clause-above g t c =
     let p = c.args.above.now.items in
     let k = c.args.child.now in
-    let pushed = text_more p c.push.new.self.items c.extend_from_slice.new.self.items k.0 c.in_ok-push.ensures.items (c.in_ok-extend_from_slice.ensures.items ∙ ap (λ n. c.push.new.self.items ++ n) (c.as_bytes.ensures.value ∙ c.as_str.ensures.text)) in
+    let pushed = text_more p c.push.new.self.items c.extend_from_slice.new.self.items k.0 c.in_ok-push.ensures.items (c.in_ok-extend_from_slice.ensures.items ∙ ap (λ n. c.push.new.self.items ++ n) (c.as_bytes.ensures.value ∙ c.as_str.ensures.text ∙ c.name.ensures)) in
     text_less p c.visit_into.new.above.items k.0 c.truncate.new.self.items (c.in_ok-visit_into.ensures.above ∙ pushed) (c.truncate.ensures.items ∙ ap (λ j. take j c.visit_into.new.above.items) (ap length c.as_slice-len.ensures.value))
 
 pub row::visit_row-returns-in_ok-visit_child-in-Some-clause-said : goal.row::visit_row-returns-in_ok-visit_child-in-Some-clause-said
@@ -44,14 +43,14 @@ row::visit_row-returns-in_ok-visit_child-in-Some-clause-said g t c =
     let p = c.args.above.now.items in
     let line = g.V.Visitor.line in
     let w = c.twig.inside in
-    let is : in_row w.before ++ arc_value w.child ∷ in_row w.behind ≡ in_row c.args.row.now = c.twig.view_is ∙ c.deref-twig.ensures ∙ ap in_row (sym c.in-Some.is) in
+    let is : in_row w.before ++ w.child ∷ in_row w.behind ≡ in_row c.args.row.now = c.twig.view_is ∙ c.deref-twig.ensures ∙ ap in_row (sym c.in-Some.is) in
     let start = g.V.Visitor.said c.args.visitor.now in
     let front = g.V.Visitor.said c.visit_row.new.visitor in
     let middle = g.V.Visitor.said c.visit_child.new.visitor in
     let text = c.in_ok-visit_row-in-Some.ensures.above in
-    let child = c.in_ok-visit_child-in-Some.ensures.said ∙ (λ i. front ++ flat_map line (texts (text i) (behind (c.deref.ensures i).0 (entries (c.deref.ensures i).1)))) in
+    let child = c.in_ok-visit_child-in-Some.ensures.said ∙ (λ i. front ++ flat_map line (texts (text i) (behind w.child.0 (entries w.child.1)))) in
     on_ok c.visit_row-in-Some.result _ _
     (λ h.
-    said_of_row line p start front middle _ (in_row w.before) (arc_value w.child) (in_row w.behind) c.in_ok-visit_row-in-Some.ensures.said child (h ∙ ap (λ z. middle ++ flat_map line (texts z (below (in_row w.behind)))) (c.in_ok-visit_child-in-Some.ensures.above ∙ text))
+    said_of_row line p start front middle _ (in_row w.before) w.child (in_row w.behind) c.in_ok-visit_row-in-Some.ensures.said child (h ∙ ap (λ z. middle ++ flat_map line (texts z (below (in_row w.behind)))) (c.in_ok-visit_child-in-Some.ensures.above ∙ text))
     ∙ ap (λ z. start ++ flat_map line (texts p (below z))) is)
     c.visit_row-in-Some.ensures.said

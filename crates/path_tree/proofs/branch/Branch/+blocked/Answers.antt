@@ -35,8 +35,8 @@ returns-then-is_empty t c =
     ∙ ap (λ b. cond b (Some NotDir) (blocked (λ q. get c.args.self.now (x ∷ q)) p)) (sym c.is_some.ensures ∙ c.if-is_some.false)
     ∙ ap (blocked (λ q. get c.args.self.now (x ∷ q))) (no_path p short))
 
-pub returns-else-is_empty : goal.returns-else-is_empty
-returns-else-is_empty t c =
+pub returns-in-None : goal.returns-in-None
+returns-in-None t c =
     let x = c.first-item.result in
     let p = take (length c.args.path.now - 1) (drop 1 c.args.path.now) in
     let cs = in_row c.self.inside.children in

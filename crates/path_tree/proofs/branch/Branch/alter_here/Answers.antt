@@ -1,6 +1,5 @@
 use Rattle.std.proofs.Common.{[], ◌∷◌, None, Some, refl, sym, ap, ◌∙◌}
 use Rattle.std.specs.FinMap.{get}
-use Rattle.std.specs.Arc.{arc_value}
 use Rattle.node_base.specs.Tree.{changed_at}
 use Rattle.node_base.specs.NodeEdits.{with_piece}
 use Rattle.path_tree.specs.Edits.{edit_here}
@@ -24,13 +23,13 @@ returns-in-Piece-clause-ok c =
 
 pub invariant_of-self : goal.invariant_of-self
 invariant_of-self c =
-    let k = arc_value c.in-Graft.child in
+    let k = c.in-Graft.child in
     rises_put c.put_in.result (in_row c.self.inside.children) _ k.0 k.1 c.self.invariant c.put_in.ensures.ok c.put_in.ensures.err
 
 pub returns-in-Graft-clause-ok : goal.returns-in-Graft-clause-ok
 returns-in-Graft-clause-ok c =
-    let m = (arc_value c.in-Graft.child).1 in
-    let x = (arc_value c.in-Graft.child).0 in
+    let m = c.in-Graft.child.1 in
+    let x = c.in-Graft.child.0 in
     let cs = in_row c.self.inside.children in
     on_ok c.put_in.result _ _
     (λ h q.

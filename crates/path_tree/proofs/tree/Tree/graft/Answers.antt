@@ -1,6 +1,5 @@
 use Rattle.std.proofs.Common.{◌≡◌, ◌++◌, ◌∷◌, [], Option, true, sym, ap, subst, ◌∙◌}
 use Rattle.std.specs.Prelude.{IsSome}
-use Rattle.std.specs.Arc.{arc_value}
 use Rattle.std.specs.FinMap.{get}
 use Rattle.node_base.specs.Path.{Path}
 use Rattle.node_base.specs.Limits.{fits}
@@ -19,11 +18,11 @@ use Rattle.path_tree.proofs.tree.Tree.graft.Goals as goal
 use Rattle.path_tree.proofs.tree.Tree.graft.Goals.{In_ok-child}
 
 -- the path is the name behind the path above it
-split : (c : In_ok-child) → c.args.path.now ≡ c.in-Some.above.now ++ (arc_value c.in_ok-child.child).0 ∷ []
-split c = sym c.names.ensures.names ∙ c.in-Some.ensures.cases.0 ∙ ap (λ n. c.in-Some.above.now ++ n ∷ []) (sym (ap (λ z. z.0) c.in_ok-child.ensures.ok ∙ c.in_ok-copy.ensures))
+split : (c : In_ok-child) → c.args.path.now ≡ c.in-Some.above.now ++ c.in_ok-child.child.0 ∷ []
+split c = sym c.names.ensures.names ∙ c.in-Some.ensures.cases.0 ∙ ap (λ n. c.in-Some.above.now ++ n ∷ []) (sym (ap (λ z. z.0) c.in_ok-child.ensures ∙ c.in_ok-copy.ensures))
 
 dir : (c : In_ok-child) → IsDirAt (get c.args.self.now) c.in-Some.above.now
-dir c = dir_above (get c.args.self.now) c.in-Some.above.now (arc_value c.in_ok-child.child).0 (ap (blocked (get c.args.self.now)) (sym (split c)) ∙ c.requires.not_blocked)
+dir c = dir_above (get c.args.self.now) c.in-Some.above.now c.in_ok-child.child.0 (ap (blocked (get c.args.self.now)) (sym (split c)) ∙ c.requires.not_blocked)
 
 -- the map with the number above the child
 abbrev numbered : In_ok-child → Path → Option Node
@@ -32,14 +31,14 @@ numbered c = marked (get c.args.self.now) c.in-Some.above.now c.args.number
 -- the edit is a graft at the path
 grafts : (c : In_ok-child) → ◌≡◌ {A = Path → Option Node} (grafted (numbered c) c.args.path.now (get c.args.branch)) (edit_at (Graft c.in_ok-child.child) (numbered c) c.in-Some.above.now)
 grafts c = λ i q.
-    ((λ j. grafted (numbered c) (split c j) (get (sym (ap (λ z. z.1) c.in_ok-child.ensures.ok) j)) q)
-    ∙ sym (grafted_below (numbered c) c.in-Some.above.now ((arc_value c.in_ok-child.child).0 ∷ []) (get (arc_value c.in_ok-child.child).1) q)) i
+    ((λ j. grafted (numbered c) (split c j) (get (sym (ap (λ z. z.1) c.in_ok-child.ensures) j)) q)
+    ∙ sym (grafted_below (numbered c) c.in-Some.above.now (c.in_ok-child.child.0 ∷ []) (get c.in_ok-child.child.1) q)) i
 
 -- and the number goes to all its fronts
 numbers : (c : In_ok-child) → ◌≡◌ {A = Path → Option Node} (grafted (numbered c) c.args.path.now (get c.args.branch)) (grafted (marked (get c.args.self.now) c.args.path.now c.args.number) c.args.path.now (get c.args.branch))
 numbers c =
     subst (λ p. ◌≡◌ {A = Path → Option Node} (grafted (numbered c) p (get c.args.branch)) (grafted (marked (get c.args.self.now) p c.args.number) p (get c.args.branch))) (sym (split c))
-    (λ i q. graft_marked (get c.args.self.now) (get c.args.branch) c.in-Some.above.now (arc_value c.in_ok-child.child).0 c.args.number q i)
+    (λ i q. graft_marked (get c.args.self.now) (get c.args.branch) c.in-Some.above.now c.in_ok-child.child.0 c.args.number q i)
 
 pub alter-requires-clause-there : goal.alter-requires-clause-there
 alter-requires-clause-there c = dir_is_there (get c.args.self.now c.in-Some.above.now) (dir (goal.at.alter-requires-clause-there c).In_ok-child)
@@ -50,7 +49,7 @@ alter-requires-clause-shape c =
     let e = (goal.at.alter-requires-clause-shape c).In_ok-child in
     let above = c.in-Some.above.now in
     subst IsShape (ap (λ p. grafted (numbered e) p (get c.args.branch)) (sym (split e)) ∙ grafts e)
-    (shape-grafted (numbered e) (get c.args.branch) above (arc_value c.in_ok-child.child).0 (shape-marked (get c.args.self.now) above c.args.number (shape_of c.args.self.now tree)) c.requires.fronts
+    (shape-grafted (numbered e) (get c.args.branch) above c.in_ok-child.child.0 (shape-marked (get c.args.self.now) above c.args.number (shape_of c.args.self.now tree)) c.requires.fronts
     (subst (λ p. (r : Path) → IsSome (get c.args.branch r) → fits (p ++ r) ≡ true) (split e) c.requires.small) (dir_marked (get c.args.self.now) above c.args.number above (dir e)))
 
 pub alter-requires-clause-nodes : goal.alter-requires-clause-nodes
