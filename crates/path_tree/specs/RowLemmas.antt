@@ -27,7 +27,7 @@ pub len-joined : (n : Node) (cs : Children) → AreChildren cs → len (joined n
 len-joined n cs h = omega (arith, len-entries (joined n cs), ap length (entries-joined n cs h))
 
 -- a child's branch
-pub child_falls : (a : ChildInside) → deep-Child a ≤ entry_size ((arc_value a.entry).name, (arc_value a.entry).branch)
+pub child_falls : (a : ChildInside) → deep-Child a ≤ entry_size (arc_value (arc_value a.entry).name, (arc_value a.entry).branch)
 child_falls a = omega arith
 
 -- a child and the rows beside it

@@ -27,7 +27,8 @@ pub struct Child {
 struct Entry {
     // That of the name. It tells most names apart, so that a search seldom looks at their bytes.
     head: u64,
-    name: NodeName,
+    // All copies of a child share it.
+    name: Arc<NodeName>,
     branch: Branch,
 }
 
@@ -43,9 +44,9 @@ impl Model for Child {
 
     ghost coded = { coded× coded_name coded_tree };
 
-    ghost view = { λ a. ((arc_value a.entry).name, (arc_value a.entry).branch) };
+    ghost view = { λ a. (arc_value (arc_value a.entry).name, (arc_value a.entry).branch) };
 
-    ghost invariant = { λ a. IsHeaded (arc_value a.entry).head (arc_value a.entry).name };
+    ghost invariant = { λ a. IsHeaded (arc_value a.entry).head (arc_value (arc_value a.entry).name) };
 
     ghost size = { entry_size };
 
@@ -60,6 +61,7 @@ impl Child {
         ensures { IfOk result (λ c. c ≡ (name, branch)) }
     {
         let head = head(&name);
+        let name = Arc::new(alloc, name)?;
         let entry = Entry { head, name, branch };
         Ok(Child {
             entry: Arc::new(alloc, entry)?,
@@ -133,7 +135,7 @@ impl Child {
             ≡ edit_at edit.now (marked_by number (map.get self.now.1) path.now) path.now q) }
     {
         let head = self.entry.head;
-        let name = self.name().copy(alloc)?;
+        let name = Arc::try_clone(&self.entry.name)?;
         let mut branch = self.branch().again()?;
         branch.alter(alloc, path, edit, number)?;
         let entry = Entry { head, name, branch };
