@@ -7,8 +7,9 @@ use Rattle.std.specs.FinMap.{len}
 use Rattle.node_base.specs.Path.{Name, coded_name, same_name}
 use Rattle.node_base.specs.Tree.{PathMap, coded_tree}
 use Rattle.path_tree.specs.declared.reach.Reach.{Reach}
+use Rattle.path_tree.specs.Heads.{IsHeaded}
 use Rattle.path_tree.specs.Joined.{below}
-use Rattle.path_tree.specs.Reach.{reach_of}
+use Rattle.path_tree.specs.Reach.{reach_of, reach_to}
 
 -- children with their names
 abbrev pub Children : Type 0
@@ -25,6 +26,12 @@ in_row (Some t) = arc_value t
 -- whether a name is another than x
 abbrev pub differs : Name → Name → Bool
 differs x k = not (same_name x k)
+
+-- a child has its root at least, and its head and its reach are these
+pub record IsChild (h : ℕ) (r : Reach) (c : Name × PathMap) : Type 0 where
+  pub headed : IsHeaded h c.0
+  pub reach : r ≡ reach_to c
+  pub rooted : 1 ≤ len c.1
 
 -- a child has its root at least, and the reach is that of the paths to the children and below them
 pub record IsTwig (before : Children) (child : Name × PathMap) (behind : Children) (r : Reach) : Type 0 where

@@ -1,14 +1,16 @@
 //! Children of a node, each under its name, and names that are sought among them.
-ghost use Rattle.std.specs.Prelude.{◌≡◌, IsSome, IfOk, OnOk, OnErr};
+ghost use Rattle.std.specs.Prelude.{◌≡◌, ◌≤◌, IsSome, IfOk, OnOk, OnErr};
 ghost use Rattle.std.specs.FinMap as map;
 ghost use Rattle.node_base.specs.Path.{Path, name_cmp};
 ghost use Rattle.path_tree.specs.Edits.{edit_at, marked_by};
 ghost use Rattle.path_tree.specs.Heads.{IsHeaded};
+ghost use Rattle.path_tree.specs.Reach.{reach_to};
 
 use crate::branch::Branch;
 use crate::edit::Edit;
 use crate::head::head;
 use crate::order::compare;
+use crate::reach::Reach;
 use node_base::{NodeName, RevNo};
 use std::alloc::{AllocError, Global};
 use std::cmp::Ordering;
@@ -27,6 +29,8 @@ pub struct Child {
 struct Entry {
     // That of the name. It tells most names apart, so that a search seldom looks at their bytes.
     head: u64,
+    // How far the paths to the child and below it reach.
+    reach: Reach,
     // All copies of a child share it.
     name: Arc<NodeName>,
     branch: Branch,
@@ -37,8 +41,7 @@ impl Model for Child {
     ghost use Rattle.std.specs.Coded.{coded×};
     ghost use Rattle.node_base.specs.Path.{Name, coded_name};
     ghost use Rattle.node_base.specs.Tree.{PathMap, coded_tree};
-    ghost use Rattle.path_tree.specs.Heads.{IsHeaded};
-    ghost use Rattle.path_tree.specs.Rows.{entry_size};
+    ghost use Rattle.path_tree.specs.Rows.{IsChild, entry_size};
 
     ghost Value = { Name × PathMap };
 
@@ -46,7 +49,8 @@ impl Model for Child {
 
     ghost view = { λ a. (arc_value (arc_value a.entry).name, (arc_value a.entry).branch) };
 
-    ghost invariant = { λ a. IsHeaded (arc_value a.entry).head (arc_value (arc_value a.entry).name) };
+    ghost invariant = { λ a. IsChild (arc_value a.entry).head (arc_value a.entry).reach
+        (arc_value (arc_value a.entry).name, (arc_value a.entry).branch) };
 
     ghost size = { entry_size };
 
@@ -61,8 +65,14 @@ impl Child {
         ensures { IfOk result (λ c. c ≡ (name, branch)) }
     {
         let head = head(&name);
+        let reach = branch.reach_behind(&name);
         let name = Arc::new(alloc, name)?;
-        let entry = Entry { head, name, branch };
+        let entry = Entry {
+            head,
+            reach,
+            name,
+            branch,
+        };
         Ok(Child {
             entry: Arc::new(alloc, entry)?,
         })
@@ -91,6 +101,14 @@ impl Child {
         &self.entry.branch
     }
 
+    /// How far the paths to it and below it reach. It has its root at least.
+    pub fn reach(&self) -> Reach
+        ensures reach { result ≡ reach_to self.now }
+        ensures rooted { 1 ≤ map.len self.now.1 }
+    {
+        self.entry.reach
+    }
+
     /// The order of its name and that of another child.
     pub fn compare(&self, other: &Child) -> Ordering
         ensures { result ≡ name_cmp self.now.0 other.now.0 }
@@ -114,7 +132,9 @@ impl Child {
         ensures err { OnErr result (self.new ≡ self.old) }
     {
         if let Some(own) = Arc::get_mut(&mut self.entry) {
-            return own.branch.alter(alloc, path, edit, number);
+            own.branch.alter(alloc, path, edit, number)?;
+            own.reach = own.branch.reach_behind(&own.name);
+            return Ok(());
         }
         *self = self.edited(alloc, path, edit, number)?;
         Ok(())
@@ -138,7 +158,13 @@ impl Child {
         let name = Arc::try_clone(&self.entry.name)?;
         let mut branch = self.branch().again()?;
         branch.alter(alloc, path, edit, number)?;
-        let entry = Entry { head, name, branch };
+        let reach = branch.reach_behind(&name);
+        let entry = Entry {
+            head,
+            reach,
+            name,
+            branch,
+        };
         Ok(Child {
             entry: Arc::new(alloc, entry)?,
         })

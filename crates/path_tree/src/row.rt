@@ -10,7 +10,7 @@ ghost use Rattle.node_base.specs.Path.{Path};
 ghost use Rattle.path_tree.specs.Edits.{ChildAlters, edit_at, marked_by};
 ghost use Rattle.path_tree.specs.Joined.{AreChildren, behind, below, child_at, under};
 ghost use Rattle.path_tree.specs.Listed.{shown, shown_names};
-ghost use Rattle.path_tree.specs.Reach.{reach_of, reach_to};
+ghost use Rattle.path_tree.specs.Reach.{reach_of};
 ghost use Rattle.path_tree.specs.Rows.{in_row, differs};
 ghost use Rattle.path_tree.specs.Visited.{texts};
 
@@ -253,7 +253,7 @@ fn reach_over(before: &Row, child: &Child, behind: &Row) -> Reach
     ensures reach { result ≡ reach_of (in_row before.now ++ child.now ∷ in_row behind.now) }
     ensures rooted { 1 ≤ map.len child.now.1 }
 {
-    let front = reach_in(before).either(reach_to(child));
+    let front = reach_in(before).either(child.reach());
     front.either(reach_in(behind))
 }
 
@@ -574,14 +574,6 @@ fn without_sought(alloc: Global, row: &Row, name: &Sought<'_>) -> Result<Row, Al
         }
         None => Ok(None),
     }
-}
-
-// How far the paths to a child and below it reach. A child has its root at least.
-fn reach_to(child: &Child) -> Reach
-    ensures reach { result ≡ reach_to child.now }
-    ensures rooted { 1 ≤ map.len child.now.1 }
-{
-    child.branch().reach_behind(child.name())
 }
 
 // Adds the nodes of a child with their paths, in path order.
