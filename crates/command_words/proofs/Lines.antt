@@ -1,15 +1,15 @@
 -- A text's first lines, taken line by line.
-use Rattle.std.proofs.Common.{◌≡◌, ◌≢◌, ℕ, ◌+◌, ◌<◌, ◌≤◌, ◌⊎◌, Bool, true, false, cond, List, [], ◌∷◌, ◌++◌, length, drop, take, get_or, map, nat_lt, inl, inr, refl, sym, ap, subst, ◌∙◌, append_assoc, arith, length-append, codes, not, true≢false, ◌==◌, nat_eq}
+use Rattle.std.proofs.Common.{◌≡◌, ◌≢◌, ℕ, ◌+◌, ◌<◌, ◌≤◌, ◌⊎◌, Bool, true, false, cond, List, [], ◌∷◌, ◌++◌, length, drop, take, get_or, map, nat_lt, inl, inr, refl, sym, ap, subst, ◌∙◌, append_assoc, arith, length-append}
 use Rattle.std.specs.Char.{is_newline}
 use Rattle.std.specs.Str.{IsTrim, NoCharPasses}
 use Rattle.std.specs.Str.Lines.{IsFirstLine, StripsCarriageReturn}
-use Rattle.std.specs.List.{join_with_byte, list_all, starts_with, take_while}
+use Rattle.std.specs.List.{join_with_byte, take_while}
 use Rattle.std.proofs.lemmas.List.{at_drop_more, at_drop_all, take_all, get_or_default}
 use Rattle.std.proofs.lemmas.List.Elements.{All-append, All-cons, All-nil, All-take, All-drop}
 use Rattle.std.proofs.lemmas.Str.Pattern.{NoCharPasses-char}
 use Rattle.std.proofs.Math.ListN.{get_or-append}
 use Rattle.std.proofs.lemmas.Bool.Decides.{nat_tests}
-use Rattle.std.proofs.lemmas.List.Sums.{AllPass-from_list_all, take_while-cons}
+use Rattle.std.proofs.lemmas.List.Sums.{take_while-cons}
 use Rattle.command_words.specs.Lines.{HasNoLineFeed, is_some_text}
 
 -- one more line behind what there is

@@ -1,10 +1,10 @@
 -- Text as it is shown: what is shown of it, character by character, and that nothing shown controls a terminal.
-use Rattle.std.proofs.Common.{◌≡◌, ◌≢◌, ◌<◌, ◌≤◌, ℕ, zero, suc, Bool, true, false, cond, not, ◌&&◌, ◌||◌, List, [], ◌∷◌, ◌++◌, nat_lt, inl, inr, arith, refl, sym, ap, subst, ◌∙◌, true≢false, chars, encode_utf8, encode_utf8_all, IsUtf8, length}
+use Rattle.std.proofs.Common.{◌≡◌, ◌<◌, ℕ, zero, suc, Bool, true, false, cond, not, ◌&&◌, List, [], ◌∷◌, ◌++◌, nat_lt, arith, refl, sym, ap, ◌∙◌, true≢false, chars, encode_utf8, encode_utf8_all, IsUtf8, length}
 use Rattle.std.specs.Char.{is_control, is_newline}
 use Rattle.std.specs.Char.Escape.{escape_default}
 use Rattle.std.specs.List.{flat_map, list_all}
 use Rattle.std.specs.Str.{all_scalars, NonePass}
-use Rattle.std.proofs.lemmas.Str.{chars-encodes, chars-nil, encodes-chars, chars_past_char, encodes-append, scalars-chars, encode_ascii}
+use Rattle.std.proofs.lemmas.Str.{chars-encodes, chars-nil, encodes-chars, chars_past_char, encodes-append, scalars-chars}
 use Rattle.std.proofs.lemmas.List.Folds.{list_all-append}
 use Rattle.std.proofs.lemmas.Bool.Decides.{nat_tests}
 use Rattle.command_words.specs.Lines.{HasNoLineFeed}

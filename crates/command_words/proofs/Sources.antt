@@ -1,5 +1,5 @@
 -- The URL of a source on a server, taken apart.
-use Rattle.std.proofs.Common.{◌≡◌, ◌≢◌, ℕ, List, ◌++◌, Option, Some, None, IfSome, IfNone, Bor, ap, ◌∙◌, codes}
+use Rattle.std.proofs.Common.{◌≡◌, ◌≢◌, ℕ, List, ◌++◌, Option, Some, None, IfSome, Bor, ap, ◌∙◌, codes}
 use Rattle.std.specs.Option.{MatchOption}
 use Rattle.command_words.specs.Values.{server_url, SpellsServer}
 

@@ -1,5 +1,5 @@
 -- What the values of a command's words spell.
-use Rattle.std.specs.Prelude.{◌≡◌, ◌≢◌, ◌≤◌, ℕ, List, [], ◌∷◌, ◌++◌, ◌==◌, length, map, nat_eq, Option, Bool, true, false, Some, None, bytes_eq, string_bytes, codes}
+use Rattle.std.specs.Prelude.{◌≡◌, ◌≤◌, ℕ, List, ◌∷◌, ◌++◌, ◌==◌, length, map, nat_eq, Option, Bool, true, false, Some, None, bytes_eq, string_bytes, codes}
 use Rattle.std.specs.List.{list_any, starts_with}
 use Rattle.std.specs.Option.{option_map_or}
 use Rattle.uuid.specs.Text.{parsed_hyphenated}

@@ -1,5 +1,6 @@
 -- The command line of the program.
-use Rattle.std.specs.Prelude.{ℕ, List, true, Some, codes}
+use Rattle.std.specs.Prelude.{ℕ, List, [], ◌∷◌, Bool, true, false, Some, codes}
+use Rattle.std.specs.List.{fold}
 use Rattle.clap.specs.Words.{App, Rule, new_app, new_rule, with_rule, with_subcommand}
 use Rattle.clap.specs.Simple.{on_top}
 use Rattle.clap.specs.declared.builder.action.ArgAction.TheVariants.{Append, Set, SetTrue}
@@ -7,12 +8,12 @@ use Rattle.command_words.specs.declared.command_line.Command.{Command}
 use Rattle.command_words.specs.declared.command_line.Command.TheVariants.{List as ListIt, Canon, Create, Load, Dump, MakeDir, Upgrade, Initialize, Synchronize, CopyRevprops, Info}
 use Rattle.command_words.specs.declared.command_line.Task.{Task}
 use Rattle.command_words.specs.declared.command_line.Task.TheVariants as task
+use Rattle.command_words.specs.declared.word.Subcommand.{Subcommand}
+use Rattle.command_words.specs.declared.word.Word.{Word}
+use Rattle.command_words.specs.declared.word.WordKind.{WordKind}
+use Rattle.command_words.specs.declared.word.WordKind.TheVariants.{Place, Places, Named, Optional, Flag, Range}
 
-abbrev pub list_app : App
-list_app = new_app (codes "list")
-
-abbrev pub canon_app : App
-canon_app = new_app (codes "canon")
+-- ---- what a word may be
 
 -- a word that has to be there
 abbrev pub word_rule : List ℕ → Rule
@@ -26,14 +27,6 @@ words_rule name = record (new_rule name) { required = true; action = Some Append
 abbrev pub named_rule : List ℕ → Rule
 named_rule name = record (word_rule name) { long = Some name; value_names = 1 }
 
--- `-r LO:HI`
-abbrev pub range_rule : Rule
-range_rule = record (new_rule (codes "revisions")) { short = Some 114; action = Some Set; value_names = 1 }
-
--- the same, which has to be there
-abbrev pub copied_range_rule : Rule
-copied_range_rule = record range_rule { required = true }
-
 -- an option with a long name and one value, which may be left out
 abbrev pub optional_rule : List ℕ → Rule
 optional_rule name = record (new_rule name) { long = Some name; action = Some Set; value_names = 1 }
@@ -42,85 +35,103 @@ optional_rule name = record (new_rule name) { long = Some name; action = Some Se
 abbrev pub flag_rule : List ℕ → Rule
 flag_rule name = record (new_rule name) { long = Some name; action = Some SetTrue }
 
+-- `-r LO:HI`, which has to be there or may be left out
+abbrev pub range_rule : Bool → List ℕ → Rule
+range_rule required name = record (new_rule name) { required = required; short = Some 114; action = Some Set; value_names = 1 }
+
+-- ---- the commands, each with its words
+
+abbrev pub app_with : List ℕ → List Rule → App
+app_with name rules = fold with_rule (new_app name) rules
+
+-- the folder of a repository
+abbrev pub folder_rule : Rule
+folder_rule = word_rule (codes "DIR")
+
+abbrev pub list_app : App
+list_app = app_with (codes "list") []
+
+abbrev pub canon_app : App
+canon_app = app_with (codes "canon") []
+
 abbrev pub create_app : App
-create_app = with_rule (with_rule (new_app (codes "create")) (word_rule (codes "DIR"))) (named_rule (codes "uuid"))
+create_app = app_with (codes "create") (folder_rule ∷ named_rule (codes "uuid") ∷ [])
 
 abbrev pub load_app : App
-load_app = with_rule (new_app (codes "load")) (word_rule (codes "DIR"))
+load_app = app_with (codes "load") (folder_rule ∷ [])
 
 abbrev pub dump_app : App
-dump_app = with_rule (with_rule (new_app (codes "dump")) (word_rule (codes "DIR"))) range_rule
-
-abbrev pub mkdir_place_app : App
-mkdir_place_app = with_rule (with_rule (new_app (codes "mkdir")) (word_rule (codes "DIR"))) (word_rule (codes "PATH"))
+dump_app = app_with (codes "dump") (folder_rule ∷ range_rule false (codes "revisions") ∷ [])
 
 abbrev pub mkdir_app : App
-mkdir_app = with_rule (with_rule mkdir_place_app (named_rule (codes "message"))) (named_rule (codes "moment"))
+mkdir_app = app_with (codes "mkdir") (folder_rule ∷ word_rule (codes "PATH") ∷ named_rule (codes "message") ∷ named_rule (codes "moment") ∷ [])
 
 abbrev pub upgrade_app : App
-upgrade_app = with_rule (new_app (codes "upgrade")) (word_rule (codes "DIR"))
+upgrade_app = app_with (codes "upgrade") (folder_rule ∷ [])
 
--- a command over a mirror and its source
-abbrev pub two_folders_app : List ℕ → App
-two_folders_app name = with_rule (with_rule (new_app name) (word_rule (codes "MIRROR"))) (word_rule (codes "SOURCE"))
+-- a command over a mirror and its source, and what it takes besides
+abbrev pub two_folders_app : List ℕ → List Rule → App
+two_folders_app name rules = app_with name (word_rule (codes "MIRROR") ∷ word_rule (codes "SOURCE") ∷ rules)
 
 abbrev pub initialize_app : App
-initialize_app = two_folders_app (codes "initialize")
+initialize_app = two_folders_app (codes "initialize") []
 
 abbrev pub synchronize_app : App
-synchronize_app = with_rule (with_rule (two_folders_app (codes "synchronize")) (flag_rule (codes "steal-lock"))) (optional_rule (codes "token"))
+synchronize_app = two_folders_app (codes "synchronize") (flag_rule (codes "steal-lock") ∷ optional_rule (codes "token") ∷ [])
 
 abbrev pub copy_revprops_app : App
-copy_revprops_app = with_rule (with_rule (two_folders_app (codes "copy-revprops")) copied_range_rule) (optional_rule (codes "token"))
+copy_revprops_app = two_folders_app (codes "copy-revprops") (range_rule true (codes "revisions") ∷ optional_rule (codes "token") ∷ [])
 
 abbrev pub info_app : App
-info_app = with_rule (new_app (codes "info")) (word_rule (codes "MIRROR"))
+info_app = app_with (codes "info") (word_rule (codes "MIRROR") ∷ [])
 
 -- a folder, a port and a number of connections
-abbrev pub serve_place_app : App
-serve_place_app = with_rule (new_app (codes "serve")) (word_rule (codes "DIR"))
-
 abbrev pub serve_app : App
-serve_app = with_rule (with_rule serve_place_app (named_rule (codes "port"))) (named_rule (codes "connections"))
+serve_app = app_with (codes "serve") (folder_rule ∷ named_rule (codes "port") ∷ named_rule (codes "connections") ∷ [])
 
 -- a master and its mirrors, and a number of workers
-abbrev pub fleet_folders_app : App
-fleet_folders_app = with_rule (with_rule (new_app (codes "fleet")) (word_rule (codes "MASTER"))) (words_rule (codes "MIRROR"))
-
 abbrev pub fleet_app : App
-fleet_app = with_rule fleet_folders_app (named_rule (codes "workers"))
+fleet_app = app_with (codes "fleet") (word_rule (codes "MASTER") ∷ words_rule (codes "MIRROR") ∷ named_rule (codes "workers") ∷ [])
 
 -- the program by itself
 abbrev pub bare_app : App
 bare_app = on_top (λ s. record s { has_version = true; subcommand_required = true }) (new_app (codes "svnfleet"))
 
--- with the subcommands over streams alone
-abbrev pub streams_app : App
-streams_app = with_subcommand (with_subcommand bare_app list_app.top) canon_app.top
+abbrev pub with_apps : App → List App → App
+with_apps program apps = fold (λ program app. with_subcommand program app.top) program apps
 
--- and with those that fill a folder
-abbrev pub folders_app : App
-folders_app = with_subcommand (with_subcommand streams_app create_app.top) load_app.top
+-- the program with the commands over a dump or one repository
+abbrev pub archive_app : App
+archive_app = with_apps bare_app (list_app ∷ canon_app ∷ create_app ∷ load_app ∷ dump_app ∷ mkdir_app ∷ upgrade_app ∷ [])
 
--- and with those that read a folder, or commit to it
-abbrev pub histories_app : App
-histories_app = with_subcommand (with_subcommand folders_app dump_app.top) mkdir_app.top
-
--- and with that which gives a folder's entries their sums
-abbrev pub upgrades_app : App
-upgrades_app = with_subcommand histories_app upgrade_app.top
-
--- and with those that write a mirror's revisions
-abbrev pub mirrors_app : App
-mirrors_app = with_subcommand (with_subcommand upgrades_app initialize_app.top) synchronize_app.top
-
--- and with that which tells of a mirror
-abbrev pub told_app : App
-told_app = with_subcommand (with_subcommand mirrors_app copy_revprops_app.top) info_app.top
+-- those over mirrors, and what serves
+abbrev pub mirror_apps : List App
+mirror_apps = initialize_app ∷ synchronize_app ∷ copy_revprops_app ∷ info_app ∷ serve_app ∷ fleet_app ∷ []
 
 -- the program and its subcommands, of which it wants one
 abbrev pub svnfleet_app : App
-svnfleet_app = with_subcommand (with_subcommand told_app serve_app.top) fleet_app.top
+svnfleet_app = with_apps archive_app mirror_apps
+
+-- ---- the same of commands that are data
+
+abbrev pub rule_as : List ℕ → WordKind → Rule
+rule_as name Place = word_rule name
+rule_as name Places = words_rule name
+rule_as name (Named value) = named_rule name
+rule_as name (Optional value) = optional_rule name
+rule_as name Flag = flag_rule name
+rule_as name (Range required) = range_rule required name
+
+abbrev pub rule_of_word : Word → Rule
+rule_of_word word = rule_as word.name.now word.kind
+
+abbrev pub subcommand_app : Subcommand → App
+subcommand_app command = fold (λ app word. with_rule app (rule_of_word word)) (new_app command.name.now) command.words.now
+
+abbrev pub with_commands_app : App → List Subcommand → App
+with_commands_app program commands = fold (λ program command. with_subcommand program (subcommand_app command).top) program commands
+
+-- ---- what a command is called
 
 -- the word that names a command
 abbrev pub word_of : Command → List ℕ

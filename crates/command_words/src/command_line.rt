@@ -5,7 +5,7 @@ ghost use Rattle.std.specs.Option.{option_map};
 ghost use Rattle.clap.specs.Faults.{fault_of};
 ghost use Rattle.clap.specs.Kinds.{FailsBy};
 ghost use Rattle.clap.specs.Values.{kind_of};
-ghost use Rattle.clap.specs.Words.{Row, app_of, first_of, found_of, rows_of, rule_of, subcommand_of};
+ghost use Rattle.clap.specs.Words.{Row, app_of, first_of, found_of, rows_of, subcommand_of};
 ghost use Rattle.clap.specs.Words.{subcommand_rows_of};
 ghost use Rattle.clap.specs.declared.builder.command.Command.TheViews.{out-Command as fields_of};
 ghost use Rattle.command_words.specs.Lines.{HasNoLineFeed, IsLineOf, first_lines, help_of, without_label};
@@ -15,25 +15,20 @@ ghost use Rattle.command_words.specs.Values.{HasFolders, HasReturn, HasValue, Is
 ghost use Rattle.command_words.specs.Values.{HasNumber, HasServiceOf, HasTaskOf, IsPlannedOf, IsRangeGiven, SpellsRange};
 ghost use Rattle.command_words.specs.Values.{HasSource, SpellsServer, SpellsUpTo, identity_read, is_given, is_on_server};
 ghost use Rattle.command_words.specs.Values.{server_url};
-ghost use Rattle.command_words.specs.Words.{canon_app, copied_range_rule, copy_revprops_app, create_app, dump_app};
-ghost use Rattle.command_words.specs.Words.{flag_rule, fleet_app, folders_app, histories_app};
-ghost use Rattle.command_words.specs.Words.{info_app, initialize_app, list_app};
-ghost use Rattle.command_words.specs.Words.{load_app, mirrors_app, mkdir_app, mkdir_place_app, named_rule, optional_rule};
-ghost use Rattle.command_words.specs.Words.{range_rule, serve_app, serve_place_app, streams_app, svnfleet_app};
-ghost use Rattle.command_words.specs.Words.{synchronize_app, told_app, two_folders_app, upgrade_app, upgrades_app};
-ghost use Rattle.command_words.specs.Words.{word_of_task, word_rule};
+ghost use Rattle.command_words.specs.Words.{archive_app, mirror_apps, svnfleet_app, with_apps, word_of_task};
 ghost use Rattle.sync_core.specs.Tokens.{is_token};
 ghost use Rattle.node_base.specs.Numbers.{rev_read};
 ghost use Rattle.repo_core.specs.Dates.{IsMoment};
 ghost use Rattle.store_engines.specs.Ranges.{first_in, last_in};
 
-use crate::fleet_named::{fleet_command, fleet_named};
+use crate::builder::{bare, with_commands};
+use crate::fleet_named::fleet_named;
 use crate::fleet_words::Fleet;
 use crate::help::help_of;
+use crate::table::{ARCHIVE, MIRRORS};
 use crate::terminal::line_of;
-use crate::texts;
 use clap::error::ErrorKind;
-use clap::{Arg, ArgAction, ArgMatches, Error};
+use clap::{ArgMatches, Error};
 use node_base::{RevNo, read_decimal};
 use repo_core::Moment;
 use std::alloc::{AllocError, Global};
@@ -177,414 +172,6 @@ impl From<AllocError> for Usage {
     }
 }
 
-fn list<'a>(alloc: Global) -> clap::Command<'a>
-    ensures app { app_of result ≡ list_app }
-    ensures local { (fields_of result).has_globals ≡ false }
-{
-    clap::Command::new(alloc, "list")
-        .about("Reads a dump on standard input and prints its newest tree")
-        .after_help(texts::DUMPS)
-}
-
-fn canon<'a>(alloc: Global) -> clap::Command<'a>
-    ensures app { app_of result ≡ canon_app }
-    ensures local { (fields_of result).has_globals ≡ false }
-{
-    clap::Command::new(alloc, "canon")
-        .about("Reads a dump on standard input and writes it in its canonical spelling")
-        .after_help(texts::DUMPS)
-}
-
-// A word that has to be there.
-pub(crate) fn word<'a>(alloc: Global, name: &'a str, help: &'a str) -> Arg<'a>
-    ensures rule { rule_of result ≡ word_rule name.now }
-    ensures local { result.global ≡ false }
-{
-    Arg::new(alloc, name)
-        .required(true)
-        .action(ArgAction::Set)
-        .help(help)
-}
-
-// An option with a long name and one value, which has to be there.
-pub(crate) fn valued<'a>(alloc: Global, name: &'a str, value: &'a str, help: &'a str) -> Arg<'a>
-    ensures rule { rule_of result ≡ named_rule name.now }
-    ensures local { result.global ≡ false }
-{
-    Arg::new(alloc, name)
-        .required(true)
-        .action(ArgAction::Set)
-        .help(help)
-        .long(name)
-        .value_name(value)
-}
-
-// An option with a long name and one value, which may be left out.
-fn optional<'a>(alloc: Global, name: &'a str, value: &'a str, help: &'a str) -> Arg<'a>
-    ensures rule { rule_of result ≡ optional_rule name.now }
-    ensures local { result.global ≡ false }
-{
-    Arg::new(alloc, name)
-        .action(ArgAction::Set)
-        .help(help)
-        .long(name)
-        .value_name(value)
-}
-
-// An option with a long name and no value.
-fn flag<'a>(alloc: Global, name: &'a str, help: &'a str) -> Arg<'a>
-    ensures rule { rule_of result ≡ flag_rule name.now }
-    ensures local { result.global ≡ false }
-{
-    Arg::new(alloc, name)
-        .action(ArgAction::SetTrue)
-        .help(help)
-        .long(name)
-}
-
-// `-r LO:HI`, which may be left out.
-fn range<'a>(alloc: Global) -> Arg<'a>
-    ensures rule { rule_of result ≡ range_rule }
-    ensures local { result.global ≡ false }
-{
-    Arg::new(alloc, "revisions")
-        .short('r')
-        .value_name("LO:HI")
-        .action(ArgAction::Set)
-        .help("The first and the last revision to write; all where it is left out")
-}
-
-fn create<'a>(alloc: Global) -> Result<clap::Command<'a>, AllocError>
-    ensures app { IfOk result (λ c. app_of c ≡ create_app) }
-    ensures local { IfOk result (λ c. (fields_of c).has_globals ≡ false) }
-{
-    let folder = word(
-        alloc,
-        "DIR",
-        "The folder, which is made where it is missing",
-    );
-    let identity = valued(
-        alloc,
-        "uuid",
-        "UUID",
-        "The identity, as 8-4-4-4-12 hexadecimal digits",
-    );
-    let top = clap::Command::new(alloc, "create")
-        .about("Begins an empty repository in a folder")
-        .after_help(texts::CREATE);
-    let placed = top.arg(folder)?;
-    let whole = placed.arg(identity)?;
-    Ok(whole)
-}
-
-fn load<'a>(alloc: Global) -> Result<clap::Command<'a>, AllocError>
-    ensures app { IfOk result (λ c. app_of c ≡ load_app) }
-    ensures local { IfOk result (λ c. (fields_of c).has_globals ≡ false) }
-{
-    let folder = word(alloc, "DIR", "The folder of the repository");
-    let top = clap::Command::new(alloc, "load")
-        .about("Loads a dump on standard input into a folder's repository")
-        .after_help(texts::LOAD);
-    let whole = top.arg(folder)?;
-    Ok(whole)
-}
-
-fn dump<'a>(alloc: Global) -> Result<clap::Command<'a>, AllocError>
-    ensures app { IfOk result (λ c. app_of c ≡ dump_app) }
-    ensures local { IfOk result (λ c. (fields_of c).has_globals ≡ false) }
-{
-    let folder = word(alloc, "DIR", "The folder of the repository");
-    let range = range(alloc);
-    let top = clap::Command::new(alloc, "dump")
-        .about("Writes a folder's repository as a dump, each revision by its changes")
-        .after_help(texts::DUMP);
-    let placed = top.arg(folder)?;
-    let whole = placed.arg(range)?;
-    Ok(whole)
-}
-
-// The command and the places that it takes.
-fn mkdir_place<'a>(alloc: Global) -> Result<clap::Command<'a>, AllocError>
-    ensures app { IfOk result (λ c. app_of c ≡ mkdir_place_app) }
-    ensures local { IfOk result (λ c. (fields_of c).has_globals ≡ false) }
-{
-    let folder = word(alloc, "DIR", "The folder of the repository");
-    let path = word(alloc, "PATH", "The directory, without a slash in front");
-    let top = clap::Command::new(alloc, "mkdir")
-        .about("Commits one directory to a folder's repository")
-        .after_help(texts::MKDIR);
-    let placed = top.arg(folder)?;
-    let whole = placed.arg(path)?;
-    Ok(whole)
-}
-
-fn mkdir<'a>(alloc: Global) -> Result<clap::Command<'a>, AllocError>
-    ensures app { IfOk result (λ c. app_of c ≡ mkdir_app) }
-    ensures local { IfOk result (λ c. (fields_of c).has_globals ≡ false) }
-{
-    let message = valued(
-        alloc,
-        "message",
-        "TEXT",
-        "The text of svn:log, without carriage returns",
-    );
-    let moment = valued(
-        alloc,
-        "moment",
-        "MICROS",
-        "The microseconds since 1970 for svn:date",
-    );
-    let top = mkdir_place(alloc)?;
-    let placed = top.arg(message)?;
-    let whole = placed.arg(moment)?;
-    Ok(whole)
-}
-
-fn upgrade<'a>(alloc: Global) -> Result<clap::Command<'a>, AllocError>
-    ensures app { IfOk result (λ c. app_of c ≡ upgrade_app) }
-    ensures local { IfOk result (λ c. (fields_of c).has_globals ≡ false) }
-{
-    let folder = word(alloc, "DIR", "The folder of the repository");
-    let top = clap::Command::new(alloc, "upgrade")
-        .about("Gives the entries of a folder's repository their sums")
-        .after_help(texts::UPGRADE);
-    let whole = top.arg(folder)?;
-    Ok(whole)
-}
-
-// `-r LO:HI`, which has to be there.
-fn copied_range<'a>(alloc: Global) -> Arg<'a>
-    ensures rule { rule_of result ≡ copied_range_rule }
-    ensures local { result.global ≡ false }
-{
-    Arg::new(alloc, "revisions")
-        .required(true)
-        .short('r')
-        .value_name("LO:HI")
-        .action(ArgAction::Set)
-        .help("The first and the last revision to copy")
-}
-
-// A command of that name over a mirror and its source.
-fn two_folders<'a>(
-    alloc: Global,
-    name: &'a str,
-    about: &'a str,
-    after: &'a str,
-) -> Result<clap::Command<'a>, AllocError>
-    ensures app { IfOk result (λ c. app_of c ≡ two_folders_app name.now) }
-    ensures local { IfOk result (λ c. (fields_of c).has_globals ≡ false) }
-{
-    let mirror = word(alloc, "MIRROR", "The folder of the mirror");
-    let source = word(
-        alloc,
-        "SOURCE",
-        "The folder of its source, or svn://127.0.0.1:P/ where `svnfleet serve` has it",
-    );
-    let top = clap::Command::new(alloc, name)
-        .about(about)
-        .after_help(after);
-    let placed = top.arg(mirror)?;
-    let whole = placed.arg(source)?;
-    Ok(whole)
-}
-
-fn token_option<'a>(alloc: Global) -> Arg<'a>
-    ensures rule { rule_of result ≡ optional_rule (codes "token") }
-    ensures local { result.global ≡ false }
-{
-    optional(
-        alloc,
-        "token",
-        "T",
-        "The token of the sync lock: 1 to 255 printable ASCII characters without blanks; job where it is left out",
-    )
-}
-
-fn initialize<'a>(alloc: Global) -> Result<clap::Command<'a>, AllocError>
-    ensures app { IfOk result (λ c. app_of c ≡ initialize_app) }
-    ensures local { IfOk result (λ c. (fields_of c).has_globals ≡ false) }
-{
-    two_folders(
-        alloc,
-        "initialize",
-        "Makes an empty repository the mirror of a source",
-        texts::INITIALIZE,
-    )
-}
-
-fn synchronize<'a>(alloc: Global) -> Result<clap::Command<'a>, AllocError>
-    ensures app { IfOk result (λ c. app_of c ≡ synchronize_app) }
-    ensures local { IfOk result (λ c. (fields_of c).has_globals ≡ false) }
-{
-    let steal = flag(
-        alloc,
-        "steal-lock",
-        "Take the sync lock though it is held, by a run that was stopped",
-    );
-    let token = token_option(alloc);
-    let top = two_folders(
-        alloc,
-        "synchronize",
-        "Brings a mirror up to its source",
-        texts::SYNCHRONIZE,
-    )?;
-    let placed = top.arg(steal)?;
-    let whole = placed.arg(token)?;
-    Ok(whole)
-}
-
-fn copy_revprops<'a>(alloc: Global) -> Result<clap::Command<'a>, AllocError>
-    ensures app { IfOk result (λ c. app_of c ≡ copy_revprops_app) }
-    ensures local { IfOk result (λ c. (fields_of c).has_globals ≡ false) }
-{
-    let range = copied_range(alloc);
-    let token = token_option(alloc);
-    let top = two_folders(
-        alloc,
-        "copy-revprops",
-        "Copies the properties of revisions to a mirror again",
-        texts::COPY_REVPROPS,
-    )?;
-    let placed = top.arg(range)?;
-    let whole = placed.arg(token)?;
-    Ok(whole)
-}
-
-fn info<'a>(alloc: Global) -> Result<clap::Command<'a>, AllocError>
-    ensures app { IfOk result (λ c. app_of c ≡ info_app) }
-    ensures local { IfOk result (λ c. (fields_of c).has_globals ≡ false) }
-{
-    let mirror = word(alloc, "MIRROR", "The folder of the mirror");
-    let top = clap::Command::new(alloc, "info")
-        .about("Tells where a mirror is copied from, and how far it is")
-        .after_help(texts::INFO);
-    let whole = top.arg(mirror)?;
-    Ok(whole)
-}
-
-// The command and the place that it takes.
-fn serve_place<'a>(alloc: Global) -> Result<clap::Command<'a>, AllocError>
-    ensures app { IfOk result (λ c. app_of c ≡ serve_place_app) }
-    ensures local { IfOk result (λ c. (fields_of c).has_globals ≡ false) }
-{
-    let folder = word(alloc, "DIR", "The folder of the repository");
-    let top = clap::Command::new(alloc, "serve")
-        .about("Serves a folder's repository to svnsync and other clients on this machine")
-        .after_help(texts::SERVE);
-    let whole = top.arg(folder)?;
-    Ok(whole)
-}
-
-fn serve<'a>(alloc: Global) -> Result<clap::Command<'a>, AllocError>
-    ensures app { IfOk result (λ c. app_of c ≡ serve_app) }
-    ensures local { IfOk result (λ c. (fields_of c).has_globals ≡ false) }
-{
-    let port = valued(alloc, "port", "P", "The port of 127.0.0.1, from 1 to 65535");
-    let connections = valued(
-        alloc,
-        "connections",
-        "N",
-        "The number of connections, from 1 to 1024, after which it ends",
-    );
-    let top = serve_place(alloc)?;
-    let placed = top.arg(port)?;
-    let whole = placed.arg(connections)?;
-    Ok(whole)
-}
-
-// The program with the commands over streams alone.
-fn over_streams<'a>(alloc: Global) -> Result<clap::Command<'a>, AllocError>
-    ensures app { IfOk result (λ c. app_of c ≡ streams_app) }
-    ensures local { IfOk result (λ c. (fields_of c).has_globals ≡ false) }
-{
-    let top = clap::Command::new(alloc, "svnfleet")
-        .version("0.1.0")
-        .about(
-            "Keeps, lists and rewrites the histories of Subversion repositories, as dumps of formats 2 and 3 say them",
-        )
-        .after_help(texts::PROGRAM)
-        .subcommand_required(true);
-    let some = top.subcommand(list(alloc))?;
-    let whole = some.subcommand(canon(alloc))?;
-    Ok(whole)
-}
-
-// And with those that fill a folder.
-fn over_folders<'a>(alloc: Global) -> Result<clap::Command<'a>, AllocError>
-    ensures app { IfOk result (λ c. app_of c ≡ folders_app) }
-    ensures local { IfOk result (λ c. (fields_of c).has_globals ≡ false) }
-{
-    let create = create(alloc)?;
-    let load = load(alloc)?;
-    let top = over_streams(alloc)?;
-    let some = top.subcommand(create)?;
-    let whole = some.subcommand(load)?;
-    Ok(whole)
-}
-
-// And with those that read a folder, or commit to it.
-fn over_histories<'a>(alloc: Global) -> Result<clap::Command<'a>, AllocError>
-    ensures app { IfOk result (λ c. app_of c ≡ histories_app) }
-    ensures local { IfOk result (λ c. (fields_of c).has_globals ≡ false) }
-{
-    let dump = dump(alloc)?;
-    let mkdir = mkdir(alloc)?;
-    let top = over_folders(alloc)?;
-    let some = top.subcommand(dump)?;
-    let whole = some.subcommand(mkdir)?;
-    Ok(whole)
-}
-
-// And with that which gives a folder's entries their sums.
-fn over_upgrades<'a>(alloc: Global) -> Result<clap::Command<'a>, AllocError>
-    ensures app { IfOk result (λ c. app_of c ≡ upgrades_app) }
-    ensures local { IfOk result (λ c. (fields_of c).has_globals ≡ false) }
-{
-    let upgrade = upgrade(alloc)?;
-    let top = over_histories(alloc)?;
-    let whole = top.subcommand(upgrade)?;
-    Ok(whole)
-}
-
-// And with those that write a mirror's revisions.
-fn over_mirrors<'a>(alloc: Global) -> Result<clap::Command<'a>, AllocError>
-    ensures app { IfOk result (λ c. app_of c ≡ mirrors_app) }
-    ensures local { IfOk result (λ c. (fields_of c).has_globals ≡ false) }
-{
-    let initialize = initialize(alloc)?;
-    let synchronize = synchronize(alloc)?;
-    let top = over_upgrades(alloc)?;
-    let some = top.subcommand(initialize)?;
-    let whole = some.subcommand(synchronize)?;
-    Ok(whole)
-}
-
-// And with that which tells of a mirror.
-fn over_told<'a>(alloc: Global) -> Result<clap::Command<'a>, AllocError>
-    ensures app { IfOk result (λ c. app_of c ≡ told_app) }
-    ensures local { IfOk result (λ c. (fields_of c).has_globals ≡ false) }
-{
-    let copy_revprops = copy_revprops(alloc)?;
-    let info = info(alloc)?;
-    let top = over_mirrors(alloc)?;
-    let some = top.subcommand(copy_revprops)?;
-    let whole = some.subcommand(info)?;
-    Ok(whole)
-}
-
-fn svnfleet<'a>(alloc: Global) -> Result<clap::Command<'a>, AllocError>
-    ensures app { IfOk result (λ c. app_of c ≡ svnfleet_app) }
-    ensures local { IfOk result (λ c. (fields_of c).has_globals ≡ false) }
-{
-    let serve = serve(alloc)?;
-    let fleet = fleet_command(alloc)?;
-    let top = over_told(alloc)?;
-    let some = top.subcommand(serve)?;
-    let whole = some.subcommand(fleet)?;
-    Ok(whole)
-}
-
 /// The command or the server that the words name, the program's name first, with the values that they give it. Usage
 /// where they name none: help or the version only where it was asked for, and else what is wrong, in the words or in the value of an
 /// identity, a range, a moment, a message, a source, a port or a number of connections, in one line without control
@@ -607,8 +194,36 @@ fn matches_of<'a>(alloc: Global, words: &'a [String]) -> Result<ArgMatches<'a>, 
     ensures found { IfOk result (λ m. subcommand_rows_of m ≡ subcommand_of svnfleet_app (map string_bytes words.now)) }
     ensures kinds { FailsBy (fault_of svnfleet_app (map string_bytes words.now)) result }
 {
-    let top = svnfleet(alloc)?;
-    top.try_get_matches_from(words)
+    let program = svnfleet(alloc)?;
+    program.try_get_matches_from(words)
+}
+
+// The program and its commands.
+fn svnfleet<'a>(alloc: Global) -> Result<clap::Command<'a>, AllocError>
+    ensures app { IfOk result (λ c. app_of c ≡ svnfleet_app) }
+    ensures local { IfOk result (λ c. (fields_of c).has_globals ≡ false) }
+{
+    let over_archives = over_archives(alloc)?;
+    with_mirrors(alloc, over_archives)
+}
+
+// The program with its commands over a dump or one repository.
+fn over_archives<'a>(alloc: Global) -> Result<clap::Command<'a>, AllocError>
+    ensures app { IfOk result (λ c. app_of c ≡ archive_app) }
+    ensures local { IfOk result (λ c. (fields_of c).has_globals ≡ false) }
+{
+    with_commands(alloc, bare(alloc), ARCHIVE)
+}
+
+// A program with those over mirrors, and what serves, besides.
+fn with_mirrors<'a>(
+    alloc: Global,
+    program: clap::Command<'a>,
+) -> Result<clap::Command<'a>, AllocError>
+    ensures app { IfOk result (λ c. app_of c ≡ with_apps (app_of program.entry) mirror_apps) }
+    ensures local { (fields_of program.entry).has_globals ≡ false → IfOk result (λ c. (fields_of c).has_globals ≡ false) }
+{
+    with_commands(alloc, program, MIRRORS)
 }
 
 // What a subcommand's name and its values say.

@@ -1,62 +1,17 @@
 //! The words of `fleet`, and what they say.
-ghost use Rattle.std.specs.Prelude.{◌≡◌, ◌≤◌, ◌∷◌, ◌++◌, false, None, Some, IfErr, IfOk, OnOk, bytes_eq, codes, length};
+ghost use Rattle.std.specs.Prelude.{◌≡◌, ◌≤◌, ◌∷◌, ◌++◌, None, Some, IfErr, IfOk, OnOk, bytes_eq, codes, length};
 ghost use Rattle.std.specs.Prelude.{map, slice_get, string_bytes};
 ghost use Rattle.std.specs.List.{list_any};
 ghost use Rattle.std.specs.Option.{option_map};
-ghost use Rattle.clap.specs.Words.{all_of, app_of, found_of, rows_of, rule_of};
-ghost use Rattle.clap.specs.declared.builder.command.Command.TheViews.{out-Command as fields_of};
+ghost use Rattle.clap.specs.Words.{all_of, found_of, rows_of};
 ghost use Rattle.command_words.specs.Twice.{first_twice};
 ghost use Rattle.command_words.specs.Usages.{AreRefused, IsRefusedAt};
 ghost use Rattle.command_words.specs.Values.{HasFleetOf, HasNumber, NamesFleet};
-ghost use Rattle.command_words.specs.Words.{fleet_app, fleet_folders_app, words_rule};
 
-use crate::command_line::{Usage, up_to, value, valued, word, wrong};
+use crate::command_line::{Usage, up_to, value, wrong};
 use crate::fleet_words::Fleet;
-use crate::texts;
-use clap::{Arg, ArgAction, ArgMatches};
+use clap::ArgMatches;
 use std::alloc::{AllocError, Global};
-
-// Words, one at least.
-fn many_words<'a>(alloc: Global, name: &'a str, help: &'a str) -> Arg<'a>
-    ensures rule { rule_of result ≡ words_rule name.now }
-    ensures local { result.global ≡ false }
-{
-    Arg::new(alloc, name)
-        .required(true)
-        .action(ArgAction::Append)
-        .help(help)
-}
-
-// The command and the places that it takes.
-fn fleet_folders<'a>(alloc: Global) -> Result<clap::Command<'a>, AllocError>
-    ensures app { IfOk result (λ c. app_of c ≡ fleet_folders_app) }
-    ensures local { IfOk result (λ c. (fields_of c).has_globals ≡ false) }
-{
-    let master = word(alloc, "MASTER", "The folder of the master");
-    let mirrors = many_words(alloc, "MIRROR", "The folders of its mirrors, from 1 to 4");
-    let top = clap::Command::new(alloc, "fleet")
-        .about("Brings several mirrors up to their source at once")
-        .after_help(texts::FLEET);
-    let placed = top.arg(master)?;
-    let whole = placed.arg(mirrors)?;
-    Ok(whole)
-}
-
-/// The command `fleet` and its words.
-pub(crate) fn fleet_command<'a>(alloc: Global) -> Result<clap::Command<'a>, AllocError>
-    ensures app { IfOk result (λ c. app_of c ≡ fleet_app) }
-    ensures local { IfOk result (λ c. (fields_of c).has_globals ≡ false) }
-{
-    let workers = valued(
-        alloc,
-        "workers",
-        "K",
-        "The number of mirrors that are brought up at a time, from 1 to 64",
-    );
-    let top = fleet_folders(alloc)?;
-    let whole = top.arg(workers)?;
-    Ok(whole)
-}
 
 /// The fleet that the values of `fleet` name. Usage where the number of workers isn't one from 1 to 64, where there is a
 /// fifth mirror, or where a folder is named twice.
@@ -153,7 +108,8 @@ fn first_twice<'a>(names: &[&'a str]) -> Option<&'a str>
     first_twice(rest)
 }
 
-fn stands_in(names: &[&str], name: &str) -> bool
+/// Whether a name is one of these.
+pub(crate) fn stands_in(names: &[&str], name: &str) -> bool
     ensures { result ≡ list_any (bytes_eq name.now) (map (λ v. v.now) names.now) }
 {
     match names.split_first() {

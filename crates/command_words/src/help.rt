@@ -3,6 +3,7 @@ ghost use Rattle.std.specs.Prelude.{◌≡◌, [], get_or, bytes_eq, map, IfOk, 
 ghost use Rattle.std.specs.List.{list_any};
 ghost use Rattle.command_words.specs.Lines.{commands, help_of};
 
+use crate::fleet_named::stands_in;
 use std::alloc::{AllocError, Global};
 
 /// The words whose help tells more: those of a command where the first word, behind the program's name, names one, else
@@ -27,20 +28,25 @@ fn first_word(words: &[String]) -> &str
     }
 }
 
+// The names of the commands.
+const COMMANDS: [&str; 13] = [
+    "list",
+    "canon",
+    "create",
+    "load",
+    "dump",
+    "mkdir",
+    "upgrade",
+    "initialize",
+    "synchronize",
+    "copy-revprops",
+    "info",
+    "serve",
+    "fleet",
+];
+
 fn is_command(word: &str) -> bool
     ensures { result ≡ list_any (bytes_eq word.now) commands }
 {
-    word == "list"
-        || word == "canon"
-        || word == "create"
-        || word == "load"
-        || word == "dump"
-        || word == "mkdir"
-        || word == "upgrade"
-        || word == "initialize"
-        || word == "synchronize"
-        || word == "copy-revprops"
-        || word == "info"
-        || word == "serve"
-        || word == "fleet"
+    stands_in(&COMMANDS, word)
 }

@@ -20,9 +20,12 @@
 pub use command_line::{Command, Planned, Pull, Service, Task, Usage, plan};
 pub use fleet_words::Fleet;
 
+mod builder;
 mod command_line;
 mod fleet_named;
 mod fleet_words;
 mod help;
+mod table;
 mod terminal;
 mod texts;
+mod word;

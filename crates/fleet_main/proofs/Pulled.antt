@@ -10,7 +10,7 @@ use Rattle.sync_core.specs.declared.fault.SyncFault.{SyncFault}
 use Rattle.sync_job.specs.Said.{Spoken}
 use Rattle.mirror_engines.specs.Runs.{IsWorked}
 use Rattle.mirror_engines.specs.declared.work.Work.{Work}
-use Rattle.svn_client.specs.Runs.{RunsFrom, RunsOver, Unreached, Reached, Unopened, Ran}
+use Rattle.svn_ends.specs.Runs.{RunsFrom, RunsOver, Unreached, Reached, Unopened, Ran}
 use Rattle.fleet_main.specs.Doing.{IsOpenedIn, IsWorkedOver, NotWorkedOn, NotWorkedOver, OfStanding, UnopenedOr, WorkedOn}
 use Rattle.fleet_main.specs.Loans.{TakesBack}
 use Rattle.fleet_main.specs.Pulling.{NotKeptFor, NotPulledOn, NotPulledOver, work_as}

@@ -6,7 +6,7 @@ use Rattle.fleet_disk.specs.declared.disk.Disk.{Ghosts}
 use Rattle.node_base.specs.declared.refusal.Refusal.{Refusal}
 use Rattle.repo_store.specs.declared.store.RepoStore.{RepoStore}
 use Rattle.sockets.specs.declared.fault.SocketFault.{SocketFault}
-use Rattle.svn_server.specs.Served.{IsOfStore}
+use Rattle.svn_ends.specs.Served.{IsOfStore}
 use Rattle.fleet_main.specs.Doing.{IsOpenedIn}
 use Rattle.fleet_main.specs.Loans.{TakesBack}
 use Rattle.fleet_main.specs.Serving.{IsServerFault, NotServedIn, OfServed}

@@ -11,7 +11,7 @@ use Rattle.mirror_engines.specs.Runs.{IsWorked}
 use Rattle.mirror_engines.specs.declared.work.Work.{Work}
 use Rattle.mirror_engines.specs.declared.work.Work.TheVariants as work
 use Rattle.ra_client.specs.declared.fault.ClientFault.{ClientFault}
-use Rattle.svn_client.specs.Runs.{IsUnreached, TellsMaster}
+use Rattle.svn_ends.specs.Runs.{IsUnreached, TellsMaster}
 use Rattle.fleet_main.specs.Doing.{IsKept, IsWorkedOver, NotKept, NotWorkedOn, NotWorkedOver, OfStanding, UnopenedOr}
 use Rattle.fleet_main.specs.Loans.{AreBack}
 use Rattle.fleet_main.specs.declared.lending.Folders.{Ghosts as FolderGhosts}

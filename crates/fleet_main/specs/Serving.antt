@@ -6,7 +6,7 @@ use Rattle.node_base.specs.declared.refusal.Refusal.{Refusal}
 use Rattle.node_base.specs.declared.refusal.Refusal.TheVariants as refusal
 use Rattle.repo_store.specs.declared.store.RepoStore.{RepoStore}
 use Rattle.sockets.specs.Lines.{listening}
-use Rattle.svn_server.specs.Served.{IsOfStore}
+use Rattle.svn_ends.specs.Served.{IsOfStore}
 use Rattle.fleet_main.specs.Doing.{IsKept, IsOpenedOn}
 use Rattle.fleet_main.specs.Lending.{There, IsGiven, OthersStay}
 use Rattle.fleet_main.specs.Opening.{NotOpenedIn}

@@ -21,7 +21,7 @@ use node_base::Refusal;
 use repo_store::RepoStore;
 use std::alloc::Global;
 use std::net::{Net, TcpStream};
-use svn_client::run_work_from;
+use svn_ends::run_work_from;
 
 // The work that a task is.
 fn work_of(alloc: Global, url: &str, task: Task) -> Result<Work, Refusal>

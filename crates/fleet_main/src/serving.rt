@@ -8,7 +8,7 @@ ghost use Rattle.node_base.specs.Refusals.{fault_line};
 ghost use Rattle.repo_store.specs.Words.{disk_of, repository_of, revisions_of, HasFailed};
 ghost use Rattle.sockets.specs.Lines.{listening};
 ghost use Rattle.store_engines.specs.Mirrors.{is_mirror};
-ghost use Rattle.svn_server.specs.Served.{IsOfStore};
+ghost use Rattle.svn_ends.specs.Served.{IsOfStore};
 ghost use Rattle.fleet_disk.specs.Image.{Image};
 ghost use Rattle.repo_store.specs.Journal.{Keeps};
 ghost use Rattle.fleet_main.specs.Doing.{EndsWith, HandsOn};
@@ -29,7 +29,7 @@ use std::net::{Net, TcpListener, TcpStream};
 use std::sync::Wait;
 use std::thread::Threads;
 use store_engines::is_mirror;
-use svn_server::serve_store;
+use svn_ends::serve_store;
 
 // Whether a store's repository takes no changes, being a mirror.
 fn takes_none<D: Disk + Drop>(store: &RepoStore<D>) -> bool

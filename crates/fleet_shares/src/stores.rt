@@ -68,11 +68,15 @@ impl<D: Disk + Drop> FleetStores<D> {
     {
         let FleetStores {
             master,
-            first: _,
-            second: _,
-            third: _,
-            fourth: _,
+            first,
+            second,
+            third,
+            fourth,
         } = self;
+        drop(first);
+        drop(second);
+        drop(third);
+        drop(fourth);
         master
     }
 
@@ -83,12 +87,12 @@ impl<D: Disk + Drop> FleetStores<D> {
         ensures others { (other : ℕ) → other ≢ slot → store_at result other ≡ store_at self other }
     {
         let mut stores = self;
-        match slot {
-            0 => stores.first = Some(store),
-            1 => stores.second = Some(store),
-            2 => stores.third = Some(store),
-            _ => stores.fourth = Some(store),
-        }
+        drop(match slot {
+            0 => stores.first.replace(store),
+            1 => stores.second.replace(store),
+            2 => stores.third.replace(store),
+            _ => stores.fourth.replace(store),
+        });
         stores
     }
 

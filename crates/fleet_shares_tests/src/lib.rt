@@ -1,5 +1,6 @@
-//! Tests of what threads share: the seats of a store, the workers and orders of `fleet_jobs`, and a fleet over stores in
-//! memory.
+//! Tests of what threads share: the seats of a store, the workers and orders of `fleet_jobs`, a fleet over stores in
+//! memory, and many threads at once: committers at a master, jobs at two mirrors of it and readers, a machine that stops
+//! amid them, and a fleet whose workers run the jobs.
 #![tactic(auto)]
 
 #[cfg(test)]
@@ -7,11 +8,27 @@ mod answer_tests;
 #[cfg(test)]
 mod beside_tests;
 #[cfg(test)]
+mod board;
+#[cfg(test)]
+mod crowd;
+#[cfg(test)]
+mod crowd_made;
+#[cfg(test)]
+mod crowd_tests;
+#[cfg(test)]
+mod fleet_crowd;
+#[cfg(test)]
+mod fleet_crowd_tests;
+#[cfg(test)]
+mod fronts;
+#[cfg(test)]
 mod gates;
 #[cfg(test)]
 mod growth_tests;
 #[cfg(test)]
 mod made;
+#[cfg(test)]
+mod master;
 #[cfg(test)]
 mod order_tests;
 #[cfg(test)]

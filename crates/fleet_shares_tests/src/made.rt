@@ -139,28 +139,6 @@ pub(crate) fn ran<
     (stores, is_told)
 }
 
-fn let_go_of(store: Option<RepoStore<MemDisk>>) {
-    if let Some(store) = store {
-        let _disk = store.into_disk();
-    }
-}
-
-// Takes a fleet's stores apart: where they are dropped as they are, the proof takes ten times as long.
-fn let_go(stores: FleetStores<MemDisk>) {
-    let FleetStores {
-        master,
-        first,
-        second,
-        third,
-        fourth,
-    } = stores;
-    let _disk = master.into_disk();
-    let_go_of(first);
-    let_go_of(second);
-    let_go_of(third);
-    let_go_of(fourth);
-}
-
 /// Whether a run of so many workers tells just this, and leaves the first so many mirrors at that newest revision.
 pub(crate) fn tells<
     R: Threads + Wait + Clone + Send + Drop + 'static,
@@ -178,6 +156,6 @@ pub(crate) fn tells<
 ) -> bool {
     let (stores, is_told) = ran(rt, alloc, stores, refusals, workers, gate, wanted);
     let stand = stand_at(&stores, mirrors, head);
-    let_go(stores);
+    drop(stores);
     stand && is_told
 }

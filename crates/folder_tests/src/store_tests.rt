@@ -191,7 +191,9 @@ pub(crate) fn comes<D: Disk + Drop>(
         command,
         &mut CountedReader::new(bytes.as_slice()),
     );
-    came_to(&ran, step)
+    let answer = came_to(&ran, step);
+    drop(folders);
+    answer
 }
 
 // Nothing of this was wrong: it is asserted here for all tests, and what is wrong is told.
@@ -262,6 +264,7 @@ fn create_begins_a_repository(rt: HostRuntime) {
     // 149 bytes, with the sum that `md5sum` tells of them
     let slots = b"\x01\0\0\0\0\0\0\0\x95p\x03\x96\x9B\xE9H\x96\xF8`\xFA=\x8D\x10\xE4l\x11\0";
     assert!(rt; holds(&disk, &[HEAD, IDENTITY, ZERO], slots));
+    drop(disk);
 }
 
 const LOADING: [Step<'static>; 4] = [
@@ -285,6 +288,7 @@ fn load_commits_each_revision(rt: HostRuntime) {
     let slots =
         b"\x01\0\0\0\0\0\0\0\x95p\x03\x96\x9B\xE9H\x96\xF8`\xFA=\x8D\x10\xE4l\x11\x01\0\0\0\0\0\0\x01\xA8Gs\xE6\x8A\x10d\x15\x85\xA8\xD8\x98\x07\xC6\xFB\x8B\xCD\0";
     assert!(rt; holds(&disk, &[HEAD, IDENTITY, ZERO, ONE_FILE], slots));
+    drop(disk);
 }
 
 const LATE: &str = "svnfleet: 16 revision out of sequence\n";
@@ -305,6 +309,7 @@ fn load_goes_on_from_the_head(rt: HostRuntime) {
     // revision 0's properties were given once more
     let journal = disk.bytes(DiskFile::Journal);
     assert!(rt; are(journal, &[HEAD, IDENTITY, ZERO, ZERO, ONE_FILE, NO_FILE]));
+    drop(disk);
 }
 
 // Whether a load of these parts into a new repository prints that and is refused with this line, where the journal has these
@@ -321,7 +326,9 @@ fn ends(
     let step = Step(&LOAD, parts, output, errors);
     let same = comes(rt, alloc, &mut disk, &step);
     let left = crashed(rt, &disk, Pick::Old);
-    same && are(left.bytes(DiskFile::Journal), journal)
+    let answer = same && are(left.bytes(DiskFile::Journal), journal);
+    drop((disk, left));
+    answer
 }
 
 // Whether a load of this revision 1 is refused with this line, and commits nothing.
@@ -431,6 +438,7 @@ fn folders_are_told_apart(rt: HostRuntime) {
     let command = named(&rt, alloc, here.0);
     let second = run_over(alloc, &mut folders, command, &mut input);
     assert!(rt; came_to(&second, &here));
+    drop((disk, empty));
 }
 
 const MAKE: [&str; 7] = [
@@ -455,6 +463,7 @@ fn mkdir_commits_one_directory(rt: HostRuntime) {
     let alloc = rt.alloc();
     let mut disk = begun(&rt, alloc);
     none_wrong(&rt, "steps", first_wrong(&rt, alloc, &mut disk, &MAKING));
+    drop(disk);
 }
 
 // Whether a directory at this path with this message is refused with this line.
@@ -498,6 +507,7 @@ fn mkdir_judges_its_path(rt: HostRuntime) {
     none_wrong(&rt, "paths", first_taken(&rt, alloc, &mut disk));
     let journal = disk.bytes(DiskFile::Journal);
     assert!(rt; are(journal, &[HEAD, IDENTITY, ZERO, ONE_FILE]));
+    drop(disk);
 }
 
 // A message of so many bytes.
@@ -526,6 +536,7 @@ fn mkdir_judges_its_message_last(rt: HostRuntime) {
     let line = "svnfleet: 8 limit exceeded\n";
     assert!(rt; is_refused(&rt, alloc, &mut disk, "b", long.as_str(), line));
     assert!(rt; is_committed(&rt, alloc, &mut disk, message(&rt, alloc, 65_536).as_str()));
+    drop(disk);
 }
 
 // The file's repository with another log.
@@ -554,6 +565,7 @@ fn dump_has_the_changed_property(rt: HostRuntime) {
         Step(&DUMP, &[], &all, DONE),
     ];
     none_wrong(&rt, "steps", first_wrong(&rt, alloc, &mut disk, &steps));
+    drop(disk);
 }
 
 // The file's repository with another byte in its text.
@@ -581,6 +593,7 @@ fn damaged_entry_is_told(rt: HostRuntime) {
         "steps",
         first_wrong(&rt, alloc, &mut disk, &OVER_DAMAGE),
     );
+    drop(disk);
 }
 
 // How many calls the opening of a disk makes: a dump makes no others.
@@ -588,7 +601,9 @@ fn opening_calls(rt: &impl Abort, alloc: Global, disk: &MemDisk) -> u64 {
     let mut copy = crashed(rt, disk, Pick::New);
     let step = Step(&DUMP_ONE, &[], &[HEAD, IDENTITY, ONE_FILE], DONE);
     assert!(rt; comes(rt, alloc, &mut copy, &step));
-    copy.calls().len() as u64
+    let answer = copy.calls().len() as u64;
+    drop(copy);
+    answer
 }
 
 // The disk of the file's repository, of which so many calls pass behind its opening.

@@ -58,6 +58,7 @@ fn an_upgrade_gives_sums(rt: HostRuntime) {
     let mut disk = with_gates(&rt, alloc, ONE_FILE, TWO_GATES, b"");
     none_wrong(&rt, "steps", first_wrong(&rt, alloc, &mut disk, &UPGRADING));
     assert!(rt; holds(&disk, &WHOLE, TWO_SLOTS));
+    drop(disk);
 }
 
 const STAYING: [Step<'static>; 2] = [
@@ -74,6 +75,7 @@ fn the_first_version_stays_in_use(rt: HostRuntime) {
     assert!(rt; disk.bytes(DiskFile::Slots).is_empty());
     let steps = [Step(&UPGRADE, &[], &["Upgraded 3 entries.\n"], DONE)];
     none_wrong(&rt, "steps", first_wrong(&rt, alloc, &mut disk, &steps));
+    drop(disk);
 }
 
 #[test]
@@ -86,6 +88,7 @@ fn a_changed_byte_is_found_by_its_sum(rt: HostRuntime) {
     let line = "svnfleet: 33 entry 1 is damaged\n";
     let steps = [Step(&DUMP, &[], &[], line), Step(&UPGRADE, &[], &[], line)];
     none_wrong(&rt, "steps", first_wrong(&rt, alloc, &mut second, &steps));
+    drop((first, second));
 }
 
 const NOTHING: [Step<'static>; 1] = [Step(&UPGRADE, &[], &[], "svnfleet: 34 no repository\n")];
@@ -96,6 +99,7 @@ fn nothing_to_upgrade(rt: HostRuntime) {
     let mut disk = MemDisk::new(alloc);
     none_wrong(&rt, "steps", first_wrong(&rt, alloc, &mut disk, &NOTHING));
     assert!(rt; holds(&disk, &[], b""));
+    drop(disk);
 }
 
 // How many calls an upgrade of the two entries makes, its opening counted in.
@@ -103,7 +107,9 @@ fn upgrading_calls(rt: &impl Abort, alloc: Global) -> u64 {
     let mut disk = with_gates(rt, alloc, ONE_FILE, TWO_GATES, b"");
     let step = Step(&UPGRADE, &[], &["Upgraded 2 entries.\n"], DONE);
     assert!(rt; comes(rt, alloc, &mut disk, &step));
-    disk.calls().len() as u64
+    let answer = disk.calls().len() as u64;
+    drop(disk);
+    answer
 }
 
 // Whether an upgrade is refused where this call fails, and made by the next one, from whichever version the first left.

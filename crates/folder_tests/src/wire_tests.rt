@@ -84,6 +84,7 @@ fn a_copied_directory_is_built_again(rt: HostRuntime) {
             &Step(&LIST, &history, &[COPY_LISTED], DONE)
         )
     );
+    drop(disk);
 }
 
 #[test]
@@ -101,4 +102,5 @@ fn an_edit_without_a_change_changes_the_root(rt: HostRuntime) {
             &Step(&LIST, &history, &[BARE_LISTED], DONE)
         )
     );
+    drop(disk);
 }

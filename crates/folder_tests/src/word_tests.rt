@@ -3,6 +3,7 @@
 use crate::store_tests::none_wrong;
 use fleet_main::{Command, Planned, RevRange, Usage, plan};
 use node_base::RevNo;
+use repo_core::Moment;
 use std::alloc::Global;
 use std::process::Abort;
 use uuid::Uuid;
@@ -62,110 +63,21 @@ fn words_name_a_command(rt: HostRuntime) {
     none_wrong(&rt, "words", first_misread(&rt, rt.alloc(), &COMMANDS));
 }
 
-// Whether words are answered by a creation in the folder `repo` with this identity.
-fn creates(rt: &impl Abort, alloc: Global, parts: &[&str], wanted: Uuid) -> bool {
-    match planned(rt, alloc, parts) {
-        Ok(Planned::Run(Command::Create { folder, identity })) => {
-            folder.as_str() == "repo" && identity == wanted
-        }
-        _ => false,
-    }
-}
-
-#[test]
-fn words_create(rt: HostRuntime) {
-    let Ok(identity) = Uuid::parse_str("6a1f0c3e-0000-4000-8000-00000000abcd") else {
-        rt.abort()
-    };
-    for spelled in [
-        "6a1f0c3e-0000-4000-8000-00000000abcd",
-        "6A1F0C3E-0000-4000-8000-00000000ABCD",
-    ] {
-        let words = ["create", "repo", "--uuid", spelled];
-        assert!(rt; creates(&rt, rt.alloc(), &words, identity), "{spelled}");
-    }
-}
-
-// By a load into the folder `repo`.
-fn loads(rt: &impl Abort, alloc: Global, parts: &[&str]) -> bool {
-    match planned(rt, alloc, parts) {
-        Ok(Planned::Run(Command::Load { folder })) => folder.as_str() == "repo",
-        _ => false,
-    }
-}
-
-// By a dump of the folder `repo`, of this range.
-fn dumps(rt: &impl Abort, alloc: Global, parts: &[&str], wanted: Option<RevRange>) -> bool {
-    match planned(rt, alloc, parts) {
-        Ok(Planned::Run(Command::Dump { folder, range })) => {
-            folder.as_str() == "repo" && range == wanted
-        }
-        _ => false,
-    }
-}
-
-#[test]
-fn words_load_and_dump(rt: HostRuntime) {
-    let alloc = rt.alloc();
-    assert!(rt; loads(&rt, alloc, &["load", "repo"]));
-    assert!(rt; dumps(&rt, alloc, &["dump", "repo"], None));
-    let range = RevRange::new(RevNo::new(3), RevNo::new(65_535));
-    assert!(rt; range.is_some() && dumps(&rt, alloc, &["dump", "-r", "3:65535", "repo"], range));
-}
-
-// By an upgrade of the folder `repo`.
-fn upgrades(rt: &impl Abort, alloc: Global, parts: &[&str]) -> bool {
-    match planned(rt, alloc, parts) {
-        Ok(Planned::Run(Command::Upgrade { folder })) => folder.as_str() == "repo",
-        _ => false,
-    }
-}
-
-const NO_UPGRADES: [Meant<'static>; 2] = [
-    (&["upgrade"], "wrong"),
-    (&["upgrade", "repo", "other"], "wrong"),
-];
-
-#[test]
-fn words_upgrade(rt: HostRuntime) {
-    let alloc = rt.alloc();
-    assert!(rt; upgrades(&rt, alloc, &["upgrade", "repo"]));
-    none_wrong(&rt, "words", first_misread(&rt, alloc, &NO_UPGRADES));
-}
-
-// By a directory `a/b` in the folder `repo`, with the message `hi` and a moment of this date.
-fn makes_directory(rt: &impl Abort, alloc: Global, parts: &[&str], date: &str) -> bool {
-    match planned(rt, alloc, parts) {
-        Ok(
-            Planned::Run(
-                Command::MakeDir {
-                    folder,
-                    path,
-                    message,
-                    moment,
-                },
-            ),
-        ) => {
-            let dated = moment.date_text(alloc).expect(rt, "memory");
-            let named = folder.as_str() == "repo" && path.as_str() == "a/b";
-            named && message.as_str() == "hi" && dated.as_str() == date
-        }
-        _ => false,
-    }
-}
-
-#[test]
-fn words_make_a_directory(rt: HostRuntime) {
-    let words = [
-        "mkdir",
-        "repo",
-        "a/b",
-        "--moment",
-        "1000000000123456",
-        "--message",
-        "hi",
-    ];
-    assert!(rt; makes_directory(&rt, rt.alloc(), &words, "2001-09-09T01:46:40.123456Z"));
+// What words are to be answered by: in the folder `repo` where it is one over a folder.
+#[derive(Drop)]
+enum Wanted<'a> {
+    // A creation with this identity.
+    Create(Uuid),
+    // A load.
+    Load,
+    // A dump of this range.
+    Dump(Option<RevRange>),
+    // An upgrade.
+    Upgrade,
+    // A directory `a/b` with the message `hi` and a moment of this date.
+    MakeDir(&'a str),
+    // A fleet of the master `m` with these mirrors, by so many workers.
+    Fleet(&'a [&'a str], u16),
 }
 
 // Whether names are these, one by one.
@@ -181,21 +93,111 @@ fn are_named(names: &[String], wanted: &[&str]) -> bool {
     true
 }
 
-// By a fleet of the master `m` with these mirrors, by so many workers.
-fn brings_up(
-    rt: &impl Abort,
-    alloc: Global,
-    parts: &[&str],
-    mirrors: &[&str],
-    workers: u16,
-) -> bool {
-    match planned(rt, alloc, parts) {
-        Ok(Planned::Fleet(fleet)) => {
-            let named = are_named(fleet.mirrors.as_slice(), mirrors);
-            named && fleet.master.as_str() == "m" && fleet.workers == workers
+// Whether a moment has this date.
+fn is_dated(rt: &impl Abort, alloc: Global, moment: Moment, date: &str) -> bool {
+    let text = moment.date_text(alloc).expect(rt, "memory");
+    text.as_str() == date
+}
+
+// Whether a command is the one that is wanted.
+fn is_command(rt: &impl Abort, alloc: Global, command: &Command, wanted: &Wanted<'_>) -> bool {
+    match (command, wanted) {
+        (Command::Create { folder, identity }, Wanted::Create(given)) => {
+            folder.as_str() == "repo" && *identity == *given
+        }
+        (Command::Load { folder }, Wanted::Load) => folder.as_str() == "repo",
+        (Command::Dump { folder, range }, Wanted::Dump(given)) => {
+            folder.as_str() == "repo" && *range == *given
+        }
+        (Command::Upgrade { folder }, Wanted::Upgrade) => folder.as_str() == "repo",
+        (
+            Command::MakeDir {
+                folder,
+                path,
+                message,
+                moment,
+            },
+            Wanted::MakeDir(date),
+        ) => {
+            let named = folder.as_str() == "repo" && path.as_str() == "a/b";
+            named && message.as_str() == "hi" && is_dated(rt, alloc, *moment, *date)
         }
         _ => false,
     }
+}
+
+// Whether what is planned is what is wanted.
+fn is_wanted(rt: &impl Abort, alloc: Global, planned: &Planned, wanted: &Wanted<'_>) -> bool {
+    match (planned, wanted) {
+        (Planned::Run(command), _) => is_command(rt, alloc, command, wanted),
+        (Planned::Fleet(fleet), Wanted::Fleet(mirrors, workers)) => {
+            let named = are_named(fleet.mirrors.as_slice(), *mirrors);
+            named && fleet.master.as_str() == "m" && fleet.workers == *workers
+        }
+        _ => false,
+    }
+}
+
+// Whether words are answered by what is wanted.
+fn asks(rt: &impl Abort, alloc: Global, parts: &[&str], wanted: &Wanted<'_>) -> bool {
+    match planned(rt, alloc, parts) {
+        Ok(planned) => is_wanted(rt, alloc, &planned, wanted),
+        Err(_) => false,
+    }
+}
+
+#[test]
+fn words_create(rt: HostRuntime) {
+    let Ok(identity) = Uuid::parse_str("6a1f0c3e-0000-4000-8000-00000000abcd") else {
+        rt.abort()
+    };
+    for spelled in [
+        "6a1f0c3e-0000-4000-8000-00000000abcd",
+        "6A1F0C3E-0000-4000-8000-00000000ABCD",
+    ] {
+        let words = ["create", "repo", "--uuid", spelled];
+        assert!(rt;
+            asks(&rt, rt.alloc(), &words, &Wanted::Create(identity)),
+            "{spelled}"
+        );
+    }
+}
+
+#[test]
+fn words_load_and_dump(rt: HostRuntime) {
+    let alloc = rt.alloc();
+    assert!(rt; asks(&rt, alloc, &["load", "repo"], &Wanted::Load));
+    assert!(rt; asks(&rt, alloc, &["dump", "repo"], &Wanted::Dump(None)));
+    let range = RevRange::new(RevNo::new(3), RevNo::new(65_535));
+    let words = ["dump", "-r", "3:65535", "repo"];
+    assert!(rt; range.is_some() && asks(&rt, alloc, &words, &Wanted::Dump(range)));
+}
+
+const NO_UPGRADES: [Meant<'static>; 2] = [
+    (&["upgrade"], "wrong"),
+    (&["upgrade", "repo", "other"], "wrong"),
+];
+
+#[test]
+fn words_upgrade(rt: HostRuntime) {
+    let alloc = rt.alloc();
+    assert!(rt; asks(&rt, alloc, &["upgrade", "repo"], &Wanted::Upgrade));
+    none_wrong(&rt, "words", first_misread(&rt, alloc, &NO_UPGRADES));
+}
+
+#[test]
+fn words_make_a_directory(rt: HostRuntime) {
+    let words = [
+        "mkdir",
+        "repo",
+        "a/b",
+        "--moment",
+        "1000000000123456",
+        "--message",
+        "hi",
+    ];
+    let wanted = Wanted::MakeDir("2001-09-09T01:46:40.123456Z");
+    assert!(rt; asks(&rt, rt.alloc(), &words, &wanted));
 }
 
 const NO_FLEETS: [Meant<'static>; 1] = [(&["fleet", "m", "--workers", "1", "a", "a"], "wrong")];
@@ -204,8 +206,8 @@ const NO_FLEETS: [Meant<'static>; 1] = [(&["fleet", "m", "--workers", "1", "a", 
 fn words_name_a_fleet(rt: HostRuntime) {
     let alloc = rt.alloc();
     let two = ["fleet", "m", "--workers", "2", "m1", "m2"];
-    assert!(rt; brings_up(&rt, alloc, &two, &["m1", "m2"], 2));
+    assert!(rt; asks(&rt, alloc, &two, &Wanted::Fleet(&["m1", "m2"], 2)));
     let four = ["fleet", "--workers=064", "m", "a", "b", "c", "d"];
-    assert!(rt; brings_up(&rt, alloc, &four, &["a", "b", "c", "d"], 64));
+    assert!(rt; asks(&rt, alloc, &four, &Wanted::Fleet(&["a", "b", "c", "d"], 64)));
     none_wrong(&rt, "words", first_misread(&rt, alloc, &NO_FLEETS));
 }

@@ -38,7 +38,9 @@ fn is_kept<R: Abort, N: HolderName>(
     let mut reader = book.seat_reader(row.notes(alloc).expect(rt, "notes"));
     let newest = book.latest(&mut reader) == RevNo::ZERO;
     let back = number_of(book.enter_job(alloc, &parts.token));
-    (begun, taken, running, back) == (0, 0, 55, 0) && looked && newest
+    let answer = (begun, taken, running, back) == (0, 0, 55, 0) && looked && newest;
+    drop(parts);
+    answer
 }
 
 fn judged<R: Abort, M: Count, C: Count, H: Count, K: Count, L: RowName>(

@@ -45,7 +45,9 @@ pub(crate) fn begun<R: Wait + Abort, N: HolderName>(
     seat: &mut HolderSeat<N>,
 ) -> u8 {
     let parts = Parts::new(alloc, b"i").expect(rt, "memory");
-    called(rt, alloc, share, seat, &parts.call(Kind::Init))
+    let answer = called(rt, alloc, share, seat, &parts.call(Kind::Init));
+    drop(parts);
+    answer
 }
 
 /// Whether a look's answer tells this head, and so much merged.

@@ -21,7 +21,9 @@ fn initialise<R: Wait + Abort, L: RowName>(
     seat: &JobSeat<L>,
 ) -> u8 {
     let parts = Parts::new(alloc, b"a").expect(rt, "memory");
-    called(rt, alloc, share, seat, &parts.call(Kind::Init))
+    let answer = called(rt, alloc, share, seat, &parts.call(Kind::Init));
+    drop(parts);
+    answer
 }
 
 // Whether the refusal is 55 and tells this token.
@@ -86,7 +88,9 @@ fn copies<R: Wait + Abort, L: RowName>(
     let copied = called(rt, alloc, share, seat, &parts.call(Kind::Put));
     let merged = called(rt, alloc, share, seat, &parts.call(Kind::Merged));
     let cleared = called(rt, alloc, share, seat, &parts.call(Kind::Clear));
-    (copying, committed, copied, merged, cleared) == (0, 0, 0, 0, 0)
+    let answer = (copying, committed, copied, merged, cleared) == (0, 0, 0, 0, 0);
+    drop(parts);
+    answer
 }
 
 // A reader sees a revision once it is committed, and reads it; what a call out of turn or of another seat would do isn't

@@ -47,7 +47,12 @@ fn copies<R: Wait + Abort, N: HolderName>(
     let copied = called(rt, alloc, share, seat, &parts.call(Kind::Put));
     let merged = called(rt, alloc, share, seat, &parts.call(Kind::Merged));
     let cleared = called(rt, alloc, share, seat, &parts.call(Kind::Clear));
-    (copying, committed, copied) == (0, 0, 0) && (merged, cleared) == (0, 0) && beside && between
+    let answer = (copying, committed, copied) == (0, 0, 0)
+        && (merged, cleared) == (0, 0)
+        && beside
+        && between;
+    drop(parts);
+    answer
 }
 
 // While a seat holds the lock its looks tell what its own calls left, whichever seats call between; and the lock is free

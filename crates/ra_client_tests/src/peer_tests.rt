@@ -245,7 +245,9 @@ fn makes_up(
     let reads = trial.first_read(rt, alloc);
     let writes = trial.writes(rt, alloc);
     let _disk = source.into_disk();
-    reads.is_none() && writes.is_some_and(|writes| writes >= least)
+    let answer = reads.is_none() && writes.is_some_and(|writes| writes >= least);
+    drop((begun, held));
+    answer
 }
 
 #[test]

@@ -81,7 +81,9 @@ fn is_range_anyhow(alloc: Global, bytes: &[u8], source: &Repo, first: u16) -> bo
 fn is_served(rt: &impl Abort, alloc: Global, asked: &[u8], first: u16) -> bool {
     let source = repo(rt, alloc);
     let bytes = served(rt, alloc, asked);
-    is_range_anyhow(alloc, bytes.as_slice(), &source, first)
+    let answer = is_range_anyhow(alloc, bytes.as_slice(), &source, first);
+    drop(source);
+    answer
 }
 
 #[test]

@@ -106,7 +106,9 @@ fn newest(port: &mut Port<'_>) -> Option<u16> {
 fn is_taken(rt: &impl Abort, alloc: Global, line: &Line) -> bool {
     let held = repo(rt, alloc);
     let bytes = served(rt, alloc, ASKED);
-    is_told(alloc, held.trees(), bytes.as_slice(), line)
+    let answer = is_told(alloc, held.trees(), bytes.as_slice(), line);
+    drop(held);
+    answer
 }
 
 #[test]

@@ -22,16 +22,16 @@ fn bare(rt: &impl Abort, alloc: Global, at: &str, action: Action) -> Change {
     }
 }
 
-// A directory that is added.
-fn dir(rt: &impl Abort, alloc: Global, at: &str) -> Change {
+/// A directory that is added.
+pub(crate) fn dir(rt: &impl Abort, alloc: Global, at: &str) -> Change {
     let mut change = bare(rt, alloc, at, Action::Add);
     change.kind = Some(NodeKind::Dir);
     change.props = Some(Props::empty());
     change
 }
 
-// A file that is added.
-fn file(rt: &impl Abort, alloc: Global, at: &str, bytes: &[u8]) -> Change {
+/// A file that is added.
+pub(crate) fn file(rt: &impl Abort, alloc: Global, at: &str, bytes: &[u8]) -> Change {
     let bytes = Vec::from_slice(alloc, bytes).expect(rt, "memory");
     let mut change = bare(rt, alloc, at, Action::Add);
     change.kind = Some(NodeKind::File);
@@ -40,8 +40,8 @@ fn file(rt: &impl Abort, alloc: Global, at: &str, bytes: &[u8]) -> Change {
     change
 }
 
-// A copy from revision 1.
-fn copied(rt: &impl Abort, alloc: Global, at: &str, from: &str) -> Change {
+/// A copy from revision 1.
+pub(crate) fn copied(rt: &impl Abort, alloc: Global, at: &str, from: &str) -> Change {
     let mut change = bare(rt, alloc, at, Action::Add);
     change.source = Some(Source {
         path: path(rt, alloc, from),
@@ -50,12 +50,13 @@ fn copied(rt: &impl Abort, alloc: Global, at: &str, from: &str) -> Change {
     change
 }
 
-// One change more.
-fn add(rt: &impl Abort, changes: &mut Vec<Change>, change: Change) {
+/// One change more.
+pub(crate) fn add(rt: &impl Abort, changes: &mut Vec<Change>, change: Change) {
     changes.push(change).expect(rt, "memory");
 }
 
-fn set_of(rt: &impl Abort, changes: Vec<Change>) -> ChangeSet {
+/// The set of these changes.
+pub(crate) fn set_of(rt: &impl Abort, changes: Vec<Change>) -> ChangeSet {
     ChangeSet::from_changes(changes).expect(rt, "a normal set")
 }
 

@@ -154,9 +154,11 @@ fn is_told(
 fn is_answered(rt: &impl Abort, alloc: Global, asked: &[u8], parts: &[&[u8]], then: Then) -> bool {
     let sent = sent(rt, alloc, asked);
     let mut port = port(rt, alloc);
-    is_told(alloc, &mut port, &sent, sent.len(), parts, then)
+    let answer = is_told(alloc, &mut port, &sent, sent.len(), parts, then)
         && is_told(alloc, &mut port, &sent, 17, parts, then)
-        && is_told(alloc, &mut port, &sent, 1, parts, then)
+        && is_told(alloc, &mut port, &sent, 1, parts, then);
+    drop(port);
+    answer
 }
 
 #[test]

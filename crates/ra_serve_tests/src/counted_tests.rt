@@ -73,7 +73,9 @@ fn calls_wanted<P: RepoPort>(alloc: Global, port: &mut P, sent: &[u8]) -> Option
 fn copy_calls(rt: &impl Abort, alloc: Global) -> Option<u64> {
     let mut port = copy_port(rt, alloc);
     let sent = asking(rt, alloc, ASKED);
-    calls_wanted(alloc, &mut port, &sent)
+    let answer = calls_wanted(alloc, &mut port, &sent);
+    drop(port);
+    answer
 }
 
 #[test]
@@ -111,7 +113,9 @@ fn copy_wants_each(rt: &impl Abort, alloc: Global) -> bool {
     let mut port = copy_port(rt, alloc);
     let sent = asking(rt, alloc, ASKED);
     let bytes = sent.len() as u64;
-    reads_wanted(alloc, &mut port, &sent) == bytes.checked_add(1)
+    let answer = reads_wanted(alloc, &mut port, &sent) == bytes.checked_add(1);
+    drop(port);
+    answer
 }
 
 #[test]
@@ -151,7 +155,9 @@ fn is_same(rt: &impl Abort, alloc: Global) -> bool {
     let mut port = file_port(rt, alloc, false);
     let whole = run(alloc, &mut port, &sent, sent.len(), u64::MAX, u64::MAX);
     let mut other = file_port(rt, alloc, false);
-    ends_as(alloc, &mut other, &sent, &whole)
+    let answer = ends_as(alloc, &mut other, &sent, &whole);
+    drop((port, other));
+    answer
 }
 
 #[test]

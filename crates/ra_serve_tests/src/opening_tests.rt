@@ -143,13 +143,17 @@ fn ends_by(rt: &impl Abort, alloc: Global, bytes: &[u8], fault: ItemFault) -> bo
     sent.extend_from_slice(bytes).expect(rt, "memory");
     let told = [GREETING, MECHANISMS, WELCOME, AUTHORISED, LATEST];
     let mut port = file_port(rt, alloc, false);
-    lead_to(alloc, &mut port, &sent, End::Items(fault), &told)
+    let answer = lead_to(alloc, &mut port, &sent, End::Items(fault), &told);
+    drop(port);
+    answer
 }
 
 // Whether they end it behind the greeting where they come first.
 fn begins_by(rt: &impl Abort, alloc: Global, bytes: &[u8], fault: ItemFault) -> bool {
     let mut port = file_port(rt, alloc, false);
-    lead_to(alloc, &mut port, bytes, End::Items(fault), &[GREETING])
+    let answer = lead_to(alloc, &mut port, bytes, End::Items(fault), &[GREETING]);
+    drop(port);
+    answer
 }
 
 // The first of them for which that isn't so.

@@ -28,7 +28,9 @@ fn comes_by(
     answer: &[&[u8]],
 ) -> bool {
     let mut port = file_port(rt, alloc, mirror);
-    is_told(alloc, &mut port, sent, size, answer)
+    let outcome = is_told(alloc, &mut port, sent, size, answer);
+    drop(port);
+    outcome
 }
 
 // Whether they are, whole and one byte at a time.

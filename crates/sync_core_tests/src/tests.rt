@@ -74,9 +74,6 @@ fn master(rt: &impl Abort, alloc: Global, head: u16) -> Repo {
     master
 }
 
-// An answer is let go of. (What that is proved by is much, so it is here alone.)
-pub(crate) fn let_go(_answer: Answer) {}
-
 /// The number of a refusal, 60 where the master failed, and 0 of any other answer.
 pub(crate) fn number_of(answer: &Answer) -> u8 {
     match answer {
@@ -90,7 +87,7 @@ pub(crate) fn number_of(answer: &Answer) -> u8 {
 pub(crate) fn say(alloc: Global, mirror: &mut PlainMirror, seat: u64, call: &MirrorCall<'_>) -> u8 {
     let answer = of_step(mirror.step(alloc, Seat::new(seat), call));
     let number = number_of(&answer);
-    let_go(answer);
+    drop(answer);
     number
 }
 
@@ -226,11 +223,14 @@ fn finish(
 
 // The number of the refusal with which a job ended: 0 where it did what it was to do, and 255 where it goes on.
 pub(crate) fn ended(job: JobState) -> u8 {
-    match job.ending() {
+    let ending = job.ending();
+    let number = match &ending {
         None => 255,
         Some(Ending::Fine) => 0,
         Some(Ending::Refused(fault)) => fault.number(),
-    }
+    };
+    drop(ending);
+    number
 }
 
 fn sync(rt: &impl Abort, alloc: Global, steal: bool) -> JobState {
@@ -274,6 +274,14 @@ fn begun(rt: &impl Abort, alloc: Global, master: &Repo) -> PlainMirror {
     mirror
 }
 
+// The mirror of a master of so many revisions, which is let go of.
+fn begun_over(rt: &impl Abort, alloc: Global, count: u16) -> PlainMirror {
+    let master = master(rt, alloc, count);
+    let mirror = begun(rt, alloc, &master);
+    drop(master);
+    mirror
+}
+
 // Whether a property of a mirror's revision has the value.
 fn has(mirror: &PlainMirror, revision: u16, name: &[u8], value: Option<&[u8]>) -> bool {
     match mirror.repo.props(RevNo::new(revision)) {
@@ -310,7 +318,9 @@ fn resumes(rt: &impl Abort, alloc: Global, actions: u64, said: &[u8]) -> bool {
     let held = synced(rt, alloc, &mut mirror, 2, &master, false, 99, &mut lines);
     lines.clear();
     let last = synced(rt, alloc, &mut mirror, 3, &master, true, 99, &mut lines);
-    held == 54 && last == 0 && lines.as_slice() == said && is_whole(&mirror)
+    let answer = held == 54 && last == 0 && lines.as_slice() == said && is_whole(&mirror);
+    drop((master, mirror));
+    answer
 }
 
 #[test]
@@ -323,12 +333,14 @@ fn a_sync_goes_on_where_another_stopped(rt: HostRuntime) {
 
 // Whether an initialised mirror has the copied properties and its own, and no other.
 fn has_own_names(rt: &impl Abort, alloc: Global) -> bool {
-    let mirror = begun(rt, alloc, &master(rt, alloc, 1));
-    has(&mirror, 0, b"svn:date", Some(b"d"))
+    let mirror = begun_over(rt, alloc, 1);
+    let answer = has(&mirror, 0, b"svn:date", Some(b"d"))
         && has(&mirror, 0, b"svn:sync-lock", None)
         && has(&mirror, 0, b"svn:sync-from-url", Some(b"/master"))
         && has(&mirror, 0, b"svn:sync-from-uuid", Some(b"u"))
-        && has(&mirror, 0, b"svn:sync-last-merged-rev", Some(b"0"))
+        && has(&mirror, 0, b"svn:sync-last-merged-rev", Some(b"0"));
+    drop(mirror);
+    answer
 }
 
 #[test]
@@ -339,7 +351,7 @@ fn sync_names_are_not_copied(rt: HostRuntime) {
 
 // A mirror whose head and last merged revision is 3.
 fn at_three(rt: &impl Abort, alloc: Global) -> PlainMirror {
-    let mut mirror = begun(rt, alloc, &master(rt, alloc, 0));
+    let mut mirror = begun_over(rt, alloc, 0);
     let mut lines = Vec::new(alloc);
     let three = master(rt, alloc, 3);
     let end = synced(rt, alloc, &mut mirror, 1, &three, false, 99, &mut lines);
@@ -356,12 +368,14 @@ fn takes_turns(rt: &impl Abort, alloc: Global, mirror: &mut PlainMirror, token: 
         number: four,
         props: &props,
     };
-    say(alloc, mirror, 1, &MirrorCall::TakeLock(token)) == 0
+    let answer = say(alloc, mirror, 1, &MirrorCall::TakeLock(token)) == 0
         && say(alloc, mirror, 1, &MirrorCall::SetCopying(five)) == 61
         && say(alloc, mirror, 2, &MirrorCall::SetCopying(five)) == 59
         && say(alloc, mirror, 1, &MirrorCall::SetCopying(four)) == 0
         && has(mirror, 0, b"svn:sync-currently-copying", Some(b"4"))
-        && say(alloc, mirror, 1, &put) == 61
+        && say(alloc, mirror, 1, &put) == 61;
+    drop(props);
+    answer
 }
 
 // Whether the lock may be stolen once the holder has left, and not before.
@@ -381,7 +395,11 @@ fn is_stolen_once_left(
     let steal = MirrorCall::StealLock(token);
     let before = say(alloc, mirror, 2, &steal);
     mirror.leave(Seat::new(1));
-    before == 55 && say(alloc, mirror, 2, &steal) == 0 && say(alloc, mirror, 2, &init) == 52
+    let answer = before == 55
+        && say(alloc, mirror, 2, &steal) == 0
+        && say(alloc, mirror, 2, &init) == 52;
+    drop((props, url));
+    answer
 }
 
 #[test]
@@ -391,14 +409,18 @@ fn calls_in_and_out_of_turn(rt: HostRuntime) {
     let token = token(&rt, alloc, b"job");
     assert!(rt; takes_turns(&rt, alloc, &mut mirror, &token));
     assert!(rt; is_stolen_once_left(&rt, alloc, &mut mirror, &token));
+    drop(mirror);
 }
 
 // Whether the job has ended with 57 and that text.
 fn is_inconsistent(rt: &impl Abort, alloc: Global, job: JobState, text: &str) -> bool {
-    match job.ending() {
-        Some(Ending::Refused(fault)) => fault.number() == 57 && says(rt, alloc, &fault, text),
+    let ending = job.ending();
+    let is_told = match &ending {
+        Some(Ending::Refused(fault)) => fault.number() == 57 && says(rt, alloc, fault, text),
         _ => false,
-    }
+    };
+    drop(ending);
+    is_told
 }
 
 // Whether a refusal has that text.
@@ -495,7 +517,9 @@ fn is_told(rt: &impl Abort, alloc: Global, fault: &SyncFault, number: u8, text: 
 
 // The same of one that is let go of.
 fn tells(rt: &impl Abort, alloc: Global, fault: SyncFault, number: u8, text: &str) -> bool {
-    is_told(rt, alloc, &fault, number, text)
+    let answer = is_told(rt, alloc, &fault, number, text);
+    drop(fault);
+    answer
 }
 
 // The refusal of the table that it becomes.
@@ -618,9 +642,11 @@ fn copies(rt: &impl Abort, alloc: Global, low: u16, high: u16, end: u8, said: &[
     lines.clear();
     let job = JobState::copy_props(token(rt, alloc, b"job"), RevNo::new(low), RevNo::new(high));
     let job = finish(rt, alloc, &mut mirror, 2, &four, job, &mut lines);
-    ended(job) == end
+    let answer = ended(job) == end
         && lines.as_slice() == said
-        && has(&mirror, 2, b"svn:log", Some(b"two")) == (end == 0)
+        && has(&mirror, 2, b"svn:log", Some(b"two")) == (end == 0);
+    drop((four, mirror));
+    answer
 }
 
 #[test]
@@ -643,7 +669,9 @@ fn again(rt: &impl Abort, alloc: Global) -> u8 {
     let master = master(rt, alloc, 1);
     let mut mirror = begun(rt, alloc, &master);
     let mut lines = Vec::new(alloc);
-    initialised(rt, alloc, &mut mirror, 2, &master, &mut lines)
+    let answer = initialised(rt, alloc, &mut mirror, 2, &master, &mut lines);
+    drop((master, mirror));
+    answer
 }
 
 // Whether an init and a sync of a repository with revisions end with 53 and 51.
@@ -653,7 +681,9 @@ fn is_no_mirror(rt: &impl Abort, alloc: Global) -> bool {
     let mut lines = Vec::new(alloc);
     let init = initialised(rt, alloc, &mut full, 3, &zero, &mut lines);
     let sync = synced(rt, alloc, &mut full, 4, &zero, false, 9, &mut lines);
-    init == 53 && sync == 51
+    let answer = init == 53 && sync == 51;
+    drop((full, zero));
+    answer
 }
 
 #[test]
@@ -675,7 +705,7 @@ fn is_told_of(
 ) -> bool {
     let answer = of_step(mirror.step(alloc, Seat::new(seat), call));
     let is_told = says_so(rt, alloc, &answer, text);
-    let_go(answer);
+    drop(answer);
     is_told
 }
 
@@ -701,7 +731,9 @@ fn is_told_of_lock(rt: &impl Abort, alloc: Global, lock: &[u8], text: &str) -> b
     let mut mirror = locked(rt, alloc, lock);
     let token = token(rt, alloc, b"other");
     let take = MirrorCall::TakeLock(&token);
-    is_told_of(rt, alloc, &mut mirror, 1, &take, text)
+    let answer = is_told_of(rt, alloc, &mut mirror, 1, &take, text);
+    drop(mirror);
+    answer
 }
 
 #[test]
@@ -737,11 +769,12 @@ fn takes(rt: &impl Abort, alloc: Global, mirror: &mut PlainMirror) -> bool {
 #[test]
 fn a_running_holder_is_told_with_its_token(rt: HostRuntime) {
     let alloc = rt.alloc();
-    let mut mirror = begun(&rt, alloc, &master(&rt, alloc, 0));
+    let mut mirror = begun_over(&rt, alloc, 0);
     assert!(rt; takes(&rt, alloc, &mut mirror));
     assert!(rt; is_told_of_steal(&rt, alloc, &mut mirror, "the holder a is running"));
     unlock(&rt, alloc, &mut mirror);
     assert!(rt; is_told_of_steal(&rt, alloc, &mut mirror, "the holder  is running"));
+    drop(mirror);
 }
 
 // Whether a sync with a master that has fewer revisions than its mirror ends well, and copies nothing.
@@ -753,10 +786,12 @@ fn stays_ahead(rt: &impl Abort, alloc: Global) -> bool {
     lines.clear();
     let one = master(rt, alloc, 1);
     let again = synced(rt, alloc, &mut mirror, 2, &one, false, 99, &mut lines);
-    first == 0
+    let answer = first == 0
         && again == 0
         && lines.as_slice() == b"".as_slice()
-        && mirror.repo.head() == RevNo::new(2)
+        && mirror.repo.head() == RevNo::new(2);
+    drop((two, mirror, one));
+    answer
 }
 
 #[test]
@@ -799,14 +834,18 @@ fn takes_lock(call: &MirrorCall<'_>, text: &[u8]) -> bool {
 // Whether the copy of a call that was kept does.
 fn copy_takes_lock(rt: &impl Abort, alloc: Global, kept: &KeptCall, text: &[u8]) -> bool {
     let copy = kept.copy(alloc).expect(rt, "memory");
-    takes_lock(&copy.lent(), text)
+    let takes = takes_lock(&copy.lent(), text);
+    drop(copy);
+    takes
 }
 
 // Whether a call that was kept and copied still takes the lock with its token.
 fn locks_with(rt: &impl Abort, alloc: Global, text: &[u8]) -> bool {
     let token = token(rt, alloc, text);
     let kept = KeptCall::of(alloc, &MirrorCall::TakeLock(&token)).expect(rt, "memory");
-    copy_takes_lock(rt, alloc, &kept, text)
+    let answer = copy_takes_lock(rt, alloc, &kept, text);
+    drop(kept);
+    answer
 }
 
 // Whether one that puts properties still does.
@@ -817,7 +856,9 @@ fn puts(rt: &impl Abort, alloc: Global, number: RevNo, log: &[u8]) -> bool {
         props: &props,
     };
     let kept = KeptCall::of(alloc, &call).expect(rt, "memory");
-    puts_log(&kept.lent(), number, log)
+    let answer = puts_log(&kept.lent(), number, log);
+    drop((props, kept));
+    answer
 }
 
 // Whether a call puts properties of a revision that have this log.
@@ -843,8 +884,8 @@ fn is_copied(rt: &impl Abort, alloc: Global, fault: SyncFault, number: u8, text:
     let answer = Answer::Refused(fault);
     let copy = answer.copy(alloc).expect(rt, "memory");
     let is_told = refuses_so(rt, alloc, &copy, number, text);
-    let_go(answer);
-    let_go(copy);
+    drop(answer);
+    drop(copy);
     is_told
 }
 
@@ -876,7 +917,10 @@ fn number_planned(plan: &Result<Planned, SyncFault>) -> u8 {
 
 // The same of the plan of a call.
 fn planned(alloc: Global, mirror: &PlainMirror, seat: u64, call: &MirrorCall<'_>) -> u8 {
-    number_planned(&plan(alloc, &mirror.repo, mirror.holder, Seat::new(seat), call))
+    let planned = plan(alloc, &mirror.repo, mirror.holder, Seat::new(seat), call);
+    let number = number_planned(&planned);
+    drop(planned);
+    number
 }
 
 // Whether calls are planned before and after a seat takes the lock.
@@ -889,20 +933,23 @@ fn is_planned(rt: &impl Abort, alloc: Global, mirror: &mut PlainMirror, token: &
         props: &props,
     };
     let take = MirrorCall::TakeLock(token);
-    planned(alloc, mirror, 1, &take) == 0
+    let answer = planned(alloc, mirror, 1, &take) == 0
         && planned(alloc, mirror, 1, &MirrorCall::Look) == 255
         && planned(alloc, mirror, 1, &init) == 52
         && say(alloc, mirror, 1, &take) == 0
         && planned(alloc, mirror, 2, &take) == 54
-        && planned(alloc, mirror, 2, &MirrorCall::ReleaseLock) == 59
+        && planned(alloc, mirror, 2, &MirrorCall::ReleaseLock) == 59;
+    drop((props, url));
+    answer
 }
 
 #[test]
 fn calls_are_planned(rt: HostRuntime) {
     let alloc = rt.alloc();
-    let mut mirror = begun(&rt, alloc, &master(&rt, alloc, 0));
+    let mut mirror = begun_over(&rt, alloc, 0);
     let own = token(&rt, alloc, b"a");
     assert!(rt; is_planned(&rt, alloc, &mut mirror, &own));
+    drop(mirror);
 }
 
 // Whether the numbers are these.
@@ -933,10 +980,12 @@ fn numbers_move(rt: &impl Abort, alloc: Global) -> bool {
     let noted = at_head_three(Number::Absent).after(&MirrorCall::SetCopying(four));
     let merged = at_head_three(Number::Spelt(4)).after(&MirrorCall::SetMerged(four));
     let cleared = at_head_three(Number::Spelt(4)).after(&MirrorCall::ClearCopying);
-    are(begun, 0, Number::Absent, 3)
+    let answer = are(begun, 0, Number::Absent, 3)
         && are(noted, 3, Number::Spelt(4), 3)
         && are(merged, 4, Number::Spelt(4), 3)
-        && are(cleared, 3, Number::Absent, 3)
+        && are(cleared, 3, Number::Absent, 3);
+    drop((props, url));
+    answer
 }
 
 fn holders_leave() -> bool {

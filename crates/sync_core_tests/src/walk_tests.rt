@@ -176,7 +176,9 @@ fn say(
         Kind::Merge => MirrorCall::SetMerged(number),
         Kind::Clear | Kind::Leave => MirrorCall::ClearCopying,
     };
-    tests::say(alloc, mirror, seat, &call)
+    let answer = tests::say(alloc, mirror, seat, &call);
+    drop((url, props));
+    answer
 }
 
 fn spelt(number: Number) -> Option<u64> {
@@ -196,7 +198,9 @@ fn agree(rt: &impl Abort, alloc: Global, mirror: &PlainMirror, plain: &Plain, n:
     };
     let standing = look(alloc, own, mirror.repo.head()).expect(rt, "memory");
     let letter = letter_of(mirror, n);
-    stands(&standing, plain)
+    let stands = stands(&standing, plain);
+    drop(standing);
+    stands
         && mirror.holder == plain.holder.map(Seat::new)
         && (!plain.begun || letter == plain.letters.get(usize::from(n)).copied())
 }
@@ -265,7 +269,9 @@ fn walk(rt: &impl Abort, alloc: Global, calls: u64) -> Option<u16> {
             return None;
         }
     }
-    Some(plain.head())
+    let answer = Some(plain.head());
+    drop(mirror);
+    answer
 }
 
 #[test]

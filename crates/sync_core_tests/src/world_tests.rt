@@ -3,8 +3,7 @@
 //! a mirror stops before or within a call.
 use crate::plain_world::{Deed, Heard, Order, PlainMaster, PlainRoom, is_call, wanted};
 use crate::tests::{
-    ended, failed, let_go, none_is_wrong, number_of, of_master, of_step, one_prop, repo, token,
-    value,
+    ended, failed, none_is_wrong, number_of, of_master, of_step, one_prop, repo, token, value,
 };
 use crate::walk_tests::shuffled;
 use dump_load::{Change, ChangeSet};
@@ -275,7 +274,7 @@ impl World {
         }
         let answer = self.answer(rt, alloc, seat, &runner.job, Mishap::None);
         let number = number_of(&answer);
-        let_go(answer);
+        drop(answer);
         let expected = self.expected(rt, seat, &runner.heard, deed, Mishap::None);
         self.check(number == expected);
         self.counts.within = self.counts.within.saturating_add(1);
@@ -628,4 +627,5 @@ fn wrong_of(world: &World) -> Option<&'static str> {
 fn random_events_go_as_the_protocol_says(rt: HostRuntime) {
     let world = walk(&rt, rt.alloc(), 8000);
     none_is_wrong(&rt, wrong_of(&world));
+    drop(world);
 }

@@ -1,7 +1,12 @@
-//! Tests of jobs over a master and a mirror in stores, through `sync_job`'s public items: what is told and left, stops
-//! and failures at each call of the device, growths of memory that are refused, and masters that refuse.
+//! Tests of repositories in memory and on a disk, and of jobs over a master and a mirror in stores, by public items: what
+//! is told and left, stops and failures at each call of the device, growths of memory that are refused, and masters that
+//! refuse.
 #![tactic(auto)]
 
+#[cfg(test)]
+mod begin_tests;
+#[cfg(test)]
+mod entry_tests;
 #[cfg(test)]
 mod growth_tests;
 #[cfg(test)]
@@ -9,6 +14,14 @@ mod made;
 #[cfg(test)]
 mod master_tests;
 #[cfg(test)]
+mod repo_tests;
+#[cfg(test)]
 mod runs_tests;
 #[cfg(test)]
+mod stage_tests;
+#[cfg(test)]
+mod stated;
+#[cfg(test)]
 mod stop_tests;
+#[cfg(test)]
+mod store_tests;

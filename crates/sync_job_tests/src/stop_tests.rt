@@ -409,6 +409,7 @@ fn a_synchronisation_stops_anywhere(rt: HostRuntime) {
     let begun = initialised(&rt, rt.alloc(), &source);
     stops_anywhere(&rt, rt.alloc(), &source, &begun, &Order::Synchronize);
     let _source = source.into_disk();
+    drop(begun);
 }
 
 #[test]
@@ -417,6 +418,7 @@ fn an_initialisation_stops_anywhere(rt: HostRuntime) {
     let begun = empty(&rt, rt.alloc());
     stops_anywhere(&rt, rt.alloc(), &source, &begun, &Order::Initialize);
     let _source = source.into_disk();
+    drop(begun);
 }
 
 #[test]
@@ -426,4 +428,5 @@ fn a_copying_stops_anywhere(rt: HostRuntime) {
     edit(&rt, rt.alloc(), &mut source, 1);
     stops_anywhere(&rt, rt.alloc(), &source, &begun, &Order::Copy(0, 1));
     let _source = source.into_disk();
+    drop(begun);
 }

@@ -1,5 +1,5 @@
 use Rattle.std.proofs.Common.{Some, sym, ap, subst, ◌∙◌, IfErr}
-use Rattle.clap.specs.Words.{rows_of, found_of, subcommand_rows_of}
+use Rattle.clap.specs.Words.{rows_of, found_of}
 use Rattle.command_words.specs.Usages.{IsRefusedAt}
 use Rattle.command_words.proofs.command_line.asked.Goals as goal
 

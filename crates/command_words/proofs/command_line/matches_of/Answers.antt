@@ -17,10 +17,10 @@ free = refl
 
 pub returns-clause-found : goal.returns-clause-found
 returns-clause-found c =
-    let app = c.in_ok-top.ensures.app in
+    let app = c.in_ok-program.ensures.app in
     IfOk-weaker c.try_get_matches_from.result _ _ (λ m h. (h (ap is_simple app ∙ simple)).1 ∙ ap (λ a. subcommand_of a (map string_bytes c.args.words.now)) app) c.try_get_matches_from.ensures.matches
 
 pub returns-clause-kinds : goal.returns-clause-kinds
 returns-clause-kinds c =
-    let app = c.in_ok-top.ensures.app in
+    let app = c.in_ok-program.ensures.app in
     subst (λ a. FailsBy (fault_of a (map string_bytes c.args.words.now)) c.try_get_matches_from.result) app (c.try_get_matches_from.ensures.kinds (ap is_simple_and_free app ∙ free))

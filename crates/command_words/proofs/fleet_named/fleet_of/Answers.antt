@@ -1,4 +1,4 @@
-use Rattle.std.proofs.Common.{◌∙◌, sym, ap, Some, rules}
+use Rattle.std.proofs.Common.{sym}
 use Rattle.command_words.proofs.Refusing.{again_refused, fifth_refused}
 use Rattle.command_words.proofs.fleet_named.fleet_of.Goals as goal
 

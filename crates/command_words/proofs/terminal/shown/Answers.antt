@@ -1,4 +1,4 @@
-use Rattle.std.proofs.Common.{◌≡◌, ◌++◌, ◌∙◌, ℕ, List, [], subst, sym, ap, string_bytes, encode_utf8_all, IsUtf8, append_assoc, append-nil}
+use Rattle.std.proofs.Common.{◌≡◌, ◌++◌, ◌∙◌, subst, sym, ap, string_bytes, encode_utf8_all, IsUtf8, append_assoc, append-nil}
 use Rattle.std.specs.Str.Iter.{chars_rest}
 use Rattle.std.proofs.lemmas.Str.{IsUtf8-past_char, IsUtf8-string_bytes}
 use Rattle.command_words.specs.Terminal.{HasNoControl, shown, shown_char}

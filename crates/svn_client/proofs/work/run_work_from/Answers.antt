@@ -1,6 +1,0 @@
-use Rattle.std.proofs.Common.{refl}
-use Rattle.svn_client.specs.Runs.{Unreached}
-use Rattle.svn_client.proofs.work.run_work_from.Goals as goal
-
-pub returns-in-Err-clause-ran : goal.returns-in-Err-clause-ran
-returns-in-Err-clause-ran g c = Unreached c.unreached.result refl c.unreached.ensures refl refl

@@ -1,0 +1,30 @@
+-- What a port over a share is to its caller.
+use Rattle.std.specs.Prelude.{ℕ, Bool, Option, None}
+use Rattle.repo_core.specs.Repository.{Repository}
+use Rattle.ra_serve.specs.Ports.{Goes, Stays}
+use Rattle.store_share.specs.declared.seat.ReaderSeat.{ReaderSeat}
+use Rattle.svn_ends.specs.declared.port.MasterSharePort.{MasterSharePort}
+
+-- its seat
+abbrev pub seat_of : {R L D : Type 0} {r : _} {g : _} → MasterSharePort R L D r g → ReaderSeat L r
+seat_of p = p.seat
+
+-- whether it takes no changes
+abbrev pub takes_none : {R L D : Type 0} {r : _} {g : _} → MasterSharePort R L D r g → Bool
+takes_none p = p.mirror
+
+-- how often it refused a call by itself
+abbrev pub refusals_of : {R L D : Type 0} {r : _} {g : _} → MasterSharePort R L D r g → ℕ
+refusals_of p = p.refusals
+
+-- the repository, which it doesn't know
+abbrev pub repository_in : {R L D : Type 0} {r : _} {g : _} → MasterSharePort R L D r g → Option Repository
+repository_in p = None
+
+-- a call leaves what a port is, and its count of refusals doesn't fall
+abbrev pub GoesOn : {R L D : Type 0} {r : _} {g : _} → MasterSharePort R L D r g → MasterSharePort R L D r g → Type 0
+GoesOn old new = Goes (takes_none old) (takes_none new) (refusals_of old) (refusals_of new)
+
+-- and the repository is as little known as before
+abbrev pub StaysSo : {R L D : Type 0} {r : _} {g : _} → MasterSharePort R L D r g → MasterSharePort R L D r g → Type 0
+StaysSo old new = Stays (repository_in old) (repository_in new) (takes_none old) (takes_none new) (refusals_of old) (refusals_of new)

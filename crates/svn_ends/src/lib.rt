@@ -1,0 +1,33 @@
+//! Both ends of `svn://` on 127.0.0.1: the repository of a store that is served there, a thread for each connection, and
+//! a mirror over such a server.
+//!
+//! A store is shared by its sessions. Each has a [`MasterSharePort`] with a seat of its own at a
+//! `store_share::MasterShare`: what its session has seen it reads for good, whatever others commit or change meanwhile.
+//! Trees and changes are read without the lock; the newest revision, properties and changes of these are asked under it,
+//! and a change that one session makes the others see. So a port doesn't know the repository between the calls of its
+//! session, and `ra_serve::serve` says nothing of its answers: what is known of them stands in the clauses of the port's
+//! own methods. A session that ends badly ends itself alone.
+//!
+//! What is to be done over a mirror is run over its store and the repository that a server has:
+//!
+//! ```text
+//! let url = b"svn://127.0.0.1:3690/";
+//! let (mirror, output, done) = run_work_from(&rt, alloc, mirror, 3690, url, work, output);
+//! done?;
+//! ```
+//!
+//! The connection lasts as long as the run. What the server answers is as a master's answers are to `sync_job`: a
+//! refusal of it ends the run with MasterFailed (60).
+#![tactic(auto)]
+
+pub use port::MasterSharePort;
+pub use server::serve_store;
+pub use work::{run_work_from, run_work_over};
+
+mod fault;
+mod port;
+mod refusals;
+mod seen;
+mod server;
+mod talk;
+mod work;

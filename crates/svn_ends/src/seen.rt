@@ -1,0 +1,110 @@
+//! What a seat reads of a share.
+
+ghost use Rattle.std.specs.Prelude.{◌≡◌, ◌≤◌, ◌<◌, true, false, length, Some, IfOk};
+ghost use Rattle.std.specs.Option.{option_map};
+ghost use Rattle.store_share.specs.Chains.{trees_known};
+ghost use Rattle.store_share.specs.Seats.{known_by, seen_by};
+ghost use Rattle.svn_ends.specs.Seats.{Keeps};
+
+use dump_load::ChangeSet;
+use fleet_disk::Disk;
+use node_base::RevNo;
+use path_tree::Tree;
+use ra_serve::Replay;
+use repo_store::StoreFault;
+use std::alloc::{AllocError, Global};
+use std::sync::Wait;
+use store_share::{MasterShare, ReaderSeat, RowName};
+
+/// Whether a seat has seen a revision. Where it hasn't, the newest revision is asked for first.
+pub(crate) fn sees<R: Wait, L: RowName, D: Disk>(
+    rt: &R,
+    share: &MasterShare<L, D>,
+    seat: &mut ReaderSeat<L>,
+    number: RevNo,
+) -> bool
+    ensures there { result ≡ true → number ≤ seen_by seat.new }
+    ensures above { result ≡ false → seen_by seat.new < number }
+    ensures keeps { Keeps seat.old seat.new }
+{
+    if number <= seat.seen() {
+        return true;
+    }
+    number <= share.latest(rt, seat)
+}
+
+/// The tree of a revision that the seat has seen, for another owner. It waits for nobody.
+pub(crate) fn seen_tree<L: RowName, D: Disk>(
+    share: &MasterShare<L, D>,
+    seat: &mut ReaderSeat<L>,
+    number: RevNo,
+) -> Result<Tree, AllocError>
+    requires { number ≤ seen_by seat.old }
+    ensures tree { IfOk result (λ t. option_map (λ x. x.tree) (known_by seat.new number) ≡ Some t) }
+    ensures keeps { Keeps seat.old seat.new }
+    ensures seen { seen_by seat.new ≡ seen_by seat.old }
+{
+    let Some(rev) = share.read_at(seat, number) else {
+        unreachable!()
+    };
+    rev.tree.share()
+}
+
+/// The changes of a revision that the seat has seen, for another owner. It waits for nobody.
+pub(crate) fn seen_set<L: RowName, D: Disk>(
+    alloc: Global,
+    share: &MasterShare<L, D>,
+    seat: &mut ReaderSeat<L>,
+    number: RevNo,
+) -> Result<ChangeSet, AllocError>
+    requires { number ≤ seen_by seat.old }
+    ensures set { IfOk result (λ s. option_map (λ x. x.set) (known_by seat.new number) ≡ Some s) }
+    ensures keeps { Keeps seat.old seat.new }
+    ensures seen { seen_by seat.new ≡ seen_by seat.old }
+{
+    let Some(rev) = share.read_at(seat, number) else {
+        unreachable!()
+    };
+    rev.set.share(alloc)
+}
+
+/// The trees of the revisions below one that the seat has seen, each for another owner. It waits for nobody.
+pub(crate) fn trees_below<L: RowName, D: Disk>(
+    alloc: Global,
+    share: &MasterShare<L, D>,
+    seat: &mut ReaderSeat<L>,
+    number: RevNo,
+) -> Result<Vec<Tree>, AllocError>
+    requires { number ≤ seen_by seat.old }
+    ensures trees { IfOk result (λ ts. ts.items ≡ trees_known (known_by seat.new) number) }
+    ensures count { IfOk result (λ ts. length ts.items ≡ number) }
+    ensures keeps { Keeps seat.old seat.new }
+    ensures seen { seen_by seat.new ≡ seen_by seat.old }
+{
+    let mut trees = Vec::with_capacity(alloc, number.index())?;
+    for i in 0..number.index() {
+        trees.push(seen_tree(share, seat, RevNo::new(i as u16))?)?;
+    }
+    Ok(trees)
+}
+
+/// All that a replay takes of a revision that the seat has seen. It waits for the revision's properties alone.
+pub(crate) fn seen_replay<R: Wait, L: RowName, D: Disk>(
+    rt: &R,
+    alloc: Global,
+    share: &MasterShare<L, D>,
+    seat: &mut ReaderSeat<L>,
+    number: RevNo,
+) -> Result<Replay, StoreFault>
+    requires { number ≤ seen_by seat.old }
+    ensures set { IfOk result (λ p. option_map (λ x. x.set) (known_by seat.new number) ≡ Some p.set) }
+    ensures trees { IfOk result (λ p. p.trees.items ≡ trees_known (known_by seat.new) number) }
+    ensures few { IfOk result (λ p. length p.trees.items ≤ 65535) }
+    ensures keeps { Keeps seat.old seat.new }
+    ensures seen { seen_by seat.new ≡ seen_by seat.old }
+{
+    let set = seen_set(alloc, share, seat, number)?;
+    let props = share.fetch_props(rt, number)?;
+    let trees = trees_below(alloc, share, seat, number)?;
+    Ok(Replay { set, trees, props })
+}

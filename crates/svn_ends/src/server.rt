@@ -1,0 +1,112 @@
+//! The server.
+
+ghost use Rattle.std.specs.Prelude.{◌≡◌, OnOk};
+ghost use Rattle.std.specs.Io.KnownBytes.{Appends};
+ghost use Rattle.sockets.specs.Lines.{listening};
+ghost use Rattle.store_share.specs.Opened.{cells_of};
+ghost use Rattle.svn_ends.specs.Served.{IsOfStore};
+
+use crate::talk::{ShareSessions, root_url};
+use fleet_disk::Disk;
+use repo_store::RepoStore;
+use sockets::SocketFault;
+use std::alloc::Global;
+use std::io::Write;
+use std::marker::Brand;
+use std::net::{Net, TcpListener, TcpStream};
+use std::sync::Wait;
+use std::thread::Threads;
+use store_share::{MasterShare, OpenedStore, RowName};
+
+/// Serves the repository of a store over ra_svn on that port of 127.0.0.1: says so in a line, then serves so many
+/// connections, a thread each, and returns once all have ended. As a mirror it takes no changes. The store's disk comes
+/// back as the sessions have left it: a stop leaves of it what a store keeps.
+///
+/// PeerFailed (49) where it can't listen there, or can't say so; OutOfMemory (70) where there is no memory to begin
+/// with. A session that ends badly ends itself alone.
+pub fn serve_store<
+    R: Net<Listener = TcpListener, Stream = TcpStream> + Threads + Wait + Sync,
+    D: Disk + Drop + Send,
+    W: Write,
+>(
+    rt: &R,
+    alloc: Global,
+    store: RepoStore<D>,
+    mirror: bool,
+    port: u16,
+    connections: u64,
+    output: &mut W,
+) -> (D, Result<(), SocketFault>)
+    ensures told { OnOk result.1 (Appends (W.contents output.old) (W.contents output.new) (listening port)) }
+    ensures back { IsOfStore D.Disk result.0 }
+{
+    match OpenedStore::of(alloc, store) {
+        Ok(opened) => {
+            serve_opened::<R, Brand, D, W>(rt, alloc, opened, mirror, port, connections, output)
+        }
+        Err((_fault, store)) => (disk_in(store), Err(SocketFault::OutOfMemory)),
+    }
+}
+
+// The disk of a store, which keeps what the store has.
+fn disk_in<D: Disk + Drop>(store: RepoStore<D>) -> D
+    ensures { IsOfStore D.Disk result }
+{
+    let _repo = store.repo();
+    store.into_disk()
+}
+
+// Serves an opened store under the name of its row.
+fn serve_opened<
+    R: Net<Listener = TcpListener, Stream = TcpStream> + Threads + Wait + Sync,
+    L: RowName + Send + Sync,
+    D: Disk + Drop + Send,
+    W: Write,
+>(
+    rt: &R,
+    alloc: Global,
+    opened: OpenedStore<D>,
+    mirror: bool,
+    port: u16,
+    connections: u64,
+    output: &mut W,
+) -> (D, Result<(), SocketFault>)
+    requires { cells_of opened ≡ L.cells }
+    ensures told { OnOk result.1 (Appends (W.contents output.old) (W.contents output.new) (listening port)) }
+    ensures back { IsOfStore D.Disk result.0 }
+{
+    let share = opened.named::<L>();
+    let answer = serve_share(rt, alloc, &share, mirror, port, connections, output);
+    let store = share.close().into_store();
+    (disk_in(store), answer)
+}
+
+// Serves a share.
+fn serve_share<
+    R: Net<Listener = TcpListener, Stream = TcpStream> + Threads + Wait + Sync,
+    L: RowName + Send + Sync,
+    D: Disk + Drop + Send,
+    W: Write,
+>(
+    rt: &R,
+    alloc: Global,
+    share: &MasterShare<L, D>,
+    mirror: bool,
+    port: u16,
+    connections: u64,
+    output: &mut W,
+) -> Result<(), SocketFault>
+    ensures { OnOk result (Appends (W.contents output.old) (W.contents output.new) (listening port)) }
+{
+    let Ok(root_url) = root_url(alloc, port) else {
+        return Err(SocketFault::OutOfMemory);
+    };
+    let sessions = ShareSessions {
+        rt,
+        alloc,
+        share,
+        mirror,
+        root_url: root_url.as_bytes(),
+    };
+    sockets::serve(rt, alloc, port, connections, &sessions, output)
+}
