@@ -149,10 +149,13 @@ window_short new l =
 chunk_within : (n : ℕ) (bytes : List ℕ) → n < 2 ^ 64 → length bytes ≤ 65600 → Within (chunk (Text (token n)) bytes)
 chunk_within n bytes l k = command_within (codes "textdelta-chunk") (Text (token n) ∷ Text bytes ∷ []) refl (omega arith) (omega arith) (word (Text (token n)) (token_leaf n l), (word (Text bytes) (text_leaf bytes (omega (arith, k))), tt))
 
+piece_short : (n : ℕ) (t : List ℕ) → length (take n t) ≤ n
+piece_short n t = omega (arith, length-take n t)
+
 chunks_within : (n : ℕ) (k : ℕ) (text : List ℕ) → n < 2 ^ 64 → AllByRecursion Within (map (λ part. chunk (Text (token n)) (window part)) (parts_within k text))
 chunks_within n zero text l = tt
 chunks_within n (suc k) [] l = tt
-chunks_within n (suc k) (b ∷ text) l = (chunk_within n (window (take 65536 (b ∷ text))) l (window_short (take 65536 (b ∷ text)) (omega (arith, length-take 65536 (b ∷ text)))), chunks_within n k (drop 65536 (b ∷ text)) l)
+chunks_within n (suc k) (b ∷ text) l = (chunk_within n (window (take 65536 (b ∷ text))) l (window_short (take 65536 (b ∷ text)) (piece_short 65536 (b ∷ text))), chunks_within n k (drop 65536 (b ∷ text)) l)
 
 -- ---- calls
 

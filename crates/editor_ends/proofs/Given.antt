@@ -21,16 +21,30 @@ use Rattle.editor_ends.specs.Parts.{prop_calls, pieces_of, pieces, text_calls, p
 
 -- ---- texts
 
+-- the first piece of a text and what is left, for any size of a piece
+piece_sizes : (n : ℕ) (t : List ℕ) → 0 < n → 0 < length t → (0 < length (take n t)) × (length (take n t) ≤ n) × (length (drop n t) < length t)
+piece_sizes n t some more = (omega (arith, length-take n t, some, more), omega (arith, length-take n t), omega (arith, length-drop n t, some, more))
+
+below : (a b k : ℕ) → a < b → b ≤ suc k → a ≤ k
+below a b k l h = omega (arith, l, h)
+
+join_one : (k : ℕ) (all first rest : List ℕ) → first ++ rest ≡ all → concat (pieces_of k rest) ≡ rest → first ++ concat (pieces_of k rest) ≡ all
+join_one k all first rest e h = ap (λ z. first ++ z) h ∙ e
+
 join-pieces : (k : ℕ) (t : List ℕ) → length t ≤ k → concat (pieces_of k t) ≡ t
 join-pieces zero [] l = refl
 join-pieces zero (b ∷ t) l = absurd (omega (arith, l))
 join-pieces (suc k) [] l = refl
-join-pieces (suc k) (b ∷ t) l = ap (λ z. take 65536 (b ∷ t) ++ z) (join-pieces k (drop 65536 (b ∷ t)) (omega (arith, l, length-drop 65536 (b ∷ t)))) ∙ take-append-drop 65536 (b ∷ t)
+join-pieces (suc k) (b ∷ t) l =
+    let p = piece_sizes 65536 (b ∷ t) (omega arith) (omega arith) in
+    join_one k (b ∷ t) (take 65536 (b ∷ t)) (drop 65536 (b ∷ t)) (take-append-drop 65536 (b ∷ t)) (join-pieces k (drop 65536 (b ∷ t)) (below (length (drop 65536 (b ∷ t))) (length (b ∷ t)) k p.2 l))
 
 all_small : (k : ℕ) (t : List ℕ) → AllByRecursion (λ p. (0 < length p) × (length p ≤ 65536)) (pieces_of k t)
 all_small zero t = tt
 all_small (suc k) [] = tt
-all_small (suc k) (b ∷ t) = ((omega (arith, length-take 65536 (b ∷ t)), omega (arith, length-take 65536 (b ∷ t))), all_small k (drop 65536 (b ∷ t)))
+all_small (suc k) (b ∷ t) =
+    let p = piece_sizes 65536 (b ∷ t) (omega arith) (omega arith) in
+    ((p.0, p.1), all_small k (drop 65536 (b ∷ t)))
 
 pub pieces_are : (t : List ℕ) → (concat (pieces t) ≡ t) × AllByRecursion (λ p. (0 < length p) × (length p ≤ 65536)) (pieces t)
 pieces_are t = (join-pieces (length t) t (omega arith), all_small (length t) t)

@@ -96,14 +96,23 @@ in_front first new [] [] w Empty = subst (λ b. AreWindows b (new ++ [])) (sym (
 in_front first new both_bytes both_texts w (Then bytes text last more before one) =
     subst (λ b. AreWindows b (new ++ (text ++ more))) (append_assoc first bytes last) (subst (AreWindows ((first ++ bytes) ++ last)) (append_assoc new text more) (Then (first ++ bytes) (new ++ text) last more (in_front first new bytes text w before) one))
 
+-- the first piece of a text and what is left, for any size of a piece
+piece_sizes : (n : ℕ) (t : List ℕ) → 0 < n → 0 < length t → (0 < length (take n t)) × (length (take n t) ≤ n) × (length (drop n t) < length t)
+piece_sizes n t some more = (omega (arith, length-take n t, some, more), omega (arith, length-take n t), omega (arith, length-drop n t, some, more))
+
+below : (a b k : ℕ) → a < b → b ≤ suc k → a ≤ k
+below a b k l h = omega (arith, l, h)
+
+one_more : (k : ℕ) (all first rest : List ℕ) → first ++ rest ≡ all → 0 < length first → length first ≤ 65536 → AreWindows (windows_within k rest) rest → AreWindows (window first ++ windows_within k rest) all
+one_more k all first rest e some h more = subst (AreWindows (window first ++ windows_within k rest)) e (in_front (window first) first (windows_within k rest) rest (window_is first some h) more)
+
 windows_are : (k : ℕ) (text : List ℕ) → length text ≤ k → AreWindows (windows_within k text) text
 windows_are zero [] h = Empty
 windows_are zero (b ∷ text) h = absurd (omega (arith, h))
 windows_are (suc k) [] h = Empty
 windows_are (suc k) (b ∷ text) h =
-    let t = length-take 65536 (b ∷ text) in
-    let d = length-drop 65536 (b ∷ text) in
-    subst (AreWindows (windows_within (suc k) (b ∷ text))) (take-append-drop 65536 (b ∷ text)) (in_front (window (take 65536 (b ∷ text))) (take 65536 (b ∷ text)) (windows_within k (drop 65536 (b ∷ text))) (drop 65536 (b ∷ text)) (window_is (take 65536 (b ∷ text)) (omega (arith, t)) (omega (arith, t))) (windows_are k (drop 65536 (b ∷ text)) (omega (arith, d, h))))
+    let p = piece_sizes 65536 (b ∷ text) (omega arith) (omega arith) in
+    one_more k (b ∷ text) (take 65536 (b ∷ text)) (drop 65536 (b ∷ text)) (take-append-drop 65536 (b ∷ text)) p.0 p.1 (windows_are k (drop 65536 (b ∷ text)) (below (length (drop 65536 (b ∷ text))) (length (b ∷ text)) k p.2 h))
 
 pub written_is_text : (text : List ℕ) → length text ≤ 1048576 → IsText (spelled text) text
 written_is_text text h = record { windows = windows text; are = windows_are (length text) text (omega arith); fits = h; joined = refl }
