@@ -12,7 +12,7 @@ use Rattle.node_base.specs.Path.{Path}
 use Rattle.node_base.specs.PathText.{path_read}
 use Rattle.node_base.specs.declared.refusal.Refusal.{Refusal}
 use Rattle.node_base.specs.declared.refusal.Refusal.TheVariants as refusal
-use Rattle.repo_core.specs.Repository.{fresh, head_of, props_at}
+use Rattle.repo_core.specs.Repository.{Repository, fresh, head_of, props_at}
 use Rattle.repo_store.specs.Journal.{beginning_of, Keeps, KeepsAlike, KeepsOr, ReopensTo}
 use Rattle.repo_store.specs.Words.{disk_of, doubt_of, identity_of, repository_of, revisions_of, HasFailed}
 use Rattle.repo_store.specs.declared.store.RepoStore.{RepoStore}
@@ -28,11 +28,17 @@ use Rattle.store_engines.specs.Ranges.{count_wanted, first_in, first_wanted, las
 use Rattle.store_engines.specs.Upgrades.{IsUpgraded, NotUpgraded}
 use Rattle.store_engines.specs.declared.range.RevRange.{RevRange}
 use Rattle.sync_core.specs.declared.fault.SyncFault.{SyncFault}
+use Rattle.sync_job.specs.Alone.{IsAnsweredBy}
 use Rattle.sync_job.specs.Fronts.{accepted_in, counted_in}
+use Rattle.sync_job.specs.Leading.{TellsMaster}
+use Rattle.sync_job.specs.Questions.{Exchange}
 use Rattle.sync_job.specs.Said.{Spoken, told_in}
 use Rattle.mirror_engines.specs.Infos.{info_fault, info_text}
 use Rattle.mirror_engines.specs.Lines.{line_of, IsPrinted}
-use Rattle.mirror_engines.specs.Runs.{answer_of, IsCopied, IsInitialised, IsSynchronised, Leaves}
+use Rattle.mirror_engines.specs.Runs.{answer_of, IsWorked, Leaves}
+use Rattle.mirror_engines.specs.Worlds.{IsCaughtUp, IsMirroredFrom, Leads}
+use Rattle.mirror_engines.specs.declared.work.Work.{Work}
+use Rattle.mirror_engines.specs.declared.work.Work.TheVariants as work
 use Rattle.fleet_main.specs.Loans.{AreBack, IsLent, Loan, lent_by, only_of}
 use Rattle.fleet_main.specs.Opening.{NotBegunIn, NotOpened, NotOpenedIn}
 use Rattle.fleet_main.specs.declared.lending.Folders.{Ghosts as FolderGhosts}
@@ -133,8 +139,8 @@ NotCommittedTo honest bytes message moment before now fails e old new =
 abbrev pub NotDumped : {D : Type 0} {G : Ghosts D} → Type 0 → Option RevRange → Option (List ℕ) → Option (List ℕ) → Type 0 → Refusal → RepoStore D G → RepoStore D G → Type 0
 NotDumped honest range before now fails e old new = (new ≡ old) × DumpStops (repository_of old) range before now fails e × IsKept honest old
 
--- both folders' stores are opened, the mirror's first; of the mirror's and what it is later P is so, and a stop leaves what keeps the source's repository; each folder has its store's disk then, while other folders stay
-pub record OfBoth {F D : Type 0} (G : Ghosts D) (H : FolderGhosts F D) (folders later : F) (mirror source : List ℕ) (P : RepoStore D G → RepoStore D G → Type 0) : Type 0 where
+-- both folders' stores are opened, the mirror's first; of the source's store, of the mirror's and of what that is later P is so, and a stop leaves what keeps the source's repository; each folder has its store's disk then, while other folders stay
+pub record OfBoth {F D : Type 0} (G : Ghosts D) (H : FolderGhosts F D) (folders later : F) (mirror source : List ℕ) (P : RepoStore D G → RepoStore D G → RepoStore D G → Type 0) : Type 0 where
   pub given : D
   pub old : RepoStore D G
   pub new : RepoStore D G
@@ -142,22 +148,30 @@ pub record OfBoth {F D : Type 0} (G : Ghosts D) (H : FolderGhosts F D) (folders 
   pub master : RepoStore D G
   pub opened : IsOpenedOn G (H.honest folders) given old
   pub opened_source : IsOpenedOn G (H.honest folders) given_source master
-  pub done : P old new
+  pub done : P master old new
   pub kept : IsKept (H.honest folders) master
   pub back : AreBack G H folders later (lent_by mirror given (disk_of new) ∷ only_of source given_source (disk_of master))
 
--- the work is done over a mirror's store: what was said through its ports, in order, is that of a run that ends well, each line of what was told is printed, and what is left of the mirror
-pub record IsWorkedOver {D : Type 0} {G : Ghosts D} (IsRun : List Spoken → Result (Unit {0}) SyncFault → Type 0) (before now : Option (List ℕ)) (old new : RepoStore D G) : Type 0 where
+-- nothing is said of what a master answers
+abbrev pub untold : Exchange → Type 0
+untold x = Unit {0}
+
+-- the work is done over a mirror's store: what was said through its ports, in order, is that of a run that ends well, as the master answered, of which P is so, and as the mirror's store answered; each line of what was told is printed, and what is left of the mirror
+pub record IsWorkedOver {D : Type 0} {G : Ghosts D} (P : Exchange → Type 0) (IsRun : List Spoken → Result (Unit {0}) SyncFault → Type 0) (before now : Option (List ℕ)) (old new : RepoStore D G) : Type 0 where
   pub said : List Spoken
   pub run : IsRun said (Ok tt)
+  pub heard : TellsMaster P said
+  pub led : Leads old new said
   pub printed : Appends before now (flat_map line_of (told_in said))
   pub left : Leaves old new (accepted_in said) (counted_in said)
 
 -- it isn't done: the run is refused, or ends well and a line is lost, since the output failed; and what is left of the mirror
-pub record NotWorkedOver {D : Type 0} {G : Ghosts D} (IsRun : List Spoken → Result (Unit {0}) SyncFault → Type 0) (before now : Option (List ℕ)) (fails : Type 0) (e : Refusal) (old new : RepoStore D G) : Type 0 where
+pub record NotWorkedOver {D : Type 0} {G : Ghosts D} (P : Exchange → Type 0) (IsRun : List Spoken → Result (Unit {0}) SyncFault → Type 0) (before now : Option (List ℕ)) (fails : Type 0) (e : Refusal) (old new : RepoStore D G) : Type 0 where
   pub said : List Spoken
   pub ended : Result (Unit {0}) SyncFault
   pub run : IsRun said ended
+  pub heard : TellsMaster P said
+  pub led : Leads old new said
   pub lost : Bool
   pub printed : IsPrinted before now fails lost (told_in said)
   pub answer : Err e ≡ answer_of ended lost
@@ -166,24 +180,40 @@ pub record NotWorkedOver {D : Type 0} {G : Ghosts D} (IsRun : List Spoken → Re
   pub device : e ≡ refusal.DeviceFailed → Rose (G.failures (disk_of old)) (G.failures (disk_of new))
 
 -- the work is done over that store, if it works
-abbrev pub WorkedOn : {D : Type 0} {G : Ghosts D} → (List Spoken → Result (Unit {0}) SyncFault → Type 0) → Option (List ℕ) → Option (List ℕ) → RepoStore D G → RepoStore D G → Type 0
-WorkedOn IsRun before now old new = ¬ HasFailed old → IsWorkedOver IsRun before now old new
+abbrev pub WorkedOn : {D : Type 0} {G : Ghosts D} → (Exchange → Type 0) → (List Spoken → Result (Unit {0}) SyncFault → Type 0) → Option (List ℕ) → Option (List ℕ) → RepoStore D G → RepoStore D G → Type 0
+WorkedOn P IsRun before now old new = ¬ HasFailed old → IsWorkedOver P IsRun before now old new
 
 -- or isn't done
-abbrev pub NotWorkedOn : {D : Type 0} {G : Ghosts D} → (List Spoken → Result (Unit {0}) SyncFault → Type 0) → Option (List ℕ) → Option (List ℕ) → Type 0 → Refusal → RepoStore D G → RepoStore D G → Type 0
-NotWorkedOn IsRun before now fails e old new = ¬ HasFailed old → NotWorkedOver IsRun before now fails e old new
+abbrev pub NotWorkedOn : {D : Type 0} {G : Ghosts D} → (Exchange → Type 0) → (List Spoken → Result (Unit {0}) SyncFault → Type 0) → Option (List ℕ) → Option (List ℕ) → Type 0 → Refusal → RepoStore D G → RepoStore D G → Type 0
+NotWorkedOn P IsRun before now fails e old new = ¬ HasFailed old → NotWorkedOver P IsRun before now fails e old new
 
--- the source's store is opened, and its folder has its disk then; of the mirror's store, if it works, and what it is later P is so
-pub record OverSource {F D : Type 0} (G : Ghosts D) (H : FolderGhosts F D) (folders later : F) (source : List ℕ) (old new : RepoStore D G) (P : RepoStore D G → RepoStore D G → Type 0) : Type 0 where
+-- the work is done over a mirror's store and its source's: each answer of the master is what the source is, and a mirror that is synchronised has as many revisions
+abbrev pub IsBrought : {D : Type 0} {G : Ghosts D} → Work → Option (List ℕ) → Option (List ℕ) → RepoStore D G → RepoStore D G → RepoStore D G → Type 0
+IsBrought w before now master old new =
+    IsWorkedOver (IsAnsweredBy (repository_of master)) (IsWorked w) before now old new × IsMirroredFrom (repository_of master) old new × IsCaughtUp w (repository_of master) new
+
+-- or it isn't done
+abbrev pub NotBrought : {D : Type 0} {G : Ghosts D} → Work → Option (List ℕ) → Option (List ℕ) → Type 0 → Refusal → RepoStore D G → RepoStore D G → RepoStore D G → Type 0
+NotBrought w before now fails e master old new = NotWorkedOver (IsAnsweredBy (repository_of master)) (IsWorked w) before now fails e old new × IsMirroredFrom (repository_of master) old new
+
+-- the same of a mirror's store, if it works
+abbrev pub BroughtOn : {D : Type 0} {G : Ghosts D} → Work → Option (List ℕ) → Option (List ℕ) → RepoStore D G → RepoStore D G → RepoStore D G → Type 0
+BroughtOn w before now master old new = ¬ HasFailed old → IsBrought w before now master old new
+
+abbrev pub NotBroughtOn : {D : Type 0} {G : Ghosts D} → Work → Option (List ℕ) → Option (List ℕ) → Type 0 → Refusal → RepoStore D G → RepoStore D G → RepoStore D G → Type 0
+NotBroughtOn w before now fails e master old new = ¬ HasFailed old → NotBrought w before now fails e master old new
+
+-- the source's store is opened, and its folder has its disk then; of it, of the mirror's store, if that works, and of what it is later P is so
+pub record OverSource {F D : Type 0} (G : Ghosts D) (H : FolderGhosts F D) (folders later : F) (source : List ℕ) (old new : RepoStore D G) (P : RepoStore D G → RepoStore D G → RepoStore D G → Type 0) : Type 0 where
   pub given : D
   pub master : RepoStore D G
   pub opened : IsOpenedOn G (H.honest folders) given master
   pub kept : IsKept (H.honest folders) master
   pub back : AreBack G H folders later (only_of source given (disk_of master))
-  pub done : ¬ HasFailed old → P old new
+  pub done : ¬ HasFailed old → P master old new
 
 -- or it isn't opened, the mirror's store stays, and nothing is written
-abbrev pub NoSourceOr : {F D : Type 0} (G : Ghosts D) → FolderGhosts F D → F → F → List ℕ → RepoStore D G → RepoStore D G → Option (List ℕ) → Option (List ℕ) → Refusal → (RepoStore D G → RepoStore D G → Type 0) → Type 0
+abbrev pub NoSourceOr : {F D : Type 0} (G : Ghosts D) → FolderGhosts F D → F → F → List ℕ → RepoStore D G → RepoStore D G → Option (List ℕ) → Option (List ℕ) → Refusal → (RepoStore D G → RepoStore D G → RepoStore D G → Type 0) → Type 0
 NoSourceOr G H folders later source old new before now e P =
     (NotOpenedIn G H folders later source e × (new ≡ old) × (now ≡ before)) ⊎ OverSource G H folders later source old new P
 
@@ -217,11 +247,11 @@ IsDone G H folders later (MakeDir folder path message moment) bytes before now =
     OfStanding G H folders later (string_bytes folder) (IsCommittedTo (H.honest folders) (string_bytes path) (string_bytes message) moment before now)
 IsDone G H folders later (Upgrade folder) bytes before now = OfUpgrade G H folders later (string_bytes folder) (IsUpgraded before now)
 IsDone G H folders later (Initialize mirror source) bytes before now =
-    OfBoth G H folders later (string_bytes mirror) (string_bytes source) (IsWorkedOver (IsInitialised (string_bytes source)) before now)
+    OfBoth G H folders later (string_bytes mirror) (string_bytes source) (IsBrought (work.Initialize (string_bytes source)) before now)
 IsDone G H folders later (Synchronize mirror source token steal) bytes before now =
-    OfBoth G H folders later (string_bytes mirror) (string_bytes source) (IsWorkedOver (IsSynchronised token steal) before now)
+    OfBoth G H folders later (string_bytes mirror) (string_bytes source) (IsBrought (work.Synchronize token steal) before now)
 IsDone G H folders later (CopyRevprops mirror source token range) bytes before now =
-    OfBoth G H folders later (string_bytes mirror) (string_bytes source) (IsWorkedOver (IsCopied token (first_in range) (last_in range)) before now)
+    OfBoth G H folders later (string_bytes mirror) (string_bytes source) (IsBrought (work.CopyRevprops token (first_in range) (last_in range)) before now)
 IsDone G H folders later (Info mirror) bytes before now = OfStanding G H folders later (string_bytes mirror) (IsToldOf (H.honest folders) before now)
 
 -- the repository isn't opened, and nothing is written; or of the one that stands there P is so
@@ -243,7 +273,7 @@ pub record HasNoSource {F D : Type 0} (G : Ghosts D) (H : FolderGhosts F D) (fol
   pub back : AreBack G H folders later (lent_by mirror given (disk_of store) ∷ loans)
 
 -- of a command over a mirror and its source: the mirror's repository isn't opened, or the source's, and nothing is written in both; or of both P is so
-pub data UnopenedBoth {F D : Type 0} (G : Ghosts D) (H : FolderGhosts F D) (folders later : F) (mirror source : List ℕ) (before now : Option (List ℕ)) (e : Refusal) (P : RepoStore D G → RepoStore D G → Type 0) : Type 0 where
+pub data UnopenedBoth {F D : Type 0} (G : Ghosts D) (H : FolderGhosts F D) (folders later : F) (mirror source : List ℕ) (before now : Option (List ℕ)) (e : Refusal) (P : RepoStore D G → RepoStore D G → RepoStore D G → Type 0) : Type 0 where
   no_mirror : NotOpenedIn G H folders later mirror e → now ≡ before → UnopenedBoth G H folders later mirror source before now e P
   no_source : HasNoSource G H folders later mirror source e → now ≡ before → UnopenedBoth G H folders later mirror source before now e P
   both : OfBoth G H folders later mirror source P → UnopenedBoth G H folders later mirror source before now e P
@@ -267,11 +297,11 @@ IsNotDone G H folders later (Upgrade folder) bytes before start now count e =
     UnopenedOrUpgrade G H folders later (string_bytes folder) before now e (NotUpgraded before now (Rose start count) e)
 IsNotDone G H folders later (Initialize mirror source) bytes before start now count e =
     (NotKept (string_bytes source) before now e × AreBack G H folders later [])
-    ⊎ UnopenedBoth G H folders later (string_bytes mirror) (string_bytes source) before now e (NotWorkedOver (IsInitialised (string_bytes source)) before now (Rose start count) e)
+    ⊎ UnopenedBoth G H folders later (string_bytes mirror) (string_bytes source) before now e (NotBrought (work.Initialize (string_bytes source)) before now (Rose start count) e)
 IsNotDone G H folders later (Synchronize mirror source token steal) bytes before start now count e =
-    UnopenedBoth G H folders later (string_bytes mirror) (string_bytes source) before now e (NotWorkedOver (IsSynchronised token steal) before now (Rose start count) e)
+    UnopenedBoth G H folders later (string_bytes mirror) (string_bytes source) before now e (NotBrought (work.Synchronize token steal) before now (Rose start count) e)
 IsNotDone G H folders later (CopyRevprops mirror source token range) bytes before start now count e =
-    UnopenedBoth G H folders later (string_bytes mirror) (string_bytes source) before now e (NotWorkedOver (IsCopied token (first_in range) (last_in range)) before now (Rose start count) e)
+    UnopenedBoth G H folders later (string_bytes mirror) (string_bytes source) before now e (NotBrought (work.CopyRevprops token (first_in range) (last_in range)) before now (Rose start count) e)
 IsNotDone G H folders later (Info mirror) bytes before start now count e =
     UnopenedOr G H folders later (string_bytes mirror) before now e (NotToldOf (H.honest folders) before now (Rose start count) e)
 

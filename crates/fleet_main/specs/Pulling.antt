@@ -12,7 +12,7 @@ use Rattle.mirror_engines.specs.declared.work.Work.{Work}
 use Rattle.mirror_engines.specs.declared.work.Work.TheVariants as work
 use Rattle.ra_client.specs.declared.fault.ClientFault.{ClientFault}
 use Rattle.svn_ends.specs.Runs.{IsUnreached, TellsMaster}
-use Rattle.fleet_main.specs.Doing.{IsKept, IsWorkedOver, NotKept, NotWorkedOn, NotWorkedOver, OfStanding, UnopenedOr}
+use Rattle.fleet_main.specs.Doing.{IsKept, IsWorkedOver, NotKept, NotWorkedOn, NotWorkedOver, OfStanding, UnopenedOr, untold}
 use Rattle.fleet_main.specs.Loans.{AreBack}
 use Rattle.fleet_main.specs.declared.lending.Folders.{Ghosts as FolderGhosts}
 use Rattle.command_words.specs.declared.command_line.Pull.{Pull}
@@ -31,11 +31,11 @@ NotReached e = IsUnreached e ⊎ ((f : ClientFault) × TellsMaster f e)
 
 -- a run isn't done over that store: there is no session, the store stays, and nothing is written; or, if it works, the run is refused
 abbrev pub NotPulledOn : {D : Type 0} {G : Ghosts D} → (List Spoken → Result (Unit {0}) SyncFault → Type 0) → Option (List ℕ) → Option (List ℕ) → Type 0 → Refusal → RepoStore D G → RepoStore D G → Type 0
-NotPulledOn IsRun before now fails e old new = (NotReached e × (now ≡ before) × (new ≡ old)) ⊎ NotWorkedOn IsRun before now fails e old new
+NotPulledOn IsRun before now fails e old new = (NotReached e × (now ≡ before) × (new ≡ old)) ⊎ NotWorkedOn untold IsRun before now fails e old new
 
 -- the same of the mirror that is opened: without a session a stop leaves what keeps it
 abbrev pub NotPulledOver : {D : Type 0} {G : Ghosts D} → Type 0 → (List Spoken → Result (Unit {0}) SyncFault → Type 0) → Option (List ℕ) → Option (List ℕ) → Type 0 → Refusal → RepoStore D G → RepoStore D G → Type 0
-NotPulledOver honest IsRun before now fails e old new = (NotReached e × (now ≡ before) × (new ≡ old) × IsKept honest old) ⊎ NotWorkedOver IsRun before now fails e old new
+NotPulledOver honest IsRun before now fails e old new = (NotReached e × (now ≡ before) × (new ≡ old) × IsKept honest old) ⊎ NotWorkedOver untold IsRun before now fails e old new
 
 -- the URL is to be kept and can't be
 abbrev pub NotKeptFor : Task → List ℕ → Option (List ℕ) → Option (List ℕ) → Refusal → Type 0
@@ -45,7 +45,7 @@ NotKeptFor _ url before now e = ⊥
 -- the mirror that stands in the folder is worked on as it was asked, over the server
 abbrev pub IsPulled : {F D : Type 0} → Ghosts D → FolderGhosts F D → F → F → Pull → Option (List ℕ) → Option (List ℕ) → Type 0
 IsPulled G H folders later pull before now =
-    OfStanding G H folders later (string_bytes pull.mirror) (IsWorkedOver (IsWorked (work_as (string_bytes pull.url) pull.task)) before now)
+    OfStanding G H folders later (string_bytes pull.mirror) (IsWorkedOver untold (IsWorked (work_as (string_bytes pull.url) pull.task)) before now)
 
 -- it isn't: the URL can't be kept, or the mirror isn't opened, and nothing is written; or there is no session, or the run isn't done
 abbrev pub NotPulled : {F D : Type 0} → Ghosts D → FolderGhosts F D → F → F → Pull → Option (List ℕ) → ℕ → Option (List ℕ) → ℕ → Refusal → Type 0

@@ -6,12 +6,12 @@ ghost use Rattle.std.specs.Io.KnownBytes.{Appends};
 ghost use Rattle.byte_streams.specs.Causes.{Fails, Rose, counts};
 ghost use Rattle.fleet_engines.specs.Runs.{BothCounted, Counted};
 ghost use Rattle.node_base.specs.Refusals.{fault_line};
-ghost use Rattle.mirror_engines.specs.Runs.{IsInitialised, IsWorked};
+ghost use Rattle.mirror_engines.specs.declared.work.Work.TheVariants as work_is;
 ghost use Rattle.fleet_main.specs.Doing.{EndsWith, HandsOn, IsBegun, IsCommittedTo, IsDone, IsDumped, IsLoadedFrom};
-ghost use Rattle.fleet_main.specs.Doing.{IsNotDone, IsToldOf, IsWorkedOver, NoSourceOr, NotCommittedTo, NotDumped};
-ghost use Rattle.fleet_main.specs.Doing.{NotKept, NotLoadedFrom, NotToldOf, NotWorkedOn, NotWorkedOver, OfBoth};
+ghost use Rattle.fleet_main.specs.Doing.{IsNotDone, IsToldOf, IsBrought, NoSourceOr, NotCommittedTo, NotDumped};
+ghost use Rattle.fleet_main.specs.Doing.{NotKept, NotLoadedFrom, NotToldOf, NotBrought, NotBroughtOn, OfBoth};
 ghost use Rattle.fleet_main.specs.Doing.{OfStanding, OfUpgrade, OverSource, UnopenedBoth, UnopenedOr};
-ghost use Rattle.fleet_main.specs.Doing.{UnopenedOrUpgrade, WorkedOn};
+ghost use Rattle.fleet_main.specs.Doing.{BroughtOn, UnopenedOrUpgrade};
 ghost use Rattle.fleet_main.specs.Loans.{AreBack};
 ghost use Rattle.fleet_main.specs.Opening.{NotBegunIn};
 ghost use Rattle.store_engines.specs.Upgrades.{IsUpgraded, NotUpgraded};
@@ -194,10 +194,10 @@ fn mirrored<F: Folders, O: Output + Drop>(
     output: O,
 ) -> (O, Result<(), Refusal>)
     ensures done { OnOk result.1 (OfBoth F.Place.Disk F.Folders folders.old folders.new mirror.now source.now
-        (IsWorkedOver (IsWorked work) (O.contents output) (O.contents result.0))) }
+        (IsBrought work (O.contents output) (O.contents result.0))) }
     ensures refused { IfErr result.1 (λ e. UnopenedBoth F.Place.Disk F.Folders folders.old folders.new mirror.now
         source.now (O.contents output) (O.contents result.0) e
-        (NotWorkedOver (IsWorked work) (O.contents output) (O.contents result.0) (Rose (O.failures output) (O.failures result.0)) e)) }
+        (NotBrought work (O.contents output) (O.contents result.0) (Rose (O.failures output) (O.failures result.0)) e)) }
     ensures unfailed { OnOk result.1 (O.failures result.0 ≡ O.failures output) }
     ensures peer { IfErr result.1 (λ e. e ≡ Refusal.PeerFailed → Rose (O.failures output) (O.failures result.0)) }
 {
@@ -221,10 +221,10 @@ fn mirrored_from<F: Folders, O: Output + Drop>(
     output: O,
 ) -> (RepoStore<F::Place>, O, Result<(), Refusal>)
     ensures done { OnOk result.2 (OverSource F.Place.Disk F.Folders folders.old folders.new source.now mirror result.0
-        (IsWorkedOver (IsWorked work) (O.contents output) (O.contents result.1))) }
+        (IsBrought work (O.contents output) (O.contents result.1))) }
     ensures refused { IfErr result.2 (λ e. NoSourceOr F.Place.Disk F.Folders folders.old folders.new source.now mirror
         result.0 (O.contents output) (O.contents result.1) e
-        (NotWorkedOver (IsWorked work) (O.contents output) (O.contents result.1) (Rose (O.failures output) (O.failures result.1)) e)) }
+        (NotBrought work (O.contents output) (O.contents result.1) (Rose (O.failures output) (O.failures result.1)) e)) }
     ensures rules { ¬ HasFailed mirror → F.Place.honest (disk_of mirror) → F.Place.honest (disk_of result.0) }
     ensures unfailed { OnOk result.2 (O.failures result.1 ≡ O.failures output) }
     ensures peer { IfErr result.2 (λ e. e ≡ Refusal.PeerFailed → Rose (O.failures output) (O.failures result.1)) }
@@ -246,10 +246,10 @@ fn worked<D: Disk + Drop, O: Output + Drop>(
     work: Work,
     output: O,
 ) -> (RepoStore<D>, O, Result<(), Refusal>)
-    ensures done { OnOk result.2 (WorkedOn (IsWorked work) (O.contents output) (O.contents result.1) mirror
+    ensures done { OnOk result.2 (BroughtOn work (O.contents output) (O.contents result.1) source.now mirror
         result.0) }
-    ensures refused { IfErr result.2 (λ e. NotWorkedOn (IsWorked work) (O.contents output)
-        (O.contents result.1) (Rose (O.failures output) (O.failures result.1)) e mirror result.0) }
+    ensures refused { IfErr result.2 (λ e. NotBroughtOn work (O.contents output) (O.contents result.1)
+        (Rose (O.failures output) (O.failures result.1)) e source.now mirror result.0) }
     ensures rules { ¬ HasFailed mirror → D.honest (disk_of mirror) → D.honest (disk_of result.0) }
     ensures unfailed { OnOk result.2 (O.failures result.1 ≡ O.failures output) }
     ensures peer { IfErr result.2 (λ e. e ≡ Refusal.PeerFailed → Rose (O.failures output) (O.failures result.1)) }
@@ -266,12 +266,12 @@ fn initialize<F: Folders, O: Output + Drop>(
     output: O,
 ) -> (O, Result<(), Refusal>)
     ensures done { OnOk result.1 (OfBoth F.Place.Disk F.Folders folders.old folders.new mirror.now source.now
-        (IsWorkedOver (IsInitialised source.now) (O.contents output) (O.contents result.0))) }
+        (IsBrought (work_is.Initialize source.now) (O.contents output) (O.contents result.0))) }
     ensures refused { IfErr result.1 (λ e. (NotKept source.now (O.contents output) (O.contents result.0) e
         × AreBack F.Place.Disk F.Folders folders.old folders.new [])
         ⊎ UnopenedBoth F.Place.Disk F.Folders folders.old folders.new mirror.now source.now
         (O.contents output) (O.contents result.0) e
-        (NotWorkedOver (IsInitialised source.now) (O.contents output) (O.contents result.0)
+        (NotBrought (work_is.Initialize source.now) (O.contents output) (O.contents result.0)
         (Rose (O.failures output) (O.failures result.0)) e)) }
     ensures unfailed { OnOk result.1 (O.failures result.0 ≡ O.failures output) }
     ensures peer { IfErr result.1 (λ e. e ≡ Refusal.PeerFailed → Rose (O.failures output) (O.failures result.0)) }

@@ -6,7 +6,7 @@ ghost use Rattle.byte_streams.specs.Causes.{Rose};
 ghost use Rattle.node_base.specs.Refusals.{fault_line};
 ghost use Rattle.node_base.specs.declared.refusal.Refusal.{Refusal as RefusalOf};
 ghost use Rattle.mirror_engines.specs.Runs.{IsWorked};
-ghost use Rattle.fleet_main.specs.Doing.{EndsWith, HandsOn, IsWorkedOver, OfStanding, UnopenedOr, WorkedOn};
+ghost use Rattle.fleet_main.specs.Doing.{EndsWith, HandsOn, IsWorkedOver, OfStanding, UnopenedOr, WorkedOn, untold};
 ghost use Rattle.fleet_main.specs.Pulling.{IsPulled, NotKeptFor, NotPulled, NotPulledOn, NotPulledOver, work_as};
 
 use crate::execute::{refused, url_of};
@@ -52,7 +52,7 @@ fn pull_opened<R: Net<Stream = TcpStream>, D: Disk + Drop, O: Output + Drop>(
     work: Work,
     output: O,
 ) -> (RepoStore<D>, O, Result<(), Refusal>)
-    ensures done { OnOk result.2 (WorkedOn (IsWorked work) (O.contents output) (O.contents result.1) mirror
+    ensures done { OnOk result.2 (WorkedOn untold (IsWorked work) (O.contents output) (O.contents result.1) mirror
         result.0) }
     ensures refused { IfErr result.2 (λ e. NotPulledOn (IsWorked work) (O.contents output)
         (O.contents result.1) (Rose (O.failures output) (O.failures result.1)) e mirror result.0) }
@@ -74,7 +74,7 @@ fn pull_folder<R: Net<Stream = TcpStream>, F: Folders, O: Output + Drop>(
     output: O,
 ) -> (O, Result<(), Refusal>)
     ensures done { OnOk result.1 (OfStanding F.Place.Disk F.Folders folders.old folders.new mirror.now
-        (IsWorkedOver (IsWorked work) (O.contents output) (O.contents result.0))) }
+        (IsWorkedOver untold (IsWorked work) (O.contents output) (O.contents result.0))) }
     ensures refused { IfErr result.1 (λ e. UnopenedOr F.Place.Disk F.Folders folders.old folders.new mirror.now
         (O.contents output) (O.contents result.0) e
         (NotPulledOver (F.honest folders.old) (IsWorked work) (O.contents output) (O.contents result.0)

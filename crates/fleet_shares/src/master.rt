@@ -1,5 +1,5 @@
 //! A shared master as the port of a job.
-ghost use Rattle.std.specs.Prelude.{◌≡◌, ◌≤◌, ◌-◌, ◌⊎◌, length, take, Some, IfOk, IfErr, IfSome, OnErr};
+ghost use Rattle.std.specs.Prelude.{◌≡◌, ◌≤◌, ◌-◌, ◌⊎◌, ◌++◌, ◌∷◌, [], List, length, take, Some, IfOk, IfErr, IfSome, OnErr};
 ghost use Rattle.std.specs.Option.{option_map};
 ghost use Rattle.dump_load.specs.Trees.{Makes};
 ghost use Rattle.node_base.specs.declared.refusal.Refusal.TheVariants as refusal;
@@ -7,6 +7,7 @@ ghost use Rattle.store_share.specs.Seats.{known_by, seen_by};
 ghost use Rattle.sync_core.specs.World.{Origin, moment_of, map_at};
 ghost use Rattle.sync_core.specs.World.{Makes as MakesTree};
 ghost use Rattle.sync_job.specs.Masters.{IsTrue};
+ghost use Rattle.sync_job.specs.Questions.{Exchange, Identity, Latest, Fetch, FetchProps};
 ghost use Rattle.sync_job.specs.declared.master.MasterFault.TheVariants as fault;
 ghost use Rattle.fleet_shares.specs.Faults.{master_fault};
 
@@ -45,15 +46,22 @@ impl<'a, R: Wait, L: RowName, D: Disk> SharedMaster<'a, R, L, D> {
 }
 
 impl<R: Wait, L: RowName, D: Disk> MasterPort for SharedMaster<'_, R, L, D> {
-    ghost use Rattle.fleet_shares.specs.Ports.{seat_of, IsNowhere};
+    ghost use Rattle.fleet_shares.specs.Ports.{seat_of, IsNowhere, SaysNothing};
 
     // Others change the master between two calls of a job, and no clause knows what is under a lock.
     ghost is_at = { λ _ o. IsNowhere o };
 
+    // Nor is anything said of all that it answers.
+    ghost answered = { λ _ _ made. SaysNothing made };
+
+    ghost unasked = { λ _. tt };
+
     fn identity(&mut self, alloc: Global) -> Result<PropValue, MasterFault>
         ensures seat { seat_of self.new ≡ seat_of self.old }
         ensures refused { IfErr result (λ f. f ≡ fault.Refused refusal.OutOfMemory) }
-        ensures told { IsTrue IsNowhere IsNowhere (λ o. IfOk result (λ v. v ≡ o.identity)) }
+        ensures value { IsTrue IsNowhere IsNowhere (λ o. IfOk result (λ v. v ≡ o.identity)) }
+        ensures answered { (first : _) (made : List Exchange) → SaysNothing made
+            → SaysNothing (made ++ Identity result ∷ []) }
     {
         match identity_text(alloc, self.share.identity(self.rt)) {
             Ok(text) => Ok(text),
@@ -68,7 +76,9 @@ impl<R: Wait, L: RowName, D: Disk> MasterPort for SharedMaster<'_, R, L, D> {
         ensures taken { OnErr result ⊥ }
         ensures kept { (r : _) → r ≤ seen_by (seat_of self.old)
             → known_by (seat_of self.new) r ≡ known_by (seat_of self.old) r }
-        ensures told { IsTrue IsNowhere IsNowhere (λ o. IfOk result (λ n. n ≡ length o.trees - 1)) }
+        ensures value { IsTrue IsNowhere IsNowhere (λ o. IfOk result (λ n. n ≡ length o.trees - 1)) }
+        ensures answered { (first : _) (made : List Exchange) → SaysNothing made
+            → SaysNothing (made ++ Latest result ∷ []) }
     {
         Ok(self.share.latest(self.rt, &mut self.seat))
     }
@@ -93,6 +103,8 @@ impl<R: Wait, L: RowName, D: Disk> MasterPort for SharedMaster<'_, R, L, D> {
             (λ o. take number o.trees ≡ trees.now → IfOk result
             (λ r. MakesTree o number r.set × (map_at o (moment_of o) number ≡ Some r.props))) }
         ensures tree { IfOk result (λ r. IfSome r.tree (Makes trees.now r.set)) }
+        ensures answered { (first : _) (made : List Exchange) → SaysNothing made
+            → SaysNothing (made ++ Fetch number trees.now result ∷ []) }
     {
         let _ = trees;
         match self.share.fetch(self.rt, alloc, &mut self.seat, number) {
@@ -106,8 +118,10 @@ impl<R: Wait, L: RowName, D: Disk> MasterPort for SharedMaster<'_, R, L, D> {
         ensures seat { seat_of self.new ≡ seat_of self.old }
         ensures refused { IfErr result (λ f. (f ≡ fault.Refused refusal.NoSuchRevision)
             ⊎ (f ≡ fault.Refused refusal.OutOfMemory)) }
-        ensures told { IsTrue IsNowhere IsNowhere
+        ensures value { IsTrue IsNowhere IsNowhere
             (λ o. IfOk result (λ p. map_at o (moment_of o) number ≡ Some p)) }
+        ensures answered { (first : _) (made : List Exchange) → SaysNothing made
+            → SaysNothing (made ++ FetchProps number result ∷ []) }
     {
         match self.share.fetch_props(self.rt, number) {
             Ok(props) => Ok(props),

@@ -21,6 +21,10 @@ impl<R: Wait, L: RowName> MasterPort for SeatMaster<'_, R, L> {
 
     ghost is_at = { λ _ _. ⊥ };
 
+    ghost answered = { λ _ _ _. Unit {0} };
+
+    ghost unasked = { λ _. tt };
+
     fn identity(&mut self, alloc: Global) -> Result<PropValue, MasterFault> {
         let mut buffer = [0u8; 36];
         let text = self

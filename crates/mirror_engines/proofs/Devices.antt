@@ -18,16 +18,18 @@ use Rattle.sync_core.specs.declared.answer.Answer.{Answer}
 use Rattle.sync_core.specs.declared.fault.SyncFault.{SyncFault}
 use Rattle.sync_core.specs.declared.reply.Reply.{Reply as Given}
 use Rattle.sync_core.specs.declared.reply.Reply.TheVariants as given
-use Rattle.sync_job.specs.Alone.{store_of}
+use Rattle.sync_job.specs.Alone.{store_of, IsStep}
 use Rattle.sync_job.specs.Asked.{Asked}
 use Rattle.sync_job.specs.Devices.{FailsSince, HasFailedSince, IsCaused, WasAsked}
 use Rattle.sync_job.specs.Fronts.{IsHeard}
 use Rattle.sync_job.specs.Kept.{refused_as}
+use Rattle.sync_job.specs.Questions.{LeadsBy}
 use Rattle.sync_job.specs.Runs.{ComesFrom, Mirrors, Trees, Masters, Memory, Tables, EndsSync, EndsInit, EndsCopy, IsSaid, IsShown, Runs, no_number}
 use Rattle.sync_job.specs.Said.{Spoken, Says, NoTree, Tells}
 use Rattle.sync_job.specs.Telling.{IsOther, IsSaidAs, KeepsTelling, TellsAsked, calls_in, others_in}
 use Rattle.sync_job.specs.declared.alone.AloneMirror.{AloneMirror}
 use Rattle.sync_job.specs.declared.report.Told.{Told}
+use Rattle.sync_job.proofs.Devices.{was_asked}
 use Rattle.mirror_engines.specs.Runs.{TellsDevice, answer_of, told_as}
 
 -- the numbers of a device
@@ -158,7 +160,7 @@ copy_ends token low high (Err f) es h = h
 
 -- the ghost of a mirror that is held alone
 abbrev pub asked_alone : {D : Type 0} {G : Ghosts D} → AloneMirror D G → AloneMirror D G → List Asked → Type 0
-asked_alone now first calls = WasAsked (store_of now) (store_of first) calls
+asked_alone now first calls = LeadsBy IsStep first calls now
 
 -- what a run tells of the device, of which these calls were asked
 tells_of : {D : Type 0} {G : Ghosts D} (High : ℕ → Type 0) (job : Job) (old new : RepoStore D G) (said : List Spoken) (made : List Asked) (ended : Result (Unit {0}) SyncFault) (lost : Bool)
@@ -185,9 +187,9 @@ pub tells_device : {D : Type 0} {G : Ghosts D} {B : Type 0} (N : Job → ℕ →
     (heard_old heard_new : B → List Told → Type 0) → start ≡ [] → Runs N order start said heard_old heard_new End → ((es : List Spoken) → End es → IfErr ended (λ f. ComesFrom High (begun order) es f))
     → KeepsTelling asked_alone before after start said → TellsDevice (store_of before) (store_of after) said (answer_of ended lost)
 tells_device {G} N High order End before after start said ended lost heard_old heard_new none run comes telling =
-    let t = telling before start (record { made = []; more = []; adds = sym (append-nil start); asked = record { later = omega arith; broken = λ h. inl h; causes = tt }; said = tt; others = tt }) in
+    let t = telling before start (record { made = []; more = []; adds = sym (append-nil start); asked = refl; said = tt; others = tt }) in
     tells_of High (begun order) (store_of before) (store_of after) said t.made ended lost
     (subst (λ xs. IfErr ended (λ f. ComesFrom High (begun order) xs f)) (sym (run.adds ∙ ap (λ xs. xs ++ run.more) none)) (comes run.more run.end))
-    t.asked
+    (was_asked before after t.made t.asked)
     (subst (λ xs. AllZip IsSaidAs t.made (calls_in xs)) (sym (t.adds ∙ ap (λ xs. xs ++ t.more) none)) t.said)
     (subst (λ xs. AllByRecursion IsOther (others_in xs)) (sym (t.adds ∙ ap (λ xs. xs ++ t.more) none)) t.others)

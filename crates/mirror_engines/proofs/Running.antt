@@ -1,6 +1,6 @@
 -- What a run over a mirror's store comes to.
 use Rattle.std.proofs.Common.{◌≡◌, ◌↔◌, ◌==◌, ℕ, Bool, true, false, List, [], ◌∷◌, ◌++◌, Option, None, Result, Ok, Err, IfErr, refl, sym, ap, subst, ◌∙◌, if◌then◌else◌}
-use Rattle.std.specs.List.{flat_map}
+use Rattle.std.specs.List.{AllZip, flat_map}
 use Rattle.std.specs.Result.{OnOk}
 use Rattle.std.specs.Io.KnownBytes.{Appends}
 use Rattle.std.proofs.KnownBytes.{Appends-nil, Appends-trans}
@@ -22,14 +22,19 @@ use Rattle.sync_core.specs.declared.fault.SyncFault.{SyncFault}
 use Rattle.sync_job.specs.Alone.{StandsAt, begun, store_of, holder_of}
 use Rattle.sync_job.specs.Fronts.{HasCome, KeepsFront, Moving, WentAt, accepted_in, counted_in}
 use Rattle.sync_job.specs.Mirrors.{MirrorNow}
+use Rattle.sync_job.specs.Questions.{Exchange, IsSaidOf, KeepsAnswers, questions_in}
 use Rattle.sync_job.specs.Runs.{Runs}
 use Rattle.sync_job.specs.Said.{Spoken, told_in}
+use Rattle.sync_job.specs.Telling.{IsSaidAs, KeepsTelling, calls_in}
 use Rattle.sync_job.specs.declared.alone.AloneMirror.{AloneMirror}
 use Rattle.sync_job.specs.declared.report.Told.{Told}
 use Rattle.mirror_engines.specs.Lines.{IsPrinted, Printed, Lost, line_of}
 use Rattle.mirror_engines.specs.Ports.{HasPrinted, is_lost, output_of}
 use Rattle.mirror_engines.specs.Runs.{answer_of, told_as, IsUnheard, Leaves, Serves, TellsDevice}
+use Rattle.mirror_engines.specs.Worlds.{Hears, Leads}
 use Rattle.mirror_engines.specs.declared.printer.Printer.{Printer}
+use Rattle.mirror_engines.proofs.Devices.{asked_alone}
+use Rattle.sync_job.proofs.Devices.{was_led}
 
 -- a line more
 one_more : (told : List Told) (t : Told) → flat_map line_of (told ++ t ∷ []) ≡ flat_map line_of told ++ line_of t
@@ -81,16 +86,29 @@ leaves : {D : Type 0} {G : Ghosts D} (before after : AloneMirror D G) (accepted 
     → WentAt stands_alone clock_alone left_alone honest_alone before after accepted counted → Leaves (store_of before) (store_of after) accepted counted
 leaves before after accepted counted there w =
     let went = w.1 (begun (repository_of (store_of before))) there in
-    record { honest = w.0; now = went.now; holder = holder_of after; come = went.come; there = went.there; any_moment = λ h. let x = went.images h in record { later = x.later; each = x.each; before = x.before } }
+    record { honest = w.0; now = went.now; holder = holder_of after; come = went.come; there = went.there; any_moment = λ h. let x = went.images h in record { later = x.later; each = x.each; before = x.before }; last = went.left }
+
+-- as the master was asked
+heard_in : {M : Type 0} (answered : M → M → List Exchange → Type 0) (first last : M) (said : List Spoken) → ((before : M) → answered before before []) → KeepsAnswers answered first last [] said → Hears answered first said
+heard_in answered first last said none h =
+    let t = h first [] (record { made = []; more = []; adds = refl; answered = none first; said = tt }) in
+    record { last = last; made = t.made; gave = t.answered; told = subst (λ es. AllZip IsSaidOf t.made (questions_in es)) (sym t.adds) t.said }
+
+-- and the mirror
+led_in : {D : Type 0} {G : Ghosts D} (before after : AloneMirror D G) (said : List Spoken) → KeepsTelling asked_alone before after [] said → StandsAt (store_of before) (holder_of before) (begun (repository_of (store_of before))) → Leads (store_of before) (store_of after) said
+led_in before after said h there =
+    let t = h before [] (record { made = []; more = []; adds = refl; asked = refl; said = tt; others = tt }) in
+    let w = was_led before after t.made (begun (repository_of (store_of before))) t.asked there in
+    record { now = w.0; holder = holder_of after; there = w.1; led = record { made = t.made; steps = w.2; told = subst (λ es. AllZip IsSaidAs t.made (calls_in es)) (sym t.adds) t.said } }
 
 -- what was said and printed in a run, and what it left
-pub serves : {D : Type 0} {G : Ghosts D} {O : Type 0} (contents : O → Option (List ℕ)) (failures : O → ℕ) (IsRun : List Spoken → Result (Unit {0}) SyncFault → Type 0) (N : Job → ℕ → Type 0) (order : Order)
+pub serves : {D M : Type 0} {G : Ghosts D} {O : Type 0} (answered : M → M → List Exchange → Type 0) (first last : M) (contents : O → Option (List ℕ)) (failures : O → ℕ) (IsRun : List Spoken → Result (Unit {0}) SyncFault → Type 0) (N : Job → ℕ → Type 0) (order : Order)
     (End : List Spoken → Type 0) (before after : AloneMirror D G) (p q : Printer O) (said : List Spoken) (ended : Result (Unit {0}) SyncFault)
     → (Runs N order [] said IsUnheard IsUnheard End → IsRun said ended) → Runs N order [] said (HasPrinted contents failures p) (HasPrinted contents failures q) End → is_lost p ≡ false
     → (¬ HasFailed (store_of before) → StandsAt (store_of before) None (begun (repository_of (store_of before)))) → holder_of before ≡ None
     → Moving [] said (WentAt stands_alone clock_alone left_alone honest_alone before after) → TellsDevice (store_of before) (store_of after) said (answer_of ended (is_lost q))
-    → Serves IsRun (store_of before) (store_of after) (contents (output_of p)) (contents (output_of q)) (Rose (failures (output_of p)) (failures (output_of q))) (answer_of ended (is_lost q))
-serves contents failures IsRun N order End before after p q said ended is run l there holder moving device =
+    → ((m : M) → answered m m []) → KeepsAnswers answered first last [] said → KeepsTelling asked_alone before after [] said → Serves answered first IsRun (store_of before) (store_of after) (contents (output_of p)) (contents (output_of q)) (Rose (failures (output_of p)) (failures (output_of q))) (answer_of ended (is_lost q))
+serves answered first last contents failures IsRun N order End before after p q said ended is run l there holder moving device none hears leads =
     record {
       said = said;
       ended = ended;
@@ -99,6 +117,8 @@ serves contents failures IsRun N order End before after p q said ended is run l 
       printed = subst (λ xs. IsPrinted (contents (output_of p)) (contents (output_of q)) (Rose (failures (output_of p)) (failures (output_of q))) (is_lost q) (told_in xs)) (sym run.adds)
           (run.tells p [] (printed_none contents failures p l)).printed;
       answer = refl;
+      heard = heard_in answered first last said none hears;
+      led = λ works. led_in before after said leads (subst (λ h. StandsAt (store_of before) h (begun (repository_of (store_of before)))) (sym holder) (there works));
       left = λ works. leaves before after (accepted_in said) (counted_in said)
           (subst (λ h. StandsAt (store_of before) h (begun (repository_of (store_of before)))) (sym holder) (there works))
           (subst (λ xs. WentAt stands_alone clock_alone left_alone honest_alone before after (accepted_in xs) (counted_in xs)) (sym moving.adds) moving.went);
@@ -154,32 +174,35 @@ peer_failed contents failures q p told ended h =
     if_err (answer_of ended (is_lost q)) (λ e. e ≡ PeerFailed → is_lost q ≡ true) (λ e. e ≡ PeerFailed → Rose (failures (output_of p)) (failures (output_of q))) (λ e f is. lost_failed contents failures q p told h (f is)) (only_lost ended (is_lost q))
 
 -- what a run that ends so comes to
-pub record Whole {D : Type 0} {G : Ghosts D} {O : Type 0} (contents : O → Option (List ℕ)) (failures : O → ℕ) (IsRun : List Spoken → Result (Unit {0}) SyncFault → Type 0) (store new : RepoStore D G) (output sink : O)
+pub record Whole {D M : Type 0} {G : Ghosts D} {O : Type 0} (answered : M → M → List Exchange → Type 0) (master : M) (contents : O → Option (List ℕ)) (failures : O → ℕ) (IsRun : List Spoken → Result (Unit {0}) SyncFault → Type 0) (store new : RepoStore D G) (output sink : O)
     (answer : Result (Unit {0}) Refusal) : Type 0 where
-  pub ran : Serves IsRun store new (contents output) (contents sink) (Rose (failures output) (failures sink)) answer
+  pub ran : Serves answered master IsRun store new (contents output) (contents sink) (Rose (failures output) (failures sink)) answer
   pub unfailed : OnOk answer (failures sink ≡ failures output)
   pub peer : IfErr answer (λ e. e ≡ PeerFailed → Rose (failures output) (failures sink))
 
 -- from the ports as they are made to what is taken out of them
-pub whole : {D : Type 0} {G : Ghosts D} {O : Type 0} (contents : O → Option (List ℕ)) (failures : O → ℕ) (IsRun : List Spoken → Result (Unit {0}) SyncFault → Type 0) (N : Job → ℕ → Type 0) (order : Order)
+pub whole : {D M : Type 0} {G : Ghosts D} {O : Type 0} (answered : M → M → List Exchange → Type 0) (master mold mnew : M) (contents : O → Option (List ℕ)) (failures : O → ℕ) (IsRun : List Spoken → Result (Unit {0}) SyncFault → Type 0) (N : Job → ℕ → Type 0) (order : Order)
     (End : List Spoken → Type 0) (store new : RepoStore D G) (output sink : O) (held before after left : AloneMirror D G) (first p q report : Printer O) (start said : List Spoken)
     (ended : Result (Unit {0}) SyncFault) (lost : Bool) (answer : Result (Unit {0}) Refusal)
     → store_of held ≡ store → (¬ HasFailed store → StandsAt store None (begun (repository_of store))) → holder_of held ≡ None → output_of first ≡ output → is_lost first ≡ false
     → start ≡ [] → before ≡ held → p ≡ first
     → Runs N order start said (HasPrinted contents failures p) (HasPrinted contents failures q) End → Moving start said (WentAt stands_alone clock_alone left_alone honest_alone before after)
     → TellsDevice (store_of before) (store_of after) said (answer_of ended (is_lost q)) → left ≡ after → report ≡ q → lost ≡ is_lost report → answer ≡ answer_of ended lost → new ≡ store_of left → sink ≡ output_of report
-    → (Runs N order [] said IsUnheard IsUnheard End → IsRun said ended) → Whole contents failures IsRun store new output sink answer
-whole {O = O} contents failures IsRun N order End store new output sink held before after left first p q report start said ended lost answer at stands holder out none begins same_mirror same_report run moving device left_is report_is lost_is answer_is new_is sink_is is =
+    → (Runs N order [] said IsUnheard IsUnheard End → IsRun said ended)
+    → mold ≡ master → ((m : M) → answered m m []) → KeepsAnswers answered mold mnew start said → KeepsTelling asked_alone before after start said → Whole answered master contents failures IsRun store new output sink answer
+whole {M = M} {O = O} answered master mold mnew contents failures IsRun N order End store new output sink held before after left first p q report start said ended lost answer at stands holder out none begins same_mirror same_report run moving device left_is report_is lost_is answer_is new_is sink_is is same_master unasked hears leads =
     record {
-      ran = subst (λ x. Serves IsRun x new (contents output) (contents sink) (Rose (failures output) (failures sink)) answer) e_store
-          (subst (λ x. Serves IsRun (store_of before) x (contents output) (contents sink) (Rose (failures output) (failures sink)) answer) e_new
-          (subst (λ (x : O). Serves IsRun (store_of before) (store_of after) (contents x) (contents sink) (Rose (failures x) (failures sink)) answer) e_output
-          (subst (λ (x : O). Serves IsRun (store_of before) (store_of after) (contents (output_of p)) (contents x) (Rose (failures (output_of p)) (failures x)) answer) e_sink
-          (subst (λ x. Serves IsRun (store_of before) (store_of after) (contents (output_of p)) (contents (output_of q)) (Rose (failures (output_of p)) (failures (output_of q))) x) e_answer
-          (serves contents failures IsRun N order End before after p q said ended is run_on fresh_report
+      ran = subst (λ (k : M). Serves answered k IsRun store new (contents output) (contents sink) (Rose (failures output) (failures sink)) answer) same_master
+          (subst (λ x. Serves answered mold IsRun x new (contents output) (contents sink) (Rose (failures output) (failures sink)) answer) e_store
+          (subst (λ x. Serves answered mold IsRun (store_of before) x (contents output) (contents sink) (Rose (failures output) (failures sink)) answer) e_new
+          (subst (λ (x : O). Serves answered mold IsRun (store_of before) (store_of after) (contents x) (contents sink) (Rose (failures x) (failures sink)) answer) e_output
+          (subst (λ (x : O). Serves answered mold IsRun (store_of before) (store_of after) (contents (output_of p)) (contents x) (Rose (failures (output_of p)) (failures x)) answer) e_sink
+          (subst (λ x. Serves answered mold IsRun (store_of before) (store_of after) (contents (output_of p)) (contents (output_of q)) (Rose (failures (output_of p)) (failures (output_of q))) x) e_answer
+          (serves answered mold mnew contents failures IsRun N order End before after p q said ended is run_on fresh_report
           (subst (λ x. ¬ HasFailed x → StandsAt x None (begun (repository_of x))) (sym e_store) stands)
           (ap holder_of same_mirror ∙ holder)
-          (subst (λ x. Moving x said (WentAt stands_alone clock_alone left_alone honest_alone before after)) begins moving) device)))));
+          (subst (λ x. Moving x said (WentAt stands_alone clock_alone left_alone honest_alone before after)) begins moving) device unasked
+          (subst (λ x. KeepsAnswers answered mold mnew x said) begins hears) (subst (λ x. KeepsTelling asked_alone before after x said) begins leads)))))));
       unfailed = subst (λ x. OnOk x (failures sink ≡ failures output)) e_answer
           (subst (λ (x : O). OnOk (answer_of ended (is_lost q)) (failures x ≡ failures output)) e_sink
           (subst (λ (x : O). OnOk (answer_of ended (is_lost q)) (failures (output_of q) ≡ failures x)) e_output (unfailed contents failures q p (told_in said) ended printed)));

@@ -1,4 +1,6 @@
+pub mod Histories
 pub mod Infos
 pub mod Lines
 pub mod Ports
 pub mod Runs
+pub mod Worlds

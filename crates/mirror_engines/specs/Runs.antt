@@ -16,11 +16,13 @@ use Rattle.sync_core.specs.declared.fault.SyncFault.{SyncFault}
 use Rattle.sync_job.specs.Alone.{StandsAt, begun}
 use Rattle.sync_job.specs.Devices.{FailsSince, HasFailedSince}
 use Rattle.sync_job.specs.Fronts.{HasCome, KeepsFront, accepted_in, counted_in}
-use Rattle.sync_job.specs.Mirrors.{MirrorNow}
+use Rattle.sync_job.specs.Mirrors.{MirrorNow, Keeps}
+use Rattle.sync_job.specs.Questions.{Exchange}
 use Rattle.sync_job.specs.Runs.{IsSaid, IsSyncRun, IsInitRun, IsCopyRun}
 use Rattle.sync_job.specs.Said.{Spoken, Says, told_in}
 use Rattle.sync_job.specs.declared.report.Told.{Told}
 use Rattle.mirror_engines.specs.Lines.{IsPrinted}
+use Rattle.mirror_engines.specs.Worlds.{Hears, Leads}
 use Rattle.mirror_engines.specs.declared.work.Work.{Work}
 use Rattle.mirror_engines.specs.declared.work.Work.TheVariants as work
 
@@ -45,6 +47,8 @@ pub record Leaves {D : Type 0} {G : Ghosts D} (old new : RepoStore D G) (accepte
   pub there : StandsAt new holder now
   -- a stop at any moment of the run leaves the mirror as it was, or the repository after a front of the calls
   pub any_moment : G.honest (disk_of old) → LeavesOnly G.clock G.left_since (disk_of old) (disk_of new) (KeepsFront (begun (repository_of old)) counted)
+  -- and once it has ended, what keeps the mirror now
+  pub last : G.honest (disk_of old) → (image : Image) → G.left_since (disk_of new) (G.clock (disk_of new)) image → Keeps now image
 
 -- what a run tells of its mirror's device: it answers 31, or one of its calls was answered so, only where the device has failed in it;
 -- it answers 32, or leaves a store that is broken, only where it has, or had failed before
@@ -55,14 +59,16 @@ pub record TellsDevice {D : Type 0} {G : Ghosts D} (old new : RepoStore D G) (sa
   pub failed : IfErr result (λ e. e ≡ Failed → HasFailedSince old new)
   pub broken : HasFailed new → HasFailedSince old new
 
--- a run of a job over a mirror's store: all that was said through its ports, in order, and how the job ended; of what was told the lines that are printed, the answer, and what is left of the mirror
-pub record Serves {D : Type 0} {G : Ghosts D} (IsRun : List Spoken → Result (Unit {0}) SyncFault → Type 0) (old new : RepoStore D G) (before now : Option (List ℕ)) (fails : Type 0) (result : Result (Unit {0}) Refusal) : Type 0 where
+-- a run of a job over a mirror's store and a master: all that was said through its ports, in order, as the two were asked and answered, and how the job ended; of what was told the lines that are printed, the answer, and what is left of the mirror
+pub record Serves {D M : Type 0} {G : Ghosts D} (answered : M → M → List Exchange → Type 0) (master : M) (IsRun : List Spoken → Result (Unit {0}) SyncFault → Type 0) (old new : RepoStore D G) (before now : Option (List ℕ)) (fails : Type 0) (result : Result (Unit {0}) Refusal) : Type 0 where
   pub said : List Spoken
   pub ended : Result (Unit {0}) SyncFault
   pub run : IsRun said ended
   pub lost : Bool
   pub printed : IsPrinted before now fails lost (told_in said)
   pub answer : result ≡ answer_of ended lost
+  pub heard : Hears answered master said
+  pub led : ¬ HasFailed old → Leads old new said
   pub left : ¬ HasFailed old → Leaves old new (accepted_in said) (counted_in said)
   pub device : TellsDevice old new said result
 

@@ -16,6 +16,10 @@
 //! above, or a server. What it has done is printed line by line, each handed on as soon as what it tells stands. A line
 //! that can't be written stops no run: it is told at the end (49), where the run wasn't refused, and no line is written
 //! behind it.
+//!
+//! Of a run over a master that is a repository it is said what it makes of the mirror, whatever it answers: in every world
+//! in which that was a mirror of the master it is one, and so is what a stop leaves at any moment. Runs chain: `law` says
+//! what has become of a mirror behind any list of them.
 #![tactic(auto)]
 
 pub use info::run_info;
@@ -24,6 +28,7 @@ pub use runs::{run_copy_revprops, run_initialize, run_synchronize, run_work};
 pub use work::Work;
 
 mod info;
+pub mod law;
 mod lines;
 mod printer;
 mod runs;

@@ -1,10 +1,12 @@
 //! Runs over a mirror's store.
-ghost use Rattle.std.specs.Prelude.{◌≡◌, None, IfErr, OnOk};
+ghost use Rattle.std.specs.Prelude.{◌≡◌, ◌<◌, length, None, IfErr, OnOk};
 ghost use Rattle.byte_streams.specs.Causes.{Rose};
-ghost use Rattle.repo_store.specs.Words.{repository_of, HasFailed};
+ghost use Rattle.repo_core.specs.Repository.{Repository};
+ghost use Rattle.repo_store.specs.Words.{repository_of, revisions_of, HasFailed};
 ghost use Rattle.sync_job.specs.Alone.{begun, holder_of, store_of, StandsAt};
 ghost use Rattle.mirror_engines.specs.Runs.{answer_of, told_as, IsCopied, IsInitialised, IsSynchronised, IsWorked};
 ghost use Rattle.mirror_engines.specs.Runs.{Serves};
+ghost use Rattle.mirror_engines.specs.Worlds.{BringsTrees, IsCaughtUp, IsInWorld, IsPortOf, StopsInWorld};
 
 use crate::printer::Printer;
 use crate::work::Work;
@@ -14,6 +16,7 @@ use node_base::{PropValue, Refusal, RevNo};
 use repo_store::RepoStore;
 use std::alloc::Global;
 use sync_core::{SyncFault, Token};
+use sync_job::law::{ends_keep_all, runs_lead_mirrors};
 use sync_job::{
     AloneMirror, JobPorts, MasterPort, run_copy_revprops as run_copy, run_init, run_sync,
 };
@@ -28,8 +31,10 @@ pub fn run_initialize<D: Disk + Drop, M: MasterPort + Drop, O: Output + Drop>(
     url: PropValue,
     output: O,
 ) -> (RepoStore<D>, O, Result<(), Refusal>)
-    ensures ran { Serves (IsInitialised url) mirror result.0 (O.contents output) (O.contents result.1)
+    ensures ran { Serves M.answered master (IsInitialised url) mirror result.0 (O.contents output) (O.contents result.1)
         (Rose (O.failures output) (O.failures result.1)) result.2 }
+    ensures world { IsInWorld M.answered M.is_at master mirror result.0 }
+    ensures stops { StopsInWorld M.answered M.is_at master mirror result.0 }
     ensures unfailed { OnOk result.2 (O.failures result.1 ≡ O.failures output) }
     ensures peer { IfErr result.2 (λ e. e ≡ Refusal.PeerFailed → Rose (O.failures output) (O.failures result.1)) }
 {
@@ -49,8 +54,10 @@ pub fn run_synchronize<D: Disk + Drop, M: MasterPort + Drop, O: Output + Drop>(
     steal: bool,
     output: O,
 ) -> (RepoStore<D>, O, Result<(), Refusal>)
-    ensures ran { Serves (IsSynchronised token steal) mirror result.0 (O.contents output)
+    ensures ran { Serves M.answered master (IsSynchronised token steal) mirror result.0 (O.contents output)
         (O.contents result.1) (Rose (O.failures output) (O.failures result.1)) result.2 }
+    ensures world { IsInWorld M.answered M.is_at master mirror result.0 }
+    ensures stops { StopsInWorld M.answered M.is_at master mirror result.0 }
     ensures unfailed { OnOk result.2 (O.failures result.1 ≡ O.failures output) }
     ensures peer { IfErr result.2 (λ e. e ≡ Refusal.PeerFailed → Rose (O.failures output) (O.failures result.1)) }
 {
@@ -71,8 +78,10 @@ pub fn run_copy_revprops<D: Disk + Drop, M: MasterPort + Drop, O: Output + Drop>
     high: RevNo,
     output: O,
 ) -> (RepoStore<D>, O, Result<(), Refusal>)
-    ensures ran { Serves (IsCopied token low high) mirror result.0 (O.contents output) (O.contents result.1)
+    ensures ran { Serves M.answered master (IsCopied token low high) mirror result.0 (O.contents output) (O.contents result.1)
         (Rose (O.failures output) (O.failures result.1)) result.2 }
+    ensures world { IsInWorld M.answered M.is_at master mirror result.0 }
+    ensures stops { StopsInWorld M.answered M.is_at master mirror result.0 }
     ensures unfailed { OnOk result.2 (O.failures result.1 ≡ O.failures output) }
     ensures peer { IfErr result.2 (λ e. e ≡ Refusal.PeerFailed → Rose (O.failures output) (O.failures result.1)) }
 {
@@ -84,6 +93,8 @@ pub fn run_copy_revprops<D: Disk + Drop, M: MasterPort + Drop, O: Output + Drop>
 }
 
 /// Runs the work over a mirror's store and a master: as `run_initialize`, `run_synchronize` and `run_copy_revprops`.
+/// Where the master's port tells what a repository is, and the mirror's trees were that one's first ones, they are so
+/// whenever it stops; and a synchronisation that is done has left as many revisions.
 pub fn run_work<D: Disk + Drop, M: MasterPort + Drop, O: Output + Drop>(
     alloc: Global,
     mirror: RepoStore<D>,
@@ -91,11 +102,21 @@ pub fn run_work<D: Disk + Drop, M: MasterPort + Drop, O: Output + Drop>(
     work: Work,
     output: O,
 ) -> (RepoStore<D>, O, Result<(), Refusal>)
-    ensures ran { Serves (IsWorked work) mirror result.0 (O.contents output) (O.contents result.1)
+    ensures ran { Serves M.answered master (IsWorked work) mirror result.0 (O.contents output) (O.contents result.1)
         (Rose (O.failures output) (O.failures result.1)) result.2 }
+    ensures world { IsInWorld M.answered M.is_at master mirror result.0 }
+    ensures stops { StopsInWorld M.answered M.is_at master mirror result.0 }
+    ensures trees { (source : Repository) → IsPortOf M.answered master source → ¬ HasFailed mirror
+        → BringsTrees source mirror result.0 }
+    ensures all { (source : Repository) → IsPortOf M.answered master source → ¬ HasFailed mirror
+        → OnOk result.2 (IsCaughtUp work source result.0) }
     ensures unfailed { OnOk result.2 (O.failures result.1 ≡ O.failures output) }
     ensures peer { IfErr result.2 (λ e. e ≡ Refusal.PeerFailed → Rose (O.failures output) (O.failures result.1)) }
 {
+    runs_lead_mirrors();
+    ends_keep_all();
+    let repo = mirror.repo();
+    repo.is_repository();
     match work {
         Work::Initialize { url } => run_initialize(alloc, mirror, master, url, output),
         Work::Synchronize { token, steal } => {

@@ -1,10 +1,12 @@
 //! A shared mirror as the port of a job.
-ghost use Rattle.std.specs.Prelude.{◌≡◌, ◌≤◌, ◌↔◌, ◌++◌, ◌∷◌, [], ℕ, List, length, Some, IfOk, IfErr, OnOk};
+ghost use Rattle.std.specs.Prelude.{◌≡◌, ◌≤◌, ◌↔◌, ◌++◌, ◌∷◌, [], ℕ, List, length, None, Some, IfOk, IfErr, OnOk};
 ghost use Rattle.std.specs.Option.{option_map};
 ghost use Rattle.node_base.specs.Tree.{PathMap};
+ghost use Rattle.node_base.specs.declared.refusal.Refusal.TheVariants as refusal;
 ghost use Rattle.repo_core.specs.Repository.{tree_at};
 ghost use Rattle.store_share.specs.Seats.{known_by, seen_by};
 ghost use Rattle.sync_core.specs.Calls.{call_of};
+ghost use Rattle.sync_core.specs.declared.fault.SyncFault.TheVariants as fault;
 ghost use Rattle.sync_job.specs.Asked.{Asked, asked_as};
 ghost use Rattle.sync_job.specs.Mirrors.{MirrorNow, IsFit, Moves, Stays};
 ghost use Rattle.sync_job.specs.Telling.{IsTreeFault};
@@ -130,6 +132,8 @@ impl<R: Wait, L: RowName, D: Disk> MirrorPort for SeatMirror<'_, R, L, D> {
         ensures kept { (r : ℕ) → r ≤ seen_by (reader_of self.old)
             → known_by (reader_of self.new) r ≡ known_by (reader_of self.old) r }
         ensures refused { IfErr result IsTreeFault }
+        ensures absent { (m : MirrorNow) → NowhereStands m → IfErr result
+            (λ f. f ≡ fault.Other refusal.NoSuchRevision → tree_at m.repository.revisions number ≡ None) }
         ensures seat { place_of (seat_of self.new) ≡ place_of (seat_of self.old) }
         ensures honest { ⊥ ↔ ⊥ }
         ensures tree { (m : MirrorNow) → NowhereStands m → IfOk result

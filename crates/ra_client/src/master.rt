@@ -17,8 +17,16 @@ use sync_job::{Fetched, MasterFault, MasterPort};
 use uuid::Uuid;
 
 impl<I: Input + Drop, O: Output + Drop> MasterPort for ClientPort<I, O> {
-    // an input says what its bytes are, and not who sends them: nothing is said of what a server answers
+    ghost use Rattle.std.proofs.Common.{refl};
+    ghost use Rattle.ra_client.specs.Masters.{answered_by};
+
+    // An input says what its bytes are, and not who sends them: nothing is said of the master that a server has.
     ghost is_at = { λ port origin. ⊥ };
+
+    // What it answers is what its bytes are.
+    ghost answered = { λ now first made. answered_by now first made };
+
+    ghost unasked = { λ _. refl };
 
     fn identity(&mut self, alloc: Global) -> Result<PropValue, MasterFault> {
         match identity_text(alloc, ClientPort::identity(self)) {

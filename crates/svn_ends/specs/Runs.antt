@@ -2,6 +2,8 @@
 use Rattle.std.specs.Prelude.{◌≡◌, ◌⊎◌, ℕ, List, Option, Result, Ok, Err, string_bytes}
 use Rattle.fleet_disk.specs.declared.disk.Disk.{Ghosts}
 use Rattle.byte_streams.specs.Causes.{Rose}
+use Rattle.byte_streams.specs.declared.input.Input.{Ghosts as InputGhosts}
+use Rattle.byte_streams.specs.declared.output.Output.{Ghosts as OutputGhosts}
 use Rattle.node_base.specs.declared.refusal.Refusal.{Refusal}
 use Rattle.node_base.specs.declared.refusal.Refusal.TheVariants as refusal
 use Rattle.repo_store.specs.declared.store.RepoStore.{RepoStore}
@@ -9,7 +11,10 @@ use Rattle.sync_core.specs.declared.fault.SyncFault.{SyncFault}
 use Rattle.sync_job.specs.Masters.{fault_text}
 use Rattle.sync_job.specs.Said.{Spoken}
 use Rattle.mirror_engines.specs.Runs.{Serves}
-use Rattle.ra_client.specs.Masters.{of_client}
+use Rattle.mirror_engines.specs.Worlds.{unknown}
+use Rattle.ra_client.specs.Masters.{answered_by, of_client}
+use Rattle.ra_client.specs.Ports.{IsOpened}
+use Rattle.ra_client.specs.declared.port.ClientPort.{ClientPort}
 use Rattle.ra_client.specs.declared.fault.ClientFault.{ClientFault}
 
 -- there is no connection: nobody listens, or memory ran out
@@ -23,7 +28,12 @@ TellsMaster f e = (text : _) × (e ≡ refusal.MasterFailed text) × (string_byt
 -- a run of a job over a mirror's store and a session: the session wasn't opened, for what the server sent or want of memory, and then the mirror is as it was and nothing is written; or it is a run like one over any master
 pub data RunsOver {D O : Type 0} {G : Ghosts D} (contents : O → Option (List ℕ)) (failures : O → ℕ) (IsRun : List Spoken → Result (Unit {0}) SyncFault → Type 0) (old new : RepoStore D G) (before now : O) (result : Result (Unit {0}) Refusal) : Type 0 where
   Unopened : (e : Refusal) → result ≡ Err e → (e ≡ refusal.OutOfMemory) ⊎ ((f : ClientFault) × TellsMaster f e) → new ≡ old → now ≡ before → RunsOver contents failures IsRun old new before now result
-  Ran : Serves IsRun old new (contents before) (contents now) (Rose (failures before) (failures now)) result → RunsOver contents failures IsRun old new before now result
+  Ran : Serves unknown tt IsRun old new (contents before) (contents now) (Rose (failures before) (failures now)) result → RunsOver contents failures IsRun old new before now result
+
+-- the same where the session's input and output are known: what the master answered in the run is what the session's calls answered
+pub data RunsAt {R C D O : Type 0} {g : InputGhosts R} {h : OutputGhosts C} {G : Ghosts D} (url : List ℕ) (input : R) (commands : C) (contents : O → Option (List ℕ)) (failures : O → ℕ) (IsRun : List Spoken → Result (Unit {0}) SyncFault → Type 0) (old new : RepoStore D G) (before now : O) (result : Result (Unit {0}) Refusal) : Type 0 where
+  Unmet : (e : Refusal) → result ≡ Err e → (e ≡ refusal.OutOfMemory) ⊎ ((f : ClientFault) × TellsMaster f e) → new ≡ old → now ≡ before → RunsAt url input commands contents failures IsRun old new before now result
+  Met : (port : ClientPort R C g h) → IsOpened url input commands port → Serves answered_by port IsRun old new (contents before) (contents now) (Rose (failures before) (failures now)) result → RunsAt url input commands contents failures IsRun old new before now result
 
 -- the same over a connection, which may not come about
 pub data RunsFrom {D O : Type 0} {G : Ghosts D} (contents : O → Option (List ℕ)) (failures : O → ℕ) (IsRun : List Spoken → Result (Unit {0}) SyncFault → Type 0) (old new : RepoStore D G) (before now : O) (result : Result (Unit {0}) Refusal) : Type 0 where

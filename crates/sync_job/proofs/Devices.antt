@@ -1,11 +1,13 @@
 -- Where a mirror in a store is answered 31 and 32.
-use Rattle.std.proofs.Common.{◌≡◌, ◌↔◌, inl, inr, ℕ, ◌≤◌, ◌==◌, ◌||◌, Bool, false, List, [], ◌∷◌, ◌++◌, Option, Result, Ok, Err, IfErr, refl, sym, ap, subst, ◌∙◌, arith}
+use Rattle.std.proofs.Common.{◌≡◌, ◌↔◌, ◌<◌, ◌+◌, ◌^◌, length, Some, inl, inr, ℕ, ◌≤◌, ◌==◌, ◌||◌, Bool, false, List, [], ◌∷◌, ◌++◌, Option, Result, Ok, Err, IfErr, refl, sym, ap, subst, ◌∙◌, arith}
 use Rattle.std.proofs.lemmas.Bool.{true≢false}
 use Rattle.std.specs.List.{AllByRecursion}
 use Rattle.std.specs.FinMap as finite
 use Rattle.fleet_disk.specs.Rules.{Rose}
 use Rattle.fleet_disk.specs.declared.disk.Disk.{Ghosts}
+use Rattle.gate_log.specs.Log.{size_of}
 use Rattle.gate_log.specs.declared.fault.LogFault.TheVariants as log
+use Rattle.node_base.specs.declared.refusal.Refusal.TheVariants as refusal
 use Rattle.dump_load.specs.declared.fault.ChangeFault.{ChangeFault}
 use Rattle.dump_load.specs.declared.fault.ChangeFault.TheVariants as change
 use Rattle.repo_core.specs.Repository.{props_at}
@@ -14,7 +16,8 @@ use Rattle.repo_core.specs.declared.fault.RepoFault.{RepoFault}
 use Rattle.repo_core.specs.declared.fault.RepoFault.TheVariants as repo
 use Rattle.repo_store.proofs.Going.{rose_on}
 use Rattle.repo_store.specs.Changes.{Stays, Refuses, IsStaged, IsTaken, IsBroken}
-use Rattle.repo_store.specs.Words.{disk_of, HasFailed}
+use Rattle.repo_store.specs.Journal.{spelling}
+use Rattle.repo_store.specs.Words.{disk_of, log_of, revisions_of, HasFailed}
 use Rattle.repo_store.specs.declared.fault.StoreFault.{StoreFault}
 use Rattle.repo_store.specs.declared.fault.StoreFault.TheVariants.{Repo, Log}
 use Rattle.repo_store.specs.declared.staged.Staged.{Staged}
@@ -22,7 +25,7 @@ use Rattle.repo_store.specs.declared.store.RepoStore.{RepoStore}
 use Rattle.sync_core.specs.Copies.{number_in}
 use Rattle.sync_core.specs.Dues.{IsNeedFault}
 use Rattle.sync_core.specs.Faults.{of_changes, of_repository}
-use Rattle.sync_core.specs.Mirror.{Mirror, Call, Refusal, Missed, OfRepository}
+use Rattle.sync_core.specs.Mirror.{Mirror, Call, entry_of, Refusal, Missed, OfRepository}
 use Rattle.sync_core.specs.Names.{lock_name}
 use Rattle.sync_core.specs.Plain.{AnswersErr, IsTold}
 use Rattle.sync_core.specs.declared.need.Need.{Need}
@@ -30,9 +33,14 @@ use Rattle.sync_core.specs.declared.need.Need.TheVariants as need
 use Rattle.sync_core.specs.declared.fault.SyncFault.{SyncFault}
 use Rattle.sync_core.specs.declared.fault.SyncFault.TheVariants as fault
 use Rattle.sync_core.specs.declared.reply.Reply.{Reply as Given}
+use Rattle.sync_job.specs.Alone.{StandsAt, IsFull, IsStep, store_of, holder_of}
 use Rattle.sync_job.specs.Asked.{Asked, asked_as}
 use Rattle.sync_job.specs.Devices.{FailsSince, HasFailedSince, IsCaused, WasAsked}
+use Rattle.sync_job.specs.Leading.{IsMirrorStep}
+use Rattle.sync_job.specs.Mirrors.{MirrorNow}
+use Rattle.sync_job.specs.Questions.{LeadsBy}
 use Rattle.sync_job.specs.StoreFaults.{fault_of}
+use Rattle.sync_job.specs.declared.alone.AloneMirror.{AloneMirror}
 use Rattle.sync_job.proofs.Telling.{all_append}
 
 -- the count
@@ -83,22 +91,22 @@ asked_on {G} first mid now calls more a b =
     goes_on (inl h) = before (a.broken h)
     goes_on (inr r) = inr (rose_on (G.failures (disk_of first)) (G.failures (disk_of mid)) (G.failures (disk_of now)) a.later r)
 
-pub one_asked : {D : Type 0} {G : Ghosts D} (first mid now : RepoStore D G) (calls : List Asked) (call : Call) (result : Result Given SyncFault) → WasAsked mid first calls → WasAsked now mid (asked_as call result ∷ []) → WasAsked now first (calls ++ asked_as call result ∷ [])
-one_asked first mid now calls call result a b = asked_on first mid now calls (asked_as call result ∷ []) a b
-
--- which refusals tell of a device
+-- which refusals tell of a device or of a full journal
 
 abbrev tells_device : SyncFault → Bool
-tells_device f = (number_in f == 31) || (number_in f == 32)
+tells_device f = (number_in f == 31) || ((number_in f == 32) || (number_in f == 36))
 
 abbrev IsApart : SyncFault → Type 0
 IsApart f = tells_device f ≡ false
 
 not_31 : (f : SyncFault) → IsApart f → number_in f ≡ 31 → ⊥
-not_31 f h e = true≢false (sym (ap (λ n. (n == 31) || (n == 32)) e) ∙ h)
+not_31 f h e = true≢false (sym (ap (λ n. (n == 31) || ((n == 32) || (n == 36))) e) ∙ h)
 
 not_32 : (f : SyncFault) → IsApart f → number_in f ≡ 32 → ⊥
-not_32 f h e = true≢false (sym (ap (λ n. (n == 31) || (n == 32)) e) ∙ h)
+not_32 f h e = true≢false (sym (ap (λ n. (n == 31) || ((n == 32) || (n == 36))) e) ∙ h)
+
+not_36 : (f : SyncFault) → IsApart f → number_in f ≡ 36 → ⊥
+not_36 f h e = true≢false (sym (ap (λ n. (n == 31) || ((n == 32) || (n == 36))) e) ∙ h)
 
 change_apart : (c : ChangeFault) → IsApart (of_changes c)
 change_apart change.BadHeader = refl
@@ -212,3 +220,53 @@ asked_broken {G} old mid new call e g due ready x f staged broken =
       broken = λ h. inr rose;
       causes = (record { device = λ k. rose; failed = λ k. inr rose }, tt);
     }
+
+-- the list of a mirror's steps
+
+-- it tells of the device what each step tells
+pub was_asked : {D : Type 0} {G : Ghosts D} (first now : AloneMirror D G) (calls : List Asked) → LeadsBy IsStep first calls now → WasAsked (store_of now) (store_of first) calls
+was_asked {G = G} first now [] e = subst (λ x. WasAsked (store_of x) (store_of first) []) (sym e) (record { later = omega arith; broken = λ h. inl h; causes = tt })
+was_asked first now (x ∷ xs) h = asked_on (store_of first) (store_of h.0) (store_of now) (x ∷ []) xs h.1.device (was_asked h.0 now xs h.2)
+
+-- and leads the mirror that stood there to one that stands there
+pub was_led : {D : Type 0} {G : Ghosts D} (first now : AloneMirror D G) (calls : List Asked) (m : MirrorNow) → LeadsBy IsStep first calls now → StandsAt (store_of first) (holder_of first) m → (k : MirrorNow) × StandsAt (store_of now) (holder_of now) k × LeadsBy IsMirrorStep m calls k
+was_led first now [] m e s = (m, subst (λ x. StandsAt (store_of x) (holder_of x) m) (sym e) s, refl)
+was_led first now (x ∷ xs) m h s =
+    let one = h.1.steps m s in
+    let more = was_led h.0 now xs one.0 h.2 one.1 in
+    (more.0, more.1, (one.0, one.2, more.2))
+
+-- 36 is answered only where the journal has no room
+
+full_number : (f : SyncFault) → f ≡ fault.Other refusal.LogFull → number_in f ≡ 36
+full_number f e = ap number_in e
+
+store_full : {D : Type 0} {G : Ghosts D} (old : RepoStore D G) (e : Entry) (due : Option RepoFault) (x : StoreFault) → Refuses old e due x → number_in (fault_of x) ≡ 36 → 2 ^ 56 < size_of (log_of old) + length (spelling e)
+store_full old e due (Repo r) h k = absurd (not_36 (of_repository r) (repo_apart r) k)
+store_full old e due (Log log.LogFull) h k = h.2
+store_full old e due (Log log.Failed) h k = absurd (true≢false (ap (λ n. n == 32) k))
+store_full old e due (Log log.OutOfMemory) h k = absurd (true≢false (ap (λ n. n == 70) k))
+store_full old e due (Log log.DeviceFailed) h k = absurd h
+store_full old e due (Log (log.Damaged n)) h k = absurd h
+store_full old e due (Log log.NoRepository) h k = absurd h
+store_full old e due (Log log.ThereAlready) h k = absurd h
+
+err_is : (f g : SyncFault) → ◌≡◌ {A = Result Given SyncFault} (Err f) (Err g) → f ≡ g
+err_is f g e = ap (λ r. by r) e
+  where
+    by : Result Given SyncFault → SyncFault
+    by (Err x) = x
+    by (Ok x) = f
+
+pub full_unstaged : {D : Type 0} {G : Ghosts D} (old new : RepoStore D G) (call : Call) (e : Entry) (due : Option RepoFault) (x : StoreFault) (f : SyncFault) → entry_of (revisions_of old) call ≡ Some e → Stays old new × Refuses old e due x → f ≡ fault_of x
+    → ◌≡◌ {A = Result Given SyncFault} (Err f) (Err (fault.Other refusal.LogFull)) → IsFull old call
+full_unstaged old new call e due x f entry h same is = (e, entry, store_full old e due x h.1 (sym (ap number_in same) ∙ full_number f (err_is f (fault.Other refusal.LogFull) is)))
+
+pub full_broken : {D : Type 0} {G : Ghosts D} (old mid new : RepoStore D G) (call : Call) (g : Entry) (x : StoreFault) (f : SyncFault) → IsBroken g mid new x → f ≡ fault_of x → ◌≡◌ {A = Result Given SyncFault} (Err f) (Err (fault.Other refusal.LogFull)) → IsFull old call
+full_broken old mid new call g x f broken same is = absurd (true≢false (ap (λ n. n == 31) (sym (ap number_in (same ∙ ap fault_of broken.fault)) ∙ full_number f (err_is f (fault.Other refusal.LogFull) is))))
+
+pub full_refused : {D : Type 0} {G : Ghosts D} (store : RepoStore D G) (m : Mirror) (seat : ℕ) (call : Call) (f : SyncFault) → AnswersErr m seat call f m → ◌≡◌ {A = Result Given SyncFault} (Err f) (Err (fault.Other refusal.LogFull)) → IsFull store call
+full_refused store m seat call f r is = absurd (not_36 f (answer_apart m seat call f r) (full_number f (err_is f (fault.Other refusal.LogFull) is)))
+
+pub full_not : {D : Type 0} {G : Ghosts D} (store : RepoStore D G) (call : Call) (r : Given) → ◌≡◌ {A = Result Given SyncFault} (Ok r) (Err (fault.Other refusal.LogFull)) → IsFull store call
+full_not store call r is = absurd (cc)

@@ -34,7 +34,7 @@ use Rattle.sync_job.specs.Mirrors.{MirrorNow, repository_by, Keeps, IsFit, accep
 use Rattle.sync_job.specs.Fronts.{EndsKeepAll, replayed, HasCome, Working, Doubtful, KeepsFront, Went, WentAt, Moving, is_device, IsHeard, accepted_by, counted_by, accepted_in, counted_in}
 use Rattle.sync_job.proofs.Stores.{sure}
 
-replayed-append : (r : Repository) (xs ys : List Call) → replayed r (xs ++ ys) ≡ replayed (replayed r xs) ys
+pub replayed-append : (r : Repository) (xs ys : List Call) → replayed r (xs ++ ys) ≡ replayed (replayed r xs) ys
 replayed-append r [] ys = refl
 replayed-append r (x ∷ xs) ys = replayed-append (repository_by r x) xs ys
 
@@ -46,7 +46,7 @@ in_doubt r call c k = by (entry_of r.revisions call) k
     by None x = absurd x
     by (Some e) x = x
 
-no_some : {A B : Type 0} (o : Option A) → o ≡ None → IsSome o → B
+pub no_some : {A B : Type 0} (o : Option A) → o ≡ None → IsSome o → B
 no_some None e s = absurd (let f : false ≡ true = s in cc)
 no_some (Some x) e s = absurd (cc)
 
@@ -58,7 +58,7 @@ nothing_before m c r done e h k = by m.doubt h k
     by (Some d) g x = subst (λ y. journal.Keeps (with_entry_in y d) c) (e ∙ ap (λ xs. replayed m.repository xs) (g refl)) x
 
 -- a mirror that is in doubt accepts nothing, and nothing counts
-none_counts : (m now : MirrorNow) (accepted counted : List Call) → IsSome m.doubt → HasCome m now accepted counted → (accepted ≡ []) × (counted ≡ []) × (now.doubt ≡ m.doubt) × (now.repository ≡ m.repository)
+pub none_counts : (m now : MirrorNow) (accepted counted : List Call) → IsSome m.doubt → HasCome m now accepted counted → (accepted ≡ []) × (counted ≡ []) × (now.doubt ≡ m.doubt) × (now.repository ≡ m.repository)
 none_counts m now accepted counted d (Working same none all at) = (none d, all ∙ none d, same, at ∙ ap (λ xs. replayed m.repository xs) (none d))
 none_counts m now accepted counted d (Doubtful call working in_it is all at) = no_some m.doubt working d
 
@@ -231,13 +231,13 @@ told_isnt : (text : Option (List ℕ)) (why : Refusal) (f : SyncFault) → IsTol
 told_isnt text (Missed n) f h = need_isnt n text f h
 told_isnt text (OfRepository e) f h = same_as f (of_repository e) h (repo_isnt e)
 
-cause_isnt : (m : MirrorNow) (seat : ℕ) (call : Call) (f : SyncFault) → IsCause m seat call f → is_device f ≡ false
+pub cause_isnt : (m : MirrorNow) (seat : ℕ) (call : Call) (f : SyncFault) → IsCause m seat call f → is_device f ≡ false
 cause_isnt m seat call f (Due (ByTable why e t)) = told_isnt _ why f t
 cause_isnt m seat call f (NoMemory h) = same_as f _ h refl
 cause_isnt m seat call f (NoRoom h) = same_as f _ h refl
 cause_isnt m seat call f (Broken h d) = same_as f _ h refl
 
-abbrev CameBy : MirrorNow → MirrorNow → Call → Answer → Type 0
+abbrev pub CameBy : MirrorNow → MirrorNow → Call → Answer → Type 0
 CameBy m now call a = HasCome m now (accepted_by (Calls call) (outcome_of a)) (counted_by (Calls call) (outcome_of a))
 
 uncounted : (m now : MirrorNow) (call : Call) (f : SyncFault) → now ≡ m → is_device f ≡ false → CameBy m now call (answer.Refused f)
@@ -248,6 +248,16 @@ refused_came : (m now : MirrorNow) (call : Call) (f : SyncFault) (a : Answer) �
 refused_came m now call f a same isnt (inl e) = subst (λ x. CameBy m now call x) (sym e) (uncounted m now call f same isnt)
 refused_came m now call f a same isnt (inr (inl e)) = subst (λ x. CameBy m now call x) (sym e.0) (uncounted m now call fault.OutOfMemory same refl)
 refused_came m now call f a same isnt (inr (inr e)) = absurd (let b : false ≡ true = sym isnt ∙ e.1 in cc)
+
+-- such a call doesn't count
+pub refused_counts : (call : Call) (f : SyncFault) (a : Answer) → is_device f ≡ false → IsHeard (Err f) a → counted_by (Calls call) (outcome_of a) ≡ []
+refused_counts call f a isnt (inl e) = ap (λ x. counted_by (Calls call) (outcome_of x)) e ∙ ap (λ (b : Bool). if b then call ∷ [] else []) isnt
+refused_counts call f a isnt (inr (inl e)) = ap (λ x. counted_by (Calls call) (outcome_of x)) e.0
+refused_counts call f a isnt (inr (inr e)) = absurd (let b : false ≡ true = sym isnt ∙ e.1 in cc)
+
+-- where nothing counts the mirror stays
+pub come_stays : (m : MirrorNow) (xs ys : List Call) → xs ≡ [] → ys ≡ [] → HasCome m m xs ys
+come_stays m xs ys e f = Working refl (λ _. e) (f ∙ sym e) (ap (λ zs. replayed m.repository zs) (sym e))
 
 look_stays : (m : MirrorNow) (seat : ℕ) (call : Call) → IsLook call → accepted m seat call ≡ m
 look_stays m seat (Init url uuid props) h = absurd h
@@ -283,7 +293,7 @@ doubted_came m now seat call a p (inl e) = doubt_came m now seat call a p e
 doubted_came m now seat call a p (inr (inl e)) = absurd (let b : true ≡ false = e.1 in cc)
 doubted_came m now seat call a p (inr (inr e)) = doubt_came m now seat call a p e.0
 
-came : (m now : MirrorNow) (seat : ℕ) (call : Call) (result : Result Given SyncFault) (a : Answer) → Steps m seat call result now → IfOk result (IsFit call) → IsHeard result a → CameBy m now call a
+pub came : (m now : MirrorNow) (seat : ℕ) (call : Call) (result : Result Given SyncFault) (a : Answer) → Steps m seat call result now → IfOk result (IsFit call) → IsHeard result a → CameBy m now call a
 came m now seat call result a (Accepted r e p) fits h = accepted_came m now seat call r a p (subst (λ (x : Result Given SyncFault). IfOk x (IsFit call)) e fits) (subst (λ x. IsHeard x a) e h)
 came m now seat call result a (Doubted e p) fits h = doubted_came m now seat call a p (subst (λ x. IsHeard x a) e h)
 came m now seat call result a (Unchanged f e cause same) fits h = refused_came m now call f a same (cause_isnt m seat call f cause) (subst (λ x. IsHeard x a) e h)
@@ -358,6 +368,21 @@ moving_on stands clock left_since honest old mid new said_old said_mid said_new 
           (subst (λ xs. WentAt stands clock left_since honest old new (accepted_in x.more ++ accepted_in y.more) xs) (sym (counted_append x.more y.more))
           (went_at stands clock left_since honest old mid new (accepted_in x.more) (counted_in x.more) (accepted_in y.more) (counted_in y.more) x.went
           (subst (λ xs. WentAt stands clock left_since honest mid new xs (counted_in y.more)) r.0 (subst (λ xs. WentAt stands clock left_since honest mid new (accepted_by d (outcome_of a)) xs) r.1 w))));
+    }
+
+-- so it goes on, whatever is said of its calls
+pub moving_by : {B : Type 0} (said_old said_mid said_new : List Spoken) (heard_mid heard_new : B → List Told → Type 0) (d : Deed) (a : Answer) (Before After : List Call → List Call → Type 0)
+    → Moving said_old said_mid Before → Acted d a said_mid said_new heard_mid heard_new → ((d1 c1 : List Call) → Before d1 c1 → After (d1 ++ accepted_by d (outcome_of a)) (c1 ++ counted_by d (outcome_of a)))
+    → Moving said_old said_new After
+moving_by said_old said_mid said_new heard_mid heard_new d a Before After x y w =
+    let r = round_counts d a y.more y.round in
+    record {
+      more = x.more ++ y.more;
+      adds = y.adds ∙ ap (λ xs. xs ++ y.more) x.adds ∙ append_assoc said_old x.more y.more;
+      went = subst (λ xs. After xs (counted_in (x.more ++ y.more))) (sym (accepted_append x.more y.more))
+          (subst (λ xs. After (accepted_in x.more ++ accepted_in y.more) xs) (sym (counted_append x.more y.more))
+          (subst (λ xs. After (accepted_in x.more ++ xs) (counted_in x.more ++ counted_in y.more)) r.0
+          (subst (λ xs. After (accepted_in x.more ++ accepted_by d (outcome_of a)) (counted_in x.more ++ xs)) r.1 (w (accepted_in x.more) (counted_in x.more) x.went))));
     }
 
 -- a run begins

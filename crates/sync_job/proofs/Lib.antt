@@ -1,13 +1,17 @@
+pub mod Answering
 pub mod Causes
 pub mod Devices
 pub mod Endings
 pub mod Fronts
+pub mod Leading
 pub mod Made
 pub mod Nearer
 pub mod OtherEndings
+pub mod Questions
 pub mod Releases
 pub mod Rounds
 pub mod Saids
+pub mod Stopping
 pub mod Stores
 pub mod Telling
 pub mod Worlds

@@ -20,7 +20,7 @@ use Rattle.sync_job.specs.Kept.{refused_as}
 use Rattle.sync_job.specs.Said.{Spoken, Says, NoTree, Tells, spoken, IsQuestion}
 use Rattle.sync_job.specs.Telling.{IsOther, IsSaidAs, IsTreeFault, KeepsTelling, calls_by, calls_in, others_by, others_in}
 
-zip_append : {A B : Type 0} (R : A → B → Type 0) (xs us : List A) (ys vs : List B) → AllZip R xs ys → AllZip R us vs → AllZip R (xs ++ us) (ys ++ vs)
+pub zip_append : {A B : Type 0} (R : A → B → Type 0) (xs us : List A) (ys vs : List B) → AllZip R xs ys → AllZip R us vs → AllZip R (xs ++ us) (ys ++ vs)
 zip_append R [] us [] vs a b = b
 zip_append R [] us (y ∷ ys) vs a b = absurd a
 zip_append R (x ∷ xs) us [] vs a b = absurd a

@@ -1,5 +1,5 @@
 -- What a run at a true master is in a world.
-use Rattle.std.proofs.Common.{◌≡◌, ◌≢◌, ◌⊎◌, inl, inr, ℕ, suc, zero, Bool, true, List, [], ◌∷◌, ◌++◌, map, length, drop, Option, Some, None, is_some, is_none, Result, Ok, Err, IfOk, if◌then◌else◌, refl, sym, ap, subst, ◌∙◌}
+use Rattle.std.proofs.Common.{◌≡◌, ◌≢◌, ◌⊎◌, inl, inr, ℕ, suc, zero, ◌==◌, Bool, true, false, List, [], ◌∷◌, ◌++◌, map, length, drop, Option, Some, None, is_some, is_none, Result, Ok, Err, IfOk, if◌then◌else◌, refl, sym, ap, subst, ◌∙◌}
 use Rattle.std.proofs.lemmas.List.{append-nil, append_assoc, map-append, take-append-drop}
 use Rattle.std.specs.Prelude.{slice_get, slice_set}
 use Rattle.std.specs.Option.{option_map, option_map_or}
@@ -11,6 +11,8 @@ use Rattle.repo_core.specs.Repository.{Revision, Repository, trees_of, tree_at}
 use Rattle.repo_core.specs.declared.entry.Entry.{Entry}
 use Rattle.repo_core.specs.declared.entry.Entry.TheVariants.{Revised, Mapped}
 use Rattle.repo_core.specs.Entries.{with_entry, with_entry_in}
+use Rattle.sync_core.specs.Copies.{Outcome, outcome_of}
+use Rattle.sync_core.specs.Copies as kept
 use Rattle.sync_core.specs.declared.answer.Answer.{Answer}
 use Rattle.sync_core.specs.declared.answer.Answer.TheVariants as answer
 use Rattle.sync_core.specs.declared.fault.SyncFault.{SyncFault}
@@ -44,7 +46,8 @@ use Rattle.sync_job.specs.Kept.{IsLook}
 use Rattle.sync_job.specs.Masters.{MasterStep, Commits, Edits, Comes, IsTrue, IsTrueAt}
 use Rattle.sync_job.specs.Mirrors.{MirrorNow, mirror_in, repository_by, IsFit, Steps, Accepted, Doubted, Unchanged}
 use Rattle.sync_job.specs.Mirrors as mirrors
-use Rattle.sync_job.specs.Fronts.{IsHeard}
+use Rattle.sync_job.specs.Fronts.{IsHeard, accepted_by, counted_by}
+use Rattle.sync_job.proofs.Fronts.{came, cause_isnt, refused_counts, come_stays}
 use Rattle.sync_job.specs.Worlds.{IsAnswerAt, AreFirst, IsAnswered, IsServed, Accepts, Refuses, IsAsked, Serves, Happens, StandsAfter, IsEvents}
 
 -- the core's laws of worlds
@@ -56,32 +59,32 @@ pub record WorldLaws : Type 0 where
   pub jobs : JobsGoOn
   pub follows : FollowsOn
 
-some_is : {X : Type 0} (x y : X) → Some x ≡ Some y → x ≡ y
+pub some_is : {X : Type 0} (x y : X) → Some x ≡ Some y → x ≡ y
 some_is x y e = ap (λ o. option_map_or (λ z. z) o x) e
 
 none_isnt : {X : Type 0} {A : Type 0} (x : X) → ◌≡◌ {A = Option X} None (Some x) → A
 none_isnt x e = absurd (cc)
 
 -- events one after the other
-run-append : (w : World) (xs ys : List Event) → run w (xs ++ ys) ≡ run (run w xs) ys
+pub run-append : (w : World) (xs ys : List Event) → run w (xs ++ ys) ≡ run (run w xs) ys
 run-append w [] ys = refl
 run-append w (x ∷ xs) ys = run-append (world_after w x) xs ys
 
-is_run-append : (w : World) (xs ys : List Event) → IsRun w xs → IsRun (run w xs) ys → IsRun w (xs ++ ys)
+pub is_run-append : (w : World) (xs ys : List Event) → IsRun w xs → IsRun (run w xs) ys → IsRun w (xs ++ ys)
 is_run-append w [] ys p q = q
 is_run-append w (x ∷ xs) ys p q = (p.0, is_run-append (world_after w x) xs ys p.1 q)
 
 -- a master's own steps are events, which leave the mirrors
-abbrev event_of : MasterStep → Event
+abbrev pub event_of : MasterStep → Event
 event_of (Commits set props) = MasterCommit set props
 event_of (Edits n props) = MasterEdit n props
 
-record HasStepped (w : World) (steps : List MasterStep) (p : Origin) : Type 0 where
-  run_is : IsRun w (map event_of steps)
-  origin : (run w (map event_of steps)).origin ≡ p
-  rooms : (run w (map event_of steps)).rooms ≡ w.rooms
+pub record HasStepped (w : World) (steps : List MasterStep) (p : Origin) : Type 0 where
+  pub run_is : IsRun w (map event_of steps)
+  pub origin : (run w (map event_of steps)).origin ≡ p
+  pub rooms : (run w (map event_of steps)).rooms ≡ w.rooms
 
-comes_on : (w : World) (steps : List MasterStep) (p : Origin) → Comes w.origin steps p → HasStepped w steps p
+pub comes_on : (w : World) (steps : List MasterStep) (p : Origin) → Comes w.origin steps p → HasStepped w steps p
 comes_on w [] p h = record { run_is = tt; origin = sym h; rooms = refl }
 comes_on w (Commits set props ∷ ss) p h =
     let r = comes_on (world_after w (MasterCommit set props)) ss p h.1 in
@@ -91,13 +94,13 @@ comes_on w (Edits n props ∷ ss) p h =
     record { run_is = (h.0, r.run_is); origin = r.origin; rooms = r.rooms }
 
 -- what happens at the one mirror
-at_rooms : (w : World) (room : Room) (what : Happening) → w.rooms ≡ room ∷ [] → (world_after w (At 0 what)).rooms ≡ room_after w.origin room what ∷ []
+pub at_rooms : (w : World) (room : Room) (what : Happening) → w.rooms ≡ room ∷ [] → (world_after w (At 0 what)).rooms ≡ room_after w.origin room what ∷ []
 at_rooms w room what e = ap (λ rs. option_map_or (λ r. slice_set rs 0 (room_after w.origin r what)) (slice_get rs 0) rs) e
 
-may_at : (w : World) (room : Room) (what : Happening) → w.rooms ≡ room ∷ [] → MayHappen w.origin room what → MayBe w (At 0 what)
+pub may_at : (w : World) (room : Room) (what : Happening) → w.rooms ≡ room ∷ [] → MayHappen w.origin room what → MayBe w (At 0 what)
 may_at w room what e h = λ r at. subst (λ x. MayHappen w.origin x what) (some_is room r (sym (ap (λ rs. slice_get rs 0) e) ∙ at)) h
 
-is_room : (w : World) (room : Room) → w.rooms ≡ room ∷ [] → slice_get w.rooms 0 ≡ Some room
+pub is_room : (w : World) (room : Room) → w.rooms ≡ room ∷ [] → slice_get w.rooms 0 ≡ Some room
 is_room w room e = ap (λ rs. slice_get rs 0) e
 
 -- a run of a job so far, in a world
@@ -431,7 +434,7 @@ first_on x (Some (Revised n set p)) trees f =
     let r : Revision = record { tree = effect_tree (trees_of x) set; props = p } in
     (f.0 ++ r.tree ∷ [], sym (append_assoc trees f.0 (r.tree ∷ [])) ∙ ap (λ ts. ts ++ r.tree ∷ []) f.1 ∙ sym (map-append (λ y. y.tree) x (r ∷ [])))
 
-revisions_in : (r : Repository) (e : Option Entry) → (option_map_or (with_entry_in r) e r).revisions ≡ option_map_or (with_entry r.revisions) e r.revisions
+pub revisions_in : (r : Repository) (e : Option Entry) → (option_map_or (with_entry_in r) e r).revisions ≡ option_map_or (with_entry r.revisions) e r.revisions
 revisions_in r None = refl
 revisions_in r (Some e) = refl
 
@@ -439,11 +442,39 @@ revisions_in r (Some e) = refl
 accepted_in : (m : MirrorNow) (seat : ℕ) (call : Call) → mirror_in (mirrors.accepted m seat call) ≡ accepted (mirror_in m) seat call
 accepted_in m seat call = ap (λ x. mirror_with x (holder_after m.holder seat call)) (revisions_in m.repository (entry_of m.repository.revisions call))
 
+-- nothing is no list of one
+pub no_one : {X A : Type 0} (x : X) (xs : List X) → xs ≡ [] → xs ≡ x ∷ [] → A
+no_one x xs e f = absurd (let g : [] ≡ x ∷ [] = sym e ∙ f in cc)
+
+abbrev head_or : {X : Type 0} → X → List X → X
+head_or x [] = x
+head_or x (y ∷ ys) = y
+
+-- a call that counts is the one that was made
+counted_is : (call k : Call) (o : Outcome) → counted_by (Calls call) o ≡ k ∷ [] → call ≡ k
+counted_is call k kept.Done e = ap (λ xs. head_or call xs) e
+counted_is call k (kept.Refused number text) e = by (number == 31) e
+  where
+    by : (b : Bool) → (if b then call ∷ [] else []) ≡ k ∷ [] → call ≡ k
+    by true e = ap (λ xs. head_or call xs) e
+    by false e = no_one k [] refl e
+counted_is call k (kept.Seen s) e = no_one k [] refl e
+counted_is call k (kept.Identity u) e = no_one k [] refl e
+counted_is call k (kept.Latest n) e = no_one k [] refl e
+counted_is call k (kept.Revision set props) e = no_one k [] refl e
+counted_is call k (kept.Map props) e = no_one k [] refl e
+counted_is call k (kept.Failed text) e = no_one k [] refl e
+
 -- a call and its answer
 pub serves_call : (stands : MirrorNow → Type 0) (m now : MirrorNow) (seat : ℕ) (call : Call) (result : Result Given SyncFault) (a : Answer) (trees : List PathMap)
     → Steps m seat call result now → stands now → IfOk result (IsFit call) → IsHeard result a → Serves stands m seat (Calls call) a trees trees
-serves_call stands m now seat call result a trees steps there fits h = record { now = now; there = there; served = served steps fits h; trees = grown steps }
+serves_call stands m now seat call result a trees steps there fits h = record { now = now; there = there; served = served steps fits h; come = came m now seat call result a steps fits h; free = free steps h; trees = grown steps }
   where
+    free : Steps m seat call result now → IsHeard result a → (k : Call) → counted_by (Calls call) (outcome_of a) ≡ k ∷ [] → refusal (mirror_in m) seat k ≡ None
+    free (Accepted r e p) h k c = subst (λ x. refusal (mirror_in m) seat x ≡ None) (counted_is call k (outcome_of a) c) p.free
+    free (Doubted e p) h k c = subst (λ x. refusal (mirror_in m) seat x ≡ None) (counted_is call k (outcome_of a) c) p.free
+    free (Unchanged f e cause is) h k c = no_one k (counted_by (Calls call) (outcome_of a)) (refused_counts call f a (cause_isnt m seat call f cause) (subst (λ x. IsHeard x a) e h)) c
+
     refused : (f : SyncFault) → IsHeard (Err f) a → (x : SyncFault) × (a ≡ answer.Refused x)
     refused f (inl e) = (f, e)
     refused f (inr (inl e)) = (fault.OutOfMemory, e.0)
@@ -502,8 +533,10 @@ asks at_old at_new trees d b a h answers e o there =
 
 -- a question, or a refusal, leaves the mirror
 pub leaves : (stands_old stands_new : MirrorNow → Type 0) (seat : ℕ) (d : Deed) (a : Answer) (before first : List PathMap)
-    → ((m : MirrorNow) → IsServed m seat d a m) → ((m : MirrorNow) → stands_old m → stands_new m × (AreFirst before (trees_of m.repository.revisions) → AreFirst first (trees_of m.repository.revisions))) → (m : MirrorNow) → stands_old m → Serves stands_new m seat d a before first
-leaves stands_old stands_new seat d a before first served h m s = let x = h m s in record { now = m; there = x.0; served = served m; trees = x.1 }
+    → ((m : MirrorNow) → IsServed m seat d a m) → accepted_by d (outcome_of a) ≡ [] → counted_by d (outcome_of a) ≡ [] → ((m : MirrorNow) → stands_old m → stands_new m × (AreFirst before (trees_of m.repository.revisions) → AreFirst first (trees_of m.repository.revisions))) → (m : MirrorNow) → stands_old m → Serves stands_new m seat d a before first
+leaves stands_old stands_new seat d a before first served none uncounted h m s =
+    let x = h m s in
+    record { now = m; there = x.0; served = served m; come = come_stays m (accepted_by d (outcome_of a)) (counted_by d (outcome_of a)) none uncounted; free = λ k c. no_one k (counted_by d (outcome_of a)) uncounted c; trees = x.1 }
 
 -- the tree behind those at hand
 rest_at : (trees rest : List PathMap) (t : PathMap) → slice_get (trees ++ rest) (length trees) ≡ Some t → (more : List PathMap) × (rest ≡ t ∷ more)
@@ -572,11 +605,12 @@ called {M} {N} is_at stands seat master_old master_new first old new last call r
 
 -- a call wasn't made
 pub uncalled : {M N : Type 0} (is_at : M → Origin → Type 0) (stands : N → MirrorNow → Type 0) (seat : N → ℕ) (master_old master_new : M) (old new : N) (d : Deed) (f : SyncFault)
-    → master_new ≡ master_old → new ≡ old → (trees : List PathMap) → Happens (is_at master_old) (is_at master_new) (stands old) (stands new) (seat old) (seat new) d (answer.Refused f) trees trees
-uncalled {M} {N} is_at stands seat master_old master_new old new d f same e trees =
+    → accepted_by d (outcome_of (answer.Refused f)) ≡ [] → counted_by d (outcome_of (answer.Refused f)) ≡ [] → master_new ≡ master_old → new ≡ old
+    → (trees : List PathMap) → Happens (is_at master_old) (is_at master_new) (stands old) (stands new) (seat old) (seat new) d (answer.Refused f) trees trees
+uncalled {M} {N} is_at stands seat master_old master_new old new d f none uncounted same e trees =
     record {
       master = unasked is_at master_old master_new trees d (answer.Refused f) same (refusal_answers trees d f);
-      mirror = λ m s. record { now = m; there = subst (λ (x : N). stands x m) (sym e) s; served = Refuses f refl refl; trees = λ x. x };
+      mirror = λ m s. record { now = m; there = subst (λ (x : N). stands x m) (sym e) s; served = Refuses f refl refl; come = come_stays m (accepted_by d (outcome_of (answer.Refused f))) (counted_by d (outcome_of (answer.Refused f))) none uncounted; free = λ k c. no_one k (counted_by d (outcome_of (answer.Refused f))) uncounted c; trees = λ x. x };
       seat = ap seat e;
     }
 

@@ -1,20 +1,34 @@
 -- A mirror and a master that are held alone.
-use Rattle.std.specs.Prelude.{◌≡◌, ◌↔◌, ◌⊎◌, ◌<◌, ℕ, map, length, Option, None, IsSome, Result}
+use Rattle.std.specs.Prelude.{◌≡◌, ◌↔◌, ◌⊎◌, ◌<◌, ◌≤◌, ◌+◌, ◌^◌, ℕ, List, [], ◌∷◌, map, length, take, slice_get, Option, Some, None, IsSome, IsSomeAnd, Result, Ok, Err}
+use Rattle.std.specs.Option.{option_map}
 use Rattle.uuid.specs.Text.{hyphenated_text, lower}
 use Rattle.fleet_disk.specs.Image.{Image}
 use Rattle.fleet_disk.specs.declared.disk.Disk.{Ghosts}
 use Rattle.fleet_disk.specs.Rules.{LeavesOnly}
-use Rattle.repo_core.specs.Repository.{Repository, trees_of}
-use Rattle.sync_core.specs.Mirror.{Call}
+use Rattle.gate_log.specs.Log.{size_of}
+use Rattle.node_base.specs.Props.{PropMap}
+use Rattle.node_base.specs.declared.refusal.Refusal.TheVariants as refusal
+use Rattle.dump_load.specs.declared.change.Change.{Change}
+use Rattle.dump_load.specs.Trees.{Makes}
+use Rattle.repo_core.specs.Repository.{Repository, trees_of, tree_at, head_of}
+use Rattle.repo_core.specs.declared.entry.Entry.{Entry}
+use Rattle.repo_store.specs.Journal.{spelling}
+use Rattle.sync_core.specs.Mirror.{Call, entry_of}
 use Rattle.sync_core.specs.declared.fault.SyncFault.{SyncFault}
+use Rattle.sync_core.specs.declared.fault.SyncFault.TheVariants as fault
 use Rattle.sync_core.specs.declared.reply.Reply.{Reply as Given}
 use Rattle.repo_store.specs.declared.store.RepoStore.{RepoStore}
-use Rattle.repo_store.specs.Words.{disk_of, repository_of, HasFailed}
+use Rattle.repo_store.specs.Words.{disk_of, log_of, repository_of, revisions_of, HasFailed}
 use Rattle.sync_core.specs.World.{Origin, maps_now}
 use Rattle.sync_job.specs.declared.alone.AloneMirror.{AloneMirror}
 use Rattle.sync_job.specs.declared.held.HeldMaster.{HeldMaster}
 use Rattle.sync_job.specs.declared.lent.LentMaster.{LentMaster}
+use Rattle.sync_job.specs.declared.master.MasterFault.{MasterFault}
+use Rattle.sync_job.specs.declared.master.MasterFault.TheVariants.{Refused}
+use Rattle.sync_job.specs.Asked.{Asked}
+use Rattle.sync_job.specs.Devices.{WasAsked}
 use Rattle.sync_job.specs.Mirrors.{MirrorNow, Keeps, Steps}
+use Rattle.sync_job.specs.Questions.{Exchange, Identity, Latest, Fetch, FetchProps}
 
 -- so a mirror stands in a store: its repository, the holder, a call's entry in doubt where the device failed, and all that a stop
 -- leaves keeps it
@@ -56,3 +70,37 @@ holder_of a = a.holder
 -- a mirror as a repository begins it: nobody has its lock, and no entry is in doubt
 abbrev pub begun : Repository → MirrorNow
 begun r = record { repository = r; holder = None; doubt = None }
+
+-- the journal has no room for the call's entry
+abbrev pub IsFull : {D : Type 0} {G : Ghosts D} → RepoStore D G → Call → Type 0
+IsFull store call = (e : Entry) × (entry_of (revisions_of store) call ≡ Some e) × (2 ^ 56 < size_of (log_of store) + length (spelling e))
+
+-- one call of a mirror in a store, and its answer: whatever mirror stood there, one stands there then to which they lead; 31 and 32
+-- come of the device, and 36 only where the journal has no room
+pub record IsStep {D : Type 0} {G : Ghosts D} (old : AloneMirror D G) (asked : Asked) (new : AloneMirror D G) : Type 0 where
+  pub steps : (m : MirrorNow) → StandsAt (store_of old) (holder_of old) m → (now : MirrorNow) × StandsAt (store_of new) (holder_of new) now × Steps m 0 asked.call asked.result now
+  pub device : WasAsked (store_of new) (store_of old) (asked ∷ [])
+  pub full : asked.result ≡ Err (fault.Other refusal.LogFull) → IsFull (store_of old) asked.call
+
+-- a master in a store has no such revision, or memory ran out
+abbrev pub IsFaultAt : Repository → ℕ → MasterFault → Type 0
+IsFaultAt r n f = (f ≡ Refused refusal.OutOfMemory) ⊎ ((f ≡ Refused refusal.NoSuchRevision) × (length r.revisions ≤ n))
+
+-- the set makes the repository's tree of that number of those before it
+abbrev pub IsSetIn : Repository → ℕ → List Change → Type 0
+IsSetIn r n set = IsSomeAnd (tree_at r.revisions n) (Makes (take n (trees_of r.revisions)) set)
+
+-- these are its properties
+abbrev pub ArePropsIn : Repository → ℕ → PropMap → Type 0
+ArePropsIn r n props = option_map (λ x. x.props) (slice_get r.revisions n) ≡ Some props
+
+-- a question to a master that is this repository is answered as it is
+abbrev pub IsAnsweredBy : Repository → Exchange → Type 0
+IsAnsweredBy r (Identity (Ok u)) = u ≡ hyphenated_text lower r.identity
+IsAnsweredBy r (Identity (Err f)) = f ≡ Refused refusal.OutOfMemory
+IsAnsweredBy r (Latest (Ok n)) = n ≡ head_of r.revisions
+IsAnsweredBy r (Latest (Err f)) = ⊥
+IsAnsweredBy r (Fetch n trees (Ok v)) = IsSetIn r n v.set × ArePropsIn r n v.props
+IsAnsweredBy r (Fetch n trees (Err f)) = IsFaultAt r n f
+IsAnsweredBy r (FetchProps n (Ok p)) = ArePropsIn r n p
+IsAnsweredBy r (FetchProps n (Err f)) = IsFaultAt r n f

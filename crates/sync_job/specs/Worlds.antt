@@ -7,12 +7,14 @@ use Rattle.sync_core.specs.declared.answer.Answer.TheVariants as answer
 use Rattle.sync_core.specs.declared.fault.SyncFault.{SyncFault}
 use Rattle.sync_core.specs.Mirror.{Call, refusal, granted, accepted}
 use Rattle.sync_core.specs.Deeds.{Deed, Calls, AsksIdentity, AsksLatest, Fetches, FetchesProps}
+use Rattle.sync_core.specs.Copies.{outcome_of}
 use Rattle.sync_core.specs.Hearing.{IsRefusal, IsAnswerFor}
 use Rattle.sync_core.specs.World.{Origin, Room, World, Event, Makes, moment_of, map_at, run, IsRun}
 use Rattle.sync_core.specs.Law.{Starts, Holds}
 use Rattle.sync_job.specs.Said.{IsQuestion}
 use Rattle.sync_job.specs.Masters.{IsTrue}
 use Rattle.sync_job.specs.Mirrors.{MirrorNow, mirror_in}
+use Rattle.sync_job.specs.Fronts.{HasCome, accepted_by, counted_by}
 
 -- a question is answered as the master stands, or refused
 abbrev pub IsAnswerAt : Origin → Deed → Answer → Type 0
@@ -39,11 +41,13 @@ pub data IsServed (m : MirrorNow) (seat : ℕ) (d : Deed) (a : Answer) (now : Mi
   Refuses : (f : SyncFault) → a ≡ answer.Refused f → mirror_in now ≡ mirror_in m → IsServed m seat d a now
   IsAsked : IsQuestion d → mirror_in now ≡ mirror_in m → IsServed m seat d a now
 
--- how a deed leaves the mirror, and the trees of it that are at hand
+-- how a deed leaves the mirror, and the trees of it that are at hand; a call that counts wasn't refused by the table
 pub record Serves (stands : MirrorNow → Type 0) (m : MirrorNow) (seat : ℕ) (d : Deed) (a : Answer) (before after : List PathMap) : Type 0 where
   pub now : MirrorNow
   pub there : stands now
   pub served : IsServed m seat d a now
+  pub come : HasCome m now (accepted_by d (outcome_of a)) (counted_by d (outcome_of a))
+  pub free : (call : Call) → counted_by d (outcome_of a) ≡ call ∷ [] → refusal (mirror_in m) seat call ≡ None
   pub trees : AreFirst before (trees_of m.repository.revisions) → AreFirst after (trees_of now.repository.revisions)
 
 -- what a deed is at a true master, and at each mirror that may stand there

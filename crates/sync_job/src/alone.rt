@@ -1,5 +1,7 @@
 //! A mirror held alone.
-ghost use Rattle.std.specs.Prelude.{◌≡◌, ◌↔◌, ◌∷◌, [], List, None, IfOk};
+ghost use Rattle.std.specs.Prelude.{◌≡◌, ◌↔◌, ◌∷◌, [], List, None, Err, IfOk};
+ghost use Rattle.node_base.specs.declared.refusal.Refusal.TheVariants as refusal;
+ghost use Rattle.sync_core.specs.declared.fault.SyncFault.TheVariants as fault;
 ghost use Rattle.fleet_disk.specs.Image.{Image};
 ghost use Rattle.node_base.specs.Tree.{PathMap};
 ghost use Rattle.repo_core.specs.Refusals.{by_repository};
@@ -10,7 +12,7 @@ ghost use Rattle.repo_store.specs.Words.{disk_of, repository_of, revisions_of, H
 ghost use Rattle.sync_core.specs.Calls.{call_of};
 ghost use Rattle.sync_core.specs.Mirror.{mirror_with};
 ghost use Rattle.sync_core.specs.Plans.{IsToWrite};
-ghost use Rattle.sync_job.specs.Alone.{StandsAt, Moved, begun, holder_of, store_of};
+ghost use Rattle.sync_job.specs.Alone.{StandsAt, Moved, IsFull, begun, holder_of, store_of};
 ghost use Rattle.sync_job.specs.Asked.{asked_as};
 ghost use Rattle.sync_job.specs.Devices.{WasAsked};
 ghost use Rattle.sync_job.specs.Made.{ComesWith, IsTreeOf};
@@ -89,6 +91,7 @@ impl<D: Disk + Drop> AloneMirror<D> {
         ensures moved { (m : MirrorNow) → StandsAt self.old.store self.old.holder m
             → Moved self.old.store self.new.store self.old.holder self.new.holder (call_of call.now) result m }
         ensures asked { WasAsked self.new.store self.old.store (asked_as (call_of call.now) result ∷ []) }
+        ensures full { result ≡ Err (fault.Other refusal.LogFull) → IsFull self.old.store (call_of call.now) }
         ensures first { (trees : List PathMap) → AreFirst trees (trees_of (revisions_of self.old.store))
             → AreFirst trees (trees_of (revisions_of self.new.store)) }
     {
@@ -110,8 +113,8 @@ impl<D: Disk + Drop> MirrorPort for AloneMirror<D> {
     ghost use Rattle.std.proofs.Common.{refl};
     ghost use Rattle.repo_core.specs.Repository.{trees_of};
     ghost use Rattle.repo_store.specs.Words.{disk_of, revisions_of};
-    ghost use Rattle.sync_job.specs.Alone.{StandsAt};
-    ghost use Rattle.sync_job.specs.Devices.{WasAsked};
+    ghost use Rattle.sync_job.specs.Alone.{IsStep, StandsAt};
+    ghost use Rattle.sync_job.specs.Questions.{LeadsBy};
     ghost use Rattle.sync_job.specs.Worlds.{AreFirst};
 
     ghost stands = { λ a m. StandsAt a.store a.holder m };
@@ -126,7 +129,7 @@ impl<D: Disk + Drop> MirrorPort for AloneMirror<D> {
 
     ghost begins_with = { λ a trees. AreFirst trees (trees_of (revisions_of a.store)) };
 
-    ghost asked = { λ now first calls. WasAsked now.store first.store calls };
+    ghost asked = { λ now first calls. LeadsBy IsStep first calls now };
 
     ghost kept_now = { λ a m image honest stands left. stands.images honest image
         (D.only_now (disk_of a.store) image honest left) };

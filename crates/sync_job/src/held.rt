@@ -40,10 +40,17 @@ impl<D: Disk + Drop> HeldMaster<D> {
 }
 
 impl<D: Disk + Drop> MasterPort for HeldMaster<D> {
-    ghost use Rattle.sync_job.specs.Alone.{IsMasterAt};
+    ghost use Rattle.std.specs.Prelude.{◌≡◌};
+    ghost use Rattle.std.specs.List.{AllByRecursion};
+    ghost use Rattle.std.proofs.Common.{refl};
     ghost use Rattle.repo_store.specs.Words.{repository_of};
+    ghost use Rattle.sync_job.specs.Alone.{IsAnsweredBy, IsMasterAt};
 
     ghost is_at = { λ a o. IsMasterAt (repository_of a.store) o };
+
+    ghost answered = { λ now first made. (now ≡ first) × AllByRecursion (IsAnsweredBy (repository_of first.store)) made };
+
+    ghost unasked = { λ _. (refl, tt) };
 
     fn identity(&mut self, alloc: Global) -> Result<PropValue, MasterFault> {
         identity_of(alloc, &self.store)

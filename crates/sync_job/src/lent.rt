@@ -1,10 +1,12 @@
 //! A master that is lent.
-ghost use Rattle.std.specs.Prelude.{◌≡◌, None, Some, IfOk};
+ghost use Rattle.std.specs.Prelude.{◌≡◌, List, None, Some, IfOk};
+ghost use Rattle.node_base.specs.Tree.{PathMap};
 ghost use Rattle.uuid.specs.Text.{hyphenated_text, lower};
 ghost use Rattle.repo_store.specs.Words.{repository_of};
 ghost use Rattle.sync_core.specs.World.{Origin, map_at, moment_of};
 ghost use Rattle.sync_core.specs.World.{Makes as MakesTree};
-ghost use Rattle.sync_job.specs.Alone.{lent_in, IsMasterAt};
+ghost use Rattle.sync_job.specs.Alone.{lent_in, IsAnsweredBy, IsMasterAt};
+ghost use Rattle.sync_job.specs.Questions.{Identity, Fetch, FetchProps};
 
 use crate::master::{Fetched, MasterFault, MasterPort};
 use fleet_disk::Disk;
@@ -30,10 +32,17 @@ impl<'a, D: Disk + Drop> LentMaster<'a, D> {
 }
 
 impl<'a, D: Disk + Drop> MasterPort for LentMaster<'a, D> {
+    ghost use Rattle.std.specs.Prelude.{◌≡◌};
+    ghost use Rattle.std.specs.List.{AllByRecursion};
+    ghost use Rattle.std.proofs.Common.{refl};
     ghost use Rattle.repo_store.specs.Words.{repository_of};
-    ghost use Rattle.sync_job.specs.Alone.{IsMasterAt};
+    ghost use Rattle.sync_job.specs.Alone.{IsAnsweredBy, IsMasterAt};
 
     ghost is_at = { λ a o. IsMasterAt (repository_of a.store.now) o };
+
+    ghost answered = { λ now first made. (now ≡ first) × AllByRecursion (IsAnsweredBy (repository_of first.store.now)) made };
+
+    ghost unasked = { λ _. (refl, tt) };
 
     fn identity(&mut self, alloc: Global) -> Result<PropValue, MasterFault> {
         identity_of(alloc, self.store)
@@ -63,7 +72,8 @@ pub(crate) fn identity_of<D: Disk>(
     alloc: Global,
     store: &RepoStore<D>,
 ) -> Result<PropValue, MasterFault>
-    ensures { (o : Origin) → IsMasterAt (repository_of store.now) o → IfOk result (λ v. v ≡ o.identity) }
+    ensures value { (o : Origin) → IsMasterAt (repository_of store.now) o → IfOk result (λ v. v ≡ o.identity) }
+    ensures answered { IsAnsweredBy (repository_of store.now) (Identity result) }
 {
     match identity_text(alloc, store.repo().identity()) {
         Ok(text) => Ok(text),
@@ -79,6 +89,7 @@ pub(crate) fn revision_of<D: Disk>(
     ensures revision { (o : Origin) → IsMasterAt (repository_of store.now) o → IfOk result
         (λ r. MakesTree o number r.set × (map_at o (moment_of o) number ≡ Some r.props)) }
     ensures treeless { IfOk result (λ r. r.tree ≡ None) }
+    ensures answered { (trees : List PathMap) → IsAnsweredBy (repository_of store.now) (Fetch number trees result) }
 {
     let props = props_of(store, number)?;
     match store.repo().set(number) {
@@ -91,8 +102,9 @@ pub(crate) fn revision_of<D: Disk>(
 }
 
 pub(crate) fn props_of<D: Disk>(store: &RepoStore<D>, number: RevNo) -> Result<Props, MasterFault>
-    ensures { (o : Origin) → IsMasterAt (repository_of store.now) o → IfOk result
+    ensures value { (o : Origin) → IsMasterAt (repository_of store.now) o → IfOk result
         (λ p. map_at o (moment_of o) number ≡ Some p) }
+    ensures answered { IsAnsweredBy (repository_of store.now) (FetchProps number result) }
 {
     match store.repo().props(number) {
         Some(props) => match props.share() {

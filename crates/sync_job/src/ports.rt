@@ -8,7 +8,7 @@ ghost use Rattle.sync_core.specs.Calls.{call_of};
 ghost use Rattle.sync_core.specs.Deeds.{Deed, Calls, AsksIdentity, AsksLatest, Fetches, FetchesProps, Ends, deed_of};
 ghost use Rattle.sync_core.specs.Measures.{CanBe};
 ghost use Rattle.sync_core.specs.Mirror.{ReleaseLock};
-ghost use Rattle.sync_core.specs.Copies.{call_in, outcome_of};
+ghost use Rattle.sync_core.specs.Copies.{call_in, outcome_of, Failed};
 ghost use Rattle.sync_job.specs.Kept.{refused_as};
 ghost use Rattle.sync_job.specs.declared.report.Told.{Told as IsTold};
 ghost use Rattle.sync_job.specs.declared.report.Told.TheVariants.{Committed, Copied};
@@ -16,6 +16,8 @@ ghost use Rattle.node_base.specs.Tree.{PathMap};
 ghost use Rattle.dump_load.specs.Trees.{Makes};
 ghost use Rattle.sync_core.specs.World.{Origin, map_at, moment_of};
 ghost use Rattle.sync_core.specs.World.{Makes as MakesTree};
+ghost use Rattle.sync_job.specs.Masters.{fault_text};
+ghost use Rattle.sync_job.specs.Questions.{KeepsAnswers, Identity, Latest, Fetch, FetchProps, outcome_for};
 ghost use Rattle.sync_job.specs.Made.{ComesWith, IsKeptFor, IsMadeBy, KeepsMade, StillBegins, BeginsOn, MakesOf};
 ghost use Rattle.sync_job.specs.Rooms.{IsReady, KeepsRoom};
 ghost use Rattle.sync_job.specs.Said.{Acted, Fits, IsQuestion, Tells, told_of};
@@ -106,6 +108,8 @@ impl<M: MasterPort + Drop, N: MirrorPort + Drop, R: Report + Drop> JobPorts<M, N
             (counted_by (deed_of action.now) (outcome_of result)) }
         ensures asked { KeepsTelling N.asked (mirror_of self.old) (mirror_of self.new) (calls_of self.old)
             (calls_of self.new) }
+        ensures answered { KeepsAnswers M.answered (master_of self.old) (master_of self.new) (calls_of self.old)
+            (calls_of self.new) }
         ensures happens { Happens (M.is_at (master_of self.old)) (M.is_at (master_of self.new))
             (N.stands (mirror_of self.old)) (N.stands (mirror_of self.new)) (N.seat (mirror_of self.old))
             (N.seat (mirror_of self.new)) (deed_of action.now) result trees.old.items trees.new.items }
@@ -134,6 +138,8 @@ impl<M: MasterPort + Drop, N: MirrorPort + Drop, R: Report + Drop> JobPorts<M, N
             (accepted_by (Calls (call_of call.now)) (outcome_of result))
             (counted_by (Calls (call_of call.now)) (outcome_of result)) }
         ensures asked { KeepsTelling N.asked (mirror_of self.old) (mirror_of self.new) (calls_of self.old)
+            (calls_of self.new) }
+        ensures answered { KeepsAnswers M.answered (master_of self.old) (master_of self.new) (calls_of self.old)
             (calls_of self.new) }
         ensures happens { (trees : List PathMap) → Happens (M.is_at (master_of self.old)) (M.is_at (master_of self.new))
             (N.stands (mirror_of self.old)) (N.stands (mirror_of self.new)) (N.seat (mirror_of self.old))
@@ -241,6 +247,8 @@ impl<M: MasterPort + Drop, N: MirrorPort + Drop, R: Report + Drop> JobPorts<M, N
             (accepted_by AsksIdentity (outcome_of result)) (counted_by AsksIdentity (outcome_of result)) }
         ensures asked { KeepsTelling N.asked (mirror_of self.old) (mirror_of self.new) (calls_of self.old)
             (calls_of self.new) }
+        ensures answered { KeepsAnswers M.answered (master_of self.old) (master_of self.new) (calls_of self.old)
+            (calls_of self.new) }
         ensures happens { (trees : List PathMap) → Happens (M.is_at (master_of self.old)) (M.is_at (master_of self.new))
             (N.stands (mirror_of self.old)) (N.stands (mirror_of self.new)) (N.seat (mirror_of self.old))
             (N.seat (mirror_of self.new)) AsksIdentity result trees trees }
@@ -264,6 +272,8 @@ impl<M: MasterPort + Drop, N: MirrorPort + Drop, R: Report + Drop> JobPorts<M, N
             (accepted_by AsksLatest (outcome_of result)) (counted_by AsksLatest (outcome_of result)) }
         ensures asked { KeepsTelling N.asked (mirror_of self.old) (mirror_of self.new) (calls_of self.old)
             (calls_of self.new) }
+        ensures answered { KeepsAnswers M.answered (master_of self.old) (master_of self.new) (calls_of self.old)
+            (calls_of self.new) }
         ensures happens { (trees : List PathMap) → Happens (M.is_at (master_of self.old)) (M.is_at (master_of self.new))
             (N.stands (mirror_of self.old)) (N.stands (mirror_of self.new)) (N.seat (mirror_of self.old))
             (N.seat (mirror_of self.new)) AsksLatest result trees trees }
@@ -286,6 +296,8 @@ impl<M: MasterPort + Drop, N: MirrorPort + Drop, R: Report + Drop> JobPorts<M, N
         ensures mirror { WentAt N.stands N.clock N.left_since N.honest (mirror_of self.old) (mirror_of self.new)
             (accepted_by (Fetches number) (outcome_of result)) (counted_by (Fetches number) (outcome_of result)) }
         ensures asked { KeepsTelling N.asked (mirror_of self.old) (mirror_of self.new) (calls_of self.old)
+            (calls_of self.new) }
+        ensures answered { KeepsAnswers M.answered (master_of self.old) (master_of self.new) (calls_of self.old)
             (calls_of self.new) }
         ensures happens { Happens (M.is_at (master_of self.old)) (M.is_at (master_of self.new))
             (N.stands (mirror_of self.old)) (N.stands (mirror_of self.new)) (N.seat (mirror_of self.old))
@@ -321,6 +333,8 @@ impl<M: MasterPort + Drop, N: MirrorPort + Drop, R: Report + Drop> JobPorts<M, N
             (counted_by (FetchesProps number) (outcome_of result)) }
         ensures asked { KeepsTelling N.asked (mirror_of self.old) (mirror_of self.new) (calls_of self.old)
             (calls_of self.new) }
+        ensures answered { KeepsAnswers M.answered (master_of self.old) (master_of self.new) (calls_of self.old)
+            (calls_of self.new) }
         ensures happens { (trees : List PathMap) → Happens (M.is_at (master_of self.old)) (M.is_at (master_of self.new))
             (N.stands (mirror_of self.old)) (N.stands (mirror_of self.new)) (N.seat (mirror_of self.old))
             (N.seat (mirror_of self.new)) (FetchesProps number) result trees trees }
@@ -348,6 +362,8 @@ impl<M: MasterPort + Drop, N: MirrorPort + Drop, R: Report + Drop> JobPorts<M, N
         ensures mirror { WentAt N.stands N.clock N.left_since N.honest (mirror_of self.old) (mirror_of self.new) [] [] }
         ensures master { master_of self.new ≡ master_of self.old }
         ensures asked { KeepsTelling N.asked (mirror_of self.old) (mirror_of self.new) (calls_of self.old)
+            (calls_of self.new) }
+        ensures answered { KeepsAnswers M.answered (master_of self.old) (master_of self.new) (calls_of self.old)
             (calls_of self.new) }
         ensures trees { TakesTrees (N.stands (mirror_of self.old)) (N.stands (mirror_of self.new))
             (N.seat (mirror_of self.old)) (N.seat (mirror_of self.new)) trees.old.items trees.new.items result }
@@ -382,6 +398,8 @@ impl<M: MasterPort + Drop, N: MirrorPort + Drop, R: Report + Drop> JobPorts<M, N
         ensures mirror { WentAt N.stands N.clock N.left_since N.honest (mirror_of self.old) (mirror_of self.new) [] [] }
         ensures master { master_of self.new ≡ master_of self.old }
         ensures asked { KeepsTelling N.asked (mirror_of self.old) (mirror_of self.new) (calls_of self.old)
+            (calls_of self.new) }
+        ensures answered { KeepsAnswers M.answered (master_of self.old) (master_of self.new) (calls_of self.old)
             (calls_of self.new) }
         ensures trees { TakesTrees (N.stands (mirror_of self.old)) (N.stands (mirror_of self.new))
             (N.seat (mirror_of self.old)) (N.seat (mirror_of self.new)) trees.old.items trees.new.items result }
@@ -451,6 +469,7 @@ fn fault_twice(alloc: Global, fault: SyncFault) -> (SyncFault, SyncFault)
 // The master's fault as an answer.
 fn failed(alloc: Global, fault: MasterFault) -> Answer
     ensures can { CanBe result }
+    ensures told { (outcome_of result ≡ Failed (fault_text fault)) ⊎ (result ≡ answer_is.Refused NoMemory) }
     ensures other { IsOther (outcome_of result) }
     ensures fits { (d : Deed) → IsQuestion d → Fits d result }
     ensures at { (o : Origin) (d : Deed) → IsQuestion d → IsAnswerAt o d result }
@@ -463,6 +482,7 @@ fn failed(alloc: Global, fault: MasterFault) -> Answer
 
 fn identity_answer(alloc: Global, answer: Result<PropValue, MasterFault>) -> Answer
     ensures can { CanBe result }
+    ensures told { (outcome_of result ≡ outcome_for (Identity answer)) ⊎ (result ≡ answer_is.Refused NoMemory) }
     ensures other { IsOther (outcome_of result) }
     ensures fits { Fits AsksIdentity result }
     ensures at { (o : Origin) → IfOk answer (λ v. v ≡ o.identity) → IsAnswerAt o AsksIdentity result }
@@ -475,6 +495,7 @@ fn identity_answer(alloc: Global, answer: Result<PropValue, MasterFault>) -> Ans
 
 fn latest_answer(alloc: Global, answer: Result<RevNo, MasterFault>) -> Answer
     ensures can { CanBe result }
+    ensures told { (outcome_of result ≡ outcome_for (Latest answer)) ⊎ (result ≡ answer_is.Refused NoMemory) }
     ensures other { IsOther (outcome_of result) }
     ensures fits { Fits AsksLatest result }
     ensures at { (o : Origin) → IfOk answer (λ n. n ≡ length o.trees - 1) → IsAnswerAt o AsksLatest result }
@@ -495,6 +516,8 @@ fn revision_answer(
     answer: Result<Fetched, MasterFault>,
 ) -> (Answer, Option<Tree>)
     ensures can { CanBe result.0 }
+    ensures told { (trees : List PathMap) → (outcome_of result.0 ≡ outcome_for (Fetch number trees answer))
+        ⊎ (result.0 ≡ answer_is.Refused NoMemory) }
     ensures other { IsOther (outcome_of result.0) }
     ensures fits { Fits (Fetches number) result.0 }
     ensures at { (o : Origin)
@@ -512,6 +535,7 @@ fn revision_answer(
 
 fn map_answer(alloc: Global, number: RevNo, answer: Result<Props, MasterFault>) -> Answer
     ensures can { CanBe result }
+    ensures told { (outcome_of result ≡ outcome_for (FetchProps number answer)) ⊎ (result ≡ answer_is.Refused NoMemory) }
     ensures other { IsOther (outcome_of result) }
     ensures fits { Fits (FetchesProps number) result }
     ensures at { (o : Origin) → IfOk answer (λ p. map_at o (moment_of o) number ≡ Some p)

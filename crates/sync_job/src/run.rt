@@ -9,8 +9,10 @@ ghost use Rattle.sync_core.specs.Copies.{outcome_of};
 ghost use Rattle.sync_job.specs.Words.{calls_of, master_of, mirror_of, report_of, tree_of};
 ghost use Rattle.sync_job.specs.Worlds.{Happens, IsEvents};
 ghost use Rattle.sync_core.specs.Jobs.{Order, begun};
+ghost use Rattle.sync_job.specs.Questions.{KeepsAnswers};
 ghost use Rattle.sync_job.specs.Made.{BeginsOn, IsKeptFor, KeepsMade};
 ghost use Rattle.sync_job.specs.Rooms.{IsReady, IsUnlocked, KeepsRoom};
+ghost use Rattle.sync_job.specs.Stops.{StopsAsMirror};
 ghost use Rattle.sync_job.specs.Telling.{KeepsTelling};
 ghost use Rattle.sync_job.specs.Runs.{Ran, answer_to, IsSyncRun, IsInitRun, IsCopyRun};
 
@@ -37,8 +39,13 @@ pub fn run_sync<M: MasterPort + Drop, N: MirrorPort + Drop, R: Report + Drop>(
         (WentAt N.stands N.clock N.left_since N.honest (mirror_of ports.old) (mirror_of ports.new)) }
     ensures asked { KeepsTelling N.asked (mirror_of ports.old) (mirror_of ports.new) (calls_of ports.old)
         (calls_of ports.new) }
+    ensures answered { KeepsAnswers M.answered (master_of ports.old) (master_of ports.new) (calls_of ports.old)
+        (calls_of ports.new) }
     ensures world { IsEvents (M.is_at (master_of ports.old)) (M.is_at (master_of ports.new))
         (N.stands (mirror_of ports.old)) (N.stands (mirror_of ports.new)) (N.seat (mirror_of ports.old)) }
+    ensures stops { StopsAsMirror (M.is_at (master_of ports.old)) (M.is_at (master_of ports.new))
+        (N.stands (mirror_of ports.old)) (N.seat (mirror_of ports.old)) N.clock N.left_since
+        (N.honest (mirror_of ports.old)) (mirror_of ports.old) (mirror_of ports.new) }
 {
     jobs_follow();
     jobs_end();
@@ -57,8 +64,13 @@ pub fn run_init<M: MasterPort + Drop, N: MirrorPort + Drop, R: Report + Drop>(
         (WentAt N.stands N.clock N.left_since N.honest (mirror_of ports.old) (mirror_of ports.new)) }
     ensures asked { KeepsTelling N.asked (mirror_of ports.old) (mirror_of ports.new) (calls_of ports.old)
         (calls_of ports.new) }
+    ensures answered { KeepsAnswers M.answered (master_of ports.old) (master_of ports.new) (calls_of ports.old)
+        (calls_of ports.new) }
     ensures world { IsEvents (M.is_at (master_of ports.old)) (M.is_at (master_of ports.new))
         (N.stands (mirror_of ports.old)) (N.stands (mirror_of ports.new)) (N.seat (mirror_of ports.old)) }
+    ensures stops { StopsAsMirror (M.is_at (master_of ports.old)) (M.is_at (master_of ports.new))
+        (N.stands (mirror_of ports.old)) (N.seat (mirror_of ports.old)) N.clock N.left_since
+        (N.honest (mirror_of ports.old)) (mirror_of ports.old) (mirror_of ports.new) }
 {
     jobs_follow();
     jobs_end();
@@ -79,8 +91,13 @@ pub fn run_copy_revprops<M: MasterPort + Drop, N: MirrorPort + Drop, R: Report +
         (WentAt N.stands N.clock N.left_since N.honest (mirror_of ports.old) (mirror_of ports.new)) }
     ensures asked { KeepsTelling N.asked (mirror_of ports.old) (mirror_of ports.new) (calls_of ports.old)
         (calls_of ports.new) }
+    ensures answered { KeepsAnswers M.answered (master_of ports.old) (master_of ports.new) (calls_of ports.old)
+        (calls_of ports.new) }
     ensures world { IsEvents (M.is_at (master_of ports.old)) (M.is_at (master_of ports.new))
         (N.stands (mirror_of ports.old)) (N.stands (mirror_of ports.new)) (N.seat (mirror_of ports.old)) }
+    ensures stops { StopsAsMirror (M.is_at (master_of ports.old)) (M.is_at (master_of ports.new))
+        (N.stands (mirror_of ports.old)) (N.seat (mirror_of ports.old)) N.clock N.left_since
+        (N.honest (mirror_of ports.old)) (mirror_of ports.old) (mirror_of ports.new) }
 {
     jobs_follow();
     jobs_end();
@@ -111,9 +128,15 @@ fn run_job<M: MasterPort + Drop, N: MirrorPort + Drop, R: Report + Drop>(
         (WentAt N.stands N.clock N.left_since N.honest (mirror_of ports.old) (mirror_of ports.new)) }
     ensures asked { KeepsTelling N.asked (mirror_of ports.old) (mirror_of ports.new) (calls_of ports.old)
         (calls_of ports.new) }
+    ensures answered { KeepsAnswers M.answered (master_of ports.old) (master_of ports.new) (calls_of ports.old)
+        (calls_of ports.new) }
     ensures world { (order : Order) → Follows (begun order) state
         → IsEvents (M.is_at (master_of ports.old)) (M.is_at (master_of ports.new))
         (N.stands (mirror_of ports.old)) (N.stands (mirror_of ports.new)) (N.seat (mirror_of ports.old)) }
+    ensures stops { (order : Order) → Follows (begun order) state
+        → StopsAsMirror (M.is_at (master_of ports.old)) (M.is_at (master_of ports.new))
+        (N.stands (mirror_of ports.old)) (N.seat (mirror_of ports.old)) N.clock N.left_since
+        (N.honest (mirror_of ports.old)) (mirror_of ports.old) (mirror_of ports.new) }
 {
     every_run();
     answers_are_heard();
@@ -151,6 +174,8 @@ fn next<M: MasterPort + Drop, N: MirrorPort + Drop, R: Report + Drop>(
         (λ a. WentAt N.stands N.clock N.left_since N.honest (mirror_of ports.old) (mirror_of ports.new)
         (accepted_by (deed_in state.now) (outcome_of a)) (counted_by (deed_in state.now) (outcome_of a))) }
     ensures asked { KeepsTelling N.asked (mirror_of ports.old) (mirror_of ports.new) (calls_of ports.old)
+        (calls_of ports.new) }
+    ensures answered { KeepsAnswers M.answered (master_of ports.old) (master_of ports.new) (calls_of ports.old)
         (calls_of ports.new) }
     ensures goes { IfSome result (λ _. deed_in state.now ≢ Ends) }
     ensures master { result ≡ None → master_of ports.new ≡ master_of ports.old }

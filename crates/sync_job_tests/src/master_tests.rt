@@ -33,6 +33,10 @@ impl<'a, D: Disk + Drop> MasterPort for Refusing<'a, D> {
     // nothing is said of what it answers
     ghost is_at = { λ a o. ⊥ };
 
+    ghost answered = { λ _ _ _. Unit {0} };
+
+    ghost unasked = { λ _. tt };
+
     fn identity(&mut self, alloc: Global) -> Result<PropValue, MasterFault> {
         self.answers()?;
         self.master.identity(alloc)

@@ -3,9 +3,9 @@ use Rattle.std.specs.Result.{OnOk}
 use Rattle.store_engines.specs.Ranges.{first_in, last_in}
 use Rattle.fleet_engines.specs.Runs.{Accepted, Refused}
 use Rattle.fleet_engines.specs.declared.product.Product.TheVariants as product
-use Rattle.mirror_engines.specs.Runs.{IsInitialised, IsSynchronised, IsCopied}
+use Rattle.mirror_engines.specs.declared.work.Work.TheVariants as work
 use Rattle.byte_streams.specs.Causes.{Rose}
-use Rattle.fleet_main.specs.Doing.{IsCommittedTo, IsDone, IsDumped, IsLoadedFrom, IsNotDone, IsToldOf, IsWorkedOver, NotCommittedTo, NotDumped, NotKept, NotLoadedFrom, NotToldOf, NotWorkedOver, OfBoth, OfStanding, OfUpgrade, UnopenedBoth, UnopenedOr, UnopenedOrUpgrade}
+use Rattle.fleet_main.specs.Doing.{IsCommittedTo, IsDone, IsDumped, IsLoadedFrom, IsNotDone, IsToldOf, IsBrought, NotCommittedTo, NotDumped, NotKept, NotLoadedFrom, NotToldOf, NotBrought, OfBoth, OfStanding, OfUpgrade, UnopenedBoth, UnopenedOr, UnopenedOrUpgrade}
 use Rattle.fleet_main.specs.Loans.{AreBack}
 use Rattle.store_engines.specs.Upgrades.{IsUpgraded, NotUpgraded}
 use Rattle.fleet_main.specs.Opening.{NotBegunIn}
@@ -95,37 +95,37 @@ returns-in-Upgrade-clause-refused g c =
 pub returns-in-Initialize-clause-done : goal.returns-in-Initialize-clause-done
 returns-in-Initialize-clause-done g c =
     subst (λ k. OnOk c.initialize.result.1 (IsDone g.F.Place.Disk g.F.Folders c.args.folders.now c.initialize.new.folders k (g.I.Input.remaining c.args.input.now) (g.O.Output.contents c.args.output) (g.O.Output.contents c.initialize.result.0))) (sym c.in-Initialize.is)
-    (both_at c.initialize.result.1 (λ m s. OfBoth g.F.Place.Disk g.F.Folders c.args.folders.now c.initialize.new.folders m s (IsWorkedOver (IsInitialised s) (g.O.Output.contents c.args.output) (g.O.Output.contents c.initialize.result.0)))
+    (both_at c.initialize.result.1 (λ m s. OfBoth g.F.Place.Disk g.F.Folders c.args.folders.now c.initialize.new.folders m s (IsBrought (work.Initialize s) (g.O.Output.contents c.args.output) (g.O.Output.contents c.initialize.result.0)))
     c.as_str-in-Initialize.result.now (string_bytes c.in-Initialize.mirror) c.as_str-in-Initialize-2.result.now (string_bytes c.in-Initialize.source) c.as_str-in-Initialize.ensures.value c.as_str-in-Initialize-2.ensures.value c.initialize.ensures.done)
 
 pub returns-in-Initialize-clause-refused : goal.returns-in-Initialize-clause-refused
 returns-in-Initialize-clause-refused g c =
     subst (λ k. IfErr c.initialize.result.1 (IsNotDone g.F.Place.Disk g.F.Folders c.args.folders.now c.initialize.new.folders k (g.I.Input.remaining c.args.input.now) (g.O.Output.contents c.args.output) (g.O.Output.failures c.args.output) (g.O.Output.contents c.initialize.result.0) (g.O.Output.failures c.initialize.result.0))) (sym c.in-Initialize.is)
-    (not_both_at c.initialize.result.1 (λ m s e. (NotKept s (g.O.Output.contents c.args.output) (g.O.Output.contents c.initialize.result.0) e × AreBack g.F.Place.Disk g.F.Folders c.args.folders.now c.initialize.new.folders []) ⊎ UnopenedBoth g.F.Place.Disk g.F.Folders c.args.folders.now c.initialize.new.folders m s (g.O.Output.contents c.args.output) (g.O.Output.contents c.initialize.result.0) e (NotWorkedOver (IsInitialised s) (g.O.Output.contents c.args.output) (g.O.Output.contents c.initialize.result.0) (Rose (g.O.Output.failures c.args.output) (g.O.Output.failures c.initialize.result.0)) e))
+    (not_both_at c.initialize.result.1 (λ m s e. (NotKept s (g.O.Output.contents c.args.output) (g.O.Output.contents c.initialize.result.0) e × AreBack g.F.Place.Disk g.F.Folders c.args.folders.now c.initialize.new.folders []) ⊎ UnopenedBoth g.F.Place.Disk g.F.Folders c.args.folders.now c.initialize.new.folders m s (g.O.Output.contents c.args.output) (g.O.Output.contents c.initialize.result.0) e (NotBrought (work.Initialize s) (g.O.Output.contents c.args.output) (g.O.Output.contents c.initialize.result.0) (Rose (g.O.Output.failures c.args.output) (g.O.Output.failures c.initialize.result.0)) e))
     c.as_str-in-Initialize.result.now (string_bytes c.in-Initialize.mirror) c.as_str-in-Initialize-2.result.now (string_bytes c.in-Initialize.source) c.as_str-in-Initialize.ensures.value c.as_str-in-Initialize-2.ensures.value c.initialize.ensures.refused)
 
 pub returns-in-Synchronize-clause-done : goal.returns-in-Synchronize-clause-done
 returns-in-Synchronize-clause-done g c =
     subst (λ k. OnOk c.mirrored.result.1 (IsDone g.F.Place.Disk g.F.Folders c.args.folders.now c.mirrored.new.folders k (g.I.Input.remaining c.args.input.now) (g.O.Output.contents c.args.output) (g.O.Output.contents c.mirrored.result.0))) (sym c.in-Synchronize.is)
-    (both_at c.mirrored.result.1 (λ m s. OfBoth g.F.Place.Disk g.F.Folders c.args.folders.now c.mirrored.new.folders m s (IsWorkedOver (IsSynchronised c.in-Synchronize.token c.in-Synchronize.steal) (g.O.Output.contents c.args.output) (g.O.Output.contents c.mirrored.result.0)))
+    (both_at c.mirrored.result.1 (λ m s. OfBoth g.F.Place.Disk g.F.Folders c.args.folders.now c.mirrored.new.folders m s (IsBrought (work.Synchronize c.in-Synchronize.token c.in-Synchronize.steal) (g.O.Output.contents c.args.output) (g.O.Output.contents c.mirrored.result.0)))
     c.as_str-in-Synchronize.result.now (string_bytes c.in-Synchronize.mirror) c.as_str-in-Synchronize-2.result.now (string_bytes c.in-Synchronize.source) c.as_str-in-Synchronize.ensures.value c.as_str-in-Synchronize-2.ensures.value c.mirrored.ensures.done)
 
 pub returns-in-Synchronize-clause-refused : goal.returns-in-Synchronize-clause-refused
 returns-in-Synchronize-clause-refused g c =
     subst (λ k. IfErr c.mirrored.result.1 (IsNotDone g.F.Place.Disk g.F.Folders c.args.folders.now c.mirrored.new.folders k (g.I.Input.remaining c.args.input.now) (g.O.Output.contents c.args.output) (g.O.Output.failures c.args.output) (g.O.Output.contents c.mirrored.result.0) (g.O.Output.failures c.mirrored.result.0))) (sym c.in-Synchronize.is)
-    (not_both_at c.mirrored.result.1 (λ m s e. UnopenedBoth g.F.Place.Disk g.F.Folders c.args.folders.now c.mirrored.new.folders m s (g.O.Output.contents c.args.output) (g.O.Output.contents c.mirrored.result.0) e (NotWorkedOver (IsSynchronised c.in-Synchronize.token c.in-Synchronize.steal) (g.O.Output.contents c.args.output) (g.O.Output.contents c.mirrored.result.0) (Rose (g.O.Output.failures c.args.output) (g.O.Output.failures c.mirrored.result.0)) e))
+    (not_both_at c.mirrored.result.1 (λ m s e. UnopenedBoth g.F.Place.Disk g.F.Folders c.args.folders.now c.mirrored.new.folders m s (g.O.Output.contents c.args.output) (g.O.Output.contents c.mirrored.result.0) e (NotBrought (work.Synchronize c.in-Synchronize.token c.in-Synchronize.steal) (g.O.Output.contents c.args.output) (g.O.Output.contents c.mirrored.result.0) (Rose (g.O.Output.failures c.args.output) (g.O.Output.failures c.mirrored.result.0)) e))
     c.as_str-in-Synchronize.result.now (string_bytes c.in-Synchronize.mirror) c.as_str-in-Synchronize-2.result.now (string_bytes c.in-Synchronize.source) c.as_str-in-Synchronize.ensures.value c.as_str-in-Synchronize-2.ensures.value c.mirrored.ensures.refused)
 
 pub returns-in-CopyRevprops-clause-done : goal.returns-in-CopyRevprops-clause-done
 returns-in-CopyRevprops-clause-done g c =
     subst (λ k. OnOk c.mirrored-in-CopyRevprops.result.1 (IsDone g.F.Place.Disk g.F.Folders c.args.folders.now c.mirrored-in-CopyRevprops.new.folders k (g.I.Input.remaining c.args.input.now) (g.O.Output.contents c.args.output) (g.O.Output.contents c.mirrored-in-CopyRevprops.result.0))) (sym c.in-CopyRevprops.is)
-    (both_at c.mirrored-in-CopyRevprops.result.1 (λ m s. OfBoth g.F.Place.Disk g.F.Folders c.args.folders.now c.mirrored-in-CopyRevprops.new.folders m s (IsWorkedOver (IsCopied c.in-CopyRevprops.token (first_in c.in-CopyRevprops.range) (last_in c.in-CopyRevprops.range)) (g.O.Output.contents c.args.output) (g.O.Output.contents c.mirrored-in-CopyRevprops.result.0)))
-    c.as_str-in-CopyRevprops.result.now (string_bytes c.in-CopyRevprops.mirror) c.as_str-in-CopyRevprops-2.result.now (string_bytes c.in-CopyRevprops.source) c.as_str-in-CopyRevprops.ensures.value c.as_str-in-CopyRevprops-2.ensures.value (subst (λ h. OnOk c.mirrored-in-CopyRevprops.result.1 (OfBoth g.F.Place.Disk g.F.Folders c.args.folders.now c.mirrored-in-CopyRevprops.new.folders c.as_str-in-CopyRevprops.result.now c.as_str-in-CopyRevprops-2.result.now (IsWorkedOver (IsCopied c.in-CopyRevprops.token (first_in c.in-CopyRevprops.range) h) (g.O.Output.contents c.args.output) (g.O.Output.contents c.mirrored-in-CopyRevprops.result.0)))) c.last.ensures
-    (subst (λ l. OnOk c.mirrored-in-CopyRevprops.result.1 (OfBoth g.F.Place.Disk g.F.Folders c.args.folders.now c.mirrored-in-CopyRevprops.new.folders c.as_str-in-CopyRevprops.result.now c.as_str-in-CopyRevprops-2.result.now (IsWorkedOver (IsCopied c.in-CopyRevprops.token l c.last.result) (g.O.Output.contents c.args.output) (g.O.Output.contents c.mirrored-in-CopyRevprops.result.0)))) c.first.ensures c.mirrored-in-CopyRevprops.ensures.done)))
+    (both_at c.mirrored-in-CopyRevprops.result.1 (λ m s. OfBoth g.F.Place.Disk g.F.Folders c.args.folders.now c.mirrored-in-CopyRevprops.new.folders m s (IsBrought (work.CopyRevprops c.in-CopyRevprops.token (first_in c.in-CopyRevprops.range) (last_in c.in-CopyRevprops.range)) (g.O.Output.contents c.args.output) (g.O.Output.contents c.mirrored-in-CopyRevprops.result.0)))
+    c.as_str-in-CopyRevprops.result.now (string_bytes c.in-CopyRevprops.mirror) c.as_str-in-CopyRevprops-2.result.now (string_bytes c.in-CopyRevprops.source) c.as_str-in-CopyRevprops.ensures.value c.as_str-in-CopyRevprops-2.ensures.value (subst (λ h. OnOk c.mirrored-in-CopyRevprops.result.1 (OfBoth g.F.Place.Disk g.F.Folders c.args.folders.now c.mirrored-in-CopyRevprops.new.folders c.as_str-in-CopyRevprops.result.now c.as_str-in-CopyRevprops-2.result.now (IsBrought (work.CopyRevprops c.in-CopyRevprops.token (first_in c.in-CopyRevprops.range) h) (g.O.Output.contents c.args.output) (g.O.Output.contents c.mirrored-in-CopyRevprops.result.0)))) c.last.ensures
+    (subst (λ l. OnOk c.mirrored-in-CopyRevprops.result.1 (OfBoth g.F.Place.Disk g.F.Folders c.args.folders.now c.mirrored-in-CopyRevprops.new.folders c.as_str-in-CopyRevprops.result.now c.as_str-in-CopyRevprops-2.result.now (IsBrought (work.CopyRevprops c.in-CopyRevprops.token l c.last.result) (g.O.Output.contents c.args.output) (g.O.Output.contents c.mirrored-in-CopyRevprops.result.0)))) c.first.ensures c.mirrored-in-CopyRevprops.ensures.done)))
 
 pub returns-in-CopyRevprops-clause-refused : goal.returns-in-CopyRevprops-clause-refused
 returns-in-CopyRevprops-clause-refused g c =
     subst (λ k. IfErr c.mirrored-in-CopyRevprops.result.1 (IsNotDone g.F.Place.Disk g.F.Folders c.args.folders.now c.mirrored-in-CopyRevprops.new.folders k (g.I.Input.remaining c.args.input.now) (g.O.Output.contents c.args.output) (g.O.Output.failures c.args.output) (g.O.Output.contents c.mirrored-in-CopyRevprops.result.0) (g.O.Output.failures c.mirrored-in-CopyRevprops.result.0))) (sym c.in-CopyRevprops.is)
-    (not_both_at c.mirrored-in-CopyRevprops.result.1 (λ m s e. UnopenedBoth g.F.Place.Disk g.F.Folders c.args.folders.now c.mirrored-in-CopyRevprops.new.folders m s (g.O.Output.contents c.args.output) (g.O.Output.contents c.mirrored-in-CopyRevprops.result.0) e (NotWorkedOver (IsCopied c.in-CopyRevprops.token (first_in c.in-CopyRevprops.range) (last_in c.in-CopyRevprops.range)) (g.O.Output.contents c.args.output) (g.O.Output.contents c.mirrored-in-CopyRevprops.result.0) (Rose (g.O.Output.failures c.args.output) (g.O.Output.failures c.mirrored-in-CopyRevprops.result.0)) e))
-    c.as_str-in-CopyRevprops.result.now (string_bytes c.in-CopyRevprops.mirror) c.as_str-in-CopyRevprops-2.result.now (string_bytes c.in-CopyRevprops.source) c.as_str-in-CopyRevprops.ensures.value c.as_str-in-CopyRevprops-2.ensures.value (subst (λ h. IfErr c.mirrored-in-CopyRevprops.result.1 (λ e. UnopenedBoth g.F.Place.Disk g.F.Folders c.args.folders.now c.mirrored-in-CopyRevprops.new.folders c.as_str-in-CopyRevprops.result.now c.as_str-in-CopyRevprops-2.result.now (g.O.Output.contents c.args.output) (g.O.Output.contents c.mirrored-in-CopyRevprops.result.0) e (NotWorkedOver (IsCopied c.in-CopyRevprops.token (first_in c.in-CopyRevprops.range) h) (g.O.Output.contents c.args.output) (g.O.Output.contents c.mirrored-in-CopyRevprops.result.0) (Rose (g.O.Output.failures c.args.output) (g.O.Output.failures c.mirrored-in-CopyRevprops.result.0)) e))) c.last.ensures
-    (subst (λ l. IfErr c.mirrored-in-CopyRevprops.result.1 (λ e. UnopenedBoth g.F.Place.Disk g.F.Folders c.args.folders.now c.mirrored-in-CopyRevprops.new.folders c.as_str-in-CopyRevprops.result.now c.as_str-in-CopyRevprops-2.result.now (g.O.Output.contents c.args.output) (g.O.Output.contents c.mirrored-in-CopyRevprops.result.0) e (NotWorkedOver (IsCopied c.in-CopyRevprops.token l c.last.result) (g.O.Output.contents c.args.output) (g.O.Output.contents c.mirrored-in-CopyRevprops.result.0) (Rose (g.O.Output.failures c.args.output) (g.O.Output.failures c.mirrored-in-CopyRevprops.result.0)) e))) c.first.ensures c.mirrored-in-CopyRevprops.ensures.refused)))
+    (not_both_at c.mirrored-in-CopyRevprops.result.1 (λ m s e. UnopenedBoth g.F.Place.Disk g.F.Folders c.args.folders.now c.mirrored-in-CopyRevprops.new.folders m s (g.O.Output.contents c.args.output) (g.O.Output.contents c.mirrored-in-CopyRevprops.result.0) e (NotBrought (work.CopyRevprops c.in-CopyRevprops.token (first_in c.in-CopyRevprops.range) (last_in c.in-CopyRevprops.range)) (g.O.Output.contents c.args.output) (g.O.Output.contents c.mirrored-in-CopyRevprops.result.0) (Rose (g.O.Output.failures c.args.output) (g.O.Output.failures c.mirrored-in-CopyRevprops.result.0)) e))
+    c.as_str-in-CopyRevprops.result.now (string_bytes c.in-CopyRevprops.mirror) c.as_str-in-CopyRevprops-2.result.now (string_bytes c.in-CopyRevprops.source) c.as_str-in-CopyRevprops.ensures.value c.as_str-in-CopyRevprops-2.ensures.value (subst (λ h. IfErr c.mirrored-in-CopyRevprops.result.1 (λ e. UnopenedBoth g.F.Place.Disk g.F.Folders c.args.folders.now c.mirrored-in-CopyRevprops.new.folders c.as_str-in-CopyRevprops.result.now c.as_str-in-CopyRevprops-2.result.now (g.O.Output.contents c.args.output) (g.O.Output.contents c.mirrored-in-CopyRevprops.result.0) e (NotBrought (work.CopyRevprops c.in-CopyRevprops.token (first_in c.in-CopyRevprops.range) h) (g.O.Output.contents c.args.output) (g.O.Output.contents c.mirrored-in-CopyRevprops.result.0) (Rose (g.O.Output.failures c.args.output) (g.O.Output.failures c.mirrored-in-CopyRevprops.result.0)) e))) c.last.ensures
+    (subst (λ l. IfErr c.mirrored-in-CopyRevprops.result.1 (λ e. UnopenedBoth g.F.Place.Disk g.F.Folders c.args.folders.now c.mirrored-in-CopyRevprops.new.folders c.as_str-in-CopyRevprops.result.now c.as_str-in-CopyRevprops-2.result.now (g.O.Output.contents c.args.output) (g.O.Output.contents c.mirrored-in-CopyRevprops.result.0) e (NotBrought (work.CopyRevprops c.in-CopyRevprops.token l c.last.result) (g.O.Output.contents c.args.output) (g.O.Output.contents c.mirrored-in-CopyRevprops.result.0) (Rose (g.O.Output.failures c.args.output) (g.O.Output.failures c.mirrored-in-CopyRevprops.result.0)) e))) c.first.ensures c.mirrored-in-CopyRevprops.ensures.refused)))

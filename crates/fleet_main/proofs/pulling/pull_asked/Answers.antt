@@ -1,7 +1,7 @@
 use Rattle.std.proofs.Common.{string_bytes, []}
 use Rattle.mirror_engines.specs.Runs.{IsWorked}
 use Rattle.byte_streams.specs.Causes.{Rose}
-use Rattle.fleet_main.specs.Doing.{IsWorkedOver, OfStanding, UnopenedOr}
+use Rattle.fleet_main.specs.Doing.{IsWorkedOver, OfStanding, UnopenedOr, untold}
 use Rattle.fleet_main.specs.Loans.{AreBack}
 use Rattle.fleet_main.specs.Pulling.{NotKeptFor, NotPulledOver}
 use Rattle.fleet_main.proofs.Pulled.{asked_done, asked_refused}
@@ -10,7 +10,7 @@ use Rattle.fleet_main.proofs.pulling.pull_asked.Goals as goal
 pub returns-in-Ok-clause-done : goal.returns-in-Ok-clause-done
 returns-in-Ok-clause-done g c =
     asked_done c.pull_folder.result.1
-    (λ t w. OfStanding g.F.Place.Disk g.F.Folders c.args.folders.now c.pull_folder.new.folders t (IsWorkedOver (IsWorked w) (g.O.Output.contents c.args.output) (g.O.Output.contents c.pull_folder.result.0)))
+    (λ t w. OfStanding g.F.Place.Disk g.F.Folders c.args.folders.now c.pull_folder.new.folders t (IsWorkedOver untold (IsWorked w) (g.O.Output.contents c.args.output) (g.O.Output.contents c.pull_folder.result.0)))
     c.args.pull.task c.in-Ok.work c.as_str-mirror.result.now (string_bytes c.args.pull.mirror) c.as_str-url.result.now (string_bytes c.args.pull.url) c.as_str-mirror.ensures.value c.in-Ok.ensures.work c.as_str-url.ensures.value
     c.pull_folder.ensures.done
 

@@ -2,7 +2,7 @@ use Rattle.std.proofs.Common.{subst}
 use Rattle.repo_store.specs.Changes.{IsTaken, IsBroken}
 use Rattle.repo_store.specs.Words.{disk_of, repository_of, revisions_of, entry_in}
 use Rattle.sync_core.specs.Calls.{call_of}
-use Rattle.sync_job.proofs.Devices.{asked_broken, asked_unstaged, asked_written}
+use Rattle.sync_job.proofs.Devices.{asked_broken, asked_unstaged, asked_written, full_broken, full_unstaged}
 use Rattle.sync_job.proofs.Made.{entry_made, first_taken}
 use Rattle.sync_job.proofs.Stores.{not_staged, written, doubtful}
 use Rattle.sync_job.proofs.alone.AloneMirror.write.Goals as goal
@@ -30,3 +30,9 @@ stage-requires-clause-made g c = entry_made (revisions_of c.args.self.now.store)
 
 pub returns-in-Ok-install-clause-first : goal.returns-in-Ok-install-clause-first
 returns-in-Ok-install-clause-first g c = λ trees f. first_taken (repository_of c.args.self.now.store) (repository_of c.stage.new.store) (repository_of c.install.new.self) (entry_in c.in-Ok.staged) trees c.in-Ok.ensures.stages.stays.repository c.in-Ok-install.ensures.installed.made f
+
+pub returns-in-Err-clause-full : goal.returns-in-Err-clause-full
+returns-in-Err-clause-full g c = full_unstaged c.args.self.now.store c.stage.new.store (call_of c.args.call.now) c.args.entry _ c.in-Err.fault c.fault_of.result c.requires.planned.entry c.in-Err.ensures.stages c.fault_of.ensures
+
+pub returns-in-Err-install-clause-full : goal.returns-in-Err-install-clause-full
+returns-in-Err-install-clause-full g c = full_broken c.args.self.now.store c.stage.new.store c.install.new.self (call_of c.args.call.now) _ c.in-Err-install.fault c.fault_of-in-Err-install.result c.in-Err-install.ensures.installed c.fault_of-in-Err-install.ensures

@@ -1,8 +1,10 @@
 use Rattle.std.proofs.Common.{ap, map, refl}
 use Rattle.sync_core.specs.Deeds.{AsksLatest}
 use Rattle.sync_job.specs.Said.{spoken}
-use Rattle.sync_job.specs.Words.{calls_of, mirror_of}
+use Rattle.sync_job.specs.Words.{calls_of, master_of, mirror_of}
 use Rattle.sync_job.proofs.Telling.{asks_master, says_none}
+use Rattle.sync_job.proofs.Questions.{answers_none, answers_question}
+use Rattle.sync_job.specs.Questions.{Latest}
 use Rattle.sync_job.proofs.ports.JobPorts.latest.Goals as goal
 
 pub returns-then-is_err-clause-asked : goal.returns-then-is_err-clause-asked
@@ -12,3 +14,11 @@ pub returns-clause-asked : goal.returns-clause-asked
 returns-clause-asked g c =
     asks_master g.N.MirrorPort.asked (mirror_of c.args.self.now) AsksLatest _ c.latest_answer-answer.result c.twice-first.result.0 c.twice-first.result.1 c.args.self.now.calls.items c.reserve.new.self.items c.push_reserved.new.self.items
     tt refl c.latest_answer-answer.ensures.other c.twice-first.ensures.same c.twice-first.ensures.answer c.reserve.ensures.items c.push_reserved.ensures.items
+
+pub returns-then-is_err-clause-answered : goal.returns-then-is_err-clause-answered
+returns-then-is_err-clause-answered g c = answers_none g.M.MasterPort.answered (master_of c.args.self.now) (master_of c.args.self.now) (calls_of c.args.self.now) _ refl (ap (map spoken) c.reserve.ensures.items)
+
+pub returns-clause-answered : goal.returns-clause-answered
+returns-clause-answered g c =
+    answers_question g.M.MasterPort.answered (master_of c.args.self.now) (master_of c.args.self.now) c.latest.new.self (Latest c.latest.result) _ c.latest_answer-answer.result c.twice-first.result.0 c.twice-first.result.1 c.args.self.now.calls.items c.reserve.new.self.items c.push_reserved.new.self.items
+    refl c.latest.ensures.answered refl c.latest_answer-answer.ensures.told c.twice-first.ensures.same c.twice-first.ensures.answer c.reserve.ensures.items c.push_reserved.ensures.items

@@ -1,0 +1,8 @@
+use Rattle.std.proofs.Common.{refl}
+use Rattle.repo_store.specs.Words.{repository_of}
+use Rattle.sync_job.specs.Questions.{FetchProps}
+use Rattle.sync_job.proofs.Answering.{answered_so}
+use Rattle.sync_job.proofs.held.HeldMasterMasterPort.fetch_props.Goals as goal
+
+pub returns-clause-answered : goal.returns-clause-answered
+returns-clause-answered g c = λ first made h. answered_so (λ a. repository_of a.store) c.args.self.now c.args.self.now first made (FetchProps c.args.number c.props_of.result) refl h c.props_of.ensures.answered
