@@ -19,29 +19,39 @@ toy() {
     PATH=$work/fake:$PATH "$1/tools/built" "$1" && "$1/tools/release" && rm -r "$1/crates/svnfleet/out"
 }
 
-# The stand-in for rt tells what it was called with in $work/called, and builds the program by copying it. Where a file
-# $work/refuses names a crate it doesn't prove that, and with a file $work/forgets it keeps nothing.
+# The stand-in for rt tells what it was called with in $work/called, and what it found in $work/seen, and builds the program
+# by copying it. Where a file $work/refuses names a crate it doesn't prove that; with a file $work/forgets it keeps nothing,
+# with $work/old it has no `rt ci NAME`, and what $work/meanwhile says is done while it builds the program.
 mkdir -p "$work/fake"
 cat >"$work/fake/rt" <<END
 #!/bin/sh
-echo "\$(basename "\$PWD") \$* jobs=\${RT_JOBS:-}" >>"$work/called"
+called() { echo "\$*" >>"$work/called"; }
+proves() { sleep 0.3; called "ended \$1"; ! grep -qx "\$1" "$work/refuses" 2>/dev/null || { echo "rt: \$1 NOT PROVED"; exit 1; }; }
 keeps=', and that is kept'
 [ ! -e "$work/forgets" ] || keeps=
+crate=\$(basename "\$PWD")
 case "\$1 \${2:-}" in
---help*) echo '  rt ci NAME..  some crates' ;;
+--help*) [ -e "$work/old" ] || echo '  rt ci NAME..  some crates' ;;
 version*) echo 'stand-in' ;;
 'ci '?*)
-    sleep 0.3
-    echo "ended \$2" >>"$work/called"
-    if grep -qx "\$2" "$work/refuses" 2>/dev/null; then echo "rt: \$2 NOT PROVED"; exit 1; fi
+    called "ci \$2 jobs=\${RT_JOBS:-}"
+    find . >"$work/seen"
+    proves "\$2"
     echo "rt: \$2 and the crates below passed\$keeps"
     ;;
 'ci ')
+    called 'ci'
     mkdir -p crates/svnfleet/out
     cp "$program" crates/svnfleet/out/svnfleet
+    [ ! -e "$work/meanwhile" ] || . "$work/meanwhile"
     ;;
-lib*) mkdir -p out/rlib out/incremental ;;
+lib*)
+    called "lib \$crate"
+    proves "\$crate"
+    mkdir -p out/rlib out/incremental
+    ;;
 run*)
+    called 'run'
     mkdir -p out
     cp "$program" out/svnfleet
     ;;
