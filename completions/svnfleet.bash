@@ -1,0 +1,31 @@
+# Completion of svnfleet's words in bash: the commands, the options of each, and folders where one is wanted.
+_svnfleet() {
+    local word=${COMP_WORDS[COMP_CWORD]} before=${COMP_WORDS[COMP_CWORD - 1]} options=
+    COMPREPLY=()
+    if [ "$COMP_CWORD" -eq 1 ]; then
+        options='list canon create load dump mkdir upgrade initialize synchronize copy-revprops info serve fleet --help --version'
+        mapfile -t COMPREPLY < <(compgen -W "$options" -- "$word")
+        return
+    fi
+    case $before in
+    --uuid | -r | --message | --moment | --token | --port | --connections | --workers) return ;;
+    esac
+    case ${COMP_WORDS[1]} in
+    create) options=--uuid ;;
+    dump) options=-r ;;
+    mkdir) options='--message --moment' ;;
+    synchronize) options='--steal-lock --token' ;;
+    copy-revprops) options='-r --token' ;;
+    serve) options='--port --connections' ;;
+    fleet) options=--workers ;;
+    list | canon | load | upgrade | initialize | info) ;;
+    *) return ;;
+    esac
+    if [ "${word:0:1}" = - ]; then
+        mapfile -t COMPREPLY < <(compgen -W "$options --help" -- "$word")
+    elif [ "${COMP_WORDS[1]}" != list ] && [ "${COMP_WORDS[1]}" != canon ]; then
+        compopt -o filenames 2>/dev/null
+        mapfile -t COMPREPLY < <(compgen -d -- "$word")
+    fi
+}
+complete -F _svnfleet svnfleet
