@@ -17,7 +17,7 @@ typed() {
 pages=$work/pages
 mkdir "$pages" "$pages/bin" && cd "$pages" || exit 1
 ln -s "$program" svnfleet
-ln -s "$top/crates" "$top/examples" .
+ln -s "$top/release" "$top/examples" .
 if ! command -v uuidgen >/dev/null 2>&1; then
     printf '#!/bin/sh\ncat /proc/sys/kernel/random/uuid\n' >bin/uuidgen && chmod +x bin/uuidgen
 fi
