@@ -24,16 +24,15 @@ sources_of() (
     LC_ALL=C
     export LC_ALL
     lines=$(crates_of "$1") && cd -- "$1" || exit 1
-    set -- crates.txt
+    set --
     for crate in $(printf '%s\n' "$lines" | sed 's/[ :].*//'); do
         for part in src specs proofs c; do
             [ ! -d "crates/$crate/$part" ] || set -- "$@" "crates/$crate/$part"
         done
     done
-    shift
     [ ! -e HANDLES ] || set -- "$@" HANDLES
-    sums=$(find "$@" ! -type d -exec sha256sum {} +) || exit 1
-    printf '%s\n' "$lines" "$sums" | sort | sum_of /dev/stdin
+    [ $# -gt 0 ] && sums=$(find "$@" ! -type d -exec sha256sum {} +) || exit 1
+    printf '%s\n' "$lines" "$sums" | sort | sha256sum | cut -c 1-64
 )
 
 # sum_of FILE: its SHA-256.
