@@ -18,20 +18,24 @@ crates_of() {
         }' "$1/crates.txt"
 }
 
+# parts_of FOLDER: where the sources of these crates are, and HANDLES, as paths below that folder.
+parts_of() {
+    for crate in $(crates_of "$1" | sed 's/[ :].*//'); do
+        for part in src specs proofs c; do
+            [ ! -d "$1/crates/$crate/$part" ] || echo "crates/$crate/$part"
+        done
+    done
+    [ ! -e "$1/HANDLES" ] || echo HANDLES
+}
+
 # sources_of FOLDER: the sum of what the program is built of: those lines, HANDLES, and the names and bytes of these
 # crates' files in src, specs, proofs and c. Tests, edits, pages and scripts aren't part of it.
 sources_of() (
     LC_ALL=C
     export LC_ALL
-    lines=$(crates_of "$1") && cd -- "$1" || exit 1
-    set --
-    for crate in $(printf '%s\n' "$lines" | sed 's/[ :].*//'); do
-        for part in src specs proofs c; do
-            [ ! -d "crates/$crate/$part" ] || set -- "$@" "crates/$crate/$part"
-        done
-    done
-    [ ! -e HANDLES ] || set -- "$@" HANDLES
-    [ $# -gt 0 ] && sums=$(find "$@" ! -type d -exec sha256sum {} +) || exit 1
+    lines=$(crates_of "$1") && parts=$(parts_of "$1") && [ -n "$parts" ] && cd -- "$1" || exit 1
+    # (names of crates have no blanks)
+    sums=$(find $parts ! -type d -exec sha256sum {} +) || exit 1
     printf '%s\n' "$lines" "$sums" | sort | sha256sum | cut -c 1-64
 )
 
