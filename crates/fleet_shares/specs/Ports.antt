@@ -9,9 +9,9 @@ use Rattle.fleet_shares.specs.declared.master.SharedMaster.{SharedMaster}
 abbrev pub IsNowhere : Origin → Type 0
 IsNowhere o = ⊥
 
--- nothing is said of all that it answers
-abbrev pub SaysNothing : List Exchange → Type 0
-SaysNothing made = Unit {0}
+-- since it was as the first, it was asked these; nothing is said of its answers
+pub record SaysNothing {R L D : Type 0} {r : _} {g : _} (now first : SharedMaster R L D r g) (made : List Exchange) : Type 0 where
+  pub nothing : Unit {0}
 
 -- the reader's seat
 abbrev pub seat_of : {R L D : Type 0} {r : _} {g : _} → SharedMaster R L D r g → ReaderSeat L r

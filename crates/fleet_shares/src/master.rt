@@ -52,16 +52,16 @@ impl<R: Wait, L: RowName, D: Disk> MasterPort for SharedMaster<'_, R, L, D> {
     ghost is_at = { λ _ o. IsNowhere o };
 
     // Nor is anything said of all that it answers.
-    ghost answered = { λ _ _ made. SaysNothing made };
+    ghost answered = { λ now first made. SaysNothing now first made };
 
-    ghost unasked = { λ _. tt };
+    ghost unasked = { λ _. record { nothing = tt } };
 
     fn identity(&mut self, alloc: Global) -> Result<PropValue, MasterFault>
         ensures seat { seat_of self.new ≡ seat_of self.old }
         ensures refused { IfErr result (λ f. f ≡ fault.Refused refusal.OutOfMemory) }
         ensures value { IsTrue IsNowhere IsNowhere (λ o. IfOk result (λ v. v ≡ o.identity)) }
-        ensures answered { (first : _) (made : List Exchange) → SaysNothing made
-            → SaysNothing (made ++ Identity result ∷ []) }
+        ensures answered { (first : _) (made : List Exchange) → SaysNothing self.old first made
+            → SaysNothing self.new first (made ++ Identity result ∷ []) }
     {
         match identity_text(alloc, self.share.identity(self.rt)) {
             Ok(text) => Ok(text),
@@ -77,8 +77,8 @@ impl<R: Wait, L: RowName, D: Disk> MasterPort for SharedMaster<'_, R, L, D> {
         ensures kept { (r : _) → r ≤ seen_by (seat_of self.old)
             → known_by (seat_of self.new) r ≡ known_by (seat_of self.old) r }
         ensures value { IsTrue IsNowhere IsNowhere (λ o. IfOk result (λ n. n ≡ length o.trees - 1)) }
-        ensures answered { (first : _) (made : List Exchange) → SaysNothing made
-            → SaysNothing (made ++ Latest result ∷ []) }
+        ensures answered { (first : _) (made : List Exchange) → SaysNothing self.old first made
+            → SaysNothing self.new first (made ++ Latest result ∷ []) }
     {
         Ok(self.share.latest(self.rt, &mut self.seat))
     }
@@ -103,8 +103,8 @@ impl<R: Wait, L: RowName, D: Disk> MasterPort for SharedMaster<'_, R, L, D> {
             (λ o. take number o.trees ≡ trees.now → IfOk result
             (λ r. MakesTree o number r.set × (map_at o (moment_of o) number ≡ Some r.props))) }
         ensures tree { IfOk result (λ r. IfSome r.tree (Makes trees.now r.set)) }
-        ensures answered { (first : _) (made : List Exchange) → SaysNothing made
-            → SaysNothing (made ++ Fetch number trees.now result ∷ []) }
+        ensures answered { (first : _) (made : List Exchange) → SaysNothing self.old first made
+            → SaysNothing self.new first (made ++ Fetch number trees.now result ∷ []) }
     {
         let _ = trees;
         match self.share.fetch(self.rt, alloc, &mut self.seat, number) {
@@ -120,8 +120,8 @@ impl<R: Wait, L: RowName, D: Disk> MasterPort for SharedMaster<'_, R, L, D> {
             ⊎ (f ≡ fault.Refused refusal.OutOfMemory)) }
         ensures value { IsTrue IsNowhere IsNowhere
             (λ o. IfOk result (λ p. map_at o (moment_of o) number ≡ Some p)) }
-        ensures answered { (first : _) (made : List Exchange) → SaysNothing made
-            → SaysNothing (made ++ FetchProps number result ∷ []) }
+        ensures answered { (first : _) (made : List Exchange) → SaysNothing self.old first made
+            → SaysNothing self.new first (made ++ FetchProps number result ∷ []) }
     {
         match self.share.fetch_props(self.rt, number) {
             Ok(props) => Ok(props),

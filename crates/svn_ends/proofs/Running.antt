@@ -10,7 +10,7 @@ use Rattle.sync_job.specs.Said.{Spoken}
 use Rattle.mirror_engines.proofs.Bringing.{unknown_serves}
 use Rattle.svn_ends.specs.Runs.{RunsAt, Unmet, Met, RunsOver, Unopened, Ran}
 
-pub over : {R C D O : Type 0} {g : InputGhosts R} {h : OutputGhosts C} {G : Ghosts D} (url : List ℕ) (input : R) (commands : C) (contents : O → Option (List ℕ)) (failures : O → ℕ) (IsRun : List Spoken → Result (Unit {0}) SyncFault → Type 0) (old new : RepoStore D G) (before now : O) (result : Result (Unit {0}) Refusal)
-    → RunsAt {g = g} {h = h} url input commands contents failures IsRun old new before now result → RunsOver contents failures IsRun old new before now result
-over url input commands contents failures IsRun old new before now result (Unmet e is why same out) = Unopened e is why same out
-over url input commands contents failures IsRun old new before now result (Met port opened s) = Ran (unknown_serves _ port IsRun old new _ _ _ result s)
+pub over : {R C D O : Type 0} {G : Ghosts D} (g : InputGhosts R) (h : OutputGhosts C) (url : List ℕ) (input : R) (commands : C) (contents : O → Option (List ℕ)) (failures : O → ℕ) (IsRun : List Spoken → Result (Unit {0}) SyncFault → Type 0) (old new : RepoStore D G) (before now : O) (result : Result (Unit {0}) Refusal)
+    → RunsAt g h url input commands contents failures IsRun old new before now result → RunsOver contents failures IsRun old new before now result
+over g h url input commands contents failures IsRun old new before now result (Unmet e is why same out) = Unopened e is why same out
+over g h url input commands contents failures IsRun old new before now result (Met port opened s) = Ran (unknown_serves _ port IsRun old new _ _ _ result s)

@@ -31,9 +31,9 @@ pub data RunsOver {D O : Type 0} {G : Ghosts D} (contents : O → Option (List �
   Ran : Serves unknown tt IsRun old new (contents before) (contents now) (Rose (failures before) (failures now)) result → RunsOver contents failures IsRun old new before now result
 
 -- the same where the session's input and output are known: what the master answered in the run is what the session's calls answered
-pub data RunsAt {R C D O : Type 0} {g : InputGhosts R} {h : OutputGhosts C} {G : Ghosts D} (url : List ℕ) (input : R) (commands : C) (contents : O → Option (List ℕ)) (failures : O → ℕ) (IsRun : List Spoken → Result (Unit {0}) SyncFault → Type 0) (old new : RepoStore D G) (before now : O) (result : Result (Unit {0}) Refusal) : Type 0 where
-  Unmet : (e : Refusal) → result ≡ Err e → (e ≡ refusal.OutOfMemory) ⊎ ((f : ClientFault) × TellsMaster f e) → new ≡ old → now ≡ before → RunsAt url input commands contents failures IsRun old new before now result
-  Met : (port : ClientPort R C g h) → IsOpened url input commands port → Serves answered_by port IsRun old new (contents before) (contents now) (Rose (failures before) (failures now)) result → RunsAt url input commands contents failures IsRun old new before now result
+pub data RunsAt {R C D O : Type 0} {G : Ghosts D} (g : InputGhosts R) (h : OutputGhosts C) (url : List ℕ) (input : R) (commands : C) (contents : O → Option (List ℕ)) (failures : O → ℕ) (IsRun : List Spoken → Result (Unit {0}) SyncFault → Type 0) (old new : RepoStore D G) (before now : O) (result : Result (Unit {0}) Refusal) : Type 0 where
+  Unmet : (e : Refusal) → result ≡ Err e → (e ≡ refusal.OutOfMemory) ⊎ ((f : ClientFault) × TellsMaster f e) → new ≡ old → now ≡ before → RunsAt g h url input commands contents failures IsRun old new before now result
+  Met : (port : ClientPort R C g h) → IsOpened url input commands port → Serves answered_by port IsRun old new (contents before) (contents now) (Rose (failures before) (failures now)) result → RunsAt g h url input commands contents failures IsRun old new before now result
 
 -- the same over a connection, which may not come about
 pub data RunsFrom {D O : Type 0} {G : Ghosts D} (contents : O → Option (List ℕ)) (failures : O → ℕ) (IsRun : List Spoken → Result (Unit {0}) SyncFault → Type 0) (old new : RepoStore D G) (before now : O) (result : Result (Unit {0}) Refusal) : Type 0 where

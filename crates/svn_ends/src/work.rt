@@ -81,8 +81,8 @@ pub fn run_work_over<D: Disk + Drop, I: Input + Drop, C: Output + Drop, O: Outpu
     work: Work,
     output: O,
 ) -> (RepoStore<D>, O, Result<(), Refusal>)
-    ensures ran { RunsAt {g = I.Input} {h = C.Output} url.now input commands O.contents O.failures (IsWorked work) mirror result.0
-        output result.1 result.2 }
+    ensures ran { RunsAt I.Input C.Output url.now input commands O.contents O.failures (IsWorked work) mirror
+        result.0 output result.1 result.2 }
     ensures unfailed { OnOk result.2 (O.failures result.1 ≡ O.failures output) }
     ensures peer { IfErr result.2 (λ e. e ≡ Refusal.PeerFailed → Rose (O.failures output) (O.failures result.1)) }
 {
