@@ -26,6 +26,8 @@ mod range_tests;
 #[cfg(test)]
 mod refusal_tests;
 #[cfg(test)]
+mod road_tests;
+#[cfg(test)]
 mod seat_tests;
 #[cfg(test)]
 mod served_tests;

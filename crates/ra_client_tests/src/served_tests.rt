@@ -34,8 +34,8 @@ fn log(rt: &impl Abort, alloc: Global) -> Props {
     props
 }
 
-// Commits a set with a log.
-fn commit(rt: &impl Abort, alloc: Global, repo: &mut Repo, set: ChangeSet) {
+/// Commits a set with a log.
+pub(crate) fn commit(rt: &impl Abort, alloc: Global, repo: &mut Repo, set: ChangeSet) {
     let head = repo.head();
     let _number = repo
         .commit(alloc, head, set, log(rt, alloc), None)

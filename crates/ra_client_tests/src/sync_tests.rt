@@ -67,12 +67,12 @@ fn told_of(rt: &impl Abort, alloc: Global, answer: Result<(), SyncFault>) -> (u8
     }
 }
 
-fn url(rt: &impl Abort, alloc: Global) -> PropValue {
+pub(crate) fn url(rt: &impl Abort, alloc: Global) -> PropValue {
     let bytes = Vec::from_slice(alloc, b"svn://127.0.0.1:3690/").expect(rt, "memory");
     PropValue::new(bytes).expect(rt, "a property's value")
 }
 
-fn token(rt: &impl Abort, alloc: Global) -> Token {
+pub(crate) fn token(rt: &impl Abort, alloc: Global) -> Token {
     let bytes = Vec::from_slice(alloc, b"job").expect(rt, "memory");
     Token::new(bytes).expect(rt, "a token")
 }

@@ -1,5 +1,5 @@
 -- A revision of a repository may be heard.
-use Rattle.std.proofs.Common.{◌≡◌, ℕ, List, [], Option, Some, None, take, refl, sym, ap, subst, ◌∙◌}
+use Rattle.std.proofs.Common.{◌≡◌, ℕ, List, [], Option, Some, None, take, sym, ap, subst, ◌∙◌}
 use Rattle.std.specs.Prelude.{IsSomeAnd, slice_get}
 use Rattle.std.specs.Option.{option_map, option_map_or}
 use Rattle.std.specs.FinMap as finite

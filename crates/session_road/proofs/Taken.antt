@@ -1,5 +1,5 @@
 -- A range is heard revision by revision.
-use Rattle.std.proofs.Common.{◌≡◌, ◌≤◌, ◌<◌, ℕ, suc, ◌+◌, ◌-◌, Bool, List, [], ◌∷◌, ◌++◌, Option, Some, None, Result, Ok, Err, inl, refl, sym, ap, subst, ◌∙◌, length, length-append, append_assoc, take, arith}
+use Rattle.std.proofs.Common.{◌≡◌, ◌≤◌, ◌<◌, ℕ, suc, ◌+◌, ◌-◌, Bool, List, [], ◌∷◌, ◌++◌, Option, Some, None, Result, Ok, Err, inl, refl, sym, ap, subst, ◌∙◌, length, length-append, take, arith}
 use Rattle.std.specs.Prelude.{IsSomeAnd, MatchResult, OnOk, IfErr}
 use Rattle.std.specs.Option.{option_map}
 use Rattle.std.specs.FinMap as finite
@@ -12,7 +12,6 @@ use Rattle.dump_load.specs.declared.change.Change.{Change}
 use Rattle.dump_load.specs.declared.load.Applied.{Applied}
 use Rattle.dump_load.specs.Effect.{effect}
 use Rattle.editor_ends.specs.Drive.{drive}
-use Rattle.edit_road.specs.Sent.{MayBeSent}
 use Rattle.ra_edit.specs.Commands.{edit_bytes}
 use Rattle.ra_edit.specs.EditLaws.{WrittenIsTaken, WrittenComes}
 use Rattle.ra_item.specs.Items.{spell}
@@ -30,9 +29,8 @@ use Rattle.ra_serve.proofs.Ranges.{both_there}
 use Rattle.ra_client.specs.Faults.{number_of}
 use Rattle.ra_client.specs.Said.{same, authorised_said, done_said, revprops_said}
 use Rattle.ra_client.specs.Steps.{TakesItem, TakesEdit, counts_of, IsLater}
-use Rattle.ra_client.specs.Telling.{IsToCome, IsExcused, IsRevision}
+use Rattle.ra_client.specs.Telling.{IsToCome, IsRevision}
 use Rattle.ra_client.specs.declared.fault.ClientFault.{ClientFault}
-use Rattle.ra_client.specs.declared.fault.ClientFault.TheVariants as fault
 use Rattle.ra_client.proofs.Carried.{to_come_behind, match_more, excused_more, carry_item, carry_edit, authorised_fits, done_fits}
 use Rattle.ra_client.proofs.Fair.{fails_later}
 use Rattle.ra_client.proofs.Fitting.{revprops_fit}

@@ -1,2 +1,3 @@
 pub mod Ranges
+pub mod Served
 pub mod Told

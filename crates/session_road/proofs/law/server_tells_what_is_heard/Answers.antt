@@ -1,12 +1,9 @@
-use Rattle.std.proofs.Common.{◌≡◌, ◌++◌, ℕ, zero, suc, ◌+◌, ◌-◌, None, refl, ap, sym, ◌∙◌, append_assoc, arith}
+use Rattle.std.proofs.Common.{◌≡◌, ◌++◌, ℕ, zero, suc, ◌+◌, ◌-◌, refl, ap, ◌∙◌, append_assoc, arith}
 use Rattle.std.proofs.lemmas.List.{append-nil}
-use Rattle.std.specs.List.{range_with_len}
 use Rattle.ra_item.specs.Items.{spell}
-use Rattle.repo_core.specs.Repository.{Repository, trees_of, head_of, props_at}
-use Rattle.ra_wire.specs.Commands.{LatestRev, RevProplist, ReplayRange}
-use Rattle.ra_wire.specs.Replies.{authorised, done, proplist, revprops}
-use Rattle.ra_serve.specs.Answers.{edits, edit_of, revision_bytes, unless_due}
-use Rattle.ra_serve.specs.Ports.{no_revision, set_of}
+use Rattle.repo_core.specs.Repository.{Repository, props_at}
+use Rattle.ra_wire.specs.Replies.{authorised, done, revprops}
+use Rattle.ra_serve.specs.Answers.{edits, edit_of, revision_bytes}
 use Rattle.session_road.specs.Told.{revisions_told}
 use Rattle.session_road.proofs.law.server_tells_what_is_heard.Goals as goal
 

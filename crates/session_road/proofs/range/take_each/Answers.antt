@@ -1,4 +1,4 @@
-use Rattle.std.proofs.Common.{◌≡◌, ◌+◌, ◌-◌, suc, ◌∙◌, refl, arith}
+use Rattle.std.proofs.Common.{◌+◌, ◌∙◌, arith}
 use Rattle.session_road.specs.Ranges.{IsRevisionOf, IsRange, HasMore}
 use Rattle.session_road.proofs.Taken.{goes_on, stops, ends}
 use Rattle.session_road.proofs.range.take_each.Goals as goal

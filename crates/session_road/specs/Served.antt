@@ -1,0 +1,81 @@
+-- A repository that is asked over sessions in memory.
+use Rattle.std.specs.Prelude.{◌≡◌, ℕ, true, List, [], ◌∷◌, ◌++◌, Option, None, Ok, codes}
+use Rattle.byte_streams.specs.declared.input.Input.{Ghosts as InputGhosts}
+use Rattle.byte_streams.specs.declared.output.Output.{Ghosts as OutputGhosts}
+use Rattle.fleet_disk.specs.declared.disk.Disk.{Ghosts}
+use Rattle.repo_core.specs.Repository.{Repository}
+use Rattle.repo_store.specs.Words.{disk_of}
+use Rattle.repo_store.specs.declared.store.RepoStore.{RepoStore}
+use Rattle.ra_item.specs.Items.{row, spell, spell_all}
+use Rattle.ra_wire.specs.Commands.{Command}
+use Rattle.ra_wire.specs.Reading.{command_in}
+use Rattle.ra_wire.specs.Replies.{greeting, mechanisms, welcome, done}
+use Rattle.ra_wire.specs.Requests.{hello, anonymous, command_item}
+use Rattle.ra_serve.specs.Answers.{Halt, MayHaltAt, answer}
+use Rattle.ra_serve.specs.Sessions.{identity_text}
+use Rattle.ra_client.specs.Ports.{ends_of, over_of, repository_of}
+use Rattle.ra_client.specs.Telling.{IsToCome}
+use Rattle.ra_client.specs.declared.port.ClientPort.{ClientPort}
+use Rattle.sync_job.specs.Alone.{IsAnsweredBy, IsMasterAt}
+use Rattle.sync_job.specs.Questions.{Exchange, Identity, Latest, Fetch, FetchProps}
+use Rattle.sync_job.specs.Stops.{StopsAsMirror}
+use Rattle.sync_job.specs.Worlds.{IsEvents}
+use Rattle.mirror_engines.specs.Worlds.{stands_in, stands_last}
+use Rattle.session_road.specs.declared.lent_repo.LentRepo.{LentRepo}
+use Rattle.session_road.specs.declared.served.ServedMaster.{ServedMaster}
+
+-- the repository that a port lends
+abbrev pub lent_in : LentRepo → Repository
+lent_in p = p.repo.now
+
+-- the repository that a master serves
+abbrev pub served_in : ServedMaster → Repository
+served_in m = m.repo.now
+
+-- ---- a session with one question
+
+-- the URL that is asked for; no answer hangs on it
+abbrev pub asked_url : List ℕ
+asked_url = codes "svn://127.0.0.1/"
+
+-- what a client says
+abbrev pub words_for : Command → List ℕ
+words_for c = spell_all (row (hello asked_url ∷ anonymous ∷ command_item c ∷ []))
+
+-- what a server tells in front of the answer
+abbrev pub opening_told : Repository → List ℕ
+opening_told x = spell greeting ++ (spell (mechanisms (identity_text x)) ++ (spell done ++ spell (welcome (identity_text x) asked_url)))
+
+-- what it writes of this repository, which it may refuse by itself
+pub record IsSession (x : Repository) (c : Command) (bytes : List ℕ) : Type 0 where
+  pub halt : Option Halt
+  pub lawful : MayHaltAt true x (command_in (command_item c)) halt
+  pub bytes_are : bytes ≡ opening_told x ++ answer true x (command_in (command_item c)) halt
+
+-- a client that has taken the opening before these bytes
+pub record IsOpenBefore {R O : Type 0} {g : InputGhosts R} {h : OutputGhosts O} (x : Repository) (bytes : List ℕ) (port : ClientPort R O g h) : Type 0 where
+  pub identity : (repository_of port).identity ≡ x.identity
+  pub to_come : IsToCome (bytes ++ []) (ends_of port).0
+  pub going : over_of port ≡ None
+
+-- a client that has taken it and is to ask this
+pub record IsAsked {R O : Type 0} {g : InputGhosts R} {h : OutputGhosts O} (x : Repository) (c : Command) (port : ClientPort R O g h) : Type 0 where
+  pub halt : Option Halt
+  pub lawful : MayHaltAt true x (command_in (command_item c)) halt
+  pub before : IsOpenBefore x (answer true x (command_in (command_item c)) halt) port
+
+-- ---- a master that is asked so
+
+-- a question that is answered, is as the repository itself would answer it
+abbrev pub IsHeardOf : Repository → Exchange → Type 0
+IsHeardOf r (Identity (Ok u)) = IsAnsweredBy r (Identity (Ok u))
+IsHeardOf r (Latest (Ok n)) = IsAnsweredBy r (Latest (Ok n))
+IsHeardOf r (Fetch n trees (Ok v)) = IsAnsweredBy r (Fetch n trees (Ok v))
+IsHeardOf r (FetchProps n (Ok p)) = IsAnsweredBy r (FetchProps n (Ok p))
+IsHeardOf r x = Unit {0}
+
+-- a run over a mirror's store, whatever it answers: in every world in which the mirror was one of the repository that is served, it is
+-- one at the end, and so is whatever a stop leaves at any moment of the run and at its end
+pub record IsMirroredBySessions {D : Type 0} {G : Ghosts D} (source : Repository) (old new : RepoStore D G) : Type 0 where
+  pub world : IsEvents (IsMasterAt source) (IsMasterAt source) (stands_in old None) (stands_last new) 0
+  pub stops : StopsAsMirror (IsMasterAt source) (IsMasterAt source) (stands_in old None) 0 G.clock G.left_since (G.honest (disk_of old)) (disk_of old) (disk_of new)
