@@ -1,8 +1,10 @@
 -- A repository that is asked over sessions in memory.
-use Rattle.std.specs.Prelude.{◌≡◌, ℕ, true, List, [], ◌∷◌, ◌++◌, Option, None, Ok, codes}
+use Rattle.std.specs.Prelude.{◌≡◌, ℕ, true, List, [], ◌∷◌, ◌++◌, Option, None, Ok, codes, Result}
+use Rattle.std.specs.List.{AllByRecursion}
 use Rattle.byte_streams.specs.declared.input.Input.{Ghosts as InputGhosts}
 use Rattle.byte_streams.specs.declared.output.Output.{Ghosts as OutputGhosts}
 use Rattle.fleet_disk.specs.declared.disk.Disk.{Ghosts}
+use Rattle.node_base.specs.declared.refusal.Refusal.{Refusal}
 use Rattle.repo_core.specs.Repository.{Repository}
 use Rattle.repo_store.specs.Words.{disk_of}
 use Rattle.repo_store.specs.declared.store.RepoStore.{RepoStore}
@@ -20,7 +22,9 @@ use Rattle.sync_job.specs.Alone.{IsAnsweredBy, IsMasterAt}
 use Rattle.sync_job.specs.Questions.{Exchange, Identity, Latest, Fetch, FetchProps}
 use Rattle.sync_job.specs.Stops.{StopsAsMirror}
 use Rattle.sync_job.specs.Worlds.{IsEvents}
+use Rattle.mirror_engines.specs.Runs.{IsWorked, Serves}
 use Rattle.mirror_engines.specs.Worlds.{stands_in, stands_last}
+use Rattle.mirror_engines.specs.declared.work.Work.{Work}
 use Rattle.session_road.specs.declared.lent_repo.LentRepo.{LentRepo}
 use Rattle.session_road.specs.declared.served.ServedMaster.{ServedMaster}
 
@@ -73,6 +77,16 @@ IsHeardOf r (Latest (Ok n)) = IsAnsweredBy r (Latest (Ok n))
 IsHeardOf r (Fetch n trees (Ok v)) = IsAnsweredBy r (Fetch n trees (Ok v))
 IsHeardOf r (FetchProps n (Ok p)) = IsAnsweredBy r (FetchProps n (Ok p))
 IsHeardOf r x = Unit {0}
+
+-- since such a master was as the first, it was asked this, and is the same
+abbrev pub answered_over : ServedMaster → ServedMaster → List Exchange → Type 0
+answered_over now first made = (now ≡ first) × AllByRecursion (IsHeardOf (served_in first)) made
+
+-- a run of this work over a mirror's store and a master that serves the repository
+pub record IsRunOver {D : Type 0} {G : Ghosts D} (source : Repository) (work : Work) (old new : RepoStore D G) (before now : Option (List ℕ)) (fails : Type 0) (result : Result (Unit {0}) Refusal) : Type 0 where
+  pub master : ServedMaster
+  pub serves : served_in master ≡ source
+  pub run : Serves answered_over master (IsWorked work) old new before now fails result
 
 -- a run over a mirror's store, whatever it answers: in every world in which the mirror was one of the repository that is served, it is
 -- one at the end, and so is whatever a stop leaves at any moment of the run and at its end

@@ -1,6 +1,7 @@
 //! Runs over a mirror's store, whose master is asked over sessions in memory.
 
-ghost use Rattle.session_road.specs.Served.{IsMirroredBySessions};
+ghost use Rattle.byte_streams.specs.Causes.{Rose};
+ghost use Rattle.session_road.specs.Served.{IsMirroredBySessions, IsRunOver};
 
 use crate::served::ServedMaster;
 use byte_streams::Output;
@@ -21,6 +22,8 @@ pub fn run_served<D: Disk + Drop, O: Output + Drop>(
     work: Work,
     output: O,
 ) -> (RepoStore<D>, O, Result<(), Refusal>)
+    ensures ran { IsRunOver source.now work mirror result.0 (O.contents output) (O.contents result.1)
+        (Rose (O.failures output) (O.failures result.1)) result.2 }
     ensures mirrored { IsMirroredBySessions source.now mirror result.0 }
 {
     let master = ServedMaster::new(source);
