@@ -1,4 +1,5 @@
-# The blocks of code in README and in the manual page, run as they stand but for the places that they name.
+# The blocks of code in README, docs/OPERATING.md and the manual page, run as they stand but for the places and ports that
+# they name, and for what only root or another machine can do.
 
 # block_of PAGE WORDS: the block of code in which these words stand
 block_of() {
@@ -8,34 +9,112 @@ block_of() {
         is_in { block = block $0 "\n" }' "$1"
 }
 
+# block_below PAGE HEADING NUMBER: the block of that number below a heading
+block_below() {
+    awk -v heading="## $2" -v number="$3" '
+        /^```/ { is_in = !is_in; if (is_in && here) n++; next }
+        is_in { if (here && n == number) print; next }
+        /^## / { here = $0 == heading; n = 0 }' "$1"
+}
+
+# placed BLOCK: the block with this run's places and port
+placed() {
+    printf '%s\n' "$1" | sed "s|/usr/share/doc/svnfleet/examples|$top/examples|g; s|/usr/local/bin|$pages/bin|g
+        s|/usr/bin/svnfleet|$pages/bin/svnfleet|g; s|/srv/svn|$pages/srv|g; s|/var/lib/svnfleet|$pages/var|g
+        s|/etc/|$pages/etc/|g; s| -o svnfleet||; s|3690|$port|g; s|^[^ ]* \* \* \* \* ||"
+}
+
 # typed BLOCK: what these lines print, where each of them ends well
 typed() {
-    printf '%s\n' "$1" | sed "s|sudo install|install|; s|/usr/local/bin|$pages/bin|; s|/srv/svn/project|$pages/repo|; s|/var/lib/svnfleet|$pages|" >line.sh
+    placed "$1" >line.sh
     PATH="$pages/bin:$PATH" bash -e -o pipefail line.sh >said 2>errors </dev/null
 }
 
+# operated HEADING NUMBER [SED]: runs a block of docs/OPERATING.md, changed by SED, as a check
+operated() {
+    tried=$((tried + 1))
+    check "OPERATING: $1, block $2" typed "$(block_below "$operating" "$1" "$2" | sed "${3:-}")"
+}
+
+# serves HEADING NUMBER: begins a block of docs/OPERATING.md that serves, and waits until it listens
+serves() {
+    tried=$((tried + 1))
+    placed "$(block_below "$operating" "$1" "$2")" | sed 's/^/exec /' >server.sh
+    PATH="$pages/bin:$PATH" bash server.sh >listening 2>errors.server </dev/null &
+    serving=$!
+    for _ in $(seq 100); do grep -q listening listening && break; sleep 0.1; done
+    check "OPERATING: $1, block $2" grep -qx "listening on 127.0.0.1:$port" listening
+}
+
+# committed NAME: commits a directory of that name to the Subversion repository
+committed() {
+    svn mkdir -q -m "$1" "file://$pages/srv/project/$1" 2>warned
+}
+
+# has FOLDER N: whether a folder has revision N
+has() {
+    "$program" dump "$1" -r "$2:$2" >dumped 2>errors </dev/null
+}
+
 pages=$work/pages
-mkdir "$pages" "$pages/bin" && cd "$pages" || exit 1
-ln -s "$program" svnfleet
-ln -s "$top/release" "$top/examples" .
+operating=$top/docs/OPERATING.md
+port=$(python3 -c 'import socket; it = socket.socket(); it.bind(("127.0.0.1", 0)); print(it.getsockname()[1])')
+tried=0
+mkdir -p "$pages/bin" "$pages/srv" "$pages/etc/systemd/system" "$pages/readme" "$pages/manual"
+# What only root can do is told in a file; a tunnel is there already.
+printf '#!/bin/sh\nexec "$@"\n' >"$pages/bin/sudo"
+for it in systemctl useradd ssh; do
+    printf '#!/bin/sh\necho "%s $*" >>"%s/called"\n' "$it" "$pages" >"$pages/bin/$it"
+done
 if ! command -v uuidgen >/dev/null 2>&1; then
-    printf '#!/bin/sh\ncat /proc/sys/kernel/random/uuid\n' >bin/uuidgen && chmod +x bin/uuidgen
+    printf '#!/bin/sh\ncat /proc/sys/kernel/random/uuid\n' >"$pages/bin/uuidgen"
 fi
-svnadmin create repo
-printf 'one\n' >text && svn import -q -m one text "file://$pages/repo/a.txt"
-for i in $(seq 2 16); do svn mkdir -q -m "$i" "file://$pages/repo/$i"; done
+chmod +x "$pages/bin/"*
 
-check 'README: the start' typed "$(block_of "$top/README.md" 'sudo install')"
-check 'README: the start prints the version' grep -q '^svnfleet [0-9]' said
-check 'README: the start loads all' grep -qx 'Loaded revision 16.' said
-check 'README: the start compares' test "$(tail -n 1 said)" = 'the same'
-check 'README: a mirror' typed "$(block_of "$top/README.md" 'svnfleet initialize mirror')"
-check 'README: a mirror is brought up' grep -qx 'Committed revision 16.' said
-check 'README: the line for cron' typed "$(block_of "$top/README.md" '* * * * *' | sed 's/^\(\* \)*//')"
+# ---- README
 
-# what stands before a damaged entry: the text of revision 17
-printf 'two\n' >text && svn import -q -m two text "file://$pages/repo/b.txt"
-svnadmin dump -q --incremental -r 17 repo 2>errors | "$program" load archive >said
+cd "$pages/readme" || exit 1
+ln -s "$top/release" "$top/examples" .
+svnadmin create "$pages/srv/project"
+printf 'one\n' >text && svn import -q -m one text "file://$pages/srv/project/a.txt"
+for i in $(seq 2 16); do committed "$i"; done
+check 'README: an installation' typed "$(block_of "$top/README.md" 'sudo install')"
+check 'README: it prints the version' grep -q '^svnfleet [0-9]' said
+ln -sf "$program" "$pages/bin/svnfleet"
+check 'README: an archive and a mirror' typed "$(block_of "$top/README.md" 'svnfleet create archive')"
+check 'README: it loads all' grep -qx 'Loaded revision 16.' said
+check 'README: it compares' grep -qx 'the same' said
+check 'README: the mirror is brought up' grep -qx 'Committed revision 16.' said
+
+# ---- docs/OPERATING.md
+
+cd "$pages" || exit 1
+operated 'Prepare a machine' 1
+check 'OPERATING: the user is made' grep -qx 'useradd --system svnfleet' called
+operated 'Prepare a machine' 2
+check 'OPERATING: the units have the user' test "$(cat etc/systemd/system/svnfleet-*@.service.d/user.conf | grep -cx User=svn)" -eq 2
+cd "$pages/var" || exit 1
+
+operated 'Begin an archive' 1
+check 'OPERATING: an archive has all' grep -qx 'Loaded revision 16.' said
+for i in 17 18 19 20; do committed $i; done
+operated 'Begin an archive' 2
+check 'OPERATING: it loads the four' test "$(grep -c '^Loaded' said)" -eq 4
+operated 'Begin an archive' 3
+check 'OPERATING: the newest revision' test "$(cat said)" = 'revision 20'
+
+operated 'Feed an archive by a hook' 1
+check 'OPERATING: a commit' committed 21
+check 'OPERATING: the hook archives it' has archive 21
+hook=$pages/srv/project/hooks/post-commit
+mv "$hook" kept
+check 'OPERATING: a commit without the hook' committed 22
+operated 'Feed an archive by a timer' 1
+check 'OPERATING: the timer archives it' has archive 22
+mv kept "$hook"
+
+# the text of the newest revision is damaged
+printf 'two\n' >text && svn import -q -m two text "file://$pages/srv/project/b.txt"
 python3 - archive/journal <<'END'
 import sys
 with open(sys.argv[1], 'r+b') as journal:
@@ -44,36 +123,112 @@ with open(sys.argv[1], 'r+b') as journal:
 END
 entry=$((($(wc -c <archive/slots) - 1) / 25 - 1))
 "$program" dump archive >said 2>errors </dev/null
-check 'README: a damaged entry is told' test "$(cat errors)" = "svnfleet: 33 entry $entry is damaged"
-identity=$(sed -n '3s/^UUID: //p' archive/journal)
+check 'OPERATING: a damaged entry is told' test "$(cat errors)" = "svnfleet: 33 entry $entry is damaged"
+operated 'Damage: status 1 with 33' 1
+check 'OPERATING: the archive is built anew' test "$(tail -n 1 said)" = 'the same'
+tried=$((tried + 1))
+identity=$(sed -n '3s/^UUID: //p' damaged/journal)
 # (the last line of the block is refused, at the damage)
-typed "$(block_of "$top/README.md" 'load new' | sed "s/UUID/$identity/")"
-check 'README: it stops at the damage' test "$(cat errors)" = 'svnfleet: 6 checksum mismatch'
-check 'README: and has what stood before' test "$(tail -n 1 said)" = 'Loaded revision 16.'
-mv archive damaged
-mv mirror README.mirror
-rm -r new
+typed "$(block_below "$operating" 'Damage: status 1 with 33' 2 | sed "s/UUID/$identity/")"
+check 'OPERATING: a load of the journal stops at the damage' test "$(cat errors)" = 'svnfleet: 6 checksum mismatch'
+check 'OPERATING: and has what stood before' test "$(tail -n 1 said)" = 'Loaded revision 22.'
+rm -r damaged new
 
-# the manual page
-svnadmin create small
-for i in $(seq 1 16); do svn mkdir -q -m "$i" "file://$pages/small/$i"; done
-mv repo whole
-mv small repo
+operated 'Begin a mirror' 1
+check 'OPERATING: a mirror is brought up' grep -qx 'Committed revision 23.' said
+operated 'Keep a mirror up by a timer' 1
+check 'OPERATING: the file of the unit' test "$(cat "$pages/etc/svnfleet/mirror")" = SOURCE=archive
+check 'OPERATING: the timer is begun' grep -qx 'systemctl enable --now svnfleet-synchronize@mirror.timer' "$pages/called"
+committed 24
+operated 'Keep a mirror up by a timer' 2
+check 'OPERATING: cron brings the mirror up' has mirror 24
+operated 'Keep a mirror up by a timer' 3
+committed 25
+command=$(sed -n 's/^ExecStart=//p' "$pages/etc/systemd/system/svnfleet-synchronize@mirror.service.d/lock.conf" | sed -n '$s/%i/mirror/p')
+check 'OPERATING: the unit with a lock' env SOURCE=archive sh -c "$command" >lines </dev/null
+check 'OPERATING: it brings the mirror up' grep -qx 'Committed revision 25.' lines
+
+printf 'another message' >text && svnadmin setlog --bypass-hooks -r 5 "$pages/srv/project" text
+serves 'Copy edited log messages' 2
+operated 'Copy edited log messages' 3
+wait $serving
+check 'OPERATING: the server of a message ends well' test $? -eq 0
+operated 'Copy edited log messages' 1
+check 'OPERATING: revision 5 of the mirror' has mirror 5
+check 'OPERATING: it has the message' grep -qx 'another message' dumped
+
+serves 'Serve an archive or a mirror' 1
+operated 'Mirror an archive on another machine' 1
+check 'OPERATING: a mirror over svn:// is brought up' grep -qx 'Committed revision 25.' said
+operated 'Serve an archive or a mirror' 2
+check 'OPERATING: the copy has all' test "$(svnlook youngest "$pages/srv/copy")" -eq 25
+kill $serving
+wait $serving 2>killed
+operated 'Serve an archive or a mirror' 3
+check 'OPERATING: the file of both units' test "$(cat "$pages/etc/svnfleet/mirror")" = "$(printf 'SOURCE=archive\nPORT=%s' "$port")"
+operated 'Serve an archive or a mirror' 4
+check 'OPERATING: the server is begun again' test "$(tail -n 1 "$pages/called")" = 'systemctl start svnfleet-serve@mirror.service'
+
+for mirror in other third; do
+    "$program" create $mirror --uuid $uuid </dev/null
+    "$program" initialize $mirror archive </dev/null >lines
+done
+operated 'Keep several mirrors up at once' 1
+check 'OPERATING: a fleet tells each' test "$(cat said)" = "$(printf 'mirror: head 25\nother: head 25\nthird: head 25')"
+operated 'Build a mirror anew' 1
+check 'OPERATING: the new mirror is brought up' grep -qx 'Committed revision 25.' said
+
+operated 'Compare' 1
+check 'OPERATING: the archive is its repository' grep -qx 'the same' said
+operated 'Compare' 2
+check 'OPERATING: the mirror is its archive' grep -qx 'the same' said
+operated 'Back up and restore' 1
+operated 'Back up and restore' 2
+check 'OPERATING: the restored repository has all' test "$(svnlook youngest "$pages/srv/restored")" -eq 25
+operated 'Back up and restore' 3
+check 'OPERATING: the copied folder is the archive' diff -r archive archive.copy
+operated 'Upgrade' 1
+check 'OPERATING: nothing to upgrade' test "$(cat said)" = "$(printf 'Upgraded 0 entries.\nUpgraded 0 entries.')"
+operated 'Monitor' 1
+check 'OPERATING: no lag' test "$(cat said)" = "$(printf '25\n25')"
+operated 'Monitor' 2
+
+# a text past its limit
+head -c 1048577 /dev/zero >text && svn import -q -m big text "file://$pages/srv/project/big.bin" >warned 2>&1
+check 'OPERATING: a text past its limit is told' grep -q 'svnfleet: 8 limit exceeded' warned
+operated 'Limits' 1
+check 'OPERATING: it is found' test "$(cat said)" = 'revision 26, big.bin: 1048577 bytes'
+operated 'Limits' 2 's/21:22/26:26/'
+check 'OPERATING: its revision is loaded without it' grep -qx 'Loaded revision 26.' said
+committed 27
+check 'OPERATING: the hook goes on' has archive 27
+operated 'Compare' 1
+tried=$((tried - 1))
+check 'OPERATING: the archive is its repository without it' grep -qx 'the same' said
+operated 'Limits' 3
+check 'OPERATING: the unit has a limit' grep -qx 'MemoryMax=1G' "$pages/etc/systemd/system/svnfleet-serve@.service.d/memory.conf"
+check 'OPERATING: each block is tried' test $tried -eq $(($(grep -c '^```' "$operating") / 2))
+
+# ---- the manual page
+
+cd "$pages/manual" || exit 1
+svnadmin create repo
+for i in $(seq 1 16); do svn mkdir -q -m "$i" "file://$PWD/repo/$i"; done
 block=$(block_of "$top/docs/svnfleet.1" 'svnadmin dump -q repo')
 check 'manual: an archive' typed "$(printf '%s\n' "$block" | head -n 2)"
-for i in $(seq 17 20); do svn mkdir -q -m "$i" "file://$pages/repo/$i"; done
+for i in $(seq 17 20); do svn mkdir -q -m "$i" "file://$PWD/repo/$i"; done
 check 'manual: an incremental dump' typed "$(printf '%s\n' "$block" | tail -n 1)"
 check 'manual: it loads the four' test "$(grep -c '^Loaded' said)" -eq 4
 check 'manual: a mirror' typed "$(block_of "$top/docs/svnfleet.1" 'initialize mirror')"
 check 'manual: a mirror is brought up' grep -qx 'Committed revision 20.' said
-port=$(python3 -c 'import socket; it = socket.socket(); it.bind(("127.0.0.1", 0)); print(it.getsockname()[1])')
 "$program" serve archive --port "$port" --connections 2 >lines </dev/null &
 serving=$!
 for _ in $(seq 100); do grep -q listening lines && break; sleep 0.1; done
-check 'manual: a mirror over svn://' typed "$(block_of "$top/docs/svnfleet.1" 'initialize copy' | sed "s/3690/$port/")"
+check 'manual: a mirror over svn://' typed "$(block_of "$top/docs/svnfleet.1" 'initialize copy')"
 check 'manual: it is brought up' grep -qx 'Committed revision 20.' said
 wait $serving
 check 'manual: the server ends well' test $? -eq 0
+identity=$(sed -n '3s/^UUID: //p' archive/journal)
 check 'manual: a journal is loaded' typed "$(block_of "$top/docs/svnfleet.1" 'load new' | sed "s/UUID/$identity/")"
 check 'manual: it has all' grep -qx 'Loaded revision 20.' said
 cd "$work" || exit 1
