@@ -63,7 +63,7 @@ tried=0
 mkdir -p "$pages/bin" "$pages/srv" "$pages/etc/systemd/system" "$pages/readme" "$pages/manual"
 # What only root can do is told in a file; a tunnel is there already.
 printf '#!/bin/sh\nexec "$@"\n' >"$pages/bin/sudo"
-for it in systemctl useradd ssh; do
+for it in systemctl useradd chown ssh; do
     printf '#!/bin/sh\necho "%s $*" >>"%s/called"\n' "$it" "$pages" >"$pages/bin/$it"
 done
 if ! command -v uuidgen >/dev/null 2>&1; then
@@ -124,12 +124,12 @@ END
 entry=$((($(wc -c <archive/slots) - 1) / 25 - 1))
 "$program" dump archive >said 2>errors </dev/null
 check 'OPERATING: a damaged entry is told' test "$(cat errors)" = "svnfleet: 33 entry $entry is damaged"
-operated 'Damage: status 1 with 33' 1
+operated 'Refusal 33: damage' 1
 check 'OPERATING: the archive is built anew' test "$(tail -n 1 said)" = 'the same'
 tried=$((tried + 1))
 identity=$(sed -n '3s/^UUID: //p' damaged/journal)
 # (the last line of the block is refused, at the damage)
-typed "$(block_below "$operating" 'Damage: status 1 with 33' 2 | sed "s/UUID/$identity/")"
+typed "$(block_below "$operating" 'Refusal 33: damage' 2 | sed "s/UUID/$identity/")"
 check 'OPERATING: a load of the journal stops at the damage' test "$(cat errors)" = 'svnfleet: 6 checksum mismatch'
 check 'OPERATING: and has what stood before' test "$(tail -n 1 said)" = 'Loaded revision 22.'
 rm -r damaged new
@@ -187,6 +187,9 @@ operated 'Back up and restore' 2
 check 'OPERATING: the restored repository has all' test "$(svnlook youngest "$pages/srv/restored")" -eq 25
 operated 'Back up and restore' 3
 check 'OPERATING: the copied folder is the archive' diff -r archive archive.copy
+operated 'List and rewrite dumps' 1
+check 'OPERATING: a listing' test "$(sed -n 1p project.list)" = 'revision 25'
+check 'OPERATING: a dump of one spelling' test "$(tail -n +4 project.dump | sha256sum)" = "$(tail -n +4 archive.dump | sha256sum)"
 operated 'Upgrade' 1
 check 'OPERATING: nothing to upgrade' test "$(cat said)" = "$(printf 'Upgraded 0 entries.\nUpgraded 0 entries.')"
 operated 'Monitor' 1
