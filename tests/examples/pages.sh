@@ -197,7 +197,7 @@ check 'OPERATING: no lag' test "$(cat said)" = "$(printf '25\n25')"
 operated 'Monitor' 2
 
 # a text past its limit
-head -c 1048577 /dev/zero >text && svn import -q -m big text "file://$pages/srv/project/big.bin" >warned 2>&1
+head -c 1048577 /dev/zero >text && svn import -m big text "file://$pages/srv/project/big.bin" >warned 2>&1
 check 'OPERATING: a text past its limit is told' grep -q 'svnfleet: 8 limit exceeded' warned
 operated 'Limits' 1
 check 'OPERATING: it is found' test "$(cat said)" = 'revision 26, big.bin: 1048577 bytes'
