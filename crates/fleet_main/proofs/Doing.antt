@@ -4,7 +4,7 @@ use Rattle.std.specs.Result.{OnOk, OnErr}
 use Rattle.std.specs.List.{filter}
 use Rattle.std.specs.Io.KnownBytes.{Appends, Keeps as HandedOn}
 use Rattle.std.proofs.lemmas.Bool.{true≢false}
-use Rattle.jiff.specs.Types.{DateTime}
+use Rattle.jiff_core.specs.declared.civil.datetime.DateTime.{DateTime}
 use Rattle.dump_text.specs.Streams.{dump, records_of}
 use Rattle.fleet_disk.specs.Image.{Image, no_bytes}
 use Rattle.fleet_disk.specs.declared.disk.Disk.{Ghosts}

@@ -2,7 +2,7 @@
 use Rattle.std.specs.Prelude.{◌≡◌, ◌≢◌, ◌≤◌, ◌⊎◌, ◌<◌, ℕ, Bool, true, false, List, [], ◌∷◌, length, Option, Some, None, IfSome, Result, Ok, Err, string_bytes}
 use Rattle.std.specs.List.{filter, flat_map}
 use Rattle.std.specs.Io.KnownBytes.{Appends, Keeps as HandedOn}
-use Rattle.jiff.specs.Types.{DateTime}
+use Rattle.jiff_core.specs.declared.civil.datetime.DateTime.{DateTime}
 use Rattle.dump_text.specs.Streams.{dump, records_of}
 use Rattle.fleet_disk.specs.Image.{Image, no_bytes}
 use Rattle.fleet_disk.specs.Rules.{LeavesOnly, Only, Rose}
@@ -77,7 +77,7 @@ pub record OfStanding {F D : Type 0} (G : Ghosts D) (H : FolderGhosts F D) (fold
   pub done : P old new
   pub back : AreBack G H folders later (only_of folder given (disk_of new))
 
--- a store is begun on a disk of two empty files that a folder lent: it has revision 0 alone, with the identity, which a stop leaves
+-- a store is begun on a disk of empty files that a folder lent: it has revision 0 alone, with the identity, which a stop leaves
 pub record IsBegunOn {D : Type 0} (G : Ghosts D) (honest : Type 0) (identity : List ℕ) (given : D) (store : RepoStore D G) : Type 0 where
   pub sound : honest → G.honest given
   pub empty : honest → G.reads given ≡ no_bytes

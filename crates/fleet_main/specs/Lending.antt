@@ -10,7 +10,7 @@ pub data FolderDisk (D : Type 0) : Type 0 where
   Lent : FolderDisk D
   There : D → FolderDisk D
 
--- the disk that a folder lends: the one that is there, or, where it has none yet, two empty files; none is lent twice
+-- the disk that a folder lends: the one that is there, or, where it has none yet, one of empty files; none is lent twice
 abbrev pub IsGiven : {D : Type 0} → Ghosts D → FolderDisk D → D → Type 0
 IsGiven G Missing disk = (G.reads disk ≡ no_bytes) × Only no_bytes (G.may_leave disk)
 IsGiven G Lent disk = ⊥

@@ -23,7 +23,7 @@ pub data WhyUnbegun {D : Type 0} (G : Ghosts D) (honest : Type 0) (given back : 
   begin_no_memory : e ≡ refusal.OutOfMemory → back ≡ given → WhyUnbegun G honest given back e
   there_already : e ≡ refusal.ThereAlready → (honest → G.reads given ≢ no_bytes) → WhyUnbegun G honest given back e
 
--- and what is left of it: one with something on it stays as it was, and of two empty files a stop at any moment leaves no entry, or one that begins the repository
+-- and what is left of it: one with something on it stays as it was, and of one whose files are empty a stop at any moment leaves no entry, or one that begins the repository
 pub record IsUnbegun {D : Type 0} (G : Ghosts D) (honest : Type 0) (identity : List ℕ) (given back : D) (e : Refusal) : Type 0 where
   pub why : WhyUnbegun G honest given back e
   pub stays : honest → G.reads given ≢ no_bytes → Looks G.honest G.reads G.may_leave G.clock G.left_since G.failures given back

@@ -3,7 +3,8 @@ use Rattle.std.proofs.Common.{◌≡◌, ℕ, zero, suc, ◌≤◌, Bool, true, 
 use Rattle.std.specs.Prelude.{slice_get}
 use Rattle.std.specs.Option.{option_map, option_or}
 use Rattle.std.proofs.lemmas.Option.{slice_get-map}
-use Rattle.jiff.proofs.Family.{epoch_day_injective, civil_nanos_injective, time_nanos_injective}
+use Rattle.jiff_core.proofs.DateLemmas.{epoch_day_injective}
+use Rattle.jiff_core.proofs.DateTimeLemmas.{civil_nanos_injective, time_nanos_injective}
 use Rattle.node_base.specs.Props.{PropMap}
 use Rattle.node_base.specs.Tree.{PathMap}
 use Rattle.dump_load.specs.declared.change.Change.{Change}

@@ -3,8 +3,8 @@ use Rattle.std.specs.Prelude.{◌≡◌, ℕ, ◌/◌, false, List, [], ◌∷�
 use Rattle.std.specs.Option.{option_map_or}
 use Rattle.std.specs.Fmt.{decimal, padded_integral, format_spec}
 use Rattle.std.specs.FinMap as map
-use Rattle.jiff.specs.Types.{DateTime}
-use Rattle.jiff.specs.Words.{civil_nanos}
+use Rattle.jiff_core.specs.declared.civil.datetime.DateTime.{DateTime}
+use Rattle.jiff_core.specs.DateTime.{civil_nanos}
 use Rattle.node_base.specs.Props.{PropMap}
 
 -- what a clock at UTC shows so many microseconds after 1970 began

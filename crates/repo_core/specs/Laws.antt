@@ -1,6 +1,6 @@
 -- Laws of repositories, entries and dates.
 use Rattle.std.specs.Prelude.{◌≡◌, ℕ, List, ◌++◌, take, slice_get, Some, None}
-use Rattle.jiff.specs.Types.{DateTime}
+use Rattle.jiff_core.specs.declared.civil.datetime.DateTime.{DateTime}
 use Rattle.dump_load.specs.declared.change.Change.{Change}
 use Rattle.node_base.specs.Tree.{PathMap}
 use Rattle.dump_load.specs.Trees.{Makes}

@@ -2,9 +2,8 @@
 ghost use Rattle.std.specs.Prelude.{◌≡◌, ◌≤◌, ◌↔◌, IsSome, IfSome, IfOk, string_bytes};
 ghost use Rattle.repo_core.specs.Dates.{IsMoment, date_text, day_text, clock_text};
 
-use jiff::Timestamp;
-use jiff::civil::DateTime;
-use jiff::tz::Offset;
+use jiff_core::civil::DateTime;
+use jiff_core::{Offset, Timestamp};
 use std::alloc::{AllocError, Global};
 use std::marker::Model;
 
@@ -18,7 +17,7 @@ pub struct Moment {
 }
 
 impl Model for Moment {
-    ghost use Rattle.jiff.specs.Types.{DateTime};
+    ghost use Rattle.jiff_core.specs.declared.civil.datetime.DateTime.{DateTime};
 
     ghost Value = { DateTime };
 
@@ -37,7 +36,7 @@ impl Moment {
         if micros > LAST_MICROSECOND {
             return None;
         }
-        let moment = Timestamp::from_microsecond(micros as i64).ok()?;
+        let moment = Timestamp::from_nanosecond(micros as i128 * 1_000).ok()?;
         Some(Moment {
             civil: Offset::UTC.to_datetime(moment),
         })
@@ -57,19 +56,16 @@ impl Moment {
 fn day_text(alloc: Global, at: DateTime) -> Result<String, AllocError>
     ensures { IfOk result (λ s. string_bytes s ≡ day_text at) }
 {
-    let year = at.year().unsigned_abs();
-    let month = at.month().unsigned_abs();
-    let day = at.day().unsigned_abs();
-    format!(in alloc; "{year:04}-{month:02}-{day:02}")
+    let date = at.date;
+    let year = date.year.unsigned_abs();
+    format!(in alloc; "{year:04}-{:02}-{:02}", date.month, date.day)
 }
 
 // hh:mm:ss.uuuuuu
 fn clock_text(alloc: Global, at: DateTime) -> Result<String, AllocError>
     ensures { IfOk result (λ s. string_bytes s ≡ clock_text at) }
 {
-    let hour = at.hour().unsigned_abs();
-    let minute = at.minute().unsigned_abs();
-    let second = at.second().unsigned_abs();
-    let micros = at.subsec_nanosecond().unsigned_abs() / 1_000;
-    format!(in alloc; "{hour:02}:{minute:02}:{second:02}.{micros:06}")
+    let time = at.time;
+    let micros = time.subsec_nanosecond / 1_000;
+    format!(in alloc; "{:02}:{:02}:{:02}.{micros:06}", time.hour, time.minute, time.second)
 }

@@ -8,7 +8,7 @@ use Rattle.std.specs.Io.KnownBytes.{Appends}
 use Rattle.std.specs.List.{list_all}
 use Rattle.std.specs.FinMap as map
 use Rattle.std.specs.FinMap.{find, get-entries, get-insert}
-use Rattle.jiff.specs.Types.{DateTime}
+use Rattle.jiff_core.specs.declared.civil.datetime.DateTime.{DateTime}
 use Rattle.node_base.specs.Entries.{Entries}
 use Rattle.node_base.specs.Path.{Name, Path, name_cmp, same_name, names_total}
 use Rattle.node_base.specs.PathText.{path_read}

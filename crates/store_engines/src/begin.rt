@@ -16,7 +16,7 @@ use repo_store::{RepoStore, store_refusal};
 use std::alloc::Global;
 use uuid::Uuid;
 
-/// Begins a repository of revision 0 alone, without properties, on a disk of two empty files; from Ok on a stop leaves
+/// Begins a repository of revision 0 alone, without properties, on a disk of empty files; from Ok on a stop leaves
 /// what keeps it, and its one entry. ThereAlready (35) where a file isn't empty, DeviceFailed (31), OutOfMemory (70).
 /// A refusal hands the disk back: one with something on it as it was.
 pub fn create_store<D: Disk + Drop>(
