@@ -196,6 +196,24 @@ operated 'Monitor' 1
 check 'OPERATING: no lag' test "$(cat said)" = "$(printf '25\n25')"
 operated 'Monitor' 2
 
+# a client of a server makes the archive a mirror
+cp -r archive kept
+"$program" serve archive --port "$port" --connections 1 >listening </dev/null &
+serving=$!
+for _ in $(seq 100); do grep -q listening listening && break; sleep 0.1; done
+svn propset -q --revprop -r 0 svn:sync-from-url x "svn://127.0.0.1:$port/"
+wait $serving
+"$program" load archive >said 2>errors </dev/null
+check 'OPERATING: an archive that was made a mirror is told' test "$(cat errors)" = 'svnfleet: 24 the mirror is read-only'
+identity=$(sed -n '3s/^UUID: //p' archive/journal)
+operated 'Refusal 24 of an archive' 1 "s/UUID/$identity/; s/HEAD/25/"
+check 'OPERATING: the archive is made anew' test "$(tail -n 1 said)" = 'Loaded revision 25.'
+"$program" load archive >said 2>errors </dev/null
+check 'OPERATING: and is one again' sh -c '! grep -q "^svnfleet: 24" errors'
+"$program" dump archive -r 1:25 >archive.dump && "$program" dump kept -r 1:25 >kept.dump
+check 'OPERATING: its revisions are those of before' cmp archive.dump kept.dump
+rm -r archive marked && mv kept archive
+
 # a text past its limit
 head -c 1048577 /dev/zero >text && svn import -m big text "file://$pages/srv/project/big.bin" >warned 2>&1
 check 'OPERATING: a text past its limit is told' grep -q 'svnfleet: 8 limit exceeded' warned
