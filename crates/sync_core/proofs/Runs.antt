@@ -1,14 +1,15 @@
 -- Whole runs.
 use Rattle.std.proofs.Common.{◌≡◌, ◌≢◌, ◌⊎◌, inl, inr, ℕ, zero, suc, ◌<◌, ◌≤◌, Bool, true, false, List, [], ◌∷◌, ◌++◌, length, replicate, slice_get, slice_set, Option, Some, None, is_some, refl, sym, ap, ◌∙◌, subst, arith, le_trans, le_refl, length-append, ◌==◌}
-use Rattle.std.specs.Option.{option_map_or}
+use Rattle.std.specs.Option.{option_map, option_map_or}
 use Rattle.std.specs.FinMap.{get-empty}
+use Rattle.std.proofs.lemmas.Option.{slice_get-map}
 use Rattle.node_base.specs.Path.{name_cmp}
 use Rattle.node_base.specs.Tree.{PathMap}
 use Rattle.dump_load.specs.Trees.{effect_tree}
 use Rattle.repo_core.specs.Repository.{Revision, trees_of, tree_at, root_alone}
 use Rattle.sync_core.specs.Names.{url_name}
-use Rattle.sync_core.specs.World.{Origin, maps_now, IsOrigin, Room, fresh_room, World, Event, MasterCommit, MasterEdit, At, MayBe, room_after, world_after, run, IsRun}
-use Rattle.sync_core.specs.Law.{IsMirrorOf, Holds, IsOpened, Starts, start, FreshStarts, EveryRun, EveryFreshRun, MomentsRise, StaysBlank}
+use Rattle.sync_core.specs.World.{Origin, maps_now, IsOrigin, Room, fresh_room, World, Event, MasterCommit, MasterEdit, At, MayBe, Stop, room_after, stopped, world_after, run, IsRun}
+use Rattle.sync_core.specs.Law.{IsMirrorOf, Holds, IsOpened, Starts, start, FreshStarts, EveryRun, EveryFreshRun, reopened, BeginsAgain, MomentsRise, StaysBlank}
 use Rattle.sync_core.proofs.Lists.{slice_get-stored, slice_get-set_there, slice_get-set_elsewhere, none_isnt, some_is}
 use Rattle.sync_core.proofs.Kept.{Rest, JobsKept, RoomKept, has_url, is_equal, itself}
 use Rattle.sync_core.proofs.Jobs.{jobs-none}
@@ -201,3 +202,33 @@ moments-rise-always w shaped events more is runs i early late a b n =
 
 pub stays-blank : StaysBlank
 stays-blank w shaped events is runs i first last a b h = blank-run w shaped events (kept-start w shaped is) runs i first last a b h
+
+-- a mirror that stops is opened again
+tree_of : (x : List Revision) (t : PathMap) → slice_get (trees_of x) 0 ≡ Some t → tree_at x 0 ≡ Some t
+tree_of [] t e = none_isnt t e
+tree_of (y ∷ x) t e = e
+
+opened-again : (o : Origin) (shaped : Bool) (room : Room) → RoomKept o shaped room → IsOpened o shaped (stopped room)
+opened-again o shaped room kept =
+    let k : RoomKept o shaped (stopped room) = kept-room o shaped room Stop kept tt in
+    record {
+      holds = holds-of o shaped (stopped room) k;
+      root = tree_of room.mirror.revisions root_alone k.revisions.root;
+      few = k.revisions.small;
+      past = k.jobs.past;
+      blank = k.new;
+      jobs = refl;
+      holder = refl;
+    }
+
+starts-again : (w : World) (shaped : ℕ → Bool) → WorldKept w shaped → Starts (reopened w) shaped
+starts-again w shaped k = record { origin = k.origin; rooms = λ i room e. by i room (slice_get w.rooms i) refl (sym (slice_get-map stopped w.rooms i) ∙ e) }
+  where
+    by : (i : ℕ) (room : Room) (s : Option Room) → slice_get w.rooms i ≡ s → option_map stopped (slice_get w.rooms i) ≡ Some room → IsOpened w.origin (shaped i) room
+    by i room None at e = none_isnt room (ap (option_map stopped) (sym at) ∙ e)
+    by i room (Some before) at e =
+        subst (IsOpened w.origin (shaped i)) (some_is (stopped before) room (ap (option_map stopped) (sym at) ∙ e)) (opened-again w.origin (shaped i) before (k.rooms i before at))
+
+pub begins_again : BeginsAgain
+begins_again w shaped [] is runs = is
+begins_again w shaped (events ∷ rest) is runs = begins_again (reopened (run w events)) shaped rest (starts-again (run w events) shaped (kept-run w shaped events (kept-start w shaped is) runs.0)) runs.1

@@ -1,5 +1,5 @@
 -- What holds of every mirror after every list of events.
-use Rattle.std.specs.Prelude.{◌≡◌, ◌≢◌, ℕ, ◌≤◌, Bool, true, false, List, [], ◌++◌, length, take, replicate, slice_get, Some, None, is_some}
+use Rattle.std.specs.Prelude.{◌≡◌, ◌≢◌, ℕ, ◌≤◌, Bool, true, false, List, [], ◌∷◌, ◌++◌, length, map, take, replicate, slice_get, Some, None, is_some}
 use Rattle.std.specs.List.{range_with_len}
 use Rattle.std.specs.FinMap as finite
 use Rattle.node_base.specs.Path.{Name}
@@ -9,7 +9,7 @@ use Rattle.repo_core.specs.Entries.{revisions_after}
 use Rattle.sync_core.specs.Mirror.{fresh, standing_of, IsAtRest, Call, TakeLock, StealLock, Look, unmet, refusal, Missed, commits_of}
 use Rattle.sync_core.specs.declared.need.Need.TheVariants as need
 use Rattle.sync_core.specs.Jobs.{Job, Locked, Lawful}
-use Rattle.sync_core.specs.World.{Origin, IsOrigin, Room, fresh_room, World, Event, moment_of, map_at, job_at, run, IsRun}
+use Rattle.sync_core.specs.World.{Origin, IsOrigin, Room, fresh_room, World, Event, moment_of, map_at, job_at, run, stopped, IsRun}
 
 abbrev pub IsInitialised : Room → Type 0
 IsInitialised room = is_some (standing_of room.mirror.revisions).url ≡ true
@@ -77,6 +77,23 @@ EveryRun = (w : World) (shaped : ℕ → Bool) (events : List Event) → Starts 
 -- so it does from fresh mirrors, with a shape
 abbrev pub EveryFreshRun : Type 0
 EveryFreshRun = (o : Origin) (mirrors : ℕ) (events : List Event) → IsOrigin o → IsRun (start o mirrors) events → (i : ℕ) (room : Room) → IsRoomOf (run (start o mirrors) events) i room → Holds (run (start o mirrors) events).origin true room
+
+-- each mirror has stopped and is opened again
+abbrev pub reopened : World → World
+reopened w = record w { rooms = map stopped w.rooms }
+
+-- lists of events, behind each of which every mirror is opened again
+abbrev pub history : World → List (List Event) → World
+history w [] = w
+history w (events ∷ rest) = history (reopened (run w events)) rest
+
+abbrev pub IsHistory : World → List (List Event) → Type 0
+IsHistory w [] = Unit {0}
+IsHistory w (events ∷ rest) = IsRun w events × IsHistory (reopened (run w events)) rest
+
+-- mirrors that were opened, ran and are opened again are as mirrors that begin, however often
+abbrev pub BeginsAgain : Type 0
+BeginsAgain = (w : World) (shaped : ℕ → Bool) (runs : List (List Event)) → Starts w shaped → IsHistory w runs → Starts (history w runs) shaped
 
 -- the moment of a revision's last copying never falls, however a run goes on
 abbrev pub MomentsRise : Type 0

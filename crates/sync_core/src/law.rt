@@ -7,6 +7,7 @@ ghost use Rattle.sync_core.specs.Going.{EndsWellDone, CommitsInOrder};
 ghost use Rattle.sync_core.specs.Hearing.{AnswersAreHeard, RefusalTellsNothing, JobsGoOn, StopsInFlight};
 ghost use Rattle.sync_core.specs.Holding.{LockIsGiven, HolderIsServed, HolderStays, HolderListens, HolderIsAlone};
 ghost use Rattle.sync_core.specs.Law.{FreshStarts, EveryRun, EveryFreshRun, MomentsRise, StaysBlank, HolderGoesOn};
+ghost use Rattle.sync_core.specs.Law.{BeginsAgain};
 ghost use Rattle.sync_core.specs.Measures.{ComesNearer};
 ghost use Rattle.sync_core.specs.Moves.{CallsMoveNumbers};
 ghost use Rattle.sync_core.specs.Replay.{CallsAreJournalled, CallsJoin};
@@ -25,6 +26,12 @@ pub fn every_run()
     ensures moments { MomentsRise }
     ensures blank { StaysBlank }
     ensures holder { HolderGoesOn }
+{}
+
+/// Mirrors that were opened, whatever happened then, are as mirrors that begin once they have stopped and are opened
+/// again, and so behind any list of runs: what `every_run` says of them goes on.
+pub fn runs_begin_again()
+    ensures { BeginsAgain }
 {}
 
 /// The law speaks of the code's jobs: what a job does by its table may happen, at a stop within its call too, and
