@@ -1,8 +1,9 @@
 //! A store that is made one of the second version.
-ghost use Rattle.std.specs.Prelude.{◌≡◌, ◌≤◌, ◌↔◌, ◌⊎◌, length, IfOk, IfErr};
+ghost use Rattle.std.specs.Prelude.{◌≡◌, ◌≤◌, ◌↔◌, ◌⊎◌, length, IfOk, IfErr, IsErrAnd};
 ghost use Rattle.fleet_disk.specs.Image.{Image};
 ghost use Rattle.fleet_disk.specs.Rules.{LeavesOnly, Rose};
 ghost use Rattle.gate_log.specs.Log.{entries_of, version_of};
+ghost use Rattle.gate_log.specs.Looks.{Looks};
 ghost use Rattle.gate_log.specs.Standing.{Stands};
 ghost use Rattle.gate_log.specs.Version.{IsOf};
 ghost use Rattle.gate_log.specs.declared.version.LogVersion.TheVariants.{First, Second};
@@ -33,7 +34,8 @@ impl<D: Disk> RepoStore<D> {
     /// keeps it, so it may be stopped and made again; from Ok on it leaves the same entries in the second version.
     ///
     /// Failed (32) after a failure of the device, DeviceFailed (31), OutOfMemory (70), and of a disk that isn't honest
-    /// Damaged (33). A refusal hands the disk back, which keeps the repository too.
+    /// Damaged (33). A refusal hands the disk back, which keeps the repository too: at 32 it is the one that was there,
+    /// and at 70 it was looked at alone.
     pub fn upgrade(self, alloc: Global) -> Result<(RepoStore<D>, u64), (StoreFault, D)>
         ensures same { IfOk result (λ done. repository_of done.0 ≡ repository_of self) }
         ensures version { IfOk result (λ done. version_of (log_of done.0) ≡ Second) }
@@ -56,6 +58,9 @@ impl<D: Disk> RepoStore<D> {
             LeavesOnly D.clock D.left_since (disk_of self) e.1 (Keeps (repository_of self))) }
         ensures kept { D.honest (disk_of self) → ¬ HasFailed self → IfErr result (λ e. (image : Image)
             → D.may_leave e.1 image → Keeps (repository_of self) image) }
+        ensures failed_stays { HasFailed self → IsErrAnd result (λ e. e.1 ≡ disk_of self) }
+        ensures looks { IfErr result (λ e. (e.0 ≡ refusal.Log log.DeviceFailed) ⊎ (e.0 ≡ refusal.Log log.Failed)
+            ⊎ Looks D.honest D.reads D.may_leave D.clock D.left_since D.failures (disk_of self) e.1) }
         ensures device { IfErr result (λ e. e.0 ≡ refusal.Log log.DeviceFailed
             → Rose (D.failures (disk_of self)) (D.failures e.1)) }
         ensures failed { IfErr result (λ e. (e.0 ≡ refusal.Log log.Failed) ↔ HasFailed self) }

@@ -7,6 +7,7 @@ use Rattle.fleet_disk.specs.Image.{Image}
 use Rattle.fleet_disk.specs.Rules.{LeavesOnly, Rose}
 use Rattle.fleet_disk.specs.declared.disk.Disk.{Ghosts}
 use Rattle.gate_log.specs.Log.{entries_of, version_of}
+use Rattle.gate_log.specs.Looks.{Looks}
 use Rattle.gate_log.specs.Standing.{Stands}
 use Rattle.gate_log.specs.Version.{IsOf}
 use Rattle.gate_log.specs.declared.fault.LogFault.TheVariants as log
@@ -34,6 +35,15 @@ peer_or_device e = let n : ◌≡◌ {A = ℕ} 49 31 = ap refusal_number e in le
 
 peer_or_failed : refusal.PeerFailed ≡ refusal.Failed → ⊥
 peer_or_failed e = let n : ◌≡◌ {A = ℕ} 49 32 = ap refusal_number e in let no : ⊥ = omega (arith, n) in no
+
+peer_or_memory : refusal.PeerFailed ≡ refusal.OutOfMemory → ⊥
+peer_or_memory e = let n : ◌≡◌ {A = ℕ} 49 70 = ap refusal_number e in let no : ⊥ = omega (arith, n) in no
+
+device_or_memory : refusal.DeviceFailed ≡ refusal.OutOfMemory → ⊥
+device_or_memory e = let n : ◌≡◌ {A = ℕ} 31 70 = ap refusal_number e in let no : ⊥ = omega (arith, n) in no
+
+failed_or_memory : refusal.Failed ≡ refusal.OutOfMemory → ⊥
+failed_or_memory e = let n : ◌≡◌ {A = ℕ} 32 70 = ap refusal_number e in let no : ⊥ = omega (arith, n) in no
 
 -- what an upgrade that is Ok leaves of the disk
 module _ {D : Type 0} {G : Ghosts D} (old new : RepoStore D G) (back : D) (same : back ≡ disk_of new) (both : G.honest (disk_of old) ↔ G.honest (disk_of new)) (later : G.failures (disk_of old) ≤ G.failures (disk_of new))
@@ -65,6 +75,7 @@ module _ {D : Type 0} {G : Ghosts D} (old new : RepoStore D G) (back : D) (same 
     due = λ h. inr (inr (inr peer));
     device = λ d. absurd (peer_or_device (sym peer ∙ d));
     failed = λ d. absurd (peer_or_failed (sym peer ∙ d));
+    looks = λ d. absurd (peer_or_memory (sym peer ∙ d));
     quiet = λ other. absurd (other peer);
     unsaid = λ p. lost;
     done = λ p. left;
@@ -78,17 +89,24 @@ due_of f e is (inl p) = inl (is ∙ ap store_refusal p)
 due_of f e is (inr (inl p)) = inr (inl (is ∙ ap store_refusal p))
 due_of f e is (inr (inr p)) = inr (inr (inl (is ∙ ap store_refusal p)))
 
+looked_at : {P : Type 0} (f : StoreFault) (e : Refusal) → e ≡ store_refusal f → (f ≡ Log log.DeviceFailed) ⊎ (f ≡ Log log.Failed) ⊎ P → e ≡ refusal.OutOfMemory → P
+looked_at f e is (inl p) d = absurd (device_or_memory (sym (is ∙ ap store_refusal p) ∙ d))
+looked_at f e is (inr (inl p)) d = absurd (failed_or_memory (sym (is ∙ ap store_refusal p) ∙ d))
+looked_at f e is (inr (inr p)) d = p
+
 pub upgrade_refused : {D : Type 0} {G : Ghosts D} (old : RepoStore D G) (back : D) (f : StoreFault) (e : Refusal) (before : Option (List ℕ)) (fails : Type 0) → e ≡ store_refusal f → (e ≡ refusal.PeerFailed → ⊥)
     → (G.honest (disk_of old) ↔ G.honest back) → G.failures (disk_of old) ≤ G.failures back
     → (G.honest (disk_of old) → ¬ HasFailed old → LeavesOnly G.clock G.left_since (disk_of old) back (Keeps (repository_of old)))
     → (G.honest (disk_of old) → ¬ HasFailed old → (image : Image) → G.may_leave back image → Keeps (repository_of old) image)
     → (f ≡ Log log.DeviceFailed → Rose (G.failures (disk_of old)) (G.failures back)) → (f ≡ Log log.Failed) ↔ HasFailed old
-    → (G.honest (disk_of old) → (f ≡ Log log.DeviceFailed) ⊎ (f ≡ Log log.Failed) ⊎ (f ≡ Log log.OutOfMemory)) → NotUpgraded before before fails e old back
-upgrade_refused old back f e before fails is no_peer both later moment kept device failed due = record {
+    → (G.honest (disk_of old) → (f ≡ Log log.DeviceFailed) ⊎ (f ≡ Log log.Failed) ⊎ (f ≡ Log log.OutOfMemory)) → (HasFailed old → back ≡ disk_of old)
+    → (f ≡ Log log.DeviceFailed) ⊎ (f ≡ Log log.Failed) ⊎ Looks G.honest G.reads G.may_leave G.clock G.left_since G.failures (disk_of old) back → NotUpgraded before before fails e old back
+upgrade_refused old back f e before fails is no_peer both later moment kept device failed due stays looks = record {
   spared = record { honest = both; later = later; any_moment = moment };
   due = λ h. due_of f e is (due h);
   device = λ d. device (device_was f (sym is ∙ d));
-  failed = λ d. failed.0 (failed_was f (sym is ∙ d));
+  failed = λ d. let was = failed.0 (failed_was f (sym is ∙ d)) in (was, stays was);
+  looks = looked_at f e is looks;
   quiet = λ other. refl;
   unsaid = λ p. absurd (no_peer p);
   done = λ p. absurd (no_peer p);

@@ -6,6 +6,7 @@ use Rattle.fleet_disk.specs.Image.{Image}
 use Rattle.fleet_disk.specs.Rules.{LeavesOnly, Rose}
 use Rattle.fleet_disk.specs.declared.disk.Disk.{Ghosts}
 use Rattle.gate_log.specs.Log.{entries_of, version_of}
+use Rattle.gate_log.specs.Looks.{Looks}
 use Rattle.gate_log.specs.Standing.{Stands}
 use Rattle.gate_log.specs.Version.{IsOf}
 use Rattle.gate_log.specs.declared.version.LogVersion.{LogVersion}
@@ -47,12 +48,13 @@ pub record IsUpgraded {D : Type 0} {G : Ghosts D} (before now : Option (List ℕ
   pub told : Appends before now (upgraded_line (count_upgraded old))
   pub left : G.honest (disk_of old) → ¬ HasFailed old → (image : Image) → G.may_leave back image → HasSums old image
 
--- it isn't: the device fails, or has failed before, or memory runs out, and nothing is written; or it is, and that can't be written; a stop leaves what keeps the store's repository
+-- it isn't: the device fails, or has failed before, and the disk is as it was, or memory runs out, and the disk was looked at alone; nothing is written; or it is, and that can't be written; a stop leaves what keeps the store's repository
 pub record NotUpgraded {D : Type 0} {G : Ghosts D} (before now : Option (List ℕ)) (fails : Type 0) (e : Refusal) (old : RepoStore D G) (back : D) : Type 0 where
   pub spared : IsSpared old back
   pub due : G.honest (disk_of old) → (e ≡ refusal.DeviceFailed) ⊎ (e ≡ refusal.Failed) ⊎ (e ≡ refusal.OutOfMemory) ⊎ (e ≡ refusal.PeerFailed)
   pub device : e ≡ refusal.DeviceFailed → Rose (G.failures (disk_of old)) (G.failures back)
-  pub failed : e ≡ refusal.Failed → HasFailed old
+  pub failed : e ≡ refusal.Failed → HasFailed old × (back ≡ disk_of old)
+  pub looks : e ≡ refusal.OutOfMemory → Looks G.honest G.reads G.may_leave G.clock G.left_since G.failures (disk_of old) back
   pub quiet : e ≢ refusal.PeerFailed → now ≡ before
   pub unsaid : e ≡ refusal.PeerFailed → fails
   pub done : e ≡ refusal.PeerFailed → G.honest (disk_of old) → ¬ HasFailed old → (image : Image) → G.may_leave back image → HasSums old image

@@ -19,4 +19,4 @@ pub returns-in-Err-clause-refused : goal.returns-in-Err-clause-refused
 returns-in-Err-clause-refused g c =
     let e = c.in-Err.ensures in
     upgrade_refused c.args.store c.in-Err.disk c.in-Err.fault c.store_refusal.result (g.O.Output.contents c.args.output.now) (Rose (g.O.Output.failures c.args.output.now) (g.O.Output.failures c.args.output.now))
-    c.store_refusal.ensures.value c.store_refusal.ensures.no_peer e.honest_err e.later_err e.any_moment_err e.kept e.device e.failed e.no_other
+    c.store_refusal.ensures.value c.store_refusal.ensures.no_peer e.honest_err e.later_err e.any_moment_err e.kept e.device e.failed e.no_other e.failed_stays e.looks
