@@ -1,5 +1,5 @@
 -- What is done over a mirror and its source, step by step.
-use Rattle.std.proofs.Common.{◌≡◌, ◌⊎◌, ◌<◌, length, ℕ, Bool, true, false, List, [], Option, Some, None, Result, Ok, Err, IfErr, inl, inr, refl, sym, ap, subst, ◌∙◌}
+use Rattle.std.proofs.Common.{◌≡◌, ◌⊎◌, ◌<◌, length, ℕ, Bool, true, false, List, [], ◌∷◌, Option, Some, None, Result, Ok, Err, IfErr, inl, inr, refl, sym, ap, subst, ◌∙◌}
 use Rattle.std.specs.Result.{OnOk}
 use Rattle.std.specs.List.{AllByRecursion, flat_map}
 use Rattle.std.specs.Io.KnownBytes.{Appends}
@@ -7,12 +7,12 @@ use Rattle.std.proofs.lemmas.Bool.{true≢false}
 use Rattle.fleet_disk.specs.declared.disk.Disk.{Ghosts}
 use Rattle.node_base.specs.declared.refusal.Refusal.{Refusal}
 use Rattle.node_base.specs.declared.refusal.Refusal.TheVariants as refusal
-use Rattle.repo_core.specs.Repository.{head_of, props_at}
+use Rattle.repo_core.specs.Repository.{Repository, head_of, props_at}
 use Rattle.repo_store.specs.Words.{disk_of, repository_of, revisions_of, HasFailed}
 use Rattle.repo_store.specs.declared.store.RepoStore.{RepoStore}
 use Rattle.sync_core.specs.declared.fault.SyncFault.{SyncFault}
 use Rattle.sync_core.specs.World.{Origin}
-use Rattle.sync_job.specs.Alone.{lent_in, IsAnsweredBy, IsMasterAt}
+use Rattle.sync_job.specs.Alone.{lent_in, IsAnsweredBy, IsHeardOf, IsMasterAt}
 use Rattle.sync_job.specs.Fronts.{accepted_in, counted_in}
 use Rattle.sync_job.specs.Leading.{TellsMaster}
 use Rattle.sync_job.specs.Questions.{Exchange}
@@ -24,7 +24,7 @@ use Rattle.sync_job.specs.declared.report.Told.{Told}
 use Rattle.mirror_engines.specs.Infos.{info_fault, info_text}
 use Rattle.mirror_engines.specs.Lines.{line_of, IsPrinted, Printed, Lost}
 use Rattle.mirror_engines.specs.Runs.{answer_of, IsWorked, Serves}
-use Rattle.mirror_engines.specs.Worlds.{later_at, stands_in, stands_last, BringsTrees, Hears, IsCaughtUp, IsInWorld, IsMirroredFrom, IsPortOf, StopsInWorld}
+use Rattle.mirror_engines.specs.Worlds.{later_at, stands_in, stands_last, BringsTrees, Hears, IsCaughtUp, EventsInWorld, IsMirroredFrom, IsPortOf, StopsInWorld}
 use Rattle.mirror_engines.specs.declared.work.Work.{Work}
 use Rattle.mirror_engines.proofs.Worlds.{events_on, stops_at}
 use Rattle.fleet_main.specs.Doing.{BroughtOn, IsBrought, IsKept, IsOpenedIn, IsToldOf, IsWorkedOver, NoSourceOr, NotBrought, NotBroughtOn, NotKept, NotToldOf, NotWorkedOn, NotWorkedOver, OfBoth, OfStanding, OverSource, UnopenedBoth, UnopenedOr, WorkedOn, no_source, both}
@@ -73,13 +73,20 @@ answered_lent now first made = (now ≡ first) × AllByRecursion (IsAnsweredBy (
 abbrev pub lent_at : {D : Type 0} {G : Ghosts D} → LentMaster D G → Origin → Type 0
 lent_at port o = IsMasterAt (repository_of (lent_in port)) o
 
+answers_of_lent : {D : Type 0} {G : Ghosts D} (port : LentMaster D G) (master : RepoStore D G) → lent_in port ≡ master → (last : LentMaster D G) (made : List Exchange) → answered_lent last port made → AllByRecursion (IsAnsweredBy (repository_of master)) made
+answers_of_lent port master e last made h = subst (λ s. AllByRecursion (IsAnsweredBy (repository_of s)) made) e h.1
+
+all_heard : (source : Repository) (made : List Exchange) → AllByRecursion (IsAnsweredBy source) made → AllByRecursion (IsHeardOf source) made
+all_heard source [] a = tt
+all_heard source (x ∷ xs) a = (a.0.0, all_heard source xs a.1)
+
 pub port_of_lent : {D : Type 0} {G : Ghosts D} (port : LentMaster D G) (master : RepoStore D G) → lent_in port ≡ master → IsPortOf answered_lent port (repository_of master)
-port_of_lent port master e last made h = subst (λ s. AllByRecursion (IsAnsweredBy (repository_of s)) made) e h.1
+port_of_lent port master e last made h = all_heard (repository_of master) made (answers_of_lent port master e last made h)
 
 later_lent : {D : Type 0} {G : Ghosts D} (port : LentMaster D G) (master : RepoStore D G) → lent_in port ≡ master → (o : Origin) → later_at answered_lent lent_at port o → IsMasterAt (repository_of master) o
 later_lent {D} {G} port master e o x = subst (λ s. IsMasterAt (repository_of s) o) e (subst (λ (p : LentMaster D G). lent_at p o) x.1.1.0 x.2)
 
-pub mirrored_lent : {D : Type 0} {G : Ghosts D} (port : LentMaster D G) (old new master : RepoStore D G) → lent_in port ≡ master → IsInWorld answered_lent lent_at port old new → StopsInWorld answered_lent lent_at port old new → BringsTrees (repository_of master) old new
+pub mirrored_lent : {D : Type 0} {G : Ghosts D} (port : LentMaster D G) (old new master : RepoStore D G) → lent_in port ≡ master → EventsInWorld answered_lent lent_at port old new → StopsInWorld answered_lent lent_at port old new → BringsTrees (repository_of master) old new
     → IsMirroredFrom (repository_of master) old new
 mirrored_lent {D} {G} port old new master e world stops trees =
     record {
@@ -93,14 +100,14 @@ mirrored_lent {D} {G} port old new master e world stops trees =
 pub brought_done : {D : Type 0} {G : Ghosts D} (port : LentMaster D G) (w : Work) (r : Result (Unit {0}) Refusal) (old new master : RepoStore D G) (before now : Option (List ℕ)) (fails : Type 0) → lent_in port ≡ master → Serves answered_lent port (IsWorked w) old new before now fails r
     → (¬ HasFailed old → IsMirroredFrom (repository_of master) old new) → (¬ HasFailed old → OnOk r (IsCaughtUp w (repository_of master) new)) → OnOk r (BroughtOn w before now master old new)
 brought_done port w (Ok u) old new master before now fails e s from all =
-    λ works. (worked_done answered_lent port (IsAnsweredBy (repository_of master)) (IsWorked w) (Ok u) old new before now fails (port_of_lent port master e) s works, from works, all works)
+    λ works. (worked_done answered_lent port (IsAnsweredBy (repository_of master)) (IsWorked w) (Ok u) old new before now fails (answers_of_lent port master e) s works, from works, all works)
 brought_done port w (Err x) old new master before now fails e s from all = tt
 
 pub brought_refused : {D : Type 0} {G : Ghosts D} (port : LentMaster D G) (w : Work) (r : Result (Unit {0}) Refusal) (old new master : RepoStore D G) (before now : Option (List ℕ)) (fails : Type 0) → lent_in port ≡ master → Serves answered_lent port (IsWorked w) old new before now fails r
     → (¬ HasFailed old → IsMirroredFrom (repository_of master) old new) → IfErr r (λ e. NotBroughtOn w before now fails e master old new)
 brought_refused port w (Ok u) old new master before now fails e s from = tt
 brought_refused port w (Err x) old new master before now fails e s from =
-    λ works. (worked_refused answered_lent port (IsAnsweredBy (repository_of master)) (IsWorked w) (Err x) old new before now fails (port_of_lent port master e) s works, from works)
+    λ works. (worked_refused answered_lent port (IsAnsweredBy (repository_of master)) (IsWorked w) (Err x) old new before now fails (answers_of_lent port master e) s works, from works)
 
 -- over the source that is opened, whose disk is back then
 module _ {F D : Type 0} (G : Ghosts D) (H : FolderGhosts F D) (folders then later : F) (source : List ℕ) (old new master : RepoStore D G) (P : RepoStore D G → RepoStore D G → RepoStore D G → Type 0) where

@@ -15,7 +15,7 @@ use Rattle.sync_core.specs.Deeds.{Deed, Calls, AsksIdentity, AsksLatest, Fetches
 use Rattle.sync_core.specs.Mirror.{Call}
 use Rattle.sync_core.specs.SyncFollows.{IsSynced}
 use Rattle.sync_core.specs.declared.fault.SyncFault.{SyncFault}
-use Rattle.sync_job.specs.Alone.{begun, IsAnsweredBy}
+use Rattle.sync_job.specs.Alone.{begun, IsHeardOf}
 use Rattle.sync_job.specs.Fronts.{EndsKeepAll, HasCome, Working, Doubtful, KeepsFront, accepted_in, counted_in, replayed}
 use Rattle.sync_job.specs.Leading.{IsLawful, FrontsStayFirst, SyncedHasAll, StaysFirst, TellsMaster, LeadsMirror}
 use Rattle.sync_job.specs.Mirrors.{MirrorNow, Keeps}
@@ -24,8 +24,9 @@ use Rattle.sync_job.specs.Runs.{AreRight, IsAsked, Runs, Synced, hears, hears_al
 use Rattle.sync_job.specs.Said.{Spoken, Says, NoTree, Tells}
 use Rattle.sync_job.specs.declared.report.Told.{Told}
 use Rattle.sync_job.specs.Worlds.{AreFirst}
+use Rattle.sync_job.specs.declared.master.MasterPort.{Ghosts as MasterGhosts}
 use Rattle.mirror_engines.specs.Runs.{answer_of, IsWorked, Leaves, Serves}
-use Rattle.mirror_engines.specs.Worlds.{BringsTrees, Hears, IsCaughtUp, IsPortOf, KeepsFirst, Leads, unknown}
+use Rattle.mirror_engines.specs.Worlds.{Brings, BringsTrees, Hears, IsCaughtUp, IsInWorld, IsPortOf, KeepsFirst, Leads, unknown}
 use Rattle.mirror_engines.specs.declared.work.Work.{Work}
 use Rattle.mirror_engines.specs.declared.work.Work.TheVariants as work
 
@@ -58,7 +59,7 @@ worked_right (work.Synchronize token steal) said ended r = right_in _ _ said r
 worked_right (work.CopyRevprops token low high) said ended r = right_in _ _ said r
 
 -- what the port told is told of the repository
-tells_of : {M : Type 0} (answered : M → M → List Exchange → Type 0) (master : M) (source : Repository) (said : List Spoken) → IsPortOf answered master source → Hears answered master said → TellsMaster (IsAnsweredBy source) said
+tells_of : {M : Type 0} (answered : M → M → List Exchange → Type 0) (master : M) (source : Repository) (said : List Spoken) → IsPortOf answered master source → Hears answered master said → TellsMaster (IsHeardOf source) said
 tells_of answered master source said is h = record { made = h.made; each = is h.last h.made h.gave; told = h.told }
 
 -- what was accepted is a front of what counts
@@ -77,7 +78,7 @@ leaves_as clock left_since old new P Q f x = record { later = x.later; each = λ
     widen t c (inl y) = inl y
     widen t c (inr y) = inr (f c y)
 
-pub brings_trees : {D M : Type 0} {G : Ghosts D} (answered : M → M → List Exchange → Type 0) (master : M) (w : Work) (old new : RepoStore D G) (before now : Option (List ℕ)) (fails : Type 0) (result : Result (Unit {0}) Refusal) → FrontsStayFirst → EndsKeepAll → 0 < length (revisions_of old)
+brings_trees : {D M : Type 0} {G : Ghosts D} (answered : M → M → List Exchange → Type 0) (master : M) (w : Work) (old new : RepoStore D G) (before now : Option (List ℕ)) (fails : Type 0) (result : Result (Unit {0}) Refusal) → FrontsStayFirst → EndsKeepAll → 0 < length (revisions_of old)
     → Serves answered master (IsWorked w) old new before now fails result → (source : Repository) → IsPortOf answered master source → ¬ HasFailed old → BringsTrees source old new
 brings_trees {G = G} answered master w old new before now fails result fronts ends some s source is works first =
     record {
@@ -124,7 +125,7 @@ ended_well (Err x) lost result P e f = subst (λ r. OnOk r P) (sym e) tt
 synced_in : (token : List ℕ) (steal : Bool) (said : List Spoken) → IsWorked (work.Synchronize token steal) said (Ok tt) → IsSynced (hears_all (begun_job (Sync token steal)) said)
 synced_in token steal said r = subst (λ es. IsSynced (hears_all (begun_job (Sync token steal)) es)) (sym r.adds) r.end.all
 
-pub brings_all : {D M : Type 0} {G : Ghosts D} (answered : M → M → List Exchange → Type 0) (master : M) (w : Work) (old new : RepoStore D G) (before now : Option (List ℕ)) (fails : Type 0) (result : Result (Unit {0}) Refusal) → SyncedHasAll → 0 < length (revisions_of old)
+brings_all : {D M : Type 0} {G : Ghosts D} (answered : M → M → List Exchange → Type 0) (master : M) (w : Work) (old new : RepoStore D G) (before now : Option (List ℕ)) (fails : Type 0) (result : Result (Unit {0}) Refusal) → SyncedHasAll → 0 < length (revisions_of old)
     → Serves answered master (IsWorked w) old new before now fails result → (source : Repository) → IsPortOf answered master source → ¬ HasFailed old → OnOk result (IsCaughtUp w source new)
 brings_all answered master (work.Initialize url) old new before now fails result all some s source is works = ended_well s.ended s.lost result (Unit {0}) s.answer (λ e. tt)
 brings_all answered master (work.CopyRevprops token low high) old new before now fails result all some s source is works = ended_well s.ended s.lost result (Unit {0}) s.answer (λ e. tt)
@@ -132,6 +133,16 @@ brings_all answered master (work.Synchronize token steal) old new before now fai
     ended_well s.ended s.lost result (length source.revisions ≤ length (revisions_of new)) s.answer
     (λ e. subst (λ r. length source.revisions ≤ length r.revisions) (s.led works).there.repository
     (all source (Sync token steal) s.said (begun (repository_of old)) (s.led works).now (tells_of answered master source s.said is s.heard) (s.led works).led some (synced_in token steal s.said (subst (λ x. IsWorked (work.Synchronize token steal) s.said x) e s.run))))
+
+-- all that a run of a work brings
+pub brings : {D M : Type 0} {G : Ghosts D} (H : MasterGhosts M) (master : M) (w is : Work) (old new : RepoStore D G) (before now : Option (List ℕ)) (fails : Type 0) (result : Result (Unit {0}) Refusal) → w ≡ is → FrontsStayFirst → SyncedHasAll → EndsKeepAll → 0 < length (revisions_of old)
+    → Serves H.answered master (IsWorked is) old new before now fails result → IsInWorld H master old new → Brings H w master old new result
+brings H master w is old new before now fails result e fronts synced ends some s world =
+    record {
+      world = world;
+      trees = brings_trees H.answered master is old new before now fails result fronts ends some s;
+      all = λ source port works. subst (λ x. OnOk result (IsCaughtUp x source new)) (sym e) (brings_all H.answered master is old new before now fails result synced some s source port works);
+    }
 
 -- of whatever master a run was, it is one of a master of which nothing is known
 pub unknown_serves : {D M : Type 0} {G : Ghosts D} (answered : M → M → List Exchange → Type 0) (master : M) (IsRun : List Spoken → Result (Unit {0}) SyncFault → Type 0) (old new : RepoStore D G) (before now : Option (List ℕ)) (fails : Type 0) (result : Result (Unit {0}) Refusal)

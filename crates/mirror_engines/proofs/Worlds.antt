@@ -14,7 +14,7 @@ use Rattle.sync_job.specs.Said.{Spoken}
 use Rattle.sync_job.specs.Stops.{IsReached, IsMirrorLeft, StopsAsMirror}
 use Rattle.sync_job.specs.Worlds.{IsEvents}
 use Rattle.sync_job.specs.declared.alone.AloneMirror.{AloneMirror}
-use Rattle.mirror_engines.specs.Worlds.{later_at, stands_in, stands_last, IsInWorld, StopsInWorld}
+use Rattle.mirror_engines.specs.Worlds.{later_at, stands_in, stands_last, EventsInWorld, StopsInWorld}
 use Rattle.mirror_engines.proofs.Running.{stands_alone, clock_alone, left_alone, honest_alone}
 
 pub events_on : (at_old at_new at : Origin → Type 0) (stands_old stands_new stands : MirrorNow → Type 0) → ((o : Origin) → at_new o → at o) → ((m : MirrorNow) → stands_new m → stands m)
@@ -55,10 +55,10 @@ stops_on {D} {G} at_old at_new at before after f h w shaped events starts s none
 
 pub handed_on : {M D : Type 0} {G : Ghosts D} (answered : M → M → List Exchange → Type 0) (is_at : M → Origin → Type 0) (master first last : M) (store new : RepoStore D G) (before after left : AloneMirror D G)
     → first ≡ master → before ≡ left → store_of left ≡ store → holder_of left ≡ None → new ≡ store_of after
-    → (made : List Exchange) × answered last first made → IsEvents (is_at first) (is_at last) (stands_alone before) (stands_alone after) 0 → IsInWorld answered is_at master store new
+    → (made : List Exchange) × answered last first made → IsEvents (is_at first) (is_at last) (stands_alone before) (stands_alone after) 0 → EventsInWorld answered is_at master store new
 handed_on {M} {D} {G} answered is_at master first last store new before after left m b s h n asked e =
-    subst (λ (x : M). IsInWorld answered is_at x store new) m
-    (subst (λ x. IsInWorld answered is_at first x new) s
+    subst (λ (x : M). EventsInWorld answered is_at x store new) m
+    (subst (λ x. EventsInWorld answered is_at first x new) s
     (subst (λ x. IsEvents (is_at first) (later_at answered is_at first) (stands_in (store_of left) x) (stands_last new) 0) h
     (subst (λ (x : AloneMirror D G). IsEvents (is_at first) (later_at answered is_at first) (stands_in (store_of x) (holder_of x)) (stands_last new) 0) b
     (events_on (is_at first) (is_at last) (later_at answered is_at first) (stands_alone before) (stands_alone after) (stands_last new) (λ o x. (last, asked, x)) (λ k x. (holder_of after, subst (λ y. StandsAt y (holder_of after) k) (sym n) x)) e))))

@@ -1,5 +1,6 @@
 -- What a run over a mirror's store says, prints and leaves.
-use Rattle.std.specs.Prelude.{◌≡◌, ◌↔◌, ◌==◌, ◌≤◌, ℕ, Bool, true, false, List, [], Option, None, Result, Ok, Err, IfErr, if◌then◌else◌}
+use Rattle.std.specs.Prelude.{◌≡◌, ◌↔◌, ◌==◌, ◌≤◌, ℕ, Bool, true, false, List, [], Option, None, Result, Ok, Err, IfErr, OnOk, if◌then◌else◌}
+use Rattle.byte_streams.specs.Causes.{Rose}
 use Rattle.fleet_disk.specs.Image.{Image}
 use Rattle.fleet_disk.specs.Rules.{LeavesOnly}
 use Rattle.fleet_disk.specs.declared.disk.Disk.{Ghosts}
@@ -58,6 +59,11 @@ pub record TellsDevice {D : Type 0} {G : Ghosts D} (old new : RepoStore D G) (sa
   pub calls : (d : Deed) (text : List ℕ) → IsSaid (Says d (Refused 31 text)) said → FailsSince old new
   pub failed : IfErr result (λ e. e ≡ Failed → HasFailedSince old new)
   pub broken : HasFailed new → HasFailedSince old new
+
+-- what a run tells of its output: that it is done, where no failure of it was counted, and 49, only where one was
+pub record TellsOutput (before now : ℕ) (result : Result (Unit {0}) Refusal) : Type 0 where
+  pub unfailed : OnOk result (now ≡ before)
+  pub peer : IfErr result (λ e. e ≡ PeerFailed → Rose before now)
 
 -- a run of a job over a mirror's store and a master: all that was said through its ports, in order, as the two were asked and answered, and how the job ended; of what was told the lines that are printed, the answer, and what is left of the mirror
 pub record Serves {D M : Type 0} {G : Ghosts D} (answered : M → M → List Exchange → Type 0) (master : M) (IsRun : List Spoken → Result (Unit {0}) SyncFault → Type 0) (old new : RepoStore D G) (before now : Option (List ℕ)) (fails : Type 0) (result : Result (Unit {0}) Refusal) : Type 0 where

@@ -1,20 +1,22 @@
 -- What a run over a mirror's store is in a world, and what a stop within it leaves.
-use Rattle.std.specs.Prelude.{◌≡◌, ◌≤◌, ℕ, List, length, Option, None}
+use Rattle.std.specs.Prelude.{◌≡◌, ◌≤◌, ℕ, List, length, Option, None, Result, OnOk}
 use Rattle.std.specs.List.{AllByRecursion, AllZip}
 use Rattle.fleet_disk.specs.Image.{Image}
 use Rattle.fleet_disk.specs.declared.disk.Disk.{Ghosts}
+use Rattle.node_base.specs.declared.refusal.Refusal.{Refusal}
 use Rattle.repo_core.specs.Repository.{Repository, trees_of}
 use Rattle.repo_store.specs.Journal as journal
 use Rattle.repo_store.specs.Words.{disk_of, repository_of, revisions_of, HasFailed}
 use Rattle.repo_store.specs.declared.store.RepoStore.{RepoStore}
 use Rattle.sync_core.specs.World.{Origin}
-use Rattle.sync_job.specs.Alone.{begun, IsAnsweredBy, IsMasterAt, StandsAt}
+use Rattle.sync_job.specs.Alone.{begun, IsHeardOf, IsMasterAt, StandsAt}
 use Rattle.sync_job.specs.Leading.{LeadsMirror, StaysFirst}
 use Rattle.sync_job.specs.Mirrors.{MirrorNow}
 use Rattle.sync_job.specs.Questions.{Exchange, IsSaidOf, questions_in}
 use Rattle.sync_job.specs.Said.{Spoken}
 use Rattle.sync_job.specs.Stops.{StopsAsMirror, StopsLeave}
 use Rattle.sync_job.specs.Worlds.{AreFirst, IsEvents}
+use Rattle.sync_job.specs.declared.master.MasterPort.{Ghosts as MasterGhosts}
 use Rattle.mirror_engines.specs.declared.work.Work.{Work}
 use Rattle.mirror_engines.specs.declared.work.Work.TheVariants as work
 
@@ -30,12 +32,17 @@ abbrev pub stands_last : {D : Type 0} {G : Ghosts D} → RepoStore D G → Mirro
 stands_last store m = (holder : Option ℕ) × StandsAt store holder m
 
 -- a run is some more events of the world in which the mirror stands so
-abbrev pub IsInWorld : {D M : Type 0} {G : Ghosts D} → (M → M → List Exchange → Type 0) → (M → Origin → Type 0) → M → RepoStore D G → RepoStore D G → Type 0
-IsInWorld answered is_at master old new = IsEvents (is_at master) (later_at answered is_at master) (stands_in old None) (stands_last new) 0
+abbrev pub EventsInWorld : {D M : Type 0} {G : Ghosts D} → (M → M → List Exchange → Type 0) → (M → Origin → Type 0) → M → RepoStore D G → RepoStore D G → Type 0
+EventsInWorld answered is_at master old new = IsEvents (is_at master) (later_at answered is_at master) (stands_in old None) (stands_last new) 0
 
 -- and a stop at any moment of it leaves a mirror of the master
 abbrev pub StopsInWorld : {D M : Type 0} {G : Ghosts D} → (M → M → List Exchange → Type 0) → (M → Origin → Type 0) → M → RepoStore D G → RepoStore D G → Type 0
 StopsInWorld {G = G} answered is_at master old new = StopsAsMirror (is_at master) (later_at answered is_at master) (stands_in old None) 0 G.clock G.left_since (G.honest (disk_of old)) (disk_of old) (disk_of new)
+
+-- both, of any master
+pub record IsInWorld {D M : Type 0} {G : Ghosts D} (H : MasterGhosts M) (master : M) (old new : RepoStore D G) : Type 0 where
+  pub events : EventsInWorld H.answered H.is_at master old new
+  pub stops : StopsInWorld H.answered H.is_at master old new
 
 -- what was said of the master's answers is what its port told, each question once, in order, and no other
 pub record Hears {M : Type 0} (answered : M → M → List Exchange → Type 0) (master : M) (said : List Spoken) : Type 0 where
@@ -55,9 +62,9 @@ pub record Leads {D : Type 0} {G : Ghosts D} (old new : RepoStore D G) (said : L
   pub there : StandsAt new holder now
   pub led : LeadsMirror (begun (repository_of old)) said now
 
--- the master's port tells what this repository is, whatever it is asked
+-- what the master's port tells is what this repository has, whatever it is asked
 abbrev pub IsPortOf : {M : Type 0} → (M → M → List Exchange → Type 0) → M → Repository → Type 0
-IsPortOf {M} answered master source = (last : M) (made : List Exchange) → answered last master made → AllByRecursion (IsAnsweredBy source) made
+IsPortOf {M} answered master source = (last : M) (made : List Exchange) → answered last master made → AllByRecursion (IsHeardOf source) made
 
 -- where the mirror's trees were the first ones of the source, they are so at the end, and in whatever a stop leaves at any moment of
 -- the run and at its end; and they are no fewer
@@ -73,6 +80,13 @@ abbrev pub IsCaughtUp : {D : Type 0} {G : Ghosts D} → Work → Repository → 
 IsCaughtUp (work.Synchronize token steal) source new = length source.revisions ≤ length (revisions_of new)
 IsCaughtUp (work.Initialize url) source new = Unit {0}
 IsCaughtUp (work.CopyRevprops token low high) source new = Unit {0}
+
+-- what a run of this work over a mirror's store makes of it, of any master
+pub record Brings {D M : Type 0} {G : Ghosts D} (H : MasterGhosts M) (work : Work) (master : M) (old new : RepoStore D G) (result : Result (Unit {0}) Refusal) : Type 0 where
+  pub world : IsInWorld H master old new
+  -- where the master is a repository, of the mirror's trees and of their number
+  pub trees : (source : Repository) → IsPortOf H.answered master source → ¬ HasFailed old → BringsTrees source old new
+  pub all : (source : Repository) → IsPortOf H.answered master source → ¬ HasFailed old → OnOk result (IsCaughtUp work source new)
 
 -- what a run over a mirror's store makes of it, where its master is this repository, whatever the run answers: in every world in which
 -- the mirror was one of that master it is one at the end, and so is whatever a stop leaves at any moment of the run and at its end; and

@@ -1,12 +1,12 @@
 //! Runs over a mirror's store.
-ghost use Rattle.std.specs.Prelude.{◌≡◌, ◌<◌, length, None, IfErr, OnOk};
+ghost use Rattle.std.specs.Prelude.{◌≡◌, ◌<◌, length, None};
 ghost use Rattle.byte_streams.specs.Causes.{Rose};
 ghost use Rattle.repo_core.specs.Repository.{Repository};
 ghost use Rattle.repo_store.specs.Words.{repository_of, revisions_of, HasFailed};
 ghost use Rattle.sync_job.specs.Alone.{begun, holder_of, store_of, StandsAt};
 ghost use Rattle.mirror_engines.specs.Runs.{answer_of, told_as, IsCopied, IsInitialised, IsSynchronised, IsWorked};
-ghost use Rattle.mirror_engines.specs.Runs.{Serves};
-ghost use Rattle.mirror_engines.specs.Worlds.{BringsTrees, IsCaughtUp, IsInWorld, IsPortOf, StopsInWorld};
+ghost use Rattle.mirror_engines.specs.Runs.{Serves, TellsOutput};
+ghost use Rattle.mirror_engines.specs.Worlds.{Brings, IsInWorld};
 
 use crate::printer::Printer;
 use crate::work::Work;
@@ -33,10 +33,8 @@ pub fn run_initialize<D: Disk + Drop, M: MasterPort + Drop, O: Output + Drop>(
 ) -> (RepoStore<D>, O, Result<(), Refusal>)
     ensures ran { Serves M.answered master (IsInitialised url) mirror result.0 (O.contents output) (O.contents result.1)
         (Rose (O.failures output) (O.failures result.1)) result.2 }
-    ensures world { IsInWorld M.answered M.is_at master mirror result.0 }
-    ensures stops { StopsInWorld M.answered M.is_at master mirror result.0 }
-    ensures unfailed { OnOk result.2 (O.failures result.1 ≡ O.failures output) }
-    ensures peer { IfErr result.2 (λ e. e ≡ Refusal.PeerFailed → Rose (O.failures output) (O.failures result.1)) }
+    ensures world { IsInWorld M.MasterPort master mirror result.0 }
+    ensures output { TellsOutput (O.failures output) (O.failures result.1) result.2 }
 {
     let mut ports = JobPorts::new(alloc, master, held(mirror), Printer::new(output));
     let ended = run_init(alloc, &mut ports, url);
@@ -56,10 +54,8 @@ pub fn run_synchronize<D: Disk + Drop, M: MasterPort + Drop, O: Output + Drop>(
 ) -> (RepoStore<D>, O, Result<(), Refusal>)
     ensures ran { Serves M.answered master (IsSynchronised token steal) mirror result.0 (O.contents output)
         (O.contents result.1) (Rose (O.failures output) (O.failures result.1)) result.2 }
-    ensures world { IsInWorld M.answered M.is_at master mirror result.0 }
-    ensures stops { StopsInWorld M.answered M.is_at master mirror result.0 }
-    ensures unfailed { OnOk result.2 (O.failures result.1 ≡ O.failures output) }
-    ensures peer { IfErr result.2 (λ e. e ≡ Refusal.PeerFailed → Rose (O.failures output) (O.failures result.1)) }
+    ensures world { IsInWorld M.MasterPort master mirror result.0 }
+    ensures output { TellsOutput (O.failures output) (O.failures result.1) result.2 }
 {
     let mut ports = JobPorts::new(alloc, master, held(mirror), Printer::new(output));
     let ended = run_sync(alloc, &mut ports, token, steal);
@@ -80,10 +76,8 @@ pub fn run_copy_revprops<D: Disk + Drop, M: MasterPort + Drop, O: Output + Drop>
 ) -> (RepoStore<D>, O, Result<(), Refusal>)
     ensures ran { Serves M.answered master (IsCopied token low high) mirror result.0 (O.contents output) (O.contents result.1)
         (Rose (O.failures output) (O.failures result.1)) result.2 }
-    ensures world { IsInWorld M.answered M.is_at master mirror result.0 }
-    ensures stops { StopsInWorld M.answered M.is_at master mirror result.0 }
-    ensures unfailed { OnOk result.2 (O.failures result.1 ≡ O.failures output) }
-    ensures peer { IfErr result.2 (λ e. e ≡ Refusal.PeerFailed → Rose (O.failures output) (O.failures result.1)) }
+    ensures world { IsInWorld M.MasterPort master mirror result.0 }
+    ensures output { TellsOutput (O.failures output) (O.failures result.1) result.2 }
 {
     let mut ports = JobPorts::new(alloc, master, held(mirror), Printer::new(output));
     let ended = run_copy(alloc, &mut ports, token, low, high);
@@ -104,14 +98,8 @@ pub fn run_work<D: Disk + Drop, M: MasterPort + Drop, O: Output + Drop>(
 ) -> (RepoStore<D>, O, Result<(), Refusal>)
     ensures ran { Serves M.answered master (IsWorked work) mirror result.0 (O.contents output) (O.contents result.1)
         (Rose (O.failures output) (O.failures result.1)) result.2 }
-    ensures world { IsInWorld M.answered M.is_at master mirror result.0 }
-    ensures stops { StopsInWorld M.answered M.is_at master mirror result.0 }
-    ensures trees { (source : Repository) → IsPortOf M.answered master source → ¬ HasFailed mirror
-        → BringsTrees source mirror result.0 }
-    ensures all { (source : Repository) → IsPortOf M.answered master source → ¬ HasFailed mirror
-        → OnOk result.2 (IsCaughtUp work source result.0) }
-    ensures unfailed { OnOk result.2 (O.failures result.1 ≡ O.failures output) }
-    ensures peer { IfErr result.2 (λ e. e ≡ Refusal.PeerFailed → Rose (O.failures output) (O.failures result.1)) }
+    ensures brings { Brings M.MasterPort work master mirror result.0 result.2 }
+    ensures output { TellsOutput (O.failures output) (O.failures result.1) result.2 }
 {
     runs_lead_mirrors();
     ends_keep_all();

@@ -14,13 +14,13 @@ use Rattle.dump_load.specs.Trees.{Makes, effect_tree}
 use Rattle.repo_core.specs.Repository.{Repository, Revision, head_of, trees_of, tree_at}
 use Rattle.sync_core.specs.World.{Origin, map_at, moment_of}
 use Rattle.sync_core.specs.World.{Makes as MakesTree}
-use Rattle.sync_job.specs.Alone.{ArePropsIn, IsMasterAt, IsSetIn}
+use Rattle.sync_job.specs.Alone.{ArePropsIn, IsHeardOf, IsMasterAt, IsSetIn}
 use Rattle.sync_job.specs.Masters.{IsTrue}
 use Rattle.sync_job.specs.Questions.{Exchange, Identity, Latest, Fetch, FetchProps}
 use Rattle.sync_job.specs.declared.master.Fetched.{Fetched}
 use Rattle.sync_job.specs.declared.master.MasterFault.{MasterFault}
 use Rattle.sync_job.proofs.Telling.{all_append}
-use Rattle.session_road.specs.Served.{served_in, IsHeardOf}
+use Rattle.session_road.specs.Served.{served_in}
 use Rattle.session_road.specs.declared.served.ServedMaster.{ServedMaster}
 
 -- one question more

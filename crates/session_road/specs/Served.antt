@@ -1,12 +1,12 @@
 -- A repository that is asked over sessions in memory.
-use Rattle.std.specs.Prelude.{◌≡◌, ℕ, true, List, [], ◌∷◌, ◌++◌, Option, None, Ok, codes, Result}
+use Rattle.std.specs.Prelude.{◌≡◌, ℕ, true, List, [], ◌∷◌, ◌++◌, Option, None, Ok, codes, Result, OnOk}
 use Rattle.std.specs.List.{AllByRecursion}
 use Rattle.byte_streams.specs.declared.input.Input.{Ghosts as InputGhosts}
 use Rattle.byte_streams.specs.declared.output.Output.{Ghosts as OutputGhosts}
 use Rattle.fleet_disk.specs.declared.disk.Disk.{Ghosts}
 use Rattle.node_base.specs.declared.refusal.Refusal.{Refusal}
 use Rattle.repo_core.specs.Repository.{Repository}
-use Rattle.repo_store.specs.Words.{disk_of}
+use Rattle.repo_store.specs.Words.{HasFailed}
 use Rattle.repo_store.specs.declared.store.RepoStore.{RepoStore}
 use Rattle.ra_item.specs.Items.{row, spell, spell_all}
 use Rattle.ra_wire.specs.Commands.{Command}
@@ -18,12 +18,11 @@ use Rattle.ra_serve.specs.Sessions.{identity_text}
 use Rattle.ra_client.specs.Ports.{ends_of, over_of, repository_of}
 use Rattle.ra_client.specs.Telling.{IsToCome}
 use Rattle.ra_client.specs.declared.port.ClientPort.{ClientPort}
-use Rattle.sync_job.specs.Alone.{IsAnsweredBy, IsMasterAt}
-use Rattle.sync_job.specs.Questions.{Exchange, Identity, Latest, Fetch, FetchProps}
-use Rattle.sync_job.specs.Stops.{StopsAsMirror}
+use Rattle.sync_job.specs.Alone.{IsHeardOf, IsMasterAt}
+use Rattle.sync_job.specs.Questions.{Exchange}
 use Rattle.sync_job.specs.Worlds.{IsEvents}
 use Rattle.mirror_engines.specs.Runs.{IsWorked, Serves}
-use Rattle.mirror_engines.specs.Worlds.{stands_in, stands_last}
+use Rattle.mirror_engines.specs.Worlds.{stands_in, stands_last, IsCaughtUp, IsMirroredFrom}
 use Rattle.mirror_engines.specs.declared.work.Work.{Work}
 use Rattle.session_road.specs.declared.lent_repo.LentRepo.{LentRepo}
 use Rattle.session_road.specs.declared.served.ServedMaster.{ServedMaster}
@@ -70,14 +69,6 @@ pub record IsAsked {R O : Type 0} {g : InputGhosts R} {h : OutputGhosts O} (x : 
 
 -- ---- a master that is asked so
 
--- a question that is answered, is as the repository itself would answer it
-abbrev pub IsHeardOf : Repository → Exchange → Type 0
-IsHeardOf r (Identity (Ok u)) = IsAnsweredBy r (Identity (Ok u))
-IsHeardOf r (Latest (Ok n)) = IsAnsweredBy r (Latest (Ok n))
-IsHeardOf r (Fetch n trees (Ok v)) = IsAnsweredBy r (Fetch n trees (Ok v))
-IsHeardOf r (FetchProps n (Ok p)) = IsAnsweredBy r (FetchProps n (Ok p))
-IsHeardOf r x = Unit {0}
-
 -- since such a master was as the first, it was asked this, and is the same
 abbrev pub answered_over : ServedMaster → ServedMaster → List Exchange → Type 0
 answered_over now first made = (now ≡ first) × AllByRecursion (IsHeardOf (served_in first)) made
@@ -88,8 +79,10 @@ pub record IsRunOver {D : Type 0} {G : Ghosts D} (source : Repository) (work : W
   pub serves : served_in master ≡ source
   pub run : Serves answered_over master (IsWorked work) old new before now fails result
 
--- a run over a mirror's store, whatever it answers: in every world in which the mirror was one of the repository that is served, it is
--- one at the end, and so is whatever a stop leaves at any moment of the run and at its end
-pub record IsMirroredBySessions {D : Type 0} {G : Ghosts D} (source : Repository) (old new : RepoStore D G) : Type 0 where
+-- what a run of this work over a mirror's store makes of it, whatever it answers: it is mirrored from the repository that is served, as
+-- a run of a mirror's history is, and has as many revisions where a synchronisation is done
+pub record IsMirroredBySessions {D : Type 0} {G : Ghosts D} (source : Repository) (work : Work) (old new : RepoStore D G) (result : Result (Unit {0}) Refusal) : Type 0 where
+  pub from : ¬ HasFailed old → IsMirroredFrom source old new
+  pub all : ¬ HasFailed old → OnOk result (IsCaughtUp work source new)
+  -- also where the store had failed, the run is events of each world in which the mirror was one of that repository
   pub world : IsEvents (IsMasterAt source) (IsMasterAt source) (stands_in old None) (stands_last new) 0
-  pub stops : StopsAsMirror (IsMasterAt source) (IsMasterAt source) (stands_in old None) 0 G.clock G.left_since (G.honest (disk_of old)) (disk_of old) (disk_of new)

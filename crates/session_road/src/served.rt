@@ -7,10 +7,9 @@ ghost use Rattle.repo_core.specs.Repository.{head_of};
 ghost use Rattle.ra_item.specs.Items.{Within};
 ghost use Rattle.ra_wire.specs.Commands.{command_as, LatestRev, RevProplist, ReplayRange};
 ghost use Rattle.ra_wire.specs.Requests.{command_item};
-ghost use Rattle.sync_job.specs.Alone.{ArePropsIn, IsSetIn};
+ghost use Rattle.sync_job.specs.Alone.{ArePropsIn, IsHeardOf, IsSetIn};
 ghost use Rattle.sync_job.specs.Questions.{Identity, Latest, Fetch, FetchProps};
 ghost use Rattle.session_road.specs.Served.{served_in, opening_told, words_for, IsSession, IsOpenBefore, IsAsked};
-ghost use Rattle.session_road.specs.Served.{IsHeardOf};
 
 use crate::law::{each_revision_may_be_heard, server_tells_what_is_heard};
 use crate::lent_repo::LentRepo;
@@ -60,8 +59,7 @@ impl<'a> MasterPort for ServedMaster<'a> {
     ghost use Rattle.std.specs.Prelude.{◌≡◌};
     ghost use Rattle.std.specs.List.{AllByRecursion};
     ghost use Rattle.std.proofs.Common.{refl};
-    ghost use Rattle.sync_job.specs.Alone.{IsMasterAt};
-    ghost use Rattle.session_road.specs.Served.{IsHeardOf};
+    ghost use Rattle.sync_job.specs.Alone.{IsHeardOf, IsMasterAt};
 
     ghost is_at = { λ a o. IsMasterAt a.repo.now o };
 

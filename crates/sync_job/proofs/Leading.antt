@@ -28,7 +28,7 @@ use Rattle.sync_core.specs.declared.standing.Standing.{Standing}
 use Rattle.sync_core.specs.Mirror.{Reply, Call, Init, TakeLock, StealLock, ReleaseLock, SetCopying, Commit, PutProps, SetMerged, ClearCopying, Look, refusal, entry_of, standing_of, granted}
 use Rattle.sync_core.specs.Mirror as reply
 use Rattle.sync_core.proofs.Kept.{is_equal}
-use Rattle.sync_job.specs.Alone.{IsAnsweredBy, IsSetIn}
+use Rattle.sync_job.specs.Alone.{IsHeardOf, IsSetIn}
 use Rattle.sync_job.specs.Asked.{Asked}
 use Rattle.sync_job.specs.Fronts.{IsHeard, counted_by, counted_in, replayed, is_device}
 use Rattle.sync_job.specs.Kept.{refused_as}
@@ -269,7 +269,7 @@ fetched_knows source job m n set props is k =
     new = record { number = n; set = set; props = props; moment = 0 }
 
 -- a master's answer is heard
-answer_knows : (source : Repository) (job : Job) (m : MirrorNow) (x : Exchange) → IsAnsweredBy source x → Knows source job m → Knows source (hears job (Says (deed_for x) (outcome_for x))) m
+answer_knows : (source : Repository) (job : Job) (m : MirrorNow) (x : Exchange) → IsHeardOf source x → Knows source job m → Knows source (hears job (Says (deed_for x) (outcome_for x))) m
 answer_knows source job m (Identity (Ok u)) a k = record { head = k.head; latest = k.latest; fetched = k.fetched; some = k.some }
 answer_knows source job m (Identity (Err f)) a k = k
 answer_knows source job m (Latest (Ok n)) a k = record { head = k.head; latest = λ i e. sym (some_is n i e) ∙ a; fetched = k.fetched; some = k.some }
@@ -285,7 +285,7 @@ memory_knows source job m (Latest r) k = k
 memory_knows source job m (Fetch n trees r) k = k
 memory_knows source job m (FetchProps n r) k = k
 
-question_knows : (source : Repository) (job : Job) (m : MirrorNow) (x : Exchange) (d : Deed) (o : Outcome) → d ≡ deed_for x → (o ≡ outcome_for x) ⊎ (o ≡ refused_as fault.OutOfMemory) → IsAnsweredBy source x → Knows source job m → Knows source (hears job (Says d o)) m
+question_knows : (source : Repository) (job : Job) (m : MirrorNow) (x : Exchange) (d : Deed) (o : Outcome) → d ≡ deed_for x → (o ≡ outcome_for x) ⊎ (o ≡ refused_as fault.OutOfMemory) → IsHeardOf source x → Knows source job m → Knows source (hears job (Says d o)) m
 question_knows source job m x d o e (inl f) a k = subst (λ d. Knows source (hears job (Says d o)) m) (sym e) (subst (λ o. Knows source (hears job (Says (deed_for x) o)) m) (sym f) (answer_knows source job m x a k))
 question_knows source job m x d o e (inr f) a k = subst (λ d. Knows source (hears job (Says d o)) m) (sym e) (subst (λ o. Knows source (hears job (Says (deed_for x) o)) m) (sym f) (memory_knows source job m x k))
 
@@ -297,7 +297,7 @@ said_knows commits source job m now call o x s z k =
 
 -- all that was said
 all_know : CommitsInOrder → (source : Repository) (said : List Spoken) (job : Job) (m now : MirrorNow) (made : List Asked) (told : List Exchange) → Knows source job m
-    → LeadsBy IsMirrorStep m made now → AllZip IsSaidAs made (calls_in said) → AllByRecursion (IsAnsweredBy source) told → AllZip IsSaidOf told (questions_in said) → Knows source (hears_all job said) now
+    → LeadsBy IsMirrorStep m made now → AllZip IsSaidAs made (calls_in said) → AllByRecursion (IsHeardOf source) told → AllZip IsSaidOf told (questions_in said) → Knows source (hears_all job said) now
 all_know commits source [] job m now [] told k l z a q = subst (λ x. Knows source job x) (sym l) k
 all_know commits source [] job m now (x ∷ xs) told k l z a q = absurd z
 all_know commits source (Says (Calls call) o ∷ es) job m now [] told k l z a q = absurd z
@@ -387,7 +387,7 @@ nil_front [] rest e = refl
 nil_front (x ∷ xs) rest e = absurd (cc)
 
 fronts_first : CommitsInOrder → (source : Repository) (said : List Spoken) (job : Job) (m now : MirrorNow) (made : List Asked) (told : List Exchange) → Knows source job m → IsLawful job said
-    → LeadsBy IsMirrorStep m made now → AllZip IsSaidAs made (calls_in said) → AllByRecursion (IsAnsweredBy source) told → AllZip IsSaidOf told (questions_in said)
+    → LeadsBy IsMirrorStep m made now → AllZip IsSaidAs made (calls_in said) → AllByRecursion (IsHeardOf source) told → AllZip IsSaidOf told (questions_in said)
     → AreFirst (trees_of m.repository.revisions) (trees_of source.revisions) → (front rest : List Call) → front ++ rest ≡ counted_in said → StaysFirst source m.repository (replayed m.repository front)
 fronts_first commits source said job m now made told k r l z a q f [] rest e = stays_first source m.repository f
 fronts_first commits source [] job m now made told k r l z a q f (c ∷ cs) rest e = absurd (cc)

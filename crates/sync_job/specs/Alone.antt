@@ -94,13 +94,21 @@ IsSetIn r n set = IsSomeAnd (tree_at r.revisions n) (Makes (take n (trees_of r.r
 abbrev pub ArePropsIn : Repository → ℕ → PropMap → Type 0
 ArePropsIn r n props = option_map (λ x. x.props) (slice_get r.revisions n) ≡ Some props
 
--- a question to a master that is this repository is answered as it is
+-- a question to a master that is this repository is answered as it is, where its answer is no failure
+abbrev pub IsHeardOf : Repository → Exchange → Type 0
+IsHeardOf r (Identity (Ok u)) = u ≡ hyphenated_text lower r.identity
+IsHeardOf r (Latest (Ok n)) = n ≡ head_of r.revisions
+IsHeardOf r (Fetch n trees (Ok v)) = IsSetIn r n v.set × ArePropsIn r n v.props
+IsHeardOf r (FetchProps n (Ok p)) = ArePropsIn r n p
+IsHeardOf r x = Unit {0}
+
+-- and it fails for these causes alone
+abbrev pub IsCausedBy : Repository → Exchange → Type 0
+IsCausedBy r (Identity (Err f)) = f ≡ Refused refusal.OutOfMemory
+IsCausedBy r (Latest (Err f)) = ⊥
+IsCausedBy r (Fetch n trees (Err f)) = IsFaultAt r n f
+IsCausedBy r (FetchProps n (Err f)) = IsFaultAt r n f
+IsCausedBy r x = Unit {0}
+
 abbrev pub IsAnsweredBy : Repository → Exchange → Type 0
-IsAnsweredBy r (Identity (Ok u)) = u ≡ hyphenated_text lower r.identity
-IsAnsweredBy r (Identity (Err f)) = f ≡ Refused refusal.OutOfMemory
-IsAnsweredBy r (Latest (Ok n)) = n ≡ head_of r.revisions
-IsAnsweredBy r (Latest (Err f)) = ⊥
-IsAnsweredBy r (Fetch n trees (Ok v)) = IsSetIn r n v.set × ArePropsIn r n v.props
-IsAnsweredBy r (Fetch n trees (Err f)) = IsFaultAt r n f
-IsAnsweredBy r (FetchProps n (Ok p)) = ArePropsIn r n p
-IsAnsweredBy r (FetchProps n (Err f)) = IsFaultAt r n f
+IsAnsweredBy r x = IsHeardOf r x × IsCausedBy r x

@@ -5,7 +5,7 @@ use Rattle.repo_core.specs.Repository.{Repository, trees_of}
 use Rattle.sync_core.specs.Jobs.{Order, Job, begun}
 use Rattle.sync_core.specs.Mirror.{Call}
 use Rattle.sync_core.specs.SyncFollows.{IsSynced}
-use Rattle.sync_job.specs.Alone.{IsAnsweredBy}
+use Rattle.sync_job.specs.Alone.{IsHeardOf}
 use Rattle.sync_job.specs.Asked.{Asked}
 use Rattle.sync_job.specs.Fronts.{counted_in, replayed}
 use Rattle.sync_job.specs.Mirrors.{MirrorNow, Steps}
@@ -45,11 +45,11 @@ pub record StaysFirst (source before later : Repository) : Type 0 where
 abbrev pub FrontsStayFirst : Type 0
 FrontsStayFirst =
     (source : Repository) (order : Order) (said : List Spoken) (m now : MirrorNow) → IsLawful (begun order) said
-    → TellsMaster (IsAnsweredBy source) said → LeadsMirror m said now → 0 < length m.repository.revisions → AreFirst (trees_of m.repository.revisions) (trees_of source.revisions)
+    → TellsMaster (IsHeardOf source) said → LeadsMirror m said now → 0 < length m.repository.revisions → AreFirst (trees_of m.repository.revisions) (trees_of source.revisions)
     → (front rest : List Call) → front ++ rest ≡ counted_in said → StaysFirst source m.repository (replayed m.repository front)
 
 -- a job that ends well by what it has heard of that master leaves a mirror with as many revisions
 abbrev pub SyncedHasAll : Type 0
 SyncedHasAll =
-    (source : Repository) (order : Order) (said : List Spoken) (m now : MirrorNow) → TellsMaster (IsAnsweredBy source) said → LeadsMirror m said now → 0 < length m.repository.revisions
+    (source : Repository) (order : Order) (said : List Spoken) (m now : MirrorNow) → TellsMaster (IsHeardOf source) said → LeadsMirror m said now → 0 < length m.repository.revisions
     → IsSynced (hears_all (begun order) said) → length source.revisions ≤ length now.repository.revisions

@@ -10,6 +10,7 @@ ghost use Rattle.sync_job.specs.Words.{calls_of, master_of, mirror_of, report_of
 ghost use Rattle.sync_job.specs.Worlds.{Happens, IsEvents};
 ghost use Rattle.sync_core.specs.Jobs.{Order, begun};
 ghost use Rattle.sync_job.specs.Questions.{KeepsAnswers};
+ghost use Rattle.sync_job.specs.Left.{LeavesPorts};
 ghost use Rattle.sync_job.specs.Made.{BeginsOn, IsKeptFor, KeepsMade};
 ghost use Rattle.sync_job.specs.Rooms.{IsReady, IsUnlocked, KeepsRoom};
 ghost use Rattle.sync_job.specs.Stops.{StopsAsMirror};
@@ -35,17 +36,7 @@ pub fn run_sync<M: MasterPort + Drop, N: MirrorPort + Drop, R: Report + Drop>(
 ) -> Result<(), SyncFault>
     ensures run { IsSyncRun token steal (calls_of ports.old) (calls_of ports.new) (R.heard (report_of ports.old))
         (R.heard (report_of ports.new)) result }
-    ensures mirror { Moving (calls_of ports.old) (calls_of ports.new)
-        (WentAt N.stands N.clock N.left_since N.honest (mirror_of ports.old) (mirror_of ports.new)) }
-    ensures asked { KeepsTelling N.asked (mirror_of ports.old) (mirror_of ports.new) (calls_of ports.old)
-        (calls_of ports.new) }
-    ensures answered { KeepsAnswers M.answered (master_of ports.old) (master_of ports.new) (calls_of ports.old)
-        (calls_of ports.new) }
-    ensures world { IsEvents (M.is_at (master_of ports.old)) (M.is_at (master_of ports.new))
-        (N.stands (mirror_of ports.old)) (N.stands (mirror_of ports.new)) (N.seat (mirror_of ports.old)) }
-    ensures stops { StopsAsMirror (M.is_at (master_of ports.old)) (M.is_at (master_of ports.new))
-        (N.stands (mirror_of ports.old)) (N.seat (mirror_of ports.old)) N.clock N.left_since
-        (N.honest (mirror_of ports.old)) (mirror_of ports.old) (mirror_of ports.new) }
+    ensures left { LeavesPorts M.MasterPort N.MirrorPort ports.old ports.new }
 {
     jobs_follow();
     jobs_end();
@@ -60,17 +51,7 @@ pub fn run_init<M: MasterPort + Drop, N: MirrorPort + Drop, R: Report + Drop>(
 ) -> Result<(), SyncFault>
     ensures run { IsInitRun url (calls_of ports.old) (calls_of ports.new) (R.heard (report_of ports.old))
         (R.heard (report_of ports.new)) result }
-    ensures mirror { Moving (calls_of ports.old) (calls_of ports.new)
-        (WentAt N.stands N.clock N.left_since N.honest (mirror_of ports.old) (mirror_of ports.new)) }
-    ensures asked { KeepsTelling N.asked (mirror_of ports.old) (mirror_of ports.new) (calls_of ports.old)
-        (calls_of ports.new) }
-    ensures answered { KeepsAnswers M.answered (master_of ports.old) (master_of ports.new) (calls_of ports.old)
-        (calls_of ports.new) }
-    ensures world { IsEvents (M.is_at (master_of ports.old)) (M.is_at (master_of ports.new))
-        (N.stands (mirror_of ports.old)) (N.stands (mirror_of ports.new)) (N.seat (mirror_of ports.old)) }
-    ensures stops { StopsAsMirror (M.is_at (master_of ports.old)) (M.is_at (master_of ports.new))
-        (N.stands (mirror_of ports.old)) (N.seat (mirror_of ports.old)) N.clock N.left_since
-        (N.honest (mirror_of ports.old)) (mirror_of ports.old) (mirror_of ports.new) }
+    ensures left { LeavesPorts M.MasterPort N.MirrorPort ports.old ports.new }
 {
     jobs_follow();
     jobs_end();
@@ -87,17 +68,7 @@ pub fn run_copy_revprops<M: MasterPort + Drop, N: MirrorPort + Drop, R: Report +
 ) -> Result<(), SyncFault>
     ensures run { IsCopyRun token low high (calls_of ports.old) (calls_of ports.new) (R.heard (report_of ports.old))
         (R.heard (report_of ports.new)) result }
-    ensures mirror { Moving (calls_of ports.old) (calls_of ports.new)
-        (WentAt N.stands N.clock N.left_since N.honest (mirror_of ports.old) (mirror_of ports.new)) }
-    ensures asked { KeepsTelling N.asked (mirror_of ports.old) (mirror_of ports.new) (calls_of ports.old)
-        (calls_of ports.new) }
-    ensures answered { KeepsAnswers M.answered (master_of ports.old) (master_of ports.new) (calls_of ports.old)
-        (calls_of ports.new) }
-    ensures world { IsEvents (M.is_at (master_of ports.old)) (M.is_at (master_of ports.new))
-        (N.stands (mirror_of ports.old)) (N.stands (mirror_of ports.new)) (N.seat (mirror_of ports.old)) }
-    ensures stops { StopsAsMirror (M.is_at (master_of ports.old)) (M.is_at (master_of ports.new))
-        (N.stands (mirror_of ports.old)) (N.seat (mirror_of ports.old)) N.clock N.left_since
-        (N.honest (mirror_of ports.old)) (mirror_of ports.old) (mirror_of ports.new) }
+    ensures left { LeavesPorts M.MasterPort N.MirrorPort ports.old ports.new }
 {
     jobs_follow();
     jobs_end();

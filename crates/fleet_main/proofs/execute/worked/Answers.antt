@@ -7,13 +7,13 @@ use Rattle.fleet_main.proofs.execute.worked.Goals as goal
 
 pub returns : goal.returns
 returns g c =
-    let from : ¬ HasFailed c.args.mirror → IsMirroredFrom (repository_of c.args.source.now) c.args.mirror c.run_work.result.0 = λ works. mirrored_lent c.new-master.result c.args.mirror c.run_work.result.0 c.args.source.now c.new-master.ensures c.run_work.ensures.world c.run_work.ensures.stops (c.run_work.ensures.trees (repository_of c.args.source.now) (port_of_lent c.new-master.result c.args.source.now c.new-master.ensures) works) in
+    let from : ¬ HasFailed c.args.mirror → IsMirroredFrom (repository_of c.args.source.now) c.args.mirror c.run_work.result.0 = λ works. mirrored_lent c.new-master.result c.args.mirror c.run_work.result.0 c.args.source.now c.new-master.ensures c.run_work.ensures.brings.world.events c.run_work.ensures.brings.world.stops (c.run_work.ensures.brings.trees (repository_of c.args.source.now) (port_of_lent c.new-master.result c.args.source.now c.new-master.ensures) works) in
     record {
       done = brought_done c.new-master.result c.args.work c.run_work.result.2 c.args.mirror c.run_work.result.0 c.args.source.now (g.O.Output.contents c.args.output) (g.O.Output.contents c.run_work.result.1) (Rose (g.O.Output.failures c.args.output) (g.O.Output.failures c.run_work.result.1))
-          c.new-master.ensures c.run_work.ensures.ran from (λ works. c.run_work.ensures.all (repository_of c.args.source.now) (port_of_lent c.new-master.result c.args.source.now c.new-master.ensures) works);
+          c.new-master.ensures c.run_work.ensures.ran from (λ works. c.run_work.ensures.brings.all (repository_of c.args.source.now) (port_of_lent c.new-master.result c.args.source.now c.new-master.ensures) works);
       refused = brought_refused c.new-master.result c.args.work c.run_work.result.2 c.args.mirror c.run_work.result.0 c.args.source.now (g.O.Output.contents c.args.output) (g.O.Output.contents c.run_work.result.1) (Rose (g.O.Output.failures c.args.output) (g.O.Output.failures c.run_work.result.1))
           c.new-master.ensures c.run_work.ensures.ran from;
       rules = worked_rules answered_lent c.new-master.result (IsWorked c.args.work) c.run_work.result.2 c.args.mirror c.run_work.result.0 (g.O.Output.contents c.args.output) (g.O.Output.contents c.run_work.result.1) (Rose (g.O.Output.failures c.args.output) (g.O.Output.failures c.run_work.result.1)) c.run_work.ensures.ran;
-      unfailed = c.run_work.ensures.unfailed;
-      peer = c.run_work.ensures.peer;
+      unfailed = c.run_work.ensures.output.unfailed;
+      peer = c.run_work.ensures.output.peer;
     }

@@ -7,4 +7,4 @@ use Rattle.holder_share.proofs.runs.run_copy_revprops_at.Goals as goal
 pub returns-clause-served : goal.returns-clause-served
 returns-clause-served g c =
     let run = c.run_copy_revprops.ensures.run in
-    is_served (IsWithin c.args.low c.args.high) (CopyProps c.args.token) (mirror_of c.args.ports.now) (mirror_of c.run_copy_revprops.new.ports) (calls_of c.args.ports.now) (calls_of c.run_copy_revprops.new.ports) run.more c.requires run.adds run.right c.run_copy_revprops.ensures.asked
+    is_served (IsWithin c.args.low c.args.high) (CopyProps c.args.token) (mirror_of c.args.ports.now) (mirror_of c.run_copy_revprops.new.ports) (calls_of c.args.ports.now) (calls_of c.run_copy_revprops.new.ports) run.more c.requires run.adds run.right c.run_copy_revprops.ensures.left.asked

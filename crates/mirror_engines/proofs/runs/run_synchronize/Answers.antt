@@ -17,18 +17,19 @@ returns g c =
     (calls_of c.new-ports.result) (calls_of c.run_sync-ended.new.ports) c.run_sync-ended.result c.is_lost.result c.answer_of-answer.result
     c.held.ensures.store c.held.ensures.stands c.held.ensures.holder c.new.ensures.output c.new.ensures.lost
     c.new-ports.ensures.calls c.new-ports.ensures.parts.1 c.new-ports.ensures.parts.2
-    c.run_sync-ended.ensures.run c.run_sync-ended.ensures.mirror
-    (tells_device IsCopying no_number (Sync c.args.token c.args.steal) (EndsSync (Sync c.args.token c.args.steal) c.run_sync-ended.result) (mirror_of c.new-ports.result) (mirror_of c.run_sync-ended.new.ports) (calls_of c.new-ports.result) (calls_of c.run_sync-ended.new.ports) c.run_sync-ended.result (is_lost (report_of c.run_sync-ended.new.ports)) _ _ c.new-ports.ensures.calls c.run_sync-ended.ensures.run (λ es. sync_ends (Sync c.args.token c.args.steal) c.run_sync-ended.result es) c.run_sync-ended.ensures.asked)
+    c.run_sync-ended.ensures.run c.run_sync-ended.ensures.left.mirror
+    (tells_device IsCopying no_number (Sync c.args.token c.args.steal) (EndsSync (Sync c.args.token c.args.steal) c.run_sync-ended.result) (mirror_of c.new-ports.result) (mirror_of c.run_sync-ended.new.ports) (calls_of c.new-ports.result) (calls_of c.run_sync-ended.new.ports) c.run_sync-ended.result (is_lost (report_of c.run_sync-ended.new.ports)) _ _ c.new-ports.ensures.calls c.run_sync-ended.ensures.run (λ es. sync_ends (Sync c.args.token c.args.steal) c.run_sync-ended.result es) c.run_sync-ended.ensures.left.asked)
     c.into_parts-master.ensures.1 c.into_parts-master.ensures.2
     c.is_lost.ensures c.answer_of-answer.ensures c.into_store.ensures c.into_output.ensures (λ r. r)
-    c.new-ports.ensures.parts.0 (λ m. g.met.M.MasterPort.unasked m) c.run_sync-ended.ensures.answered c.run_sync-ended.ensures.asked in
-    let asked = was_answered g.M.MasterPort.answered (master_of c.new-ports.result) (master_of c.run_sync-ended.new.ports) (calls_of c.new-ports.result) (calls_of c.run_sync-ended.new.ports) (λ m. g.met.M.MasterPort.unasked m) c.run_sync-ended.ensures.answered in
+    c.new-ports.ensures.parts.0 (λ m. g.met.M.MasterPort.unasked m) c.run_sync-ended.ensures.left.answered c.run_sync-ended.ensures.left.asked in
+    let asked = was_answered g.M.MasterPort.answered (master_of c.new-ports.result) (master_of c.run_sync-ended.new.ports) (calls_of c.new-ports.result) (calls_of c.run_sync-ended.new.ports) (λ m. g.met.M.MasterPort.unasked m) c.run_sync-ended.ensures.left.answered in
     record {
       ran = w.ran;
-      world = handed_on g.M.MasterPort.answered g.M.MasterPort.is_at c.args.master _ _ c.args.mirror c.into_store.result (mirror_of c.new-ports.result) (mirror_of c.run_sync-ended.new.ports) c.held.result
-          c.new-ports.ensures.parts.0 c.new-ports.ensures.parts.1 c.held.ensures.store c.held.ensures.holder (c.into_store.ensures ∙ ap store_of c.into_parts-master.ensures.1) asked c.run_sync-ended.ensures.world;
-      stops = stops_handed_on g.M.MasterPort.answered g.M.MasterPort.is_at c.args.master _ _ c.args.mirror c.into_store.result (mirror_of c.new-ports.result) (mirror_of c.run_sync-ended.new.ports) c.held.result
-          c.new-ports.ensures.parts.0 c.new-ports.ensures.parts.1 c.held.ensures.store c.held.ensures.holder (c.into_store.ensures ∙ ap store_of c.into_parts-master.ensures.1) asked c.run_sync-ended.ensures.stops;
-      unfailed = w.unfailed;
-      peer = w.peer;
+      world = record {
+        events = handed_on g.M.MasterPort.answered g.M.MasterPort.is_at c.args.master _ _ c.args.mirror c.into_store.result (mirror_of c.new-ports.result) (mirror_of c.run_sync-ended.new.ports) c.held.result
+            c.new-ports.ensures.parts.0 c.new-ports.ensures.parts.1 c.held.ensures.store c.held.ensures.holder (c.into_store.ensures ∙ ap store_of c.into_parts-master.ensures.1) asked c.run_sync-ended.ensures.left.world;
+        stops = stops_handed_on g.M.MasterPort.answered g.M.MasterPort.is_at c.args.master _ _ c.args.mirror c.into_store.result (mirror_of c.new-ports.result) (mirror_of c.run_sync-ended.new.ports) c.held.result
+            c.new-ports.ensures.parts.0 c.new-ports.ensures.parts.1 c.held.ensures.store c.held.ensures.holder (c.into_store.ensures ∙ ap store_of c.into_parts-master.ensures.1) asked c.run_sync-ended.ensures.left.stops;
+      };
+      output = record { unfailed = w.unfailed; peer = w.peer };
     }

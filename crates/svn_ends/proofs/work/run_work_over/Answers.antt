@@ -11,3 +11,9 @@ returns-in-Err-clause-ran g c = Unmet c.refused.result refl (of_some c.in-Err.fa
 
 pub returns-in-Err-clause-peer : goal.returns-in-Err-clause-peer
 returns-in-Err-clause-peer g c = λ p. absurd (no_peer c.in-Err.fault c.refused.result c.refused.ensures p)
+
+pub returns-in-Ok-clause-unfailed : goal.returns-in-Ok-clause-unfailed
+returns-in-Ok-clause-unfailed g c = c.run_work.ensures.output.unfailed
+
+pub returns-in-Ok-clause-peer : goal.returns-in-Ok-clause-peer
+returns-in-Ok-clause-peer g c = c.run_work.ensures.output.peer
