@@ -1,5 +1,6 @@
 pub mod Chained
 pub mod Changing
+pub mod Locks
 pub mod Seen
 pub mod Showing
 pub mod Crosses

@@ -43,12 +43,15 @@ impl<L: RowName> ReaderSeat<L> {
     }
 
     /// The revision of that number in the seat's row, where the seat has seen it or its cell shows it. It waits for
-    /// nobody, and takes no memory. What the seat has seen it reads for good.
+    /// nobody, and takes no memory. What the seat has seen it reads for good, and
+    /// so what it was given once.
     pub fn read_in<'a>(&mut self, row: &'a RevRow, number: RevNo) -> Option<&'a Rev>
         requires { row.now ≡ L.cells }
         ensures there { number ≤ seen_by self.old → IfNone result ⊥ }
         ensures value { (x : RevOf) → number ≤ seen_by self.old → known_by self.old number ≡ Some x
             → IfSome result (λ r. r.now ≡ x) }
+        ensures again { (x : RevOf) → known_by self.old number ≡ Some x → x.number ≡ number
+            → IfSome result (λ r. r.now ≡ x) × (IfNone result ⊥) }
         ensures number { IfSome result (λ r. (r.now.number ≡ number) × (known_by self.new number ≡ Some r.now)) }
         ensures seen { seen_by self.new ≡ seen_by self.old }
         ensures kept { (r : ℕ) (x : RevOf) → known_by self.old r ≡ Some x → known_by self.new r ≡ Some x }

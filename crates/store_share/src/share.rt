@@ -1,7 +1,10 @@
 //! A store behind its lock, with its row beside it.
 ghost use Rattle.std.specs.Prelude.{◌≡◌, ◌≤◌, ◌<◌, ◌⊎◌, ℕ, Some, None, IfOk, IfErr, IfSome, IfNone, OnOk};
-ghost use Rattle.std.specs.Option.{option_map};
+ghost use Rattle.std.specs.Option.{option_copied, option_map};
 ghost use Rattle.gate_log.specs.declared.fault.LogFault.TheVariants as log;
+ghost use Rattle.repo_core.specs.Refusals.{by_repository, change_fault, with_value};
+ghost use Rattle.repo_core.specs.Repository.{props_at};
+ghost use Rattle.repo_core.specs.declared.entry.Entry.TheVariants.{Mapped};
 ghost use Rattle.repo_core.specs.declared.fault.RepoFault.TheVariants as core;
 ghost use Rattle.repo_store.specs.declared.fault.StoreFault.TheVariants as fault;
 ghost use Rattle.rev_row.specs.declared.rev.Rev.{Rev as RevOf};
@@ -29,6 +32,8 @@ pub struct MasterShare<L: RowName, D: Disk> {
 }
 
 impl<L: RowName, D: Disk> MasterShare<L, D> {
+    ghost use Rattle.store_share.specs.Locked.{HasIdentity, HasProps, IsEditOf, IsNewest, IsShownTo};
+
     /// A book behind a lock, and its row.
     pub fn new(book: MasterBook<L, D>, row: RevRow) -> MasterShare<L, D>
         requires { row ≡ L.cells }
@@ -45,17 +50,17 @@ impl<L: RowName, D: Disk> MasterShare<L, D> {
         book.into_inner()
     }
 
-    /// The repository's identity.
-    pub fn identity<R: Wait>(&self, rt: &R) -> Uuid {
+    /// The repository's identity. What a call finds is of the book as the lock has it, which its caller doesn't know.
+    pub fn identity<R: Wait>(&self, rt: &R) -> Uuid
+        ensures { HasIdentity self.now result }
+    {
         self.book.lock(rt).identity()
     }
 
     /// The seat of a reader, who has seen what is shown now. Only want of memory (70) refuses it.
-    pub fn enter_reader<R: Wait>(
-        &self,
-        rt: &R,
-        alloc: Global,
-    ) -> Result<ReaderSeat<L>, AllocError> {
+    pub fn enter_reader<R: Wait>(&self, rt: &R, alloc: Global) -> Result<ReaderSeat<L>, AllocError>
+        ensures { IfOk result (λ s. IsShownTo self.now s (seen_by s)) }
+    {
         let notes = self.row.notes(alloc)?;
         Ok(self.book.lock(rt).seat_reader(notes))
     }
@@ -65,6 +70,7 @@ impl<L: RowName, D: Disk> MasterShare<L, D> {
         ensures most { seen_by reader.old ≤ result }
         ensures seen { seen_by reader.new ≡ result }
         ensures kept { (r : ℕ) → r ≤ seen_by reader.old → known_by reader.new r ≡ known_by reader.old r }
+        ensures newest { IsNewest self.now (seen_by reader.old) reader.new result }
     {
         self.book.lock(rt).latest(reader)
     }
@@ -115,7 +121,11 @@ impl<L: RowName, D: Disk> MasterShare<L, D> {
         name: &PropName,
         value: Option<&[u8]>,
         expected: &Expected,
-    ) -> Result<(), StoreFault> {
+    ) -> Result<(), StoreFault>
+        ensures { let value = option_copied value.entry in
+            IsEditOf self.now (λ x. Mapped number (with_value (props_at x number) name.now value))
+            (λ x. change_fault x number name.now value expected.now) result }
+    {
         self.book
             .lock(rt)
             .change_prop(alloc, number, name, value, expected)
@@ -129,12 +139,15 @@ impl<L: RowName, D: Disk> MasterShare<L, D> {
         alloc: Global,
         number: RevNo,
         props: Props,
-    ) -> Result<(), StoreFault> {
+    ) -> Result<(), StoreFault>
+        ensures { IsEditOf self.now (λ _. Mapped number props) (λ x. by_repository x (Mapped number props)) result }
+    {
         self.book.lock(rt).put_props(alloc, number, props)
     }
 
     /// The properties that a revision has now. NoSuchRevision (21) above the head, OutOfMemory (70).
     pub fn fetch_props<R: Wait>(&self, rt: &R, number: RevNo) -> Result<Props, StoreFault>
+        ensures props { IfOk result (HasProps self.now number) }
         ensures refused { IfErr result (λ e. (e ≡ fault.Repo core.NoSuchRevision) ⊎ (e ≡ fault.Log log.OutOfMemory)) }
     {
         self.book.lock(rt).fetch_props(number)
@@ -151,6 +164,7 @@ impl<L: RowName, D: Disk> MasterShare<L, D> {
     ) -> Result<(ChangeSet, Props), StoreFault>
         ensures within { IfOk result (λ p. number ≤ seen_by reader.new) }
         ensures set { IfOk result (λ p. option_map (λ x. x.set) (known_by reader.new number) ≡ Some p.0) }
+        ensures props { IfOk result (λ p. HasProps self.now number p.1) }
         ensures kept { (r : ℕ) → r ≤ seen_by reader.old → known_by reader.new r ≡ known_by reader.old r }
         ensures seen { seen_by reader.old ≤ seen_by reader.new }
         ensures refused { IfErr result (λ e. (e ≡ fault.Repo core.NoSuchRevision) ⊎ (e ≡ fault.Log log.OutOfMemory)) }

@@ -1,13 +1,19 @@
 -- What a port over a share is to its caller.
 use Rattle.std.specs.Prelude.{ℕ, Bool, Option, None}
+use Rattle.node_base.specs.Props.{PropMap}
 use Rattle.repo_core.specs.Repository.{Repository}
 use Rattle.ra_serve.specs.Ports.{Goes, Stays}
+use Rattle.store_share.specs.Locked.{HasProps}
 use Rattle.store_share.specs.declared.seat.ReaderSeat.{ReaderSeat}
 use Rattle.svn_ends.specs.declared.port.MasterSharePort.{MasterSharePort}
 
 -- its seat
 abbrev pub seat_of : {R L D : Type 0} {r : _} {g : _} → MasterSharePort R L D r g → ReaderSeat L r
 seat_of p = p.seat
+
+-- the properties that a revision had in a book of its share
+abbrev pub are_found : {R L D : Type 0} {r : _} {g : _} → MasterSharePort R L D r g → ℕ → PropMap → Type 0
+are_found p n m = HasProps p.share.now n m
 
 -- whether it takes no changes
 abbrev pub takes_none : {R L D : Type 0} {r : _} {g : _} → MasterSharePort R L D r g → Bool
