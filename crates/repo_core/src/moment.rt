@@ -67,5 +67,8 @@ fn clock_text(alloc: Global, at: DateTime) -> Result<String, AllocError>
 {
     let time = at.time;
     let micros = time.subsec_nanosecond / 1_000;
-    format!(in alloc; "{:02}:{:02}:{:02}.{micros:06}", time.hour, time.minute, time.second)
+    format!(in alloc;
+        "{:02}:{:02}:{:02}.{micros:06}",
+        time.hour, time.minute, time.second
+    )
 }
