@@ -91,9 +91,9 @@ module _ {D : Type 0} {G : Ghosts D} where
   some_of None e = absurd (true≢false (sym e))
   some_of (Some s) e = (s, refl)
 
-told_by : {E : Type 0} (r : Result (Vec Answer Global) E) (ss ts : List (Result ℕ Refusal)) → ss ≡ ts → IfOk r (λ told. AreTold 0 ss told.items) → IfOk r (λ told. AreTold 0 ts told.items)
-told_by (Ok told) ss ts e h = subst (λ k. AreTold 0 k told.items) e h
-told_by (Err x) ss ts e h = tt
+told_by : {D E : Type 0} (G : Ghosts D) (r : Result (Vec Answer Global) E) (ss ts : List (Result ℕ Refusal)) → ss ≡ ts → IfOk r (λ told. AreTold G 0 ss told.items) → IfOk r (λ told. AreTold G 0 ts told.items)
+told_by G (Ok told) ss ts e h = subst (λ k. AreTold G 0 k told.items) e h
+told_by G (Err x) ss ts e h = tt
 
 last_place : (n m : ℕ) → m ≡ n + 1 → n < m
 last_place n m e = omega (arith, e)
@@ -205,13 +205,13 @@ module _ {F D : Type 0} (G : Ghosts D) (H : FolderGhosts F D) where
 
   -- the fleet is run where no folder is left
   pub brought_none : {E : Type 0} (folders : F) (names : List (List ℕ)) (refusals : List (Option Refusal)) (old new : FleetStores D G) (answers : Result (Vec Answer Global) E) → names ≡ []
-      → SameSlots old new → IfOk answers (λ told. AreTold 0 (stands 0 refusals new) told.items) → AreBrought G H folders folders names refusals old new answers
+      → SameSlots old new → IfOk answers (λ told. AreTold G 0 (stands 0 refusals new) told.items) → AreBrought G H folders folders names refusals old new answers
   brought_none folders names refusals old new answers none same told =
       subst (λ ns. AreBrought G H folders folders ns refusals old new answers) (sym none) (record {
         came = [];
         come = record { each = tt; back = λ rules. none_lent G H folders; later = omega arith };
         slots = λ slot less. same slot;
-        told = told_by answers _ _ (sym (append-nil (stands 0 refusals new))) told;
+        told = told_by G answers _ _ (sym (append-nil (stands 0 refusals new))) told;
       })
 
   module _ {E : Type 0} (folders mid now : F) (name : List ℕ) (names : List (List ℕ)) (refusals more : List (Option Refusal)) (answers : Result (Vec Answer Global) E) where
@@ -224,7 +224,7 @@ module _ {F D : Type 0} (G : Ghosts D) (H : FolderGhosts F D) where
           came = Refused e u.0 ∷ b.came;
           come = u.1;
           slots = λ slot less. b.slots slot (before_last slot (length refusals) (length more) (ap length pushed ∙ length-append refusals (Some e ∷ [])) less);
-          told = told_by answers _ _
+          told = told_by G answers _ _
               (ap (λ rs. stands 0 rs new ++ map standing b.came) pushed
               ∙ (ap (λ ss. ss ++ map standing b.came) (stands_snoc 0 refusals (Some e) new)
               ∙ append_assoc (stands 0 refusals new) (Err e ∷ []) (map standing b.came))) b.told;
@@ -245,7 +245,7 @@ module _ {F D : Type 0} (G : Ghosts D) (H : FolderGhosts F D) where
           slots = λ slot less.
               ap is_some (others_left slot (not_last slot (length refusals) less))
               ∙ (b.slots slot (before_last slot (length refusals) (length more) counted less) ∙ ap is_some (others slot (not_last slot (length refusals) less)));
-          told = told_by answers _ _
+          told = told_by G answers _ _
               (ap (λ rs. stands 0 rs new ++ map standing b.came) pushed
               ∙ (ap (λ ss. ss ++ map standing b.came) (stands_snoc 0 refusals None new)
               ∙ (ap (λ x. (stands 0 refusals new ++ stand None (option_map (λ r. head_of (revisions_of r)) x) ∷ []) ++ map standing b.came) (ap (store_at new) (from_none (length refusals)) ∙ s.1)
@@ -271,14 +271,14 @@ module _ {F D : Type 0} (G : Ghosts D) (H : FolderGhosts F D) where
   -- the master is back last
   pub fleet_stood : {E : Type 0} (folders mid now last : F) (master : List ℕ) (names : List (List ℕ)) (refusals : List (Option Refusal)) (store new_store : RepoStore D G) (old new : FleetStores D G)
       (answers : Result (Vec Answer Global) E) (o : IsOpenedIn G H folders mid master store) → KeptThen store → StoreIsKept new_store → refusals ≡ [] → AreBrought G H mid now names refusals old new answers
-      → TakesBack G H now last master (disk_of new_store) → OfFleet G H folders last master names (λ standings. IfOk answers (λ told. AreTold 0 standings told.items))
+      → TakesBack G H now last master (disk_of new_store) → OfFleet G H folders last master names (λ standings. IfOk answers (λ told. AreTold G 0 standings told.items))
   fleet_stood folders mid now last master names refusals store new_store old new answers o k kept none b t = record {
     given = o.0;
     old = store;
     new = new_store;
     came = b.came;
     come = stood_then folders mid now master names b.came last store new_store o k kept b.come t;
-    done = told_by answers _ _ (ap (λ rs. stands 0 rs new ++ map standing b.came) none) b.told;
+    done = told_by G answers _ _ (ap (λ rs. stands 0 rs new ++ map standing b.came) none) b.told;
   }
 
   fleet_as : (folders later : F) (master : List ℕ) (names : List (List ℕ)) (P Q : List (Result ℕ Refusal) → Type 0) → ((ss : List (Result ℕ Refusal)) → P ss → Q ss) → OfFleet G H folders later master names P
@@ -286,27 +286,27 @@ module _ {F D : Type 0} (G : Ghosts D) (H : FolderGhosts F D) where
   fleet_as folders later master names P Q f b = record { given = b.given; old = b.old; new = b.new; came = b.came; come = b.come; done = f (map standing b.came) b.done }
 
   pub fleet_done : {E : Type 0} (folders later : F) (master : List ℕ) (names : List (List ℕ)) (answers : Result (Vec Answer Global) E) (r : Result (Vec Answer Global) Refusal) → IfOk r (λ told. answers ≡ Ok told)
-      → OfFleet G H folders later master names (λ standings. IfOk answers (λ told. AreTold 0 standings told.items))
-      → IfOk r (λ told. OfFleet G H folders later master names (λ standings. AreTold 0 standings told.items))
-  fleet_done {E = E} folders later master names answers (Ok told) e b = fleet_as folders later master names _ _ (λ ss h. subst (λ (a : Result (Vec Answer Global) E). IfOk a (λ t. AreTold 0 ss t.items)) e h) b
+      → OfFleet G H folders later master names (λ standings. IfOk answers (λ told. AreTold G 0 standings told.items))
+      → IfOk r (λ told. OfFleet G H folders later master names (λ standings. AreTold G 0 standings told.items))
+  fleet_done {E = E} folders later master names answers (Ok told) e b = fleet_as folders later master names _ _ (λ ss h. subst (λ (a : Result (Vec Answer Global) E). IfOk a (λ t. AreTold G 0 ss t.items)) e h) b
   fleet_done folders later master names answers (Err x) e b = tt
 
   pub fleet_refused : {E : Type 0} (folders later : F) (master : List ℕ) (names : List (List ℕ)) (answers : Result (Vec Answer Global) E) (r : Result (Vec Answer Global) Refusal) → IfErr r (λ e. e ≡ refusal.OutOfMemory)
-      → OfFleet G H folders later master names (λ standings. IfOk answers (λ told. AreTold 0 standings told.items)) → IfErr r (NotBrought G H folders later master names)
+      → OfFleet G H folders later master names (λ standings. IfOk answers (λ told. AreTold G 0 standings told.items)) → IfErr r (NotBrought G H folders later master names)
   fleet_refused folders later master names answers (Ok told) e b = tt
   fleet_refused folders later master names answers (Err x) e b = inr (e, inr (fleet_as folders later master names _ _ (λ ss h. tt) b))
 
   -- what is told is written in the lines
   pub telling : (folders later : F) (m master : List ℕ) (ms names : List (List ℕ)) (told : List Answer) (written : List ℕ) (before now : Option (List ℕ)) (done : Bool) → m ≡ master → ms ≡ names
-      → OfFleet G H folders later m ms (λ standings. AreTold 0 standings told) → done ≡ list_all is_ok told → written ≡ lines_of ms told → Appends before now written
-      → OfFleet G H folders later master names (IsTelling names done before now)
+      → OfFleet G H folders later m ms (λ standings. AreTold G 0 standings told) → done ≡ list_all is_ok told → written ≡ lines_of ms told → Appends before now written
+      → OfFleet G H folders later master names (IsTelling G names done before now)
   telling folders later m master ms names told written before now done same all b each lines more =
-      subst (λ k. OfFleet G H folders later k names (IsTelling names done before now)) same
-      (subst (λ k. OfFleet G H folders later m k (IsTelling k done before now)) all
+      subst (λ k. OfFleet G H folders later k names (IsTelling G names done before now)) same
+      (subst (λ k. OfFleet G H folders later m k (IsTelling G k done before now)) all
       (fleet_as folders later m ms _ _ (λ ss h. (told, h, sym each, subst (Appends before now) lines more)) b))
 
   -- or isn't told
-  pub untold : (folders later : F) (m master : List ℕ) (ms names : List (List ℕ)) (told : List Answer) → m ≡ master → ms ≡ names → OfFleet G H folders later m ms (λ standings. AreTold 0 standings told)
+  pub untold : (folders later : F) (m master : List ℕ) (ms names : List (List ℕ)) (told : List Answer) → m ≡ master → ms ≡ names → OfFleet G H folders later m ms (λ standings. AreTold G 0 standings told)
       → OfFleet G H folders later master names (λ standings. Unit {0})
   untold folders later m master ms names told same all b =
       subst (λ k. OfFleet G H folders later k names (λ standings. Unit {0})) same

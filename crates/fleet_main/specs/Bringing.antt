@@ -58,7 +58,7 @@ pub record AreBrought {F D E : Type 0} (G : Ghosts D) (H : FolderGhosts F D) (be
   pub came : List (Came G)
   pub come : HaveCome G H before now folders came
   pub slots : (slot : ℕ) → slot < length refusals → is_some (store_at new slot) ≡ is_some (store_at old slot)
-  pub told : IfOk answers (λ told. AreTold 0 (stands 0 refusals new ++ map standing came) told.items)
+  pub told : IfOk answers (λ told. AreTold G 0 (stands 0 refusals new ++ map standing came) told.items)
 
 -- a master was opened and then its mirrors; all are back, and of how the mirrors stand then P is so
 pub record OfFleet {F D : Type 0} (G : Ghosts D) (H : FolderGhosts F D) (folders later : F) (master : List ℕ) (mirrors : List (List ℕ)) (P : List (Result ℕ Refusal) → Type 0) : Type 0 where
@@ -70,13 +70,13 @@ pub record OfFleet {F D : Type 0} (G : Ghosts D) (H : FolderGhosts F D) (folders
   pub done : P (map standing came)
 
 -- what is told of each mirror is written in its line, and whether none is a refusal
-abbrev pub IsTelling : List (List ℕ) → Bool → Option (List ℕ) → Option (List ℕ) → List (Result ℕ Refusal) → Type 0
-IsTelling mirrors done before now standings = (answers : List Answer) × AreTold 0 standings answers × (list_all is_ok answers ≡ done) × Appends before now (lines_of mirrors answers)
+abbrev pub IsTelling : {D : Type 0} → Ghosts D → List (List ℕ) → Bool → Option (List ℕ) → Option (List ℕ) → List (Result ℕ Refusal) → Type 0
+IsTelling G mirrors done before now standings = (answers : List Answer) × AreTold G 0 standings answers × (list_all is_ok answers ≡ done) × Appends before now (lines_of mirrors answers)
 
 -- the fleet is run, and whether no mirror was refused
 abbrev pub IsFleetRun : {F D : Type 0} → Ghosts D → FolderGhosts F D → F → F → Fleet → Option (List ℕ) → Bool → Option (List ℕ) → Type 0
 IsFleetRun G H folders later fleet before done now =
-    OfFleet G H folders later (string_bytes fleet.master) (map string_bytes fleet.mirrors.items) (IsTelling (map string_bytes fleet.mirrors.items) done before now)
+    OfFleet G H folders later (string_bytes fleet.master) (map string_bytes fleet.mirrors.items) (IsTelling G (map string_bytes fleet.mirrors.items) done before now)
 
 -- whichever
 abbrev pub IsSomeRun : {F D : Type 0} → Ghosts D → FolderGhosts F D → F → F → Fleet → Option (List ℕ) → Option (List ℕ) → Type 0

@@ -120,7 +120,7 @@ where
     requires few { length mirrors.now ≤ 4 }
     requires apart { first_twice (master.now ∷ map string_bytes mirrors.now) ≡ None }
     ensures done { IfOk result (λ told. OfFleet F.Place.Disk F.Folders folders.old folders.new master.now
-        (map string_bytes mirrors.now) (λ standings. AreTold 0 standings told.items)) }
+        (map string_bytes mirrors.now) (λ standings. AreTold F.Place.Disk 0 standings told.items)) }
     ensures refused { IfErr result (NotBrought F.Place.Disk F.Folders folders.old folders.new master.now
         (map string_bytes mirrors.now)) }
 {

@@ -1,20 +1,23 @@
 -- What a job's run was, and what it is answered with.
-use Rattle.std.proofs.Common.{◌≡◌, ◌⊎◌, inl, inr, ℕ, List, [], ◌++◌, Result, Ok, Err, subst, refl}
-use Rattle.fleet_jobs.specs.Answers.{Answer}
+use Rattle.std.proofs.Common.{◌≡◌, ◌⊎◌, inl, inr, ℕ, List, [], ◌++◌, Result, Ok, Err, subst, refl, sym}
+use Rattle.std.specs.List.{AllZip}
 use Rattle.fleet_jobs.specs.declared.order.Order.{Order}
 use Rattle.mirror_engines.specs.Runs.{IsUnheard}
-use Rattle.mirror_share.specs.Places.{IsRunningFault}
+use Rattle.mirror_share.specs.Ports.{seat_of, share_of, WasAsked}
+use Rattle.mirror_share.specs.Seats.{place_of}
+use Rattle.mirror_share.specs.declared.port.SeatMirror.{SeatMirror}
+use Rattle.mirror_share.specs.declared.share.MirrorShare.{MirrorShare}
 use Rattle.store_share.specs.Seats.{seen_by}
-use Rattle.store_share.specs.declared.name.RowName.{Ghosts}
 use Rattle.store_share.specs.declared.seat.ReaderSeat.{ReaderSeat}
 use Rattle.sync_core.specs.Jobs.{Job}
 use Rattle.sync_core.specs.Jobs as jobs
 use Rattle.sync_core.specs.declared.fault.SyncFault.{SyncFault}
 use Rattle.sync_job.specs.Runs.{Runs}
 use Rattle.sync_job.specs.Said.{Spoken}
+use Rattle.sync_job.specs.Telling.{IsSaidAs, KeepsTelling, calls_in}
 use Rattle.sync_job.specs.declared.report.Told.{Told}
 use Rattle.fleet_shares.specs.Answers.{Answers, EndsAs}
-use Rattle.fleet_shares.specs.Jobs.{IsRunOf, HasRun}
+use Rattle.fleet_shares.specs.Jobs.{EndsBy, IsSaidAt}
 
 -- a run that nobody hears, from the first word that was said
 pub unheard : {B : Type 0} (N : Job → ℕ → Type 0) (order : jobs.Order) (End : List Spoken → Type 0) (old said : List Spoken) (before after : B → List Told → Type 0) → old ≡ []
@@ -29,11 +32,20 @@ unheard N order End old said before after e run = record {
   end = run.end;
 }
 
+-- what was said at a seat of a share, through ports through which nothing was said before
+said_at : {R L D : Type 0} {r : _} {g : _} (share : MirrorShare L D r g) (first last : SeatMirror R L D r g) (said : List Spoken) → share_of first ≡ share → KeepsTelling WasAsked first last [] said → IsSaidAt share said
+said_at share first last said e keeps =
+    let t = keeps first [] (record { made = []; more = []; adds = refl; asked = record { share = refl; seat = refl; steps = tt }; said = tt; others = tt }) in
+    subst (λ s. IsSaidAt s said) e (record { seat = place_of (seat_of first); made = t.made; steps = t.asked.steps; told = subst (λ xs. AllZip IsSaidAs t.made (calls_in xs)) (sym t.adds) t.said })
+
 -- a job that was let in ends as its run
-pub ends_as : (order : Order) (token : List ℕ) (r : Result (Unit {0}) SyncFault) → token ≡ order.token → (said : List Spoken) × IsRunOf order.work token said r → EndsAs order r
-ends_as order token (Ok u) same h = subst (λ t. (said : List Spoken) × IsRunOf order.work t said (Ok tt)) same h
-ends_as order token (Err f) same h = inl (subst (λ t. (said : List Spoken) × IsRunOf order.work t said (Err f)) same h)
+pub ends_as : {R L D : Type 0} {r : _} {g : _} (share : MirrorShare L D r g) (first last : SeatMirror R L D r g) (order : Order) (said : List Spoken) (ended : Result (Unit {0}) SyncFault) → share_of first ≡ share → KeepsTelling WasAsked first last [] said
+    → EndsBy order said ended → EndsAs share order ended
+ends_as share first last order said (Ok u) e keeps (inl run) = record { said = said; run = run; calls = said_at share first last said e keeps }
+ends_as share first last order said (Ok u) e keeps (inr starved) = absurd (cc)
+ends_as share first last order said (Err f) e keeps (inl run) = inl (record { said = said; run = run; calls = said_at share first last said e keeps })
+ends_as share first last order said (Err f) e keeps (inr memory) = inr (cc)
 
 -- what it is answered with
-pub answered_well : {L : Type 0} (G : Ghosts L) (order : Order) (n : ℕ) (seat : ReaderSeat L G) (r : Result (Unit {0}) SyncFault) (u : Unit {0}) → r ≡ Ok u → EndsAs order r → seen_by seat ≡ n → Answers G order (Ok n)
-answered_well G order n seat r u is h seen = (subst (EndsAs order) is h, (seat, seen))
+pub answered_well : {L D : Type 0} {r : _} {g : _} (share : MirrorShare L D r g) (order : Order) (n : ℕ) (seat : ReaderSeat L r) (ended : Result (Unit {0}) SyncFault) (u : Unit {0}) → ended ≡ Ok u → EndsAs share order ended → seen_by seat ≡ n → Answers share order (Ok n)
+answered_well share order n seat ended u is h seen = (subst (EndsAs share order) is h, (seat, seen))

@@ -1,17 +1,38 @@
 -- The job of an order.
-use Rattle.std.specs.Prelude.{ℕ, List, Result}
+use Rattle.std.specs.Prelude.{◌≡◌, ◌⊎◌, ℕ, List, Result, Err}
+use Rattle.std.specs.List.{AllByRecursion, AllZip}
+use Rattle.fleet_disk.specs.declared.disk.Disk.{Ghosts}
 use Rattle.fleet_jobs.specs.declared.order.Order.{Order}
 use Rattle.fleet_jobs.specs.declared.order.Work.{Work}
 use Rattle.fleet_jobs.specs.declared.order.Work.TheVariants.{Sync, Copy}
 use Rattle.mirror_engines.specs.Runs.{IsSynchronised, IsCopied}
+use Rattle.mirror_share.specs.Locked.{IsStepOf}
+use Rattle.mirror_share.specs.declared.share.MirrorShare.{MirrorShare}
 use Rattle.sync_core.specs.declared.fault.SyncFault.{SyncFault}
+use Rattle.sync_core.specs.declared.fault.SyncFault.TheVariants.{OutOfMemory}
+use Rattle.sync_job.specs.Asked.{Asked}
 use Rattle.sync_job.specs.Said.{Spoken}
+use Rattle.sync_job.specs.Telling.{IsSaidAs, calls_in}
 
 -- what was said through the ports of a job, in order, is that of a run that does this work under this token, and that ends so
 abbrev pub IsRunOf : Work → List ℕ → List Spoken → Result (Unit {0}) SyncFault → Type 0
 IsRunOf (Sync steal) token said ended = IsSynchronised token steal said ended
 IsRunOf (Copy low high) token said ended = IsCopied token low high said ended
 
--- the order's job was run, and ended so
-abbrev pub HasRun : Order → Result (Unit {0}) SyncFault → Type 0
-HasRun order ended = (said : List Spoken) × IsRunOf order.work order.token said ended
+-- how the order's job ends, by what was said: as its run, or for want of memory before it
+abbrev pub EndsBy : Order → List Spoken → Result (Unit {0}) SyncFault → Type 0
+EndsBy order said ended = IsRunOf order.work order.token said ended ⊎ (ended ≡ Err OutOfMemory)
+
+-- what was said tells each call that was made of a share from one seat, once and in order, and no other; and each was a step of the
+-- share's book
+pub record IsSaidAt {L D : Type 0} {r : _} {g : Ghosts D} (share : MirrorShare L D r g) (said : List Spoken) : Type 0 where
+  pub seat : ℕ
+  pub made : List Asked
+  pub steps : AllByRecursion (λ a. IsStepOf share seat a.call a.result) made
+  pub told : AllZip IsSaidAs made (calls_in said)
+
+-- the order's job was run at the share, and ended so
+pub record HasRun {L D : Type 0} {r : _} {g : Ghosts D} (share : MirrorShare L D r g) (order : Order) (ended : Result (Unit {0}) SyncFault) : Type 0 where
+  pub said : List Spoken
+  pub run : IsRunOf order.work order.token said ended
+  pub calls : IsSaidAt share said

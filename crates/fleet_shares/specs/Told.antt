@@ -1,6 +1,7 @@
 -- What is told of each mirror of a fleet.
 use Rattle.std.specs.Prelude.{◌≡◌, ℕ, ◌+◌, true, List, [], ◌∷◌, Option, Some, None, Result, Ok, Err, IfOk, is_some}
 use Rattle.std.specs.Option.{option_map}
+use Rattle.fleet_disk.specs.declared.disk.Disk.{Ghosts}
 use Rattle.fleet_jobs.specs.Answers.{Answer}
 use Rattle.fleet_jobs.specs.declared.order.Order.{Order}
 use Rattle.node_base.specs.declared.refusal.Refusal.{Refusal}
@@ -47,20 +48,20 @@ tells (s ∷ ss) [] = tell_next s None ∷ tells ss []
 tells (s ∷ ss) (a ∷ more) = tell_next s (Some a) ∷ tells ss more
 
 -- what may be told of a mirror by how it stands in the end: its refusal; or that revision once its order's job has run well, or why that was refused, or that no worker was left for it (32), or that memory ran out (70)
-abbrev pub IsTold : Order → Result ℕ Refusal → Answer → Type 0
-IsTold order (Err e) answer = answer ≡ Err (Other e)
-IsTold order (Ok head) answer = IsAnswerAt true (HasEnded order answer × IfOk answer (λ n. n ≡ head)) answer
+abbrev pub IsTold : {D : Type 0} → Ghosts D → Order → Result ℕ Refusal → Answer → Type 0
+IsTold g order (Err e) answer = answer ≡ Err (Other e)
+IsTold g order (Ok head) answer = IsAnswerAt true (HasEnded g order answer × IfOk answer (λ n. n ≡ head)) answer
 
 -- one answer for each, where the order of a mirror is that of its slot, from this one on
-abbrev pub AreTold : ℕ → List (Result ℕ Refusal) → List Answer → Type 0
-AreTold slot [] [] = Unit {0}
-AreTold slot [] (a ∷ more) = ⊥
-AreTold slot (s ∷ ss) [] = ⊥
-AreTold slot (s ∷ ss) (a ∷ more) = IsTold (sync_order slot) s a × AreTold (slot + 1) ss more
+abbrev pub AreTold : {D : Type 0} → Ghosts D → ℕ → List (Result ℕ Refusal) → List Answer → Type 0
+AreTold g slot [] [] = Unit {0}
+AreTold g slot [] (a ∷ more) = ⊥
+AreTold g slot (s ∷ ss) [] = ⊥
+AreTold g slot (s ∷ ss) (a ∷ more) = IsTold g (sync_order slot) s a × AreTold g (slot + 1) ss more
 
 -- the answer of an order, by whether its slot has a store
 abbrev pub IsAnswerOver : {D : Type 0} {g : _} → FleetStores D g → Order → Answer → Type 0
-IsAnswerOver stores order answer = IsAnswerAt (is_some (store_at stores order.mirror)) (HasEnded order answer) answer
+IsAnswerOver {g = g} stores order answer = IsAnswerAt (is_some (store_at stores order.mirror)) (HasEnded g order answer) answer
 
 -- a mirror's store where there was one
 abbrev pub SameSlots : {D : Type 0} {g : _} → FleetStores D g → FleetStores D g → Type 0

@@ -1,9 +1,10 @@
 //! The job of an order on one mirror.
 ghost use Rattle.std.specs.Prelude.{[], ◌≡◌, Ok, Err, IfOk, IfErr, OnErr};
 ghost use Rattle.fleet_shares.specs.Answers.{Answers, AnswersOn, EndsAs, IsSeen};
-ghost use Rattle.fleet_shares.specs.Jobs.{IsRunOf};
+ghost use Rattle.fleet_shares.specs.Jobs.{EndsBy, IsRunOf};
 ghost use Rattle.sync_core.specs.declared.fault.SyncFault.TheVariants as fault;
-ghost use Rattle.sync_job.specs.Words.{calls_of};
+ghost use Rattle.sync_job.specs.Telling.{KeepsTelling};
+ghost use Rattle.sync_job.specs.Words.{calls_of, mirror_of};
 
 use crate::master::SharedMaster;
 use crate::unheard::Unheard;
@@ -43,7 +44,7 @@ fn run_on<R: Wait, M: RowName, L: RowName, D: Disk>(
     mirror: &MirrorShare<L, D>,
     order: &Order,
 ) -> Result<RevNo, SyncFault>
-    ensures { Answers L.RowName order.now result }
+    ensures { Answers mirror.now order.now result }
 {
     let mut reader = mirror.enter_reader(rt, alloc)?;
     let seat = mirror.enter_job(rt, alloc, &order.token)?;
@@ -64,7 +65,7 @@ fn run_seated<R: Wait, M: RowName, L: RowName, D: Disk>(
     seat: JobSeat<L>,
     order: &Order,
 ) -> (JobSeat<L>, Result<(), SyncFault>)
-    ensures { EndsAs order.now result.1 }
+    ensures { EndsAs mirror.now order.now result.1 }
 {
     let mirror = match SeatMirror::new(rt, alloc, mirror, seat) {
         Ok(mirror) => mirror,
@@ -79,14 +80,17 @@ fn run_seated<R: Wait, M: RowName, L: RowName, D: Disk>(
     (mirror.into_seat(), ended)
 }
 
-// Runs the job of an order over ports through which nothing was said yet.
+// Runs the job of an order over ports through which nothing was said yet. What is said from then on tells each call that
+// the mirror is asked.
 fn run_work<M: MasterPort + Drop, N: MirrorPort + Drop>(
     alloc: Global,
     ports: &mut JobPorts<M, N, Unheard>,
     order: &Order,
 ) -> Result<(), SyncFault>
     requires { calls_of ports.old ≡ [] }
-    ensures { EndsAs order.now result }
+    ensures ended { EndsBy order.now (calls_of ports.new) result }
+    ensures asked { KeepsTelling N.asked (mirror_of ports.old) (mirror_of ports.new) (calls_of ports.old)
+        (calls_of ports.new) }
 {
     match order.token.copy(alloc) {
         Ok(token) => run_under(alloc, ports, order.work, token),
@@ -102,7 +106,9 @@ fn run_under<M: MasterPort + Drop, N: MirrorPort + Drop>(
     token: Token,
 ) -> Result<(), SyncFault>
     requires { calls_of ports.old ≡ [] }
-    ensures { (said : _) × IsRunOf work token said result }
+    ensures ran { IsRunOf work token (calls_of ports.new) result }
+    ensures asked { KeepsTelling N.asked (mirror_of ports.old) (mirror_of ports.new) (calls_of ports.old)
+        (calls_of ports.new) }
 {
     match work {
         Work::Sync { steal } => run_sync(alloc, ports, token, steal),

@@ -1,5 +1,10 @@
-use Rattle.fleet_shares.proofs.Ending.{ends_as}
+use Rattle.std.proofs.Common.{inl, subst}
+use Rattle.sync_job.specs.Words.{calls_of}
+use Rattle.fleet_shares.specs.Jobs.{IsRunOf}
 use Rattle.fleet_shares.proofs.job.run_work.Goals as goal
 
 pub returns-in-Ok : goal.returns-in-Ok
-returns-in-Ok g c = ends_as c.args.order.now c.in-Ok.token c.run_under.result c.in-Ok.ensures c.run_under.ensures
+returns-in-Ok g c = record {
+  ended = inl (subst (λ t. IsRunOf c.args.order.now.work t (calls_of c.run_under.new.ports) c.run_under.result) c.in-Ok.ensures c.run_under.ensures.ran);
+  asked = c.run_under.ensures.asked;
+}
