@@ -20,10 +20,11 @@ toy() {
 }
 
 # The stand-in for rt tells what it was called with in $work/called, and what it found in $work/seen, and builds the program
-# by copying it. Where a file $work/refuses names a crate it doesn't prove that; with a file $work/forgets it keeps nothing,
+# by copying it. In $work/fake/rattle-kept it keeps each library, with a file that is the same for all. Where a file $work/refuses names a crate it doesn't prove that; with a file $work/forgets it keeps nothing,
 # with $work/old it has no `rt ci NAME`, and what $work/meanwhile says is done while it builds the program.
-mkdir -p "$work/fake"
-cat >"$work/fake/rt" <<END
+mkdir -p "$work/fake/kit/bin"
+ln -s kit/bin/rt "$work/fake/rt"
+cat >"$work/fake/kit/bin/rt" <<END
 #!/bin/sh
 called() { echo "\$*" >>"$work/called"; }
 proves() { sleep 0.3; called "ended \$1"; ! grep -qx "\$1" "$work/refuses" 2>/dev/null || { echo "rt: \$1 NOT PROVED"; exit 1; }; }
@@ -37,6 +38,11 @@ version*) echo 'stand-in' ;;
     called "ci \$2 jobs=\${RT_JOBS:-}"
     find . >"$work/seen"
     proves "\$2"
+    kept="$work/fake/rattle-kept/proof-\$2-1"
+    mkdir -p "\$kept"
+    echo '{"key": "1", "files": [["below/format", "1"], ["format", "2'\$2'"]]}' >"\$kept/made.json"
+    echo std >"\$kept/0"
+    echo "\$2" >"\$kept/1"
     echo "rt: \$2 and the crates below passed\$keeps"
     ;;
 'ci ')
@@ -57,4 +63,4 @@ run*)
     ;;
 esac
 END
-chmod +x "$work/fake/rt"
+chmod +x "$work/fake/kit/bin/rt"
