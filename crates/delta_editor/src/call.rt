@@ -5,7 +5,7 @@ use node_base::{NodePath, PropName, RevNo};
 
 /// A call of an editor with all that it says. What a call acts on is named by its full path; where two paths are given,
 /// the first is that of the directory in which it acts.
-#[derive(Debug, Drop)]
+#[derive(Drop)]
 pub enum Call {
     /// The revision that is shown.
     Target(RevNo),

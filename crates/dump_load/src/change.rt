@@ -10,7 +10,7 @@ use node_base::{Action, NodeKind, NodePath, Props, Source, Text};
 use std::alloc::{AllocError, Global};
 
 /// A change of one path. A part that is missing is left as it was.
-#[derive(Debug, Drop)]
+#[derive(Drop)]
 pub struct Change {
     /// The path that is changed.
     pub path: NodePath,

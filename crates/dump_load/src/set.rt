@@ -17,7 +17,7 @@ use std::marker::Model;
 
 /// At most 4,096 changes in path order, each path once, nothing under a path that is deleted, and each of them one that
 /// dump text can say, whose path, source and parts are within their limits. Contracts see the list of changes.
-#[derive(Debug, Drop)]
+#[derive(Drop)]
 pub struct ChangeSet {
     changes: Vec<Change>,
 }

@@ -7,7 +7,7 @@ use std::marker::Model;
 use std::mem;
 
 /// Bytes that came before the line or the text was whole, seen by contracts as these bytes.
-#[derive(Debug, Drop)]
+#[derive(Drop)]
 pub struct HeldBytes {
     bytes: Vec<u8>,
 }

@@ -7,14 +7,14 @@ use node_base::{Action, NodeKind, NodePath, PropDelta, Props, RevNo, Source, Tex
 use uuid::Uuid;
 
 /// What a record gives of properties: the whole list, or, in format 3, changes of the list that is there.
-#[derive(Debug, Drop)]
+#[derive(Drop)]
 pub enum PropPart {
     Whole(Props),
     Delta(PropDelta),
 }
 
 /// A node record: one change of a revision. A part that is missing is left as it was.
-#[derive(Debug, Drop)]
+#[derive(Drop)]
 pub struct NodeRecord {
     pub path: NodePath,
     pub kind: Option<NodeKind>,
@@ -25,7 +25,7 @@ pub struct NodeRecord {
 }
 
 /// A whole revision: its number, its properties, and its node records.
-#[derive(Debug, Drop)]
+#[derive(Drop)]
 pub struct RevRecord {
     pub number: RevNo,
     pub props: Props,
@@ -72,7 +72,7 @@ impl RevRecord {
 
 /// A record of a stream: the repository's identity, the beginning of a revision with its properties, or a node of that
 /// revision.
-#[derive(Debug, Drop)]
+#[derive(Drop)]
 pub enum DumpRecord {
     Identity(Uuid),
     Revision(RevNo, Props),

@@ -3,7 +3,7 @@
 use crate::DiskFile;
 
 /// A call that was made to a disk in memory.
-#[derive(Debug, Drop)]
+#[derive(Drop)]
 pub enum DiskCall {
     /// A read of so many bytes, from an offset on.
     Read {
@@ -40,7 +40,7 @@ pub enum DiskCall {
 }
 
 /// Which of the images that it may leave a stop leaves.
-#[derive(Clone, Copy, Debug, PartialEq, Eq)]
+#[derive(Clone, Copy, PartialEq, Eq)]
 pub enum Pick {
     /// As at the last sync.
     Old,

@@ -7,7 +7,7 @@ ghost use Rattle.fleet_disk.specs.Rules.{HasCause};
 use thiserror::Error;
 
 /// A file of a disk.
-#[derive(Clone, Copy, Debug, PartialEq, Eq)]
+#[derive(Clone, Copy, PartialEq, Eq)]
 pub enum DiskFile {
     /// The entries, one after another.
     Journal,

@@ -8,7 +8,7 @@ ghost use Rattle.fleet_disk.specs.Rules.{HasCause, Rose};
 use crate::disk::{Disk, DiskFault, DiskFile};
 
 /// How often a disk fails once its calls have passed.
-#[derive(Clone, Copy, Debug, PartialEq, Eq)]
+#[derive(Clone, Copy, PartialEq, Eq)]
 pub enum Fuse {
     /// One call fails, and the later ones pass.
     Once,

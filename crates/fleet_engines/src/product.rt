@@ -1,7 +1,7 @@
 //! What is made of a dump.
 
 /// What is made of a dump that is read.
-#[derive(Clone, Copy, Debug, PartialEq, Eq)]
+#[derive(Clone, Copy, PartialEq, Eq)]
 pub enum Product {
     /// The listing of its newest tree.
     List,

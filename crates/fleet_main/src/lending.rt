@@ -7,7 +7,7 @@ use fleet_disk::Disk;
 use std::alloc::Global;
 
 /// Why a folder lends no disk.
-#[derive(Clone, Copy, Debug, PartialEq, Eq)]
+#[derive(Clone, Copy, PartialEq, Eq)]
 pub enum FolderFault {
     /// The host failed (31).
     DeviceFailed,

@@ -46,7 +46,7 @@ pub struct GateLog<D: Disk> {
 }
 
 /// A sign that an entry is on the disk: only an append that answered Ok makes one.
-#[derive(Debug, Drop)]
+#[derive(Drop)]
 pub struct Receipt {
     entry: u64,
 }

@@ -5,7 +5,7 @@ ghost use Rattle.gate_log.specs.Version.{file_of};
 use fleet_disk::DiskFile;
 
 /// Which layout a log has.
-#[derive(Clone, Copy, Debug, PartialEq, Eq)]
+#[derive(Clone, Copy, PartialEq, Eq)]
 pub enum LogVersion {
     /// The file `gate` has a gate and a length for each entry.
     First,

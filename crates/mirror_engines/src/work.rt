@@ -3,7 +3,7 @@ use node_base::{PropValue, RevNo};
 use sync_core::Token;
 
 /// What a run over a mirror and its source is to do.
-#[derive(Debug, Drop)]
+#[derive(Drop)]
 pub enum Work {
     /// Make it the mirror of the source, which is reached by that URL.
     Initialize {

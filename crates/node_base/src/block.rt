@@ -16,7 +16,7 @@ use std::alloc::{AllocError, Global};
 use std::mem;
 
 /// A property block that comes in pieces. It keeps its allocator.
-#[derive(Debug, Drop)]
+#[derive(Drop)]
 pub struct BlockReader {
     left: u64,
     part: Part,

@@ -3,7 +3,7 @@
 /// What is awaited in a property block. A property is `K`, a blank, the count of its name's bytes, LF, the name, LF,
 /// `V`, a blank, the count of its value's bytes, LF, the value, LF. In a block of a delta a name that is removed is `D`,
 /// a blank, the count of its bytes, LF, the name, LF.
-#[derive(Clone, Copy, Debug)]
+#[derive(Clone, Copy)]
 pub enum Part {
     /// `K` or `D`, or the `P` of PROPS-END.
     Tag,

@@ -6,7 +6,7 @@ use std::marker::Model;
 use std::mem;
 
 // Bytes so far, seen by contracts as their list. They keep their allocator.
-#[derive(Debug, Drop)]
+#[derive(Drop)]
 pub struct Bytes {
     bytes: Vec<u8>,
 }

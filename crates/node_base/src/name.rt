@@ -18,7 +18,7 @@ use std::marker::Model;
 
 /// A name of a file or a directory, seen by contracts as its bytes: UTF-8 of 1 to 255 bytes, not `.` or `..`, without
 /// `/`, control bytes (0x00 to 0x1F) and 0x7F.
-#[derive(Debug, Drop)]
+#[derive(Drop)]
 pub struct NodeName {
     text: String,
 }

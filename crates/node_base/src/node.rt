@@ -8,14 +8,14 @@ use crate::{NodePath, PropFault, PropName, PropValue, Props, RevNo, Text, TextFa
 use std::alloc::{AllocError, Global};
 
 /// The kind of a node.
-#[derive(Clone, Copy, Debug, PartialEq, Eq)]
+#[derive(Clone, Copy, PartialEq, Eq)]
 pub enum NodeKind {
     File,
     Dir,
 }
 
 /// What a change does to its path. `Modify` is spelled `change` in a dump.
-#[derive(Clone, Copy, Debug, PartialEq, Eq)]
+#[derive(Clone, Copy, PartialEq, Eq)]
 pub enum Action {
     Modify,
     Add,
@@ -24,14 +24,14 @@ pub enum Action {
 }
 
 /// Where a copy comes from: a path in an earlier revision.
-#[derive(Debug, Drop)]
+#[derive(Drop)]
 pub struct Source {
     pub path: NodePath,
     pub revision: RevNo,
 }
 
 /// A file, which has a text, or a directory, which has none; its properties, and the revision that last changed it.
-#[derive(Debug, Drop)]
+#[derive(Drop)]
 pub struct Node {
     pub text: Option<Text>,
     pub props: Props,

@@ -23,7 +23,7 @@ use std::fmt;
 use std::marker::Model;
 
 /// A path, name by name. The empty path is the root.
-#[derive(Debug, Drop)]
+#[derive(Drop)]
 pub struct NodePath {
     names: Vec<NodeName>,
 }

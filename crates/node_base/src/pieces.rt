@@ -5,7 +5,7 @@ ghost use Rattle.std.specs.Iterator.{YieldsFirstBy, item_count};
 ghost use Rattle.node_base.specs.PathText.{pieces, pieces_left};
 
 /// The pieces of a path's text that are left, first to last.
-#[derive(Debug, Drop)]
+#[derive(Drop)]
 pub struct Pieces<'a> {
     rest: Option<&'a [u8]>,
 }

@@ -8,7 +8,7 @@ use crate::{PropFault, Props};
 use std::alloc::{AllocError, Global};
 
 /// What a property block of a delta says: names that are set to values, and names that are removed.
-#[derive(Debug, Drop)]
+#[derive(Drop)]
 pub struct PropDelta {
     /// The names that are set, with their values.
     pub sets: Props,

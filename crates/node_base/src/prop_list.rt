@@ -13,7 +13,7 @@ use std::cmp::Ordering;
 use std::marker::Model;
 
 // Values by name, the names rising.
-#[derive(Debug, Drop)]
+#[derive(Drop)]
 pub struct PropList {
     entries: Vec<(PropName, PropValue)>,
 }

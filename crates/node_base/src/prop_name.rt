@@ -12,7 +12,7 @@ use std::marker::Model;
 
 /// A property's name, seen by contracts as its bytes: UTF-8 without ASCII control characters, 1 to 255 bytes.
 /// It may hold `/`, and may be `.` or `..`.
-#[derive(Debug, Drop)]
+#[derive(Drop)]
 pub struct PropName {
     text: String,
 }

@@ -17,7 +17,7 @@ use std::slice::Iter;
 use std::sync::Arc;
 
 /// Values by name, seen by contracts as a finite map in the byte order of the names. Its owners share the entries.
-#[derive(Debug, Drop)]
+#[derive(Drop)]
 pub struct Props {
     list: Option<Arc<PropList>>,
 }

@@ -11,12 +11,12 @@ use std::marker::Model;
 use std::sync::Arc;
 
 /// A file's text, at most 1,048,576 bytes, seen by contracts as its bytes. Its owners share the bytes.
-#[derive(Debug, Drop)]
+#[derive(Drop)]
 pub struct Text {
     body: Arc<Body>,
 }
 
-#[derive(Debug, Drop)]
+#[derive(Drop)]
 struct Body {
     bytes: Vec<u8>,
     sum: Option<[u8; 16]>,

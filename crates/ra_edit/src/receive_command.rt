@@ -23,7 +23,7 @@ use ra_item::item::{Content, Item};
 use std::alloc::Global;
 
 /// One command of an editor drive. What is open is named by a token, a string that the peer chose when it was opened.
-#[derive(Debug, Drop)]
+#[derive(Drop)]
 pub enum Command {
     /// `target-rev`: the revision that is shown.
     Target(RevNo),

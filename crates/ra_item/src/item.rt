@@ -17,7 +17,7 @@ use std::marker::Model;
 /// bytes, it is at most 16 lists deep, and its written spelling has at most 33,554,432 bytes before the
 /// space behind it. Contracts see it as the item of `specs/Items.antt`.
 #[cycle(item)]
-#[derive(Debug, Drop)]
+#[derive(Drop)]
 pub struct Item {
     content: Content,
     depth: u32,
@@ -26,7 +26,7 @@ pub struct Item {
 
 /// What an item is, to be matched on. A list's items are items within the limits themselves.
 #[cycle(item)]
-#[derive(Debug, Drop)]
+#[derive(Drop)]
 pub enum Content {
     /// A letter, and then letters, digits and hyphens.
     Word(Vec<u8>),

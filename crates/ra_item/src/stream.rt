@@ -57,7 +57,7 @@ impl<I: Input + Drop> Source<I> {
 }
 
 // What stands behind the items that are ready.
-#[derive(Clone, Copy, Debug, PartialEq, Eq)]
+#[derive(Clone, Copy, PartialEq, Eq)]
 pub enum Rest {
     // More may be read.
     Open,

@@ -92,7 +92,7 @@ impl From<io::Error> for ServeFault {
 }
 
 /// What ended a session.
-#[derive(Clone, Copy, Debug, PartialEq, Eq, Drop)]
+#[derive(Clone, Copy, PartialEq, Eq, Drop)]
 pub enum End {
     /// The input ended between items.
     Input,

@@ -15,7 +15,7 @@ use ra_item::item::Item;
 use std::alloc::Global;
 
 /// The value that a change of a property replaces.
-#[derive(Debug, Drop)]
+#[derive(Drop)]
 pub enum Previous {
     /// Any value, or none.
     Any,
@@ -26,7 +26,7 @@ pub enum Previous {
 }
 
 /// What a client asks. A missing revision is the newest one.
-#[derive(Debug, Drop)]
+#[derive(Drop)]
 pub enum Command {
     /// `get-latest-rev`
     LatestRev,

@@ -4,7 +4,7 @@ use dump_load::ChangeSet;
 use node_base::{Props, RevNo};
 
 /// One accepted change of a repository.
-#[derive(Debug, Drop)]
+#[derive(Drop)]
 pub enum Entry {
     /// The revision after the head: its number, the changes that make its tree, and its properties.
     Revised {

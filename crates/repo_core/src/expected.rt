@@ -7,7 +7,7 @@ ghost use Rattle.repo_core.specs.Refusals.{expects};
 use std::cmp::Ordering;
 
 /// The value that a change of a property expects to replace.
-#[derive(Debug, Drop)]
+#[derive(Drop)]
 pub enum Expected {
     /// Any value, or none.
     DontCare,

@@ -11,7 +11,7 @@ use std::marker::Model;
 pub const LAST_MICROSECOND: u64 = 4_102_444_799_999_999;
 
 /// A moment of the years 1970 to 2099 at a microsecond, seen by contracts as what a clock at UTC shows.
-#[derive(Clone, Copy, Debug, Drop)]
+#[derive(Clone, Copy, Drop)]
 pub struct Moment {
     civil: DateTime,
 }

@@ -4,7 +4,7 @@ use gate_log::Receipt;
 use node_base::RevNo;
 
 /// A commit that is on the disk: its revision's number, and the receipt of its entry.
-#[derive(Debug, Drop)]
+#[derive(Drop)]
 pub struct Committed {
     /// The sign that the entry is on the disk.
     pub receipt: Receipt,

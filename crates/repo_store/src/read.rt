@@ -22,7 +22,7 @@ use std::alloc::{AllocError, AllocFailed, Global};
 use uuid::Uuid;
 
 /// Why bytes aren't read as an entry.
-#[derive(Clone, Copy, Debug, PartialEq, Eq)]
+#[derive(Clone, Copy, PartialEq, Eq)]
 pub enum ReadFault {
     /// They are none.
     Bad,

@@ -5,7 +5,7 @@ ghost use Rattle.store_engines.specs.Ranges.{first_in, last_in};
 use node_base::RevNo;
 
 /// The revisions from one number to another, both of them included.
-#[derive(Clone, Copy, Debug, PartialEq, Eq)]
+#[derive(Clone, Copy, PartialEq, Eq)]
 pub struct RevRange {
     first: RevNo,
     last: RevNo,

@@ -3,7 +3,7 @@ use crate::call::MirrorCall;
 use node_base::RevNo;
 
 /// What a job does next: a call of its mirror, a question to the master, or nothing more.
-#[derive(Debug, Drop)]
+#[derive(Drop)]
 pub enum Action<'a> {
     /// A call of the mirror. It is answered `Done`, a look `Seen`, or refused.
     Call(MirrorCall<'a>),

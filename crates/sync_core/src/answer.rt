@@ -8,7 +8,7 @@ use dump_load::ChangeSet;
 use node_base::{PropValue, Props, RevNo};
 
 /// The answer to a job's action.
-#[derive(Debug, Drop)]
+#[derive(Drop)]
 pub enum Answer {
     /// The mirror has taken the call.
     Done,

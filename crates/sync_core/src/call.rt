@@ -4,7 +4,7 @@ use dump_load::ChangeSet;
 use node_base::{PropValue, Props, RevNo};
 
 /// A call of a mirror. What it brings is lent: an accepted call shares it with the mirror.
-#[derive(Debug, Drop)]
+#[derive(Drop)]
 pub enum MirrorCall<'a> {
     /// The mirror begins: its revision 0 has the copied properties, where they come from, the identity there, and
     /// nothing merged yet.

@@ -19,7 +19,7 @@ use crate::told_number::ToldNumber;
 use node_base::{PropValue, Props, RevNo};
 
 /// Where a copying job is.
-#[derive(Debug, Drop)]
+#[derive(Drop)]
 enum CopyPhase {
     /// Takes the lock.
     Lock,
@@ -42,7 +42,7 @@ enum CopyPhase {
 
 /// A job that copies the properties of a range of merged revisions again: it takes the mirror's lock, looks how the
 /// mirror stands, and fetches and puts the properties of each revision in order.
-#[derive(Debug, Drop)]
+#[derive(Drop)]
 pub struct CopyJob {
     token: Token,
     low: RevNo,

@@ -7,7 +7,7 @@ use crate::answer::Answer;
 use crate::fault::SyncFault;
 
 /// How a job ends: it has done what it was to do, or met a refusal, the first of its refusals.
-#[derive(Debug, Drop)]
+#[derive(Drop)]
 pub enum Ending {
     /// It has done what it was to do.
     Fine,

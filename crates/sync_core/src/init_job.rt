@@ -12,7 +12,7 @@ use crate::ending::Ending;
 use node_base::{PropValue, Props, RevNo};
 
 /// Where an init job is.
-#[derive(Debug, Drop)]
+#[derive(Drop)]
 enum InitPhase {
     /// Asks who the master is.
     Who,
@@ -25,7 +25,7 @@ enum InitPhase {
 }
 
 /// An init job: it asks who the master is, fetches the properties of revision 0, and initializes the mirror with them.
-#[derive(Debug, Drop)]
+#[derive(Drop)]
 pub struct InitJob {
     url: PropValue,
     phase: InitPhase,

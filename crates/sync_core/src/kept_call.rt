@@ -11,7 +11,7 @@ use node_base::{PropValue, Props, RevNo};
 use std::alloc::{AllocError, Global};
 
 /// A call of a mirror as a list of calls keeps it: its texts are copied, its properties and its set shared.
-#[derive(Debug, Drop)]
+#[derive(Drop)]
 pub enum KeptCall {
     Init {
         url: PropValue,

@@ -1,7 +1,7 @@
 //! What a mirror's call needs.
 
 /// A need of a mirror's call that isn't met.
-#[derive(Clone, Copy, Debug, PartialEq, Eq)]
+#[derive(Clone, Copy, PartialEq, Eq)]
 pub enum Need {
     /// The mirror isn't initialized (51).
     NotInitialised,

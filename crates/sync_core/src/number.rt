@@ -1,7 +1,7 @@
 //! Numbers as they stand in a mirror's properties.
 
 /// What the value of a property says as a revision number: decimal digits without leading zeros spell one.
-#[derive(Clone, Copy, Debug, PartialEq, Eq)]
+#[derive(Clone, Copy, PartialEq, Eq)]
 pub enum Number {
     /// There is no such property.
     Absent,

@@ -10,7 +10,7 @@ use crate::standing::Standing;
 use node_base::RevNo;
 
 /// What is merged, what is being copied, and the head.
-#[derive(Clone, Copy, Debug, PartialEq, Eq)]
+#[derive(Clone, Copy, PartialEq, Eq)]
 pub struct Numbers {
     pub merged: Number,
     pub copying: Number,

@@ -17,7 +17,7 @@ use repo_core::{Entry, Repo};
 use std::alloc::Global;
 
 /// What a call comes to that misses no need.
-#[derive(Debug, Drop)]
+#[derive(Drop)]
 pub enum Planned {
     /// A look's answer.
     Tell(Standing),

@@ -2,7 +2,7 @@
 use crate::standing::Standing;
 
 /// The answer to a call that is taken.
-#[derive(Debug, Drop)]
+#[derive(Drop)]
 pub enum Reply {
     /// The call is done.
     Done,

@@ -2,7 +2,7 @@
 
 /// Where a mirror's copying stands, by the last revision that is merged (copied whole), the one that is being copied,
 /// and the head.
-#[derive(Clone, Copy, Debug, PartialEq, Eq)]
+#[derive(Clone, Copy, PartialEq, Eq)]
 pub enum Resting {
     /// The head is merged, and nothing is being copied.
     Idle,

@@ -4,7 +4,7 @@ use crate::number::Number;
 use node_base::{PropValue, RevNo};
 
 /// What a mirror's properties of revision 0 say of its synchronisation, and its head.
-#[derive(Debug, Drop)]
+#[derive(Drop)]
 pub struct Standing {
     /// `svn:sync-from-url`: a mirror is initialized where it is there.
     pub url: Option<PropValue>,

@@ -16,7 +16,7 @@ use crate::token::Token;
 use node_base::{PropValue, RevNo};
 
 /// A job, as far as it has come.
-#[derive(Debug, Drop)]
+#[derive(Drop)]
 pub enum JobState {
     /// One that initializes a mirror.
     Init(InitJob),

@@ -22,7 +22,7 @@ use dump_load::ChangeSet;
 use node_base::{PropValue, Props, RevNo, limits};
 
 /// What a sync job knows of its mirror, by its look and its own accepted calls since, and of the master.
-#[derive(Clone, Copy, Debug)]
+#[derive(Clone, Copy)]
 struct Known {
     merged: Number,
     copying: Number,
@@ -31,7 +31,7 @@ struct Known {
 }
 
 /// Where a sync job is.
-#[derive(Debug, Drop)]
+#[derive(Drop)]
 enum SyncPhase {
     /// Takes the lock, or steals it.
     Lock {
@@ -69,7 +69,7 @@ enum SyncPhase {
 
 /// A sync job: it takes the mirror's lock, looks how the mirror stands, goes on where an earlier job stopped, and
 /// copies one revision after another until the mirror has what the master had when it was asked.
-#[derive(Debug, Drop)]
+#[derive(Drop)]
 pub struct SyncJob {
     known: Known,
     phase: SyncPhase,

@@ -8,7 +8,7 @@ use std::alloc::{AllocError, Global};
 use std::marker::Model;
 
 /// A job's token, seen by contracts as its bytes: 1 to 255 bytes of printable ASCII without blanks (0x21 to 0x7E).
-#[derive(Debug, Drop)]
+#[derive(Drop)]
 pub struct Token {
     bytes: Vec<u8>,
 }
