@@ -14,7 +14,7 @@ use Rattle.command_words.specs.Terminal.{HasNoControl}
 use Rattle.sync_core.specs.Tokens.{is_token}
 use Rattle.command_words.specs.Twice.{first_twice}
 use Rattle.command_words.specs.Values.{HasReturn, HasValue, HasValues, SpellsMicros, SpellsRange, SpellsServer, SpellsUpTo, identity_read, is_on_server}
-use Rattle.command_words.specs.Usages.{AreRefused, IsRefusedAt, IsTold, IsUsageAt, IsUsageOf, IsValueLine, IsOverTwo, IsSyncRefused, no_identity, no_range, no_moment, no_message, no_folders, no_copied_range, no_port, no_connections, no_workers, no_fleet, a_fifth, named_again, on_server, named_twice, no_token}
+use Rattle.command_words.specs.Usages.{AreRefused, IsRefusedAt, IsTold, IsUsageAt, IsUsageOf, IsValueLine, IsOverTwo, IsSyncRefused, IsTimeoutTold, no_seconds, no_timeout, no_identity, no_range, no_moment, no_message, no_folders, no_copied_range, no_port, no_connections, no_workers, no_fleet, a_fifth, named_again, on_server, named_twice, no_token}
 
 pub identity_refused : (rows : List Row) (value read told : List ℕ) (u : Usage) → HasValue rows (codes "uuid") value → read ≡ value → told ≡ value
     → identity_read read ≡ None → IsTold (codes "svnfleet create") told (codes "a UUID of the form 8-4-4-4-12 in hexadecimal digits") u → IsRefusedAt (Some (codes "create", rows)) u
@@ -120,6 +120,23 @@ pub connections_refused : (rows : List Row) (value : List ℕ) (u : Usage) → H
 connections_refused rows value (Shown text) has none h = absurd h
 connections_refused rows value (Wrong text) has none h = (codes "serve", rows, refl, no_connections value refl has none h)
 connections_refused rows value OutOfMemory has none h = tt
+
+-- the seconds that a peer may say nothing
+pub timeout_refused : (rows : List Row) (value help : List ℕ) (u : Usage) → HasValue rows (codes "timeout") value → ((n : ℕ) → SpellsUpTo 43200 value n → ⊥)
+    → IsTold help value (codes "a number of seconds from 1 to 43200") u → IsTimeoutTold rows help u
+timeout_refused rows value help (Shown text) has none h = absurd h
+timeout_refused rows value help (Wrong text) has none h = (value, has, none, h)
+timeout_refused rows value help OutOfMemory has none h = tt
+
+pub seconds_refused : (rows : List Row) (help : List ℕ) (u : Usage) → IsTimeoutTold rows help u → IsSyncRefused rows help u
+seconds_refused rows help (Shown text) h = absurd h
+seconds_refused rows help (Wrong text) h = no_seconds h
+seconds_refused rows help OutOfMemory h = tt
+
+pub served_seconds_refused : (rows : List Row) (u : Usage) → IsTimeoutTold rows (codes "svnfleet serve") u → IsRefusedAt (Some (codes "serve", rows)) u
+served_seconds_refused rows (Shown text) h = absurd h
+served_seconds_refused rows (Wrong text) h = (codes "serve", rows, refl, no_timeout refl h)
+served_seconds_refused rows OutOfMemory h = tt
 
 -- a number of workers, and the folders of a fleet
 pub workers_refused : (rows : List Row) (value : List ℕ) (u : Usage) → HasValue rows (codes "workers") value → ((n : ℕ) → SpellsUpTo 64 value n → ⊥)

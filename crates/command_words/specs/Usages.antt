@@ -38,7 +38,18 @@ IsTold help value wanted (Shown text) = ⊥
 IsTold help value wanted (Wrong text) = IsValueLine help value wanted (string_bytes text)
 IsTold help value wanted OutOfMemory = Unit {0}
 
--- the value of a command over a mirror and its source that isn't taken: the source begins as one on a server and is none, or it is the mirror's folder, or the token is none
+-- the seconds that aren't taken
+abbrev pub IsTimeoutRefused : List Row → List ℕ → List ℕ → Type 0
+IsTimeoutRefused rows help line =
+    (value : List ℕ) × HasValue rows (codes "timeout") value × ((n : ℕ) → SpellsUpTo 43200 value n → ⊥) × IsValueLine help value (codes "a number of seconds from 1 to 43200") line
+
+-- they are told; else memory ran out
+abbrev pub IsTimeoutTold : List Row → List ℕ → Usage → Type 0
+IsTimeoutTold rows help (Shown text) = ⊥
+IsTimeoutTold rows help (Wrong text) = IsTimeoutRefused rows help (string_bytes text)
+IsTimeoutTold rows help OutOfMemory = Unit {0}
+
+-- the value of a command over a mirror and its source that isn't taken: the source begins as one on a server and is none, or it is the mirror's folder, or the token is none, or the seconds aren't taken
 pub data IsSyncValueRefused (rows : List Row) (help line : List ℕ) : Type 0 where
   on_server : (value : List ℕ) → HasValue rows (codes "SOURCE") value → is_on_server value ≡ true → ((n : ℕ) → SpellsServer value n → ⊥)
       → IsValueLine help value (codes "a folder or svn://127.0.0.1:P/ with a port P from 1 to 65535") line → IsSyncValueRefused rows help line
@@ -46,6 +57,7 @@ pub data IsSyncValueRefused (rows : List Row) (help line : List ℕ) : Type 0 wh
       → IsValueLine help value (codes "another folder than the mirror's") line → IsSyncValueRefused rows help line
   no_token : (value : List ℕ) → HasValue rows (codes "token") value → is_token value ≡ false
       → IsValueLine help value (codes "a token of 1 to 255 printable ASCII characters without blanks") line → IsSyncValueRefused rows help line
+  no_seconds : IsTimeoutRefused rows help line → IsSyncValueRefused rows help line
 
 -- of such a command: a value is refused; else memory ran out
 abbrev pub IsSyncRefused : List Row → List ℕ → Usage → Type 0
@@ -68,7 +80,7 @@ AreRefused master mirrors (Shown text) = ⊥
 AreRefused master mirrors (Wrong text) = IsFolderRefused master mirrors (string_bytes text)
 AreRefused master mirrors OutOfMemory = Unit {0}
 
--- the value of a subcommand that isn't taken: it spells no identity, no range, no moment or no token, is a message with a carriage return, a source that is none, no port or number of connections, no number of workers, or a folder of a fleet that isn't taken
+-- the value of a subcommand that isn't taken: it spells no identity, no range, no moment or no token, is a message with a carriage return, a source that is none, no port, number of connections or seconds of a server, no number of workers, or a folder of a fleet that isn't taken
 pub data IsValueRefused (name : List ℕ) (rows : List Row) (line : List ℕ) : Type 0 where
   no_identity : (value : List ℕ) → name ≡ codes "create" → HasValue rows (codes "uuid") value → identity_read value ≡ None
       → IsValueLine (codes "svnfleet create") value (codes "a UUID of the form 8-4-4-4-12 in hexadecimal digits") line → IsValueRefused name rows line
@@ -85,6 +97,7 @@ pub data IsValueRefused (name : List ℕ) (rows : List Row) (line : List ℕ) : 
       → IsValueLine (codes "svnfleet serve") value (codes "a port from 1 to 65535") line → IsValueRefused name rows line
   no_connections : (value : List ℕ) → name ≡ codes "serve" → HasValue rows (codes "connections") value → ((n : ℕ) → SpellsUpTo 1024 value n → ⊥)
       → IsValueLine (codes "svnfleet serve") value (codes "a number of connections from 1 to 1024") line → IsValueRefused name rows line
+  no_timeout : name ≡ codes "serve" → IsTimeoutRefused rows (codes "svnfleet serve") line → IsValueRefused name rows line
   no_workers : (value : List ℕ) → name ≡ codes "fleet" → HasValue rows (codes "workers") value → ((n : ℕ) → SpellsUpTo 64 value n → ⊥)
       → IsValueLine (codes "svnfleet fleet") value (codes "a number of workers from 1 to 64") line → IsValueRefused name rows line
   no_fleet : (master : List ℕ) (mirrors : List (List ℕ)) → name ≡ codes "fleet" → HasValue rows (codes "MASTER") master → HasValues rows (codes "MIRROR") mirrors

@@ -44,6 +44,11 @@ SpellsMicros value micros = (decimal value ≡ Some micros) × (micros ≤ 41024
 abbrev pub SpellsUpTo : ℕ → List ℕ → ℕ → Type 0
 SpellsUpTo most value n = (decimal value ≡ Some n) × (1 ≤ n) × (n ≤ most)
 
+-- the seconds that a value says, where there is one: from 1 to 43200 (twelve hours); and else 600 (ten minutes)
+abbrev pub IsTimeoutOf : Option (List ℕ) → ℕ → Type 0
+IsTimeoutOf None seconds = seconds ≡ 600
+IsTimeoutOf (Some value) seconds = SpellsUpTo 43200 value seconds
+
 -- what a value says, where there is one: a range, or all where it is left out
 abbrev pub IsRangeOf : Option (List ℕ) → Option RevRange → Type 0
 IsRangeOf None None = Unit {0}
@@ -76,10 +81,12 @@ server_url digits = codes "svn://127.0.0.1:" ++ (digits ++ codes "/")
 abbrev pub SpellsServer : List ℕ → ℕ → Type 0
 SpellsServer url port = (digits : List ℕ) × (url ≡ server_url digits) × SpellsUpTo 65535 digits port
 
--- the folder of a mirror and its source: another folder, or on a server
+-- the folder of a mirror and its source: another folder, or on a server, which may say nothing for so long
 abbrev pub HasSource : List Row → List ℕ → Place → Type 0
 HasSource rows mirror (Folder source) = HasFolders rows mirror (string_bytes source)
-HasSource rows mirror (Server url port) = HasValue rows (codes "MIRROR") mirror × HasValue rows (codes "SOURCE") (string_bytes url) × SpellsServer (string_bytes url) port
+HasSource rows mirror (Server url port seconds) =
+    HasValue rows (codes "MIRROR") mirror × HasValue rows (codes "SOURCE") (string_bytes url) × SpellsServer (string_bytes url) port
+    × IsTimeoutOf (first_of (codes "timeout") rows) seconds
 
 -- the range that is given
 abbrev pub IsRangeGiven : List Row → RevRange → Type 0
@@ -122,11 +129,11 @@ HasValuesOf rows (Info mirror) = HasValue rows (codes "MIRROR") (string_bytes mi
 abbrev pub IsCommandOf : Option (List ℕ × List Row) → Command → Type 0
 IsCommandOf named command = (rows : List Row) × (named ≡ Some (word_of command, rows)) × HasValuesOf rows command
 
--- a server's folder, port and number of connections are those of the values under their names
+-- a server's folder, port, number of connections and seconds are those of the values under their names
 abbrev pub HasServiceOf : List Row → Service → Type 0
 HasServiceOf rows service =
     HasValue rows (codes "DIR") (string_bytes service.folder) × HasNumber rows (codes "port") 65535 service.port
-    × HasNumber rows (codes "connections") 1024 service.connections
+    × HasNumber rows (codes "connections") 1024 service.connections × IsTimeoutOf (first_of (codes "timeout") rows) service.seconds
 
 -- a task's token, range and whether it steals are those of the values under their names
 abbrev pub HasTaskOf : List Row → Task → Type 0
@@ -134,11 +141,11 @@ HasTaskOf rows task.Initialize = Unit {0}
 HasTaskOf rows (task.Synchronize token steal) = IsTokenOf (first_of (codes "token") rows) token × (steal ≡ is_given rows (codes "steal-lock"))
 HasTaskOf rows (task.CopyRevprops token range) = IsTokenOf (first_of (codes "token") rows) token × IsRangeGiven rows range
 
--- a mirror's folder and its source on a server are those of the values under their names, and what is to be done
+-- a mirror's folder, its source on a server and its seconds are those of the values under their names, and what is to be done
 abbrev pub HasPullOf : List Row → Pull → Type 0
 HasPullOf rows pull =
     HasValue rows (codes "MIRROR") (string_bytes pull.mirror) × HasValue rows (codes "SOURCE") (string_bytes pull.url)
-    × SpellsServer (string_bytes pull.url) pull.port × HasTaskOf rows pull.task
+    × SpellsServer (string_bytes pull.url) pull.port × IsTimeoutOf (first_of (codes "timeout") rows) pull.seconds × HasTaskOf rows pull.task
 
 -- the values under that name are these
 abbrev pub HasValues : List Row → List ℕ → List (List ℕ) → Type 0

@@ -74,20 +74,20 @@ abbrev pub two_folders_app : List ℕ → List Rule → App
 two_folders_app name rules = app_with name (word_rule (codes "MIRROR") ∷ word_rule (codes "SOURCE") ∷ rules)
 
 abbrev pub initialize_app : App
-initialize_app = two_folders_app (codes "initialize") []
+initialize_app = two_folders_app (codes "initialize") (optional_rule (codes "timeout") ∷ [])
 
 abbrev pub synchronize_app : App
-synchronize_app = two_folders_app (codes "synchronize") (flag_rule (codes "steal-lock") ∷ optional_rule (codes "token") ∷ [])
+synchronize_app = two_folders_app (codes "synchronize") (flag_rule (codes "steal-lock") ∷ optional_rule (codes "token") ∷ optional_rule (codes "timeout") ∷ [])
 
 abbrev pub copy_revprops_app : App
-copy_revprops_app = two_folders_app (codes "copy-revprops") (range_rule true (codes "revisions") ∷ optional_rule (codes "token") ∷ [])
+copy_revprops_app = two_folders_app (codes "copy-revprops") (range_rule true (codes "revisions") ∷ optional_rule (codes "token") ∷ optional_rule (codes "timeout") ∷ [])
 
 abbrev pub info_app : App
 info_app = app_with (codes "info") (word_rule (codes "MIRROR") ∷ [])
 
--- a folder, a port and a number of connections
+-- a folder, a port and a number of connections, and how long a client may say nothing
 abbrev pub serve_app : App
-serve_app = app_with (codes "serve") (folder_rule ∷ named_rule (codes "port") ∷ named_rule (codes "connections") ∷ [])
+serve_app = app_with (codes "serve") (folder_rule ∷ named_rule (codes "port") ∷ named_rule (codes "connections") ∷ optional_rule (codes "timeout") ∷ [])
 
 -- a master and its mirrors, and a number of workers
 abbrev pub fleet_app : App

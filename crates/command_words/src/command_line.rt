@@ -10,10 +10,10 @@ ghost use Rattle.clap.specs.Words.{subcommand_rows_of};
 ghost use Rattle.clap.specs.declared.builder.command.Command.TheViews.{out-Command as fields_of};
 ghost use Rattle.command_words.specs.Lines.{HasNoLineFeed, IsLineOf, first_lines, help_of, without_label};
 ghost use Rattle.command_words.specs.Terminal.{HasNoControl};
-ghost use Rattle.command_words.specs.Usages.{IsRefusedAt, IsSyncRefused, IsTold, IsUsageAt, IsUsageOf};
+ghost use Rattle.command_words.specs.Usages.{IsRefusedAt, IsSyncRefused, IsTimeoutTold, IsTold, IsUsageAt, IsUsageOf};
 ghost use Rattle.command_words.specs.Values.{HasFolders, HasReturn, HasValue, IsCommandOf, IsTokenOf, SpellsMicros};
 ghost use Rattle.command_words.specs.Values.{HasNumber, HasServiceOf, HasTaskOf, IsPlannedOf, IsRangeGiven, SpellsRange};
-ghost use Rattle.command_words.specs.Values.{HasSource, SpellsServer, SpellsUpTo, identity_read, is_given, is_on_server};
+ghost use Rattle.command_words.specs.Values.{HasSource, IsTimeoutOf, SpellsServer, SpellsUpTo, identity_read, is_given, is_on_server};
 ghost use Rattle.command_words.specs.Values.{server_url};
 ghost use Rattle.command_words.specs.Words.{archive_app, mirror_apps, svnfleet_app, with_apps, word_of_task};
 ghost use Rattle.sync_core.specs.Tokens.{is_token};
@@ -93,6 +93,13 @@ pub enum Command {
     },
 }
 
+/// The seconds that a peer may say nothing, where the words don't say it: ten minutes. A client that works between two
+/// commands, and a server that works for an answer, are given that long.
+pub const TIMEOUT_SECONDS: u16 = 600;
+
+/// The most that words may say: twelve hours.
+pub const MOST_TIMEOUT_SECONDS: u16 = 43_200;
+
 /// A folder's repository that is to be served on a port of 127.0.0.1, over so many connections.
 #[derive(Drop)]
 pub struct Service {
@@ -102,6 +109,8 @@ pub struct Service {
     pub port: u16,
     /// The number of connections, from 1 to 1024.
     pub connections: u16,
+    /// The seconds that a client may say nothing, and read nothing, from 1 to 43200.
+    pub seconds: u16,
 }
 
 /// What is done over a mirror and its source.
@@ -124,6 +133,8 @@ pub struct Pull {
     pub url: String,
     /// The port, from 1 to 65535.
     pub port: u16,
+    /// The seconds that the server may say nothing, and read nothing, from 1 to 43200.
+    pub seconds: u16,
     /// What is to be done.
     pub task: Task,
 }
@@ -146,8 +157,12 @@ pub enum Planned {
 enum Place {
     // In a folder.
     Folder(String),
-    // On a server: its URL, and the port in that.
-    Server { url: String, port: u16 },
+    // On a server: its URL, the port in that, and the seconds that it may say nothing.
+    Server {
+        url: String,
+        port: u16,
+        seconds: u16,
+    },
 }
 
 /// Why the words name no command.
@@ -174,7 +189,7 @@ impl From<AllocError> for Usage {
 
 /// The command or the server that the words name, the program's name first, with the values that they give it. Usage
 /// where they name none: help or the version only where it was asked for, and else what is wrong, in the words or in the value of an
-/// identity, a range, a moment, a message, a source, a port or a number of connections, in one line without control
+/// identity, a range, a moment, a message, a source, a port, a number of connections or of seconds, in one line without control
 /// characters that names the help of the command at hand.
 pub fn plan(alloc: Global, words: &[String]) -> Result<Planned, Usage>
     ensures named { IfOk result (IsPlannedOf (subcommand_of svnfleet_app (map string_bytes words.now))) }
@@ -438,10 +453,11 @@ fn over(mirror: String, source: Place, task: Task) -> Planned
 {
     match source {
         Place::Folder(source) => Planned::Run(over_folders_of(mirror, source, task)),
-        Place::Server { url, port } => Planned::Pull(Pull {
+        Place::Server { url, port, seconds } => Planned::Pull(Pull {
             mirror,
             url,
             port,
+            seconds,
             task,
         }),
     }
@@ -503,11 +519,15 @@ fn serve_named(alloc: Global, given: &ArgMatches<'_>) -> Result<Service, Usage>
 {
     match port_of(alloc, given) {
         Ok(port) => match connections_of(alloc, given) {
-            Ok(connections) => Ok(Service {
-                folder: text(alloc, given, "DIR")?,
-                port,
-                connections,
-            }),
+            Ok(connections) => match timeout_of(alloc, "svnfleet serve", given) {
+                Ok(seconds) => Ok(Service {
+                    folder: text(alloc, given, "DIR")?,
+                    port,
+                    connections,
+                    seconds,
+                }),
+                Err(usage) => Err(usage),
+            },
             Err(usage) => Err(usage),
         },
         Err(usage) => Err(usage),
@@ -545,16 +565,34 @@ fn connections_of(alloc: Global, given: &ArgMatches<'_>) -> Result<u16, Usage>
     }
 }
 
+// The seconds that a peer may say nothing.
+fn timeout_of(alloc: Global, help: &str, given: &ArgMatches<'_>) -> Result<u16, Usage>
+    ensures seconds { IfOk result (IsTimeoutOf (first_of (codes "timeout") (rows_of (found_of given.now)))) }
+    ensures usage { IfErr result (IsTimeoutTold (rows_of (found_of given.now)) help.now) }
+{
+    let Some(value) = value(given, "timeout") else {
+        return Ok(TIMEOUT_SECONDS);
+    };
+    match up_to(value.as_bytes(), MOST_TIMEOUT_SECONDS) {
+        Some(seconds) => Ok(seconds),
+        None => Err(wrong(alloc, help, value, "a number of seconds from 1 to 43200")),
+    }
+}
+
 // The folder of a mirror, and where its source is: in another folder or on a server.
 fn places(alloc: Global, help: &str, given: &ArgMatches<'_>) -> Result<(String, Place), Usage>
     ensures places { IfOk result (λ p. HasSource (rows_of (found_of given.now)) (string_bytes p.0) p.1) }
     ensures usage { IfErr result (IsSyncRefused (rows_of (found_of given.now)) help.now) }
 {
+    let seconds = match timeout_of(alloc, help, given) {
+        Ok(seconds) => seconds,
+        Err(usage) => return Err(usage),
+    };
     let mirror = text(alloc, given, "MIRROR")?;
     let source = text(alloc, given, "SOURCE")?;
     if is_on_server(source.as_str()) {
         return match port_in(source.as_str()) {
-            Some(port) => Ok((mirror, Place::Server { url: source, port })),
+            Some(port) => Ok((mirror, server_at(source, port, seconds))),
             None => Err(wrong(
                 alloc,
                 help,
@@ -572,6 +610,13 @@ fn places(alloc: Global, help: &str, given: &ArgMatches<'_>) -> Result<(String, 
         ));
     }
     Ok((mirror, Place::Folder(source)))
+}
+
+// A source on a server.
+fn server_at(url: String, port: u16, seconds: u16) -> Place
+    ensures { result ≡ Place.Server url port seconds }
+{
+    Place::Server { url, port, seconds }
 }
 
 // Whether a source is one on a server.

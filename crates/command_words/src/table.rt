@@ -28,6 +28,12 @@ const TOKEN: Word<'static> = Word {
     help: "The token of the sync lock: 1 to 255 printable ASCII characters without blanks; job where it is left out",
 };
 
+const TIMEOUT: Word<'static> = Word {
+    name: "timeout",
+    kind: WordKind::Optional("SECONDS"),
+    help: "How long a server as source may say nothing, from 1 to 43200 seconds; 600 where it is left out",
+};
+
 /// The commands over a dump, or over one repository.
 pub const ARCHIVE: &[Subcommand<'static>] = &[
     Subcommand {
@@ -115,7 +121,7 @@ pub const MIRRORS: &[Subcommand<'static>] = &[
         name: "initialize",
         about: "Makes an empty repository the mirror of a source",
         after_help: texts::INITIALIZE,
-        words: &[MIRROR, SOURCE],
+        words: &[MIRROR, SOURCE, TIMEOUT],
     },
     Subcommand {
         name: "synchronize",
@@ -130,6 +136,7 @@ pub const MIRRORS: &[Subcommand<'static>] = &[
                 help: "Take the sync lock though it is held, by a run that was stopped",
             },
             TOKEN,
+            TIMEOUT,
         ],
     },
     Subcommand {
@@ -145,6 +152,7 @@ pub const MIRRORS: &[Subcommand<'static>] = &[
                 help: "The first and the last revision to copy",
             },
             TOKEN,
+            TIMEOUT,
         ],
     },
     Subcommand {
@@ -168,6 +176,11 @@ pub const MIRRORS: &[Subcommand<'static>] = &[
                 name: "connections",
                 kind: WordKind::Named("N"),
                 help: "The number of connections, from 1 to 1024, after which it ends",
+            },
+            Word {
+                name: "timeout",
+                kind: WordKind::Optional("SECONDS"),
+                help: "How long a client may say nothing, from 1 to 43200 seconds; 600 where it is left out",
             },
         ],
     },

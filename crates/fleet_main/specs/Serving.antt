@@ -6,6 +6,8 @@ use Rattle.node_base.specs.declared.refusal.Refusal.{Refusal}
 use Rattle.node_base.specs.declared.refusal.Refusal.TheVariants as refusal
 use Rattle.repo_store.specs.declared.store.RepoStore.{RepoStore}
 use Rattle.sockets.specs.Lines.{listening}
+use Rattle.sockets.specs.declared.troubles.Trouble.{Trouble}
+use Rattle.sockets.specs.declared.troubles.Trouble.TheVariants as trouble
 use Rattle.svn_ends.specs.Served.{IsOfStore}
 use Rattle.fleet_main.specs.Doing.{IsKept, IsOpenedOn}
 use Rattle.fleet_main.specs.Lending.{There, IsGiven, OthersStay}
@@ -41,3 +43,11 @@ NotServedIn G H folders later folder before now e = (NotOpenedIn G H folders lat
 
 abbrev pub NotServedFrom : {F D : Type 0} → Ghosts D → FolderGhosts F D → F → F → Service → Option (List ℕ) → Option (List ℕ) → ℕ → Refusal → Type 0
 NotServedFrom G H folders later service before now count e = NotServedIn G H folders later (string_bytes service.folder) before now e
+
+-- the refusal that trouble is
+abbrev pub refusal_of : Trouble → Refusal
+refusal_of trouble.DeviceFailed = refusal.DeviceFailed
+refusal_of trouble.Failed = refusal.Failed
+refusal_of trouble.LogFull = refusal.LogFull
+refusal_of trouble.PeerFailed = refusal.PeerFailed
+refusal_of trouble.OutOfMemory = refusal.OutOfMemory

@@ -5,7 +5,7 @@
 //! match plan(alloc, &words) {
 //!     Ok(Planned::Run(command)) => run(alloc, &mut folders, command, &mut input, output, &mut errors),
 //!     Ok(Planned::Pull(asked)) => pull(&rt, alloc, &mut folders, asked, output, &mut errors),
-//!     Ok(Planned::Serve(service)) => serve(&rt, alloc, &mut folders, &service, output, &mut errors),
+//!     Ok(Planned::Serve(service)) => serve(&rt, alloc, &mut folders, &service, &teller, output, &mut errors),
 //!     Ok(Planned::Fleet(asked)) => fleet(&rt, alloc, &mut folders, &asked, output, &mut errors),
 //!     Err(Usage::Shown(text)) => show(text),
 //!     Err(Usage::Wrong(line)) => tell(line, 2),
@@ -29,6 +29,7 @@ pub use pulling::pull;
 pub use serving::serve;
 pub use store_engines::RevRange;
 pub use streams::{Descriptors, HostDescriptors, fill_streams};
+pub use telling::HostTeller;
 
 mod bringing;
 mod execute;
@@ -38,3 +39,4 @@ mod lending;
 mod pulling;
 mod serving;
 mod streams;
+mod telling;

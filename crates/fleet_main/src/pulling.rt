@@ -19,8 +19,10 @@ use fleet_engines::hand_on;
 use mirror_engines::Work;
 use node_base::Refusal;
 use repo_store::RepoStore;
+use sockets::Peer;
 use std::alloc::Global;
 use std::net::{Net, TcpStream};
+use std::time::Duration;
 use svn_ends::run_work_from;
 
 // The work that a task is.
@@ -47,7 +49,7 @@ fn pull_opened<R: Net<Stream = TcpStream>, D: Disk + Drop, O: Output + Drop>(
     rt: &R,
     alloc: Global,
     mirror: RepoStore<D>,
-    port: u16,
+    peer: Peer,
     url: &str,
     work: Work,
     output: O,
@@ -59,7 +61,7 @@ fn pull_opened<R: Net<Stream = TcpStream>, D: Disk + Drop, O: Output + Drop>(
     ensures rules { ¬ HasFailed mirror → D.honest (disk_of mirror) → D.honest (disk_of result.0) }
     ensures unfailed { OnOk result.2 (O.failures result.1 ≡ O.failures output) }
 {
-    run_work_from(rt, alloc, mirror, port, url.as_bytes(), work, output)
+    run_work_from(rt, alloc, mirror, peer, url.as_bytes(), work, output)
 }
 
 // The mirror's folder is opened first.
@@ -68,7 +70,7 @@ fn pull_folder<R: Net<Stream = TcpStream>, F: Folders, O: Output + Drop>(
     alloc: Global,
     folders: &mut F,
     mirror: &str,
-    port: u16,
+    peer: Peer,
     url: &str,
     work: Work,
     output: O,
@@ -83,7 +85,7 @@ fn pull_folder<R: Net<Stream = TcpStream>, F: Folders, O: Output + Drop>(
 {
     match opened(alloc, folders, mirror) {
         Ok(store) => {
-            let (store, output, done) = pull_opened(rt, alloc, store, port, url, work, output);
+            let (store, output, done) = pull_opened(rt, alloc, store, peer, url, work, output);
             closed(folders, mirror, store);
             (output, done)
         }
@@ -109,12 +111,17 @@ fn pull_asked<R: Net<Stream = TcpStream>, F: Folders, O: Output + Drop>(
         mirror,
         url,
         port,
+        seconds,
         task,
     } = pull;
     let mirror = mirror.as_str();
     let url = url.as_str();
+    let peer = Peer {
+        port,
+        patience: Duration::from_secs(u64::from(seconds)),
+    };
     match work_of(alloc, url, task) {
-        Ok(work) => pull_folder(rt, alloc, folders, mirror, port, url, work, output),
+        Ok(work) => pull_folder(rt, alloc, folders, mirror, peer, url, work, output),
         Err(refusal) => (output, Err(refusal)),
     }
 }
@@ -149,8 +156,8 @@ fn pull_flushed<R: Net<Stream = TcpStream>, F: Folders, O: Output + Drop>(
 /// the mirror's folder is opened first, then the connection. The status is 0 where it is done and what it wrote is
 /// handed on, or 1 where it was refused, and then the refusal's line is on `errors`: what refuses an opening, TooLong
 /// (8) for a URL that no property takes, PeerFailed (49) where nobody listens on the port or the output failed,
-/// MasterFailed (60) where the server fails, refuses, or sends what is no answer; else what the run is refused for. The
-/// output comes back.
+/// MasterFailed (60) where the server fails, refuses, sends what is no answer, or says nothing for as many seconds as it
+/// may; else what the run is refused for. The output comes back.
 ///
 /// Of honest folders it says besides what repository the mirror's disk kept, that a stop at any moment leaves it as the
 /// first so many calls of the run made it, and that its folder has that disk again in the end, and every other folder

@@ -23,11 +23,12 @@ use fleet_disk::Disk;
 use fleet_engines::hand_on;
 use node_base::Refusal;
 use repo_store::RepoStore;
-use sockets::SocketFault;
+use sockets::{Limits, SocketFault, Teller};
 use std::alloc::Global;
 use std::net::{Net, TcpListener, TcpStream};
 use std::sync::Wait;
 use std::thread::Threads;
+use std::time::{Clock, Duration};
 use store_engines::is_mirror;
 use svn_ends::serve_store;
 
@@ -85,15 +86,17 @@ fn may_have_failed<O: Output + Drop>(sink: Sink<O>, before: u64) -> (O, bool)
 
 // Serves a store, a mirror read-only. The output comes back.
 fn serve_opened<
-    R: Net<Listener = TcpListener, Stream = TcpStream> + Threads + Wait + Sync,
+    R: Net<Listener = TcpListener, Stream = TcpStream> + Threads + Wait + Clock + Sync,
     D: Disk + Drop + Send,
     O: Output + Drop,
+    T: Teller + Sync,
 >(
     rt: &R,
     alloc: Global,
     store: RepoStore<D>,
     port: u16,
-    connections: u16,
+    limits: Limits,
+    teller: &T,
     output: O,
 ) -> (D, O, Result<(), Refusal>)
     ensures told { OnOk result.2 (Appends (O.contents output) (O.contents result.1) (listening port)) }
@@ -104,25 +107,26 @@ fn serve_opened<
     ensures unfailed { OnOk result.2 (O.failures result.1 ≡ O.failures output) }
 {
     let mirror = takes_none(&store);
-    let connections = u64::from(connections);
     let mut sink = Sink::new(output);
     let before = sink.begin();
-    let (disk, done) = serve_store(rt, alloc, store, mirror, port, connections, &mut sink);
+    let (disk, done) = serve_store(rt, alloc, store, mirror, port, limits, teller, &mut sink);
     let (output, failed) = may_have_failed(sink, before);
     (disk, output, answer_of(done, failed))
 }
 
 fn serve_folder<
-    R: Net<Listener = TcpListener, Stream = TcpStream> + Threads + Wait + Sync,
+    R: Net<Listener = TcpListener, Stream = TcpStream> + Threads + Wait + Clock + Sync,
     F: Folders,
     O: Output + Drop,
+    T: Teller + Sync,
 >(
     rt: &R,
     alloc: Global,
     folders: &mut F,
     folder: &str,
     port: u16,
-    connections: u16,
+    limits: Limits,
+    teller: &T,
     output: O,
 ) -> (O, Result<(), Refusal>)
 where
@@ -135,7 +139,7 @@ where
 {
     match opened(alloc, folders, folder) {
         Ok(store) => {
-            let (disk, output, done) = serve_opened(rt, alloc, store, port, connections, output);
+            let (disk, output, done) = serve_opened(rt, alloc, store, port, limits, teller, output);
             folders.close(folder, disk);
             (output, done)
         }
@@ -145,10 +149,18 @@ where
 
 // By what words ask for.
 fn serve_asked<
-    R: Net<Listener = TcpListener, Stream = TcpStream> + Threads + Wait + Sync,
+    R: Net<Listener = TcpListener, Stream = TcpStream> + Threads + Wait + Clock + Sync,
     F: Folders,
     O: Output + Drop,
->(rt: &R, alloc: Global, folders: &mut F, service: &Service, output: O) -> (O, Result<(), Refusal>)
+    T: Teller + Sync,
+>(
+    rt: &R,
+    alloc: Global,
+    folders: &mut F,
+    service: &Service,
+    teller: &T,
+    output: O,
+) -> (O, Result<(), Refusal>)
 where
     F::Place: Send,
     ensures done { OnOk result.1 (IsServedFrom F.Place.Disk F.Folders folders.old folders.new service.now
@@ -158,23 +170,36 @@ where
     ensures unfailed { OnOk result.1 (O.failures result.0 ≡ O.failures output) }
 {
     let folder = service.folder.as_str();
+    let limits = Limits {
+        connections: u64::from(service.connections),
+        patience: Duration::from_secs(u64::from(service.seconds)),
+    };
     serve_folder(
         rt,
         alloc,
         folders,
         folder,
         service.port,
-        service.connections,
+        limits,
+        teller,
         output,
     )
 }
 
 // The server's answer, when what it wrote is handed on.
 fn serve_flushed<
-    R: Net<Listener = TcpListener, Stream = TcpStream> + Threads + Wait + Sync,
+    R: Net<Listener = TcpListener, Stream = TcpStream> + Threads + Wait + Clock + Sync,
     F: Folders,
     O: Output + Drop,
->(rt: &R, alloc: Global, folders: &mut F, service: &Service, output: O) -> (O, Result<(), Refusal>)
+    T: Teller + Sync,
+>(
+    rt: &R,
+    alloc: Global,
+    folders: &mut F,
+    service: &Service,
+    teller: &T,
+    output: O,
+) -> (O, Result<(), Refusal>)
 where
     F::Place: Send,
     ensures done { OnOk result.1 (HandsOn (IsServedFrom F.Place.Disk F.Folders folders.old folders.new service.now
@@ -185,7 +210,7 @@ where
     ensures handed { OnOk result.1 (O.is_handed_on result.0) }
     ensures unfailed { OnOk result.1 (O.failures result.0 ≡ O.failures output) }
 {
-    let (output, done) = serve_asked(rt, alloc, folders, service, output);
+    let (output, done) = serve_asked(rt, alloc, folders, service, teller, output);
     let mut output = output;
     let flushed = hand_on(&mut output);
     match done {
@@ -197,17 +222,28 @@ where
 /// Serves a folder's repository over ra_svn on a port of 127.0.0.1, a thread for each connection, and returns once so
 /// many have ended. It says where it listens in a line; a mirror takes no changes. The status is 0, or 1 where it was
 /// refused, and then the refusal's line is on `errors`: what refuses an opening, PeerFailed (49) where it can't listen
-/// there or can't say so, OutOfMemory (70). A session that ends badly ends itself alone. The output comes back.
+/// there or can't say so, OutOfMemory (70). A session that ends badly ends itself alone. What the device or want of memory refused in a session is told to the
+/// teller when that has ended, and so is that a connection can't be accepted; each kind once a minute. `errors` has no
+/// part in that. The output comes back.
 ///
 /// Of honest folders it says besides what repository the folder's disk kept, that a stop left it as the server began, and
 /// that the folder has a store's disk again in the end, and every other folder what it had. What clients were told and
 /// what they changed no clause says.
 pub fn serve<
-    R: Net<Listener = TcpListener, Stream = TcpStream> + Threads + Wait + Sync,
+    R: Net<Listener = TcpListener, Stream = TcpStream> + Threads + Wait + Clock + Sync,
     F: Folders,
     O: Output + Drop,
     E: Output,
->(rt: &R, alloc: Global, folders: &mut F, service: &Service, output: O, errors: &mut E) -> (u8, O)
+    T: Teller + Sync,
+>(
+    rt: &R,
+    alloc: Global,
+    folders: &mut F,
+    service: &Service,
+    teller: &T,
+    output: O,
+    errors: &mut E,
+) -> (u8, O)
 where
     F::Place: Send,
     ensures status { (result.0 ≡ 0) ⊎ (result.0 ≡ 1) }
@@ -223,7 +259,7 @@ where
         × (Rose (E.failures errors.old) (E.failures errors.new)
         ⊎ Appends (E.contents errors.old) (E.contents errors.new) (fault_line e)) }
 {
-    let (output, done) = serve_flushed(rt, alloc, folders, service, output);
+    let (output, done) = serve_flushed(rt, alloc, folders, service, teller, output);
     match done {
         Ok(()) => (0, output),
         Err(refusal) => (refused(&refusal, errors), output),

@@ -1,19 +1,25 @@
 //! The server.
-ghost use Rattle.std.specs.Prelude.{◌≡◌, IfErr, OnOk, string_bytes};
+ghost use Rattle.std.specs.Prelude.{◌≡◌, ℕ, IfErr, OnOk, string_bytes};
 ghost use Rattle.std.specs.Io.KnownBytes.{Appends};
 ghost use Rattle.sockets.specs.Lines.{listening};
 ghost use Rattle.sockets.specs.declared.fault.SocketFault.TheVariants as socket;
 
+use crate::drain::drain;
 use crate::fault::SocketFault;
+use crate::limits::Limits;
 use std::alloc::Global;
-use std::io::{BufWriter, Read, Write};
+use std::io::{BufWriter, Error, ErrorKind, Read, Write};
 use std::net::{Ipv4Addr, Net, SocketAddr, SocketAddrV4, TcpListener, TcpStream};
 use std::sync::Wait;
 use std::thread;
 use std::thread::Threads;
+use std::time::{Clock, Duration};
 
 /// What talks over one connection.
 pub trait Session {
+    /// It has talked over the connection of that number, up to its end.
+    ghost has_talked: { Self → ℕ → Type 0 };
+
     /// Talks until the input ends, or there is nothing more to say. What it writes is kept back until it flushes, so it
     /// flushes before it waits for input, and at its end.
     fn talk<R: Read + Drop, W: Write + Drop>(
@@ -21,22 +27,41 @@ pub trait Session {
         connection: u64,
         input: R,
         output: W,
-    ) -> Result<(), SocketFault>;
+    ) -> Result<(), SocketFault>
+        ensures { OnOk result (has_talked self.now connection) };
 
-    /// Hears how the session of a connection ended. Connections are counted from 0 up.
-    fn ended(&self, connection: u64, answer: Result<(), SocketFault>);
+    /// Hears, once for each connection, how its session ended: well only where it has talked. Connections are counted
+    /// from 0 up.
+    fn ended(&self, connection: u64, answer: Result<(), SocketFault>)
+        requires { OnOk answer (has_talked self.now connection) };
+
+    /// Hears that no connection could be accepted. It counts for none: the server tries again.
+    fn unaccepted(&self, fault: SocketFault);
 }
 
 /// Bytes that a connection's writer keeps back before they go out: 16 KiB.
 const ROOM: usize = 16_384;
 
+/// Milliseconds that a server waits after it couldn't accept a connection, as where the process has too many open files.
+const PAUSE_MILLIS: u64 = 100;
+
+// Sets how long reads and writes of a connection wait, and that what is written goes out at once.
+fn prepared(stream: &TcpStream, patience: Duration) -> bool {
+    stream.set_nodelay(true).is_ok()
+        && stream.set_read_timeout(Some(patience)).is_ok()
+        && stream.set_write_timeout(Some(patience)).is_ok()
+}
+
 fn talk_over<S: Session>(
     session: &S,
     alloc: Global,
     connection: u64,
+    patience: Duration,
     stream: &TcpStream,
-) -> Result<(), SocketFault> {
-    if stream.set_nodelay(true).is_err() {
+) -> Result<(), SocketFault>
+    ensures { OnOk result (S.has_talked session.now connection) }
+{
+    if !prepared(stream, patience) {
         return Err(SocketFault::PeerFailed);
     }
     match BufWriter::with_capacity(alloc, ROOM, stream) {
@@ -45,9 +70,40 @@ fn talk_over<S: Session>(
     }
 }
 
-fn run_session<S: Session>(session: &S, alloc: Global, connection: u64, stream: &TcpStream) {
-    let answer = talk_over(session, alloc, connection, stream);
+fn run_session<R: Clock, S: Session>(
+    rt: &R,
+    session: &S,
+    alloc: Global,
+    connection: u64,
+    patience: Duration,
+    stream: &TcpStream,
+) {
+    let answer = talk_over(session, alloc, connection, patience, stream);
     session.ended(connection, answer);
+    drain(rt, stream);
+}
+
+// Tells a session why no connection could be accepted. That a peer went away before is no trouble.
+fn tell_unaccepted<S: Session>(session: &S, error: &Error) {
+    match error.kind() {
+        ErrorKind::ConnectionAborted => {}
+        ErrorKind::OutOfMemory => session.unaccepted(SocketFault::OutOfMemory),
+        _ => session.unaccepted(SocketFault::PeerFailed),
+    }
+}
+
+// The next connection. Where none can be accepted it waits a while, in which a session may end, and tries again.
+fn accepted<R: Wait + Clock, S: Session>(rt: &R, listener: &TcpListener, session: &S) -> TcpStream {
+    for _ in rt.forever() {
+        match listener.accept() {
+            Ok((stream, _)) => return stream,
+            Err(error) => {
+                tell_unaccepted(session, &error);
+                thread::sleep(rt, Duration::from_millis(PAUSE_MILLIS));
+            }
+        }
+    }
+    unreachable!()
 }
 
 /// A port of 127.0.0.1 on which connections are accepted.
@@ -88,24 +144,26 @@ impl Server {
     }
 
     /// Accepts so many connections and talks over each in a thread of its own; returns once all have ended. One that
-    /// can't be accepted (49), or gets no thread (70), counts too: its session ends so. Behind the last one the port is
-    /// let go, so that whoever comes later is refused at once.
-    pub fn run<R: Threads + Wait + Sync, S: Session + Sync>(
+    /// can't be accepted is none, whoever waits for it stays in the queue, and it is tried again; one that gets no
+    /// thread (70) counts: its session ends so. A peer that says nothing, or reads nothing, for so long ends its session
+    /// (49). Behind the last connection the port is let go, so that whoever comes later is refused at once.
+    pub fn run<R: Threads + Wait + Clock + Sync, S: Session + Sync>(
         self,
         rt: &R,
         alloc: Global,
-        connections: u64,
+        limits: Limits,
         session: &S,
     ) {
         let Server { listener, port: _ } = self;
+        let Limits {
+            connections,
+            patience,
+        } = limits;
         thread::scope(thread::scope_env(), rt, move |scope| {
             for connection in 0..connections {
-                let Ok((stream, _)) = listener.accept() else {
-                    session.ended(connection, Err(SocketFault::PeerFailed));
-                    continue;
-                };
+                let stream = accepted(rt, &listener, session);
                 let started = scope.spawn(move || {
-                    run_session(session, alloc, connection, &stream)
+                    run_session(rt, session, alloc, connection, patience, &stream)
                 });
                 if started.is_err() {
                     session.ended(connection, Err(SocketFault::OutOfMemory));
@@ -128,14 +186,14 @@ fn announce<W: Write>(output: &mut W, line: &String) -> Result<(), SocketFault>
 
 /// Listens, says where in a line, and serves so many connections. Refused only where it can't listen or can't say so.
 pub fn serve<
-    R: Net<Listener = TcpListener, Stream = TcpStream> + Threads + Wait + Sync,
+    R: Net<Listener = TcpListener, Stream = TcpStream> + Threads + Wait + Clock + Sync,
     S: Session + Sync,
     W: Write,
 >(
     rt: &R,
     alloc: Global,
     port: u16,
-    connections: u64,
+    limits: Limits,
     session: &S,
     output: &mut W,
 ) -> Result<(), SocketFault>
@@ -146,6 +204,6 @@ pub fn serve<
         return Err(SocketFault::OutOfMemory);
     };
     announce(output, &line)?;
-    server.run(rt, alloc, connections, session);
+    server.run(rt, alloc, limits, session);
     Ok(())
 }

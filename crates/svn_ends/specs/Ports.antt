@@ -1,8 +1,9 @@
 -- What a port over a share is to its caller.
-use Rattle.std.specs.Prelude.{ℕ, Bool, Option, None}
+use Rattle.std.specs.Prelude.{ℕ, Bool, Option, Some, None}
 use Rattle.node_base.specs.Props.{PropMap}
 use Rattle.repo_core.specs.Repository.{Repository}
 use Rattle.ra_serve.specs.Ports.{Goes, Stays}
+use Rattle.ra_serve.specs.declared.fault.PortFault.{PortFault}
 use Rattle.store_share.specs.Locked.{HasProps}
 use Rattle.store_share.specs.declared.seat.ReaderSeat.{ReaderSeat}
 use Rattle.svn_ends.specs.declared.port.MasterSharePort.{MasterSharePort}
@@ -21,7 +22,11 @@ takes_none p = p.mirror
 
 -- how often it refused a call by itself
 abbrev pub refusals_of : {R L D : Type 0} {r : _} {g : _} → MasterSharePort R L D r g → ℕ
-refusals_of p = p.refusals
+refusals_of p = p.refusals.count
+
+-- the first of these refusals
+abbrev pub first_of : {R L D : Type 0} {r : _} {g : _} → MasterSharePort R L D r g → Option PortFault
+first_of p = p.refusals.first
 
 -- the repository, which it doesn't know
 abbrev pub repository_in : {R L D : Type 0} {r : _} {g : _} → MasterSharePort R L D r g → Option Repository
@@ -34,3 +39,8 @@ GoesOn old new = Goes (takes_none old) (takes_none new) (refusals_of old) (refus
 -- and the repository is as little known as before
 abbrev pub StaysSo : {R L D : Type 0} {r : _} {g : _} → MasterSharePort R L D r g → MasterSharePort R L D r g → Type 0
 StaysSo old new = Stays (repository_in old) (repository_in new) (takes_none old) (takes_none new) (refusals_of old) (refusals_of new)
+
+-- the first refusal, behind another one
+abbrev pub first_then : Option PortFault → PortFault → Option PortFault
+first_then None f = Some f
+first_then (Some first) f = Some first

@@ -12,7 +12,8 @@
 //!
 //! ```text
 //! let url = b"svn://127.0.0.1:3690/";
-//! let (mirror, output, done) = run_work_from(&rt, alloc, mirror, 3690, url, work, output);
+//! let peer = Peer { port: 3690, patience: Duration::from_secs(600) };
+//! let (mirror, output, done) = run_work_from(&rt, alloc, mirror, peer, url, work, output);
 //! done?;
 //! ```
 //!

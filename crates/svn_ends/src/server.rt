@@ -9,13 +9,14 @@ ghost use Rattle.svn_ends.specs.Served.{IsOfStore};
 use crate::talk::{ShareSessions, root_url};
 use fleet_disk::Disk;
 use repo_store::RepoStore;
-use sockets::SocketFault;
+use sockets::{Limits, SocketFault, Teller, Troubles};
 use std::alloc::Global;
 use std::io::Write;
 use std::marker::Brand;
 use std::net::{Net, TcpListener, TcpStream};
 use std::sync::Wait;
 use std::thread::Threads;
+use std::time::Clock;
 use store_share::{MasterShare, OpenedStore, RowName};
 
 /// Serves the repository of a store over ra_svn on that port of 127.0.0.1: says so in a line, then serves so many
@@ -23,18 +24,21 @@ use store_share::{MasterShare, OpenedStore, RowName};
 /// back as the sessions have left it: a stop leaves of it what a store keeps.
 ///
 /// PeerFailed (49) where it can't listen there, or can't say so; OutOfMemory (70) where there is no memory to begin
-/// with. A session that ends badly ends itself alone.
+/// with. A session that ends badly ends itself alone. What the device or want of memory refused in a session is told to
+/// the teller when that has ended, and so is that a connection can't be accepted; each kind once a minute.
 pub fn serve_store<
-    R: Net<Listener = TcpListener, Stream = TcpStream> + Threads + Wait + Sync,
+    R: Net<Listener = TcpListener, Stream = TcpStream> + Threads + Wait + Clock + Sync,
     D: Disk + Drop + Send,
     W: Write,
+    T: Teller + Sync,
 >(
     rt: &R,
     alloc: Global,
     store: RepoStore<D>,
     mirror: bool,
     port: u16,
-    connections: u64,
+    limits: Limits,
+    teller: &T,
     output: &mut W,
 ) -> (D, Result<(), SocketFault>)
     ensures told { OnOk result.1 (Appends (W.contents output.old) (W.contents output.new) (listening port)) }
@@ -42,7 +46,9 @@ pub fn serve_store<
 {
     match OpenedStore::of(alloc, store) {
         Ok(opened) => {
-            serve_opened::<R, Brand, D, W>(rt, alloc, opened, mirror, port, connections, output)
+            serve_opened::<R, Brand, D, W, T>(
+                rt, alloc, opened, mirror, port, limits, teller, output,
+            )
         }
         Err((_fault, store)) => (disk_in(store), Err(SocketFault::OutOfMemory)),
     }
@@ -58,17 +64,19 @@ fn disk_in<D: Disk + Drop>(store: RepoStore<D>) -> D
 
 // Serves an opened store under the name of its row.
 fn serve_opened<
-    R: Net<Listener = TcpListener, Stream = TcpStream> + Threads + Wait + Sync,
+    R: Net<Listener = TcpListener, Stream = TcpStream> + Threads + Wait + Clock + Sync,
     L: RowName + Send + Sync,
     D: Disk + Drop + Send,
     W: Write,
+    T: Teller + Sync,
 >(
     rt: &R,
     alloc: Global,
     opened: OpenedStore<D>,
     mirror: bool,
     port: u16,
-    connections: u64,
+    limits: Limits,
+    teller: &T,
     output: &mut W,
 ) -> (D, Result<(), SocketFault>)
     requires { cells_of opened ≡ L.cells }
@@ -76,24 +84,26 @@ fn serve_opened<
     ensures back { IsOfStore D.Disk result.0 }
 {
     let share = opened.named::<L>();
-    let answer = serve_share(rt, alloc, &share, mirror, port, connections, output);
+    let answer = serve_share(rt, alloc, &share, mirror, port, limits, teller, output);
     let store = share.close().into_store();
     (disk_in(store), answer)
 }
 
 // Serves a share.
 fn serve_share<
-    R: Net<Listener = TcpListener, Stream = TcpStream> + Threads + Wait + Sync,
+    R: Net<Listener = TcpListener, Stream = TcpStream> + Threads + Wait + Clock + Sync,
     L: RowName + Send + Sync,
     D: Disk + Drop + Send,
     W: Write,
+    T: Teller + Sync,
 >(
     rt: &R,
     alloc: Global,
     share: &MasterShare<L, D>,
     mirror: bool,
     port: u16,
-    connections: u64,
+    limits: Limits,
+    teller: &T,
     output: &mut W,
 ) -> Result<(), SocketFault>
     ensures { OnOk result (Appends (W.contents output.old) (W.contents output.new) (listening port)) }
@@ -107,6 +117,7 @@ fn serve_share<
         share,
         mirror,
         root_url: root_url.as_bytes(),
+        troubles: Troubles::new(teller),
     };
-    sockets::serve(rt, alloc, port, connections, &sessions, output)
+    sockets::serve(rt, alloc, port, limits, &sessions, output)
 }

@@ -1,40 +1,55 @@
 //! What goes over a connection.
 
-ghost use Rattle.std.specs.Prelude.{◌≡◌, IfOk, string_bytes};
+ghost use Rattle.std.specs.Prelude.{◌≡◌, IfOk, ⊤, string_bytes};
 ghost use Rattle.svn_ends.specs.Ports.{takes_none};
-ghost use Rattle.svn_ends.specs.Ends.{heard, url};
+ghost use Rattle.svn_ends.specs.Ends.{heard, trouble_of, url};
 
 use crate::port::MasterSharePort;
 use byte_streams::CountedReader;
 use fleet_disk::Disk;
 use ra_item::stream::ItemStream;
-use ra_serve::{End, ServeFault, serve};
-use sockets::{Session, SocketFault};
+use ra_serve::{End, PortFault, ServeFault, serve};
+use sockets::{Session, SocketFault, Teller, Trouble, Troubles};
 use std::alloc::{AllocError, Global};
 use std::io::{Read, Write};
 use std::sync::Wait;
+use std::time::Clock;
 use store_share::{MasterShare, RowName};
 
-/// The sessions over one share, each with a port and a seat of its own.
+/// The sessions over one share, each with a port and a seat of its own. Trouble of the device and want of memory are
+/// told; that a peer fails isn't.
 #[derive(Drop)]
-pub(crate) struct ShareSessions<'a, R: Wait, L: RowName, D: Disk> {
+pub(crate) struct ShareSessions<'a, R: Wait + Clock, L: RowName, D: Disk, T: Teller> {
     pub(crate) rt: &'a R,
     pub(crate) alloc: Global,
     pub(crate) share: &'a MasterShare<L, D>,
     pub(crate) mirror: bool,
     pub(crate) root_url: &'a [u8],
+    pub(crate) troubles: Troubles<'a, T>,
 }
 
-impl<'a, R: Wait, L: RowName, D: Disk> ShareSessions<'a, R, L, D> {
+impl<'a, R: Wait + Clock, L: RowName, D: Disk, T: Teller> ShareSessions<'a, R, L, D, T> {
     // The port of one session.
     fn port(&self) -> Result<MasterSharePort<'a, R, L, D>, AllocError>
         ensures { IfOk result (λ p. takes_none p ≡ self.now.mirror) }
     {
         MasterSharePort::new(self.rt, self.alloc, self.share, self.mirror)
     }
+
+    // Tells a refusal that was a port's own, where there was one.
+    fn tell_refusal(&self, refusal: Option<PortFault>) {
+        if let Some(fault) = refusal {
+            if let Some(trouble) = trouble_of(fault) {
+                self.troubles.tell(self.rt, trouble);
+            }
+        }
+    }
 }
 
-impl<R: Wait, L: RowName, D: Disk> Session for ShareSessions<'_, R, L, D> {
+impl<R: Wait + Clock, L: RowName, D: Disk, T: Teller> Session for ShareSessions<'_, R, L, D, T> {
+    // What clients are told no clause says: a port over a share doesn't know its repository.
+    ghost has_talked = { λ sessions connection. ⊤ };
+
     /// Answers the commands of one client up to its end. PeerFailed (49) where a stream fails or what the client sends
     /// isn't items, OutOfMemory (70).
     fn talk<I: Read + Drop, W: Write + Drop>(
@@ -47,7 +62,9 @@ impl<R: Wait, L: RowName, D: Disk> Session for ShareSessions<'_, R, L, D> {
             return Err(SocketFault::OutOfMemory);
         };
         let mut items = ItemStream::new(self.alloc, CountedReader::new(input));
-        match serve(self.alloc, &mut port, self.root_url, &mut items, output) {
+        let served = serve(self.alloc, &mut port, self.root_url, &mut items, output);
+        self.tell_refusal(port.first_refusal());
+        match served {
             Ok((output, end)) => {
                 let mut output = output;
                 if output.flush().is_err() {
@@ -59,8 +76,33 @@ impl<R: Wait, L: RowName, D: Disk> Session for ShareSessions<'_, R, L, D> {
         }
     }
 
-    /// Does nothing: a session that ends badly ends itself alone.
-    fn ended(&self, _connection: u64, _answer: Result<(), SocketFault>) {}
+    /// A session that ends badly ends itself alone: it is told where memory ran out.
+    fn ended(&self, _connection: u64, answer: Result<(), SocketFault>) {
+        if let Err(SocketFault::OutOfMemory) = answer {
+            self.troubles.tell(self.rt, Trouble::OutOfMemory);
+        }
+    }
+
+    /// It is told.
+    fn unaccepted(&self, fault: SocketFault) {
+        match fault {
+            SocketFault::PeerFailed => self.troubles.tell(self.rt, Trouble::PeerFailed),
+            SocketFault::OutOfMemory => self.troubles.tell(self.rt, Trouble::OutOfMemory),
+        }
+    }
+}
+
+// The trouble that a refusal of a port is, where it is the port's own.
+fn trouble_of(fault: PortFault) -> Option<Trouble>
+    ensures { result ≡ trouble_of fault }
+{
+    match fault {
+        PortFault::TooLong | PortFault::NoSuchRevision | PortFault::BaseMismatch => None,
+        PortFault::DeviceFailed => Some(Trouble::DeviceFailed),
+        PortFault::Failed => Some(Trouble::Failed),
+        PortFault::LogFull => Some(Trouble::LogFull),
+        PortFault::OutOfMemory => Some(Trouble::OutOfMemory),
+    }
 }
 
 // What a server hears of the end of a session.

@@ -12,7 +12,7 @@ use mirror_engines::{Work, run_work};
 use node_base::Refusal;
 use ra_client::ClientPort;
 use repo_store::RepoStore;
-use sockets::dial;
+use sockets::{Peer, dial};
 use std::alloc::Global;
 use std::io::BufWriter;
 use std::net::{Net, TcpStream};
@@ -20,15 +20,16 @@ use std::net::{Net, TcpStream};
 /// Bytes that are kept back before they go out: 16 KiB, more than a command has.
 const ROOM: usize = 16_384;
 
-/// Runs the work over a mirror's store and the repository at that URL of the server on a port of 127.0.0.1, as
+/// Runs the work over a mirror's store and the repository at that URL of a server on a port of 127.0.0.1, as
 /// `mirror_engines::run_work` does. The mirror's store and the output come back as the run has left them, with its
 /// answer. Where nobody listens on the port it is PeerFailed (49), and where the server ends the opening of the session
-/// MasterFailed (60), as where it refuses later; OutOfMemory (70). In these the mirror stays, and nothing is written.
+/// MasterFailed (60), as where it refuses later, or says nothing for as long as it may; OutOfMemory (70). In these the
+/// mirror stays, and nothing is written.
 pub fn run_work_from<R: Net<Stream = TcpStream>, D: Disk + Drop, O: Output + Drop>(
     rt: &R,
     alloc: Global,
     mirror: RepoStore<D>,
-    port: u16,
+    peer: Peer,
     url: &[u8],
     work: Work,
     output: O,
@@ -36,7 +37,7 @@ pub fn run_work_from<R: Net<Stream = TcpStream>, D: Disk + Drop, O: Output + Dro
     ensures ran { RunsFrom O.contents O.failures (IsWorked work) mirror result.0 output result.1 result.2 }
     ensures unfailed { OnOk result.2 (O.failures result.1 ≡ O.failures output) }
 {
-    match dial(rt, port) {
+    match dial(rt, peer) {
         Ok(stream) => run_work_on(alloc, mirror, &stream, url, work, output),
         Err(fault) => (mirror, output, Err(unreached(fault))),
     }

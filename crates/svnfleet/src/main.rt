@@ -4,14 +4,15 @@
 
 use fleet_disk::HeldFiles;
 use fleet_main::{
-    Command, CountedReader, CountedWriter, Fleet, HostDescriptors, HostFolders, Planned, Pull,
-    Service, Usage, fill_streams, fleet, plan, pull, run, serve,
+    Command, CountedReader, CountedWriter, Fleet, HostDescriptors, HostFolders, HostTeller,
+    Planned, Pull, Service, Usage, fill_streams, fleet, plan, pull, run, serve,
 };
 use std::io::{BufWriter, ErrorKind};
 use std::net::{Net, TcpListener, TcpStream};
 use std::process::ExitCode;
 use std::sync::Wait;
 use std::thread::Threads;
+use std::time::Clock;
 use std::{env, io};
 
 // What is left to do.
@@ -135,11 +136,9 @@ fn pulled<R: HeldFiles + Net<Stream = TcpStream>>(rt: &HostRuntime, handle: &R, 
 }
 
 // By the files, threads and sockets of a handle.
-fn served<R: HeldFiles + Net<Listener = TcpListener, Stream = TcpStream> + Threads + Wait + Sync>(
-    rt: &HostRuntime,
-    handle: &R,
-    service: &Service,
-) -> u8
+fn served<
+    R: HeldFiles + Net<Listener = TcpListener, Stream = TcpStream> + Threads + Wait + Clock + Sync,
+>(rt: &HostRuntime, handle: &R, service: &Service) -> u8
 where
     R::File: Send,
 {
@@ -149,6 +148,7 @@ where
         rt.alloc(),
         &mut HostFolders::new(handle),
         service,
+        &HostTeller::new(rt),
         CountedWriter::new(rt.stdout()),
         &mut errors,
     );
