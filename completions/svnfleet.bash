@@ -8,17 +8,18 @@ _svnfleet() {
         return
     fi
     case $before in
-    --uuid | -r | --message | --moment | --token | --port | --connections | --workers) return ;;
+    --uuid | -r | --message | --moment | --token | --port | --connections | --timeout | --workers) return ;;
     esac
     case ${COMP_WORDS[1]} in
     create) options=--uuid ;;
     dump) options=-r ;;
     mkdir) options='--message --moment' ;;
-    synchronize) options='--steal-lock --token' ;;
-    copy-revprops) options='-r --token' ;;
-    serve) options='--port --connections' ;;
+    initialize) options=--timeout ;;
+    synchronize) options='--steal-lock --token --timeout' ;;
+    copy-revprops) options='-r --token --timeout' ;;
+    serve) options='--port --connections --timeout' ;;
     fleet) options=--workers ;;
-    list | canon | load | upgrade | initialize | info) ;;
+    list | canon | load | upgrade | info) ;;
     *) return ;;
     esac
     if [ "${word:0:1}" = - ]; then

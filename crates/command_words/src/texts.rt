@@ -58,8 +58,8 @@ SOURCE is a folder, or svn://127.0.0.1:P/ for the repository that `svnfleet serv
 SOURCE is kept, as it is given, in the mirror's property svn:sync-from-url. From then on `load` and `mkdir`
 refuse MIRROR (24): `synchronize` alone gives it revisions.
 The status is 0; 1 with a line where a folder can't be opened, nobody listens on the port (49), the server
-refuses (60), MIRROR is a mirror already (52) or has revisions (53), or the device fails; 2 where the words
-are wrong.";
+refuses or says nothing for so many SECONDS (60), MIRROR is a mirror already (52) or has revisions (53), or
+the device fails; 2 where the words are wrong.";
 
 /// Of `synchronize`.
 pub const SYNCHRONIZE: &str = "\
@@ -71,8 +71,8 @@ is refused (54) until it is run with --steal-lock. The folders are held while it
 refused with 31, so a lock that --steal-lock takes is one of a run that has ended.
 SOURCE is a folder, or svn://127.0.0.1:P/ for the repository that `svnfleet serve` has on that port.
 The status is 0; 1 with a line where a folder can't be opened, nobody listens on the port (49), the server
-refuses (60), SOURCE is another repository than the one that MIRROR was initialized from (56) or the device
-fails; 2 where the words are wrong.";
+refuses or says nothing for so many SECONDS (60), SOURCE is another repository than the one that MIRROR was
+initialized from (56) or the device fails; 2 where the words are wrong.";
 
 /// Of `copy-revprops`.
 pub const COPY_REVPROPS: &str = "\
@@ -98,6 +98,10 @@ ended, those that failed among them; a client may make more than one. Another re
 `svnsync init file:///PATH svn://127.0.0.1:P/`, and brought up to DIR by `svnsync sync file:///PATH`.
 Nothing is committed to DIR. Properties of revisions that a client changes are changed in DIR, unless it is a
 mirror, which is served read-only (24). Each change that was answered stands after a stop.
+A client that says nothing, or reads nothing, for SECONDS ends its own connection. One that can't be accepted, as
+where too many files are open, waits until another has ended. Standard error has a line for that (49) and for a
+connection in which the device failed (31, 32), the journal was full (36) or memory ran out (70), one for each number
+in a minute at most; the command goes on, and its status stays.
 The folder is held while it serves: another command over it is refused with 31.
 The status is 0; 1 with a line where the folder can't be opened, or the port can't be listened on or the line
 not be written (49); 2 where the words are wrong.";
