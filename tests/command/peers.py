@@ -256,7 +256,7 @@ def endless(program, folder):
 
 def trouble(program, folder):
     """A change whose write the device refuses is 31, and later ones are 32: each is told once, and the status is 0."""
-    asked = b'( change-rev-prop2 ( 1 7:svn:log ( %s ) ( ) ) ) ' % string(b'x' * 4000)
+    asked = b'( change-rev-prop2 ( 1 7:svn:log ( %s ) ( true ) ) ) ' % string(b'x' * 4000)
     shutil.copytree(f'{folder}/small', f'{folder}/failing')
     refused = b'( success ( ( ) 0: ) ) ( failure ( ( %d %s 0: 0 ) ) ) '
     with Server(program, f'{folder}/failing', 4, '--timeout', '10', shell="trap '' XFSZ && ulimit -f 2") as server:

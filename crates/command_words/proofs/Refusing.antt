@@ -125,7 +125,7 @@ connections_refused rows value OutOfMemory has none h = tt
 pub timeout_refused : (rows : List Row) (value help : List ℕ) (u : Usage) → HasValue rows (codes "timeout") value → ((n : ℕ) → SpellsUpTo 43200 value n → ⊥)
     → IsTold help value (codes "a number of seconds from 1 to 43200") u → IsTimeoutTold rows help u
 timeout_refused rows value help (Shown text) has none h = absurd h
-timeout_refused rows value help (Wrong text) has none h = (value, has, none, h)
+timeout_refused rows value help (Wrong text) has none h = record { value = value; given = has; unspelt = none; told = h }
 timeout_refused rows value help OutOfMemory has none h = tt
 
 pub seconds_refused : (rows : List Row) (help : List ℕ) (u : Usage) → IsTimeoutTold rows help u → IsSyncRefused rows help u

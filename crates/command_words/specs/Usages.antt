@@ -39,9 +39,11 @@ IsTold help value wanted (Wrong text) = IsValueLine help value wanted (string_by
 IsTold help value wanted OutOfMemory = Unit {0}
 
 -- the seconds that aren't taken
-abbrev pub IsTimeoutRefused : List Row → List ℕ → List ℕ → Type 0
-IsTimeoutRefused rows help line =
-    (value : List ℕ) × HasValue rows (codes "timeout") value × ((n : ℕ) → SpellsUpTo 43200 value n → ⊥) × IsValueLine help value (codes "a number of seconds from 1 to 43200") line
+pub record IsTimeoutRefused (rows : List Row) (help line : List ℕ) : Type 0 where
+  pub value : List ℕ
+  pub given : HasValue rows (codes "timeout") value
+  pub unspelt : (n : ℕ) → SpellsUpTo 43200 value n → ⊥
+  pub told : IsValueLine help value (codes "a number of seconds from 1 to 43200") line
 
 -- they are told; else memory ran out
 abbrev pub IsTimeoutTold : List Row → List ℕ → Usage → Type 0
