@@ -1,4 +1,6 @@
+pub mod Acceptable
 pub mod Book
+pub mod Causes
 pub mod Entries
 pub mod Facts
 pub mod Holding
