@@ -9,3 +9,4 @@ pub mod Stepping
 pub mod Crosses
 pub mod Causing
 pub mod Coming
+pub mod Following
