@@ -1,6 +1,6 @@
 -- What a job's run was, and what it is answered with.
 use Rattle.std.proofs.Common.{◌≡◌, ◌⊎◌, inl, inr, ℕ, List, [], ◌++◌, Result, Ok, Err, subst, refl, sym}
-use Rattle.std.specs.List.{AllZip}
+use Rattle.std.specs.List.{AllByRecursion, AllZip}
 use Rattle.fleet_jobs.specs.declared.order.Order.{Order}
 use Rattle.mirror_engines.specs.Runs.{IsUnheard}
 use Rattle.mirror_share.specs.Ports.{seat_of, share_of, WasAsked}
@@ -14,10 +14,11 @@ use Rattle.sync_core.specs.Jobs as jobs
 use Rattle.sync_core.specs.declared.fault.SyncFault.{SyncFault}
 use Rattle.sync_job.specs.Runs.{Runs}
 use Rattle.sync_job.specs.Said.{Spoken}
-use Rattle.sync_job.specs.Telling.{IsSaidAs, KeepsTelling, calls_in}
+use Rattle.sync_job.specs.Telling.{IsOther, IsSaidAs, KeepsTelling, calls_in, others_in}
 use Rattle.sync_job.specs.declared.report.Told.{Told}
 use Rattle.fleet_shares.specs.Answers.{Answers, EndsAs}
-use Rattle.fleet_shares.specs.Jobs.{EndsBy, IsSaidAt}
+use Rattle.fleet_shares.specs.Jobs.{EndsBy, HasRun, IsRunOf, IsSaidAt}
+use Rattle.fleet_shares.proofs.Meeting.{met_in}
 
 -- a run that nobody hears, from the first word that was said
 pub unheard : {B : Type 0} (N : Job → ℕ → Type 0) (order : jobs.Order) (End : List Spoken → Type 0) (old said : List Spoken) (before after : B → List Told → Type 0) → old ≡ []
@@ -32,18 +33,27 @@ unheard N order End old said before after e run = record {
   end = run.end;
 }
 
--- what was said at a seat of a share, through ports through which nothing was said before
-said_at : {R L D : Type 0} {r : _} {g : _} (share : MirrorShare L D r g) (first last : SeatMirror R L D r g) (said : List Spoken) → share_of first ≡ share → KeepsTelling WasAsked first last [] said → IsSaidAt share said
-said_at share first last said e keeps =
+-- a run at a seat of a share, through ports through which nothing was said before
+ran_at : {R L D : Type 0} {r : _} {g : _} (share : MirrorShare L D r g) (first last : SeatMirror R L D r g) (order : Order) (said : List Spoken) (ended : Result (Unit {0}) SyncFault) → share_of first ≡ share → KeepsTelling WasAsked first last [] said
+    → IsRunOf order.work order.token said ended → HasRun share order ended
+ran_at share first last order said ended e keeps run =
     let t = keeps first [] (record { made = []; more = []; adds = refl; asked = record { share = refl; seat = refl; steps = tt }; said = tt; others = tt }) in
-    subst (λ s. IsSaidAt s said) e (record { seat = place_of (seat_of first); made = t.made; steps = t.asked.steps; told = subst (λ xs. AllZip IsSaidAs t.made (calls_in xs)) (sym t.adds) t.said })
+    let told = subst (λ xs. AllZip IsSaidAs t.made (calls_in xs)) (sym t.adds) t.said in
+    let others = subst (λ xs. AllByRecursion IsOther (others_in xs)) (sym t.adds) t.others in
+    subst (λ s. HasRun s order ended) e
+    (record {
+      said = said;
+      run = run;
+      calls = record { seat = place_of (seat_of first); made = t.made; steps = t.asked.steps; told = told };
+      met = met_in (share_of first) (place_of (seat_of first)) order.work order.token said ended t.made run told others t.asked.steps;
+    })
 
 -- a job that was let in ends as its run
 pub ends_as : {R L D : Type 0} {r : _} {g : _} (share : MirrorShare L D r g) (first last : SeatMirror R L D r g) (order : Order) (said : List Spoken) (ended : Result (Unit {0}) SyncFault) → share_of first ≡ share → KeepsTelling WasAsked first last [] said
     → EndsBy order said ended → EndsAs share order ended
-ends_as share first last order said (Ok u) e keeps (inl run) = record { said = said; run = run; calls = said_at share first last said e keeps }
+ends_as share first last order said (Ok u) e keeps (inl run) = ran_at share first last order said (Ok u) e keeps run
 ends_as share first last order said (Ok u) e keeps (inr starved) = absurd (cc)
-ends_as share first last order said (Err f) e keeps (inl run) = inl (record { said = said; run = run; calls = said_at share first last said e keeps })
+ends_as share first last order said (Err f) e keeps (inl run) = inl (ran_at share first last order said (Err f) e keeps run)
 ends_as share first last order said (Err f) e keeps (inr memory) = inr (cc)
 
 -- what it is answered with

@@ -18,8 +18,7 @@ use Rattle.fleet_shares.specs.declared.stores.OpenedFleet.{OpenedFleet}
 ended_on : {L D : Type 0} {r : _} {g : _} (slot : Option (MirrorShare L D r g)) (o : Order) (a : Answer) → is_some slot ≡ true → AnswersOn slot o a → HasEndedAt r g o a
 ended_on None o a e h = absurd (true≢false (sym e))
 ended_on (Some m) o (Ok n) e h = (m, h.0)
-ended_on (Some m) o (Err f) e (inl h) = inl (m, h)
-ended_on (Some m) o (Err f) e (inr x) = inr x
+ended_on (Some m) o (Err f) e h = (m, h)
 
 at_number : (k : ℕ) (a b c d : Bool) → get_or (a ∷ b ∷ c ∷ d ∷ []) k false ≡ has_at k a b c d
 at_number zero a b c d = refl

@@ -5,3 +5,4 @@ pub mod Giving
 pub mod Ordering
 pub mod Slots
 pub mod Telling
+pub mod Meeting

@@ -2,7 +2,7 @@
 use Rattle.std.specs.Prelude.{◌≡◌, ◌⊎◌, ℕ, Option, Some, None, Result, Ok, Err}
 use Rattle.fleet_jobs.specs.Answers.{Answer}
 use Rattle.fleet_jobs.specs.declared.order.Order.{Order}
-use Rattle.mirror_share.specs.Places.{IsRunningFault}
+use Rattle.mirror_share.specs.Locked.{IsKeptOut}
 use Rattle.mirror_share.specs.declared.share.MirrorShare.{MirrorShare}
 use Rattle.node_base.specs.declared.refusal.Refusal.TheVariants.{NoRepository}
 use Rattle.store_share.specs.Seats.{seen_by}
@@ -25,7 +25,7 @@ IsSeen {L} G n = (seat : ReaderSeat L G) × (seen_by seat ≡ n)
 -- else the refusal at which it ended, or that it wasn't let in since a job of its token runs there, or want of memory
 abbrev pub Answers : {L D : Type 0} {r : _} {g : _} → MirrorShare L D r g → Order → Answer → Type 0
 Answers {r = r} share order (Ok n) = HasRun share order (Ok tt) × IsSeen r n
-Answers share order (Err f) = HasRun share order (Err f) ⊎ IsRunningFault order.token f
+Answers share order (Err f) = HasRun share order (Err f) ⊎ IsKeptOut share order.token f
 
 -- the same of a slot, at which there may be no mirror
 abbrev pub AnswersOn : {L D : Type 0} {r : _} {g : _} → Option (MirrorShare L D r g) → Order → Answer → Type 0

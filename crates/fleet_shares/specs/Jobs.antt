@@ -1,5 +1,5 @@
 -- The job of an order.
-use Rattle.std.specs.Prelude.{◌≡◌, ◌⊎◌, ℕ, List, Result, Err}
+use Rattle.std.specs.Prelude.{◌≡◌, ◌⊎◌, ℕ, List, Result, Err, IfErr}
 use Rattle.std.specs.List.{AllByRecursion, AllZip}
 use Rattle.fleet_disk.specs.declared.disk.Disk.{Ghosts}
 use Rattle.fleet_jobs.specs.declared.order.Order.{Order}
@@ -8,6 +8,8 @@ use Rattle.fleet_jobs.specs.declared.order.Work.TheVariants.{Sync, Copy}
 use Rattle.mirror_engines.specs.Runs.{IsSynchronised, IsCopied}
 use Rattle.mirror_share.specs.Locked.{IsStepOf}
 use Rattle.mirror_share.specs.declared.share.MirrorShare.{MirrorShare}
+use Rattle.sync_core.specs.Copies.{number_in}
+use Rattle.sync_core.specs.Mirror.{Call}
 use Rattle.sync_core.specs.declared.fault.SyncFault.{SyncFault}
 use Rattle.sync_core.specs.declared.fault.SyncFault.TheVariants.{OutOfMemory}
 use Rattle.sync_job.specs.Asked.{Asked}
@@ -31,8 +33,21 @@ pub record IsSaidAt {L D : Type 0} {r : _} {g : Ghosts D} (share : MirrorShare L
   pub steps : AllByRecursion (λ a. IsStepOf share seat a.call a.result) made
   pub told : AllZip IsSaidAs made (calls_in said)
 
+-- the refusals of a device (31, 32) and of a full journal (36)
+abbrev pub IsOfStore : ℕ → Type 0
+IsOfStore number = (number ≡ 31) ⊎ (number ≡ 32) ⊎ (number ≡ 36)
+
+-- a call from that seat was refused with this number by a step of the share's book, which tells the cause
+pub record HasMet {L D : Type 0} {r : _} {g : Ghosts D} (share : MirrorShare L D r g) (seat number : ℕ) : Type 0 where
+  pub call : Call
+  pub fault : SyncFault
+  pub told : number_in fault ≡ number
+  pub step : IsStepOf share seat call (Err fault)
+
 -- the order's job was run at the share, and ended so
 pub record HasRun {L D : Type 0} {r : _} {g : Ghosts D} (share : MirrorShare L D r g) (order : Order) (ended : Result (Unit {0}) SyncFault) : Type 0 where
   pub said : List Spoken
   pub run : IsRunOf order.work order.token said ended
   pub calls : IsSaidAt share said
+  -- it ends with a refusal of a device or of a full journal only where one of its calls met that
+  pub met : IfErr ended (λ f. IsOfStore (number_in f) → HasMet share calls.seat (number_in f))

@@ -4,7 +4,7 @@ use Rattle.std.specs.declared.marker.Brand.{Brand}
 use Rattle.fleet_disk.specs.declared.disk.Disk.{Ghosts}
 use Rattle.fleet_jobs.specs.Answers.{Answer}
 use Rattle.fleet_jobs.specs.declared.order.Order.{Order}
-use Rattle.mirror_share.specs.Places.{IsRunningFault}
+use Rattle.mirror_share.specs.Locked.{IsKeptOut}
 use Rattle.mirror_share.specs.declared.share.MirrorShare.{MirrorShare}
 use Rattle.store_share.specs.declared.name.RowName.{Ghosts as RowGhosts}
 use Rattle.fleet_shares.specs.Given.{IsAnswerAt}
@@ -13,10 +13,10 @@ use Rattle.fleet_shares.specs.Runners.{at_slot, has_at}
 use Rattle.fleet_shares.specs.declared.stores.OpenedFleet.{OpenedFleet}
 
 -- the order's job was run at a mirror under threads whose row has that name, and ended as is answered; or it wasn't let in, since a job
--- of its token runs there
+-- of its token runs there, or memory ran out
 abbrev pub HasEndedAt : {L D : Type 0} → RowGhosts L → Ghosts D → Order → Answer → Type 0
 HasEndedAt {L} {D} r g order (Ok n) = (share : MirrorShare L D r g) × HasRun share order (Ok tt)
-HasEndedAt {L} {D} r g order (Err f) = ((share : MirrorShare L D r g) × HasRun share order (Err f)) ⊎ IsRunningFault order.token f
+HasEndedAt {L} {D} r g order (Err f) = (share : MirrorShare L D r g) × (HasRun share order (Err f) ⊎ IsKeptOut share order.token f)
 
 -- a name of a row, which has these cells
 abbrev pub named_by : List ℕ → RowGhosts Brand

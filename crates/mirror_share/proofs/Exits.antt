@@ -1,15 +1,20 @@
 -- What a step leaves, exit by exit.
-use Rattle.std.specs.Prelude.{OnOk}
-use Rattle.std.proofs.Common.{◌≡◌, ◌⊎◌, inl, inr, ◌↔◌, ◌<◌, ◌+◌, ◌++◌, [], ◌∷◌, ℕ, length, Bool, true, false, Result, Ok, Err, refl, sym, ap, subst, ◌∙◌, arith}
+use Rattle.std.specs.Prelude.{IfErr, OnOk}
+use Rattle.std.proofs.Common.{◌≡◌, ◌⊎◌, inl, inr, ◌↔◌, ◌<◌, ◌≤◌, ◌+◌, ◌++◌, [], ◌∷◌, ℕ, length, Bool, true, false, Option, Result, Ok, Err, refl, sym, ap, subst, ◌∙◌, arith}
+use Rattle.std.proofs.lemmas.Bool.{true≢false}
 use Rattle.std.proofs.lemmas.List.{append-nil}
 use Rattle.fleet_disk.specs.Image.{Image}
 use Rattle.fleet_disk.specs.declared.disk.Disk.{Ghosts}
+use Rattle.gate_log.specs.declared.fault.LogFault.TheVariants as log
 use Rattle.node_base.specs.declared.refusal.Refusal.TheVariants as refusal_is
 use Rattle.repo_core.specs.Repository.{Repository}
 use Rattle.repo_core.specs.Refusals.{by_repository}
 use Rattle.repo_core.specs.declared.entry.Entry.{Entry}
+use Rattle.repo_core.specs.declared.fault.RepoFault.{RepoFault}
+use Rattle.repo_store.specs.Changes.{Refuses}
 use Rattle.repo_store.specs.Words.{disk_of, repository_of, revisions_of, IsKept}
 use Rattle.repo_store.specs.declared.fault.StoreFault.{StoreFault}
+use Rattle.repo_store.specs.declared.fault.StoreFault.TheVariants.{Log}
 use Rattle.repo_store.specs.declared.store.RepoStore.{RepoStore}
 use Rattle.store_share.specs.Book.{head_of, is_stuck, notes_of, store_of}
 use Rattle.store_share.specs.Changes.{IsAccepted as IsTakenIn, IsLeft, IsBrokenOff, IsHidden as IsHiddenBy}
@@ -29,8 +34,10 @@ use Rattle.sync_job.specs.Mirrors.{mirror_in}
 use Rattle.sync_job.specs.StoreFaults.{fault_of}
 use Rattle.mirror_share.specs.declared.book.MirrorBook.{MirrorBook}
 use Rattle.mirror_share.specs.Book.{master_of, store_in, is_stuck_in, holder_of, now_of, opening_of, calls_of, jobs_of}
+use Rattle.mirror_share.specs.Causes.{IsCausedBy}
 use Rattle.mirror_share.specs.Stepped.{Stepped}
-use Rattle.mirror_share.specs.Steps.{StepsShown, now_at, taken_by}
+use Rattle.mirror_share.specs.Steps.{StepsShown, Stuck, now_at, taken_by}
+use Rattle.mirror_share.proofs.Causing.{refused_cause, left_cause, broken_cause, stuck_cause, memory_cause}
 use Rattle.mirror_share.proofs.Stepping.{Doubts, accepted_step, broken_step, left_step, hidden_step, taken_moments, broken_moments, same_moments, head_later, no_memory, look_told, seen_step, refused_step}
 
 -- what a stop at this moment leaves is what it may leave now
@@ -53,6 +60,8 @@ module _ {L D : Type 0} {r : _} {g : Ghosts D} where
     any_moment = taken_moments entry (store_in old) (store_in new) (holder_of old) (holder_of new) d e a.store;
     durable = kept;
     honest = a.store.honest;
+    later = a.store.later;
+    causes = tt;
     shown = λ i h. shows i (subst (λ n. i < n) (sym a.head) h);
     head = head_later (repository_of (store_in old)) (repository_of (store_in new)) entry (head_of (master_of old)) (head_of (master_of new)) a.store.made (newest works) a.head;
     calls = λ same. more;
@@ -72,6 +81,8 @@ module _ {L D : Type 0} {r : _} {g : Ghosts D} where
     any_moment = broken_moments entry (store_in old) (store_in new) (holder_of old) (holder_of new) x b.store;
     durable = kept;
     honest = b.store.honest;
+    later = b.store.later;
+    causes = broken_cause (store_in old) (store_in new) (is_stuck_in new) call entry x f b.store same;
     shown = tt;
     head = omega (arith, b.head);
     calls = λ stuck. more ∙ sym (append-nil (calls_of old));
@@ -91,12 +102,21 @@ module _ {L D : Type 0} {r : _} {g : Ghosts D} where
     any_moment = same_moments (store_in old) (store_in new) (holder_of old) (holder_of new) only before l.stays.disk;
     durable = kept;
     honest = subst (λ d. g.honest (disk_of (store_in old)) ↔ g.honest d) (sym l.stays.disk) (λ h. h, λ h. h);
+    later = subst (λ d. g.failures (disk_of (store_in old)) ≤ g.failures d) (sym l.stays.disk) (omega arith);
+    causes = cause l.why;
     shown = tt;
     head = omega (arith, l.head);
     calls = λ stuck. more ∙ sym (append-nil (calls_of old));
     opening = first;
     jobs = jobs;
   }
+    where
+      due : Option RepoFault
+      due = by_repository (revisions_of (store_in old)) entry
+
+      cause : ((is_stuck_in old ≡ true) × (x ≡ Log log.Failed)) ⊎ ((is_stuck_in old ≡ false) × Refuses (store_in old) entry due x) → IsCausedBy (store_in old) (store_in new) (is_stuck_in new) call f
+      cause (inl w) = absurd (true≢false (sym w.0 ∙ works))
+      cause (inr w) = left_cause (store_in old) (store_in new) (is_stuck_in new) call entry due x f p.entry l.stays w.1 same
 
   pub hidden_stepped : (entry : Entry) (old new : MirrorBook L D r g) (seat : ℕ) (call : Call) (x : StoreFault)
       → IsToWrite (mirror_in (now_of old)) seat call entry → is_stuck_in old ≡ false → Doubts (store_in old) → Doubts (store_in new)
@@ -110,6 +130,8 @@ module _ {L D : Type 0} {r : _} {g : Ghosts D} where
     any_moment = taken_moments entry (store_in old) (store_in new) (holder_of old) (holder_of new) d e a.store;
     durable = kept;
     honest = a.store.honest;
+    later = a.store.later;
+    causes = stuck_cause (store_in old) (store_in new) (is_stuck_in new) call a.stuck;
     shown = tt;
     head = omega (arith, a.head);
     calls = λ same. (let n : true ≡ false = sym a.stuck ∙ same ∙ works in absurd (cc));
@@ -120,15 +142,17 @@ module _ {L D : Type 0} {r : _} {g : Ghosts D} where
   -- nothing is done, and a refusal or a look is answered
   pub same_stepped : (old new : MirrorBook L D r g) (seat : ℕ) (call : Call) (result : Result Given SyncFault)
       → OnlyNow (store_in old) → IsKept (store_in old) → OnOk result (Shows (length (revisions_of (store_in old))) (notes_of (master_of old)) (repository_of (store_in old)))
-      → StepsShown (is_stuck_in old) (now_of old) seat call result (is_stuck_in old) (now_of old) → taken_by call result ≡ []
+      → StepsShown (is_stuck_in old) (now_of old) seat call result (is_stuck_in old) (now_of old) → IfErr result (IsCausedBy (store_in old) (store_in old) (is_stuck_in old) call) → taken_by call result ≡ []
       → master_of new ≡ master_of old → holder_of new ≡ holder_of old → calls_of new ≡ calls_of old → opening_of new ≡ opening_of old → jobs_of new ≡ jobs_of old
       → Stepped old new seat call result
-  same_stepped old new seat call result only kept shows step none master holder more first jobs = record {
+  same_stepped old new seat call result only kept shows step causes none master holder more first jobs = record {
     step = subst (λ m. StepsShown (is_stuck_in old) (now_of old) seat call result (is_stuck m) (now_at (store_of m) (holder_of new))) (sym master)
         (subst (λ k. StepsShown (is_stuck_in old) (now_of old) seat call result (is_stuck_in old) (now_at (store_in old) k)) (sym holder) step);
     any_moment = same_moments (store_in old) (store_in new) (holder_of old) (holder_of new) only kept (ap (λ m. disk_of (store_of m)) master);
     durable = subst (λ (m : MasterBook L D r g). IsKept (store_of m)) (sym master) kept;
     honest = subst (λ (m : MasterBook L D r g). g.honest (disk_of (store_in old)) ↔ g.honest (disk_of (store_of m))) (sym master) (λ h. h, λ h. h);
+    later = subst (λ (m : MasterBook L D r g). g.failures (disk_of (store_in old)) ≤ g.failures (disk_of (store_of m))) (sym master) (omega arith);
+    causes = subst (λ (m : MasterBook L D r g). IfErr result (IsCausedBy (store_in old) (store_of m) (is_stuck m) call)) (sym master) causes;
     shown = subst (λ (m : MasterBook L D r g). OnOk result (Shows (length (revisions_of (store_of m))) (notes_of m) (repository_of (store_of m)))) (sym master) shows;
     head = omega (arith, ap (λ (m : MasterBook L D r g). head_of m) master);
     calls = λ stuck. more ∙ sym (append-nil (calls_of old)) ∙ ap (λ cs. calls_of old ++ cs) (sym none);
@@ -152,7 +176,7 @@ module _ {L D : Type 0} {r : _} {g : Ghosts D} where
       (subst (λ b. StepsShown b (now_of old) seat call (Ok (given.Seen s)) b (now_of old)) (sym works)
       (seen_step (now_of old) seat call s
       (look_told (mirror_in (now_of old)) seat call p s is (subst (λ (x : Repository). IsPlanned (mirror_with x.revisions (holder_of old)) seat call p) same (subst (λ n. IsPlanned (mirror_with repo.revisions (holder_of old)) n call p) at planned)))))
-      refl refl refl refl refl refl
+      tt refl refl refl refl refl refl
 
   -- a call isn't planned
   pub unplanned_stepped : (old : MirrorBook L D r g) (seat k : ℕ) (repo : Repository) (call : Call) (f : SyncFault)
@@ -165,6 +189,7 @@ module _ {L D : Type 0} {r : _} {g : Ghosts D} where
       (refused_step (now_of old) seat call f
       (subst (λ (x : Repository). AnswersErr (mirror_with x.revisions (holder_of old)) seat call f (mirror_with x.revisions (holder_of old))) same
       (subst (λ n. AnswersErr (mirror_with repo.revisions (holder_of old)) n call f (mirror_with repo.revisions (holder_of old))) at answers))))
+      (refused_cause (store_in old) (is_stuck_in old) (mirror_with repo.revisions (holder_of old)) k call f answers)
       refl refl refl refl refl refl
 
   -- an entry isn't taken, or the device failed
@@ -187,4 +212,10 @@ module _ {L D : Type 0} {r : _} {g : Ghosts D} where
       → Stepped old new seat call result
   no_memory_stepped old new seat call result f is out works only kept master holder more first jobs =
       subst (Stepped old new seat call) (sym is)
-      (same_stepped old new seat call (Err f) only kept tt (subst (λ b. StepsShown b (now_of old) seat call (Err f) b (now_of old)) (sym works) (no_memory (now_of old) seat call f out)) refl master holder more first jobs)
+      (same_stepped old new seat call (Err f) only kept tt (subst (λ b. StepsShown b (now_of old) seat call (Err f) b (now_of old)) (sym works) (no_memory (now_of old) seat call f out))
+      (memory_cause (store_in old) (is_stuck_in old) call f out) refl master holder more first jobs)
+
+  -- a cell has refused its box before
+  pub stuck_stepped : (old : MirrorBook L D r g) (seat : ℕ) (call : Call) → OnlyNow (store_in old) → IsKept (store_in old) → is_stuck_in old ≡ true → Stepped old old seat call (Err (fault.Other refusal_is.Failed))
+  stuck_stepped old seat call only kept stuck =
+      same_stepped old old seat call (Err (fault.Other refusal_is.Failed)) only kept tt (Stuck stuck stuck refl refl) (stuck_cause (store_in old) (store_in old) (is_stuck_in old) call stuck) refl refl refl refl refl refl

@@ -7,3 +7,6 @@ pub mod Refusing
 pub mod Seeing
 pub mod Stepping
 pub mod Crosses
+pub mod Causing
+pub mod Coming
+pub mod Following

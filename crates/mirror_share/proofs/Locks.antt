@@ -1,6 +1,6 @@
 -- What a call through the lock was, where it answers by what the book answered.
-use Rattle.std.proofs.Common.{◌≡◌, ◌≤◌, ℕ, List, Option, Some, None, Result, Ok, Err, sym, subst}
-use Rattle.std.specs.Prelude.{IfOk}
+use Rattle.std.proofs.Common.{◌≡◌, ◌≤◌, inl, inr, ℕ, List, Some, None, Result, Ok, Err, sym, subst}
+use Rattle.std.specs.Prelude.{IfErr, IfOk}
 use Rattle.fleet_disk.specs.declared.disk.Disk.{Ghosts}
 use Rattle.node_base.specs.Props.{PropMap}
 use Rattle.repo_core.specs.Repository.{props_at}
@@ -15,8 +15,8 @@ use Rattle.mirror_share.specs.declared.book.MirrorBook.{MirrorBook}
 use Rattle.mirror_share.specs.declared.seat.JobSeat.{JobSeat}
 use Rattle.mirror_share.specs.declared.share.MirrorShare.{MirrorShare}
 use Rattle.mirror_share.specs.Book.{master_of, store_in, jobs_of}
-use Rattle.mirror_share.specs.Locked.{HasProps, IsEntryOf, IsShownTo}
-use Rattle.mirror_share.specs.Places.{job_at}
+use Rattle.mirror_share.specs.Locked.{HasProps, IsEntryOf, IsKeptOut, IsShownTo}
+use Rattle.mirror_share.specs.Places.{job_at, IsEntryFault}
 use Rattle.mirror_share.specs.Seats.{place_of}
 
 module _ {L D : Type 0} {r : _} {g : Ghosts D} where
@@ -27,6 +27,13 @@ module _ {L D : Type 0} {r : _} {g : Ghosts D} where
       → IfOk result (λ (s : JobSeat L). IsEntryOf share token (place_of s))
   entered share old new token (Ok s) alone free there = record { old = old; new = new; alone = alone; free = free; there = there }
   entered share old new token (Err f) alone free there = tt
+
+  pub kept_out : (share : MirrorShare L D r g) (book : MirrorBook L D r g) (token : List ℕ) (result : Result (JobSeat L) SyncFault)
+      → IfErr result (IsEntryFault (jobs_of book) token) → IfErr result (IsKeptOut share token)
+  kept_out share book token (Ok s) why = tt
+  kept_out share book token (Err f) (inl memory) = inl memory
+  kept_out share book token (Err f) (inr (at, inl memory)) = inl memory
+  kept_out share book token (Err f) (inr (at, inr told)) = inr (record { book = book; seat = at.0; runs = at.1; text = told.0; told = told.1; says = told.2 })
 
   pub has_props : (share : MirrorShare L D r g) (book : MirrorBook L D r g) (number : ℕ) (result : Result PropMap StoreFault)
       → IfOk result (λ (p : PropMap). (number ≤ head_of (master_of book)) × (p ≡ props_at (revisions_of (store_in book)) number))

@@ -1,5 +1,5 @@
 -- What a reader has seen behind a call that was taken.
-use Rattle.std.proofs.Common.{◌≡◌, ◌<◌, ◌≤◌, ◌+◌, ℕ, Bool, true, false, List, [], ◌∷◌, ◌++◌, length, Option, Some, Result, Ok, Err, refl, sym, ap, subst, ◌∙◌, arith, length-append}
+use Rattle.std.proofs.Common.{◌≡◌, ◌<◌, ◌≤◌, ◌+◌, ℕ, Bool, false, List, [], ◌∷◌, length, Option, Some, Result, Ok, Err, sym, ap, subst, ◌∙◌, arith, length-append}
 use Rattle.std.specs.Option.{option_map}
 use Rattle.node_base.specs.Props.{PropMap, without_sync}
 use Rattle.dump_load.specs.declared.change.Change.{Change}
@@ -9,7 +9,7 @@ use Rattle.repo_core.specs.Entries.{with_entry_in}
 use Rattle.repo_core.specs.declared.entry.Entry.TheVariants.{Revised}
 use Rattle.rev_row.specs.declared.rev.Rev.{Rev}
 use Rattle.rev_row.specs.Row.{rev_at}
-use Rattle.store_share.proofs.Showing.{rev_as, revision_as, rev_new}
+use Rattle.store_share.proofs.Showing.{revision_as, rev_new}
 use Rattle.sync_core.specs.Mirror.{Call, Init, TakeLock, StealLock, ReleaseLock, SetCopying, Commit, PutProps, SetMerged, ClearCopying, Look, standing_of}
 use Rattle.sync_core.proofs.Kept.{no_need}
 use Rattle.sync_core.proofs.Table.{meets}

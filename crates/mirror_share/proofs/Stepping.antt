@@ -76,7 +76,7 @@ done_by m ClearCopying e k = refl
 done_by m Look e k = absurd (cc)
 
 -- nothing is refused of a call whose entry nothing is due of
-free_of : (m : MirrorNow) (seat : ℕ) (call : Call) (e : Entry) → IsToWrite (mirror_in m) seat call e → by_repository m.repository.revisions e ≡ None → refusal (mirror_in m) seat call ≡ None
+pub free_of : (m : MirrorNow) (seat : ℕ) (call : Call) (e : Entry) → IsToWrite (mirror_in m) seat call e → by_repository m.repository.revisions e ≡ None → refusal (mirror_in m) seat call ≡ None
 free_of m seat call e p h = p.may_refuse ∙ ap (option_map OfRepository) h
 
 has_entry : (x : Option Entry) (e : Entry) → x ≡ Some e → IsSome x

@@ -1,5 +1,8 @@
+pub mod Acceptable
 pub mod Book
+pub mod Causes
 pub mod Entries
+pub mod Events
 pub mod Facts
 pub mod Holding
 pub mod Jobs

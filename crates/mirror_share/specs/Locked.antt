@@ -1,26 +1,24 @@
 -- What a call of a share was, of the book as the lock had it. What the book was before and after isn't known to who calls: there
 -- were two books, each with all that a book keeps.
-use Rattle.std.specs.Prelude.{◌≡◌, ◌≤◌, ◌⊎◌, ◌+◌, ◌<◌, ℕ, List, Option, Some, None, false, length, Result, IfOk}
+use Rattle.std.specs.Prelude.{◌≡◌, ◌≤◌, ◌⊎◌, ℕ, List, Some, None, Result}
 use Rattle.fleet_disk.specs.declared.disk.Disk.{Ghosts}
 use Rattle.node_base.specs.Props.{PropMap}
 use Rattle.repo_core.specs.Repository.{props_at}
 use Rattle.repo_store.specs.Words.{repository_of, revisions_of, IsKept}
 use Rattle.rev_row.specs.Row.{rev_at}
 use Rattle.store_share.specs.declared.seat.ReaderSeat.{ReaderSeat}
-use Rattle.store_share.specs.Book.{head_of, notes_of}
-use Rattle.store_share.specs.Seats.{known_by, seen_by}
-use Rattle.store_share.specs.Shown.{Shows}
+use Rattle.store_share.specs.Book.{head_of}
+use Rattle.store_share.specs.Seats.{known_by}
 use Rattle.sync_core.specs.Mirror.{Call}
 use Rattle.sync_core.specs.World.{holder_left}
 use Rattle.sync_core.specs.declared.fault.SyncFault.{SyncFault}
+use Rattle.sync_core.specs.declared.fault.SyncFault.TheVariants.{HolderRunning, OutOfMemory}
+use Rattle.sync_core.specs.declared.lock_token.LockToken.{LockToken}
 use Rattle.sync_core.specs.declared.reply.Reply.{Reply as Given}
-use Rattle.sync_job.specs.Fronts.{replayed}
 use Rattle.mirror_share.specs.declared.book.MirrorBook.{MirrorBook}
-use Rattle.mirror_share.specs.declared.seat.JobSeat.{JobSeat}
 use Rattle.mirror_share.specs.declared.share.MirrorShare.{MirrorShare}
-use Rattle.mirror_share.specs.Book.{master_of, store_in, is_stuck_in, holder_of, opening_of, calls_of, jobs_of}
+use Rattle.mirror_share.specs.Book.{master_of, store_in, holder_of, calls_of, jobs_of}
 use Rattle.mirror_share.specs.Places.{job_at}
-use Rattle.mirror_share.specs.Seats.{place_of}
 use Rattle.mirror_share.specs.Stepped.{Stepped}
 
 -- the cells of a share's row
@@ -40,6 +38,19 @@ pub record IsEntryOf {L D : Type 0} {r : _} {g : Ghosts D} (share : MirrorShare 
   pub alone : (i : ℕ) → job_at (jobs_of old) i ≡ Some token → ⊥
   pub free : job_at (jobs_of old) seat ≡ None
   pub there : job_at (jobs_of new) seat ≡ Some token
+
+-- one of the token runs at some place of a book, which is told (55)
+pub record RunsThere {L D : Type 0} {r : _} {g : Ghosts D} (share : MirrorShare L D r g) (token : List ℕ) (f : SyncFault) : Type 0 where
+  pub book : MirrorBook L D r g
+  pub seat : ℕ
+  pub runs : job_at (jobs_of book) seat ≡ Some token
+  pub text : LockToken
+  pub told : f ≡ HolderRunning text
+  pub says : text.bytes.items ≡ token
+
+-- why a job isn't let in: that, or want of memory (70)
+abbrev pub IsKeptOut : {L D : Type 0} {r : _} {g : _} → MirrorShare L D r g → List ℕ → SyncFault → Type 0
+IsKeptOut share token f = (f ≡ OutOfMemory) ⊎ RunsThere share token f
 
 -- a job left: its place is free, and it holds no lock
 pub record IsLeaveOf {L D : Type 0} {r : _} {g : Ghosts D} (share : MirrorShare L D r g) (seat : ℕ) : Type 0 where

@@ -1,5 +1,5 @@
 //! What lies under the lock of a shared mirror.
-ghost use Rattle.std.specs.Prelude.{◌≡◌, ◌<◌, ◌≤◌, ◌⊎◌, ℕ, [], map, false, Some, None, IfOk, IfErr, OnOk, OnErr};
+ghost use Rattle.std.specs.Prelude.{◌≡◌, ◌<◌, ◌≤◌, ◌⊎◌, ℕ, [], map, true, false, Some, None, IfOk, IfErr, OnOk, OnErr};
 ghost use Rattle.gate_log.specs.declared.fault.LogFault.TheVariants as log;
 ghost use Rattle.repo_core.specs.Repository.{props_at};
 ghost use Rattle.repo_core.specs.declared.fault.RepoFault.TheVariants as core;
@@ -14,6 +14,7 @@ ghost use Rattle.sync_core.specs.Plans.{IsToWrite};
 ghost use Rattle.sync_core.specs.World.{holder_left};
 ghost use Rattle.sync_job.specs.Fronts.{replayed};
 ghost use Rattle.sync_job.specs.Mirrors.{IsFit, mirror_in};
+ghost use Rattle.mirror_share.specs.Acceptable.{may_all_come};
 ghost use Rattle.mirror_share.specs.Facts.{replay_prop};
 ghost use Rattle.mirror_share.specs.Places.{job_at, IsEntryFault};
 ghost use Rattle.mirror_share.specs.Refused.{IsRefusalOf};
@@ -38,7 +39,8 @@ use sync_core::{
 };
 
 /// A mirror's book: its store with what the row shows of it, the calls that were taken since it was opened, the running
-/// seat whose call took its lock, and the jobs that run. Its repository is the one at the opening after those calls.
+/// seat whose call took its lock, and the jobs that run. Its repository is the one at the opening after those calls, each
+/// of which was acceptable where it came.
 #[derive(Drop)]
 pub struct MirrorBook<L: RowName, D: Disk> {
     book: MasterBook<L, D>,
@@ -47,6 +49,7 @@ pub struct MirrorBook<L: RowName, D: Disk> {
     holder: Option<Seat>,
     jobs: RunningJobs,
     ghost replay: { repository_of (store_of book) ≡ replayed opening.value (map call_in calls.items) } by { replay_prop (repository_of (store_of book)) (replayed opening.value (map call_in calls.items)) },
+    ghost came: { may_all_come opening.value (map call_in calls.items) ≡ true },
 }
 
 impl<L: RowName, D: Disk> MirrorBook<L, D> {
@@ -77,8 +80,9 @@ impl<L: RowName, D: Disk> MirrorBook<L, D> {
         self.book
     }
 
-    /// Does nothing: its contract says what each book keeps. Its repository is the one at the opening after the calls, a
-    /// stop keeps it, and the row shows it up to the head, which is the newest revision unless a cell refused its box.
+    /// Does nothing: its contract says what each book keeps. Its repository is the one at the opening after the calls, of
+    /// which each was acceptable where it came, whoever held the lock then. A stop keeps it, and the row shows it up to
+    /// the head, which is the newest revision unless a cell refused its box.
     pub fn is_whole(&self)
         ensures { IsWhole self.now }
     {
@@ -138,9 +142,10 @@ impl<L: RowName, D: Disk> MirrorBook<L, D> {
     }
 
     /// One call of a job: taken, or refused by the table of the calls or by what keeps the mirror. A revision that is
-    /// committed is on the disk and in its cell when the call is answered. 31 where the device failed: the call may
-    /// stand on the disk then, and each later one but a look is refused (32). 32 too where the revision's cell refused
-    /// its box: the call stands then, unseen, and each later one is refused.
+    /// committed is on the disk and in its cell when the call is answered. 31 only where the device failed in it: the
+    /// call may stand on the disk then, and each later one but a look is refused (32). 32 too where the revision's cell
+    /// refused its box: the call stands then, unseen, and each later one is refused. 36 only where the journal has no
+    /// room for the call's entry. Behind any other refusal, want of memory (70) too, the disk is as it was.
     pub fn step(
         &mut self,
         alloc: Global,

@@ -1,7 +1,8 @@
 //! What steps of a shared mirror come to.
+ghost use Rattle.mirror_share.specs.Events.{BooksFollow, CallsMayHappen};
 ghost use Rattle.mirror_share.specs.Holding.{OthersLeaveIt, HolderIsServed};
 
-use sync_core::law::the_holder_goes_on;
+use sync_core::law::{every_run, the_holder_goes_on};
 
 /// Does nothing: its contract says how a seat that holds the lock goes on, whichever seats' steps come between its own.
 /// While it holds, no other seat's call but a look is done, so no steal is, and none changes how the mirror stands. A
@@ -12,4 +13,14 @@ pub fn a_holder_goes_on()
     ensures served { HolderIsServed }
 {
     the_holder_goes_on();
+}
+
+/// Does nothing: its contract says that what holds of every mirror, whatever happens, holds of a book. One that was opened
+/// as a mirror stands, and keeps the calls that the mirror accepts among any events, has the mirror's revisions behind
+/// them. A call that is acceptable, as each kept one was where it came, is such an event where it is lawful of a job.
+pub fn a_book_follows_its_mirror()
+    ensures replayed { BooksFollow }
+    ensures happens { CallsMayHappen }
+{
+    every_run();
 }

@@ -8,7 +8,6 @@ ghost use Rattle.store_share.specs.Opened.{cells_of};
 ghost use Rattle.store_share.specs.Seats.{known_by, seen_by};
 ghost use Rattle.sync_core.specs.Calls.{call_of};
 ghost use Rattle.sync_job.specs.Mirrors.{IsFit};
-ghost use Rattle.mirror_share.specs.Places.{IsRunningFault};
 ghost use Rattle.mirror_share.specs.Refused.{IsRefusalOf};
 ghost use Rattle.mirror_share.specs.Seats.{place_of};
 ghost use Rattle.mirror_share.specs.Seen.{HasSeenCommit, HasSeenHead};
@@ -33,7 +32,7 @@ pub struct MirrorShare<L: RowName, D: Disk> {
 }
 
 impl<L: RowName, D: Disk> MirrorShare<L, D> {
-    ghost use Rattle.mirror_share.specs.Locked.{row_of, HasProps, IsEntryOf, IsLeaveOf, IsNewest, IsShownTo, IsStepOf};
+    ghost use Rattle.mirror_share.specs.Locked.{row_of, HasProps, IsEntryOf, IsKeptOut, IsLeaveOf, IsNewest, IsShownTo, IsStepOf};
     ghost use Rattle.mirror_share.specs.Stepped.{IsWhole};
 
     /// The share of an opened store under the row's name. Nobody runs there, and no seat holds the sync lock, whatever
@@ -67,7 +66,7 @@ impl<L: RowName, D: Disk> MirrorShare<L, D> {
         token: &Token,
     ) -> Result<JobSeat<L>, SyncFault>
         ensures entered { IfOk result (λ s. IsEntryOf self.now token.now (place_of s)) }
-        ensures refused { IfErr result (IsRunningFault token.now) }
+        ensures refused { IfErr result (IsKeptOut self.now token.now) }
     {
         self.book.lock(rt).enter_job(alloc, token)
     }

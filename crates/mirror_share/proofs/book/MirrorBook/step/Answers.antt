@@ -6,9 +6,14 @@ use Rattle.sync_core.specs.Calls.{call_of}
 use Rattle.sync_core.specs.Mirror.{mirror_with}
 use Rattle.mirror_share.specs.Seats.{place_of}
 use Rattle.mirror_share.specs.Book.{holder_of, is_stuck_in, now_of}
-use Rattle.mirror_share.proofs.Exits.{told_stepped, unplanned_stepped}
+use Rattle.mirror_share.proofs.Exits.{stuck_stepped, told_stepped, unplanned_stepped}
 use Rattle.mirror_share.proofs.Refusing.{of_answer, of_step, writes}
 use Rattle.mirror_share.proofs.book.MirrorBook.step.Goals as goal
+
+pub returns-then-is_stuck-clause-stepped : goal.returns-then-is_stuck-clause-stepped
+returns-then-is_stuck-clause-stepped g c =
+    stuck_stepped c.args.self.now (place_of c.args.seat.now) (call_of c.args.call.now) (λ image honest left. g.met.D.Disk.only_now (disk_of (store_of c.args.self.now.book)) image honest left) c.repo.ensures.kept
+    (sym c.is_stuck.ensures ∙ c.if-is_stuck.true)
 
 pub returns-in-Ok-Tell-clause-stepped : goal.returns-in-Ok-Tell-clause-stepped
 returns-in-Ok-Tell-clause-stepped g c =

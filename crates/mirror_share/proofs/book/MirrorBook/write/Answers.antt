@@ -6,7 +6,9 @@ use Rattle.store_share.specs.Book.{store_of}
 use Rattle.sync_core.specs.Calls.{call_of}
 use Rattle.sync_core.specs.Copies.{call_in}
 use Rattle.sync_job.specs.Fronts.{replayed}
-use Rattle.mirror_share.proofs.Stepping.{must_hide, replay_more, kept_more}
+use Rattle.mirror_share.specs.Book.{now_of}
+use Rattle.mirror_share.proofs.Coming.{came_more}
+use Rattle.mirror_share.proofs.Stepping.{free_of, must_hide, replay_more, kept_more}
 use Rattle.mirror_share.proofs.Exits.{accepted_stepped, hidden_stepped, refused_stepped, no_memory_stepped}
 use Rattle.mirror_share.proofs.book.MirrorBook.write.Goals as goal
 
@@ -28,6 +30,9 @@ invariant_of-self-in-Ok g c = record {
       replay_more c.args.self.now.opening.value (repository_of (store_of c.args.self.now.book)) (repository_of (store_of c.take.new.book)) c.args.self.now.calls.items c.in_ok-kept.kept (call_of c.args.call.now) c.args.entry
       c.args.self.now.replay c.in_ok-kept.ensures c.requires.planned.entry c.in-Ok.ensures.store.made
       ∙ ap (λ xs. replayed c.args.self.now.opening.value (map call_in xs)) (sym (c.push_reserved.ensures.items ∙ ap (λ xs. xs ++ c.in_ok-kept.kept ∷ []) c.reserve.ensures.items));
+  came =
+      came_more c.args.self.now.opening.value (repository_of (store_of c.args.self.now.book)) c.args.self.now.calls.items _ _ c.in_ok-kept.kept (call_of c.args.call.now) c.args.self.now.holder c.args.seat c.push_reserved.ensures.items c.reserve.ensures.items
+      c.args.self.now.came c.args.self.now.replay c.in_ok-kept.ensures (free_of (now_of c.args.self.now) c.args.seat (call_of c.args.call.now) c.args.entry c.requires.planned c.in-Ok.ensures.taken);
 }
 
 pub returns-in-Ok-clause-stepped : goal.returns-in-Ok-clause-stepped
@@ -44,6 +49,9 @@ invariant_of-self-then-is_stuck g c =
           replay_more c.args.self.now.opening.value (repository_of (store_of c.args.self.now.book)) (repository_of (store_of c.take.new.book)) c.args.self.now.calls.items c.in_ok-kept.kept (call_of c.args.call.now) c.args.entry
           c.args.self.now.replay c.in_ok-kept.ensures c.requires.planned.entry h.store.made
           ∙ ap (λ xs. replayed c.args.self.now.opening.value (map call_in xs)) (sym (c.push_reserved-then-is_stuck.ensures.items ∙ ap (λ xs. xs ++ c.in_ok-kept.kept ∷ []) c.reserve.ensures.items));
+      came =
+          came_more c.args.self.now.opening.value (repository_of (store_of c.args.self.now.book)) c.args.self.now.calls.items _ _ c.in_ok-kept.kept (call_of c.args.call.now) c.args.self.now.holder c.args.seat c.push_reserved-then-is_stuck.ensures.items c.reserve.ensures.items
+          c.args.self.now.came c.args.self.now.replay c.in_ok-kept.ensures (free_of (now_of c.args.self.now) c.args.seat (call_of c.args.call.now) c.args.entry c.requires.planned h.taken);
     }
 
 pub returns-then-is_stuck-clause-stepped : goal.returns-then-is_stuck-clause-stepped
