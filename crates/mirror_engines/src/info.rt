@@ -1,5 +1,5 @@
 //! How a mirror stands.
-ghost use Rattle.std.specs.Prelude.{◌≡◌, ◌⊎◌, ◌++◌, ◌∷◌, [], None, Some, Option, List, ℕ, IfErr, OnOk, OnErr};
+ghost use Rattle.std.specs.Prelude.{◌≡◌, ◌⊎◌, None, Some, IfErr, OnOk, OnErr};
 ghost use Rattle.std.specs.Io.KnownBytes.{Appends};
 ghost use Rattle.std.specs.Option.{option_copied};
 ghost use Rattle.byte_streams.specs.Causes.{Rose};
@@ -7,19 +7,19 @@ ghost use Rattle.fleet_engines.specs.Runs.{Counted};
 ghost use Rattle.repo_core.specs.Repository.{head_of, props_at};
 ghost use Rattle.repo_store.specs.Words.{revisions_of};
 ghost use Rattle.sync_core.specs.Faults.{spelt_in};
-ghost use Rattle.mirror_engines.specs.Infos.{info_fault, info_line, info_text, merged_line, valued};
+ghost use Rattle.mirror_engines.specs.Infos.{info_fault, info_line, info_text, merged_digits, spells_number, valued};
 
 use byte_streams::Output;
 use fleet_disk::Disk;
-use fleet_engines::{write_count, write_parts};
+use fleet_engines::write_parts;
 use node_base::{Props, Refusal, RevNo};
 use repo_store::RepoStore;
-use sync_core::properties::{copying, merged, url, uuid};
-use sync_core::{Number, own_of, shape_of};
+use sync_core::properties::{MERGED, copying, merged, url, uuid};
+use sync_core::{Number, own_of};
 
 /// Prints where a mirror is copied from, which repository that is, and the last revision that is copied whole.
-/// Nothing is printed where the repository is no mirror (NotInitialised, 51) or its numbers fit no shape in which a
-/// mirror rests (Inconsistent, 57). PeerFailed (49) where the writer failed, and only there.
+/// Nothing is printed where the repository is no mirror (NotInitialised, 51), or what is merged is absent or misspelt
+/// (Inconsistent, 57). PeerFailed (49) where the writer failed, and only there.
 pub fn run_info<D: Disk + Drop, O: Output>(
     store: &RepoStore<D>,
     output: &mut O,
@@ -41,7 +41,7 @@ pub fn run_info<D: Disk + Drop, O: Output>(
     }
 }
 
-// Why nothing is told of a mirror: it isn't initialized, or its numbers fit no shape.
+// Why nothing is told of a mirror: it isn't initialized, or what is merged is absent or misspelt.
 fn fault_of(own: &Props, head: RevNo) -> Option<Refusal>
     ensures value { result ≡ info_fault own.now head }
     ensures no_peer { result ≡ Some Refusal.PeerFailed → ⊥ }
@@ -49,13 +49,34 @@ fn fault_of(own: &Props, head: RevNo) -> Option<Refusal>
     if url(own).is_none() {
         return Some(Refusal::NotInitialised);
     }
-    match shape_of(merged(own), copying(own), head) {
-        Some(_) => None,
-        None => Some(Refusal::Inconsistent {
-            merged: spelt(merged(own)),
-            copying: spelt(copying(own)),
-            head,
-        }),
+    if spells_number(merged(own)) {
+        return None;
+    }
+    Some(Refusal::Inconsistent {
+        merged: None,
+        copying: spelt(copying(own)),
+        head,
+    })
+}
+
+// Whether a property spells a number, of whatever size.
+fn spells_number(number: Number) -> bool
+    ensures { result ≡ spells_number number }
+{
+    match number {
+        Number::Spelt(_) | Number::Huge => true,
+        Number::Absent | Number::Misspelt => false,
+    }
+}
+
+// The digits of the last revision that is copied whole, where its property spells a number.
+fn merged_digits(own: &Props) -> Option<&[u8]>
+    ensures { option_copied result ≡ merged_digits own.now }
+{
+    if spells_number(merged(own)) {
+        own.get(MERGED)
+    } else {
+        None
     }
 }
 
@@ -79,7 +100,7 @@ fn write_all<O: Output>(own: &Props, output: &mut O) -> Result<(), Refusal>
 {
     write_line("Source URL: ", url(own), output)?;
     write_line("Source Repository UUID: ", uuid(own), output)?;
-    write_merged(spelt(merged(own)), output)
+    write_line("Last Merged Revision: ", merged_digits(own), output)
 }
 
 // A line of a label and a value, which is empty where there is none.
@@ -93,19 +114,5 @@ fn write_line<O: Output>(label: &str, value: Option<&[u8]>, output: &mut O) -> R
     match value {
         Some(value) => write_parts(output, label.as_bytes(), value, b"\n"),
         None => write_parts(output, label.as_bytes(), b"", b"\n"),
-    }
-}
-
-// The line of the last revision that is copied whole.
-fn write_merged<O: Output>(number: Option<u64>, output: &mut O) -> Result<(), Refusal>
-    ensures ok { OnOk result (Appends (O.contents output.old) (O.contents output.new)
-        (merged_line number)) }
-    ensures only_peer { IfErr result (λ e. e ≡ Refusal.PeerFailed) }
-    ensures failed { OnErr result (Rose (O.failures output.old) (O.failures output.new)) }
-    ensures peer { Counted result (O.failures output.old) (O.failures output.new) }
-{
-    match number {
-        Some(number) => write_count(output, b"Last Merged Revision: ", number, b"\n"),
-        None => write_line("Last Merged Revision: ", None, output),
     }
 }
