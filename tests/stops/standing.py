@@ -1,9 +1,11 @@
-"""Where the second of two revisions stands, call by call: a load whose folder fails for good and is then stopped, and a
-server whose folder fails once.
+"""What stands behind each call of an append: a load and a job at a mirror whose folder fails for good, and then stops; and
+a server whose folder fails once.
 
 An append is two writes, a sync of either file, the write that opens the gate, and a sync. What is wanted stands here.
 """
+import hashlib
 import os
+import re
 import subprocess
 import sys
 
@@ -11,7 +13,7 @@ HERE = os.path.dirname(os.path.realpath(__file__))
 sys.path.insert(0, f'{HERE}/../fuzz')
 sys.dont_write_bytecode = True
 
-from disk import FILES, changed, content, put  # noqa: E402
+from disk import FILES, changed, content, entries, put, without_sums  # noqa: E402
 from served import free_port, got  # noqa: E402
 
 HEAD = b'SVN-fs-dump-format-version: 2\n\n'
@@ -121,8 +123,145 @@ class Standing:
                 run.kill()
 
 
+COMMITTED, COPIED = 'Committed revision 1.', 'Copied properties for revision 1.'
+COPIED_0 = 'Copied properties for revision 0.'
+# How a mirror stands behind so many entries of a job whose source has one revision: its head; of revision 0 what is merged,
+# what is being copied, and the lock's token; and revision 1's log. And what the job has told by then.
+SYNCHRONISING = [
+    ((0, b'0', None, None, None), []),
+    ((0, b'0', None, b'job', None), []),
+    ((0, b'0', b'1', b'job', None), []),
+    ((1, b'0', b'1', b'job', b'hi'), [COMMITTED]),
+    ((1, b'0', b'1', b'job', b'hi'), [COMMITTED, COPIED]),
+    ((1, b'1', b'1', b'job', b'hi'), [COMMITTED, COPIED]),
+    ((1, b'1', None, b'job', b'hi'), [COMMITTED, COPIED]),
+    ((1, b'1', None, None, b'hi'), [COMMITTED, COPIED]),
+]
+BEGINNING = [((0, None, None, None, None), []), ((0, b'0', None, None, None), [COPIED_0])]
+# Properties of both revisions are copied again, and revision 1's log was edited.
+COPYING = [
+    ((1, b'1', None, None, b'hi'), []),
+    ((1, b'1', None, b'job', b'hi'), []),
+    ((1, b'1', None, b'job', b'hi'), [COPIED_0]),
+    ((1, b'1', None, b'job', b'ho'), [COPIED_0, COPIED]),
+    ((1, b'1', None, None, b'ho'), [COPIED_0, COPIED]),
+]
+# What a later synchronisation tells, by the entries of the stopped one that stand.
+LATER = [[COMMITTED, COPIED]] * 3 + [[COPIED]] * 2 + [[]] * 3
+HELD = (1, [], 'svnfleet: 54 the sync lock is held by job\n')
+EDITED = b'Revision-number: 1\nProp-content-length: 29\nContent-length: 29\n\nK 7\nsvn:log\nV 2\nho\nPROPS-END\n\n'
+
+
+def folder_of(*parts):
+    """The folder with these entries."""
+    journal = slots = b''
+    for it in parts:
+        journal += it
+        slots += b'\1' + len(journal).to_bytes(8, 'big') + hashlib.md5(it).digest()
+    return {'journal': journal, 'gate': b'', 'slots': slots + b'\0'}
+
+
+def value(dump, name):
+    """The value of a property in a dump, None where it has none of that name."""
+    found = re.search(rb'\nK \d+\n%b\nV \d+\n(.*)\n' % re.escape(name), dump)
+    return found[1] if found else None
+
+
+class Jobs:
+    """The trials of a job at the mirror `here`, whose source is the folder `one`."""
+
+    def __init__(self, site, check, words, rows):
+        self.site, self.check, self.words, self.rows = site, check, words, rows
+
+    def run(self, *words):
+        return self.site.run(*words)
+
+    def dumped(self, folder):
+        return subprocess.run([self.site.program, 'dump', folder], capture_output=True, check=False).stdout
+
+    def stands(self):
+        """How the mirror stands."""
+        zero, _, one = self.dumped('here').partition(b'Revision-number: 1\n')
+        names = b'svn:sync-last-merged-rev', b'svn:sync-currently-copying', b'svn:sync-lock'
+        return (int(bool(one)), *(value(zero, it) for it in names), value(one, b'svn:log'))
+
+    def rests(self, name):
+        """The mirror is at rest, with its source's one revision."""
+        zero, _, one = self.dumped('here').partition(b'Revision-number: 1\n')
+        of = value(zero, b'svn:sync-from-url'), value(zero, b'svn:sync-from-uuid')
+        self.check(f'{name}: its source', of == (b'one', b'6a1f0c3e-0000-4000-8000-000000000001'), of)
+        self.check(f'{name}: at rest', self.stands()[:4] == (1, b'1', None, None), self.stands())
+        self.check(f'{name}: its revision', one == self.dumped('one').partition(b'Revision-number: 1\n')[2])
+
+    def tried(self, name, start):
+        """The folder fails for good behind each call of the job, and the machine stops."""
+        put('here', start)
+        opening = len(self.site.command('dump', 'here').ran(FAIL_AT=0)[3])
+        put('here', start)
+        job = self.site.command(*self.words)
+        calls = job.ran(FAIL_AT=0)[3]
+        most = len(APPEND) * (len(self.rows) - 1)
+        self.check(f'{name}: its calls', len(calls) == opening + most, calls)
+        for number in range(most + 1):
+            put('here', start)
+            told = self.rows[number // len(APPEND)][1]
+            ended = job.ran(FAIL_AT=opening + number + 1, FAIL_LASTS=1)[:3]
+            due = (0, told, '') if number == most else (1, told, 'svnfleet: 31 device failed\n')
+            self.check(f'{name}: {number} calls pass', ended == due, ended, due)
+            for pick in (OLD, NEW, 0, ONES, 255):
+                opened = number % len(APPEND) == len(APPEND) - 1 and pick in (NEW, ONES)
+                image = left(start, calls[:opening + number], pick)
+                self.goes_on(f'{name}: {number} calls and {pick}', start, image, number // len(APPEND) + opened)
+
+    def goes_on(self, name, start, image, count):
+        """So many entries stand, and later jobs tell what is missing."""
+        put('here', image)
+        self.check(f'{name}: how it stands', self.stands() == self.rows[count][0], self.stands())
+        self.check(f'{name}: {count} entries', entries(content('here')) == entries(start) + count)
+        for words, due in self.later(count):
+            if words is None:
+                self.rests(name)
+                put('here', image)
+                continue
+            found = self.run(*words)
+            self.check(f'{name}: {words[0]}', found == due, found, due)
+        if due != HELD:
+            self.rests(name)
+
+    def later(self, count):
+        """The later jobs, and how each ends; none of words where the stopped mirror is put back."""
+        synchronise, steal = ['synchronize', 'here', 'one'], ['synchronize', '--steal-lock', 'here', 'one']
+        if self.rows is BEGINNING:
+            begun = (1, [], 'svnfleet: 52 already initialized\n') if count else (0, [COPIED_0], '')
+            return [(self.words, begun), (synchronise, (0, LATER[0], ''))]
+        if self.rows is SYNCHRONISING:
+            done = (0, LATER[count], '')
+            return [(steal, done), (None, None), (synchronise, HELD if 1 <= count <= 6 else done)]
+        both = (0, [COPIED_0, COPIED], '')
+        return [(self.words, HELD if 1 <= count <= 3 else both), (steal, (0, [], '')), (self.words, both)]
+
+
+def jobs(site, check):
+    """The three jobs, in folders of both versions."""
+    put('one', folder_of(BEGUN, ONE_FILE))
+    put('here', {name: None for name in FILES})
+    site.run('create', 'here', '--uuid', '6a1f0c3e-0000-4000-8000-000000000002')
+    starts = [content('here')]
+    for words in ('initialize', 'synchronize'):
+        site.run(words, 'here', 'one')
+        starts.append(content('here'))
+    orders = [(['initialize', 'here', 'one'], BEGINNING), (['synchronize', 'here', 'one'], SYNCHRONISING),
+              (['copy-revprops', 'here', 'one', '-r', '0:1'], COPYING)]
+    for start, (words, rows) in zip(starts, orders):
+        if rows is COPYING:
+            put('one', folder_of(BEGUN, ONE_FILE, EDITED))
+        for version, first in ((2, start), (1, without_sums(start) | {'slots': b''})):
+            Jobs(site, check, words, rows).tried(f'{words[0]} in version {version}, an entry at a time', first)
+
+
 def trials(site, check):
     standing = Standing(site, check)
     standing.loads()
     standing.loads_two()
     standing.serves()
+    jobs(site, check)
