@@ -1,0 +1,167 @@
+//! Sessions over outputs whose failures are counted.
+
+use crate::client_sessions::URL;
+use crate::serve_failure_tests::{ASKED, TOLD, begin};
+use crate::serve_sessions::{Ended, are, asking, run};
+use crate::serve_streams::{Passing, items_from};
+use crate::served_repos::{copy_port, file_port};
+use byte_streams::{CountedWriter, MemOutput, Output};
+use ra_serve::{End, RepoPort, ServeFault, serve_to};
+use std::alloc::Global;
+use std::process::Abort;
+use std::rt::HostRuntime;
+
+// How a session ended, and whether the output that came back had failed; none where it didn't come back.
+type Came = (Result<End, ServeFault>, Option<bool>);
+
+// Serves what a client sends where so many reads pass, to a place of whose calls, writes and flushes, so many do.
+fn served_to<P: RepoPort>(
+    alloc: Global,
+    port: &mut P,
+    sent: &[u8],
+    reads: u64,
+    calls: u64,
+    bytes: &mut Vec<u8>,
+) -> Came {
+    let mut items = items_from(alloc, sent, 1, reads);
+    let out = CountedWriter::new(Passing { bytes, left: calls });
+    match serve_to(alloc, port, URL, &mut items, out) {
+        Ok((out, end)) => (Ok(end), Some(out.count_failures() > 0)),
+        Err(unserved) => (Err(unserved.fault), has_failed(&unserved.out)),
+    }
+}
+
+fn has_failed<O: Output>(out: &Option<O>) -> Option<bool> {
+    match out {
+        Some(out) => Some(out.count_failures() > 0),
+        None => None,
+    }
+}
+
+// Whether a session told all; false where it came to this, with a beginning of the answers, and none where it did
+// neither.
+fn has_told_all(came: Came, refused: Came, bytes: &[u8]) -> Option<bool> {
+    if came == (Ok(End::Input), Some(false)) {
+        return are(bytes, &TOLD).then_some(true);
+    }
+    (came == refused && begin(bytes, &TOLD)).then_some(false)
+}
+
+// The same of one where so many calls of the output pass, and a later one leads to 49, to an output that has counted it.
+fn tells_by_calls<P: RepoPort>(
+    alloc: Global,
+    port: &mut P,
+    sent: &[u8],
+    passing: u64,
+) -> Option<bool> {
+    let mut bytes = Vec::new(alloc);
+    let came = served_to(alloc, port, sent, u64::MAX, passing, &mut bytes);
+    let refused = (Err(ServeFault::WriteFailed), Some(true));
+    has_told_all(came, refused, bytes.as_slice())
+}
+
+// How many calls of the output have to pass for all to be told.
+fn calls_wanted<P: RepoPort>(alloc: Global, port: &mut P, sent: &[u8]) -> Option<u64> {
+    for passing in 0..1_000 {
+        if tells_by_calls(alloc, port, sent, passing)? {
+            return Some(passing);
+        }
+    }
+    None
+}
+
+// The same of the copy's repository.
+fn copy_calls(rt: &impl Abort, alloc: Global) -> Option<u64> {
+    let mut port = copy_port(rt, alloc);
+    let sent = asking(rt, alloc, ASKED);
+    let answer = calls_wanted(alloc, &mut port, &sent);
+    drop(port);
+    answer
+}
+
+#[test]
+fn an_output_that_fails_comes_back(rt: HostRuntime) {
+    // each of the 14 items that are told takes a write or more, and four times all is handed on
+    assert!(rt; copy_calls(&rt, rt.alloc()) > Some(17));
+}
+
+// Whether a session told all where so many reads pass, and a later one leads to 49 told of the reader, to an output that
+// never failed.
+fn tells_by_reads<P: RepoPort>(
+    alloc: Global,
+    port: &mut P,
+    sent: &[u8],
+    passing: u64,
+) -> Option<bool> {
+    let mut bytes = Vec::new(alloc);
+    let came = served_to(alloc, port, sent, passing, u64::MAX, &mut bytes);
+    let refused = (Err(ServeFault::ReadFailed), Some(false));
+    has_told_all(came, refused, bytes.as_slice())
+}
+
+// How many reads have to pass for all to be told.
+fn reads_wanted<P: RepoPort>(alloc: Global, port: &mut P, sent: &[u8]) -> Option<u64> {
+    for passing in 0..1_000 {
+        if tells_by_reads(alloc, port, sent, passing)? {
+            return Some(passing);
+        }
+    }
+    None
+}
+
+// Whether the copy's repository wants one read for each byte, and the last one, which finds the end.
+fn copy_wants_each(rt: &impl Abort, alloc: Global) -> bool {
+    let mut port = copy_port(rt, alloc);
+    let sent = asking(rt, alloc, ASKED);
+    let bytes = sent.len() as u64;
+    let answer = reads_wanted(alloc, &mut port, &sent) == bytes.checked_add(1);
+    drop(port);
+    answer
+}
+
+#[test]
+fn a_reader_that_fails_is_told(rt: HostRuntime) {
+    assert!(rt; copy_wants_each(&rt, rt.alloc()));
+}
+
+// Commands of several kinds, one that isn't there among them, and bytes that end within an item.
+const SEVERAL: &[u8] = b"( get-latest-rev ( ) ) ( get-dir ( 0: ( ) true true ) ) \
+    ( get-file ( 1:a ( 1 ) true true ) ) ( frob ( ) ) ( replay-range ( 0 1 0 true ) ) \
+    ( change-rev-prop ( 1 7:svn:log 2:ho ) ) ( rev-proplist ( 1 ) ) ( rev-prop ( 1";
+
+// Whether an output has the same bytes as one of a writer's session, all handed on.
+fn has_same(out: &MemOutput, whole: &Ended) -> bool {
+    match &whole.out {
+        Some(there) => {
+            let bytes = there.bytes();
+            out.bytes() == bytes && out.handed_on() == bytes.len()
+        }
+        None => false,
+    }
+}
+
+// Whether a session over an output ends as one over a writer did, with the same bytes.
+fn ends_as<P: RepoPort>(alloc: Global, port: &mut P, sent: &[u8], whole: &Ended) -> bool {
+    let mut items = items_from(alloc, sent, 7, u64::MAX);
+    let out = MemOutput::new(alloc, u64::MAX);
+    match serve_to(alloc, port, URL, &mut items, out) {
+        Ok((out, end)) => whole.end == Ok(end) && has_same(&out, whole),
+        Err(_) => false,
+    }
+}
+
+// Whether a session over an output ends as one over a writer does, with the same bytes, all handed on.
+fn is_same(rt: &impl Abort, alloc: Global) -> bool {
+    let sent = asking(rt, alloc, SEVERAL);
+    let mut port = file_port(rt, alloc);
+    let whole = run(alloc, &mut port, &sent, sent.len(), u64::MAX, u64::MAX);
+    let mut other = file_port(rt, alloc);
+    let answer = ends_as(alloc, &mut other, &sent, &whole);
+    drop((port, other));
+    answer
+}
+
+#[test]
+fn an_output_gets_what_a_writer_gets(rt: HostRuntime) {
+    assert!(rt; is_same(&rt, rt.alloc()));
+}
