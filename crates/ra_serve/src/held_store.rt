@@ -95,6 +95,7 @@ impl<D: Disk + Drop> HeldStore<D> {
 
 impl<D: Disk + Drop> RepoPort for HeldStore<D> {
     ghost use Rattle.std.specs.Prelude.{Some};
+    ghost use Rattle.repo_core.specs.Repository.{trees_of};
     ghost use Rattle.repo_store.specs.Words.{repository_of};
 
     ghost repository = { λ p. Some (repository_of p.store) };
@@ -102,6 +103,8 @@ impl<D: Disk + Drop> RepoPort for HeldStore<D> {
     ghost refusals = { λ p. p.refusals };
 
     ghost is_mirror = { λ p. p.mirror };
+
+    ghost lent = { λ p. trees_of (repository_of p.store).revisions };
 
     fn is_repository(&self) {
         self.store.repo().is_repository()
@@ -165,5 +168,9 @@ impl<D: Disk + Drop> RepoPort for HeldStore<D> {
             Ok(replay) => Ok(replay),
             Err(_) => Err(self.refuse(PortFault::OutOfMemory)),
         }
+    }
+
+    fn trees(&self) -> &[Tree] {
+        self.store.repo().trees()
     }
 }

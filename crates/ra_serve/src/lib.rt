@@ -28,3 +28,4 @@ mod port;
 mod replay;
 mod session;
 mod told;
+mod unflushed;

@@ -1,7 +1,8 @@
 //! What is served.
 
-ghost use Rattle.std.specs.Prelude.{◌≡◌, ◌≤◌, ℕ, Bool, Option, Some, None, length, IfOk, IfErr, OnOk, OnErr};
+ghost use Rattle.std.specs.Prelude.{◌≡◌, ◌≤◌, ℕ, Bool, List, Option, Some, None, take, length, IfOk, IfErr, OnOk, OnErr};
 ghost use Rattle.std.specs.Option.{option_copied};
+ghost use Rattle.node_base.specs.Tree.{PathMap};
 ghost use Rattle.repo_core.specs.Repository.{Repository, IsRepository, head_of, props_at};
 ghost use Rattle.repo_core.specs.Refusals.{with_value, wanted};
 ghost use Rattle.repo_core.specs.Entries.{with_entry_in};
@@ -15,12 +16,11 @@ use path_tree::Tree;
 use repo_core::Expected;
 use uuid::Uuid;
 
-/// What a replay of a revision takes: its changes, the trees of the revisions before it, and its properties. All are
-/// shares: nothing is copied.
+/// What a replay of a revision takes beside the trees of the revisions before it: its changes and its properties. Both
+/// are shares: nothing is copied.
 #[derive(Drop)]
 pub struct Replay {
     pub set: ChangeSet,
-    pub trees: Vec<Tree>,
     pub props: Props,
 }
 
@@ -36,6 +36,9 @@ pub trait RepoPort {
 
     /// Whether it takes no changes.
     ghost is_mirror: { Self → Bool };
+
+    /// The trees that it lends, of the revisions from 0 up.
+    ghost lent: { Self → List PathMap };
 
     /// Does nothing: its contract says what is served.
     fn is_repository(&self)
@@ -95,15 +98,20 @@ pub trait RepoPort {
         ensures same { OnErr result (repository self.new ≡ repository self.old) }
         ensures goes { Goes (is_mirror self.old) (is_mirror self.new) (refusals self.old) (refusals self.new) };
 
-    /// All that a replay of a revision takes. NoSuchRevision (21) above the head.
+    /// What a replay of a revision takes. The trees of the revisions before it are lent from then on, until another
+    /// call. NoSuchRevision (21) above the head.
     fn replay_of(&mut self, number: RevNo) -> Result<Replay, PortFault>
         ensures there { (x : Repository) → repository self.old ≡ Some x
             → OnOk result (no_revision x number ≡ None) }
         ensures replay { (x : Repository) → repository self.old ≡ Some x
-            → IfOk result (λ p. IsReplay x number p.set p.trees.items p.props) }
-        ensures few { IfOk result (λ p. length p.trees.items ≤ 65535) }
+            → IfOk result (λ p. IsReplay x number p.set (take number (lent self.new)) p.props) }
+        ensures enough { OnOk result (number ≤ length (lent self.new)) }
         ensures refused { (x : Repository) → repository self.old ≡ Some x
             → IfErr result (λ f. MayRefuse (refusals self.old) (refusals self.new) f (no_revision x number)) }
         ensures stays { Stays (repository self.old) (repository self.new) (is_mirror self.old) (is_mirror self.new)
             (refusals self.old) (refusals self.new) };
+
+    /// The trees that it lends, of the revisions from 0 up.
+    fn trees(&self) -> &[Tree]
+        ensures { result.now ≡ lent self.now };
 }

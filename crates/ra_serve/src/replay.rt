@@ -15,35 +15,48 @@ use crate::ask::{newest, revision};
 use crate::fault::{PortFault, ServeFault};
 use crate::port::{Replay, RepoPort};
 use crate::told::refuse;
+use crate::unflushed::Unflushed;
 use delta_editor::EditorFault;
+use dump_load::ChangeSet;
 use edit_road::send::send_set;
 use node_base::RevNo;
+use path_tree::Tree;
 use ra_wire::reply_writer::{write_done, write_revprops};
 use std::alloc::Global;
 use std::io::Write;
 
-/// Writes the edit of a revision.
-fn write_edit<W: Write + Drop>(alloc: Global, replay: &Replay, out: W) -> Result<W, ServeFault>
-    requires few { length replay.now.trees.items ≤ 65535 }
-    ensures { IfOk result (λ w. Appends (W.contents out) (W.contents w)
-        (edit_bytes (drive replay.now.trees.items replay.now.set))) }
+/// Writes the edit of a revision over the trees before it. Its commands aren't handed on one by one, but as the writer
+/// does it.
+fn write_edit<W: Write + Drop>(
+    alloc: Global,
+    trees: &[Tree],
+    set: &ChangeSet,
+    out: W,
+) -> Result<W, ServeFault>
+    requires few { length trees.now ≤ 65535 }
+    ensures { IfOk result (λ w. Appends (W.contents out) (W.contents w) (edit_bytes (drive trees.now set.now))) }
 {
-    match send_set(alloc, replay.trees.as_slice(), &replay.set, out) {
-        Ok(out) => Ok(out),
+    match send_set(alloc, trees, set, Unflushed { inner: out }) {
+        Ok(out) => Ok(out.inner),
         Err(EditorFault::PeerFailed) => Err(ServeFault::WriteFailed),
         Err(_) => Err(ServeFault::OutOfMemory),
     }
 }
 
-/// Writes the properties of a revision, and its edit.
-fn write_revision<W: Write + Drop>(alloc: Global, replay: &Replay, out: W) -> Result<W, ServeFault>
-    requires few { length replay.now.trees.items ≤ 65535 }
+/// Writes the properties of a revision, and its edit over the trees before it.
+fn write_revision<W: Write + Drop>(
+    alloc: Global,
+    trees: &[Tree],
+    replay: &Replay,
+    out: W,
+) -> Result<W, ServeFault>
+    requires few { length trees.now ≤ 65535 }
     ensures { IfOk result (λ w. Appends (W.contents out) (W.contents w)
-        (spell (revprops replay.now.props) ++ edit_bytes (drive replay.now.trees.items replay.now.set))) }
+        (spell (revprops replay.now.props) ++ edit_bytes (drive trees.now replay.now.set))) }
 {
     let mut out = out;
     write_revprops(&mut out, &replay.props)?;
-    write_edit(alloc, replay, out)
+    write_edit(alloc, trees, &replay.set, out)
 }
 
 // Says that all is sent.
@@ -72,7 +85,8 @@ pub fn replay<P: RepoPort, W: Write + Drop>(
     };
     match port.replay_of(number) {
         Ok(replay) => {
-            let out = write_edit(alloc, &replay, out)?;
+            let trees = &port.trees()[..number.index()];
+            let out = write_edit(alloc, trees, &replay.set, out)?;
             done(out)
         }
         Err(fault) => refuse(fault, out),
@@ -120,8 +134,12 @@ fn revisions<P: RepoPort, W: Write + Drop>(
 {
     let mut sent = out;
     for number in u32::from(first)..u32::from(last) + 1 {
-        match port.replay_of(RevNo::new(number as u16)) {
-            Ok(replay) => sent = write_revision(alloc, &replay, sent)?,
+        let number = RevNo::new(number as u16);
+        match port.replay_of(number) {
+            Ok(replay) => {
+                let trees = &port.trees()[..number.index()];
+                sent = write_revision(alloc, trees, &replay, sent)?;
+            }
             Err(fault) => return refuse(fault, sent),
         }
     }

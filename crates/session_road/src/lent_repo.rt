@@ -2,6 +2,7 @@
 
 ghost use Rattle.std.specs.Prelude.{◌≡◌, ◌≤◌, ◌<◌, IfOk, take, length};
 ghost use Rattle.fleet_disk.specs.Rules.{Rose};
+ghost use Rattle.repo_core.specs.Repository.{trees_of};
 ghost use Rattle.ra_serve.specs.Ports.{IsReplay};
 ghost use Rattle.session_road.specs.Served.{lent_in};
 
@@ -46,12 +47,15 @@ impl<'a> LentRepo<'a> {
 
 impl<'a> RepoPort for LentRepo<'a> {
     ghost use Rattle.std.specs.Prelude.{Some, true};
+    ghost use Rattle.repo_core.specs.Repository.{trees_of};
 
     ghost repository = { λ p. Some p.repo.now };
 
     ghost refusals = { λ p. p.refusals };
 
     ghost is_mirror = { λ p. true };
+
+    ghost lent = { λ p. trees_of p.repo.now.revisions };
 
     fn is_repository(&self) {
         self.repo.is_repository()
@@ -111,13 +115,16 @@ impl<'a> RepoPort for LentRepo<'a> {
             Err(_) => Err(self.refuse()),
         }
     }
+
+    fn trees(&self) -> &[Tree] {
+        self.repo.trees()
+    }
 }
 
-// What a replay of a revision of a repository takes.
+// What a replay of a revision of a repository takes beside the trees before it.
 fn replay_from(alloc: Global, repo: &Repo, number: RevNo) -> Result<Replay, AllocError>
     requires { number < length repo.now.revisions }
-    ensures replay { IfOk result (λ p. IsReplay repo.now number p.set p.trees.items p.props) }
-    ensures few { IfOk result (λ p. length p.trees.items ≤ 65535) }
+    ensures replay { IfOk result (λ p. IsReplay repo.now number p.set (take number (trees_of repo.now.revisions)) p.props) }
 {
     let Some(set) = repo.set(number) else {
         unreachable!()
@@ -125,23 +132,8 @@ fn replay_from(alloc: Global, repo: &Repo, number: RevNo) -> Result<Replay, Allo
     let Some(props) = repo.props(number) else {
         unreachable!()
     };
-    let trees = shares(alloc, repo.trees(), number.index())?;
     Ok(Replay {
         set: set.share(alloc)?,
-        trees,
         props: props.share()?,
     })
-}
-
-// The first so many trees, each for another owner.
-fn shares(alloc: Global, trees: &[Tree], count: usize) -> Result<Vec<Tree>, AllocError>
-    requires { count ≤ length trees.now }
-    ensures shared { IfOk result (λ ts. ts.items ≡ take count trees.now) }
-    ensures count { IfOk result (λ ts. length ts.items ≡ count) }
-{
-    let mut out = Vec::with_capacity(alloc, count)?;
-    for tree in &trees[..count] {
-        out.push(tree.share()?)?;
-    }
-    Ok(out)
 }

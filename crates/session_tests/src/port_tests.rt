@@ -33,12 +33,15 @@ impl Refusing {
 
 impl RepoPort for Refusing {
     ghost use Rattle.std.specs.Prelude.{None, false};
+    ghost use Rattle.repo_core.specs.Repository.{trees_of};
 
     ghost repository = { λ _. None };
 
     ghost refusals = { λ _. 0 };
 
     ghost is_mirror = { λ _. false };
+
+    ghost lent = { λ p. trees_of p.held.repo.revisions };
 
     fn is_repository(&self) {}
 
@@ -78,6 +81,10 @@ impl RepoPort for Refusing {
     fn replay_of(&mut self, number: RevNo) -> Result<Replay, PortFault> {
         self.admit(number)?;
         self.held.replay_of(number)
+    }
+
+    fn trees(&self) -> &[Tree] {
+        self.held.trees()
     }
 }
 

@@ -66,10 +66,10 @@ fn sees_a_commit<R: Wait + Abort, L: RowName>(rt: &R, alloc: Global, share: &Sha
     let mut reader = port(rt, alloc, share, false);
     let before = reader.latest() == Ok(RevNo::new(1));
     let number = commit_copy(rt, alloc, share);
-    let replay = reader.replay_of(number).expect(rt, "a replay");
     let answer = before
         && number == RevNo::new(2)
-        && replay.trees.len() == 2
+        && reader.replay_of(number).is_ok()
+        && reader.trees().len() == 2
         && reader.latest() == Ok(number)
         && reader.tree(RevNo::new(3)).err() == Some(PortFault::NoSuchRevision)
         && told(rt, alloc, &mut reader, URL, READING) == told_by_store(rt, alloc, URL, READING);

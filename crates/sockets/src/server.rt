@@ -39,8 +39,8 @@ pub trait Session {
     fn unaccepted(&self, fault: SocketFault);
 }
 
-/// Bytes that a connection's writer keeps back before they go out: 16 KiB.
-const ROOM: usize = 16_384;
+/// Bytes that a connection's writer keeps back before they go out: 64 KiB.
+const ROOM: usize = 65_536;
 
 /// Milliseconds that a server waits after it couldn't accept a connection, as where the process has too many open files.
 const PAUSE_MILLIS: u64 = 100;

@@ -1,6 +1,7 @@
 -- What a port over a share is to its caller.
-use Rattle.std.specs.Prelude.{ℕ, Bool, Option, Some, None}
+use Rattle.std.specs.Prelude.{ℕ, Bool, List, Option, Some, None}
 use Rattle.node_base.specs.Props.{PropMap}
+use Rattle.node_base.specs.Tree.{PathMap}
 use Rattle.repo_core.specs.Repository.{Repository}
 use Rattle.ra_serve.specs.Ports.{Goes, Stays}
 use Rattle.ra_serve.specs.declared.fault.PortFault.{PortFault}
@@ -10,7 +11,11 @@ use Rattle.svn_ends.specs.declared.port.MasterSharePort.{MasterSharePort}
 
 -- its seat
 abbrev pub seat_of : {R L D : Type 0} {r : _} {g : _} → MasterSharePort R L D r g → ReaderSeat L r
-seat_of p = p.seat
+seat_of p = p.seat.seat
+
+-- the trees that it lends
+abbrev pub trees_lent_by : {R L D : Type 0} {r : _} {g : _} → MasterSharePort R L D r g → List PathMap
+trees_lent_by p = p.seat.trees.items
 
 -- the properties that a revision had in a book of its share
 abbrev pub are_found : {R L D : Type 0} {r : _} {g : _} → MasterSharePort R L D r g → ℕ → PropMap → Type 0

@@ -31,4 +31,5 @@ mod refusals;
 mod seen;
 mod server;
 mod talk;
+mod tree_seat;
 mod work;

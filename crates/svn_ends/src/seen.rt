@@ -1,10 +1,9 @@
 //! What a seat reads of a share.
 
-ghost use Rattle.std.specs.Prelude.{◌≡◌, ◌≤◌, ◌<◌, true, false, length, Some, IfOk};
+ghost use Rattle.std.specs.Prelude.{◌≡◌, ◌≤◌, ◌<◌, true, false, length, Some, IfOk, OnOk};
 ghost use Rattle.std.specs.Option.{option_map};
-ghost use Rattle.store_share.specs.Chains.{trees_known};
 ghost use Rattle.store_share.specs.Seats.{known_by, seen_by};
-ghost use Rattle.svn_ends.specs.Seats.{Keeps};
+ghost use Rattle.svn_ends.specs.Seats.{AreRead, Keeps};
 
 use dump_load::ChangeSet;
 use fleet_disk::Disk;
@@ -68,27 +67,31 @@ pub(crate) fn seen_set<L: RowName, D: Disk>(
     rev.set.share(alloc)
 }
 
-/// The trees of the revisions below one that the seat has seen, each for another owner. It waits for nobody.
-pub(crate) fn trees_below<L: RowName, D: Disk>(
-    alloc: Global,
+/// Reads the trees of the revisions below one that the seat has seen, each for another owner, behind those that were
+/// read before. It waits for nobody.
+pub(crate) fn read_trees<L: RowName, D: Disk>(
     share: &MasterShare<L, D>,
     seat: &mut ReaderSeat<L>,
+    trees: &mut Vec<Tree>,
     number: RevNo,
-) -> Result<Vec<Tree>, AllocError>
-    requires { number ≤ seen_by seat.old }
-    ensures trees { IfOk result (λ ts. ts.items ≡ trees_known (known_by seat.new) number) }
-    ensures count { IfOk result (λ ts. length ts.items ≡ number) }
+) -> Result<(), AllocError>
+    requires below { number ≤ seen_by seat.old }
+    requires few { length trees.old.items ≤ seen_by seat.old }
+    requires read { AreRead seat.old trees.old.items }
+    ensures enough { OnOk result (number ≤ length trees.new.items) }
+    ensures few { length trees.new.items ≤ seen_by seat.new }
+    ensures read { AreRead seat.new trees.new.items }
     ensures keeps { Keeps seat.old seat.new }
     ensures seen { seen_by seat.new ≡ seen_by seat.old }
 {
-    let mut trees = Vec::with_capacity(alloc, number.index())?;
-    for i in 0..number.index() {
+    for i in trees.len()..number.index() {
         trees.push(seen_tree(share, seat, RevNo::new(i as u16))?)?;
     }
-    Ok(trees)
+    Ok(())
 }
 
-/// All that a replay takes of a revision that the seat has seen. It waits for the revision's properties alone.
+/// What a replay takes of a revision that the seat has seen beside the trees before it. It waits for the revision's
+/// properties alone.
 pub(crate) fn seen_replay<R: Wait, L: RowName, D: Disk>(
     rt: &R,
     alloc: Global,
@@ -98,13 +101,10 @@ pub(crate) fn seen_replay<R: Wait, L: RowName, D: Disk>(
 ) -> Result<Replay, StoreFault>
     requires { number ≤ seen_by seat.old }
     ensures set { IfOk result (λ p. option_map (λ x. x.set) (known_by seat.new number) ≡ Some p.set) }
-    ensures trees { IfOk result (λ p. p.trees.items ≡ trees_known (known_by seat.new) number) }
-    ensures few { IfOk result (λ p. length p.trees.items ≤ 65535) }
     ensures keeps { Keeps seat.old seat.new }
     ensures seen { seen_by seat.new ≡ seen_by seat.old }
 {
     let set = seen_set(alloc, share, seat, number)?;
     let props = share.fetch_props(rt, number)?;
-    let trees = trees_below(alloc, share, seat, number)?;
-    Ok(Replay { set, trees, props })
+    Ok(Replay { set, props })
 }

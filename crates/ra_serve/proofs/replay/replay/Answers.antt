@@ -18,7 +18,7 @@ returns-in-Err-clause-told g c =
 pub returns-in_ok-out-in-Ok-replay_of-clause-told : goal.returns-in_ok-out-in-Ok-replay_of-clause-told
 returns-in_ok-out-in-Ok-replay_of-clause-told g c =
     tells_done g.P.RepoPort.repository g.P.RepoPort.refusals g.P.RepoPort.is_mirror g.W.Write.contents (Replay c.args.number) c.args.port.now c.replay_of.new.self c.args.out c.in_ok-out-in-Ok-replay_of.out c.done.result (λ x. edit_of x c.args.number) (spell done) c.done.ensures
-    (λ x e. subst (λ n. Appends (g.W.Write.contents c.args.out) (g.W.Write.contents c.in_ok-out-in-Ok-replay_of.out) (edit_of x n)) c.in-Ok.ensures.number (edit_written x c.in-Ok.number _ _ _ _ _ (c.in-Ok-replay_of.ensures.replay x e) c.in_ok-out-in-Ok-replay_of.ensures))
+    (λ x e. subst (λ n. Appends (g.W.Write.contents c.args.out) (g.W.Write.contents c.in_ok-out-in-Ok-replay_of.out) (edit_of x n)) c.in-Ok.ensures.number (edit_written x c.in-Ok.number c.index.result _ c.trees.result.now _ _ _ _ (c.in-Ok-replay_of.ensures.replay x e) c.index.ensures.number c.trees.ensures c.in_ok-out-in-Ok-replay_of.ensures))
     (λ x e. subst (λ n. no_revision x n ≡ None) c.in-Ok.ensures.number (c.in-Ok-replay_of.ensures.there x e))
     (λ x. refl) (λ x. refl) c.replay_of.ensures.stays.repository
 

@@ -15,7 +15,7 @@ pub returns-in-Err-clause-told : goal.returns-in-Err-clause-told
 returns-in-Err-clause-told g c =
     let i = c.loop-number.invariant in
     refused_amid g.P.RepoPort.repository g.P.RepoPort.refusals g.P.RepoPort.is_mirror g.W.Write.contents c.args.first c.args.last i.0 c.loop-number.number c.args.port.now c.loop-number.port c.replay_of.new.self c.args.out c.loop-number.sent c.refuse.result c.in-Err.fault c.refuse.ensures c.requires.there i.4
-    (λ x e. subst (λ n. MayRefuse (g.P.RepoPort.refusals c.loop-number.port) (g.P.RepoPort.refusals c.replay_of.new.self) c.in-Err.fault (no_revision x n)) c.new.ensures (c.in-Err.ensures.refused x e))
+    (λ x e. subst (λ n. MayRefuse (g.P.RepoPort.refusals c.loop-number.port) (g.P.RepoPort.refusals c.replay_of.new.self) c.in-Err.fault (no_revision x n)) c.new-number.ensures (c.in-Err.ensures.refused x e))
     i.5 c.replay_of.ensures.stays.repository i.1 (omega (arith, c.loop-number-test.true, i.3))
 
 pub loop-number-preserved : goal.loop-number-preserved
@@ -25,7 +25,7 @@ loop-number-preserved g c =
       omega (arith, i.1),
       omega (arith, i.1, i.3, c.loop-number-test.true),
       i.3,
-      (λ x e. written_more x c.args.first i.0 c.new.result (g.W.Write.contents c.args.out) (g.W.Write.contents c.loop-number.sent) (g.W.Write.contents c.in_ok-sent-in-Ok.sent) (c.new.ensures ∙ i.1) (i.4 x e) (revision_written x c.new.result _ _ _ _ _ (c.in-Ok.ensures.replay x (i.5.repository ∙ e)) c.in_ok-sent-in-Ok.ensures)),
+      (λ x e. written_more x c.args.first i.0 c.new-number.result (g.W.Write.contents c.args.out) (g.W.Write.contents c.loop-number.sent) (g.W.Write.contents c.in_ok-sent-in-Ok.sent) (c.new-number.ensures ∙ i.1) (i.4 x e) (revision_written x c.new-number.result c.index.result _ c.trees.result.now _ _ _ _ (c.in-Ok.ensures.replay x (i.5.repository ∙ e)) c.index.ensures.number c.trees.ensures c.in_ok-sent-in-Ok.ensures)),
       stays_join _ _ _ _ _ _ _ _ _ i.5 c.replay_of.ensures.stays,
     )
 
