@@ -9,9 +9,9 @@ use Rattle.sync_core.proofs.seat.Seat.TheSendSync as seat
 use Rattle.sync_core.proofs.token.Token.TheSendSync as token
 use Rattle.sync_core.proofs.kept_call.KeptCall.TheSendSync as kept
 use Rattle.sync_core.specs.contracts.kept_call.KeptCall as KeptCall
-use Rattle.rev_row.proofs.Crosses.{rev_send, row_sync}
-use Rattle.rev_row.specs.contracts.rev.Rev as Rev
-use Rattle.rev_row.specs.contracts.row.RevRow as RevRow
+use Rattle.store_share.proofs.RowCrosses.{rev_send, row_sync}
+use Rattle.store_share.specs.contracts.rev.Rev as Rev
+use Rattle.store_share.specs.contracts.row.RevRow as RevRow
 use Rattle.store_share.proofs.Crosses.{book_field_send}
 use Rattle.store_share.specs.contracts.share.MasterShare as MasterShare
 use Rattle.store_share.specs.declared.name.RowName as name

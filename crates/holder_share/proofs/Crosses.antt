@@ -6,7 +6,7 @@ use Rattle.std.specs.declared.sync.ledger.Ledger as ledger
 use Rattle.std.proofs.sync.ledger.Book.TheSendSync as book
 use Rattle.std.proofs.sync.ledger.Share.TheSendSync as part
 use Rattle.fleet_disk.specs.declared.disk.Disk as disk
-use Rattle.rev_row.proofs.Crosses.{row_sync}
+use Rattle.store_share.proofs.RowCrosses.{row_sync}
 use Rattle.store_share.proofs.Crosses.{book_field_send}
 use Rattle.store_share.specs.declared.name.RowName as name
 use Rattle.sync_core.proofs.seat.Seat.TheSendSync as seat

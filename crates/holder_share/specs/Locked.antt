@@ -3,7 +3,7 @@ use Rattle.std.specs.Prelude.{◌≡◌, ◌≤◌, ◌⊎◌, ℕ, Option, None
 use Rattle.std.specs.Option.{option_map_or}
 use Rattle.fleet_disk.specs.declared.disk.Disk.{Ghosts}
 use Rattle.repo_store.specs.Words.{repository_of, IsKept}
-use Rattle.rev_row.specs.Row.{rev_at}
+use Rattle.store_share.specs.Row.{rev_at}
 use Rattle.store_share.specs.declared.seat.ReaderSeat.{ReaderSeat}
 use Rattle.store_share.specs.Book.{head_of}
 use Rattle.store_share.specs.Seats.{known_by}

@@ -28,9 +28,8 @@ use crate::seat::HolderSeat;
 use fleet_disk::Disk;
 use mirror_share::{JobSeat, MirrorBook};
 use repo_core::Repo;
-use rev_row::RevRow;
 use std::alloc::Global;
-use store_share::MasterBook;
+use store_share::{MasterBook, RevRow};
 use sync_core::properties::{copying, merged};
 use sync_core::{MirrorCall, Numbers, Reply, Seat, SyncFault, Token, own_of};
 

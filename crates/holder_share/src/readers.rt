@@ -1,7 +1,7 @@
 //! Readers of a book: what they see of it under the lock.
 ghost use Rattle.std.specs.Prelude.{◌≡◌, ◌≤◌, ◌⊎◌, ℕ, is_some};
 ghost use Rattle.repo_store.specs.Words.{repository_of, revisions_of, IsKept};
-ghost use Rattle.rev_row.specs.Row.{cells_in, rev_at};
+ghost use Rattle.store_share.specs.Row.{cells_in, rev_at};
 ghost use Rattle.store_share.specs.Book.{head_of};
 ghost use Rattle.store_share.specs.Seats.{known_by, seen_by};
 ghost use Rattle.mirror_share.specs.Book.{holder_of, is_stuck_in, master_of, now_of, store_in};
@@ -15,8 +15,7 @@ use crate::name::HolderName;
 use fleet_disk::Disk;
 use mirror_share::MirrorBook;
 use node_base::RevNo;
-use rev_row::RowNotes;
-use store_share::ReaderSeat;
+use store_share::{ReaderSeat, RowNotes};
 
 impl<N: HolderName, D: Disk> HolderBook<N, D> {
     ghost use Rattle.holder_share.specs.Words.{mirror_of};

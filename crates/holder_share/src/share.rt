@@ -1,6 +1,6 @@
 //! A mirror behind its lock, with its row beside it, whose holder carries its numbers.
 ghost use Rattle.std.specs.Prelude.{◌≡◌, ◌≤◌, ◌<◌, ℕ, Some, None, IfOk, IfErr, IfSome, IfNone, IsErr, IsSome};
-ghost use Rattle.rev_row.specs.declared.rev.Rev.{Rev as RevOf};
+ghost use Rattle.store_share.specs.declared.rev.Rev.{Rev as RevOf};
 ghost use Rattle.store_share.specs.Opened.{cells_of};
 ghost use Rattle.store_share.specs.Seats.{known_by, seen_by};
 ghost use Rattle.sync_core.specs.Calls.{call_of};
@@ -17,10 +17,9 @@ use crate::name::HolderName;
 use crate::seat::HolderSeat;
 use fleet_disk::Disk;
 use node_base::RevNo;
-use rev_row::{Rev, RevRow};
 use std::alloc::{AllocError, Global};
 use std::sync::{Mutex, Wait};
-use store_share::{OpenedStore, ReaderSeat};
+use store_share::{OpenedStore, ReaderSeat, Rev, RevRow};
 use sync_core::{MirrorCall, Reply, SyncFault, Token};
 
 /// A mirror on a disk that several threads share, whose holder carries its numbers.

@@ -1,7 +1,7 @@
 //! A book by itself.
 
 ghost use Rattle.std.specs.Prelude.{◌≡◌, ◌<◌};
-ghost use Rattle.rev_row.specs.Row.{cells_in};
+ghost use Rattle.store_share.specs.Row.{cells_in};
 ghost use Rattle.store_share.specs.Opened.{cells_of};
 
 use crate::calls::{Kind, Parts};
@@ -11,12 +11,11 @@ use crate::values::number_of;
 use fleet_disk::MemDisk;
 use holder_share::{Blanks, Count, HolderBook, HolderName, HolderNames};
 use node_base::RevNo;
-use rev_row::RevRow;
 use std::alloc::Global;
 use std::marker::Brand;
 use std::process::Abort;
 use std::rt::HostRuntime;
-use store_share::{OpenedStore, RowName};
+use store_share::{OpenedStore, RevRow, RowName};
 use sync_core::MirrorCall;
 
 // A job comes in, begins the mirror, takes its lock and leaves; a reader sees what is shown.

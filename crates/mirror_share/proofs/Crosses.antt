@@ -7,7 +7,7 @@ use Rattle.sync_core.proofs.seat.Seat.TheSendSync as seat
 use Rattle.sync_core.proofs.token.Token.TheSendSync as token
 use Rattle.sync_core.proofs.kept_call.KeptCall.TheSendSync as kept
 use Rattle.sync_core.specs.contracts.kept_call.KeptCall as KeptCall
-use Rattle.rev_row.proofs.Crosses.{row_sync}
+use Rattle.store_share.proofs.RowCrosses.{row_sync}
 use Rattle.store_share.proofs.Crosses.{book_field_send}
 use Rattle.store_share.specs.declared.name.RowName as name
 use Rattle.mirror_share.specs.contracts.book.MirrorBook as MirrorBook

@@ -6,7 +6,7 @@ use Rattle.node_base.specs.Props.{PropMap}
 use Rattle.repo_core.specs.Repository.{props_at}
 use Rattle.repo_store.specs.Words.{repository_of, revisions_of, IsKept}
 use Rattle.repo_store.specs.declared.fault.StoreFault.{StoreFault}
-use Rattle.rev_row.specs.Row.{rev_at}
+use Rattle.store_share.specs.Row.{rev_at}
 use Rattle.store_share.specs.Book.{head_of}
 use Rattle.store_share.specs.Seats.{known_by, seen_by}
 use Rattle.store_share.specs.declared.seat.ReaderSeat.{ReaderSeat}

@@ -7,8 +7,8 @@ use Rattle.dump_load.specs.Trees.{effect_tree}
 use Rattle.repo_core.specs.Repository.{Repository, trees_of}
 use Rattle.repo_core.specs.Entries.{with_entry_in}
 use Rattle.repo_core.specs.declared.entry.Entry.TheVariants.{Revised}
-use Rattle.rev_row.specs.declared.rev.Rev.{Rev}
-use Rattle.rev_row.specs.Row.{rev_at}
+use Rattle.store_share.specs.declared.rev.Rev.{Rev}
+use Rattle.store_share.specs.Row.{rev_at}
 use Rattle.store_share.proofs.Showing.{revision_as, rev_new}
 use Rattle.sync_core.specs.Mirror.{Call, Init, TakeLock, StealLock, ReleaseLock, SetCopying, Commit, PutProps, SetMerged, ClearCopying, Look, standing_of}
 use Rattle.sync_core.proofs.Kept.{no_need}

@@ -5,7 +5,7 @@ use Rattle.fleet_disk.specs.declared.disk.Disk.{Ghosts}
 use Rattle.node_base.specs.Props.{PropMap}
 use Rattle.repo_core.specs.Repository.{props_at}
 use Rattle.repo_store.specs.Words.{repository_of, revisions_of, IsKept}
-use Rattle.rev_row.specs.Row.{rev_at}
+use Rattle.store_share.specs.Row.{rev_at}
 use Rattle.store_share.specs.declared.seat.ReaderSeat.{ReaderSeat}
 use Rattle.store_share.specs.Book.{head_of}
 use Rattle.store_share.specs.Seats.{known_by}

@@ -5,7 +5,7 @@ ghost use Rattle.repo_core.specs.Repository.{props_at};
 ghost use Rattle.repo_core.specs.declared.fault.RepoFault.TheVariants as core;
 ghost use Rattle.repo_store.specs.Words.{repository_of, revisions_of, IsKept};
 ghost use Rattle.repo_store.specs.declared.fault.StoreFault.TheVariants as fault;
-ghost use Rattle.rev_row.specs.Row.{cells_in, rev_at};
+ghost use Rattle.store_share.specs.Row.{cells_in, rev_at};
 ghost use Rattle.store_share.specs.Book.{head_of, store_of};
 ghost use Rattle.store_share.specs.Seats.{known_by, seen_by};
 ghost use Rattle.sync_core.specs.Calls.{call_of};
@@ -29,11 +29,10 @@ use fleet_disk::Disk;
 use node_base::{Props, Refusal, RevNo};
 use repo_core::{Entry, Repo};
 use repo_store::StoreFault;
-use rev_row::{RevRow, RowNotes};
 use std::alloc::Global;
 use std::marker::PhantomData;
 use std::snapshot::Snapshot;
-use store_share::{MasterBook, ReaderSeat, RowName};
+use store_share::{MasterBook, ReaderSeat, RevRow, RowName, RowNotes};
 use sync_core::{
     KeptCall, MirrorCall, Planned, Reply, Seat, SyncFault, Token, holder_after, holder_left, plan,
 };

@@ -9,9 +9,8 @@ ghost use Rattle.mirror_share.specs.Entries.{Takes};
 use fleet_disk::Disk;
 use repo_core::Entry;
 use repo_store::StoreFault;
-use rev_row::RevRow;
 use std::alloc::Global;
-use store_share::{MasterBook, RowName};
+use store_share::{MasterBook, RevRow, RowName};
 
 /// Writes an entry, and shows the revision that it makes. Refused as the book's `commit` and `put_props` are.
 pub(crate) fn take<L: RowName, D: Disk>(

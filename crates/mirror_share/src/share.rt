@@ -3,7 +3,7 @@ ghost use Rattle.std.specs.Prelude.{◌≡◌, ◌≤◌, ◌⊎◌, ℕ, Some, 
 ghost use Rattle.gate_log.specs.declared.fault.LogFault.TheVariants as log;
 ghost use Rattle.repo_core.specs.declared.fault.RepoFault.TheVariants as core;
 ghost use Rattle.repo_store.specs.declared.fault.StoreFault.TheVariants as fault;
-ghost use Rattle.rev_row.specs.declared.rev.Rev.{Rev as RevOf};
+ghost use Rattle.store_share.specs.declared.rev.Rev.{Rev as RevOf};
 ghost use Rattle.store_share.specs.Opened.{cells_of};
 ghost use Rattle.store_share.specs.Seats.{known_by, seen_by};
 ghost use Rattle.sync_core.specs.Calls.{call_of};
@@ -17,10 +17,9 @@ use crate::seat::JobSeat;
 use fleet_disk::Disk;
 use node_base::{Props, RevNo};
 use repo_store::StoreFault;
-use rev_row::{Rev, RevRow};
 use std::alloc::{AllocError, Global};
 use std::sync::{Mutex, Wait};
-use store_share::{OpenedStore, ReaderSeat, RowName};
+use store_share::{OpenedStore, ReaderSeat, Rev, RevRow, RowName};
 use sync_core::{MirrorCall, Reply, SyncFault, Token};
 
 /// A mirror on a disk that several threads share.

@@ -6,8 +6,8 @@ use Rattle.node_base.specs.Tree.{PathMap}
 use Rattle.dump_load.specs.Trees.{Makes}
 use Rattle.repo_core.specs.Repository.{Repository, Revision, IsRepository, trees_of}
 use Rattle.repo_core.specs.Laws.{SetsMakeTrees}
-use Rattle.rev_row.specs.declared.rev.Rev.{Rev}
-use Rattle.rev_row.specs.Row.{rev_at}
+use Rattle.store_share.specs.declared.rev.Rev.{Rev}
+use Rattle.store_share.specs.Row.{rev_at}
 use Rattle.store_share.specs.Chains.{tree_in, trees_known, IsMade, IsChain}
 use Rattle.store_share.proofs.Seen.{split}
 use Rattle.store_share.proofs.Showing.{rev_parts}

@@ -21,8 +21,8 @@ use Rattle.repo_store.specs.declared.fault.StoreFault.{StoreFault}
 use Rattle.repo_store.specs.declared.fault.StoreFault.TheVariants.{Log}
 use Rattle.repo_store.specs.declared.staged.Staged.{Staged}
 use Rattle.repo_store.specs.declared.store.RepoStore.{RepoStore}
-use Rattle.rev_row.specs.declared.rev.Rev.{Rev}
-use Rattle.rev_row.specs.Row.{rev_at}
+use Rattle.store_share.specs.declared.rev.Rev.{Rev}
+use Rattle.store_share.specs.Row.{rev_at}
 use Rattle.store_share.specs.Book.{store_of, head_of, is_stuck}
 use Rattle.store_share.specs.Changes.{Edits, IsAccepted, IsBrokenOff, IsHidden, Puts}
 use Rattle.store_share.specs.declared.book.MasterBook.{MasterBook}

@@ -11,8 +11,8 @@ use Rattle.repo_core.proofs.entry.Entry.TheSendSync as entry
 use Rattle.repo_core.specs.contracts.repo.Repo as Repo
 use Rattle.repo_core.specs.contracts.staged.Staged as Staged
 use Rattle.repo_store.specs.contracts.store.RepoStore as RepoStore
-use Rattle.rev_row.proofs.notes.RowNotes.TheSendSync as notes
-use Rattle.rev_row.proofs.Crosses.{tree_send, row_sync}
+use Rattle.store_share.proofs.notes.RowNotes.TheSendSync as notes
+use Rattle.store_share.proofs.RowCrosses.{tree_send, row_sync}
 use Rattle.store_share.specs.contracts.book.MasterBook as MasterBook
 use Rattle.store_share.specs.contracts.share.MasterShare as MasterShare
 use Rattle.store_share.specs.declared.name.RowName as name

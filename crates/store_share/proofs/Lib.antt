@@ -4,3 +4,5 @@ pub mod Locks
 pub mod Seen
 pub mod Showing
 pub mod Crosses
+pub mod Replacing
+pub mod RowCrosses

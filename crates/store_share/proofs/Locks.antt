@@ -7,7 +7,7 @@ use Rattle.dump_load.specs.declared.change.Change.{Change}
 use Rattle.repo_core.specs.Repository.{props_at}
 use Rattle.repo_store.specs.Words.{repository_of, revisions_of}
 use Rattle.repo_store.specs.declared.fault.StoreFault.{StoreFault}
-use Rattle.rev_row.specs.Row.{rev_at}
+use Rattle.store_share.specs.Row.{rev_at}
 use Rattle.store_share.specs.Book.{head_of, store_of}
 use Rattle.store_share.specs.Locked.{HasProps, IsNewest, IsShownTo}
 use Rattle.store_share.specs.Seats.{known_by, seen_by}

@@ -4,8 +4,8 @@ use Rattle.std.specs.Prelude.{slice_get}
 use Rattle.std.specs.Option.{option_map, option_and_then}
 use Rattle.dump_load.specs.declared.change.Change.{Change}
 use Rattle.repo_core.specs.Repository.{Revision, Repository}
-use Rattle.rev_row.specs.declared.rev.Rev.{Rev}
-use Rattle.rev_row.specs.Row.{rev_at}
+use Rattle.store_share.specs.declared.rev.Rev.{Rev}
+use Rattle.store_share.specs.Row.{rev_at}
 use Rattle.store_share.proofs.Showing.{rev_there, rev_as}
 
 abbrev number_in : Option Rev → Option ℕ

@@ -12,8 +12,8 @@ use Rattle.repo_core.specs.declared.entry.Entry.{Entry}
 use Rattle.repo_core.specs.declared.entry.Entry.TheVariants.{Revised, Mapped}
 use Rattle.repo_core.specs.Entries.{with_entry_in, with_entry, with_props}
 use Rattle.repo_core.specs.Staging.{IsReady}
-use Rattle.rev_row.specs.declared.rev.Rev.{Rev}
-use Rattle.rev_row.specs.Row.{rev_at}
+use Rattle.store_share.specs.declared.rev.Rev.{Rev}
+use Rattle.store_share.specs.Row.{rev_at}
 use Rattle.store_share.specs.Shown.{rev_from}
 
 pub some_is : {X : Type 0} (x y : X) → Some x ≡ Some y → x ≡ y

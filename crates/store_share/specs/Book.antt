@@ -1,7 +1,7 @@
 -- What a book is to its caller.
 use Rattle.std.specs.Prelude.{ℕ, Bool}
 use Rattle.repo_store.specs.declared.store.RepoStore.{RepoStore}
-use Rattle.rev_row.specs.declared.notes.RowNotes.{RowNotes}
+use Rattle.store_share.specs.declared.notes.RowNotes.{RowNotes}
 use Rattle.store_share.specs.declared.book.MasterBook.{MasterBook}
 
 -- its store

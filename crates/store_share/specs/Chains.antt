@@ -2,7 +2,7 @@
 use Rattle.std.specs.Prelude.{◌≤◌, ◌++◌, ℕ, zero, suc, List, [], ◌∷◌, Option, Some, None}
 use Rattle.node_base.specs.Tree.{PathMap}
 use Rattle.dump_load.specs.Trees.{Makes}
-use Rattle.rev_row.specs.declared.rev.Rev.{Rev}
+use Rattle.store_share.specs.declared.rev.Rev.{Rev}
 
 abbrev pub tree_in : Option Rev → List PathMap
 tree_in None = []

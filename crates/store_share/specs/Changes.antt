@@ -10,7 +10,7 @@ use Rattle.repo_store.specs.Words.{repository_of, revisions_of}
 use Rattle.repo_store.specs.declared.fault.StoreFault.{StoreFault}
 use Rattle.repo_store.specs.declared.fault.StoreFault.TheVariants.{Log}
 use Rattle.repo_store.specs.declared.store.RepoStore.{RepoStore}
-use Rattle.rev_row.specs.declared.notes.RowNotes.{RowNotes}
+use Rattle.store_share.specs.declared.notes.RowNotes.{RowNotes}
 use Rattle.store_share.specs.Shown.{Shows}
 use Rattle.store_share.specs.declared.book.MasterBook.{MasterBook}
 use Rattle.store_share.specs.declared.show.Stuck.{Stuck}

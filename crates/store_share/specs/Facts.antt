@@ -5,7 +5,7 @@ use Rattle.std.proofs.Props.{props}
 use Rattle.node_base.specs.Tree.{PathMap, coded_tree}
 use Rattle.dump_load.specs.declared.change.Change.{Change}
 use Rattle.dump_load.specs.Coded.{coded_set}
-use Rattle.rev_row.specs.declared.rev.Rev.{Rev}
+use Rattle.store_share.specs.declared.rev.Rev.{Rev}
 
 abbrev pub coded_rev : Coded Rev
 coded_rev = code_by (ℕ × (List Change × PathMap)) (coded× coded_ℕ (coded× coded_set coded_tree)) (λ v. (v.number, (v.set, v.tree))) (λ p. record { number = p.0; set = p.1.0; tree = p.1.1 }) (λ _. refl)

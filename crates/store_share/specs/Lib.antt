@@ -1,8 +1,11 @@
+pub use Rattle.once_cell.specs.Once
 pub mod Book
 pub mod Chains
 pub mod Changes
 pub mod Facts
+pub mod Faults
 pub mod Locked
 pub mod Opened
+pub mod Row
 pub mod Seats
 pub mod Shown

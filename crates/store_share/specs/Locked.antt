@@ -8,7 +8,7 @@ use Rattle.repo_core.specs.declared.entry.Entry.{Entry}
 use Rattle.repo_core.specs.declared.fault.RepoFault.{RepoFault}
 use Rattle.repo_store.specs.Words.{identity_of, repository_of, revisions_of}
 use Rattle.repo_store.specs.declared.fault.StoreFault.{StoreFault}
-use Rattle.rev_row.specs.Row.{rev_at}
+use Rattle.store_share.specs.Row.{rev_at}
 use Rattle.store_share.specs.Book.{head_of, store_of}
 use Rattle.store_share.specs.Changes.{Edits}
 use Rattle.store_share.specs.Seats.{known_by}

@@ -1,7 +1,7 @@
 -- What a seat is to its caller.
 use Rattle.std.specs.Prelude.{ℕ, Option}
-use Rattle.rev_row.specs.declared.rev.Rev.{Rev}
-use Rattle.rev_row.specs.Row.{known_at}
+use Rattle.store_share.specs.declared.rev.Rev.{Rev}
+use Rattle.store_share.specs.Row.{known_at}
 use Rattle.store_share.specs.declared.seat.ReaderSeat.{ReaderSeat}
 
 -- the greatest revision that it has seen

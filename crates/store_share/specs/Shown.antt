@@ -5,9 +5,9 @@ use Rattle.node_base.specs.Tree.{PathMap}
 use Rattle.repo_core.specs.Repository.{Repository}
 use Rattle.repo_core.specs.declared.entry.Entry.{Entry}
 use Rattle.repo_core.specs.declared.entry.Entry.TheVariants.{Revised, Mapped}
-use Rattle.rev_row.specs.declared.rev.Rev.{Rev}
-use Rattle.rev_row.specs.declared.notes.RowNotes.{RowNotes}
-use Rattle.rev_row.specs.Row.{known_at, rev_at}
+use Rattle.store_share.specs.declared.rev.Rev.{Rev}
+use Rattle.store_share.specs.declared.notes.RowNotes.{RowNotes}
+use Rattle.store_share.specs.Row.{known_at, rev_at}
 
 -- the revision that an entry makes, with its tree
 abbrev pub rev_from : Entry → Option PathMap → Option Rev

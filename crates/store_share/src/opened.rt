@@ -1,16 +1,18 @@
 //! An opened store, whose row has no name yet.
 ghost use Rattle.std.specs.Prelude.{◌≡◌, length, false, IfOk, IfErr};
 ghost use Rattle.repo_store.specs.Words.{repository_of, revisions_of};
-ghost use Rattle.rev_row.specs.Row.{cells_in, known_at, rev_at};
+ghost use Rattle.store_share.specs.Row.{cells_in, known_at, rev_at};
 ghost use Rattle.store_share.specs.Facts.{shown_prop};
 ghost use Rattle.store_share.specs.Shown.{Shows};
 
 use crate::book::MasterBook;
+use crate::fault::RowFault;
 use crate::name::RowName;
+use crate::notes::RowNotes;
+use crate::row::RevRow;
 use crate::share::MasterShare;
 use fleet_disk::Disk;
 use repo_store::RepoStore;
-use rev_row::{RevRow, RowFault, RowNotes};
 use std::alloc::Global;
 
 /// An opened store and its row, which shows all its revisions. Its share takes the row's name: a function over a

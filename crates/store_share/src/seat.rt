@@ -1,14 +1,16 @@
 //! The seat of a reader.
 ghost use Rattle.std.specs.Prelude.{◌≡◌, ◌≤◌, ◌⊎◌, ℕ, Some, IfSome, IfNone, length};
-ghost use Rattle.rev_row.specs.Row.{cells_in, known_at};
-ghost use Rattle.rev_row.specs.declared.rev.Rev.{Rev as RevOf};
+ghost use Rattle.store_share.specs.Row.{cells_in, known_at};
+ghost use Rattle.store_share.specs.declared.rev.Rev.{Rev as RevOf};
 ghost use Rattle.store_share.specs.Chains.{IsChain};
 ghost use Rattle.store_share.specs.Facts.{number_prop};
 ghost use Rattle.store_share.specs.Shown.{number_known};
 
 use crate::name::RowName;
+use crate::notes::RowNotes;
+use crate::rev::Rev;
+use crate::row::RevRow;
 use node_base::RevNo;
-use rev_row::{Rev, RevRow, RowNotes};
 use std::marker::PhantomData;
 
 /// The seat of a reader: the greatest revision that it has seen, and what it knows of the row. It knows each revision

@@ -1,14 +1,16 @@
 //! Writing a staged revision, and showing it.
 ghost use Rattle.std.specs.Prelude.{◌≡◌, length, Some, IsSome, IfOk};
 ghost use Rattle.repo_store.specs.Words.{entry_in, tree_in, repository_of, revisions_of, IsReadyFor};
-ghost use Rattle.rev_row.specs.Row.{cells_in};
+ghost use Rattle.store_share.specs.Row.{cells_in};
 ghost use Rattle.store_share.specs.Shown.{rev_from, Shows};
 ghost use Rattle.store_share.specs.Changes.{Carries};
 
+use crate::notes::RowNotes;
+use crate::rev::Rev;
+use crate::row::RevRow;
 use fleet_disk::Disk;
 use repo_core::Entry;
 use repo_store::{RepoStore, Staged, StoreFault};
-use rev_row::{Rev, RevRow, RowNotes};
 use std::alloc::{AllocError, Global};
 
 /// Why a revision isn't written and shown.

@@ -5,7 +5,7 @@ use Rattle.std.specs.Option.{option_map}
 use Rattle.std.specs.Result.{OnOk}
 use Rattle.node_base.specs.Tree.{PathMap}
 use Rattle.dump_load.specs.declared.change.Change.{Change}
-use Rattle.rev_row.specs.declared.rev.Rev.{Rev}
+use Rattle.store_share.specs.declared.rev.Rev.{Rev}
 use Rattle.store_share.specs.Chains.{tree_in, trees_known}
 use Rattle.store_share.specs.declared.seat.ReaderSeat.{ReaderSeat}
 use Rattle.store_share.specs.Seats.{known_by, seen_by}

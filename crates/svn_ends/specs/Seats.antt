@@ -4,7 +4,7 @@ use Rattle.fleet_disk.specs.Rules.{Rose}
 use Rattle.ra_serve.specs.declared.fault.PortFault.{PortFault}
 use Rattle.ra_serve.specs.declared.fault.PortFault.TheVariants as fault
 use Rattle.node_base.specs.Tree.{PathMap}
-use Rattle.rev_row.specs.declared.rev.Rev.{Rev}
+use Rattle.store_share.specs.declared.rev.Rev.{Rev}
 use Rattle.store_share.specs.Chains.{trees_known}
 use Rattle.store_share.specs.Seats.{known_by, seen_by}
 use Rattle.store_share.specs.declared.seat.ReaderSeat.{ReaderSeat}

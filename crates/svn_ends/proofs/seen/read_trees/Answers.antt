@@ -1,6 +1,6 @@
 use Rattle.std.proofs.Common.{rules, ◌≡◌, ◌<◌, suc, [], ◌∷◌, ◌++◌, length, Some, refl, sym, ap, ◌∙◌, subst, arith, length-append}
 use Rattle.std.specs.Option.{option_map}
-use Rattle.rev_row.specs.declared.rev.Rev.{Rev}
+use Rattle.store_share.specs.declared.rev.Rev.{Rev}
 use Rattle.store_share.specs.Seats.{known_by}
 use Rattle.svn_ends.specs.Seats.{AreRead}
 use Rattle.svn_ends.proofs.Keeping.{keeps_on, one_more, still_read}

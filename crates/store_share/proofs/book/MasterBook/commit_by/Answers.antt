@@ -1,6 +1,6 @@
 use Rattle.std.proofs.Common.{◌∙◌, ap, arith}
 use Rattle.std.specs.Option.{option_map}
-use Rattle.rev_row.specs.declared.rev.Rev.{Rev}
+use Rattle.store_share.specs.declared.rev.Rev.{Rev}
 use Rattle.store_share.proofs.book.MasterBook.commit_by.Goals as goal
 
 pub returns-clause-set : goal.returns-clause-set

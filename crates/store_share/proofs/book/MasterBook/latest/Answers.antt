@@ -1,6 +1,6 @@
 use Rattle.std.proofs.Common.{arith}
 use Rattle.std.proofs.Math.Logic.{∥∥₁_map}
-use Rattle.rev_row.specs.Row.{known_at}
+use Rattle.store_share.specs.Row.{known_at}
 use Rattle.store_share.proofs.Chained.{chain_learned}
 use Rattle.store_share.proofs.Seen.{learned_numbers}
 use Rattle.store_share.proofs.book.MasterBook.latest.Goals as goal

@@ -1,6 +1,6 @@
 use Rattle.std.proofs.Common.{◌≡◌, length, subst}
 use Rattle.repo_core.specs.Repository.{Repository, IsRepository}
-use Rattle.rev_row.specs.Row.{known_at}
+use Rattle.store_share.specs.Row.{known_at}
 use Rattle.store_share.proofs.Chained.{chain_of}
 use Rattle.store_share.proofs.book.MasterBook.shows_revisions.Goals as goal
 

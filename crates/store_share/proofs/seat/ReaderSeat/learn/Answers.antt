@@ -1,8 +1,8 @@
 use Rattle.std.proofs.Common.{◌∙◌, ap}
 use Rattle.std.proofs.Math.Logic.{∥∥₁_map}
 use Rattle.std.specs.Option.{option_map}
-use Rattle.rev_row.specs.declared.rev.Rev.{Rev}
-use Rattle.rev_row.specs.Row.{known_at}
+use Rattle.store_share.specs.declared.rev.Rev.{Rev}
+use Rattle.store_share.specs.Row.{known_at}
 use Rattle.store_share.proofs.Chained.{chain_same}
 use Rattle.store_share.proofs.seat.ReaderSeat.learn.Goals as goal
 

@@ -1,5 +1,5 @@
 use Rattle.std.proofs.Math.Logic.{∥∥₁_map}
-use Rattle.rev_row.specs.Row.{known_at}
+use Rattle.store_share.specs.Row.{known_at}
 use Rattle.store_share.proofs.Chained.{chain_kept}
 use Rattle.store_share.proofs.Seen.{has_known, kept_numbers}
 use Rattle.store_share.proofs.seat.ReaderSeat.read_in.Goals as goal

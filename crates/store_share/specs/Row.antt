@@ -2,8 +2,8 @@
 use Rattle.std.specs.Prelude.{ℕ, List, map, Option, slice_get}
 use Rattle.std.specs.Option.{option_and_then, option_map}
 use Rattle.repo_core.specs.Repository.{Repository}
-pub use Rattle.rev_row.specs.declared.rev.Rev.{Rev}
-use Rattle.rev_row.specs.declared.notes.RowNotes.{RowNotes}
+pub use Rattle.store_share.specs.declared.rev.Rev.{Rev}
+use Rattle.store_share.specs.declared.notes.RowNotes.{RowNotes}
 
 -- the cells that the notes are of
 abbrev pub cells_in : RowNotes → List ℕ

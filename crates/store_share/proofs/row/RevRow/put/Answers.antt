@@ -1,6 +1,6 @@
 use Rattle.std.proofs.Common.{◌∙◌, sym, ap, arith, rules, slice_set}
-use Rattle.rev_row.proofs.Replacing.{Known, same_cells, within, stands, known_here, known_elsewhere, kept_all}
-use Rattle.rev_row.proofs.row.RevRow.put.Goals as goal
+use Rattle.store_share.proofs.Replacing.{Known, same_cells, within, stands, known_here, known_elsewhere, kept_all}
+use Rattle.store_share.proofs.row.RevRow.put.Goals as goal
 
 pub returns-clause-cells : goal.returns-clause-cells
 returns-clause-cells c = same_cells c.args.notes.now.notes.items c.index.result c.index_mut-note.result.now c.set.new.note c.index_mut-note.ensures.value c.set.ensures.cell

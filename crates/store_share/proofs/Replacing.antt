@@ -6,7 +6,7 @@ use Rattle.std.proofs.lemmas.Option.{slice_get_read}
 use Rattle.std.proofs.lemmas.List.{length-map, map-append, take_more}
 use Rattle.std.proofs.Math.Seq.{map-set_same}
 use Rattle.once_cell.specs.declared.race.note.Note.{Note}
-use Rattle.rev_row.specs.declared.rev.Rev.{Rev}
+use Rattle.store_share.specs.declared.rev.Rev.{Rev}
 
 abbrev pub Cells : List (Note Rev) → List ℕ
 Cells ns = map (λ k. k.cell) ns

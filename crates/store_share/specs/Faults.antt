@@ -2,8 +2,8 @@
 use Rattle.std.specs.Prelude.{ℕ}
 use Rattle.node_base.specs.declared.refusal.Refusal.{Refusal}
 use Rattle.node_base.specs.declared.refusal.Refusal.TheVariants as refusal
-use Rattle.rev_row.specs.declared.fault.RowFault.{RowFault}
-use Rattle.rev_row.specs.declared.fault.RowFault.TheVariants.{Failed, OutOfMemory}
+use Rattle.store_share.specs.declared.fault.RowFault.{RowFault}
+use Rattle.store_share.specs.declared.fault.RowFault.TheVariants.{Failed, OutOfMemory}
 
 abbrev pub row_refusal : RowFault → Refusal
 row_refusal Failed = refusal.Failed

@@ -1,6 +1,6 @@
 //! What a thread knows of a row.
 ghost use Rattle.std.specs.Prelude.{◌≡◌, ◌≢◌, ◌<◌, ◌≤◌, ℕ, length, Some, IsSome};
-ghost use Rattle.rev_row.specs.Row.{Rev as RevOf, cells_in, known_at};
+ghost use Rattle.store_share.specs.Row.{Rev as RevOf, cells_in, known_at};
 
 use crate::rev::Rev;
 use node_base::RevNo;

@@ -1,8 +1,8 @@
 use Rattle.std.proofs.Common.{◌∙◌, sym, ap, subst, refl, IsSome}
 use Rattle.once_cell.specs.declared.race.note.Note.{Note}
-use Rattle.rev_row.specs.declared.rev.Rev.{Rev}
-use Rattle.rev_row.proofs.Replacing.{Cells, same_cell, same_cells, within, known_of, known_here, known_elsewhere}
-use Rattle.rev_row.proofs.notes.RowNotes.learn_one.Goals as goal
+use Rattle.store_share.specs.declared.rev.Rev.{Rev}
+use Rattle.store_share.proofs.Replacing.{Cells, same_cell, same_cells, within, known_of, known_here, known_elsewhere}
+use Rattle.store_share.proofs.notes.RowNotes.learn_one.Goals as goal
 
 pub meet_note-requires-clause-cell : goal.meet_note-requires-clause-cell
 meet_note-requires-clause-cell c =

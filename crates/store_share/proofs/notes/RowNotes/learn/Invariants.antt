@@ -1,7 +1,7 @@
 use Rattle.std.proofs.Common.{◌≡◌, ◌<◌, ◌≤◌, ℕ, Some}
-use Rattle.rev_row.specs.Row.{Rev as RevOf}
-use Rattle.rev_row.specs.Row.{cells_in, known_at}
-use Rattle.rev_row.proofs.notes.RowNotes.learn.Given as goal
+use Rattle.store_share.specs.Row.{Rev as RevOf}
+use Rattle.store_share.specs.Row.{cells_in, known_at}
+use Rattle.store_share.proofs.notes.RowNotes.learn.Given as goal
 
 abbrev pub invariant-loop-i : goal.invariant-loop-i
 invariant-loop-i l =

@@ -1,6 +1,6 @@
 //! Why a row isn't made, or a revision isn't shown.
 ghost use Rattle.std.specs.Prelude.{◌≡◌};
-ghost use Rattle.rev_row.specs.Faults.{number_of};
+ghost use Rattle.store_share.specs.Faults.{number_of};
 
 use node_base::Refusal;
 use std::alloc::{AllocError, AllocFailed};
@@ -31,7 +31,7 @@ impl RowFault {
 
 impl From<RowFault> for Refusal {
     ghost use Rattle.std.specs.Prelude.{◌≡◌};
-    ghost use Rattle.rev_row.specs.Faults.{row_refusal};
+    ghost use Rattle.store_share.specs.Faults.{row_refusal};
 
     ghost from_gives = { λ f e. e ≡ row_refusal f };
 
@@ -45,7 +45,7 @@ impl From<RowFault> for Refusal {
 
 impl From<AllocError> for RowFault {
     ghost use Rattle.std.specs.Prelude.{◌≡◌};
-    ghost use Rattle.rev_row.specs.declared.fault.RowFault.TheVariants.{OutOfMemory};
+    ghost use Rattle.store_share.specs.declared.fault.RowFault.TheVariants.{OutOfMemory};
 
     ghost from_gives = { λ _ e. e ≡ OutOfMemory };
 
@@ -56,7 +56,7 @@ impl From<AllocError> for RowFault {
 
 impl<T: Drop> From<AllocFailed<T>> for RowFault {
     ghost use Rattle.std.specs.Prelude.{◌≡◌};
-    ghost use Rattle.rev_row.specs.declared.fault.RowFault.TheVariants.{OutOfMemory};
+    ghost use Rattle.store_share.specs.declared.fault.RowFault.TheVariants.{OutOfMemory};
 
     ghost from_gives = { λ _ e. e ≡ OutOfMemory };
 

@@ -1,6 +1,6 @@
 use Rattle.std.proofs.Common.{◌≡◌, ◌<◌, ◌≤◌, ℕ, IsSome, None}
-use Rattle.rev_row.specs.Row.{cells_in, known_at, rev_at}
-use Rattle.rev_row.proofs.row.RevRow.put_all.Given as goal
+use Rattle.store_share.specs.Row.{cells_in, known_at, rev_at}
+use Rattle.store_share.proofs.row.RevRow.put_all.Given as goal
 
 abbrev pub invariant-loop-i : goal.invariant-loop-i
 invariant-loop-i l =

@@ -2,8 +2,8 @@
 ghost use Rattle.std.specs.Prelude.{◌≡◌, ◌≢◌, ◌<◌, ◌≤◌, ℕ, List, length, slice_index};
 ghost use Rattle.std.specs.Prelude.{Some, None, IsSome, IfSome, IfNone, IfOk, IfErr, OnOk};
 ghost use Rattle.repo_store.specs.Words.{repository_of, revisions_of};
-ghost use Rattle.rev_row.specs.Row.{Rev as RevOf, cells_in, known_at, rev_at};
-ghost use Rattle.rev_row.specs.declared.fault.RowFault.TheVariants as fault;
+ghost use Rattle.store_share.specs.Row.{Rev as RevOf, cells_in, known_at, rev_at};
+ghost use Rattle.store_share.specs.declared.fault.RowFault.TheVariants as fault;
 
 use crate::fault::RowFault;
 use crate::notes::RowNotes;

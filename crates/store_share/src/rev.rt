@@ -1,6 +1,6 @@
 //! One revision.
 ghost use Rattle.std.specs.Prelude.{◌≡◌, ◌<◌, length, Some, IfOk};
-ghost use Rattle.rev_row.specs.Row.{rev_at};
+ghost use Rattle.store_share.specs.Row.{rev_at};
 
 use dump_load::ChangeSet;
 use node_base::RevNo;

@@ -12,8 +12,8 @@ use Rattle.path_tree.specs.contracts.tree.Tree as Tree
 use Rattle.dump_load.proofs.set.ChangeSet.TheSendSync as set
 use Rattle.once_cell.specs.contracts.race.once_box.OnceBox as OnceBox
 use Rattle.once_cell.proofs.race.once_box.OnceBox.TheSendSync as once
-use Rattle.rev_row.specs.contracts.rev.Rev as Rev
-use Rattle.rev_row.specs.contracts.row.RevRow as RevRow
+use Rattle.store_share.specs.contracts.rev.Rev as Rev
+use Rattle.store_share.specs.contracts.row.RevRow as RevRow
 
 ruleset of_nodes = (name.the_send, name.the_sync, node.the_send, node.the_sync, reach.the_send, reach.the_sync)
 
