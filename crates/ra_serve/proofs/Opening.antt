@@ -7,7 +7,6 @@ use Rattle.std.specs.Option.{option_map}
 use Rattle.uuid.specs.Text.{hyphenated_text, lower}
 use Rattle.node_base.specs.declared.refusal.Refusal.TheVariants as refusal
 use Rattle.ra_serve.specs.Answers.{refused}
-use Rattle.fleet_disk.specs.Rules.{Rose}
 use Rattle.ra_item.specs.Items.{Item, spell}
 use Rattle.ra_item.specs.ItemStreams.{Takes, Ends, Stops, reader_of, is_spent, ahead}
 use Rattle.ra_item.specs.declared.fault.ItemFault.{ItemFault}
@@ -42,7 +41,7 @@ pub by_before : {P R W : Type 0} {g : _} (spelled spelled_rest : Bool → Reposi
     → IfOk result (λ r. ServesBy spelled asked stands over repository refusals is_mirror remaining contents old new items items_now out r.0 r.1)
 by_before spelled spelled_rest asked asked_rest stands over stands_rest over_rest repository refusals is_mirror remaining contents old new items amid items_now out mid (Err f) item bytes s q h k a t p r = tt
 by_before spelled spelled_rest asked asked_rest stands over stands_rest over_rest repository refusals is_mirror remaining contents old new items amid items_now out mid (Ok w) item bytes s q h k a t p r = λ x e.
-    one_before (spelled (is_mirror old)) (spelled_rest (is_mirror old)) asked asked_rest stands over stands_rest over_rest (is_mirror old) x (Rose (refusals old) (refusals new)) (contents out) (contents mid) (contents w.0) (repository new) (remaining (reader_of items)) (remaining (reader_of amid)) (remaining (reader_of items_now)) (ahead items) (ahead amid) (ahead items_now) (is_spent items) (is_spent amid) w.1 item (bytes x)
+    one_before (spelled (is_mirror old)) (spelled_rest (is_mirror old)) asked asked_rest stands over stands_rest over_rest (is_mirror old) x (refusals old) (refusals new) (contents out) (contents mid) (contents w.0) (repository new) (remaining (reader_of items)) (remaining (reader_of amid)) (remaining (reader_of items_now)) (ahead items) (ahead amid) (ahead items_now) (is_spent items) (is_spent amid) w.1 item (bytes x)
     (s (is_mirror old) x) q h k (a x e) t (λ l. cc) (r x e)
 
 -- the opening ends, or the bytes do
@@ -52,7 +51,7 @@ pub by_end : {P R W : Type 0} {g : _} (spelled : Bool → Repository → List Tu
     → EndsAt stands over (map (λ t. t.item) ts) (remaining (reader_of items)) (remaining (reader_of items_now)) (ahead items) (ahead items_now) (is_spent items) e
     → ServesBy spelled asked stands over repository refusals is_mirror remaining contents old old items items_now out now e
 by_end spelled asked stands over repository refusals is_mirror remaining contents old items items_now out now e ts q a k = λ x h.
-    ends_at_once (spelled (is_mirror old)) asked stands over (is_mirror old) x (Rose (refusals old) (refusals old)) (contents out) (contents now) (repository old) (remaining (reader_of items)) (remaining (reader_of items_now)) (ahead items) (ahead items_now) (is_spent items) e ts q (a x h) h k
+    ends_at_once (spelled (is_mirror old)) asked stands over (is_mirror old) x (refusals old) (contents out) (contents now) (repository old) (remaining (reader_of items)) (remaining (reader_of items_now)) (ahead items) (ahead items_now) (is_spent items) e ts q (a x h) h k
 
 -- a fault of the bytes has no failure of the reader as its cause
 pub fault_alone : (xs : List Item) (a b : Option (List ℕ)) (s : List ℕ → Stream) (spent : Bool) (c : Counts) (f : ItemFault) → Stops xs a b s spent c (next.Items f) → HasFault xs a b s spent f

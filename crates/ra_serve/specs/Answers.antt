@@ -226,6 +226,11 @@ abbrev pub IsCalm : Option Halt → Type 0
 IsCalm None = Unit {0}
 IsCalm (Some h) = ⊥
 
+-- how many refusals that is
+abbrev pub halts_in : Option Halt → ℕ
+halts_in None = 0
+halts_in (Some h) = 1
+
 -- ---- items
 
 -- what an item is answered, a command or none
