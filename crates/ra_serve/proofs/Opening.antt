@@ -1,14 +1,14 @@
 -- The exits of a session.
-use Rattle.std.proofs.Common.{◌≡◌, ◌≢◌, ◌≤◌, ℕ, ◌⊎◌, inl, inr, Bool, true, false, true≢false, not, ◌&&◌, List, [], ◌∷◌, ◌++◌, map, Option, Some, None, Result, Ok, Err, refl, sym, ap, subst, ◌∙◌, append_assoc, append-nil, arith}
+use Rattle.std.proofs.Common.{◌≡◌, ◌≢◌, ◌≤◌, ℕ, Bool, true, false, true≢false, not, ◌&&◌, List, [], ◌∷◌, ◌++◌, map, Option, Some, None, Result, Ok, Err, refl, sym, ap, subst, ◌∙◌, append_assoc, append-nil}
 use Rattle.std.proofs.KnownBytes.{Appends-trans}
-use Rattle.std.specs.Prelude.{IfOk, IfErr, OnOk, is_some, is_none, if◌then◌else◌}
+use Rattle.std.specs.Prelude.{IfOk, IfErr, is_some, is_none, if◌then◌else◌}
 use Rattle.std.specs.Io.KnownBytes.{Appends}
 use Rattle.std.specs.Option.{option_map}
 use Rattle.uuid.specs.Text.{hyphenated_text, lower}
 use Rattle.node_base.specs.declared.refusal.Refusal.TheVariants as refusal
 use Rattle.ra_serve.specs.Answers.{refused}
 use Rattle.ra_item.specs.Items.{Item, spell}
-use Rattle.ra_item.specs.ItemStreams.{Takes, Ends, Stops, reader_of, is_spent, ahead}
+use Rattle.ra_item.specs.ItemStreams.{Takes, Stops, reader_of, is_spent, ahead}
 use Rattle.ra_item.specs.declared.fault.ItemFault.{ItemFault}
 use Rattle.ra_item.specs.declared.fault.ItemFault.TheVariants as fault
 use Rattle.ra_item.specs.declared.fault.NextFault.{NextFault}
@@ -19,8 +19,8 @@ use Rattle.byte_streams.specs.Causes.{Counts, Fails}
 use Rattle.repo_core.specs.Repository.{Repository}
 use Rattle.ra_wire.specs.Openings.{Hello, Login, hello_in, login_in}
 use Rattle.ra_wire.specs.Replies.{greeting, mechanisms, welcome, done, only_anonymous}
-use Rattle.ra_serve.specs.Sessions.{Turn, answers, asked_who, behind_login, behind_hello, session, identity_text, is_anonymous, logs_in, goes_on, ends_opening, commands_of}
-use Rattle.ra_serve.specs.Serving.{ServesBy, EndsAt, EndsBy, HasFault, all, any, none, behind_one, goes_on_login, ends_at_login, spelled_login}
+use Rattle.ra_serve.specs.Sessions.{Turn, answers, behind_login, behind_hello, session, identity_text, is_anonymous, logs_in, goes_on, ends_opening, commands_of}
+use Rattle.ra_serve.specs.Serving.{ServesBy, EndsAt, EndsBy, HasFault, behind_one, goes_on_login, ends_at_login, spelled_login}
 use Rattle.ra_serve.specs.declared.fault.End as declared
 use Rattle.ra_serve.specs.declared.fault.End.TheVariants as end
 use Rattle.ra_serve.specs.declared.fault.ServeFault.{ServeFault}

@@ -1,5 +1,5 @@
 -- The turns of a session, one after another.
-use Rattle.std.proofs.Common.{◌≡◌, ◌≢◌, ◌≤◌, ◌+◌, ℕ, ◌⊎◌, inl, inr, Bool, true, false, not, List, [], ◌∷◌, ◌++◌, map, Option, Some, None, Result, Ok, Err, refl, sym, ap, subst, ◌∙◌, append_assoc, append-nil, arith}
+use Rattle.std.proofs.Common.{◌≡◌, ◌≢◌, ◌≤◌, ◌+◌, ℕ, ◌⊎◌, inl, inr, Bool, true, List, [], ◌∷◌, ◌++◌, map, Option, Some, None, refl, sym, ap, subst, ◌∙◌, append_assoc, append-nil, arith}
 use Rattle.std.proofs.KnownBytes.{Appends-nil, Appends-trans}
 use Rattle.std.proofs.lemmas.List.{map-append}
 use Rattle.std.specs.Io.KnownBytes.{Appends}
@@ -7,7 +7,7 @@ use Rattle.byte_streams.specs.Causes.{RoseBy}
 use Rattle.fleet_disk.specs.Rules.{Rose}
 use Rattle.ra_item.specs.Items.{Item}
 use Rattle.ra_item.specs.Streams.{Stream}
-use Rattle.ra_item.specs.ItemStreams.{Takes, Ends, Stops}
+use Rattle.ra_item.specs.ItemStreams.{Takes, Ends}
 use Rattle.ra_item.proofs.Streaming.{takes_none, takes_more, takes_end, takes_stop}
 use Rattle.ra_item.specs.declared.fault.ItemFault.{ItemFault}
 use Rattle.ra_item.specs.declared.fault.ItemFault.TheVariants as fault

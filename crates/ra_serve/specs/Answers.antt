@@ -1,5 +1,5 @@
 -- What a session's commands are answered: for each what is refused, and what it is told else.
-use Rattle.std.specs.Prelude.{◌≡◌, ℕ, suc, ◌-◌, ◌<◌, ◌≤◌, nat_lt, ◌==◌, is_none, is_some, not, Bool, true, false, List, [], ◌∷◌, ◌++◌, map, take, length, Option, Some, None, unwrap_or, Result, Ok, Err, if◌then◌else◌}
+use Rattle.std.specs.Prelude.{◌≡◌, ℕ, suc, ◌-◌, ◌<◌, ◌≤◌, nat_lt, ◌==◌, is_none, is_some, not, Bool, true, false, List, [], ◌∷◌, ◌++◌, map, take, length, Option, Some, None, unwrap_or, Ok, Err, if◌then◌else◌}
 use Rattle.std.specs.Option.{option_map, option_map_or, option_or}
 use Rattle.std.specs.List.{flat_map, range_with_len}
 use Rattle.std.specs.FinMap as finite

@@ -1,4 +1,4 @@
-use Rattle.std.proofs.Common.{◌≡◌, ◌≤◌, [], Ok, true, false, true≢false, refl, sym, ap, subst, ◌∙◌, arith}
+use Rattle.std.proofs.Common.{[], Ok, true≢false, refl, sym, subst, ◌∙◌, arith}
 use Rattle.ra_item.specs.ItemStreams.{Answers, Stops, meanwhile, reader_of, is_spent, ahead}
 use Rattle.fleet_disk.specs.Rules.{Rose}
 use Rattle.ra_wire.specs.Reading.{command_in}
