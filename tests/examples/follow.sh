@@ -27,6 +27,20 @@ follows() {
     return $status
 }
 
+# hold FILE: a process holds a file's lock until `free`
+hold() {
+    { flock 8 && : >held && exec sleep 1000; } 8>>"$1" &
+    holder=$!
+    until [ -e held ]; do sleep 0.1; done
+    rm held
+}
+
+# free: ends that process
+free() {
+    kill $holder
+    wait $holder 2>killed
+}
+
 # grows FOLDER NAME: commits a directory
 grows() {
     "$program" mkdir "$1" "$2" --message "$2" --moment 1 >made 2>&1 </dev/null
@@ -70,15 +84,11 @@ check 'follow --check: it calls nothing and changes nothing' test "$(ls -d other
 
 # a run that fails leaves no note, and the next one makes up for it
 grows archive three
-flock mirror/journal sleep 1000 &
-holder=$!
-until ! has mirror 1; do sleep 0.1; done
+hold mirror/journal
 SVNFLEET=$program ends 1 "$follow" archive mirror
 check 'follow: a mirror that is held is refused' test "$? $(cat errors)" = '0 svnfleet: 31 device failed'
 check 'follow: no note is left of it' test ! -e mirror.seen
-pkill -P $holder
-kill $holder 2>killed
-wait $holder 2>killed
+free
 check 'follow: the next run' follows archive mirror
 check 'follow: makes up for it' has mirror 3
 
@@ -165,17 +175,14 @@ rm -f listening
 serving=$!
 listens listening
 # what a server tells is never skipped, and takes no lock of a folder's
-flock archive.lock sleep 1000 &
-holder=$!
+hold archive.lock
 size=$(length mirror)
 for it in once more; do
     check "follow: of a server, $it" follows "svn://127.0.0.1:$port/" mirror
     check "follow: of a server, $it: a run" test "$called" -eq 1
 done
 check 'follow: an idle run makes the mirror grow' test "$(length mirror)" -gt "$size"
-pkill -P $holder
-kill $holder 2>killed
-wait $holder 2>killed
+free
 exec 3<>"/dev/tcp/127.0.0.1/$port"
 printf '( 2 ( ) 1:x ) ( ANONYMOUS ( ) ) ( change-rev-prop ( 1 7:svn:log 6:edited ) ) ' >&3
 python3 -c 'import socket; socket.socket(fileno=3).shutdown(socket.SHUT_WR)'
