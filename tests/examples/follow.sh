@@ -114,6 +114,13 @@ check 'follow: a run behind which the mirror is another' follows archive mirror
 check 'follow: no note is left of it either' test ! -e mirror.seen
 check 'follow: the run behind that' follows archive mirror
 check 'follow: brings it up' has mirror 6
+mkdir copied
+cp -a archive copied/
+echo "mv archive gone.archive; mv copied/archive archive" >behind
+rm mirror.seen
+check 'follow: a run behind which the source is another' follows archive mirror
+: >behind
+check 'follow: no note is left of it as well' test ! -e mirror.seen
 cp -a mirror kept
 grows archive six
 check 'follow: a commit more' follows archive mirror
@@ -165,6 +172,7 @@ check 'follow: a mirror that is gone' ends 1 "$follow" archive fourth 'a third'
 check 'follow: it is told' grep -qx 'a third: 34 no repository' said
 check 'follow: another one is brought up' has fourth 8
 mv away 'a third'
+check 'follow: no folder of the source' ends 1 "$follow" nowhere/at-all mirror
 check 'follow: no source' ends 1 "$follow" nowhere mirror
 check 'follow: no source is told' test "$(cat errors)" = 'svnfleet: 34 no repository'
 

@@ -58,6 +58,7 @@ check 'compare: the same behind hooks at once' compares 0
 mv archive away
 svn mkdir -m lost "$url/lost" >svn.out 2>&1
 check 'hook: no archive is told' grep -q 'svnfleet: 34 no repository' svn.out
+check 'hook: and the revision' grep -q "revision 13 isn't archived: the archive is refused" svn.out
 check 'hook: the commit stands' test "$(svnlook youngest repo)" -eq 13
 check 'compare: no archive' compares 2
 mv away archive
@@ -105,7 +106,6 @@ svn mkdir -m later "$url/later" >svn.out 2>&1
 check 'hook: the same revision behind a later commit' grep -q "revision $refused isn't archived" svn.out
 check 'compare: the refusal' compares 2
 check 'compare: which is told' grep -qx 'svnfleet: 8 limit exceeded' errors
-cp repo/conf/svnfleet-archive conf
 printf '%s\n' "options='--exclude \"/a big.bin\"'" >>repo/conf/svnfleet-archive
 check 'hook: it goes on without it' sh -c "svn mkdir -q -m last '$url/last' 2>&1 | grep . && exit 1 || exit 0"
 check 'hook: all is there' "$program" dump archive -r "$(svnlook youngest repo):$(svnlook youngest repo)" >dumped </dev/null
@@ -125,6 +125,18 @@ rm -rf archive
 "$program" create archive --uuid "$(svnlook uuid repo)" </dev/null
 check 'hook: a repository that is a mirror' ends 0 "$examples/post-commit" mirrored 3
 check 'hook: leaves its archive an archive' ends 0 "$examples/post-commit" mirrored 5
+
+# no file of variables, and no folder of the archive
+mv repo/conf/svnfleet-archive conf.kept
+check 'hook: no variables' ends 1 "$examples/post-commit" repo 3
+check 'hook: no variables: it is told' grep -qx "revision 3 isn't archived: there is no repo/conf/svnfleet-archive" errors
+check 'edits: no variables' ends 1 "$examples/post-revprop-change" repo 3 me svn:log M
+check 'edits: no variables: it is told' grep -qx "revision 3: svn:log isn't changed in the archive: there is no repo/conf/svnfleet-archive" errors
+printf 'program=%s\narchive=nowhere/archive\n' "$program" >repo/conf/svnfleet-archive
+check 'hook: no folder' ends 1 "$examples/post-commit" repo 3
+check 'hook: no folder: it is told' grep -qx "revision 3 isn't archived: nowhere/archive.lock can't be written" errors
+check 'edits: no folder' ends 1 "$examples/post-revprop-change" repo 3 me svn:log M
+mv conf.kept repo/conf/svnfleet-archive
 
 # ---- edited properties
 
