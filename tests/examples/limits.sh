@@ -57,6 +57,8 @@ if what == 'text':
     record([b'Node-path: a file', b'Node-kind: file', b'Node-action: add'], [], b't' * size)
 elif what == 'value':
     folder(b'a', [(b'value', b'v' * size)])
+elif what == 'root-value':
+    record([b'Node-path: ', b'Node-kind: dir', b'Node-action: change'], [(b'value', b'v' * size)])
 elif what == 'properties':
     folder(b'a', [(b'p%d' % it, b'') for it in range(size)] + [(b'svn:sync-%d' % it, b'') for it in range(16)])
 elif what == 'sync-properties':
@@ -124,6 +126,8 @@ kept text 1048576
 passed_by text 1048577 8 'revision 2, a file: bytes of the text: 1048577, 1 past the limit of 1048576'
 kept value 65536
 passed_by value 65540 8 'revision 2, a: property value: bytes of the value: 65540, 4 past the limit of 65536'
+kept root-value 65536
+passed_by root-value 65537 8 'revision 2, /: property value: bytes of the value: 65537, 1 past the limit of 65536'
 kept revision-value 65536
 passed_by revision-value 65537 8 'revision 2: property log: bytes of the value: 65537, 1 past the limit of 65536'
 kept properties 256

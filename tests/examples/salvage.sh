@@ -3,7 +3,7 @@
 mkdir "$work/salvage" && cd "$work/salvage" || exit 1
 words salvage 'a b' -x
 
-# A sound archive of five revisions, the message of whose third was edited: its entries are those of the revisions, one of the
+# A sound archive of eight revisions, the message of whose third was edited: its entries are those of the revisions, one of the
 # properties of revision 0 behind the first, and one of the edit at the end.
 svnadmin create repo
 url=file://$PWD/repo
@@ -16,6 +16,16 @@ for it in one two; do printf 'the text of %s\n' $it >text && svn import -q -m "a
 svn copy -q -m 'a copy' "$url/trunk" "$url/tags/a copy"
 printf 'a newer text\n' >text
 svn import -q -m 'the last' text "$url/trunk/three"
+# (and changes of every kind: of the root's properties, a deletion, a replacement)
+svn checkout -q "$url" copy
+svn propset -q rooted yes copy
+svn commit -q -m 'of the root' copy
+svn delete -q copy/trunk/one
+svn commit -q -m 'a deletion' copy
+svn update -q copy
+svn delete -q copy/trunk/three
+svn copy -q copy/trunk/two copy/trunk/three
+svn commit -q -m 'a replacement' copy
 "$program" create sound --uuid "$(svnlook uuid repo)" </dev/null
 svnadmin dump -q repo | "$program" load sound >loaded
 svn propset -q --revprop -r 3 svn:log 'an edited message' "$url"
@@ -74,7 +84,7 @@ damage journal 'the text of two' 'the text of tvo'
 check 'salvage: a text' is_damaged 4
 check 'salvage: a text: it is saved' salvages 1
 check 'salvage: a text: what is told' test "$(cat errors)" = "$(printf "entry 4, trunk/two: the text, or its sum, is wrong\nentry 4: its sum isn't right, of revision 3")"
-check 'salvage: a text: nothing is refused' test "$(cat refused; tail -n 1 loaded)" = 'Loaded revision 5.'
+check 'salvage: a text: nothing is refused' test "$(cat refused; tail -n 1 loaded)" = 'Loaded revision 8.'
 check 'salvage: a text: two lines differ, the text and its sum' test "$(diff sound.dump new.dump | grep -ac '^>')" -eq 2
 check 'salvage: a text: the edited message is saved' grep -q '^an edited message' new.dump
 
@@ -100,8 +110,8 @@ damage journal 'Node-path: trunk/two' 'Node-path? trunk/two'
 check 'salvage: a header' is_damaged 4
 check 'salvage: a header: it is saved' salvages 1
 check 'salvage: a header: what is told' grep -qx 'entry 4: a change is lost, in its headers' errors
-check 'salvage: a header: all revisions are loaded' test "$(cat refused; tail -n 1 loaded)" = 'Loaded revision 5.'
-check 'salvage: a header: the file is not' test "$("$program" list <new.dump | grep -c '^F')" -eq 3
+check 'salvage: a header: it loads up to what needs the file' test "$(cat refused; tail -n 1 loaded)" = "$(printf 'svnfleet: 14 no such copy source\nLoaded revision 7.')"
+check 'salvage: a header: the file is lost' test "$("$program" list <new.dump | grep '^F' | sed 's/.* [0-9]* //' | tr '\n' ,)" = 'tags/a copy/one,trunk/three,'
 
 damage journal 'Revision-number: 4' 'Revision-number; 4'
 check 'salvage: the head of a revision' is_damaged 5
@@ -115,26 +125,26 @@ check 'salvage: a number: what is told' grep -qx 'entry 5: it says that it is re
 check 'salvage: a number: all is saved' cmp sound.dump new.dump
 
 damage journal 'Text-content-length: 13' 'Text-content-length: 73'
-check 'salvage: a length, in the last revision' is_damaged 6
+check 'salvage: a length' is_damaged 6
 check 'salvage: a length: it is saved' salvages 1
 check 'salvage: a length: what is told' grep -qx 'entry 6, trunk/three: a change is lost, in its lengths' errors
-check 'salvage: a length: the others are there' test "$(cat refused; tail -n 1 loaded)" = 'Loaded revision 5.'
+check 'salvage: a length: it loads up to what needs the file' test "$(cat refused; tail -n 1 loaded)" = "$(printf 'svnfleet: 11 no such path\nLoaded revision 7.')"
 
 damage journal 'an edited message' 'an editee message'
-check 'salvage: an edit, at the end' is_damaged 7
+check 'salvage: an edit, at the end' is_damaged 10
 check 'salvage: an edit: it is saved' salvages 1
-check 'salvage: an edit: what is told' test "$(cat errors)" = "entry 7: an edit of revision 3's properties isn't proved"
+check 'salvage: an edit: what is told' test "$(cat errors)" = "entry 10: an edit of revision 3's properties isn't proved"
 damage journal 'Prop-content-length:' 'Prop-c0ntent-length:'
 check 'salvage: the head of an edit' salvages 1
-check 'salvage: the head of an edit: what is told' grep -qx 'entry 7: a revision or an edit of properties is lost' errors
-check 'salvage: the head of an edit: the rest is saved' test "$(cat refused; tail -n 1 loaded)" = 'Loaded revision 5.'
+check 'salvage: the head of an edit: what is told' grep -qx 'entry 10: a revision or an edit of properties is lost' errors
+check 'salvage: the head of an edit: the rest is saved' test "$(cat refused; tail -n 1 loaded)" = 'Loaded revision 8.'
 check 'salvage: the head of an edit: it has the message of before' grep -q '^an import of two' new.dump
 
 rm -rf damaged && cp -r sound damaged
 truncate -s -20 damaged/journal
-check 'salvage: a journal that is cut' is_damaged 7
+check 'salvage: a journal that is cut' is_damaged 10
 check 'salvage: a journal that is cut: it is saved' salvages 1
-check 'salvage: a journal that is cut: the revisions are there' test "$(cat refused; tail -n 1 loaded)" = 'Loaded revision 5.'
+check 'salvage: a journal that is cut: the revisions are there' test "$(cat refused; tail -n 1 loaded)" = 'Loaded revision 8.'
 
 damage journal 'SVN-fs-dump-format-version' 'SVN-fs-dumb-format-version'
 check 'salvage: the first line' is_damaged 0
@@ -162,7 +172,7 @@ check 'salvage: the gate of an entry: all is saved' cmp sound.dump new.dump
 rm -rf damaged && cp -r sound damaged
 : >damaged/slots
 check 'salvage: no slots' salvages 1
-check 'salvage: no slots: what is told' test "$(grep -c 'it has no slot, and may be the change that a stop has ended' errors)" -eq 8
+check 'salvage: no slots: what is told' test "$(grep -c 'it has no slot, and may be the change that a stop has ended' errors)" -eq 11
 check 'salvage: no slots: all is saved' cmp sound.dump new.dump
 
 # a folder of a mirror, and what can't be read
