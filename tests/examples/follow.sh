@@ -179,7 +179,7 @@ check 'follow: no source is told' test "$(cat errors)" = 'svnfleet: 34 no reposi
 # an edited property grows the source, and is no change that a run brings along
 port=$(a_port)
 rm -f listening
-"$program" serve archive --port "$port" --connections 3 >listening 2>&1 </dev/null &
+timeout 100 "$program" serve archive --port "$port" --connections 3 >listening 2>&1 </dev/null &
 serving=$!
 listens listening
 # what a server tells is never skipped, and takes no lock of a folder's
@@ -218,7 +218,7 @@ check 'follow: nothing is done' not has mirror 10
 # a server that keeps its mirror up
 port=$(a_port)
 rm -f listening
-"$examples/serve-and-follow" archive mirror "$port" 1 >listening 2>errors </dev/null &
+timeout 100 "$examples/serve-and-follow" archive mirror "$port" 1 >listening 2>errors </dev/null &
 serving=$!
 listens listening
 check 'serve-and-follow: it has brought the mirror up' test "$(newest "$port")" = 10

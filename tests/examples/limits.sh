@@ -87,6 +87,17 @@ elif what == 'deep-copy':
         path += b'/t'
         folder(path)
     folder(path + b'/copy', source=(3, b'n'))
+elif what == 'copied-copy':
+    # (the copy of the copy has 31 names behind it)
+    deep(32)
+    revision(3)
+    folder(b'plain/b', source=(2, b'n'))
+    revision(4)
+    path = b'plain'
+    for _ in range(size - 33):
+        path += b'/t'
+        folder(path)
+    folder(path + b'/copy', source=(3, b'plain/b'))
 elif what == 'long-copy':
     # (behind the folder that is copied are 768 bytes)
     path = deep(4, 255)
@@ -148,6 +159,8 @@ kept changes 4096
 passed_by changes 4097 8 'revision 2: changes: 4097, 1 past the limit of 4096'
 kept deep-copy 64
 passed_by deep-copy 65 8 'revision 4, plain/t/t/t/copy: names of a path that is copied: 65, 1 past the limit of 64'
+kept copied-copy 64
+passed_by copied-copy 65 8 "revision 4, plain$(printf '/t%.0s' $(seq 32))/copy: names of a path that is copied: 65, 1 past the limit of 64"
 kept long-copy 1024
 passed_by long-copy 1025 8 "revision 3, plain/$(printf 'c%.0s' $(seq 251)): bytes of a path that is copied: 1025, 1 past the limit of 1024"
 

@@ -113,6 +113,13 @@ check 'salvage: a header: what is told' grep -qx 'entry 4: a change is lost, in 
 check 'salvage: a header: it loads up to what needs the file' test "$(cat refused; tail -n 1 loaded)" = "$(printf 'svnfleet: 14 no such copy source\nLoaded revision 7.')"
 check 'salvage: a header: the file is lost' test "$("$program" list <new.dump | grep '^F' | sed 's/.* [0-9]* //' | tr '\n' ,)" = 'tags/a copy/one,trunk/three,'
 
+damage journal 'Node-path: tags
+' 'Node-path; tags
+'
+check 'salvage: a header in front of another change' is_damaged 2
+check 'salvage: a header in front of another change: it is saved' salvages 1
+check 'salvage: a header in front of another change: which is saved' test "$(cat refused; tail -n 1 loaded; "$program" list <new.dump | sed -n '2,$s/.* //p' | tr '\n' ,)" = "$(printf 'svnfleet: 11 no such path\nLoaded revision 3.\n/,trunk,trunk/one,trunk/two,')"
+
 damage journal 'Revision-number: 4' 'Revision-number; 4'
 check 'salvage: the head of a revision' is_damaged 5
 check 'salvage: the head of a revision: it is saved' salvages 1

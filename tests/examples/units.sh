@@ -23,16 +23,16 @@ for it in synchronize fleet; do
     check "unit $it: no run holds a mirror for ever" grep -q '^TimeoutStartSec=[1-9]' "$units/svnfleet-$it@.service"
     check "unit $it: no run takes all memory" grep -q '^MemoryMax=[1-9]' "$units/svnfleet-$it@.service"
 done
-check 'unit: the command ends well' env SOURCE=master sh -c "$(started svnfleet-synchronize@.service)" >lines </dev/null
+check 'unit: the command ends well' env SOURCE=master sh -c "$(started svnfleet-synchronize@.service) >lines" </dev/null
 check 'unit: the mirror is brought up' grep -qx 'Committed revision 1.' lines
-check 'unit of a fleet: the command ends well' env SOURCE=master MIRRORS='mirror other' sh -c "$(started svnfleet-fleet@.service)" >lines </dev/null
+check 'unit of a fleet: the command ends well' env SOURCE=master MIRRORS='mirror other' sh -c "$(started svnfleet-fleet@.service) >lines" </dev/null
 check 'unit of a fleet: the mirrors are brought up' "$program" dump other -r 1:1 >dumped </dev/null
 
 # The unit of a server starts this command; a client asks it for the newest revision.
 server=svnfleet-serve@.service
 port=$(a_port)
 rm lines
-PORT=$port sh -c "$(started $server | sed 's|1024|1|')" >lines </dev/null &
+PORT=$port timeout 100 sh -c "$(started $server | sed 's|1024|1|')" >lines </dev/null &
 serving=$!
 check 'unit of a server: it listens' listens lines
 check 'unit of a server: it serves' test "$(newest "$port")" = 1
@@ -42,7 +42,7 @@ check 'unit of a server: it ends well' test $? -eq 0
 # The unit of a server that keeps its mirror up starts this one.
 port=$(a_port)
 rm lines
-SOURCE=master PORT=$port sh -c "$(started svnfleet-serve-and-follow@.service)" >lines 2>errors </dev/null &
+SOURCE=master PORT=$port timeout 100 sh -c "$(started svnfleet-serve-and-follow@.service)" >lines 2>errors </dev/null &
 serving=$!
 check 'unit of a mirror that is served and kept up: it listens' listens lines
 check 'unit of a mirror that is served and kept up: it serves' test "$(newest "$port")" = 1
