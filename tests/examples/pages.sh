@@ -19,9 +19,9 @@ block_below() {
 
 # placed BLOCK: the block with this run's places and port
 placed() {
-    printf '%s\n' "$1" | sed "s|/usr/share/doc/svnfleet/examples|$top/examples|g; s|/usr/local/bin|$pages/bin|g
+    printf '%s\n' "$1" | sed "s|/usr/lib/svnfleet|$top/examples|g; s|/usr/local/bin|$pages/bin|g; s|/usr/local/share|$pages/share|g
         s|/usr/bin/svnfleet|$pages/bin/svnfleet|g; s|/srv/svn|$pages/srv|g; s|/var/lib/svnfleet|$pages/var|g
-        s|/etc/|$pages/etc/|g; s| -o svnfleet||; s|3690|$port|g; s|^[^ ]* \* \* \* \* ||"
+        s|/etc/|$pages/etc/|g; s| -o svnfleet||; s|3690|$port|g; s|^[^ ]* [^ ]* \* \* \* ||"
 }
 
 # typed BLOCK: what these lines print, where each of them ends well
@@ -63,12 +63,9 @@ tried=0
 mkdir -p "$pages/bin" "$pages/srv" "$pages/etc/systemd/system" "$pages/readme" "$pages/manual"
 # What only root can do is told in a file; a tunnel is there already.
 printf '#!/bin/sh\nexec "$@"\n' >"$pages/bin/sudo"
-for it in systemctl useradd chown ssh; do
+for it in systemctl useradd chown chgrp ssh; do
     printf '#!/bin/sh\necho "%s $*" >>"%s/called"\n' "$it" "$pages" >"$pages/bin/$it"
 done
-if ! command -v uuidgen >/dev/null 2>&1; then
-    printf '#!/bin/sh\ncat /proc/sys/kernel/random/uuid\n' >"$pages/bin/uuidgen"
-fi
 chmod +x "$pages/bin/"*
 
 # ---- README
@@ -92,15 +89,19 @@ cd "$pages" || exit 1
 operated 'Prepare a machine' 1
 check 'OPERATING: the user is made' grep -qx 'useradd --system svnfleet' called
 operated 'Prepare a machine' 2
-check 'OPERATING: the units have the user' test "$(cat etc/systemd/system/svnfleet-*@.service.d/user.conf | grep -cx User=svn)" -eq 2
+check 'OPERATING: the units have the user' test "$(cat etc/systemd/system/svnfleet-*@.service.d/user.conf | grep -cx User=svn)" -eq 4
+operated 'Prepare a machine' 3
+check 'OPERATING: the group has the folder' test "$(tail -n 1 called) $(stat -c %A var)" = "chgrp -R svn $pages/var drwxrws---"
 cd "$pages/var" || exit 1
 
 operated 'Begin an archive' 1
+check 'OPERATING: all fits' test ! -s said
+operated 'Begin an archive' 2
 check 'OPERATING: an archive has all' grep -qx 'Loaded revision 16.' said
 for i in 17 18 19 20; do committed $i; done
-operated 'Begin an archive' 2
-check 'OPERATING: it loads the four' test "$(grep -c '^Loaded' said)" -eq 4
 operated 'Begin an archive' 3
+check 'OPERATING: it loads the four' test "$(grep -c '^Loaded' said)" -eq 4
+operated 'Begin an archive' 4
 check 'OPERATING: the newest revision' test "$(cat said)" = 'revision 20'
 
 operated 'Feed an archive by a hook' 1
@@ -126,12 +127,10 @@ entry=$((($(wc -c <archive/slots) - 1) / 25 - 1))
 check 'OPERATING: a damaged entry is told' test "$(cat errors)" = "svnfleet: 33 entry $entry is damaged"
 operated 'Refusal 33: damage' 1
 check 'OPERATING: the archive is built anew' test "$(tail -n 1 said)" = 'the same'
-tried=$((tried + 1))
-identity=$(sed -n '3s/^UUID: //p' damaged/journal)
-# (the last line of the block is refused, at the damage)
-typed "$(block_below "$operating" 'Refusal 33: damage' 2 | sed "s/UUID/$identity/")"
-check 'OPERATING: a load of the journal stops at the damage' test "$(cat errors)" = 'svnfleet: 6 checksum mismatch'
-check 'OPERATING: and has what stood before' test "$(tail -n 1 said)" = 'Loaded revision 22.'
+# (salvage tells by its status that something is damaged)
+operated 'Refusal 33: damage' 2 '1s/$/ || test $? -eq 1/'
+check 'OPERATING: what is not proved is told' grep -q '^entry [0-9]*, b.txt: the text, or its sum, is wrong' errors
+check 'OPERATING: all revisions are saved' test "$(tail -n 1 said)" = 'Loaded revision 23.'
 rm -r damaged new
 
 operated 'Begin a mirror' 1
@@ -142,23 +141,30 @@ check 'OPERATING: the timer is begun' grep -qx 'systemctl enable --now svnfleet-
 committed 24
 operated 'Keep a mirror up by a timer' 2
 check 'OPERATING: cron brings the mirror up' has mirror 24
-operated 'Keep a mirror up by a timer' 3
+size=$(length mirror)
+check 'OPERATING: cron leaves it alone' typed "$(block_below "$operating" 'Keep a mirror up by a timer' 2)"
+check 'OPERATING: it is as it was' test "$(length mirror)" -eq "$size"
 committed 25
-command=$(sed -n 's/^ExecStart=//p' "$pages/etc/systemd/system/svnfleet-synchronize@mirror.service.d/lock.conf" | sed -n '$s/%i/mirror/p')
-check 'OPERATING: the unit with a lock' env SOURCE=archive sh -c "$command" >lines </dev/null
-check 'OPERATING: it brings the mirror up' grep -qx 'Committed revision 25.' lines
 
 printf 'another message' >text && svnadmin setlog --bypass-hooks -r 5 "$pages/srv/project" text
-serves 'Copy edited log messages' 2
-operated 'Copy edited log messages' 3
+serves 'Copy edited log messages' 3
+operated 'Copy edited log messages' 4
 wait $serving
 check 'OPERATING: the server of a message ends well' test $? -eq 0
 operated 'Copy edited log messages' 1
-check 'OPERATING: revision 5 of the mirror' has mirror 5
-check 'OPERATING: it has the message' grep -qx 'another message' dumped
+printf '#!/bin/sh\n' >"$pages/srv/project/hooks/pre-revprop-change"
+chmod +x "$pages/srv/project/hooks/pre-revprop-change"
+svn propset -q --revprop -r 6 svn:log 'edited again' "file://$pages/srv/project" 2>warned
+check 'OPERATING: an edit' test ! -s warned
+operated 'Copy edited log messages' 2
+for it in 5 6; do check "OPERATING: revision $it of the mirror" has mirror $it; done
+check 'OPERATING: it has the message' grep -qx 'edited again' dumped
+check 'OPERATING: the other one too' sh -c '"$1" dump mirror -r 5:5 </dev/null | grep -qx "another message"' sh "$program"
+check 'OPERATING: a run by the timer' typed "$(block_below "$operating" 'Keep a mirror up by a timer' 2)"
 
 serves 'Serve an archive or a mirror' 1
-operated 'Mirror an archive on another machine' 1
+identity=$(sed -n '3s/^UUID: //p' archive/journal)
+operated 'Mirror an archive on another machine' 1 "s/UUID/$identity/"
 check 'OPERATING: a mirror over svn:// is brought up' grep -qx 'Committed revision 25.' said
 operated 'Serve an archive or a mirror' 2
 check 'OPERATING: the copy has all' test "$(svnlook youngest "$pages/srv/copy")" -eq 25
@@ -166,8 +172,7 @@ kill $serving
 wait $serving 2>killed
 operated 'Serve an archive or a mirror' 3
 check 'OPERATING: the file of both units' test "$(cat "$pages/etc/svnfleet/mirror")" = "$(printf 'SOURCE=archive\nPORT=%s' "$port")"
-operated 'Serve an archive or a mirror' 4
-check 'OPERATING: the server is begun again' test "$(tail -n 1 "$pages/called")" = 'systemctl start svnfleet-serve@mirror.service'
+check 'OPERATING: the server is begun' test "$(tail -n 1 "$pages/called")" = 'systemctl enable --now svnfleet-serve-and-follow@mirror.service'
 
 for mirror in other third; do
     "$program" create $mirror --uuid $uuid </dev/null
@@ -175,8 +180,13 @@ for mirror in other third; do
 done
 operated 'Keep several mirrors up at once' 1
 check 'OPERATING: a fleet tells each' test "$(cat said)" = "$(printf 'mirror: head 25\nother: head 25\nthird: head 25')"
+operated 'Keep several mirrors up at once' 2
+check 'OPERATING: the file of the fleet' test "$(cat "$pages/etc/svnfleet/all")" = "$(printf 'SOURCE=archive\nMIRRORS=mirror other third')"
+check 'OPERATING: its timer is begun' test "$(tail -n 1 "$pages/called")" = 'systemctl enable --now svnfleet-fleet@all.timer'
 operated 'Build a mirror anew' 1
 check 'OPERATING: the new mirror is brought up' grep -qx 'Committed revision 25.' said
+check 'OPERATING: it has its place' has mirror 25
+check 'OPERATING: nothing else is left' test -z "$(ls -d old* fresh* 2>/dev/null)"
 
 operated 'Compare' 1
 check 'OPERATING: the archive is its repository' grep -qx 'the same' said
@@ -217,8 +227,8 @@ rm -r archive marked && mv kept archive
 # a text past its limit
 head -c 1048577 /dev/zero >text && svn import -m big text "file://$pages/srv/project/big.bin" >warned 2>&1
 check 'OPERATING: a text past its limit is told' grep -q 'svnfleet: 8 limit exceeded' warned
-operated 'Limits' 1
-check 'OPERATING: it is found' test "$(cat said)" = 'revision 26, big.bin: 1048577 bytes'
+operated 'Limits' 1 '1s/$/ || test $? -eq 1/'
+check 'OPERATING: it is found, and all but it fits' test "$(cat said)" = 'revision 26, big.bin: bytes of the text: 1048577, 1 past the limit of 1048576'
 operated 'Limits' 2 's/21:22/26:26/'
 check 'OPERATING: its revision is loaded without it' grep -qx 'Loaded revision 26.' said
 committed 27
@@ -226,6 +236,10 @@ check 'OPERATING: the hook goes on' has archive 27
 operated 'Compare' 1
 tried=$((tried - 1))
 check 'OPERATING: the archive is its repository without it' grep -qx 'the same' said
+# (the archive grows between the two copies)
+operated 'Back up and restore' 4 "2s|\$|; svn mkdir -q -m between file:///srv/svn/project/between|"
+check 'OPERATING: the archive has grown' has archive 28
+check 'OPERATING: a copy that waits for nobody opens' has archive.second 27
 operated 'Limits' 3
 check 'OPERATING: the unit has a limit' grep -qx 'MemoryMax=1G' "$pages/etc/systemd/system/svnfleet-serve@.service.d/memory.conf"
 check 'OPERATING: each block is tried' test $tried -eq $(($(grep -c '^```' "$operating") / 2))
@@ -245,11 +259,11 @@ check 'manual: a mirror is brought up' grep -qx 'Committed revision 20.' said
 "$program" serve archive --port "$port" --connections 2 >lines </dev/null &
 serving=$!
 for _ in $(seq 100); do grep -q listening lines && break; sleep 0.1; done
-check 'manual: a mirror over svn://' typed "$(block_of "$top/docs/svnfleet.1" 'initialize copy')"
+identity=$(sed -n '3s/^UUID: //p' archive/journal)
+check 'manual: a mirror over svn://' typed "$(block_of "$top/docs/svnfleet.1" 'initialize copy' | sed "s/UUID/$identity/")"
 check 'manual: it is brought up' grep -qx 'Committed revision 20.' said
 wait $serving
 check 'manual: the server ends well' test $? -eq 0
-identity=$(sed -n '3s/^UUID: //p' archive/journal)
 check 'manual: a journal is loaded' typed "$(block_of "$top/docs/svnfleet.1" 'load new' | sed "s/UUID/$identity/")"
 check 'manual: it has all' grep -qx 'Loaded revision 20.' said
 cd "$work" || exit 1
