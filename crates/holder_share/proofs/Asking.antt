@@ -12,7 +12,7 @@ use Rattle.sync_job.specs.Asked.{Asked, asked_as}
 use Rattle.sync_job.specs.Mirrors.{IsFit}
 use Rattle.sync_job.specs.Runs.{AreRight}
 use Rattle.sync_job.specs.Said.{Spoken, Says, NoTree, Tells}
-use Rattle.sync_job.specs.Telling.{IsSaidAs, KeepsTelling, TellsAsked, calls_in}
+use Rattle.sync_job.specs.Telling.{IsSaidAs, KeepsTelling, calls_in}
 use Rattle.mirror_share.specs.Refused.{IsRefusalOf}
 use Rattle.mirror_share.specs.Seats.{place_of}
 use Rattle.holder_share.specs.Asked.{AreCarried, WasAsked}

@@ -11,7 +11,7 @@ ghost use Rattle.sync_core.specs.Mirror.{ReleaseLock, holds, standing_of};
 ghost use Rattle.sync_job.specs.Mirrors.{IsFit, mirror_in};
 ghost use Rattle.mirror_share.specs.Book.{calls_of, holder_of, is_stuck_in, jobs_of, master_of, now_of, opening_of, store_in};
 ghost use Rattle.mirror_share.specs.Holding.{IsServed, job_after};
-ghost use Rattle.mirror_share.specs.Places.{IsRunningFault, job_at};
+ghost use Rattle.mirror_share.specs.Places.{IsEntryFault, job_at};
 ghost use Rattle.mirror_share.specs.Refused.{IsRefusalOf};
 ghost use Rattle.mirror_share.specs.Seats.{place_of};
 ghost use Rattle.mirror_share.specs.Stepped.{Stepped};
@@ -104,10 +104,16 @@ impl<N: HolderName, D: Disk> HolderBook<N, D> {
     /// OutOfMemory (70).
     pub fn enter_job(&mut self, alloc: Global, token: &Token) -> Result<HolderSeat<N>, SyncFault>
         ensures none { IfOk result (λ s. hand_of s ≡ None) }
-        ensures refused { IfErr result (IsRunningFault token.now) }
+        ensures alone { IfOk result (λ _. (i : ℕ) → job_at (jobs_of (mirror_of self.old)) i ≡ Some token.now → ⊥) }
+        ensures free { IfOk result (λ s. job_at (jobs_of (mirror_of self.old)) (place_of (job_of s)) ≡ None) }
+        ensures there { IfOk result
+            (λ s. job_at (jobs_of (mirror_of self.new)) (place_of (job_of s)) ≡ Some token.now) }
+        ensures refused { IfErr result (IsEntryFault (jobs_of (mirror_of self.old)) token.now) }
     {
-        let job = self.book.enter_job(alloc, token)?;
-        Ok(HolderSeat::new(job))
+        match self.book.enter_job(alloc, token) {
+            Ok(job) => Ok(HolderSeat::new(job)),
+            Err(fault) => Err(fault),
+        }
     }
 
     /// The job leaves, and the hand goes back to the book where the seat has it: there is no holder from then on, and the
@@ -133,7 +139,7 @@ impl<N: HolderName, D: Disk> HolderBook<N, D> {
     }
 
     /// One call of a job, as the mirror's book takes it. A seat that holds the lock has the hand, and gives it back with
-    /// the lock. (A seat without the hand whose place holds the lock can't be; it would be answered 70.)
+    /// the lock. (A seat without the hand whose place holds the lock can't be; it would be turned away.)
     pub fn step(
         &mut self,
         alloc: Global,
@@ -142,6 +148,8 @@ impl<N: HolderName, D: Disk> HolderBook<N, D> {
         call: &MirrorCall<'_>,
     ) -> Result<Reply, SyncFault>
         requires { row.now ≡ N.Row.cells }
+        ensures stepped { Stepped (mirror_of self.old) (mirror_of self.new) (place_of (job_of seat.old)) (call_of call.now)
+            result }
         ensures fits { IfOk result (IsFit (call_of call.now)) }
         ensures refused { IfErr result (IsRefusalOf (call_of call.now)) }
         ensures seat { job_of seat.new ≡ job_of seat.old }
@@ -265,6 +273,7 @@ fn step_beside<N: HolderName, D: Disk>(
     requires row { row.now ≡ N.Row.cells }
     requires held { is_none (holder_of book.old) ≡ false }
     requires locked { IsLocked (is_stuck_in book.old) (revisions_of (store_in book.old)) (holder_of book.old) }
+    ensures stepped { Stepped book.old book.new (place_of seat.now) (call_of call.now) result }
     ensures fits { IfOk result (IsFit (call_of call.now)) }
     ensures refused { IfErr result (IsRefusalOf (call_of call.now)) }
     ensures same { mirror_in (now_of book.new) ≡ mirror_in (now_of book.old) }
@@ -273,7 +282,7 @@ fn step_beside<N: HolderName, D: Disk>(
 {
     let _head = book.repo().head();
     if is_held_by(book.holder(), seat.seat()) {
-        return Err(SyncFault::OutOfMemory);
+        return Err(book.turn_away(seat, call));
     }
     book.step(alloc, row, seat, call)
 }
@@ -295,6 +304,7 @@ fn step_of<N: HolderName, D: Disk>(
     ensures kept { IsBookKept (is_stuck_in book.new) (revisions_of (store_in book.new)) (holder_of book.new)
         (counts_as ledgers.new.merged.total ledgers.new.copying.total ledgers.new.head.total) ledgers.new.holder.total
         (is_some spare.new) }
+    ensures stepped { Stepped book.old book.new (place_of (job_of seat.old)) (call_of call.now) result }
     ensures fits { IfOk result (IsFit (call_of call.now)) }
     ensures refused { IfErr result (IsRefusalOf (call_of call.now)) }
     ensures seat { job_of seat.new ≡ job_of seat.old }

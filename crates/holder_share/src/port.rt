@@ -75,6 +75,7 @@ impl<R: Wait, N: HolderName, D: Disk> MirrorPort for HolderMirror<'_, R, N, D> {
     ghost use Rattle.mirror_share.specs.Ports.{NowhereStands, TellsNothing};
     ghost use Rattle.mirror_share.specs.Seats.{place_of};
     ghost use Rattle.holder_share.specs.Asked.{WasAsked};
+    ghost use Rattle.holder_share.specs.Locked.{IsStepOf};
     ghost use Rattle.holder_share.specs.Ports.{reader_of, seat_of, share_of};
     ghost use Rattle.holder_share.specs.Seats.{hand_of, job_of};
 
@@ -107,6 +108,7 @@ impl<R: Wait, N: HolderName, D: Disk> MirrorPort for HolderMirror<'_, R, N, D> {
     ) -> Result<Reply, SyncFault>
         ensures fits { IfOk result (IsFit (call_of call.now)) }
         ensures refused { IfErr result (IsRefusalOf (call_of call.now)) }
+        ensures stepped { IsStepOf (share_of self.old) (place_of (job_of (seat_of self.old))) (call_of call.now) result }
         ensures carried { IsCarried (hand_of (seat_of self.old)) (hand_of (seat_of self.new)) (call_of call.now) result }
         ensures share { share_of self.new ≡ share_of self.old }
         ensures reader { reader_of self.new ≡ reader_of self.old }

@@ -6,7 +6,6 @@ ghost use Rattle.store_share.specs.Seats.{known_by, seen_by};
 ghost use Rattle.sync_core.specs.Calls.{call_of};
 ghost use Rattle.sync_core.specs.Holding.{TakesLock};
 ghost use Rattle.sync_job.specs.Mirrors.{IsFit};
-ghost use Rattle.mirror_share.specs.Places.{IsRunningFault};
 ghost use Rattle.mirror_share.specs.Refused.{IsRefusalOf};
 ghost use Rattle.mirror_share.specs.Seats.{place_of};
 ghost use Rattle.holder_share.specs.Carried.{IsCarried};
@@ -31,7 +30,7 @@ pub struct HolderShare<N: HolderName, D: Disk> {
 }
 
 impl<N: HolderName, D: Disk> HolderShare<N, D> {
-    ghost use Rattle.holder_share.specs.Locked.{IsLeaveOf, IsNewest, IsShownTo};
+    ghost use Rattle.holder_share.specs.Locked.{IsEntryOf, IsKeptOut, IsLeaveOf, IsNewest, IsShownTo, IsStepOf};
     ghost use Rattle.holder_share.specs.Seats.{hand_of, job_of};
     ghost use Rattle.holder_share.specs.Words.{mirror_of, row_of};
     ghost use Rattle.mirror_share.specs.Stepped.{IsWhole};
@@ -75,7 +74,8 @@ impl<N: HolderName, D: Disk> HolderShare<N, D> {
         token: &Token,
     ) -> Result<HolderSeat<N>, SyncFault>
         ensures none { IfOk result (λ s. hand_of s ≡ None) }
-        ensures refused { IfErr result (IsRunningFault token.now) }
+        ensures entered { IfOk result (λ s. IsEntryOf self.now token.now (place_of (job_of s))) }
+        ensures refused { IfErr result (IsKeptOut self.now token.now) }
     {
         self.book.lock(rt).enter_job(alloc, token)
     }
@@ -87,7 +87,7 @@ impl<N: HolderName, D: Disk> HolderShare<N, D> {
         self.book.lock(rt).leave(seat);
     }
 
-    /// One call of a job. While the seat holds the lock a look tells what is counted, which is what its own calls left; a
+    /// One call of a job, as the book takes it. While the seat holds the lock a look tells what is counted, which is what its own calls left; a
     /// lawful call of its job isn't refused for the lock (59) or the turn (61), and unless it gave the lock back it holds
     /// on and knows what is counted then. A seat that takes the lock or steals it holds it.
     pub fn step<R: Wait>(
@@ -97,6 +97,7 @@ impl<N: HolderName, D: Disk> HolderShare<N, D> {
         seat: &mut HolderSeat<N>,
         call: &MirrorCall<'_>,
     ) -> Result<Reply, SyncFault>
+        ensures stepped { IsStepOf self.now (place_of (job_of seat.old)) (call_of call.now) result }
         ensures fits { IfOk result (IsFit (call_of call.now)) }
         ensures refused { IfErr result (IsRefusalOf (call_of call.now)) }
         ensures seat { job_of seat.new ≡ job_of seat.old }
@@ -114,6 +115,7 @@ impl<N: HolderName, D: Disk> HolderShare<N, D> {
         seat: &mut HolderSeat<N>,
         call: &MirrorCall<'_>,
     ) -> Result<Reply, SyncFault>
+        ensures stepped { IsStepOf self.now (place_of (job_of seat.old)) (call_of call.now) result }
         ensures fits { IfOk result (IsFit (call_of call.now)) }
         ensures refused { IfErr result (IsRefusalOf (call_of call.now)) }
         ensures alone { IsSome (hand_of holder.old) → TakesLock (call_of call.now) → IsErr result }

@@ -1,11 +1,14 @@
 -- What a call through the lock was, where it answers by what the book answered.
-use Rattle.std.proofs.Common.{◌≡◌, ◌≤◌, inl, inr, ℕ, List, Some, None, Result, Ok, Err, sym, subst}
+use Rattle.std.proofs.Common.{◌≡◌, ◌<◌, ◌≤◌, ◌⊎◌, inl, inr, ℕ, List, Some, None, Result, Ok, Err, sym, subst}
 use Rattle.std.specs.Prelude.{IfErr, IfOk}
 use Rattle.fleet_disk.specs.declared.disk.Disk.{Ghosts}
+use Rattle.gate_log.specs.declared.fault.LogFault.TheVariants as log
 use Rattle.node_base.specs.Props.{PropMap}
 use Rattle.repo_core.specs.Repository.{props_at}
+use Rattle.repo_core.specs.declared.fault.RepoFault.TheVariants as core
 use Rattle.repo_store.specs.Words.{repository_of, revisions_of, IsKept}
 use Rattle.repo_store.specs.declared.fault.StoreFault.{StoreFault}
+use Rattle.repo_store.specs.declared.fault.StoreFault.TheVariants as fault
 use Rattle.store_share.specs.Row.{rev_at}
 use Rattle.store_share.specs.Book.{head_of}
 use Rattle.store_share.specs.Seats.{known_by, seen_by}
@@ -15,7 +18,7 @@ use Rattle.mirror_share.specs.declared.book.MirrorBook.{MirrorBook}
 use Rattle.mirror_share.specs.declared.seat.JobSeat.{JobSeat}
 use Rattle.mirror_share.specs.declared.share.MirrorShare.{MirrorShare}
 use Rattle.mirror_share.specs.Book.{master_of, store_in, jobs_of}
-use Rattle.mirror_share.specs.Locked.{HasProps, IsEntryOf, IsKeptOut, IsShownTo}
+use Rattle.mirror_share.specs.Locked.{HasProps, IsAbove, IsEntryOf, IsKeptOut, IsShownTo}
 use Rattle.mirror_share.specs.Places.{job_at, IsEntryFault}
 use Rattle.mirror_share.specs.Seats.{place_of}
 
@@ -40,6 +43,13 @@ module _ {L D : Type 0} {r : _} {g : Ghosts D} where
       → IfOk result (λ (p : PropMap). HasProps share number p)
   has_props share book number (Ok p) it = record { book = book; within = it.0; props = it.1 }
   has_props share book number (Err f) it = tt
+
+  pub above_head : {T : Type 0} (share : MirrorShare L D r g) (book : MirrorBook L D r g) (number : ℕ) (result : Result T StoreFault)
+      → IfErr result (λ (e : StoreFault). ((e ≡ fault.Repo core.NoSuchRevision) × (head_of (master_of book) < number)) ⊎ (e ≡ fault.Log log.OutOfMemory))
+      → IfErr result (λ (e : StoreFault). e ≡ fault.Repo core.NoSuchRevision → IsAbove share number)
+  above_head share book number (Ok x) why = tt
+  above_head share book number (Err e) (inl there) = λ told. record { book = book; above = there.1 }
+  above_head share book number (Err e) (inr memory) = λ told. absurd (cc)
 
   pub shown_to : (share : MirrorShare L D r g) (book : MirrorBook L D r g) (reader : ReaderSeat L r) → IsKept (store_in book) → seen_by reader ≡ head_of (master_of book)
       → ((i : ℕ) → i ≤ head_of (master_of book) → known_by reader i ≡ rev_at (repository_of (store_in book)) i) → IsShownTo share reader (seen_by reader)

@@ -1,13 +1,13 @@
 -- What a call of a share was, of the book as the lock had it. What the book was before and after isn't known to who calls: there
 -- were two books, each with all that a book keeps.
-use Rattle.std.specs.Prelude.{◌≡◌, ◌≤◌, ◌⊎◌, ℕ, List, Some, None, Result}
+use Rattle.std.specs.Prelude.{◌≡◌, ◌<◌, ◌≤◌, ◌⊎◌, ℕ, List, Some, None, Result}
 use Rattle.fleet_disk.specs.declared.disk.Disk.{Ghosts}
 use Rattle.node_base.specs.Props.{PropMap}
 use Rattle.repo_core.specs.Repository.{props_at}
 use Rattle.repo_store.specs.Words.{repository_of, revisions_of, IsKept}
-use Rattle.store_share.specs.Row.{rev_at}
+use Rattle.store_share.specs.Row.{cells_in, rev_at}
 use Rattle.store_share.specs.declared.seat.ReaderSeat.{ReaderSeat}
-use Rattle.store_share.specs.Book.{head_of}
+use Rattle.store_share.specs.Book.{head_of, notes_of}
 use Rattle.store_share.specs.Seats.{known_by}
 use Rattle.sync_core.specs.Mirror.{Call}
 use Rattle.sync_core.specs.World.{holder_left}
@@ -25,10 +25,11 @@ use Rattle.mirror_share.specs.Stepped.{Stepped}
 abbrev pub row_of : {L D : Type 0} {r : _} {g : _} → MirrorShare L D r g → List ℕ
 row_of share = share.row
 
--- a step of the share's book
+-- a step of the share's book, whose row is the share's
 pub record IsStepOf {L D : Type 0} {r : _} {g : Ghosts D} (share : MirrorShare L D r g) (seat : ℕ) (call : Call) (result : Result Given SyncFault) : Type 0 where
   pub old : MirrorBook L D r g
   pub new : MirrorBook L D r g
+  pub row : cells_in (notes_of (master_of old)) ≡ row_of share
   pub stepped : Stepped old new seat call result
 
 -- a job came in: none of its token ran, and it has a place that nobody had
@@ -79,3 +80,8 @@ pub record HasProps {L D : Type 0} {r : _} {g : Ghosts D} (share : MirrorShare L
   pub book : MirrorBook L D r g
   pub within : number ≤ head_of (master_of book)
   pub props : map ≡ props_at (revisions_of (store_in book)) number
+
+-- a number above a book's head
+pub record IsAbove {L D : Type 0} {r : _} {g : Ghosts D} (share : MirrorShare L D r g) (number : ℕ) : Type 0 where
+  pub book : MirrorBook L D r g
+  pub above : head_of (master_of book) < number

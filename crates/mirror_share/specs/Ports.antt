@@ -1,8 +1,12 @@
 -- A shared mirror as a port.
-use Rattle.std.specs.Prelude.{◌≡◌, List}
+use Rattle.std.specs.Prelude.{◌≡◌, List, Result, IfOk, OnOk}
 use Rattle.std.specs.List.{AllByRecursion}
 use Rattle.node_base.specs.Tree.{PathMap}
+use Rattle.store_share.specs.Seats.{known_by, seen_by}
 use Rattle.store_share.specs.declared.seat.ReaderSeat.{ReaderSeat}
+use Rattle.sync_core.specs.Mirror.{Call}
+use Rattle.sync_core.specs.declared.fault.SyncFault.{SyncFault}
+use Rattle.sync_core.specs.declared.reply.Reply.{Reply as Given}
 use Rattle.sync_job.specs.Asked.{Asked}
 use Rattle.sync_job.specs.Mirrors.{MirrorNow}
 use Rattle.mirror_share.specs.declared.port.SeatMirror.{SeatMirror}
@@ -10,6 +14,7 @@ use Rattle.mirror_share.specs.declared.seat.JobSeat.{JobSeat}
 use Rattle.mirror_share.specs.declared.share.MirrorShare.{MirrorShare}
 use Rattle.mirror_share.specs.Locked.{IsStepOf}
 use Rattle.mirror_share.specs.Seats.{place_of}
+use Rattle.mirror_share.specs.Seen.{HasSeenCommit, HasSeenHead}
 
 -- of no mirror it is known that it stands there: others may call it between the calls of the job
 abbrev pub NowhereStands : MirrorNow → Type 0
@@ -31,8 +36,15 @@ reader_of port = port.reader
 abbrev pub share_of : {R L D : Type 0} {r : _} {g : _} → SeatMirror R L D r g → MirrorShare L D r g
 share_of port = port.share.now
 
--- since the port was as the first, at the same share and seat, these calls were made, each a step of the share's book
+-- of a call that was done a reader has seen the revision that it committed, with its set, or the head that it told
+pub record IsSeenBy {L : Type 0} {r : _} (reader : ReaderSeat L r) (call : Call) (result : Result Given SyncFault) : Type 0 where
+  pub commit : OnOk result (HasSeenCommit call (known_by reader) (seen_by reader))
+  pub head : IfOk result (λ x. HasSeenHead x (seen_by reader))
+
+-- since the port was as the first, at the same share and seat, these calls were made, each a step of the share's book, and what was done
+-- in them its reader has seen
 pub record WasAsked {R L D : Type 0} {r : _} {g : _} (now first : SeatMirror R L D r g) (calls : List Asked) : Type 0 where
   pub share : share_of now ≡ share_of first
   pub seat : place_of (seat_of now) ≡ place_of (seat_of first)
   pub steps : AllByRecursion (λ a. IsStepOf (share_of first) (place_of (seat_of first)) a.call a.result) calls
+  pub seen : AllByRecursion (λ a. IsSeenBy (reader_of now) a.call a.result) calls

@@ -1,11 +1,13 @@
 //! What lies under the lock of a shared mirror.
-ghost use Rattle.std.specs.Prelude.{◌≡◌, ◌<◌, ◌≤◌, ◌⊎◌, ℕ, [], map, true, false, Some, None, IfOk, IfErr, OnOk, OnErr};
+ghost use Rattle.std.specs.Prelude.{◌≡◌, ◌<◌, ◌≤◌, ◌⊎◌, ℕ, [], map, true, false, Some, None, Err};
+ghost use Rattle.std.specs.Prelude.{IfOk, IfErr, OnOk, OnErr};
 ghost use Rattle.gate_log.specs.declared.fault.LogFault.TheVariants as log;
 ghost use Rattle.repo_core.specs.Repository.{props_at};
 ghost use Rattle.repo_core.specs.declared.fault.RepoFault.TheVariants as core;
 ghost use Rattle.repo_store.specs.Words.{repository_of, revisions_of, IsKept};
 ghost use Rattle.repo_store.specs.declared.fault.StoreFault.TheVariants as fault;
 ghost use Rattle.store_share.specs.Row.{cells_in, rev_at};
+ghost use Rattle.store_share.specs.declared.rev.Rev.{Rev as RevOf};
 ghost use Rattle.store_share.specs.Book.{head_of, store_of};
 ghost use Rattle.store_share.specs.Seats.{known_by, seen_by};
 ghost use Rattle.sync_core.specs.Calls.{call_of};
@@ -168,6 +170,20 @@ impl<L: RowName, D: Disk> MirrorBook<L, D> {
         }
     }
 
+    /// Refuses a call without a look at it: for want of memory (70), or with 32 where a cell has refused its box.
+    pub fn turn_away(&self, seat: &JobSeat<L>, call: &MirrorCall<'_>) -> SyncFault
+        ensures stepped { Stepped self.now self.now (place_of seat.now) (call_of call.now) (Err result) }
+        ensures refused { IsRefusalOf (call_of call.now) result }
+    {
+        let _ = seat;
+        let _ = call;
+        let _ = self.book.repo();
+        if self.book.is_stuck() {
+            return SyncFault::Other(Refusal::Failed);
+        }
+        SyncFault::OutOfMemory
+    }
+
     /// One call of a job, as [`MirrorBook::step`]; where it is taken the reader has seen all that the book shows then: a
     /// revision that was committed, with its set, and the head that a look tells.
     pub fn step_by(
@@ -206,6 +222,7 @@ impl<L: RowName, D: Disk> MirrorBook<L, D> {
         ensures known { (r : ℕ) → r ≤ head_of (master_of self.old)
             → known_by reader.new r ≡ rev_at (repository_of (store_in self.old)) r }
         ensures kept { (r : ℕ) → r ≤ seen_by reader.old → known_by reader.new r ≡ known_by reader.old r }
+        ensures found { (r : ℕ) (x : RevOf) → known_by reader.old r ≡ Some x → known_by reader.new r ≡ Some x }
         ensures same { (now_of self.new ≡ now_of self.old) × (is_stuck_in self.new ≡ is_stuck_in self.old)
             × (calls_of self.new ≡ calls_of self.old) }
         ensures safe { IsKept (store_in self.old) }

@@ -1,5 +1,6 @@
 //! A shared mirror as the port of a job.
-ghost use Rattle.std.specs.Prelude.{◌≡◌, ◌≤◌, ◌↔◌, ◌++◌, ◌∷◌, [], ℕ, List, length, None, Some, IfOk, IfErr, OnOk};
+ghost use Rattle.std.specs.Prelude.{◌≡◌, ◌≤◌, ◌↔◌, ◌++◌, ◌∷◌, [], ℕ, List, length, None, Some, IfOk, IfErr};
+ghost use Rattle.std.specs.Prelude.{IfSome, OnOk};
 ghost use Rattle.std.specs.Option.{option_map};
 ghost use Rattle.node_base.specs.Tree.{PathMap};
 ghost use Rattle.node_base.specs.declared.refusal.Refusal.TheVariants as refusal;
@@ -20,7 +21,7 @@ use node_base::{Refusal, RevNo};
 use path_tree::Tree;
 use std::alloc::{AllocError, Global};
 use std::sync::Wait;
-use store_share::{ReaderSeat, RowName};
+use store_share::{ReaderSeat, Rev, RowName};
 use sync_core::{MirrorCall, Reply, SyncFault};
 use sync_job::MirrorPort;
 
@@ -146,12 +147,29 @@ impl<R: Wait, L: RowName, D: Disk> MirrorPort for SeatMirror<'_, R, L, D> {
         ensures next { (trees : List PathMap) → TellsNothing trees → number ≡ length trees → IfOk result
             (λ t. TellsNothing (trees ++ t ∷ [])) }
     {
-        if self.reader.seen() < number {
-            let _newest = self.share.latest(self.rt, &mut self.reader);
-        }
-        match self.share.read_at(&mut self.reader, number) {
-            Some(rev) => Ok(rev.tree.share()?),
+        match found(self.rt, self.share, &mut self.reader, number) {
+            Some(rev) => match rev.tree.share() {
+                Ok(tree) => Ok(tree),
+                Err(_) => Err(SyncFault::OutOfMemory),
+            },
             None => Err(SyncFault::Other(Refusal::NoSuchRevision)),
         }
     }
+}
+
+// The revision of that number, where the reader has seen it, or has once it has asked for the newest.
+fn found<'a, R: Wait, L: RowName, D: Disk>(
+    rt: &R,
+    share: &'a MirrorShare<L, D>,
+    reader: &mut ReaderSeat<L>,
+    number: RevNo,
+) -> Option<&'a Rev>
+    ensures known { IfSome result (λ r. known_by reader.new number ≡ Some r.now) }
+    ensures later { seen_by reader.old ≤ seen_by reader.new }
+    ensures kept { (r : ℕ) → r ≤ seen_by reader.old → known_by reader.new r ≡ known_by reader.old r }
+{
+    if reader.seen() < number {
+        let _newest = share.latest(rt, reader);
+    }
+    share.read_at(reader, number)
 }

@@ -31,7 +31,8 @@ pub struct MirrorShare<L: RowName, D: Disk> {
 }
 
 impl<L: RowName, D: Disk> MirrorShare<L, D> {
-    ghost use Rattle.mirror_share.specs.Locked.{row_of, HasProps, IsEntryOf, IsKeptOut, IsLeaveOf, IsNewest, IsShownTo, IsStepOf};
+    ghost use Rattle.mirror_share.specs.Locked.{row_of, HasProps, IsAbove, IsEntryOf, IsKeptOut, IsLeaveOf, IsNewest};
+    ghost use Rattle.mirror_share.specs.Locked.{IsShownTo, IsStepOf};
     ghost use Rattle.mirror_share.specs.Stepped.{IsWhole};
 
     /// The share of an opened store under the row's name. Nobody runs there, and no seat holds the sync lock, whatever
@@ -128,17 +129,20 @@ impl<L: RowName, D: Disk> MirrorShare<L, D> {
         ensures most { seen_by reader.old ≤ result }
         ensures seen { seen_by reader.new ≡ result }
         ensures kept { (r : ℕ) → r ≤ seen_by reader.old → known_by reader.new r ≡ known_by reader.old r }
+        ensures found { (r : ℕ) (x : RevOf) → known_by reader.old r ≡ Some x → known_by reader.new r ≡ Some x }
         ensures newest { IsNewest self.now (seen_by reader.old) reader.new result }
     {
         self.book.lock(rt).latest(reader)
     }
 
     /// The revision of that number, where the reader has seen it or its cell shows it. It waits for nobody, and takes
-    /// no memory. What the reader has seen it reads for good.
+    /// no memory. What the reader has seen it reads for good, and so what it was given once.
     pub fn read_at<'a>(&'a self, reader: &mut ReaderSeat<L>, number: RevNo) -> Option<&'a Rev>
         ensures there { number ≤ seen_by reader.old → IfNone result ⊥ }
         ensures value { (x : RevOf) → number ≤ seen_by reader.old → known_by reader.old number ≡ Some x
             → IfSome result (λ r. r.now ≡ x) }
+        ensures again { (x : RevOf) → known_by reader.old number ≡ Some x → x.number ≡ number
+            → IfSome result (λ r. r.now ≡ x) × (IfNone result ⊥) }
         ensures number { IfSome result (λ r. (r.now.number ≡ number) × (known_by reader.new number ≡ Some r.now)) }
         ensures seen { seen_by reader.new ≡ seen_by reader.old }
         ensures kept { (r : ℕ) (x : RevOf) → known_by reader.old r ≡ Some x → known_by reader.new r ≡ Some x }
@@ -150,6 +154,7 @@ impl<L: RowName, D: Disk> MirrorShare<L, D> {
     pub fn rev_props<R: Wait>(&self, rt: &R, number: RevNo) -> Result<Props, StoreFault>
         ensures props { IfOk result (HasProps self.now number) }
         ensures refused { IfErr result (λ e. (e ≡ fault.Repo core.NoSuchRevision) ⊎ (e ≡ fault.Log log.OutOfMemory)) }
+        ensures above { IfErr result (λ e. e ≡ fault.Repo core.NoSuchRevision → IsAbove self.now number) }
     {
         self.book.lock(rt).rev_props(number)
     }

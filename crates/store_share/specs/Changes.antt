@@ -70,6 +70,11 @@ abbrev pub Commits : {L D : Type 0} {r : _} {g : _} → Entry → Option RepoFau
 Commits entry due old new (Ok n) = IsAccepted entry due old new × (n ≡ head_of new)
 Commits entry due old new (Err e) = IsLeft entry due old new e ⊎ IsBrokenOff entry due old new e ⊎ IsHidden entry due old new e
 
+-- a commit from that book
+pub record IsCommitFrom {L D : Type 0} {r : _} {g : Ghosts D} (old : MasterBook L D r g) (entry : Entry) (due : Option RepoFault) (result : Result ℕ StoreFault) : Type 0 where
+  pub new : MasterBook L D r g
+  pub commits : Commits entry due old new result
+
 -- a change of properties, which shows nothing
 abbrev pub Edits : {L D : Type 0} {r : _} {g : _} {T : Type 0} → Entry → Option RepoFault → MasterBook L D r g → MasterBook L D r g → Result T StoreFault → Type 0
 Edits entry due old new (Ok done) = IsAccepted entry due old new

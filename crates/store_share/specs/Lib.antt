@@ -9,3 +9,4 @@ pub mod Opened
 pub mod Row
 pub mod Seats
 pub mod Shown
+pub mod Whole

@@ -1,29 +1,34 @@
 -- What a call of a share was, of the book as the lock had it. What the book was before and after isn't known to who calls: there
 -- were two books, each with all that a book keeps.
-use Rattle.std.specs.Prelude.{◌≡◌, ◌≤◌, ◌⊎◌, ℕ, List, Option, Result}
+use Rattle.std.specs.Prelude.{◌≡◌, ◌<◌, ◌≤◌, ◌⊎◌, ℕ, List, Option, Result}
 use Rattle.fleet_disk.specs.declared.disk.Disk.{Ghosts}
 use Rattle.node_base.specs.Props.{PropMap}
 use Rattle.repo_core.specs.Repository.{Revision, props_at}
 use Rattle.repo_core.specs.declared.entry.Entry.{Entry}
 use Rattle.repo_core.specs.declared.fault.RepoFault.{RepoFault}
-use Rattle.repo_store.specs.Words.{identity_of, repository_of, revisions_of}
+use Rattle.repo_store.specs.Words.{identity_of, repository_of, revisions_of, IsKept}
 use Rattle.repo_store.specs.declared.fault.StoreFault.{StoreFault}
 use Rattle.store_share.specs.Row.{rev_at}
 use Rattle.store_share.specs.Book.{head_of, store_of}
-use Rattle.store_share.specs.Changes.{Edits}
+use Rattle.store_share.specs.Changes.{Commits, Edits}
 use Rattle.store_share.specs.Seats.{known_by}
 use Rattle.store_share.specs.declared.book.MasterBook.{MasterBook}
 use Rattle.store_share.specs.declared.seat.ReaderSeat.{ReaderSeat}
 use Rattle.store_share.specs.declared.share.MasterShare.{MasterShare}
+
+-- the cells of a share's row
+abbrev pub row_of : {L D : Type 0} {r : _} {g : _} → MasterShare L D r g → List ℕ
+row_of share = share.row
 
 -- the identity of a book's repository
 pub record HasIdentity {L D : Type 0} {r : _} {g : Ghosts D} (share : MasterShare L D r g) (identity : List ℕ) : Type 0 where
   pub book : MasterBook L D r g
   pub is : identity ≡ identity_of (store_of book)
 
--- of a book the reader knows what its repository has up to its head
+-- of a book that a stop keeps the reader knows what its repository has up to its head
 pub record IsShownTo {L D : Type 0} {r : _} {g : Ghosts D} (share : MasterShare L D r g) (reader : ReaderSeat L r) (last : ℕ) : Type 0 where
   pub book : MasterBook L D r g
+  pub kept : IsKept (store_of book)
   pub head : head_of book ≡ last
   pub known : (i : ℕ) → i ≤ last → known_by reader i ≡ rev_at (repository_of (store_of book)) i
 
@@ -39,6 +44,17 @@ pub record HasProps {L D : Type 0} {r : _} {g : Ghosts D} (share : MasterShare L
   pub book : MasterBook L D r g
   pub within : number ≤ head_of book
   pub props : map ≡ props_at (revisions_of (store_of book)) number
+
+-- a number above a book's head
+pub record IsAbove {L D : Type 0} {r : _} {g : Ghosts D} (share : MasterShare L D r g) (number : ℕ) : Type 0 where
+  pub book : MasterBook L D r g
+  pub above : head_of book < number
+
+-- a commit by a book: of this entry over its revisions, for which this refusal is due
+pub record IsCommitOf {L D : Type 0} {r : _} {g : Ghosts D} (share : MasterShare L D r g) (entry : List Revision → Entry) (due : List Revision → Option RepoFault) (result : Result ℕ StoreFault) : Type 0 where
+  pub old : MasterBook L D r g
+  pub new : MasterBook L D r g
+  pub commits : Commits (entry (revisions_of (store_of old))) (due (revisions_of (store_of old))) old new result
 
 -- a change of properties by a book: by this entry over its revisions, for which this refusal is due
 pub record IsEditOf {L D : Type 0} {r : _} {g : Ghosts D} {T : Type 0} (share : MasterShare L D r g) (entry : List Revision → Entry) (due : List Revision → Option RepoFault) (result : Result T StoreFault) : Type 0 where

@@ -30,6 +30,7 @@ pub struct OpenedStore<D: Disk> {
 impl<D: Disk> OpenedStore<D> {
     ghost use Rattle.store_share.specs.Opened.{cells_of, store_in};
     ghost use Rattle.store_share.specs.Book.{is_stuck, store_of};
+    ghost use Rattle.store_share.specs.Locked.{row_of};
 
     /// The row of a store. Only want of memory (70) refuses it, or a cell (32), which doesn't come; the store is handed
     /// back then.
@@ -66,6 +67,7 @@ impl<D: Disk> OpenedStore<D> {
     /// The share of the store under the row's name.
     pub fn named<L: RowName>(self) -> MasterShare<L, D>
         requires { cells_of self ≡ L.cells }
+        ensures { row_of result ≡ cells_of self }
     {
         let (book, row) = self.into_book::<L>();
         MasterShare::new(book, row)

@@ -1,10 +1,11 @@
 //! A store behind its lock, with its row beside it.
-ghost use Rattle.std.specs.Prelude.{◌≡◌, ◌≤◌, ◌<◌, ◌⊎◌, ℕ, Some, None, IfOk, IfErr, IfSome, IfNone, OnOk};
+ghost use Rattle.std.specs.Prelude.{◌≡◌, ◌≤◌, ◌<◌, ◌⊎◌, ℕ, length, Some, None, IfOk, IfErr, IfSome, IfNone, OnOk};
 ghost use Rattle.std.specs.Option.{option_copied, option_map};
 ghost use Rattle.gate_log.specs.declared.fault.LogFault.TheVariants as log;
-ghost use Rattle.repo_core.specs.Refusals.{by_repository, change_fault, with_value};
+ghost use Rattle.repo_core.specs.Dates.{dated};
+ghost use Rattle.repo_core.specs.Refusals.{by_repository, change_fault, commit_fault, with_value};
 ghost use Rattle.repo_core.specs.Repository.{props_at};
-ghost use Rattle.repo_core.specs.declared.entry.Entry.TheVariants.{Mapped};
+ghost use Rattle.repo_core.specs.declared.entry.Entry.TheVariants.{Revised, Mapped};
 ghost use Rattle.repo_core.specs.declared.fault.RepoFault.TheVariants as core;
 ghost use Rattle.repo_store.specs.declared.fault.StoreFault.TheVariants as fault;
 ghost use Rattle.store_share.specs.declared.rev.Rev.{Rev as RevOf};
@@ -33,11 +34,14 @@ pub struct MasterShare<L: RowName, D: Disk> {
 }
 
 impl<L: RowName, D: Disk> MasterShare<L, D> {
-    ghost use Rattle.store_share.specs.Locked.{HasIdentity, HasProps, IsEditOf, IsNewest, IsShownTo};
+    ghost use Rattle.store_share.specs.Locked.{row_of, HasIdentity, HasProps, IsAbove, IsCommitOf, IsEditOf, IsNewest};
+    ghost use Rattle.store_share.specs.Locked.{IsShownTo};
+    ghost use Rattle.store_share.specs.Whole.{IsWhole};
 
     /// A book behind a lock, and its row.
     pub fn new(book: MasterBook<L, D>, row: RevRow) -> MasterShare<L, D>
         requires { row ≡ L.cells }
+        ensures { row_of result ≡ row }
     {
         MasterShare {
             book: Mutex::new(book),
@@ -45,10 +49,14 @@ impl<L: RowName, D: Disk> MasterShare<L, D> {
         }
     }
 
-    /// The book.
-    pub fn close(self) -> MasterBook<L, D> {
+    /// The book, with all that a book keeps.
+    pub fn close(self) -> MasterBook<L, D>
+        ensures { IsWhole result }
+    {
         let MasterShare { book, row: _ } = self;
-        book.into_inner()
+        let book = book.into_inner();
+        book.is_whole();
+        book
     }
 
     /// The repository's identity. What a call finds is of the book as the lock has it, which its caller doesn't know.
@@ -71,17 +79,20 @@ impl<L: RowName, D: Disk> MasterShare<L, D> {
         ensures most { seen_by reader.old ≤ result }
         ensures seen { seen_by reader.new ≡ result }
         ensures kept { (r : ℕ) → r ≤ seen_by reader.old → known_by reader.new r ≡ known_by reader.old r }
+        ensures found { (r : ℕ) (x : RevOf) → known_by reader.old r ≡ Some x → known_by reader.new r ≡ Some x }
         ensures newest { IsNewest self.now (seen_by reader.old) reader.new result }
     {
         self.book.lock(rt).latest(reader)
     }
 
     /// The revision of that number, where the reader has seen it or its cell shows it. It waits for nobody, and takes
-    /// no memory. What the reader has seen it reads for good.
+    /// no memory. What the reader has seen it reads for good, and so what it was given once.
     pub fn read_at<'a>(&'a self, reader: &mut ReaderSeat<L>, number: RevNo) -> Option<&'a Rev>
         ensures there { number ≤ seen_by reader.old → IfNone result ⊥ }
         ensures value { (x : RevOf) → number ≤ seen_by reader.old → known_by reader.old number ≡ Some x
             → IfSome result (λ r. r.now ≡ x) }
+        ensures again { (x : RevOf) → known_by reader.old number ≡ Some x → x.number ≡ number
+            → IfSome result (λ r. r.now ≡ x) × (IfNone result ⊥) }
         ensures number { IfSome result (λ r. (r.now.number ≡ number) × (known_by reader.new number ≡ Some r.now)) }
         ensures seen { seen_by reader.new ≡ seen_by reader.old }
         ensures kept { (r : ℕ) (x : RevOf) → known_by reader.old r ≡ Some x → known_by reader.new r ≡ Some x }
@@ -102,6 +113,8 @@ impl<L: RowName, D: Disk> MasterShare<L, D> {
         props: Props,
         moment: Option<Moment>,
     ) -> Result<RevNo, StoreFault>
+        ensures commits { IsCommitOf self.now (λ x. Revised (length x) set (dated props moment))
+            (λ x. commit_fault x base (Revised (length x) set (dated props moment))) result }
         ensures seen { IfOk result (λ n. n ≤ seen_by reader.new) }
         ensures later { seen_by reader.old ≤ seen_by reader.new }
         ensures set { IfOk result (λ n. option_map (λ x. x.set) (known_by reader.new n) ≡ Some set) }
@@ -150,12 +163,13 @@ impl<L: RowName, D: Disk> MasterShare<L, D> {
     pub fn fetch_props<R: Wait>(&self, rt: &R, number: RevNo) -> Result<Props, StoreFault>
         ensures props { IfOk result (HasProps self.now number) }
         ensures refused { IfErr result (λ e. (e ≡ fault.Repo core.NoSuchRevision) ⊎ (e ≡ fault.Log log.OutOfMemory)) }
+        ensures above { IfErr result (λ e. e ≡ fault.Repo core.NoSuchRevision → IsAbove self.now number) }
     {
         self.book.lock(rt).fetch_props(number)
     }
 
     /// The changes of a revision, and the properties that it has now; the reader has seen the revision then.
-    /// NoSuchRevision (21) above the head, never of what the reader has seen; OutOfMemory (70).
+    /// NoSuchRevision (21) above the head, OutOfMemory (70).
     pub fn fetch<R: Wait>(
         &self,
         rt: &R,
@@ -169,6 +183,7 @@ impl<L: RowName, D: Disk> MasterShare<L, D> {
         ensures kept { (r : ℕ) → r ≤ seen_by reader.old → known_by reader.new r ≡ known_by reader.old r }
         ensures seen { seen_by reader.old ≤ seen_by reader.new }
         ensures refused { IfErr result (λ e. (e ≡ fault.Repo core.NoSuchRevision) ⊎ (e ≡ fault.Log log.OutOfMemory)) }
+        ensures above { IfErr result (λ e. e ≡ fault.Repo core.NoSuchRevision → IsAbove self.now number) }
     {
         self.book.lock(rt).fetch(alloc, reader, number)
     }
