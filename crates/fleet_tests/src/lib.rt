@@ -19,6 +19,8 @@ mod crowd_tests;
 #[cfg(test)]
 mod dumps;
 #[cfg(test)]
+mod fetch_tests;
+#[cfg(test)]
 mod fleet_crowd;
 #[cfg(test)]
 mod fleet_crowd_tests;

@@ -11,6 +11,8 @@ mod book_tests;
 #[cfg(test)]
 mod calls;
 #[cfg(test)]
+mod cell_tests;
+#[cfg(test)]
 mod entry_tests;
 #[cfg(test)]
 mod growth_tests;

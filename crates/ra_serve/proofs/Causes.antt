@@ -1,12 +1,12 @@
 -- Refusals of a port, one call after another.
-use Rattle.std.proofs.Common.{◌≡◌, ℕ, ◌<◌, ◌≤◌, ◌⊎◌, inl, inr, Bool, true, false, true≢false, Option, Some, None, refl, sym, ap, subst, ◌∙◌, arith}
+use Rattle.std.proofs.Common.{◌≡◌, ℕ, ◌≤◌, inl, inr, Bool, true, false, true≢false, Option, Some, None, refl, sym, ap, subst, ◌∙◌, arith}
 use Rattle.fleet_disk.specs.Rules.{Rose}
 use Rattle.node_base.specs.declared.refusal.Refusal.{Refusal}
 use Rattle.node_base.specs.declared.refusal.Refusal.TheVariants as refusal
 use Rattle.repo_core.specs.Repository.{Repository}
 use Rattle.ra_serve.specs.declared.fault.PortFault.{PortFault}
 use Rattle.ra_serve.specs.declared.fault.PortFault.TheVariants as fault
-use Rattle.ra_serve.specs.Ports.{refusal_of, MayRefuse, Goes, Stays}
+use Rattle.ra_serve.specs.Ports.{MayRefuse, Goes, Stays}
 
 abbrev has : {T : Type 0} → Option T → Bool
 has None = false

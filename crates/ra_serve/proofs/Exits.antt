@@ -1,5 +1,5 @@
 -- Exits of what answers a command.
-use Rattle.std.proofs.Common.{◌≡◌, ℕ, ◌<◌, ◌⊎◌, inl, inr, Bool, true, false, List, [], ◌∷◌, ◌++◌, Option, Some, None, Result, Ok, Err, refl, sym, ap, subst, ◌∙◌, arith, ⊎_elim}
+use Rattle.std.proofs.Common.{◌≡◌, ℕ, ◌<◌, inl, inr, Bool, false, List, [], ◌∷◌, ◌++◌, Option, Some, None, Result, Ok, Err, refl, sym, ap, subst, ◌∙◌, arith, ⊎_elim}
 use Rattle.std.proofs.KnownBytes.{Appends-trans, Appends-kept}
 use Rattle.std.specs.Prelude.{IfOk}
 use Rattle.std.specs.Io.KnownBytes.{Appends, Keeps}
@@ -16,7 +16,7 @@ use Rattle.ra_wire.specs.declared.fault.WireFault.{WireFault}
 use Rattle.ra_serve.specs.declared.fault.PortFault.{PortFault}
 use Rattle.ra_serve.specs.declared.fault.PortFault.TheVariants as fault
 use Rattle.ra_serve.specs.declared.fault.ServeFault.{ServeFault}
-use Rattle.ra_serve.specs.Answers.{Halt, IsHalt, front, due, content, made, refused, unless_due, after_due, told, answer, wanted_of}
+use Rattle.ra_serve.specs.Answers.{Halt, front, due, content, made, refused, unless_due, after_due, told, answer, wanted_of}
 use Rattle.ra_serve.specs.Ports.{refusal_of, IsOwn, MayRefuse, Stays, change_due}
 use Rattle.node_base.specs.Path.{Name}
 use Rattle.repo_core.specs.Refusals.{Wanted}

@@ -1,15 +1,14 @@
 -- The exits of a session.
-use Rattle.std.proofs.Common.{◌≡◌, ◌≢◌, ◌≤◌, ℕ, ◌⊎◌, inl, inr, Bool, true, false, true≢false, not, ◌&&◌, List, [], ◌∷◌, ◌++◌, map, Option, Some, None, Result, Ok, Err, refl, sym, ap, subst, ◌∙◌, append_assoc, append-nil, arith}
+use Rattle.std.proofs.Common.{◌≡◌, ◌≢◌, ◌≤◌, ℕ, Bool, true, false, true≢false, not, ◌&&◌, List, [], ◌∷◌, ◌++◌, map, Option, Some, None, Result, Ok, Err, refl, sym, ap, subst, ◌∙◌, append_assoc, append-nil}
 use Rattle.std.proofs.KnownBytes.{Appends-trans}
-use Rattle.std.specs.Prelude.{IfOk, IfErr, OnOk, is_some, is_none, if◌then◌else◌}
+use Rattle.std.specs.Prelude.{IfOk, IfErr, is_some, is_none, if◌then◌else◌}
 use Rattle.std.specs.Io.KnownBytes.{Appends}
 use Rattle.std.specs.Option.{option_map}
 use Rattle.uuid.specs.Text.{hyphenated_text, lower}
 use Rattle.node_base.specs.declared.refusal.Refusal.TheVariants as refusal
 use Rattle.ra_serve.specs.Answers.{refused}
-use Rattle.fleet_disk.specs.Rules.{Rose}
 use Rattle.ra_item.specs.Items.{Item, spell}
-use Rattle.ra_item.specs.ItemStreams.{Takes, Ends, Stops, reader_of, is_spent, ahead}
+use Rattle.ra_item.specs.ItemStreams.{Takes, Stops, reader_of, is_spent, ahead}
 use Rattle.ra_item.specs.declared.fault.ItemFault.{ItemFault}
 use Rattle.ra_item.specs.declared.fault.ItemFault.TheVariants as fault
 use Rattle.ra_item.specs.declared.fault.NextFault.{NextFault}
@@ -20,8 +19,8 @@ use Rattle.byte_streams.specs.Causes.{Counts, Fails}
 use Rattle.repo_core.specs.Repository.{Repository}
 use Rattle.ra_wire.specs.Openings.{Hello, Login, hello_in, login_in}
 use Rattle.ra_wire.specs.Replies.{greeting, mechanisms, welcome, done, only_anonymous}
-use Rattle.ra_serve.specs.Sessions.{Turn, answers, asked_who, behind_login, behind_hello, session, identity_text, is_anonymous, logs_in, goes_on, ends_opening, commands_of}
-use Rattle.ra_serve.specs.Serving.{ServesBy, EndsAt, EndsBy, HasFault, all, any, none, behind_one, goes_on_login, ends_at_login, spelled_login}
+use Rattle.ra_serve.specs.Sessions.{Turn, answers, behind_login, behind_hello, session, identity_text, is_anonymous, logs_in, goes_on, ends_opening, commands_of}
+use Rattle.ra_serve.specs.Serving.{ServesBy, EndsAt, EndsBy, HasFault, behind_one, goes_on_login, ends_at_login, spelled_login}
 use Rattle.ra_serve.specs.declared.fault.End as declared
 use Rattle.ra_serve.specs.declared.fault.End.TheVariants as end
 use Rattle.ra_serve.specs.declared.fault.ServeFault.{ServeFault}
@@ -42,7 +41,7 @@ pub by_before : {P R W : Type 0} {g : _} (spelled spelled_rest : Bool → Reposi
     → IfOk result (λ r. ServesBy spelled asked stands over repository refusals is_mirror remaining contents old new items items_now out r.0 r.1)
 by_before spelled spelled_rest asked asked_rest stands over stands_rest over_rest repository refusals is_mirror remaining contents old new items amid items_now out mid (Err f) item bytes s q h k a t p r = tt
 by_before spelled spelled_rest asked asked_rest stands over stands_rest over_rest repository refusals is_mirror remaining contents old new items amid items_now out mid (Ok w) item bytes s q h k a t p r = λ x e.
-    one_before (spelled (is_mirror old)) (spelled_rest (is_mirror old)) asked asked_rest stands over stands_rest over_rest (is_mirror old) x (Rose (refusals old) (refusals new)) (contents out) (contents mid) (contents w.0) (repository new) (remaining (reader_of items)) (remaining (reader_of amid)) (remaining (reader_of items_now)) (ahead items) (ahead amid) (ahead items_now) (is_spent items) (is_spent amid) w.1 item (bytes x)
+    one_before (spelled (is_mirror old)) (spelled_rest (is_mirror old)) asked asked_rest stands over stands_rest over_rest (is_mirror old) x (refusals old) (refusals new) (contents out) (contents mid) (contents w.0) (repository new) (remaining (reader_of items)) (remaining (reader_of amid)) (remaining (reader_of items_now)) (ahead items) (ahead amid) (ahead items_now) (is_spent items) (is_spent amid) w.1 item (bytes x)
     (s (is_mirror old) x) q h k (a x e) t (λ l. cc) (r x e)
 
 -- the opening ends, or the bytes do
@@ -52,7 +51,7 @@ pub by_end : {P R W : Type 0} {g : _} (spelled : Bool → Repository → List Tu
     → EndsAt stands over (map (λ t. t.item) ts) (remaining (reader_of items)) (remaining (reader_of items_now)) (ahead items) (ahead items_now) (is_spent items) e
     → ServesBy spelled asked stands over repository refusals is_mirror remaining contents old old items items_now out now e
 by_end spelled asked stands over repository refusals is_mirror remaining contents old items items_now out now e ts q a k = λ x h.
-    ends_at_once (spelled (is_mirror old)) asked stands over (is_mirror old) x (Rose (refusals old) (refusals old)) (contents out) (contents now) (repository old) (remaining (reader_of items)) (remaining (reader_of items_now)) (ahead items) (ahead items_now) (is_spent items) e ts q (a x h) h k
+    ends_at_once (spelled (is_mirror old)) asked stands over (is_mirror old) x (refusals old) (contents out) (contents now) (repository old) (remaining (reader_of items)) (remaining (reader_of items_now)) (ahead items) (ahead items_now) (is_spent items) e ts q (a x h) h k
 
 -- a fault of the bytes has no failure of the reader as its cause
 pub fault_alone : (xs : List Item) (a b : Option (List ℕ)) (s : List ℕ → Stream) (spent : Bool) (c : Counts) (f : ItemFault) → Stops xs a b s spent c (next.Items f) → HasFault xs a b s spent f

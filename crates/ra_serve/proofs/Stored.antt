@@ -1,5 +1,5 @@
 -- Refusals of a store as those of a port.
-use Rattle.std.proofs.Common.{◌≡◌, ◌⊎◌, inl, inr, ℕ, Bool, true, false, true≢false, Option, Some, Result, Ok, Err, sym, ap}
+use Rattle.std.proofs.Common.{◌≡◌, inl, inr, ℕ, Bool, true, false, true≢false, Option, Err, ap}
 use Rattle.std.specs.Option.{option_map}
 use Rattle.fleet_disk.specs.Rules.{Rose}
 use Rattle.fleet_disk.specs.declared.disk.Disk.{Ghosts}
@@ -7,7 +7,7 @@ use Rattle.gate_log.specs.declared.fault.LogFault.TheVariants as log
 use Rattle.repo_core.specs.declared.entry.Entry.{Entry}
 use Rattle.repo_core.specs.declared.fault.RepoFault.{RepoFault}
 use Rattle.repo_core.specs.declared.fault.RepoFault.TheVariants as core
-use Rattle.repo_store.specs.Changes.{Changes, IsBroken, IsRefused}
+use Rattle.repo_store.specs.Changes.{Changes}
 use Rattle.repo_store.specs.Refusals.{repo_refusal}
 use Rattle.repo_store.specs.Words.{repository_of}
 use Rattle.repo_store.specs.declared.fault.StoreFault.{StoreFault}

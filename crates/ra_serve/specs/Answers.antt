@@ -1,5 +1,5 @@
 -- What a session's commands are answered: for each what is refused, and what it is told else.
-use Rattle.std.specs.Prelude.{◌≡◌, ℕ, suc, ◌-◌, ◌<◌, ◌≤◌, nat_lt, ◌==◌, is_none, is_some, not, Bool, true, false, List, [], ◌∷◌, ◌++◌, map, take, length, Option, Some, None, unwrap_or, Result, Ok, Err, if◌then◌else◌}
+use Rattle.std.specs.Prelude.{◌≡◌, ℕ, suc, ◌-◌, ◌<◌, ◌≤◌, nat_lt, ◌==◌, is_none, is_some, not, Bool, true, false, List, [], ◌∷◌, ◌++◌, map, take, length, Option, Some, None, unwrap_or, Ok, Err, if◌then◌else◌}
 use Rattle.std.specs.Option.{option_map, option_map_or, option_or}
 use Rattle.std.specs.List.{flat_map, range_with_len}
 use Rattle.std.specs.FinMap as finite
@@ -225,6 +225,11 @@ MayHalt mirror x c (Some h) = IsHalt mirror x c h
 abbrev pub IsCalm : Option Halt → Type 0
 IsCalm None = Unit {0}
 IsCalm (Some h) = ⊥
+
+-- how many refusals that is
+abbrev pub halts_in : Option Halt → ℕ
+halts_in None = 0
+halts_in (Some h) = 1
 
 -- ---- items
 

@@ -1,7 +1,6 @@
 -- What a session says of its port, its reader and its writer.
-use Rattle.std.specs.Prelude.{◌≡◌, ◌≢◌, ◌⊎◌, ℕ, Bool, true, false, not, List, [], ◌∷◌, ◌++◌, map, Option, Some}
+use Rattle.std.specs.Prelude.{◌≡◌, ◌≢◌, ℕ, Bool, true, false, not, List, [], ◌∷◌, ◌++◌, map, Option, Some}
 use Rattle.std.specs.Io.KnownBytes.{Appends}
-use Rattle.fleet_disk.specs.Rules.{Rose}
 use Rattle.ra_item.specs.Items.{Item, spell}
 use Rattle.ra_item.specs.Streams.{Stream}
 use Rattle.ra_item.specs.ItemStreams.{Takes, Ends, Stops, reader_of, is_spent, ahead}
@@ -10,11 +9,11 @@ use Rattle.ra_item.specs.declared.fault.ItemFault.TheVariants as item
 use Rattle.ra_item.specs.declared.fault.NextFault.{NextFault}
 use Rattle.ra_item.specs.declared.fault.NextFault.TheVariants as next
 use Rattle.ra_item.specs.declared.stream.ItemStream.{ItemStream}
-use Rattle.byte_streams.specs.Causes.{Counts}
+use Rattle.byte_streams.specs.Causes.{Counts, RoseBy}
 use Rattle.repo_core.specs.Repository.{Repository}
 use Rattle.ra_wire.specs.Openings.{login_in}
 use Rattle.ra_wire.specs.Replies.{mechanisms}
-use Rattle.ra_serve.specs.Sessions.{Turn, AllMayHalt, AllCalm, answers, left, identity_text, asked_who, session, commands_of, logs_in, goes_on, ends_opening}
+use Rattle.ra_serve.specs.Sessions.{Turn, AllMayHalt, halts, answers, left, identity_text, asked_who, session, commands_of, logs_in, goes_on, ends_opening}
 use Rattle.ra_serve.specs.declared.fault.End as declared
 use Rattle.ra_serve.specs.declared.fault.End.TheVariants as end
 
@@ -38,11 +37,11 @@ EndsAt stands over xs before after was is spent end.Opening = (over xs ≡ true)
 EndsAt stands over xs before after was is spent (end.Items f) = (stands xs ≡ true) × HasFault xs before after was spent f × (f ≢ item.OutOfMemory)
 
 -- some turns were taken: their answers stand behind what the writer had, each refusal of the port's own is one that it may give,
--- and there is none unless its count rose
-pub record Serves (spelled : Repository → List Turn → List ℕ) (asked : List Turn → List Turn) (stands over : List Item → Bool) (mirror : Bool) (x : Repository) (rose : Type 0) (told now : Option (List ℕ)) (new : Option Repository) (before after : Option (List ℕ)) (was is : List ℕ → Stream) (spent : Bool) (e : declared.End) : Type 0 where
+-- and its count of these rose by as many
+pub record Serves (spelled : Repository → List Turn → List ℕ) (asked : List Turn → List Turn) (stands over : List Item → Bool) (mirror : Bool) (x : Repository) (refused refused_now : ℕ) (told now : Option (List ℕ)) (new : Option Repository) (before after : Option (List ℕ)) (was is : List ℕ → Stream) (spent : Bool) (e : declared.End) : Type 0 where
   pub turns : List Turn
   pub lawful : AllMayHalt mirror x (asked turns)
-  pub counted : AllCalm (asked turns) ⊎ rose
+  pub counted : RoseBy (halts (asked turns)) refused refused_now
   pub bytes : Appends told now (spelled x turns)
   pub repository : new ≡ Some (left mirror x (asked turns))
   pub ends : EndsAt stands over (map (λ t. t.item) turns) before after was is spent e
@@ -50,7 +49,7 @@ pub record Serves (spelled : Repository → List Turn → List ℕ) (asked : Lis
 -- the same of a port, a stream and a writer, before and after
 abbrev pub ServesBy : {P R W : Type 0} {g : _} → (Bool → Repository → List Turn → List ℕ) → (List Turn → List Turn) → (List Item → Bool) → (List Item → Bool) → (P → Option Repository) → (P → ℕ) → (P → Bool) → (R → Option (List ℕ)) → (W → Option (List ℕ)) → P → P → ItemStream R g → ItemStream R g → W → W → declared.End → Type 0
 ServesBy spelled asked stands over repository refusals is_mirror remaining contents old new items items_now out now e =
-    (x : Repository) → repository old ≡ Some x → Serves (spelled (is_mirror old)) asked stands over (is_mirror old) x (Rose (refusals old) (refusals new)) (contents out) (contents now) (repository new) (remaining (reader_of items)) (remaining (reader_of items_now)) (ahead items) (ahead items_now) (is_spent items) e
+    (x : Repository) → repository old ≡ Some x → Serves (spelled (is_mirror old)) asked stands over (is_mirror old) x (refusals old) (refusals new) (contents out) (contents now) (repository new) (remaining (reader_of items)) (remaining (reader_of items_now)) (ahead items) (ahead items_now) (is_spent items) e
 
 -- ---- a whole session
 

@@ -1,5 +1,5 @@
 -- What a session writes, by what was read of its client.
-use Rattle.std.specs.Prelude.{◌≡◌, ℕ, Bool, true, false, not, ◌&&◌, is_none, is_some, List, [], ◌∷◌, ◌++◌, map, Option, Some, None, codes, if◌then◌else◌}
+use Rattle.std.specs.Prelude.{◌+◌, ℕ, Bool, true, false, not, ◌&&◌, is_none, is_some, List, [], ◌∷◌, ◌++◌, Option, Some, None, codes, if◌then◌else◌}
 use Rattle.std.specs.Option.{option_map_or}
 use Rattle.std.specs.Str.{bytes_eq}
 use Rattle.uuid.specs.Text.{hyphenated_text, lower}
@@ -9,7 +9,7 @@ use Rattle.repo_core.specs.Repository.{Repository}
 use Rattle.ra_wire.specs.Reading.{command_in}
 use Rattle.ra_wire.specs.Openings.{Hello, Login, hello_in, login_in}
 use Rattle.ra_wire.specs.Replies.{greeting, mechanisms, only_anonymous, welcome, done}
-use Rattle.ra_serve.specs.Answers.{Halt, IsCalm, MayHaltAt, answer, behind, refused}
+use Rattle.ra_serve.specs.Answers.{Halt, MayHaltAt, halts_in, answer, behind, refused}
 
 -- an item that a client sent, and the port's own refusal of it, where it refused it by itself
 pub record Turn : Type 0 where
@@ -38,10 +38,10 @@ abbrev pub AllMayHalt : Bool → Repository → List Turn → Type 0
 AllMayHalt mirror x [] = Unit {0}
 AllMayHalt mirror x (t ∷ ts) = MayHaltAt mirror x (command_in t.item) t.halt × AllMayHalt mirror (turn_after mirror x t) ts
 
--- there is none
-abbrev pub AllCalm : List Turn → Type 0
-AllCalm [] = Unit {0}
-AllCalm (t ∷ ts) = IsCalm t.halt × AllCalm ts
+-- how many there are
+abbrev pub halts : List Turn → ℕ
+halts [] = 0
+halts (t ∷ ts) = halts_in t.halt + halts ts
 
 -- ---- the opening
 

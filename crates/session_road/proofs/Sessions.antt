@@ -92,9 +92,9 @@ pub session_is : WrittenIsRead → (x : Repository) (c : Command) → Within (co
 session_is law x c fit ts all out after was is fresh lawful bytes e = session_of x c ts out (items_are law (hello asked_url ∷ anonymous ∷ command_item c ∷ []) (map (λ t. t.item) ts) all after was (hello_fits, (anonymous_fits, (fit, tt))) is fresh e) lawful bytes
 
 -- the same of a session that ended where its client's words do
-pub session_heard : WrittenIsRead → (x : Repository) (c : Command) → Within (command_item c) → (e : End) → e ≡ end.Input → (all out told : List ℕ) (before after : Option (List ℕ)) (was is : List ℕ → Stream) (spent : Bool) (rose : Type 0) (new : Option Repository) → before ≡ Some all → told ≡ [] → all ≡ words_for c → ((b : List ℕ) → was b ≡ stream_of b)
-    → Serves (session asked_url true) commands_of goes_on ends_opening true x rose (Some told) (Some out) new before after was is spent e → IsSession x c out
-session_heard law x c fit e input all out told before after was is spent rose new begins empty words fresh s =
+pub session_heard : WrittenIsRead → (x : Repository) (c : Command) → Within (command_item c) → (e : End) → e ≡ end.Input → (all out told : List ℕ) (before after : Option (List ℕ)) (was is : List ℕ → Stream) (spent : Bool) (counted counted_now : ℕ) (new : Option Repository) → before ≡ Some all → told ≡ [] → all ≡ words_for c → ((b : List ℕ) → was b ≡ stream_of b)
+    → Serves (session asked_url true) commands_of goes_on ends_opening true x counted counted_now (Some told) (Some out) new before after was is spent e → IsSession x c out
+session_heard law x c fit e input all out told before after was is spent counted counted_now new begins empty words fresh s =
     let ended : EndsAt goes_on ends_opening (map (λ t. t.item) s.turns) (Some all) after was is spent end.Input = subst (λ b. EndsAt goes_on ends_opening (map (λ t. t.item) s.turns) b after was is spent end.Input) begins (subst (EndsAt goes_on ends_opening (map (λ t. t.item) s.turns) before after was is spent) input s.ends) in
     session_is law x c fit s.turns all out after was words fresh s.lawful (s.bytes ∙ ap (λ z. z ++ session asked_url true x s.turns) empty) ended.1
 

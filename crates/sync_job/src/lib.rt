@@ -40,3 +40,4 @@ mod port_call;
 mod ports;
 mod report;
 mod run;
+mod said_list;

@@ -1,5 +1,5 @@
 //! The ports of a job, and all that is said through them.
-ghost use Rattle.std.specs.Prelude.{◌≡◌, ◌≢◌, ◌≤◌, ◌+◌, ℕ, List, vec_capacity, ◌⊎◌, ◌++◌, ◌∷◌, [], IfOk, IfSome};
+ghost use Rattle.std.specs.Prelude.{◌≡◌, ◌≢◌, ◌≤◌, ◌+◌, ℕ, List, ◌⊎◌, ◌++◌, ◌∷◌, [], IfOk, IfSome};
 ghost use Rattle.std.specs.Prelude.{OnOk, OnErr, IsErr, Err, None, Some, ◌-◌, length, map};
 ghost use Rattle.sync_core.specs.declared.answer.Answer.TheVariants as answer_is;
 ghost use Rattle.sync_core.specs.declared.fault.SyncFault.TheVariants.{OutOfMemory as NoMemory};
@@ -20,6 +20,7 @@ ghost use Rattle.sync_job.specs.Masters.{fault_text};
 ghost use Rattle.sync_job.specs.Questions.{KeepsAnswers, Identity, Latest, Fetch, FetchProps, outcome_for};
 ghost use Rattle.sync_job.specs.Made.{ComesWith, IsKeptFor, IsMadeBy, KeepsMade, StillBegins, BeginsOn, MakesOf};
 ghost use Rattle.sync_job.specs.Rooms.{IsReady, KeepsRoom};
+ghost use Rattle.sync_job.specs.SaidLists.{said_in, room_in};
 ghost use Rattle.sync_job.specs.Said.{Acted, Fits, IsQuestion, Tells, told_of};
 ghost use Rattle.sync_job.specs.Telling.{IsOther, KeepsTelling};
 ghost use Rattle.sync_job.specs.Worlds.{IsAnswerAt, Happens, TakesTrees};
@@ -28,6 +29,7 @@ use crate::master::{Fetched, MasterFault, MasterPort};
 use crate::mirror::MirrorPort;
 use crate::port_call::PortCall;
 use crate::report::{Report, Told};
+use crate::said_list::SaidList;
 use node_base::{PropValue, Props, Refusal, RevNo};
 use path_tree::Tree;
 use std::alloc::{AllocError, Global};
@@ -47,7 +49,7 @@ pub struct JobPorts<M: MasterPort + Drop, N: MirrorPort + Drop, R: Report + Drop
     master: M,
     mirror: N,
     report: R,
-    calls: Vec<PortCall>,
+    calls: SaidList,
     tree: Option<Tree>,
 }
 
@@ -63,7 +65,7 @@ impl<M: MasterPort + Drop, N: MirrorPort + Drop, R: Report + Drop> JobPorts<M, N
             master,
             mirror,
             report,
-            calls: Vec::new(alloc),
+            calls: SaidList::new(alloc),
             tree: None,
         }
     }
@@ -176,7 +178,7 @@ impl<M: MasterPort + Drop, N: MirrorPort + Drop, R: Report + Drop> JobPorts<M, N
         ensures kept { IfOk result (λ k. call_in k ≡ call_of call.now) }
         ensures room { OnOk result (HasRoom self.new) }
         ensures more { OnOk result ((call_of call.now ≡ ReleaseLock)
-            ⊎ (length self.new.calls.items + 4 ≤ vec_capacity self.new.calls)) }
+            ⊎ (length (said_in self.new.calls) + 4 ≤ room_in self.new.calls)) }
         ensures tree { tree_of self.new ≡ tree_of self.old }
         ensures keeps { HasRoom self.old → HasRoom self.new }
         ensures made { OnErr result (call_of call.now ≢ ReleaseLock) }
@@ -194,8 +196,8 @@ impl<M: MasterPort + Drop, N: MirrorPort + Drop, R: Report + Drop> JobPorts<M, N
 
     // Tells of an accepted call.
     fn tell(&mut self, call: &MirrorCall<'_>)
-        requires { length self.old.calls.items + 1 ≤ vec_capacity self.old.calls }
-        ensures room { length self.old.calls.items + 3 ≤ vec_capacity self.old.calls → HasRoom self.new }
+        requires { length (said_in self.old.calls) + 1 ≤ room_in self.old.calls }
+        ensures room { length (said_in self.old.calls) + 3 ≤ room_in self.old.calls → HasRoom self.new }
         ensures calls { calls_of self.new ≡ calls_of self.old ++ map Tells (told_of (call_of call.now)) }
         ensures told { (first : R) (told : List IsTold) → R.heard (report_of self.old) first told
             → R.heard (report_of self.new) first (told ++ told_of (call_of call.now)) }
@@ -211,8 +213,8 @@ impl<M: MasterPort + Drop, N: MirrorPort + Drop, R: Report + Drop> JobPorts<M, N
     }
 
     fn tell_committed(&mut self, number: RevNo)
-        requires { length self.old.calls.items + 1 ≤ vec_capacity self.old.calls }
-        ensures room { length self.old.calls.items + 3 ≤ vec_capacity self.old.calls → HasRoom self.new }
+        requires { length (said_in self.old.calls) + 1 ≤ room_in self.old.calls }
+        ensures room { length (said_in self.old.calls) + 3 ≤ room_in self.old.calls → HasRoom self.new }
         ensures calls { calls_of self.new ≡ calls_of self.old ++ Tells (Committed number) ∷ [] }
         ensures told { (first : R) (told : List IsTold) → R.heard (report_of self.old) first told
             → R.heard (report_of self.new) first (told ++ Committed number ∷ []) }
@@ -225,8 +227,8 @@ impl<M: MasterPort + Drop, N: MirrorPort + Drop, R: Report + Drop> JobPorts<M, N
     }
 
     fn tell_copied(&mut self, number: RevNo)
-        requires { length self.old.calls.items + 1 ≤ vec_capacity self.old.calls }
-        ensures room { length self.old.calls.items + 3 ≤ vec_capacity self.old.calls → HasRoom self.new }
+        requires { length (said_in self.old.calls) + 1 ≤ room_in self.old.calls }
+        ensures room { length (said_in self.old.calls) + 3 ≤ room_in self.old.calls → HasRoom self.new }
         ensures calls { calls_of self.new ≡ calls_of self.old ++ Tells (Copied number) ∷ [] }
         ensures told { (first : R) (told : List IsTold) → R.heard (report_of self.old) first told
             → R.heard (report_of self.new) first (told ++ Copied number ∷ []) }

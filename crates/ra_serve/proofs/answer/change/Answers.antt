@@ -2,7 +2,7 @@ use Rattle.std.proofs.Common.{◌∙◌, sym}
 use Rattle.std.specs.Option.{option_map, option_copied}
 use Rattle.repo_core.specs.Refusals.{wanted}
 use Rattle.ra_wire.specs.Commands.{ChangeProp, previous_as}
-use Rattle.ra_serve.specs.Ports.{change_due, refusal_of}
+use Rattle.ra_serve.specs.Ports.{change_due}
 use Rattle.ra_serve.proofs.Exits.{tells_refusal, change_told}
 use Rattle.ra_serve.proofs.answer.change.Goals as goal
 

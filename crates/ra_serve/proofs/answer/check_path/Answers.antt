@@ -1,15 +1,7 @@
-use Rattle.std.proofs.Common.{◌≡◌, ◌∙◌, refl, sym, ap, subst}
-use Rattle.std.specs.Prelude.{None, Some}
-use Rattle.std.specs.Io.KnownBytes.{Appends}
-use Rattle.ra_item.specs.Items.{spell}
-use Rattle.std.specs.FinMap as finite
-use Rattle.std.specs.Option.{option_map}
-use Rattle.node_base.specs.Tree.{kind_of}
 use Rattle.ra_wire.specs.Commands.{CheckPath}
-use Rattle.ra_wire.specs.Replies.{kind_is}
 use Rattle.ra_serve.specs.Answers.{asked}
 use Rattle.ra_serve.specs.Ports.{no_revision}
-use Rattle.ra_serve.proofs.Exits.{replied, tells_refusal}
+use Rattle.ra_serve.proofs.Exits.{tells_refusal}
 use Rattle.ra_serve.proofs.answer.check_path.Goals as goal
 
 pub returns-in-Err-clause-told : goal.returns-in-Err-clause-told

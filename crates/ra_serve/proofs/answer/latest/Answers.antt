@@ -1,11 +1,7 @@
-use Rattle.std.proofs.Common.{◌≡◌, ◌∙◌, refl, sym, ap, subst}
-use Rattle.std.specs.Prelude.{None, Some}
-use Rattle.std.specs.Io.KnownBytes.{Appends}
-use Rattle.ra_item.specs.Items.{spell}
+use Rattle.std.specs.Prelude.{None}
 use Rattle.ra_wire.specs.Commands.{LatestRev}
-use Rattle.ra_wire.specs.Replies.{number}
 use Rattle.ra_serve.proofs.Causes.{none_is_not}
-use Rattle.ra_serve.proofs.Exits.{replied, tells_refusal}
+use Rattle.ra_serve.proofs.Exits.{tells_refusal}
 use Rattle.ra_serve.proofs.answer.latest.Goals as goal
 
 pub returns-in-Err-clause-told : goal.returns-in-Err-clause-told

@@ -1,9 +1,8 @@
-use Rattle.std.proofs.Common.{◌≡◌, ◌∙◌, refl, sym, ap, subst}
-use Rattle.std.specs.Prelude.{None, Some}
+use Rattle.std.proofs.Common.{◌∙◌, ap, subst}
+use Rattle.std.specs.Prelude.{None}
 use Rattle.std.specs.Io.KnownBytes.{Appends}
 use Rattle.ra_item.specs.Items.{spell}
 use Rattle.std.specs.FinMap as finite
-use Rattle.std.specs.Option.{option_map, option_copied}
 use Rattle.ra_wire.specs.Commands.{RevProp}
 use Rattle.ra_wire.specs.Replies.{value}
 use Rattle.repo_core.specs.Repository.{props_at}

@@ -1,4 +1,4 @@
-use Rattle.std.proofs.Common.{◌≡◌, List, [], ◌∷◌, None, refl, sym, subst}
+use Rattle.std.proofs.Common.{◌≡◌, [], ◌∷◌, None, refl, sym, subst}
 use Rattle.std.proofs.lemmas.List.{nil_from_length}
 use Rattle.node_base.specs.Path.{Path}
 use Rattle.path_tree.specs.Listed.{shown_names}

@@ -1,5 +1,4 @@
 use Rattle.ra_wire.specs.Commands.{GetDir}
-use Rattle.dump_load.specs.Faults.{first_of}
 use Rattle.ra_serve.specs.Answers.{asked}
 use Rattle.ra_serve.specs.Ports.{no_revision}
 use Rattle.ra_serve.proofs.Exits.{tells_refusal, first_one}

@@ -5,9 +5,9 @@ use Rattle.ra_wire.specs.Replies.{done}
 use Rattle.ra_wire.specs.Commands.{ReplayRange}
 use Rattle.ra_serve.specs.Answers.{edits}
 use Rattle.ra_serve.specs.Ports.{MayRefuse, no_revision}
-use Rattle.ra_serve.proofs.Causes.{refuses_later, stays_join}
+use Rattle.ra_serve.proofs.Causes.{stays_join}
 use Rattle.ra_serve.proofs.Exits.{tells_done}
-use Rattle.ra_serve.proofs.Ranges.{both_there, is_there, written_more, refused_amid}
+use Rattle.ra_serve.proofs.Ranges.{both_there, written_more, refused_amid}
 use Rattle.ra_serve.proofs.Replays.{revision_written}
 use Rattle.ra_serve.proofs.replay.revisions.Goals as goal
 

@@ -1,4 +1,4 @@
-use Rattle.std.proofs.Common.{◌≡◌, ◌≤◌, [], Ok, true, false, true≢false, refl, sym, ap, subst, ◌∙◌, arith}
+use Rattle.std.proofs.Common.{[], Ok, true≢false, refl, sym, subst, ◌∙◌, arith}
 use Rattle.ra_item.specs.ItemStreams.{Answers, Stops, meanwhile, reader_of, is_spent, ahead}
 use Rattle.fleet_disk.specs.Rules.{Rose}
 use Rattle.ra_wire.specs.Reading.{command_in}
@@ -29,7 +29,7 @@ pub loop-preserved : goal.loop-preserved
 loop-preserved g c =
     let i = c.loop.invariant in
     let t = c.in_ok-sent-in-Ok-Some.ensures.told in (
-      (λ x e. going_more _ x _ _ _ _ _ _ _ _ _ _ _ _ _ _ c.in-Ok-Some.item i.1.later c.turn.ensures.goes.later (i.0 x e) (subst (λ o. Answers g.I.Input.remaining g.I.Input.failures g.I.Input.reads c.loop.items c.next.new.self (Ok o)) c.in-Ok-Some.field-0-is c.in-Ok-Some.ensures.answer)
+      (λ x e. going_more _ x _ _ _ _ _ _ _ _ _ _ _ _ _ _ c.in-Ok-Some.item c.turn.ensures.goes.later (i.0 x e) (subst (λ o. Answers g.I.Input.remaining g.I.Input.failures g.I.Input.reads c.loop.items c.next.new.self (Ok o)) c.in-Ok-Some.field-0-is c.in-Ok-Some.ensures.answer)
           (λ y h. subst (λ b. Answered b y (command_in c.in-Ok-Some.item) (Rose (g.P.RepoPort.refusals c.loop.port) (g.P.RepoPort.refusals c.turn.new.port)) (g.W.Write.contents c.loop.sent) (g.W.Write.contents c.in_ok-sent-in-Ok-Some.sent) (g.P.RepoPort.repository c.turn.new.port)) i.1.mirror (t y h))),
       goes_join _ _ _ _ _ _ i.1 c.turn.ensures.goes,
       (λ s. absurd (true≢false (sym s ∙ c.in-Ok-Some.ensures.goes_on))),

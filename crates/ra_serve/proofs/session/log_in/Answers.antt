@@ -1,10 +1,10 @@
 use Rattle.std.specs.Option.{option_map}
 use Rattle.ra_wire.specs.Openings.{login_in}
-use Rattle.std.proofs.Common.{◌≡◌, true, false, true≢false, Ok, Some, None, List, [], ◌∷◌, ◌++◌, refl, sym, subst}
+use Rattle.std.proofs.Common.{◌≡◌, true, false, true≢false, Ok, Some, None, [], ◌∷◌, ◌++◌, refl, sym, subst}
 use Rattle.ra_item.specs.Items.{spell}
 use Rattle.ra_item.specs.ItemStreams.{Answers, meanwhile}
-use Rattle.ra_wire.specs.Replies.{greeting, mechanisms, welcome, done}
-use Rattle.ra_serve.specs.Sessions.{session, commands_of, goes_on, ends_opening, answers, identity_text, is_anonymous}
+use Rattle.ra_wire.specs.Replies.{mechanisms, welcome, done}
+use Rattle.ra_serve.specs.Sessions.{answers, identity_text, is_anonymous}
 use Rattle.ra_serve.specs.Serving.{spelled_login, behind_one, goes_on_login, ends_at_login, all, any, none}
 use Rattle.ra_serve.specs.declared.fault.End.TheVariants as end
 use Rattle.ra_serve.proofs.Turning.{as_turn}

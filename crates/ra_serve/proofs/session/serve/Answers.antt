@@ -1,11 +1,11 @@
 use Rattle.std.specs.Prelude.{is_some}
 use Rattle.ra_wire.specs.Openings.{hello_in}
-use Rattle.std.proofs.Common.{◌≡◌, true, false, Ok, Some, None, List, [], ◌∷◌, ◌++◌, refl, sym, subst}
+use Rattle.std.proofs.Common.{◌≡◌, true, false, Ok, [], ◌∷◌, refl, subst}
 use Rattle.ra_item.specs.Items.{spell}
 use Rattle.ra_item.specs.ItemStreams.{Answers, meanwhile}
-use Rattle.ra_wire.specs.Replies.{greeting, mechanisms, welcome, done}
-use Rattle.ra_serve.specs.Sessions.{session, commands_of, goes_on, ends_opening, answers, identity_text}
-use Rattle.ra_serve.specs.Serving.{spelled_login, behind_one, goes_on_login, ends_at_login, all, any, none}
+use Rattle.ra_wire.specs.Replies.{greeting}
+use Rattle.ra_serve.specs.Sessions.{session, commands_of, goes_on, ends_opening}
+use Rattle.ra_serve.specs.Serving.{spelled_login, behind_one, goes_on_login, ends_at_login}
 use Rattle.ra_serve.specs.declared.fault.End.TheVariants as end
 use Rattle.ra_serve.proofs.Turning.{as_turn}
 use Rattle.ra_serve.proofs.Opening.{by_before, by_end, by_fault, reader_told, hello_said, hello_goes, hello_ends, hello_asked, hello_refused, hello_over, greeted_only}

@@ -6,6 +6,7 @@ use Rattle.std.proofs.lemmas.List.{take-append-le}
 use Rattle.sync_job.specs.Made.{MakesOf}
 use Rattle.sync_job.specs.Masters.{IsTrue}
 use Rattle.sync_job.specs.Said.{spoken}
+use Rattle.sync_job.specs.SaidLists.{said_in}
 use Rattle.sync_job.specs.Words.{calls_of, master_of, mirror_of}
 use Rattle.sync_job.specs.Worlds.{Refuses, IsAsked, IsAnswered}
 use Rattle.sync_job.proofs.Made.{made_by}
@@ -54,7 +55,7 @@ pub returns-clause-asked : goal.returns-clause-asked
 returns-clause-asked g c =
     says_on g.N.MirrorPort.asked (mirror_of c.args.self.now) c.fill.new.self.mirror c.fill.new.self.mirror (calls_of c.args.self.now) (calls_of c.fill.new.self) _
     c.fill.ensures.asked
-    (asks_master g.N.MirrorPort.asked c.fill.new.self.mirror (Fetches c.args.number) _ c.revision_answer-answer.result.0 c.twice-first.result.0 c.twice-first.result.1 c.fill.new.self.calls.items c.reserve.new.self.items c.push_reserved.new.self.items
+    (asks_master g.N.MirrorPort.asked c.fill.new.self.mirror (Fetches c.args.number) _ c.revision_answer-answer.result.0 c.twice-first.result.0 c.twice-first.result.1 (said_in c.fill.new.self.calls) (said_in c.reserve.new.self) (said_in c.push_reserved.new.self)
     tt refl c.revision_answer-answer.ensures.other c.twice-first.ensures.same c.twice-first.ensures.answer c.reserve.ensures.items c.push_reserved.ensures.items)
 
 pub returns-clause-kept : goal.returns-clause-kept
@@ -73,5 +74,5 @@ pub returns-clause-answered : goal.returns-clause-answered
 returns-clause-answered g c =
     answers_on g.M.MasterPort.answered (master_of c.args.self.now) c.fill.new.self.master c.fetch.new.self (calls_of c.args.self.now) (calls_of c.fill.new.self) _
     c.fill.ensures.answered
-    (answers_question g.M.MasterPort.answered c.fill.new.self.master c.fill.new.self.master c.fetch.new.self (Fetch c.args.number (take c.index.result c.as_slice.result.now) c.fetch.result) _ c.revision_answer-answer.result.0 c.twice-first.result.0 c.twice-first.result.1 c.fill.new.self.calls.items c.reserve.new.self.items c.push_reserved.new.self.items
+    (answers_question g.M.MasterPort.answered c.fill.new.self.master c.fill.new.self.master c.fetch.new.self (Fetch c.args.number (take c.index.result c.as_slice.result.now) c.fetch.result) _ c.revision_answer-answer.result.0 c.twice-first.result.0 c.twice-first.result.1 (said_in c.fill.new.self.calls) (said_in c.reserve.new.self) (said_in c.push_reserved.new.self)
     refl c.fetch.ensures.answered refl (c.revision_answer-answer.ensures.told (take c.index.result c.as_slice.result.now)) c.twice-first.ensures.same c.twice-first.ensures.answer c.reserve.ensures.items c.push_reserved.ensures.items)
