@@ -10,11 +10,12 @@ use Rattle.command_words.specs.declared.fleet_words.Fleet.{Fleet}
 use Rattle.command_words.specs.declared.command_line.Usage.{Usage}
 use Rattle.command_words.specs.declared.command_line.Usage.TheVariants.{Shown, Wrong, OutOfMemory}
 use Rattle.command_words.specs.Lines.{HasNoLineFeed, IsLineOf}
+use Rattle.command_words.specs.Roots.{is_root_url}
 use Rattle.command_words.specs.Terminal.{HasNoControl}
 use Rattle.sync_core.specs.Tokens.{is_token}
 use Rattle.command_words.specs.Twice.{first_twice}
 use Rattle.command_words.specs.Values.{HasReturn, HasValue, HasValues, SpellsMicros, SpellsRange, SpellsServer, SpellsUpTo, identity_read, is_on_server}
-use Rattle.command_words.specs.Usages.{AreRefused, IsRefusedAt, IsTold, IsUsageAt, IsUsageOf, IsValueLine, IsOverTwo, IsSyncRefused, IsTimeoutTold, no_seconds, no_timeout, no_identity, no_range, no_moment, no_message, no_folders, no_copied_range, no_port, no_connections, no_workers, no_fleet, a_fifth, named_again, on_server, named_twice, no_token}
+use Rattle.command_words.specs.Usages.{AreRefused, IsRefusedAt, IsTold, IsUsageAt, IsUsageOf, IsValueLine, IsOverTwo, IsSyncRefused, IsTimeoutTold, no_seconds, no_timeout, no_root, no_identity, no_range, no_moment, no_message, no_folders, no_copied_range, no_port, no_connections, no_workers, no_fleet, a_fifth, named_again, on_server, named_twice, no_token}
 
 pub identity_refused : (rows : List Row) (value read told : List ℕ) (u : Usage) → HasValue rows (codes "uuid") value → read ≡ value → told ≡ value
     → identity_read read ≡ None → IsTold (codes "svnfleet create") told (codes "a UUID of the form 8-4-4-4-12 in hexadecimal digits") u → IsRefusedAt (Some (codes "create", rows)) u
@@ -24,7 +25,7 @@ identity_refused rows value read told (Wrong text) has r t none h =
 identity_refused rows value read told OutOfMemory has r t none h = tt
 
 pub range_refused : (rows : List Row) (value : List ℕ) (u : Usage) → HasValue rows (codes "revisions") value
-    → ((lo hi : ℕ) → SpellsRange value lo hi → ⊥) → IsTold (codes "svnfleet dump") value (codes "a range LO:HI of revisions from 0 to 65535, LO not above HI") u → IsRefusedAt (Some (codes "dump", rows)) u
+    → ((lo hi : ℕ) → SpellsRange value lo hi → ⊥) → IsTold (codes "svnfleet dump") value (codes "a range LO:HI of revisions from 0 to 65535, LO not above HI, or N:N for one revision") u → IsRefusedAt (Some (codes "dump", rows)) u
 range_refused rows value (Shown text) has none h = absurd h
 range_refused rows value (Wrong text) has none h = (codes "dump", rows, refl, no_range value refl has none h)
 range_refused rows value OutOfMemory has none h = tt
@@ -103,7 +104,7 @@ folders_refused name rows (Wrong text) o h = (name, rows, refl, no_folders o h)
 folders_refused name rows OutOfMemory o h = tt
 
 pub copied_range_refused : (rows : List Row) (value : List ℕ) (u : Usage) → HasValue rows (codes "revisions") value
-    → ((lo hi : ℕ) → SpellsRange value lo hi → ⊥) → IsTold (codes "svnfleet copy-revprops") value (codes "a range LO:HI of revisions from 0 to 65535, LO not above HI") u → IsRefusedAt (Some (codes "copy-revprops", rows)) u
+    → ((lo hi : ℕ) → SpellsRange value lo hi → ⊥) → IsTold (codes "svnfleet copy-revprops") value (codes "a range LO:HI of revisions from 0 to 65535, LO not above HI, or N:N for one revision") u → IsRefusedAt (Some (codes "copy-revprops", rows)) u
 copied_range_refused rows value (Shown text) has none h = absurd h
 copied_range_refused rows value (Wrong text) has none h = (codes "copy-revprops", rows, refl, no_copied_range value refl has none h)
 copied_range_refused rows value OutOfMemory has none h = tt
@@ -137,6 +138,13 @@ pub served_seconds_refused : (rows : List Row) (u : Usage) → IsTimeoutTold row
 served_seconds_refused rows (Shown text) h = absurd h
 served_seconds_refused rows (Wrong text) h = (codes "serve", rows, refl, no_timeout refl h)
 served_seconds_refused rows OutOfMemory h = tt
+
+-- the root that clients are told
+pub root_refused : (rows : List Row) (value : List ℕ) (u : Usage) → HasValue rows (codes "root-url") value → is_root_url value ≡ false
+    → IsTold (codes "svnfleet serve") value (codes "a root URL like svn://HOST:PORT/ or svn+ssh://HOST/PATH, of at most 1024 printable ASCII characters without blanks") u → IsRefusedAt (Some (codes "serve", rows)) u
+root_refused rows value (Shown text) has none h = absurd h
+root_refused rows value (Wrong text) has none h = (codes "serve", rows, refl, no_root value refl has none h)
+root_refused rows value OutOfMemory has none h = tt
 
 -- a number of workers, and the folders of a fleet
 pub workers_refused : (rows : List Row) (value : List ℕ) (u : Usage) → HasValue rows (codes "workers") value → ((n : ℕ) → SpellsUpTo 64 value n → ⊥)

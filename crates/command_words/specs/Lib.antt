@@ -1,4 +1,5 @@
 pub mod Lines
+pub mod Roots
 pub mod Terminal
 pub mod Twice
 pub mod Usages

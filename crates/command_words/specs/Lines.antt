@@ -7,7 +7,7 @@ use Rattle.command_words.specs.Terminal.{shown}
 
 -- the words that name a command
 abbrev pub commands : List (List ℕ)
-commands = codes "list" ∷ codes "canon" ∷ codes "create" ∷ codes "load" ∷ codes "dump" ∷ codes "mkdir" ∷ codes "upgrade" ∷ codes "initialize" ∷ codes "synchronize" ∷ codes "copy-revprops" ∷ codes "info" ∷ codes "serve" ∷ codes "fleet" ∷ []
+commands = codes "list" ∷ codes "canon" ∷ codes "create" ∷ codes "load" ∷ codes "dump" ∷ codes "head" ∷ codes "mkdir" ∷ codes "upgrade" ∷ codes "initialize" ∷ codes "synchronize" ∷ codes "copy-revprops" ∷ codes "info" ∷ codes "serve" ∷ codes "fleet" ∷ []
 
 -- the words whose help tells more: of the command that the first word behind the program's name is, or else of the program
 abbrev pub help_of : List (List ℕ) → List ℕ

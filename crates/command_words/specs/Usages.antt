@@ -6,6 +6,7 @@ use Rattle.clap.specs.Words.{Row}
 use Rattle.clap.specs.declared.error.kind.ErrorKind.{ErrorKind}
 use Rattle.clap.specs.declared.error.kind.ErrorKind.TheVariants as kind
 use Rattle.command_words.specs.Lines.{HasNoLineFeed, IsLineOf}
+use Rattle.command_words.specs.Roots.{is_root_url}
 use Rattle.command_words.specs.Terminal.{HasNoControl}
 use Rattle.sync_core.specs.Tokens.{is_token}
 use Rattle.command_words.specs.Twice.{first_twice}
@@ -82,24 +83,26 @@ AreRefused master mirrors (Shown text) = ⊥
 AreRefused master mirrors (Wrong text) = IsFolderRefused master mirrors (string_bytes text)
 AreRefused master mirrors OutOfMemory = Unit {0}
 
--- the value of a subcommand that isn't taken: it spells no identity, no range, no moment or no token, is a message with a carriage return, a source that is none, no port, number of connections or seconds of a server, no number of workers, or a folder of a fleet that isn't taken
+-- the value of a subcommand that isn't taken: it spells no identity, no range, no moment or no token, is a message with a carriage return, a source that is none, no port, number of connections, seconds or root of a server, no number of workers, or a folder of a fleet that isn't taken
 pub data IsValueRefused (name : List ℕ) (rows : List Row) (line : List ℕ) : Type 0 where
   no_identity : (value : List ℕ) → name ≡ codes "create" → HasValue rows (codes "uuid") value → identity_read value ≡ None
       → IsValueLine (codes "svnfleet create") value (codes "a UUID of the form 8-4-4-4-12 in hexadecimal digits") line → IsValueRefused name rows line
   no_range : (value : List ℕ) → name ≡ codes "dump" → HasValue rows (codes "revisions") value → ((lo hi : ℕ) → SpellsRange value lo hi → ⊥)
-      → IsValueLine (codes "svnfleet dump") value (codes "a range LO:HI of revisions from 0 to 65535, LO not above HI") line → IsValueRefused name rows line
+      → IsValueLine (codes "svnfleet dump") value (codes "a range LO:HI of revisions from 0 to 65535, LO not above HI, or N:N for one revision") line → IsValueRefused name rows line
   no_moment : (value : List ℕ) → name ≡ codes "mkdir" → HasValue rows (codes "moment") value → ((micros : ℕ) → SpellsMicros value micros → ⊥)
       → IsValueLine (codes "svnfleet mkdir") value (codes "a number of microseconds from 0 to 4102444799999999") line → IsValueRefused name rows line
   no_message : (value : List ℕ) → name ≡ codes "mkdir" → HasValue rows (codes "message") value → HasReturn value
       → IsValueLine (codes "svnfleet mkdir") value (codes "a message without carriage returns") line → IsValueRefused name rows line
   no_folders : IsOverTwo name → IsSyncValueRefused rows (codes "svnfleet " ++ name) line → IsValueRefused name rows line
   no_copied_range : (value : List ℕ) → name ≡ codes "copy-revprops" → HasValue rows (codes "revisions") value → ((lo hi : ℕ) → SpellsRange value lo hi → ⊥)
-      → IsValueLine (codes "svnfleet copy-revprops") value (codes "a range LO:HI of revisions from 0 to 65535, LO not above HI") line → IsValueRefused name rows line
+      → IsValueLine (codes "svnfleet copy-revprops") value (codes "a range LO:HI of revisions from 0 to 65535, LO not above HI, or N:N for one revision") line → IsValueRefused name rows line
   no_port : (value : List ℕ) → name ≡ codes "serve" → HasValue rows (codes "port") value → ((n : ℕ) → SpellsUpTo 65535 value n → ⊥)
       → IsValueLine (codes "svnfleet serve") value (codes "a port from 1 to 65535") line → IsValueRefused name rows line
   no_connections : (value : List ℕ) → name ≡ codes "serve" → HasValue rows (codes "connections") value → ((n : ℕ) → SpellsUpTo 1024 value n → ⊥)
       → IsValueLine (codes "svnfleet serve") value (codes "a number of connections from 1 to 1024") line → IsValueRefused name rows line
   no_timeout : name ≡ codes "serve" → IsTimeoutRefused rows (codes "svnfleet serve") line → IsValueRefused name rows line
+  no_root : (value : List ℕ) → name ≡ codes "serve" → HasValue rows (codes "root-url") value → is_root_url value ≡ false
+      → IsValueLine (codes "svnfleet serve") value (codes "a root URL like svn://HOST:PORT/ or svn+ssh://HOST/PATH, of at most 1024 printable ASCII characters without blanks") line → IsValueRefused name rows line
   no_workers : (value : List ℕ) → name ≡ codes "fleet" → HasValue rows (codes "workers") value → ((n : ℕ) → SpellsUpTo 64 value n → ⊥)
       → IsValueLine (codes "svnfleet fleet") value (codes "a number of workers from 1 to 64") line → IsValueRefused name rows line
   no_fleet : (master : List ℕ) (mirrors : List (List ℕ)) → name ≡ codes "fleet" → HasValue rows (codes "MASTER") master → HasValues rows (codes "MIRROR") mirrors

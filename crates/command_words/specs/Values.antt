@@ -1,7 +1,7 @@
 -- What the values of a command's words spell.
 use Rattle.std.specs.Prelude.{◌≡◌, ◌≤◌, ℕ, List, ◌∷◌, ◌++◌, ◌==◌, length, map, nat_eq, Option, Bool, true, false, Some, None, bytes_eq, string_bytes, codes}
 use Rattle.std.specs.List.{list_any, starts_with}
-use Rattle.std.specs.Option.{option_map_or}
+use Rattle.std.specs.Option.{option_map, option_map_or}
 use Rattle.uuid.specs.Text.{parsed_hyphenated}
 use Rattle.clap.specs.Words.{Row, all_of, first_of}
 use Rattle.node_base.specs.Numbers.{decimal, rev_read}
@@ -9,10 +9,11 @@ use Rattle.repo_core.specs.Dates.{IsMoment}
 use Rattle.store_engines.specs.Ranges.{first_in, last_in}
 use Rattle.store_engines.specs.declared.range.RevRange.{RevRange}
 use Rattle.sync_core.specs.Tokens.{is_token}
+use Rattle.command_words.specs.Roots.{is_root_url}
 use Rattle.command_words.specs.Twice.{first_twice}
 use Rattle.command_words.specs.Words.{word_of, word_of_task}
 use Rattle.command_words.specs.declared.command_line.Command.{Command}
-use Rattle.command_words.specs.declared.command_line.Command.TheVariants.{List as ListIt, Canon, Create, Load, Dump, MakeDir, Upgrade, Initialize, Synchronize, CopyRevprops, Info}
+use Rattle.command_words.specs.declared.command_line.Command.TheVariants.{List as ListIt, Canon, Create, Load, Dump, Head, MakeDir, Upgrade, Initialize, Synchronize, CopyRevprops, Info}
 use Rattle.command_words.specs.declared.command_line.Service.{Service}
 use Rattle.command_words.specs.declared.command_line.Place.{Place}
 use Rattle.command_words.specs.declared.command_line.Place.TheVariants.{Folder, Server}
@@ -113,6 +114,7 @@ HasValuesOf rows (Create folder identity) =
     HasValue rows (codes "DIR") (string_bytes folder) × ((value : List ℕ) × HasValue rows (codes "uuid") value × (identity_read value ≡ Some identity))
 HasValuesOf rows (Load folder) = HasValue rows (codes "DIR") (string_bytes folder)
 HasValuesOf rows (Dump folder range) = HasValue rows (codes "DIR") (string_bytes folder) × IsRangeOf (first_of (codes "revisions") rows) range
+HasValuesOf rows (Head folder) = HasValue rows (codes "DIR") (string_bytes folder)
 HasValuesOf rows (MakeDir folder path message moment) =
     HasValue rows (codes "DIR") (string_bytes folder) × HasValue rows (codes "PATH") (string_bytes path) × HasValue rows (codes "message") (string_bytes message) × ¬ HasReturn (string_bytes message)
     × ((value : List ℕ) × HasValue rows (codes "moment") value × ((micros : ℕ) × SpellsMicros value micros × IsMoment micros moment))
@@ -129,11 +131,17 @@ HasValuesOf rows (Info mirror) = HasValue rows (codes "MIRROR") (string_bytes mi
 abbrev pub IsCommandOf : Option (List ℕ × List Row) → Command → Type 0
 IsCommandOf named command = (rows : List Row) × (named ≡ Some (word_of command, rows)) × HasValuesOf rows command
 
--- a server's folder, port, number of connections and seconds are those of the values under their names
+-- the root that a value says, where there is one: it is told as it is given
+abbrev pub IsRootOf : Option (List ℕ) → Option (List ℕ) → Type 0
+IsRootOf None root = root ≡ None
+IsRootOf (Some value) root = (root ≡ Some value) × (is_root_url value ≡ true)
+
+-- a server's folder, port, number of connections, seconds and root are those of the values under their names
 abbrev pub HasServiceOf : List Row → Service → Type 0
 HasServiceOf rows service =
     HasValue rows (codes "DIR") (string_bytes service.folder) × HasNumber rows (codes "port") 65535 service.port
     × HasNumber rows (codes "connections") 1024 service.connections × IsTimeoutOf (first_of (codes "timeout") rows) service.seconds
+    × IsRootOf (first_of (codes "root-url") rows) (option_map string_bytes service.root_url)
 
 -- a task's token, range and whether it steals are those of the values under their names
 abbrev pub HasTaskOf : List Row → Task → Type 0

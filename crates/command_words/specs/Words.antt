@@ -5,7 +5,7 @@ use Rattle.clap.specs.Words.{App, Rule, new_app, new_rule, with_rule, with_subco
 use Rattle.clap.specs.Simple.{on_top}
 use Rattle.clap.specs.declared.builder.action.ArgAction.TheVariants.{Append, Set, SetTrue}
 use Rattle.command_words.specs.declared.command_line.Command.{Command}
-use Rattle.command_words.specs.declared.command_line.Command.TheVariants.{List as ListIt, Canon, Create, Load, Dump, MakeDir, Upgrade, Initialize, Synchronize, CopyRevprops, Info}
+use Rattle.command_words.specs.declared.command_line.Command.TheVariants.{List as ListIt, Canon, Create, Load, Dump, Head, MakeDir, Upgrade, Initialize, Synchronize, CopyRevprops, Info}
 use Rattle.command_words.specs.declared.command_line.Task.{Task}
 use Rattle.command_words.specs.declared.command_line.Task.TheVariants as task
 use Rattle.command_words.specs.declared.word.Subcommand.{Subcommand}
@@ -63,6 +63,9 @@ load_app = app_with (codes "load") (folder_rule ∷ [])
 abbrev pub dump_app : App
 dump_app = app_with (codes "dump") (folder_rule ∷ range_rule false (codes "revisions") ∷ [])
 
+abbrev pub head_app : App
+head_app = app_with (codes "head") (folder_rule ∷ [])
+
 abbrev pub mkdir_app : App
 mkdir_app = app_with (codes "mkdir") (folder_rule ∷ word_rule (codes "PATH") ∷ named_rule (codes "message") ∷ named_rule (codes "moment") ∷ [])
 
@@ -85,9 +88,9 @@ copy_revprops_app = two_folders_app (codes "copy-revprops") (range_rule true (co
 abbrev pub info_app : App
 info_app = app_with (codes "info") (word_rule (codes "MIRROR") ∷ [])
 
--- a folder, a port and a number of connections, and how long a client may say nothing
+-- a folder, a port and a number of connections, how long a client may say nothing, and the root that it is told
 abbrev pub serve_app : App
-serve_app = app_with (codes "serve") (folder_rule ∷ named_rule (codes "port") ∷ named_rule (codes "connections") ∷ optional_rule (codes "timeout") ∷ [])
+serve_app = app_with (codes "serve") (folder_rule ∷ named_rule (codes "port") ∷ named_rule (codes "connections") ∷ optional_rule (codes "timeout") ∷ optional_rule (codes "root-url") ∷ [])
 
 -- a master and its mirrors, and a number of workers
 abbrev pub fleet_app : App
@@ -102,7 +105,7 @@ with_apps program apps = fold (λ program app. with_subcommand program app.top) 
 
 -- the program with the commands over a dump or one repository
 abbrev pub archive_app : App
-archive_app = with_apps bare_app (list_app ∷ canon_app ∷ create_app ∷ load_app ∷ dump_app ∷ mkdir_app ∷ upgrade_app ∷ [])
+archive_app = with_apps bare_app (list_app ∷ canon_app ∷ create_app ∷ load_app ∷ dump_app ∷ head_app ∷ mkdir_app ∷ upgrade_app ∷ [])
 
 -- those over mirrors, and what serves
 abbrev pub mirror_apps : List App
@@ -140,6 +143,7 @@ word_of Canon = codes "canon"
 word_of (Create folder identity) = codes "create"
 word_of (Load folder) = codes "load"
 word_of (Dump folder range) = codes "dump"
+word_of (Head folder) = codes "head"
 word_of (MakeDir folder path message moment) = codes "mkdir"
 word_of (Upgrade folder) = codes "upgrade"
 word_of (Initialize mirror source) = codes "initialize"

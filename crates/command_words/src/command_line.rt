@@ -25,6 +25,7 @@ use crate::builder::{bare, with_commands};
 use crate::fleet_named::fleet_named;
 use crate::fleet_words::Fleet;
 use crate::help::help_of;
+use crate::root_url::root_url_named;
 use crate::table::{ARCHIVE, MIRRORS};
 use crate::terminal::line_of;
 use clap::error::ErrorKind;
@@ -56,6 +57,10 @@ pub enum Command {
     Dump {
         folder: String,
         range: Option<RevRange>,
+    },
+    /// Print the number of the newest revision of a folder's repository.
+    Head {
+        folder: String,
     },
     /// Commit a directory to a folder's repository.
     MakeDir {
@@ -111,6 +116,8 @@ pub struct Service {
     pub connections: u16,
     /// The seconds that a client may say nothing, and read nothing, from 1 to 43200.
     pub seconds: u16,
+    /// The URL that clients are told as the repository's root, where it isn't that of the port.
+    pub root_url: Option<String>,
 }
 
 /// What is done over a mirror and its source.
@@ -189,8 +196,8 @@ impl From<AllocError> for Usage {
 
 /// The command or the server that the words name, the program's name first, with the values that they give it. Usage
 /// where they name none: help or the version only where it was asked for, and else what is wrong, in the words or in the value of an
-/// identity, a range, a moment, a message, a source, a port, a number of connections or of seconds, in one line without control
-/// characters that names the help of the command at hand.
+/// identity, a range, a moment, a message, a source, a port, a root URL, a number of connections or of seconds, in one line
+/// without control characters that names the help of the command at hand.
 pub fn plan(alloc: Global, words: &[String]) -> Result<Planned, Usage>
     ensures named { IfOk result (IsPlannedOf (subcommand_of svnfleet_app (map string_bytes words.now))) }
     ensures faultless { IfOk result (λ _. fault_of svnfleet_app (map string_bytes words.now) ≡ []) }
@@ -276,6 +283,7 @@ fn named(alloc: Global, matches: &ArgMatches<'_>) -> Result<Command, Usage>
         Some(("create", given)) => create_named(alloc, given),
         Some(("load", given)) => load_named(alloc, given),
         Some(("dump", given)) => dump_named(alloc, given),
+        Some(("head", given)) => head_named(alloc, given),
         Some(("mkdir", given)) => mkdir_named(alloc, given),
         Some(("upgrade", given)) => upgrade_named(alloc, given),
         Some(("info", given)) => info_named(alloc, given),
@@ -369,9 +377,18 @@ fn dump_named(alloc: Global, given: &ArgMatches<'_>) -> Result<Command, Usage>
             alloc,
             "svnfleet dump",
             value,
-            "a range LO:HI of revisions from 0 to 65535, LO not above HI",
+            "a range LO:HI of revisions from 0 to 65535, LO not above HI, or N:N for one revision",
         )),
     }
+}
+
+fn head_named(alloc: Global, given: &ArgMatches<'_>) -> Result<Command, Usage>
+    ensures named { IfOk result (IsCommandOf (Some (codes "head", rows_of (found_of given.now)))) }
+    ensures usage { IfErr result (IsRefusedAt (Some (codes "head", rows_of (found_of given.now)))) }
+{
+    Ok(Command::Head {
+        folder: text(alloc, given, "DIR")?,
+    })
 }
 
 fn mkdir_named(alloc: Global, given: &ArgMatches<'_>) -> Result<Command, Usage>
@@ -499,7 +516,7 @@ fn copied_range_of(alloc: Global, given: &ArgMatches<'_>) -> Result<RevRange, Us
             alloc,
             "svnfleet copy-revprops",
             value,
-            "a range LO:HI of revisions from 0 to 65535, LO not above HI",
+            "a range LO:HI of revisions from 0 to 65535, LO not above HI, or N:N for one revision",
         )),
     }
 }
@@ -520,12 +537,16 @@ fn serve_named(alloc: Global, given: &ArgMatches<'_>) -> Result<Service, Usage>
     match port_of(alloc, given) {
         Ok(port) => match connections_of(alloc, given) {
             Ok(connections) => match timeout_of(alloc, "svnfleet serve", given) {
-                Ok(seconds) => Ok(Service {
-                    folder: text(alloc, given, "DIR")?,
-                    port,
-                    connections,
-                    seconds,
-                }),
+                Ok(seconds) => match root_url_named(alloc, given) {
+                    Ok(root_url) => Ok(Service {
+                        folder: text(alloc, given, "DIR")?,
+                        port,
+                        connections,
+                        seconds,
+                        root_url,
+                    }),
+                    Err(usage) => Err(usage),
+                },
                 Err(usage) => Err(usage),
             },
             Err(usage) => Err(usage),

@@ -29,12 +29,13 @@ fn first_word(words: &[String]) -> &str
 }
 
 // The names of the commands.
-const COMMANDS: [&str; 13] = [
+const COMMANDS: [&str; 14] = [
     "list",
     "canon",
     "create",
     "load",
     "dump",
+    "head",
     "mkdir",
     "upgrade",
     "initialize",

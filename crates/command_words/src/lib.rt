@@ -25,6 +25,7 @@ mod command_line;
 mod fleet_named;
 mod fleet_words;
 mod help;
+mod root_url;
 mod table;
 mod terminal;
 mod texts;

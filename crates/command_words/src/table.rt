@@ -38,19 +38,19 @@ const TIMEOUT: Word<'static> = Word {
 pub const ARCHIVE: &[Subcommand<'static>] = &[
     Subcommand {
         name: "list",
-        about: "Reads a dump on standard input and prints its newest tree",
+        about: "Dump: reads one on standard input and prints its newest tree",
         after_help: texts::DUMPS,
         words: &[],
     },
     Subcommand {
         name: "canon",
-        about: "Reads a dump on standard input and writes it in its canonical spelling",
+        about: "Dump: reads one on standard input and writes it in its canonical spelling",
         after_help: texts::DUMPS,
         words: &[],
     },
     Subcommand {
         name: "create",
-        about: "Begins an empty repository in a folder",
+        about: "Archive or mirror: begins an empty repository in a folder",
         after_help: texts::CREATE,
         words: &[
             Word {
@@ -67,26 +67,32 @@ pub const ARCHIVE: &[Subcommand<'static>] = &[
     },
     Subcommand {
         name: "load",
-        about: "Loads a dump on standard input into a folder's repository",
+        about: "Archive: loads a dump on standard input into a folder's repository",
         after_help: texts::LOAD,
         words: &[DIR],
     },
     Subcommand {
         name: "dump",
-        about: "Writes a folder's repository as a dump, each revision by its changes",
+        about: "Archive or mirror: writes a folder's repository as a dump, each revision by its changes",
         after_help: texts::DUMP,
         words: &[
             DIR,
             Word {
                 name: "revisions",
                 kind: WordKind::Range { required: false },
-                help: "The first and the last revision to write; all where it is left out",
+                help: "The first and the last revision to write, N:N for one; all where it is left out",
             },
         ],
     },
     Subcommand {
+        name: "head",
+        about: "Archive or mirror: prints the number of its newest revision",
+        after_help: texts::HEAD,
+        words: &[DIR],
+    },
+    Subcommand {
         name: "mkdir",
-        about: "Commits one directory to a folder's repository",
+        about: "Archive: commits one directory to a folder's repository",
         after_help: texts::MKDIR,
         words: &[
             DIR,
@@ -109,7 +115,7 @@ pub const ARCHIVE: &[Subcommand<'static>] = &[
     },
     Subcommand {
         name: "upgrade",
-        about: "Gives the entries of a folder's repository their sums",
+        about: "Archive or mirror: gives the entries of a folder's repository their sums",
         after_help: texts::UPGRADE,
         words: &[DIR],
     },
@@ -119,13 +125,13 @@ pub const ARCHIVE: &[Subcommand<'static>] = &[
 pub const MIRRORS: &[Subcommand<'static>] = &[
     Subcommand {
         name: "initialize",
-        about: "Makes an empty repository the mirror of a source",
+        about: "Mirror: makes an empty repository the mirror of a source",
         after_help: texts::INITIALIZE,
         words: &[MIRROR, SOURCE, TIMEOUT],
     },
     Subcommand {
         name: "synchronize",
-        about: "Brings a mirror up to its source",
+        about: "Mirror: brings it up to its source",
         after_help: texts::SYNCHRONIZE,
         words: &[
             MIRROR,
@@ -141,7 +147,7 @@ pub const MIRRORS: &[Subcommand<'static>] = &[
     },
     Subcommand {
         name: "copy-revprops",
-        about: "Copies the properties of revisions to a mirror again",
+        about: "Mirror: copies the properties of revisions to it again",
         after_help: texts::COPY_REVPROPS,
         words: &[
             MIRROR,
@@ -149,7 +155,7 @@ pub const MIRRORS: &[Subcommand<'static>] = &[
             Word {
                 name: "revisions",
                 kind: WordKind::Range { required: true },
-                help: "The first and the last revision to copy",
+                help: "The first and the last revision to copy, N:N for one",
             },
             TOKEN,
             TIMEOUT,
@@ -157,13 +163,13 @@ pub const MIRRORS: &[Subcommand<'static>] = &[
     },
     Subcommand {
         name: "info",
-        about: "Tells where a mirror is copied from, and how far it is",
+        about: "Mirror: tells where it is copied from, and how far it is",
         after_help: texts::INFO,
         words: &[MIRROR],
     },
     Subcommand {
         name: "serve",
-        about: "Serves a folder's repository to svnsync and other clients on this machine",
+        about: "Serve: gives an archive or a mirror to svnsync and other clients on this machine",
         after_help: texts::SERVE,
         words: &[
             DIR,
@@ -182,11 +188,16 @@ pub const MIRRORS: &[Subcommand<'static>] = &[
                 kind: WordKind::Optional("SECONDS"),
                 help: "How long a client may say nothing, from 1 to 43200 seconds; 600 where it is left out",
             },
+            Word {
+                name: "root-url",
+                kind: WordKind::Optional("URL"),
+                help: "The URL that clients are told as the repository's root; svn://127.0.0.1:P/ where it is left out",
+            },
         ],
     },
     Subcommand {
         name: "fleet",
-        about: "Brings several mirrors up to their source at once",
+        about: "Mirror: brings several up to their source at once",
         after_help: texts::FLEET,
         words: &[
             Word {

@@ -35,6 +35,13 @@ revision 0 too where the range has it. Where nobody reads on, as behind `| head`
 dump that was cut must not pass for a whole one.
 The status is 0; 1 with a line where HI is above the head or the device fails; 2 where the words are wrong.";
 
+/// Of `head`.
+pub const HEAD: &str = "\
+Prints the number of the newest revision of the archive or mirror in DIR, and nothing else: 0 of one that `create`
+has begun. As every command over a folder it holds DIR while it runs (31), and reads every entry.
+The status is 0; 1 with a line where the folder can't be opened (31, 33, 34) or the device fails; 2 where the words
+are wrong.";
+
 /// Of `mkdir`.
 pub const MKDIR: &str = "\
 Prints `Committed revision N.` A TEXT with a carriage return is refused (status 2), since Subversion takes no
@@ -98,6 +105,9 @@ ended, those that failed among them; a client may make more than one. Another re
 `svnsync init file:///PATH svn://127.0.0.1:P/`, and brought up to DIR by `svnsync sync file:///PATH`.
 Nothing is committed to DIR. Properties of revisions that a client changes are changed in DIR, unless it is a
 mirror, which is served read-only (24). Each change that was answered stands after a stop.
+svnsync and svnrdump take the repository only under the URL that they are told as its root. To those that come by another
+port or name, as by a tunnel, --root-url tells the URL that they name: svn:// or svn+ssh:// and a host, and a port and a
+path where there are some, at most 1024 printable ASCII characters without blanks. It is told as it is given.
 A client that says nothing, or reads nothing, for SECONDS ends its own connection. One that can't be accepted, as
 where too many files are open, waits until another has ended. Standard error has a line for that (49) and for a
 connection in which the device failed (31, 32), the journal was full (36) or memory ran out (70), one for each number

@@ -22,7 +22,7 @@
 #![tactic(auto)]
 
 pub use port::MasterSharePort;
-pub use server::serve_store;
+pub use server::{Address, serve_store};
 pub use work::{run_work_from, run_work_over};
 
 mod fault;

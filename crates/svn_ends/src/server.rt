@@ -19,9 +19,18 @@ use std::thread::Threads;
 use std::time::Clock;
 use store_share::{MasterShare, OpenedStore, RowName};
 
-/// Serves the repository of a store over ra_svn on that port of 127.0.0.1: says so in a line, then serves so many
-/// connections, a thread each, and returns once all have ended. As a mirror it takes no changes. The store's disk comes
-/// back as the sessions have left it: a stop leaves of it what a store keeps.
+/// Where a server is for its clients.
+#[derive(Drop)]
+pub struct Address<'a> {
+    /// The port of 127.0.0.1 on which it listens.
+    pub port: u16,
+    /// The URL that they are told as the repository's root, where it isn't that of the port.
+    pub root_url: Option<&'a str>,
+}
+
+/// Serves the repository of a store over ra_svn on the address's port of 127.0.0.1: says so in a line, then serves so
+/// many connections, a thread each, and returns once all have ended. As a mirror it takes no changes. The store's disk
+/// comes back as the sessions have left it: a stop leaves of it what a store keeps.
 ///
 /// PeerFailed (49) where it can't listen there, or can't say so; OutOfMemory (70) where there is no memory to begin
 /// with. A session that ends badly ends itself alone. What the device or want of memory refused in a session is told to
@@ -36,18 +45,18 @@ pub fn serve_store<
     alloc: Global,
     store: RepoStore<D>,
     mirror: bool,
-    port: u16,
+    address: &Address<'_>,
     limits: Limits,
     teller: &T,
     output: &mut W,
 ) -> (D, Result<(), SocketFault>)
-    ensures told { OnOk result.1 (Appends (W.contents output.old) (W.contents output.new) (listening port)) }
+    ensures told { OnOk result.1 (Appends (W.contents output.old) (W.contents output.new) (listening address.now.port)) }
     ensures back { IsOfStore D.Disk result.0 }
 {
     match OpenedStore::of(alloc, store) {
         Ok(opened) => {
             serve_opened::<R, Brand, D, W, T>(
-                rt, alloc, opened, mirror, port, limits, teller, output,
+                rt, alloc, opened, mirror, address, limits, teller, output,
             )
         }
         Err((_fault, store)) => (disk_in(store), Err(SocketFault::OutOfMemory)),
@@ -74,17 +83,17 @@ fn serve_opened<
     alloc: Global,
     opened: OpenedStore<D>,
     mirror: bool,
-    port: u16,
+    address: &Address<'_>,
     limits: Limits,
     teller: &T,
     output: &mut W,
 ) -> (D, Result<(), SocketFault>)
     requires { cells_of opened ≡ L.cells }
-    ensures told { OnOk result.1 (Appends (W.contents output.old) (W.contents output.new) (listening port)) }
+    ensures told { OnOk result.1 (Appends (W.contents output.old) (W.contents output.new) (listening address.now.port)) }
     ensures back { IsOfStore D.Disk result.0 }
 {
     let share = opened.named::<L>();
-    let answer = serve_share(rt, alloc, &share, mirror, port, limits, teller, output);
+    let answer = serve_share(rt, alloc, &share, mirror, address, limits, teller, output);
     let store = share.close().into_store();
     (disk_in(store), answer)
 }
@@ -101,14 +110,14 @@ fn serve_share<
     alloc: Global,
     share: &MasterShare<L, D>,
     mirror: bool,
-    port: u16,
+    address: &Address<'_>,
     limits: Limits,
     teller: &T,
     output: &mut W,
 ) -> Result<(), SocketFault>
-    ensures { OnOk result (Appends (W.contents output.old) (W.contents output.new) (listening port)) }
+    ensures { OnOk result (Appends (W.contents output.old) (W.contents output.new) (listening address.now.port)) }
 {
-    let Ok(root_url) = root_url(alloc, port) else {
+    let Ok(root_url) = root_url(alloc, address) else {
         return Err(SocketFault::OutOfMemory);
     };
     let sessions = ShareSessions {
@@ -116,8 +125,9 @@ fn serve_share<
         alloc,
         share,
         mirror,
+        address,
         root_url: root_url.as_bytes(),
         troubles: Troubles::new(teller),
     };
-    sockets::serve(rt, alloc, port, limits, &sessions, output)
+    sockets::serve(rt, alloc, address.port, limits, &sessions, output)
 }

@@ -2,9 +2,10 @@
 
 ghost use Rattle.std.specs.Prelude.{◌≡◌, IfOk, ⊤, string_bytes};
 ghost use Rattle.svn_ends.specs.Ports.{takes_none};
-ghost use Rattle.svn_ends.specs.Ends.{heard, trouble_of, url};
+ghost use Rattle.svn_ends.specs.Ends.{heard, root_of, trouble_of, url};
 
 use crate::port::MasterSharePort;
+use crate::server::Address;
 use byte_streams::CountedReader;
 use fleet_disk::Disk;
 use ra_item::stream::ItemStream;
@@ -16,16 +17,18 @@ use std::sync::Wait;
 use std::time::Clock;
 use store_share::{MasterShare, RowName};
 
-/// The sessions over one share, each with a port and a seat of its own. Trouble of the device and want of memory are
-/// told; that a peer fails isn't.
+/// The sessions over one share, each with a port and a seat of its own. Clients are told the root of the address. Trouble
+/// of the device and want of memory are told; that a peer fails isn't.
 #[derive(Drop)]
 pub(crate) struct ShareSessions<'a, R: Wait + Clock, L: RowName, D: Disk, T: Teller> {
     pub(crate) rt: &'a R,
     pub(crate) alloc: Global,
     pub(crate) share: &'a MasterShare<L, D>,
     pub(crate) mirror: bool,
+    pub(crate) address: &'a Address<'a>,
     pub(crate) root_url: &'a [u8],
     pub(crate) troubles: Troubles<'a, T>,
+    ghost root: { root_url.now ≡ root_of address.now },
 }
 
 impl<'a, R: Wait + Clock, L: RowName, D: Disk, T: Teller> ShareSessions<'a, R, L, D, T> {
@@ -117,8 +120,18 @@ fn heard(answer: Result<End, ServeFault>) -> Result<(), SocketFault>
     }
 }
 
-/// The root that is served on a port.
-pub(crate) fn root_url(alloc: Global, port: u16) -> Result<String, AllocError>
+/// The root that clients are told: the one that is given, or else that of the port.
+pub(crate) fn root_url(alloc: Global, address: &Address<'_>) -> Result<String, AllocError>
+    ensures { IfOk result (λ s. string_bytes s ≡ root_of address.now) }
+{
+    match address.root_url {
+        Some(root) => String::from_str(alloc, root),
+        None => url_of(alloc, address.port),
+    }
+}
+
+// The root that is served on a port.
+fn url_of(alloc: Global, port: u16) -> Result<String, AllocError>
     ensures { IfOk result (λ s. string_bytes s ≡ url port) }
 {
     format!(in alloc; "svn://127.0.0.1:{port}/")
