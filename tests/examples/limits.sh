@@ -90,14 +90,15 @@ elif what == 'deep-copy':
 elif what == 'copied-copy':
     # (the copy of the copy has 31 names behind it)
     deep(32)
+    folder(b'other')
     revision(3)
-    folder(b'plain/b', source=(2, b'n'))
+    folder(b'other/b', source=(2, b'n'))
     revision(4)
     path = b'plain'
     for _ in range(size - 33):
         path += b'/t'
         folder(path)
-    folder(path + b'/copy', source=(3, b'plain/b'))
+    folder(path + b'/copy', source=(3, b'other/b'))
 elif what == 'long-copy':
     # (behind the folder that is copied are 768 bytes)
     path = deep(4, 255)

@@ -106,6 +106,14 @@ check 'salvage: a block of properties: it is saved' salvages 1
 check 'salvage: a block of properties: what is told' grep -qx 'entry 4: the properties of revision 3 are lost' errors
 check 'salvage: a block of properties: the edit has them' cmp sound.dump new.dump
 
+damage journal 'svn:log
+V 16
+an import of one' "$(printf 'svn:l\001g\nV 16\nan import of one')"
+check 'salvage: a name of a property' is_damaged 3
+check 'salvage: a name of a property: it is saved' salvages 1
+check 'salvage: a name of a property: what is told' grep -qx 'entry 3: the properties of revision 2 are lost' errors
+check 'salvage: a name of a property: nothing is refused' test "$(cat refused; tail -n 1 loaded)" = 'Loaded revision 8.'
+
 damage journal 'Node-path: trunk/two' 'Node-path? trunk/two'
 check 'salvage: a header' is_damaged 4
 check 'salvage: a header: it is saved' salvages 1
