@@ -1,11 +1,12 @@
 -- What comes of orders over shares, once the names of their rows are gone.
-use Rattle.std.proofs.Common.{◌≡◌, ◌⊎◌, inl, inr, ℕ, zero, suc, Bool, true, false, List, [], ◌∷◌, Option, Some, None, Result, Ok, Err, IfOk, Vec, is_some, get_or, refl, sym, ap, subst, ◌∙◌}
+use Rattle.std.proofs.Common.{◌≡◌, inl, inr, ℕ, zero, suc, Bool, true, false, List, [], ◌∷◌, Option, Some, None, Result, Ok, Err, IfOk, Vec, is_some, get_or, refl, sym, ap, subst, ◌∙◌}
 use Rattle.std.specs.List.{AllZip}
 use Rattle.std.specs.declared.alloc.Global.{Global}
 use Rattle.std.proofs.lemmas.Bool.{true≢false}
 use Rattle.fleet_jobs.specs.Answers.{Answer}
 use Rattle.fleet_jobs.specs.declared.order.Order.{Order}
 use Rattle.mirror_share.specs.declared.share.MirrorShare.{MirrorShare}
+use Rattle.store_share.specs.declared.share.MasterShare.{MasterShare}
 use Rattle.fleet_shares.specs.Answers.{AnswersOn}
 use Rattle.fleet_shares.specs.Given.{IsAnswerAt, IsAnswered}
 use Rattle.fleet_shares.specs.Ran.{HasEndedAt, IsAnswerIn}
@@ -15,10 +16,10 @@ use Rattle.fleet_shares.specs.declared.shares.FleetShares.{FleetShares}
 use Rattle.fleet_shares.specs.declared.stores.OpenedFleet.{OpenedFleet}
 
 -- on a mirror that is there
-ended_on : {L D : Type 0} {r : _} {g : _} (slot : Option (MirrorShare L D r g)) (o : Order) (a : Answer) → is_some slot ≡ true → AnswersOn slot o a → HasEndedAt r g o a
-ended_on None o a e h = absurd (true≢false (sym e))
-ended_on (Some m) o (Ok n) e h = (m, h.0)
-ended_on (Some m) o (Err f) e h = (m, h)
+ended_on : {M L D : Type 0} {m : _} {r : _} {g : _} (master : MasterShare M D m g) (slot : Option (MirrorShare L D r g)) (o : Order) (a : Answer) → is_some slot ≡ true → AnswersOn master slot o a → HasEndedAt m r g o a
+ended_on master None o a e h = absurd (true≢false (sym e))
+ended_on master (Some mirror) o (Ok n) e h = (master, (mirror, h.0))
+ended_on master (Some mirror) o (Err f) e h = (master, (mirror, h))
 
 at_number : (k : ℕ) (a b c d : Bool) → get_or (a ∷ b ∷ c ∷ d ∷ []) k false ≡ has_at k a b c d
 at_number zero a b c d = refl
@@ -42,15 +43,15 @@ all_so P Q f (o ∷ os) (a ∷ as') h = (f o a h.0, all_so P Q f os as' h.1)
 
 module _ {M L0 L1 L2 L3 D : Type 0} {m : _} {r0 : _} {r1 : _} {r2 : _} {r3 : _} {g : _} (s : FleetShares M L0 L1 L2 L3 D m r0 r1 r2 r3 g) where
   may_end : (k : ℕ) (o : Order) (a : Answer) (None_there : Type 0) → has_at k (is_some s.first) (is_some s.second) (is_some s.third) (is_some s.fourth) ≡ true
-      → at_slot k (AnswersOn s.first o a) (AnswersOn s.second o a) (AnswersOn s.third o a) (AnswersOn s.fourth o a) None_there → at_slot k (HasEndedAt r0 g o a) (HasEndedAt r1 g o a) (HasEndedAt r2 g o a) (HasEndedAt r3 g o a) ⊥
-  may_end zero o a x e h = ended_on s.first o a e h
-  may_end (suc zero) o a x e h = ended_on s.second o a e h
-  may_end (suc (suc zero)) o a x e h = ended_on s.third o a e h
-  may_end (suc (suc (suc zero))) o a x e h = ended_on s.fourth o a e h
+      → at_slot k (AnswersOn s.master s.first o a) (AnswersOn s.master s.second o a) (AnswersOn s.master s.third o a) (AnswersOn s.master s.fourth o a) None_there → at_slot k (HasEndedAt m r0 g o a) (HasEndedAt m r1 g o a) (HasEndedAt m r2 g o a) (HasEndedAt m r3 g o a) ⊥
+  may_end zero o a x e h = ended_on s.master s.first o a e h
+  may_end (suc zero) o a x e h = ended_on s.master s.second o a e h
+  may_end (suc (suc zero)) o a x e h = ended_on s.master s.third o a e h
+  may_end (suc (suc (suc zero))) o a x e h = ended_on s.master s.fourth o a e h
   may_end (suc (suc (suc (suc n)))) o a x e h = absurd (true≢false (sym e))
 
   answered_in : (p : OpenedFleet D g) → is_some s.first ≡ is_some p.first → is_some s.second ≡ is_some p.second → is_some s.third ≡ is_some p.third → is_some s.fourth ≡ is_some p.fourth
-      → (o : Order) (a : Answer) → IsAnswered (MayAnswer s) (slots_of s) o a → IsAnswerIn r0 r1 r2 r3 p o a
+      → (o : Order) (a : Answer) → IsAnswered (MayAnswer s) (slots_of s) o a → IsAnswerIn m r0 r1 r2 r3 p o a
   answered_in p e0 e1 e2 e3 o a h =
       let same = at_number o.mirror (is_some s.first) (is_some s.second) (is_some s.third) (is_some s.fourth) in
       answer_at _ _ _ _ a
@@ -61,13 +62,13 @@ module _ {M L0 L1 L2 L3 D : Type 0} {m : _} {r0 : _} {r1 : _} {r2 : _} {r3 : _} 
       (λ t may. may_end o.mirror o a _ (sym same ∙ t) may) h
 
   pub all_answered_in : (p : OpenedFleet D g) → is_some s.first ≡ is_some p.first → is_some s.second ≡ is_some p.second → is_some s.third ≡ is_some p.third → is_some s.fourth ≡ is_some p.fourth
-      → (os : List Order) (as' : List Answer) → AllZip (IsAnswered (MayAnswer s) (slots_of s)) os as' → AllZip (IsAnswerIn r0 r1 r2 r3 p) os as'
+      → (os : List Order) (as' : List Answer) → AllZip (IsAnswered (MayAnswer s) (slots_of s)) os as' → AllZip (IsAnswerIn m r0 r1 r2 r3 p) os as'
   all_answered_in p e0 e1 e2 e3 os as' h = all_so _ _ (answered_in p e0 e1 e2 e3) os as' h
 
   -- the same of an answer, over shares that were made of these stores
   pub shared_in : {E : Type 0} (t : FleetShares M L0 L1 L2 L3 D m r0 r1 r2 r3 g) (p : OpenedFleet D g) → s ≡ t
       → (is_some t.first ≡ is_some p.first) × (is_some t.second ≡ is_some p.second) × (is_some t.third ≡ is_some p.third) × (is_some t.fourth ≡ is_some p.fourth)
-      → (os : List Order) (r : Result (Vec Answer Global) E) → IfOk r (λ xs. AllZip (IsAnswered (MayAnswer s) (slots_of s)) os xs.items) → IfOk r (λ xs. AllZip (IsAnswerIn r0 r1 r2 r3 p) os xs.items)
+      → (os : List Order) (r : Result (Vec Answer Global) E) → IfOk r (λ xs. AllZip (IsAnswered (MayAnswer s) (slots_of s)) os xs.items) → IfOk r (λ xs. AllZip (IsAnswerIn m r0 r1 r2 r3 p) os xs.items)
   shared_in t p e slots os (Ok xs) h =
       all_answered_in p
       (ap (λ (x : FleetShares M L0 L1 L2 L3 D m r0 r1 r2 r3 g). is_some x.first) e ∙ slots.0)

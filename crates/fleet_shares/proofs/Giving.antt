@@ -1,5 +1,5 @@
 -- Orders that were given, and what comes of them.
-use Rattle.std.proofs.Common.{◌≡◌, ◌⊎◌, inl, inr, ℕ, zero, suc, Bool, true, false, List, [], ◌∷◌, ◌++◌, map, length, take, Option, Some, None, Result, Ok, Err, IfOk, IfErr, Vec, vec_len, get_or, refl, sym, ap, subst, ◌∙◌}
+use Rattle.std.proofs.Common.{◌≡◌, inl, inr, ℕ, Bool, true, false, List, [], ◌∷◌, ◌++◌, map, length, take, Option, Some, None, Result, Ok, Err, IfOk, IfErr, Vec, vec_len, get_or, refl, sym, ap, subst, ◌∙◌}
 use Rattle.std.specs.List.{AllZip}
 use Rattle.std.specs.declared.alloc.Global.{Global}
 use Rattle.std.proofs.lemmas.List.{map-append}
@@ -10,8 +10,8 @@ use Rattle.fleet_jobs.specs.declared.fault.FleetFault.{FleetFault}
 use Rattle.fleet_jobs.specs.declared.fault.FleetFault.TheVariants as fleet
 use Rattle.fleet_jobs.specs.declared.order.Order.{Order}
 use Rattle.fleet_jobs.specs.declared.order.Outcome.{Outcome}
-use Rattle.node_base.specs.declared.refusal.Refusal.TheVariants.{Failed, NoRepository}
-use Rattle.sync_core.specs.declared.fault.SyncFault.TheVariants.{Other, OutOfMemory}
+use Rattle.node_base.specs.declared.refusal.Refusal.TheVariants.{Failed}
+use Rattle.sync_core.specs.declared.fault.SyncFault.TheVariants.{Other}
 use Rattle.fleet_jobs.specs.declared.fault.Refused.{Refused}
 use Rattle.fleet_jobs.specs.declared.order.Ticket.{Ticket}
 use Rattle.fleet_jobs.specs.declared.fault.Unfinished.{Unfinished}

@@ -1,3 +1,4 @@
+pub mod Asking
 pub mod Crosses
 pub mod Ending
 pub mod Forgetting

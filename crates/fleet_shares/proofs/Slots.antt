@@ -1,6 +1,5 @@
 -- The stores of a fleet by the numbers of their slots.
-use Rattle.std.proofs.Common.{◌≡◌, ◌≢◌, ◌<◌, ℕ, zero, suc, Bool, false, Option, Some, None, is_some, refl, sym, ap, ◌∙◌, arith}
-use Rattle.repo_store.specs.declared.store.RepoStore.{RepoStore}
+use Rattle.std.proofs.Common.{◌≡◌, ◌≢◌, ℕ, zero, suc, Bool, Option, None, is_some, refl, sym, ap, ◌∙◌}
 use Rattle.fleet_shares.specs.Opening.{HasStores}
 use Rattle.fleet_shares.specs.Runners.{has_at}
 use Rattle.fleet_shares.specs.Stores.{pick, store_at}

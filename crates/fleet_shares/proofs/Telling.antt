@@ -1,5 +1,5 @@
 -- What is told of each mirror is so of its answer and of its store.
-use Rattle.std.proofs.Common.{◌≡◌, ◌⊎◌, inl, inr, ℕ, zero, suc, ◌+◌, Bool, true, false, List, [], ◌∷◌, ◌++◌, append_assoc, length, map, Option, Some, None, Result, Ok, Err, IfOk, IfSome, Vec, is_some, refl, sym, ap, subst, ◌∙◌}
+use Rattle.std.proofs.Common.{◌≡◌, inl, inr, ℕ, zero, suc, ◌+◌, Bool, true, false, List, [], ◌∷◌, ◌++◌, append_assoc, length, map, Option, Some, None, Result, Ok, Err, IfOk, IfSome, Vec, is_some, refl, sym, ap, subst, ◌∙◌}
 use Rattle.std.specs.List.{AllZip, range_with_len}
 use Rattle.std.specs.Option.{option_map, option_to_list}
 use Rattle.std.specs.declared.alloc.Global.{Global}
@@ -17,7 +17,7 @@ use Rattle.store_share.specs.declared.opened.OpenedStore.{OpenedStore}
 use Rattle.fleet_shares.specs.Opening.{cells_at, HasOpened}
 use Rattle.fleet_shares.specs.Orders.{sync_order}
 use Rattle.fleet_shares.specs.Ran.{named_by, HasEnded, HasEndedAt, IsAnswerIn}
-use Rattle.fleet_shares.specs.Runners.{at_slot, has_at}
+use Rattle.fleet_shares.specs.Runners.{at_slot}
 use Rattle.fleet_shares.specs.Stores.{store_at}
 use Rattle.fleet_shares.specs.Told.{head_at, stand, stands, tell, tell_next, tells, AreTold, IsAnswerOver, IsTold, SameSlots}
 use Rattle.fleet_shares.specs.declared.stores.FleetStores.{FleetStores}
@@ -56,28 +56,29 @@ module _ {D : Type 0} {g : _} (old new : FleetStores D g) (same : SameSlots old 
       (told_all 0 rs answers (subst (λ os. AllZip (IsAnswerOver old) os answers) (ordered ∙ ap (λ n. map sync_order (range_with_len 0 n)) counted) h))
 
 -- the answers over opened stores are those over the stores
-named : {D : Type 0} (g : Ghosts D) (r0 r1 r2 r3 : List ℕ) (k : ℕ) (o : Order) (a : Answer) → at_slot k (HasEndedAt (named_by r0) g o a) (HasEndedAt (named_by r1) g o a) (HasEndedAt (named_by r2) g o a) (HasEndedAt (named_by r3) g o a) ⊥ → HasEnded g o a
-named g r0 r1 r2 r3 zero o a h = (r0, h)
-named g r0 r1 r2 r3 (suc zero) o a h = (r1, h)
-named g r0 r1 r2 r3 (suc (suc zero)) o a h = (r2, h)
-named g r0 r1 r2 r3 (suc (suc (suc zero))) o a h = (r3, h)
-named g r0 r1 r2 r3 (suc (suc (suc (suc n)))) o a h = absurd h
+named : {D : Type 0} (g : Ghosts D) (m r0 r1 r2 r3 : List ℕ) (k : ℕ) (o : Order) (a : Answer)
+    → at_slot k (HasEndedAt (named_by m) (named_by r0) g o a) (HasEndedAt (named_by m) (named_by r1) g o a) (HasEndedAt (named_by m) (named_by r2) g o a) (HasEndedAt (named_by m) (named_by r3) g o a) ⊥ → HasEnded g o a
+named g m r0 r1 r2 r3 zero o a h = (m, (r0, h))
+named g m r0 r1 r2 r3 (suc zero) o a h = (m, (r1, h))
+named g m r0 r1 r2 r3 (suc (suc zero)) o a h = (m, (r2, h))
+named g m r0 r1 r2 r3 (suc (suc (suc zero))) o a h = (m, (r3, h))
+named g m r0 r1 r2 r3 (suc (suc (suc (suc n)))) o a h = absurd h
 
 answer_so : (b : Bool) (P Q : Type 0) (a : Answer) → (P → Q) → IsAnswerAt b P a → IsAnswerAt b Q a
 answer_so false P Q a f h = h
 answer_so true P Q a f (inl p) = inl (f p)
 answer_so true P Q a f (inr x) = inr x
 
-over_stores : {D : Type 0} {g : _} (r0 r1 r2 r3 : List ℕ) (stores : FleetStores D g) (opened : OpenedFleet D g) → HasOpened (is_some stores.first) (is_some stores.second) (is_some stores.third) (is_some stores.fourth) opened
-    → (o : Order) (a : Answer) → IsAnswerIn (named_by r0) (named_by r1) (named_by r2) (named_by r3) opened o a → IsAnswerOver stores o a
-over_stores {g = g} r0 r1 r2 r3 stores opened same o a h =
-    subst (λ b. IsAnswerAt b (HasEnded g o a) a) (sym (has_some stores _ _ _ _ (sym same.0, sym same.1, sym same.2, sym same.3) o.mirror)) (answer_so _ _ _ a (named g r0 r1 r2 r3 o.mirror o a) h)
+over_stores : {D : Type 0} {g : _} (m r0 r1 r2 r3 : List ℕ) (stores : FleetStores D g) (opened : OpenedFleet D g) → HasOpened (is_some stores.first) (is_some stores.second) (is_some stores.third) (is_some stores.fourth) opened
+    → (o : Order) (a : Answer) → IsAnswerIn (named_by m) (named_by r0) (named_by r1) (named_by r2) (named_by r3) opened o a → IsAnswerOver stores o a
+over_stores {g = g} m r0 r1 r2 r3 stores opened same o a h =
+    subst (λ b. IsAnswerAt b (HasEnded g o a) a) (sym (has_some stores _ _ _ _ (sym same.0, sym same.1, sym same.2, sym same.3) o.mirror)) (answer_so _ _ _ a (named g m r0 r1 r2 r3 o.mirror o a) h)
 
-pub answered_over : {D : Type 0} {g : _} {E : Type 0} (r0 r1 r2 r3 : List ℕ) (stores : FleetStores D g) (opened : OpenedFleet D g) (os : List Order) (r : Result (Vec Answer Global) E)
+pub answered_over : {D : Type 0} {g : _} {E : Type 0} (m r0 r1 r2 r3 : List ℕ) (stores : FleetStores D g) (opened : OpenedFleet D g) (os : List Order) (r : Result (Vec Answer Global) E)
     → HasOpened (is_some stores.first) (is_some stores.second) (is_some stores.third) (is_some stores.fourth) opened
-    → IfOk r (λ xs. AllZip (IsAnswerIn (named_by r0) (named_by r1) (named_by r2) (named_by r3) opened) os xs.items) → IfOk r (λ xs. AllZip (IsAnswerOver stores) os xs.items)
-answered_over r0 r1 r2 r3 stores opened os (Ok xs) same h = all_so _ _ (over_stores r0 r1 r2 r3 stores opened same) os xs.items h
-answered_over r0 r1 r2 r3 stores opened os (Err e) same h = tt
+    → IfOk r (λ xs. AllZip (IsAnswerIn (named_by m) (named_by r0) (named_by r1) (named_by r2) (named_by r3) opened) os xs.items) → IfOk r (λ xs. AllZip (IsAnswerOver stores) os xs.items)
+answered_over m r0 r1 r2 r3 stores opened os (Ok xs) same h = all_so _ _ (over_stores m r0 r1 r2 r3 stores opened same) os xs.items h
+answered_over m r0 r1 r2 r3 stores opened os (Err e) same h = tt
 
 pub of_ok : {T E : Type 0} (r : Result T E) (x : T) (P : T → Type 0) → r ≡ Ok x → IfOk r P → P x
 of_ok {T} {E} r x P e h = subst (λ (k : Result T E). IfOk k P) e h

@@ -35,7 +35,7 @@ slots_of s = has_mirror s 0 ∷ has_mirror s 1 ∷ has_mirror s 2 ∷ has_mirror
 -- what the job of an order may answer: what it may on the mirror of its slot, and of no slot NoRepository (34)
 abbrev pub MayAnswer : {M L0 L1 L2 L3 D : Type 0} {m : _} {r0 : _} {r1 : _} {r2 : _} {r3 : _} {g : _} → FleetShares M L0 L1 L2 L3 D m r0 r1 r2 r3 g → Order → Answer → Type 0
 MayAnswer s order answer =
-    at_slot order.mirror (AnswersOn s.first order answer) (AnswersOn s.second order answer) (AnswersOn s.third order answer) (AnswersOn s.fourth order answer)
+    at_slot order.mirror (AnswersOn s.master s.first order answer) (AnswersOn s.master s.second order answer) (AnswersOn s.master s.third order answer) (AnswersOn s.master s.fourth order answer)
     (answer ≡ Err (Other NoRepository))
 
 -- the shares of a runner

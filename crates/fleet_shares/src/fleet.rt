@@ -111,8 +111,8 @@ fn run_opened<
     requires fourth { IfSome opened.fourth (λ o. cells_of o ≡ L3.cells) }
     ensures slots { HasStores (is_some opened.first) (is_some opened.second) (is_some opened.third)
         (is_some opened.fourth) result.0 }
-    ensures answers { IfOk result.1 (λ answers. AllZip (IsAnswerIn L0.RowName L1.RowName L2.RowName L3.RowName opened)
-        orders.items answers.items) }
+    ensures answers { IfOk result.1 (λ answers.
+        AllZip (IsAnswerIn M.RowName L0.RowName L1.RowName L2.RowName L3.RowName opened) orders.items answers.items) }
 {
     let shares = FleetShares::<M, L0, L1, L2, L3, D>::of(alloc, opened);
     match Arc::new(alloc, shares) {

@@ -3,8 +3,9 @@ ghost use Rattle.std.specs.Prelude.{[], ◌≡◌, Ok, Err, IfOk, IfErr, OnErr};
 ghost use Rattle.fleet_shares.specs.Answers.{Answers, AnswersOn, EndsAs, IsSeen};
 ghost use Rattle.fleet_shares.specs.Jobs.{EndsBy, IsRunOf};
 ghost use Rattle.sync_core.specs.declared.fault.SyncFault.TheVariants as fault;
+ghost use Rattle.sync_job.specs.Questions.{KeepsAnswers};
 ghost use Rattle.sync_job.specs.Telling.{KeepsTelling};
-ghost use Rattle.sync_job.specs.Words.{calls_of, mirror_of};
+ghost use Rattle.sync_job.specs.Words.{calls_of, master_of, mirror_of};
 
 use crate::master::SharedMaster;
 use crate::unheard::Unheard;
@@ -26,7 +27,7 @@ pub(crate) fn run_in<R: Wait, M: RowName, L: RowName, D: Disk>(
     mirror: &Option<MirrorShare<L, D>>,
     order: &Order,
 ) -> Result<RevNo, SyncFault>
-    ensures { AnswersOn mirror.now order.now result }
+    ensures { AnswersOn master.now mirror.now order.now result }
 {
     match mirror {
         Some(mirror) => run_on(rt, alloc, master, mirror, order),
@@ -44,7 +45,7 @@ fn run_on<R: Wait, M: RowName, L: RowName, D: Disk>(
     mirror: &MirrorShare<L, D>,
     order: &Order,
 ) -> Result<RevNo, SyncFault>
-    ensures { Answers mirror.now order.now result }
+    ensures { Answers master.now mirror.now order.now result }
 {
     let mut reader = mirror.enter_reader(rt, alloc)?;
     let seat = mirror.enter_job(rt, alloc, &order.token)?;
@@ -65,7 +66,7 @@ fn run_seated<R: Wait, M: RowName, L: RowName, D: Disk>(
     seat: JobSeat<L>,
     order: &Order,
 ) -> (JobSeat<L>, Result<(), SyncFault>)
-    ensures { EndsAs mirror.now order.now result.1 }
+    ensures { EndsAs master.now mirror.now order.now result.1 }
 {
     let mirror = match SeatMirror::new(rt, alloc, mirror, seat) {
         Ok(mirror) => mirror,
@@ -81,7 +82,7 @@ fn run_seated<R: Wait, M: RowName, L: RowName, D: Disk>(
 }
 
 // Runs the job of an order over ports through which nothing was said yet. What is said from then on tells each call that
-// the mirror is asked.
+// the mirror is asked, and each question to the master.
 fn run_work<M: MasterPort + Drop, N: MirrorPort + Drop>(
     alloc: Global,
     ports: &mut JobPorts<M, N, Unheard>,
@@ -90,6 +91,8 @@ fn run_work<M: MasterPort + Drop, N: MirrorPort + Drop>(
     requires { calls_of ports.old ≡ [] }
     ensures ended { EndsBy order.now (calls_of ports.new) result }
     ensures asked { KeepsTelling N.asked (mirror_of ports.old) (mirror_of ports.new) (calls_of ports.old)
+        (calls_of ports.new) }
+    ensures answered { KeepsAnswers M.answered (master_of ports.old) (master_of ports.new) (calls_of ports.old)
         (calls_of ports.new) }
 {
     match order.token.copy(alloc) {
@@ -108,6 +111,8 @@ fn run_under<M: MasterPort + Drop, N: MirrorPort + Drop>(
     requires { calls_of ports.old ≡ [] }
     ensures ran { IsRunOf work token (calls_of ports.new) result }
     ensures asked { KeepsTelling N.asked (mirror_of ports.old) (mirror_of ports.new) (calls_of ports.old)
+        (calls_of ports.new) }
+    ensures answered { KeepsAnswers M.answered (master_of ports.old) (master_of ports.new) (calls_of ports.old)
         (calls_of ports.new) }
 {
     match work {

@@ -1,6 +1,7 @@
 //! A shared master as the port of a job.
 ghost use Rattle.std.specs.Prelude.{◌≡◌, ◌≤◌, ◌-◌, ◌⊎◌, ◌++◌, ◌∷◌, [], List, length, take, Some, IfOk, IfErr, IfSome, OnErr};
 ghost use Rattle.std.specs.Option.{option_map};
+ghost use Rattle.uuid.specs.Text.{hyphenated_text, lower};
 ghost use Rattle.dump_load.specs.Trees.{Makes};
 ghost use Rattle.node_base.specs.declared.refusal.Refusal.TheVariants as refusal;
 ghost use Rattle.store_share.specs.Seats.{known_by, seen_by};
@@ -31,12 +32,16 @@ pub struct SharedMaster<'a, R: Wait, L: RowName, D: Disk> {
 }
 
 impl<'a, R: Wait, L: RowName, D: Disk> SharedMaster<'a, R, L, D> {
+    ghost use Rattle.fleet_shares.specs.Ports.{share_of};
+
     /// The port over a share, whose seat has seen what is shown now. Only want of memory (70) refuses it.
     pub fn new(
         rt: &'a R,
         alloc: Global,
         share: &'a MasterShare<L, D>,
-    ) -> Result<SharedMaster<'a, R, L, D>, AllocError> {
+    ) -> Result<SharedMaster<'a, R, L, D>, AllocError>
+        ensures { IfOk result (λ p. share_of p ≡ share.now) }
+    {
         Ok(SharedMaster {
             rt,
             share,
@@ -46,22 +51,23 @@ impl<'a, R: Wait, L: RowName, D: Disk> SharedMaster<'a, R, L, D> {
 }
 
 impl<R: Wait, L: RowName, D: Disk> MasterPort for SharedMaster<'_, R, L, D> {
-    ghost use Rattle.fleet_shares.specs.Ports.{seat_of, IsNowhere, SaysNothing};
+    ghost use Rattle.std.proofs.Common.{refl};
+    ghost use Rattle.fleet_shares.specs.Ports.{seat_of, IsNowhere, WasTold};
 
     // Others change the master between two calls of a job, and no clause knows what is under a lock.
     ghost is_at = { λ _ o. IsNowhere o };
 
-    // Nor is anything said of all that it answers.
-    ghost answered = { λ now first made. SaysNothing now first made };
+    // What it answers is its share's.
+    ghost answered = { λ now first made. WasTold now first made };
 
-    ghost unasked = { λ _. record { nothing = tt } };
+    ghost unasked = { λ _. record { share = refl; told = tt } };
 
     fn identity(&mut self, alloc: Global) -> Result<PropValue, MasterFault>
         ensures seat { seat_of self.new ≡ seat_of self.old }
         ensures refused { IfErr result (λ f. f ≡ fault.Refused refusal.OutOfMemory) }
         ensures value { IsTrue IsNowhere IsNowhere (λ o. IfOk result (λ v. v ≡ o.identity)) }
-        ensures answered { (first : _) (made : List Exchange) → SaysNothing self.old first made
-            → SaysNothing self.new first (made ++ Identity result ∷ []) }
+        ensures answered { (first : _) (made : List Exchange) → WasTold self.old first made
+            → WasTold self.new first (made ++ Identity result ∷ []) }
     {
         match identity_text(alloc, self.share.identity(self.rt)) {
             Ok(text) => Ok(text),
@@ -77,8 +83,8 @@ impl<R: Wait, L: RowName, D: Disk> MasterPort for SharedMaster<'_, R, L, D> {
         ensures kept { (r : _) → r ≤ seen_by (seat_of self.old)
             → known_by (seat_of self.new) r ≡ known_by (seat_of self.old) r }
         ensures value { IsTrue IsNowhere IsNowhere (λ o. IfOk result (λ n. n ≡ length o.trees - 1)) }
-        ensures answered { (first : _) (made : List Exchange) → SaysNothing self.old first made
-            → SaysNothing self.new first (made ++ Latest result ∷ []) }
+        ensures answered { (first : _) (made : List Exchange) → WasTold self.old first made
+            → WasTold self.new first (made ++ Latest result ∷ []) }
     {
         Ok(self.share.latest(self.rt, &mut self.seat))
     }
@@ -103,8 +109,8 @@ impl<R: Wait, L: RowName, D: Disk> MasterPort for SharedMaster<'_, R, L, D> {
             (λ o. take number o.trees ≡ trees.now → IfOk result
             (λ r. MakesTree o number r.set × (map_at o (moment_of o) number ≡ Some r.props))) }
         ensures tree { IfOk result (λ r. IfSome r.tree (Makes trees.now r.set)) }
-        ensures answered { (first : _) (made : List Exchange) → SaysNothing self.old first made
-            → SaysNothing self.new first (made ++ Fetch number trees.now result ∷ []) }
+        ensures answered { (first : _) (made : List Exchange) → WasTold self.old first made
+            → WasTold self.new first (made ++ Fetch number trees.now result ∷ []) }
     {
         let _ = trees;
         match self.share.fetch(self.rt, alloc, &mut self.seat, number) {
@@ -120,8 +126,8 @@ impl<R: Wait, L: RowName, D: Disk> MasterPort for SharedMaster<'_, R, L, D> {
             ⊎ (f ≡ fault.Refused refusal.OutOfMemory)) }
         ensures value { IsTrue IsNowhere IsNowhere
             (λ o. IfOk result (λ p. map_at o (moment_of o) number ≡ Some p)) }
-        ensures answered { (first : _) (made : List Exchange) → SaysNothing self.old first made
-            → SaysNothing self.new first (made ++ FetchProps number result ∷ []) }
+        ensures answered { (first : _) (made : List Exchange) → WasTold self.old first made
+            → WasTold self.new first (made ++ FetchProps number result ∷ []) }
     {
         match self.share.fetch_props(self.rt, number) {
             Ok(props) => Ok(props),
@@ -138,7 +144,9 @@ fn master_fault(fault: StoreFault) -> MasterFault
 }
 
 // An identity as a mirror's properties spell it.
-fn identity_text(alloc: Global, identity: Uuid) -> Result<PropValue, AllocError> {
+fn identity_text(alloc: Global, identity: Uuid) -> Result<PropValue, AllocError>
+    ensures { IfOk result (λ v. v ≡ hyphenated_text lower identity) }
+{
     let mut buffer = [0u8; 36];
     let text = identity.hyphenated().encode_lower(&mut buffer);
     match PropValue::new(Vec::from_slice(alloc, text.as_bytes())?) {

@@ -1,3 +1,4 @@
+use Rattle.store_share.specs.Opened.{cells_of}
 use Rattle.fleet_shares.specs.Opening.{cells_at}
 use Rattle.fleet_shares.proofs.Telling.{answered_over, own_cells}
 use Rattle.fleet_shares.proofs.fleet.run_orders.Goals as goal
@@ -15,4 +16,5 @@ pub run_opened-requires-clause-fourth : goal.run_opened-requires-clause-fourth
 run_opened-requires-clause-fourth g c κs within = own_cells c.in-Ok.opened.fourth
 
 pub returns-in-Ok-clause-answers : goal.returns-in-Ok-clause-answers
-returns-in-Ok-clause-answers g c = answered_over (cells_at c.in-Ok.opened.first) (cells_at c.in-Ok.opened.second) (cells_at c.in-Ok.opened.third) (cells_at c.in-Ok.opened.fourth) c.args.stores c.in-Ok.opened c.args.orders.items c.run_opened.result.1 c.in-Ok.ensures.opened c.run_opened.ensures.answers
+returns-in-Ok-clause-answers g c =
+    answered_over (cells_of c.in-Ok.opened.master) (cells_at c.in-Ok.opened.first) (cells_at c.in-Ok.opened.second) (cells_at c.in-Ok.opened.third) (cells_at c.in-Ok.opened.fourth) c.args.stores c.in-Ok.opened c.args.orders.items c.run_opened.result.1 c.in-Ok.ensures.opened c.run_opened.ensures.answers

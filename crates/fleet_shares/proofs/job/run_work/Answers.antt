@@ -7,4 +7,5 @@ pub returns-in-Ok : goal.returns-in-Ok
 returns-in-Ok g c = record {
   ended = inl (subst (λ t. IsRunOf c.args.order.now.work t (calls_of c.run_under.new.ports) c.run_under.result) c.in-Ok.ensures c.run_under.ensures.ran);
   asked = c.run_under.ensures.asked;
+  answered = c.run_under.ensures.answered;
 }
