@@ -25,7 +25,7 @@ use Rattle.store_engines.specs.Loads.{Loaded, ServesOne, ServesRecords, Refused 
 use Rattle.store_engines.specs.Mirrors.{is_mirror}
 use Rattle.store_engines.specs.Ranges.{count_wanted, first_wanted, last_wanted}
 use Rattle.store_engines.specs.declared.range.RevRange.{RevRange}
-use Rattle.fleet_main.specs.Doing.{EndsWith, HandsOn, IsBegun, IsBegunIn, IsCommittedTo, IsDumped, IsKept, IsKeptOr, IsLoadedFrom, IsOpenedIn, IsOpenedOn, NotCommittedTo, NotDumped, NotLoadedFrom, OfStanding, UnopenedOr, not_done, not_handed_on}
+use Rattle.fleet_main.specs.Doing.{EndsWith, HandsOn, IsBegun, IsBegunIn, IsCommittedTo, IsDumped, IsHeadOf, IsKept, IsKeptOr, IsLoadedFrom, IsOpenedIn, IsOpenedOn, NoHeadOf, NotCommittedTo, NotDumped, NotLoadedFrom, OfStanding, UnopenedOr, head_line, not_done, not_handed_on}
 use Rattle.fleet_main.specs.Loans.{TakesBack}
 use Rattle.fleet_main.specs.declared.lending.Folders.{Ghosts as FolderGhosts}
 use Rattle.fleet_main.proofs.Loans.{one_back}
@@ -123,6 +123,19 @@ module _ {F D : Type 0} (G : Ghosts D) (H : FolderGhosts F D) (folders then late
   dump_refused (Ok t) range before now fails store o h k back = tt
   dump_refused (Err e) range before now fails store o h k back =
       inr (standing (NotDumped (H.honest folders) range before now fails e) store store o back (λ h. h) (refl, h, kept_opened (H.honest folders) o.0 store o.2 k))
+
+  -- its newest revision is printed
+  pub head_done : (r : Result (Unit {0}) Refusal) (before now : Option (List ℕ)) (store : RepoStore D G) → IsOpenedIn G H folders then folder store → OnOk r (Appends before now (head_line (revisions_of store)))
+      → KeptThen store → TakesBack G H then later folder (disk_of store) → OnOk r (OfStanding G H folders later folder (IsHeadOf (H.honest folders) before now))
+  head_done (Ok t) before now store o written k back =
+      standing (IsHeadOf (H.honest folders) before now) store store o back (λ h. h) (refl, written, kept_opened (H.honest folders) o.0 store o.2 k)
+  head_done (Err e) before now store o written k back = tt
+
+  pub head_refused : (r : Result (Unit {0}) Refusal) (before now : Option (List ℕ)) (fails : Type 0) (store : RepoStore D G) → IsOpenedIn G H folders then folder store → IfErr r (λ e. e ≡ refusal.PeerFailed) → OnErr r fails
+      → KeptThen store → TakesBack G H then later folder (disk_of store) → IfErr r (λ e. UnopenedOr G H folders later folder before now e (NoHeadOf (H.honest folders) fails e))
+  head_refused (Ok t) before now fails store o only failed k back = tt
+  head_refused (Err e) before now fails store o only failed k back =
+      inr (standing (NoHeadOf (H.honest folders) fails e) store store o back (λ h. h) (refl, only, failed, kept_opened (H.honest folders) o.0 store o.2 k))
 
   -- a repository is begun
   pub begun : (identity : List ℕ) (store : RepoStore D G) → IsBegunIn G H folders then folder identity store → TakesBack G H then later folder (disk_of store) → IsBegun G H folders later folder identity

@@ -17,7 +17,7 @@ use Rattle.repo_store.specs.Verdicts.{KeptReopens, OneRepository, OneText}
 use Rattle.store_engines.specs.Dumps.{revision_now, revisions_text}
 use Rattle.store_engines.specs.Ranges.{count_wanted, first_wanted, last_in, last_wanted}
 use Rattle.store_engines.proofs.Dumping.{export_now, text_more}
-use Rattle.fleet_main.specs.Laws.{OneDump}
+use Rattle.fleet_main.specs.Laws.{OneDump, OneHead}
 
 -- entries tell a set for each revision
 same_count : (x : List Revision) (n : ℕ) (props : PropMap) → length (with_props x n props) ≡ length x
@@ -75,3 +75,6 @@ one_dump repository reopens law image r s range k l h =
     let texts : revisions_text r (first_wanted range) (count_wanted r range) ≡ revisions_text s (first_wanted range) (count_wanted s range) =
     one_range law image r s (first_wanted range) (count_wanted r range) k l lengths (λ n m. omega (arith, h, m)) ∙ ap (revisions_text s (first_wanted range)) counts in
     (omega (arith, h, last, lengths), λ i. canon_head (Some (one.0 i)) ++ texts i)
+
+pub one_head : OneRepository → KeptReopens → OneHead
+one_head repository reopens image r s k l = ap head_of (repository image r.identity s.identity r.revisions s.revisions (reopens image r k) (reopens image s l)).1

@@ -1,5 +1,6 @@
 -- What a command does, and why it doesn't.
-use Rattle.std.specs.Prelude.{◌≡◌, ◌≢◌, ◌≤◌, ◌⊎◌, ◌<◌, ℕ, Bool, true, false, List, [], ◌∷◌, length, Option, Some, None, IfSome, Result, Ok, Err, string_bytes}
+use Rattle.std.specs.Prelude.{◌≡◌, ◌≢◌, ◌≤◌, ◌⊎◌, ◌<◌, ℕ, Bool, true, false, List, [], ◌∷◌, ◌++◌, codes, length, Option, Some, None, IfSome, Result, Ok, Err, string_bytes}
+use Rattle.std.specs.Fmt.{decimal}
 use Rattle.std.specs.List.{filter, flat_map}
 use Rattle.std.specs.Io.KnownBytes.{Appends, Keeps as HandedOn}
 use Rattle.jiff_core.specs.declared.civil.datetime.DateTime.{DateTime}
@@ -12,7 +13,7 @@ use Rattle.node_base.specs.Path.{Path}
 use Rattle.node_base.specs.PathText.{path_read}
 use Rattle.node_base.specs.declared.refusal.Refusal.{Refusal}
 use Rattle.node_base.specs.declared.refusal.Refusal.TheVariants as refusal
-use Rattle.repo_core.specs.Repository.{Repository, fresh, head_of, props_at}
+use Rattle.repo_core.specs.Repository.{Repository, Revision, fresh, head_of, props_at}
 use Rattle.repo_store.specs.Journal.{beginning_of, Keeps, KeepsAlike, KeepsOr, ReopensTo}
 use Rattle.repo_store.specs.Words.{disk_of, doubt_of, identity_of, repository_of, revisions_of, HasFailed}
 use Rattle.repo_store.specs.declared.store.RepoStore.{RepoStore}
@@ -43,7 +44,7 @@ use Rattle.fleet_main.specs.Loans.{AreBack, IsLent, Loan, lent_by, only_of}
 use Rattle.fleet_main.specs.Opening.{NotBegunIn, NotOpened, NotOpenedIn}
 use Rattle.fleet_main.specs.declared.lending.Folders.{Ghosts as FolderGhosts}
 use Rattle.command_words.specs.declared.command_line.Command.{Command}
-use Rattle.command_words.specs.declared.command_line.Command.TheVariants.{List as ListIt, Canon, Create, Load, Dump, MakeDir, Upgrade, Initialize, Synchronize, CopyRevprops, Info}
+use Rattle.command_words.specs.declared.command_line.Command.TheVariants.{List as ListIt, Canon, Create, Load, Dump, MakeDir, Upgrade, Initialize, Synchronize, CopyRevprops, Info, Head}
 
 -- a store is opened on a disk that a folder lent, and that keeps the rules if the folders do
 pub record IsOpenedOn {D : Type 0} (G : Ghosts D) (honest : Type 0) (given : D) (store : RepoStore D G) : Type 0 where
@@ -227,6 +228,18 @@ abbrev pub NotToldOf : {D : Type 0} {G : Ghosts D} → Type 0 → Option (List �
 NotToldOf honest before now fails e old new =
     (new ≡ old) × (((info_fault (props_at (revisions_of old) 0) (head_of (revisions_of old)) ≡ Some e) × (now ≡ before)) ⊎ ((e ≡ refusal.PeerFailed) × fails)) × IsKept honest old
 
+-- the number of the newest revision in decimal digits, and a newline
+abbrev pub head_line : List Revision → List ℕ
+head_line revisions = decimal (head_of revisions) ++ codes "\n"
+
+-- it is printed, and the store stays, which a stop leaves
+abbrev pub IsHeadOf : {D : Type 0} {G : Ghosts D} → Type 0 → Option (List ℕ) → Option (List ℕ) → RepoStore D G → RepoStore D G → Type 0
+IsHeadOf honest before now old new = (new ≡ old) × Appends before now (head_line (revisions_of old)) × IsKept honest old
+
+-- it isn't: the output fails, and nothing else refuses it
+abbrev pub NoHeadOf : {D : Type 0} {G : Ghosts D} → Type 0 → Type 0 → Refusal → RepoStore D G → RepoStore D G → Type 0
+NoHeadOf honest fails e old new = (new ≡ old) × (e ≡ refusal.PeerFailed) × fails × IsKept honest old
+
 -- a store is opened on a folder's disk; of it and the disk that came back P is so, and the folder has that disk then, while other folders stay
 pub record OfUpgrade {F D : Type 0} (G : Ghosts D) (H : FolderGhosts F D) (folders later : F) (folder : List ℕ) (P : RepoStore D G → D → Type 0) : Type 0 where
   pub given : D
@@ -253,6 +266,7 @@ IsDone G H folders later (Synchronize mirror source token steal) bytes before no
 IsDone G H folders later (CopyRevprops mirror source token range) bytes before now =
     OfBoth G H folders later (string_bytes mirror) (string_bytes source) (IsBrought (work.CopyRevprops token (first_in range) (last_in range)) before now)
 IsDone G H folders later (Info mirror) bytes before now = OfStanding G H folders later (string_bytes mirror) (IsToldOf (H.honest folders) before now)
+IsDone G H folders later (Head folder) bytes before now = OfStanding G H folders later (string_bytes folder) (IsHeadOf (H.honest folders) before now)
 
 -- the repository isn't opened, and nothing is written; or of the one that stands there P is so
 abbrev pub UnopenedOr : {F D : Type 0} (G : Ghosts D) → FolderGhosts F D → F → F → List ℕ → Option (List ℕ) → Option (List ℕ) → Refusal → (RepoStore D G → RepoStore D G → Type 0) → Type 0
@@ -304,6 +318,8 @@ IsNotDone G H folders later (CopyRevprops mirror source token range) bytes befor
     UnopenedBoth G H folders later (string_bytes mirror) (string_bytes source) before now e (NotBrought (work.CopyRevprops token (first_in range) (last_in range)) before now (Rose start count) e)
 IsNotDone G H folders later (Info mirror) bytes before start now count e =
     UnopenedOr G H folders later (string_bytes mirror) before now e (NotToldOf (H.honest folders) before now (Rose start count) e)
+IsNotDone G H folders later (Head folder) bytes before start now count e =
+    UnopenedOr G H folders later (string_bytes folder) before now e (NoHeadOf (H.honest folders) (Rose start count) e)
 
 -- what was written is handed on
 pub record HandsOn (P : Option (List ℕ) → Type 0) (now : Option (List ℕ)) : Type 0 where

@@ -11,13 +11,14 @@ ghost use Rattle.fleet_main.specs.Doing.{EndsWith, HandsOn, IsBegun, IsCommitted
 ghost use Rattle.fleet_main.specs.Doing.{IsNotDone, IsToldOf, IsBrought, NoSourceOr, NotCommittedTo, NotDumped};
 ghost use Rattle.fleet_main.specs.Doing.{NotKept, NotLoadedFrom, NotToldOf, NotBrought, NotBroughtOn, OfBoth};
 ghost use Rattle.fleet_main.specs.Doing.{OfStanding, OfUpgrade, OverSource, UnopenedBoth, UnopenedOr};
-ghost use Rattle.fleet_main.specs.Doing.{BroughtOn, UnopenedOrUpgrade};
+ghost use Rattle.fleet_main.specs.Doing.{BroughtOn, IsHeadOf, NoHeadOf, UnopenedOrUpgrade};
 ghost use Rattle.fleet_main.specs.Loans.{AreBack};
 ghost use Rattle.fleet_main.specs.Opening.{NotBegunIn};
 ghost use Rattle.store_engines.specs.Upgrades.{IsUpgraded, NotUpgraded};
 
 use crate::folders::{closed, created, opened, opened_to_upgrade};
 use crate::lending::Folders;
+use crate::newest::run_head;
 use byte_streams::{Input, Output};
 use command_words::Command;
 use fleet_disk::Disk;
@@ -100,6 +101,29 @@ fn dump<F: Folders, O: Output + Drop>(
     match opened(alloc, folders, folder) {
         Ok(store) => {
             let done = run_dump(alloc, &store, range, output);
+            closed(folders, folder, store);
+            done
+        }
+        Err(refusal) => Err(refusal),
+    }
+}
+
+fn head<F: Folders, O: Output + Drop>(
+    alloc: Global,
+    folders: &mut F,
+    folder: &str,
+    output: &mut O,
+) -> Result<(), Refusal>
+    ensures done { OnOk result (OfStanding F.Place.Disk F.Folders folders.old folders.new folder.now
+        (IsHeadOf (F.honest folders.old) (O.contents output.old) (O.contents output.new))) }
+    ensures refused { IfErr result (λ e. UnopenedOr F.Place.Disk F.Folders folders.old folders.new folder.now
+        (O.contents output.old) (O.contents output.new) e
+        (NoHeadOf (F.honest folders.old) (Rose (O.failures output.old) (O.failures output.new)) e)) }
+    ensures peer { Counted result (O.failures output.old) (O.failures output.new) }
+{
+    match opened(alloc, folders, folder) {
+        Ok(store) => {
+            let done = run_head(&store, output);
             closed(folders, folder, store);
             done
         }
@@ -402,6 +426,10 @@ fn run_one<F: Folders, I: Input, O: Output + Drop>(
         ),
         Command::Info { mirror } => {
             let done = info(alloc, folders, mirror.as_str(), &mut output);
+            (output, done)
+        }
+        Command::Head { folder } => {
+            let done = head(alloc, folders, folder.as_str(), &mut output);
             (output, done)
         }
     }

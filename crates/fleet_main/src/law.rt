@@ -1,5 +1,5 @@
-//! What holds of the files of every folder. The function does nothing: its contract is the law.
-ghost use Rattle.fleet_main.specs.Laws.{OneDump};
+//! What holds of the files of every folder. The functions do nothing: their contracts are the laws.
+ghost use Rattle.fleet_main.specs.Laws.{OneDump, OneHead};
 
 use repo_store::one_verdict;
 
@@ -7,6 +7,13 @@ use repo_store::one_verdict;
 /// have one dump of a range. So of `dump` what `run` writes is one text.
 pub fn one_dump()
     ensures { OneDump }
+{
+    one_verdict();
+}
+
+/// They fix the newest revision too: so of `head` what `run` writes is one number.
+pub fn one_head()
+    ensures { OneHead }
 {
     one_verdict();
 }

@@ -36,6 +36,7 @@ mod execute;
 mod folders;
 pub mod law;
 mod lending;
+mod newest;
 mod pulling;
 mod serving;
 mod streams;

@@ -1,5 +1,6 @@
 //! A folder's repository that is served to Subversion's clients.
-ghost use Rattle.std.specs.Prelude.{◌≡◌, ◌⊎◌, false, Ok, IfErr, OnOk};
+ghost use Rattle.std.specs.Prelude.{◌≡◌, ◌⊎◌, false, Ok, IfErr, OnOk, string_bytes};
+ghost use Rattle.std.specs.Option.{option_map};
 ghost use Rattle.std.specs.Io.KnownBytes.{Appends};
 ghost use Rattle.node_base.specs.declared.refusal.Refusal.{Refusal as RefusalOf};
 ghost use Rattle.byte_streams.specs.Causes.{Rose};
@@ -30,7 +31,7 @@ use std::sync::Wait;
 use std::thread::Threads;
 use std::time::{Clock, Duration};
 use store_engines::is_mirror;
-use svn_ends::serve_store;
+use svn_ends::{Address, serve_store};
 
 // Whether a store's repository takes no changes, being a mirror.
 fn takes_none<D: Disk + Drop>(store: &RepoStore<D>) -> bool
@@ -68,6 +69,24 @@ fn answer_of(done: Result<(), SocketFault>, failed: bool) -> Result<(), Refusal>
     }
 }
 
+// Where words ask a server to be for its clients.
+fn address_of(service: &Service) -> Address<'_>
+    ensures port { result.port ≡ service.now.port }
+    ensures root { option_map (λ root. root.now) result.root_url ≡ option_map string_bytes service.now.root_url }
+{
+    let port = service.port;
+    match &service.root_url {
+        Some(root) => Address {
+            port,
+            root_url: Some(root.as_str()),
+        },
+        None => Address {
+            port,
+            root_url: None,
+        },
+    }
+}
+
 // Whether an output that was lent to code that knows std's writers alone may have failed since it had failed so often.
 fn may_have_failed<O: Output + Drop>(sink: Sink<O>, before: u64) -> (O, bool)
     ensures back { result.0 ≡ inner_of sink }
@@ -94,12 +113,12 @@ fn serve_opened<
     rt: &R,
     alloc: Global,
     store: RepoStore<D>,
-    port: u16,
+    address: &Address<'_>,
     limits: Limits,
     teller: &T,
     output: O,
 ) -> (D, O, Result<(), Refusal>)
-    ensures told { OnOk result.2 (Appends (O.contents output) (O.contents result.1) (listening port)) }
+    ensures told { OnOk result.2 (Appends (O.contents output) (O.contents result.1) (listening address.now.port)) }
     ensures back { IsOfStore D.Disk result.0 }
     ensures kept { D.honest (disk_of store) → ¬ HasFailed store → (left : Image) → D.may_leave (disk_of store) left
         → Keeps (repository_of store) left }
@@ -109,7 +128,7 @@ fn serve_opened<
     let mirror = takes_none(&store);
     let mut sink = Sink::new(output);
     let before = sink.begin();
-    let (disk, done) = serve_store(rt, alloc, store, mirror, port, limits, teller, &mut sink);
+    let (disk, done) = serve_store(rt, alloc, store, mirror, address, limits, teller, &mut sink);
     let (output, failed) = may_have_failed(sink, before);
     (disk, output, answer_of(done, failed))
 }
@@ -124,7 +143,7 @@ fn serve_folder<
     alloc: Global,
     folders: &mut F,
     folder: &str,
-    port: u16,
+    address: &Address<'_>,
     limits: Limits,
     teller: &T,
     output: O,
@@ -132,14 +151,16 @@ fn serve_folder<
 where
     F::Place: Send,
     ensures done { OnOk result.1 (OfServed F.Place.Disk F.Folders folders.old folders.new folder.now
-        (Appends (O.contents output) (O.contents result.0) (listening port))) }
+        (Appends (O.contents output) (O.contents result.0) (listening address.now.port))) }
     ensures refused { IfErr result.1 (NotServedIn F.Place.Disk F.Folders folders.old folders.new folder.now
         (O.contents output) (O.contents result.0)) }
     ensures unfailed { OnOk result.1 (O.failures result.0 ≡ O.failures output) }
 {
     match opened(alloc, folders, folder) {
         Ok(store) => {
-            let (disk, output, done) = serve_opened(rt, alloc, store, port, limits, teller, output);
+            let (disk, output, done) = serve_opened(
+                rt, alloc, store, address, limits, teller, output,
+            );
             folders.close(folder, disk);
             (output, done)
         }
@@ -170,20 +191,12 @@ where
     ensures unfailed { OnOk result.1 (O.failures result.0 ≡ O.failures output) }
 {
     let folder = service.folder.as_str();
+    let address = address_of(service);
     let limits = Limits {
         connections: u64::from(service.connections),
         patience: Duration::from_secs(u64::from(service.seconds)),
     };
-    serve_folder(
-        rt,
-        alloc,
-        folders,
-        folder,
-        service.port,
-        limits,
-        teller,
-        output,
-    )
+    serve_folder(rt, alloc, folders, folder, &address, limits, teller, output)
 }
 
 // The server's answer, when what it wrote is handed on.

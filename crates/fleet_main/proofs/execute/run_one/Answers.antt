@@ -5,7 +5,7 @@ use Rattle.fleet_engines.specs.Runs.{Accepted, Refused}
 use Rattle.fleet_engines.specs.declared.product.Product.TheVariants as product
 use Rattle.mirror_engines.specs.declared.work.Work.TheVariants as work
 use Rattle.byte_streams.specs.Causes.{Rose}
-use Rattle.fleet_main.specs.Doing.{IsCommittedTo, IsDone, IsDumped, IsLoadedFrom, IsNotDone, IsToldOf, IsBrought, NotCommittedTo, NotDumped, NotKept, NotLoadedFrom, NotToldOf, NotBrought, OfBoth, OfStanding, OfUpgrade, UnopenedBoth, UnopenedOr, UnopenedOrUpgrade}
+use Rattle.fleet_main.specs.Doing.{IsCommittedTo, IsDone, IsDumped, IsHeadOf, IsLoadedFrom, IsNotDone, IsToldOf, IsBrought, NoHeadOf, NotCommittedTo, NotDumped, NotKept, NotLoadedFrom, NotToldOf, NotBrought, OfBoth, OfStanding, OfUpgrade, UnopenedBoth, UnopenedOr, UnopenedOrUpgrade}
 use Rattle.fleet_main.specs.Loans.{AreBack}
 use Rattle.store_engines.specs.Upgrades.{IsUpgraded, NotUpgraded}
 use Rattle.fleet_main.specs.Opening.{NotBegunIn}
@@ -129,3 +129,13 @@ returns-in-CopyRevprops-clause-refused g c =
     (not_both_at c.mirrored-in-CopyRevprops.result.1 (λ m s e. UnopenedBoth g.F.Place.Disk g.F.Folders c.args.folders.now c.mirrored-in-CopyRevprops.new.folders m s (g.O.Output.contents c.args.output) (g.O.Output.contents c.mirrored-in-CopyRevprops.result.0) e (NotBrought (work.CopyRevprops c.in-CopyRevprops.token (first_in c.in-CopyRevprops.range) (last_in c.in-CopyRevprops.range)) (g.O.Output.contents c.args.output) (g.O.Output.contents c.mirrored-in-CopyRevprops.result.0) (Rose (g.O.Output.failures c.args.output) (g.O.Output.failures c.mirrored-in-CopyRevprops.result.0)) e))
     c.as_str-in-CopyRevprops.result.now (string_bytes c.in-CopyRevprops.mirror) c.as_str-in-CopyRevprops-2.result.now (string_bytes c.in-CopyRevprops.source) c.as_str-in-CopyRevprops.ensures.value c.as_str-in-CopyRevprops-2.ensures.value (subst (λ h. IfErr c.mirrored-in-CopyRevprops.result.1 (λ e. UnopenedBoth g.F.Place.Disk g.F.Folders c.args.folders.now c.mirrored-in-CopyRevprops.new.folders c.as_str-in-CopyRevprops.result.now c.as_str-in-CopyRevprops-2.result.now (g.O.Output.contents c.args.output) (g.O.Output.contents c.mirrored-in-CopyRevprops.result.0) e (NotBrought (work.CopyRevprops c.in-CopyRevprops.token (first_in c.in-CopyRevprops.range) h) (g.O.Output.contents c.args.output) (g.O.Output.contents c.mirrored-in-CopyRevprops.result.0) (Rose (g.O.Output.failures c.args.output) (g.O.Output.failures c.mirrored-in-CopyRevprops.result.0)) e))) c.last.ensures
     (subst (λ l. IfErr c.mirrored-in-CopyRevprops.result.1 (λ e. UnopenedBoth g.F.Place.Disk g.F.Folders c.args.folders.now c.mirrored-in-CopyRevprops.new.folders c.as_str-in-CopyRevprops.result.now c.as_str-in-CopyRevprops-2.result.now (g.O.Output.contents c.args.output) (g.O.Output.contents c.mirrored-in-CopyRevprops.result.0) e (NotBrought (work.CopyRevprops c.in-CopyRevprops.token l c.last.result) (g.O.Output.contents c.args.output) (g.O.Output.contents c.mirrored-in-CopyRevprops.result.0) (Rose (g.O.Output.failures c.args.output) (g.O.Output.failures c.mirrored-in-CopyRevprops.result.0)) e))) c.first.ensures c.mirrored-in-CopyRevprops.ensures.refused)))
+
+pub returns-in-Head-clause-done : goal.returns-in-Head-clause-done
+returns-in-Head-clause-done g c =
+    subst (λ k. OnOk c.head-done.result (IsDone g.F.Place.Disk g.F.Folders c.args.folders.now c.head-done.new.folders k (g.I.Input.remaining c.args.input.now) (g.O.Output.contents c.args.output) (g.O.Output.contents c.head-done.new.output))) (sym c.in-Head.is)
+    (done_at c.head-done.result (λ t. OfStanding g.F.Place.Disk g.F.Folders c.args.folders.now c.head-done.new.folders t (IsHeadOf (g.F.Folders.honest c.args.folders.now) (g.O.Output.contents c.args.output) (g.O.Output.contents c.head-done.new.output))) c.as_str-in-Head.result.now (string_bytes c.in-Head.folder) c.as_str-in-Head.ensures.value c.head-done.ensures.done)
+
+pub returns-in-Head-clause-refused : goal.returns-in-Head-clause-refused
+returns-in-Head-clause-refused g c =
+    subst (λ k. IfErr c.head-done.result (IsNotDone g.F.Place.Disk g.F.Folders c.args.folders.now c.head-done.new.folders k (g.I.Input.remaining c.args.input.now) (g.O.Output.contents c.args.output) (g.O.Output.failures c.args.output) (g.O.Output.contents c.head-done.new.output) (g.O.Output.failures c.head-done.new.output))) (sym c.in-Head.is)
+    (refused_at c.head-done.result (λ t e. UnopenedOr g.F.Place.Disk g.F.Folders c.args.folders.now c.head-done.new.folders t (g.O.Output.contents c.args.output) (g.O.Output.contents c.head-done.new.output) e (NoHeadOf (g.F.Folders.honest c.args.folders.now) (Rose (g.O.Output.failures c.args.output) (g.O.Output.failures c.head-done.new.output)) e)) c.as_str-in-Head.result.now (string_bytes c.in-Head.folder) c.as_str-in-Head.ensures.value c.head-done.ensures.refused)

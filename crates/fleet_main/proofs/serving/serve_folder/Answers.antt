@@ -8,7 +8,7 @@ pub returns-in-Ok-clause-done : goal.returns-in-Ok-clause-done
 returns-in-Ok-clause-done g c =
     let t = c.close.ensures in
     served_done g.F.Place.Disk g.F.Folders c.args.folders.now c.opened.new.folders c.close.new.self c.args.folder.now c.in-Ok.store c.serve_opened-disk.result.0 c.serve_opened-disk.result.2
-    (Appends (g.O.Output.contents c.args.output) (g.O.Output.contents c.serve_opened-disk.result.1) (listening c.args.port)) c.in-Ok.ensures.opened c.serve_opened-disk.ensures.kept c.serve_opened-disk.ensures.back
+    (Appends (g.O.Output.contents c.args.output) (g.O.Output.contents c.serve_opened-disk.result.1) (listening c.args.address.now.port)) c.in-Ok.ensures.opened c.serve_opened-disk.ensures.kept c.serve_opened-disk.ensures.back
     (record { back = t.back; others = t.others; honest = t.honest; later = t.later }) c.serve_opened-disk.ensures.told
 
 pub returns-in-Ok-clause-refused : goal.returns-in-Ok-clause-refused

@@ -7,7 +7,7 @@ use Rattle.fleet_main.proofs.serving.serve_opened.Goals as goal
 
 pub returns-clause-told : goal.returns-clause-told
 returns-clause-told g c =
-    served_told g.O.Output.contents c.answer_of.result c.serve_store-disk.result.1 (listening c.args.port) c.args.output (inner_of c.begin-before.new.self) (inner_of c.serve_store-disk.new.output)
+    served_told g.O.Output.contents c.answer_of.result c.serve_store-disk.result.1 (listening c.args.address.now.port) c.args.output (inner_of c.begin-before.new.self) (inner_of c.serve_store-disk.new.output)
     c.may_have_failed-output.result.0 c.answer_of.ensures.ok c.serve_store-disk.ensures.told (c.begin-before.ensures.inner ∙ c.new-sink.ensures) c.may_have_failed-output.ensures.back
 
 pub returns-clause-unfailed : goal.returns-clause-unfailed
