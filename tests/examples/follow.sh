@@ -60,8 +60,8 @@ mirror_of() {
     done
 }
 
-words follow one -x 'a b c d e f' '--check one'
-words serve-and-follow one 'a b' 'a b c' 'a b 1 0' 'a b 1 x' 'a b 1 2 3' '-x b 1'
+words follow one -x 'a -x' 'a b c d e f' '--check one' '--check a --check'
+words serve-and-follow one 'a b' 'a b c' 'a b 1 0' 'a b 1 x' 'a b 1 2 3' '-x b 1' 'a -x 1'
 
 "$program" create archive --uuid $uuid </dev/null
 grows archive one
