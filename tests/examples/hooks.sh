@@ -84,7 +84,7 @@ for lag in 100 1 7 all; do
     rm -f calls
     check "hook: a lag of $lag" ends 0 "$examples/post-commit" repo "$head"
     check "hook: a lag of $lag: nothing is told" test -z "$(cat said errors)"
-    check "hook: a lag of $lag: few calls" test "$(wc -l <calls)" -le 17
+    check "hook: a lag of $lag: two calls" test "$(wc -l <calls)" -eq 2
     check "hook: a lag of $lag: one of them loads" test "$(grep -c '^load ' calls)" -eq 1
     check "compare: the same behind a lag of $lag" compares 0
 done
