@@ -3,12 +3,12 @@ _svnfleet() {
     local word=${COMP_WORDS[COMP_CWORD]} before=${COMP_WORDS[COMP_CWORD - 1]} options=
     COMPREPLY=()
     if [ "$COMP_CWORD" -eq 1 ]; then
-        options='list canon create load dump mkdir upgrade initialize synchronize copy-revprops info serve fleet --help --version'
+        options='list canon create load dump head mkdir upgrade initialize synchronize copy-revprops info serve fleet --help --version'
         mapfile -t COMPREPLY < <(compgen -W "$options" -- "$word")
         return
     fi
     case $before in
-    --uuid | -r | --message | --moment | --token | --port | --connections | --timeout | --workers) return ;;
+    --uuid | -r | --message | --moment | --token | --port | --connections | --timeout | --root-url | --workers) return ;;
     esac
     case ${COMP_WORDS[1]} in
     create) options=--uuid ;;
@@ -17,9 +17,9 @@ _svnfleet() {
     initialize) options=--timeout ;;
     synchronize) options='--steal-lock --token --timeout' ;;
     copy-revprops) options='-r --token --timeout' ;;
-    serve) options='--port --connections --timeout' ;;
+    serve) options='--port --connections --timeout --root-url' ;;
     fleet) options=--workers ;;
-    list | canon | load | upgrade | info) ;;
+    list | canon | load | head | upgrade | info) ;;
     *) return ;;
     esac
     if [ "${word:0:1}" = - ]; then

@@ -37,10 +37,15 @@ wrong 'svnfleet load' load
 wrong 'svnfleet load' load r s
 wrong 'svnfleet dump' dump
 wrong 'svnfleet dump' dump r -r 2:1
+wrong 'svnfleet dump' dump r -r 16
+shows '"16" is not a range LO:HI of revisions from 0 to 65535, LO not above HI, or N:N for one revision'
+wrong 'svnfleet copy-revprops' copy-revprops m r -r 16
+shows '"16" is not a range LO:HI of revisions from 0 to 65535, LO not above HI, or N:N for one revision'
+wrong 'svnfleet head' head
 wrong 'svnfleet mkdir' mkdir r a --message x
 wrong 'svnfleet mkdir' mkdir r a --message x --moment -1
 wrong 'svnfleet mkdir' mkdir r a --message x --moment soon
-for word in list canon create load dump mkdir; do
+for word in list canon create load dump head mkdir; do
     wrong "svnfleet $word" $word --no-such-flag
 done
 

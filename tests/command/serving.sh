@@ -12,6 +12,18 @@ wrong_value 'port 0' 'svnfleet: "0" is not a port from 1 to 65535 (svnfleet serv
 wrong_value 'port 65536' 'svnfleet: "65536" is not a port from 1 to 65535 (svnfleet serve --help tells more)' serve r --port 65536 --connections 1
 wrong_value '0 connections' 'svnfleet: "0" is not a number of connections from 1 to 1024 (svnfleet serve --help tells more)' serve r --port 1 --connections 0
 wrong_value '1025 connections' 'svnfleet: "1025" is not a number of connections from 1 to 1024 (svnfleet serve --help tells more)' serve r --port 1 --connections 1025
+WANTED='a root URL like svn://HOST:PORT/ or svn+ssh://HOST/PATH, of at most 1024 printable ASCII characters without blanks'
+for url in '' svn:// svn:///a svn://:3690/ svn:/host/ http://host/ SVN://host/ localhost:3690 svn+ssh:// svn+ssh:///a svn+ssh://:22/ 'svn://host/a b' ' svn://host/'; do
+    wrong_value "the root '$url'" "svnfleet: \"$url\" is not $WANTED (svnfleet serve --help tells more)" serve r --port 1 --connections 1 --root-url "$url"
+done
+wrong_value 'a root with a line feed' "svnfleet: \"svn://host/\\na\" is not $WANTED (svnfleet serve --help tells more)" serve r --port 1 --connections 1 --root-url "$(printf 'svn://host/\na')"
+wrong_value 'a root beyond ASCII' "svnfleet: \"svn://höst/\" is not $WANTED (svnfleet serve --help tells more)" serve r --port 1 --connections 1 --root-url 'svn://höst/'
+long=svn://h/$(printf '%01016d' 0)
+wrong_value 'a root of 1025 characters' "svnfleet: \"${long}0\" is not $WANTED (svnfleet serve --help tells more)" serve r --port 1 --connections 1 --root-url "${long}0"
+refused 'a root of 1024 characters is taken' 34 serve "$work/none" --port 3690 --connections 1 --root-url "$long"
+for url in svn://localhost svn://localhost/ svn://localhost:3700/ svn://localhost:3700/a/b svn+ssh://user@host/srv/a 'svn://[::1]:3690/' svn://h; do
+    refused "the root $url is taken" 34 serve "$work/none" --port 3690 --connections 1 --root-url "$url"
+done
 
 # free_port: a port of 127.0.0.1 that nobody has
 free_port() {
@@ -46,6 +58,7 @@ server=$!
 check 'serve says where it listens' listens "$work/serving" "$port"
 refused 'load beside a server' 31 load "$work/served"
 refused 'dump beside a server' 31 dump "$work/served"
+refused 'head beside a server' 31 head "$work/served"
 refused 'a server beside a server' 31 serve "$work/served" --port "$port" --connections 1
 refused 'serve on a port that is taken' 49 serve "$work/repo" --port "$port" --connections 1
 check 'a first connection' connects "$port"

@@ -88,6 +88,10 @@ for input in '' '<&-'; do
             closed "$streams" dump "$folder.made"
             gave "dump, $named" 0 "$work/with_made" ''
             keeps "dump, $named" "$folder.made" "$work/with_made"
+            echo 1 >"$work/said"
+            closed "$streams" head "$folder.made"
+            gave "head, $named" 0 "$work/said" ''
+            keeps "head, $named" "$folder.made" "$work/with_made"
             rm -rf "$folder.made"
         done
     done
