@@ -102,7 +102,7 @@ for i in 17 18 19 20; do committed $i; done
 operated 'Begin an archive' 3
 check 'OPERATING: it loads the four' test "$(grep -c '^Loaded' said)" -eq 4
 operated 'Begin an archive' 4
-check 'OPERATING: the newest revision' test "$(cat said)" = 'revision 20'
+check 'OPERATING: the newest revision' test "$(cat said)" = 20
 
 operated 'Feed an archive by a hook' 1
 check 'OPERATING: a commit' committed 21
@@ -203,8 +203,14 @@ check 'OPERATING: a dump of one spelling' test "$(tail -n +4 project.dump | sha2
 operated 'Upgrade' 1
 check 'OPERATING: nothing to upgrade' test "$(cat said)" = "$(printf 'Upgraded 0 entries.\nUpgraded 0 entries.')"
 operated 'Monitor' 1
-check 'OPERATING: no lag' test "$(cat said)" = "$(printf '25\n25')"
+check 'OPERATING: no lag' test "$(cat said)" = "$(printf '25\n25\n25')"
+"$program" serve mirror --port "$port" --connections 1 >listening </dev/null &
+serving=$!
+for _ in $(seq 100); do grep -q listening listening && break; sleep 0.1; done
 operated 'Monitor' 2
+wait $serving
+check 'OPERATING: a served mirror tells its last merged revision' test "$(cat said)" = 25
+operated 'Monitor' 3
 
 # a client of a server makes the archive a mirror
 cp -r archive kept
