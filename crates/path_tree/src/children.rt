@@ -47,8 +47,8 @@ impl<'a> Children<'a> {
         Ok(Children { waiting })
     }
 
-    // None.
-    pub(crate) fn none(alloc: Global) -> Children<'a>
+    /// No children.
+    pub fn none(alloc: Global) -> Children<'a>
         ensures { result ≡ [] }
     {
         Children {
