@@ -12,5 +12,6 @@ pub mod Marks
 pub mod Place
 pub mod Reaches
 pub mod Rows
+pub mod Tops
 pub mod Visits
 pub mod InPlace

@@ -1,7 +1,9 @@
 pub mod Calls
+pub mod Children
 pub mod Copies
 pub mod Edits
 pub mod Heads
+pub mod InOrder
 pub mod Joined
 pub mod JoinedLemmas
 pub mod Listed

@@ -7,10 +7,13 @@ ghost use Rattle.node_base.specs.Path.{Path};
 ghost use Rattle.node_base.specs.Limits.{fits_after};
 ghost use Rattle.node_base.specs.Tree.{marked, blocked, changed_at, with_given};
 ghost use Rattle.node_base.specs.NodeEdits.{with_prop, with_piece};
+ghost use Rattle.path_tree.specs.Children.{children_of};
+ghost use Rattle.path_tree.specs.InOrder.{tops};
 ghost use Rattle.path_tree.specs.Joined.{under};
 ghost use Rattle.path_tree.specs.Listed.{shown, shown_names};
 ghost use Rattle.path_tree.specs.Edits.{edit_here, edit_at, marked_by, renumbered};
 ghost use Rattle.path_tree.specs.Reach.{reach_to};
+ghost use Rattle.path_tree.specs.Rows.{in_row};
 ghost use Rattle.path_tree.specs.Visited.{texts};
 
 use crate::Entry;
@@ -100,6 +103,20 @@ impl Branch {
             [] => Some(self),
             [first, rest @ ..] => match child_of(&self.children, first) {
                 Some(child) => child.find(rest),
+                None => None,
+            },
+        }
+    }
+
+    /// The children of what stands at a path, if something does.
+    pub fn children_at(&self, path: &[NodeName]) -> Option<&Row>
+        ensures { MatchOption result (children_of path.now self.now ≡ [])
+            (λ r. tops (in_row r.now) ≡ children_of path.now self.now) }
+    {
+        match path {
+            [] => Some(&self.children),
+            [first, rest @ ..] => match child_of(&self.children, first) {
+                Some(child) => child.children_at(rest),
                 None => None,
             },
         }

@@ -1,6 +1,7 @@
 //! Trees of a Subversion repository, seen by contracts as finite maps from paths to nodes.
 #![tactic(auto)]
 
+pub use children::{ChildNode, Children};
 pub use error::TreeError;
 pub use listing::Entry;
 pub use tree::Tree;
@@ -9,6 +10,7 @@ pub use visit::Visitor;
 mod branch;
 mod calls;
 mod child;
+mod children;
 mod edit;
 mod error;
 mod head;

@@ -8,6 +8,7 @@ ghost use Rattle.std.specs.FinMap.Entries.{put, where_key};
 ghost use Rattle.node_base.specs.Path.{name_cmp};
 ghost use Rattle.node_base.specs.Path.{Path};
 ghost use Rattle.path_tree.specs.Edits.{ChildAlters, edit_at, marked_by};
+ghost use Rattle.path_tree.specs.InOrder.{to_come};
 ghost use Rattle.path_tree.specs.Joined.{AreChildren, behind, below, child_at, under};
 ghost use Rattle.path_tree.specs.Listed.{shown, shown_names};
 ghost use Rattle.path_tree.specs.Reach.{reach_of};
@@ -612,6 +613,30 @@ pub fn list_row<'a>(
             list_row(&twig.before, alloc, above, out)?;
             list_child(&twig.child, alloc, above, out)?;
             list_row(&twig.behind, alloc, above, out)
+        }
+        None => Ok(()),
+    }
+}
+
+/// A child that is to come, and the row of those behind it.
+#[derive(Drop)]
+pub struct Waiting<'a> {
+    pub child: &'a Child,
+    pub behind: &'a Row,
+}
+
+/// Lets the children of a row come first, before those that are waiting. The last that waits comes first.
+pub fn let_come<'a>(row: &'a Row, waiting: &mut Vec<Waiting<'a>>) -> Result<(), AllocError>
+    ensures { OnOk result (to_come waiting.new.items ≡ in_row row.now ++ to_come waiting.old.items) }
+{
+    match row {
+        Some(top) => {
+            let twig: &Twig = top;
+            waiting.push(Waiting {
+                child: &twig.child,
+                behind: &twig.behind,
+            })?;
+            let_come(&twig.before, waiting)
         }
         None => Ok(()),
     }

@@ -9,6 +9,7 @@ ghost use Rattle.node_base.specs.PathText.{is_path};
 ghost use Rattle.node_base.specs.Tree.{grafted, marked, HasFronts, IsDirAt, IsTree, blocked};
 ghost use Rattle.node_base.specs.Tree.{alone, new_dir};
 ghost use Rattle.path_tree.specs.Calls.{added, changed, copied, removed};
+ghost use Rattle.path_tree.specs.Children.{children_of};
 ghost use Rattle.path_tree.specs.Copies.{copy_too_long};
 ghost use Rattle.path_tree.specs.Edits.{edit_at, marked_by};
 ghost use Rattle.path_tree.specs.Listed.{shown};
@@ -19,6 +20,7 @@ ghost use Rattle.path_tree.specs.Visited.{texts};
 use crate::Entry;
 use crate::branch::Branch;
 use crate::child::Child;
+use crate::children::Children;
 use crate::edit::Edit;
 use crate::limits::{node_limits, path_limits, props_limits, text_limits};
 use crate::visit::Visitor;
@@ -88,6 +90,17 @@ impl Tree {
         match self.root.find(path) {
             Some(branch) => Some(branch.node()),
             None => None,
+        }
+    }
+
+    /// What stands right below a path: each child's name with its node, in the order of the names. Only these
+    /// children are gone through. There are none where nothing stands at the path, or a file.
+    pub fn children(&self, alloc: Global, path: &[NodeName]) -> Result<Children<'_>, AllocError>
+        ensures { IfOk result (λ c. c ≡ children_of path.now self.now) }
+    {
+        match self.root.children_at(path) {
+            Some(row) => Children::of(alloc, row),
+            None => Ok(Children::none(alloc)),
         }
     }
 

@@ -1,7 +1,7 @@
 //! The calls of both bodies by the texts of paths, for tests.
 
-use node_base::{NodePath, Props, RevNo, Text, read_decimal};
-use path_tree::{Entry, Tree, TreeError};
+use node_base::{Node, NodePath, Props, RevNo, Text, read_decimal};
+use path_tree::{ChildNode, Entry, Tree, TreeError};
 use std::alloc::{AllocError, Global};
 use std::process::Abort;
 
@@ -31,6 +31,8 @@ pub(crate) trait Calls: Sized + Drop {
     ) -> u8;
 
     fn entries(&self, alloc: Global) -> Result<Vec<Entry<'_>>, AllocError>;
+
+    fn below(&self, alloc: Global, at: &NodePath) -> Result<Vec<ChildNode<'_>>, AllocError>;
 }
 
 impl Calls for Tree {
@@ -76,6 +78,15 @@ impl Calls for Tree {
     fn entries(&self, alloc: Global) -> Result<Vec<Entry<'_>>, AllocError> {
         self.list(alloc)
     }
+
+    fn below(&self, alloc: Global, at: &NodePath) -> Result<Vec<ChildNode<'_>>, AllocError> {
+        let mut children = self.children(alloc, at.names())?;
+        let mut found = Vec::new(alloc);
+        while let Some(child) = children.next()? {
+            found.push(child)?;
+        }
+        Ok(found)
+    }
 }
 
 impl Calls for plain_tree::Tree {
@@ -120,6 +131,10 @@ impl Calls for plain_tree::Tree {
 
     fn entries(&self, alloc: Global) -> Result<Vec<Entry<'_>>, AllocError> {
         self.list(alloc)
+    }
+
+    fn below(&self, alloc: Global, at: &NodePath) -> Result<Vec<ChildNode<'_>>, AllocError> {
+        self.children(alloc, at.names())
     }
 }
 
@@ -241,13 +256,17 @@ pub(crate) fn deep<T: Calls>(rt: &impl Abort, alloc: Global, tree: &mut T, names
     path
 }
 
-// Adds the kind, the revision that changed it, and the names.
-fn add_line(rt: &impl Abort, alloc: Global, entry: &Entry, lines: &mut String) {
-    let node = entry.node;
+// Adds the kind, and the revision that changed it.
+fn add_node(rt: &impl Abort, alloc: Global, node: &Node, lines: &mut String) {
     let number = node.changed.get();
     let kind = if node.text.is_some() { "F" } else { "D" };
     let front = format!(in alloc; "{kind} {number}").expect(rt, "memory");
     add(rt, lines, front.as_str());
+}
+
+// The same, and the names.
+fn add_line(rt: &impl Abort, alloc: Global, entry: &Entry, lines: &mut String) {
+    add_node(rt, alloc, entry.node, lines);
     for name in &entry.path {
         add(rt, lines, " ");
         add(rt, lines, name.as_str());
@@ -261,6 +280,20 @@ pub(crate) fn lines<T: Calls>(rt: &impl Abort, alloc: Global, tree: &T) -> Strin
     let mut lines = String::new(alloc);
     for entry in &entries {
         add_line(rt, alloc, entry, &mut lines);
+    }
+    lines
+}
+
+/// A line for each child of what stands at a path.
+pub(crate) fn child_lines<T: Calls>(rt: &impl Abort, alloc: Global, tree: &T, at: &str) -> String {
+    let path = path(rt, alloc, bare(at));
+    let children = tree.below(alloc, &path).expect(rt, "memory");
+    let mut lines = String::new(alloc);
+    for child in &children {
+        add_node(rt, alloc, child.node, &mut lines);
+        add(rt, &mut lines, " ");
+        add(rt, &mut lines, child.name.as_str());
+        add(rt, &mut lines, "\n");
     }
     lines
 }

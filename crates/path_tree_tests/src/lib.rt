@@ -7,6 +7,8 @@ mod calls;
 #[cfg(test)]
 mod checked;
 #[cfg(test)]
+mod children_tests;
+#[cfg(test)]
 mod delta_tests;
 #[cfg(test)]
 mod line_tests;

@@ -6,12 +6,13 @@ ghost use Rattle.node_base.specs.Path.{Path, same_path};
 ghost use Rattle.node_base.specs.Limits.{fits};
 ghost use Rattle.node_base.specs.Tree.{grafted, marked, changed_at, with_given, HasFronts, IsDirAt, IsTree, blocked};
 ghost use Rattle.node_base.specs.Tree.{alone, new_dir};
+ghost use Rattle.path_tree.specs.Children.{children_of, name_in, shown_children};
 ghost use Rattle.path_tree.specs.Copies.{copy_too_long};
-ghost use Rattle.path_tree.specs.Listed.{shown};
+ghost use Rattle.path_tree.specs.Listed.{shown, shown_names};
 
 use crate::branch::Branch;
 use node_base::{Node, NodeName, NodePath, Props, RevNo, Text, TreeFault};
-use path_tree::Entry;
+use path_tree::{ChildNode, Entry};
 use std::alloc::{AllocError, Global};
 use std::marker::Model;
 
@@ -32,6 +33,26 @@ impl Model for Tree {
     ghost view = { λ a. a.root };
 
     ghost invariant = { λ a. IsTree a.root };
+}
+
+// The name of a path that is a folder's path and one name more.
+fn name_in<'a>(folder: &[NodeName], path: &[&'a NodeName]) -> Option<&'a NodeName>
+    ensures { option_copied result ≡ name_in folder.now (shown_names path.now) }
+{
+    let Some((name, names)) = path.split_first() else {
+        return None;
+    };
+    let Some((first, others)) = folder.split_first() else {
+        if names.is_empty() {
+            return Some(*name);
+        }
+        return None;
+    };
+    if first == *name {
+        name_in(others, names)
+    } else {
+        None
+    }
 }
 
 impl Tree {
@@ -78,6 +99,28 @@ impl Tree {
         let mut out = Vec::new(alloc);
         self.root.list_into(alloc, &mut above, &mut out)?;
         Ok(out)
+    }
+
+    /// What stands right below a path: each child's name with its node, in the order of the names. There are none where
+    /// nothing stands at the path, or a file.
+    pub fn children(
+        &self,
+        alloc: Global,
+        path: &[NodeName],
+    ) -> Result<Vec<ChildNode<'_>>, AllocError>
+        ensures { IfOk result (λ cs. shown_children cs.items ≡ children_of path.now self.now) }
+    {
+        let all = self.list(alloc)?;
+        let mut found = Vec::new(alloc);
+        for entry in &all {
+            if let Some(name) = name_in(path, entry.path.as_slice()) {
+                found.push(ChildNode {
+                    name,
+                    node: entry.node,
+                })?;
+            }
+        }
+        Ok(found)
     }
 
     /// The fault of the first proper front of a path, from the root down, that is no directory.
