@@ -1,3 +1,5 @@
+pub mod DeltaRuns
+pub mod DeltaTexts
 mod Standing
 pub mod Read
 pub mod Runs
