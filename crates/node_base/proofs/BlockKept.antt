@@ -1,5 +1,5 @@
 -- What a reader keeps grows by no more than the bytes that come.
-use Rattle.std.proofs.Common.{◌≡◌, ℕ, ◌==◌, ◌&&◌, ◌||◌, ◌+◌, ◌≤◌, not, Bool, true, false, List, [], ◌∷◌, ◌++◌, length, nat_lt, Option, Some, None, Ok, Err, Result, refl, subst, length-append, arith}
+use Rattle.std.proofs.Common.{◌≡◌, ℕ, ◌==◌, ◌&&◌, ◌+◌, ◌≤◌, not, Bool, true, false, List, [], ◌∷◌, ◌++◌, length, nat_lt, Option, Some, None, Ok, Err, Result, refl, subst, length-append, arith}
 use Rattle.std.specs.Prelude.{IfOk}
 use Rattle.std.specs.Bool.{if◌then◌else◌}
 use Rattle.std.specs.Prelude.{slice_index_or}
@@ -59,7 +59,7 @@ begins_bytes : (removes : Bool) (r : BlockReader) → step_bytes (begins removes
 begins_bytes removes r = omega arith
 
 named_bytes : (removes : Bool) (r : BlockReader) (name : List ℕ) (n : ℕ) → stored_bytes r.props + stored_bytes r.removed + waiting_bytes r.name + length name ≤ n → step_bytes (named removes r name) ≤ n
-named_bytes true r name n h = either n (fits_with r.removed name) _ _ (omega (arith, h, inserted_bytes r.removed name [])) (omega arith)
+named_bytes true r name n h = omega (arith, h, inserted_bytes r.removed name [])
 named_bytes false r name n h = either n (fits_with r.props name) _ _ (omega (arith, h)) (omega arith)
 
 name_bytes : (r : BlockReader) (name : List ℕ) (n : ℕ) → stored_bytes r.props + stored_bytes r.removed + waiting_bytes r.name + length name ≤ n → step_bytes (name_is r name) ≤ n

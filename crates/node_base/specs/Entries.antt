@@ -8,6 +8,11 @@ use Rattle.node_base.specs.Path.{Name, name_cmp}
 abbrev pub Entries : Type 0
 Entries = List (Name × List ℕ)
 
+-- names, each with an empty value
+abbrev pub blank : List Name → Entries
+blank [] = []
+blank (n ∷ ns) = (n, []) ∷ blank ns
+
 -- the names strictly rise
 abbrev pub IsRising : Entries → Type 0
 IsRising es = T (is_sorted name_cmp es)

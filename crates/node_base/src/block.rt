@@ -11,7 +11,7 @@ ghost use Rattle.node_base.specs.declared.block_part.Part.TheVariants.{Tag, KeyC
 
 use crate::block_part::Part;
 use crate::bytes::Bytes;
-use crate::{PropDelta, PropFault, PropName, PropValue, Props};
+use crate::{PropDelta, PropFault, PropName, PropValue, Props, RemovedNames};
 use std::alloc::{AllocError, Global};
 use std::mem;
 
@@ -27,8 +27,8 @@ pub struct BlockReader {
     delta: bool,
     // Whether the entry at hand is a name that is removed.
     removes: bool,
-    // The names that are removed, each with an empty value.
-    removed: Props,
+    // The names that are removed.
+    removed: RemovedNames,
 }
 
 // Whether it is a digit.
@@ -91,7 +91,7 @@ impl BlockReader {
             held: Bytes::new(alloc),
             delta,
             removes: false,
-            removed: Props::empty(),
+            removed: RemovedNames::empty(),
         }
     }
 
@@ -206,10 +206,10 @@ impl BlockReader {
     }
 
     // Whether an entry so far has the name.
-    fn has_named(&self, name: &[u8]) -> bool
+    fn has_named(&self, name: &PropName) -> bool
         ensures { result ≡ (map.contains_key self.now.props name.now || map.contains_key self.now.removed name.now) }
     {
-        self.props.contains(name) || self.removed.contains(name)
+        self.props.contains(name.as_bytes()) || self.removed.contains(name)
     }
 
     // The held bytes are a name.
@@ -218,11 +218,11 @@ impl BlockReader {
     {
         let alloc = self.held.alloc();
         let name = PropName::from_bytes(self.held.take())?;
-        if self.has_named(name.as_bytes()) {
+        if self.has_named(&name) {
             return Err(PropFault::BadProps);
         }
         if self.removes {
-            self.removed.set(alloc, name, PropValue::empty(alloc))?;
+            self.removed.insert(alloc, name)?;
             self.part = Part::ValueEnd;
             return Ok(false);
         }
@@ -406,7 +406,7 @@ impl BlockReader {
         ensures left { self.new ≡ record self.old { props = map.empty; removed = map.empty } }
     {
         let sets = mem::replace(&mut self.props, Props::empty());
-        let removed = mem::replace(&mut self.removed, Props::empty());
+        let removed = mem::replace(&mut self.removed, RemovedNames::empty());
         PropDelta { sets, removed }
     }
 }
