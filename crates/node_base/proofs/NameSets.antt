@@ -1,13 +1,19 @@
 -- Sets of names as maps with an empty value at each.
-use Rattle.std.proofs.Common.{◌≡◌, ℕ, Bool, true, false, cond, not, ◌||◌, List, [], ◌∷◌, Option, Some, None, refl, sym, ap, ◌∙◌}
+use Rattle.std.proofs.Common.{◌≡◌, ℕ, suc, Bool, true, false, cond, not, ◌&&◌, ◌||◌, T, length, List, [], ◌∷◌, Option, Some, None, refl, sym, ap, ◌∙◌}
 use Rattle.std.specs.Cmp.{eq_by_cmp_equiv}
 use Rattle.std.specs.List.{list_any}
 use Rattle.std.specs.Option.{is_some}
 use Rattle.std.specs.FinMap as map
-use Rattle.std.specs.FinMap.{find, get-from_entries, get-insert, get-empty, same_map}
+use Rattle.std.specs.FinMap.{find, get-from_entries, get-from_sorted, entries-from_sorted, get-insert, get-empty, len-entries, len-empty, same_map}
+use Rattle.std.specs.FinMap.Entries.{below_all}
+use Rattle.std.specs.List.{AllByRecursion}
+use Rattle.std.specs.List.Sorted.{IsStrictlySortedBy}
+use Rattle.std.specs.Ordering.{is_lt}
+use Rattle.std.specs.declared.cmp.Ordering.{Ordering}
+use Rattle.std.specs.declared.cmp.Ordering.TheVariants.{Less, Equal, Greater}
 use Rattle.std.specs.BTreeMap.{is_at}
 use Rattle.node_base.specs.Path.{Name, name_cmp, names_total, names_exact, same_name}
-use Rattle.node_base.specs.Entries.{blank}
+use Rattle.node_base.specs.Entries.{IsRising, blank}
 use Rattle.node_base.specs.Props.{PropMap}
 use Rattle.node_base.specs.PropDeltas.{kept_in}
 use Rattle.node_base.proofs.PropLemmas.{get-retained, turned}
@@ -58,6 +64,39 @@ one_named ns ms n h =
 
 pub no_names : (ns : List Name) → ns ≡ [] → blanks ns ≡ map.empty
 no_names ns e = ap blanks e
+
+-- ---- how many there are
+
+rises : (a b : Bool) → T a → T b → T (a && b)
+rises true b p q = q
+rises false b p q = p
+
+less : (o : Ordering) → o ≡ Less → T (is_lt o)
+less Less e = tt
+less Equal e = cc
+less Greater e = cc
+
+below_blank : (x : Name) (ns : List Name) → AllByRecursion (λ y. name_cmp x y ≡ Less) ns → T (below_all name_cmp x (blank ns))
+below_blank x [] h = tt
+below_blank x (n ∷ ns) h = rises _ _ (less _ h.0) (below_blank x ns h.1)
+
+names_rise : (ns : List Name) → IsStrictlySortedBy name_cmp ns → IsRising (blank ns)
+unfolding IsStrictlySortedBy
+names_rise [] h = tt
+names_rise (n ∷ ns) h = rises _ _ (below_blank n ns h.0) (names_rise ns h.1)
+
+length_blank : (ns : List Name) → length (blank ns) ≡ length ns
+length_blank [] = refl
+length_blank (n ∷ ns) = ap suc (length_blank ns)
+
+pub len_blanks : (ns : List Name) → IsStrictlySortedBy name_cmp ns → length ns ≡ map.len (blanks ns)
+len_blanks ns h =
+    let s = names_rise ns h in
+    let same : blanks ns ≡ map.from_sorted (blank ns) = same_map names_total names_exact _ _ (λ q. get-from_entries names_total (blank ns) q ∙ sym (get-from_sorted name_cmp (blank ns) q s)) in
+    sym (len-entries (blanks ns) ∙ ap length (ap map.entries same ∙ entries-from_sorted name_cmp (blank ns) s) ∙ length_blank ns)
+
+pub len_none : (m : PropMap) → m ≡ map.empty → 0 ≡ map.len m
+len_none m e = sym (ap map.len e ∙ len-empty name_cmp (List ℕ))
 
 -- ---- names put, one after another
 

@@ -43,6 +43,13 @@ impl NameSet {
         self.names.contains(name)
     }
 
+    // How many there are.
+    pub fn len(&self) -> usize
+        ensures { result ≡ map.len self.now }
+    {
+        self.names.len()
+    }
+
     // The name is among them from now on.
     pub fn insert(&mut self, name: PropName) -> Result<(), AllocError>
         ensures ok { OnOk result (self.new ≡ map.insert self.old name []) }

@@ -60,6 +60,16 @@ impl RemovedNames {
         }
     }
 
+    /// How many there are.
+    pub fn len(&self) -> usize
+        ensures { result ≡ map.len self.now }
+    {
+        match &self.set {
+            Some(set) => set.len(),
+            None => 0,
+        }
+    }
+
     /// The name is among them from now on. At an error they stay. They are copied only where they have another owner.
     pub fn insert(&mut self, alloc: Global, name: PropName) -> Result<(), AllocError>
         ensures ok { OnOk result (self.new ≡ map.insert self.old name []) }
