@@ -1,5 +1,5 @@
 -- Sets of names as maps with an empty value at each.
-use Rattle.std.proofs.Common.{◌≡◌, ℕ, suc, Bool, true, false, cond, not, ◌&&◌, ◌||◌, T, length, List, [], ◌∷◌, Option, Some, None, refl, sym, ap, ◌∙◌}
+use Rattle.std.proofs.Common.{◌≡◌, ℕ, suc, Bool, true, false, cond, not, ◌&&◌, ◌||◌, T, length, List, [], ◌∷◌, Option, Some, None, refl, sym, ap, ◌∙◌, ◌+◌, arith}
 use Rattle.std.specs.Cmp.{eq_by_cmp_equiv}
 use Rattle.std.specs.List.{list_any}
 use Rattle.std.specs.Option.{is_some}
@@ -13,10 +13,10 @@ use Rattle.std.specs.declared.cmp.Ordering.{Ordering}
 use Rattle.std.specs.declared.cmp.Ordering.TheVariants.{Less, Equal, Greater}
 use Rattle.std.specs.BTreeMap.{is_at}
 use Rattle.node_base.specs.Path.{Name, name_cmp, names_total, names_exact, same_name}
-use Rattle.node_base.specs.Entries.{IsRising, blank}
+use Rattle.node_base.specs.Entries.{IsRising, blank, entry_bytes, stored_bytes}
 use Rattle.node_base.specs.Props.{PropMap}
 use Rattle.node_base.specs.PropDeltas.{kept_in}
-use Rattle.node_base.proofs.PropLemmas.{get-retained, turned}
+use Rattle.node_base.proofs.PropLemmas.{get-retained, turned, entries_none}
 use Rattle.node_base.proofs.DeltaLists.{without, get-without}
 
 -- an empty value, or another
@@ -89,11 +89,20 @@ length_blank : (ns : List Name) → length (blank ns) ≡ length ns
 length_blank [] = refl
 length_blank (n ∷ ns) = ap suc (length_blank ns)
 
-pub len_blanks : (ns : List Name) → IsStrictlySortedBy name_cmp ns → length ns ≡ map.len (blanks ns)
-len_blanks ns h =
+entries_blanks : (ns : List Name) → IsStrictlySortedBy name_cmp ns → map.entries (blanks ns) ≡ blank ns
+entries_blanks ns h =
     let s = names_rise ns h in
     let same : blanks ns ≡ map.from_sorted (blank ns) = same_map names_total names_exact _ _ (λ q. get-from_entries names_total (blank ns) q ∙ sym (get-from_sorted name_cmp (blank ns) q s)) in
-    sym (len-entries (blanks ns) ∙ ap length (ap map.entries same ∙ entries-from_sorted name_cmp (blank ns) s) ∙ length_blank ns)
+    ap map.entries same ∙ entries-from_sorted name_cmp (blank ns) s
+
+pub len_blanks : (ns : List Name) → IsStrictlySortedBy name_cmp ns → length ns ≡ map.len (blanks ns)
+len_blanks ns h = sym (len-entries (blanks ns) ∙ ap length (entries_blanks ns h) ∙ length_blank ns)
+
+pub blanks_bytes : (ns rest : List Name) (len : ℕ) → rest ≡ [] → IsStrictlySortedBy name_cmp ns → len + entry_bytes (blank rest) ≡ entry_bytes (blank ns) → len ≡ stored_bytes (blanks ns)
+blanks_bytes ns rest len end h e = omega (arith, e, ap (λ r. entry_bytes (blank r)) end, ap entry_bytes (entries_blanks ns h))
+
+pub no_bytes : (m : PropMap) → m ≡ map.empty → 0 ≡ stored_bytes m
+no_bytes m e = sym (ap stored_bytes e ∙ ap entry_bytes entries_none)
 
 pub len_none : (m : PropMap) → m ≡ map.empty → 0 ≡ map.len m
 len_none m e = sym (ap map.len e ∙ len-empty name_cmp (List ℕ))

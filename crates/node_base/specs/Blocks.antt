@@ -168,7 +168,3 @@ EndsHere r bytes = (10 ≤ length bytes) × (run_block r bytes ≡ Done r.props 
 -- so many bytes can be kept at once
 abbrev pub MayKeep : BlockReader → ℕ → Type 0
 MayKeep r n = (s more : List ℕ) → length s ≤ n → run_block r (s ++ more) ≡ run_block (held_more r s) more
-
--- how many bytes of an unfinished count, name or value are kept
-abbrev pub unfinished : BlockReader → ℕ
-unfinished r = length r.held

@@ -5,8 +5,8 @@ ghost use Rattle.std.specs.FinMap as map;
 ghost use Rattle.node_base.specs.BlockGrammar.{block_end};
 ghost use Rattle.node_base.specs.Numbers.{is_digit, number_of};
 ghost use Rattle.node_base.specs.Blocks.{StepIs, BlockIs, EndsHere, MayKeep, held_more, run_block, part_step, block_step, keep};
-ghost use Rattle.node_base.specs.Blocks.{go, only, begins, name_is, value_is, begun, new_block, unfinished};
-ghost use Rattle.node_base.specs.BlockKept.{kept_bytes, kept_after};
+ghost use Rattle.node_base.specs.Blocks.{go, only, begins, name_is, value_is, begun, new_block};
+ghost use Rattle.node_base.specs.BlockKept.{kept_bytes, kept_after, waiting_bytes};
 ghost use Rattle.node_base.specs.declared.block_part.Part.TheVariants.{Tag, KeyCount, ValueCount, Ending};
 
 use crate::block_part::Part;
@@ -385,11 +385,25 @@ impl BlockReader {
         Ok(None)
     }
 
-    /// How many bytes of an unfinished count, name or value it keeps.
-    pub fn held(&self) -> usize
-        ensures { result ≡ unfinished self.now }
+    // How many bytes of a name that awaits its value it keeps.
+    fn waiting(&self) -> usize
+        ensures len { result ≡ waiting_bytes self.now.name }
+        ensures small { result ≤ 255 }
     {
-        self.held.len()
+        match &self.name {
+            Some(name) => name.len(),
+            None => 0,
+        }
+    }
+
+    /// How many bytes it keeps: of the properties so far, the names that are removed, and what is unfinished. Goes over
+    /// all of them.
+    pub fn held(&self) -> u128
+        ensures len { result ≡ kept_bytes self.now }
+        ensures small { result < 2 ^ 73 }
+    {
+        let names = self.removed.byte_len();
+        u128::from(self.props.byte_len()) + names + self.waiting() as u128 + self.held.len() as u128
     }
 
     /// The properties that were read leave the reader, which is otherwise as it was.

@@ -1,7 +1,8 @@
 //! Names of properties that one owner may add to.
-ghost use Rattle.std.specs.Prelude.{◌≡◌, [], IfOk, OnOk, OnErr};
+ghost use Rattle.std.specs.Prelude.{◌≡◌, ◌<◌, ◌^◌, [], IfOk, OnOk, OnErr};
 ghost use Rattle.std.specs.FinMap as map;
 ghost use Rattle.node_base.specs.PropDeltas.{kept_in};
+ghost use Rattle.node_base.specs.Entries.{stored_bytes};
 
 use crate::{PropName, Props};
 use std::alloc::{AllocError, Global};
@@ -48,6 +49,18 @@ impl NameSet {
         ensures { result ≡ map.len self.now }
     {
         self.names.len()
+    }
+
+    // How many bytes they have.
+    pub fn byte_len(&self) -> u128
+        ensures len { result ≡ stored_bytes self.now }
+        ensures small { result < 2 ^ 72 }
+    {
+        let mut len = 0;
+        for name in &self.names {
+            len += name.len() as u128;
+        }
+        len
     }
 
     // The name is among them from now on.

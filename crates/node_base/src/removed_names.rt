@@ -1,7 +1,8 @@
 //! Names that a change of a list of properties removes.
-ghost use Rattle.std.specs.Prelude.{◌≡◌, [], IfOk, OnOk, OnErr};
+ghost use Rattle.std.specs.Prelude.{◌≡◌, ◌<◌, ◌^◌, [], IfOk, OnOk, OnErr};
 ghost use Rattle.std.specs.FinMap as map;
 ghost use Rattle.node_base.specs.PropDeltas.{kept_in};
+ghost use Rattle.node_base.specs.Entries.{stored_bytes};
 
 use crate::name_set::NameSet;
 use crate::{PropName, Props};
@@ -66,6 +67,17 @@ impl RemovedNames {
     {
         match &self.set {
             Some(set) => set.len(),
+            None => 0,
+        }
+    }
+
+    /// How many bytes they have. Goes over all of them.
+    pub fn byte_len(&self) -> u128
+        ensures len { result ≡ stored_bytes self.now }
+        ensures small { result < 2 ^ 72 }
+    {
+        match &self.set {
+            Some(set) => set.byte_len(),
             None => 0,
         }
     }
