@@ -43,7 +43,7 @@ judged_kept : (limit k left : ℕ) (s : Step) (n : ℕ) → step_kept s ≤ n �
 judged_kept limit k left s n h = if_step n (nat_lt limit k) _ _ (omega arith) (if_step n (nat_lt (k + 1) left) _ _ h (omega arith))
 
 named_kept : (removes : Bool) (r : BlockReader) (name : List ℕ) (n : ℕ) → step_kept (named removes r name) ≤ n
-named_kept true r name n = if_step n (fits_with r.removed name) _ _ (omega arith) (omega arith)
+named_kept true r name n = omega arith
 named_kept false r name n = if_step n (fits_with r.props name) _ _ (omega arith) (omega arith)
 
 name_kept : (r : BlockReader) (name : List ℕ) (n : ℕ) → step_kept (name_is r name) ≤ n

@@ -203,9 +203,23 @@ spent = begin 0 at.Failed First
 abbrev pub version_of : ReadState → ℕ
 version_of r = r.version
 
--- how many bytes of an unfinished line, text, or count, name or value of a property block are kept
+-- the bytes of a path that a header gave
+abbrev pub path_bytes : Option Path → ℕ
+path_bytes None = 0
+path_bytes (Some p) = length (path_text p)
+
+-- the bytes of what a whole block gave
+abbrev pub part_bytes : PropPart → ℕ
+part_bytes (Whole props) = stored_bytes props
+part_bytes (Delta d) = stored_bytes d.sets + stored_bytes d.removed
+
+abbrev pub given_bytes : Option PropPart → ℕ
+given_bytes None = 0
+given_bytes (Some part) = part_bytes part
+
+-- all bytes that are kept of an unfinished record: of a line or a text, of a property block with its whole properties, of what a whole block gave, and of the header's paths
 abbrev pub kept : ReadState → ℕ
-kept r = length r.held + length r.block.held
+kept r = length r.held + kept_bytes r.block + given_bytes r.props + path_bytes r.head.path + path_bytes r.head.source_path
 
 abbrev pub kept_of : Stream → ℕ
 kept_of (Reads rs r) = kept r
