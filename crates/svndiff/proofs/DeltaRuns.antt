@@ -1,20 +1,20 @@
 -- Runs over the bytes of a delta.
-use Rattle.std.proofs.Common.{◌≡◌, ◌⊎◌, inl, inr, ℕ, ◌+◌, ◌-◌, ◌≤◌, ◌<◌, ◌==◌, ◌||◌, Bool, true, false, List, [], ◌∷◌, ◌++◌, length, take, drop, nat_lt, refl, sym, ap, ◌∙◌, append_assoc, length-append, arith}
+use Rattle.std.proofs.Common.{◌≡◌, ◌⊎◌, inl, inr, ℕ, ◌+◌, ◌-◌, ◌≤◌, ◌<◌, ◌==◌, ◌||◌, Bool, true, false, List, [], ◌∷◌, ◌++◌, length, take, drop, nat_lt, refl, sym, ap, ◌∙◌, append_assoc, arith}
 use Rattle.std.specs.Prelude.{Err, if◌then◌else◌}
 use Rattle.std.proofs.lemmas.Bool.Decides.{nat_tests}
 use Rattle.std.proofs.lemmas.List.{take-append-drop, length-take}
 use Rattle.svndiff.specs.declared.delta.Delta.{Delta}
 use Rattle.svndiff.specs.declared.delta_fault.DeltaFault.{DeltaFault}
-use Rattle.svndiff.specs.declared.delta_fault.DeltaFault.TheVariants.{BadWindow, TooLong, Failed, OutOfMemory}
+use Rattle.svndiff.specs.declared.delta_fault.DeltaFault.TheVariants.{OutOfMemory}
 use Rattle.svndiff.specs.declared.instructions.Instruction.{Instruction}
 use Rattle.svndiff.specs.declared.instructions.Kind.{Kind}
 use Rattle.svndiff.specs.declared.instructions.Kind.TheVariants as kind
 use Rattle.svndiff.specs.declared.window.Awaited.{Awaited}
 use Rattle.svndiff.specs.declared.window.Awaited.TheVariants as at
 use Rattle.svndiff.specs.declared.window.Window.{Window}
-use Rattle.svndiff.specs.DeltaReading.{is_wrong, takes_wrong, new_of, kept, is_whole}
-use Rattle.svndiff.specs.DeltaStreams.{Stream, Reads, Refuses, Took, Now, Not, TookIs, Tells, taken, held, settled, any_byte, one_byte, reading}
-use Rattle.svndiff.proofs.Runs.{lt_true, lt_false}
+use Rattle.svndiff.specs.DeltaReading.{is_wrong, takes_wrong, new_of}
+use Rattle.svndiff.specs.DeltaStreams.{Stream, Reads, Refuses, Took, Now, TookIs, Tells, taken, held, settled, any_byte, one_byte, reading}
+use Rattle.svndiff.proofs.Runs.{lt_true}
 
 -- pieces don't matter
 pub reading-append : (base : List ℕ) (s : Stream) (a b : List ℕ) → reading base s (a ++ b) ≡ reading base (reading base s a) b

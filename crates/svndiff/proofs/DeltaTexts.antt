@@ -1,7 +1,7 @@
 -- A text in windows of new data alone is a delta of any base.
-use Rattle.std.proofs.Common.{◌≡◌, inl, ℕ, zero, ◌+◌, ◌≤◌, List, [], ◌∷◌, ◌++◌, length, take, drop, refl, sym, subst, arith}
+use Rattle.std.proofs.Common.{◌≡◌, inl, ℕ, zero, ◌+◌, List, [], ◌∷◌, ◌++◌, length, take, drop, refl, sym, subst, arith}
 use Rattle.std.proofs.lemmas.List.{take-append-drop, length-take, length-drop}
-use Rattle.svndiff.specs.Grammar.{IsNew, AreNew, None, More, IsWindow, AreWindows, Empty, Then, IsText}
+use Rattle.svndiff.specs.Grammar.{AreNew, None, More, IsWindow, AreWindows, Empty, Then, IsText}
 use Rattle.svndiff.specs.DeltaGrammar.{Makes, Nothing, FromNew, IsDeltaWindow, AreDeltas, IsDelta, view_of}
 use Rattle.svndiff.specs.DeltaGrammar as delta
 use Rattle.svndiff.specs.declared.instructions.Kind.TheVariants as kind

@@ -1,5 +1,5 @@
 -- What holds of all bytes and all bases.
-use Rattle.std.specs.Prelude.{◌≡◌, ℕ, ◌≤◌, true, List, ◌++◌, length}
+use Rattle.std.specs.Prelude.{◌≡◌, ℕ, true, List, ◌++◌}
 use Rattle.svndiff.specs.declared.delta.Delta.{Delta}
 use Rattle.svndiff.specs.Grammar.{IsText}
 use Rattle.svndiff.specs.DeltaGrammar.{IsDelta}

@@ -1,12 +1,11 @@
 -- The text of a stream of bytes that is a delta of a base.
-use Rattle.std.specs.Prelude.{◌≡◌, ℕ, Bool, true, false, List, [], ◌∷◌, ◌++◌, length, take, drop, Option, Some, None, Result, Ok, Err, if◌then◌else◌}
+use Rattle.std.specs.Prelude.{◌≡◌, ℕ, List, [], ◌∷◌, ◌++◌, length, take, drop, Option, Some, None, Result, Ok, Err, if◌then◌else◌}
 use Rattle.svndiff.specs.declared.delta.Delta.{Delta}
 use Rattle.svndiff.specs.declared.delta_fault.DeltaFault.{DeltaFault}
 use Rattle.svndiff.specs.declared.delta_fault.DeltaFault.TheVariants.{OutOfMemory}
 use Rattle.svndiff.specs.declared.instructions.Instruction.{Instruction}
 use Rattle.svndiff.specs.declared.window.Awaited.TheVariants as at
-use Rattle.svndiff.specs.declared.window.Window.{Window}
-use Rattle.svndiff.specs.DeltaReading.{Step, Next, Refused, begin, spent, is_between, is_whole, is_failed, one_step, kept, over}
+use Rattle.svndiff.specs.DeltaReading.{Step, Next, Refused, begin, spent, is_whole, one_step, kept, over}
 use Rattle.svndiff.specs.Making.{run}
 
 -- before the first byte

@@ -2,6 +2,7 @@ pub mod DeltaFaults
 pub mod DeltaGrammar
 pub mod DeltaLaws
 pub mod DeltaReading
+pub mod DeltaRefusals
 pub mod DeltaStreams
 pub mod Faults
 pub mod Grammar

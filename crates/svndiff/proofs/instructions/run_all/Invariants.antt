@@ -1,5 +1,5 @@
 use Rattle.std.proofs.Common.{◌≡◌, drop}
-use Rattle.svndiff.specs.Making.{Making, run}
+use Rattle.svndiff.specs.Making.{run}
 use Rattle.svndiff.proofs.instructions.run_all.Given as goal
 
 abbrev pub invariant-loop-instruction : goal.invariant-loop-instruction

@@ -1,5 +1,5 @@
-use Rattle.std.proofs.Common.{◌≡◌, ◌∙◌, sym, ap, take, drop, arith}
-use Rattle.svndiff.specs.DeltaStreams.{Reads, Now, held, settled, reading}
+use Rattle.std.proofs.Common.{◌∙◌, sym, ap, drop, arith}
+use Rattle.svndiff.specs.DeltaStreams.{Now, held, settled, reading}
 use Rattle.svndiff.proofs.DeltaRuns.{stretch_at, refused_by}
 use Rattle.svndiff.proofs.delta.Delta.step.Goals as goal
 

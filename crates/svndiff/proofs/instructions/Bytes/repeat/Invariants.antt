@@ -1,4 +1,4 @@
-use Rattle.std.proofs.Common.{◌≡◌, ℕ}
+use Rattle.std.proofs.Common.{◌≡◌}
 use Rattle.svndiff.specs.Making.{repeat}
 use Rattle.svndiff.proofs.instructions.Bytes.repeat.Given as goal
 
