@@ -8,6 +8,7 @@ use std::cell::Cell;
 use std::fs::{Metadata, OpenFile, OpenOptions};
 use std::io;
 use std::io::{ErrorKind, Read, Seek, SeekFrom, Write};
+use std::os::unix::fs::FileExt;
 use std::process::Abort;
 use std::rt::Files;
 
@@ -20,7 +21,8 @@ struct Asked {
     gate_syncs: Cell<u32>,
     folder_syncs: Cell<u32>,
     cut_to: Cell<u64>,
-    sought: Cell<u64>,
+    interrupted: Cell<bool>,
+    written_at: Cell<u64>,
 }
 
 impl Asked {
@@ -40,7 +42,7 @@ fn unsupported() -> io::Error {
     io::Error::from(ErrorKind::Unsupported)
 }
 
-// A file that takes and gives one byte a call.
+// A file that takes and gives one byte a call, at an offset alone.
 #[derive(Drop)]
 struct FakeFile<'a> {
     asked: &'a Asked,
@@ -48,29 +50,42 @@ struct FakeFile<'a> {
 }
 
 impl<'a> Read for FakeFile<'a> {
-    fn read(&mut self, buf: &mut [u8]) -> io::Result<usize> {
-        self.asked.answer(buf.len().min(1))
+    fn read(&mut self, _buf: &mut [u8]) -> io::Result<usize> {
+        Err(unsupported())
     }
 }
 
 impl<'a> Write for FakeFile<'a> {
-    fn write(&mut self, buf: &[u8]) -> io::Result<usize> {
-        self.asked.answer(buf.len().min(1))
+    fn write(&mut self, _buf: &[u8]) -> io::Result<usize> {
+        Err(unsupported())
     }
 
     fn flush(&mut self) -> io::Result<()> {
-        self.asked.answer(())
+        Err(unsupported())
+    }
+}
+
+impl<'a> FileExt for FakeFile<'a> {
+    fn read_at(&self, buf: &mut [u8], _offset: u64) -> io::Result<usize> {
+        self.asked.answer(buf.len().min(1))
+    }
+
+    // The first is interrupted.
+    fn write_at(&self, buf: &[u8], offset: u64) -> io::Result<usize> {
+        if !self.asked.interrupted.replace(true) {
+            return Err(io::Error::from(ErrorKind::Interrupted));
+        }
+        self.asked.written_at.set(offset);
+        self.asked.answer(buf.len().min(1))
     }
 }
 
 impl<'a> Seek for FakeFile<'a> {
     fn seek(&mut self, to: SeekFrom) -> io::Result<u64> {
-        let at = match to {
-            SeekFrom::Start(at) => at,
-            _ => 7,
-        };
-        self.asked.sought.set(at);
-        self.asked.answer(at)
+        match to {
+            SeekFrom::End(_) => self.asked.answer(7),
+            _ => Err(unsupported()),
+        }
     }
 }
 
@@ -192,7 +207,8 @@ fn nothing_asked() -> Asked {
         gate_syncs: Cell::new(0),
         folder_syncs: Cell::new(0),
         cut_to: Cell::new(0),
-        sought: Cell::new(0),
+        interrupted: Cell::new(false),
+        written_at: Cell::new(0),
     }
 }
 
@@ -237,10 +253,12 @@ fn cuts_one<'a>(disk: &mut HostDisk<StdFiles<FakeFile<'a>>>, asked: &Asked) -> b
         && was_asked(asked, 1, 4, 1)
 }
 
-// Whether writes of the three files and the sync behind them ask for that, at the place that is given.
+// Whether writes of the three files and the sync behind them ask for that, each byte at its place. The first write is
+// interrupted, and each takes one byte.
 fn writes_all<'a>(disk: &mut HostDisk<StdFiles<FakeFile<'a>>>, asked: &Asked) -> bool {
     disk.write_at(DiskFile::Journal, 9, b"abc").is_ok()
-        && asked.sought.get() == 9
+        && asked.interrupted.get()
+        && asked.written_at.get() == 11
         && disk.write_at(DiskFile::Gate, 9, b"abc").is_ok()
         && disk.write_at(DiskFile::Slots, 9, b"abc").is_ok()
         && disk.sync().is_ok()
@@ -248,7 +266,7 @@ fn writes_all<'a>(disk: &mut HostDisk<StdFiles<FakeFile<'a>>>, asked: &Asked) ->
         && disk.len(DiskFile::Journal) == Ok(7)
 }
 
-// A sync reaches the file that was changed since the last, at the place that was given.
+// A sync reaches the file that was changed since the last, and a write goes on at the place behind what was written.
 #[test]
 fn what_a_change_is_asked(rt: HostRuntime) {
     let asked = nothing_asked();

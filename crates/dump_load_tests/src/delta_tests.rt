@@ -3,7 +3,7 @@
 use crate::spelled::{add, next, none_is_wrong, path, records, two_trees};
 use dump_load::{ChangeFault, ChangeSet};
 use dump_text::{NodeRecord, PropPart};
-use node_base::{PropDelta, PropName, PropValue, Props};
+use node_base::{PropDelta, PropName, PropValue, Props, RemovedNames};
 use path_tree::Tree;
 use std::alloc::Global;
 use std::process::Abort;
@@ -27,15 +27,16 @@ fn list(rt: &impl Abort, alloc: Global, words: &str) -> Props {
     list
 }
 
-// The list of the names that words spell, with commas between, each with an empty value.
-fn names(rt: &impl Abort, alloc: Global, words: &str) -> Props {
-    let mut list = Props::empty();
+// The names that words spell, with commas between.
+fn names(rt: &impl Abort, alloc: Global, words: &str) -> RemovedNames {
+    let mut all = RemovedNames::empty();
     for name in words.split(',') {
         if !name.is_empty() {
-            put(rt, alloc, &mut list, name, "");
+            let name = PropName::parse(alloc, name.as_bytes()).expect(rt, "a name");
+            all.insert(alloc, name).expect(rt, "memory");
         }
     }
-    list
+    all
 }
 
 // The delta that words spell: the names that are set, and behind `-` those that are removed.
@@ -220,7 +221,7 @@ fn full(rt: &impl Abort, alloc: Global) -> PropPart {
     }
     PropPart::Delta(PropDelta {
         sets,
-        removed: Props::empty(),
+        removed: RemovedNames::empty(),
     })
 }
 

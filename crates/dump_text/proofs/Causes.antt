@@ -1,14 +1,12 @@
 -- Refused bytes are refused for what is due, by lines and records.
-use Rattle.std.proofs.Common.{◌≡◌, ℕ, zero, suc, ◌+◌, ◌-◌, ◌≤◌, ◌<◌, ◌==◌, ◌&&◌, ◌||◌, not, cond, Bool, true, false, nat_lt, nat_le, ◌⊎◌, inl, inr, List, [], ◌∷◌, ◌++◌, length, take, drop, get_or, Option, Some, None, is_some, Ok, Err, refl, sym, ap, subst, ◌∙◌, append_assoc, append-nil, length-append, arith}
+use Rattle.std.proofs.Common.{◌≡◌, ℕ, zero, suc, ◌+◌, ◌-◌, ◌≤◌, ◌<◌, ◌==◌, ◌&&◌, ◌||◌, not, Bool, true, false, nat_lt, ◌⊎◌, inl, inr, List, [], ◌∷◌, ◌++◌, length, take, drop, get_or, Option, Some, None, is_some, Ok, Err, refl, sym, ap, subst, ◌∙◌, append_assoc, append-nil, length-append, arith}
 use Rattle.std.proofs.lemmas.Bool.{eqb-true, cases_lt}
-use Rattle.std.proofs.lemmas.Bool.Decides.{nat_tests}
 use Rattle.std.proofs.lemmas.List.{take_all, take_at, take_more, length-take, take-append-drop, take-take}
 use Rattle.std.specs.Bool.{if◌then◌else◌}
 use Rattle.std.specs.Option.{is_none, option_map}
 use Rattle.std.specs.FinMap as map
 use Rattle.node_base.specs.Props.{PropMap}
-use Rattle.node_base.specs.Blocks.{Run, More, Done, Fault, run_block, after, of_step, block_step, one_more, begun, new_block}
-use Rattle.node_base.specs.Blocks.{Step, Next, Whole, Refused}
+use Rattle.node_base.specs.Blocks.{More, Done, Fault, run_block, after, of_step, block_step, begun, new_block}
 use Rattle.node_base.specs.declared.block.BlockReader.{BlockReader}
 use Rattle.node_base.specs.declared.prop_fault.PropFault.{PropFault}
 use Rattle.node_base.proofs.BlockRuns.{after-append, after-refused, after-whole}
@@ -20,8 +18,8 @@ use Rattle.dump_text.specs.Headers.{version_in}
 use Rattle.dump_text.specs.Heads.{line_says, no_head}
 use Rattle.dump_text.specs.Forms.{fits_form, lengths_agree, lengths_fit, is_delta, may_be_delta, part_of, whole_of, record_of, named_of, numbered_of, node_of, is_inside, is_node_head, has_source_form, is_deletion, is_first, is_identity_head, has_no_node, stage_after}
 use Rattle.dump_text.specs.Streams.{Stream, Reads, Refuses, reading, fresh, begin, given, give, made, text_is, after_block, content, judged, said, line_is, versioned, is_line_place, sum_holds, of_prop_fault, of_block, NoLf, dump}
-use Rattle.dump_text.specs.Grammar.{lines_of, HeadOf, HasBlock, HasText, IsContent, Says, IsRecord, IsRecords, AreBlank, IsVersionLine, DumpOf, bytes_of, stage_behind}
-use Rattle.dump_text.specs.Refusals.{IsLine, IsLong, AtLine, AtEnd, IsFine, IsFault, in_line, long_line, no_form, no_sum, too_much, no_block, in_block, in_text, IsDue, no_version, no_blank, long_first, long_second, behind}
+use Rattle.dump_text.specs.Grammar.{lines_of, HeadOf, HasBlock, HasText, IsContent, IsRecord, IsRecords, IsVersionLine, bytes_of, stage_behind}
+use Rattle.dump_text.specs.Refusals.{IsLine, IsLong, AtEnd, IsFine, IsFault, in_line, long_line, no_form, no_sum, too_much, no_block, in_block, in_text, IsDue, no_version, no_blank, long_first, long_second, behind}
 use Rattle.dump_text.specs.declared.fault.DumpFault.{DumpFault}
 use Rattle.dump_text.specs.declared.fault.DumpFault.TheVariants.{BadVersion, BadHeader, BadLength, BadProps, BadSum, TooLong}
 use Rattle.dump_text.specs.declared.form.Stage.{Stage}
@@ -36,7 +34,7 @@ use Rattle.dump_text.specs.declared.state.ReadState.{ReadState}
 use Rattle.dump_text.proofs.StreamRuns.{reading-append, reading-refused, reader, parts, line_ends, line_kept, line_too_long, lone_take, text_kept, text_whole, block_piece}
 use Rattle.dump_text.proofs.Records.{follow, within_limit, head_read, block_read, dump_read}
 use Rattle.dump_text.proofs.Written.{blanks_before}
-use Rattle.dump_text.proofs.Converse.{Cut, cut, record_says, not_eq, shorter, nothing_less, reads_never, names_format}
+use Rattle.dump_text.proofs.Converse.{cut, record_says, not_eq, shorter, nothing_less, reads_never, names_format}
 
 -- ---- what a refusal is
 

@@ -7,7 +7,6 @@ use Rattle.std.specs.Bool.{if◌then◌else◌}
 use Rattle.node_base.specs.Blocks.{More, Done, Fault, run_block, begun, new_block}
 use Rattle.node_base.proofs.BlockSpelled.{both}
 use Rattle.node_base.proofs.BlockConverse.{read_is_block}
-use Rattle.std.specs.Prelude.{codes}
 use Rattle.std.specs.Option.{option_map}
 use Rattle.dump_text.specs.Headers.{same, version_in}
 use Rattle.dump_text.specs.Heads.{line_says, no_head}

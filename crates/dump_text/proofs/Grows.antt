@@ -13,7 +13,7 @@ use Rattle.dump_text.specs.declared.state.Place.TheVariants as at
 use Rattle.dump_text.specs.declared.record.DumpRecord.{DumpRecord}
 use Rattle.dump_text.specs.declared.record.PropPart.{PropPart}
 use Rattle.dump_text.specs.declared.state.ReadState.{ReadState}
-use Rattle.dump_text.specs.Streams.{Stream, Reads, Refuses, reading, one_byte, stream_step, line_step, block_said, said, given, give, made, text_is, after_block, content, judged, line_is, records_of, IsFront, versioned, sum_holds}
+use Rattle.dump_text.specs.Streams.{Stream, Reads, Refuses, reading, one_byte, stream_step, line_step, block_said, said, given, give, text_is, after_block, content, judged, line_is, records_of, IsFront, versioned, sum_holds}
 
 here : (rs : List DumpRecord) → (more : List DumpRecord) × (rs ≡ rs ++ more)
 here rs = ([], sym (append-nil rs))

@@ -2,6 +2,7 @@ mod BlockSizes
 mod CanonRead
 mod Converse
 mod Grows
+mod HeadBytes
 mod HeadLines
 mod Identities
 mod Kept

@@ -3,12 +3,11 @@ use Rattle.std.proofs.Common.{◌≡◌, ℕ, ◌+◌, ◌<◌, ◌==◌, ◌&&�
 use Rattle.std.proofs.lemmas.List.{take_at, drop_at, take_more}
 use Rattle.std.proofs.lemmas.Bool.Decides.{nat_tests}
 use Rattle.std.specs.Bool.{if◌then◌else◌}
-use Rattle.std.specs.FinMap as map
-use Rattle.node_base.specs.Blocks.{begun, new_block, run_block, Done}
+use Rattle.node_base.specs.Blocks.{begun, new_block, run_block}
 use Rattle.node_base.proofs.BlockSpelled.{block_long, eq_false, both}
 use Rattle.node_base.proofs.BlockWritten.{block_is_read}
 use Rattle.dump_text.specs.Heads.{no_head}
-use Rattle.dump_text.specs.Forms.{stage_after, record_of, length_of, lengths_fit, is_delta, part_of}
+use Rattle.dump_text.specs.Forms.{stage_after, record_of, length_of, lengths_fit, is_delta}
 use Rattle.dump_text.specs.Streams.{Stream, Reads, Refuses, reading, given, give, made, text_is, after_block, content, said, line_is, begin, of_block, dump}
 use Rattle.dump_text.specs.Grammar.{lines_of, HeadOf, IsBlockOf, IsContent, HasText, bytes_of, Says, IsRecord, IsRecords, AreBlank, IsVersionLine, DumpOf, stage_behind}
 use Rattle.dump_text.specs.declared.fault.DumpFault.TheVariants.{BadSum, BadProps, TooLong}

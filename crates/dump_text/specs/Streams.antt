@@ -1,6 +1,10 @@
 -- The stream of records, byte by byte.
 use Rattle.std.specs.Prelude.{◌≡◌, ℕ, ◌+◌, ◌==◌, not, nat_lt, Bool, true, false, List, [], ◌∷◌, ◌++◌, length, drop, Option, Some, None, Result, Ok, Err, if◌then◌else◌}
 use Rattle.md5.specs.Md5.{md5}
+use Rattle.node_base.specs.Path.{Path}
+use Rattle.node_base.specs.PathText.{path_text}
+use Rattle.node_base.specs.Entries.{stored_bytes}
+use Rattle.node_base.specs.BlockKept.{kept_bytes}
 use Rattle.node_base.specs.Blocks.{Step, Next, Whole, Refused, block_step, begun, new_block, Run, More, Done, Fault}
 use Rattle.node_base.specs.declared.prop_fault.PropFault.{PropFault}
 use Rattle.node_base.specs.declared.prop_fault.PropFault.TheVariants as prop_fault
@@ -16,6 +20,7 @@ use Rattle.dump_text.specs.declared.form.Stage.{Stage}
 use Rattle.dump_text.specs.declared.form.Stage.TheVariants.{First}
 use Rattle.dump_text.specs.declared.record.DumpRecord.{DumpRecord}
 use Rattle.dump_text.specs.declared.record.PropPart.{PropPart}
+use Rattle.dump_text.specs.declared.record.PropPart.TheVariants as part
 use Rattle.dump_text.specs.declared.state.Place.{Place}
 use Rattle.dump_text.specs.declared.state.Place.TheVariants as at
 use Rattle.dump_text.specs.declared.state.ReadState.{ReadState}
@@ -203,9 +208,23 @@ spent = begin 0 at.Failed First
 abbrev pub version_of : ReadState → ℕ
 version_of r = r.version
 
--- how many bytes of an unfinished line, text, or count, name or value of a property block are kept
+-- the bytes of a path that a header gave
+abbrev pub path_bytes : Option Path → ℕ
+path_bytes None = 0
+path_bytes (Some p) = length (path_text p)
+
+-- the bytes of what a whole block gave
+abbrev pub part_bytes : PropPart → ℕ
+part_bytes (part.Whole props) = stored_bytes props
+part_bytes (part.Delta d) = stored_bytes d.sets + stored_bytes d.removed
+
+abbrev pub given_bytes : Option PropPart → ℕ
+given_bytes None = 0
+given_bytes (Some p) = part_bytes p
+
+-- all bytes that are kept of an unfinished record: of a line or a text, of a property block with its whole properties, of what a whole block gave, and of the header's paths
 abbrev pub kept : ReadState → ℕ
-kept r = length r.held + length r.block.held
+kept r = length r.held + kept_bytes r.block + given_bytes r.props + path_bytes r.head.path + path_bytes r.head.source_path
 
 abbrev pub kept_of : Stream → ℕ
 kept_of (Reads rs r) = kept r

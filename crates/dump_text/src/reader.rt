@@ -71,6 +71,19 @@ impl DumpReader {
         ensures kept { has_failed self.old ≡ true → out.new.items ≡ out.old.items }
         ensures held { kept self.new ≤ kept self.old + length piece.now }
     {
+        self.feed_piece(piece, out)
+    }
+
+    // Takes the next piece of a dump.
+    fn feed_piece(&mut self, piece: &[u8], out: &mut Vec<DumpRecord>) -> Result<(), DumpFault>
+        ensures reads { has_failed self.old ≡ false → StreamIs result self.new out.new.items
+            (reading (Reads out.old.items self.old) piece.now) }
+        ensures failed { has_failed self.old ≡ true → result ≡ Err Failed }
+        ensures later { OnErr result (self.new ≡ spent) }
+        ensures front { has_failed self.old ≡ false → OnErr result
+            (IsFront out.new.items (reading (Reads out.old.items self.old) piece.now)) }
+        ensures kept { has_failed self.old ≡ true → out.new.items ≡ out.old.items }
+    {
         if self.state.has_failed() {
             self.state = ReadState::spent(self.alloc);
             return Err(DumpFault::Failed);
@@ -103,8 +116,8 @@ impl DumpReader {
         }
     }
 
-    /// How many bytes are kept of a line, a text, or a count, a name or a value of a property block that isn't whole
-    /// yet: never more than were fed, whatever lengths were announced.
+    /// How many bytes are kept of a record that isn't whole yet: of a line or a text, of its properties so far, and of
+    /// its header's paths. They are never more than were fed, whatever lengths were announced. Goes over all properties.
     pub fn held(&self) -> u128
         ensures { result ≡ kept self.now }
     {

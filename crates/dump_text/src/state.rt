@@ -1,13 +1,13 @@
 //! What has come of a stream, between two bytes.
 
-ghost use Rattle.std.specs.Prelude.{◌≡◌, ◌≤◌, ◌<◌, ◌+◌, ◌++◌, ◌∷◌, [], length, take, drop, slice_index, Option, Some};
+ghost use Rattle.std.specs.Prelude.{◌≡◌, ◌≤◌, ◌<◌, ◌+◌, ◌++◌, ◌∷◌, [], ◌^◌, length, take, drop, slice_index, Option, Some};
 ghost use Rattle.std.specs.Prelude.{None, Ok, Err, IfOk, IfSome, OnErr, true, false, if◌then◌else◌};
 ghost use Rattle.md5.specs.Md5.{md5};
 ghost use Rattle.node_base.specs.Blocks.{begun};
 ghost use Rattle.dump_text.specs.Streams.{StreamIs, Reads, Refuses, begin, fresh, behind_version, spent, has_failed};
 ghost use Rattle.dump_text.specs.Streams.{give, text_is};
 ghost use Rattle.dump_text.specs.Streams.{after_block, content, judged, line_is, reading, sum_holds, is_line_place};
-ghost use Rattle.dump_text.specs.Streams.{is_failed, is_between, kept, of_prop_fault, of_text_fault, GoesOn, NoLf};
+ghost use Rattle.dump_text.specs.Streams.{is_failed, is_between, kept, path_bytes, given_bytes, of_prop_fault, of_text_fault, GoesOn, NoLf};
 ghost use Rattle.dump_text.specs.Streams.{IsFront};
 ghost use Rattle.dump_text.specs.declared.form.Stage.TheVariants.{First};
 ghost use Rattle.dump_text.specs.declared.state.Place.TheVariants as at;
@@ -23,7 +23,7 @@ use crate::held::HeldBytes;
 use crate::record::{DumpRecord, PropPart};
 use md5::{Digest, Md5};
 use memchr::memchr;
-use node_base::{BlockReader, PropFault, Text, TextFault};
+use node_base::{BlockReader, NodePath, PropFault, Text, TextFault};
 use std::alloc::Global;
 use std::mem;
 
@@ -59,6 +59,31 @@ pub struct ReadState {
     pub props: Option<PropPart>,
     /// The bytes of an unfinished line or text.
     pub held: HeldBytes,
+}
+
+/// How many bytes a path has that a header gave.
+fn path_len(path: &Option<NodePath>) -> usize
+    ensures len { result ≡ path_bytes path.now }
+    ensures small { result ≤ 1024 }
+{
+    match path {
+        Some(path) => path.text_len(),
+        None => 0,
+    }
+}
+
+/// How many bytes a whole block gave.
+fn given_len(given: &Option<PropPart>) -> u128
+    ensures len { result ≡ given_bytes given.now }
+    ensures small { result < 2 ^ 73 }
+{
+    match given {
+        Some(PropPart::Whole(props)) => u128::from(props.byte_len()),
+        Some(PropPart::Delta(delta)) => {
+            u128::from(delta.sets.byte_len()) + delta.removed.byte_len()
+        }
+        None => 0,
+    }
 }
 
 fn md5_of(text: &[u8]) -> [u8; 16]
@@ -431,11 +456,14 @@ impl ReadState {
         }
     }
 
-    /// How many bytes of an unfinished element are kept.
+    /// How many bytes are kept of an unfinished record. Goes over all that its block gave.
     pub fn held(&self) -> u128
         ensures { result ≡ kept self.now }
     {
-        self.held.len() as u128 + self.block.held() as u128
+        let block = self.block.held();
+        let given = given_len(&self.props);
+        let paths = path_len(&self.head.path) + path_len(&self.head.source_path);
+        self.held.len() as u128 + block + given + paths as u128
     }
 
     /// Takes a whole piece.

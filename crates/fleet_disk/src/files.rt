@@ -8,11 +8,12 @@ use crate::calls::HostCalls;
 use crate::disk::{DiskFault, DiskFile};
 use std::fs::{File, OpenFile, OpenOptions};
 use std::io;
-use std::io::{ErrorKind, Read, Seek, SeekFrom, Write};
+use std::io::{ErrorKind, Seek, SeekFrom};
+use std::os::unix::fs::FileExt;
 use std::rt::Files;
 
 /// A host's files, each of which one opening at a time may hold.
-pub trait HeldFiles: Files {
+pub trait HeldFiles: Files<File: FileExt> {
     /// The file is the one at this path.
     ghost is_at: { Self.File → List ℕ → Type 0 };
 
@@ -66,14 +67,14 @@ impl HeldFiles for HostRuntime {
 /// That a host keeps the rules is a premise that no contract shows: here each call is the host's, and nothing else is
 /// done. A call of it that fails is counted.
 #[derive(Drop)]
-pub struct StdFiles<F: Read + Write + Seek + OpenFile> {
+pub struct StdFiles<F: FileExt + Seek + OpenFile> {
     pub journal: Option<F>,
     pub gate: Option<F>,
     pub slots: Option<F>,
     pub failures: u64,
 }
 
-impl<F: Read + Write + Seek + OpenFile + Drop> StdFiles<F> {
+impl<F: FileExt + Seek + OpenFile + Drop> StdFiles<F> {
     // What an answer of the host is: a failure is counted.
     fn counted<T: Drop>(&mut self, answer: io::Result<T>) -> Result<T, DiskFault>
         ensures ok { IfOk result (λ value. answer ≡ Ok value) }
@@ -90,7 +91,7 @@ impl<F: Read + Write + Seek + OpenFile + Drop> StdFiles<F> {
     }
 }
 
-impl<F: Read + Write + Seek + OpenFile + Drop> HostCalls for StdFiles<F> {
+impl<F: FileExt + Seek + OpenFile + Drop> HostCalls for StdFiles<F> {
     // Nothing shows it of a real host.
     ghost honest = { λ host. ⊥ };
 
@@ -162,14 +163,11 @@ fn one_of<'a, F>(
 }
 
 // Some bytes from an offset on; of a file that isn't there none.
-fn read_from<F: Read + Seek>(file: Option<&mut F>, at: u64, buf: &mut [u8]) -> io::Result<usize>
+fn read_from<F: FileExt>(file: Option<&mut F>, at: u64, buf: &mut [u8]) -> io::Result<usize>
     ensures { IfOk result (λ n. n ≤ length buf.old) }
 {
     match file {
-        Some(file) => {
-            file.seek(SeekFrom::Start(at))?;
-            file.read(buf)
-        }
+        Some(file) => file.read_at(buf, at),
         None => Ok(0),
     }
 }
@@ -181,12 +179,9 @@ fn length_of<F: Seek>(file: Option<&mut F>) -> io::Result<u64> {
     }
 }
 
-fn write_to<F: Write + Seek>(file: Option<&mut F>, at: u64, bytes: &[u8]) -> io::Result<()> {
+fn write_to<F: FileExt>(file: Option<&mut F>, at: u64, bytes: &[u8]) -> io::Result<()> {
     match file {
-        Some(file) => {
-            file.seek(SeekFrom::Start(at))?;
-            file.write_all(bytes)
-        }
+        Some(file) => file.write_all_at(bytes, at),
         None => Err(io::Error::from(ErrorKind::NotFound)),
     }
 }

@@ -7,9 +7,10 @@ use crate::host::HostDisk;
 use std::alloc::Global;
 use std::fs::OpenFile;
 use std::io;
-use std::io::{Read, Seek, Write};
+use std::io::Seek;
+use std::os::unix::fs::FileExt;
 
-impl<F: Read + Write + Seek + OpenFile + Drop> HostDisk<StdFiles<F>> {
+impl<F: FileExt + Seek + OpenFile + Drop> HostDisk<StdFiles<F>> {
     /// Opens the files of a folder, and makes none. A file that isn't there counts as empty, and isn't held. While the
     /// disk is open nobody else has the folder: it holds the journal. No failure is counted yet. The host refuses where
     /// the folder is in use; it or memory may refuse besides.

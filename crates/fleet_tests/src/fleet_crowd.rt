@@ -1,19 +1,23 @@
-//! What threads do beside a fleet's workers: committers at the master, readers at two mirrors, and who gives the orders.
+//! What threads do beside a fleet's workers: committers at the master, readers, servers and clients of two mirrors, and who
+//! gives the orders.
 //! Each answers 0 where all went as it is to, else the number of a refusal that wasn't to come, or that it missed something.
 
 use crate::crowd::{ALL, LOOKS, MISSED, committer, sees};
 use crate::crowd_made::token;
+use crate::served_crowd::{client, server};
 use fleet_disk::MemDisk;
 use fleet_jobs::{Order, Work};
 use fleet_shares::{Answered, FleetShares, Unheld, run_shared};
 use mirror_share::MirrorShare;
 use node_base::RevNo;
 use std::alloc::Global;
+use std::net::{Net, TcpListener, TcpStream};
 use std::process::Abort;
 use std::sync::atomic::{AtomicU64, Ordering};
 use std::sync::{Arc, Wait};
 use std::thread;
 use std::thread::Threads;
+use std::time::Clock;
 use store_share::RowName;
 
 // How many workers the fleet has, and how many orders each mirror's two jobs get.
@@ -164,11 +168,21 @@ fn watcher<R: Wait + Abort, L: RowName>(
 }
 
 /// How many threads there are beside the workers.
-pub(crate) const THREADS: usize = 8;
+pub(crate) const THREADS: usize = 14;
 
-/// What the thread of that place does: three committers, two readers at each mirror, and who gives the orders.
+/// What the thread of that place does: three committers; two readers, a server and its two clients at each mirror; and who
+/// gives the orders. The servers listen on these ports.
 pub(crate) fn does<
-    R: Threads + Wait + Abort + Clone + Send + Drop + 'static,
+    R: Net<Listener = TcpListener, Stream = TcpStream>
+        + Threads
+        + Wait
+        + Abort
+        + Clock
+        + Clone
+        + Send
+        + Sync
+        + Drop
+        + 'static,
     M: RowName + Send + Sync + 'static,
     L0: RowName + Send + Sync + 'static,
     L1: RowName + Send + Sync + 'static,
@@ -179,6 +193,7 @@ pub(crate) fn does<
     alloc: Global,
     shares: &Arc<FleetShares<M, L0, L1, L2, L3, MemDisk>>,
     done: &AtomicU64,
+    ports: &[u16; 2],
     place: usize,
 ) -> u8 {
     match place {
@@ -189,6 +204,12 @@ pub(crate) fn does<
         4 => watcher(rt, alloc, &shares.first, done),
         5 => watcher(rt, alloc, &shares.second, done),
         6 => watcher(rt, alloc, &shares.second, done),
+        7 => server(rt, alloc, &shares.first, ports[0]),
+        8 => server(rt, alloc, &shares.second, ports[1]),
+        9 => client(rt, alloc, &shares.first, ports[0]),
+        10 => client(rt, alloc, &shares.first, ports[0]),
+        11 => client(rt, alloc, &shares.second, ports[1]),
+        12 => client(rt, alloc, &shares.second, ports[1]),
         _ => giver(rt, alloc, shares, done),
     }
 }

@@ -1,5 +1,5 @@
-//! Three committers at a master, a fleet whose workers run two jobs at each of two mirrors of it, and four readers, all at
-//! once.
+//! Three committers at a master, a fleet whose workers run two jobs at each of two mirrors of it, and of each mirror two
+//! readers, a server and two clients over sockets, all at once.
 
 ghost use Rattle.std.specs.Prelude.{◌≡◌, IfSome};
 ghost use Rattle.store_share.specs.Opened.{cells_of};
@@ -8,6 +8,7 @@ use crate::crowd::{ALL, begins};
 use crate::crowd_made::{MIRROR, blank_disk, opened};
 use crate::fleet_crowd::{THREADS, brings_up, does};
 use crate::fronts::front_of;
+use crate::served_crowd::free_ports;
 use crate::stores::MASTER;
 use fleet_disk::MemDisk;
 use fleet_shares::{FleetShares, FleetStores, OpenedFleet, stores_of};
@@ -16,12 +17,14 @@ use node_base::RevNo;
 use repo_store::RepoStore;
 use std::alloc::Global;
 use std::marker::Brand;
+use std::net::{Net, TcpListener, TcpStream};
 use std::process::Abort;
 use std::rt::HostRuntime;
 use std::sync::atomic::AtomicU64;
 use std::sync::{Arc, Wait};
 use std::thread;
 use std::thread::Threads;
+use std::time::Clock;
 use store_share::RowName;
 
 // Makes the mirror of a slot one of the master.
@@ -38,7 +41,16 @@ fn begins_in<R: Wait + Abort, L: RowName>(
 
 // The first answer of a thread that isn't as it is to be, 0 where all are.
 fn goes<
-    R: Threads + Wait + Abort + Clone + Send + Sync + Drop + 'static,
+    R: Net<Listener = TcpListener, Stream = TcpStream>
+        + Threads
+        + Wait
+        + Abort
+        + Clock
+        + Clone
+        + Send
+        + Sync
+        + Drop
+        + 'static,
     M: RowName + Send + Sync + 'static,
     L0: RowName + Send + Sync + 'static,
     L1: RowName + Send + Sync + 'static,
@@ -46,12 +58,14 @@ fn goes<
     L3: RowName + Send + Sync + 'static,
 >(rt: &R, alloc: Global, shares: &Arc<FleetShares<M, L0, L1, L2, L3, MemDisk>>) -> u8 {
     let done = AtomicU64::new(0);
+    let ports = free_ports(rt);
     let answers = thread::map_indices(
         rt,
         alloc,
         THREADS,
-        &|i| does(rt, alloc, shares, &done, i),
-    ).expect(rt, "threads");
+        &|i| does(rt, alloc, shares, &done, &ports, i),
+    )
+    .expect(rt, "threads");
     for answer in answers.iter() {
         if *answer != 0 {
             return *answer;
@@ -62,7 +76,16 @@ fn goes<
 
 // Whether all goes well over opened stores under the names of their rows, which come back as stores.
 fn together<
-    R: Threads + Wait + Abort + Clone + Send + Sync + Drop + 'static,
+    R: Net<Listener = TcpListener, Stream = TcpStream>
+        + Threads
+        + Wait
+        + Abort
+        + Clock
+        + Clone
+        + Send
+        + Sync
+        + Drop
+        + 'static,
     M: RowName + Send + Sync + 'static,
     L0: RowName + Send + Sync + 'static,
     L1: RowName + Send + Sync + 'static,
@@ -107,10 +130,18 @@ fn have_all(alloc: Global, stores: FleetStores<MemDisk>) -> bool {
 }
 
 // Whether a fleet's jobs bring two mirrors up beside committers and readers.
-fn is_brought_up<R: Threads + Wait + Abort + Clone + Send + Sync + Drop + 'static>(
-    rt: &R,
-    alloc: Global,
-) -> bool {
+fn is_brought_up<
+    R: Net<Listener = TcpListener, Stream = TcpStream>
+        + Threads
+        + Wait
+        + Abort
+        + Clock
+        + Clone
+        + Send
+        + Sync
+        + Drop
+        + 'static,
+>(rt: &R, alloc: Global) -> bool {
     let fleet = OpenedFleet {
         master: opened(rt, alloc, blank_disk(rt, alloc, MASTER)),
         first: Some(opened(rt, alloc, blank_disk(rt, alloc, MIRROR))),

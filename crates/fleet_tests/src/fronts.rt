@@ -8,8 +8,8 @@ use repo_core::Repo;
 use repo_store::RepoStore;
 use std::alloc::Global;
 
-// Whether two sets change the same paths in the same way.
-fn are_same_sets(one: &ChangeSet, other: &ChangeSet) -> bool {
+/// Whether two sets change the same paths in the same way.
+pub(crate) fn are_same_sets(one: &ChangeSet, other: &ChangeSet) -> bool {
     if one.changes().len() != other.changes().len() {
         return false;
     }

@@ -1,6 +1,7 @@
 //! Tests of what threads share, and of the commands. Of threads: the seats of a store, the workers and orders of
 //! `fleet_jobs`, a fleet over stores in memory, and many threads at once: committers at a master, jobs at two mirrors of it
-//! and readers, a machine that stops amid them, and a fleet whose workers run the jobs. Of commands: their words, streams
+//! and readers, a machine that stops amid them, and a fleet whose workers run the jobs of mirrors that
+//! are served meanwhile. Of commands: their words, streams
 //! that fail, and reports.
 #![tactic(auto)]
 
@@ -42,6 +43,8 @@ mod orders;
 mod report_tests;
 #[cfg(test)]
 mod seat_tests;
+#[cfg(test)]
+mod served_crowd;
 #[cfg(test)]
 mod stores;
 #[cfg(test)]

@@ -18,8 +18,8 @@ pub record Keeps (v : LogVersion) (ends : List ℕ) (entries : List (List ℕ)) 
   pub stands : StandsAt v ends image
   pub same : parts 0 ends image.journal ≡ entries
 
-pub kept : (v : LogVersion) (ends : List ℕ) (entries : List (List ℕ)) (image : Image) → Keeps v ends entries image → Stands image entries
-kept v ends entries image keeps = (v, ends, keeps.stands, sym keeps.same)
+pub kept : (v : LogVersion) (ends : List ℕ) (entries : List (List ℕ)) (image : Image) → Keeps v ends entries image → Stands image entries × IsOf v image
+kept v ends entries image keeps = ((v, ends, keeps.stands, sym keeps.same), keeps.stands.is)
 
 -- a journal that is cut no further than the last end
 front_of : (old new : List ℕ) → take (length new) old ≡ new → new ++ drop (length new) old ≡ old
@@ -154,15 +154,15 @@ module _ (v : LogVersion) (ends : List ℕ) (rest : Image) (some : 0 < length en
   at_first : Keeps v ends entries rest
   at_first = record { stands = was; same = refl }
 
-  pub still_stands : (c : Image) → c ≡ rest → Stands c entries
-  still_stands c is = subst (λ (i : Image). Stands i entries) (sym is) (kept v ends entries rest at_first)
+  pub still_stands : (c : Image) → c ≡ rest → Stands c entries × IsOf v c
+  still_stands c is = subst (λ (i : Image). Stands i entries × IsOf v i) (sym is) (kept v ends entries rest at_first)
 
   first : (place : ℕ) (old new : Image → Type 0) → place ≡ last_end 0 ends → Only rest old → Follows (OnFile Journal (CutBack place)) old new → (c : Image) → new c → Keeps v ends entries c
   first place old new is only follows c left =
       let from = follows c left in
       journal_cut v ends entries place rest c some is at_first (subst (λ (d : Image). OnFile Journal (CutBack place) d c) (only from.0 from.1) from.2)
 
-  pub journal_left : (place : ℕ) (old new : Image → Type 0) → place ≡ last_end 0 ends → Only rest old → Follows (OnFile Journal (CutBack place)) old new → (c : Image) → new c → Stands c entries
+  pub journal_left : (place : ℕ) (old new : Image → Type 0) → place ≡ last_end 0 ends → Only rest old → Follows (OnFile Journal (CutBack place)) old new → (c : Image) → new c → Stands c entries × IsOf v c
   journal_left place old new is only follows c left = kept v ends entries c (first place old new is only follows c left)
 
   second : (place1 place2 : ℕ) (old mid new : Image → Type 0) → place1 ≡ last_end 0 ends → place2 ≡ gate_place v (length ends) + 1 → Only rest old → Follows (OnFile Journal (CutBack place1)) old mid → Follows (OnFile (file_of v) (CutBack place2)) mid new
@@ -172,11 +172,11 @@ module _ (v : LogVersion) (ends : List ℕ) (rest : Image) (some : 0 < length en
       gates_cut v ends entries place2 from.0 c some is2 (first place1 old mid is1 only follows from.0 from.1) from.2
 
   pub gates_left : (place1 place2 : ℕ) (old mid new : Image → Type 0) → place1 ≡ last_end 0 ends → place2 ≡ gate_place v (length ends) + 1 → Only rest old → Follows (OnFile Journal (CutBack place1)) old mid → Follows (OnFile (file_of v) (CutBack place2)) mid new
-      → (c : Image) → new c → Stands c entries
+      → (c : Image) → new c → Stands c entries × IsOf v c
   gates_left place1 place2 old mid new is1 is2 only follows then c left = kept v ends entries c (second place1 place2 old mid new is1 is2 only follows then c left)
 
   pub beside_left : (place1 place2 : ℕ) (old mid later new : Image → Type 0) → place1 ≡ last_end 0 ends → place2 ≡ gate_place v (length ends) + 1 → Only rest old → Follows (OnFile Journal (CutBack place1)) old mid → Follows (OnFile (file_of v) (CutBack place2)) mid later → Follows (IsBeside v) later new
-      → (c : Image) → new c → Stands c entries
+      → (c : Image) → new c → Stands c entries × IsOf v c
   beside_left place1 place2 old mid later new is1 is2 only follows then last c left =
       let from = last c left in
       kept v ends entries c (beside_cut v ends entries from.0 c some (second place1 place2 old mid later is1 is2 only follows then from.0 from.1) from.2)

@@ -39,6 +39,10 @@ abbrev pub IsOf : LogVersion → Image → Type 0
 IsOf First image = ¬ IsSecond image
 IsOf Second image = IsSecond image
 
+-- both are of one version
+abbrev pub HaveOneVersion : Image → Image → Type 0
+HaveOneVersion first image = (version : LogVersion) × IsOf version first × IsOf version image
+
 -- the journal and the gates stay, and of the first version all
 abbrev pub IsBeside : LogVersion → Image → Image → Type 0
 IsBeside First old new = new ≡ old

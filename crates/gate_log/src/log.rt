@@ -11,7 +11,7 @@ ghost use Rattle.gate_log.specs.Standing.{last_end, IsRising, IsAtRest, IsEither
 ghost use Rattle.gate_log.specs.Standing.{StandsAlike, StandsAs, HasNoEntry, IsCleared};
 ghost use Rattle.gate_log.specs.StandingLaws.{rising_prop, rest_prop};
 ghost use Rattle.gate_log.specs.Upgrade.{IsMigrationFault};
-ghost use Rattle.gate_log.specs.Version.{gates_of, others_of, IsOf};
+ghost use Rattle.gate_log.specs.Version.{gates_of, others_of, HaveOneVersion, IsOf};
 ghost use Rattle.gate_log.specs.declared.version.LogVersion.TheVariants.{First, Second};
 
 use crate::create::begin;
@@ -117,7 +117,8 @@ impl<D: Disk> GateLog<D> {
     /// the entries that a read gave. It answers NoRepository (34) where the first gate is missing or closed, Damaged
     /// (33) with the first entry whose length, sum or next gate breaks the format, DeviceFailed (31) and OutOfMemory (70);
     /// a refusal hands the disk back. But for 31 a read of it then gives what it gave, a stop leaves that, and at each
-    /// moment left what it could leave before.
+    /// moment left what it could leave before. At no moment of an opening does a stop leave another version than that of
+    /// what a read gave, but for what it could leave before.
     pub fn open(alloc: Global, disk: D) -> Result<GateLog<D>, (LogFault, D)>
         ensures found { D.honest disk → (entries : List (List ℕ)) → Stands (D.reads disk) entries → 0 < length entries
             → IfOk result (λ log. entries_of log ≡ entries) }
@@ -142,6 +143,10 @@ impl<D: Disk> GateLog<D> {
             (λ c. D.may_leave disk c ⊎ StandsAlike (D.reads disk) c)) }
         ensures any_moment_err { D.honest disk → IfErr result (λ e. LeavesOnly D.clock D.left_since disk e.1
             (λ c. D.may_leave disk c ⊎ StandsAlike (D.reads disk) c)) }
+        ensures version_stays { D.honest disk → IfOk result (λ log. LeavesOnly D.clock D.left_since disk (disk_of log)
+            (λ c. D.may_leave disk c ⊎ HaveOneVersion (D.reads disk) c)) }
+        ensures version_stays_err { D.honest disk → IfErr result (λ e. LeavesOnly D.clock D.left_since disk e.1
+            (λ c. D.may_leave disk c ⊎ HaveOneVersion (D.reads disk) c)) }
         ensures settles { D.honest disk → IfOk result
             (λ log. Settles D.may_leave D.clock D.left_since disk (disk_of log) (StandsAs (D.reads disk))) }
         ensures settles_err { D.honest disk → IfErr result

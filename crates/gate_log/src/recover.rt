@@ -7,7 +7,7 @@ ghost use Rattle.gate_log.specs.Looks.{Looks};
 ghost use Rattle.gate_log.specs.Slots.{gates_size};
 ghost use Rattle.gate_log.specs.Standing.{last_end, IsRising, parts, StandsAt, Stands, StandsAlike, StandsAs};
 ghost use Rattle.gate_log.specs.Standing.{IsAtRest, HasNoEntry, IsDamagedAt, IsCleared};
-ghost use Rattle.gate_log.specs.Version.{gates_of, IsOf, IsBeside};
+ghost use Rattle.gate_log.specs.Version.{gates_of, HaveOneVersion, IsOf, IsBeside};
 
 use crate::ends::end_of;
 use crate::fault::LogFault;
@@ -58,7 +58,7 @@ fn cut_back<D: Disk>(disk: &mut D, version: LogVersion, ends: &[u64]) -> Result<
         ≡ parts 0 ends.now (D.reads disk.old).journal) }
     ensures durable { D.honest disk.old → OnOk result (Only (D.reads disk.new) (D.may_leave disk.new)) }
     ensures any_moment { D.honest disk.old → LeavesOnly D.clock D.left_since disk.old disk.new
-        (λ c. Stands c (parts 0 ends.now (D.reads disk.old).journal)) }
+        (λ c. Stands c (parts 0 ends.now (D.reads disk.old).journal) × IsOf version c) }
     ensures honest { D.honest disk.old ↔ D.honest disk.new }
     ensures cause { HasCause (D.failures disk.old) (D.failures disk.new) result }
 {
@@ -115,6 +115,8 @@ pub fn recover<D: Disk>(alloc: Global, disk: &mut D) -> Result<Found, LogFault>
     ensures no_other { IfErr result IsFindFault }
     ensures any_moment { D.honest disk.old → LeavesOnly D.clock D.left_since disk.old disk.new
         (λ c. D.may_leave disk.old c ⊎ StandsAlike (D.reads disk.old) c) }
+    ensures version_stays { D.honest disk.old → LeavesOnly D.clock D.left_since disk.old disk.new
+        (λ c. D.may_leave disk.old c ⊎ HaveOneVersion (D.reads disk.old) c) }
     ensures settles { D.honest disk.old
         → OnOk result (Settles D.may_leave D.clock D.left_since disk.old disk.new (StandsAs (D.reads disk.old))) }
     ensures settles_err { D.honest disk.old

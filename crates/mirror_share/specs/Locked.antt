@@ -4,7 +4,7 @@ use Rattle.std.specs.Prelude.{◌≡◌, ◌<◌, ◌≤◌, ◌⊎◌, ℕ, Lis
 use Rattle.fleet_disk.specs.declared.disk.Disk.{Ghosts}
 use Rattle.node_base.specs.Props.{PropMap}
 use Rattle.repo_core.specs.Repository.{props_at}
-use Rattle.repo_store.specs.Words.{repository_of, revisions_of, IsKept}
+use Rattle.repo_store.specs.Words.{identity_of, repository_of, revisions_of, IsKept}
 use Rattle.store_share.specs.Row.{cells_in, rev_at}
 use Rattle.store_share.specs.declared.seat.ReaderSeat.{ReaderSeat}
 use Rattle.store_share.specs.Book.{head_of, notes_of}
@@ -24,6 +24,11 @@ use Rattle.mirror_share.specs.Stepped.{Stepped}
 -- the cells of a share's row
 abbrev pub row_of : {L D : Type 0} {r : _} {g : _} → MirrorShare L D r g → List ℕ
 row_of share = share.row
+
+-- the identity of a book's repository
+pub record HasIdentity {L D : Type 0} {r : _} {g : Ghosts D} (share : MirrorShare L D r g) (identity : List ℕ) : Type 0 where
+  pub book : MirrorBook L D r g
+  pub is : identity ≡ identity_of (store_in book)
 
 -- a step of the share's book, whose row is the share's
 pub record IsStepOf {L D : Type 0} {r : _} {g : Ghosts D} (share : MirrorShare L D r g) (seat : ℕ) (call : Call) (result : Result Given SyncFault) : Type 0 where

@@ -4,7 +4,7 @@ ghost use Rattle.std.specs.Prelude.{IfOk, IfErr, OnOk, OnErr};
 ghost use Rattle.gate_log.specs.declared.fault.LogFault.TheVariants as log;
 ghost use Rattle.repo_core.specs.Repository.{props_at};
 ghost use Rattle.repo_core.specs.declared.fault.RepoFault.TheVariants as core;
-ghost use Rattle.repo_store.specs.Words.{repository_of, revisions_of, IsKept};
+ghost use Rattle.repo_store.specs.Words.{identity_of, repository_of, revisions_of, IsKept};
 ghost use Rattle.repo_store.specs.declared.fault.StoreFault.TheVariants as fault;
 ghost use Rattle.store_share.specs.Row.{cells_in, rev_at};
 ghost use Rattle.store_share.specs.declared.rev.Rev.{Rev as RevOf};
@@ -38,6 +38,7 @@ use store_share::{MasterBook, ReaderSeat, RevRow, RowName, RowNotes};
 use sync_core::{
     KeptCall, MirrorCall, Planned, Reply, Seat, SyncFault, Token, holder_after, holder_left, plan,
 };
+use uuid::Uuid;
 
 /// A mirror's book: its store with what the row shows of it, the calls that were taken since it was opened, the running
 /// seat whose call took its lock, and the jobs that run. Its repository is the one at the opening after those calls, each
@@ -95,6 +96,13 @@ impl<L: RowName, D: Disk> MirrorBook<L, D> {
         ensures { result.now ≡ repository_of (store_in self.now) }
     {
         self.book.repo()
+    }
+
+    /// The repository's identity.
+    pub fn identity(&self) -> Uuid
+        ensures { result ≡ identity_of (store_in self.now) }
+    {
+        self.book.identity()
     }
 
     /// The running seat whose call took the sync lock.

@@ -21,6 +21,7 @@ use std::alloc::{AllocError, Global};
 use std::sync::{Mutex, Wait};
 use store_share::{OpenedStore, ReaderSeat, Rev, RevRow, RowName};
 use sync_core::{MirrorCall, Reply, SyncFault, Token};
+use uuid::Uuid;
 
 /// A mirror on a disk that several threads share.
 #[derive(Drop)]
@@ -31,7 +32,7 @@ pub struct MirrorShare<L: RowName, D: Disk> {
 }
 
 impl<L: RowName, D: Disk> MirrorShare<L, D> {
-    ghost use Rattle.mirror_share.specs.Locked.{row_of, HasProps, IsAbove, IsEntryOf, IsKeptOut, IsLeaveOf, IsNewest};
+    ghost use Rattle.mirror_share.specs.Locked.{row_of, HasIdentity, HasProps, IsAbove, IsEntryOf, IsKeptOut, IsLeaveOf, IsNewest};
     ghost use Rattle.mirror_share.specs.Locked.{IsShownTo, IsStepOf};
     ghost use Rattle.mirror_share.specs.Stepped.{IsWhole};
 
@@ -56,6 +57,13 @@ impl<L: RowName, D: Disk> MirrorShare<L, D> {
         let book = book.into_inner();
         book.is_whole();
         book
+    }
+
+    /// The repository's identity. What a call finds is of the book as the lock has it, which its caller doesn't know.
+    pub fn identity<R: Wait>(&self, rt: &R) -> Uuid
+        ensures { HasIdentity self.now result }
+    {
+        self.book.lock(rt).identity()
     }
 
     /// A seat for the job of that token. HolderRunning (55) where a job of that token runs, OutOfMemory (70).

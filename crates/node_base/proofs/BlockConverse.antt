@@ -104,7 +104,7 @@ FormNameEnd delta removed name props m tail = (t : List ℕ) × (tail ≡ 10 ∷
 
 -- behind a name: the rest of its property, or the end of the line where it is removed
 abbrev FormNamed : Bool → Bool → PropMap → List ℕ → PropMap → Maps → List ℕ → Type 0
-FormNamed true delta removed name props m tail = (props_fit (map.insert removed name []) ≡ true) × FormValueEnd delta (map.insert removed name []) props m tail
+FormNamed true delta removed name props m tail = FormValueEnd delta (map.insert removed name []) props m tail
 FormNamed false delta removed name props m tail = FormNameEnd delta removed name props m tail
 
 pub record FormName (removes delta : Bool) (removed : PropMap) (n : ℕ) (props : PropMap) (held : List ℕ) (m : Maps) (tail : List ℕ) : Type 0 where
@@ -216,14 +216,6 @@ awaits_value left r n bs m rest x =
       | false ↦ λ x. absurd x
     ] x
 
--- or that is removed
-is_removed : (left : ℕ) (r : BlockReader) (n : List ℕ) (bs : List ℕ) (m : Maps) (rest : List ℕ) → Split left (named true r n) bs m rest → (props_fit (map.insert r.removed n []) ≡ true) × (1 < left) × (run_block (block r.delta r.removes (map.insert r.removed n []) (left - 1) ValueEnd r.name r.props []) bs ≡ Done m.0 m.1 rest)
-is_removed left r n bs m rest x =
-    elim (fits_with r.removed n) as (λ v. fits_with r.removed n ≡ v → Split left (if v then Next (record r { part = ValueEnd; removed = map.insert r.removed n []; held = [] }) else Refused TooLong) bs m rest → (props_fit (map.insert r.removed n []) ≡ true) × (1 < left) × (run_block (block r.delta r.removes (map.insert r.removed n []) (left - 1) ValueEnd r.name r.props []) bs ≡ Done m.0 m.1 rest)) [
-      | true ↦ λ v x. (v, x.0, x.1)
-      | false ↦ λ v x. absurd x
-    ] refl x
-
 value_kept : (left : ℕ) (r : BlockReader) (name value : List ℕ) (bs : List ℕ) (m : Maps) (rest : List ℕ) → Split left (value_at r (Some name) value) bs m rest → (length value ≤ 65536) × (props_fit (map.insert r.props name value) ≡ true) × (1 < left) × (run_block (block r.delta r.removes r.removed (left - 1) ValueEnd None (map.insert r.props name value) []) bs ≡ Done m.0 m.1 rest)
 value_kept left r name value bs m rest x =
     elim (nat_lt 65536 (length value)) as (λ t. nat_lt 65536 (length value) ≡ t → Split left (if t then Refused TooLong else (if props_fit (map.insert r.props name value) then Next (record r { part = ValueEnd; props = map.insert r.props name value; name = None; held = [] }) else Refused TooLong)) bs m rest → (length value ≤ 65536) × (props_fit (map.insert r.props name value) ≡ true) × (1 < left) × (run_block (block r.delta r.removes r.removed (left - 1) ValueEnd None (map.insert r.props name value) []) bs ≡ Done m.0 m.1 rest)) [
@@ -261,10 +253,10 @@ one_property delta removed props m tail (t, e, k) =
 -- a name that is removed in front
 one_removal : (delta : Bool) (removed props : PropMap) (m : Maps) (tail : List ℕ) → delta ≡ true → FormKeyBlank true delta removed props m tail → FormTag delta removed props m (68 ∷ tail)
 one_removal delta removed props m tail is (t, e, k) =
-    let last = k.next.1 in
+    let last = k.next in
     let rest = last.2 in
     let spelled : 68 ∷ tail ≡ removal k.ds k.name ++ last.0 = ap (λ y. 68 ∷ y) (e ∙ ap (λ y. 32 ∷ y) (k.cut ∙ ap (λ y. k.ds ++ 10 ∷ (k.name ++ y)) last.1)) ∙ sym (removal_text k.ds k.name last.0) in
-    (Removes k.name ∷ rest.0, (k.ds, last.0, is, k.spells, rest.1, spelled), (record { new = k.new; fit = k.next.0 }, rest.2), rest.3, rest.4)
+    (Removes k.name ∷ rest.0, (k.ds, last.0, is, k.spells, rest.1, spelled), (k.new, rest.2), rest.3, rest.4)
 
 -- ---- part by part
 
@@ -348,9 +340,8 @@ module _ (delta removes : Bool) (removed : PropMap) (bs : List ℕ) (m : Maps) (
   name_last n new e x =
       elim removes as (λ q. Split left (named q (here left (Name n) name props held) (held ++ b ∷ [])) bs m rest → Told (FormName q delta removed n props held m) left (b ∷ bs) rest) [
         | true ↦ λ x.
-            let k = is_removed left (here left (Name n) name props held) (held ++ b ∷ []) bs m rest x in
-            grow (FormValueEnd delta (map.insert removed (held ++ b ∷ []) []) props m) (FormName true delta removed n props held m) b left bs rest k.1 (ih removes (map.insert removed (held ++ b ∷ []) []) (left - 1) ValueEnd name props [] tt k.2) (λ u f.
-            record { s = b ∷ []; t = u; cut = refl; long = omega arith; new = new; next = (k.0, f) })
+            grow (FormValueEnd delta (map.insert removed (held ++ b ∷ []) []) props m) (FormName true delta removed n props held m) b left bs rest x.0 (ih removes (map.insert removed (held ++ b ∷ []) []) (left - 1) ValueEnd name props [] tt x.1) (λ u f.
+            record { s = b ∷ []; t = u; cut = refl; long = omega arith; new = new; next = f })
         | false ↦ λ x.
             let k = awaits_value left (here left (Name n) name props held) (held ++ b ∷ []) bs m rest x in
             grow (FormNameEnd delta removed (held ++ b ∷ []) props m) (FormName false delta removed n props held m) b left bs rest k.0 (ih removes removed (left - 1) NameEnd (Some (held ++ b ∷ [])) props [] tt k.1) (λ u f.

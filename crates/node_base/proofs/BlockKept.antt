@@ -1,5 +1,5 @@
 -- What a reader keeps grows by no more than the bytes that come.
-use Rattle.std.proofs.Common.{◌≡◌, ℕ, ◌==◌, ◌&&◌, ◌||◌, ◌+◌, ◌≤◌, not, Bool, true, false, List, [], ◌∷◌, ◌++◌, length, nat_lt, Option, Some, None, Ok, Err, Result, refl, subst, length-append, arith}
+use Rattle.std.proofs.Common.{◌≡◌, ℕ, ◌==◌, ◌&&◌, ◌+◌, ◌≤◌, not, Bool, true, false, List, [], ◌∷◌, ◌++◌, length, nat_lt, Option, Some, None, Ok, Err, Result, refl, ap, subst, length-append, arith}
 use Rattle.std.specs.Prelude.{IfOk}
 use Rattle.std.specs.Bool.{if◌then◌else◌}
 use Rattle.std.specs.Prelude.{slice_index_or}
@@ -8,7 +8,7 @@ use Rattle.std.specs.FinMap as map
 use Rattle.std.specs.FinMap.{entries-insert}
 use Rattle.std.specs.FinMap.Entries.{put, by_order}
 use Rattle.node_base.specs.Path.{Name, name_cmp, names_total}
-use Rattle.node_base.specs.Entries.{Entries}
+use Rattle.node_base.specs.Entries.{Entries, entry_bytes, stored_bytes}
 use Rattle.node_base.specs.Numbers.{is_digit, number_of}
 use Rattle.node_base.specs.Props.{PropMap, is_prop_name, props_fit, fits_with}
 use Rattle.node_base.specs.declared.block.BlockReader.{BlockReader}
@@ -16,8 +16,9 @@ use Rattle.node_base.specs.declared.block_part.Part.{Part}
 use Rattle.node_base.specs.declared.block_part.Part.TheVariants as at
 use Rattle.node_base.specs.declared.prop_fault.PropFault.{PropFault}
 use Rattle.node_base.specs.declared.prop_fault.PropFault.TheVariants.{BadProps}
-use Rattle.node_base.specs.Blocks.{Step, Next, Whole, Refused, Run, More, Done, Fault, keep, go, only, judged_count, begins, is_new, named, name_is, value_at, value_is, ending, part_step, settled, block_step, of_step, one_more, after, run_block, BlockIs}
-use Rattle.node_base.specs.BlockKept.{entry_bytes, stored_bytes, waiting_bytes, kept_bytes, kept_after}
+use Rattle.node_base.specs.Blocks.{Step, Next, Whole, Refused, Run, More, Done, Fault, keep, go, only, judged_count, begins, is_new, named, name_is, value_at, value_is, ending, part_step, settled, block_step, begun, of_step, one_more, after, run_block, BlockIs}
+use Rattle.node_base.proofs.PropLemmas.{entries_none}
+use Rattle.node_base.specs.BlockKept.{waiting_bytes, kept_bytes, kept_after}
 
 -- a value at a name brings no more than their bytes
 put_bytes : (n : Name) (v : List ℕ) (es : Entries) → entry_bytes (put name_cmp n v es) ≤ length n + length v + entry_bytes es
@@ -33,8 +34,15 @@ put_bytes n v (e ∷ es) =
 inserted_bytes : (m : PropMap) (n : Name) (v : List ℕ) → stored_bytes (map.insert m n v) ≤ length n + length v + stored_bytes m
 inserted_bytes m n v = rw (entries-insert names_total m n v) (put_bytes n v (map.entries m))
 
+none_stored : stored_bytes map.empty ≡ 0
+none_stored = ap entry_bytes entries_none
+
+-- nothing is kept where a block begins
+pub begun_bytes : (delta : Bool) (n : ℕ) → kept_bytes (begun delta n) ≡ 0
+begun_bytes delta n = omega (arith, none_stored)
+
 -- what is kept after a step
-abbrev step_bytes : Step → ℕ
+abbrev pub step_bytes : Step → ℕ
 step_bytes (Next r) = kept_bytes r
 step_bytes (Whole props removed) = stored_bytes props + stored_bytes removed
 step_bytes (Refused f) = 0
@@ -59,7 +67,7 @@ begins_bytes : (removes : Bool) (r : BlockReader) → step_bytes (begins removes
 begins_bytes removes r = omega arith
 
 named_bytes : (removes : Bool) (r : BlockReader) (name : List ℕ) (n : ℕ) → stored_bytes r.props + stored_bytes r.removed + waiting_bytes r.name + length name ≤ n → step_bytes (named removes r name) ≤ n
-named_bytes true r name n h = either n (fits_with r.removed name) _ _ (omega (arith, h, inserted_bytes r.removed name [])) (omega arith)
+named_bytes true r name n h = omega (arith, h, inserted_bytes r.removed name [])
 named_bytes false r name n h = either n (fits_with r.props name) _ _ (omega (arith, h)) (omega arith)
 
 name_bytes : (r : BlockReader) (name : List ℕ) (n : ℕ) → stored_bytes r.props + stored_bytes r.removed + waiting_bytes r.name + length name ≤ n → step_bytes (name_is r name) ≤ n
@@ -100,7 +108,7 @@ settled_bytes left (Next r) n h = either n (nat_lt 1 left) _ _ h (omega arith)
 settled_bytes left (Whole props removed) n h = either n (left == 1) _ _ h (omega arith)
 settled_bytes left (Refused f) n h = omega arith
 
-block_bytes : (r : BlockReader) (b : ℕ) → step_bytes (block_step r b) ≤ kept_bytes r + 1
+pub block_bytes : (r : BlockReader) (b : ℕ) → step_bytes (block_step r b) ≤ kept_bytes r + 1
 block_bytes r b = settled_bytes r.left (part_step r.part r b) (kept_bytes r + 1) (part_bytes r.part r b)
 
 -- what is kept in a run

@@ -1,5 +1,5 @@
 -- Blocks of the grammar are read.
-use Rattle.std.proofs.Common.{◌≡◌, ℕ, ◌+◌, ◌-◌, ◌≤◌, ◌<◌, ◌==◌, ◌&&◌, ◌||◌, not, Bool, true, false, List, [], ◌∷◌, ◌++◌, length, nat_lt, Option, Some, None, refl, sym, ap, subst, ◌∙◌, append_assoc, append-nil, length-append, arith}
+use Rattle.std.proofs.Common.{◌≡◌, ℕ, ◌+◌, ◌-◌, ◌≤◌, ◌<◌, ◌==◌, ◌&&◌, Bool, true, false, List, [], ◌∷◌, ◌++◌, length, nat_lt, Option, Some, None, refl, sym, ap, subst, ◌∙◌, append_assoc, append-nil, length-append, arith}
 use Rattle.std.proofs.lemmas.Bool.Decides.{nat_tests}
 use Rattle.std.specs.Bool.{if◌then◌else◌}
 use Rattle.node_base.specs.Numbers.{is_digit, all_bytes, number_of}
@@ -8,7 +8,7 @@ use Rattle.node_base.specs.declared.block_part.Part.{Part}
 use Rattle.node_base.specs.declared.block_part.Part.TheVariants.{Tag, KeyBlank, KeyCount, Name, NameEnd, ValueTag, ValueBlank, ValueCount, Value, ValueEnd}
 use Rattle.node_base.specs.declared.block.BlockReader.{BlockReader}
 use Rattle.node_base.specs.Blocks.{Next, Refused, Done, of_step, run_block, part_step, settled, after}
-use Rattle.node_base.specs.BlockGrammar.{Spells, property, removal, block_end, BlockEntry, Sets, Removes, IsBlock, IsNewName, MayFollow, MayGo, MayStand, with_all, without_all}
+use Rattle.node_base.specs.BlockGrammar.{Spells, property, removal, block_end, BlockEntry, Sets, Removes, IsBlock, IsNewName, MayFollow, MayStand, with_all, without_all}
 use Rattle.std.specs.FinMap as map
 use Rattle.node_base.specs.Props.{PropMap, is_prop_name, props_fit, fits_with}
 use Rattle.node_base.proofs.BlockRuns.{after-whole}
@@ -118,15 +118,15 @@ name_bytes delta removed left k name props held (b ∷ c ∷ s) bs some e h new 
     ∙ rw (z, a) refl
 
 -- the bytes of a name that is removed
-pub removed_bytes : (delta : Bool) (removed : PropMap) (left k : ℕ) (name : Option (List ℕ)) (props : PropMap) (held s bs : List ℕ) → 0 < length s → length held + length s ≡ k → length s < left → IsNewName props removed (held ++ s) → fits_with removed (held ++ s) ≡ true → run_block (block delta true removed left (Name k) name props held) (s ++ bs) ≡ run_block (block delta true (map.insert removed (held ++ s) []) (left - length s) ValueEnd name props []) bs
-removed_bytes delta removed left k name props held [] bs some e h new fit = absurd (omega arith)
-removed_bytes delta removed left k name props held (b ∷ []) bs some e h new fit =
-    goes delta true removed left (Name k) name props held b bs (block delta true (map.insert removed (held ++ b ∷ []) []) left ValueEnd name props []) (omega arith) (rw (lt_false (length held + 1) k (omega arith), lt_false 255 (length (held ++ b ∷ [])) new.short, new.rule, new.unset, new.unremoved, fit) refl)
-removed_bytes delta removed left k name props held (b ∷ c ∷ s) bs some e h new fit =
+pub removed_bytes : (delta : Bool) (removed : PropMap) (left k : ℕ) (name : Option (List ℕ)) (props : PropMap) (held s bs : List ℕ) → 0 < length s → length held + length s ≡ k → length s < left → IsNewName props removed (held ++ s) → run_block (block delta true removed left (Name k) name props held) (s ++ bs) ≡ run_block (block delta true (map.insert removed (held ++ s) []) (left - length s) ValueEnd name props []) bs
+removed_bytes delta removed left k name props held [] bs some e h new = absurd (omega arith)
+removed_bytes delta removed left k name props held (b ∷ []) bs some e h new =
+    goes delta true removed left (Name k) name props held b bs (block delta true (map.insert removed (held ++ b ∷ []) []) left ValueEnd name props []) (omega arith) (rw (lt_false (length held + 1) k (omega arith), lt_false 255 (length (held ++ b ∷ [])) new.short, new.rule, new.unset, new.unremoved) refl)
+removed_bytes delta removed left k name props held (b ∷ c ∷ s) bs some e h new =
     let z : left - 1 - length (c ∷ s) ≡ left - length (b ∷ c ∷ s) = omega arith in
     let a : (held ++ b ∷ []) ++ c ∷ s ≡ held ++ b ∷ c ∷ s = append_assoc held (b ∷ []) (c ∷ s) in
     goes delta true removed left (Name k) name props held b (c ∷ s ++ bs) (block delta true removed left (Name k) name props (held ++ b ∷ [])) (omega arith) (rw (lt_true (length held + 1) k (omega arith)) refl)
-    ∙ removed_bytes delta removed (left - 1) k name props (held ++ b ∷ []) (c ∷ s) bs (omega arith) (omega (arith, length-append held (b ∷ []))) (omega arith) (subst (IsNewName props removed) (sym a) new) (ap (fits_with removed) a ∙ fit)
+    ∙ removed_bytes delta removed (left - 1) k name props (held ++ b ∷ []) (c ∷ s) bs (omega arith) (omega (arith, length-append held (b ∷ []))) (omega arith) (subst (IsNewName props removed) (sym a) new)
     ∙ rw (z, a) refl
 
 -- one property
@@ -176,19 +176,19 @@ removal_text k name bs = simp append_assoc
 tag_of_removal : (delta removes : Bool) (removed : PropMap) (left : ℕ) (props : PropMap) → delta ≡ true → part_step Tag (block delta removes removed left Tag None props []) 68 ≡ Next (block delta true removed left KeyBlank None props [])
 tag_of_removal delta removes removed left props is = rw is refl
 
-pub removal_read : (delta removes : Bool) (removed : PropMap) (left : ℕ) (props : PropMap) (k name bs : List ℕ) → delta ≡ true → Spells k (length name) → MayGo props removed name → length k + length name + 4 < left → run_block (block delta removes removed left Tag None props []) (removal k name ++ bs) ≡ run_block (block delta true (map.insert removed name []) (left - (length k + length name + 4)) Tag None props []) bs
+pub removal_read : (delta removes : Bool) (removed : PropMap) (left : ℕ) (props : PropMap) (k name bs : List ℕ) → delta ≡ true → Spells k (length name) → IsNewName props removed name → length k + length name + 4 < left → run_block (block delta removes removed left Tag None props []) (removal k name ++ bs) ≡ run_block (block delta true (map.insert removed name []) (left - (length k + length name + 4)) Tag None props []) bs
 removal_read delta removes removed left props k name bs is sk m h =
     let left-2 = left - 1 - 1 in
     let left-3 = left-2 - length k - 1 in
     let left-4 = left-3 - length name - 1 in
-    let some : 0 < length name = name_some name m.new.rule in
+    let some : 0 < length name = name_some name m.rule in
     let z : left-4 ≡ left - (length k + length name + 4) = omega arith in
     ap (run_block (block delta removes removed left Tag None props [])) (removal_text k name bs)
     ∙ goes delta removes removed left Tag None props [] 68 (32 ∷ (k ++ 10 ∷ (name ++ 10 ∷ bs))) (block delta true removed left KeyBlank None props []) (omega arith) (tag_of_removal delta removes removed left props is)
     ∙ goes delta true removed (left - 1) KeyBlank None props [] 32 (k ++ 10 ∷ (name ++ 10 ∷ bs)) (block delta true removed (left - 1) KeyCount None props []) (omega arith) refl
     ∙ key_digits delta true removed left-2 None props [] k (10 ∷ (name ++ 10 ∷ bs)) sk.digits_only (omega arith)
-    ∙ key_lf delta true removed (left-2 - length k) None props k (name ++ 10 ∷ bs) (length name) sk.number some m.new.short (omega arith)
-    ∙ removed_bytes delta removed left-3 (length name) None props [] name (10 ∷ bs) some (omega arith) (omega arith) m.new m.fit
+    ∙ key_lf delta true removed (left-2 - length k) None props k (name ++ 10 ∷ bs) (length name) sk.number some m.short (omega arith)
+    ∙ removed_bytes delta removed left-3 (length name) None props [] name (10 ∷ bs) some (omega arith) (omega arith) m
     ∙ goes delta true (map.insert removed name []) (left-3 - length name) ValueEnd None props [] 10 bs (block delta true (map.insert removed name []) (left-3 - length name) Tag None props []) (omega arith) refl
     ∙ rw z refl
 

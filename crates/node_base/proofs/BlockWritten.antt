@@ -42,7 +42,7 @@ all_from_entries ps gs (Sets name value ∷ es) m =
     let rest = all_from_entries (ps ++ (name, value) ∷ []) gs es (subst (λ x. MayStand x (map.from_entries gs) es) pushed m.1) in
     (ap (λ x. with_all x es) pushed ∙ rest.0 ∙ ap map.from_entries (append_assoc ps ((name, value) ∷ []) (set_in es)), rest.1)
 all_from_entries ps gs (Removes name ∷ es) m =
-    let pushed = pushed_new gs name [] m.0.new.unremoved in
+    let pushed = pushed_new gs name [] m.0.unremoved in
     let rest = all_from_entries ps (gs ++ (name, []) ∷ []) es (subst (λ x. MayStand (map.from_entries ps) x es) pushed m.1) in
     (rest.0, ap (λ x. without_all x es) pushed ∙ rest.1 ∙ ap map.from_entries (append_assoc gs ((name, []) ∷ []) (removed_in es)))
 

@@ -1,5 +1,5 @@
 -- The lists that deltas make.
-use Rattle.std.proofs.Common.{◌≡◌, ℕ, ◌+◌, ◌<◌, ◌≤◌, Bool, true, false, cond, not, ◌&&◌, List, [], ◌∷◌, ◌++◌, length, drop, get_or, nat_le, Option, Some, None, refl, sym, ap, subst, ◌∙◌, arith}
+use Rattle.std.proofs.Common.{◌≡◌, ℕ, ◌+◌, ◌<◌, ◌≤◌, Bool, true, false, cond, not, List, [], ◌∷◌, ◌++◌, length, drop, get_or, nat_le, Some, None, refl, sym, ap, subst, ◌∙◌, arith}
 use Rattle.std.proofs.lemmas.List.{drop_more}
 use Rattle.std.specs.Bool.{if◌then◌else◌}
 use Rattle.std.specs.Option.{option_or, is_some}
@@ -8,13 +8,13 @@ use Rattle.std.specs.FinMap.{find, entries_sorted, get-entries, get-from_entries
 use Rattle.node_base.specs.Path.{Name, name_cmp, names_total, names_exact, same_name}
 use Rattle.node_base.specs.Entries.{Entries, IsRising}
 use Rattle.node_base.specs.Props.{PropMap, is_sync, sync_part, without_sync, props_fit}
-use Rattle.node_base.specs.PropDeltas.{kept_in, put_over, IsDeltaFault}
+use Rattle.node_base.specs.PropDeltas.{put_over, IsDeltaFault}
 use Rattle.node_base.specs.declared.prop_fault.PropFault.{PropFault}
 use Rattle.node_base.specs.declared.prop_fault.PropFault.TheVariants.{TooLong, OutOfMemory}
 use Rattle.node_base.proofs.PathLemmas.{name_of_same}
 use Rattle.node_base.proofs.EntryLemmas.{both_true, find_absent}
 use Rattle.node_base.proofs.CopiedProps.{find-joined}
-use Rattle.node_base.proofs.PropLemmas.{get-retained, turned, none_kept, len_with, both_of, le_still, dropped_all}
+use Rattle.node_base.proofs.PropLemmas.{none_kept, len_with, both_of, le_still, dropped_all}
 
 -- ---- names taken out, one after another
 
@@ -22,7 +22,7 @@ abbrev pub without : Entries → PropMap → PropMap
 without [] m = m
 without (e ∷ es) m = without es (map.remove m e.0)
 
-get-without : (es : Entries) (m : PropMap) (q : Name) → map.get (without es m) q ≡ cond (is_some (find name_cmp q es)) None (map.get m q)
+pub get-without : (es : Entries) (m : PropMap) (q : Name) → map.get (without es m) q ≡ cond (is_some (find name_cmp q es)) None (map.get m q)
 get-without [] m q = refl
 get-without (e ∷ es) m q =
     get-without es (map.remove m e.0) q
@@ -31,17 +31,6 @@ get-without (e ∷ es) m q =
       | true ↦ none_kept (is_some (find name_cmp q es))
       | false ↦ refl
     ]
-
-without_is : (removed m : PropMap) → without (map.entries removed) m ≡ kept_in removed m
-without_is removed m =
-    same_map names_total names_exact _ _ (λ q.
-    get-without (map.entries removed) m q
-    ∙ ap (λ o. cond (is_some o) None (map.get m q)) (sym (get-entries removed q))
-    ∙ sym (turned (map.contains_key removed q) (map.get m q))
-    ∙ sym (get-retained m (λ n. not (map.contains_key removed n)) q))
-
-pub all_out : (removed : PropMap) (es : Entries) (list start : PropMap) (i : ℕ) → es ≡ map.entries removed → length es ≤ i → without (drop i es) list ≡ without es start → list ≡ kept_in removed start
-all_out removed es list start i is h e = ap (λ x. without x list) (sym (dropped_all es i h)) ∙ e ∙ ap (λ x. without x start) is ∙ without_is removed start
 
 -- ---- properties put, one after another
 

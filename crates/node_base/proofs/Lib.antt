@@ -8,6 +8,7 @@ pub mod CopiedProps
 pub mod DeltaLists
 pub mod Digits
 pub mod EntryLemmas
+pub mod NameSets
 pub mod NumberLemmas
 pub mod NumbersRead
 pub mod PathLemmas

@@ -47,16 +47,11 @@ pub record MayFollow (props removed : PropMap) (name value : List ℕ) : Type 0 
   pub small : length value ≤ 65536
   pub fit : props_fit (map.insert props name value) ≡ true
 
--- a name that may be removed behind others: the removed names are within the limits of a list together
-pub record MayGo (props removed : PropMap) (name : List ℕ) : Type 0 where
-  pub new : IsNewName props removed name
-  pub fit : props_fit (map.insert removed name []) ≡ true
-
--- entries that may stand behind others, one after the other
+-- entries that may stand behind others, one after the other: names may be removed as many as there are
 abbrev pub MayStand : PropMap → PropMap → List BlockEntry → Type 0
 MayStand props removed [] = Unit {0}
 MayStand props removed (Sets name value ∷ es) = MayFollow props removed name value × MayStand (map.insert props name value) removed es
-MayStand props removed (Removes name ∷ es) = MayGo props removed name × MayStand props (map.insert removed name []) es
+MayStand props removed (Removes name ∷ es) = IsNewName props removed name × MayStand props (map.insert removed name []) es
 
 -- the map with the properties of further entries
 abbrev pub with_all : PropMap → List BlockEntry → PropMap

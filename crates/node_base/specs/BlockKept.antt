@@ -1,17 +1,7 @@
 -- How many bytes a reader of a property block keeps.
-use Rattle.std.specs.Prelude.{ℕ, ◌+◌, List, [], ◌∷◌, length, Option, Some, None}
-use Rattle.std.specs.FinMap as map
-use Rattle.node_base.specs.Entries.{Entries}
-use Rattle.node_base.specs.Props.{PropMap}
+use Rattle.std.specs.Prelude.{ℕ, ◌+◌, List, length, Option, Some, None}
+use Rattle.node_base.specs.Entries.{stored_bytes}
 use Rattle.node_base.specs.declared.block.BlockReader.{BlockReader}
-
--- the bytes of names and values
-abbrev pub entry_bytes : Entries → ℕ
-entry_bytes [] = 0
-entry_bytes (e ∷ es) = length e.0 + length e.1 + entry_bytes es
-
-abbrev pub stored_bytes : PropMap → ℕ
-stored_bytes m = entry_bytes (map.entries m)
 
 -- a name that awaits its value
 abbrev pub waiting_bytes : Option (List ℕ) → ℕ

@@ -40,9 +40,9 @@ begins removes r = go KeyBlank (record r { removes = removes })
 abbrev pub is_new : BlockReader → List ℕ → Bool
 is_new r name = not (map.contains_key r.props name || map.contains_key r.removed name)
 
--- a name is removed, or awaits its value, where the names of its sort stay within the limits with it
+-- a name is removed, or awaits its value, where the properties stay within the limits with it
 abbrev pub named : Bool → BlockReader → List ℕ → Step
-named true r name = if fits_with r.removed name then Next (record r { part = ValueEnd; removed = map.insert r.removed name []; held = [] }) else Refused TooLong
+named true r name = Next (record r { part = ValueEnd; removed = map.insert r.removed name []; held = [] })
 named false r name = if fits_with r.props name then Next (record r { part = NameEnd; name = Some name; held = [] }) else Refused TooLong
 
 -- a name fits the rule and comes once
@@ -168,7 +168,3 @@ EndsHere r bytes = (10 ≤ length bytes) × (run_block r bytes ≡ Done r.props 
 -- so many bytes can be kept at once
 abbrev pub MayKeep : BlockReader → ℕ → Type 0
 MayKeep r n = (s more : List ℕ) → length s ≤ n → run_block r (s ++ more) ≡ run_block (held_more r s) more
-
--- how many bytes of an unfinished count, name or value are kept
-abbrev pub unfinished : BlockReader → ℕ
-unfinished r = length r.held

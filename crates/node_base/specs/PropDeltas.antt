@@ -1,5 +1,5 @@
 -- Changes of lists of properties.
-use Rattle.std.specs.Prelude.{◌≡◌, not, false, List, ◌++◌}
+use Rattle.std.specs.Prelude.{◌≡◌, not, false, ◌++◌}
 use Rattle.std.specs.FinMap as map
 use Rattle.node_base.specs.Props.{PropMap, props_fit}
 use Rattle.node_base.specs.declared.prop_fault.PropFault.{PropFault}

@@ -5,13 +5,13 @@ ghost use Rattle.std.specs.FinMap as map;
 ghost use Rattle.node_base.specs.BlockGrammar.{block_end};
 ghost use Rattle.node_base.specs.Numbers.{is_digit, number_of};
 ghost use Rattle.node_base.specs.Blocks.{StepIs, BlockIs, EndsHere, MayKeep, held_more, run_block, part_step, block_step, keep};
-ghost use Rattle.node_base.specs.Blocks.{go, only, begins, name_is, value_is, begun, new_block, unfinished};
-ghost use Rattle.node_base.specs.BlockKept.{kept_bytes, kept_after};
+ghost use Rattle.node_base.specs.Blocks.{go, only, begins, name_is, value_is, begun, new_block};
+ghost use Rattle.node_base.specs.BlockKept.{kept_bytes, kept_after, waiting_bytes};
 ghost use Rattle.node_base.specs.declared.block_part.Part.TheVariants.{Tag, KeyCount, ValueCount, Ending};
 
 use crate::block_part::Part;
 use crate::bytes::Bytes;
-use crate::{PropDelta, PropFault, PropName, PropValue, Props};
+use crate::{PropDelta, PropFault, PropName, PropValue, Props, RemovedNames};
 use std::alloc::{AllocError, Global};
 use std::mem;
 
@@ -27,8 +27,8 @@ pub struct BlockReader {
     delta: bool,
     // Whether the entry at hand is a name that is removed.
     removes: bool,
-    // The names that are removed, each with an empty value.
-    removed: Props,
+    // The names that are removed.
+    removed: RemovedNames,
 }
 
 // Whether it is a digit.
@@ -91,7 +91,7 @@ impl BlockReader {
             held: Bytes::new(alloc),
             delta,
             removes: false,
-            removed: Props::empty(),
+            removed: RemovedNames::empty(),
         }
     }
 
@@ -206,10 +206,10 @@ impl BlockReader {
     }
 
     // Whether an entry so far has the name.
-    fn has_named(&self, name: &[u8]) -> bool
+    fn has_named(&self, name: &PropName) -> bool
         ensures { result ≡ (map.contains_key self.now.props name.now || map.contains_key self.now.removed name.now) }
     {
-        self.props.contains(name) || self.removed.contains(name)
+        self.props.contains(name.as_bytes()) || self.removed.contains(name)
     }
 
     // The held bytes are a name.
@@ -218,11 +218,11 @@ impl BlockReader {
     {
         let alloc = self.held.alloc();
         let name = PropName::from_bytes(self.held.take())?;
-        if self.has_named(name.as_bytes()) {
+        if self.has_named(&name) {
             return Err(PropFault::BadProps);
         }
         if self.removes {
-            self.removed.set(alloc, name, PropValue::empty(alloc))?;
+            self.removed.insert(alloc, name)?;
             self.part = Part::ValueEnd;
             return Ok(false);
         }
@@ -385,11 +385,25 @@ impl BlockReader {
         Ok(None)
     }
 
-    /// How many bytes of an unfinished count, name or value it keeps.
-    pub fn held(&self) -> usize
-        ensures { result ≡ unfinished self.now }
+    // How many bytes of a name that awaits its value it keeps.
+    fn waiting(&self) -> usize
+        ensures len { result ≡ waiting_bytes self.now.name }
+        ensures small { result ≤ 255 }
     {
-        self.held.len()
+        match &self.name {
+            Some(name) => name.len(),
+            None => 0,
+        }
+    }
+
+    /// How many bytes it keeps: of the properties so far, the names that are removed, and what is unfinished. Goes over
+    /// all of them.
+    pub fn held(&self) -> u128
+        ensures len { result ≡ kept_bytes self.now }
+        ensures small { result < 2 ^ 73 }
+    {
+        let names = self.removed.byte_len();
+        u128::from(self.props.byte_len()) + names + self.waiting() as u128 + self.held.len() as u128
     }
 
     /// The properties that were read leave the reader, which is otherwise as it was.
@@ -406,7 +420,7 @@ impl BlockReader {
         ensures left { self.new ≡ record self.old { props = map.empty; removed = map.empty } }
     {
         let sets = mem::replace(&mut self.props, Props::empty());
-        let removed = mem::replace(&mut self.removed, Props::empty());
+        let removed = mem::replace(&mut self.removed, RemovedNames::empty());
         PropDelta { sets, removed }
     }
 }

@@ -2,9 +2,9 @@
 ghost use Rattle.std.specs.Prelude.{◌≡◌, true, IfOk, OnOk, IfErr};
 ghost use Rattle.std.specs.FinMap as map;
 ghost use Rattle.node_base.specs.Props.{PropMap, props_fit};
-ghost use Rattle.node_base.specs.PropDeltas.{applied, kept_in, put_over, IsDeltaFault};
+ghost use Rattle.node_base.specs.PropDeltas.{applied, put_over, IsDeltaFault};
 
-use crate::{PropFault, Props};
+use crate::{PropFault, Props, RemovedNames};
 use std::alloc::{AllocError, Global};
 
 /// What a property block of a delta says: names that are set to values, and names that are removed.
@@ -12,8 +12,8 @@ use std::alloc::{AllocError, Global};
 pub struct PropDelta {
     /// The names that are set, with their values.
     pub sets: Props,
-    /// The names that are removed, each with an empty value.
-    pub removed: Props,
+    /// The names that are removed.
+    pub removed: RemovedNames,
 }
 
 impl PropDelta {
@@ -25,20 +25,10 @@ impl PropDelta {
         ensures fault { IfErr result (λ e. IsDeltaFault e (applied self.now old.now)) }
     {
         let mut list = old.share()?;
-        self.remove_from(alloc, &mut list)?;
+        self.removed.remove_from(alloc, &mut list)?;
         self.put_over(alloc, &mut list)?;
         let _within = list.entries();
         Ok(list)
-    }
-
-    // Takes the names that it removes out of a list.
-    fn remove_from(&self, alloc: Global, list: &mut Props) -> Result<(), AllocError>
-        ensures { OnOk result (list.new ≡ kept_in self.now.removed list.old) }
-    {
-        for (name, _) in self.removed.entries() {
-            list.remove(alloc, name.as_bytes())?;
-        }
-        Ok(())
     }
 
     // Puts the names that it sets over a list.

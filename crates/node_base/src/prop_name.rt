@@ -1,6 +1,9 @@
 //! Names of properties.
-ghost use Rattle.std.specs.Prelude.{◌≡◌, ◌≤◌, length, true, IfOk, IfErr, Ok, Err};
-ghost use Rattle.node_base.specs.Path.{name_cmp};
+ghost use Rattle.std.specs.Prelude.{◌≡◌, ◌≤◌, length, true, IfOk, IfErr, Ok, Err, Some, nat_eq, refl};
+ghost use Rattle.std.specs.Ordering.{nat_cmp};
+ghost use Rattle.std.specs.Cmp.{partial_equiv_from_equiv};
+ghost use Rattle.std.specs.Cmp.Lexicographic.{pointwise, nat_list_eq_equiv, texts_ties, texts_po};
+ghost use Rattle.node_base.specs.Path.{name_cmp, names_total};
 ghost use Rattle.node_base.specs.Numbers.{all_bytes};
 ghost use Rattle.node_base.specs.Props.{is_prop_byte, is_prop_name, prop_name_read, IsFault};
 
@@ -111,5 +114,43 @@ impl PropName {
         ensures { result ≡ name_cmp self.now other.now }
     {
         self.as_bytes().cmp(&other.as_bytes())
+    }
+}
+
+impl PartialEq for PropName {
+    ghost eq = { λ a b. pointwise nat_eq a b };
+
+    ghost laws = { partial_equiv_from_equiv nat_list_eq_equiv };
+
+    fn eq(&self, other: &PropName) -> bool {
+        self.as_bytes() == other.as_bytes()
+    }
+}
+
+impl Eq for PropName {
+    ghost laws = { nat_list_eq_equiv };
+}
+
+impl PartialOrd for PropName {
+    ghost partial_cmp = { λ a b. Some (name_cmp a b) };
+
+    ghost laws = { texts_po };
+
+    fn partial_cmp(&self, other: &PropName) -> Option<Ordering> {
+        Some(self.compare(other))
+    }
+}
+
+impl Ord for PropName {
+    ghost cmp = { name_cmp };
+
+    ghost total = { names_total };
+
+    ghost matches_partial_cmp = { λ a b. refl };
+
+    ghost matches_eq = { texts_ties };
+
+    fn cmp(&self, other: &PropName) -> Ordering {
+        self.compare(other)
     }
 }

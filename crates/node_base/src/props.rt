@@ -1,5 +1,5 @@
 //! Properties of a node or a revision.
-ghost use Rattle.std.specs.Prelude.{◌≡◌, ◌==◌, ◌↔◌, length, true, nat_lt, IsTrue, IfOk, OnOk, IfErr, OnErr};
+ghost use Rattle.std.specs.Prelude.{◌≡◌, ◌==◌, ◌↔◌, ◌+◌, ◌<◌, ◌≤◌, ◌^◌, length, true, nat_lt, IsTrue, IfOk, OnOk, IfErr, OnErr};
 ghost use Rattle.std.specs.Prelude.{if◌then◌else◌};
 ghost use Rattle.std.specs.FinMap as map;
 ghost use Rattle.std.specs.Option.{option_copied};
@@ -7,6 +7,7 @@ ghost use Rattle.std.specs.Slice.Iter.{iter_rest};
 ghost use Rattle.node_base.specs.declared.prop_fault.PropFault.TheVariants.{TooLong, OutOfMemory};
 ghost use Rattle.node_base.specs.Props.{PropMap, IsProps, props_fit, fits_with, is_sync, sync_part, without_sync};
 ghost use Rattle.node_base.specs.Props.{copied_beside};
+ghost use Rattle.node_base.specs.Entries.{stored_bytes};
 
 use crate::limits::{PROPS, SYNC_PROPS};
 use crate::prop_list::PropList;
@@ -92,6 +93,18 @@ impl Props {
             Some(list) => list.entries(),
             None => &[],
         }
+    }
+
+    /// How many bytes the names and values have. Goes over all of them.
+    pub fn byte_len(&self) -> u64
+        ensures len { result ≡ stored_bytes self.now }
+        ensures small { result < 2 ^ 32 }
+    {
+        let mut len = 0;
+        for (name, value) in self.entries() {
+            len += entry_len(name, value);
+        }
+        len
     }
 
     /// Whether there are none.
@@ -294,6 +307,14 @@ impl Props {
         self.list = Some(Arc::new(alloc, list)?);
         Ok(())
     }
+}
+
+// How many bytes a name and its value have.
+fn entry_len(name: &PropName, value: &PropValue) -> u64
+    ensures len { result ≡ length name.now + length value.now }
+    ensures small { result ≤ 65791 }
+{
+    name.len() as u64 + value.len() as u64
 }
 
 // Whether two lists of names and values are the same.

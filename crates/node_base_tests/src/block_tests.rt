@@ -24,7 +24,7 @@ pub(crate) fn fed(reader: &mut BlockReader, bytes: &[u8], by: usize) -> Told {
             Ok(Some(count)) => return Ok(Some(at.saturating_add(count))),
             Ok(None) => {}
         }
-        if reader.held() > end {
+        if reader.held() > end as u128 {
             return Ok(None);
         }
     }

@@ -2,7 +2,7 @@
 
 use crate::block_tests::{fed, is_fault};
 use crate::checked::{add_end, add_lines, all_hold, none_is_wrong, put, with_byte};
-use node_base::{BlockReader, PropDelta, PropFault, Props};
+use node_base::{BlockReader, PropDelta, PropFault, PropName, Props, RemovedNames};
 use std::alloc::Global;
 use std::process::Abort;
 
@@ -128,19 +128,46 @@ fn a_whole_block_removes_nothing(rt: HostRuntime) {
     assert!(rt; is_fault(rt.alloc(), PropFault::BadProps, 28, REMOVING));
 }
 
-// Whether this is answered to a block that removes so many names.
-fn is_removing(rt: &impl Abort, alloc: Global, count: usize, announced: u64, answer: Told) -> bool {
+// A block that removes so many names.
+fn removing(rt: &impl Abort, alloc: Global, count: usize) -> Vec<u8> {
     let mut block = Vec::new(alloc);
     add_lines(rt, alloc, &mut block, "D 6\np", count, "\n");
+    block
+}
+
+// Whether a block that removes so many names, `p00000` and so on, is read as these.
+fn is_removing(rt: &impl Abort, alloc: Global, count: usize) -> bool {
+    let mut block = removing(rt, alloc, count);
     add_end(rt, &mut block);
-    is_told(alloc, announced, block.as_slice(), answer)
+    let len = block.len();
+    is_told(
+        alloc,
+        len as u64,
+        block.as_slice(),
+        Ok(Some((len, 0, count))),
+    )
 }
 
 #[test]
-fn as_many_removals_as_a_list_has_names(rt: HostRuntime) {
-    let whole = Ok(Some((2_826, 0, 256)));
-    assert!(rt; is_removing(&rt, rt.alloc(), 256, 2_826, whole));
-    assert!(rt; is_removing(&rt, rt.alloc(), 257, 9_999, Err(PropFault::TooLong)));
+fn as_many_removals_as_there_are(rt: HostRuntime) {
+    assert!(rt; is_removing(&rt, rt.alloc(), 256));
+    assert!(rt; is_removing(&rt, rt.alloc(), 257));
+    assert!(rt; is_removing(&rt, rt.alloc(), 1_000));
+}
+
+// What is answered to a block that removes so many names, and then has more bytes.
+fn told_behind(rt: &impl Abort, alloc: Global, count: usize, more: &[u8]) -> Told {
+    let mut block = removing(rt, alloc, count);
+    block.extend_from_slice(more).expect(rt, "memory");
+    told(alloc, 33_554_432, block.as_slice(), 1_000_000)
+}
+
+#[test]
+fn a_name_again_behind_many(rt: HostRuntime) {
+    assert!(rt; told_behind(&rt, rt.alloc(), 999, b"D 6\np00000") == BAD_PROPS);
+    assert!(rt; told_behind(&rt, rt.alloc(), 999, b"K 6\np00777") == BAD_PROPS);
+    assert!(rt; told_behind(&rt, rt.alloc(), 999, b"D 6\np00998") == BAD_PROPS);
+    assert!(rt; told_behind(&rt, rt.alloc(), 999, b"D 6\np00999") == Ok(None));
 }
 
 const SMALL: &[u8] = b"D 1\na\nK 02\n\xc3\xa9\nV 2\nxy\nD 2\nbc\nPROPS-END\n";
@@ -174,10 +201,13 @@ fn one(rt: &impl Abort, alloc: Global, name: &[u8], value: &[u8]) -> Props {
 }
 
 // The delta that sets `q` and removes another name.
-fn delta(rt: &impl Abort, alloc: Global, removed: &[u8]) -> PropDelta {
+fn delta(rt: &impl Abort, alloc: Global, name: &[u8]) -> PropDelta {
+    let mut removed = RemovedNames::empty();
+    let name = PropName::parse(alloc, name).expect(rt, "a name");
+    removed.insert(alloc, name).expect(rt, "memory");
     PropDelta {
         sets: one(rt, alloc, b"q", b"2"),
-        removed: one(rt, alloc, removed, b""),
+        removed,
     }
 }
 
@@ -243,4 +273,34 @@ fn fault_over_full(rt: &impl Abort, alloc: Global, removed: &[u8]) -> Option<Pro
 fn a_list_past_the_limits(rt: HostRuntime) {
     assert!(rt; fault_over_full(&rt, rt.alloc(), b"absent") == Some(PropFault::TooLong));
     assert!(rt; fault_over_full(&rt, rt.alloc(), b"p00000").is_none());
+}
+
+// The names `p00000` and so on, so many, which another owner has too, and another name.
+fn shared_and_more(rt: &impl Abort, alloc: Global, count: usize) -> (RemovedNames, RemovedNames) {
+    let mut names = RemovedNames::empty();
+    for i in 0..count {
+        let text = format!(in alloc; "p{i:05}").expect(rt, "memory");
+        let name = PropName::parse(alloc, text.as_bytes()).expect(rt, "a name");
+        names.insert(alloc, name).expect(rt, "memory");
+    }
+    let shared = names.share().expect(rt, "memory");
+    let other = PropName::parse(alloc, b"other").expect(rt, "a name");
+    names.insert(alloc, other).expect(rt, "memory");
+    (shared, names)
+}
+
+// Whether a name is added to the names of one owner alone.
+fn is_added_to_one(rt: &impl Abort, alloc: Global, count: usize) -> bool {
+    let (shared, names) = shared_and_more(rt, alloc, count);
+    let other = PropName::parse(alloc, b"other").expect(rt, "a name");
+    shared.len() == count
+        && names.len() == count.saturating_add(1)
+        && names.contains(&other)
+        && !shared.contains(&other)
+}
+
+#[test]
+fn owners_share_names(rt: HostRuntime) {
+    assert!(rt; is_added_to_one(&rt, rt.alloc(), 0));
+    assert!(rt; is_added_to_one(&rt, rt.alloc(), 300));
 }

@@ -3,7 +3,7 @@
 use crate::checked::{joined, none_is_wrong};
 use crate::piece_tests::{answer, each_change_agrees, each_front_agrees, gives, takes};
 use dump_text::{DumpReader, DumpRecord, NodeRecord, PropPart, RevRecord, write_revision};
-use node_base::{PropDelta, Props, RevNo};
+use node_base::{PropDelta, PropName, Props, RevNo};
 use std::alloc::Global;
 use std::process::Abort;
 
@@ -44,36 +44,45 @@ fn a_delta_is_read(rt: HostRuntime) {
     assert!(rt; gives(rt.alloc(), LATER, 1, 4, 0));
 }
 
+// Whether a delta removes one name, of these bytes.
+fn removes_one(alloc: Global, delta: &PropDelta, name: &[u8]) -> bool {
+    match PropName::parse(alloc, name) {
+        Ok(name) => delta.removed.len() == 1 && delta.removed.contains(&name),
+        Err(_) => false,
+    }
+}
+
 // Whether a delta sets one name to a value, and removes one other.
-fn changes(delta: &PropDelta, set: &[u8], value: &[u8], removed: &[u8]) -> bool {
+fn changes(alloc: Global, delta: &PropDelta, set: &[u8], value: &[u8], removed: &[u8]) -> bool {
     delta.sets.len() == 1
         && delta.sets.get(set) == Some(value)
-        && delta.removed.len() == 1
-        && delta.removed.contains(removed)
+        && removes_one(alloc, delta, removed)
 }
 
 // Whether a record is a node with the delta that sets q to 2 and removes p.
-fn is_later(record: &DumpRecord) -> bool {
+fn is_later(alloc: Global, record: &DumpRecord) -> bool {
     match record {
-        DumpRecord::Node(node) => gives_delta(node),
+        DumpRecord::Node(node) => gives_delta(alloc, node),
         _ => false,
     }
 }
 
-fn gives_delta(node: &NodeRecord) -> bool {
+fn gives_delta(alloc: Global, node: &NodeRecord) -> bool {
     match &node.props {
-        Some(PropPart::Delta(delta)) => changes(delta, b"q", b"2", b"p") && !node.is_whole(),
+        Some(PropPart::Delta(delta)) => {
+            changes(alloc, delta, b"q", b"2", b"p") && !node.is_whole()
+        }
         _ => false,
     }
 }
 
 // Whether a reader takes the dump as one of format 3 whose last record is that node.
-fn takes_later(reader: &mut DumpReader, out: &mut Vec<DumpRecord>) -> bool {
+fn takes_later(alloc: Global, reader: &mut DumpReader, out: &mut Vec<DumpRecord>) -> bool {
     if !takes(reader, out, LATER, 3) {
         return false;
     }
     match out.last() {
-        Some(record) => is_later(record),
+        Some(record) => is_later(alloc, record),
         None => false,
     }
 }
@@ -82,7 +91,7 @@ fn takes_later(reader: &mut DumpReader, out: &mut Vec<DumpRecord>) -> bool {
 fn ends_with_delta(alloc: Global) -> bool {
     let mut reader = DumpReader::new(alloc);
     let mut out = Vec::new(alloc);
-    takes_later(&mut reader, &mut out)
+    takes_later(alloc, &mut reader, &mut out)
 }
 
 #[test]

@@ -151,6 +151,15 @@ const IN_A_NAME: &[u8] =
 const IN_A_VALUE: &[u8] =
     b"SVN-fs-dump-format-version: 2\n\nRevision-number: 1\nProp-content-length: 999999\n\nK 1\np\nV 65536\nxyz";
 
+const IN_A_DELTA: &[u8] =
+    b"SVN-fs-dump-format-version: 3\n\nRevision-number: 1\n\nNode-path: a/b\nNode-action: change\nProp-delta: true\nProp-content-length: 99\n\nK 1\np\nV 3\nxyz\nD 6\nabsent\nD 2\nq";
+
+const IN_A_TEXT: &[u8] =
+    b"SVN-fs-dump-format-version: 2\n\nRevision-number: 1\n\nNode-path: a/b\nNode-kind: file\nNode-action: add\nProp-content-length: 22\nText-content-length: 9\n\nK 1\np\nV 1\n1\nPROPS-END\ntext";
+
+const BETWEEN: &[u8] =
+    b"SVN-fs-dump-format-version: 2\n\nRevision-number: 1\n\nNode-path: a/b\nNode-kind: file\nNode-action: add\nProp-content-length: 22\nText-content-length: 4\n\nK 1\np\nV 1\n1\nPROPS-END\ntext";
+
 #[test]
 fn unfinished_bytes_are_kept(rt: HostRuntime) {
     all_hold(
@@ -158,7 +167,19 @@ fn unfinished_bytes_are_kept(rt: HostRuntime) {
         &[
             (keeps(rt.alloc(), b"SVN-fs-du", 9, 0), "in the first line"),
             (keeps(rt.alloc(), IN_A_NAME, 2, 2), "in a name"),
-            (keeps(rt.alloc(), IN_A_VALUE, 3, 2), "in a value"),
+            (
+                keeps(rt.alloc(), IN_A_VALUE, 4, 2),
+                "in a value, whose name has one byte",
+            ),
+            (
+                keeps(rt.alloc(), IN_A_DELTA, 14, 3),
+                "in a name, behind a path of 3 bytes, a property of 4, and a name of 6 that is removed",
+            ),
+            (
+                keeps(rt.alloc(), IN_A_TEXT, 9, 2),
+                "in a text behind a block",
+            ),
+            (keeps(rt.alloc(), BETWEEN, 0, 2), "behind a record"),
         ],
     );
 }

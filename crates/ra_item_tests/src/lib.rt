@@ -1,7 +1,7 @@
 //! Tests of `byte_streams`, `ra_item`, `ra_wire` and `svndiff` through their public items: streams that fail and are
 //! counted; openings and drives with their fronts and changed bytes, limits, refusals, and growths that are refused;
-//! greetings, commands and answers as Subversion's clients and servers spell them; texts in windows spelled out by
-//! hand, cut and changed anyhow.
+//! greetings, commands and answers as Subversion's clients and servers spell them; texts in windows and deltas spelled
+//! out by hand, cut and changed anyhow.
 #![tactic(auto)]
 
 #[cfg(test)]
@@ -10,6 +10,8 @@ mod answer_tests;
 mod checked;
 #[cfg(test)]
 mod command_tests;
+#[cfg(test)]
+mod delta_tests;
 #[cfg(test)]
 mod growth_tests;
 #[cfg(test)]

@@ -1,7 +1,7 @@
 //! The changes of a store: an entry is made ready, and then installed.
 ghost use Rattle.std.specs.Prelude.{◌≡◌, ◌<◌, length, Option, None, IfOk, IfErr};
 ghost use Rattle.std.specs.Option.{option_copied};
-ghost use Rattle.gate_log.specs.Log.{entries_of, entry_of};
+ghost use Rattle.gate_log.specs.Log.{entries_of, entry_of, version_of};
 ghost use Rattle.dump_load.specs.Trees.{Makes};
 ghost use Rattle.repo_core.specs.Repository.{Revision, props_at, trees_of};
 ghost use Rattle.repo_core.specs.Dates.{dated};
@@ -31,6 +31,7 @@ impl<D: Disk> RepoStore<D> {
     pub fn stage(&mut self, alloc: Global, entry: Entry) -> Result<Staged, StoreFault>
         requires numbered { IsNumbered (revisions_of self.old) entry }
         ensures stages { Stages entry (by_repository (revisions_of self.old) entry) self.old self.new result }
+        ensures version { version_of (log_of self.new) ≡ version_of (log_of self.old) }
     {
         let judged = judge(alloc, &self.repo, entry);
         self.ready(alloc, judged)
@@ -48,6 +49,7 @@ impl<D: Disk> RepoStore<D> {
     ) -> Result<Staged, StoreFault>
         ensures stages { let entry = Revised (length (revisions_of self.old)) set (dated props moment) in
             Stages entry (commit_fault (revisions_of self.old) base entry) self.old self.new result }
+        ensures version { version_of (log_of self.new) ≡ version_of (log_of self.old) }
     {
         let judged = self.repo.stage_commit(alloc, base, set, props, moment);
         self.ready(alloc, judged)
@@ -64,6 +66,7 @@ impl<D: Disk> RepoStore<D> {
         requires { Makes (trees_of (revisions_of self.old)) applied.set applied.tree }
         ensures stages { let entry = Revised (length (revisions_of self.old)) applied.set props in
             Stages entry (by_repository (revisions_of self.old) entry) self.old self.new result }
+        ensures version { version_of (log_of self.new) ≡ version_of (log_of self.old) }
     {
         let judged = judge_applied(&self.repo, applied, props);
         self.ready(alloc, judged)
@@ -82,6 +85,7 @@ impl<D: Disk> RepoStore<D> {
         ensures stages { let value = option_copied value.entry in
             Stages (Mapped number (with_value (props_at (revisions_of self.old) number) name.now value))
             (change_fault (revisions_of self.old) number name.now value expected.now) self.old self.new result }
+        ensures version { version_of (log_of self.new) ≡ version_of (log_of self.old) }
     {
         let judged = self
             .repo
@@ -96,6 +100,7 @@ impl<D: Disk> RepoStore<D> {
         requires { IsReadyFor self.old staged }
         ensures installed { Installs (entry_in staged) self.old self.new result }
         ensures receipt { IfOk result (λ r. entry_of r ≡ length (entries_of (log_of self.old))) }
+        ensures version { version_of (log_of self.new) ≡ version_of (log_of self.old) }
     {
         let Staged { change, bytes } = staged;
         match self.log.append(&bytes) {
@@ -123,6 +128,7 @@ impl<D: Disk> RepoStore<D> {
             Changes entry (commit_fault (revisions_of self.old) base entry) self.old self.new result }
         ensures number { IfOk result (λ c. c.number ≡ length (revisions_of self.old)) }
         ensures receipt { IfOk result (λ c. entry_of c.receipt ≡ length (entries_of (log_of self.old))) }
+        ensures version { version_of (log_of self.new) ≡ version_of (log_of self.old) }
     {
         let staged = self.stage_commit(alloc, base, set, props, moment)?;
         let receipt = self.install(staged)?;
@@ -142,6 +148,7 @@ impl<D: Disk> RepoStore<D> {
             Changes entry (by_repository (revisions_of self.old) entry) self.old self.new result }
         ensures number { IfOk result (λ c. c.number ≡ length (revisions_of self.old)) }
         ensures receipt { IfOk result (λ c. entry_of c.receipt ≡ length (entries_of (log_of self.old))) }
+        ensures version { version_of (log_of self.new) ≡ version_of (log_of self.old) }
     {
         let staged = self.stage_applied(alloc, applied, props)?;
         let receipt = self.install(staged)?;
@@ -165,6 +172,7 @@ impl<D: Disk> RepoStore<D> {
             Changes (Mapped number (with_value (props_at (revisions_of self.old) number) name.now value))
             (change_fault (revisions_of self.old) number name.now value expected.now) self.old self.new result }
         ensures receipt { IfOk result (λ r. entry_of r ≡ length (entries_of (log_of self.old))) }
+        ensures version { version_of (log_of self.new) ≡ version_of (log_of self.old) }
     {
         let staged = self.stage_change_prop(alloc, number, name, value, expected)?;
         self.install(staged)
@@ -180,6 +188,7 @@ impl<D: Disk> RepoStore<D> {
         ensures change { let entry = Mapped number props in
             Changes entry (by_repository (revisions_of self.old) entry) self.old self.new result }
         ensures receipt { IfOk result (λ r. entry_of r ≡ length (entries_of (log_of self.old))) }
+        ensures version { version_of (log_of self.new) ≡ version_of (log_of self.old) }
     {
         let staged = self.stage(alloc, Entry::Mapped { number, props })?;
         self.install(staged)
@@ -194,6 +203,7 @@ impl<D: Disk> RepoStore<D> {
         requires ready { IfOk judged (IsReady (revisions_of self.old)) }
         ensures stages { (entry : EntryOf) (refused : Option RepoFaultOf) → IsJudged entry refused judged
             → Stages entry refused self.old self.new result }
+        ensures version { version_of (log_of self.new) ≡ version_of (log_of self.old) }
     {
         if self.log.has_failed() {
             return Err(StoreFault::Log(LogFault::Failed));
@@ -210,6 +220,7 @@ impl<D: Disk> RepoStore<D> {
         requires working { ¬ HasFailed self.old }
         requires ready { IsReady (revisions_of self.old) change }
         ensures stages { Stages change.entry None self.old self.new result }
+        ensures version { version_of (log_of self.new) ≡ version_of (log_of self.old) }
     {
         let Ok(bytes) = entry_bytes(alloc, change.entry()) else {
             return Err(StoreFault::Log(LogFault::OutOfMemory));

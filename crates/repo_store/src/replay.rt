@@ -8,7 +8,7 @@ ghost use Rattle.dump_load.specs.Bounds.{IsBounded};
 ghost use Rattle.dump_load.specs.Changes.{IsSet};
 ghost use Rattle.dump_load.specs.Records.{change_of};
 ghost use Rattle.fleet_disk.specs.Rules.{LeavesOnly, Rose, Within};
-ghost use Rattle.gate_log.specs.Log.{disk_of, ends_of, entries_of, HasFailed};
+ghost use Rattle.gate_log.specs.Log.{disk_of, ends_of, entries_of, version_of, HasFailed};
 ghost use Rattle.gate_log.specs.declared.fault.LogFault.TheVariants as log_fault;
 ghost use Rattle.repo_core.specs.Repository.{Revision, Repository, fresh};
 ghost use Rattle.repo_core.specs.Entries.{with_entry_in};
@@ -165,6 +165,7 @@ fn read_next<D: Disk>(
         → Takes repo.old.revisions e → ⊥ }
     ensures same { D.honest (disk_of log.old) → entries_of log.new ≡ entries_of log.old }
     ensures ends { ends_of log.new ≡ ends_of log.old }
+    ensures version { version_of log.new ≡ version_of log.old }
     ensures inside { D.honest (disk_of log.old)
         → Within (D.may_leave (disk_of log.new)) (D.may_leave (disk_of log.old)) }
     ensures any_moment { D.honest (disk_of log.old)
@@ -197,6 +198,7 @@ fn read_first<D: Disk>(alloc: Global, log: &mut GateLog<D>) -> Result<Repo, LogF
         → IsBeginning bytes identity props → ⊥ }
     ensures same { D.honest (disk_of log.old) → entries_of log.new ≡ entries_of log.old }
     ensures ends { ends_of log.new ≡ ends_of log.old }
+    ensures version { version_of log.new ≡ version_of log.old }
     ensures inside { D.honest (disk_of log.old)
         → Within (D.may_leave (disk_of log.new)) (D.may_leave (disk_of log.old)) }
     ensures any_moment { D.honest (disk_of log.old)
@@ -224,6 +226,7 @@ pub fn replay<D: Disk>(alloc: Global, log: &mut GateLog<D>) -> Result<Repo, LogF
         → IsFirstBad k (entries_of log.old) }
     ensures same { D.honest (disk_of log.old) → entries_of log.new ≡ entries_of log.old }
     ensures ends { ends_of log.new ≡ ends_of log.old }
+    ensures version { version_of log.new ≡ version_of log.old }
     ensures inside { D.honest (disk_of log.old)
         → Within (D.may_leave (disk_of log.new)) (D.may_leave (disk_of log.old)) }
     ensures any_moment { D.honest (disk_of log.old)

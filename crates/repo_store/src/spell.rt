@@ -14,13 +14,31 @@ use repo_core::Entry;
 use std::alloc::{AllocError, Global};
 use uuid::Uuid;
 
+// What a head with an identity and the headers of a record have, at most.
+const HEAD_BYTES: usize = 256;
+
+// What the lengths of a property have, at most.
+const LENGTH_BYTES: usize = 16;
+
+// Room for an entry of these properties.
+fn room_of(props: &Props) -> usize {
+    let mut room = HEAD_BYTES;
+    for (name, value) in props.entries() {
+        room = room
+            .saturating_add(LENGTH_BYTES)
+            .saturating_add(name.len())
+            .saturating_add(value.len());
+    }
+    room
+}
+
 /// The first entry: the head with the identity, and revision 0's record.
 #[tactic(auto, using(crate::proofs::Spelling::beginning_spelled))]
 pub fn beginning(alloc: Global, identity: &Uuid, props: &Props) -> Result<Vec<u8>, AllocError>
     ensures { IfOk result (λ v. IsBeginning v.items identity.now props.now) }
 {
     dumps_go_on();
-    let mut bytes = Vec::new(alloc);
+    let mut bytes = Vec::with_capacity(alloc, room_of(props))?;
     if write_head(&mut bytes, Some(identity)).is_err() {
         return Err(AllocError);
     }
@@ -35,7 +53,7 @@ fn map_bytes(alloc: Global, number: RevNo, props: &Props) -> Result<Vec<u8>, All
     ensures canonical { IfOk result (λ v. v.items ≡ canon_entry number props.now) }
     ensures readable { OnOk result (AreRecords (canon_entry number props.now) (told.Revision number props.now ∷ [])) }
 {
-    let mut bytes = Vec::new(alloc);
+    let mut bytes = Vec::with_capacity(alloc, room_of(props))?;
     if write_props_entry(&mut bytes, number, props).is_err() {
         return Err(AllocError);
     }

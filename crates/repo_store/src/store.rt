@@ -6,9 +6,11 @@ ghost use Rattle.std.specs.Option.{option_copied};
 ghost use Rattle.std.specs.FinMap as finite;
 ghost use Rattle.fleet_disk.specs.Image.{Image, no_bytes};
 ghost use Rattle.fleet_disk.specs.Rules.{LeavesOnly, Only, Rose};
-ghost use Rattle.gate_log.specs.Log.{entries_of, disk_of as log_disk, HasFailed as LogFailed};
+ghost use Rattle.gate_log.specs.Log.{entries_of, version_of, disk_of as log_disk, HasFailed as LogFailed};
 ghost use Rattle.gate_log.specs.Looks.{Looks};
 ghost use Rattle.gate_log.specs.Standing.{HasNoEntry, IsBlank, IsEither, Stands, StandsAlike};
+ghost use Rattle.gate_log.specs.Version.{HaveOneVersion, IsOf};
+ghost use Rattle.gate_log.specs.declared.version.LogVersion.TheVariants.{Second};
 ghost use Rattle.repo_core.specs.Repository.{Revision, fresh};
 ghost use Rattle.repo_store.specs.Journal.{doubt_in, Tell, Keeps, KeepsOr, ReopensTo, IsDamaged, IsExport, IsBeginning};
 ghost use Rattle.repo_store.specs.Journal.{beginning_of, KeepsAlike};
@@ -47,8 +49,8 @@ impl<D: Disk> RepoStore<D> {
     ghost use Rattle.repo_store.specs.Words.{disk_of, doubt_of, log_of, repository_of, revisions_of, identity_of};
     ghost use Rattle.repo_store.specs.Words.{HasFailed, IsKept};
 
-    /// Begins a repository of revision 0 alone, without properties, on a disk of empty files; from Ok on a stop
-    /// leaves its first entry and no other. Until then a stop leaves no entry, with one gate at most where nothing was
+    /// Begins a repository of revision 0 alone, without properties, on a disk of empty files, its log of the second
+    /// version; from Ok on a stop leaves its first entry and no other. Until then a stop leaves no entry, with one gate at most where nothing was
     /// synced yet, or that one.
     ///
     /// ThereAlready (35) where a file isn't empty, DeviceFailed (31), OutOfMemory (70). A refusal hands the disk back;
@@ -56,6 +58,7 @@ impl<D: Disk> RepoStore<D> {
     /// each moment too. After 70 it is the disk that was given.
     pub fn create(alloc: Global, disk: D, identity: Uuid) -> Result<RepoStore<D>, (StoreFault, D)>
         ensures made { IfOk result (λ store. repository_of store ≡ fresh identity) }
+        ensures version { IfOk result (λ store. version_of (log_of store) ≡ Second) }
         ensures working { IfOk result (λ store. ¬ HasFailed store) }
         ensures durable { D.honest disk → IfOk result (λ store. (image : Image) → D.may_leave (disk_of store) image
             → Keeps (fresh identity) image) }
@@ -103,7 +106,9 @@ impl<D: Disk> RepoStore<D> {
     /// takes, and only there, DeviceFailed (31), OutOfMemory (70).
     ///
     /// A refusal hands the disk back: at each moment a stop leaves what it could leave before, or an image of the
-    /// entries that a read gave; after it, but for 31, what a read gave, or an image of its entries.
+    /// entries that a read gave; after it, but for 31, what a read gave, or an image of its entries. The version of the
+    /// log stays: at no moment of an opening does a stop leave another than that of what a read gave, but for what it
+    /// could leave before.
     pub fn open(alloc: Global, disk: D) -> Result<RepoStore<D>, (StoreFault, D)>
         ensures stands { D.honest disk → IfOk result (λ store. ReopensTo (identity_of store) (revisions_of store)
             (D.reads disk)) }
@@ -133,6 +138,12 @@ impl<D: Disk> RepoStore<D> {
             (λ c. D.may_leave disk c ⊎ KeepsAlike (D.reads disk) c)) }
         ensures any_moment_err { D.honest disk → IfErr result (λ e. LeavesOnly D.clock D.left_since disk e.1
             (λ c. D.may_leave disk c ⊎ KeepsAlike (D.reads disk) c)) }
+        ensures version { D.honest disk → IfOk result (λ store. IsOf (version_of (log_of store)) (D.reads disk)) }
+        ensures version_stays { D.honest disk
+            → IfOk result (λ store. LeavesOnly D.clock D.left_since disk (disk_of store)
+            (λ c. D.may_leave disk c ⊎ HaveOneVersion (D.reads disk) c)) }
+        ensures version_stays_err { D.honest disk → IfErr result (λ e. LeavesOnly D.clock D.left_since disk e.1
+            (λ c. D.may_leave disk c ⊎ HaveOneVersion (D.reads disk) c)) }
         ensures kept { D.honest disk → IfErr result (λ e. (e.0 ≡ refusal.Log log.DeviceFailed) ⊎ ((image : Image)
             → D.may_leave e.1 image → (image ≡ D.reads disk) ⊎ StandsAlike (D.reads disk) image)) }
         ensures honest { IfOk result (λ store. D.honest disk ↔ D.honest (disk_of store)) }
@@ -145,6 +156,8 @@ impl<D: Disk> RepoStore<D> {
             Ok(log) => log,
             Err((fault, disk)) => return Err((StoreFault::Log(fault), disk)),
         };
+        // What it has by its type.
+        let _version = log.version();
         let doubt = None;
         match replay(alloc, &mut log) {
             Ok(repo) => Ok(RepoStore { log, repo, doubt }),

@@ -10,6 +10,7 @@ use Rattle.fleet_disk.specs.Image.{Image}
 use Rattle.fleet_disk.specs.Rules.{LeavesOnly}
 use Rattle.fleet_disk.specs.declared.disk.Disk.{Ghosts}
 use Rattle.fleet_disk.proofs.Moments.{started, joined, weaker}
+use Rattle.gate_log.specs.Log.{version_of}
 use Rattle.gate_log.specs.Standing.{last_end}
 use Rattle.gate_log.specs.declared.fault.LogFault.TheVariants as log
 use Rattle.repo_core.specs.Entries.{revisions_after, with_entry_in}
@@ -20,7 +21,7 @@ use Rattle.repo_core.specs.declared.fault.RepoFault.{RepoFault}
 use Rattle.repo_core.specs.declared.fault.RepoFault.TheVariants as core
 use Rattle.repo_store.specs.Journal.{spelling, Keeps, IsBeforeOrAfter}
 use Rattle.repo_store.specs.Changes.{IsBroken, IsRefused, IsTaken, Refuses, Stays}
-use Rattle.repo_store.specs.Words.{disk_of, repository_of, HasFailed}
+use Rattle.repo_store.specs.Words.{disk_of, log_of, repository_of, HasFailed}
 use Rattle.repo_store.specs.declared.store.RepoStore.{RepoStore}
 use Rattle.repo_store.specs.declared.fault.StoreFault.{StoreFault}
 use Rattle.repo_store.specs.declared.fault.StoreFault.TheVariants.{Repo, Log}
@@ -136,8 +137,8 @@ OnlyNow {D} G = (disk : D) (image : Image) → G.honest disk → G.left_since di
 
 module _ {D : Type 0} {G : Ghosts D} where
   -- the store stays as it is
-  abbrev pub unmoved : (a b : RepoStore D G) (r : Result (Unit {0}) Refusal) → disk_of b ≡ disk_of a → repository_of b ≡ repository_of a → HasFailed b ↔ HasFailed a → (IsErrOf r refusal.DeviceFailed → ⊥) → (IsErrOf r refusal.Failed → HasFailed a) → IsSafe a → Serves a b r
-  unmoved a b r disk repository works device failed safe = record {
+  abbrev pub unmoved : (a b : RepoStore D G) (r : Result (Unit {0}) Refusal) → disk_of b ≡ disk_of a → repository_of b ≡ repository_of a → HasFailed b ↔ HasFailed a → (IsErrOf r refusal.DeviceFailed → ⊥) → (IsErrOf r refusal.Failed → HasFailed a) → IsSafe a → version_of (log_of b) ≡ version_of (log_of a) → Serves a b r
+  unmoved a b r disk repository works device failed safe same = record {
     honest = (λ h. subst (λ d. G.honest d) (sym disk) h, λ h. subst (λ d. G.honest d) disk h);
     later = subst (λ d. G.failures (disk_of a) ≤ G.failures d) (sym disk) (omega arith);
     device = λ e. absurd (device e);
@@ -151,11 +152,12 @@ module _ {D : Type 0} {G : Ghosts D} where
     safe = λ h w image left.
         subst (λ (v : Repository). Keeps v image) (sym repository)
         (safe (subst (λ d. G.honest d) disk h) (λ f. w (works.1 f)) image (subst (λ d. G.left_since d (G.clock d) image) disk left));
+    version = same;
   }
 
   -- nothing is done
   abbrev pub unserved : (a : RepoStore D G) (r : Result (Unit {0}) Refusal) → IfErr r (λ e. is_device e ≡ false) → IsSafe a → Serves a a r
-  unserved a r n safe = unmoved a a r refl refl (λ f. f, λ f. f) (is_none_of r refusal.DeviceFailed refl n) (λ e. absurd (is_none_of r refusal.Failed refl n e)) safe
+  unserved a r n safe = unmoved a a r refl refl (λ f. f, λ f. f) (is_none_of r refusal.DeviceFailed refl n) (λ e. absurd (is_none_of r refusal.Failed refl n e)) safe refl
 
   pub fell : (a b : RepoStore D G) (u : Unit {0}) → Serves a b (Ok u) → HasFailed b → HasFailed a
   fell a b u p f = ⊎_elim (λ h. h) (λ e. absurd (ok_is_none u refusal.DeviceFailed e)) (p.working.0 f)
@@ -184,6 +186,7 @@ module _ {D : Type 0} {G : Ghosts D} where
             (q.any_moment (p.honest.0 h) (λ f. w (fell a b u p f)))
             (λ image k. on_after (repository_of a) (repository_of b) p.taken (q.taken ++ q.begun) ((p.taken ++ q.taken) ++ q.begun) image p.made all k);
         safe = q.safe;
+        version = q.version ∙ p.version;
       }
 
   -- what is refused behind a call, for another reason
@@ -191,8 +194,8 @@ module _ {D : Type 0} {G : Ghosts D} where
   serves_then a b u r n p = serves_on a b b u r p (unserved b r n p.safe)
 
   -- an entry is taken
-  abbrev pub took : (a b : RepoStore D G) (entry : Entry) → OnlyNow G → IsTaken entry a b → Serves a b (Ok tt)
-  took a b entry only t = record {
+  abbrev pub took : (a b : RepoStore D G) (entry : Entry) → OnlyNow G → IsTaken entry a b → version_of (log_of b) ≡ version_of (log_of a) → Serves a b (Ok tt)
+  took a b entry only t same = record {
     honest = t.honest;
     later = t.later;
     device = λ e. absurd (ok_is_none tt refusal.DeviceFailed e);
@@ -204,11 +207,12 @@ module _ {D : Type 0} {G : Ghosts D} where
     one = inl refl;
     any_moment = λ h w. weaker G.clock G.left_since (disk_of a) (disk_of b) (IsBeforeOrAfter (repository_of a) entry) (IsOnTheWay (repository_of a) (entry ∷ [])) (t.any_moment h) (λ image k. either (repository_of a) entry image k);
     safe = λ h w image left. subst (λ (v : Repository). Keeps v image) (sym t.made) (t.durable (t.honest.1 h) image (only (disk_of b) image h left));
+    version = same;
   }
 
   -- the device fails
-  abbrev pub broke : (a b : RepoStore D G) (entry : Entry) (fault : StoreFault) → IsBroken entry a b fault → Serves a b (Err (store_refusal fault))
-  broke a b entry fault k = record {
+  abbrev pub broke : (a b : RepoStore D G) (entry : Entry) (fault : StoreFault) → IsBroken entry a b fault → version_of (log_of b) ≡ version_of (log_of a) → Serves a b (Err (store_refusal fault))
+  broke a b entry fault k same = record {
     honest = k.honest;
     later = k.later;
     device = λ e. k.device;
@@ -220,16 +224,17 @@ module _ {D : Type 0} {G : Ghosts D} where
     one = inr (refl, ap (λ v. Err (store_refusal v)) k.fault);
     any_moment = λ h w. weaker G.clock G.left_since (disk_of a) (disk_of b) (IsBeforeOrAfter (repository_of a) entry) (IsOnTheWay (repository_of a) (entry ∷ [])) (k.any_moment h) (λ image v. either (repository_of a) entry image v);
     safe = λ h w. absurd (w k.failed);
+    version = same;
   }
 
   -- an entry is refused
-  abbrev pub refused : (a b : RepoStore D G) (entry : Entry) (due : Option RepoFault) (fault : StoreFault) → Stays a b → Refuses a entry due fault → IsSafe a → Serves a b (Err (store_refusal fault))
-  refused a b entry due fault s why safe =
-      unmoved a b (Err (store_refusal fault)) s.disk s.repository s.working (λ e. subst (Refuses a entry due) (device_was fault (ap refusal_in e)) why) (λ e. subst (Refuses a entry due) (failed_was fault (ap refusal_in e)) why) safe
+  abbrev pub refused : (a b : RepoStore D G) (entry : Entry) (due : Option RepoFault) (fault : StoreFault) → Stays a b → Refuses a entry due fault → IsSafe a → version_of (log_of b) ≡ version_of (log_of a) → Serves a b (Err (store_refusal fault))
+  refused a b entry due fault s why safe same =
+      unmoved a b (Err (store_refusal fault)) s.disk s.repository s.working (λ e. subst (Refuses a entry due) (device_was fault (ap refusal_in e)) why) (λ e. subst (Refuses a entry due) (failed_was fault (ap refusal_in e)) why) safe same
 
   -- what is staged, or refused before, is for another reason
-  abbrev pub staged_none : (a b : RepoStore D G) (e : Refusal) → is_device e ≡ false → disk_of b ≡ disk_of a → repository_of b ≡ repository_of a → HasFailed b ↔ HasFailed a → IsSafe a → Serves a b (Err e)
-  staged_none a b e n disk repository works safe = unmoved a b (Err e) disk repository works (is_none_of (Err e) refusal.DeviceFailed refl n) (λ k. absurd (is_none_of (Err e) refusal.Failed refl n k)) safe
+  abbrev pub staged_none : (a b : RepoStore D G) (e : Refusal) → is_device e ≡ false → disk_of b ≡ disk_of a → repository_of b ≡ repository_of a → HasFailed b ↔ HasFailed a → IsSafe a → version_of (log_of b) ≡ version_of (log_of a) → Serves a b (Err e)
+  staged_none a b e n disk repository works safe same = unmoved a b (Err e) disk repository works (is_none_of (Err e) refusal.DeviceFailed refl n) (λ k. absurd (is_none_of (Err e) refusal.Failed refl n k)) safe same
 
   -- what isn't taken leaves the repository as it was
   pub stays_as_it_is : (a b : RepoStore D G) (entry : Entry) (due : Option RepoFault) (fault : StoreFault) → ((due ≡ None) × IsBroken entry a b fault) ⊎ IsRefused entry due a b fault → repository_of b ≡ repository_of a

@@ -15,6 +15,7 @@ use Rattle.dump_text.specs.declared.record.DumpRecord.{DumpRecord}
 use Rattle.dump_text.specs.declared.record.DumpRecord.TheVariants.{Identity, Revision as Begins, Node}
 use Rattle.dump_load.specs.declared.change.Change.{Change}
 use Rattle.fleet_disk.specs.declared.disk.Disk.{Ghosts}
+use Rattle.gate_log.specs.Log.{version_of}
 use Rattle.fleet_engines.specs.Grouping.{records_of_rev, is_no_identity}
 use Rattle.fleet_engines.specs.Revisions.{Rev, Makes, is_zero, is_past_zero}
 use Rattle.repo_core.specs.Entries.{revisions_after, with_entry}
@@ -27,7 +28,7 @@ use Rattle.node_base.specs.Path.{Path}
 use Rattle.node_base.specs.declared.fault.PathFault.{PathFault}
 use Rattle.repo_store.specs.Journal.{Keeps}
 use Rattle.repo_store.specs.Changes.{IsBroken, IsRefused, IsTaken, Refuses as RefusesEntry, Stays}
-use Rattle.repo_store.specs.Words.{disk_of, revisions_of, repository_of, HasFailed}
+use Rattle.repo_store.specs.Words.{disk_of, log_of, revisions_of, repository_of, HasFailed}
 use Rattle.repo_store.specs.declared.store.RepoStore.{RepoStore}
 use Rattle.repo_store.specs.declared.fault.StoreFault.{StoreFault}
 use Rattle.store_engines.specs.Devices.{is_device, CantKeep, IsSafe, Serves}
@@ -98,32 +99,32 @@ module _ {D : Type 0} {G : Ghosts D} where
   refused_left ahead left other a b e p = record { serves = p.serves; whole = p.whole; more = p.more; records = p.records; entries = p.entries; all = tt }
 
   -- an entry is taken
-  pub took_one : (a b : RepoStore D G) (entry : Entry) → OnlyNow G → IsTaken entry a b → ServesOne entry a b (Ok tt)
-  took_one a b entry only t = record { serves = took a b entry only t; one = inl refl }
+  pub took_one : (a b : RepoStore D G) (entry : Entry) → OnlyNow G → IsTaken entry a b → version_of (log_of b) ≡ version_of (log_of a) → ServesOne entry a b (Ok tt)
+  took_one a b entry only t same = record { serves = took a b entry only t same; one = inl refl }
 
   -- an entry is refused
-  pub refused_one : (one : Entry) (a b : RepoStore D G) (entry : Entry) (due : Option RepoFault) (fault : StoreFault) → Stays a b → RefusesEntry a entry due fault → IsSafe a → ServesOne one a b (Err (store_refusal fault))
-  refused_one one a b entry due fault s why safe = record { serves = refused a b entry due fault s why safe; one = inr (refl, refl) }
+  pub refused_one : (one : Entry) (a b : RepoStore D G) (entry : Entry) (due : Option RepoFault) (fault : StoreFault) → Stays a b → RefusesEntry a entry due fault → IsSafe a → version_of (log_of b) ≡ version_of (log_of a) → ServesOne one a b (Err (store_refusal fault))
+  refused_one one a b entry due fault s why safe same = record { serves = refused a b entry due fault s why safe same; one = inr (refl, refl) }
 
   -- or the device fails
-  pub didnt_take_one : (a b : RepoStore D G) (entry : Entry) (due : Option RepoFault) (fault : StoreFault) → ((due ≡ None) × IsBroken entry a b fault) ⊎ IsRefused entry due a b fault → IsSafe a → ServesOne entry a b (Err (store_refusal fault))
-  didnt_take_one a b entry due fault (inl k) safe = record { serves = broke a b entry fault k.1; one = inl refl }
-  didnt_take_one a b entry due fault (inr r) safe = refused_one entry a b entry due fault r.stays r.why safe
+  pub didnt_take_one : (a b : RepoStore D G) (entry : Entry) (due : Option RepoFault) (fault : StoreFault) → ((due ≡ None) × IsBroken entry a b fault) ⊎ IsRefused entry due a b fault → IsSafe a → version_of (log_of b) ≡ version_of (log_of a) → ServesOne entry a b (Err (store_refusal fault))
+  didnt_take_one a b entry due fault (inl k) safe same = record { serves = broke a b entry fault k.1 same; one = inl refl }
+  didnt_take_one a b entry due fault (inr r) safe same = refused_one entry a b entry due fault r.stays r.why safe same
 
   -- what came of a commit
-  pub commits_ok : (a b : RepoStore D G) (entry : Entry) (due : Option RepoFault) → due ≡ entry_fault (revisions_of a) entry → OnlyNow G → (due ≡ None) × IsTaken entry a b → Commits entry a b (Ok tt)
-  commits_ok a b entry due at only k = record {
+  pub commits_ok : (a b : RepoStore D G) (entry : Entry) (due : Option RepoFault) → due ≡ entry_fault (revisions_of a) entry → OnlyNow G → (due ≡ None) × IsTaken entry a b → version_of (log_of b) ≡ version_of (log_of a) → Commits entry a b (Ok tt)
+  commits_ok a b entry due at only k same = record {
     ok = k.1.made;
     taken = sym at ∙ k.0;
     stands = λ h image left. subst (λ (r : Repository). Keeps r image) (sym k.1.made) (k.1.durable (k.1.honest.1 h) image left);
     same = tt;
     refused = tt;
     no_peer = tt;
-    device = λ safe. took_one a b entry only k.1;
+    device = λ safe. took_one a b entry only k.1 same;
   }
 
-  pub commits_err : (a b : RepoStore D G) (entry : Entry) (due : Option RepoFault) (fault : StoreFault) (e : Refusal) → due ≡ entry_fault (revisions_of a) entry → e ≡ store_refusal fault → (e ≡ PeerFailed → ⊥) → ((due ≡ None) × IsBroken entry a b fault) ⊎ IsRefused entry due a b fault → Commits entry a b (Err e)
-  commits_err a b entry due fault e at is other k = record {
+  pub commits_err : (a b : RepoStore D G) (entry : Entry) (due : Option RepoFault) (fault : StoreFault) (e : Refusal) → due ≡ entry_fault (revisions_of a) entry → e ≡ store_refusal fault → (e ≡ PeerFailed → ⊥) → ((due ≡ None) × IsBroken entry a b fault) ⊎ IsRefused entry due a b fault → version_of (log_of b) ≡ version_of (log_of a) → Commits entry a b (Err e)
+  commits_err a b entry due fault e at is other k same = record {
     ok = tt;
     taken = tt;
     stands = tt;
@@ -132,7 +133,7 @@ module _ {D : Type 0} {G : Ghosts D} where
         subst (λ r. (r ≡ OutOfMemory) ⊎ CantKeep b entry r ⊎ ((f : RepoFault) × IsDue f (entry_fault (revisions_of a) entry) × (r ≡ repo_refusal f))) (sym is)
         (subst (λ d. (store_refusal fault ≡ OutOfMemory) ⊎ CantKeep b entry (store_refusal fault) ⊎ ((f : RepoFault) × IsDue f d × (store_refusal fault ≡ repo_refusal f))) at (stop_or_due a b entry due fault k));
     no_peer = other;
-    device = λ safe. subst (λ r. ServesOne entry a b (Err r)) (sym is) (didnt_take_one a b entry due fault k safe);
+    device = λ safe. subst (λ r. ServesOne entry a b (Err r)) (sym is) (didnt_take_one a b entry due fault k safe same);
   }
 
   -- nothing is done, and it is refused
@@ -140,8 +141,8 @@ module _ {D : Type 0} {G : Ghosts D} where
   none_done entry a e n safe = record { serves = unserved a (Err e) n safe; one = inr (refl, refl) }
 
   -- what is staged, or refused before
-  pub staged_one : (entry : Entry) (a b : RepoStore D G) (e : Refusal) → is_device e ≡ false → disk_of b ≡ disk_of a → repository_of b ≡ repository_of a → HasFailed b ↔ HasFailed a → IsSafe a → ServesOne entry a b (Err e)
-  staged_one entry a b e n disk repository works safe = record { serves = staged_none a b e n disk repository works safe; one = inr (refl, refl) }
+  pub staged_one : (entry : Entry) (a b : RepoStore D G) (e : Refusal) → is_device e ≡ false → disk_of b ≡ disk_of a → repository_of b ≡ repository_of a → HasFailed b ↔ HasFailed a → IsSafe a → version_of (log_of b) ≡ version_of (log_of a) → ServesOne entry a b (Err e)
+  staged_one entry a b e n disk repository works safe same = record { serves = staged_none a b e n disk repository works safe same; one = inr (refl, refl) }
 
   -- an entry is taken, and what comes then is refused for another reason
   pub one_then : (entry : Entry) (a b : RepoStore D G) (u : Unit {0}) (r : Result (Unit {0}) Refusal) → IfErr r (λ e. is_device e ≡ false) → ServesOne entry a b (Ok u) → ServesOne entry a b r

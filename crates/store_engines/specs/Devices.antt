@@ -5,7 +5,7 @@ use Rattle.node_base.specs.declared.refusal.Refusal.TheVariants as refusal
 use Rattle.fleet_disk.specs.Image.{Image}
 use Rattle.fleet_disk.specs.Rules.{LeavesOnly, Rose}
 use Rattle.fleet_disk.specs.declared.disk.Disk.{Ghosts}
-use Rattle.gate_log.specs.Log.{size_of}
+use Rattle.gate_log.specs.Log.{size_of, version_of}
 use Rattle.repo_core.specs.Entries.{with_entry_in}
 use Rattle.repo_core.specs.declared.entry.Entry.{Entry}
 use Rattle.repo_core.specs.Repository.{Repository}
@@ -56,3 +56,5 @@ pub record Serves {D : Type 0} {G : Ghosts D} (old new : RepoStore D G) (result 
   pub any_moment : G.honest (disk_of old) → ¬ HasFailed old → LeavesOnly G.clock G.left_since (disk_of old) (disk_of new) (IsOnTheWay (repository_of old) (taken ++ begun))
   -- and a stop after it the whole of it
   pub safe : IsSafe new
+  -- its log is of the version of before
+  pub version : version_of (log_of new) ≡ version_of (log_of old)

@@ -3,11 +3,14 @@ ghost use Rattle.std.specs.Prelude.{◌≡◌, ◌≢◌, ◌≤◌, ◌↔◌, 
 ghost use Rattle.std.specs.Prelude.{IsErr, OnOk};
 ghost use Rattle.fleet_disk.specs.Image.{Image, no_bytes};
 ghost use Rattle.fleet_disk.specs.Rules.{LeavesOnly, Only, Rose};
+ghost use Rattle.gate_log.specs.Log.{version_of};
 ghost use Rattle.gate_log.specs.Looks.{Looks};
 ghost use Rattle.gate_log.specs.Standing.{HasNoEntry, IsBlank, IsEither, Stands, StandsAlike};
+ghost use Rattle.gate_log.specs.Version.{HaveOneVersion, IsOf};
+ghost use Rattle.gate_log.specs.declared.version.LogVersion.TheVariants.{Second};
 ghost use Rattle.repo_core.specs.Repository.{Revision, fresh};
 ghost use Rattle.repo_store.specs.Journal.{beginning_of, IsDamaged, Keeps, KeepsAlike, ReopensTo};
-ghost use Rattle.repo_store.specs.Words.{disk_of, identity_of, repository_of, revisions_of, HasFailed};
+ghost use Rattle.repo_store.specs.Words.{disk_of, identity_of, log_of, repository_of, revisions_of, HasFailed};
 ghost use Rattle.store_engines.specs.Refusals.{IsCreateRefusal, IsOpenRefusal};
 
 use fleet_disk::Disk;
@@ -16,15 +19,16 @@ use repo_store::{RepoStore, store_refusal};
 use std::alloc::Global;
 use uuid::Uuid;
 
-/// Begins a repository of revision 0 alone, without properties, on a disk of empty files; from Ok on a stop leaves
-/// what keeps it, and its one entry. ThereAlready (35) where a file isn't empty, DeviceFailed (31), OutOfMemory (70).
-/// A refusal hands the disk back: one with something on it as it was.
+/// Begins a repository of revision 0 alone, without properties, on a disk of empty files, its log of the second
+/// version; from Ok on a stop leaves what keeps it, and its one entry. ThereAlready (35) where a file isn't empty,
+/// DeviceFailed (31), OutOfMemory (70). A refusal hands the disk back: one with something on it as it was.
 pub fn create_store<D: Disk + Drop>(
     alloc: Global,
     disk: D,
     identity: Uuid,
 ) -> Result<RepoStore<D>, (Refusal, D)>
     ensures made { IfOk result (λ store. repository_of store ≡ fresh identity) }
+    ensures version { IfOk result (λ store. version_of (log_of store) ≡ Second) }
     ensures working { IfOk result (λ store. ¬ HasFailed store) }
     ensures durable { D.honest disk → IfOk result (λ store. (image : Image) → D.may_leave (disk_of store) image
         → Keeps (fresh identity) image) }
@@ -56,7 +60,7 @@ pub fn create_store<D: Disk + Drop>(
 
 /// Opens the repository that a disk holds, with the sets of changes that its entries tell. NoRepository (34) where it
 /// holds none, Damaged (33) with the first entry that is, and only there, DeviceFailed (31), OutOfMemory (70). A
-/// refusal hands the disk back, with what stood on it.
+/// refusal hands the disk back, with what stood on it. The version of its log stays.
 pub fn open_store<D: Disk + Drop>(alloc: Global, disk: D) -> Result<RepoStore<D>, (Refusal, D)>
     ensures stands { D.honest disk → IfOk result (λ store. ReopensTo (identity_of store) (revisions_of store)
         (D.reads disk)) }
@@ -83,6 +87,11 @@ pub fn open_store<D: Disk + Drop>(alloc: Global, disk: D) -> Result<RepoStore<D>
         (λ c. D.may_leave disk c ⊎ KeepsAlike (D.reads disk) c)) }
     ensures any_moment_err { D.honest disk → IfErr result (λ e. LeavesOnly D.clock D.left_since disk e.1
         (λ c. D.may_leave disk c ⊎ KeepsAlike (D.reads disk) c)) }
+    ensures version { D.honest disk → IfOk result (λ store. IsOf (version_of (log_of store)) (D.reads disk)) }
+    ensures version_stays { D.honest disk → IfOk result (λ store. LeavesOnly D.clock D.left_since disk (disk_of store)
+        (λ c. D.may_leave disk c ⊎ HaveOneVersion (D.reads disk) c)) }
+    ensures version_stays_err { D.honest disk → IfErr result (λ e. LeavesOnly D.clock D.left_since disk e.1
+        (λ c. D.may_leave disk c ⊎ HaveOneVersion (D.reads disk) c)) }
     ensures kept { D.honest disk → IfErr result (λ e. (e.0 ≡ Refusal.DeviceFailed) ⊎ ((image : Image)
         → D.may_leave e.1 image → (image ≡ D.reads disk) ⊎ StandsAlike (D.reads disk) image)) }
     ensures device { IfErr result (λ e. e.0 ≡ Refusal.DeviceFailed → Rose (D.failures disk) (D.failures e.1)) }

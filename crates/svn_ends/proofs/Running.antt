@@ -1,5 +1,5 @@
 -- A run over a session, whatever it is over.
-use Rattle.std.proofs.Common.{◌≡◌, ◌⊎◌, List, ℕ, Option, Result}
+use Rattle.std.proofs.Common.{List, ℕ, Option, Result}
 use Rattle.byte_streams.specs.declared.input.Input.{Ghosts as InputGhosts}
 use Rattle.byte_streams.specs.declared.output.Output.{Ghosts as OutputGhosts}
 use Rattle.fleet_disk.specs.declared.disk.Disk.{Ghosts}

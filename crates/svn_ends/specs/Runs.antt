@@ -1,5 +1,5 @@
 -- What a run over a mirror's store and a server says and leaves.
-use Rattle.std.specs.Prelude.{◌≡◌, ◌⊎◌, ℕ, List, Option, Result, Ok, Err, string_bytes}
+use Rattle.std.specs.Prelude.{◌≡◌, ◌⊎◌, ℕ, List, Option, Result, Err, string_bytes}
 use Rattle.fleet_disk.specs.declared.disk.Disk.{Ghosts}
 use Rattle.byte_streams.specs.Causes.{Rose}
 use Rattle.byte_streams.specs.declared.input.Input.{Ghosts as InputGhosts}

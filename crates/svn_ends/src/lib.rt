@@ -21,15 +21,19 @@
 //! refusal of it ends the run with MasterFailed (60).
 #![tactic(auto)]
 
-pub use port::MasterSharePort;
-pub use server::{Address, serve_store};
+pub use mirror_port::{MirrorSharePort, over_mirror};
+pub use port::{MasterSharePort, SharePort};
+pub use server::{Address, serve_mirror, serve_store};
+pub use shares::ServedShare;
 pub use work::{run_work_from, run_work_over};
 
 mod fault;
+mod mirror_port;
 mod port;
 mod refusals;
 mod seen;
 mod server;
+mod shares;
 mod talk;
 mod tree_seat;
 mod work;

@@ -5,20 +5,20 @@ ghost use Rattle.std.specs.Option.{option_map};
 ghost use Rattle.store_share.specs.Seats.{known_by, seen_by};
 ghost use Rattle.svn_ends.specs.Seats.{AreRead, Keeps};
 
+use crate::shares::ServedShare;
 use dump_load::ChangeSet;
-use fleet_disk::Disk;
 use node_base::RevNo;
 use path_tree::Tree;
 use ra_serve::Replay;
 use repo_store::StoreFault;
 use std::alloc::{AllocError, Global};
 use std::sync::Wait;
-use store_share::{MasterShare, ReaderSeat, RowName};
+use store_share::{ReaderSeat, RowName};
 
 /// Whether a seat has seen a revision. Where it hasn't, the newest revision is asked for first.
-pub(crate) fn sees<R: Wait, L: RowName, D: Disk>(
+pub(crate) fn sees<R: Wait, L: RowName, S: ServedShare<L>>(
     rt: &R,
-    share: &MasterShare<L, D>,
+    share: &S,
     seat: &mut ReaderSeat<L>,
     number: RevNo,
 ) -> bool
@@ -33,8 +33,8 @@ pub(crate) fn sees<R: Wait, L: RowName, D: Disk>(
 }
 
 /// The tree of a revision that the seat has seen, for another owner. It waits for nobody.
-pub(crate) fn seen_tree<L: RowName, D: Disk>(
-    share: &MasterShare<L, D>,
+pub(crate) fn seen_tree<L: RowName, S: ServedShare<L>>(
+    share: &S,
     seat: &mut ReaderSeat<L>,
     number: RevNo,
 ) -> Result<Tree, AllocError>
@@ -50,9 +50,9 @@ pub(crate) fn seen_tree<L: RowName, D: Disk>(
 }
 
 /// The changes of a revision that the seat has seen, for another owner. It waits for nobody.
-pub(crate) fn seen_set<L: RowName, D: Disk>(
+pub(crate) fn seen_set<L: RowName, S: ServedShare<L>>(
     alloc: Global,
-    share: &MasterShare<L, D>,
+    share: &S,
     seat: &mut ReaderSeat<L>,
     number: RevNo,
 ) -> Result<ChangeSet, AllocError>
@@ -69,8 +69,8 @@ pub(crate) fn seen_set<L: RowName, D: Disk>(
 
 /// Reads the trees of the revisions below one that the seat has seen, each for another owner, behind those that were
 /// read before. It waits for nobody.
-pub(crate) fn read_trees<L: RowName, D: Disk>(
-    share: &MasterShare<L, D>,
+pub(crate) fn read_trees<L: RowName, S: ServedShare<L>>(
+    share: &S,
     seat: &mut ReaderSeat<L>,
     trees: &mut Vec<Tree>,
     number: RevNo,
@@ -92,10 +92,10 @@ pub(crate) fn read_trees<L: RowName, D: Disk>(
 
 /// What a replay takes of a revision that the seat has seen beside the trees before it. It waits for the revision's
 /// properties alone.
-pub(crate) fn seen_replay<R: Wait, L: RowName, D: Disk>(
+pub(crate) fn seen_replay<R: Wait, L: RowName, S: ServedShare<L>>(
     rt: &R,
     alloc: Global,
-    share: &MasterShare<L, D>,
+    share: &S,
     seat: &mut ReaderSeat<L>,
     number: RevNo,
 ) -> Result<Replay, StoreFault>

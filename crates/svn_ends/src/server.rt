@@ -6,13 +6,15 @@ ghost use Rattle.sockets.specs.Lines.{listening};
 ghost use Rattle.store_share.specs.Opened.{cells_of};
 ghost use Rattle.svn_ends.specs.Served.{IsOfStore};
 
+use crate::shares::ServedShare;
 use crate::talk::{ShareSessions, root_url};
 use fleet_disk::Disk;
+use mirror_share::MirrorShare;
 use repo_store::RepoStore;
 use sockets::{Limits, SocketFault, Teller, Troubles};
 use std::alloc::Global;
 use std::io::Write;
-use std::marker::Brand;
+use std::marker::{Brand, PhantomData};
 use std::net::{Net, TcpListener, TcpStream};
 use std::sync::Wait;
 use std::thread::Threads;
@@ -93,13 +95,20 @@ fn serve_opened<
     ensures back { IsOfStore D.Disk result.0 }
 {
     let share = opened.named::<L>();
-    let answer = serve_share(rt, alloc, &share, mirror, address, limits, teller, output);
+    let answer = serve_share::<R, L, MasterShare<L, D>, W, T>(
+        rt, alloc, &share, mirror, address, limits, teller, output,
+    );
     let store = share.close().into_store();
     (disk_in(store), answer)
 }
 
-// Serves a share.
-fn serve_share<
+/// Serves a mirror's share over ra_svn on the address's port of 127.0.0.1, as `serve_store` serves a store, while its jobs
+/// go on: a session reads what the mirror shows, and what it has seen it reads for good, without waiting for a job. It
+/// takes no changes.
+///
+/// PeerFailed (49) where it can't listen there, or can't say so; OutOfMemory (70) where there is no memory to begin
+/// with. A session that ends badly ends itself alone, and its trouble is told, as there.
+pub fn serve_mirror<
     R: Net<Listener = TcpListener, Stream = TcpStream> + Threads + Wait + Clock + Sync,
     L: RowName + Send + Sync,
     D: Disk + Drop + Send,
@@ -108,7 +117,30 @@ fn serve_share<
 >(
     rt: &R,
     alloc: Global,
-    share: &MasterShare<L, D>,
+    share: &MirrorShare<L, D>,
+    address: &Address<'_>,
+    limits: Limits,
+    teller: &T,
+    output: &mut W,
+) -> Result<(), SocketFault>
+    ensures { OnOk result (Appends (W.contents output.old) (W.contents output.new) (listening address.now.port)) }
+{
+    serve_share::<R, L, MirrorShare<L, D>, W, T>(
+        rt, alloc, share, true, address, limits, teller, output,
+    )
+}
+
+// Serves a share.
+fn serve_share<
+    R: Net<Listener = TcpListener, Stream = TcpStream> + Threads + Wait + Clock + Sync,
+    L: RowName + Send + Sync,
+    S: ServedShare<L> + Sync,
+    W: Write,
+    T: Teller + Sync,
+>(
+    rt: &R,
+    alloc: Global,
+    share: &S,
     mirror: bool,
     address: &Address<'_>,
     limits: Limits,
@@ -121,6 +153,7 @@ fn serve_share<
         return Err(SocketFault::OutOfMemory);
     };
     let sessions = ShareSessions {
+        of: PhantomData::<L>,
         rt,
         alloc,
         share,

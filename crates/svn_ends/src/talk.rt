@@ -4,26 +4,28 @@ ghost use Rattle.std.specs.Prelude.{◌≡◌, IfOk, ⊤, string_bytes};
 ghost use Rattle.svn_ends.specs.Ports.{takes_none};
 ghost use Rattle.svn_ends.specs.Ends.{heard, root_of, trouble_of, url};
 
-use crate::port::MasterSharePort;
+use crate::port::SharePort;
 use crate::server::Address;
+use crate::shares::ServedShare;
 use byte_streams::CountedReader;
-use fleet_disk::Disk;
 use ra_item::stream::ItemStream;
 use ra_serve::{End, PortFault, ServeFault, serve};
 use sockets::{Session, SocketFault, Teller, Trouble, Troubles};
 use std::alloc::{AllocError, Global};
 use std::io::{Read, Write};
+use std::marker::PhantomData;
 use std::sync::Wait;
 use std::time::Clock;
-use store_share::{MasterShare, RowName};
+use store_share::RowName;
 
 /// The sessions over one share, each with a port and a seat of its own. Clients are told the root of the address. Trouble
 /// of the device and want of memory are told; that a peer fails isn't.
 #[derive(Drop)]
-pub(crate) struct ShareSessions<'a, R: Wait + Clock, L: RowName, D: Disk, T: Teller> {
+pub(crate) struct ShareSessions<'a, R: Wait + Clock, L: RowName, S: ServedShare<L>, T: Teller> {
+    pub(crate) of: PhantomData<L>,
     pub(crate) rt: &'a R,
     pub(crate) alloc: Global,
-    pub(crate) share: &'a MasterShare<L, D>,
+    pub(crate) share: &'a S,
     pub(crate) mirror: bool,
     pub(crate) address: &'a Address<'a>,
     pub(crate) root_url: &'a [u8],
@@ -31,12 +33,12 @@ pub(crate) struct ShareSessions<'a, R: Wait + Clock, L: RowName, D: Disk, T: Tel
     ghost root: { root_url.now ≡ root_of address.now },
 }
 
-impl<'a, R: Wait + Clock, L: RowName, D: Disk, T: Teller> ShareSessions<'a, R, L, D, T> {
+impl<'a, R: Wait + Clock, L: RowName, S: ServedShare<L>, T: Teller> ShareSessions<'a, R, L, S, T> {
     // The port of one session.
-    fn port(&self) -> Result<MasterSharePort<'a, R, L, D>, AllocError>
+    fn port(&self) -> Result<SharePort<'a, R, L, S>, AllocError>
         ensures { IfOk result (λ p. takes_none p ≡ self.now.mirror) }
     {
-        MasterSharePort::new(self.rt, self.alloc, self.share, self.mirror)
+        SharePort::new(self.rt, self.alloc, self.share, self.mirror)
     }
 
     // Tells a refusal that was a port's own, where there was one.
@@ -49,7 +51,8 @@ impl<'a, R: Wait + Clock, L: RowName, D: Disk, T: Teller> ShareSessions<'a, R, L
     }
 }
 
-impl<R: Wait + Clock, L: RowName, D: Disk, T: Teller> Session for ShareSessions<'_, R, L, D, T> {
+impl<R: Wait + Clock, L: RowName, S: ServedShare<L>, T: Teller> Session
+    for ShareSessions<'_, R, L, S, T> {
     // What clients are told no clause says: a port over a share doesn't know its repository.
     ghost has_talked = { λ sessions connection. ⊤ };
 

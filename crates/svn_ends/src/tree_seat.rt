@@ -7,14 +7,14 @@ ghost use Rattle.store_share.specs.Seats.{known_by, seen_by};
 ghost use Rattle.svn_ends.specs.Seats.{AreRead, Keeps};
 
 use crate::seen::{read_trees, seen_replay, seen_tree, sees};
-use fleet_disk::Disk;
+use crate::shares::ServedShare;
 use node_base::RevNo;
 use path_tree::Tree;
 use ra_serve::Replay;
 use repo_store::StoreFault;
 use std::alloc::{AllocError, Global};
 use std::sync::Wait;
-use store_share::{MasterShare, ReaderSeat, RowName};
+use store_share::{ReaderSeat, RowName};
 
 /// A reader's seat, and the trees of the revisions from 0 up that were read from it, each for another owner. A replay
 /// reads those that lie below its revision and aren't there yet, so a session shares each tree once.
@@ -38,7 +38,7 @@ impl<L: RowName> TreeSeat<L> {
     }
 
     /// The newest revision, which the seat has seen then.
-    pub(crate) fn latest<R: Wait, D: Disk>(&mut self, rt: &R, share: &MasterShare<L, D>) -> RevNo
+    pub(crate) fn latest<R: Wait, S: ServedShare<L>>(&mut self, rt: &R, share: &S) -> RevNo
         ensures most { seen_by self.old.seat ≤ result }
         ensures seen { seen_by self.new.seat ≡ result }
         ensures keeps { Keeps self.old.seat self.new.seat }
@@ -47,10 +47,10 @@ impl<L: RowName> TreeSeat<L> {
     }
 
     /// Whether it has seen a revision. Where it hasn't, the newest revision is asked for first.
-    pub(crate) fn sees<R: Wait, D: Disk>(
+    pub(crate) fn sees<R: Wait, S: ServedShare<L>>(
         &mut self,
         rt: &R,
-        share: &MasterShare<L, D>,
+        share: &S,
         number: RevNo,
     ) -> bool
         ensures there { result ≡ true → number ≤ seen_by self.new.seat }
@@ -61,9 +61,9 @@ impl<L: RowName> TreeSeat<L> {
     }
 
     /// The tree of a revision that it has seen, for another owner. It waits for nobody.
-    pub(crate) fn tree<D: Disk>(
+    pub(crate) fn tree<S: ServedShare<L>>(
         &mut self,
-        share: &MasterShare<L, D>,
+        share: &S,
         number: RevNo,
     ) -> Result<Tree, AllocError>
         requires { number ≤ seen_by self.old.seat }
@@ -76,11 +76,11 @@ impl<L: RowName> TreeSeat<L> {
 
     /// What a replay takes of a revision that it has seen. The trees of the revisions below are read then. It waits for
     /// the revision's properties alone.
-    pub(crate) fn replay<R: Wait, D: Disk>(
+    pub(crate) fn replay<R: Wait, S: ServedShare<L>>(
         &mut self,
         rt: &R,
         alloc: Global,
-        share: &MasterShare<L, D>,
+        share: &S,
         number: RevNo,
     ) -> Result<Replay, StoreFault>
         requires { number ≤ seen_by self.old.seat }

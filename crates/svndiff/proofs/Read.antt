@@ -16,11 +16,11 @@ use Rattle.svndiff.specs.Reading.{Next, begin, is_between, digit, filled, head_d
 use Rattle.svndiff.specs.Streams.{Stream, Reads, Refuses, of_step, reading, pieces_in}
 use Rattle.svndiff.proofs.Runs.{lt_true, lt_false, both, state, data_run, data_pieces, no_pieces}
 
-negated : (a : Bool) → not a ≡ true → a ≡ false
+pub negated : (a : Bool) → not a ≡ true → a ≡ false
 negated true e = cc
 negated false e = refl
 
-ends_some : (bytes : List ℕ) → ends_once bytes ≡ true → 0 < length bytes
+pub ends_some : (bytes : List ℕ) → ends_once bytes ≡ true → 0 < length bytes
 ends_some [] e = cc
 ends_some (b ∷ bs) e = omega arith
 
@@ -75,7 +75,7 @@ instructed_placed p r n = refl
 less-zero : (a : ℕ) → (a == 0) ≡ true → a ≡ 0
 less-zero a e = grind (arith, nat_tests)
 
-nonzero : (a : ℕ) → 0 < a → (a == 0) ≡ false
+pub nonzero : (a : ℕ) → 0 < a → (a == 0) ≡ false
 nonzero a h = grind (arith, nat_tests)
 
 less-twice : (j k a : ℕ) → a - j - k ≡ a - (j + k)
@@ -152,7 +152,7 @@ news_read text both_bytes both_sums r more (More bytes first m n before new) z h
 abbrev pub Behind : Stream → List ℕ → ℕ → List ℕ → Type 0
 Behind s text room more = (next : Reading) × (next.place ≡ at.Between) × (next.room ≡ room) × (s ≡ reading (Reads text next) more)
 
-same_number : (a : ℕ) → (a == a) ≡ true
+pub same_number : (a : ℕ) → (a == a) ≡ true
 same_number a = grind (arith, nat_tests)
 
 judged_fits : (p : Place) (n size sum room : ℕ) (t : Bool) → (size == 0) ≡ t → n ≤ 102400 → n ≤ room → judged (state p 0 n size n sum room) ≡ (if t then summed (state p 0 n size n 0 room) else Next (state at.Instruction 0 n size n 0 room))

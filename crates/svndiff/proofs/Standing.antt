@@ -21,15 +21,15 @@ use Rattle.svndiff.proofs.Read.{texts_are_read}
 use Rattle.svndiff.proofs.Runs.{lt_from, both, state, reading-append, reading-refused}
 
 -- bytes of a number that goes on
-abbrev none_last : List ℕ → Bool
+abbrev pub none_last : List ℕ → Bool
 none_last [] = true
 none_last (b ∷ bs) = not (is_last b) && none_last bs
 
-record Begun (digits : List ℕ) (count n : ℕ) : Type 0 where
-  goes : none_last digits ≡ true
-  counted : length digits ≡ count
-  few : count ≤ 9
-  number : number_after 0 digits ≡ n
+pub record Begun (digits : List ℕ) (count n : ℕ) : Type 0 where
+  pub goes : none_last digits ≡ true
+  pub counted : length digits ≡ count
+  pub few : count ≤ 9
+  pub number : number_after 0 digits ≡ n
 
 -- the numbers of a window in front of one of them
 abbrev InFront : Field → ℕ → ℕ → ℕ → List ℕ → Type 0
@@ -79,13 +79,13 @@ if_fine : (text bytes : List ℕ) (t : Bool) (x y : Step) → (t ≡ true → Fi
 if_fine text bytes true x y h k = h refl
 if_fine text bytes false x y h k = k refl
 
-le_from : (a b : ℕ) → nat_lt a b ≡ false → b ≤ a
+pub le_from : (a b : ℕ) → nat_lt a b ≡ false → b ≤ a
 le_from a b e = grind (arith, nat_tests)
 
-eq_from : (a b : ℕ) → (a == b) ≡ true → a ≡ b
+pub eq_from : (a b : ℕ) → (a == b) ≡ true → a ≡ b
 eq_from a b e = grind (arith, nat_tests)
 
-positive : (n : ℕ) → (n == 0) ≡ false → 0 < n
+pub positive : (n : ℕ) → (n == 0) ≡ false → 0 < n
 positive n e = grind (arith, nat_tests)
 
 -- a byte more of a number
@@ -120,20 +120,20 @@ digit_by P digits count n b true false true e f g begun w o x =
 digit_by P digits count n b true false false e f g begun w o x = x
 digit_by P digits count n b false t u e f g begun w o x = x
 
-digit_fine : (P : Digit → Type 0) (digits : List ℕ) (count n b : ℕ) → Begun digits count n → ((m : ℕ) → Spells (digits ++ b ∷ []) m → P (Whole m)) → ((m : ℕ) → Begun (digits ++ b ∷ []) (count + 1) m → P (Goes (count + 1) m)) → P Wrong → P (digit count n b)
+pub digit_fine : (P : Digit → Type 0) (digits : List ℕ) (count n b : ℕ) → Begun digits count n → ((m : ℕ) → Spells (digits ++ b ∷ []) m → P (Whole m)) → ((m : ℕ) → Begun (digits ++ b ∷ []) (count + 1) m → P (Goes (count + 1) m)) → P Wrong → P (digit count n b)
 digit_fine P digits count n b begun w o x = digit_by P digits count n b (nat_lt (n * 128 + group b) 18446744073709551616) (is_last b) (nat_lt (count + 1) 10) refl refl refl begun w o x
 
-none_begun : Begun [] 0 0
+pub none_begun : Begun [] 0 0
 none_begun = record { goes = refl; counted = refl; few = omega arith; number = refl }
 
 -- a byte more behind three parts
 snoc2 : (a b : List ℕ) (c : ℕ) → (a ++ b) ++ c ∷ [] ≡ a ++ (b ++ c ∷ [])
 snoc2 a b c = append_assoc a b (c ∷ [])
 
-snoc3 : (a b d : List ℕ) (c : ℕ) → (a ++ (b ++ d)) ++ c ∷ [] ≡ a ++ (b ++ (d ++ c ∷ []))
+pub snoc3 : (a b d : List ℕ) (c : ℕ) → (a ++ (b ++ d)) ++ c ∷ [] ≡ a ++ (b ++ (d ++ c ∷ []))
 snoc3 a b d c = append_assoc a (b ++ d) (c ∷ []) ∙ ap (λ t. a ++ t) (append_assoc b d (c ∷ []))
 
-snoc4 : (a b d e : List ℕ) (c : ℕ) → (a ++ (b ++ (d ++ e))) ++ c ∷ [] ≡ a ++ (b ++ (d ++ (e ++ c ∷ [])))
+pub snoc4 : (a b d e : List ℕ) (c : ℕ) → (a ++ (b ++ (d ++ e))) ++ c ∷ [] ≡ a ++ (b ++ (d ++ (e ++ c ∷ [])))
 snoc4 a b d e c = append_assoc a (b ++ (d ++ e)) (c ∷ []) ∙ ap (λ t. a ++ t) (snoc3 b d e c)
 
 -- the version
@@ -291,7 +291,7 @@ length_fine source target left fresh sum room count n text bytes b (front, numbe
     tt
 
 -- the numbers in front of a window are there
-or_false : (a b : Bool) → (a || b) ≡ false → (a ≡ false) × (b ≡ false)
+pub or_false : (a b : Bool) → (a || b) ≡ false → (a ≡ false) × (b ≡ false)
 or_false true b e = cc
 or_false false b e = (refl, e)
 

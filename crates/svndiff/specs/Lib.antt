@@ -1,7 +1,14 @@
+pub mod DeltaFaults
+pub mod DeltaGrammar
+pub mod DeltaLaws
+pub mod DeltaReading
+pub mod DeltaRefusals
+pub mod DeltaStreams
 pub mod Faults
 pub mod Grammar
 pub mod Groups
 pub mod Laws
+pub mod Making
 pub mod Reading
 pub mod Refusals
 pub mod Spelling

@@ -13,8 +13,14 @@
 //! written is read again.
 #![tactic(auto)]
 
+mod delta;
+pub mod delta_fault;
+pub mod delta_law;
+pub mod delta_reader;
 pub mod fault;
+mod instructions;
 pub mod law;
 pub mod reader;
 mod reading;
+mod window;
 pub mod writer;

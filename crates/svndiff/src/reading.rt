@@ -83,8 +83,8 @@ pub enum Digit {
     Wrong,
 }
 
-// One byte more of a number of which so many bytes have come.
-fn take_digit(count: u8, n: u64, b: u8) -> Digit
+/// One byte more of a number of which so many bytes have come.
+pub fn take_digit(count: u8, n: u64, b: u8) -> Digit
     ensures { result ≡ digit count n b }
 {
     let last = b < 128;

@@ -3,7 +3,7 @@ use Rattle.fleet_disk.specs.declared.disk.DiskFile.{DiskFile}
 use Rattle.fleet_disk.specs.Image.{Image, bytes_of}
 use Rattle.fleet_disk.specs.Rules.{CutBack, OnFile, Follows}
 use Rattle.fleet_disk.proofs.Moments.{started, goes_on}
-use Rattle.gate_log.specs.Version.{gates_of}
+use Rattle.gate_log.specs.Version.{gates_of, IsOf}
 use Rattle.gate_log.specs.Slots.{gate_place}
 use Rattle.gate_log.specs.Standing.{parts, Stands}
 use Rattle.gate_log.proofs.Cutting.{still_stands, journal_left, gates_left, beside_left, gates_room, cut_rest}
@@ -25,7 +25,7 @@ returns-in_err-cut-clause-any_moment g c h =
     let only = c.requires.durable h in
     let place = c.end_of-end.ensures in
     let behind : c.gate_at-gate.result + 1 ≡ gate_place v (length ends) + 1 = ap (λ (k : ℕ). k + 1) c.gate_at-gate.ensures.place in
-    let P : Image → Type 0 = λ f. Stands f (parts 0 ends rest.journal) in
+    let P : Image → Type 0 = λ f. Stands f (parts 0 ends rest.journal) × IsOf v f in
     let start = started D.clock D.left_since disk P (λ f left. still_stands v ends rest some was f (only f (g.met.D.Disk.only_now disk f h left))) in
     let first = journal_left v ends rest some was _ _ _ place only (c.cut.ensures.left h) in
     let r1 = goes_on D.clock D.left_since disk disk c.cut.new.self P _ start (c.cut.ensures.time h) (λ f now. first f now) in
@@ -60,7 +60,7 @@ returns-in_err-cut-2-clause-any_moment g c h =
     let only = c.requires.durable h in
     let place = c.end_of-end.ensures in
     let behind : c.gate_at-gate.result + 1 ≡ gate_place v (length ends) + 1 = ap (λ (k : ℕ). k + 1) c.gate_at-gate.ensures.place in
-    let P : Image → Type 0 = λ f. Stands f (parts 0 ends rest.journal) in
+    let P : Image → Type 0 = λ f. Stands f (parts 0 ends rest.journal) × IsOf v f in
     let start = started D.clock D.left_since disk P (λ f left. still_stands v ends rest some was f (only f (g.met.D.Disk.only_now disk f h left))) in
     let first = journal_left v ends rest some was _ _ _ place only (c.cut.ensures.left h) in
     let r1 = goes_on D.clock D.left_since disk disk c.cut.new.self P _ start (c.cut.ensures.time h) (λ f now. first f now) in
@@ -82,7 +82,7 @@ returns-in_err-clear_gate-clause-any_moment g c h =
     let only = c.requires.durable h in
     let place = c.end_of-end.ensures in
     let behind : c.gate_at-gate.result + 1 ≡ gate_place v (length ends) + 1 = ap (λ (k : ℕ). k + 1) c.gate_at-gate.ensures.place in
-    let P : Image → Type 0 = λ f. Stands f (parts 0 ends rest.journal) in
+    let P : Image → Type 0 = λ f. Stands f (parts 0 ends rest.journal) × IsOf v f in
     let start = started D.clock D.left_since disk P (λ f left. still_stands v ends rest some was f (only f (g.met.D.Disk.only_now disk f h left))) in
     let first = journal_left v ends rest some was _ _ _ place only (c.cut.ensures.left h) in
     let r1 = goes_on D.clock D.left_since disk disk c.cut.new.self P _ start (c.cut.ensures.time h) (λ f now. first f now) in
@@ -107,7 +107,7 @@ returns-in_err-sync-clause-any_moment g c h =
     let only = c.requires.durable h in
     let place = c.end_of-end.ensures in
     let behind : c.gate_at-gate.result + 1 ≡ gate_place v (length ends) + 1 = ap (λ (k : ℕ). k + 1) c.gate_at-gate.ensures.place in
-    let P : Image → Type 0 = λ f. Stands f (parts 0 ends rest.journal) in
+    let P : Image → Type 0 = λ f. Stands f (parts 0 ends rest.journal) × IsOf v f in
     let start = started D.clock D.left_since disk P (λ f left. still_stands v ends rest some was f (only f (g.met.D.Disk.only_now disk f h left))) in
     let first = journal_left v ends rest some was _ _ _ place only (c.cut.ensures.left h) in
     let r1 = goes_on D.clock D.left_since disk disk c.cut.new.self P _ start (c.cut.ensures.time h) (λ f now. first f now) in
@@ -134,7 +134,7 @@ returns-clause-any_moment g c h =
     let only = c.requires.durable h in
     let place = c.end_of-end.ensures in
     let behind : c.gate_at-gate.result + 1 ≡ gate_place v (length ends) + 1 = ap (λ (k : ℕ). k + 1) c.gate_at-gate.ensures.place in
-    let P : Image → Type 0 = λ f. Stands f (parts 0 ends rest.journal) in
+    let P : Image → Type 0 = λ f. Stands f (parts 0 ends rest.journal) × IsOf v f in
     let start = started D.clock D.left_since disk P (λ f left. still_stands v ends rest some was f (only f (g.met.D.Disk.only_now disk f h left))) in
     let first = journal_left v ends rest some was _ _ _ place only (c.cut.ensures.left h) in
     let r1 = goes_on D.clock D.left_since disk disk c.cut.new.self P _ start (c.cut.ensures.time h) (λ f now. first f now) in

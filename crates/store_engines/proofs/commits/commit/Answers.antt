@@ -12,11 +12,11 @@ returns-in-Ok g c =
     let x = revisions_of c.args.store.now in
     let entry = Revised (length x) c.args.set (dated c.args.props c.args.moment) in
     let base = c.head-head.ensures.head ∙ ap (λ (r : Repository). head_of r.revisions) c.repo.ensures.value in
-    commits_ok c.args.store.now c.commit.new.self entry _ (ap (λ b. commit_fault x b entry) base) (λ d f h l. g.met.D.Disk.only_now d f h l) c.in-Ok.ensures.change
+    commits_ok c.args.store.now c.commit.new.self entry _ (ap (λ b. commit_fault x b entry) base) (λ d f h l. g.met.D.Disk.only_now d f h l) c.in-Ok.ensures.change c.in-Ok.ensures.version
 
 pub returns-in-Err : goal.returns-in-Err
 returns-in-Err g c =
     let x = revisions_of c.args.store.now in
     let entry = Revised (length x) c.args.set (dated c.args.props c.args.moment) in
     let base = c.head-head.ensures.head ∙ ap (λ (r : Repository). head_of r.revisions) c.repo.ensures.value in
-    commits_err c.args.store.now c.commit.new.self entry _ c.in-Err.fault c.store_refusal.result (ap (λ b. commit_fault x b entry) base) c.store_refusal.ensures.value c.store_refusal.ensures.no_peer c.in-Err.ensures.change
+    commits_err c.args.store.now c.commit.new.self entry _ c.in-Err.fault c.store_refusal.result (ap (λ b. commit_fault x b entry) base) c.store_refusal.ensures.value c.store_refusal.ensures.no_peer c.in-Err.ensures.change c.in-Err.ensures.version

@@ -19,7 +19,7 @@ returns-in-Ok-clause-same g c = c.in-Ok.ensures.stages.stays.repository
 pub returns-in-Ok-clause-device : goal.returns-in-Ok-clause-device
 returns-in-Ok-clause-device g c entry safe =
     let s = c.in-Ok.ensures.stages.stays in
-    staged_one entry c.args.store.now c.stage_commit.new.self _ refl s.disk s.repository s.working safe
+    staged_one entry c.args.store.now c.stage_commit.new.self _ refl s.disk s.repository s.working safe c.in-Ok.ensures.version
 
 pub returns-in-Err-clause-due : goal.returns-in-Err-clause-due
 returns-in-Err-clause-due g c =
@@ -39,4 +39,4 @@ returns-in-Err-clause-device g c entry safe =
     let x = revisions_of c.args.store.now in
     let bare = Revised (length x) c.args.set (dated c.empty.result (Some c.args.moment)) in
     let s = c.in-Err.ensures.stages in
-    rw c.store_refusal.ensures.value (refused_one entry c.args.store.now c.stage_commit.new.self bare _ c.in-Err.fault s.0 s.1 safe)
+    rw c.store_refusal.ensures.value (refused_one entry c.args.store.now c.stage_commit.new.self bare _ c.in-Err.fault s.0 s.1 safe c.in-Err.ensures.version)

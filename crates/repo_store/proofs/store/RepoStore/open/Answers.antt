@@ -2,8 +2,10 @@ use Rattle.std.proofs.Common.{List, ℕ, ◌⊎◌, inl, inr, sym, subst, ap, Er
 use Rattle.fleet_disk.specs.Image.{Image}
 use Rattle.fleet_disk.specs.Rules.{LeavesOnly}
 use Rattle.fleet_disk.proofs.Moments.{joined, weaker}
-use Rattle.gate_log.specs.Log.{disk_of, entries_of}
+use Rattle.gate_log.specs.Log.{disk_of, entries_of, version_of}
 use Rattle.gate_log.specs.Standing.{StandsAlike}
+use Rattle.gate_log.specs.Version.{HaveOneVersion, IsOf}
+use Rattle.gate_log.specs.declared.version.LogVersion.{LogVersion}
 use Rattle.gate_log.specs.declared.fault.LogFault.{LogFault}
 use Rattle.repo_store.specs.Journal.{KeepsAlike, Tell}
 use Rattle.repo_store.proofs.Images.{reopened}
@@ -109,3 +111,20 @@ returns-in-Err-replay-clause-kept g c h =
     inr (λ image left.
     let left = subst (λ (d : g.row.D.Denot). g.D.Disk.may_leave d image) c.into_disk.ensures left in
     inr (entries_of c.in-Ok.log, c.in-Ok.ensures.stands h, c.in-Ok.ensures.durable h image (c.replay.ensures.inside honest image left)))
+
+pub returns-in-Ok-replay-clause-version_stays : goal.returns-in-Ok-replay-clause-version_stays
+returns-in-Ok-replay-clause-version_stays g c h =
+    let D = g.D.Disk in
+    let P : Image → Type 0 = λ i. D.may_leave c.args.disk i ⊎ HaveOneVersion (D.reads c.args.disk) i in
+    let honest = c.in-Ok.ensures.honest.0 h in
+    joined D.clock D.left_since c.args.disk (disk_of c.in-Ok.log) (disk_of c.replay.new.log) P (D.may_leave (disk_of c.in-Ok.log)) (c.in-Ok.ensures.version_stays h) (c.replay.ensures.any_moment honest)
+    (λ i left. inr (version_of c.in-Ok.log, c.in-Ok.ensures.version h, subst (λ (v : LogVersion). IsOf v i) c.version-version.ensures.version (c.version-version.ensures.stand honest c.in-Ok.ensures.some.1 i left)))
+
+pub returns-in-Err-replay-clause-version_stays_err : goal.returns-in-Err-replay-clause-version_stays_err
+returns-in-Err-replay-clause-version_stays_err g c h =
+    let D = g.D.Disk in
+    let P : Image → Type 0 = λ i. D.may_leave c.args.disk i ⊎ HaveOneVersion (D.reads c.args.disk) i in
+    let honest = c.in-Ok.ensures.honest.0 h in
+    subst (λ (d : g.row.D.Denot). LeavesOnly D.clock D.left_since c.args.disk d P) (sym c.into_disk.ensures)
+    (joined D.clock D.left_since c.args.disk (disk_of c.in-Ok.log) (disk_of c.replay.new.log) P (D.may_leave (disk_of c.in-Ok.log)) (c.in-Ok.ensures.version_stays h) (c.replay.ensures.any_moment honest)
+    (λ i left. inr (version_of c.in-Ok.log, c.in-Ok.ensures.version h, subst (λ (v : LogVersion). IsOf v i) c.version-version.ensures.version (c.version-version.ensures.stand honest c.in-Ok.ensures.some.1 i left))))

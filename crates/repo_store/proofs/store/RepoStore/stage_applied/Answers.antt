@@ -4,8 +4,8 @@ use Rattle.repo_core.specs.declared.entry.Entry.TheVariants.{Revised}
 use Rattle.repo_store.specs.Words.{revisions_of}
 use Rattle.repo_store.proofs.store.RepoStore.stage_applied.Goals as goal
 
-pub returns : goal.returns
-returns g c =
+pub returns-clause-stages : goal.returns-clause-stages
+returns-clause-stages g c =
     let x = revisions_of c.args.self.now in
     let entry = Revised (length x) c.args.applied.set c.args.props in
-    record { stages = c.ready.ensures.stages entry (by_repository x entry) c.judge_applied-judged.ensures.judged }
+    c.ready.ensures.stages entry (by_repository x entry) c.judge_applied-judged.ensures.judged
