@@ -1,4 +1,5 @@
 pub mod Causes
+pub mod Directories
 pub mod Exits
 pub mod Ranges
 pub mod Turning

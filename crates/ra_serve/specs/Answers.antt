@@ -5,7 +5,7 @@ use Rattle.std.specs.List.{flat_map, range_with_len}
 use Rattle.std.specs.FinMap as finite
 use Rattle.md5.specs.Md5.{md5}
 use Rattle.hex.specs.Hex.{encode_lower}
-use Rattle.node_base.specs.Path.{Path, Name, same_name}
+use Rattle.node_base.specs.Path.{Path, Name}
 use Rattle.node_base.specs.Refusals.{refusal_number, refusal_text}
 use Rattle.node_base.specs.Tree.{PathMap, kind_of}
 use Rattle.node_base.specs.declared.node.Node.{Node}
@@ -18,6 +18,7 @@ use Rattle.repo_core.specs.Repository.{Repository, trees_of, head_of, props_at}
 use Rattle.repo_core.specs.Entries.{with_entry_in}
 use Rattle.repo_core.specs.Refusals.{Wanted, Anything, Nothing, This, with_value}
 use Rattle.repo_core.specs.declared.entry.Entry.TheVariants.{Mapped}
+use Rattle.path_tree.specs.Children.{name_in}
 use Rattle.ra_item.specs.Items.{Text, row, spell, spell_all}
 use Rattle.ra_edit.specs.Commands.{edit_bytes}
 use Rattle.ra_wire.specs.Answers.{Dirent}
@@ -82,12 +83,6 @@ file_with n props contents f text = spell (file_found (encode_lower (md5 text)) 
 abbrev pub file_bytes : ℕ → Bool → Bool → Option Node → List ℕ
 file_bytes n props contents None = []
 file_bytes n props contents (Some f) = file_with n props contents f (unwrap_or f.text [])
-
--- the name of a path that lies right in a directory
-abbrev pub name_in : Path → Path → Option Name
-name_in [] (n ∷ []) = Some n
-name_in (d ∷ ds) (n ∷ ns) = if same_name d n then name_in ds ns else None
-name_in _ _ = None
 
 abbrev pub entry_of : Node → Name → Dirent
 entry_of x name = record { name = name; kind = kind_of x; size = length (unwrap_or x.text []); has_props = not (finite.len x.props == 0); created = x.changed; date = None; author = None }

@@ -1,6 +1,7 @@
 pub mod Held
 pub mod Ports
 pub mod Answers
+pub mod Directories
 pub mod Tellings
 pub mod Sessions
 pub mod Serving

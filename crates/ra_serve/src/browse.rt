@@ -1,38 +1,31 @@
 //! Files and directories that are looked at.
 
-ghost use Rattle.std.specs.Prelude.{◌≡◌, map, IfOk, OnOk};
+ghost use Rattle.std.specs.Prelude.{◌≡◌, IfOk, OnOk};
 ghost use Rattle.std.specs.FinMap as finite;
-ghost use Rattle.std.specs.Option.{option_copied};
 ghost use Rattle.std.specs.Io.KnownBytes.{Appends};
 ghost use Rattle.hex.specs.Hex.{encode_lower};
 ghost use Rattle.md5.specs.Md5.{md5};
 ghost use Rattle.ra_item.specs.Items.{spell};
-ghost use Rattle.ra_wire.specs.Replies.{dir_found, file_found};
-ghost use Rattle.path_tree.specs.Listed.{shown_names};
-ghost use Rattle.ra_wire.specs.Answers.{dirent_as};
+ghost use Rattle.ra_wire.specs.Replies.{file_found};
 ghost use Rattle.ra_wire.specs.Commands.{GetFile, GetDir};
-ghost use Rattle.ra_serve.specs.Answers.{entries_in, entry_of, name_in, text_bytes, file_with, file_told, dir_told};
-ghost use Rattle.ra_serve.specs.Answers.{entries_wanted, strings, text_wanted, unless_due, item_due};
+ghost use Rattle.ra_serve.specs.Answers.{text_bytes, file_with, file_told, strings, text_wanted};
 ghost use Rattle.ra_serve.specs.Tellings.{Tells, GoesOn};
 
 use crate::ask::tree_asked;
+use crate::directory::tell_dir;
 use crate::fault::ServeFault;
 use crate::port::RepoPort;
-use crate::told::{kind_mismatch, no_such_path, not_a_directory, refuse, too_long};
-use node_base::{Node, NodeName, NodePath, RevNo, Text};
+use crate::told::{kind_mismatch, no_such_path, refuse};
+use node_base::{Node, NodePath, RevNo, Text};
 use path_tree::Tree;
 use ra_item::writer::write_text;
-use ra_wire::dirent::Dirent;
-use ra_wire::reply_writer::{write_dir, write_done, write_file};
-use std::alloc::{AllocError, Global};
+use ra_wire::reply_writer::{write_done, write_file};
+use std::alloc::Global;
 use std::io;
 use std::io::Write;
 
 // How long a string may be in which a text is sent.
 const PIECE: usize = 65_536;
-
-// How long an answer may be with the space behind it.
-const LONGEST: usize = 33_554_433;
 
 /// Answers `get-file`.
 pub fn get_file<P: RepoPort, W: Write + Drop>(
@@ -168,130 +161,4 @@ pub fn get_dir<P: RepoPort, W: Write + Drop>(
         Ok((number, tree)) => tell_dir(alloc, &tree, path, number, props, contents, out),
         Err(fault) => refuse(fault, out),
     }
-}
-
-// Tells of what stands at a path as of a directory.
-fn tell_dir<W: Write + Drop>(
-    alloc: Global,
-    tree: &Tree,
-    path: &NodePath,
-    number: RevNo,
-    props: bool,
-    contents: bool,
-    out: W,
-) -> Result<W, ServeFault>
-    ensures { IfOk result (λ w. Appends (W.contents out) (W.contents w)
-        (dir_told number props contents path.now tree.now)) }
-{
-    let Some(node) = tree.get(path.names()) else {
-        return no_such_path(out);
-    };
-    if node.text.is_some() {
-        return not_a_directory(out);
-    }
-    let Ok(entries) = entries_wanted(alloc, tree, path, contents) else {
-        return Err(ServeFault::OutOfMemory);
-    };
-    match dir_item(alloc, node, number, props, entries.as_slice()) {
-        Ok(item) => tell_item(item.as_slice(), out),
-        Err(_) => Err(ServeFault::OutOfMemory),
-    }
-}
-
-// The answer that tells a directory.
-fn dir_item(
-    alloc: Global,
-    node: &Node,
-    number: RevNo,
-    props: bool,
-    entries: &[Dirent],
-) -> io::Result<Vec<u8>>
-    ensures { IfOk result (λ v. v.items
-        ≡ spell (dir_found number props node.now.props (map dirent_as entries.now))) }
-{
-    let mut item = Vec::new(alloc);
-    write_dir(&mut item, number, &node.props, props, entries)?;
-    Ok(item)
-}
-
-// Sends an answer, or tells that it is too long (8).
-fn tell_item<W: Write + Drop>(item: &[u8], out: W) -> Result<W, ServeFault>
-    ensures { IfOk result (λ w. Appends (W.contents out) (W.contents w)
-        (unless_due (item_due item.now) item.now)) }
-{
-    if item.len() > LONGEST {
-        return too_long(out);
-    }
-    let mut out = out;
-    out.write_all(item)?;
-    Ok(out)
-}
-
-// What lies right in a directory, where it is wanted.
-fn entries_wanted(
-    alloc: Global,
-    tree: &Tree,
-    path: &NodePath,
-    wanted: bool,
-) -> Result<Vec<Dirent>, AllocError>
-    ensures { IfOk result (λ es. map dirent_as es.items ≡ entries_wanted wanted path.now tree.now) }
-{
-    if wanted {
-        entries_of(alloc, tree, path.names())
-    } else {
-        Ok(Vec::new(alloc))
-    }
-}
-
-// What lies right in a directory, in the order of the names.
-fn entries_of(alloc: Global, tree: &Tree, path: &[NodeName]) -> Result<Vec<Dirent>, AllocError>
-    ensures { IfOk result (λ es. map dirent_as es.items ≡ entries_in path.now (finite.entries tree.now)) }
-{
-    let all = tree.list(alloc)?;
-    let mut found = Vec::new(alloc);
-    for entry in &all {
-        if let Some(name) = name_in(path, entry.path.as_slice()) {
-            found.push(entry_of(alloc, entry.node, name)?)?;
-        }
-    }
-    Ok(found)
-}
-
-// The name of a path that lies right in a directory.
-fn name_in<'a>(dir: &[NodeName], path: &[&'a NodeName]) -> Option<&'a NodeName>
-    ensures { option_copied result ≡ name_in dir.now (shown_names path.now) }
-{
-    let Some((name, names)) = path.split_first() else {
-        return None;
-    };
-    let Some((first, others)) = dir.split_first() else {
-        if names.is_empty() {
-            return Some(*name);
-        }
-        return None;
-    };
-    if first == *name {
-        name_in(others, names)
-    } else {
-        None
-    }
-}
-
-// An entry of a directory.
-fn entry_of(alloc: Global, node: &Node, name: &NodeName) -> Result<Dirent, AllocError>
-    ensures { IfOk result (λ d. dirent_as d ≡ entry_of node.now name.now) }
-{
-    let size = match &node.text {
-        Some(text) => text.len() as u64,
-        None => 0,
-    };
-    Ok(Dirent {
-        name: name.copy(alloc)?,
-        kind: node.kind(),
-        size,
-        has_props: !node.props.is_empty(),
-        created: u64::from(node.changed.get()),
-        date: None,
-        author: None,
-    })
 }

@@ -5,6 +5,7 @@ ghost use Rattle.node_base.specs.Refusals.{refusal_number, refusal_text};
 ghost use Rattle.ra_serve.specs.Ports.{refusal_of};
 
 use ra_item::fault::ItemFault;
+use std::alloc::AllocError;
 use std::io;
 use thiserror::Error;
 
@@ -88,6 +89,17 @@ impl From<io::Error> for ServeFault {
 
     fn from(_: io::Error) -> ServeFault {
         ServeFault::WriteFailed
+    }
+}
+
+impl From<AllocError> for ServeFault {
+    ghost use Rattle.std.specs.Prelude.{◌≡◌};
+    ghost use Rattle.ra_serve.specs.declared.fault.ServeFault.TheVariants.{OutOfMemory};
+
+    ghost from_gives = { λ _ e. e ≡ OutOfMemory };
+
+    fn from(_: AllocError) -> ServeFault {
+        ServeFault::OutOfMemory
     }
 }
 

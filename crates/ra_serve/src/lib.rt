@@ -2,7 +2,7 @@
 //!
 //! [`serve`] answers one session from any [`RepoPort`]; [`HeldRepo`] and [`HeldStore`] are the ports over a repository
 //! in memory and one on a disk. What is written goes out command by command, and a replay revision by revision: no
-//! answer is composed whole but that of `get-dir`, which may be refused by its length.
+//! answer is composed whole. That of `get-dir`, which may be refused by its length, is measured before it is written.
 //!
 //! [`serve_to`] is the same over an output that counts its failures.
 //!
@@ -21,6 +21,7 @@ mod answer;
 mod ask;
 mod browse;
 mod counted;
+mod directory;
 mod fault;
 mod held_repo;
 mod held_store;
