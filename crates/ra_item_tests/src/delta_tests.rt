@@ -367,6 +367,7 @@ fn a_refused_delta_stays_refused(rt: HostRuntime) {
 fn laws_of_deltas_are_called(rt: HostRuntime) {
     delta_law::pieces_join();
     delta_law::texts_are_deltas();
+    delta_law::deltas_are_texts();
     delta_law::deltas_are_read();
     delta_law::one_made();
     delta_law::read_is_delta();

@@ -1,6 +1,6 @@
 //! Laws of deltas, over all bytes and all bases. Each is proved as the contract of a function that does nothing.
 
-ghost use Rattle.svndiff.specs.DeltaLaws.{DeltaPiecesJoin, TextsAreDeltas, ReadIsDelta, DeltasAreRead, OneMade};
+ghost use Rattle.svndiff.specs.DeltaLaws.{DeltaPiecesJoin, TextsAreDeltas, DeltasAreTexts, ReadIsDelta, DeltasAreRead, OneMade};
 ghost use Rattle.svndiff.specs.DeltaRefusals.{DeltaRefusedForCause, DeltaRefusedIsNoFront};
 
 /// It doesn't matter how bytes are cut into pieces.
@@ -12,6 +12,11 @@ pub fn pieces_join()
 #[tactic(auto, using(crate::proofs::DeltaTexts::texts_are_deltas))]
 pub fn texts_are_deltas()
     ensures { TextsAreDeltas }
+{}
+
+/// A delta that copies nothing is a text in windows of new data alone.
+pub fn deltas_are_texts()
+    ensures { DeltasAreTexts }
 {}
 
 /// What the grammar calls a delta of a base is read as the text that it makes.
