@@ -13,7 +13,7 @@ use Rattle.svndiff.specs.declared.window.Awaited.{Awaited}
 use Rattle.svndiff.specs.declared.window.Awaited.TheVariants as at
 use Rattle.svndiff.specs.declared.window.Window.{Window}
 use Rattle.svndiff.specs.DeltaReading.{is_wrong, takes_wrong, new_of}
-use Rattle.svndiff.specs.DeltaStreams.{Stream, Reads, Refuses, Took, Now, TookIs, Tells, taken, held, settled, any_byte, one_byte, reading}
+use Rattle.svndiff.specs.DeltaStreams.{Stream, Reads, Refuses, Took, Now, TookIs, Tells, taken, held, settled, any_byte, one_byte, reading, and_texts, texts_in}
 use Rattle.svndiff.proofs.Runs.{lt_true}
 
 -- pieces don't matter
@@ -98,6 +98,32 @@ stretch_at base text d piece k e some any h =
     let l = length-take k piece in
     let run = data_run base text d (take k piece) (drop k piece) e (omega (arith, l, some, any)) (λ m. omega (arith, l, m, h (omega (arith, l, m)))) in
     ap (reading base (Reads text d)) (sym (take-append-drop k piece)) ∙ run
+
+-- ---- texts of windows
+
+data_texts : (base : List ℕ) (d : Delta) (s more : List ℕ) → d.window.place ≡ at.NewData → 0 < length s → (1 < length s → length s ≤ d.window.fresh) → texts_in base d (s ++ more) ≡ and_texts base (Now (held s d)) (λ z. texts_in base z more)
+data_texts base d [] more e some h = absurd (omega (arith, some))
+data_texts base d (b ∷ []) more e some h = ap (λ t. and_texts base t (λ z. texts_in base z more)) (new_byte (length base) d b e)
+data_texts base d (b ∷ c ∷ s) more e some h =
+    let w = d.window in
+    let l = h (omega arith) in
+    let p : nat_lt 1 w.fresh ≡ true = lt_true 1 w.fresh (omega (arith, l)) in
+    let one = held (b ∷ []) d in
+    let next : one.window.place ≡ at.NewData = rw p refl in
+    let stays : and_texts base (Now one) (λ z. texts_in base z (c ∷ s ++ more)) ≡ texts_in base one (c ∷ s ++ more) = rw p refl in
+    let f : w.fresh - 1 - length (c ∷ s) ≡ w.fresh - length (b ∷ c ∷ s) = omega arith in
+    let q : nat_lt (length (c ∷ s)) (w.fresh - 1) ≡ nat_lt (length (b ∷ c ∷ s)) w.fresh = grind (arith, nat_tests) in
+    let twice : held (c ∷ s) one ≡ held (b ∷ c ∷ s) d = rw (f, q, append_assoc) refl in
+    ap (λ t. and_texts base t (λ z. texts_in base z (c ∷ s ++ more))) (new_byte (length base) d b e)
+    ∙ stays
+    ∙ data_texts base one (c ∷ s) more next (omega arith) (λ _. omega (arith, l))
+    ∙ ap (λ t. and_texts base (Now t) (λ z. texts_in base z more)) twice
+
+pub stretch_texts : (base : List ℕ) (d : Delta) (piece : List ℕ) (k : ℕ) → d.window.place ≡ at.NewData → 0 < k → 0 < length piece → (1 < k → k ≤ d.window.fresh) → texts_in base d piece ≡ and_texts base (Now (held (take k piece) d)) (λ z. texts_in base z (drop k piece))
+stretch_texts base d piece k e some any h =
+    let l = length-take k piece in
+    let run = data_texts base d (take k piece) (drop k piece) e (omega (arith, l, some, any)) (λ m. omega (arith, l, m, h (omega (arith, l, m)))) in
+    ap (texts_in base d) (sym (take-append-drop k piece)) ∙ run
 
 -- a byte that is refused
 pub refused_by : (f : DeltaFault) (base : List ℕ) (d new : Delta) (b : ℕ) (rest : List ℕ) → (d.window.place ≡ at.NewData → ⊥) → TookIs (Err f) new (taken (length base) d b) → Tells f base d (b ∷ rest)

@@ -7,6 +7,7 @@ use Rattle.svndiff.specs.declared.instructions.Instruction.{Instruction}
 use Rattle.svndiff.specs.declared.window.Awaited.TheVariants as at
 use Rattle.svndiff.specs.DeltaReading.{Step, Next, Refused, begin, spent, is_whole, one_step, kept, over}
 use Rattle.svndiff.specs.Making.{run}
+use Rattle.svndiff.specs.Streams.{with_piece}
 
 -- before the first byte
 abbrev pub begun : Delta
@@ -72,6 +73,16 @@ reading base s (b ∷ bs) = reading base (one_byte base s b) bs
 -- what a stream of bytes is
 abbrev pub stream_of : List ℕ → List ℕ → Stream
 stream_of base = reading base (Reads [] begun)
+
+-- the text of a window that is whole, where it has a byte, and the others
+abbrev pub and_texts : List ℕ → Took → (Delta → List (List ℕ)) → List (List ℕ)
+and_texts base (Now d) behind = if is_whole d.window then with_piece (made_of base d) (behind (ended d)) else behind d
+and_texts base (Not f) behind = []
+
+-- the texts that the windows make which end in bytes, of those that make a byte
+abbrev pub texts_in : List ℕ → Delta → List ℕ → List (List ℕ)
+texts_in base d [] = []
+texts_in base d (b ∷ bs) = and_texts base (any_byte (length base) d b) (λ next. texts_in base next bs)
 
 -- what a call did with a byte; of want of memory nothing is said
 abbrev pub TookIs : Result (Unit {0}) DeltaFault → Delta → Took → Type 0

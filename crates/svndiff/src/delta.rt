@@ -2,7 +2,7 @@
 
 ghost use Rattle.std.specs.Prelude.{◌≡◌, ◌<◌, [], List, ℕ, length, IfOk, IfErr};
 ghost use Rattle.svndiff.specs.DeltaStreams.{begun, spent_delta, TookIs, taken, held, made_of, ended};
-ghost use Rattle.svndiff.specs.DeltaStreams.{reading, settled, Reads, Now, Tells};
+ghost use Rattle.svndiff.specs.DeltaStreams.{reading, settled, Reads, Now, Tells, texts_in, and_texts};
 
 use crate::delta_fault::DeltaFault;
 use crate::instructions::{Bytes, Instructions, behind, front};
@@ -70,6 +70,8 @@ impl Delta {
         ensures reads { IfOk result (λ rest. (text : List ℕ)
             → reading base.now (Reads text self.old) piece.now
             ≡ reading base.now (settled base.now text (Now self.new)) rest.now) }
+        ensures pieces { IfOk result (λ rest. texts_in base.now self.old piece.now
+            ≡ and_texts base.now (Now self.new) (λ d. texts_in base.now d rest.now)) }
         ensures on { IfOk result (λ rest. length rest.now < length piece.now) }
         ensures refuses { IfErr result (λ f. Tells f base.now self.old piece.now) }
     {

@@ -3,7 +3,8 @@
 ghost use Rattle.std.specs.Prelude.{◌≡◌, ◌≤◌, ◌<◌, ◌++◌, [], ℕ, List, length, Ok, Err, IfOk, IfErr};
 ghost use Rattle.std.specs.Prelude.{OnErr, true, false, if◌then◌else◌};
 ghost use Rattle.svndiff.specs.DeltaReading.{is_between, is_failed};
-ghost use Rattle.svndiff.specs.DeltaStreams.{begun, spent_delta, reading, Reads, Tells};
+ghost use Rattle.svndiff.specs.DeltaStreams.{begun, spent_delta, reading, Reads, Tells, texts_in};
+ghost use Rattle.svndiff.specs.Streams.{with_piece};
 ghost use Rattle.svndiff.specs.declared.delta_fault.DeltaFault.TheVariants.{BadWindow, Failed};
 
 use crate::delta::Delta;
@@ -66,6 +67,9 @@ impl DeltaReader {
             → IfOk result (λ rest. (text : List ℕ)
             → reading base.now (Reads text self.old.delta) piece.now
             ≡ reading base.now (Reads (text ++ self.new.made) self.new.delta) rest.now) }
+        ensures pieces { is_failed self.old.delta.window ≡ false
+            → IfOk result (λ rest. texts_in base.now self.old.delta piece.now
+            ≡ with_piece self.new.made (texts_in base.now self.new.delta rest.now)) }
         ensures on { IfOk result (λ rest. (length rest.now ≤ length piece.now)
             × (0 < length piece.now → length rest.now < length piece.now)) }
         ensures refuses { is_failed self.old.delta.window ≡ false
@@ -121,6 +125,8 @@ impl Kept {
         ensures reads { IfOk result (λ rest. (text : List ℕ)
             → reading base.now (Reads text self.old.delta) piece.now
             ≡ reading base.now (Reads (text ++ self.new.made) self.new.delta) rest.now) }
+        ensures pieces { IfOk result (λ rest. texts_in base.now self.old.delta piece.now
+            ≡ with_piece self.new.made (texts_in base.now self.new.delta rest.now)) }
         ensures on { IfOk result (λ rest. (length rest.now ≤ length piece.now)
             × (0 < length piece.now → length rest.now < length piece.now)) }
         ensures refuses { IfErr result (λ f. Tells f base.now self.old.delta piece.now) }
