@@ -1,7 +1,7 @@
 //! The calls of both bodies by the texts of paths, for tests.
 
 use node_base::{Node, NodePath, Props, RevNo, Text, read_decimal};
-use path_tree::{ChildNode, Entry, Tree, TreeError};
+use path_tree::{ChildNode, Children, Entry, Tree, TreeError};
 use std::alloc::{AllocError, Global};
 use std::process::Abort;
 
@@ -33,6 +33,19 @@ pub(crate) trait Calls: Sized + Drop {
     fn entries(&self, alloc: Global) -> Result<Vec<Entry<'_>>, AllocError>;
 
     fn below(&self, alloc: Global, at: &NodePath) -> Result<Vec<ChildNode<'_>>, AllocError>;
+}
+
+// Children, one after the other.
+fn all_of<'a>(alloc: Global, children: Children<'a>) -> Result<Vec<ChildNode<'a>>, AllocError> {
+    let mut children = children;
+    let mut found = Vec::new(alloc);
+    for _ in 0u64..u64::MAX {
+        match children.next()? {
+            Some(child) => found.push(child)?,
+            None => break,
+        }
+    }
+    Ok(found)
 }
 
 impl Calls for Tree {
@@ -80,12 +93,7 @@ impl Calls for Tree {
     }
 
     fn below(&self, alloc: Global, at: &NodePath) -> Result<Vec<ChildNode<'_>>, AllocError> {
-        let mut children = self.children(alloc, at.names())?;
-        let mut found = Vec::new(alloc);
-        while let Some(child) = children.next()? {
-            found.push(child)?;
-        }
-        Ok(found)
+        all_of(alloc, self.children(alloc, at.names())?)
     }
 }
 

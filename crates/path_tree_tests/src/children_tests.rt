@@ -99,7 +99,11 @@ fn doubled(rt: &impl Abort, alloc: Global, count: u8) -> Tree {
 fn tells_few(rt: &impl Abort, alloc: Global) -> bool {
     let tree = again(rt, &doubled(rt, alloc, 40));
     child_lines(rt, alloc, &tree, "").as_str().lines().count() == 41
-        && child_lines(rt, alloc, &tree, "c39").as_str().lines().count() == 40
+        && child_lines(rt, alloc, &tree, "c39")
+            .as_str()
+            .lines()
+            .count()
+            == 40
         && child_lines(rt, alloc, &tree, "c39/c1").as_str() == "D 2 c0\nF 1 f\n"
         && child_lines(rt, alloc, &tree, "c39/c40").is_empty()
 }
