@@ -1,6 +1,7 @@
 -- What calls do to a store's device, one after another.
-use Rattle.std.proofs.Common.{◌≡◌, ℕ, ◌<◌, ◌≤◌, ◌+◌, ◌^◌, ◌⊎◌, ◌↔◌, true, false, List, [], ◌∷◌, ◌++◌, length, Result, Ok, Err, IsErrOf, IfErr, Option, None, is_ok, refl, sym, ap, subst, ◌∙◌, append_assoc, append-nil, arith, inl, inr, ⊎_elim}
+use Rattle.std.proofs.Common.{◌≡◌, ℕ, ◌<◌, ◌≤◌, ◌+◌, ◌^◌, ◌⊎◌, ◌↔◌, true, false, List, [], ◌∷◌, ◌++◌, length, Result, Ok, Err, IsErrOf, IfErr, Option, None, is_ok, map, refl, sym, ap, ap₂, subst, ◌∙◌, append_assoc, append-nil, arith, inl, inr, ⊎_elim}
 use Rattle.std.proofs.lemmas.Bool.{true≢false}
+use Rattle.std.proofs.lemmas.List.{map-append}
 use Rattle.node_base.specs.Refusals.{refusal_number}
 use Rattle.node_base.specs.declared.refusal.Refusal.{Refusal}
 use Rattle.node_base.specs.declared.refusal.Refusal.TheVariants as refusal
@@ -10,8 +11,8 @@ use Rattle.fleet_disk.specs.Image.{Image}
 use Rattle.fleet_disk.specs.Rules.{LeavesOnly}
 use Rattle.fleet_disk.specs.declared.disk.Disk.{Ghosts}
 use Rattle.fleet_disk.proofs.Moments.{started, joined, weaker}
-use Rattle.gate_log.specs.Log.{version_of}
-use Rattle.gate_log.specs.Standing.{last_end}
+use Rattle.gate_log.specs.Log.{entries_of, version_of}
+use Rattle.gate_log.specs.Standing.{last_end, parts}
 use Rattle.gate_log.specs.declared.fault.LogFault.TheVariants as log
 use Rattle.repo_core.specs.Entries.{revisions_after, with_entry_in}
 use Rattle.repo_core.specs.declared.entry.Entry.{Entry}
@@ -137,8 +138,8 @@ OnlyNow {D} G = (disk : D) (image : Image) → G.honest disk → G.left_since di
 
 module _ {D : Type 0} {G : Ghosts D} where
   -- the store stays as it is
-  abbrev pub unmoved : (a b : RepoStore D G) (r : Result (Unit {0}) Refusal) → disk_of b ≡ disk_of a → repository_of b ≡ repository_of a → HasFailed b ↔ HasFailed a → (IsErrOf r refusal.DeviceFailed → ⊥) → (IsErrOf r refusal.Failed → HasFailed a) → IsSafe a → version_of (log_of b) ≡ version_of (log_of a) → Serves a b r
-  unmoved a b r disk repository works device failed safe same = record {
+  abbrev pub unmoved : (a b : RepoStore D G) (r : Result (Unit {0}) Refusal) → disk_of b ≡ disk_of a → repository_of b ≡ repository_of a → HasFailed b ↔ HasFailed a → (IsErrOf r refusal.DeviceFailed → ⊥) → (IsErrOf r refusal.Failed → HasFailed a) → IsSafe a → version_of (log_of b) ≡ version_of (log_of a) → entries_of (log_of b) ≡ entries_of (log_of a) → Serves a b r
+  unmoved a b r disk repository works device failed safe same entries = record {
     honest = (λ h. subst (λ d. G.honest d) (sym disk) h, λ h. subst (λ d. G.honest d) disk h);
     later = subst (λ d. G.failures (disk_of a) ≤ G.failures d) (sym disk) (omega arith);
     device = λ e. absurd (device e);
@@ -152,12 +153,13 @@ module _ {D : Type 0} {G : Ghosts D} where
     safe = λ h w image left.
         subst (λ (v : Repository). Keeps v image) (sym repository)
         (safe (subst (λ d. G.honest d) disk h) (λ f. w (works.1 f)) image (subst (λ d. G.left_since d (G.clock d) image) disk left));
+    written = λ h w. entries ∙ sym (append-nil (entries_of (log_of a)));
     version = same;
   }
 
   -- nothing is done
   abbrev pub unserved : (a : RepoStore D G) (r : Result (Unit {0}) Refusal) → IfErr r (λ e. is_device e ≡ false) → IsSafe a → Serves a a r
-  unserved a r n safe = unmoved a a r refl refl (λ f. f, λ f. f) (is_none_of r refusal.DeviceFailed refl n) (λ e. absurd (is_none_of r refusal.Failed refl n e)) safe refl
+  unserved a r n safe = unmoved a a r refl refl (λ f. f, λ f. f) (is_none_of r refusal.DeviceFailed refl n) (λ e. absurd (is_none_of r refusal.Failed refl n e)) safe refl refl
 
   pub fell : (a b : RepoStore D G) (u : Unit {0}) → Serves a b (Ok u) → HasFailed b → HasFailed a
   fell a b u p f = ⊎_elim (λ h. h) (λ e. absurd (ok_is_none u refusal.DeviceFailed e)) (p.working.0 f)
@@ -186,6 +188,11 @@ module _ {D : Type 0} {G : Ghosts D} where
             (q.any_moment (p.honest.0 h) (λ f. w (fell a b u p f)))
             (λ image k. on_after (repository_of a) (repository_of b) p.taken (q.taken ++ q.begun) ((p.taken ++ q.taken) ++ q.begun) image p.made all k);
         safe = q.safe;
+        written = λ h w.
+            q.written (p.honest.0 h) w
+            ∙ ap (λ l. l ++ map spelling q.taken) (p.written h (λ f. w (q.working.1 (inl f))))
+            ∙ append_assoc (entries_of (log_of a)) (map spelling p.taken) (map spelling q.taken)
+            ∙ ap (λ l. entries_of (log_of a) ++ l) (sym (map-append spelling p.taken q.taken));
         version = q.version ∙ p.version;
       }
 
@@ -207,6 +214,7 @@ module _ {D : Type 0} {G : Ghosts D} where
     one = inl refl;
     any_moment = λ h w. weaker G.clock G.left_since (disk_of a) (disk_of b) (IsBeforeOrAfter (repository_of a) entry) (IsOnTheWay (repository_of a) (entry ∷ [])) (t.any_moment h) (λ image k. either (repository_of a) entry image k);
     safe = λ h w image left. subst (λ (v : Repository). Keeps v image) (sym t.made) (t.durable (t.honest.1 h) image (only (disk_of b) image h left));
+    written = λ h w. t.written h;
     version = same;
   }
 
@@ -224,17 +232,22 @@ module _ {D : Type 0} {G : Ghosts D} where
     one = inr (refl, ap (λ v. Err (store_refusal v)) k.fault);
     any_moment = λ h w. weaker G.clock G.left_since (disk_of a) (disk_of b) (IsBeforeOrAfter (repository_of a) entry) (IsOnTheWay (repository_of a) (entry ∷ [])) (k.any_moment h) (λ image v. either (repository_of a) entry image v);
     safe = λ h w. absurd (w k.failed);
+    written = λ h w. absurd (w k.failed);
     version = same;
   }
+
+  -- a store that stays has its entries
+  pub entries_same : (a b : RepoStore D G) → Stays a b → entries_of (log_of b) ≡ entries_of (log_of a)
+  entries_same a b same = ap₂ (λ (d : D) (ends : List ℕ). parts 0 ends (G.reads d).journal) same.disk same.entries
 
   -- an entry is refused
   abbrev pub refused : (a b : RepoStore D G) (entry : Entry) (due : Option RepoFault) (fault : StoreFault) → Stays a b → Refuses a entry due fault → IsSafe a → version_of (log_of b) ≡ version_of (log_of a) → Serves a b (Err (store_refusal fault))
   refused a b entry due fault s why safe same =
-      unmoved a b (Err (store_refusal fault)) s.disk s.repository s.working (λ e. subst (Refuses a entry due) (device_was fault (ap refusal_in e)) why) (λ e. subst (Refuses a entry due) (failed_was fault (ap refusal_in e)) why) safe same
+      unmoved a b (Err (store_refusal fault)) s.disk s.repository s.working (λ e. subst (Refuses a entry due) (device_was fault (ap refusal_in e)) why) (λ e. subst (Refuses a entry due) (failed_was fault (ap refusal_in e)) why) safe same (entries_same a b s)
 
   -- what is staged, or refused before, is for another reason
-  abbrev pub staged_none : (a b : RepoStore D G) (e : Refusal) → is_device e ≡ false → disk_of b ≡ disk_of a → repository_of b ≡ repository_of a → HasFailed b ↔ HasFailed a → IsSafe a → version_of (log_of b) ≡ version_of (log_of a) → Serves a b (Err e)
-  staged_none a b e n disk repository works safe same = unmoved a b (Err e) disk repository works (is_none_of (Err e) refusal.DeviceFailed refl n) (λ k. absurd (is_none_of (Err e) refusal.Failed refl n k)) safe same
+  abbrev pub staged_none : (a b : RepoStore D G) (e : Refusal) → is_device e ≡ false → disk_of b ≡ disk_of a → repository_of b ≡ repository_of a → HasFailed b ↔ HasFailed a → IsSafe a → version_of (log_of b) ≡ version_of (log_of a) → entries_of (log_of b) ≡ entries_of (log_of a) → Serves a b (Err e)
+  staged_none a b e n disk repository works safe same entries = unmoved a b (Err e) disk repository works (is_none_of (Err e) refusal.DeviceFailed refl n) (λ k. absurd (is_none_of (Err e) refusal.Failed refl n k)) safe same entries
 
   -- what isn't taken leaves the repository as it was
   pub stays_as_it_is : (a b : RepoStore D G) (entry : Entry) (due : Option RepoFault) (fault : StoreFault) → ((due ≡ None) × IsBroken entry a b fault) ⊎ IsRefused entry due a b fault → repository_of b ≡ repository_of a

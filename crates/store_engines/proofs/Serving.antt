@@ -15,7 +15,7 @@ use Rattle.dump_text.specs.declared.record.DumpRecord.{DumpRecord}
 use Rattle.dump_text.specs.declared.record.DumpRecord.TheVariants.{Identity, Revision as Begins, Node}
 use Rattle.dump_load.specs.declared.change.Change.{Change}
 use Rattle.fleet_disk.specs.declared.disk.Disk.{Ghosts}
-use Rattle.gate_log.specs.Log.{version_of}
+use Rattle.gate_log.specs.Log.{entries_of, version_of}
 use Rattle.fleet_engines.specs.Grouping.{records_of_rev, is_no_identity}
 use Rattle.fleet_engines.specs.Revisions.{Rev, Makes, is_zero, is_past_zero}
 use Rattle.repo_core.specs.Entries.{revisions_after, with_entry}
@@ -141,8 +141,8 @@ module _ {D : Type 0} {G : Ghosts D} where
   none_done entry a e n safe = record { serves = unserved a (Err e) n safe; one = inr (refl, refl) }
 
   -- what is staged, or refused before
-  pub staged_one : (entry : Entry) (a b : RepoStore D G) (e : Refusal) → is_device e ≡ false → disk_of b ≡ disk_of a → repository_of b ≡ repository_of a → HasFailed b ↔ HasFailed a → IsSafe a → version_of (log_of b) ≡ version_of (log_of a) → ServesOne entry a b (Err e)
-  staged_one entry a b e n disk repository works safe same = record { serves = staged_none a b e n disk repository works safe same; one = inr (refl, refl) }
+  pub staged_one : (entry : Entry) (a b : RepoStore D G) (e : Refusal) → is_device e ≡ false → disk_of b ≡ disk_of a → repository_of b ≡ repository_of a → HasFailed b ↔ HasFailed a → IsSafe a → version_of (log_of b) ≡ version_of (log_of a) → entries_of (log_of b) ≡ entries_of (log_of a) → ServesOne entry a b (Err e)
+  staged_one entry a b e n disk repository works safe same entries = record { serves = staged_none a b e n disk repository works safe same entries; one = inr (refl, refl) }
 
   -- an entry is taken, and what comes then is refused for another reason
   pub one_then : (entry : Entry) (a b : RepoStore D G) (u : Unit {0}) (r : Result (Unit {0}) Refusal) → IfErr r (λ e. is_device e ≡ false) → ServesOne entry a b (Ok u) → ServesOne entry a b r

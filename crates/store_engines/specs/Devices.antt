@@ -1,11 +1,11 @@
 -- What a call does to a store's device, and what a stop leaves on it.
-use Rattle.std.specs.Prelude.{◌≡◌, ◌<◌, ◌≤◌, ◌+◌, ◌^◌, ◌⊎◌, ◌↔◌, ℕ, Bool, true, false, List, [], ◌∷◌, ◌++◌, length, Result, IsErrOf}
+use Rattle.std.specs.Prelude.{◌≡◌, ◌<◌, ◌≤◌, ◌+◌, ◌^◌, ◌⊎◌, ◌↔◌, ℕ, Bool, true, false, List, [], ◌∷◌, ◌++◌, map, length, Result, IsErrOf}
 use Rattle.node_base.specs.declared.refusal.Refusal.{Refusal}
 use Rattle.node_base.specs.declared.refusal.Refusal.TheVariants as refusal
 use Rattle.fleet_disk.specs.Image.{Image}
 use Rattle.fleet_disk.specs.Rules.{LeavesOnly, Rose}
 use Rattle.fleet_disk.specs.declared.disk.Disk.{Ghosts}
-use Rattle.gate_log.specs.Log.{size_of, version_of}
+use Rattle.gate_log.specs.Log.{entries_of, size_of, version_of}
 use Rattle.repo_core.specs.Entries.{with_entry_in}
 use Rattle.repo_core.specs.declared.entry.Entry.{Entry}
 use Rattle.repo_core.specs.Repository.{Repository}
@@ -56,5 +56,7 @@ pub record Serves {D : Type 0} {G : Ghosts D} (old new : RepoStore D G) (result 
   pub any_moment : G.honest (disk_of old) → ¬ HasFailed old → LeavesOnly G.clock G.left_since (disk_of old) (disk_of new) (IsOnTheWay (repository_of old) (taken ++ begun))
   -- and a stop after it the whole of it
   pub safe : IsSafe new
+  -- unless it has failed, its log has the entries of before and the spellings of those that were taken, and no other
+  pub written : G.honest (disk_of old) → ¬ HasFailed new → entries_of (log_of new) ≡ entries_of (log_of old) ++ map spelling taken
   -- its log is of the version of before
   pub version : version_of (log_of new) ≡ version_of (log_of old)

@@ -4,7 +4,7 @@ use Rattle.repo_core.specs.Repository.{Repository, head_of}
 use Rattle.repo_core.specs.declared.entry.Entry.TheVariants.{Revised}
 use Rattle.repo_store.specs.Words.{revisions_of}
 use Rattle.store_engines.proofs.Committing.{refused_long, taken_long}
-use Rattle.store_engines.proofs.Devices.{why_refused}
+use Rattle.store_engines.proofs.Devices.{entries_same, why_refused}
 use Rattle.store_engines.proofs.Serving.{refused_one, staged_one}
 use Rattle.store_engines.proofs.make_dir.refused_message.Goals as goal
 
@@ -19,7 +19,7 @@ returns-in-Ok-clause-same g c = c.in-Ok.ensures.stages.stays.repository
 pub returns-in-Ok-clause-device : goal.returns-in-Ok-clause-device
 returns-in-Ok-clause-device g c entry safe =
     let s = c.in-Ok.ensures.stages.stays in
-    staged_one entry c.args.store.now c.stage_commit.new.self _ refl s.disk s.repository s.working safe c.in-Ok.ensures.version
+    staged_one entry c.args.store.now c.stage_commit.new.self _ refl s.disk s.repository s.working safe c.in-Ok.ensures.version (entries_same c.args.store.now c.stage_commit.new.self s)
 
 pub returns-in-Err-clause-due : goal.returns-in-Err-clause-due
 returns-in-Err-clause-due g c =
