@@ -23,6 +23,7 @@ use Rattle.fleet_shares.specs.Jobs.{EndsBy, HasRun, IsHeardFrom, IsRunOf}
 use Rattle.fleet_shares.specs.Ports.{WasTold}
 use Rattle.fleet_shares.specs.Ports as master
 use Rattle.fleet_shares.specs.declared.master.SharedMaster.{SharedMaster}
+use Rattle.fleet_shares.proofs.Agreeing.{IsMade, brings}
 use Rattle.fleet_shares.proofs.Meeting.{met_in}
 
 -- a run that nobody hears, from the first word that was said
@@ -51,6 +52,8 @@ ran_at origin share first last order said ended heard e keeps run =
     let t = keeps first [] (record { made = []; more = []; adds = refl; asked = record { share = refl; seat = refl; steps = tt; seen = tt }; said = tt; others = tt }) in
     let told = subst (λ xs. AllZip IsSaidAs t.made (calls_in xs)) (sym t.adds) t.said in
     let others = subst (λ xs. AllByRecursion IsOther (others_in xs)) (sym t.adds) t.others in
+    let made : IsMade origin (share_of first) heard.reader (reader_of last) said = record { seat = place_of (seat_of first); made = t.made; steps = t.asked.steps; seen = t.asked.seen; calls = told; asked = heard.made; answers = heard.answers; questions = heard.told } in
+    let all = brings origin (share_of first) heard.reader (reader_of last) order.work order.token said ended run made in
     subst (λ s. HasRun origin s order ended) e
     (record {
       said = said;
@@ -58,6 +61,9 @@ ran_at origin share first last order said ended heard e keeps run =
       calls = record { seat = place_of (seat_of first); reader = reader_of last; made = t.made; steps = t.asked.steps; seen = t.asked.seen; told = told };
       answers = heard;
       met = met_in (share_of first) (place_of (seat_of first)) order.work order.token said ended t.made run told others t.asked.steps;
+      copied = all.copied;
+      put = all.put;
+      brought = all.brought;
     })
 
 -- a job that was let in ends as its run

@@ -1,4 +1,6 @@
+pub mod Agreeing
 pub mod Asking
+pub mod Bringing
 pub mod Crosses
 pub mod Ending
 pub mod Forgetting

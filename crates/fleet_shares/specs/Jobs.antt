@@ -19,6 +19,7 @@ use Rattle.sync_job.specs.Asked.{Asked}
 use Rattle.sync_job.specs.Questions.{Exchange, IsSaidOf, questions_in}
 use Rattle.sync_job.specs.Said.{Spoken}
 use Rattle.sync_job.specs.Telling.{IsSaidAs, calls_in}
+use Rattle.fleet_shares.specs.Brought.{AreCopied, ArePut, Brings}
 use Rattle.fleet_shares.specs.Ports.{IsToldTo}
 
 -- what was said through the ports of a job, in order, is that of a run that does this work under this token, and that ends so
@@ -67,3 +68,8 @@ pub record HasRun {M L D : Type 0} {m : _} {r : _} {g : Ghosts D} (master : Mast
   pub answers : IsHeardFrom master said
   -- it ends with a refusal of a device or of a full journal only where one of its calls met that
   pub met : IfErr ended (λ f. IsOfStore (number_in f) → HasMet share calls.seat (number_in f))
+  -- whatever it ends with, each revision that was committed in it is the master's, and so are the properties that were put again
+  pub copied : AreCopied master answers.reader calls.reader said
+  pub put : ArePut master said
+  -- and where it ends well it has brought the mirror up to the master, or given its range the master's properties
+  pub brought : Brings order.work ended master answers.reader calls.reader said

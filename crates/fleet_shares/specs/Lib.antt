@@ -1,4 +1,5 @@
 pub mod Answers
+pub mod Brought
 pub mod Faults
 pub mod Given
 pub mod Jobs
