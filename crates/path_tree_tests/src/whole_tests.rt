@@ -88,17 +88,30 @@ fn each_change_of_a_copy_agrees(rt: HostRuntime) {
     all_changes_agree(&rt, rt.alloc(), COPIED);
 }
 
-// What announces the greatest lengths: nothing is kept of what is to come.
-const ANNOUNCED: [&[u8]; 4] = [
-    b"SVN-fs-dump-format-version: 2\n\nRevision-number: 1\nProp-content-length: 33554432\n\n",
-    b"SVN-fs-dump-format-version: 2\n\nRevision-number: 1\nProp-content-length: 33554432\n\nK 255\n",
-    b"SVN-fs-dump-format-version: 2\n\nRevision-number: 1\nProp-content-length: 33554432\n\nK 1\np\nV 65536\n",
-    b"SVN-fs-dump-format-version: 2\n\nRevision-number: 1\n\nNode-path: a\nNode-action: change\nText-content-length: 1048576\n\n",
+// What announces the greatest lengths, and how many bytes are kept of what has come, a name or a path: nothing is kept of
+// what is to come.
+const ANNOUNCED: [(&[u8], u8); 4] = [
+    (
+        b"SVN-fs-dump-format-version: 2\n\nRevision-number: 1\nProp-content-length: 33554432\n\n",
+        0,
+    ),
+    (
+        b"SVN-fs-dump-format-version: 2\n\nRevision-number: 1\nProp-content-length: 33554432\n\nK 255\n",
+        0,
+    ),
+    (
+        b"SVN-fs-dump-format-version: 2\n\nRevision-number: 1\nProp-content-length: 33554432\n\nK 1\np\nV 65536\n",
+        1,
+    ),
+    (
+        b"SVN-fs-dump-format-version: 2\n\nRevision-number: 1\n\nNode-path: a\nNode-action: change\nText-content-length: 1048576\n\n",
+        1,
+    ),
 ];
 
 #[test]
 fn what_is_announced_is_not_kept(rt: HostRuntime) {
-    for bytes in &ANNOUNCED {
-        assert!(rt; keeps(rt.alloc(), bytes, 0, 2));
+    for (bytes, held) in &ANNOUNCED {
+        assert!(rt; keeps(rt.alloc(), bytes, u128::from(*held), 2));
     }
 }
