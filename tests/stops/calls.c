@@ -111,6 +111,27 @@ ssize_t write(int descriptor, const void *bytes, size_t count)
     return real(descriptor, bytes, count);
 }
 
+static ssize_t write_at(int descriptor, const void *bytes, size_t count, long long at, const char *symbol)
+{
+    ssize_t (*real)(int, const void *, size_t, long long) = dlsym(RTLD_NEXT, symbol);
+    char room[4096];
+    const char *name = name_of(descriptor, room, sizeof room);
+
+    if (name && is_refused("write", name, at, bytes, count))
+        return -1;
+    return real(descriptor, bytes, count, at);
+}
+
+ssize_t pwrite(int descriptor, const void *bytes, size_t count, off_t at)
+{
+    return write_at(descriptor, bytes, count, at, "pwrite");
+}
+
+ssize_t pwrite64(int descriptor, const void *bytes, size_t count, off64_t at)
+{
+    return write_at(descriptor, bytes, count, at, "pwrite64");
+}
+
 static int cut(int descriptor, long long length, const char *symbol)
 {
     int (*real)(int, long long) = dlsym(RTLD_NEXT, symbol);
