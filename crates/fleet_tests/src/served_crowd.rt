@@ -30,8 +30,8 @@ const RUNS: u64 = 8;
 // The most writes of a client's output.
 const WRITES: u64 = 1_000_000;
 
-// How long a read or a write waits.
-const PATIENCE: Duration = Duration::from_secs(60);
+// Seconds that a read or a write waits.
+const PATIENCE: u64 = 60;
 
 // What goes wrong in a session is told by its client.
 #[derive(Drop)]
@@ -69,7 +69,7 @@ pub(crate) fn server<
     };
     let limits = Limits {
         connections: CLIENTS * RUNS,
-        patience: PATIENCE,
+        patience: Duration::from_secs(PATIENCE),
     };
     let mut said = Vec::new(alloc);
     match serve_mirror(rt, alloc, share, &address, limits, &Silent, &mut said) {
@@ -89,7 +89,7 @@ fn runs_once<R: Net<Stream = TcpStream> + Wait + Abort>(
     let url = format!(in alloc; "svn://127.0.0.1:{port}/").expect(rt, "memory");
     let peer = Peer {
         port,
-        patience: PATIENCE,
+        patience: Duration::from_secs(PATIENCE),
     };
     let mut mirror = mirror;
     for _ in 0..LOOKS {
