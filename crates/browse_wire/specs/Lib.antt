@@ -1,0 +1,9 @@
+pub mod Urls
+pub mod Faults
+pub mod Depths
+pub mod Fields
+pub mod Asks
+pub mod AskReading
+pub mod Laws
+pub mod Reports
+pub mod Told

@@ -1,0 +1,58 @@
+//! Why an item isn't what was to come.
+
+ghost use Rattle.std.specs.Prelude.{◌≡◌};
+ghost use Rattle.browse_wire.specs.Faults.{of_wire};
+ghost use Rattle.browse_wire.specs.declared.fault.BrowseFault.TheVariants.{OutOfMemory};
+
+use ra_wire::fault::WireFault;
+use std::alloc::{AllocError, AllocFailed};
+use thiserror::Error;
+
+/// Why an item isn't what was to come.
+#[derive(Clone, Copy, Debug, PartialEq, Eq, Drop, Error)]
+pub enum BrowseFault {
+    /// A replay against another revision than 0, or without texts.
+    #[error("replay form not supported")]
+    ReplayForm,
+    /// A command of another name.
+    #[error("unknown command")]
+    UnknownCommand,
+    /// An item of another shape.
+    #[error("bad command shape")]
+    BadShape,
+    /// A depth that leaves a path out.
+    #[error("depth 'exclude' not supported")]
+    ExcludedDepth,
+    /// A growth was refused.
+    #[error("out of memory")]
+    OutOfMemory,
+}
+
+impl From<WireFault> for BrowseFault {
+    ghost from_gives = { λ f e. e ≡ of_wire f };
+
+    fn from(fault: WireFault) -> BrowseFault {
+        match fault {
+            WireFault::ReplayForm => BrowseFault::ReplayForm,
+            WireFault::UnknownCommand => BrowseFault::UnknownCommand,
+            WireFault::BadShape => BrowseFault::BadShape,
+            WireFault::OutOfMemory => BrowseFault::OutOfMemory,
+        }
+    }
+}
+
+impl From<AllocError> for BrowseFault {
+    ghost from_gives = { λ _ e. e ≡ OutOfMemory };
+
+    fn from(_: AllocError) -> BrowseFault {
+        BrowseFault::OutOfMemory
+    }
+}
+
+impl<T: Drop> From<AllocFailed<T>> for BrowseFault {
+    ghost from_gives = { λ _ e. e ≡ OutOfMemory };
+
+    fn from(_: AllocFailed<T>) -> BrowseFault {
+        BrowseFault::OutOfMemory
+    }
+}
