@@ -1,0 +1,7 @@
+pub mod Gathering
+pub mod LinesOf
+pub mod Lookups
+pub mod Pegs
+pub mod Sources
+pub mod Stretching
+pub mod Telling

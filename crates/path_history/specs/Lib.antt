@@ -1,0 +1,5 @@
+pub mod Histories
+pub mod Lines
+pub mod Logs
+pub mod Places
+pub mod Stretches
