@@ -1,0 +1,6 @@
+pub mod Applied
+pub mod Depths
+pub mod Differences
+pub mod Folders
+pub mod Merged
+pub mod Reports
