@@ -12,9 +12,9 @@ use Rattle.repo_core.specs.Repository.{head_of}
 use Rattle.repo_store.specs.Words.{revisions_of}
 use Rattle.repo_store.specs.declared.store.RepoStore.{RepoStore}
 use Rattle.fleet_shares.specs.Given.{IsAnswerAt}
-use Rattle.store_share.specs.Opened.{cells_of}
-use Rattle.store_share.specs.declared.opened.OpenedStore.{OpenedStore}
-use Rattle.fleet_shares.specs.Opening.{cells_at, HasOpened}
+use Rattle.mirror_share.specs.Names.{IsNamed}
+use Rattle.mirror_share.specs.declared.opened.OpenedMirror.{OpenedMirror}
+use Rattle.fleet_shares.specs.Opening.{cells_at, ledgers_at, HasOpened}
 use Rattle.fleet_shares.specs.Orders.{sync_order}
 use Rattle.fleet_shares.specs.Ran.{named_by, HasEnded, HasEndedAt, IsAnswerIn}
 use Rattle.fleet_shares.specs.Runners.{at_slot}
@@ -83,10 +83,11 @@ answered_over m r0 r1 r2 r3 stores opened os (Err e) same h = tt
 pub of_ok : {T E : Type 0} (r : Result T E) (x : T) (P : T → Type 0) → r ≡ Ok x → IfOk r P → P x
 of_ok {T} {E} r x P e h = subst (λ (k : Result T E). IfOk k P) e h
 
--- a slot's row is named by its own cells
-pub own_cells : {D : Type 0} {g : _} (slot : Option (OpenedStore D g)) → IfSome slot (λ o. cells_of o ≡ cells_at slot)
-own_cells None = tt
-own_cells (Some opened) = refl
+-- a slot's mirror has its own names
+pub own_names : (L : Type 0) {D : Type 0} {g : _} (slot : Option (OpenedMirror D g))
+    → IfSome slot (λ o. IsNamed o (cells_at slot) (ledgers_at {L = L} slot).merged (ledgers_at {L = L} slot).copying (ledgers_at {L = L} slot).head (ledgers_at {L = L} slot).holder)
+own_names L None = tt
+own_names L (Some mirror) = (refl, (refl, refl, refl, refl))
 
 -- one more is told
 told_next : (ss : List (Result ℕ Refusal)) (s : Result ℕ Refusal) (before after : List Answer) (o : Option Answer) → (o ≡ None → (before ≡ []) × (after ≡ [])) → before ≡ option_to_list o ++ after

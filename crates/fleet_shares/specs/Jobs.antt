@@ -1,5 +1,5 @@
 -- The job of an order.
-use Rattle.std.specs.Prelude.{◌≡◌, ◌⊎◌, ℕ, List, Result, Err, IfErr}
+use Rattle.std.specs.Prelude.{◌≡◌, ◌⊎◌, ℕ, List, [], Result, Err, IfErr}
 use Rattle.std.specs.List.{AllByRecursion, AllZip}
 use Rattle.fleet_disk.specs.declared.disk.Disk.{Ghosts}
 use Rattle.fleet_jobs.specs.declared.order.Order.{Order}
@@ -8,10 +8,13 @@ use Rattle.fleet_jobs.specs.declared.order.Work.TheVariants.{Sync, Copy}
 use Rattle.mirror_engines.specs.Runs.{IsSynchronised, IsCopied}
 use Rattle.mirror_share.specs.Locked.{IsStepOf}
 use Rattle.mirror_share.specs.Ports.{IsSeenBy}
+use Rattle.mirror_share.specs.Served.{IsServedIn}
 use Rattle.mirror_share.specs.declared.share.MirrorShare.{MirrorShare}
 use Rattle.store_share.specs.declared.seat.ReaderSeat.{ReaderSeat}
 use Rattle.store_share.specs.declared.share.MasterShare.{MasterShare}
 use Rattle.sync_core.specs.Copies.{number_in}
+use Rattle.sync_core.specs.Jobs.{begun}
+use Rattle.sync_core.specs.Jobs as jobs
 use Rattle.sync_core.specs.Mirror.{Call}
 use Rattle.sync_core.specs.declared.fault.SyncFault.{SyncFault}
 use Rattle.sync_core.specs.declared.fault.SyncFault.TheVariants.{OutOfMemory}
@@ -26,6 +29,11 @@ use Rattle.fleet_shares.specs.Ports.{IsToldTo}
 abbrev pub IsRunOf : Work → List ℕ → List Spoken → Result (Unit {0}) SyncFault → Type 0
 IsRunOf (Sync steal) token said ended = IsSynchronised token steal said ended
 IsRunOf (Copy low high) token said ended = IsCopied token low high said ended
+
+-- the job of an order, as a run knows it
+abbrev pub job_order : Work → List ℕ → jobs.Order
+job_order (Sync steal) token = jobs.Sync token steal
+job_order (Copy low high) token = jobs.CopyProps token
 
 -- how the order's job ends, by what was said: as its run, or for want of memory before it
 abbrev pub EndsBy : Order → List Spoken → Result (Unit {0}) SyncFault → Type 0
@@ -66,6 +74,8 @@ pub record HasRun {M L D : Type 0} {m : _} {r : _} {g : Ghosts D} (master : Mast
   pub run : IsRunOf order.work order.token said ended
   pub calls : IsSaidAt share said
   pub answers : IsHeardFrom master said
+  -- no call of it was refused for the lock (59) or the turn (61), whoever called the mirror between its calls
+  pub served : IsServedIn (begun (job_order order.work order.token)) [] said
   -- it ends with a refusal of a device or of a full journal only where one of its calls met that
   pub met : IfErr ended (λ f. IsOfStore (number_in f) → HasMet share calls.seat (number_in f))
   -- whatever it ends with, each revision that was committed in it is the master's, and so are the properties that were put again

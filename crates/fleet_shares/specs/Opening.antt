@@ -2,12 +2,14 @@
 use Rattle.std.specs.Prelude.{◌≡◌, ℕ, Bool, true, List, [], Option, Some, None, Result, Ok, Err, is_some}
 use Rattle.repo_store.specs.declared.store.RepoStore.{RepoStore}
 use Rattle.store_share.specs.Opened.{cells_of}
-use Rattle.store_share.specs.declared.opened.OpenedStore.{OpenedStore}
+use Rattle.mirror_share.specs.Names.{ledgers_named, opened_in}
+use Rattle.mirror_share.specs.declared.name.MirrorName.{Ghosts}
+use Rattle.mirror_share.specs.declared.opened.OpenedMirror.{OpenedMirror}
 use Rattle.fleet_shares.specs.declared.stores.FleetStores.{FleetStores}
 use Rattle.fleet_shares.specs.declared.stores.OpenedFleet.{OpenedFleet}
 
 -- whether a slot has a store, opened or left as it was
-abbrev pub has_store : {D : Type 0} {g : _} → Result (Option (OpenedStore D g)) (RepoStore D g) → Bool
+abbrev pub has_store : {D : Type 0} {g : _} → Result (Option (OpenedMirror D g)) (RepoStore D g) → Bool
 has_store (Ok opened) = is_some opened
 has_store (Err store) = true
 
@@ -19,7 +21,11 @@ HasOpened a b c d opened = (is_some opened.first ≡ a) × (is_some opened.secon
 abbrev pub HasStores : {D : Type 0} {g : _} → Bool → Bool → Bool → Bool → FleetStores D g → Type 0
 HasStores a b c d stores = (is_some stores.first ≡ a) × (is_some stores.second ≡ b) × (is_some stores.third ≡ c) × (is_some stores.fourth ≡ d)
 
--- the cells of a slot's row
-abbrev pub cells_at : {D : Type 0} {g : _} → Option (OpenedStore D g) → List ℕ
+-- the cells of a slot's row, and the names of its ledgers
+abbrev pub cells_at : {D : Type 0} {g : _} → Option (OpenedMirror D g) → List ℕ
 cells_at None = []
-cells_at (Some opened) = cells_of opened
+cells_at (Some mirror) = cells_of (opened_in mirror)
+
+abbrev pub ledgers_at : {L D : Type 0} {g : _} → Option (OpenedMirror D g) → Ghosts L
+ledgers_at None = record { merged = 0; copying = 0; head = 0; holder = 0 }
+ledgers_at (Some mirror) = ledgers_named mirror

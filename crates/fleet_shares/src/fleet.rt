@@ -1,6 +1,7 @@
 //! Mirrors that are brought up to a master at once.
 ghost use Rattle.std.specs.Prelude.{◌≡◌, IfOk, IfSome, is_some};
 ghost use Rattle.std.specs.List.{AllZip};
+ghost use Rattle.mirror_share.specs.Names.{IsNamed};
 ghost use Rattle.store_share.specs.Opened.{cells_of};
 ghost use Rattle.fleet_shares.specs.Opening.{HasStores};
 ghost use Rattle.fleet_shares.specs.Ran.{IsAnswerIn};
@@ -15,6 +16,7 @@ use crate::stores::{FleetStores, OpenedFleet};
 use crate::told::tell_all;
 use fleet_disk::Disk;
 use fleet_jobs::{Order, StartGate};
+use mirror_share::MirrorName;
 use node_base::Refusal;
 use std::alloc::{AllocError, Global};
 use std::marker::Brand;
@@ -86,14 +88,14 @@ fn run_orders<
     }
 }
 
-// Runs them over opened stores under the names of their rows.
+// Runs them over opened stores under the names of their rows and ledgers.
 fn run_opened<
     R: Threads + Wait + Clone + Send + Drop + 'static,
     M: RowName + Send + Sync + 'static,
-    L0: RowName + Send + Sync + 'static,
-    L1: RowName + Send + Sync + 'static,
-    L2: RowName + Send + Sync + 'static,
-    L3: RowName + Send + Sync + 'static,
+    L0: MirrorName + Send + Sync + 'static,
+    L1: MirrorName + Send + Sync + 'static,
+    L2: MirrorName + Send + Sync + 'static,
+    L3: MirrorName + Send + Sync + 'static,
     D: Disk + Drop + Send + 'static,
     G: StartGate + Send + Sync + Drop + 'static,
 >(
@@ -105,10 +107,10 @@ fn run_opened<
     gate: G,
 ) -> (FleetStores<D>, Result<Vec<Answered>, AllocError>)
     requires master { cells_of opened.master ≡ M.cells }
-    requires first { IfSome opened.first (λ o. cells_of o ≡ L0.cells) }
-    requires second { IfSome opened.second (λ o. cells_of o ≡ L1.cells) }
-    requires third { IfSome opened.third (λ o. cells_of o ≡ L2.cells) }
-    requires fourth { IfSome opened.fourth (λ o. cells_of o ≡ L3.cells) }
+    requires first { IfSome opened.first (λ o. IsNamed o L0.cells L0.merged L0.copying L0.head L0.holder) }
+    requires second { IfSome opened.second (λ o. IsNamed o L1.cells L1.merged L1.copying L1.head L1.holder) }
+    requires third { IfSome opened.third (λ o. IsNamed o L2.cells L2.merged L2.copying L2.head L2.holder) }
+    requires fourth { IfSome opened.fourth (λ o. IsNamed o L3.cells L3.merged L3.copying L3.head L3.holder) }
     ensures slots { HasStores (is_some opened.first) (is_some opened.second) (is_some opened.third)
         (is_some opened.fourth) result.0 }
     ensures answers { IfOk result.1 (λ answers.

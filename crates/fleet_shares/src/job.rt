@@ -1,7 +1,8 @@
 //! The job of an order on one mirror.
-ghost use Rattle.std.specs.Prelude.{[], ◌≡◌, Ok, Err, IfOk, IfErr, OnErr};
+ghost use Rattle.std.specs.Prelude.{[], ◌≡◌, None, Ok, Err, IfOk, IfErr, OnErr};
 ghost use Rattle.fleet_shares.specs.Answers.{Answers, AnswersOn, EndsAs, IsSeen};
 ghost use Rattle.fleet_shares.specs.Jobs.{EndsBy, IsRunOf};
+ghost use Rattle.mirror_share.specs.Seats.{hand_of};
 ghost use Rattle.sync_core.specs.declared.fault.SyncFault.TheVariants as fault;
 ghost use Rattle.sync_job.specs.Questions.{KeepsAnswers};
 ghost use Rattle.sync_job.specs.Telling.{KeepsTelling};
@@ -11,7 +12,7 @@ use crate::master::SharedMaster;
 use crate::unheard::Unheard;
 use fleet_disk::Disk;
 use fleet_jobs::{Order, Work};
-use mirror_share::{JobSeat, MirrorShare, SeatMirror};
+use mirror_share::{JobSeat, MirrorName, MirrorShare, SeatMirror};
 use node_base::{Refusal, RevNo};
 use std::alloc::Global;
 use std::sync::Wait;
@@ -20,7 +21,7 @@ use sync_core::{SyncFault, Token};
 use sync_job::{JobPorts, MasterPort, MirrorPort, Report, run_copy_revprops, run_sync};
 
 /// Runs the job of an order on the mirror of a slot. NoRepository (34) where the slot is empty.
-pub(crate) fn run_in<R: Wait, M: RowName, L: RowName, D: Disk>(
+pub(crate) fn run_in<R: Wait, M: RowName, L: MirrorName, D: Disk>(
     rt: &R,
     alloc: Global,
     master: &MasterShare<M, D>,
@@ -38,7 +39,7 @@ pub(crate) fn run_in<R: Wait, M: RowName, L: RowName, D: Disk>(
 // Runs the job of an order on a mirror, and answers the mirror's newest revision after it. The job enters, and leaves
 // whatever it answers. HolderRunning (55) where a job of its token runs there, OutOfMemory (70), or the refusal at which
 // the job ended.
-fn run_on<R: Wait, M: RowName, L: RowName, D: Disk>(
+fn run_on<R: Wait, M: RowName, L: MirrorName, D: Disk>(
     rt: &R,
     alloc: Global,
     master: &MasterShare<M, D>,
@@ -57,8 +58,8 @@ fn run_on<R: Wait, M: RowName, L: RowName, D: Disk>(
     }
 }
 
-// Runs the job of an order from a seat, which comes back whatever the job ends with.
-fn run_seated<R: Wait, M: RowName, L: RowName, D: Disk>(
+// Runs the job of an order from a seat that doesn't hold the lock, which comes back whatever the job ends with.
+fn run_seated<R: Wait, M: RowName, L: MirrorName, D: Disk>(
     rt: &R,
     alloc: Global,
     master: &MasterShare<M, D>,
@@ -66,6 +67,7 @@ fn run_seated<R: Wait, M: RowName, L: RowName, D: Disk>(
     seat: JobSeat<L>,
     order: &Order,
 ) -> (JobSeat<L>, Result<(), SyncFault>)
+    requires { hand_of seat ≡ None }
     ensures { EndsAs master.now mirror.now order.now result.1 }
 {
     let mirror = match SeatMirror::new(rt, alloc, mirror, seat) {

@@ -5,13 +5,14 @@ ghost use Rattle.fleet_shares.specs.Opening.{has_store, HasOpened, HasStores};
 
 use crate::stores::{FleetStores, OpenedFleet};
 use fleet_disk::Disk;
+use mirror_share::OpenedMirror;
 use repo_store::RepoStore;
 use std::alloc::Global;
 use std::marker::Brand;
 use store_share::{OpenedStore, RowName};
 
 // A slot whose store, if it has one, is opened, or left as it was for want of memory.
-type Slot<D> = Result<Option<OpenedStore<D>>, RepoStore<D>>;
+type Slot<D> = Result<Option<OpenedMirror<D>>, RepoStore<D>>;
 
 /// The opened stores of a fleet. Where there is no memory for one of them, the stores come back.
 pub(crate) fn opened_fleet<D: Disk + Drop>(
@@ -45,7 +46,7 @@ fn opened_in<D: Disk>(alloc: Global, store: Option<RepoStore<D>>) -> Slot<D>
     ensures { has_store result ≡ is_some store }
 {
     match store {
-        Some(store) => match OpenedStore::of(alloc, store) {
+        Some(store) => match OpenedMirror::of(alloc, store) {
             Ok(opened) => Ok(Some(opened)),
             Err((_fault, store)) => Err(store),
         },
@@ -101,7 +102,7 @@ fn left_in<D: Disk>(slot: Slot<D>) -> Option<RepoStore<D>>
     ensures { is_some result ≡ has_store slot }
 {
     match slot {
-        Ok(Some(opened)) => Some(store_in(opened)),
+        Ok(Some(opened)) => Some(store_in(opened.into_opened())),
         Ok(None) => None,
         Err(store) => Some(store),
     }

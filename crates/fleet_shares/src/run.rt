@@ -12,6 +12,7 @@ use crate::shares::FleetShares;
 use crate::stores::FleetStores;
 use fleet_disk::Disk;
 use fleet_jobs::{Fleet, Order, StartGate};
+use mirror_share::MirrorName;
 use std::alloc::{AllocError, Global};
 use std::sync::{Arc, Wait};
 use std::thread;
@@ -24,10 +25,10 @@ use store_share::RowName;
 pub fn run_shared<
     R: Threads + Wait + Clone + Send + Drop + 'static,
     M: RowName + Send + Sync + 'static,
-    L0: RowName + Send + Sync + 'static,
-    L1: RowName + Send + Sync + 'static,
-    L2: RowName + Send + Sync + 'static,
-    L3: RowName + Send + Sync + 'static,
+    L0: MirrorName + Send + Sync + 'static,
+    L1: MirrorName + Send + Sync + 'static,
+    L2: MirrorName + Send + Sync + 'static,
+    L3: MirrorName + Send + Sync + 'static,
     D: Disk + Drop + Send + 'static,
     G: StartGate + Send + Sync + Drop + 'static,
 >(
@@ -50,10 +51,15 @@ pub fn run_shared<
 
 /// The stores of shares, once nobody else keeps them any more, as once their fleet is finished. Waits while somebody
 /// does.
-pub fn stores_of<R: Wait, M: RowName, L0: RowName, L1: RowName, L2: RowName, L3: RowName, D: Disk>(
-    rt: &R,
-    shares: Arc<FleetShares<M, L0, L1, L2, L3, D>>,
-) -> FleetStores<D>
+pub fn stores_of<
+    R: Wait,
+    M: RowName,
+    L0: MirrorName,
+    L1: MirrorName,
+    L2: MirrorName,
+    L3: MirrorName,
+    D: Disk,
+>(rt: &R, shares: Arc<FleetShares<M, L0, L1, L2, L3, D>>) -> FleetStores<D>
     ensures slots { HasStores (is_some (arc_value shares).first) (is_some (arc_value shares).second)
         (is_some (arc_value shares).third) (is_some (arc_value shares).fourth) result }
 {

@@ -6,6 +6,7 @@ use crate::job::run_in;
 use crate::shares::FleetShares;
 use fleet_disk::Disk;
 use fleet_jobs::{Order, Runner};
+use mirror_share::MirrorName;
 use node_base::{Refusal, RevNo};
 use std::alloc::Global;
 use std::sync::{Arc, Wait};
@@ -15,19 +16,26 @@ use sync_core::SyncFault;
 /// What runs the jobs of orders over shares. It keeps one `Arc` of these: who keeps another has the shares back once the
 /// fleet is finished.
 #[derive(Drop)]
-pub struct SharesRunner<M: RowName, L0: RowName, L1: RowName, L2: RowName, L3: RowName, D: Disk> {
+pub struct SharesRunner<
+    M: RowName,
+    L0: MirrorName,
+    L1: MirrorName,
+    L2: MirrorName,
+    L3: MirrorName,
+    D: Disk,
+> {
     alloc: Global,
     shares: Arc<FleetShares<M, L0, L1, L2, L3, D>>,
 }
 
-impl<M: RowName, L0: RowName, L1: RowName, L2: RowName, L3: RowName, D: Disk> SharesRunner<
-    M,
-    L0,
-    L1,
-    L2,
-    L3,
-    D,
-> {
+impl<
+    M: RowName,
+    L0: MirrorName,
+    L1: MirrorName,
+    L2: MirrorName,
+    L3: MirrorName,
+    D: Disk,
+> SharesRunner<M, L0, L1, L2, L3, D> {
     ghost use Rattle.fleet_shares.specs.Runners.{shares_of};
 
     /// The runner of these shares. The memory of its jobs is that of `alloc`.
@@ -41,7 +49,7 @@ impl<M: RowName, L0: RowName, L1: RowName, L2: RowName, L3: RowName, D: Disk> Sh
     }
 }
 
-impl<M: RowName, L0: RowName, L1: RowName, L2: RowName, L3: RowName, D: Disk> Runner
+impl<M: RowName, L0: MirrorName, L1: MirrorName, L2: MirrorName, L3: MirrorName, D: Disk> Runner
     for SharesRunner<M, L0, L1, L2, L3, D> {
     ghost use Rattle.fleet_shares.specs.Runners.{shares_of, has_mirror, MayAnswer};
 

@@ -5,6 +5,7 @@ ghost use Rattle.repo_core.specs.Repository.{head_of};
 ghost use Rattle.repo_store.specs.Words.{revisions_of};
 
 use fleet_disk::Disk;
+use mirror_share::OpenedMirror;
 use node_base::RevNo;
 use repo_store::RepoStore;
 use store_share::OpenedStore;
@@ -13,10 +14,10 @@ use store_share::OpenedStore;
 #[derive(Drop)]
 pub struct OpenedFleet<D: Disk> {
     pub master: OpenedStore<D>,
-    pub first: Option<OpenedStore<D>>,
-    pub second: Option<OpenedStore<D>>,
-    pub third: Option<OpenedStore<D>>,
-    pub fourth: Option<OpenedStore<D>>,
+    pub first: Option<OpenedMirror<D>>,
+    pub second: Option<OpenedMirror<D>>,
+    pub third: Option<OpenedMirror<D>>,
+    pub fourth: Option<OpenedMirror<D>>,
 }
 
 impl<D: Disk> OpenedFleet<D> {

@@ -6,7 +6,7 @@ use crate::crowd_made::{number_of, seat, token, value};
 use crate::master::SeatMaster;
 use crate::stores::{MASTER, added, log};
 use fleet_disk::{Disk, MemDisk};
-use mirror_share::{MirrorShare, SeatMirror};
+use mirror_share::{MirrorName, MirrorShare, SeatMirror};
 use node_base::RevNo;
 use std::alloc::Global;
 use std::process::Abort;
@@ -88,7 +88,7 @@ pub(crate) fn committer<R: Wait + Abort, L: RowName>(
 }
 
 /// Makes a mirror one of the master.
-pub(crate) fn begins<R: Wait + Abort, L: RowName, D: Disk>(
+pub(crate) fn begins<R: Wait + Abort, L: MirrorName, D: Disk>(
     rt: &R,
     alloc: Global,
     share: &MirrorShare<L, D>,
@@ -98,14 +98,14 @@ pub(crate) fn begins<R: Wait + Abort, L: RowName, D: Disk>(
         uuid: &value(rt, alloc, MASTER.as_bytes()),
         props: &log(rt, alloc, b"hi"),
     };
-    let seat = seat(rt, alloc, share, b"i");
-    let number = number_of(share.step(rt, alloc, &seat, &call));
+    let mut seat = seat(rt, alloc, share, b"i");
+    let number = number_of(share.step(rt, alloc, &mut seat, &call));
     share.leave(rt, seat);
     number == 0
 }
 
 /// One run of a job from a master: the number of its refusal, 0 where it ends well.
-pub(crate) fn ran_from<R: Wait + Abort, S: MasterPort + Drop, L: RowName, D: Disk>(
+pub(crate) fn ran_from<R: Wait + Abort, S: MasterPort + Drop, L: MirrorName, D: Disk>(
     rt: &R,
     alloc: Global,
     source: S,
@@ -126,7 +126,7 @@ pub(crate) fn ran_from<R: Wait + Abort, S: MasterPort + Drop, L: RowName, D: Dis
 }
 
 /// The same from a shared master.
-pub(crate) fn ran<R: Wait + Abort, M: RowName, L: RowName, D: Disk>(
+pub(crate) fn ran<R: Wait + Abort, M: RowName, L: MirrorName, D: Disk>(
     rt: &R,
     alloc: Global,
     master: &MasterShare<M, MemDisk>,
@@ -145,7 +145,7 @@ pub(crate) fn ran<R: Wait + Abort, M: RowName, L: RowName, D: Disk>(
 
 // Runs until the mirror has all that the committers make, or its machine has stopped. A run ends well, or behind the job
 // that holds the lock (54).
-fn runs<R: Wait + Abort, M: RowName, L: RowName, D: Disk>(
+fn runs<R: Wait + Abort, M: RowName, L: MirrorName, D: Disk>(
     rt: &R,
     alloc: Global,
     master: &MasterShare<M, MemDisk>,
@@ -168,7 +168,7 @@ fn runs<R: Wait + Abort, M: RowName, L: RowName, D: Disk>(
 }
 
 /// A job that runs until its mirror has all that the committers make, or its machine has stopped.
-pub(crate) fn job<R: Wait + Abort, M: RowName, L: RowName, D: Disk>(
+pub(crate) fn job<R: Wait + Abort, M: RowName, L: MirrorName, D: Disk>(
     rt: &R,
     alloc: Global,
     master: &MasterShare<M, MemDisk>,
@@ -183,7 +183,7 @@ pub(crate) fn job<R: Wait + Abort, M: RowName, L: RowName, D: Disk>(
 
 /// The newest revision, where one that was told is read without the lock, and the newest is no less than it and than the
 /// last.
-pub(crate) fn sees<R: Wait, L: RowName, D: Disk>(
+pub(crate) fn sees<R: Wait, L: MirrorName, D: Disk>(
     rt: &R,
     share: &MirrorShare<L, D>,
     reader: &mut ReaderSeat<L>,
@@ -204,7 +204,7 @@ pub(crate) fn sees<R: Wait, L: RowName, D: Disk>(
 
 /// A reader of a mirror, who is told of its commits, until its jobs have ended; then it has all, unless its machine has
 /// stopped.
-pub(crate) fn reader<R: Wait + Abort, L: RowName, D: Disk>(
+pub(crate) fn reader<R: Wait + Abort, L: MirrorName, D: Disk>(
     rt: &R,
     alloc: Global,
     share: &MirrorShare<L, D>,

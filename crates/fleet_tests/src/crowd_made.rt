@@ -2,13 +2,13 @@
 
 use crate::stores::created;
 use fleet_disk::{Disk, MemDisk};
-use mirror_share::{JobSeat, MirrorShare};
+use mirror_share::{JobSeat, MirrorName, MirrorShare, OpenedMirror};
 use node_base::PropValue;
 use repo_store::RepoStore;
 use std::alloc::Global;
 use std::process::Abort;
 use std::sync::Wait;
-use store_share::{OpenedStore, RowName};
+use store_share::OpenedStore;
 use sync_core::{SyncFault, Token};
 
 /// The identity that a mirror has before it is begun.
@@ -38,20 +38,36 @@ pub(crate) fn blank_disk(rt: &impl Abort, alloc: Global, identity: &str) -> MemD
     created(rt, alloc, identity).into_disk()
 }
 
-/// A store that is opened on a disk.
-pub(crate) fn opened<D: Disk + Drop>(rt: &impl Abort, alloc: Global, disk: D) -> OpenedStore<D> {
-    let store = match RepoStore::open(alloc, disk) {
+// A store on a disk.
+fn store_on<D: Disk + Drop>(rt: &impl Abort, alloc: Global, disk: D) -> RepoStore<D> {
+    match RepoStore::open(alloc, disk) {
         Ok(store) => store,
         Err(_refused) => rt.abort(),
-    };
-    match OpenedStore::of(alloc, store) {
+    }
+}
+
+/// A master that is opened on a disk.
+pub(crate) fn opened<D: Disk + Drop>(rt: &impl Abort, alloc: Global, disk: D) -> OpenedStore<D> {
+    match OpenedStore::of(alloc, store_on(rt, alloc, disk)) {
+        Ok(opened) => opened,
+        Err(_refused) => rt.abort(),
+    }
+}
+
+/// A mirror that is opened on a disk.
+pub(crate) fn mirror_on<D: Disk + Drop>(
+    rt: &impl Abort,
+    alloc: Global,
+    disk: D,
+) -> OpenedMirror<D> {
+    match OpenedMirror::of(alloc, store_on(rt, alloc, disk)) {
         Ok(opened) => opened,
         Err(_refused) => rt.abort(),
     }
 }
 
 /// A seat for a job.
-pub(crate) fn seat<R: Wait + Abort, L: RowName, D: Disk>(
+pub(crate) fn seat<R: Wait + Abort, L: MirrorName, D: Disk>(
     rt: &R,
     alloc: Global,
     share: &MirrorShare<L, D>,

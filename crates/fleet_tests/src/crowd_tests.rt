@@ -2,15 +2,16 @@
 //! machine that stops amid them.
 
 ghost use Rattle.std.specs.Prelude.{◌≡◌};
+ghost use Rattle.mirror_share.specs.Names.{IsNamed};
 ghost use Rattle.store_share.specs.Opened.{cells_of};
 
 use crate::board::Board;
 use crate::crowd::{ALL, begins, committer, job, ran, ran_from, reader};
-use crate::crowd_made::{MIRROR, blank_disk, opened};
+use crate::crowd_made::{MIRROR, blank_disk, mirror_on, opened};
 use crate::fronts::front_of;
 use crate::stores::MASTER;
 use fleet_disk::{Disk, Fuse, FuseDisk, MemDisk, Pick};
-use mirror_share::MirrorShare;
+use mirror_share::{MirrorName, MirrorShare, OpenedMirror};
 use node_base::RevNo;
 use repo_store::RepoStore;
 use std::alloc::Global;
@@ -28,7 +29,7 @@ type Stopping = FuseDisk<MemDisk>;
 
 // A master and two mirrors of it, and what is told of each mirror.
 #[derive(Drop)]
-struct Crowd<'a, M: RowName, A: RowName, B: RowName, D: Disk> {
+struct Crowd<'a, M: RowName, A: MirrorName, B: MirrorName, D: Disk> {
     master: &'a MasterShare<M, MemDisk>,
     one: &'a MirrorShare<A, D>,
     other: &'a MirrorShare<B, D>,
@@ -37,7 +38,7 @@ struct Crowd<'a, M: RowName, A: RowName, B: RowName, D: Disk> {
 }
 
 // What the thread of that place does.
-fn does<R: Wait + Abort, M: RowName, A: RowName, B: RowName, D: Disk>(
+fn does<R: Wait + Abort, M: RowName, A: MirrorName, B: MirrorName, D: Disk>(
     rt: &R,
     alloc: Global,
     crowd: &Crowd<'_, M, A, B, D>,
@@ -75,8 +76,8 @@ fn does<R: Wait + Abort, M: RowName, A: RowName, B: RowName, D: Disk>(
 fn goes<
     R: Threads + Wait + Abort + Sync,
     M: RowName + Send + Sync,
-    A: RowName + Send + Sync,
-    B: RowName + Send + Sync,
+    A: MirrorName + Send + Sync,
+    B: MirrorName + Send + Sync,
     D: Disk + Send,
 >(rt: &R, alloc: Global, crowd: &Crowd<'_, M, A, B, D>) -> u8 {
     let answers = thread::map_indices(rt, alloc, 11, &|i| does(rt, alloc, crowd, i)).expect(
@@ -94,8 +95,8 @@ fn goes<
 fn is_well<
     R: Threads + Wait + Abort + Sync,
     M: RowName + Send + Sync,
-    A: RowName + Send + Sync,
-    B: RowName + Send + Sync,
+    A: MirrorName + Send + Sync,
+    B: MirrorName + Send + Sync,
     D: Disk + Send,
 >(rt: &R, alloc: Global, crowd: &Crowd<'_, M, A, B, D>, stops: bool) -> bool {
     if !begins(rt, alloc, crowd.one) || !begins(rt, alloc, crowd.other) {
@@ -124,8 +125,8 @@ fn is_well<
 fn told_by<
     R: Threads + Wait + Abort + Sync,
     M: RowName + Send + Sync,
-    A: RowName + Send + Sync,
-    B: RowName + Send + Sync,
+    A: MirrorName + Send + Sync,
+    B: MirrorName + Send + Sync,
     D: Disk + Send,
 >(
     rt: &R,
@@ -162,20 +163,20 @@ struct Left<D: Disk> {
 fn together<
     R: Threads + Wait + Abort + Sync,
     M: RowName + Send + Sync,
-    A: RowName + Send + Sync,
-    B: RowName + Send + Sync,
+    A: MirrorName + Send + Sync,
+    B: MirrorName + Send + Sync,
     D: Disk + Send,
 >(
     rt: &R,
     alloc: Global,
     master: OpenedStore<MemDisk>,
-    one: OpenedStore<D>,
-    other: OpenedStore<D>,
+    one: OpenedMirror<D>,
+    other: OpenedMirror<D>,
     stops: bool,
 ) -> Left<D>
     requires master { cells_of master ≡ M.cells }
-    requires one { cells_of one ≡ A.cells }
-    requires other { cells_of other ≡ B.cells }
+    requires one { IsNamed one A.cells A.merged A.copying A.head A.holder }
+    requires other { IsNamed other B.cells B.merged B.copying B.head B.holder }
 {
     let master = master.named::<M>();
     let one = MirrorShare::<A, D>::of(alloc, one);
@@ -197,8 +198,8 @@ fn gathered<R: Threads + Wait + Abort + Sync, D: Disk + Drop + Send>(
     stops: bool,
 ) -> Left<D> {
     let master = opened(rt, alloc, blank_disk(rt, alloc, MASTER));
-    let one = opened(rt, alloc, disks.0);
-    let other = opened(rt, alloc, disks.1);
+    let one = mirror_on(rt, alloc, disks.0);
+    let other = mirror_on(rt, alloc, disks.1);
     together::<R, Brand, Brand, Brand, D>(rt, alloc, master, one, other, stops)
 }
 
@@ -226,13 +227,13 @@ fn a_crowd_brings_two_mirrors_up(rt: HostRuntime) {
 }
 
 // A run with steal at a mirror that was opened again; its store, and whether the run ended well.
-fn brought_up<R: Wait + Abort, L: RowName>(
+fn brought_up<R: Wait + Abort, L: MirrorName>(
     rt: &R,
     alloc: Global,
-    opened: OpenedStore<MemDisk>,
+    opened: OpenedMirror<MemDisk>,
     master: &RepoStore<MemDisk>,
 ) -> (RepoStore<MemDisk>, bool)
-    requires { cells_of opened ≡ L.cells }
+    requires { IsNamed opened L.cells L.merged L.copying L.head L.holder }
 {
     let share = MirrorShare::<L, MemDisk>::of(alloc, opened);
     let board = Board::new(false);
@@ -258,7 +259,7 @@ fn comes_back<R: Wait + Abort>(
     told: RevNo,
     master: &RepoStore<MemDisk>,
 ) -> bool {
-    let opened = opened(rt, alloc, disk.crash(pick).expect(rt, "memory"));
+    let opened = mirror_on(rt, alloc, disk.crash(pick).expect(rt, "memory"));
     let stands = match front_of(alloc, opened.store(), master) {
         Some(head) => told <= head,
         None => false,

@@ -2,15 +2,16 @@
 //! properties were changed.
 
 ghost use Rattle.std.specs.Prelude.{◌≡◌};
+ghost use Rattle.mirror_share.specs.Names.{IsNamed};
 ghost use Rattle.store_share.specs.Opened.{cells_of};
 
 use crate::board::Board;
 use crate::crowd::{begins, ran};
-use crate::crowd_made::{MIRROR, blank_disk, opened};
+use crate::crowd_made::{MIRROR, blank_disk, mirror_on, opened};
 use crate::stores::{copied, disk, log, log_name};
 use dump_load::ChangeSet;
 use fleet_disk::MemDisk;
-use mirror_share::MirrorShare;
+use mirror_share::{MirrorName, MirrorShare, OpenedMirror};
 use node_base::{NodePath, Props, RevNo};
 use path_tree::Tree;
 use repo_core::Expected;
@@ -171,7 +172,7 @@ fn changes_twice<R: Wait + Abort, L: RowName>(
 }
 
 // Whether the first sync of a mirror that was begun just before gives it the master's second map of revision 1.
-fn has_second_map<R: Wait + Abort, M: RowName, L: RowName>(
+fn has_second_map<R: Wait + Abort, M: RowName, L: MirrorName>(
     rt: &R,
     alloc: Global,
     master: &MasterShare<M, MemDisk>,
@@ -198,14 +199,14 @@ fn fetched_of<R: Threads + Wait + Abort + Clock + Sync, M: RowName + Send + Sync
     answer
 }
 
-fn copied_of<R: Wait + Abort, M: RowName, L: RowName>(
+fn copied_of<R: Wait + Abort, M: RowName, L: MirrorName>(
     rt: &R,
     alloc: Global,
     source: OpenedStore<MemDisk>,
-    target: OpenedStore<MemDisk>,
+    target: OpenedMirror<MemDisk>,
 ) -> bool
     requires source { cells_of source ≡ M.cells }
-    requires target { cells_of target ≡ L.cells }
+    requires target { IsNamed target L.cells L.merged L.copying L.head L.holder }
 {
     let master = source.named::<M>();
     let mirror = MirrorShare::<L, MemDisk>::of(alloc, target);
@@ -222,7 +223,7 @@ fn fetch<R: Threads + Wait + Abort + Clock + Sync>(rt: &R, alloc: Global) -> boo
 
 fn copy<R: Wait + Abort>(rt: &R, alloc: Global) -> bool {
     let source = opened(rt, alloc, disk(rt, alloc));
-    let target = opened(rt, alloc, blank_disk(rt, alloc, MIRROR));
+    let target = mirror_on(rt, alloc, blank_disk(rt, alloc, MIRROR));
     copied_of::<R, Brand, Brand>(rt, alloc, source, target)
 }
 

@@ -8,7 +8,7 @@ use crate::served_crowd::{client, server};
 use fleet_disk::MemDisk;
 use fleet_jobs::{Order, Work};
 use fleet_shares::{Answered, FleetShares, Unheld, run_shared};
-use mirror_share::MirrorShare;
+use mirror_share::{MirrorName, MirrorShare};
 use node_base::RevNo;
 use std::alloc::Global;
 use std::net::{Net, TcpListener, TcpStream};
@@ -49,7 +49,7 @@ fn orders(rt: &impl Abort, alloc: Global) -> Vec<Order> {
 }
 
 // Whether a reader reads that revision of a mirror without the lock, and finds the newest no less.
-fn reads<R: Wait + Abort, L: RowName>(
+fn reads<R: Wait + Abort, L: MirrorName>(
     rt: &R,
     alloc: Global,
     share: &Option<MirrorShare<L, MemDisk>>,
@@ -66,7 +66,7 @@ fn reads<R: Wait + Abort, L: RowName>(
 
 // What is amiss with the answer of an order: its job brought the mirror up to a revision that is read there, or met
 // another job, which holds the lock (54) or runs under its token (55).
-fn amiss<R: Wait + Abort, L: RowName>(
+fn amiss<R: Wait + Abort, L: MirrorName>(
     rt: &R,
     alloc: Global,
     share: &Option<MirrorShare<L, MemDisk>>,
@@ -89,7 +89,14 @@ fn amiss<R: Wait + Abort, L: RowName>(
 }
 
 // The first answer that is amiss, 0 where none is and each order has one.
-fn judged<R: Wait + Abort, M: RowName, L0: RowName, L1: RowName, L2: RowName, L3: RowName>(
+fn judged<
+    R: Wait + Abort,
+    M: RowName,
+    L0: MirrorName,
+    L1: MirrorName,
+    L2: MirrorName,
+    L3: MirrorName,
+>(
     rt: &R,
     alloc: Global,
     shares: &FleetShares<M, L0, L1, L2, L3, MemDisk>,
@@ -114,10 +121,10 @@ fn judged<R: Wait + Abort, M: RowName, L0: RowName, L1: RowName, L2: RowName, L3
 fn giver<
     R: Threads + Wait + Abort + Clone + Send + Drop + 'static,
     M: RowName + Send + Sync + 'static,
-    L0: RowName + Send + Sync + 'static,
-    L1: RowName + Send + Sync + 'static,
-    L2: RowName + Send + Sync + 'static,
-    L3: RowName + Send + Sync + 'static,
+    L0: MirrorName + Send + Sync + 'static,
+    L1: MirrorName + Send + Sync + 'static,
+    L2: MirrorName + Send + Sync + 'static,
+    L3: MirrorName + Send + Sync + 'static,
 >(
     rt: &R,
     alloc: Global,
@@ -133,7 +140,7 @@ fn giver<
 }
 
 // A reader of a mirror until the orders are done: its newest revision never falls, and is read without the lock.
-fn watches<R: Wait + Abort, L: RowName>(
+fn watches<R: Wait + Abort, L: MirrorName>(
     rt: &R,
     alloc: Global,
     share: &MirrorShare<L, MemDisk>,
@@ -155,7 +162,7 @@ fn watches<R: Wait + Abort, L: RowName>(
     MISSED
 }
 
-fn watcher<R: Wait + Abort, L: RowName>(
+fn watcher<R: Wait + Abort, L: MirrorName>(
     rt: &R,
     alloc: Global,
     share: &Option<MirrorShare<L, MemDisk>>,
@@ -184,10 +191,10 @@ pub(crate) fn does<
         + Drop
         + 'static,
     M: RowName + Send + Sync + 'static,
-    L0: RowName + Send + Sync + 'static,
-    L1: RowName + Send + Sync + 'static,
-    L2: RowName + Send + Sync + 'static,
-    L3: RowName + Send + Sync + 'static,
+    L0: MirrorName + Send + Sync + 'static,
+    L1: MirrorName + Send + Sync + 'static,
+    L2: MirrorName + Send + Sync + 'static,
+    L3: MirrorName + Send + Sync + 'static,
 >(
     rt: &R,
     alloc: Global,
@@ -248,10 +255,10 @@ fn is_whole(answer: &Answered) -> bool {
 pub(crate) fn brings_up<
     R: Threads + Wait + Abort + Clone + Send + Drop + 'static,
     M: RowName + Send + Sync + 'static,
-    L0: RowName + Send + Sync + 'static,
-    L1: RowName + Send + Sync + 'static,
-    L2: RowName + Send + Sync + 'static,
-    L3: RowName + Send + Sync + 'static,
+    L0: MirrorName + Send + Sync + 'static,
+    L1: MirrorName + Send + Sync + 'static,
+    L2: MirrorName + Send + Sync + 'static,
+    L3: MirrorName + Send + Sync + 'static,
 >(rt: &R, alloc: Global, shares: &Arc<FleetShares<M, L0, L1, L2, L3, MemDisk>>) -> bool {
     match run_shared(rt, alloc, shares, last_orders(rt, alloc), 2, Unheld) {
         Ok(answers) => are_whole(answers.as_slice()),

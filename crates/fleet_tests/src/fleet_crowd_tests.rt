@@ -2,17 +2,18 @@
 //! readers, a server and two clients over sockets, all at once.
 
 ghost use Rattle.std.specs.Prelude.{◌≡◌, IfSome};
+ghost use Rattle.mirror_share.specs.Names.{IsNamed};
 ghost use Rattle.store_share.specs.Opened.{cells_of};
 
 use crate::crowd::{ALL, begins};
-use crate::crowd_made::{MIRROR, blank_disk, opened};
+use crate::crowd_made::{MIRROR, blank_disk, mirror_on, opened};
 use crate::fleet_crowd::{THREADS, brings_up, does};
 use crate::fronts::front_of;
 use crate::served_crowd::free_ports;
 use crate::stores::MASTER;
 use fleet_disk::MemDisk;
 use fleet_shares::{FleetShares, FleetStores, OpenedFleet, stores_of};
-use mirror_share::MirrorShare;
+use mirror_share::{MirrorName, MirrorShare};
 use node_base::RevNo;
 use repo_store::RepoStore;
 use std::alloc::Global;
@@ -28,7 +29,7 @@ use std::time::Clock;
 use store_share::RowName;
 
 // Makes the mirror of a slot one of the master.
-fn begins_in<R: Wait + Abort, L: RowName>(
+fn begins_in<R: Wait + Abort, L: MirrorName>(
     rt: &R,
     alloc: Global,
     share: &Option<MirrorShare<L, MemDisk>>,
@@ -52,10 +53,10 @@ fn goes<
         + Drop
         + 'static,
     M: RowName + Send + Sync + 'static,
-    L0: RowName + Send + Sync + 'static,
-    L1: RowName + Send + Sync + 'static,
-    L2: RowName + Send + Sync + 'static,
-    L3: RowName + Send + Sync + 'static,
+    L0: MirrorName + Send + Sync + 'static,
+    L1: MirrorName + Send + Sync + 'static,
+    L2: MirrorName + Send + Sync + 'static,
+    L3: MirrorName + Send + Sync + 'static,
 >(rt: &R, alloc: Global, shares: &Arc<FleetShares<M, L0, L1, L2, L3, MemDisk>>) -> u8 {
     let done = AtomicU64::new(0);
     let ports = free_ports(rt);
@@ -87,16 +88,16 @@ fn together<
         + Drop
         + 'static,
     M: RowName + Send + Sync + 'static,
-    L0: RowName + Send + Sync + 'static,
-    L1: RowName + Send + Sync + 'static,
-    L2: RowName + Send + Sync + 'static,
-    L3: RowName + Send + Sync + 'static,
+    L0: MirrorName + Send + Sync + 'static,
+    L1: MirrorName + Send + Sync + 'static,
+    L2: MirrorName + Send + Sync + 'static,
+    L3: MirrorName + Send + Sync + 'static,
 >(rt: &R, alloc: Global, fleet: OpenedFleet<MemDisk>) -> (FleetStores<MemDisk>, bool)
     requires master { cells_of fleet.master ≡ M.cells }
-    requires first { IfSome fleet.first (λ o. cells_of o ≡ L0.cells) }
-    requires second { IfSome fleet.second (λ o. cells_of o ≡ L1.cells) }
-    requires third { IfSome fleet.third (λ o. cells_of o ≡ L2.cells) }
-    requires fourth { IfSome fleet.fourth (λ o. cells_of o ≡ L3.cells) }
+    requires first { IfSome fleet.first (λ o. IsNamed o L0.cells L0.merged L0.copying L0.head L0.holder) }
+    requires second { IfSome fleet.second (λ o. IsNamed o L1.cells L1.merged L1.copying L1.head L1.holder) }
+    requires third { IfSome fleet.third (λ o. IsNamed o L2.cells L2.merged L2.copying L2.head L2.holder) }
+    requires fourth { IfSome fleet.fourth (λ o. IsNamed o L3.cells L3.merged L3.copying L3.head L3.holder) }
 {
     let shares = FleetShares::<M, L0, L1, L2, L3, MemDisk>::of(alloc, fleet);
     let begun = begins_in(rt, alloc, &shares.first) && begins_in(rt, alloc, &shares.second);
@@ -144,8 +145,8 @@ fn is_brought_up<
 >(rt: &R, alloc: Global) -> bool {
     let fleet = OpenedFleet {
         master: opened(rt, alloc, blank_disk(rt, alloc, MASTER)),
-        first: Some(opened(rt, alloc, blank_disk(rt, alloc, MIRROR))),
-        second: Some(opened(rt, alloc, blank_disk(rt, alloc, MIRROR))),
+        first: Some(mirror_on(rt, alloc, blank_disk(rt, alloc, MIRROR))),
+        second: Some(mirror_on(rt, alloc, blank_disk(rt, alloc, MIRROR))),
         third: None,
         fourth: None,
     };

@@ -8,7 +8,7 @@ use crate::stores::created;
 use byte_streams::MemOutput;
 use fleet_disk::MemDisk;
 use mirror_engines::Work;
-use mirror_share::MirrorShare;
+use mirror_share::{MirrorName, MirrorShare};
 use node_base::{Refusal, RevNo};
 use repo_store::RepoStore;
 use sockets::{Limits, Peer, Server, Teller, Trouble};
@@ -19,7 +19,6 @@ use std::sync::Wait;
 use std::thread;
 use std::thread::Threads;
 use std::time::{Clock, Duration};
-use store_share::RowName;
 use svn_ends::{Address, run_work_from, serve_mirror};
 
 // How many clients each server has, and how many runs each of them makes, over a connection each.
@@ -60,7 +59,7 @@ pub(crate) fn free_ports<R: Net<Listener = TcpListener, Stream = TcpStream> + Ab
 /// Serves a mirror until all runs of its clients are over.
 pub(crate) fn server<
     R: Net<Listener = TcpListener, Stream = TcpStream> + Threads + Wait + Clock + Sync + Abort,
-    L: RowName + Send + Sync,
+    L: MirrorName + Send + Sync,
 >(rt: &R, alloc: Global, share: &Option<MirrorShare<L, MemDisk>>, port: u16) -> u8 {
     let Some(share) = share else { rt.abort() };
     let address = Address {
@@ -124,7 +123,7 @@ fn runs_once<R: Net<Stream = TcpStream> + Wait + Abort>(
 }
 
 // Whether a mirror has the revisions that the share shows, up to its own head.
-fn has_shown<R: Wait + Abort, L: RowName>(
+fn has_shown<R: Wait + Abort, L: MirrorName>(
     rt: &R,
     alloc: Global,
     share: &MirrorShare<L, MemDisk>,
@@ -167,7 +166,7 @@ fn goes_up<R: Net<Stream = TcpStream> + Wait + Abort>(
 }
 
 /// A client of a mirror's server, which is a mirror of that mirror.
-pub(crate) fn client<R: Net<Stream = TcpStream> + Wait + Abort, L: RowName>(
+pub(crate) fn client<R: Net<Stream = TcpStream> + Wait + Abort, L: MirrorName>(
     rt: &R,
     alloc: Global,
     share: &Option<MirrorShare<L, MemDisk>>,

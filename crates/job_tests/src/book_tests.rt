@@ -1,31 +1,30 @@
 //! A book by itself.
 
-ghost use Rattle.std.specs.Prelude.{◌≡◌, ◌<◌};
-ghost use Rattle.store_share.specs.Row.{cells_in};
-ghost use Rattle.store_share.specs.Opened.{cells_of};
+ghost use Rattle.std.specs.Prelude.{◌≡◌};
+ghost use Rattle.mirror_share.specs.Names.{IsNamed};
 
 use crate::calls::{Kind, Parts};
 use crate::holder::is_at;
 use crate::shares::{blank, opened};
 use crate::values::number_of;
 use fleet_disk::MemDisk;
-use holder_share::{Blanks, Count, HolderBook, HolderName, HolderNames};
+use mirror_share::{MirrorBook, MirrorName, OpenedMirror};
 use node_base::RevNo;
 use std::alloc::Global;
 use std::marker::Brand;
 use std::process::Abort;
 use std::rt::HostRuntime;
-use store_share::{OpenedStore, RevRow, RowName};
+use store_share::RevRow;
 use sync_core::MirrorCall;
 
 // A job comes in, begins the mirror, takes its lock and leaves; a reader sees what is shown.
-fn is_kept<R: Abort, N: HolderName>(
+fn is_kept<R: Abort, L: MirrorName>(
     rt: &R,
     alloc: Global,
-    book: &mut HolderBook<N, MemDisk>,
+    book: &mut MirrorBook<L, MemDisk>,
     row: &RevRow,
 ) -> bool
-    requires { row.now ≡ N.Row.cells }
+    requires { row.now ≡ L.cells }
 {
     let parts = Parts::new(alloc, b"a").expect(rt, "memory");
     let mut seat = book.enter_job(alloc, &parts.token).expect(rt, "a seat");
@@ -43,33 +42,19 @@ fn is_kept<R: Abort, N: HolderName>(
     answer
 }
 
-fn judged<R: Abort, M: Count, C: Count, H: Count, K: Count, L: RowName>(
-    rt: &R,
-    alloc: Global,
-    opened: OpenedStore<MemDisk>,
-    blanks: Blanks,
-) -> bool
-    requires row { cells_of opened ≡ L.cells }
-    requires merged { (blanks.merged.name ≡ M.name) × (blanks.merged.parts ≡ M.parts) × (M.all ≡ M.parts) × (0 < M.all) }
-    requires copying { (blanks.copying.name ≡ C.name) × (blanks.copying.parts ≡ C.parts) × (C.all ≡ C.parts) × (0 < C.all) }
-    requires head { (blanks.head.name ≡ H.name) × (blanks.head.parts ≡ H.parts) × (H.all ≡ H.parts) × (0 < H.all) }
-    requires holder { (blanks.holder.name ≡ K.name) × (blanks.holder.parts ≡ K.parts) × (K.all ≡ K.parts) × (0 < K.all) }
+fn judged<R: Abort, L: MirrorName>(rt: &R, alloc: Global, opened: OpenedMirror<MemDisk>) -> bool
+    requires { IsNamed opened L.cells L.merged L.copying L.head L.holder }
 {
-    let (book, row) = opened.into_book::<L>();
-    let mut book = HolderBook::<HolderNames<M, C, H, K, L>, MemDisk>::open(alloc, book, blanks);
+    let (mut book, row) = opened.into_book::<L>(alloc);
     let answer = is_kept(rt, alloc, &mut book, &row);
-    let store = book.into_book().into_book().into_store();
+    let store = book.into_book().into_store();
     let _disk = store.into_disk();
     answer
 }
 
 fn passes<R: Abort>(rt: &R, alloc: Global) -> bool {
-    judged::<R, Brand, Brand, Brand, Brand, Brand>(
-        rt,
-        alloc,
-        opened(rt, alloc, blank(rt, alloc)),
-        Blanks::new(),
-    )
+    let opened = opened(rt, alloc, blank(rt, alloc));
+    judged::<R, Brand>(rt, alloc, opened)
 }
 
 #[test]

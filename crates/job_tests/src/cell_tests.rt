@@ -1,20 +1,20 @@
 //! A cell that refuses its box: the commit is answered 32, and so is each call behind it.
 
 ghost use Rattle.std.specs.Prelude.{◌≡◌};
-ghost use Rattle.store_share.specs.Opened.{cells_of};
+ghost use Rattle.mirror_share.specs.Names.{IsNamed};
 
 use crate::calls::{Kind, LIFE, Parts};
 use crate::shares::{blank, master, opened};
 use crate::values::{number_of, some_log};
 use fleet_disk::MemDisk;
-use mirror_share::{JobSeat, MirrorBook};
+use mirror_share::{JobSeat, MirrorBook, MirrorName, OpenedMirror};
 use node_base::RevNo;
 use repo_store::RepoStore;
 use std::alloc::Global;
 use std::marker::Brand;
 use std::process::Abort;
 use std::rt::HostRuntime;
-use store_share::{OpenedStore, Rev, RevRow, RowName};
+use store_share::{Rev, RevRow};
 use sync_core::MirrorCall;
 
 // Revision 1 of another repository, in a box.
@@ -45,11 +45,11 @@ fn take_cell<R: Abort>(rt: &R, alloc: Global, row: &RevRow) -> bool {
 }
 
 // Whether each of a mirror's calls and a look are refused (32).
-fn all_fail<L: RowName>(
+fn all_fail<L: MirrorName>(
     alloc: Global,
     book: &mut MirrorBook<L, MemDisk>,
     row: &RevRow,
-    seat: &JobSeat<L>,
+    seat: &mut JobSeat<L>,
     parts: &Parts,
 ) -> bool
     requires { row.now ≡ L.cells }
@@ -62,7 +62,7 @@ fn all_fail<L: RowName>(
 }
 
 // The calls of a mirror up to the commit of revision 1, which its cell refuses, and all behind it.
-fn is_refused<R: Abort, L: RowName>(
+fn is_refused<R: Abort, L: MirrorName>(
     rt: &R,
     alloc: Global,
     book: &mut MirrorBook<L, MemDisk>,
@@ -71,20 +71,20 @@ fn is_refused<R: Abort, L: RowName>(
     requires { row.now ≡ L.cells }
 {
     let parts = Parts::new(alloc, b"a").expect(rt, "memory");
-    let seat = book.enter_job(alloc, &parts.token).expect(rt, "a seat");
-    let begun = number_of(book.step(alloc, row, &seat, &parts.call(Kind::Init)));
-    let taken = number_of(book.step(alloc, row, &seat, &parts.call(Kind::Take)));
-    let copying = number_of(book.step(alloc, row, &seat, &parts.call(Kind::Copying)));
+    let mut seat = book.enter_job(alloc, &parts.token).expect(rt, "a seat");
+    let begun = number_of(book.step(alloc, row, &mut seat, &parts.call(Kind::Init)));
+    let taken = number_of(book.step(alloc, row, &mut seat, &parts.call(Kind::Take)));
+    let copying = number_of(book.step(alloc, row, &mut seat, &parts.call(Kind::Copying)));
     let before = book.is_stuck();
-    let committed = number_of(book.step(alloc, row, &seat, &parts.call(Kind::Commit)));
-    let fail = all_fail(alloc, book, row, &seat, &parts);
+    let committed = number_of(book.step(alloc, row, &mut seat, &parts.call(Kind::Commit)));
+    let fail = all_fail(alloc, book, row, &mut seat, &parts);
     let answer = (begun, taken, copying, committed) == (0, 0, 0, 32);
     drop(parts);
     answer && !before && fail
 }
 
 // Whether no reader is told of the commit that was refused, though it stands (21 for its properties).
-fn is_unseen<R: Abort, L: RowName>(
+fn is_unseen<R: Abort, L: MirrorName>(
     rt: &R,
     alloc: Global,
     book: &mut MirrorBook<L, MemDisk>,
@@ -101,12 +101,11 @@ fn is_unseen<R: Abort, L: RowName>(
     newest == RevNo::ZERO && number == 21 && book.is_stuck()
 }
 
-fn judged<R: Abort, L: RowName>(rt: &R, alloc: Global, opened: OpenedStore<MemDisk>) -> bool
-    requires { cells_of opened ≡ L.cells }
+fn judged<R: Abort, L: MirrorName>(rt: &R, alloc: Global, opened: OpenedMirror<MemDisk>) -> bool
+    requires { IsNamed opened L.cells L.merged L.copying L.head L.holder }
 {
-    let (book, row) = opened.into_book::<L>();
+    let (mut book, row) = opened.into_book::<L>(alloc);
     let is_set = take_cell(rt, alloc, &row);
-    let mut book = MirrorBook::<L, MemDisk>::open(alloc, book);
     let refused = is_refused(rt, alloc, &mut book, &row);
     let unseen = is_unseen(rt, alloc, &mut book, &row);
     let store = book.into_book().into_store();

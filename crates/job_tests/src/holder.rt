@@ -1,48 +1,21 @@
 //! What the tests of holders share.
-ghost use Rattle.std.specs.Prelude.{◌≡◌, None};
-ghost use Rattle.holder_share.specs.Seats.{hand_of};
 
 use crate::calls::{Kind, Parts};
-use crate::values::{number_of, token};
+use crate::shares::called;
 use fleet_disk::MemDisk;
-use holder_share::{HolderName, HolderSeat, HolderShare};
+use mirror_share::{JobSeat, MirrorName, MirrorShare};
 use node_base::RevNo;
 use std::alloc::Global;
 use std::process::Abort;
 use std::sync::Wait;
-use sync_core::{MirrorCall, Reply, SyncFault};
-
-/// A seat for a job.
-pub(crate) fn seat<R: Wait + Abort, N: HolderName>(
-    rt: &R,
-    alloc: Global,
-    share: &HolderShare<N, MemDisk>,
-    text: &[u8],
-) -> HolderSeat<N>
-    ensures { hand_of result ≡ None }
-{
-    share
-        .enter_job(rt, alloc, &token(rt, alloc, text))
-        .expect(rt, "a seat")
-}
-
-/// The number of the refusal of a call, 0 where there is none.
-pub(crate) fn called<R: Wait, N: HolderName>(
-    rt: &R,
-    alloc: Global,
-    share: &HolderShare<N, MemDisk>,
-    seat: &mut HolderSeat<N>,
-    call: &MirrorCall<'_>,
-) -> u8 {
-    number_of(share.step(rt, alloc, seat, call))
-}
+use sync_core::{Reply, SyncFault};
 
 /// Makes the mirror one of a master.
-pub(crate) fn begun<R: Wait + Abort, N: HolderName>(
+pub(crate) fn begun<R: Wait + Abort, L: MirrorName>(
     rt: &R,
     alloc: Global,
-    share: &HolderShare<N, MemDisk>,
-    seat: &mut HolderSeat<N>,
+    share: &MirrorShare<L, MemDisk>,
+    seat: &mut JobSeat<L>,
 ) -> u8 {
     let parts = Parts::new(alloc, b"i").expect(rt, "memory");
     let answer = called(rt, alloc, share, seat, &parts.call(Kind::Init));

@@ -1,17 +1,15 @@
 //! Jobs that run at one mirror in two threads: each run ends well or behind the one that holds the lock, and none of their
 //! calls is refused for its lock (59) or its turn (61).
 
-ghost use Rattle.std.specs.Prelude.{◌≡◌, ◌<◌};
-ghost use Rattle.store_share.specs.Opened.{cells_of};
+ghost use Rattle.mirror_share.specs.Names.{IsNamed};
 
-use crate::holder::{begun, seat};
+use crate::holder::begun;
 use crate::holder_seat_tests::{carries, is_read, leaves};
-use crate::shares::{REVISIONS, Untold, blank, master, opened};
+use crate::shares::{REVISIONS, Untold, blank, master, opened, seat};
 use crate::values::{number_of, token};
 use fleet_disk::MemDisk;
-use holder_share::{
-    Blanks, Count, HolderMirror, HolderName, HolderNames, HolderShare, law, run_copy_revprops_at,
-    run_sync_at,
+use mirror_share::{
+    MirrorName, MirrorShare, OpenedMirror, SeatMirror, law, run_copy_revprops_at, run_sync_at,
 };
 use node_base::RevNo;
 use repo_store::RepoStore;
@@ -22,7 +20,6 @@ use std::rt::HostRuntime;
 use std::sync::Wait;
 use std::thread;
 use std::thread::Threads;
-use store_share::{OpenedStore, RowName};
 use sync_job::{JobPorts, LentMaster};
 
 // How often a job runs at most; it ends before by what it sees.
@@ -32,16 +29,16 @@ const RUNS: u32 = 100_000;
 const MISSED: u8 = 255;
 
 // One run of a job: the number of its refusal, 0 where it ends well.
-fn ran<R: Wait + Abort, N: HolderName>(
+fn ran<R: Wait + Abort, L: MirrorName>(
     rt: &R,
     alloc: Global,
-    share: &HolderShare<N, MemDisk>,
+    share: &MirrorShare<L, MemDisk>,
     source: &RepoStore<MemDisk>,
     name: &[u8],
     steal: Option<bool>,
 ) -> u8 {
     let seat = seat(rt, alloc, share, name);
-    let Ok(mirror) = HolderMirror::new(rt, alloc, share, seat) else {
+    let Ok(mirror) = SeatMirror::new(rt, alloc, share, seat) else {
         rt.abort()
     };
     let mut ports = JobPorts::new(alloc, LentMaster::new(source), mirror, Untold {});
@@ -56,10 +53,10 @@ fn ran<R: Wait + Abort, N: HolderName>(
 }
 
 // Runs until the mirror has all of the master. Another's lock ends a run (54), or that it runs (55) one that steals.
-fn runs<R: Wait + Abort, N: HolderName>(
+fn runs<R: Wait + Abort, L: MirrorName>(
     rt: &R,
     alloc: Global,
-    share: &HolderShare<N, MemDisk>,
+    share: &MirrorShare<L, MemDisk>,
     name: &[u8],
     steal: bool,
 ) -> u8 {
@@ -83,10 +80,10 @@ fn runs<R: Wait + Abort, N: HolderName>(
 }
 
 // A run more of each kind, which nobody disturbs.
-fn goes_on<R: Wait + Abort, N: HolderName>(
+fn goes_on<R: Wait + Abort, L: MirrorName>(
     rt: &R,
     alloc: Global,
-    share: &HolderShare<N, MemDisk>,
+    share: &MirrorShare<L, MemDisk>,
 ) -> bool {
     let source = master(rt, alloc);
     let synced = ran(rt, alloc, share, &source, b"c", Some(false));
@@ -96,14 +93,11 @@ fn goes_on<R: Wait + Abort, N: HolderName>(
 }
 
 // Two jobs in threads, one of which steals.
-fn run_beside<
-    R: Threads + Wait + Abort + Sync,
-    M: Count + Send + Sync,
-    C: Count + Send + Sync,
-    H: Count + Send + Sync,
-    K: Count + Send + Sync,
-    L: RowName + Send + Sync,
->(rt: &R, alloc: Global, share: &HolderShare<HolderNames<M, C, H, K, L>, MemDisk>) -> bool {
+fn run_beside<R: Threads + Wait + Abort + Sync, L: MirrorName + Send + Sync>(
+    rt: &R,
+    alloc: Global,
+    share: &MirrorShare<L, MemDisk>,
+) -> bool {
     let mut first = seat(rt, alloc, share, b"i");
     let number = begun(rt, alloc, share, &mut first);
     share.leave(rt, first);
@@ -124,29 +118,23 @@ pub(crate) enum Case {
     Beside,
 }
 
-fn judged<
-    R: Threads + Wait + Abort + Sync,
-    M: Count + Send + Sync,
-    C: Count + Send + Sync,
-    H: Count + Send + Sync,
-    K: Count + Send + Sync,
-    L: RowName + Send + Sync,
->(rt: &R, alloc: Global, opened: OpenedStore<MemDisk>, blanks: Blanks, case: Case) -> bool
-    requires row { cells_of opened ≡ L.cells }
-    requires merged { (blanks.merged.name ≡ M.name) × (blanks.merged.parts ≡ M.parts) × (M.all ≡ M.parts) × (0 < M.all) }
-    requires copying { (blanks.copying.name ≡ C.name) × (blanks.copying.parts ≡ C.parts) × (C.all ≡ C.parts) × (0 < C.all) }
-    requires head { (blanks.head.name ≡ H.name) × (blanks.head.parts ≡ H.parts) × (H.all ≡ H.parts) × (0 < H.all) }
-    requires holder { (blanks.holder.name ≡ K.name) × (blanks.holder.parts ≡ K.parts) × (K.all ≡ K.parts) × (0 < K.all) }
+fn judged<R: Threads + Wait + Abort + Sync, L: MirrorName + Send + Sync>(
+    rt: &R,
+    alloc: Global,
+    opened: OpenedMirror<MemDisk>,
+    case: Case,
+) -> bool
+    requires { IsNamed opened L.cells L.merged L.copying L.head L.holder }
 {
     law::a_run_is_served();
-    let share = HolderShare::<HolderNames<M, C, H, K, L>, MemDisk>::of(alloc, opened, blanks);
+    let share = MirrorShare::<L, MemDisk>::of(alloc, opened);
     let answer = match case {
         Case::Carries => carries(rt, alloc, &share),
         Case::Leaves => leaves(rt, alloc, &share),
         Case::Read => is_read(rt, alloc, &share),
         Case::Beside => run_beside(rt, alloc, &share),
     };
-    let store = share.close().into_book().into_book().into_store();
+    let store = share.close().into_book().into_store();
     let head = store.repo().head();
     let _disk = store.into_disk();
     match case {
@@ -157,7 +145,7 @@ fn judged<
 
 pub(crate) fn passes<R: Threads + Wait + Abort + Sync>(rt: &R, alloc: Global, case: Case) -> bool {
     let opened = opened(rt, alloc, blank(rt, alloc));
-    judged::<R, Brand, Brand, Brand, Brand, Brand>(rt, alloc, opened, Blanks::new(), case)
+    judged::<R, Brand>(rt, alloc, opened, case)
 }
 
 #[test]

@@ -1,11 +1,12 @@
 //! Seats at one mirror: who holds its lock, what a holder's looks tell, and what is left when it lets go.
 
 use crate::calls::{Kind, Parts};
-use crate::holder::{begun, called, is_at, seat};
+use crate::holder::{begun, is_at};
 use crate::holder_run_tests::{Case, passes};
+use crate::shares::{called, seat};
 use crate::values::{number_of, token};
 use fleet_disk::MemDisk;
-use holder_share::{HolderName, HolderSeat, HolderShare};
+use mirror_share::{JobSeat, MirrorName, MirrorShare};
 use node_base::RevNo;
 use std::alloc::Global;
 use std::process::Abort;
@@ -14,11 +15,11 @@ use std::sync::Wait;
 use sync_core::MirrorCall;
 
 // A seat without the lock: its calls are refused (59), it can't take it (54), and it can't steal it (55).
-fn is_outside<R: Wait + Abort, N: HolderName>(
+fn is_outside<R: Wait + Abort, L: MirrorName>(
     rt: &R,
     alloc: Global,
-    share: &HolderShare<N, MemDisk>,
-    seat: &mut HolderSeat<N>,
+    share: &MirrorShare<L, MemDisk>,
+    seat: &mut JobSeat<L>,
 ) -> bool {
     let token = token(rt, alloc, b"b");
     let number = RevNo::new(1);
@@ -32,12 +33,12 @@ fn is_outside<R: Wait + Abort, N: HolderName>(
 }
 
 // The calls of one revision, each done, with calls of another seat between them.
-fn copies<R: Wait + Abort, N: HolderName>(
+fn copies<R: Wait + Abort, L: MirrorName>(
     rt: &R,
     alloc: Global,
-    share: &HolderShare<N, MemDisk>,
-    seat: &mut HolderSeat<N>,
-    other: &mut HolderSeat<N>,
+    share: &MirrorShare<L, MemDisk>,
+    seat: &mut JobSeat<L>,
+    other: &mut JobSeat<L>,
 ) -> bool {
     let parts = Parts::new(alloc, b"a").expect(rt, "memory");
     let copying = called(rt, alloc, share, seat, &parts.call(Kind::Copying));
@@ -57,10 +58,10 @@ fn copies<R: Wait + Abort, N: HolderName>(
 
 // While a seat holds the lock its looks tell what its own calls left, whichever seats call between; and the lock is free
 // behind its release.
-pub(crate) fn carries<R: Wait + Abort, N: HolderName>(
+pub(crate) fn carries<R: Wait + Abort, L: MirrorName>(
     rt: &R,
     alloc: Global,
-    share: &HolderShare<N, MemDisk>,
+    share: &MirrorShare<L, MemDisk>,
 ) -> bool {
     let a = token(rt, alloc, b"a");
     let b = token(rt, alloc, b"b");
@@ -102,10 +103,10 @@ pub(crate) fn carries<R: Wait + Abort, N: HolderName>(
 }
 
 // Where the holder leaves, its token comes in again, and the lock stays until it is stolen.
-pub(crate) fn leaves<R: Wait + Abort, N: HolderName>(
+pub(crate) fn leaves<R: Wait + Abort, L: MirrorName>(
     rt: &R,
     alloc: Global,
-    share: &HolderShare<N, MemDisk>,
+    share: &MirrorShare<L, MemDisk>,
 ) -> bool {
     let a = token(rt, alloc, b"a");
     let b = token(rt, alloc, b"b");
@@ -130,10 +131,10 @@ pub(crate) fn leaves<R: Wait + Abort, N: HolderName>(
 }
 
 // A reader sees a revision once it is committed, and reads it.
-pub(crate) fn is_read<R: Wait + Abort, N: HolderName>(
+pub(crate) fn is_read<R: Wait + Abort, L: MirrorName>(
     rt: &R,
     alloc: Global,
-    share: &HolderShare<N, MemDisk>,
+    share: &MirrorShare<L, MemDisk>,
 ) -> bool {
     let mut reader = share.enter_reader(rt, alloc).expect(rt, "a seat");
     let number = RevNo::new(1);

@@ -19,8 +19,6 @@ mod growth_tests;
 #[cfg(test)]
 mod holder;
 #[cfg(test)]
-mod holder_growth_tests;
-#[cfg(test)]
 mod holder_run_tests;
 #[cfg(test)]
 mod holder_seat_tests;

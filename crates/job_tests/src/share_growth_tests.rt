@@ -1,28 +1,27 @@
 //! Growths that are refused: the test here answers for a refusal itself, at whatever growth it comes. A preloaded malloc
 //! that answers nothing once, or `rt try --test --fail-alloc N`, refuses one.
 
-ghost use Rattle.std.specs.Prelude.{◌≡◌};
-ghost use Rattle.store_share.specs.Opened.{cells_of};
+ghost use Rattle.mirror_share.specs.Names.{IsNamed};
 
 use crate::calls::{Came, LIFE, Parts, came_of};
 use crate::shares::some_opened;
 use crate::values::number_of;
 use fleet_disk::{DiskFile, MemDisk};
-use mirror_share::{JobSeat, MirrorShare};
+use mirror_share::{JobSeat, MirrorName, MirrorShare, OpenedMirror};
 use node_base::RevNo;
 use std::alloc::Global;
 use std::marker::Brand;
 use std::rt::HostRuntime;
 use std::sync::Wait;
-use store_share::{OpenedStore, ReaderSeat, RowName};
+use store_share::ReaderSeat;
 use sync_core::{MirrorCall, Numbers, Reply};
 
 // How the mirror stands; None where memory is refused.
-fn told<R: Wait, L: RowName>(
+fn told<R: Wait, L: MirrorName>(
     rt: &R,
     alloc: Global,
     share: &MirrorShare<L, MemDisk>,
-    seat: &JobSeat<L>,
+    seat: &mut JobSeat<L>,
 ) -> Option<Numbers> {
     match share.step(rt, alloc, seat, &MirrorCall::Look) {
         Ok(Reply::Seen(standing)) => Some(Numbers::of(&standing)),
@@ -32,11 +31,11 @@ fn told<R: Wait, L: RowName>(
 
 // A call. Behind a refusal (70) the mirror stands as before, and the call is done when it is made again; behind a failure
 // of the disk (31) it stands as before, and no call is taken any more (32).
-fn made<R: Wait, L: RowName>(
+fn made<R: Wait, L: MirrorName>(
     rt: &R,
     alloc: Global,
     share: &MirrorShare<L, MemDisk>,
-    seat: &JobSeat<L>,
+    seat: &mut JobSeat<L>,
     reader: &mut ReaderSeat<L>,
     call: &MirrorCall<'_>,
 ) -> Came {
@@ -51,11 +50,11 @@ fn made<R: Wait, L: RowName>(
 }
 
 // The calls of a mirror of one revision, up to one that isn't done.
-fn lives<R: Wait, L: RowName>(
+fn lives<R: Wait, L: MirrorName>(
     rt: &R,
     alloc: Global,
     share: &MirrorShare<L, MemDisk>,
-    seat: &JobSeat<L>,
+    seat: &mut JobSeat<L>,
     reader: &mut ReaderSeat<L>,
     parts: &Parts,
 ) -> Came {
@@ -69,21 +68,21 @@ fn lives<R: Wait, L: RowName>(
 }
 
 // Whether a reader who has seen the commit reads it.
-fn is_read<L: RowName>(share: &MirrorShare<L, MemDisk>, reader: &mut ReaderSeat<L>) -> bool {
+fn is_read<L: MirrorName>(share: &MirrorShare<L, MemDisk>, reader: &mut ReaderSeat<L>) -> bool {
     reader.seen() == RevNo::new(1) && share.read_at(reader, RevNo::new(1)).is_some()
 }
 
-fn judged<R: Wait, L: RowName>(
+fn judged<R: Wait, L: MirrorName>(
     rt: &R,
     alloc: Global,
     share: &MirrorShare<L, MemDisk>,
     parts: &Parts,
 ) -> Option<bool> {
     let mut reader = share.enter_reader(rt, alloc).ok()?;
-    let Ok(seat) = share.enter_job(rt, alloc, &parts.token) else {
+    let Ok(mut seat) = share.enter_job(rt, alloc, &parts.token) else {
         return None;
     };
-    let came = lives(rt, alloc, share, &seat, &mut reader, parts);
+    let came = lives(rt, alloc, share, &mut seat, &mut reader, parts);
     share.leave(rt, seat);
     match came {
         Came::Done => Some(is_read(share, &mut reader)),
@@ -94,13 +93,13 @@ fn judged<R: Wait, L: RowName>(
 
 // A life of a mirror. None where a growth was refused before it or in its disk, else whether all was as it is to be, and
 // the disk.
-fn life<R: Wait, L: RowName>(
+fn life<R: Wait, L: MirrorName>(
     rt: &R,
     alloc: Global,
-    opened: OpenedStore<MemDisk>,
+    opened: OpenedMirror<MemDisk>,
     parts: &Parts,
 ) -> (Option<bool>, MemDisk)
-    requires { cells_of opened ≡ L.cells }
+    requires { IsNamed opened L.cells L.merged L.copying L.head L.holder }
 {
     let share = MirrorShare::<L, MemDisk>::of(alloc, opened);
     let answer = judged(rt, alloc, &share, parts);

@@ -1,13 +1,12 @@
 //! Jobs that run over a shared mirror, beside readers, and after a stop.
 
-ghost use Rattle.std.specs.Prelude.{◌≡◌};
-ghost use Rattle.store_share.specs.Opened.{cells_of};
+ghost use Rattle.mirror_share.specs.Names.{IsNamed};
 
 use crate::share_job_tests::{is_copied, one_holds, tells_props};
 use crate::shares::{REVISIONS, Untold, blank, called, master, opened, seat};
 use crate::values::{number_of, token, value};
 use fleet_disk::{MemDisk, Pick};
-use mirror_share::{JobSeat, MirrorShare, SeatMirror};
+use mirror_share::{JobSeat, MirrorName, MirrorShare, OpenedMirror, SeatMirror};
 use node_base::RevNo;
 use repo_store::RepoStore;
 use std::alloc::Global;
@@ -17,7 +16,7 @@ use std::rt::HostRuntime;
 use std::sync::Wait;
 use std::thread;
 use std::thread::Threads;
-use store_share::{OpenedStore, ReaderSeat, RowName};
+use store_share::ReaderSeat;
 use sync_core::MirrorCall;
 use sync_job::{JobPorts, LentMaster, run_copy_revprops, run_init, run_sync};
 
@@ -31,7 +30,7 @@ enum Order {
 }
 
 // The number of the refusal of a run, 0 where it ends well.
-fn ran<R: Wait + Abort, L: RowName>(
+fn ran<R: Wait + Abort, L: MirrorName>(
     rt: &R,
     alloc: Global,
     share: &MirrorShare<L, MemDisk>,
@@ -58,7 +57,7 @@ fn ran<R: Wait + Abort, L: RowName>(
 }
 
 // Begins the mirror and brings it up; the numbers of the refusals.
-fn brought_up<R: Wait + Abort, L: RowName>(
+fn brought_up<R: Wait + Abort, L: MirrorName>(
     rt: &R,
     alloc: Global,
     share: &MirrorShare<L, MemDisk>,
@@ -71,7 +70,7 @@ fn brought_up<R: Wait + Abort, L: RowName>(
 }
 
 // Whether a revision of the mirror has this log.
-fn has_log<R: Wait, L: RowName>(
+fn has_log<R: Wait, L: MirrorName>(
     rt: &R,
     share: &MirrorShare<L, MemDisk>,
     number: u16,
@@ -84,7 +83,7 @@ fn has_log<R: Wait, L: RowName>(
 }
 
 // Whether the mirror has all of its master.
-fn is_whole<R: Wait + Abort, L: RowName>(
+fn is_whole<R: Wait + Abort, L: MirrorName>(
     rt: &R,
     alloc: Global,
     share: &MirrorShare<L, MemDisk>,
@@ -102,7 +101,7 @@ fn is_whole<R: Wait + Abort, L: RowName>(
 }
 
 // A mirror is begun, brought up, and its properties are copied again.
-fn is_brought_up<R: Wait + Abort, L: RowName>(
+fn is_brought_up<R: Wait + Abort, L: MirrorName>(
     rt: &R,
     alloc: Global,
     share: &MirrorShare<L, MemDisk>,
@@ -116,7 +115,7 @@ fn is_brought_up<R: Wait + Abort, L: RowName>(
 }
 
 // Whether no revision that a reader is told as the newest is below one before, or lacks its tree, over so many looks.
-fn never_falls<R: Wait + Abort, L: RowName>(
+fn never_falls<R: Wait + Abort, L: MirrorName>(
     rt: &R,
     share: &MirrorShare<L, MemDisk>,
     mut seat: ReaderSeat<L>,
@@ -137,7 +136,7 @@ fn never_falls<R: Wait + Abort, L: RowName>(
 }
 
 // Two readers beside a job that brings the mirror up.
-fn is_read_beside<R: Threads + Wait + Abort + Sync, L: RowName + Send + Sync>(
+fn is_read_beside<R: Threads + Wait + Abort + Sync, L: MirrorName + Send + Sync>(
     rt: &R,
     alloc: Global,
     share: &MirrorShare<L, MemDisk>,
@@ -153,7 +152,7 @@ fn is_read_beside<R: Threads + Wait + Abort + Sync, L: RowName + Send + Sync>(
 }
 
 // Whether a job that was stopped between its calls is followed by one that steals its lock and brings the mirror up.
-fn goes_on<R: Wait + Abort, L: RowName>(
+fn goes_on<R: Wait + Abort, L: MirrorName>(
     rt: &R,
     alloc: Global,
     share: &MirrorShare<L, MemDisk>,
@@ -166,7 +165,7 @@ fn goes_on<R: Wait + Abort, L: RowName>(
 }
 
 // Takes the lock and says that revision 1 is being copied, and leaves it at that.
-fn leaves_off<R: Wait + Abort, L: RowName>(
+fn leaves_off<R: Wait + Abort, L: MirrorName>(
     rt: &R,
     alloc: Global,
     share: &MirrorShare<L, MemDisk>,
@@ -174,14 +173,14 @@ fn leaves_off<R: Wait + Abort, L: RowName>(
     let source = master(rt, alloc);
     let begun = ran(rt, alloc, share, &source, Order::Initialise);
     let _disk = source.into_disk();
-    let seat: JobSeat<L> = seat(rt, alloc, share, b"job");
+    let mut seat: JobSeat<L> = seat(rt, alloc, share, b"job");
     let token = token(rt, alloc, b"job");
-    let taken = called(rt, alloc, share, &seat, &MirrorCall::TakeLock(&token));
+    let taken = called(rt, alloc, share, &mut seat, &MirrorCall::TakeLock(&token));
     let copying = called(
         rt,
         alloc,
         share,
-        &seat,
+        &mut seat,
         &MirrorCall::SetCopying(RevNo::new(1)),
     );
     (begun, taken, copying) == (0, 0, 0)
@@ -199,13 +198,13 @@ pub(crate) enum Case {
     LeavesOff,
 }
 
-fn judged<R: Threads + Wait + Abort + Sync, L: RowName + Send + Sync>(
+fn judged<R: Threads + Wait + Abort + Sync, L: MirrorName + Send + Sync>(
     rt: &R,
     alloc: Global,
-    opened: OpenedStore<MemDisk>,
+    opened: OpenedMirror<MemDisk>,
     case: Case,
 ) -> (MemDisk, bool)
-    requires { cells_of opened ≡ L.cells }
+    requires { IsNamed opened L.cells L.merged L.copying L.head L.holder }
 {
     let share = MirrorShare::<L, MemDisk>::of(alloc, opened);
     let answer = match case {

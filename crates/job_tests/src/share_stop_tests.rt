@@ -1,12 +1,11 @@
 //! A device that fails under a shared mirror.
 
-ghost use Rattle.std.specs.Prelude.{◌≡◌};
-ghost use Rattle.store_share.specs.Opened.{cells_of};
+ghost use Rattle.mirror_share.specs.Names.{IsNamed};
 
 use crate::calls::{Kind, Parts};
 use crate::shares::{blank, called, seat};
 use fleet_disk::{Fuse, FuseDisk, MemDisk, Pick};
-use mirror_share::{JobSeat, MirrorShare};
+use mirror_share::{JobSeat, MirrorName, MirrorShare, OpenedMirror};
 use node_base::RevNo;
 use repo_store::RepoStore;
 use std::alloc::Global;
@@ -14,18 +13,17 @@ use std::marker::Brand;
 use std::process::Abort;
 use std::rt::HostRuntime;
 use std::sync::Wait;
-use store_share::{OpenedStore, RowName};
 use sync_core::MirrorCall;
 
 type Failing = FuseDisk<MemDisk>;
 
 // Whether a call that isn't done is told that the device failed (31), once more that it failed before (32), and a look
 // is answered; None where it is done.
-fn is_stopped<R: Wait, L: RowName>(
+fn is_stopped<R: Wait, L: MirrorName>(
     rt: &R,
     alloc: Global,
     share: &MirrorShare<L, Failing>,
-    seat: &JobSeat<L>,
+    seat: &mut JobSeat<L>,
     call: &MirrorCall<'_>,
 ) -> Option<bool> {
     let number = called(rt, alloc, share, seat, call);
@@ -41,27 +39,27 @@ fn is_stopped<R: Wait, L: RowName>(
 const FIRST: [Kind; 4] = [Kind::Init, Kind::Take, Kind::Copying, Kind::Commit];
 
 // Whether that is so of the first of them that isn't done.
-fn is_stopped_well<R: Wait + Abort, L: RowName>(
+fn is_stopped_well<R: Wait + Abort, L: MirrorName>(
     rt: &R,
     alloc: Global,
     share: &MirrorShare<L, Failing>,
 ) -> bool {
-    let seat = seat(rt, alloc, share, b"a");
+    let mut seat = seat(rt, alloc, share, b"a");
     let parts = Parts::new(alloc, b"a").expect(rt, "memory");
     for kind in &FIRST {
-        if let Some(well) = is_stopped(rt, alloc, share, &seat, &parts.call(*kind)) {
+        if let Some(well) = is_stopped(rt, alloc, share, &mut seat, &parts.call(*kind)) {
             return well;
         }
     }
     true
 }
 
-fn judged<R: Wait + Abort, L: RowName>(
+fn judged<R: Wait + Abort, L: MirrorName>(
     rt: &R,
     alloc: Global,
-    opened: OpenedStore<Failing>,
+    opened: OpenedMirror<Failing>,
 ) -> (MemDisk, bool)
-    requires { cells_of opened ≡ L.cells }
+    requires { IsNamed opened L.cells L.merged L.copying L.head L.holder }
 {
     let share = MirrorShare::<L, Failing>::of(alloc, opened);
     let answer = is_stopped_well(rt, alloc, &share);
@@ -75,7 +73,7 @@ fn fails_well<R: Wait + Abort>(rt: &R, alloc: Global, calls: u64) -> bool {
     let Ok(store) = RepoStore::open(alloc, disk) else {
         return true;
     };
-    let Ok(opened) = OpenedStore::of(alloc, store) else {
+    let Ok(opened) = OpenedMirror::of(alloc, store) else {
         rt.abort()
     };
     let (disk, answer) = judged::<R, Brand>(rt, alloc, opened);

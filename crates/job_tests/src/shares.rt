@@ -1,15 +1,16 @@
 //! The masters and mirrors that the tests share.
+ghost use Rattle.std.specs.Prelude.{◌≡◌, None};
+ghost use Rattle.mirror_share.specs.Seats.{hand_of};
 
 use crate::values::{MASTER, OTHER, created, log, number_of, some_store, token};
 use dump_load::{Change, ChangeSet};
 use fleet_disk::{Disk, MemDisk};
-use mirror_share::{JobSeat, MirrorShare};
+use mirror_share::{JobSeat, MirrorName, MirrorShare, OpenedMirror};
 use node_base::{Action, NodeKind, NodePath, Props, RevNo};
 use repo_store::RepoStore;
 use std::alloc::Global;
 use std::process::Abort;
 use std::sync::Wait;
-use store_share::{OpenedStore, RowName};
 use sync_core::MirrorCall;
 use sync_job::Report;
 
@@ -45,9 +46,9 @@ pub(crate) fn some_added(alloc: Global, at: &[u8]) -> Option<ChangeSet> {
 }
 
 /// An opened store of revision 0 alone.
-pub(crate) fn some_opened(alloc: Global) -> Option<OpenedStore<MemDisk>> {
+pub(crate) fn some_opened(alloc: Global) -> Option<OpenedMirror<MemDisk>> {
     let store = some_store(alloc, OTHER)?;
-    match OpenedStore::of(alloc, store) {
+    match OpenedMirror::of(alloc, store) {
         Ok(opened) => Some(opened),
         Err((_, store)) => {
             let _disk = store.into_disk();
@@ -74,12 +75,12 @@ pub(crate) fn master(rt: &impl Abort, alloc: Global) -> RepoStore<MemDisk> {
 }
 
 /// A mirror that is opened on a disk.
-pub(crate) fn opened<D: Disk + Drop>(rt: &impl Abort, alloc: Global, disk: D) -> OpenedStore<D> {
+pub(crate) fn opened<D: Disk + Drop>(rt: &impl Abort, alloc: Global, disk: D) -> OpenedMirror<D> {
     let store = match RepoStore::open(alloc, disk) {
         Ok(store) => store,
         Err(_refused) => rt.abort(),
     };
-    match OpenedStore::of(alloc, store) {
+    match OpenedMirror::of(alloc, store) {
         Ok(opened) => opened,
         Err(_refused) => rt.abort(),
     }
@@ -91,23 +92,25 @@ pub(crate) fn blank(rt: &impl Abort, alloc: Global) -> MemDisk {
 }
 
 /// A seat for a job.
-pub(crate) fn seat<R: Wait + Abort, L: RowName, D: Disk>(
+pub(crate) fn seat<R: Wait + Abort, L: MirrorName, D: Disk>(
     rt: &R,
     alloc: Global,
     share: &MirrorShare<L, D>,
     text: &[u8],
-) -> JobSeat<L> {
+) -> JobSeat<L>
+    ensures { hand_of result ≡ None }
+{
     share
         .enter_job(rt, alloc, &token(rt, alloc, text))
         .expect(rt, "a seat")
 }
 
 /// The number of the refusal of a call, 0 where there is none.
-pub(crate) fn called<R: Wait, L: RowName, D: Disk>(
+pub(crate) fn called<R: Wait, L: MirrorName, D: Disk>(
     rt: &R,
     alloc: Global,
     share: &MirrorShare<L, D>,
-    seat: &JobSeat<L>,
+    seat: &mut JobSeat<L>,
     call: &MirrorCall<'_>,
 ) -> u8 {
     number_of(share.step(rt, alloc, seat, call))

@@ -1,6 +1,6 @@
 -- What a seat's port was asked.
-use Rattle.std.proofs.Common.{◌≡◌, ◌≤◌, ℕ, List, [], ◌∷◌, ◌++◌, Option, Result, Ok, Err, ap, subst, ◌∙◌, arith}
-use Rattle.std.specs.Prelude.{IfOk, OnOk}
+use Rattle.std.proofs.Common.{◌≡◌, ◌≤◌, ℕ, List, [], ◌∷◌, ◌++◌, Option, Result, Ok, Err, refl, sym, ap, subst, ◌∙◌, arith}
+use Rattle.std.specs.Prelude.{IfErr, IfOk, OnOk}
 use Rattle.std.specs.List.{AllByRecursion}
 use Rattle.std.specs.Option.{option_map}
 use Rattle.store_share.specs.Seats.{known_by, seen_by}
@@ -11,11 +11,15 @@ use Rattle.sync_core.specs.declared.fault.SyncFault.{SyncFault}
 use Rattle.sync_core.specs.declared.reply.Reply.{Reply as Given}
 use Rattle.sync_core.specs.declared.reply.Reply.TheVariants as given
 use Rattle.sync_job.specs.Asked.{Asked, asked_as}
+use Rattle.sync_job.specs.Mirrors.{IsFit}
 use Rattle.sync_job.proofs.Telling.{all_append}
 use Rattle.mirror_share.specs.declared.port.SeatMirror.{SeatMirror}
+use Rattle.mirror_share.specs.Carried.{IsCarried}
+use Rattle.mirror_share.specs.Counts.{Counts}
 use Rattle.mirror_share.specs.Locked.{IsStepOf}
-use Rattle.mirror_share.specs.Ports.{reader_of, seat_of, share_of, IsSeenBy, WasAsked}
-use Rattle.mirror_share.specs.Seats.{place_of}
+use Rattle.mirror_share.specs.Refused.{IsRefusalOf}
+use Rattle.mirror_share.specs.Ports.{reader_of, seat_of, share_of, AreCarried, IsSeenBy, WasAsked}
+use Rattle.mirror_share.specs.Seats.{hand_of, place_of}
 use Rattle.mirror_share.specs.Seen.{HasSeenCommit, HasSeenHead}
 
 -- what was seen is seen for good
@@ -49,27 +53,35 @@ module _ {L : Type 0} {r : _} (old new : ReaderSeat L r) (later : seen_by old �
   seen_still [] h = tt
   seen_still (a ∷ calls) h = (record { commit = commit_on a.call a.result h.0.commit; head = head_on a.result h.0.head }, seen_still calls h.1)
 
+carried_on : (old mid new : Option Counts) (calls : List Asked) (call : Call) (result : Result Given SyncFault) → IfOk result (IsFit call) → IfErr result (IsRefusalOf call) → IsCarried mid new call result → AreCarried old calls mid
+    → AreCarried old (calls ++ asked_as call result ∷ []) new
+carried_on old mid new [] call result fit refused carried h = (fit, refused, (new, subst (λ x. IsCarried x new call result) h carried, refl))
+carried_on old mid new (b ∷ bs) call result fit refused carried h = (h.0, h.1, (h.2.0, h.2.1, carried_on h.2.0 mid new bs call result fit refused carried h.2.2))
+
 -- a call more
 pub asked_on : {R L D : Type 0} {r : _} {g : _} (first old new : SeatMirror R L D r g) (calls : List Asked) (call : Call) (result : Result Given SyncFault) → share_of new ≡ share_of old → place_of (seat_of new) ≡ place_of (seat_of old)
     → seen_by (reader_of old) ≤ seen_by (reader_of new) → ((n : ℕ) → n ≤ seen_by (reader_of old) → known_by (reader_of new) n ≡ known_by (reader_of old) n)
     → IsStepOf (share_of old) (place_of (seat_of old)) call result → OnOk result (HasSeenCommit call (known_by (reader_of new)) (seen_by (reader_of new))) → IfOk result (λ (x : Given). HasSeenHead x (seen_by (reader_of new)))
+    → IfOk result (IsFit call) → IfErr result (IsRefusalOf call) → IsCarried (hand_of (seat_of old)) (hand_of (seat_of new)) call result
     → WasAsked old first calls → WasAsked new first (calls ++ asked_as call result ∷ [])
-asked_on first old new calls call result share seat later kept stepped commit head h =
+asked_on first old new calls call result share seat later kept stepped commit head fit refused carried h =
     record {
       share = share ∙ h.share;
       seat = seat ∙ h.seat;
       steps = all_append (λ a. IsStepOf (share_of first) (place_of (seat_of first)) a.call a.result) calls (asked_as call result ∷ []) h.steps
           (subst (λ s. IsStepOf s (place_of (seat_of first)) call result) h.share (subst (λ k. IsStepOf (share_of old) k call result) h.seat stepped), tt);
       seen = all_append (λ a. IsSeenBy (reader_of new) a.call a.result) calls (asked_as call result ∷ []) (seen_still (reader_of old) (reader_of new) later kept calls h.seen) (record { commit = commit; head = head }, tt);
+      carried = carried_on (hand_of (seat_of first)) (hand_of (seat_of old)) (hand_of (seat_of new)) calls call result fit refused carried h.carried;
     }
 
 -- and none
-pub asked_still : {R L D : Type 0} {r : _} {g : _} (first old new : SeatMirror R L D r g) (calls : List Asked) → share_of new ≡ share_of old → place_of (seat_of new) ≡ place_of (seat_of old)
+pub asked_still : {R L D : Type 0} {r : _} {g : _} (first old new : SeatMirror R L D r g) (calls : List Asked) → share_of new ≡ share_of old → seat_of new ≡ seat_of old
     → seen_by (reader_of old) ≤ seen_by (reader_of new) → ((n : ℕ) → n ≤ seen_by (reader_of old) → known_by (reader_of new) n ≡ known_by (reader_of old) n)
     → WasAsked old first calls → WasAsked new first calls
 asked_still first old new calls share seat later kept h = record {
   share = share ∙ h.share;
-  seat = seat ∙ h.seat;
+  seat = ap place_of seat ∙ h.seat;
   steps = h.steps;
   seen = seen_still (reader_of old) (reader_of new) later kept calls h.seen;
+  carried = subst (λ s. AreCarried (hand_of (seat_of first)) calls (hand_of s)) (sym seat) h.carried;
 }

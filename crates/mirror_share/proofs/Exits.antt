@@ -32,7 +32,7 @@ use Rattle.sync_core.specs.declared.reply.Reply.{Reply as Given}
 use Rattle.sync_core.specs.declared.reply.Reply.TheVariants as given
 use Rattle.sync_job.specs.Mirrors.{mirror_in}
 use Rattle.sync_job.specs.StoreFaults.{fault_of}
-use Rattle.mirror_share.specs.declared.book.MirrorBook.{MirrorBook}
+use Rattle.mirror_share.specs.declared.calls.CallBook.{CallBook}
 use Rattle.mirror_share.specs.Book.{master_of, store_in, is_stuck_in, holder_of, now_of, opening_of, calls_of, jobs_of}
 use Rattle.mirror_share.specs.Causes.{IsCausedBy}
 use Rattle.mirror_share.specs.Stepped.{Stepped}
@@ -45,10 +45,10 @@ abbrev pub OnlyNow : {D : Type 0} {G : Ghosts D} → RepoStore D G → Type 0
 OnlyNow {G} store = (c : Image) → G.honest (disk_of store) → G.left_since (disk_of store) (G.clock (disk_of store)) c → G.may_leave (disk_of store) c
 
 module _ {L D : Type 0} {r : _} {g : Ghosts D} where
-  abbrev Step : MirrorBook L D r g → MirrorBook L D r g → ℕ → Call → Result Given SyncFault → Bool → Type 0
+  abbrev Step : CallBook L D r g → CallBook L D r g → ℕ → Call → Result Given SyncFault → Bool → Type 0
   Step old new seat call result b = StepsShown b (now_of old) seat call result (is_stuck_in new) (now_of new)
 
-  pub accepted_stepped : (entry : Entry) (old new : MirrorBook L D r g) (seat : ℕ) (call : Call)
+  pub accepted_stepped : (entry : Entry) (old new : CallBook L D r g) (seat : ℕ) (call : Call)
       → IsToWrite (mirror_in (now_of old)) seat call entry → is_stuck_in old ≡ false
       → Doubts (store_in old) → Doubts (store_in new) → (is_stuck_in old ≡ false → head_of (master_of old) + 1 ≡ length (revisions_of (store_in old)))
       → IsTakenIn entry (by_repository (revisions_of (store_in old)) entry) (master_of old) (master_of new)
@@ -69,7 +69,7 @@ module _ {L D : Type 0} {r : _} {g : Ghosts D} where
     jobs = jobs;
   }
 
-  pub broken_stepped : (entry : Entry) (old new : MirrorBook L D r g) (seat : ℕ) (call : Call) (x : StoreFault) (f : SyncFault)
+  pub broken_stepped : (entry : Entry) (old new : CallBook L D r g) (seat : ℕ) (call : Call) (x : StoreFault) (f : SyncFault)
       → IsToWrite (mirror_in (now_of old)) seat call entry → is_stuck_in old ≡ false → Doubts (store_in old)
       → IsBrokenOff entry (by_repository (revisions_of (store_in old)) entry) (master_of old) (master_of new) x → f ≡ fault_of x
       → IsKept (store_in new) → holder_of new ≡ holder_of old → calls_of new ≡ calls_of old → opening_of new ≡ opening_of old → jobs_of new ≡ jobs_of old
@@ -90,7 +90,7 @@ module _ {L D : Type 0} {r : _} {g : Ghosts D} where
     jobs = jobs;
   }
 
-  pub left_stepped : (entry : Entry) (old new : MirrorBook L D r g) (seat : ℕ) (call : Call) (x : StoreFault) (f : SyncFault)
+  pub left_stepped : (entry : Entry) (old new : CallBook L D r g) (seat : ℕ) (call : Call) (x : StoreFault) (f : SyncFault)
       → IsToWrite (mirror_in (now_of old)) seat call entry → is_stuck_in old ≡ false → Doubts (store_in old)
       → IsLeft entry (by_repository (revisions_of (store_in old)) entry) (master_of old) (master_of new) x → f ≡ fault_of x → OnlyNow (store_in old)
       → IsKept (store_in old) → IsKept (store_in new) → holder_of new ≡ holder_of old → calls_of new ≡ calls_of old → opening_of new ≡ opening_of old → jobs_of new ≡ jobs_of old
@@ -118,7 +118,7 @@ module _ {L D : Type 0} {r : _} {g : Ghosts D} where
       cause (inl w) = absurd (true≢false (sym w.0 ∙ works))
       cause (inr w) = left_cause (store_in old) (store_in new) (is_stuck_in new) call entry due x f p.entry l.stays w.1 same
 
-  pub hidden_stepped : (entry : Entry) (old new : MirrorBook L D r g) (seat : ℕ) (call : Call) (x : StoreFault)
+  pub hidden_stepped : (entry : Entry) (old new : CallBook L D r g) (seat : ℕ) (call : Call) (x : StoreFault)
       → IsToWrite (mirror_in (now_of old)) seat call entry → is_stuck_in old ≡ false → Doubts (store_in old) → Doubts (store_in new)
       → IsHiddenBy entry (by_repository (revisions_of (store_in old)) entry) (master_of old) (master_of new) x
       → IsKept (store_in new) → holder_of new ≡ holder_of old → opening_of new ≡ opening_of old → jobs_of new ≡ jobs_of old
@@ -140,7 +140,7 @@ module _ {L D : Type 0} {r : _} {g : Ghosts D} where
   }
 
   -- nothing is done, and a refusal or a look is answered
-  pub same_stepped : (old new : MirrorBook L D r g) (seat : ℕ) (call : Call) (result : Result Given SyncFault)
+  pub same_stepped : (old new : CallBook L D r g) (seat : ℕ) (call : Call) (result : Result Given SyncFault)
       → OnlyNow (store_in old) → IsKept (store_in old) → OnOk result (Shows (length (revisions_of (store_in old))) (notes_of (master_of old)) (repository_of (store_in old)))
       → StepsShown (is_stuck_in old) (now_of old) seat call result (is_stuck_in old) (now_of old) → IfErr result (IsCausedBy (store_in old) (store_in old) (is_stuck_in old) call) → taken_by call result ≡ []
       → master_of new ≡ master_of old → holder_of new ≡ holder_of old → calls_of new ≡ calls_of old → opening_of new ≡ opening_of old → jobs_of new ≡ jobs_of old
@@ -166,7 +166,7 @@ module _ {L D : Type 0} {r : _} {g : Ghosts D} where
   shows_all m works shows newest i h = shows i (subst (λ n. i < n) (sym (newest works)) h)
 
   -- a look is answered
-  pub told_stepped : (old : MirrorBook L D r g) (seat k : ℕ) (repo : Repository) (call : Call) (p : Planned) (s : Standing)
+  pub told_stepped : (old : CallBook L D r g) (seat k : ℕ) (repo : Repository) (call : Call) (p : Planned) (s : Standing)
       → OnlyNow (store_in old) → IsKept (store_in old) → Shows (head_of (master_of old) + 1) (notes_of (master_of old)) (repository_of (store_in old))
       → (is_stuck_in old ≡ false → head_of (master_of old) + 1 ≡ length (revisions_of (store_in old))) → is_stuck_in old ≡ false
       → repo ≡ repository_of (store_in old) → k ≡ seat → p ≡ Tell s → IsPlanned (mirror_with repo.revisions (holder_of old)) k call p
@@ -179,7 +179,7 @@ module _ {L D : Type 0} {r : _} {g : Ghosts D} where
       tt refl refl refl refl refl refl
 
   -- a call isn't planned
-  pub unplanned_stepped : (old : MirrorBook L D r g) (seat k : ℕ) (repo : Repository) (call : Call) (f : SyncFault)
+  pub unplanned_stepped : (old : CallBook L D r g) (seat k : ℕ) (repo : Repository) (call : Call) (f : SyncFault)
       → OnlyNow (store_in old) → IsKept (store_in old) → is_stuck_in old ≡ false
       → repo ≡ repository_of (store_in old) → k ≡ seat → AnswersErr (mirror_with repo.revisions (holder_of old)) k call f (mirror_with repo.revisions (holder_of old))
       → Stepped old old seat call (Err f)
@@ -193,7 +193,7 @@ module _ {L D : Type 0} {r : _} {g : Ghosts D} where
       refl refl refl refl refl refl
 
   -- an entry isn't taken, or the device failed
-  pub refused_stepped : (entry : Entry) (old new : MirrorBook L D r g) (seat : ℕ) (call : Call) (x : StoreFault) (f : SyncFault)
+  pub refused_stepped : (entry : Entry) (old new : CallBook L D r g) (seat : ℕ) (call : Call) (x : StoreFault) (f : SyncFault)
       → IsToWrite (mirror_in (now_of old)) seat call entry → is_stuck_in old ≡ false → is_stuck_in new ≡ false → Doubts (store_in old)
       → IsLeft entry (by_repository (revisions_of (store_in old)) entry) (master_of old) (master_of new) x
       ⊎ IsBrokenOff entry (by_repository (revisions_of (store_in old)) entry) (master_of old) (master_of new) x
@@ -206,7 +206,7 @@ module _ {L D : Type 0} {r : _} {g : Ghosts D} where
   refused_stepped entry old new seat call x f p works free d (inr (inr h)) same only before kept holder more first jobs = let n : true ≡ false = sym h.stuck ∙ free in absurd (cc)
 
   -- want of memory
-  pub no_memory_stepped : (old new : MirrorBook L D r g) (seat : ℕ) (call : Call) (result : Result Given SyncFault) (f : SyncFault) → result ≡ Err f → f ≡ fault.OutOfMemory → is_stuck_in old ≡ false
+  pub no_memory_stepped : (old new : CallBook L D r g) (seat : ℕ) (call : Call) (result : Result Given SyncFault) (f : SyncFault) → result ≡ Err f → f ≡ fault.OutOfMemory → is_stuck_in old ≡ false
       → OnlyNow (store_in old) → IsKept (store_in old)
       → master_of new ≡ master_of old → holder_of new ≡ holder_of old → calls_of new ≡ calls_of old → opening_of new ≡ opening_of old → jobs_of new ≡ jobs_of old
       → Stepped old new seat call result
@@ -216,6 +216,6 @@ module _ {L D : Type 0} {r : _} {g : Ghosts D} where
       (memory_cause (store_in old) (is_stuck_in old) call f out) refl master holder more first jobs)
 
   -- a cell has refused its box before
-  pub stuck_stepped : (old : MirrorBook L D r g) (seat : ℕ) (call : Call) → OnlyNow (store_in old) → IsKept (store_in old) → is_stuck_in old ≡ true → Stepped old old seat call (Err (fault.Other refusal_is.Failed))
+  pub stuck_stepped : (old : CallBook L D r g) (seat : ℕ) (call : Call) → OnlyNow (store_in old) → IsKept (store_in old) → is_stuck_in old ≡ true → Stepped old old seat call (Err (fault.Other refusal_is.Failed))
   stuck_stepped old seat call only kept stuck =
       same_stepped old old seat call (Err (fault.Other refusal_is.Failed)) only kept tt (Stuck stuck stuck refl refl) (stuck_cause (store_in old) (store_in old) (is_stuck_in old) call stuck) refl refl refl refl refl refl

@@ -7,37 +7,37 @@ use Rattle.store_share.specs.Book.{store_of, is_stuck}
 use Rattle.sync_core.specs.Copies.{call_in}
 use Rattle.sync_core.specs.Mirror.{Call}
 use Rattle.sync_job.specs.Mirrors.{MirrorNow}
-use Rattle.mirror_share.specs.declared.book.MirrorBook.{MirrorBook}
+use Rattle.mirror_share.specs.declared.calls.CallBook.{CallBook}
 use Rattle.mirror_share.specs.Jobs.{places_of}
 use Rattle.mirror_share.specs.Steps.{now_at}
 
 -- its store, with what the row shows of it
-abbrev pub master_of : {L D : Type 0} {r : _} {g : _} → MirrorBook L D r g → MasterBook L D r g
+abbrev pub master_of : {L D : Type 0} {r : _} {g : _} → CallBook L D r g → MasterBook L D r g
 master_of book = book.book
 
-abbrev pub store_in : {L D : Type 0} {r : _} {g : _} → MirrorBook L D r g → RepoStore D g
+abbrev pub store_in : {L D : Type 0} {r : _} {g : _} → CallBook L D r g → RepoStore D g
 store_in book = store_of book.book
 
 -- a cell refused its box
-abbrev pub is_stuck_in : {L D : Type 0} {r : _} {g : _} → MirrorBook L D r g → Bool
+abbrev pub is_stuck_in : {L D : Type 0} {r : _} {g : _} → CallBook L D r g → Bool
 is_stuck_in book = is_stuck book.book
 
 -- the running seat whose call took the lock
-abbrev pub holder_of : {L D : Type 0} {r : _} {g : _} → MirrorBook L D r g → Option ℕ
+abbrev pub holder_of : {L D : Type 0} {r : _} {g : _} → CallBook L D r g → Option ℕ
 holder_of book = book.holder
 
 -- the mirror as it stands
-abbrev pub now_of : {L D : Type 0} {r : _} {g : _} → MirrorBook L D r g → MirrorNow
+abbrev pub now_of : {L D : Type 0} {r : _} {g : _} → CallBook L D r g → MirrorNow
 now_of book = now_at (store_of book.book) book.holder
 
 -- the repository as it was at the opening
-abbrev pub opening_of : {L D : Type 0} {r : _} {g : _} → MirrorBook L D r g → Repository
+abbrev pub opening_of : {L D : Type 0} {r : _} {g : _} → CallBook L D r g → Repository
 opening_of book = book.opening.value
 
 -- the calls that were taken since, in order, without looks. The last one was refused by its cell where one was
-abbrev pub calls_of : {L D : Type 0} {r : _} {g : _} → MirrorBook L D r g → List Call
+abbrev pub calls_of : {L D : Type 0} {r : _} {g : _} → CallBook L D r g → List Call
 calls_of book = map call_in book.calls.items
 
 -- the tokens of the jobs that run, each at its place
-abbrev pub jobs_of : {L D : Type 0} {r : _} {g : _} → MirrorBook L D r g → List (Option (List ℕ))
+abbrev pub jobs_of : {L D : Type 0} {r : _} {g : _} → CallBook L D r g → List (Option (List ℕ))
 jobs_of book = places_of book.jobs

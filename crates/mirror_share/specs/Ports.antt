@@ -1,5 +1,5 @@
 -- A shared mirror as a port.
-use Rattle.std.specs.Prelude.{◌≡◌, List, Result, IfOk, OnOk}
+use Rattle.std.specs.Prelude.{◌≡◌, List, [], ◌∷◌, Option, Result, IfErr, IfOk, OnOk}
 use Rattle.std.specs.List.{AllByRecursion}
 use Rattle.node_base.specs.Tree.{PathMap}
 use Rattle.store_share.specs.Seats.{known_by, seen_by}
@@ -8,12 +8,15 @@ use Rattle.sync_core.specs.Mirror.{Call}
 use Rattle.sync_core.specs.declared.fault.SyncFault.{SyncFault}
 use Rattle.sync_core.specs.declared.reply.Reply.{Reply as Given}
 use Rattle.sync_job.specs.Asked.{Asked}
-use Rattle.sync_job.specs.Mirrors.{MirrorNow}
+use Rattle.sync_job.specs.Mirrors.{MirrorNow, IsFit}
 use Rattle.mirror_share.specs.declared.port.SeatMirror.{SeatMirror}
 use Rattle.mirror_share.specs.declared.seat.JobSeat.{JobSeat}
 use Rattle.mirror_share.specs.declared.share.MirrorShare.{MirrorShare}
+use Rattle.mirror_share.specs.Carried.{IsCarried}
+use Rattle.mirror_share.specs.Counts.{Counts}
 use Rattle.mirror_share.specs.Locked.{IsStepOf}
-use Rattle.mirror_share.specs.Seats.{place_of}
+use Rattle.mirror_share.specs.Refused.{IsRefusalOf}
+use Rattle.mirror_share.specs.Seats.{hand_of, place_of}
 use Rattle.mirror_share.specs.Seen.{HasSeenCommit, HasSeenHead}
 
 -- of no mirror it is known that it stands there: others may call it between the calls of the job
@@ -41,10 +44,16 @@ pub record IsSeenBy {L : Type 0} {r : _} (reader : ReaderSeat L r) (call : Call)
   pub commit : OnOk result (HasSeenCommit call (known_by reader) (seen_by reader))
   pub head : IfOk result (λ x. HasSeenHead x (seen_by reader))
 
+-- a seat's calls one after another, each as a step says of one: from what its hand counted before them to what it counts behind them
+abbrev pub AreCarried : Option Counts → List Asked → Option Counts → Type 0
+AreCarried old [] new = new ≡ old
+AreCarried old (a ∷ calls) new = IfOk a.result (IsFit a.call) × IfErr a.result (IsRefusalOf a.call) × ((next : Option Counts) × IsCarried old next a.call a.result × AreCarried next calls new)
+
 -- since the port was as the first, at the same share and seat, these calls were made, each a step of the share's book, and what was done
--- in them its reader has seen
+-- in them its reader has seen; and so were carried
 pub record WasAsked {R L D : Type 0} {r : _} {g : _} (now first : SeatMirror R L D r g) (calls : List Asked) : Type 0 where
   pub share : share_of now ≡ share_of first
   pub seat : place_of (seat_of now) ≡ place_of (seat_of first)
   pub steps : AllByRecursion (λ a. IsStepOf (share_of first) (place_of (seat_of first)) a.call a.result) calls
   pub seen : AllByRecursion (λ a. IsSeenBy (reader_of now) a.call a.result) calls
+  pub carried : AreCarried (hand_of (seat_of first)) calls (hand_of (seat_of now))

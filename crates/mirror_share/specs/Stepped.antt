@@ -10,14 +10,14 @@ use Rattle.sync_core.specs.Mirror.{Call}
 use Rattle.sync_core.specs.declared.fault.SyncFault.{SyncFault}
 use Rattle.sync_core.specs.declared.reply.Reply.{Reply as Given}
 use Rattle.sync_job.specs.Fronts.{replayed}
-use Rattle.mirror_share.specs.declared.book.MirrorBook.{MirrorBook}
+use Rattle.mirror_share.specs.declared.calls.CallBook.{CallBook}
 use Rattle.mirror_share.specs.Acceptable.{AreAcceptable}
 use Rattle.mirror_share.specs.Causes.{IsCausedBy}
 use Rattle.mirror_share.specs.Book.{master_of, store_in, is_stuck_in, now_of, opening_of, calls_of, jobs_of}
 use Rattle.mirror_share.specs.Steps.{KeepsNow, StepsShown, taken_by}
 
 -- a seat's call, and its answer
-pub record Stepped {L D : Type 0} {r : _} {g : Ghosts D} (old new : MirrorBook L D r g) (seat : ℕ) (call : Call) (result : Result Given SyncFault) : Type 0 where
+pub record Stepped {L D : Type 0} {r : _} {g : Ghosts D} (old new : CallBook L D r g) (seat : ℕ) (call : Call) (result : Result Given SyncFault) : Type 0 where
   -- it is a step of the table of the calls, or nothing changes, or the device fails, or a cell refuses its box
   pub step : StepsShown (is_stuck_in old) (now_of old) seat call result (is_stuck_in new) (now_of new)
   -- a stop at any moment of it leaves what keeps the mirror before it or after it, and one from now on what stands now
@@ -36,13 +36,13 @@ pub record Stepped {L D : Type 0} {r : _} {g : Ghosts D} (old new : MirrorBook L
   pub jobs : jobs_of new ≡ jobs_of old
 
 -- a step from that book
-pub record IsStepFrom {L D : Type 0} {r : _} {g : Ghosts D} (old : MirrorBook L D r g) (seat : ℕ) (call : Call) (result : Result Given SyncFault) : Type 0 where
-  pub new : MirrorBook L D r g
+pub record IsStepFrom {L D : Type 0} {r : _} {g : Ghosts D} (old : CallBook L D r g) (seat : ℕ) (call : Call) (result : Result Given SyncFault) : Type 0 where
+  pub new : CallBook L D r g
   pub stepped : Stepped old new seat call result
 
 -- what a book keeps: its repository is the one at the opening after the calls, each acceptable where it came, a stop keeps it, and
 -- the row shows it up to the head, which is the newest revision unless a cell refused its box
-pub record IsWhole {L D : Type 0} {r : _} {g : Ghosts D} (book : MirrorBook L D r g) : Type 0 where
+pub record IsWhole {L D : Type 0} {r : _} {g : Ghosts D} (book : CallBook L D r g) : Type 0 where
   pub replay : repository_of (store_in book) ≡ replayed (opening_of book) (calls_of book)
   pub came : AreAcceptable (opening_of book) (calls_of book)
   pub kept : IsKept (store_in book)

@@ -1,6 +1,7 @@
 //! What lies under the lock of a shared mirror.
-ghost use Rattle.std.specs.Prelude.{◌≡◌, ◌<◌, ◌≤◌, ◌⊎◌, ℕ, [], map, true, false, Some, None, Err};
+ghost use Rattle.std.specs.Prelude.{◌≡◌, ◌<◌, ◌≤◌, ◌⊎◌, ℕ, [], true, false, Some, None, is_some, is_none};
 ghost use Rattle.std.specs.Prelude.{IfOk, IfErr, OnOk, OnErr};
+ghost use Rattle.std.specs.Option.{option_map_or};
 ghost use Rattle.gate_log.specs.declared.fault.LogFault.TheVariants as log;
 ghost use Rattle.repo_core.specs.Repository.{props_at};
 ghost use Rattle.repo_core.specs.declared.fault.RepoFault.TheVariants as core;
@@ -11,143 +12,165 @@ ghost use Rattle.store_share.specs.declared.rev.Rev.{Rev as RevOf};
 ghost use Rattle.store_share.specs.Book.{head_of, store_of};
 ghost use Rattle.store_share.specs.Seats.{known_by, seen_by};
 ghost use Rattle.sync_core.specs.Calls.{call_of};
-ghost use Rattle.sync_core.specs.Copies.{call_in};
-ghost use Rattle.sync_core.specs.Plans.{IsToWrite};
-ghost use Rattle.sync_core.specs.World.{holder_left};
-ghost use Rattle.sync_job.specs.Fronts.{replayed};
-ghost use Rattle.sync_job.specs.Mirrors.{IsFit, mirror_in};
-ghost use Rattle.mirror_share.specs.Acceptable.{may_all_come};
-ghost use Rattle.mirror_share.specs.Facts.{replay_prop};
-ghost use Rattle.mirror_share.specs.Places.{job_at, IsEntryFault};
+ghost use Rattle.sync_core.specs.Mirror.{standing_of};
+ghost use Rattle.sync_job.specs.Mirrors.{IsFit};
+ghost use Rattle.mirror_share.specs.Book.{calls_of, holder_of, is_stuck_in, jobs_of, master_of, opening_of, store_in};
+ghost use Rattle.mirror_share.specs.Carried.{IsCarried};
+ghost use Rattle.mirror_share.specs.Counts.{count_of, holder_count};
+ghost use Rattle.mirror_share.specs.Places.{IsEntryFault, job_at};
 ghost use Rattle.mirror_share.specs.Refused.{IsRefusalOf};
+ghost use Rattle.mirror_share.specs.Seats.{hand_of, place_of};
 ghost use Rattle.mirror_share.specs.Seen.{HasSeenCommit, HasSeenHead};
-ghost use Rattle.mirror_share.specs.Seats.{place_of};
 
-use crate::entries::take;
-use crate::faults::fault_of;
-use crate::jobs::RunningJobs;
+use crate::blanks::Blanks;
+use crate::calls::CallBook;
+use crate::hand::Hand;
+use crate::hands::{leave_of, numbers_in, step_of};
+use crate::ledgers::Ledgers;
+use crate::name::MirrorName;
 use crate::seat::JobSeat;
 use fleet_disk::Disk;
-use node_base::{Props, Refusal, RevNo};
-use repo_core::{Entry, Repo};
+use node_base::{Props, RevNo};
+use repo_core::Repo;
 use repo_store::StoreFault;
 use std::alloc::Global;
-use std::marker::PhantomData;
-use std::snapshot::Snapshot;
-use store_share::{MasterBook, ReaderSeat, RevRow, RowName, RowNotes};
-use sync_core::{
-    KeptCall, MirrorCall, Planned, Reply, Seat, SyncFault, Token, holder_after, holder_left, plan,
-};
+use store_share::{MasterBook, ReaderSeat, RevRow, RowNotes};
+use sync_core::{MirrorCall, Reply, Seat, SyncFault, Token};
 use uuid::Uuid;
 
 /// A mirror's book: its store with what the row shows of it, the calls that were taken since it was opened, the running
-/// seat whose call took its lock, and the jobs that run. Its repository is the one at the opening after those calls, each
-/// of which was acceptable where it came.
+/// seat whose call took its lock, and the jobs that run. Its ledgers count its numbers and its holder. While nobody holds
+/// the lock it has the hand.
 #[derive(Drop)]
-pub struct MirrorBook<L: RowName, D: Disk> {
-    book: MasterBook<L, D>,
-    opening: Snapshot<Repo>,
-    calls: Vec<KeptCall>,
-    holder: Option<Seat>,
-    jobs: RunningJobs,
-    ghost replay: { repository_of (store_of book) ≡ replayed opening.value (map call_in calls.items) } by { replay_prop (repository_of (store_of book)) (replayed opening.value (map call_in calls.items)) },
-    ghost came: { may_all_come opening.value (map call_in calls.items) ≡ true },
+pub struct MirrorBook<L: MirrorName, D: Disk> {
+    book: CallBook<L, D>,
+    ledgers: Ledgers<L>,
+    spare: Option<Hand<L>>,
+    ghost merged: { is_stuck_in book ≡ false → ledgers.merged.total ≡ count_of (standing_of (revisions_of (store_in book))).merged },
+    ghost copying: { is_stuck_in book ≡ false → ledgers.copying.total ≡ count_of (standing_of (revisions_of (store_in book))).copying },
+    ghost head: { is_stuck_in book ≡ false → ledgers.head.total ≡ (standing_of (revisions_of (store_in book))).head },
+    ghost holder: { ledgers.holder.total ≡ holder_count (holder_of book) },
+    ghost url: { is_stuck_in book ≡ false → is_some (holder_of book) ≡ true → is_some (standing_of (revisions_of (store_in book))).url ≡ true },
+    ghost lock: { is_stuck_in book ≡ false → is_some (holder_of book) ≡ true → is_some (standing_of (revisions_of (store_in book))).lock ≡ true },
+    ghost spared: { is_some spare ≡ is_none (holder_of book) },
 }
 
-impl<L: RowName, D: Disk> MirrorBook<L, D> {
-    ghost use Rattle.mirror_share.specs.Book.{calls_of, holder_of, is_stuck_in, jobs_of, master_of, now_of, opening_of};
-    ghost use Rattle.mirror_share.specs.Book.{store_in};
+impl<L: MirrorName, D: Disk> MirrorBook<L, D> {
+    ghost use Rattle.mirror_share.specs.Names.{AreNamed};
     ghost use Rattle.mirror_share.specs.Stepped.{IsStepFrom, IsWhole, Stepped};
+    ghost use Rattle.mirror_share.specs.Words.{mirror_of, KeepsCounts};
 
-    /// The book of a mirror that is opened, at which nobody runs.
-    pub fn open(alloc: Global, book: MasterBook<L, D>) -> MirrorBook<L, D>
-        ensures book { master_of result ≡ book }
-        ensures opening { (opening_of result ≡ repository_of (store_of book)) × (calls_of result ≡ []) }
-        ensures nobody { (holder_of result ≡ None) × ((i : ℕ) → job_at (jobs_of result) i ≡ None) }
+    /// The book of a mirror that is opened, at which nobody runs, with ledgers that are blank.
+    pub(crate) fn open(alloc: Global, book: MasterBook<L, D>, blanks: Blanks) -> MirrorBook<L, D>
+        requires { AreNamed blanks L.merged L.copying L.head L.holder }
+        ensures book { master_of (mirror_of result) ≡ book }
+        ensures opening { (opening_of (mirror_of result) ≡ repository_of (store_of book))
+            × (calls_of (mirror_of result) ≡ []) }
+        ensures nobody { (holder_of (mirror_of result) ≡ None)
+            × ((i : ℕ) → job_at (jobs_of (mirror_of result)) i ≡ None) }
     {
-        let opening = Snapshot::of(book.repo());
+        let book = CallBook::open(alloc, book);
+        let numbers = numbers_in(book.repo());
+        let (ledgers, hand) = Ledgers::open(blanks, numbers);
         MirrorBook {
             book,
-            opening,
-            calls: Vec::new(alloc),
-            holder: None,
-            jobs: RunningJobs::new(alloc),
+            ledgers,
+            spare: Some(hand),
         }
     }
 
     /// The store's book, with all that was taken.
     pub fn into_book(self) -> MasterBook<L, D>
-        ensures { result ≡ master_of self }
+        ensures { result ≡ master_of (mirror_of self) }
     {
-        self.book
+        let MirrorBook {
+            book,
+            ledgers: _,
+            spare: _,
+        } = self;
+        book.into_book()
     }
 
     /// Does nothing: its contract says what each book keeps. Its repository is the one at the opening after the calls, of
     /// which each was acceptable where it came, whoever held the lock then. A stop keeps it, and the row shows it up to
-    /// the head, which is the newest revision unless a cell refused its box.
+    /// the head, which is the newest revision unless a cell refused its box. Its ledgers count its numbers and its holder,
+    /// and it has the hand just where nobody holds the lock.
     pub fn is_whole(&self)
-        ensures { IsWhole self.now }
+        ensures whole { IsWhole (mirror_of self.now) }
+        ensures kept { KeepsCounts self.now }
     {
-        let _ = self.book.repo();
+        self.book.is_whole();
     }
 
     /// The repository, as the calls so far have left it.
     pub fn repo(&self) -> &Repo
-        ensures { result.now ≡ repository_of (store_in self.now) }
+        ensures { result.now ≡ repository_of (store_in (mirror_of self.now)) }
     {
         self.book.repo()
     }
 
     /// The repository's identity.
     pub fn identity(&self) -> Uuid
-        ensures { result ≡ identity_of (store_in self.now) }
+        ensures { result ≡ identity_of (store_in (mirror_of self.now)) }
     {
         self.book.identity()
     }
 
     /// The running seat whose call took the sync lock.
     pub fn holder(&self) -> Option<Seat>
-        ensures { result ≡ holder_of self.now }
+        ensures { result ≡ holder_of (mirror_of self.now) }
     {
-        self.holder
+        self.book.holder()
     }
 
     /// A cell refused its box: each call is refused (32) from then on.
     pub fn is_stuck(&self) -> bool
-        ensures { result ≡ is_stuck_in self.now }
+        ensures { result ≡ is_stuck_in (mirror_of self.now) }
     {
         self.book.is_stuck()
     }
 
-    /// A seat for the job of that token. HolderRunning (55) where a job of that token runs, OutOfMemory (70).
+    /// A seat for the job of that token, which holds nothing. HolderRunning (55) where a job of that token runs,
+    /// OutOfMemory (70).
     pub fn enter_job(&mut self, alloc: Global, token: &Token) -> Result<JobSeat<L>, SyncFault>
-        ensures alone { IfOk result (λ _. (i : ℕ) → job_at (jobs_of self.old) i ≡ Some token.now → ⊥) }
-        ensures free { IfOk result (λ s. job_at (jobs_of self.old) (place_of s) ≡ None) }
-        ensures there { IfOk result (λ s. job_at (jobs_of self.new) (place_of s) ≡ Some token.now) }
+        ensures none { IfOk result (λ s. hand_of s ≡ None) }
+        ensures alone { IfOk result (λ _. (i : ℕ) → job_at (jobs_of (mirror_of self.old)) i ≡ Some token.now → ⊥) }
+        ensures free { IfOk result (λ s. job_at (jobs_of (mirror_of self.old)) (place_of s) ≡ None) }
+        ensures there { IfOk result (λ s. job_at (jobs_of (mirror_of self.new)) (place_of s) ≡ Some token.now) }
         ensures others { IfOk result (λ s. (j : ℕ) → (j ≡ place_of s → ⊥)
-            → job_at (jobs_of self.new) j ≡ job_at (jobs_of self.old) j) }
-        ensures refused { IfErr result (IsEntryFault (jobs_of self.old) token.now) }
-        ensures kept { OnErr result ((j : ℕ) → job_at (jobs_of self.new) j ≡ job_at (jobs_of self.old) j) }
-        ensures same { (master_of self.new ≡ master_of self.old) × (holder_of self.new ≡ holder_of self.old)
-            × (calls_of self.new ≡ calls_of self.old) × (opening_of self.new ≡ opening_of self.old) }
+            → job_at (jobs_of (mirror_of self.new)) j ≡ job_at (jobs_of (mirror_of self.old)) j) }
+        ensures refused { IfErr result (IsEntryFault (jobs_of (mirror_of self.old)) token.now) }
+        ensures kept { OnErr result ((j : ℕ)
+            → job_at (jobs_of (mirror_of self.new)) j ≡ job_at (jobs_of (mirror_of self.old)) j) }
+        ensures same { (master_of (mirror_of self.new) ≡ master_of (mirror_of self.old))
+            × (holder_of (mirror_of self.new) ≡ holder_of (mirror_of self.old))
+            × (calls_of (mirror_of self.new) ≡ calls_of (mirror_of self.old))
+            × (opening_of (mirror_of self.new) ≡ opening_of (mirror_of self.old)) }
     {
-        let place = self.jobs.enter(alloc, token)?;
-        Ok(JobSeat {
-            place,
-            of: PhantomData,
-        })
+        match self.book.enter_job(alloc, token) {
+            Ok(place) => Ok(JobSeat::new(place)),
+            Err(fault) => Err(fault),
+        }
     }
 
-    /// The job leaves. Where it holds the sync lock there is no holder from then on, and the lock stays.
+    /// The job leaves: its place is free. Where the seat has the hand it goes back to the book, and there is no holder from
+    /// then on; the lock stays.
     pub fn leave(&mut self, seat: JobSeat<L>)
-        ensures left { job_at (jobs_of self.new) (place_of seat) ≡ None }
-        ensures others { (j : ℕ) → (j ≡ place_of seat → ⊥) → job_at (jobs_of self.new) j ≡ job_at (jobs_of self.old) j }
-        ensures holder { holder_of self.new ≡ holder_left (holder_of self.old) (place_of seat) }
-        ensures same { (master_of self.new ≡ master_of self.old) × (calls_of self.new ≡ calls_of self.old)
-            × (opening_of self.new ≡ opening_of self.old) }
+        ensures left { job_at (jobs_of (mirror_of self.new)) (place_of seat) ≡ None }
+        ensures holder { holder_of (mirror_of self.new)
+            ≡ option_map_or (λ _. None) (hand_of seat) (holder_of (mirror_of self.old)) }
+        ensures others { (j : ℕ) → (j ≡ place_of seat → ⊥)
+            → job_at (jobs_of (mirror_of self.new)) j ≡ job_at (jobs_of (mirror_of self.old)) j }
+        ensures same { (master_of (mirror_of self.new) ≡ master_of (mirror_of self.old))
+            × (calls_of (mirror_of self.new) ≡ calls_of (mirror_of self.old))
+            × (opening_of (mirror_of self.new) ≡ opening_of (mirror_of self.old)) }
     {
-        self.holder = holder_left(self.holder, seat.seat());
-        self.jobs.leave(seat.place);
+        let MirrorBook {
+            book,
+            ledgers,
+            spare,
+        } = self;
+        leave_of(book, ledgers, spare, seat);
     }
 
     /// One call of a job: taken, or refused by the table of the calls or by what keeps the mirror. A revision that is
@@ -155,41 +178,30 @@ impl<L: RowName, D: Disk> MirrorBook<L, D> {
     /// call may stand on the disk then, and each later one but a look is refused (32). 32 too where the revision's cell
     /// refused its box: the call stands then, unseen, and each later one is refused. 36 only where the journal has no
     /// room for the call's entry. Behind any other refusal, want of memory (70) too, the disk is as it was.
+    ///
+    /// A seat that holds the lock has the hand, and gives it back with the lock. While it has it, a look tells what is
+    /// counted, and a lawful call of its job is never refused for the lock (59) or the turn (61). (A seat without the hand
+    /// whose place holds the lock can't be; it would be turned away.)
     pub fn step(
         &mut self,
         alloc: Global,
         row: &RevRow,
-        seat: &JobSeat<L>,
+        seat: &mut JobSeat<L>,
         call: &MirrorCall<'_>,
     ) -> Result<Reply, SyncFault>
         requires { row.now ≡ L.cells }
-        ensures stepped { Stepped self.old self.new (place_of seat.now) (call_of call.now) result }
+        ensures stepped { Stepped (mirror_of self.old) (mirror_of self.new) (place_of seat.old) (call_of call.now) result }
         ensures fits { IfOk result (IsFit (call_of call.now)) }
         ensures refused { IfErr result (IsRefusalOf (call_of call.now)) }
+        ensures seat { place_of seat.new ≡ place_of seat.old }
+        ensures carried { IsCarried (hand_of seat.old) (hand_of seat.new) (call_of call.now) result }
     {
-        let _head = self.book.repo().head();
-        if self.book.is_stuck() {
-            return Err(SyncFault::Other(Refusal::Failed));
-        }
-        match plan(alloc, self.book.repo(), self.holder, seat.seat(), call) {
-            Ok(Planned::Tell(standing)) => Ok(Reply::Seen(standing)),
-            Ok(Planned::Write(entry)) => self.write(alloc, row, seat.seat(), call, entry),
-            Err(fault) => Err(fault),
-        }
-    }
-
-    /// Refuses a call without a look at it: for want of memory (70), or with 32 where a cell has refused its box.
-    pub fn turn_away(&self, seat: &JobSeat<L>, call: &MirrorCall<'_>) -> SyncFault
-        ensures stepped { Stepped self.now self.now (place_of seat.now) (call_of call.now) (Err result) }
-        ensures refused { IsRefusalOf (call_of call.now) result }
-    {
-        let _ = seat;
-        let _ = call;
-        let _ = self.book.repo();
-        if self.book.is_stuck() {
-            return SyncFault::Other(Refusal::Failed);
-        }
-        SyncFault::OutOfMemory
+        let MirrorBook {
+            book,
+            ledgers,
+            spare,
+        } = self;
+        step_of(book, ledgers, spare, alloc, row, seat, call)
     }
 
     /// One call of a job, as [`MirrorBook::step`]; where it is taken the reader has seen all that the book shows then: a
@@ -198,14 +210,16 @@ impl<L: RowName, D: Disk> MirrorBook<L, D> {
         &mut self,
         alloc: Global,
         row: &RevRow,
-        seat: &JobSeat<L>,
+        seat: &mut JobSeat<L>,
         reader: &mut ReaderSeat<L>,
         call: &MirrorCall<'_>,
     ) -> Result<Reply, SyncFault>
         requires { row.now ≡ L.cells }
-        ensures stepped { IsStepFrom self.old (place_of seat.now) (call_of call.now) result }
+        ensures stepped { IsStepFrom (mirror_of self.old) (place_of seat.old) (call_of call.now) result }
         ensures fits { IfOk result (IsFit (call_of call.now)) }
         ensures refused { IfErr result (IsRefusalOf (call_of call.now)) }
+        ensures seat { place_of seat.new ≡ place_of seat.old }
+        ensures carried { IsCarried (hand_of seat.old) (hand_of seat.new) (call_of call.now) result }
         ensures commit { OnOk result (HasSeenCommit (call_of call.now) (known_by reader.new) (seen_by reader.new)) }
         ensures head { IfOk result (λ r. HasSeenHead r (seen_by reader.new)) }
         ensures later { seen_by reader.old ≤ seen_by reader.new }
@@ -224,78 +238,44 @@ impl<L: RowName, D: Disk> MirrorBook<L, D> {
 
     /// The newest revision that the reader has seen, or that the book shows; the reader has seen it then.
     pub fn latest(&mut self, reader: &mut ReaderSeat<L>) -> RevNo
-        ensures most { (seen_by reader.old ≤ result) × (head_of (master_of self.old) ≤ result) }
-        ensures one { (result ≡ seen_by reader.old) ⊎ (result ≡ head_of (master_of self.old)) }
+        ensures most { (seen_by reader.old ≤ result) × (head_of (master_of (mirror_of self.old)) ≤ result) }
+        ensures one { (result ≡ seen_by reader.old) ⊎ (result ≡ head_of (master_of (mirror_of self.old))) }
         ensures seen { seen_by reader.new ≡ result }
-        ensures known { (r : ℕ) → r ≤ head_of (master_of self.old)
-            → known_by reader.new r ≡ rev_at (repository_of (store_in self.old)) r }
+        ensures known { (r : ℕ) → r ≤ head_of (master_of (mirror_of self.old))
+            → known_by reader.new r ≡ rev_at (repository_of (store_in (mirror_of self.old))) r }
         ensures kept { (r : ℕ) → r ≤ seen_by reader.old → known_by reader.new r ≡ known_by reader.old r }
         ensures found { (r : ℕ) (x : RevOf) → known_by reader.old r ≡ Some x → known_by reader.new r ≡ Some x }
-        ensures same { (now_of self.new ≡ now_of self.old) × (is_stuck_in self.new ≡ is_stuck_in self.old)
-            × (calls_of self.new ≡ calls_of self.old) }
-        ensures safe { IsKept (store_in self.old) }
+        ensures same { (store_in (mirror_of self.new) ≡ store_in (mirror_of self.old))
+            × (holder_of (mirror_of self.new) ≡ holder_of (mirror_of self.old))
+            × (is_stuck_in (mirror_of self.new) ≡ is_stuck_in (mirror_of self.old))
+            × (calls_of (mirror_of self.new) ≡ calls_of (mirror_of self.old)) }
+        ensures safe { IsKept (store_in (mirror_of self.old)) }
     {
-        let _ = self.book.repo();
         self.book.latest(reader)
     }
 
     /// The seat of a reader, who has seen what the book shows. The notes are of the book's row.
     pub fn seat_reader(&mut self, notes: RowNotes) -> ReaderSeat<L>
         requires { cells_in notes ≡ L.cells }
-        ensures seen { seen_by result ≡ head_of (master_of self.old) }
-        ensures known { (r : ℕ) → r ≤ head_of (master_of self.old)
-            → known_by result r ≡ rev_at (repository_of (store_in self.old)) r }
-        ensures same { (now_of self.new ≡ now_of self.old) × (is_stuck_in self.new ≡ is_stuck_in self.old)
-            × (calls_of self.new ≡ calls_of self.old) }
-        ensures safe { IsKept (store_in self.old) }
+        ensures seen { seen_by result ≡ head_of (master_of (mirror_of self.old)) }
+        ensures known { (r : ℕ) → r ≤ head_of (master_of (mirror_of self.old))
+            → known_by result r ≡ rev_at (repository_of (store_in (mirror_of self.old))) r }
+        ensures same { (store_in (mirror_of self.new) ≡ store_in (mirror_of self.old))
+            × (holder_of (mirror_of self.new) ≡ holder_of (mirror_of self.old))
+            × (is_stuck_in (mirror_of self.new) ≡ is_stuck_in (mirror_of self.old))
+            × (calls_of (mirror_of self.new) ≡ calls_of (mirror_of self.old)) }
+        ensures safe { IsKept (store_in (mirror_of self.old)) }
     {
-        let _ = self.book.repo();
         self.book.seat_reader(notes)
     }
 
     /// The properties that a revision has now. NoSuchRevision (21) above the head, OutOfMemory (70).
     pub fn rev_props(&self, number: RevNo) -> Result<Props, StoreFault>
-        ensures props { IfOk result (λ p. (number ≤ head_of (master_of self.now))
-            × (p ≡ props_at (revisions_of (store_in self.now)) number)) }
+        ensures props { IfOk result (λ p. (number ≤ head_of (master_of (mirror_of self.now)))
+            × (p ≡ props_at (revisions_of (store_in (mirror_of self.now))) number)) }
         ensures refused { IfErr result (λ e. ((e ≡ fault.Repo core.NoSuchRevision)
-            × (head_of (master_of self.now) < number)) ⊎ (e ≡ fault.Log log.OutOfMemory)) }
+            × (head_of (master_of (mirror_of self.now)) < number)) ⊎ (e ≡ fault.Log log.OutOfMemory)) }
     {
-        self.book.fetch_props(number)
-    }
-
-    // The entry of a call is written: each growth first, and then the device's calls.
-    fn write(
-        &mut self,
-        alloc: Global,
-        row: &RevRow,
-        seat: Seat,
-        call: &MirrorCall<'_>,
-        entry: Entry,
-    ) -> Result<Reply, SyncFault>
-        requires row { row.now ≡ L.cells }
-        requires planned { IsToWrite (mirror_in (now_of self.old)) seat (call_of call.now) entry }
-        requires works { is_stuck_in self.old ≡ false }
-        ensures stepped { Stepped self.old self.new seat (call_of call.now) result }
-        ensures fits { IfOk result (IsFit (call_of call.now)) }
-    {
-        let _ = self.book.repo();
-        self.calls.reserve(1)?;
-        let kept = KeptCall::of(alloc, call)?;
-        match take(&mut self.book, alloc, row, entry) {
-            Ok(()) => {
-                let _ = self.book.repo();
-                self.calls.push_reserved(kept);
-                self.holder = holder_after(self.holder, seat, call);
-                Ok(Reply::Done)
-            }
-            Err(fault) => {
-                let _ = self.book.repo();
-                if self.book.is_stuck() {
-                    self.calls.push_reserved(kept);
-                    return Err(SyncFault::Other(Refusal::Failed));
-                }
-                Err(fault_of(fault))
-            }
-        }
+        self.book.rev_props(number)
     }
 }

@@ -1,6 +1,7 @@
 //! What steps of a shared mirror come to.
 ghost use Rattle.mirror_share.specs.Events.{BooksFollow, CallsMayHappen};
 ghost use Rattle.mirror_share.specs.Holding.{OthersLeaveIt, HolderIsServed};
+ghost use Rattle.mirror_share.specs.Served.{CopyIsServed, SyncIsServed};
 
 use sync_core::law::{every_run, the_holder_goes_on};
 
@@ -24,3 +25,12 @@ pub fn a_book_follows_its_mirror()
 {
     every_run();
 }
+
+/// Does nothing: its contract says how a run of a job fares at a seat, whichever seats call between its calls. Where what
+/// is said in it is right, as `run_sync` and `run_copy_revprops` say of theirs, and each of its calls was one at the seat,
+/// as [`crate::MirrorShare::step`] says of one, then from the answer to its lock call to its release none is refused for
+/// the lock (59) or the turn (61), and a look tells what its last look and its own calls since left.
+pub fn a_run_is_served()
+    ensures sync { SyncIsServed }
+    ensures copy { CopyIsServed }
+{}

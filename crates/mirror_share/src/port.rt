@@ -11,9 +11,11 @@ ghost use Rattle.sync_core.specs.declared.fault.SyncFault.TheVariants as fault;
 ghost use Rattle.sync_job.specs.Asked.{Asked, asked_as};
 ghost use Rattle.sync_job.specs.Mirrors.{MirrorNow, IsFit, Moves, Stays};
 ghost use Rattle.sync_job.specs.Telling.{IsTreeFault};
+ghost use Rattle.mirror_share.specs.Carried.{IsCarried};
 ghost use Rattle.mirror_share.specs.Refused.{IsRefusalOf};
 ghost use Rattle.mirror_share.specs.Seen.{HasSeenCommit, HasSeenHead};
 
+use crate::name::MirrorName;
 use crate::seat::JobSeat;
 use crate::share::MirrorShare;
 use fleet_disk::Disk;
@@ -21,21 +23,21 @@ use node_base::{Refusal, RevNo};
 use path_tree::Tree;
 use std::alloc::{AllocError, Global};
 use std::sync::Wait;
-use store_share::{ReaderSeat, Rev, RowName};
+use store_share::{ReaderSeat, Rev};
 use sync_core::{MirrorCall, Reply, SyncFault};
 use sync_job::MirrorPort;
 
-/// A shared mirror as one job sees it, from a job's seat and a reader's. Each call is one step of the book under the
-/// lock; trees are read without it.
+/// A shared mirror as one job sees it, from a job's seat, which carries the mirror's numbers while it holds the lock, and
+/// a reader's. Each call is one step of the book under the lock; trees are read without it.
 #[derive(Drop)]
-pub struct SeatMirror<'a, R: Wait, L: RowName, D: Disk> {
+pub struct SeatMirror<'a, R: Wait, L: MirrorName, D: Disk> {
     rt: &'a R,
     share: &'a MirrorShare<L, D>,
     seat: JobSeat<L>,
     reader: ReaderSeat<L>,
 }
 
-impl<'a, R: Wait, L: RowName, D: Disk> SeatMirror<'a, R, L, D> {
+impl<'a, R: Wait, L: MirrorName, D: Disk> SeatMirror<'a, R, L, D> {
     ghost use Rattle.mirror_share.specs.Locked.{IsShownTo};
     ghost use Rattle.mirror_share.specs.Ports.{reader_of, seat_of, share_of};
 
@@ -70,11 +72,11 @@ impl<'a, R: Wait, L: RowName, D: Disk> SeatMirror<'a, R, L, D> {
     }
 }
 
-impl<R: Wait, L: RowName, D: Disk> MirrorPort for SeatMirror<'_, R, L, D> {
+impl<R: Wait, L: MirrorName, D: Disk> MirrorPort for SeatMirror<'_, R, L, D> {
     ghost use Rattle.std.specs.Prelude.{ℕ};
     ghost use Rattle.mirror_share.specs.Locked.{IsStepOf};
     ghost use Rattle.mirror_share.specs.Ports.{reader_of, seat_of, share_of, NowhereStands, TellsNothing, WasAsked};
-    ghost use Rattle.mirror_share.specs.Seats.{place_of};
+    ghost use Rattle.mirror_share.specs.Seats.{hand_of, place_of};
 
     ghost stands = { λ _ m. NowhereStands m };
 
@@ -96,7 +98,8 @@ impl<R: Wait, L: RowName, D: Disk> MirrorPort for SeatMirror<'_, R, L, D> {
     ghost begins = { λ _. tt };
 
     /// One step of the book; where it is taken the reader has seen all that is shown then: a revision that was committed,
-    /// with its set, and the head that a look tells.
+    /// with its set, and the head that a look tells. While the seat holds the lock it carries what the mirror's numbers are
+    /// through it, so that a lawful call of its job isn't refused for the lock (59) or the turn (61).
     fn step(
         &mut self,
         alloc: Global,
@@ -106,6 +109,7 @@ impl<R: Wait, L: RowName, D: Disk> MirrorPort for SeatMirror<'_, R, L, D> {
         ensures fits { IfOk result (IsFit (call_of call.now)) }
         ensures refused { IfErr result (IsRefusalOf (call_of call.now)) }
         ensures stepped { IsStepOf (share_of self.old) (place_of (seat_of self.old)) (call_of call.now) result }
+        ensures carried { IsCarried (hand_of (seat_of self.old)) (hand_of (seat_of self.new)) (call_of call.now) result }
         ensures commit { OnOk result (HasSeenCommit (call_of call.now) (known_by (reader_of self.new))
             (seen_by (reader_of self.new))) }
         ensures head { IfOk result (λ r. HasSeenHead r (seen_by (reader_of self.new))) }
@@ -122,7 +126,7 @@ impl<R: Wait, L: RowName, D: Disk> MirrorPort for SeatMirror<'_, R, L, D> {
         ensures first { (trees : List PathMap) → TellsNothing trees → TellsNothing trees }
     {
         self.share
-            .step_by(self.rt, alloc, &self.seat, &mut self.reader, call)
+            .step_by(self.rt, alloc, &mut self.seat, &mut self.reader, call)
     }
 
     /// The tree of the revision that the reader's seat knows under that number; the newest is asked for where the seat
@@ -133,6 +137,7 @@ impl<R: Wait, L: RowName, D: Disk> MirrorPort for SeatMirror<'_, R, L, D> {
         ensures kept { (r : ℕ) → r ≤ seen_by (reader_of self.old)
             → known_by (reader_of self.new) r ≡ known_by (reader_of self.old) r }
         ensures refused { IfErr result IsTreeFault }
+        ensures hand { seat_of self.new ≡ seat_of self.old }
         ensures absent { (m : MirrorNow) → NowhereStands m → IfErr result
             (λ f. f ≡ fault.Other refusal.NoSuchRevision → tree_at m.repository.revisions number ≡ None) }
         ensures seat { place_of (seat_of self.new) ≡ place_of (seat_of self.old) }
@@ -158,7 +163,7 @@ impl<R: Wait, L: RowName, D: Disk> MirrorPort for SeatMirror<'_, R, L, D> {
 }
 
 // The revision of that number, where the reader has seen it, or has once it has asked for the newest.
-fn found<'a, R: Wait, L: RowName, D: Disk>(
+fn found<'a, R: Wait, L: MirrorName, D: Disk>(
     rt: &R,
     share: &'a MirrorShare<L, D>,
     reader: &mut ReaderSeat<L>,

@@ -1,57 +1,62 @@
 //! A mirror behind its lock, with its row beside it.
-ghost use Rattle.std.specs.Prelude.{◌≡◌, ◌≤◌, ◌⊎◌, ℕ, Some, IfOk, IfErr, IfSome, IfNone, OnOk};
+ghost use Rattle.std.specs.Prelude.{◌≡◌, ◌≤◌, ◌⊎◌, ℕ, Some, None, IfOk, IfErr, IfSome, IfNone, IsErr, IsSome, OnOk};
 ghost use Rattle.gate_log.specs.declared.fault.LogFault.TheVariants as log;
 ghost use Rattle.repo_core.specs.declared.fault.RepoFault.TheVariants as core;
 ghost use Rattle.repo_store.specs.declared.fault.StoreFault.TheVariants as fault;
 ghost use Rattle.store_share.specs.declared.rev.Rev.{Rev as RevOf};
-ghost use Rattle.store_share.specs.Opened.{cells_of};
 ghost use Rattle.store_share.specs.Seats.{known_by, seen_by};
 ghost use Rattle.sync_core.specs.Calls.{call_of};
+ghost use Rattle.sync_core.specs.Holding.{TakesLock};
 ghost use Rattle.sync_job.specs.Mirrors.{IsFit};
+ghost use Rattle.mirror_share.specs.Carried.{IsCarried};
 ghost use Rattle.mirror_share.specs.Refused.{IsRefusalOf};
-ghost use Rattle.mirror_share.specs.Seats.{place_of};
+ghost use Rattle.mirror_share.specs.Seats.{hand_of, place_of};
 ghost use Rattle.mirror_share.specs.Seen.{HasSeenCommit, HasSeenHead};
 
 use crate::book::MirrorBook;
+use crate::name::MirrorName;
+use crate::opened::OpenedMirror;
 use crate::seat::JobSeat;
 use fleet_disk::Disk;
 use node_base::{Props, RevNo};
 use repo_store::StoreFault;
 use std::alloc::{AllocError, Global};
 use std::sync::{Mutex, Wait};
-use store_share::{OpenedStore, ReaderSeat, Rev, RevRow, RowName};
+use store_share::{ReaderSeat, Rev, RevRow};
 use sync_core::{MirrorCall, Reply, SyncFault, Token};
 use uuid::Uuid;
 
 /// A mirror on a disk that several threads share.
 #[derive(Drop)]
-pub struct MirrorShare<L: RowName, D: Disk> {
+pub struct MirrorShare<L: MirrorName, D: Disk> {
     book: Mutex<MirrorBook<L, D>>,
     row: RevRow,
     ghost row_is: { row ≡ L.cells },
 }
 
-impl<L: RowName, D: Disk> MirrorShare<L, D> {
+impl<L: MirrorName, D: Disk> MirrorShare<L, D> {
     ghost use Rattle.mirror_share.specs.Locked.{row_of, HasIdentity, HasProps, IsAbove, IsEntryOf, IsKeptOut, IsLeaveOf, IsNewest};
     ghost use Rattle.mirror_share.specs.Locked.{IsShownTo, IsStepOf};
+    ghost use Rattle.mirror_share.specs.Names.{IsNamed};
     ghost use Rattle.mirror_share.specs.Stepped.{IsWhole};
+    ghost use Rattle.mirror_share.specs.Words.{mirror_of, KeepsCounts};
 
-    /// The share of an opened store under the row's name. Nobody runs there, and no seat holds the sync lock, whatever
-    /// token that has.
-    pub fn of(alloc: Global, opened: OpenedStore<D>) -> MirrorShare<L, D>
-        requires { cells_of opened ≡ L.cells }
-        ensures row { row_of result ≡ cells_of opened }
+    /// The share of an opened mirror under its name. Nobody runs there, and no seat holds the sync lock, whatever token
+    /// that has.
+    pub fn of(alloc: Global, opened: OpenedMirror<D>) -> MirrorShare<L, D>
+        requires { IsNamed opened L.cells L.merged L.copying L.head L.holder }
+        ensures row { row_of result ≡ L.cells }
     {
-        let (book, row) = opened.into_book::<L>();
+        let (book, row) = opened.into_book::<L>(alloc);
         MirrorShare {
-            book: Mutex::new(MirrorBook::open(alloc, book)),
+            book: Mutex::new(book),
             row,
         }
     }
 
     /// The book, with all that a book keeps.
     pub fn close(self) -> MirrorBook<L, D>
-        ensures { IsWhole result }
+        ensures { IsWhole (mirror_of result) × KeepsCounts result }
     {
         let MirrorShare { book, row: _ } = self;
         let book = book.into_inner();
@@ -66,37 +71,44 @@ impl<L: RowName, D: Disk> MirrorShare<L, D> {
         self.book.lock(rt).identity()
     }
 
-    /// A seat for the job of that token. HolderRunning (55) where a job of that token runs, OutOfMemory (70).
+    /// A seat for the job of that token, which holds nothing. HolderRunning (55) where a job of that token runs,
+    /// OutOfMemory (70).
     pub fn enter_job<R: Wait>(
         &self,
         rt: &R,
         alloc: Global,
         token: &Token,
     ) -> Result<JobSeat<L>, SyncFault>
+        ensures none { IfOk result (λ s. hand_of s ≡ None) }
         ensures entered { IfOk result (λ s. IsEntryOf self.now token.now (place_of s)) }
         ensures refused { IfErr result (IsKeptOut self.now token.now) }
     {
         self.book.lock(rt).enter_job(alloc, token)
     }
 
-    /// The job leaves. Where it holds the sync lock there is no holder from then on, and the lock stays.
+    /// The job leaves. Where its seat has the hand there is no holder from then on, and the lock stays.
     pub fn leave<R: Wait>(&self, rt: &R, seat: JobSeat<L>)
-        ensures { IsLeaveOf self.now (place_of seat) }
+        ensures { IsLeaveOf self.now (place_of seat) (hand_of seat) }
     {
         self.book.lock(rt).leave(seat);
     }
 
-    /// One call of a job, as the book takes it ([`MirrorBook::step`]).
+    /// One call of a job, as the book takes it ([`MirrorBook::step`]). While the seat holds the lock a look tells what is
+    /// counted, which is what its own calls left; a lawful call of its job isn't refused for the lock (59) or the turn
+    /// (61), and unless it gave the lock back it holds on and knows what is counted then. A seat that takes the lock or
+    /// steals it holds it.
     pub fn step<R: Wait>(
         &self,
         rt: &R,
         alloc: Global,
-        seat: &JobSeat<L>,
+        seat: &mut JobSeat<L>,
         call: &MirrorCall<'_>,
     ) -> Result<Reply, SyncFault>
         ensures fits { IfOk result (IsFit (call_of call.now)) }
         ensures refused { IfErr result (IsRefusalOf (call_of call.now)) }
-        ensures stepped { IsStepOf self.now (place_of seat.now) (call_of call.now) result }
+        ensures stepped { IsStepOf self.now (place_of seat.old) (call_of call.now) result }
+        ensures seat { place_of seat.new ≡ place_of seat.old }
+        ensures carried { IsCarried (hand_of seat.old) (hand_of seat.new) (call_of call.now) result }
     {
         self.book.lock(rt).step(alloc, &self.row, seat, call)
     }
@@ -107,13 +119,15 @@ impl<L: RowName, D: Disk> MirrorShare<L, D> {
         &self,
         rt: &R,
         alloc: Global,
-        seat: &JobSeat<L>,
+        seat: &mut JobSeat<L>,
         reader: &mut ReaderSeat<L>,
         call: &MirrorCall<'_>,
     ) -> Result<Reply, SyncFault>
         ensures fits { IfOk result (IsFit (call_of call.now)) }
         ensures refused { IfErr result (IsRefusalOf (call_of call.now)) }
-        ensures stepped { IsStepOf self.now (place_of seat.now) (call_of call.now) result }
+        ensures stepped { IsStepOf self.now (place_of seat.old) (call_of call.now) result }
+        ensures seat { place_of seat.new ≡ place_of seat.old }
+        ensures carried { IsCarried (hand_of seat.old) (hand_of seat.new) (call_of call.now) result }
         ensures commit { OnOk result (HasSeenCommit (call_of call.now) (known_by reader.new) (seen_by reader.new)) }
         ensures head { IfOk result (λ r. HasSeenHead r (seen_by reader.new)) }
         ensures later { seen_by reader.old ≤ seen_by reader.new }
@@ -122,6 +136,25 @@ impl<L: RowName, D: Disk> MirrorShare<L, D> {
         self.book
             .lock(rt)
             .step_by(alloc, &self.row, seat, reader, call)
+    }
+
+    /// The same of a seat beside another one: while that one has the hand, no call of this one takes the lock or steals it.
+    pub fn step_beside<R: Wait>(
+        &self,
+        rt: &R,
+        alloc: Global,
+        holder: &mut JobSeat<L>,
+        seat: &mut JobSeat<L>,
+        call: &MirrorCall<'_>,
+    ) -> Result<Reply, SyncFault>
+        ensures fits { IfOk result (IsFit (call_of call.now)) }
+        ensures refused { IfErr result (IsRefusalOf (call_of call.now)) }
+        ensures stepped { IsStepOf self.now (place_of seat.old) (call_of call.now) result }
+        ensures alone { IsSome (hand_of holder.old) → TakesLock (call_of call.now) → IsErr result }
+    {
+        let answer = self.step(rt, alloc, seat, call);
+        holder.is_alone(seat);
+        answer
     }
 
     /// The seat of a reader, who has seen what is shown now. Only want of memory (70) refuses it.

@@ -5,7 +5,7 @@ ghost use Rattle.svn_ends.specs.Ports.{takes_none};
 
 use crate::port::SharePort;
 use fleet_disk::Disk;
-use mirror_share::MirrorShare;
+use mirror_share::{MirrorName, MirrorShare};
 use std::alloc::{AllocError, Global};
 use std::sync::Wait;
 use store_share::RowName;
@@ -15,7 +15,7 @@ pub type MirrorSharePort<'a, R, L, D> = SharePort<'a, R, L, MirrorShare<L, D>>;
 
 /// The port of a session over a mirror's share, whose seat has seen what is shown now. It takes no changes. Only want of
 /// memory (70) refuses it.
-pub fn over_mirror<'a, R: Wait, L: RowName, D: Disk>(
+pub fn over_mirror<'a, R: Wait, L: MirrorName, D: Disk>(
     rt: &'a R,
     alloc: Global,
     share: &'a MirrorShare<L, D>,

@@ -9,7 +9,7 @@ ghost use Rattle.svn_ends.specs.Served.{IsOfStore};
 use crate::shares::ServedShare;
 use crate::talk::{ShareSessions, root_url};
 use fleet_disk::Disk;
-use mirror_share::MirrorShare;
+use mirror_share::{MirrorName, MirrorShare};
 use repo_store::RepoStore;
 use sockets::{Limits, SocketFault, Teller, Troubles};
 use std::alloc::Global;
@@ -110,7 +110,7 @@ fn serve_opened<
 /// with. A session that ends badly ends itself alone, and its trouble is told, as there.
 pub fn serve_mirror<
     R: Net<Listener = TcpListener, Stream = TcpStream> + Threads + Wait + Clock + Sync,
-    L: RowName + Send + Sync,
+    L: MirrorName + Send + Sync,
     D: Disk + Drop + Send,
     W: Write,
     T: Teller + Sync,

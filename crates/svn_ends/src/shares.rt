@@ -8,7 +8,7 @@ ghost use Rattle.store_share.specs.Seats.{known_by, seen_by};
 
 use fleet_disk::Disk;
 use gate_log::LogFault;
-use mirror_share::MirrorShare;
+use mirror_share::{MirrorName, MirrorShare};
 use node_base::{PropName, Props, RevNo};
 use repo_core::Expected;
 use repo_store::StoreFault;
@@ -108,7 +108,7 @@ impl<L: RowName, D: Disk> ServedShare<L> for MasterShare<L, D> {
     }
 }
 
-impl<L: RowName, D: Disk> ServedShare<L> for MirrorShare<L, D> {
+impl<L: MirrorName, D: Disk> ServedShare<L> for MirrorShare<L, D> {
     ghost use Rattle.mirror_share.specs.Locked.{HasIdentity, HasProps};
 
     ghost has_identity = { λ share identity. HasIdentity share identity };

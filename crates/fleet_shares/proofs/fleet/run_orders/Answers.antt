@@ -1,19 +1,19 @@
 use Rattle.store_share.specs.Opened.{cells_of}
 use Rattle.fleet_shares.specs.Opening.{cells_at}
-use Rattle.fleet_shares.proofs.Telling.{answered_over, own_cells}
+use Rattle.fleet_shares.proofs.Telling.{answered_over, own_names}
 use Rattle.fleet_shares.proofs.fleet.run_orders.Goals as goal
 
 pub run_opened-requires-clause-first : goal.run_opened-requires-clause-first
-run_opened-requires-clause-first g c κs within = own_cells c.in-Ok.opened.first
+run_opened-requires-clause-first g c κs within = own_names _ c.in-Ok.opened.first
 
 pub run_opened-requires-clause-second : goal.run_opened-requires-clause-second
-run_opened-requires-clause-second g c κs within = own_cells c.in-Ok.opened.second
+run_opened-requires-clause-second g c κs within = own_names _ c.in-Ok.opened.second
 
 pub run_opened-requires-clause-third : goal.run_opened-requires-clause-third
-run_opened-requires-clause-third g c κs within = own_cells c.in-Ok.opened.third
+run_opened-requires-clause-third g c κs within = own_names _ c.in-Ok.opened.third
 
 pub run_opened-requires-clause-fourth : goal.run_opened-requires-clause-fourth
-run_opened-requires-clause-fourth g c κs within = own_cells c.in-Ok.opened.fourth
+run_opened-requires-clause-fourth g c κs within = own_names _ c.in-Ok.opened.fourth
 
 pub returns-in-Ok-clause-answers : goal.returns-in-Ok-clause-answers
 returns-in-Ok-clause-answers g c =

@@ -5,7 +5,7 @@ use Rattle.fleet_shares.proofs.job.run_on.Goals as goal
 
 pub returns-in-Ok : goal.returns-in-Ok
 returns-in-Ok g c =
-    answered_well c.args.master.now c.args.mirror.now c.args.order.now c.latest.result c.latest.new.reader c.run_seated-ended.result.1 c.in-Ok.field-0 c.in-Ok.is c.run_seated-ended.ensures c.latest.ensures.seen
+    answered_well c.args.master.now c.args.mirror.now c.args.order.now c.latest.result c.latest.new.reader c.run_seated-seat.result.1 c.in-Ok.field-0 c.in-Ok.is c.run_seated-seat.ensures c.latest.ensures.seen
 
 pub returns-in_err-seat : goal.returns-in_err-seat
 returns-in_err-seat g c =

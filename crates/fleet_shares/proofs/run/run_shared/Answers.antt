@@ -9,15 +9,15 @@ use Rattle.fleet_shares.proofs.run.run_shared.Goals as goal
 pub start-requires-send-J : goal.start-requires-send-J
 start-requires-send-J g c κs within =
     let b = c.type_bounds in
-    let s = shares_send _ _ _ _ _ _ g.M.RowName g.L0.RowName g.L1.RowName g.L2.RowName g.L3.RowName g.D.Disk b.send-M b.send-L0 b.send-L1 b.send-L2 b.send-L3 b.send-D in
-    let t = shares_sync _ _ _ _ _ _ g.M.RowName g.L0.RowName g.L1.RowName g.L2.RowName g.L3.RowName g.D.Disk b.send-M b.send-L0 b.send-L1 b.send-L2 b.send-L3 b.send-D in
+    let s = shares_send _ _ _ _ _ _ g.M.RowName g.L0.MirrorName g.L0.RowName g.L1.MirrorName g.L1.RowName g.L2.MirrorName g.L2.RowName g.L3.MirrorName g.L3.RowName g.D.Disk b.send-M b.send-L0 b.send-L1 b.send-L2 b.send-L3 b.send-D in
+    let t = shares_sync _ _ _ _ _ _ g.M.RowName g.L0.MirrorName g.L0.RowName g.L1.MirrorName g.L1.RowName g.L2.MirrorName g.L2.RowName g.L3.MirrorName g.L3.RowName g.D.Disk b.send-M b.send-L0 b.send-L1 b.send-L2 b.send-L3 b.send-D in
     search (sendable, crosses) depth 20
 
 pub start-requires-sync-J : goal.start-requires-sync-J
 start-requires-sync-J g c κs within =
     let b = c.type_bounds in
-    let s = shares_send _ _ _ _ _ _ g.M.RowName g.L0.RowName g.L1.RowName g.L2.RowName g.L3.RowName g.D.Disk b.send-M b.send-L0 b.send-L1 b.send-L2 b.send-L3 b.send-D in
-    let t = shares_sync _ _ _ _ _ _ g.M.RowName g.L0.RowName g.L1.RowName g.L2.RowName g.L3.RowName g.D.Disk b.send-M b.send-L0 b.send-L1 b.send-L2 b.send-L3 b.send-D in
+    let s = shares_send _ _ _ _ _ _ g.M.RowName g.L0.MirrorName g.L0.RowName g.L1.MirrorName g.L1.RowName g.L2.MirrorName g.L2.RowName g.L3.MirrorName g.L3.RowName g.D.Disk b.send-M b.send-L0 b.send-L1 b.send-L2 b.send-L3 b.send-D in
+    let t = shares_sync _ _ _ _ _ _ g.M.RowName g.L0.MirrorName g.L0.RowName g.L1.MirrorName g.L1.RowName g.L2.MirrorName g.L2.RowName g.L3.MirrorName g.L3.RowName g.D.Disk b.send-M b.send-L0 b.send-L1 b.send-L2 b.send-L3 b.send-D in
     search (sendable, crosses) depth 20
 
 pub returns : goal.returns

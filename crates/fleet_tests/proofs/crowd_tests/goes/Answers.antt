@@ -11,7 +11,7 @@ pub map_indices-requires-sync-F : goal.map_indices-requires-sync-F
 map_indices-requires-sync-F g c κs within =
     let b = c.type_bounds in
     let m = master.share_sync _ _ g.M.RowName ghosts b.send-M disk.the_send in
-    let one = mirror.share_sync _ _ g.A.RowName g.D.Disk b.send-A b.send-D in
-    let other = mirror.share_sync _ _ g.B.RowName g.D.Disk b.send-B b.send-D in
+    let one = mirror.share_sync _ _ g.A.MirrorName g.A.RowName g.D.Disk b.send-A b.send-D in
+    let other = mirror.share_sync _ _ g.B.MirrorName g.B.RowName g.D.Disk b.send-B b.send-D in
     let r = b.sync-R in
     search (sendable, crosses, board.the_sync) depth 30

@@ -6,5 +6,5 @@ use Rattle.job_tests.proofs.share_run_tests.is_read_beside.Goals as goal
 
 pub join-all-requires-send-F : goal.join-all-requires-send-F
 join-all-requires-send-F g c κs within =
-    let a = share_sync _ _ g.L.RowName ghosts c.type_bounds.send-L disk.the_send in
+    let a = share_sync _ _ g.L.MirrorName g.L.RowName ghosts c.type_bounds.send-L disk.the_send in
     search sendable depth 20

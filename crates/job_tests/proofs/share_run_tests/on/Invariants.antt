@@ -1,5 +1,8 @@
-use Rattle.store_share.specs.Opened.{cells_of}
+use Rattle.mirror_share.specs.Names.{ledgers_named, row_named}
 use Rattle.job_tests.proofs.share_run_tests.on.Given as goal
 
-abbrev pub ghosts-judged : goal.ghosts-judged
-ghosts-judged g a = record { cells = cells_of a.opened }
+abbrev pub ghosts-judged-L-MirrorName : goal.ghosts-judged-L-MirrorName
+ghosts-judged-L-MirrorName g a = ledgers_named a.opened
+
+abbrev pub ghosts-judged-L-RowName : goal.ghosts-judged-L-RowName
+ghosts-judged-L-RowName g a = row_named a.opened

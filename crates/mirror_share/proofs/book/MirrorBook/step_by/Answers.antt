@@ -10,8 +10,8 @@ use Rattle.mirror_share.proofs.book.MirrorBook.step_by.Goals as goal
 
 pub returns-in-Ok-clause-commit : goal.returns-in-Ok-clause-commit
 returns-in-Ok-clause-commit g c =
-    commit_seen (is_stuck_in c.args.self.now) (is_stuck_in c.step.new.self) (now_of c.args.self.now) (now_of c.step.new.self) (place_of c.args.seat.now) (call_of c.args.call.now) c.in-Ok.reply
-    (head_of (master_of c.step.new.self)) (seen_by c.latest-newest.new.reader) (known_by c.latest-newest.new.reader)
+    commit_seen (is_stuck_in c.args.self.now.book) (is_stuck_in c.step.new.self.book) (now_of c.args.self.now.book) (now_of c.step.new.self.book) (place_of c.args.seat.now) (call_of c.args.call.now) c.in-Ok.reply
+    (head_of (master_of c.step.new.self.book)) (seen_by c.latest-newest.new.reader) (known_by c.latest-newest.new.reader)
     (subst (λ (r : Repository). 0 < length r.revisions) c.repo.ensures.value c.head-head.ensures.begun)
     (subst (λ (r : Repository). length r.sets ≡ length r.revisions) c.repo.ensures.value c.head-head.ensures.sets)
-    c.in-Ok.ensures.stepped.step c.repo-in-Ok.ensures.newest (subst (λ (n : ℕ). head_of (master_of c.step.new.self) ≤ n) (sym c.latest-newest.ensures.seen) c.latest-newest.ensures.most.1) c.latest-newest.ensures.known
+    c.in-Ok.ensures.stepped.step c.repo-in-Ok.ensures.newest (subst (λ (n : ℕ). head_of (master_of c.step.new.self.book) ≤ n) (sym c.latest-newest.ensures.seen) c.latest-newest.ensures.most.1) c.latest-newest.ensures.known
