@@ -12,21 +12,21 @@ copies() {
 }
 
 copies 40 >"$work/copies"
-timeout 60 ./svnfleet canon <"$work/copies" >"$work/out" 2>"$work/errors"
+timeout 60 "$program" canon <"$work/copies" >"$work/out" 2>"$work/errors"
 check '40 copies of the root: canon' test $? -eq 0
 check '40 copies of the root: each revision is written' test "$(grep -c '^Revision-number: ' "$work/out")" -eq 42
-./svnfleet create "$work/copied" --uuid $uuid
-timeout 60 ./svnfleet load "$work/copied" <"$work/copies" >"$work/out" 2>"$work/errors"
+"$program" create "$work/copied" --uuid $uuid
+timeout 60 "$program" load "$work/copied" <"$work/copies" >"$work/out" 2>"$work/errors"
 check '40 copies of the root: load' test $? -eq 0
 check '40 copies of the root: the last line' test "$(tail -n 1 "$work/out")" = 'Loaded revision 41.'
-timeout 60 ./svnfleet dump "$work/copied" -r 41:41 >"$work/out" 2>"$work/errors" </dev/null
+timeout 60 "$program" dump "$work/copied" -r 41:41 >"$work/out" 2>"$work/errors" </dev/null
 check '40 copies of the root: an opening' test $? -eq 0
 check '40 copies of the root: the newest copy' grep -q '^Node-copyfrom-rev: 40$' "$work/out"
 
 # the file has 64 names behind 63 copies, and one more name is past the limit
 copies 64 >"$work/copies"
-./svnfleet create "$work/copied_deep" --uuid $uuid
-timeout 60 ./svnfleet load "$work/copied_deep" <"$work/copies" >"$work/out" 2>"$work/errors"
+"$program" create "$work/copied_deep" --uuid $uuid
+timeout 60 "$program" load "$work/copied_deep" <"$work/copies" >"$work/out" 2>"$work/errors"
 check '64 copies of the root: status' test $? -eq 1
 check '64 copies of the root: the last line' test "$(tail -n 1 "$work/out")" = 'Loaded revision 64.'
 check '64 copies of the root: its number' test "$(cat "$work/errors")" = 'svnfleet: 8 limit exceeded'

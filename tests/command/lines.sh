@@ -5,7 +5,7 @@
 wrong() {
     help=$1
     shift
-    ./svnfleet "$@" >"$work/out" 2>"$work/errors" </dev/null
+    "$program" "$@" >"$work/out" 2>"$work/errors" </dev/null
     check "wrong words '$*': status 2" test $? -eq 2
     check "wrong words '$*': one line" test "$(wc -l <"$work/errors")" -eq 1
     check "wrong words '$*': nothing on standard output" test ! -s "$work/out"
@@ -69,15 +69,15 @@ wrong svnfleet 'frö b'
 shows 'frö b'
 
 # Subversion takes no log message with a carriage return
-./svnfleet create "$work/returns" --uuid $uuid </dev/null
+"$program" create "$work/returns" --uuid $uuid </dev/null
 wrong 'svnfleet mkdir' mkdir "$work/returns" a --message "$(printf 'a\r\nb')" --moment 1
 check 'a message with CR LF: the line' test "$(cat "$work/errors")" = 'svnfleet: "a\r\nb" is not a message without carriage returns (svnfleet mkdir --help tells more)'
 wrong 'svnfleet mkdir' mkdir "$work/returns" a --message "$(printf 'a\r')" --moment 1
 wrong 'svnfleet mkdir' mkdir "$work/returns" a --message "$(printf '\ra')" --moment 1
 refused 'a message with a carriage return is not committed' 21 dump "$work/returns" -r 1:1
-./svnfleet mkdir "$work/returns" a --message "$(printf 'a\nb')" --moment 1 >"$work/out" 2>"$work/errors" </dev/null
+"$program" mkdir "$work/returns" a --message "$(printf 'a\nb')" --moment 1 >"$work/out" 2>"$work/errors" </dev/null
 check 'a message of two lines: status' test $? -eq 0
-./svnfleet dump "$work/returns" -r 1:1 >"$work/out" </dev/null
+"$program" dump "$work/returns" -r 1:1 >"$work/out" </dev/null
 printf 'K 7\nsvn:log\nV 3\na\nb\nPROPS-END\n' >"$work/expected"
 tail -c +76 "$work/out" | sed -n '/^svn:log$/,/^PROPS-END$/p' >"$work/log"
 sed -n '2,$p' "$work/expected" >"$work/expected.log"

@@ -136,15 +136,17 @@ def idle(program, folder):
 
 def slow(program, folder):
     """A client that sends a byte now and then, for longer than it may say nothing, has its answer."""
-    with Server(program, f'{folder}/small', 1, '--timeout', '1') as server:
+    # (seconds, so that no machine under load lets the client be silent for as long)
+    with Server(program, f'{folder}/small', 1, '--timeout', '5') as server:
         since = time.monotonic()
         with server.connect() as peer:
-            for byte in client_opening(server.port) + LATEST:
+            said = client_opening(server.port) + LATEST
+            for byte in said:
                 peer.sendall(bytes([byte]))
-                time.sleep(0.02)
+                time.sleep(6 / len(said))
             peer.shutdown(socket.SHUT_WR)
             wants(rest(peer) == opening(server.port) + latest(1), 'it is told something else')
-        quickly(since, 1.2, 30, 'the session')
+        quickly(since, 6, 60, 'the session')
         server.ends()
 
 

@@ -16,7 +16,7 @@ removing() {
 # answers NAME COMMAND STATUS LINE: what the command answers to the delta in that file within 20 seconds; its output is in $work/out
 answers() {
     changed "$work/block" >"$work/removing"
-    timeout 20 ./svnfleet "$2" <"$work/removing" >"$work/out" 2>"$work/errors"
+    timeout 20 "$program" "$2" <"$work/removing" >"$work/out" 2>"$work/errors"
     check "$1: status" test $? -eq "$3"
     check "$1: standard error" test "$(cat "$work/errors")" = "$4"
 }

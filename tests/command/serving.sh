@@ -4,7 +4,7 @@
 wrong_value() {
     name=$1 line=$2
     shift 2
-    ./svnfleet "$@" >"$work/out" 2>"$work/errors" </dev/null
+    "$program" "$@" >"$work/out" 2>"$work/errors" </dev/null
     check "$name: status 2" test $? -eq 2
     check "$name: its line" test "$(cat "$work/errors")" = "$line"
 }
@@ -50,10 +50,10 @@ refused 'serve of no folder' 34 serve '' --port 3690 --connections 1
 refused 'serve of a file' 31 serve examples/first.dump --port 3690 --connections 1
 check 'an empty folder stays so' test -z "$(ls "$work/unserved")"
 
-./svnfleet create "$work/served" --uuid $uuid </dev/null
-./svnfleet load "$work/served" <examples/first.dump >"$work/out"
+"$program" create "$work/served" --uuid $uuid </dev/null
+"$program" load "$work/served" <examples/first.dump >"$work/out"
 port=$(free_port)
-timeout 120 ./svnfleet serve "$work/served" --port "$port" --connections 2 >"$work/serving" 2>"$work/serving.errors" </dev/null &
+timeout 120 "$program" serve "$work/served" --port "$port" --connections 2 >"$work/serving" 2>"$work/serving.errors" </dev/null &
 server=$!
 check 'serve says where it listens' listens "$work/serving" "$port"
 refused 'load beside a server' 31 load "$work/served"
@@ -67,10 +67,10 @@ wait $server
 check 'serve ends with its connections' test $? -eq 0
 check 'serve: its line alone' test "$(cat "$work/serving")" = "listening on 127.0.0.1:$port"
 check 'serve: nothing on standard error' test ! -s "$work/serving.errors"
-./svnfleet dump "$work/served" >"$work/out" </dev/null
+"$program" dump "$work/served" >"$work/out" </dev/null
 check 'serve: the repository stays' test "$(grep -c '^Revision-number: ' "$work/out")" -eq 3
 if [ -c /dev/full ]; then
-    timeout 120 ./svnfleet serve "$work/served" --port "$(free_port)" --connections 1 >/dev/full 2>"$work/errors" </dev/null
+    timeout 120 "$program" serve "$work/served" --port "$(free_port)" --connections 1 >/dev/full 2>"$work/errors" </dev/null
     check 'serve to a full disk: status 1' test $? -eq 1
     check 'serve to a full disk: its number' test "$(cat "$work/errors")" = 'svnfleet: 49 stream failed'
 fi

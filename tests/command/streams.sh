@@ -16,7 +16,7 @@ closed() {
     shift
     : >"$work/out"
     : >"$work/errors"
-    eval './svnfleet "$@" <"$work/hello" >"$work/out" 2>"$work/errors"' "$closed"
+    eval '"$program" "$@" <"$work/hello" >"$work/out" 2>"$work/errors"' "$closed"
     status=$?
 }
 
@@ -35,7 +35,7 @@ gave() {
 
 # keeps NAME FOLDER DUMP: the folder opens, and its whole dump is that
 keeps() {
-    ./svnfleet dump "$2" >"$work/out" 2>"$work/errors" </dev/null
+    "$program" dump "$2" >"$work/out" 2>"$work/errors" </dev/null
     check "$1: the folder opens" test $? -eq 0
     check "$1: what the folder keeps" cmp -s "$work/out" "$3"
 }

@@ -8,7 +8,7 @@ first_version() {
 }
 # upgraded NAME COUNT FOLDER: an upgrade tells so many entries, and nothing else
 upgraded() {
-    ./svnfleet upgrade "$3" >"$work/out" 2>"$work/errors" </dev/null
+    "$program" upgrade "$3" >"$work/out" 2>"$work/errors" </dev/null
     check "$1: status" test $? -eq 0
     check "$1: its line" test "$(cat "$work/out")" = "Upgraded $2 entries."
     check "$1: nothing on standard error" test ! -s "$work/errors"
@@ -19,21 +19,21 @@ same() {
 }
 
 first_version "$work/old"
-./svnfleet dump "$work/old" >"$work/out" 2>"$work/errors" </dev/null
+"$program" dump "$work/old" >"$work/out" 2>"$work/errors" </dev/null
 check 'the first version: a dump is the journal' cmp -s "$work/out" "$work/small/journal"
 check 'the first version: a dump makes no slots' test ! -e "$work/old/slots"
 cp -r "$work/old" "$work/old_changed"
 printf H | dd of="$work/old_changed/journal" bs=1 seek=228 conv=notrunc 2>"$work/errors"
-./svnfleet dump "$work/old_changed" -r 1:1 >"$work/out" 2>"$work/errors" </dev/null
+"$program" dump "$work/old_changed" -r 1:1 >"$work/out" 2>"$work/errors" </dev/null
 check 'the first version: a changed byte is not found' grep -q '^Hi$' "$work/out"
 cp -r "$work/old" "$work/old_grown"
-./svnfleet mkdir "$work/old_grown" b --message hi --moment 1 >"$work/out" 2>"$work/errors" </dev/null
+"$program" mkdir "$work/old_grown" b --message hi --moment 1 >"$work/out" 2>"$work/errors" </dev/null
 check 'the first version: it takes a change' test "$(cat "$work/out")" = 'Committed revision 2.'
 check 'the first version: one gate more' test "$(wc -c <"$work/old_grown/gate")" -eq 28
 check 'the first version: a change makes no slots' test ! -e "$work/old_grown/slots"
-./svnfleet dump "$work/old_grown" >"$work/old_dump" </dev/null
+"$program" dump "$work/old_grown" >"$work/old_dump" </dev/null
 upgraded 'upgrade of three entries' 3 "$work/old_grown"
-./svnfleet dump "$work/old_grown" >"$work/out" </dev/null
+"$program" dump "$work/old_grown" >"$work/out" </dev/null
 check 'upgrade of three entries: the same dump' cmp -s "$work/out" "$work/old_dump"
 
 upgraded 'upgrade' 2 "$work/old"
@@ -61,13 +61,13 @@ refused 'upgrade of no folder' 34 upgrade ''
 if command -v flock >/dev/null 2>&1; then
     first_version "$work/old_held"
     cp -r "$work/old_held" "$work/old_unheld"
-    flock "$work/old_held/journal" ./svnfleet upgrade "$work/old_held" >"$work/out" 2>"$work/errors" </dev/null
+    flock "$work/old_held/journal" "$program" upgrade "$work/old_held" >"$work/out" 2>"$work/errors" </dev/null
     check 'upgrade beside another: its number' test "$(cat "$work/errors")" = 'svnfleet: 31 device failed'
     same 'upgrade beside another: the files stay' "$work/old_held" "$work/old_unheld"
 fi
 if [ -c /dev/full ]; then
     first_version "$work/old_unsaid"
-    ./svnfleet upgrade "$work/old_unsaid" >/dev/full 2>"$work/errors" </dev/null
+    "$program" upgrade "$work/old_unsaid" >/dev/full 2>"$work/errors" </dev/null
     check 'an upgrade that cannot be told: its number' test "$(cat "$work/errors")" = 'svnfleet: 49 stream failed'
     same 'an upgrade that cannot be told: it is made' "$work/old_unsaid" "$work/small"
 fi

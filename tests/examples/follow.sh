@@ -218,13 +218,14 @@ check 'follow: nothing is done' not has mirror 10
 # a server that keeps its mirror up
 port=$(a_port)
 rm -f listening
-timeout 100 "$examples/serve-and-follow" archive mirror "$port" 1 >listening 2>errors </dev/null &
+timeout 100 "$examples/serve-and-follow" archive mirror "$port" 1 >listening 2>errors.server </dev/null &
 serving=$!
 listens listening
 check 'serve-and-follow: it has brought the mirror up' test "$(newest "$port")" = 10
 grows archive eleven
 for _ in $(seq 50); do test "$(newest "$port")" = 11 && break; sleep 0.2; done
 check 'serve-and-follow: it brings along what is new' test "$(newest "$port")" = 11
+check 'serve-and-follow: it tells nothing of the server that it ended' test ! -s errors.server
 size=$(length mirror)
 began=$(grep -c listening listening)
 sleep 2.5

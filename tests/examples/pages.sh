@@ -19,9 +19,9 @@ block_below() {
 
 # placed BLOCK: the block with this run's places and port
 placed() {
-    printf '%s\n' "$1" | sed "s|/usr/lib/svnfleet|$top/examples|g; s|/usr/local/bin|$pages/bin|g; s|/usr/local/share|$pages/share|g
+    printf '%s\n' "$1" | sed "s|/usr/lib/svnfleet|$top/examples|g; s|/usr/local/bin|$pages/bin|g; s|/usr/local/share|$pages/share|g; s|/usr/local/lib|$pages/lib|g
         s|/usr/bin/svnfleet|$pages/bin/svnfleet|g; s|/srv/svn|$pages/srv|g; s|/var/lib/svnfleet|$pages/var|g
-        s|/etc/|$pages/etc/|g; s| -o svnfleet||; s|3690|$port|g; s|^[^ ]* [^ ]* \* \* \* ||"
+        s|/etc/|$pages/etc/|g; s| -o svnfleet||; s|3691|$port|g; s|^[^ ]* [^ ]* \* \* \* ||"
 }
 
 # typed BLOCK: what these lines print, where each of them ends well
@@ -40,9 +40,10 @@ operated() {
 serves() {
     tried=$((tried + 1))
     placed "$(block_below "$operating" "$1" "$2")" | sed 's/^/exec /' >server.sh
+    rm -f listening
     PATH="$pages/bin:$PATH" bash server.sh >listening 2>errors.server </dev/null &
     serving=$!
-    for _ in $(seq 100); do grep -q listening listening && break; sleep 0.1; done
+    listens listening
     check "OPERATING: $1, block $2" grep -qx "listening on 127.0.0.1:$port" listening
 }
 
@@ -60,10 +61,10 @@ pages=$work/pages
 operating=$top/docs/OPERATING.md
 port=$(python3 -c 'import socket; it = socket.socket(); it.bind(("127.0.0.1", 0)); print(it.getsockname()[1])')
 tried=0
-mkdir -p "$pages/bin" "$pages/srv" "$pages/etc/systemd/system" "$pages/readme" "$pages/manual"
+mkdir -p "$pages/bin" "$pages/lib" "$pages/srv" "$pages/etc/systemd/system" "$pages/readme" "$pages/manual"
 # What only root can do is told in a file; a tunnel is there already.
 printf '#!/bin/sh\nexec "$@"\n' >"$pages/bin/sudo"
-for it in systemctl useradd chown chgrp ssh; do
+for it in systemctl useradd chown chgrp ssh dpkg; do
     printf '#!/bin/sh\necho "%s $*" >>"%s/called"\n' "$it" "$pages" >"$pages/bin/$it"
 done
 chmod +x "$pages/bin/"*
@@ -71,12 +72,16 @@ chmod +x "$pages/bin/"*
 # ---- README
 
 cd "$pages/readme" || exit 1
-ln -s "$top/release" "$top/examples" .
+ln -s "$top/release" "$top/examples" "$top/docs" "$top/completions" "$top/tools" .
 svnadmin create "$pages/srv/project"
 printf 'one\n' >text && svn import -q -m one text "file://$pages/srv/project/a.txt"
 for i in $(seq 2 16); do committed "$i"; done
+check 'README: a package' typed "$(block_of "$top/README.md" 'sudo dpkg')"
+check 'README: it is there' test -f "$(sed -n 's/^dpkg -i //p' "$pages/called")"
 check 'README: an installation' typed "$(block_of "$top/README.md" 'sudo install')"
 check 'README: it prints the version' grep -q '^svnfleet [0-9]' said
+check 'README: the manual page' cmp "$pages/share/man/man1/svnfleet.1" "$top/docs/svnfleet.1"
+check 'README: the completion' cmp "$pages/share/bash-completion/completions/svnfleet" "$top/completions/svnfleet.bash"
 ln -sf "$program" "$pages/bin/svnfleet"
 check 'README: an archive and a mirror' typed "$(block_of "$top/README.md" 'svnfleet create archive')"
 check 'README: it loads all' grep -qx 'Loaded revision 16.' said
@@ -85,13 +90,14 @@ check 'README: the mirror is brought up' grep -qx 'Committed revision 16.' said
 
 # ---- docs/OPERATING.md
 
-cd "$pages" || exit 1
 operated 'Prepare a machine' 1
-check 'OPERATING: the user is made' grep -qx 'useradd --system svnfleet' called
+cd "$pages" || exit 1
+check 'OPERATING: the scripts' test -x lib/svnfleet/follow
+check 'OPERATING: the units' test "$(ls etc/systemd/system)" = "$(ls "$examples/systemd")"
 operated 'Prepare a machine' 2
-check 'OPERATING: the units have the user' test "$(cat etc/systemd/system/svnfleet-*@.service.d/user.conf | grep -cx User=svn)" -eq 4
+check 'OPERATING: the user is made' grep -qx 'useradd --system svnfleet' called
 operated 'Prepare a machine' 3
-check 'OPERATING: the group has the folder' test "$(tail -n 1 called) $(stat -c %A var)" = "chgrp -R svn $pages/var drwxrws---"
+check 'OPERATING: the units have the user' test "$(cat etc/systemd/system/svnfleet-*@.service.d/user.conf | grep -cx User=svn)" -eq 4
 cd "$pages/var" || exit 1
 
 operated 'Begin an archive' 1
@@ -105,6 +111,9 @@ operated 'Begin an archive' 4
 check 'OPERATING: the newest revision' test "$(cat said)" = 20
 
 operated 'Feed an archive by a hook' 1
+operated 'Feed an archive by a hook' 2
+check 'OPERATING: the group has the folder' test "$(tail -n 1 "$pages/called") $(stat -c %A .)" = "chgrp -R svn $pages/var drwxrws---"
+check 'OPERATING: the group may write the archive' test "$(stat -c %A archive | cut -c 6) $(stat -c %A archive/* | cut -c 6 | uniq)" = 'w w'
 check 'OPERATING: a commit' committed 21
 check 'OPERATING: the hook archives it' has archive 21
 hook=$pages/srv/project/hooks/post-commit
@@ -164,7 +173,9 @@ check 'OPERATING: a run by the timer' typed "$(block_below "$operating" 'Keep a 
 
 serves 'Serve an archive or a mirror' 1
 identity=$(sed -n '3s/^UUID: //p' archive/journal)
-operated 'Mirror an archive on another machine' 1 "s/UUID/$identity/"
+operated 'Mirror an archive on another machine' 1
+check 'OPERATING: the tunnel is opened' grep -qx "ssh -fN -o ServerAliveInterval=30 -L $port:127.0.0.1:$port archive.example.org" "$pages/called"
+operated 'Mirror an archive on another machine' 2 "s/UUID/$identity/"
 check 'OPERATING: a mirror over svn:// is brought up' grep -qx 'Committed revision 25.' said
 operated 'Serve an archive or a mirror' 2
 check 'OPERATING: the copy has all' test "$(svnlook youngest "$pages/srv/copy")" -eq 25
@@ -204,9 +215,10 @@ operated 'Upgrade' 1
 check 'OPERATING: nothing to upgrade' test "$(cat said)" = "$(printf 'Upgraded 0 entries.\nUpgraded 0 entries.')"
 operated 'Monitor' 1
 check 'OPERATING: no lag' test "$(cat said)" = "$(printf '25\n25\n25')"
+rm -f listening
 "$program" serve mirror --port "$port" --connections 1 >listening </dev/null &
 serving=$!
-for _ in $(seq 100); do grep -q listening listening && break; sleep 0.1; done
+listens listening
 operated 'Monitor' 2
 wait $serving
 check 'OPERATING: a served mirror tells its last merged revision' test "$(cat said)" = 25
@@ -214,9 +226,10 @@ operated 'Monitor' 3
 
 # a client of a server makes the archive a mirror
 cp -r archive kept
+rm -f listening
 "$program" serve archive --port "$port" --connections 1 >listening </dev/null &
 serving=$!
-for _ in $(seq 100); do grep -q listening listening && break; sleep 0.1; done
+listens listening
 svn propset -q --revprop -r 0 svn:sync-from-url x "svn://127.0.0.1:$port/"
 wait $serving
 "$program" load archive >said 2>errors </dev/null
@@ -262,14 +275,26 @@ check 'manual: an incremental dump' typed "$(printf '%s\n' "$block" | tail -n 1)
 check 'manual: it loads the four' test "$(grep -c '^Loaded' said)" -eq 4
 check 'manual: a mirror' typed "$(block_of "$top/docs/svnfleet.1" 'initialize mirror')"
 check 'manual: a mirror is brought up' grep -qx 'Committed revision 20.' said
+rm -f lines
 "$program" serve archive --port "$port" --connections 2 >lines </dev/null &
 serving=$!
-for _ in $(seq 100); do grep -q listening lines && break; sleep 0.1; done
+listens lines
 identity=$(sed -n '3s/^UUID: //p' archive/journal)
 check 'manual: a mirror over svn://' typed "$(block_of "$top/docs/svnfleet.1" 'initialize copy' | sed "s/UUID/$identity/")"
 check 'manual: it is brought up' grep -qx 'Committed revision 20.' said
 wait $serving
 check 'manual: the server ends well' test $? -eq 0
+for mirror in other third; do
+    "$program" create $mirror --uuid $uuid </dev/null
+    "$program" initialize $mirror archive </dev/null >lines
+done
+check 'manual: a fleet' typed "$(block_of "$top/docs/svnfleet.1" 'svnfleet fleet')"
+check 'manual: it tells each' test "$(cat said)" = "$(printf 'mirror: head 20\nother: head 20\nthird: head 20')"
+svnadmin create "$pages/srv/again"
+printf '#!/bin/sh\n' >"$pages/srv/again/hooks/pre-revprop-change"
+chmod +x "$pages/srv/again/hooks/pre-revprop-change"
+check 'manual: a copy by svnsync' typed "$(block_of "$top/docs/svnfleet.1" 'svnsync init' | sed '1s|$| >served \& sleep 1|; s|/srv/svn/copy|/srv/svn/again|; $s|$|; kill %1|')"
+check 'manual: the copy has all' test "$(svnlook youngest "$pages/srv/again")" -eq 20
 check 'manual: a journal is loaded' typed "$(block_of "$top/docs/svnfleet.1" 'load new' | sed "s/UUID/$identity/")"
 check 'manual: it has all' grep -qx 'Loaded revision 20.' said
 cd "$work" || exit 1
