@@ -1,0 +1,245 @@
+-- What a reading client's commands are answered, by what stands in the repository and where the session stands.
+use Rattle.std.specs.Prelude.{◌≡◌, ℕ, ◌==◌, nat_le, not, is_none, is_some, Bool, true, false, List, [], ◌∷◌, ◌++◌, map, length, Option, Some, None, unwrap_or, Ok, Err, codes, if◌then◌else◌}
+use Rattle.std.specs.Fmt.{decimal}
+use Rattle.std.specs.Option.{option_map, option_map_or}
+use Rattle.std.specs.Str.{bytes_eq}
+use Rattle.std.specs.FinMap as finite
+use Rattle.md5.specs.Md5.{md5}
+use Rattle.hex.specs.Hex.{encode_lower}
+use Rattle.node_base.specs.Path.{Path, Name}
+use Rattle.node_base.specs.Props.{PropMap}
+use Rattle.node_base.specs.Tree.{PathMap, kind_of}
+use Rattle.node_base.specs.declared.node.Node.{Node}
+use Rattle.dump_load.specs.Faults.{first_of, fault_if}
+use Rattle.path_tree.specs.Children.{children_of}
+use Rattle.repo_core.specs.Repository.{Repository, head_of, props_at}
+use Rattle.ra_item.specs.Items.{Item, Word, Number, Text, spell}
+use Rattle.ra_wire.specs.Answers.{Dirent}
+use Rattle.ra_wire.specs.Commands as plain
+use Rattle.ra_wire.specs.Commands.{truth_word}
+use Rattle.ra_wire.specs.Replies.{list, success, string, properties, dirent, node_kind_word, number, proplist, value, kind_is, authorised, done}
+use Rattle.browse_wire.specs.Asks.{Ask, Plain, Stat, Reparent, GetLock, GetLocks}
+use Rattle.browse_wire.specs.AskReading.{Reading}
+use Rattle.browse_wire.specs.Urls.{Url, url_read}
+use Rattle.browse_wire.specs.declared.fault.BrowseFault.{BrowseFault}
+use Rattle.browse_wire.specs.declared.fault.BrowseFault.TheVariants as browse
+use Rattle.ra_serve.specs.declared.fault.PortFault.{PortFault}
+use Rattle.ra_serve.specs.Answers.{asked, node_in, refused, text_wanted}
+use Rattle.ra_serve.specs.Ports.{refusal_of, tree_of, IsOwn}
+use Rattle.ra_serve.specs.Sessions.{identity_text}
+use Rattle.browse_wire.specs.declared.url.UrlFault.{UrlFault}
+use Rattle.std.specs.Prelude.{Result}
+use Rattle.ra_browse.specs.declared.denial.Denial.{Denial}
+use Rattle.ra_browse.specs.declared.denial.Denial.TheVariants as denial
+use Rattle.ra_browse.specs.Denials.{denied, unless_denied}
+
+-- ---- looking
+
+-- a revision above the head
+abbrev pub no_revision : Repository → ℕ → Option Denial
+no_revision x n = fault_if (nat_le (length x.revisions) n) denial.NoRevision
+
+-- when a revision was made, and by whom
+pub record Made : Type 0 where
+  pub date : Option (List ℕ)
+  pub author : Option (List ℕ)
+
+abbrev pub made_in : PropMap → Made
+made_in props = record { date = finite.get props (codes "svn:date"); author = finite.get props (codes "svn:author") }
+
+abbrev pub made_of : Repository → ℕ → Made
+made_of x n = made_in (props_at x.revisions n)
+
+-- of what stands somewhere: of the revision that last changed it
+abbrev pub made_for : Repository → Option Node → Made
+made_for x None = made_in finite.empty
+made_for x (Some d) = made_of x d.changed
+
+abbrev pub has_props : Node → Bool
+has_props d = not (finite.len d.props == 0)
+
+-- ---- a node
+
+-- a directory has no size
+abbrev pub size_told : Option (List ℕ) → ℕ
+size_told None = 18446744073709551615
+size_told (Some text) = length text
+
+-- kind size has-props created-rev [ date ] [ author ]
+abbrev pub node_told : Node → Made → Item
+node_told d m = list (Word (node_kind_word (kind_of d)) ∷ Number (size_told d.text) ∷ Word (truth_word (has_props d)) ∷ Number d.changed ∷ string m.date ∷ string m.author ∷ [])
+
+abbrev pub stat_told : Option Node → Made → Item
+stat_told None m = success (list [] ∷ [])
+stat_told (Some d) m = success (list (node_told d m ∷ []) ∷ [])
+
+-- ---- properties of a node
+
+abbrev pub perhaps : List ℕ → Option (List ℕ) → List (Name × List ℕ)
+perhaps name None = []
+perhaps name (Some v) = (name, v) ∷ []
+
+-- what is told as properties beside a node's own: which revision last changed it, when and by whom, and the repository's identity
+abbrev pub entry_props : List ℕ → Node → Made → List (Name × List ℕ)
+entry_props identity d m = (codes "svn:entry:committed-rev", decimal d.changed) ∷ (perhaps (codes "svn:entry:committed-date") m.date ++ (perhaps (codes "svn:entry:last-author") m.author ++ (codes "svn:entry:uuid", identity) ∷ []))
+
+abbrev pub props_told : Bool → List ℕ → Node → Made → List (Name × List ℕ)
+props_told wanted identity d m = if wanted then finite.entries d.props ++ entry_props identity d m else []
+
+-- ---- files
+
+-- a file that is looked at: nothing is there, or a directory
+abbrev pub file_denied : Option Node → Option Denial
+file_denied None = Some denial.NoPath
+file_denied (Some f) = fault_if (is_none f.text) denial.NotFile
+
+-- [ md5 ] rev ( props )
+abbrev pub file_found : List ℕ → ℕ → List (Name × List ℕ) → Item
+file_found sum n props = success (list (Text sum ∷ []) ∷ Number n ∷ properties props ∷ [])
+
+abbrev pub file_with : ℕ → Bool → Bool → List ℕ → Made → Node → List ℕ → List ℕ
+file_with n props contents identity m f text = spell (file_found (encode_lower (md5 text)) n (props_told props identity f m)) ++ text_wanted contents text
+
+-- a file: its sum, the revision, its properties and its text, these two where they are wanted
+abbrev pub file_bytes : ℕ → Bool → Bool → List ℕ → Made → Option Node → List ℕ
+file_bytes n props contents identity m None = []
+file_bytes n props contents identity m (Some f) = file_with n props contents identity m f (unwrap_or f.text [])
+
+abbrev pub file_told : ℕ → Bool → Bool → List ℕ → Made → Option Node → List ℕ
+file_told n props contents identity m f = unless_denied (file_denied f) (file_bytes n props contents identity m f)
+
+-- ---- directories
+
+-- a directory that is looked at: nothing is there, or a file
+abbrev pub dir_denied : Option Node → Option Denial
+dir_denied None = Some denial.NoPath
+dir_denied (Some d) = fault_if (is_some d.text) denial.NotDir
+
+-- an entry, with when and by whom it was last changed
+abbrev pub entry_with : Name × Node → Made → Dirent
+entry_with c m = record { name = c.0; kind = kind_of c.1; size = length (unwrap_or c.1.text []); has_props = has_props c.1; created = c.1.changed; date = m.date; author = m.author }
+
+abbrev pub entry_of : Repository → Name × Node → Dirent
+entry_of x c = entry_with c (made_of x c.1.changed)
+
+abbrev pub entries_in : Repository → List (Name × Node) → List Dirent
+entries_in x cs = map (entry_of x) cs
+
+-- what lies right in a directory, in the order of the names
+abbrev pub entries_wanted : Bool → Repository → Path → PathMap → List Dirent
+entries_wanted wanted x p tree = if wanted then entries_in x (children_of p tree) else []
+
+-- rev ( props ) ( entry .. )
+abbrev pub dir_found : ℕ → List (Name × List ℕ) → List Dirent → Item
+dir_found n props entries = success (Number n ∷ properties props ∷ list (map dirent entries) ∷ [])
+
+abbrev pub dir_bytes : ℕ → Bool → List ℕ → Made → List Dirent → Option Node → List ℕ
+dir_bytes n props identity m entries None = []
+dir_bytes n props identity m entries (Some d) = spell (dir_found n (props_told props identity d m) entries)
+
+abbrev pub dir_told : ℕ → Bool → List ℕ → Made → List Dirent → Option Node → List ℕ
+dir_told n props identity m entries d = unless_denied (dir_denied d) (dir_bytes n props identity m entries d)
+
+-- ---- where the session stands
+
+-- the root of the client's URL, and the path below it; another URL of that root moves it
+abbrev pub url_denied : Url → Result Url UrlFault → Option Denial
+url_denied at (Err f) = Some denial.BadUrl
+url_denied at (Ok to) = fault_if (not (bytes_eq to.0 at.0)) denial.OtherRoot
+
+abbrev pub moved_to : Url → Result Url UrlFault → Url
+moved_to at (Err f) = at
+moved_to at (Ok to) = if bytes_eq to.0 at.0 then (at.0, to.1) else at
+
+-- ---- the table
+
+-- the commands that are answered; the others are told as not supported
+abbrev pub is_answered : Ask → Bool
+is_answered (Plain (plain.ChangeProp n name v old)) = false
+is_answered (Plain (plain.Replay n)) = false
+is_answered (Plain (plain.ReplayRange a b)) = false
+is_answered (Plain c) = true
+is_answered (Stat p n) = true
+is_answered (Reparent url) = true
+is_answered (GetLock p) = true
+is_answered (GetLocks p d) = true
+is_answered c = false
+
+-- what is denied of a command where the session stands
+abbrev pub browse_due : Repository → Url → Ask → Option Denial
+browse_due x at (Plain (plain.CheckPath p n)) = no_revision x (asked x n)
+browse_due x at (Plain (plain.GetFile p n props contents)) = first_of (no_revision x (asked x n) ∷ file_denied (node_in x (asked x n) (at.1 ++ p)) ∷ [])
+browse_due x at (Plain (plain.GetDir p n props contents)) = first_of (no_revision x (asked x n) ∷ dir_denied (node_in x (asked x n) (at.1 ++ p)) ∷ [])
+browse_due x at (Plain (plain.RevProplist n)) = no_revision x n
+browse_due x at (Plain (plain.RevProp n name)) = no_revision x n
+browse_due x at (Stat p n) = no_revision x (asked x n)
+browse_due x at (Reparent url) = url_denied at (url_read url)
+browse_due x at c = fault_if (not (is_answered c)) denial.Unsupported
+
+-- what it is told where nothing is
+abbrev pub browse_content : Repository → Url → Ask → List ℕ
+browse_content x at (Plain plain.LatestRev) = spell (number (head_of x.revisions))
+browse_content x at (Plain (plain.CheckPath p n)) = spell (kind_is (option_map kind_of (node_in x (asked x n) (at.1 ++ p))))
+browse_content x at (Plain (plain.GetFile p n props contents)) = file_bytes (asked x n) props contents (identity_text x) (made_for x (node_in x (asked x n) (at.1 ++ p))) (node_in x (asked x n) (at.1 ++ p))
+browse_content x at (Plain (plain.GetDir p n props contents)) = dir_bytes (asked x n) props (identity_text x) (made_for x (node_in x (asked x n) (at.1 ++ p))) (entries_wanted contents x (at.1 ++ p) (tree_of x (asked x n))) (node_in x (asked x n) (at.1 ++ p))
+browse_content x at (Plain (plain.RevProplist n)) = spell (proplist (props_at x.revisions n))
+browse_content x at (Plain (plain.RevProp n name)) = spell (value (finite.get (props_at x.revisions n) name))
+browse_content x at (Stat p n) = spell (stat_told (node_in x (asked x n) (at.1 ++ p)) (made_for x (node_in x (asked x n) (at.1 ++ p))))
+browse_content x at (Reparent url) = spell done
+browse_content x at (GetLock p) = spell (success (list [] ∷ []))
+browse_content x at (GetLocks p d) = spell (success (list [] ∷ []))
+browse_content x at c = []
+
+abbrev pub reply : Repository → Url → Ask → List ℕ
+reply x at c = unless_denied (browse_due x at c) (browse_content x at c)
+
+-- where the session stands behind a command: another URL moves it, and nothing else does
+abbrev pub moved : Url → Ask → Url
+moved at (Reparent url) = moved_to at (url_read url)
+moved at c = at
+
+-- ---- refusals of the port's own
+
+-- the commands for which a repository is asked
+abbrev pub asks_port : Ask → Bool
+asks_port (Reparent url) = false
+asks_port (GetLock p) = false
+asks_port (GetLocks p d) = false
+asks_port c = is_answered c
+
+abbrev pub told : Repository → Url → Ask → Option PortFault → List ℕ
+told x at c None = reply x at c
+told x at c (Some f) = refused (refusal_of f)
+
+-- ---- items
+
+-- what is told of an item that is no command
+abbrev pub no_ask : BrowseFault → Denial
+no_ask browse.UnknownCommand = denial.Unknown
+no_ask browse.BadShape = denial.BadShape
+no_ask browse.ReplayForm = denial.Unsupported
+no_ask browse.ExcludedDepth = denial.Unsupported
+no_ask browse.OutOfMemory = denial.BadShape
+
+-- what an item is answered, a command or none
+abbrev pub answer : Repository → Url → Reading → Option PortFault → List ℕ
+answer x at (Ok c) h = if is_answered c then spell authorised ++ told x at c h else denied denial.Unsupported
+answer x at (Err f) h = denied (no_ask f)
+
+abbrev pub behind : Url → Reading → Url
+behind at (Ok c) = moved at c
+behind at (Err f) = at
+
+-- the port's own refusal is one of a command for which it is asked
+abbrev pub MayHalt : Reading → Option PortFault → Type 0
+MayHalt read None = Unit {0}
+MayHalt (Ok c) (Some f) = IsOwn f × (asks_port c ≡ true)
+MayHalt (Err e) (Some f) = ⊥
+
+abbrev pub IsCalm : Option PortFault → Type 0
+IsCalm None = Unit {0}
+IsCalm (Some f) = ⊥
+
+abbrev pub halts_in : Option PortFault → ℕ
+halts_in None = 0
+halts_in (Some f) = 1

@@ -1,0 +1,25 @@
+-- Laws of what clients are told.
+use Rattle.std.specs.Prelude.{◌≡◌, ◌++◌, ℕ, List, Option, Some, None}
+use Rattle.node_base.specs.Path.{Path}
+use Rattle.node_base.specs.declared.node.Node.{Node}
+use Rattle.repo_core.specs.Repository.{Repository}
+use Rattle.ra_item.specs.Items.{spell}
+use Rattle.browse_wire.specs.Asks.{Ask, Stat, Reparent}
+use Rattle.browse_wire.specs.Urls.{Url}
+use Rattle.ra_serve.specs.Answers.{asked, node_in}
+use Rattle.ra_browse.specs.Answers.{no_revision, made_of, moved, reply, stat_told}
+use Rattle.ra_browse.specs.Sessions.{Turn, stands}
+
+-- the node at the session's path and the one that is asked for, of the revision that is asked for
+abbrev pub StatIsTheNode : Type 0
+StatIsTheNode = (x : Repository) (at : Url) (p : Path) (n : Option ℕ) (d : Node) → no_revision x (asked x n) ≡ None → node_in x (asked x n) (at.1 ++ p) ≡ Some d → reply x at (Stat p n) ≡ spell (stat_told (Some d) (made_of x d.changed))
+
+abbrev pub IsReparent : Ask → Type 0
+IsReparent (Reparent url) = Unit {0}
+IsReparent c = ⊥
+
+abbrev pub OnlyReparentMoves : Type 0
+OnlyReparentMoves = (at : Url) (c : Ask) → (IsReparent c → ⊥) → moved at c ≡ at
+
+abbrev pub StandsBelowOneRoot : Type 0
+StandsBelowOneRoot = (at : Url) (ts : List Turn) → (stands at ts).0 ≡ at.0

@@ -1,0 +1,6 @@
+pub mod Denials
+pub mod Answers
+pub mod Sessions
+pub mod Serving
+pub mod Tellings
+pub mod Laws

@@ -1,0 +1,119 @@
+-- What the calls that answer say of their port and their writer.
+use Rattle.std.specs.Prelude.{◌≡◌, ◌⊎◌, ℕ, Bool, true, List, [], ◌++◌, Option, Some, None, Result, Ok, Err}
+use Rattle.std.specs.Io.KnownBytes.{Appends}
+use Rattle.fleet_disk.specs.Rules.{Rose}
+use Rattle.node_base.specs.Path.{Path}
+use Rattle.node_base.specs.Tree.{PathMap}
+use Rattle.repo_core.specs.Repository.{Repository}
+use Rattle.browse_wire.specs.Asks.{Ask}
+use Rattle.browse_wire.specs.AskReading.{Reading}
+use Rattle.browse_wire.specs.Urls.{Url}
+use Rattle.browse_wire.specs.declared.url.SessionUrl.{SessionUrl}
+use Rattle.browse_wire.specs.declared.url.UrlFault.{UrlFault}
+use Rattle.ra_wire.specs.Answers.{dirent_as}
+use Rattle.ra_wire.specs.declared.dirent.Dirent as declared_dirent
+use Rattle.ra_serve.specs.declared.fault.PortFault.{PortFault}
+use Rattle.ra_serve.specs.Answers.{refused, asked, node_in}
+use Rattle.ra_serve.specs.Ports.{Stays, IsOwn, refusal_of, tree_of}
+use Rattle.ra_browse.specs.declared.denial.Denial.{Denial}
+use Rattle.ra_browse.specs.declared.stop.Stop.{Stop}
+use Rattle.ra_browse.specs.declared.stop.Stop.TheVariants as stop
+use Rattle.ra_browse.specs.declared.made.Made as declared_made
+use Rattle.ra_browse.specs.declared.look.Seen as declared_seen
+use Rattle.node_base.specs.declared.refusal.Refusal.{Refusal}
+use Rattle.node_base.specs.declared.refusal.Refusal.TheVariants as refusal
+use Rattle.ra_browse.specs.declared.session.Misplaced.{Misplaced}
+use Rattle.ra_browse.specs.declared.session.Misplaced.TheVariants as misplaced
+use Rattle.ra_browse.specs.Denials.{denied}
+use Rattle.ra_browse.specs.Answers.{Made, made_for, told, answer, MayHalt, IsCalm, entries_wanted, url_denied, moved_to}
+use Rattle.std.specs.Option.{option_map}
+use Rattle.std.specs.Prelude.{map}
+
+-- ---- as values are in code
+
+abbrev pub place_as : SessionUrl → Url
+place_as u = (u.root.items, u.path)
+
+abbrev pub made_as : declared_made.Made → Made
+made_as m = record { date = option_map (λ t. t.items) m.date; author = option_map (λ t. t.items) m.author }
+
+abbrev pub refusal_for : Misplaced → Refusal
+refusal_for misplaced.TooLong = refusal.TooLong
+refusal_for misplaced.BadPath = refusal.BadPath
+refusal_for misplaced.BadShape = refusal.BadShape
+
+abbrev pub placed_as : Result SessionUrl Misplaced → Result Url Refusal
+placed_as (Ok u) = Ok (place_as u)
+placed_as (Err m) = Err (refusal_for m)
+
+-- ---- what is looked for
+
+-- why a call stopped: what is denied, or a refusal of the port's own, which it counts, or want of memory
+abbrev pub MayStop : ℕ → ℕ → Option Denial → Stop → Type 0
+MayStop before now due (stop.Denied d) = due ≡ Some d
+MayStop before now due (stop.Port f) = IsOwn f × Rose before now
+MayStop before now due stop.OutOfMemory = Unit {0}
+
+-- what it came to: such a value where nothing is denied, or why it stopped
+abbrev pub Comes : {A : Type 0} → ℕ → ℕ → Option Denial → (A → Type 0) → Result A Stop → Type 0
+Comes before now due Is (Ok a) = (due ≡ None) × Is a
+Comes before now due Is (Err s) = MayStop before now due s
+
+-- the same of a port, where its repository was known
+abbrev pub Finds : {P A : Type 0} → (P → Option Repository) → (P → ℕ) → (Repository → Option Denial) → (Repository → A → Type 0) → P → P → Result A Stop → Type 0
+Finds repository refusals due Is old new result = (x : Repository) → repository old ≡ Some x → Comes (refusals old) (refusals new) (due x) (Is x) result
+
+-- what stands at a path of a revision
+pub record IsSeen (x : Repository) (p : Path) (n : Option ℕ) (s : declared_seen.Seen) : Type 0 where
+  pub number : s.number ≡ asked x n
+  pub tree : s.tree ≡ tree_of x (asked x n)
+  pub names : s.names.items ≡ p
+  pub identity : s.identity ≡ x.identity
+  pub made : made_as s.made ≡ made_for x (node_in x (asked x n) p)
+
+-- the entries of a directory, where they are wanted
+abbrev pub AreEntries : Repository → Bool → Path → PathMap → List declared_dirent.Dirent → Type 0
+AreEntries x wanted p tree es = map dirent_as es ≡ entries_wanted wanted x p tree
+
+-- what is told where a call stopped: nothing for want of memory
+abbrev pub TellsStop : Option (List ℕ) → Option (List ℕ) → Stop → Type 0
+TellsStop before now (stop.Denied d) = Appends before now (denied d)
+TellsStop before now (stop.Port f) = Appends before now (refused (refusal_of f))
+TellsStop before now stop.OutOfMemory = ⊥
+
+-- ---- answers
+
+-- behind what the writer held stands what a command is told, where the port refused it by itself only if its count rose
+pub record Replied (x : Repository) (at : Url) (c : Ask) (rose : Type 0) (before now : Option (List ℕ)) : Type 0 where
+  pub halt : Option PortFault
+  pub lawful : MayHalt (Ok c) halt
+  pub counted : IsCalm halt ⊎ rose
+  pub bytes : Appends before now (told x at c halt)
+
+-- the same of an item
+pub record Answered (x : Repository) (at : Url) (read : Reading) (rose : Type 0) (before now : Option (List ℕ)) : Type 0 where
+  pub halt : Option PortFault
+  pub lawful : MayHalt read halt
+  pub counted : IsCalm halt ⊎ rose
+  pub bytes : Appends before now (answer x at read halt)
+
+-- a call told a command: where the port's repository was known
+abbrev pub Tells : {P W : Type 0} → (P → Option Repository) → (P → ℕ) → (W → Option (List ℕ)) → Url → Ask → P → P → W → W → Type 0
+Tells repository refusals contents at c old new before now =
+    (x : Repository) → repository old ≡ Some x → Replied x at c (Rose (refusals old) (refusals new)) (contents before) (contents now)
+
+-- it answered an item
+abbrev pub Answers : {P W : Type 0} → (P → Option Repository) → (P → ℕ) → (W → Option (List ℕ)) → Url → Reading → P → P → W → W → Type 0
+Answers repository refusals contents at read old new before now =
+    (x : Repository) → repository old ≡ Some x → Answered x at read (Rose (refusals old) (refusals new)) (contents before) (contents now)
+
+-- and the port's repository stays what it is
+abbrev pub PortStays : {P : Type 0} → (P → Option Repository) → (P → ℕ) → (P → Bool) → P → P → Type 0
+PortStays repository refusals is_mirror old new = Stays (repository old) (repository new) (is_mirror old) (is_mirror new) (refusals old) (refusals new)
+
+-- a step to another URL was made, or it was denied, or memory ran out, and then the session stands where it stood
+abbrev pub MayMove : Url → Url → Result Url UrlFault → Result (Unit {0}) Stop → Type 0
+MayMove old new read (Ok u) = (url_denied old read ≡ None) × (new ≡ moved_to old read)
+MayMove old new read (Err (stop.Denied d)) = (url_denied old read ≡ Some d) × (new ≡ old) × (new ≡ moved_to old read)
+MayMove old new read (Err (stop.Port f)) = ⊥
+MayMove old new read (Err stop.OutOfMemory) = new ≡ old

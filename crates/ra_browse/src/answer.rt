@@ -1,0 +1,313 @@
+//! One command and its answer.
+
+ghost use Rattle.std.specs.Prelude.{◌≡◌, ◌∷◌, ◌++◌, [], true, Ok, IfOk};
+ghost use Rattle.std.specs.Option.{option_map};
+ghost use Rattle.std.specs.FinMap as finite;
+ghost use Rattle.std.specs.Io.KnownBytes.{Appends};
+ghost use Rattle.node_base.specs.Path.{Path};
+ghost use Rattle.node_base.specs.Tree.{kind_of};
+ghost use Rattle.ra_item.specs.Items.{spell};
+ghost use Rattle.ra_wire.specs.Commands.{command_as, CheckPath, LatestRev, RevProp, RevProplist};
+ghost use Rattle.ra_wire.specs.Replies.{authorised, list, success};
+ghost use Rattle.browse_wire.specs.Asks.{Plain, ask_as};
+ghost use Rattle.browse_wire.specs.AskReading.{ask_in};
+ghost use Rattle.browse_wire.specs.Urls.{Url};
+ghost use Rattle.ra_browse.specs.Answers.{behind, is_answered, moved};
+ghost use Rattle.ra_browse.specs.Tellings.{place_as, Answers, Tells, PortStays};
+
+use crate::ask::{props_asked, tree_asked};
+use crate::denial::Denial;
+use crate::dir::get_dir;
+use crate::file::{Wanted, get_file};
+use crate::look::joined;
+use crate::place::reparent;
+use crate::stat::{stat, write_absent};
+use crate::stop::{Stop, stopped};
+use crate::told::{deny, tell};
+use browse_wire::ask::BrowseCommand;
+use browse_wire::fault::BrowseFault;
+use browse_wire::url::SessionUrl;
+use node_base::{NodeKind, NodeName, NodePath, PropName};
+use path_tree::Tree;
+use ra_item::item::Item;
+use ra_serve::{RepoPort, ServeFault};
+use ra_wire::command::Command;
+use ra_wire::reply_writer::{
+    write_authorised, write_kind, write_latest, write_proplist, write_value,
+};
+use std::alloc::Global;
+use std::io::Write;
+
+/// Answers an item, a command or none, and goes where it leads.
+pub fn answer<P: RepoPort, W: Write + Drop>(
+    alloc: Global,
+    port: &mut P,
+    place: &mut SessionUrl,
+    item: Item,
+    out: W,
+) -> Result<W, ServeFault>
+    ensures told { IfOk result (Answers P.repository P.refusals W.contents (place_as place.old) (ask_in item)
+        port.old port.new out) }
+    ensures moved { IfOk result (λ _. place_as place.new ≡ behind (place_as place.old) (ask_in item)) }
+    ensures stays { PortStays P.repository P.refusals P.is_mirror port.old port.new }
+{
+    match BrowseCommand::parse(alloc, item) {
+        Ok(command) => command_answer(alloc, port, place, &command, out),
+        Err(BrowseFault::OutOfMemory) => Err(ServeFault::OutOfMemory),
+        Err(BrowseFault::UnknownCommand) => deny(Denial::Unknown, out),
+        Err(BrowseFault::BadShape) => deny(Denial::BadShape, out),
+        Err(BrowseFault::ReplayForm) => deny(Denial::Unsupported, out),
+        Err(BrowseFault::ExcludedDepth) => deny(Denial::Unsupported, out),
+    }
+}
+
+// Answers a command.
+fn command_answer<P: RepoPort, W: Write + Drop>(
+    alloc: Global,
+    port: &mut P,
+    place: &mut SessionUrl,
+    command: &BrowseCommand,
+    out: W,
+) -> Result<W, ServeFault>
+    ensures told { IfOk result (Answers P.repository P.refusals W.contents (place_as place.old)
+        (Ok (ask_as command.now)) port.old port.new out) }
+    ensures moved { IfOk result (λ _. place_as place.new ≡ moved (place_as place.old) (ask_as command.now)) }
+    ensures stays { PortStays P.repository P.refusals P.is_mirror port.old port.new }
+{
+    if is_answered(command) {
+        return answered(alloc, port, place, command, out);
+    }
+    deny(Denial::Unsupported, out)
+}
+
+// Answers a command that is answered.
+fn answered<P: RepoPort, W: Write + Drop>(
+    alloc: Global,
+    port: &mut P,
+    place: &mut SessionUrl,
+    command: &BrowseCommand,
+    out: W,
+) -> Result<W, ServeFault>
+    requires taken { is_answered (ask_as command.now) ≡ true }
+    ensures told { IfOk result (Answers P.repository P.refusals W.contents (place_as place.old)
+        (Ok (ask_as command.now)) port.old port.new out) }
+    ensures moved { IfOk result (λ _. place_as place.new ≡ moved (place_as place.old) (ask_as command.now)) }
+    ensures stays { PortStays P.repository P.refusals P.is_mirror port.old port.new }
+{
+    match authorise(out) {
+        Ok(out) => reply(alloc, port, place, command, out),
+        Err(fault) => Err(fault),
+    }
+}
+
+// Whether a command is one that is answered.
+fn is_answered(command: &BrowseCommand) -> bool
+    ensures { result ≡ is_answered (ask_as command.now) }
+{
+    match command {
+        BrowseCommand::Plain(command) => is_plain(command),
+        BrowseCommand::Stat(..) => true,
+        BrowseCommand::Reparent(_) => true,
+        BrowseCommand::GetLock(_) => true,
+        BrowseCommand::GetLocks(..) => true,
+        _ => false,
+    }
+}
+
+// The same of a command that changes nothing and is no replay.
+fn is_plain(command: &Command) -> bool
+    ensures { result ≡ is_answered (Plain (command_as command.now)) }
+{
+    match command {
+        Command::ChangeProp(..) => false,
+        Command::Replay(_) => false,
+        Command::ReplayRange(..) => false,
+        _ => true,
+    }
+}
+
+// What stands before the answer to a command.
+fn authorise<W: Write + Drop>(out: W) -> Result<W, ServeFault>
+    ensures { IfOk result (λ w. Appends (W.contents out) (W.contents w) (spell authorised)) }
+{
+    let mut out = out;
+    write_authorised(&mut out)?;
+    Ok(out)
+}
+
+// Answers a command behind that.
+fn reply<P: RepoPort, W: Write + Drop>(
+    alloc: Global,
+    port: &mut P,
+    place: &mut SessionUrl,
+    command: &BrowseCommand,
+    out: W,
+) -> Result<W, ServeFault>
+    ensures told { IfOk result (Tells P.repository P.refusals W.contents (place_as place.old) (ask_as command.now)
+        port.old port.new out) }
+    ensures moved { IfOk result (λ _. place_as place.new ≡ moved (place_as place.old) (ask_as command.now)) }
+    ensures stays { PortStays P.repository P.refusals P.is_mirror port.old port.new }
+{
+    match command {
+        BrowseCommand::Plain(command) => plain(alloc, port, place, command, out),
+        BrowseCommand::Stat(path, number) => stat(alloc, port, place, path, *number, out),
+        BrowseCommand::Reparent(url) => reparent(alloc, place, url.as_slice(), out),
+        BrowseCommand::GetLock(_) => no_lock(out),
+        BrowseCommand::GetLocks(..) => no_lock(out),
+        BrowseCommand::Log(_) => deny(Denial::Unsupported, out),
+        BrowseCommand::GetLocations(..) => deny(Denial::Unsupported, out),
+        BrowseCommand::GetLocationSegments(..) => deny(Denial::Unsupported, out),
+        BrowseCommand::GetFileRevs(..) => deny(Denial::Unsupported, out),
+        BrowseCommand::Update(_) => deny(Denial::Unsupported, out),
+        BrowseCommand::Switch(_) => deny(Denial::Unsupported, out),
+        BrowseCommand::Status(_) => deny(Denial::Unsupported, out),
+        BrowseCommand::Diff(_) => deny(Denial::Unsupported, out),
+    }
+}
+
+// Tells that there are no locks.
+fn no_lock<W: Write + Drop>(out: W) -> Result<W, ServeFault>
+    ensures { IfOk result (λ w. Appends (W.contents out) (W.contents w) (spell (success (list [] ∷ [])))) }
+{
+    let mut out = out;
+    write_absent(&mut out, b"success")?;
+    Ok(out)
+}
+
+// Answers a command that a server without browsing has too.
+fn plain<P: RepoPort, W: Write + Drop>(
+    alloc: Global,
+    port: &mut P,
+    place: &SessionUrl,
+    command: &Command,
+    out: W,
+) -> Result<W, ServeFault>
+    ensures told { IfOk result (Tells P.repository P.refusals W.contents (place_as place.now)
+        (Plain (command_as command.now)) port.old port.new out) }
+    ensures stays { PortStays P.repository P.refusals P.is_mirror port.old port.new }
+{
+    match command {
+        Command::LatestRev => latest(port, out),
+        Command::CheckPath(path, number) => check_path(alloc, port, place, path, *number, out),
+        Command::GetFile(path, number, props, contents) => {
+            let wanted = Wanted {
+                props: *props,
+                contents: *contents,
+            };
+            get_file(alloc, port, place, path, *number, wanted, out)
+        }
+        Command::GetDir(path, number, props, contents) => {
+            let wanted = Wanted {
+                props: *props,
+                contents: *contents,
+            };
+            get_dir(alloc, port, place, path, *number, wanted, out)
+        }
+        Command::RevProplist(number) => proplist(port, *number, out),
+        Command::RevProp(number, name) => prop(port, *number, name, out),
+        _ => deny(Denial::Unsupported, out),
+    }
+}
+
+fn latest<P: RepoPort, W: Write + Drop>(port: &mut P, out: W) -> Result<W, ServeFault>
+    ensures told { (at : Url) → IfOk result (Tells P.repository P.refusals W.contents at (Plain LatestRev)
+        port.old port.new out) }
+    ensures stays { PortStays P.repository P.refusals P.is_mirror port.old port.new }
+{
+    match port.latest() {
+        Ok(head) => {
+            let mut out = out;
+            write_latest(&mut out, head)?;
+            Ok(out)
+        }
+        Err(fault) => tell(Stop::Port(fault), out),
+    }
+}
+
+fn check_path<P: RepoPort, W: Write + Drop>(
+    alloc: Global,
+    port: &mut P,
+    place: &SessionUrl,
+    path: &NodePath,
+    number: Option<u64>,
+    out: W,
+) -> Result<W, ServeFault>
+    ensures told { IfOk result (Tells P.repository P.refusals W.contents (place_as place.now)
+        (Plain (CheckPath path.now number)) port.old port.new out) }
+    ensures stays { PortStays P.repository P.refusals P.is_mirror port.old port.new }
+{
+    match joined(alloc, &place.path, path) {
+        Ok(names) => tell_kind(port, names.as_slice(), number, out),
+        Err(_) => Err(ServeFault::OutOfMemory),
+    }
+}
+
+// Tells what stands at a path from the repository's root.
+fn tell_kind<P: RepoPort, W: Write + Drop>(
+    port: &mut P,
+    names: &[NodeName],
+    number: Option<u64>,
+    out: W,
+) -> Result<W, ServeFault>
+    ensures told { (at : Url) (p : Path) → names.now ≡ at.1 ++ p → IfOk result (Tells P.repository P.refusals
+        W.contents at (Plain (CheckPath p number)) port.old port.new out) }
+    ensures stays { PortStays P.repository P.refusals P.is_mirror port.old port.new }
+{
+    match tree_asked(port, number) {
+        Ok((_, tree)) => {
+            let mut out = out;
+            write_kind(&mut out, kind_at(&tree, names))?;
+            Ok(out)
+        }
+        Err(fault) => tell(stopped(fault), out),
+    }
+}
+
+// What stands at a path.
+fn kind_at(tree: &Tree, path: &[NodeName]) -> Option<NodeKind>
+    ensures { result ≡ option_map kind_of (finite.get tree.now path.now) }
+{
+    match tree.get(path) {
+        Some(node) => Some(node.kind()),
+        None => None,
+    }
+}
+
+fn proplist<P: RepoPort, W: Write + Drop>(
+    port: &mut P,
+    number: u64,
+    out: W,
+) -> Result<W, ServeFault>
+    ensures told { (at : Url) → IfOk result (Tells P.repository P.refusals W.contents at
+        (Plain (RevProplist number)) port.old port.new out) }
+    ensures stays { PortStays P.repository P.refusals P.is_mirror port.old port.new }
+{
+    match props_asked(port, number) {
+        Ok(props) => {
+            let mut out = out;
+            write_proplist(&mut out, &props)?;
+            Ok(out)
+        }
+        Err(fault) => tell(stopped(fault), out),
+    }
+}
+
+fn prop<P: RepoPort, W: Write + Drop>(
+    port: &mut P,
+    number: u64,
+    name: &PropName,
+    out: W,
+) -> Result<W, ServeFault>
+    ensures told { (at : Url) → IfOk result (Tells P.repository P.refusals W.contents at
+        (Plain (RevProp number name.now)) port.old port.new out) }
+    ensures stays { PortStays P.repository P.refusals P.is_mirror port.old port.new }
+{
+    match props_asked(port, number) {
+        Ok(props) => {
+            let mut out = out;
+            write_value(&mut out, props.get(name.as_bytes()))?;
+            Ok(out)
+        }
+        Err(fault) => tell(stopped(fault), out),
+    }
+}

@@ -1,0 +1,229 @@
+//! Directories that are looked at.
+
+ghost use Rattle.std.specs.Prelude.{◌≡◌, ◌++◌, ◌∷◌, [], None, length, map, unwrap_or, IfOk, OnOk, MatchOption, MatchResult};
+ghost use Rattle.std.specs.FinMap as finite;
+ghost use Rattle.std.specs.Io.KnownBytes.{Appends};
+ghost use Rattle.uuid.specs.Text.{hyphenated_text, lower};
+ghost use Rattle.ra_item.specs.Items.{spell, spell_all, row, Number};
+ghost use Rattle.ra_wire.specs.Answers.{dirent_as};
+ghost use Rattle.ra_wire.specs.Commands.{GetDir};
+ghost use Rattle.ra_wire.specs.Replies.{answer_of, dirent, list, properties};
+ghost use Rattle.browse_wire.specs.Asks.{Plain};
+ghost use Rattle.ra_browse.specs.Answers.{dir_told, entry_of, entry_with, props_told};
+ghost use Rattle.ra_browse.specs.Tellings.{made_as, place_as, AreEntries, Finds, Tells, PortStays};
+
+use crate::denial::Denial;
+use crate::file::Wanted;
+use crate::look::{Seen, see};
+use crate::made::{Made, made_at};
+use crate::pieces::{write_end, write_name, write_props};
+use crate::stop::Stop;
+use crate::told::{deny, tell};
+use browse_wire::url::SessionUrl;
+use node_base::{Node, NodePath, Text};
+use path_tree::{ChildNode, Children};
+use ra_item::writer::{write_close, write_number, write_open};
+use ra_serve::{RepoPort, ServeFault};
+use ra_wire::dirent::Dirent;
+use ra_wire::reply_writer::write_dirent;
+use std::alloc::Global;
+use std::io;
+use std::io::Write;
+
+/// Answers `get-dir`.
+pub fn get_dir<P: RepoPort, W: Write + Drop>(
+    alloc: Global,
+    port: &mut P,
+    place: &SessionUrl,
+    path: &NodePath,
+    number: Option<u64>,
+    wanted: Wanted,
+    out: W,
+) -> Result<W, ServeFault>
+    ensures told { IfOk result (Tells P.repository P.refusals W.contents (place_as place.now)
+        (Plain (GetDir path.now number wanted.props wanted.contents)) port.old port.new out) }
+    ensures stays { PortStays P.repository P.refusals P.is_mirror port.old port.new }
+{
+    let seen = match see(alloc, port, &place.path, path, number) {
+        Ok(seen) => seen,
+        Err(stop) => return tell(stop, out),
+    };
+    match entries_wanted(alloc, port, &seen, wanted.contents) {
+        Ok(entries) => tell_dir(&seen, wanted.props, entries.as_slice(), out),
+        Err(stop) => tell(stop, out),
+    }
+}
+
+// The entries of what was looked up, where they are wanted.
+fn entries_wanted<P: RepoPort>(
+    alloc: Global,
+    port: &mut P,
+    seen: &Seen,
+    wanted: bool,
+) -> Result<Vec<Dirent>, Stop>
+    ensures found { Finds P.repository P.refusals (λ x. None)
+        (λ x es. AreEntries x wanted seen.now.names.items seen.now.tree es.items) port.old port.new result }
+    ensures stays { PortStays P.repository P.refusals P.is_mirror port.old port.new }
+{
+    if !wanted {
+        return Ok(Vec::new(alloc));
+    }
+    match seen.tree.children(alloc, seen.names.as_slice()) {
+        Ok(children) => entries_of(alloc, port, children),
+        Err(_) => Err(Stop::OutOfMemory),
+    }
+}
+
+// The entries of children.
+fn entries_of<P: RepoPort>(
+    alloc: Global,
+    port: &mut P,
+    children: Children<'_>,
+) -> Result<Vec<Dirent>, Stop>
+    ensures found { Finds P.repository P.refusals (λ x. None)
+        (λ x es. map dirent_as es.items ≡ map (entry_of x) children.entry) port.old port.new result }
+    ensures stays { PortStays P.repository P.refusals P.is_mirror port.old port.new }
+{
+    let mut children = children;
+    let mut entries = Vec::new(alloc);
+    for _ in 0..u64::MAX {
+        match next_of(alloc, port, &mut children) {
+            Ok(Some(entry)) => {
+                if entries.push(entry).is_err() {
+                    return Err(Stop::OutOfMemory);
+                }
+            }
+            Ok(None) => return Ok(entries),
+            Err(stop) => return Err(stop),
+        }
+    }
+    Err(Stop::OutOfMemory)
+}
+
+// The entry of the next child.
+fn next_of<P: RepoPort>(
+    alloc: Global,
+    port: &mut P,
+    children: &mut Children<'_>,
+) -> Result<Option<Dirent>, Stop>
+    ensures found { Finds P.repository P.refusals (λ x. None)
+        (λ x r. MatchOption r (map (entry_of x) children.old ≡ [])
+        (λ d. map (entry_of x) children.old ≡ dirent_as d ∷ map (entry_of x) children.new)) port.old port.new result }
+    ensures stays { PortStays P.repository P.refusals P.is_mirror port.old port.new }
+{
+    match children.next() {
+        Ok(Some(child)) => match entry_of(alloc, port, &child) {
+            Ok(entry) => Ok(Some(entry)),
+            Err(stop) => Err(stop),
+        },
+        Ok(None) => Ok(None),
+        Err(_) => Err(Stop::OutOfMemory),
+    }
+}
+
+// The entry of a child.
+fn entry_of<P: RepoPort>(alloc: Global, port: &mut P, child: &ChildNode<'_>) -> Result<Dirent, Stop>
+    ensures found { Finds P.repository P.refusals (λ x. None)
+        (λ x d. dirent_as d ≡ entry_of x (child.now.name.now, child.now.node.now)) port.old port.new result }
+    ensures stays { PortStays P.repository P.refusals P.is_mirror port.old port.new }
+{
+    match made_at(alloc, port, child.node.changed) {
+        Ok(made) => entry_with(alloc, child, made),
+        Err(stop) => Err(stop),
+    }
+}
+
+// The same with when and by whom it was last changed.
+fn entry_with(alloc: Global, child: &ChildNode<'_>, made: Made) -> Result<Dirent, Stop>
+    ensures { MatchResult result (λ d. dirent_as d ≡ entry_with (child.now.name.now, child.now.node.now) (made_as made))
+        (λ s. s ≡ Stop.OutOfMemory) }
+{
+    let node = child.node;
+    let Made { date, author } = made;
+    match child.name.copy(alloc) {
+        Ok(name) => Ok(Dirent {
+            name,
+            kind: node.kind(),
+            size: size_of(&node.text),
+            has_props: !node.props.is_empty(),
+            created: u64::from(node.changed.get()),
+            date,
+            author,
+        }),
+        Err(_) => Err(Stop::OutOfMemory),
+    }
+}
+
+// How long a text is, and 0 where there is none.
+fn size_of(text: &Option<Text>) -> u64
+    ensures { result ≡ length (unwrap_or text.now []) }
+{
+    match text {
+        Some(text) => text.len() as u64,
+        None => 0,
+    }
+}
+
+// Tells of what stands somewhere as of a directory with these entries.
+fn tell_dir<W: Write + Drop>(
+    seen: &Seen,
+    props: bool,
+    entries: &[Dirent],
+    out: W,
+) -> Result<W, ServeFault>
+    ensures { IfOk result (λ w. Appends (W.contents out) (W.contents w)
+        (dir_told seen.now.number props (hyphenated_text lower seen.now.identity) (made_as seen.now.made)
+        (map dirent_as entries.now) (finite.get seen.now.tree seen.now.names.items))) }
+{
+    let Some(node) = seen.node() else {
+        return deny(Denial::NoPath, out);
+    };
+    if node.text.is_some() {
+        return deny(Denial::NotDir, out);
+    }
+    let mut out = out;
+    write_dir(&mut out, b"success", seen, node, props, entries)?;
+    Ok(out)
+}
+
+// A directory's revision, properties and entries.
+fn write_dir<W: Write>(
+    out: &mut W,
+    name: &[u8],
+    seen: &Seen,
+    node: &Node,
+    props: bool,
+    entries: &[Dirent],
+) -> io::Result<()>
+    ensures { OnOk result (Appends (W.contents out.old) (W.contents out.new)
+        (spell (answer_of name.now (Number seen.now.number
+        ∷ properties (props_told props (hyphenated_text lower seen.now.identity) node.now (made_as seen.now.made))
+        ∷ list (map dirent (map dirent_as entries.now)) ∷ [])))) }
+{
+    write_name(out, name)?;
+    write_number(out, u64::from(seen.number.get()))?;
+    write_props(out, props, node, &seen.made, &seen.identity)?;
+    write_entries(out, entries)?;
+    write_end(out)
+}
+
+// Entries in brackets.
+fn write_entries<W: Write>(out: &mut W, entries: &[Dirent]) -> io::Result<()>
+    ensures { OnOk result (Appends (W.contents out.old) (W.contents out.new)
+        (spell (list (map dirent (map dirent_as entries.now))))) }
+{
+    write_open(out)?;
+    write_all(out, entries)?;
+    write_close(out)
+}
+
+// Entries one after another.
+fn write_all<W: Write>(out: &mut W, entries: &[Dirent]) -> io::Result<()>
+    ensures { OnOk result (Appends (W.contents out.old) (W.contents out.new)
+        (spell_all (row (map dirent (map dirent_as entries.now))))) }
+{
+    for entry in entries {
+        write_dirent(out, entry)?;
+    }
+    Ok(())
+}

@@ -1,0 +1,26 @@
+//! A repository served to Subversion's reading clients over the ra_svn protocol.
+//!
+//! [`browse`] answers one session from any `RepoPort` of `ra_serve`. The session stands at the client's URL: its paths
+//! are relative to it, and `reparent` moves it. No answer changes the repository.
+//!
+//! `specs/Answers` has what each command is denied and told, and `specs/Sessions` what a whole session is; the clause
+//! `served` of [`browse`] is on these.
+#![tactic(auto)]
+
+pub use denial::Denial;
+pub use session::browse;
+
+mod answer;
+mod ask;
+mod denial;
+mod dir;
+mod file;
+pub mod law;
+mod look;
+mod made;
+mod pieces;
+mod place;
+mod session;
+mod stat;
+mod stop;
+mod told;

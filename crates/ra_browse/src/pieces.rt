@@ -1,0 +1,156 @@
+//! Pieces of answers: names with brackets, strings that may be missing, properties, texts.
+//!
+//! Each `Err` is the writer's own; then some of the bytes may have been written.
+
+ghost use Rattle.std.specs.Prelude.{◌≡◌, ◌++◌, ◌∷◌, [], map, true, OnOk};
+ghost use Rattle.std.specs.Option.{option_map};
+ghost use Rattle.std.specs.Fmt.{decimal};
+ghost use Rattle.std.specs.Io.KnownBytes.{Appends};
+ghost use Rattle.uuid.specs.Text.{hyphenated_text, lower};
+ghost use Rattle.ra_item.specs.Items.{spell, spell_all, row};
+ghost use Rattle.ra_wire.specs.Replies.{before, behind, list, property, properties, string};
+ghost use Rattle.ra_browse.specs.Answers.{perhaps, entry_props, props_told};
+ghost use Rattle.ra_browse.specs.Tellings.{made_as};
+
+use crate::made::Made;
+use itoa::Buffer;
+use node_base::{Node, PropName, PropValue};
+use ra_item::writer::{write_close, write_open, write_text, write_word};
+use std::io;
+use std::io::Write;
+use uuid::Uuid;
+
+/// What stands in front of an answer's content.
+pub fn write_name<W: Write>(out: &mut W, name: &[u8]) -> io::Result<()>
+    ensures { OnOk result (Appends (W.contents out.old) (W.contents out.new) (before name.now)) }
+{
+    write_open(out)?;
+    write_word(out, name)?;
+    write_open(out)
+}
+
+/// What stands behind it.
+pub fn write_end<W: Write>(out: &mut W) -> io::Result<()>
+    ensures { OnOk result (Appends (W.contents out.old) (W.contents out.new) behind) }
+{
+    write_close(out)?;
+    write_close(out)
+}
+
+/// Brackets without anything.
+pub fn write_none<W: Write>(out: &mut W) -> io::Result<()>
+    ensures { OnOk result (Appends (W.contents out.old) (W.contents out.new) (spell (list []))) }
+{
+    write_open(out)?;
+    write_close(out)
+}
+
+/// Brackets that are empty or hold a string.
+pub fn write_string<W: Write>(out: &mut W, value: &Option<Vec<u8>>) -> io::Result<()>
+    ensures { OnOk result (Appends (W.contents out.old) (W.contents out.new)
+        (spell (string (option_map (λ t. t.items) value.now)))) }
+{
+    match value {
+        None => write_none(out),
+        Some(value) => {
+            write_open(out)?;
+            write_text(out, value.as_slice())?;
+            write_close(out)
+        }
+    }
+}
+
+// A property.
+fn write_property<W: Write>(out: &mut W, name: &[u8], found: &[u8]) -> io::Result<()>
+    ensures { OnOk result (Appends (W.contents out.old) (W.contents out.new) (spell (property (name.now, found.now)))) }
+{
+    write_open(out)?;
+    write_text(out, name)?;
+    write_text(out, found)?;
+    write_close(out)
+}
+
+// Properties one after another.
+fn write_own<W: Write>(out: &mut W, entries: &[(PropName, PropValue)]) -> io::Result<()>
+    ensures { OnOk result (Appends (W.contents out.old) (W.contents out.new)
+        (spell_all (row (map property entries.now)))) }
+{
+    let Some((first, others)) = entries.split_first() else {
+        return Ok(());
+    };
+    write_property(out, first.0.as_bytes(), first.1.as_slice())?;
+    write_own(out, others)
+}
+
+// A property that may be missing.
+fn write_perhaps<W: Write>(out: &mut W, name: &[u8], value: &Option<Vec<u8>>) -> io::Result<()>
+    ensures { OnOk result (Appends (W.contents out.old) (W.contents out.new)
+        (spell_all (row (map property (perhaps name.now (option_map (λ t. t.items) value.now)))))) }
+{
+    match value {
+        Some(value) => write_property(out, name, value.as_slice()),
+        None => Ok(()),
+    }
+}
+
+// The revision that last changed a node.
+fn write_changed<W: Write>(out: &mut W, name: &[u8], number: u64) -> io::Result<()>
+    ensures { OnOk result (Appends (W.contents out.old) (W.contents out.new)
+        (spell (property (name.now, decimal number)))) }
+{
+    let mut digits = Buffer::new();
+    write_property(out, name, digits.format(number).as_bytes())
+}
+
+// A repository's identity.
+fn write_identity<W: Write>(out: &mut W, name: &[u8], identity: &Uuid) -> io::Result<()>
+    ensures { OnOk result (Appends (W.contents out.old) (W.contents out.new)
+        (spell (property (name.now, hyphenated_text lower identity.now)))) }
+{
+    let mut buffer = Uuid::encode_buffer();
+    let text = identity.hyphenated().encode_lower(&mut buffer);
+    write_property(out, name, text.as_bytes())
+}
+
+// What is told as properties beside a node's own.
+fn write_entry<W: Write>(out: &mut W, node: &Node, made: &Made, identity: &Uuid) -> io::Result<()>
+    ensures { OnOk result (Appends (W.contents out.old) (W.contents out.new)
+        (spell_all (row (map property (entry_props (hyphenated_text lower identity.now) node.now
+        (made_as made.now)))))) }
+{
+    let Made { date, author } = made;
+    write_changed(out, b"svn:entry:committed-rev", u64::from(node.changed.get()))?;
+    write_perhaps(out, b"svn:entry:committed-date", date)?;
+    write_perhaps(out, b"svn:entry:last-author", author)?;
+    write_identity(out, b"svn:entry:uuid", identity)
+}
+
+/// A node's properties with what is told beside them, where they are wanted, and empty brackets where they aren't.
+pub fn write_props<W: Write>(
+    out: &mut W,
+    wanted: bool,
+    node: &Node,
+    made: &Made,
+    identity: &Uuid,
+) -> io::Result<()>
+    ensures { OnOk result (Appends (W.contents out.old) (W.contents out.new)
+        (spell (properties (props_told wanted (hyphenated_text lower identity.now) node.now
+        (made_as made.now))))) }
+{
+    if wanted {
+        write_wanted(out, node, made, identity)
+    } else {
+        write_none(out)
+    }
+}
+
+// The same where they are wanted.
+fn write_wanted<W: Write>(out: &mut W, node: &Node, made: &Made, identity: &Uuid) -> io::Result<()>
+    ensures { OnOk result (Appends (W.contents out.old) (W.contents out.new)
+        (spell (properties (props_told true (hyphenated_text lower identity.now) node.now (made_as made.now))))) }
+{
+    write_open(out)?;
+    write_own(out, node.props.entries())?;
+    write_entry(out, node, made, identity)?;
+    write_close(out)
+}

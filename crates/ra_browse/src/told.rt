@@ -1,0 +1,79 @@
+//! Why a command isn't answered, as it is told.
+
+ghost use Rattle.std.specs.Prelude.{◌≡◌, IfOk, OnOk, ◌∷◌, []};
+ghost use Rattle.std.specs.Io.KnownBytes.{Appends};
+ghost use Rattle.node_base.specs.declared.refusal.Refusal.{Refusal};
+ghost use Rattle.ra_item.specs.Items.{spell, Number, Text};
+ghost use Rattle.ra_wire.specs.Replies.{answer_of, list, failure};
+ghost use Rattle.ra_serve.specs.Answers.{refused};
+ghost use Rattle.ra_serve.specs.Ports.{refusal_of};
+ghost use Rattle.ra_browse.specs.Denials.{denied};
+ghost use Rattle.ra_browse.specs.Tellings.{TellsStop};
+
+use crate::denial::Denial;
+use crate::pieces::{write_end, write_name};
+use crate::stop::Stop;
+use ra_item::writer::{write_close, write_number, write_open, write_text};
+use ra_serve::{PortFault, ServeFault};
+use ra_wire::reply_writer::write_failure;
+use std::io;
+use std::io::Write;
+
+/// Tells what is denied.
+pub fn deny<W: Write + Drop>(why: Denial, out: W) -> Result<W, ServeFault>
+    ensures { IfOk result (λ w. Appends (W.contents out) (W.contents w) (denied why)) }
+{
+    let mut out = out;
+    write_denied(&mut out, why.number(), why.text())?;
+    Ok(out)
+}
+
+/// Tells why a call stopped. Want of memory (70) ends the session.
+pub fn tell<W: Write + Drop>(stop: Stop, out: W) -> Result<W, ServeFault>
+    ensures { IfOk result (λ w. TellsStop (W.contents out) (W.contents w) stop) }
+{
+    match stop {
+        Stop::Denied(why) => deny(why, out),
+        Stop::Port(fault) => refuse(fault, out),
+        Stop::OutOfMemory => Err(ServeFault::OutOfMemory),
+    }
+}
+
+// Tells a refusal of the port.
+fn refuse<W: Write + Drop>(fault: PortFault, out: W) -> Result<W, ServeFault>
+    ensures { IfOk result (λ w. Appends (W.contents out) (W.contents w) (refused (refusal_of fault))) }
+{
+    let mut out = out;
+    write_failure(&mut out, fault.number(), fault.text())?;
+    Ok(out)
+}
+
+// A failure, by its number and text.
+fn write_denied<W: Write>(out: &mut W, n: u64, text: &[u8]) -> io::Result<()>
+    ensures { OnOk result (Appends (W.contents out.old) (W.contents out.new) (spell (failure n text.now))) }
+{
+    write_failed(out, b"failure", n, text)
+}
+
+// The same with the answer's name.
+fn write_failed<W: Write>(out: &mut W, name: &[u8], n: u64, text: &[u8]) -> io::Result<()>
+    ensures { OnOk result (Appends (W.contents out.old) (W.contents out.new)
+        (spell (answer_of name.now (list (Number n ∷ Text text.now ∷ Text [] ∷ Number 0 ∷ []) ∷ [])))) }
+{
+    write_name(out, name)?;
+    write_cause(out, n, text)?;
+    write_end(out)
+}
+
+// A number and a text, with no file and no line.
+fn write_cause<W: Write>(out: &mut W, n: u64, text: &[u8]) -> io::Result<()>
+    ensures { OnOk result (Appends (W.contents out.old) (W.contents out.new)
+        (spell (list (Number n ∷ Text text.now ∷ Text [] ∷ Number 0 ∷ [])))) }
+{
+    write_open(out)?;
+    write_number(out, n)?;
+    write_text(out, text)?;
+    write_text(out, b"")?;
+    write_number(out, 0)?;
+    write_close(out)
+}
