@@ -20,6 +20,7 @@ use Rattle.ra_wire.specs.Commands.{truth_word}
 use Rattle.ra_wire.specs.Replies.{list, success, string, properties, dirent, node_kind_word, number, proplist, value, kind_is, authorised, done}
 use Rattle.browse_wire.specs.Asks.{Ask, Plain, Stat, Reparent, GetLock, GetLocks}
 use Rattle.browse_wire.specs.AskReading.{Reading}
+use Rattle.browse_wire.specs.Told.{no_locks}
 use Rattle.browse_wire.specs.Urls.{Url, url_read}
 use Rattle.browse_wire.specs.declared.fault.BrowseFault.{BrowseFault}
 use Rattle.browse_wire.specs.declared.fault.BrowseFault.TheVariants as browse
@@ -186,8 +187,8 @@ browse_content x at (Plain (plain.RevProplist n)) = spell (proplist (props_at x.
 browse_content x at (Plain (plain.RevProp n name)) = spell (value (finite.get (props_at x.revisions n) name))
 browse_content x at (Stat p n) = spell (stat_told (node_in x (asked x n) (at.1 ++ p)) (made_for x (node_in x (asked x n) (at.1 ++ p))))
 browse_content x at (Reparent url) = spell done
-browse_content x at (GetLock p) = spell (success (list [] ∷ []))
-browse_content x at (GetLocks p d) = spell (success (list [] ∷ []))
+browse_content x at (GetLock p) = spell no_locks
+browse_content x at (GetLocks p d) = spell no_locks
 browse_content x at c = []
 
 abbrev pub reply : Repository → Url → Ask → List ℕ

@@ -2,29 +2,31 @@
 use Rattle.std.specs.Prelude.{ℕ, List, Option, Some, None, codes}
 use Rattle.ra_item.specs.Items.{spell}
 use Rattle.ra_wire.specs.Replies.{failure}
+use Rattle.browse_wire.specs.Told.{refusal_number, refusal_text}
+use Rattle.browse_wire.specs.declared.told.Refusal.TheVariants as refusal
 use Rattle.ra_browse.specs.declared.denial.Denial.{Denial}
 use Rattle.ra_browse.specs.declared.denial.Denial.TheVariants as denial
 
 abbrev pub denial_number : Denial → ℕ
-denial_number denial.NoRevision = 160006
-denial_number denial.NoPath = 160013
+denial_number denial.NoRevision = refusal_number refusal.NoSuchRevision
+denial_number denial.NoPath = refusal_number refusal.NoSuchPath
 denial_number denial.NotDir = 160016
 denial_number denial.NotFile = 160017
 denial_number denial.BadUrl = 170000
 denial_number denial.OtherRoot = 170000
-denial_number denial.Unsupported = 200007
-denial_number denial.Unknown = 210001
+denial_number denial.Unsupported = refusal_number refusal.NotSupported
+denial_number denial.Unknown = refusal_number refusal.UnknownCommand
 denial_number denial.BadShape = 210004
 
 abbrev pub denial_text : Denial → List ℕ
-denial_text denial.NoRevision = codes "no such revision"
-denial_text denial.NoPath = codes "no such path"
+denial_text denial.NoRevision = refusal_text refusal.NoSuchRevision
+denial_text denial.NoPath = refusal_text refusal.NoSuchPath
 denial_text denial.NotDir = codes "not a directory"
 denial_text denial.NotFile = codes "not a file"
 denial_text denial.BadUrl = codes "not a URL of a session"
 denial_text denial.OtherRoot = codes "not the same repository"
-denial_text denial.Unsupported = codes "not supported"
-denial_text denial.Unknown = codes "unknown command"
+denial_text denial.Unsupported = refusal_text refusal.NotSupported
+denial_text denial.Unknown = refusal_text refusal.UnknownCommand
 denial_text denial.BadShape = codes "bad command shape"
 
 -- as it is told

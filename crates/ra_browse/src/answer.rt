@@ -1,6 +1,6 @@
 //! One command and its answer.
 
-ghost use Rattle.std.specs.Prelude.{◌≡◌, ◌∷◌, ◌++◌, [], true, Ok, IfOk};
+ghost use Rattle.std.specs.Prelude.{◌≡◌, ◌++◌, true, Ok, IfOk};
 ghost use Rattle.std.specs.Option.{option_map};
 ghost use Rattle.std.specs.FinMap as finite;
 ghost use Rattle.std.specs.Io.KnownBytes.{Appends};
@@ -8,9 +8,10 @@ ghost use Rattle.node_base.specs.Path.{Path};
 ghost use Rattle.node_base.specs.Tree.{kind_of};
 ghost use Rattle.ra_item.specs.Items.{spell};
 ghost use Rattle.ra_wire.specs.Commands.{command_as, CheckPath, LatestRev, RevProp, RevProplist};
-ghost use Rattle.ra_wire.specs.Replies.{authorised, list, success};
+ghost use Rattle.ra_wire.specs.Replies.{authorised};
 ghost use Rattle.browse_wire.specs.Asks.{Plain, ask_as};
 ghost use Rattle.browse_wire.specs.AskReading.{ask_in};
+ghost use Rattle.browse_wire.specs.Told.{no_locks};
 ghost use Rattle.browse_wire.specs.Urls.{Url};
 ghost use Rattle.ra_browse.specs.Answers.{behind, is_answered, moved};
 ghost use Rattle.ra_browse.specs.Tellings.{place_as, Answers, Tells, PortStays};
@@ -21,11 +22,12 @@ use crate::dir::get_dir;
 use crate::file::{Wanted, get_file};
 use crate::look::joined;
 use crate::place::reparent;
-use crate::stat::{stat, write_absent};
+use crate::stat::stat;
 use crate::stop::{Stop, stopped};
 use crate::told::{deny, tell};
 use browse_wire::ask::BrowseCommand;
 use browse_wire::fault::BrowseFault;
+use browse_wire::told::write_no_locks;
 use browse_wire::url::SessionUrl;
 use node_base::{NodeKind, NodeName, NodePath, PropName};
 use path_tree::Tree;
@@ -167,10 +169,10 @@ fn reply<P: RepoPort, W: Write + Drop>(
 
 // Tells that there are no locks.
 fn no_lock<W: Write + Drop>(out: W) -> Result<W, ServeFault>
-    ensures { IfOk result (λ w. Appends (W.contents out) (W.contents w) (spell (success (list [] ∷ [])))) }
+    ensures { IfOk result (λ w. Appends (W.contents out) (W.contents w) (spell no_locks)) }
 {
     let mut out = out;
-    write_absent(&mut out, b"success")?;
+    write_no_locks(&mut out)?;
     Ok(out)
 }
 

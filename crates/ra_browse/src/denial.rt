@@ -3,6 +3,8 @@
 ghost use Rattle.std.specs.Prelude.{◌≡◌};
 ghost use Rattle.ra_browse.specs.Denials.{denial_number, denial_text};
 
+use browse_wire::told::Refusal;
+
 /// Why a command isn't answered. The numbers are Subversion's own, since its clients decide by them.
 #[derive(Clone, Copy, Debug, PartialEq, Eq, Drop)]
 pub enum Denial {
@@ -32,14 +34,14 @@ impl Denial {
         ensures { result ≡ denial_number self }
     {
         match self {
-            Denial::NoRevision => 160_006,
-            Denial::NoPath => 160_013,
+            Denial::NoRevision => Refusal::NoSuchRevision.number(),
+            Denial::NoPath => Refusal::NoSuchPath.number(),
             Denial::NotDir => 160_016,
             Denial::NotFile => 160_017,
             Denial::BadUrl => 170_000,
             Denial::OtherRoot => 170_000,
-            Denial::Unsupported => 200_007,
-            Denial::Unknown => 210_001,
+            Denial::Unsupported => Refusal::NotSupported.number(),
+            Denial::Unknown => Refusal::UnknownCommand.number(),
             Denial::BadShape => 210_004,
         }
     }
@@ -49,14 +51,14 @@ impl Denial {
         ensures { result.now ≡ denial_text self }
     {
         match self {
-            Denial::NoRevision => b"no such revision",
-            Denial::NoPath => b"no such path",
+            Denial::NoRevision => Refusal::NoSuchRevision.text(),
+            Denial::NoPath => Refusal::NoSuchPath.text(),
             Denial::NotDir => b"not a directory",
             Denial::NotFile => b"not a file",
             Denial::BadUrl => b"not a URL of a session",
             Denial::OtherRoot => b"not the same repository",
-            Denial::Unsupported => b"not supported",
-            Denial::Unknown => b"unknown command",
+            Denial::Unsupported => Refusal::NotSupported.text(),
+            Denial::Unknown => Refusal::UnknownCommand.text(),
             Denial::BadShape => b"bad command shape",
         }
     }

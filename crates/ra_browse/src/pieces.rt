@@ -8,7 +8,7 @@ ghost use Rattle.std.specs.Fmt.{decimal};
 ghost use Rattle.std.specs.Io.KnownBytes.{Appends};
 ghost use Rattle.uuid.specs.Text.{hyphenated_text, lower};
 ghost use Rattle.ra_item.specs.Items.{spell, spell_all, row};
-ghost use Rattle.ra_wire.specs.Replies.{before, behind, list, property, properties, string};
+ghost use Rattle.ra_wire.specs.Replies.{before, behind, list, property, properties};
 ghost use Rattle.ra_browse.specs.Answers.{perhaps, entry_props, props_told};
 ghost use Rattle.ra_browse.specs.Tellings.{made_as};
 
@@ -43,21 +43,6 @@ pub fn write_none<W: Write>(out: &mut W) -> io::Result<()>
 {
     write_open(out)?;
     write_close(out)
-}
-
-/// Brackets that are empty or hold a string.
-pub fn write_string<W: Write>(out: &mut W, value: &Option<Vec<u8>>) -> io::Result<()>
-    ensures { OnOk result (Appends (W.contents out.old) (W.contents out.new)
-        (spell (string (option_map (λ t. t.items) value.now)))) }
-{
-    match value {
-        None => write_none(out),
-        Some(value) => {
-            write_open(out)?;
-            write_text(out, value.as_slice())?;
-            write_close(out)
-        }
-    }
 }
 
 // A property.
