@@ -1,16 +1,13 @@
 -- Refusals of a port, as what stops a call.
-use Rattle.std.proofs.Common.{◌≡◌, ℕ, ◌≤◌, Bool, true, false, Option, Some, None, ap, refl, subst}
+use Rattle.std.proofs.Common.{◌≡◌, ℕ, Bool, true, false, Some, None, refl}
 use Rattle.std.specs.Prelude.{nat_le, length}
-use Rattle.node_base.specs.declared.refusal.Refusal.{Refusal}
 use Rattle.node_base.specs.declared.refusal.Refusal.TheVariants as refusal
-use Rattle.fleet_disk.specs.Rules.{Rose}
 use Rattle.dump_load.specs.Faults.{fault_if}
 use Rattle.repo_core.specs.Repository.{Repository}
 use Rattle.ra_serve.specs.declared.fault.PortFault.{PortFault}
 use Rattle.ra_serve.specs.declared.fault.PortFault.TheVariants as fault
 use Rattle.ra_serve.specs.Ports as port
 use Rattle.ra_serve.specs.Ports.{MayRefuse, IsOwn}
-use Rattle.ra_browse.specs.declared.denial.Denial.{Denial}
 use Rattle.ra_browse.specs.declared.denial.Denial.TheVariants as denial
 use Rattle.ra_browse.specs.declared.stop.Stop.{Stop}
 use Rattle.ra_browse.specs.declared.stop.Stop.TheVariants as stop

@@ -1,5 +1,5 @@
 -- Exits of what answers a command.
-use Rattle.std.proofs.Common.{◌≡◌, ℕ, ◌≤◌, inl, inr, Bool, true, false, true≢false, List, [], ◌∷◌, ◌++◌, map, Option, Some, None, Result, Ok, Err, refl, sym, ap, subst, ◌∙◌}
+use Rattle.std.proofs.Common.{◌≡◌, ℕ, ◌≤◌, inl, inr, Bool, true, false, List, [], ◌∷◌, ◌++◌, map, Option, Some, None, Result, Ok, Err, sym, ap, subst, ◌∙◌}
 use Rattle.std.proofs.KnownBytes.{Appends-trans, Appends-kept}
 use Rattle.std.specs.Prelude.{IfOk, if◌then◌else◌}
 use Rattle.std.specs.FinMap as finite
@@ -30,7 +30,7 @@ use Rattle.ra_browse.specs.declared.stop.Stop.{Stop}
 use Rattle.ra_browse.specs.declared.stop.Stop.TheVariants as stop
 use Rattle.ra_browse.specs.declared.look.Seen.{Seen}
 use Rattle.ra_browse.specs.Denials.{denied, unless_denied}
-use Rattle.ra_browse.specs.Answers.{no_revision, made_for, stat_told, file_told, file_bytes, file_denied, dir_told, dir_bytes, dir_denied, entries_wanted, is_answered, asks_port, browse_due, browse_content, reply, told, answer, no_ask}
+use Rattle.ra_browse.specs.Answers.{no_revision, made_for, stat_told, file_told, file_denied, dir_told, dir_denied, entries_wanted, is_answered, asks_port, browse_due, browse_content, reply, told, answer, no_ask}
 use Rattle.ra_browse.specs.Tellings.{made_as, MayStop, TellsStop, IsSeen, AreEntries, Replied, Answered, Tells, Answers}
 
 -- what a command is told, where the port refused nothing by itself

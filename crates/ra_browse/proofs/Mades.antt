@@ -8,7 +8,7 @@ use Rattle.std.specs.FinMap as finite
 use Rattle.node_base.specs.Path.{name_cmp}
 use Rattle.node_base.specs.declared.refusal.Refusal.TheVariants as refusal
 use Rattle.dump_load.specs.Faults.{fault_if}
-use Rattle.repo_core.specs.Repository.{Repository, Revision, props_at}
+use Rattle.repo_core.specs.Repository.{Repository, Revision}
 use Rattle.ra_serve.specs.declared.fault.PortFault.{PortFault}
 use Rattle.ra_serve.specs.declared.fault.PortFault.TheVariants as fault
 use Rattle.ra_serve.specs.Ports as port
@@ -17,7 +17,7 @@ use Rattle.ra_browse.specs.declared.made.Made as declared
 use Rattle.ra_browse.specs.declared.stop.Stop.{Stop}
 use Rattle.ra_browse.specs.declared.stop.Stop.TheVariants as stop
 use Rattle.ra_browse.specs.Answers.{Made, made_in, made_of}
-use Rattle.ra_browse.specs.Tellings.{made_as, MayStop, Comes}
+use Rattle.ra_browse.specs.Tellings.{made_as, Comes}
 use Rattle.ra_browse.proofs.Causes.{not_long, not_other}
 
 abbrev made_with : Option (List ℕ) → Option (List ℕ) → Made

@@ -8,15 +8,16 @@ use Rattle.node_base.specs.Path.{Path}
 use Rattle.dump_load.specs.Faults.{fault_if}
 use Rattle.ra_item.specs.Items.{spell}
 use Rattle.ra_wire.specs.Replies.{done}
-use Rattle.browse_wire.specs.Urls.{Url}
+use Rattle.browse_wire.specs.Urls.{Url, MovedIs}
 use Rattle.browse_wire.specs.declared.url.UrlFault.{UrlFault}
+use Rattle.browse_wire.specs.declared.url.UrlFault.TheVariants as url
 use Rattle.ra_serve.specs.declared.fault.ServeFault.{ServeFault}
 use Rattle.ra_browse.specs.declared.denial.Denial.TheVariants as denial
 use Rattle.ra_browse.specs.declared.stop.Stop.{Stop}
 use Rattle.ra_browse.specs.declared.stop.Stop.TheVariants as stop
 use Rattle.ra_browse.specs.Denials.{unless_denied}
 use Rattle.ra_browse.specs.Answers.{url_denied, moved_to}
-use Rattle.ra_browse.specs.Tellings.{MayMove, TellsStop}
+use Rattle.ra_browse.specs.Tellings.{url_stop, MayMove, TellsStop}
 
 same : (a : List ℕ) → bytes_eq a a ≡ true
 same a = (bytes_eq-Decides a a).1 refl
@@ -33,7 +34,7 @@ move_made at path read e = (
 )
 
 -- to one of another
-pub move_other : (at : Url) (other : List ℕ) (path : Path) (read : Result Url UrlFault) → read ≡ Ok (other, path) → (other ≡ at.0 → ⊥) → (url_denied at read ≡ Some denial.OtherRoot) × (at ≡ at) × (at ≡ moved_to at read)
+move_other : (at : Url) (other : List ℕ) (path : Path) (read : Result Url UrlFault) → read ≡ Ok (other, path) → (other ≡ at.0 → ⊥) → (url_denied at read ≡ Some denial.OtherRoot) × (at ≡ at) × (at ≡ moved_to at read)
 move_other at other path read e d =
     let b : bytes_eq other at.0 ≡ false = not_true (bytes_eq other at.0) (λ t. d ((bytes_eq-Decides other at.0).0 t)) in (
       ap (url_denied at) e ∙ ap (λ b. fault_if (not b) denial.OtherRoot) b,
@@ -42,8 +43,17 @@ move_other at other path read e d =
     )
 
 -- to none
-pub move_none : (at : Url) (f : UrlFault) (read : Result Url UrlFault) → read ≡ Err f → (url_denied at read ≡ Some denial.BadUrl) × (at ≡ at) × (at ≡ moved_to at read)
+move_none : (at : Url) (f : UrlFault) (read : Result Url UrlFault) → read ≡ Err f → (url_denied at read ≡ Some denial.BadUrl) × (at ≡ at) × (at ≡ moved_to at read)
 move_none at f read e = (ap (url_denied at) e, refl, sym (ap (moved_to at) e))
+
+-- whatever the reason
+pub move_refused : (at : Url) (f : UrlFault) (read : Result Url UrlFault) → MovedIs at.0 (Err f) read → MayMove at at read (Err (url_stop f))
+move_refused at url.OtherScheme read e = move_none at url.OtherScheme read e
+move_refused at url.NoHost read e = move_none at url.NoHost read e
+move_refused at url.TooLong read e = move_none at url.TooLong read e
+move_refused at url.BadPath read e = move_none at url.BadPath read e
+move_refused at url.OtherRoot read e = move_other at e.0 e.1 read e.2 e.3
+move_refused at url.OutOfMemory read e = refl
 
 -- as it is told
 pub step_told : (old new : Url) (read : Result Url UrlFault) (before now : Option (List ℕ)) → (url_denied old read ≡ None) × (new ≡ moved_to old read) → Appends before now (spell done) → Appends before now (unless_denied (url_denied old read) (spell done))

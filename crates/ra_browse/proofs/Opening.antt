@@ -1,7 +1,7 @@
 -- The exits of a reading session.
-use Rattle.std.proofs.Common.{◌≡◌, ◌≢◌, ◌≤◌, ℕ, Bool, true, false, true≢false, not, ◌&&◌, List, [], ◌∷◌, ◌++◌, map, Option, Some, None, Result, Ok, Err, refl, sym, ap, subst, ◌∙◌, append_assoc, append-nil}
+use Rattle.std.proofs.Common.{◌≡◌, ℕ, Bool, true, false, true≢false, not, ◌&&◌, List, [], ◌∷◌, ◌++◌, map, Option, Some, None, Result, Ok, Err, refl, sym, ap, subst, ◌∙◌, append_assoc, append-nil}
 use Rattle.std.proofs.KnownBytes.{Appends-trans}
-use Rattle.std.specs.Prelude.{IfOk, IfErr, is_ok, if◌then◌else◌}
+use Rattle.std.specs.Prelude.{IfOk, is_ok, if◌then◌else◌}
 use Rattle.std.specs.Io.KnownBytes.{Appends}
 use Rattle.std.specs.Option.{option_map}
 use Rattle.uuid.specs.Text.{hyphenated_text, lower}
@@ -25,7 +25,7 @@ use Rattle.ra_serve.specs.declared.fault.End.TheVariants as end
 use Rattle.ra_serve.specs.declared.fault.ServeFault.{ServeFault}
 use Rattle.ra_serve.proofs.Opening.{fault_alone}
 use Rattle.ra_browse.specs.Sessions.{Turn, answers, behind_login, behind_hello, session, greeting, place_in, goes_on, ends_opening, commands_of}
-use Rattle.ra_browse.specs.Serving.{Browses, BrowsesBy, behind_one, spelled_login}
+use Rattle.ra_browse.specs.Serving.{BrowsesBy, behind_one, spelled_login}
 use Rattle.ra_browse.proofs.Turning.{as_turn, one_before, ends_at_once}
 
 -- an item of the opening, and then the rest

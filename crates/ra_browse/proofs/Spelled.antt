@@ -27,6 +27,13 @@ spelled_answer name xs =
     ap (λ t. 40 ∷ 32 ∷ (((name ++ 32 ∷ []) ++ t) ++ c)) (append-nil (40 ∷ 32 ∷ (s ++ c)))
     ∙ ap (λ t. 40 ∷ 32 ∷ t) (append_assoc (name ++ 32 ∷ []) (40 ∷ 32 ∷ (s ++ c)) c ∙ append_assoc name (32 ∷ []) ((40 ∷ 32 ∷ (s ++ c)) ++ c) ∙ ap (λ t. name ++ 32 ∷ 40 ∷ 32 ∷ t) (append_assoc s c c) ∙ sym (append_assoc name (32 ∷ 40 ∷ 32 ∷ []) (s ++ behind)))
 
+-- of three items
+pub spelled_three : (name : List ℕ) (x y z : Item) → spell (answer_of name (x ∷ y ∷ z ∷ [])) ≡ before name ++ (spell x ++ (spell y ++ (spell z ++ behind)))
+spelled_three name x y z =
+    spelled_answer name (x ∷ y ∷ z ∷ [])
+    ∙ ap (λ t. before name ++ t) (append_assoc (spell x) (spell y ++ (spell z ++ [])) behind
+    ∙ ap (λ t. spell x ++ t) (append_assoc (spell y) (spell z ++ []) behind ∙ ap (λ t. spell y ++ (t ++ behind)) (append-nil (spell z))))
+
 -- of one item
 pub spelled_single : (name : List ℕ) (x : Item) → spell (answer_of name (x ∷ [])) ≡ before name ++ (spell x ++ behind)
 spelled_single name x = spelled_answer name (x ∷ []) ∙ ap (λ t. before name ++ (t ++ behind)) (append-nil (spell x))

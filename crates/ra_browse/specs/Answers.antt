@@ -1,7 +1,7 @@
 -- What a reading client's commands are answered, by what stands in the repository and where the session stands.
 use Rattle.std.specs.Prelude.{◌≡◌, ℕ, ◌==◌, nat_le, not, is_none, is_some, Bool, true, false, List, [], ◌∷◌, ◌++◌, map, length, Option, Some, None, unwrap_or, Ok, Err, codes, if◌then◌else◌}
 use Rattle.std.specs.Fmt.{decimal}
-use Rattle.std.specs.Option.{option_map, option_map_or}
+use Rattle.std.specs.Option.{option_map}
 use Rattle.std.specs.Str.{bytes_eq}
 use Rattle.std.specs.FinMap as finite
 use Rattle.md5.specs.Md5.{md5}

@@ -1,5 +1,5 @@
 -- What a reading session says of its port, its reader and its writer.
-use Rattle.std.specs.Prelude.{◌≡◌, ℕ, Bool, true, false, not, List, [], ◌∷◌, ◌++◌, map, Option, Some}
+use Rattle.std.specs.Prelude.{◌≡◌, ℕ, Bool, List, [], ◌∷◌, ◌++◌, map, Option, Some}
 use Rattle.std.specs.Io.KnownBytes.{Appends}
 use Rattle.byte_streams.specs.Causes.{RoseBy}
 use Rattle.ra_item.specs.Items.{Item, spell}
@@ -7,7 +7,6 @@ use Rattle.ra_item.specs.Streams.{Stream}
 use Rattle.ra_item.specs.ItemStreams.{reader_of, is_spent, ahead}
 use Rattle.ra_item.specs.declared.stream.ItemStream.{ItemStream}
 use Rattle.repo_core.specs.Repository.{Repository}
-use Rattle.ra_wire.specs.Openings.{login_in}
 use Rattle.ra_wire.specs.Replies.{mechanisms}
 use Rattle.browse_wire.specs.Urls.{Url}
 use Rattle.ra_serve.specs.Sessions.{identity_text}

@@ -1,5 +1,5 @@
 -- What the calls that answer say of their port and their writer.
-use Rattle.std.specs.Prelude.{◌≡◌, ◌⊎◌, ℕ, Bool, true, List, [], ◌++◌, Option, Some, None, Result, Ok, Err}
+use Rattle.std.specs.Prelude.{◌≡◌, ◌⊎◌, ℕ, Bool, List, Option, Some, None, Result, Ok, Err}
 use Rattle.std.specs.Io.KnownBytes.{Appends}
 use Rattle.fleet_disk.specs.Rules.{Rose}
 use Rattle.node_base.specs.Path.{Path}
@@ -10,12 +10,14 @@ use Rattle.browse_wire.specs.AskReading.{Reading}
 use Rattle.browse_wire.specs.Urls.{Url}
 use Rattle.browse_wire.specs.declared.url.SessionUrl.{SessionUrl}
 use Rattle.browse_wire.specs.declared.url.UrlFault.{UrlFault}
+use Rattle.browse_wire.specs.declared.url.UrlFault.TheVariants as url
 use Rattle.ra_wire.specs.Answers.{dirent_as}
 use Rattle.ra_wire.specs.declared.dirent.Dirent as declared_dirent
 use Rattle.ra_serve.specs.declared.fault.PortFault.{PortFault}
 use Rattle.ra_serve.specs.Answers.{refused, asked, node_in}
 use Rattle.ra_serve.specs.Ports.{Stays, IsOwn, refusal_of, tree_of}
 use Rattle.ra_browse.specs.declared.denial.Denial.{Denial}
+use Rattle.ra_browse.specs.declared.denial.Denial.TheVariants as denial
 use Rattle.ra_browse.specs.declared.stop.Stop.{Stop}
 use Rattle.ra_browse.specs.declared.stop.Stop.TheVariants as stop
 use Rattle.ra_browse.specs.declared.made.Made as declared_made
@@ -110,6 +112,12 @@ Answers repository refusals contents at read old new before now =
 -- and the port's repository stays what it is
 abbrev pub PortStays : {P : Type 0} → (P → Option Repository) → (P → ℕ) → (P → Bool) → P → P → Type 0
 PortStays repository refusals is_mirror old new = Stays (repository old) (repository new) (is_mirror old) (is_mirror new) (refusals old) (refusals new)
+
+-- why a session stays where it is
+abbrev pub url_stop : UrlFault → Stop
+url_stop url.OutOfMemory = stop.OutOfMemory
+url_stop url.OtherRoot = stop.Denied denial.OtherRoot
+url_stop f = stop.Denied denial.BadUrl
 
 -- a step to another URL was made, or it was denied, or memory ran out, and then the session stands where it stood
 abbrev pub MayMove : Url → Url → Result Url UrlFault → Result (Unit {0}) Stop → Type 0

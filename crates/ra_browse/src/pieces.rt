@@ -104,7 +104,11 @@ fn write_entry<W: Write>(out: &mut W, node: &Node, made: &Made, identity: &Uuid)
         (made_as made.now)))))) }
 {
     let Made { date, author } = made;
-    write_changed(out, b"svn:entry:committed-rev", u64::from(node.changed.get()))?;
+    write_changed(
+        out,
+        b"svn:entry:committed-rev",
+        u64::from(node.changed.get()),
+    )?;
     write_perhaps(out, b"svn:entry:committed-date", date)?;
     write_perhaps(out, b"svn:entry:last-author", author)?;
     write_identity(out, b"svn:entry:uuid", identity)

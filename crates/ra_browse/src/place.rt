@@ -7,7 +7,7 @@ ghost use Rattle.ra_wire.specs.Replies.{done};
 ghost use Rattle.browse_wire.specs.Urls.{url_read};
 ghost use Rattle.ra_browse.specs.Answers.{url_denied, moved_to};
 ghost use Rattle.ra_browse.specs.Denials.{unless_denied};
-ghost use Rattle.ra_browse.specs.Tellings.{place_as, MayMove};
+ghost use Rattle.ra_browse.specs.Tellings.{place_as, url_stop, MayMove};
 
 use crate::denial::Denial;
 use crate::stop::Stop;
@@ -48,8 +48,17 @@ fn step(alloc: Global, place: &mut SessionUrl, url: &[u8]) -> Result<(), Stop>
             place.path = path;
             Ok(())
         }
-        Err(UrlFault::OutOfMemory) => Err(Stop::OutOfMemory),
-        Err(UrlFault::OtherRoot) => Err(Stop::Denied(Denial::OtherRoot)),
-        Err(_) => Err(Stop::Denied(Denial::BadUrl)),
+        Err(fault) => Err(stop_of(fault)),
+    }
+}
+
+// Why the session stays where it is.
+fn stop_of(fault: UrlFault) -> Stop
+    ensures { result ≡ url_stop fault }
+{
+    match fault {
+        UrlFault::OutOfMemory => Stop::OutOfMemory,
+        UrlFault::OtherRoot => Stop::Denied(Denial::OtherRoot),
+        _ => Stop::Denied(Denial::BadUrl),
     }
 }

@@ -45,7 +45,10 @@ fn tell_stat<W: Write + Drop>(seen: Seen, out: W) -> Result<W, ServeFault>
         (spell (stat_told (finite.get seen.tree seen.names.items) (made_as seen.made)))) }
 {
     let Seen {
-        tree, names, made, ..
+        tree,
+        names,
+        made,
+        ..
     } = seen;
     let info = info_of(tree.get(names.as_slice()), made);
     let mut out = out;

@@ -1,7 +1,8 @@
 //! What readers ask, and what they are told.
 
-use crate::sessions::{ROOT, are_answered, none_is_wrong, opening, rest_behind, run};
-use crate::sessions::{GREETING, MECHANISMS, WELCOME};
+use crate::sessions::{
+    GREETING, MECHANISMS, ROOT, WELCOME, are_answered, none_is_wrong, opening, rest_behind, run,
+};
 use crate::site::site;
 use ra_browse::{Denial, law};
 use std::alloc::Global;
@@ -10,10 +11,7 @@ use std::rt::HostRuntime;
 
 // What stands at a path.
 const NODES: [(&[u8], &[u8]); 12] = [
-    (
-        b"( get-latest-rev ( ) )",
-        b"( success ( 3 ) ) ",
-    ),
+    (b"( get-latest-rev ( ) )", b"( success ( 3 ) ) "),
     (
         b"( stat ( 0: ( 3 ) ) )",
         b"( success ( ( ( dir 18446744073709551615 false 3 ( ) ( 3:bob ) ) ) ) ) ",
@@ -38,14 +36,8 @@ const NODES: [(&[u8], &[u8]); 12] = [
         b"( stat ( 16:tags/1.0/lib/a.c ( ) ) )",
         b"( success ( ( ( file 7 true 1 ( 27:2020-01-01T00:16:40.007919Z ) ( 5:alice ) ) ) ) ) ",
     ),
-    (
-        b"( stat ( 4:nope ( 3 ) ) )",
-        b"( success ( ( ) ) ) ",
-    ),
-    (
-        b"( stat ( 8:tags/1.0 ( 2 ) ) )",
-        b"( success ( ( ) ) ) ",
-    ),
+    (b"( stat ( 4:nope ( 3 ) ) )", b"( success ( ( ) ) ) "),
+    (b"( stat ( 8:tags/1.0 ( 2 ) ) )", b"( success ( ( ) ) ) "),
     (
         b"( check-path ( 9:trunk/lib ( 1 ) ) )",
         b"( success ( dir ) ) ",
@@ -54,10 +46,7 @@ const NODES: [(&[u8], &[u8]); 12] = [
         b"( check-path ( 12:trunk/README ( ) ) )",
         b"( success ( file ) ) ",
     ),
-    (
-        b"( check-path ( 4:nope ( 2 ) ) )",
-        b"( success ( none ) ) ",
-    ),
+    (b"( check-path ( 4:nope ( 2 ) ) )", b"( success ( none ) ) "),
 ];
 
 #[test]
@@ -125,22 +114,13 @@ const OTHERS: [(&[u8], &[u8]); 6] = [
         b"( rev-proplist ( 1 ) )",
         b"( success ( ( ( 10:svn:author 5:alice ) ( 8:svn:date 27:2020-01-01T00:16:40.007919Z ) ( 7:svn:log 5:first ) ) ) ) ",
     ),
-    (
-        b"( rev-proplist ( 0 ) )",
-        b"( success ( ( ) ) ) ",
-    ),
+    (b"( rev-proplist ( 0 ) )", b"( success ( ( ) ) ) "),
     (
         b"( rev-prop ( 1 7:svn:log ) )",
         b"( success ( ( 5:first ) ) ) ",
     ),
-    (
-        b"( rev-prop ( 2 10:svn:author ) )",
-        b"( success ( ( ) ) ) ",
-    ),
-    (
-        b"( get-lock ( 5:trunk ) )",
-        b"( success ( ( ) ) ) ",
-    ),
+    (b"( rev-prop ( 2 10:svn:author ) )", b"( success ( ( ) ) ) "),
+    (b"( get-lock ( 5:trunk ) )", b"( success ( ( ) ) ) "),
     (
         b"( get-locks ( 0: ( infinity ) ) )",
         b"( success ( ( ) ) ) ",

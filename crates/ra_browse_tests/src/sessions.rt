@@ -94,7 +94,8 @@ pub(crate) fn opening(rt: &impl Abort, alloc: Global, url: &[u8]) -> Vec<u8> {
     let len = url.len();
     write!(sent, "( 2 ( edit-pipeline ) {len}:").expect(rt, "memory");
     sent.extend_from_slice(url).expect(rt, "memory");
-    sent.extend_from_slice(b" ) ( ANONYMOUS ( 0: ) ) ").expect(rt, "memory");
+    sent.extend_from_slice(b" ) ( ANONYMOUS ( 0: ) ) ")
+        .expect(rt, "memory");
     sent
 }
 

@@ -1,9 +1,7 @@
 //! The repository that the tests serve.
 
 use dump_load::{Change, ChangeSet};
-use node_base::{
-    Action, NodeKind, NodePath, PropName, PropValue, Props, RevNo, Source, Text,
-};
+use node_base::{Action, NodeKind, NodePath, PropName, PropValue, Props, RevNo, Source, Text};
 use ra_serve::HeldRepo;
 use repo_core::Repo;
 use std::alloc::Global;
@@ -72,7 +70,11 @@ fn first(rt: &impl Abort, alloc: Global) -> ChangeSet {
     let mut changes = Vec::new(alloc);
     add(rt, &mut changes, dir(rt, alloc, b"tags"));
     add(rt, &mut changes, dir(rt, alloc, b"trunk"));
-    add(rt, &mut changes, file(rt, alloc, b"trunk/README", b"hello\n"));
+    add(
+        rt,
+        &mut changes,
+        file(rt, alloc, b"trunk/README", b"hello\n"),
+    );
     add(rt, &mut changes, dir(rt, alloc, b"trunk/lib"));
     let mut source = file(rt, alloc, b"trunk/lib/a.c", b"int a;\n");
     source.props = Some(props(rt, alloc, &[(b"svn:eol-style", b"native")]));
@@ -136,8 +138,20 @@ pub(crate) fn site(rt: &impl Abort, alloc: Global) -> HeldRepo {
         "an identity",
     );
     let mut repo = Repo::new(alloc, identity).expect(rt, "memory");
-    commit(rt, alloc, &mut repo, first(rt, alloc), first_props(rt, alloc));
-    commit(rt, alloc, &mut repo, second(rt, alloc), second_props(rt, alloc));
+    commit(
+        rt,
+        alloc,
+        &mut repo,
+        first(rt, alloc),
+        first_props(rt, alloc),
+    );
+    commit(
+        rt,
+        alloc,
+        &mut repo,
+        second(rt, alloc),
+        second_props(rt, alloc),
+    );
     let by_bob = props(rt, alloc, &[(b"svn:author", b"bob")]);
     commit(rt, alloc, &mut repo, third(rt, alloc), by_bob);
     HeldRepo::new(alloc, repo, true)

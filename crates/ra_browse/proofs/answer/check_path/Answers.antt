@@ -3,4 +3,4 @@ use Rattle.ra_browse.specs.Tellings.{place_as}
 use Rattle.ra_browse.proofs.answer.check_path.Goals as goal
 
 pub returns-in-Ok-clause-told : goal.returns-in-Ok-clause-told
-returns-in-Ok-clause-told g c = c.tell_kind.ensures.told (place_as c.args.place.now) c.args.path.now (c.as_slice.ensures ∙ c.in-Ok.ensures)
+returns-in-Ok-clause-told g c = c.tell_kind.ensures.told (place_as c.args.place.now) c.args.path.now (c.as_slice.ensures.value ∙ c.in-Ok.ensures)

@@ -1,4 +1,4 @@
-use Rattle.std.proofs.Common.{◌≡◌, [], ◌∷◌, ◌++◌, map, Some, None, refl, sym, subst, ◌∙◌}
+use Rattle.std.proofs.Common.{◌≡◌, [], ◌∷◌, ◌++◌, map, refl, sym, subst, ◌∙◌}
 use Rattle.std.specs.Prelude.{MatchOption}
 use Rattle.ra_wire.specs.Answers.{dirent_as}
 use Rattle.ra_serve.proofs.Causes.{stays_here, stays_join}
@@ -14,7 +14,7 @@ pub loop-preserved : goal.loop-preserved
 loop-preserved g c =
     let i = c.loop.invariant in (
       (λ x e. entries_more x c.loop.entries.items c.push.new.self.items c.in-Ok-Some.entry c.loop.children c.next_of.new.children (map (entry_of x) c.args.children)
-          (pushed c.push.result _ _ _ c.push.ensures.items (sym c.is_err.ensures ∙ c.if-is_err.false)) (i.0 x e)
+          (pushed c.push.result _ _ _ c.push.ensures.items (sym c.is_err.ensures.value ∙ c.if-is_err.false)) (i.0 x e)
           (subst (λ o. MatchOption o (map (entry_of x) c.loop.children ≡ []) (λ d. map (entry_of x) c.loop.children ≡ dirent_as d ∷ map (entry_of x) c.next_of.new.children)) c.in-Ok-Some.field-0-is (c.in-Ok-Some.ensures.found x (i.1.repository ∙ e)).1)),
       stays_join _ _ _ _ _ _ _ _ _ i.1 c.next_of.ensures.stays,
     )
@@ -22,8 +22,11 @@ loop-preserved g c =
 pub returns-in-Ok-None-clause-found : goal.returns-in-Ok-None-clause-found
 returns-in-Ok-None-clause-found g c =
     let i = c.loop.invariant in
-    λ x e. (refl, entries_all x c.loop.entries.items c.loop.children (map (entry_of x) c.args.children) (i.0 x e)
-        (subst (λ o. MatchOption o (map (entry_of x) c.loop.children ≡ []) (λ d. map (entry_of x) c.loop.children ≡ dirent_as d ∷ map (entry_of x) c.next_of.new.children)) c.in-Ok-None.field-0-is (c.in-Ok-None.ensures.found x (i.1.repository ∙ e)).1))
+    λ x e. (
+      refl,
+      entries_all x c.loop.entries.items c.loop.children (map (entry_of x) c.args.children) (i.0 x e)
+          (subst (λ o. MatchOption o (map (entry_of x) c.loop.children ≡ []) (λ d. map (entry_of x) c.loop.children ≡ dirent_as d ∷ map (entry_of x) c.next_of.new.children)) c.in-Ok-None.field-0-is (c.in-Ok-None.ensures.found x (i.1.repository ∙ e)).1),
+    )
 
 pub returns-in-Err-clause-found : goal.returns-in-Err-clause-found
 returns-in-Err-clause-found g c =

@@ -1,8 +1,7 @@
 use Rattle.node_base.specs.Path.{Name}
-use Rattle.std.proofs.Common.{ℕ, List, [], ◌∷◌, ◌++◌, codes, sym, subst, OnOk}
+use Rattle.std.proofs.Common.{◌≡◌, ℕ, List, [], ◌++◌, codes, sym, subst, OnOk}
 use Rattle.std.specs.Fmt.{decimal}
 use Rattle.std.specs.Io.KnownBytes.{Appends}
-use Rattle.std.specs.Option.{option_map}
 use Rattle.std.proofs.Common.{append-nil}
 use Rattle.uuid.specs.Text.{hyphenated_text, lower}
 use Rattle.ra_item.specs.Items.{spell}
@@ -22,12 +21,15 @@ returns g c =
     let e = g.W.Write.contents c.write_perhaps-2.new.out in
     let z = g.W.Write.contents c.write_identity.new.out in
     let m = made_as c.args.made.now in
+    let got = c.get.ensures in
+    let from = c.from.ensures in
+    let k : c.from.result ≡ c.args.node.now.changed = cc in
     let first : Name × List ℕ = (codes "svn:entry:committed-rev", decimal c.args.node.now.changed) in
     let dates = perhaps (codes "svn:entry:committed-date") m.date in
     let authors = perhaps (codes "svn:entry:last-author") m.author in
     let last : Name × List ℕ = (codes "svn:entry:uuid", hyphenated_text lower c.args.identity.now) in
     subst (λ l. OnOk r (Appends a z l)) (sym (spelled_four first dates authors last))
-    (both_parts r a b z (spell (property first)) (spelled dates ++ (spelled authors ++ (spell (property last) ++ []))) c.in_ok-write_changed.ensures
+    (both_parts r a b z (spell (property first)) (spelled dates ++ (spelled authors ++ (spell (property last) ++ []))) (subst (λ n. Appends a b (spell (property (codes "svn:entry:committed-rev", decimal n)))) k c.in_ok-write_changed.ensures)
     (both_parts r b d z (spelled dates) (spelled authors ++ (spell (property last) ++ [])) c.in_ok-write_perhaps.ensures
     (both_parts r d e z (spelled authors) (spell (property last) ++ []) c.in_ok-write_perhaps-2.ensures
     (subst (λ l. OnOk r (Appends e z l)) (sym (append-nil (spell (property last)))) c.write_identity.ensures))))

@@ -23,13 +23,13 @@ returns-in-Err-clause-reader g c = reader_told c.ended.result c.in-Err.fault _ _
 pub returns-in-Ok-clause-served : goal.returns-in-Ok-clause-served
 returns-in-Ok-clause-served g c =
     let at = place_as c.in-Ok.place in
-    let e : Ok at ≡ place_in c.in-Ok-Some.item = sym (ap placed_as c.in-Ok.is) ∙ c.in_ok-placed.ensures.told in
+    let e : Ok at ≡ place_in c.in-Ok-Some.item = sym (ap placed_as c.in-Ok.is) ∙ c.in_ok-place.ensures.told in
     by_before session (spelled_login at) commands_of behind_one goes_on ends_opening goes_on_login ends_at_login g.P.RepoPort.repository g.P.RepoPort.refusals g.I.Input.remaining g.W.Write.contents c.args.port.now c.log_in.new.port c.args.items.now c.next.new.self c.log_in.new.items c.args.out c.in_ok-out.out c.log_in.result c.in-Ok-Some.item (λ x. spell greeting) (λ x ts. hello_said c.in-Ok-Some.item at e x ts) (hello_asked c.in-Ok-Some.item) (hello_goes c.in-Ok-Some.item at e) (hello_ends c.in-Ok-Some.item at e)
     (λ x h. c.in_ok-out.ensures.sent) (subst (λ o. Answers g.I.Input.remaining g.I.Input.failures g.I.Input.reads c.args.items.now c.next.new.self (Ok o)) c.in-Ok-Some.field-0-is c.in-Ok-Some.ensures.answer) c.in-Ok-Some.ensures.goes_on c.log_in.ensures.served
 
 pub returns-in_ok-out-in-Err-2-clause-served : goal.returns-in_ok-out-in-Err-2-clause-served
 returns-in_ok-out-in-Err-2-clause-served g c =
     let r = refusal_for c.in-Err-2.why in
-    let e : Err r ≡ place_in c.in-Ok-Some.item = sym (ap placed_as c.in-Err-2.is) ∙ c.in_ok-placed.ensures.told in
+    let e : Err r ≡ place_in c.in-Ok-Some.item = sym (ap placed_as c.in-Err-2.is) ∙ c.in_ok-place.ensures.told in
     by_end session commands_of goes_on ends_opening g.P.RepoPort.repository g.P.RepoPort.refusals g.I.Input.remaining g.W.Write.contents c.args.port.now c.args.items.now c.next.new.self c.args.out c.in_ok-out-in-Err-2.out end.Opening (as_turn c.in-Ok-Some.item ∷ []) refl
     (λ x h. hello_refused c.in-Ok-Some.item r x (g.W.Write.contents c.args.out) (g.W.Write.contents c.in_ok-out.out) (g.W.Write.contents c.in_ok-out-in-Err-2.out) e c.in_ok-out.ensures.sent c.in_ok-out-in-Err-2.ensures.sent) (hello_over c.in-Ok-Some.item r e, (subst (λ o. Answers g.I.Input.remaining g.I.Input.failures g.I.Input.reads c.args.items.now c.next.new.self (Ok o)) c.in-Ok-Some.field-0-is c.in-Ok-Some.ensures.answer))

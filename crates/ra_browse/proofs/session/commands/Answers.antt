@@ -1,7 +1,5 @@
-use Rattle.std.proofs.Common.{[], Ok, true≢false, refl, sym, subst, ◌∙◌, arith}
+use Rattle.std.proofs.Common.{[], Ok, true≢false, sym, subst, ◌∙◌, arith}
 use Rattle.ra_item.specs.ItemStreams.{Answers, Stops, meanwhile, reader_of, is_spent, ahead}
-use Rattle.fleet_disk.specs.Rules.{Rose}
-use Rattle.browse_wire.specs.AskReading.{ask_in}
 use Rattle.ra_browse.specs.Serving.{BrowsesCommands}
 use Rattle.ra_browse.specs.Tellings.{place_as}
 use Rattle.ra_serve.proofs.Causes.{stays_here, stays_join}

@@ -32,7 +32,7 @@ returns-in_ok-out-in-Some-true-clause-served g c =
     let d = c.in_ok-logs_in.ensures.told in
     let e : Some true ≡ option_map is_anonymous (login_in c.in-Ok-Some.item) = cc in
     by_before (spelled_login (place_as c.args.place)) (answers_at (place_as c.args.place)) behind_one all goes_on_login ends_at_login any none g.P.RepoPort.repository g.P.RepoPort.refusals g.I.Input.remaining g.W.Write.contents c.args.port.now c.commands.new.port c.args.items.now c.next.new.self c.commands.new.items c.args.out c.in_ok-out-in-Some-true.out c.commands.result c.in-Ok-Some.item (λ x. spell (mechanisms (identity_text x)) ++ (spell done ++ spell (welcome (identity_text x) (place_as c.args.place).0))) (λ x ts. login_said (place_as c.args.place) c.in-Ok-Some.item e x ts) (λ ts. refl) (λ xs h. login_goes c.in-Ok-Some.item e xs) (λ xs h. absurd (true≢false (sym h)))
-    (λ x h. login_bytes (place_as c.args.place).0 x c.identity-identity.result (g.W.Write.contents c.args.out) (g.W.Write.contents c.in_ok-out.out) (g.W.Write.contents c.in_ok-out-in-Some-true.out) (c.identity-identity.ensures x h) c.in_ok-out.ensures.sent (subst (λ u. Appends (g.W.Write.contents c.in_ok-out.out) (g.W.Write.contents c.in_ok-out-in-Some-true.out) (spell done ++ spell (welcome (hyphenated_text lower c.identity-identity.result) u))) c.as_slice.ensures c.in_ok-out-in-Some-true.ensures.sent)) (subst (λ o. Answers g.I.Input.remaining g.I.Input.failures g.I.Input.reads c.args.items.now c.next.new.self (Ok o)) c.in-Ok-Some.field-0-is c.in-Ok-Some.ensures.answer) c.in-Ok-Some.ensures.goes_on c.commands.ensures.served
+    (λ x h. login_bytes (place_as c.args.place).0 x c.identity-identity.result (g.W.Write.contents c.args.out) (g.W.Write.contents c.in_ok-out.out) (g.W.Write.contents c.in_ok-out-in-Some-true.out) (c.identity-identity.ensures x h) c.in_ok-out.ensures.sent (subst (λ u. Appends (g.W.Write.contents c.in_ok-out.out) (g.W.Write.contents c.in_ok-out-in-Some-true.out) (spell done ++ spell (welcome (hyphenated_text lower c.identity-identity.result) u))) c.as_slice.ensures.value c.in_ok-out-in-Some-true.ensures.sent)) (subst (λ o. Answers g.I.Input.remaining g.I.Input.failures g.I.Input.reads c.args.items.now c.next.new.self (Ok o)) c.in-Ok-Some.field-0-is c.in-Ok-Some.ensures.answer) c.in-Ok-Some.ensures.goes_on c.commands.ensures.served
 
 pub returns-in_ok-out-in-Some-false-clause-served : goal.returns-in_ok-out-in-Some-false-clause-served
 returns-in_ok-out-in-Some-false-clause-served g c =
