@@ -17,7 +17,7 @@ _svnfleet() {
     initialize) options=--timeout ;;
     synchronize) options='--steal-lock --token --timeout' ;;
     copy-revprops) options='-r --token --timeout' ;;
-    serve) options='--port --connections --timeout --root-url' ;;
+    serve) options='--port --connections --timeout --root-url --browse' ;;
     fleet) options=--workers ;;
     list | canon | load | head | upgrade | info) ;;
     *) return ;;

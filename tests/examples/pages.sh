@@ -181,6 +181,11 @@ operated 'Serve an archive or a mirror' 2
 check 'OPERATING: the copy has all' test "$(svnlook youngest "$pages/srv/copy")" -eq 25
 kill $serving
 wait $serving 2>killed
+serves 'Serve readers' 1
+operated 'Serve readers' 2
+check 'OPERATING: a reader is told the repository' grep -qx "Repository UUID: $identity" said
+kill $serving
+wait $serving 2>killed
 operated 'Serve an archive or a mirror' 3
 check 'OPERATING: the file of both units' test "$(cat "$pages/etc/svnfleet/mirror")" = "$(printf 'SOURCE=archive\nPORT=%s' "$port")"
 check 'OPERATING: the server is begun' test "$(tail -n 1 "$pages/called")" = 'systemctl enable --now svnfleet-serve-and-follow@mirror.service'

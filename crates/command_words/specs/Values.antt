@@ -136,12 +136,12 @@ abbrev pub IsRootOf : Option (List ℕ) → Option (List ℕ) → Type 0
 IsRootOf None root = root ≡ None
 IsRootOf (Some value) root = (root ≡ Some value) × (is_root_url value ≡ true)
 
--- a server's folder, port, number of connections, seconds and root are those of the values under their names
+-- a server's folder, port, number of connections, seconds and root are those of the values under their names, and whether it is for readers
 abbrev pub HasServiceOf : List Row → Service → Type 0
 HasServiceOf rows service =
     HasValue rows (codes "DIR") (string_bytes service.folder) × HasNumber rows (codes "port") 65535 service.port
     × HasNumber rows (codes "connections") 1024 service.connections × IsTimeoutOf (first_of (codes "timeout") rows) service.seconds
-    × IsRootOf (first_of (codes "root-url") rows) (option_map string_bytes service.root_url)
+    × IsRootOf (first_of (codes "root-url") rows) (option_map string_bytes service.root_url) × (service.browse ≡ is_given rows (codes "browse"))
 
 -- a task's token, range and whether it steals are those of the values under their names
 abbrev pub HasTaskOf : List Row → Task → Type 0

@@ -88,9 +88,9 @@ copy_revprops_app = two_folders_app (codes "copy-revprops") (range_rule true (co
 abbrev pub info_app : App
 info_app = app_with (codes "info") (word_rule (codes "MIRROR") ∷ [])
 
--- a folder, a port and a number of connections, how long a client may say nothing, and the root that it is told
+-- a folder, a port and a number of connections, how long a client may say nothing, the root that it is told, and whether clients read
 abbrev pub serve_app : App
-serve_app = app_with (codes "serve") (folder_rule ∷ named_rule (codes "port") ∷ named_rule (codes "connections") ∷ optional_rule (codes "timeout") ∷ optional_rule (codes "root-url") ∷ [])
+serve_app = app_with (codes "serve") (folder_rule ∷ named_rule (codes "port") ∷ named_rule (codes "connections") ∷ optional_rule (codes "timeout") ∷ optional_rule (codes "root-url") ∷ flag_rule (codes "browse") ∷ [])
 
 -- a master and its mirrors, and a number of workers
 abbrev pub fleet_app : App

@@ -118,6 +118,8 @@ pub struct Service {
     pub seconds: u16,
     /// The URL that clients are told as the repository's root, where it isn't that of the port.
     pub root_url: Option<String>,
+    /// Whether clients that read are answered, and not those that copy the repository.
+    pub browse: bool,
 }
 
 /// What is done over a mirror and its source.
@@ -544,6 +546,7 @@ fn serve_named(alloc: Global, given: &ArgMatches<'_>) -> Result<Service, Usage>
                         connections,
                         seconds,
                         root_url,
+                        browse: is_given(given, "browse"),
                     }),
                     Err(usage) => Err(usage),
                 },

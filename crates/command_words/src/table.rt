@@ -193,6 +193,11 @@ pub const MIRRORS: &[Subcommand<'static>] = &[
                 kind: WordKind::Optional("URL"),
                 help: "The URL that clients are told as the repository's root; svn://127.0.0.1:P/ where it is left out",
             },
+            Word {
+                name: "browse",
+                kind: WordKind::Flag,
+                help: "Answer svn's ls, cat, info and propget, and not svnsync and svnrdump",
+            },
         ],
     },
     Subcommand {

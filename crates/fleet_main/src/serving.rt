@@ -73,16 +73,20 @@ fn answer_of(done: Result<(), SocketFault>, failed: bool) -> Result<(), Refusal>
 fn address_of(service: &Service) -> Address<'_>
     ensures port { result.port ≡ service.now.port }
     ensures root { option_map (λ root. root.now) result.root_url ≡ option_map string_bytes service.now.root_url }
+    ensures browse { result.browse ≡ service.now.browse }
 {
     let port = service.port;
+    let browse = service.browse;
     match &service.root_url {
         Some(root) => Address {
             port,
             root_url: Some(root.as_str()),
+            browse,
         },
         None => Address {
             port,
             root_url: None,
+            browse,
         },
     }
 }

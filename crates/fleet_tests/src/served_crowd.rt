@@ -65,6 +65,7 @@ pub(crate) fn server<
     let address = Address {
         port,
         root_url: None,
+        browse: false,
     };
     let limits = Limits {
         connections: CLIENTS * RUNS,

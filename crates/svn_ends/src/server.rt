@@ -28,6 +28,8 @@ pub struct Address<'a> {
     pub port: u16,
     /// The URL that they are told as the repository's root, where it isn't that of the port.
     pub root_url: Option<&'a str>,
+    /// Whether they read at URLs of their own, as `ra_browse` answers, and don't copy the repository.
+    pub browse: bool,
 }
 
 /// Serves the repository of a store over ra_svn on the address's port of 127.0.0.1: says so in a line, then serves so

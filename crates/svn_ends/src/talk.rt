@@ -9,6 +9,7 @@ use crate::server::Address;
 use crate::shares::ServedShare;
 use byte_streams::CountedReader;
 use ra_item::stream::ItemStream;
+use ra_browse::browse;
 use ra_serve::{End, PortFault, ServeFault, serve};
 use sockets::{Session, SocketFault, Teller, Trouble, Troubles};
 use std::alloc::{AllocError, Global};
@@ -68,7 +69,11 @@ impl<R: Wait + Clock, L: RowName, S: ServedShare<L>, T: Teller> Session
             return Err(SocketFault::OutOfMemory);
         };
         let mut items = ItemStream::new(self.alloc, CountedReader::new(input));
-        let served = serve(self.alloc, &mut port, self.root_url, &mut items, output);
+        let served = if self.address.browse {
+            browse(self.alloc, &mut port, &mut items, output)
+        } else {
+            serve(self.alloc, &mut port, self.root_url, &mut items, output)
+        };
         self.tell_refusal(port.first_refusal());
         match served {
             Ok((output, end)) => {
