@@ -1,0 +1,25 @@
+-- What calls that ask a port for sets say of it.
+use Rattle.std.specs.Prelude.{◌≡◌, ℕ, Bool, Option, Some, Result, Ok, Err}
+use Rattle.node_base.specs.declared.refusal.Refusal.{Refusal}
+use Rattle.repo_core.specs.Repository.{Repository}
+use Rattle.ra_serve.specs.Ports.{MayRefuse, Stays}
+use Rattle.ra_history.specs.declared.stop.SetsStop.{SetsStop}
+use Rattle.ra_history.specs.declared.stop.SetsStop.TheVariants as stop
+
+-- why a call stopped: a refusal of the port that is due, or its own, which it counts, or want of memory
+abbrev pub MayStop : ℕ → ℕ → Option Refusal → SetsStop → Type 0
+MayStop before now due (stop.Port f) = MayRefuse before now f due
+MayStop before now due stop.OutOfMemory = Unit {0}
+
+-- what a call came to: such a value, or why it stopped
+abbrev pub Comes : {A : Type 0} → ℕ → ℕ → Option Refusal → (A → Type 0) → Result A SetsStop → Type 0
+Comes before now due Is (Ok a) = Is a
+Comes before now due Is (Err s) = MayStop before now due s
+
+-- the same of a port, where its repository was known
+abbrev pub Finds : {P A : Type 0} → (P → Option Repository) → (P → ℕ) → (Repository → Option Refusal) → (Repository → A → Type 0) → P → P → Result A SetsStop → Type 0
+Finds repository refusals due Is old new result = (x : Repository) → repository old ≡ Some x → Comes (refusals old) (refusals new) (due x) (Is x) result
+
+-- and the port's repository stays what it is
+abbrev pub PortStays : {P : Type 0} → (P → Option Repository) → (P → ℕ) → (P → Bool) → P → P → Type 0
+PortStays repository refusals is_mirror old new = Stays (repository old) (repository new) (is_mirror old) (is_mirror new) (refusals old) (refusals new)

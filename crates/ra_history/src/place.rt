@@ -1,0 +1,67 @@
+//! Where a node stood.
+
+ghost use Rattle.std.specs.Prelude.{◌≡◌, IfOk, IfErr, true};
+ghost use Rattle.node_base.specs.Path.{same_path};
+ghost use Rattle.path_history.specs.Histories.{IsTooLong};
+ghost use Rattle.path_history.specs.declared.fault.HistoryFault.TheVariants.{TooLong};
+ghost use Rattle.ra_history.specs.Locations.{IsLocation, IsLater, later, seen_from};
+
+use node_base::{NodePath, RevNo, compare_paths};
+use path_history::{HistoryFault, Place, Sets, place_at};
+use std::alloc::Global;
+use std::cmp::Ordering;
+
+// Whether two paths are one.
+fn is_same(one: &NodePath, other: &NodePath) -> bool
+    ensures { result ≡ same_path one.now other.now }
+{
+    compare_paths(one.names(), other.names()) == Ordering::Equal
+}
+
+// Where it stands in a later revision: at its path, where that leads back to it.
+fn later<S: Sets>(
+    alloc: Global,
+    sets: &S,
+    from: &Place,
+    revision: RevNo,
+) -> Result<Option<Place>, HistoryFault>
+    ensures place { IfOk result (λ o. IsLater (S.sets sets.now) from.now revision o) }
+    ensures refused { IfErr result (λ e. e ≡ TooLong
+        → IsTooLong true (S.sets sets.now) (later from.now revision)) }
+{
+    let path = from.path.copy(alloc)?;
+    let there = Place { path, revision };
+    match place_at(alloc, sets, there.copy(alloc)?, from.revision) {
+        Ok(Some(back)) => {
+            if is_same(&back.path, &from.path) {
+                Ok(Some(there))
+            } else {
+                Ok(None)
+            }
+        }
+        Ok(None) => Ok(None),
+        Err(fault) => Err(fault),
+    }
+}
+
+/// Where what stands at a place stood in another revision, across copies: in an earlier one where it came from, in a later
+/// one at the same path, if what stands there then came from it. None where it is nowhere then. `TooLong` where a path of
+/// a line is past the limits.
+pub fn location_of<S: Sets>(
+    alloc: Global,
+    sets: &S,
+    from: &Place,
+    revision: RevNo,
+) -> Result<Option<Place>, HistoryFault>
+    ensures place { IfOk result (λ o. IsLocation (S.sets sets.now) from.now revision o) }
+    ensures refused { IfErr result (λ e. e ≡ TooLong
+        → IsTooLong true (S.sets sets.now) (seen_from from.now revision)) }
+{
+    if revision.get() > from.revision.get() {
+        return later(alloc, sets, from, revision);
+    }
+    match place_at(alloc, sets, from.copy(alloc)?, revision) {
+        Ok(place) => Ok(place),
+        Err(fault) => Err(fault),
+    }
+}
