@@ -5,7 +5,7 @@
 //! histories are.
 #![tactic(auto)]
 
-pub use place::location_of;
+pub use place::{location_of, locations_of};
 pub use range::{LogRange, revisions_told};
 pub use sets::sets_up_to;
 pub use stop::SetsStop;

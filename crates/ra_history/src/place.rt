@@ -1,10 +1,10 @@
 //! Where a node stood.
 
-ghost use Rattle.std.specs.Prelude.{◌≡◌, IfOk, IfErr, true};
+ghost use Rattle.std.specs.Prelude.{◌≡◌, IfOk, IfErr, OnOk, true};
 ghost use Rattle.node_base.specs.Path.{same_path};
 ghost use Rattle.path_history.specs.Histories.{IsTooLong};
 ghost use Rattle.path_history.specs.declared.fault.HistoryFault.TheVariants.{TooLong};
-ghost use Rattle.ra_history.specs.Locations.{IsLocation, IsLater, later, seen_from};
+ghost use Rattle.ra_history.specs.Locations.{IsLocation, IsLater, later, seen_from, AreBehind, AreLocations, IsOneTooLong};
 
 use node_base::{NodePath, RevNo, compare_paths};
 use path_history::{HistoryFault, Place, Sets, place_at};
@@ -62,6 +62,46 @@ pub fn location_of<S: Sets>(
     }
     match place_at(alloc, sets, from.copy(alloc)?, revision) {
         Ok(place) => Ok(place),
+        Err(fault) => Err(fault),
+    }
+}
+
+// Puts where it stood in each of these revisions behind others.
+fn push_locations<S: Sets>(
+    alloc: Global,
+    sets: &S,
+    from: &Place,
+    numbers: &[RevNo],
+    told: &mut Vec<Place>,
+) -> Result<(), HistoryFault>
+    ensures told { OnOk result (AreBehind (S.sets sets.now) from.now numbers.now told.old.items told.new.items) }
+    ensures refused { IfErr result (λ e. e ≡ TooLong → IsOneTooLong (S.sets sets.now) from.now numbers.now) }
+{
+    let Some((number, others)) = numbers.split_first() else {
+        return Ok(());
+    };
+    match location_of(alloc, sets, from, *number) {
+        Ok(Some(place)) => told.push(place)?,
+        Ok(None) => {}
+        Err(fault) => return Err(fault),
+    }
+    push_locations(alloc, sets, from, others, told)
+}
+
+/// Where what stands at a place stood in each of these revisions, in their order; nothing for one in which it is nowhere.
+/// `TooLong` where a path of a line is past the limits.
+pub fn locations_of<S: Sets>(
+    alloc: Global,
+    sets: &S,
+    from: &Place,
+    numbers: &[RevNo],
+) -> Result<Vec<Place>, HistoryFault>
+    ensures places { IfOk result (λ v. AreLocations (S.sets sets.now) from.now numbers.now v.items) }
+    ensures refused { IfErr result (λ e. e ≡ TooLong → IsOneTooLong (S.sets sets.now) from.now numbers.now) }
+{
+    let mut told = Vec::new(alloc);
+    match push_locations(alloc, sets, from, numbers, &mut told) {
+        Ok(()) => Ok(told),
         Err(fault) => Err(fault),
     }
 }
