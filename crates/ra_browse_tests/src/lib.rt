@@ -11,6 +11,8 @@ mod answer_tests;
 #[cfg(test)]
 mod failure_tests;
 #[cfg(test)]
+mod history_tests;
+#[cfg(test)]
 mod opening_tests;
 #[cfg(test)]
 mod place_tests;
