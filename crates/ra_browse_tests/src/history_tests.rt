@@ -29,31 +29,52 @@ fn all_sets(rt: &impl Abort, alloc: Global) -> Vec<ChangeSet> {
     sets_up_to(alloc, &mut port, RevNo::new(3)).expect(rt, "the sets")
 }
 
-// A path, the first and the last revision, a limit, whether copies are crossed, and the revisions that are told.
-const LOGS: [(&[u8], u16, u16, u64, bool, &[u16]); 6] = [
-    (b"", 3, 0, 0, true, &[3, 2, 1, 0]),
-    (b"tags/1.0", 0, 3, 2, true, &[1, 2]),
-    (b"tags/1.0", 3, 0, 0, true, &[3, 2, 1]),
-    (b"tags/1.0", 3, 0, 0, false, &[3]),
-    (b"trunk/README", 3, 3, 0, false, &[]),
-    (b"trunk/lib", 3, 1, 0, true, &[1]),
+// A path, the first and the last revision, a limit, and the revisions that are told.
+type Logged<'a> = (&'a [u8], u16, u16, u64, &'a [u16]);
+
+// Across copies, and without.
+const LOGS: [Logged<'static>; 4] = [
+    (b"", 3, 0, 0, &[3, 2, 1, 0]),
+    (b"tags/1.0", 0, 3, 2, &[1, 2]),
+    (b"tags/1.0", 3, 0, 0, &[3, 2, 1]),
+    (b"trunk/lib", 3, 1, 0, &[1]),
 ];
 
+const STRICT: [Logged<'static>; 2] = [
+    (b"tags/1.0", 3, 0, 0, &[3]),
+    (b"trunk/README", 3, 3, 0, &[]),
+];
+
+// Whether a log of a path tells these.
+fn is_logged(
+    rt: &impl Abort,
+    alloc: Global,
+    sets: &[ChangeSet],
+    row: &Logged<'_>,
+    crosses_copies: bool,
+) -> bool {
+    let places = [place(rt, alloc, row.0, row.1.max(row.2))];
+    let range = LogRange {
+        first: RevNo::new(row.1),
+        last: RevNo::new(row.2),
+        limit: row.3,
+        crosses_copies,
+    };
+    let told = revisions_told(alloc, &SetRow { row: sets }, &places, &range);
+    told.expect(rt, "revisions").as_slice() == row.4
+}
+
 // The first path whose log tells other revisions.
-fn first_logged(rt: &impl Abort, alloc: Global) -> Option<&'static [u8]> {
+fn first_logged<'a>(
+    rt: &impl Abort,
+    alloc: Global,
+    rows: &'a [Logged<'a>],
+    crosses_copies: bool,
+) -> Option<&'a [u8]> {
     let sets = all_sets(rt, alloc);
-    let row = SetRow { row: &sets };
-    for (at, first, last, limit, crosses_copies, want) in &LOGS {
-        let places = [place(rt, alloc, *at, *first.max(last))];
-        let range = LogRange {
-            first: RevNo::new(*first),
-            last: RevNo::new(*last),
-            limit: *limit,
-            crosses_copies: *crosses_copies,
-        };
-        let told = revisions_told(alloc, &row, &places, &range).expect(rt, "revisions");
-        if told.as_slice() != *want {
-            return Some(*at);
+    for row in rows {
+        if !is_logged(rt, alloc, &sets, row, crosses_copies) {
+            return Some(row.0);
         }
     }
     None
@@ -61,11 +82,14 @@ fn first_logged(rt: &impl Abort, alloc: Global) -> Option<&'static [u8]> {
 
 #[test]
 fn logs(rt: HostRuntime) {
-    none_is_wrong(&rt, first_logged(&rt, rt.alloc()));
+    none_is_wrong(&rt, first_logged(&rt, rt.alloc(), &LOGS, true));
+    none_is_wrong(&rt, first_logged(&rt, rt.alloc(), &STRICT, false));
 }
 
-// A path, the revision that it is of, another one, and the path there.
-const LOCATIONS: [(&[u8], u16, u16, &[u8]); 9] = [
+// A path, the revision that it is of, another one, and the path there; `-` for none.
+type Located<'a> = (&'a [u8], u16, u16, &'a [u8]);
+
+const LOCATIONS: [Located<'static>; 9] = [
     (b"tags/1.0/README", 3, 0, b"-"),
     (b"tags/1.0/README", 3, 1, b"trunk/README"),
     (b"tags/1.0/README", 3, 2, b"trunk/README"),
@@ -77,7 +101,7 @@ const LOCATIONS: [(&[u8], u16, u16, &[u8]); 9] = [
     (b"tags/1.0/notes", 3, 2, b"-"),
 ];
 
-// Whether a place is of this revision and path; `-` for none.
+// Whether a place is of this revision and path.
 fn is(rt: &impl Abort, alloc: Global, found: &Option<Place>, number: u16, want: &[u8]) -> bool {
     let Some(found) = found else {
         return want == b"-".as_slice();
@@ -86,15 +110,23 @@ fn is(rt: &impl Abort, alloc: Global, found: &Option<Place>, number: u16, want: 
     found.revision == wanted.revision && found.path.compare(&wanted.path).is_eq()
 }
 
+// Whether it is found there.
+fn is_there(rt: &impl Abort, alloc: Global, sets: &[ChangeSet], row: &Located<'_>) -> bool {
+    let from = place(rt, alloc, row.0, row.1);
+    let found = location_of(alloc, &SetRow { row: sets }, &from, RevNo::new(row.2));
+    is(rt, alloc, &found.expect(rt, "memory"), row.2, row.3)
+}
+
 // The first of these that is another one.
-fn first_elsewhere(rt: &impl Abort, alloc: Global) -> Option<&'static [u8]> {
+fn first_elsewhere<'a>(
+    rt: &impl Abort,
+    alloc: Global,
+    rows: &'a [Located<'a>],
+) -> Option<&'a [u8]> {
     let sets = all_sets(rt, alloc);
-    let row = SetRow { row: &sets };
-    for (at, peg, number, want) in &LOCATIONS {
-        let from = place(rt, alloc, *at, *peg);
-        let found = location_of(alloc, &row, &from, RevNo::new(*number)).expect(rt, "memory");
-        if !is(rt, alloc, &found, *number, *want) {
-            return Some(*at);
+    for row in rows {
+        if !is_there(rt, alloc, &sets, row) {
+            return Some(row.0);
         }
     }
     None
@@ -102,7 +134,7 @@ fn first_elsewhere(rt: &impl Abort, alloc: Global) -> Option<&'static [u8]> {
 
 #[test]
 fn places_of_nodes(rt: HostRuntime) {
-    none_is_wrong(&rt, first_elsewhere(&rt, rt.alloc()));
+    none_is_wrong(&rt, first_elsewhere(&rt, rt.alloc(), &LOCATIONS));
 }
 
 #[test]
