@@ -66,9 +66,14 @@ abbrev pub size_told : Option (List ℕ) → ℕ
 size_told None = 18446744073709551615
 size_told (Some text) = length text
 
+-- a date that isn't known is told as the first second of 1970, since a client needs one
+abbrev pub date_told : Option (List ℕ) → Option (List ℕ)
+date_told None = Some (codes "1970-01-01T00:00:00.000000Z")
+date_told (Some date) = Some date
+
 -- kind size has-props created-rev [ date ] [ author ]
 abbrev pub node_told : Node → Made → Item
-node_told d m = list (Word (node_kind_word (kind_of d)) ∷ Number (size_told d.text) ∷ Word (truth_word (has_props d)) ∷ Number d.changed ∷ string m.date ∷ string m.author ∷ [])
+node_told d m = list (Word (node_kind_word (kind_of d)) ∷ Number (size_told d.text) ∷ Word (truth_word (has_props d)) ∷ Number d.changed ∷ string (date_told m.date) ∷ string m.author ∷ [])
 
 abbrev pub stat_told : Option Node → Made → Item
 stat_told None m = success (list [] ∷ [])
@@ -118,7 +123,7 @@ dir_denied (Some d) = fault_if (is_some d.text) denial.NotDir
 
 -- an entry, with when and by whom it was last changed
 abbrev pub entry_with : Name × Node → Made → Dirent
-entry_with c m = record { name = c.0; kind = kind_of c.1; size = length (unwrap_or c.1.text []); has_props = has_props c.1; created = c.1.changed; date = m.date; author = m.author }
+entry_with c m = record { name = c.0; kind = kind_of c.1; size = length (unwrap_or c.1.text []); has_props = has_props c.1; created = c.1.changed; date = date_told m.date; author = m.author }
 
 abbrev pub entry_of : Repository → Name × Node → Dirent
 entry_of x c = entry_with c (made_of x c.1.changed)

@@ -15,7 +15,7 @@ ghost use Rattle.ra_browse.specs.Tellings.{made_as, place_as, AreEntries, Finds,
 use crate::denial::Denial;
 use crate::file::Wanted;
 use crate::look::{Seen, see};
-use crate::made::{Made, made_at};
+use crate::made::{Made, date_told, made_at};
 use crate::pieces::{write_end, write_name, write_props};
 use crate::stop::Stop;
 use crate::told::{deny, tell};
@@ -140,6 +140,9 @@ fn entry_with(alloc: Global, child: &ChildNode<'_>, made: Made) -> Result<Dirent
 {
     let node = child.node;
     let Made { date, author } = made;
+    let Ok(date) = date_told(alloc, date) else {
+        return Err(Stop::OutOfMemory);
+    };
     match child.name.copy(alloc) {
         Ok(name) => Ok(Dirent {
             name,

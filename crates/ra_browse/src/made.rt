@@ -4,7 +4,7 @@ ghost use Rattle.std.specs.Prelude.{◌≡◌, ◌≢◌, None, IfOk, MatchResul
 ghost use Rattle.std.specs.Option.{option_map};
 ghost use Rattle.std.specs.FinMap as finite;
 ghost use Rattle.repo_core.specs.Repository.{Repository};
-ghost use Rattle.ra_browse.specs.Answers.{made_of, made_in};
+ghost use Rattle.ra_browse.specs.Answers.{made_of, made_in, date_told};
 ghost use Rattle.ra_browse.specs.Tellings.{made_as, Finds, PortStays};
 
 use crate::stop::Stop;
@@ -74,5 +74,16 @@ fn copied(alloc: Global, value: Option<&[u8]>) -> Result<Option<Vec<u8>>, AllocE
     match value {
         Some(value) => Ok(Some(Vec::from_slice(alloc, value)?)),
         None => Ok(None),
+    }
+}
+
+/// A date as a node's is told. Subversion's clients need one: where it isn't known it is the first second of 1970, as
+/// `svnserve` tells it.
+pub fn date_told(alloc: Global, date: Option<Vec<u8>>) -> Result<Option<Vec<u8>>, AllocError>
+    ensures { IfOk result (λ d. option_map (λ t. t.items) d ≡ date_told (option_map (λ t. t.items) date)) }
+{
+    match date {
+        Some(date) => Ok(Some(date)),
+        None => Ok(Some(Vec::from_slice(alloc, b"1970-01-01T00:00:00.000000Z")?)),
     }
 }

@@ -11,13 +11,13 @@ ghost use Rattle.ra_browse.specs.Answers.{size_told, stat_told};
 ghost use Rattle.ra_browse.specs.Tellings.{made_as, place_as, Tells, PortStays};
 
 use crate::look::{Seen, see};
-use crate::made::Made;
+use crate::made::{Made, date_told};
 use crate::told::tell;
 use browse_wire::told::{NodeInfo, write_stat};
 use browse_wire::url::SessionUrl;
 use node_base::{Node, NodePath, Text};
 use ra_serve::{RepoPort, ServeFault};
-use std::alloc::Global;
+use std::alloc::{AllocError, Global};
 use std::io::Write;
 
 /// Answers `stat`.
@@ -34,13 +34,13 @@ pub fn stat<P: RepoPort, W: Write + Drop>(
     ensures stays { PortStays P.repository P.refusals P.is_mirror port.old port.new }
 {
     match see(alloc, port, &place.path, path, number) {
-        Ok(seen) => tell_stat(seen, out),
+        Ok(seen) => tell_stat(alloc, seen, out),
         Err(stop) => tell(stop, out),
     }
 }
 
 // Tells of what stands somewhere, or that nothing does.
-fn tell_stat<W: Write + Drop>(seen: Seen, out: W) -> Result<W, ServeFault>
+fn tell_stat<W: Write + Drop>(alloc: Global, seen: Seen, out: W) -> Result<W, ServeFault>
     ensures { IfOk result (λ w. Appends (W.contents out) (W.contents w)
         (spell (stat_told (finite.get seen.tree seen.names.items) (made_as seen.made)))) }
 {
@@ -50,28 +50,37 @@ fn tell_stat<W: Write + Drop>(seen: Seen, out: W) -> Result<W, ServeFault>
         made,
         ..
     } = seen;
-    let info = info_of(tree.get(names.as_slice()), made);
+    match info_of(alloc, tree.get(names.as_slice()), made) {
+        Ok(info) => tell_info(&info, out),
+        Err(_) => Err(ServeFault::OutOfMemory),
+    }
+}
+
+fn tell_info<W: Write + Drop>(info: &Option<NodeInfo>, out: W) -> Result<W, ServeFault>
+    ensures { IfOk result (λ w. Appends (W.contents out) (W.contents w) (spell (stat_answer info.now))) }
+{
     let mut out = out;
-    write_stat(&mut out, &info)?;
+    write_stat(&mut out, info)?;
     Ok(out)
 }
 
 // What is told of a node of a revision that was made so.
-fn info_of(node: Option<&Node>, made: Made) -> Option<NodeInfo>
-    ensures { stat_answer result ≡ stat_told (option_copied node.entry) (made_as made) }
+fn info_of(alloc: Global, node: Option<&Node>, made: Made) -> Result<Option<NodeInfo>, AllocError>
+    ensures { IfOk result (λ i. stat_answer i ≡ stat_told (option_copied node.entry) (made_as made)) }
 {
     let Some(node) = node else {
-        return None;
+        return Ok(None);
     };
     let Made { date, author } = made;
-    Some(NodeInfo {
+    let date = date_told(alloc, date)?;
+    Ok(Some(NodeInfo {
         kind: node.kind(),
         size: size_told(&node.text),
         has_props: !node.props.is_empty(),
         created: u64::from(node.changed.get()),
         date,
         author,
-    })
+    }))
 }
 
 // How long a text is. A directory has no size.

@@ -14,7 +14,7 @@ const NODES: [(&[u8], &[u8]); 12] = [
     (b"( get-latest-rev ( ) )", b"( success ( 3 ) ) "),
     (
         b"( stat ( 0: ( 3 ) ) )",
-        b"( success ( ( ( dir 18446744073709551615 false 3 ( ) ( 3:bob ) ) ) ) ) ",
+        b"( success ( ( ( dir 18446744073709551615 false 3 ( 27:1970-01-01T00:00:00.000000Z ) ( 3:bob ) ) ) ) ) ",
     ),
     (
         b"( stat ( 12:trunk/README ( 2 ) ) )",
@@ -26,11 +26,11 @@ const NODES: [(&[u8], &[u8]); 12] = [
     ),
     (
         b"( stat ( 8:tags/1.0 ( ) ) )",
-        b"( success ( ( ( dir 18446744073709551615 true 3 ( ) ( 3:bob ) ) ) ) ) ",
+        b"( success ( ( ( dir 18446744073709551615 true 3 ( 27:1970-01-01T00:00:00.000000Z ) ( 3:bob ) ) ) ) ) ",
     ),
     (
         b"( stat ( 14:tags/1.0/notes ( ) ) )",
-        b"( success ( ( ( file 0 false 3 ( ) ( 3:bob ) ) ) ) ) ",
+        b"( success ( ( ( file 0 false 3 ( 27:1970-01-01T00:00:00.000000Z ) ( 3:bob ) ) ) ) ) ",
     ),
     (
         b"( stat ( 16:tags/1.0/lib/a.c ( ) ) )",
@@ -87,7 +87,7 @@ const DIRS: [(&[u8], &[u8]); 5] = [
     ),
     (
         b"( get-dir ( 8:tags/1.0 ( 3 ) true true ) )",
-        b"( success ( 3 ( ( 10:custom:dir 4:deep ) ( 23:svn:entry:committed-rev 1:3 ) ( 21:svn:entry:last-author 3:bob ) ( 14:svn:entry:uuid 36:6a1f0c3e-0000-4000-8000-0000000000b7 ) ) ( ( 6:README file 12 false 2 ( 27:2020-01-01T00:33:20.015838Z ) ( ) ) ( 3:lib dir 0 false 1 ( 27:2020-01-01T00:16:40.007919Z ) ( 5:alice ) ) ( 5:notes file 0 false 3 ( ) ( 3:bob ) ) ) ) ) ",
+        b"( success ( 3 ( ( 10:custom:dir 4:deep ) ( 23:svn:entry:committed-rev 1:3 ) ( 21:svn:entry:last-author 3:bob ) ( 14:svn:entry:uuid 36:6a1f0c3e-0000-4000-8000-0000000000b7 ) ) ( ( 6:README file 12 false 2 ( 27:2020-01-01T00:33:20.015838Z ) ( ) ) ( 3:lib dir 0 false 1 ( 27:2020-01-01T00:16:40.007919Z ) ( 5:alice ) ) ( 5:notes file 0 false 3 ( 27:1970-01-01T00:00:00.000000Z ) ( 3:bob ) ) ) ) ) ",
     ),
     (
         b"( get-dir ( 0: ( 0 ) true true ) )",

@@ -1,9 +1,8 @@
 //! Tests of `ra_browse` through its public items: what a session of a reader answers, beside what Subversion's own
 //! `svnserve` of version 1.14.2 answered of the same repository, openings, and streams that fail.
 //!
-//! Of an answer of `svnserve` the tables change three things that no client decides by: properties and entries stand in
-//! the order of their names, a failure has this crate's text, and a missing date is told as missing where `svnserve` tells
-//! 1970.
+//! Of an answer of `svnserve` the tables change two things that no client decides by: properties and entries stand in the
+//! order of their names, and a failure has this crate's text.
 #![tactic(auto)]
 
 #[cfg(test)]
