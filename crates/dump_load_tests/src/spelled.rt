@@ -37,7 +37,7 @@ fn action(rt: &impl Abort, word: &str) -> Action {
     Action::Replace
 }
 
-fn kind(word: &str) -> Option<NodeKind> {
+pub(crate) fn kind(word: &str) -> Option<NodeKind> {
     if word == "dir" {
         return Some(NodeKind::Dir);
     }

@@ -1,7 +1,8 @@
 //! Histories, logs, places and changed paths of a repository, as Subversion tells them.
 
-use crate::repository::{field, path, revision, sets};
+use crate::repository::{field, revision, sets};
 use crate::small::{CHANGED, HISTORIES, LOGS, PLACES, REVISIONS};
+use crate::spelled::{none_is_wrong, path};
 use dump_load::{Change, ChangeSet};
 use node_base::{NodeKind, RevNo};
 use path_history::{
@@ -10,13 +11,6 @@ use path_history::{
 };
 use std::alloc::Global;
 use std::process::Abort;
-
-// Ends the test with the case that is wrong, if one is.
-fn none_is_wrong(rt: &impl Abort, wrong: Option<&str>) {
-    if let Some(case) = wrong {
-        rt.panic(case);
-    }
-}
 
 // Puts a number behind a text, with a space between.
 fn put(rt: &impl Abort, alloc: Global, text: &mut String, number: u16) {

@@ -1,8 +1,9 @@
 //! A repository's sets as tests spell them.
 
+use crate::spelled::{kind, path};
 use dump_load::{ChangeSet, load_revision};
 use dump_text::{NodeRecord, PropPart};
-use node_base::{Action, NodeKind, NodePath, PropName, PropValue, Props, RevNo, Source, Text};
+use node_base::{Action, PropName, PropValue, Props, RevNo, Source, Text};
 use path_tree::Tree;
 use std::alloc::Global;
 use std::process::Abort;
@@ -13,14 +14,6 @@ pub(crate) fn field(text: &str) -> (&str, &str) {
         Some((first, rest)) => (first, rest),
         None => (text, ""),
     }
-}
-
-/// The path of a text, in which `/` is the root.
-pub(crate) fn path(rt: &impl Abort, alloc: Global, text: &str) -> NodePath {
-    if text == "/" {
-        return NodePath::root(alloc);
-    }
-    NodePath::parse(alloc, text.as_bytes()).expect(rt, "a path")
 }
 
 /// The revision that digits spell.
@@ -39,16 +32,6 @@ fn action(word: &str) -> Action {
         return Action::Replace;
     }
     Action::Modify
-}
-
-fn kind(word: &str) -> Option<NodeKind> {
-    if word == "dir" {
-        return Some(NodeKind::Dir);
-    }
-    if word == "file" {
-        return Some(NodeKind::File);
-    }
-    None
 }
 
 // One property.
