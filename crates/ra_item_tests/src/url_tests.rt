@@ -1,6 +1,6 @@
 //! URLs of sessions.
 
-use crate::helpers_for_tests::none_is_wrong;
+use crate::asked::none_is_wrong;
 use browse_wire::url::SessionUrl;
 use std::alloc::Global;
 use std::io;

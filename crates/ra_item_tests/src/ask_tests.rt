@@ -1,6 +1,6 @@
 //! What Subversion's clients of version 1.14.2 ask and report, as they were recorded, and what older ones leave out.
 
-use crate::helpers_for_tests::{asked, none_is_wrong, reported};
+use crate::asked::{asked, none_is_wrong, reported};
 use std::alloc::Global;
 
 // An item, and what it asks.

@@ -1,26 +1,14 @@
 //! What items come to, in words. A growth that is refused counts as another answer, so that a test of it fails.
 
+use crate::helpers_for_tests::item_of;
 use browse_wire::ask::{BrowseCommand, LogOrder, RevpropsWanted};
 use browse_wire::report::{ReportCommand, Reported};
 use node_base::NodePath;
-use ra_item::item::Item;
-use ra_item::reader::ItemReader;
 use ra_wire::command_writer::write_command;
 use std::alloc::Global;
 use std::io;
 use std::io::Write;
 use std::process::Abort;
-
-// The first item of bytes, or none where these aren't whole.
-fn item_of(alloc: Global, bytes: &[u8]) -> Option<Item> {
-    let mut reader = ItemReader::new(alloc);
-    let mut items = Vec::new(alloc);
-    if reader.feed(bytes, &mut items).is_err() || reader.finish().is_err() {
-        return None;
-    }
-    items.as_mut_slice().reverse();
-    items.pop()
-}
 
 /// Ends the test with the bytes that come to another thing, if some do.
 pub(crate) fn none_is_wrong(rt: &impl Abort, wrong: Option<&[u8]>) {
