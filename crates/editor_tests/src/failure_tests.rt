@@ -42,6 +42,7 @@ fn unsent(alloc: Global, trees: &[Tree], set: &ChangeSet, left: usize) -> Option
     let out = Failing {
         bytes: &mut bytes,
         left,
+        size: usize::MAX,
     };
     let number = match sent(alloc, trees, set, out) {
         Ok(_) => 0,

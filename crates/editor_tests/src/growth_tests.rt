@@ -16,11 +16,7 @@ fn is_sent(alloc: Global, trees: &[Tree], set: &ChangeSet) -> bool {
     let Ok(mut bytes) = Vec::with_capacity(alloc, ADDED.len()) else {
         return true;
     };
-    let out = Failing {
-        bytes: &mut bytes,
-        left: usize::MAX,
-    };
-    match sent(alloc, trees, set, out).err() {
+    match sent(alloc, trees, set, Failing::never(&mut bytes)).err() {
         None => bytes.as_slice() == ADDED,
         Some(fault) => fault == EditorFault::OutOfMemory && ADDED.starts_with(bytes.as_slice()),
     }

@@ -42,11 +42,23 @@ pub(crate) fn items_from(
     ItemStream::new(alloc, reader)
 }
 
-/// A writer that takes so many writes and fails from then on.
+/// A writer that takes so many writes, each of so many bytes at most, and fails from then on.
 #[derive(Drop)]
 pub(crate) struct Failing<'a> {
     pub(crate) bytes: &'a mut Vec<u8>,
     pub(crate) left: usize,
+    pub(crate) size: usize,
+}
+
+impl<'a> Failing<'a> {
+    /// A writer that doesn't fail by itself.
+    pub(crate) fn never(bytes: &'a mut Vec<u8>) -> Failing<'a> {
+        Failing {
+            bytes,
+            left: usize::MAX,
+            size: usize::MAX,
+        }
+    }
 }
 
 impl<'a> Write for Failing<'a> {
@@ -55,8 +67,9 @@ impl<'a> Write for Failing<'a> {
             return Err(io::Error::from(ErrorKind::BrokenPipe));
         }
         self.left -= 1;
-        self.bytes.extend_from_slice(buf)?;
-        Ok(buf.len())
+        let n = buf.len().min(self.size);
+        self.bytes.extend_from_slice(&buf[..n])?;
+        Ok(n)
     }
 
     fn flush(&mut self) -> io::Result<()> {
