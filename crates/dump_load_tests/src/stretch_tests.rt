@@ -1,7 +1,8 @@
 //! Stretches of lines, as Subversion tells them.
 
-use crate::repository::{field, path, revision, sets};
+use crate::repository::{field, revision, sets};
 use crate::small::{REVISIONS, STRETCHES};
+use crate::spelled::path;
 use dump_load::ChangeSet;
 use path_history::{Place, SetRow, stretch_of};
 use std::alloc::Global;
