@@ -7,3 +7,4 @@ pub mod Entries
 pub mod Laws
 pub mod Moves
 pub mod Mades
+pub mod Handed

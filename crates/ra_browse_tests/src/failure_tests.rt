@@ -2,8 +2,8 @@
 
 use crate::sessions::{ROOT, opening, run};
 use crate::site::site;
-use byte_streams::CountedReader;
-use ra_browse::browse;
+use byte_streams::{CountedReader, MemOutput};
+use ra_browse::{browse, browse_to};
 use ra_item::fault::ItemFault;
 use ra_item::stream::ItemStream;
 use ra_serve::{End, RepoPort, ServeFault};
@@ -116,4 +116,32 @@ fn bytes_that_are_no_items(rt: HostRuntime) {
     let ended = run(alloc, &mut port, &sent, 1, u64::MAX);
     assert!(rt; ended.end == Ok(End::Items(ItemFault::BadItem)));
     assert!(rt; port.latest().is_ok_and(|head| head.get() == 3));
+}
+
+// Why a session is given up of whose writes so many pass, and how many bytes its output has.
+fn given_up<P: RepoPort>(
+    alloc: Global,
+    port: &mut P,
+    sent: &[u8],
+    writes: u64,
+) -> (Option<ServeFault>, usize) {
+    let mut items = ItemStream::new(alloc, CountedReader::new(sent));
+    match browse_to(alloc, port, &mut items, MemOutput::new(alloc, writes)) {
+        Ok((out, _end)) => (None, out.bytes().len()),
+        Err(unserved) => match &unserved.out {
+            Some(out) => (Some(unserved.fault), out.bytes().len()),
+            None => (Some(unserved.fault), 0),
+        },
+    }
+}
+
+#[test]
+fn an_output_that_counts_comes_back(rt: HostRuntime) {
+    let alloc = rt.alloc();
+    let mut port = site(&rt, alloc);
+    let sent = asking(&rt, alloc, b"( get-latest-rev ( ) ) ");
+    let (fault, all) = given_up(alloc, &mut port, &sent, u64::MAX);
+    assert!(rt; fault.is_none() && all > 0);
+    let (fault, some) = given_up(alloc, &mut port, &sent, 8);
+    assert!(rt; fault == Some(ServeFault::WriteFailed) && some < all);
 }
