@@ -13,13 +13,16 @@ use Rattle.fleet_jobs.specs.Answers.{Answer}
 use Rattle.node_base.specs.declared.refusal.Refusal.{Refusal}
 use Rattle.node_base.specs.declared.refusal.Refusal.TheVariants as refusal
 use Rattle.repo_core.specs.Repository.{head_of}
-use Rattle.repo_store.specs.Words.{disk_of, revisions_of, IsKept as StoreIsKept}
+use Rattle.repo_store.specs.Words.{disk_of, repository_of, revisions_of, IsKept as StoreIsKept}
 use Rattle.repo_store.specs.declared.store.RepoStore.{RepoStore}
+use Rattle.std.specs.Prelude.{slice_get}
+use Rattle.fleet_shares.specs.Agreed.{BringsUp}
+use Rattle.fleet_shares.specs.Closing.{AreBroughtUp, IsBroughtUp}
 use Rattle.fleet_shares.specs.Lines.{lines_of}
 use Rattle.fleet_shares.specs.Stores.{store_at}
 use Rattle.fleet_shares.specs.Told.{head_at, stand, stands, AreTold, SameSlots}
 use Rattle.fleet_shares.specs.declared.stores.FleetStores.{FleetStores}
-use Rattle.fleet_main.specs.Bringing.{Came, Refused, Stood, loan_of, loans_of, standing, HasCome, HaveCome, AreBrought, IsTelling, OfFleet, NotBrought}
+use Rattle.fleet_main.specs.Bringing.{Came, Refused, Stood, loan_of, loans_of, standing, HasCome, HaveCome, AreBrought, AreToldOf, AreUntold, AreUp, AreUpBefore, IsTelling, IsUp, OfFleet, NotBrought}
 use Rattle.fleet_main.specs.Doing.{IsOpenedIn}
 use Rattle.fleet_main.specs.Lending.{IsGiven}
 use Rattle.fleet_main.specs.Loans.{AreBack, Each, Loan, TakesBack, lent_by, only_of}
@@ -94,6 +97,22 @@ module _ {D : Type 0} {G : Ghosts D} where
 told_by : {D E : Type 0} (G : Ghosts D) (r : Result (Vec Answer Global) E) (ss ts : List (Result ℕ Refusal)) → ss ≡ ts → IfOk r (λ told. AreTold G 0 ss told.items) → IfOk r (λ told. AreTold G 0 ts told.items)
 told_by G (Ok told) ss ts e h = subst (λ k. AreTold G 0 k told.items) e h
 told_by G (Err x) ss ts e h = tt
+
+-- what holds of told answers, if others hold of them
+told_with : {E : Type 0} (r : Result (Vec Answer Global) E) (P Q : List Answer → Type 0) → ((as' : List Answer) → P as' → Q as') → IfOk r (λ told. P told.items) → IfOk r (λ told. Q told.items)
+told_with (Ok told) P Q f h = f told.items h
+told_with (Err x) P Q f h = tt
+
+told_both : {E : Type 0} (r : Result (Vec Answer Global) E) (P Q R : List Answer → Type 0) → ((as' : List Answer) → P as' → Q as' → R as') → IfOk r (λ told. P told.items) → IfOk r (λ told. Q told.items) → IfOk r (λ told. R told.items)
+told_both (Ok told) P Q R f h k = f told.items h k
+told_both (Err x) P Q R f h k = tt
+
+-- a mirror's answer in its place
+up_in : {D : Type 0} {G : Ghosts D} (first master old new : RepoStore D G) (given : D) (o : Option Answer) → ((n : ℕ) → o ≡ Some (Ok n) → BringsUp (repository_of first) (repository_of old) (repository_of master) (repository_of new))
+    → IsUp {G = G} first master o (Stood given old new)
+up_in first master old new given None h = tt
+up_in first master old new given (Some (Ok n)) h = h n refl
+up_in first master old new given (Some (Err f)) h = tt
 
 last_place : (n m : ℕ) → m ≡ n + 1 → n < m
 last_place n m e = omega (arith, e)
@@ -205,13 +224,15 @@ module _ {F D : Type 0} (G : Ghosts D) (H : FolderGhosts F D) where
 
   -- the fleet is run where no folder is left
   pub brought_none : {E : Type 0} (folders : F) (names : List (List ℕ)) (refusals : List (Option Refusal)) (old new : FleetStores D G) (answers : Result (Vec Answer Global) E) → names ≡ []
-      → SameSlots old new → IfOk answers (λ told. AreTold G 0 (stands 0 refusals new) told.items) → AreBrought G H folders folders names refusals old new answers
-  brought_none folders names refusals old new answers none same told =
+      → SameSlots old new → IfOk answers (λ told. AreTold G 0 (stands 0 refusals new) told.items) → IfOk answers (λ told. AreBroughtUp old new told.items) → AreBrought G H folders folders names refusals old new answers
+  brought_none folders names refusals old new answers none same told up =
       subst (λ ns. AreBrought G H folders folders ns refusals old new answers) (sym none) (record {
         came = [];
         come = record { each = tt; back = λ rules. none_lent G H folders; later = omega arith };
         slots = λ slot less. same slot;
         told = told_by G answers _ _ (sym (append-nil (stands 0 refusals new))) told;
+        up = told_with answers (AreBroughtUp old new) (λ as'. AreUp old.master new.master (length refusals) as' []) (λ as' h. tt) up;
+        earlier = told_with answers (AreBroughtUp old new) (AreUpBefore old new (length refusals)) (λ as' h slot n less at. h slot n at) up;
       })
 
   module _ {E : Type 0} (folders mid now : F) (name : List ℕ) (names : List (List ℕ)) (refusals more : List (Option Refusal)) (answers : Result (Vec Answer Global) E) where
@@ -228,14 +249,18 @@ module _ {F D : Type 0} (G : Ghosts D) (H : FolderGhosts F D) where
               (ap (λ rs. stands 0 rs new ++ map standing b.came) pushed
               ∙ (ap (λ ss. ss ++ map standing b.came) (stands_snoc 0 refusals (Some e) new)
               ∙ append_assoc (stands 0 refusals new) (Err e ∷ []) (map standing b.came))) b.told;
+          up = told_with answers (λ as'. AreUp old.master new.master (length more) as' b.came) (λ as'. AreUp old.master new.master (length refusals) as' (Refused e u.0 ∷ b.came))
+              (λ as' h. (tt, subst (λ k. AreUp old.master new.master k as' b.came) (ap length pushed ∙ length-append refusals (Some e ∷ [])) h)) b.up;
+          earlier = told_with answers (AreUpBefore old new (length more)) (AreUpBefore old new (length refusals))
+              (λ as' h slot n less at. h slot n (before_last slot (length refusals) (length more) (ap length pushed ∙ length-append refusals (Some e ∷ [])) less) at) b.earlier;
         }
 
     -- one is opened, in the slot behind the others
-    pub brought_opened : (last : F) (store : RepoStore D G) (old put new left : FleetStores D G) → IsOpenedIn G H folders mid name store → KeptThen store → more ≡ refusals ++ None ∷ []
+    pub brought_opened : (last : F) (store : RepoStore D G) (old put new left : FleetStores D G) → put.master ≡ old.master → left.master ≡ new.master → IsOpenedIn G H folders mid name store → KeptThen store → more ≡ refusals ++ None ∷ []
         → store_at put (length refusals) ≡ Some store → ((other : ℕ) → other ≢ length refusals → store_at put other ≡ store_at old other) → AreBrought G H mid now names more put new answers
         → IfSome (store_at new (length refusals)) (λ s. TakesBack G H now last name (disk_of s) × StoreIsKept s) → ((other : ℕ) → other ≢ length refusals → store_at left other ≡ store_at new other)
         → AreBrought G H folders last (name ∷ names) refusals old left answers
-    brought_opened last store old put new left o k pushed there others b back others_left =
+    brought_opened last store old put new left put_master left_master o k pushed there others b back others_left =
         let counted = ap length pushed ∙ length-append refusals (None ∷ []) in
         let s = some_of (store_at new (length refusals)) (b.slots (length refusals) (last_place (length refusals) (length more) counted) ∙ ap is_some there) in
         let came_back = subst (λ x. IfSome x (λ s. TakesBack G H now last name (disk_of s) × StoreIsKept s)) s.1 back in
@@ -251,14 +276,25 @@ module _ {F D : Type 0} (G : Ghosts D) (H : FolderGhosts F D) where
               ∙ (ap (λ x. (stands 0 refusals new ++ stand None (option_map (λ r. head_of (revisions_of r)) x) ∷ []) ++ map standing b.came) (ap (store_at new) (from_none (length refusals)) ∙ s.1)
               ∙ (append_assoc (stands 0 refusals new) (Ok (head_of (revisions_of s.0)) ∷ []) (map standing b.came)
               ∙ ap (λ ss. ss ++ Ok (head_of (revisions_of s.0)) ∷ map standing b.came) (stands_same 0 refusals new left (λ n less. sym (others_left n (not_last n (length refusals) (to_none n (length refusals) less))))))))) b.told;
+          up = told_both answers (λ as'. AreUp put.master new.master (length more) as' b.came) (AreUpBefore put new (length more)) (λ as'. AreUp old.master left.master (length refusals) as' (Stood o.0 store s.0 ∷ b.came))
+              (λ as' h early. subst (λ m. AreUp old.master m (length refusals) as' (Stood o.0 store s.0 ∷ b.came)) (sym left_master)
+              (subst (λ m. AreUp m new.master (length refusals) as' (Stood o.0 store s.0 ∷ b.came)) put_master (
+                up_in put.master new.master store s.0 o.0 (slice_get as' (length refusals)) (λ n at. early (length refusals) n (last_place (length refusals) (length more) counted) at store s.0 there s.1),
+                subst (λ k. AreUp put.master new.master k as' b.came) counted h,
+              ))) b.up b.earlier;
+          earlier = told_with answers (AreUpBefore put new (length more)) (AreUpBefore old left (length refusals))
+              (λ as' early slot n less at before after was is.
+              subst (λ m. BringsUp (repository_of old.master) (repository_of before) (repository_of m) (repository_of after)) (sym left_master)
+              (subst (λ m. BringsUp (repository_of m) (repository_of before) (repository_of new.master) (repository_of after)) put_master
+              (early slot n (before_last slot (length refusals) (length more) counted less) at before after (others slot (not_last slot (length refusals) less) ∙ was) (sym (others_left slot (not_last slot (length refusals) less)) ∙ is)))) b.earlier;
         }
 
-    pub brought_opened_at : (last : F) (store : RepoStore D G) (old put new left : FleetStores D G) (slot : ℕ) → slot ≡ length refusals → IsOpenedIn G H folders mid name store → KeptThen store
+    pub brought_opened_at : (last : F) (store : RepoStore D G) (old put new left : FleetStores D G) (slot : ℕ) → slot ≡ length refusals → put.master ≡ old.master → left.master ≡ new.master → IsOpenedIn G H folders mid name store → KeptThen store
         → more ≡ refusals ++ None ∷ [] → store_at put slot ≡ Some store → ((other : ℕ) → other ≢ slot → store_at put other ≡ store_at old other) → AreBrought G H mid now names more put new answers
         → IfSome (store_at new slot) (λ s. TakesBack G H now last name (disk_of s) × StoreIsKept s) → ((other : ℕ) → other ≢ slot → store_at left other ≡ store_at new other)
         → AreBrought G H folders last (name ∷ names) refusals old left answers
-    brought_opened_at last store old put new left slot at o k pushed there others b back others_left =
-        brought_opened last store old put new left o k pushed (subst (λ n. store_at put n ≡ Some store) at there)
+    brought_opened_at last store old put new left slot at put_master left_master o k pushed there others b back others_left =
+        brought_opened last store old put new left put_master left_master o k pushed (subst (λ n. store_at put n ≡ Some store) at there)
         (subst (λ n. (other : ℕ) → other ≢ n → store_at put other ≡ store_at old other) at others) b
         (subst (λ n. IfSome (store_at new n) (λ s. TakesBack G H now last name (disk_of s) × StoreIsKept s)) at back)
         (subst (λ n. (other : ℕ) → other ≢ n → store_at left other ≡ store_at new other) at others_left)
@@ -268,49 +304,57 @@ module _ {F D : Type 0} (G : Ghosts D) (H : FolderGhosts F D) where
       → AreBrought G H folders later ns refusals old new answers → AreBrought G H folders later ms refusals old new answers
   brought_at folders later ns ms refusals old new answers same b = subst (λ k. AreBrought G H folders later k refusals old new answers) same b
 
+  -- what is told, if it is
+  abbrev pub ToldOf : {E : Type 0} → Result (Vec Answer Global) E → RepoStore D G → RepoStore D G → List (Came G) → Type 0
+  ToldOf answers first master came = IfOk answers (λ told. AreToldOf G told.items first master came)
+
   -- the master is back last
   pub fleet_stood : {E : Type 0} (folders mid now last : F) (master : List ℕ) (names : List (List ℕ)) (refusals : List (Option Refusal)) (store new_store : RepoStore D G) (old new : FleetStores D G)
-      (answers : Result (Vec Answer Global) E) (o : IsOpenedIn G H folders mid master store) → KeptThen store → StoreIsKept new_store → refusals ≡ [] → AreBrought G H mid now names refusals old new answers
-      → TakesBack G H now last master (disk_of new_store) → OfFleet G H folders last master names (λ standings. IfOk answers (λ told. AreTold G 0 standings told.items))
-  fleet_stood folders mid now last master names refusals store new_store old new answers o k kept none b t = record {
+      (answers : Result (Vec Answer Global) E) (o : IsOpenedIn G H folders mid master store) → KeptThen store → StoreIsKept new_store → refusals ≡ [] → old.master ≡ store → new_store ≡ new.master → AreBrought G H mid now names refusals old new answers
+      → TakesBack G H now last master (disk_of new_store) → OfFleet G H folders last master names (ToldOf answers)
+  fleet_stood folders mid now last master names refusals store new_store old new answers o k kept none first last_store b t = record {
     given = o.0;
     old = store;
     new = new_store;
     came = b.came;
     come = stood_then folders mid now master names b.came last store new_store o k kept b.come t;
-    done = told_by G answers _ _ (ap (λ rs. stands 0 rs new ++ map standing b.came) none) b.told;
+    done = told_both answers (AreTold G 0 (map standing b.came)) (λ as'. AreUp store new_store 0 as' b.came) (λ as'. AreToldOf G as' store new_store b.came) (λ as' h up. (h, up))
+        (told_by G answers _ _ (ap (λ rs. stands 0 rs new ++ map standing b.came) none) b.told)
+        (told_with answers (λ as'. AreUp old.master new.master (length refusals) as' b.came) (λ as'. AreUp store new_store 0 as' b.came)
+        (λ as' h. subst (λ m. AreUp store m 0 as' b.came) (sym last_store)
+        (subst (λ m. AreUp m new.master 0 as' b.came) first (subst (λ rs. AreUp old.master new.master (length rs) as' b.came) none h))) b.up);
   }
 
-  fleet_as : (folders later : F) (master : List ℕ) (names : List (List ℕ)) (P Q : List (Result ℕ Refusal) → Type 0) → ((ss : List (Result ℕ Refusal)) → P ss → Q ss) → OfFleet G H folders later master names P
-      → OfFleet G H folders later master names Q
-  fleet_as folders later master names P Q f b = record { given = b.given; old = b.old; new = b.new; came = b.came; come = b.come; done = f (map standing b.came) b.done }
+  fleet_as : (folders later : F) (master : List ℕ) (names : List (List ℕ)) (P Q : RepoStore D G → RepoStore D G → List (Came G) → Type 0) → ((a b : RepoStore D G) (cs : List (Came G)) → P a b cs → Q a b cs)
+      → OfFleet G H folders later master names P → OfFleet G H folders later master names Q
+  fleet_as folders later master names P Q f b = record { given = b.given; old = b.old; new = b.new; came = b.came; come = b.come; done = f b.old b.new b.came b.done }
 
   pub fleet_done : {E : Type 0} (folders later : F) (master : List ℕ) (names : List (List ℕ)) (answers : Result (Vec Answer Global) E) (r : Result (Vec Answer Global) Refusal) → IfOk r (λ told. answers ≡ Ok told)
-      → OfFleet G H folders later master names (λ standings. IfOk answers (λ told. AreTold G 0 standings told.items))
-      → IfOk r (λ told. OfFleet G H folders later master names (λ standings. AreTold G 0 standings told.items))
-  fleet_done {E = E} folders later master names answers (Ok told) e b = fleet_as folders later master names _ _ (λ ss h. subst (λ (a : Result (Vec Answer Global) E). IfOk a (λ t. AreTold G 0 ss t.items)) e h) b
+      → OfFleet G H folders later master names (ToldOf answers) → IfOk r (λ told. OfFleet G H folders later master names (AreToldOf G told.items))
+  fleet_done {E = E} folders later master names answers (Ok told) e b =
+      fleet_as folders later master names (ToldOf answers) (AreToldOf G told.items) (λ x y cs h. subst (λ (a : Result (Vec Answer Global) E). ToldOf a x y cs) e h) b
   fleet_done folders later master names answers (Err x) e b = tt
 
   pub fleet_refused : {E : Type 0} (folders later : F) (master : List ℕ) (names : List (List ℕ)) (answers : Result (Vec Answer Global) E) (r : Result (Vec Answer Global) Refusal) → IfErr r (λ e. e ≡ refusal.OutOfMemory)
-      → OfFleet G H folders later master names (λ standings. IfOk answers (λ told. AreTold G 0 standings told.items)) → IfErr r (NotBrought G H folders later master names)
+      → OfFleet G H folders later master names (ToldOf answers) → IfErr r (NotBrought G H folders later master names)
   fleet_refused folders later master names answers (Ok told) e b = tt
-  fleet_refused folders later master names answers (Err x) e b = inr (e, inr (fleet_as folders later master names _ _ (λ ss h. tt) b))
+  fleet_refused folders later master names answers (Err x) e b = inr (e, inr (fleet_as folders later master names (ToldOf answers) (AreUntold G) (λ x y cs h. tt) b))
 
   -- what is told is written in the lines
   pub telling : (folders later : F) (m master : List ℕ) (ms names : List (List ℕ)) (told : List Answer) (written : List ℕ) (before now : Option (List ℕ)) (done : Bool) → m ≡ master → ms ≡ names
-      → OfFleet G H folders later m ms (λ standings. AreTold G 0 standings told) → done ≡ list_all is_ok told → written ≡ lines_of ms told → Appends before now written
+      → OfFleet G H folders later m ms (AreToldOf G told) → done ≡ list_all is_ok told → written ≡ lines_of ms told → Appends before now written
       → OfFleet G H folders later master names (IsTelling G names done before now)
   telling folders later m master ms names told written before now done same all b each lines more =
       subst (λ k. OfFleet G H folders later k names (IsTelling G names done before now)) same
       (subst (λ k. OfFleet G H folders later m k (IsTelling G k done before now)) all
-      (fleet_as folders later m ms _ _ (λ ss h. (told, h, sym each, subst (Appends before now) lines more)) b))
+      (fleet_as folders later m ms (AreToldOf G told) (IsTelling G ms done before now) (λ x y cs h. (told, h, sym each, subst (Appends before now) lines more)) b))
 
   -- or isn't told
-  pub untold : (folders later : F) (m master : List ℕ) (ms names : List (List ℕ)) (told : List Answer) → m ≡ master → ms ≡ names → OfFleet G H folders later m ms (λ standings. AreTold G 0 standings told)
-      → OfFleet G H folders later master names (λ standings. Unit {0})
+  pub untold : (folders later : F) (m master : List ℕ) (ms names : List (List ℕ)) (told : List Answer) → m ≡ master → ms ≡ names → OfFleet G H folders later m ms (AreToldOf G told)
+      → OfFleet G H folders later master names (AreUntold G)
   untold folders later m master ms names told same all b =
-      subst (λ k. OfFleet G H folders later k names (λ standings. Unit {0})) same
-      (subst (λ k. OfFleet G H folders later m k (λ standings. Unit {0})) all (fleet_as folders later m ms _ _ (λ ss h. tt) b))
+      subst (λ k. OfFleet G H folders later k names (AreUntold G)) same
+      (subst (λ k. OfFleet G H folders later m k (AreUntold G)) all (fleet_as folders later m ms (AreToldOf G told) (AreUntold G) (λ x y cs h. tt) b))
 
   -- by the texts of the words
   pub not_brought_at : (folders later : F) (m master : List ℕ) (ms names : List (List ℕ)) (e : Refusal) → m ≡ master → ms ≡ names → NotBrought G H folders later m ms e → NotBrought G H folders later master names e

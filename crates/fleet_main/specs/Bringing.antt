@@ -1,5 +1,5 @@
 -- What `fleet` does over the repositories that stand in folders, and why it doesn't.
-use Rattle.std.specs.Prelude.{◌≡◌, ◌≤◌, ◌<◌, ◌⊎◌, ◌++◌, ℕ, Bool, true, List, [], ◌∷◌, length, map, Option, Some, None, Result, Ok, Err, IfOk, Vec, is_some, is_ok, string_bytes}
+use Rattle.std.specs.Prelude.{◌≡◌, ◌≤◌, ◌<◌, ◌⊎◌, ◌++◌, ◌+◌, ℕ, Bool, true, List, [], ◌∷◌, length, map, slice_get, Option, Some, None, IfSome, Result, Ok, Err, IfOk, Vec, is_some, is_ok, string_bytes}
 use Rattle.std.specs.Io.KnownBytes.{Appends}
 use Rattle.std.specs.List.{list_all, AllZip}
 use Rattle.std.specs.declared.alloc.Global.{Global}
@@ -9,8 +9,10 @@ use Rattle.fleet_jobs.specs.Answers.{Answer}
 use Rattle.node_base.specs.declared.refusal.Refusal.{Refusal}
 use Rattle.node_base.specs.declared.refusal.Refusal.TheVariants as refusal
 use Rattle.repo_core.specs.Repository.{head_of}
-use Rattle.repo_store.specs.Words.{disk_of, revisions_of, IsKept as StoreIsKept}
+use Rattle.repo_store.specs.Words.{disk_of, repository_of, revisions_of, IsKept as StoreIsKept}
 use Rattle.repo_store.specs.declared.store.RepoStore.{RepoStore}
+use Rattle.fleet_shares.specs.Agreed.{BringsUp}
+use Rattle.fleet_shares.specs.Closing.{IsBroughtUp}
 use Rattle.fleet_shares.specs.Lines.{lines_of}
 use Rattle.fleet_shares.specs.Stores.{store_at}
 use Rattle.fleet_shares.specs.Told.{stands, AreTold}
@@ -53,25 +55,49 @@ abbrev pub standing : {D : Type 0} {G : Ghosts D} → Came G → Result ℕ Refu
 standing (Refused e lent) = Err e
 standing (Stood given old new) = Ok (head_of (revisions_of new))
 
+-- a mirror of which a newest revision is told was brought up to the master, as both were opened and as both are
+abbrev pub IsUp : {D : Type 0} {G : Ghosts D} → RepoStore D G → RepoStore D G → Option Answer → Came G → Type 0
+IsUp first master answer (Refused e lent) = Unit {0}
+IsUp first master answer (Stood given old new) = IfSome answer (λ a. IfOk a (λ n. BringsUp (repository_of first) (repository_of old) (repository_of master) (repository_of new)))
+
+-- of each, by the answers from that place on
+abbrev pub AreUp : {D : Type 0} {G : Ghosts D} → RepoStore D G → RepoStore D G → ℕ → List Answer → List (Came G) → Type 0
+AreUp first master place answers [] = Unit {0}
+AreUp first master place answers (c ∷ cs) = IsUp first master (slice_get answers place) c × AreUp first master (place + 1) answers cs
+
+-- of those that were opened before that place
+abbrev pub AreUpBefore : {D : Type 0} {G : Ghosts D} → FleetStores D G → FleetStores D G → ℕ → List Answer → Type 0
+AreUpBefore old new place answers = (slot n : ℕ) → slot < place → slice_get answers slot ≡ Some (Ok n) → IsBroughtUp old new slot
+
+-- what is told of the mirrors of a master, by how each was opened and how it is
+abbrev pub AreToldOf : {D : Type 0} (G : Ghosts D) → List Answer → RepoStore D G → RepoStore D G → List (Came G) → Type 0
+AreToldOf G answers first master came = AreTold G 0 (map standing came) answers × AreUp first master 0 answers came
+
+-- nothing is told
+abbrev pub AreUntold : {D : Type 0} (G : Ghosts D) → RepoStore D G → RepoStore D G → List (Came G) → Type 0
+AreUntold G first master came = Unit {0}
+
 -- the mirrors of these folders are opened behind those that were before, with what was refused of these; all are run; and the mirrors of these folders are closed
 pub record AreBrought {F D E : Type 0} (G : Ghosts D) (H : FolderGhosts F D) (before now : F) (folders : List (List ℕ)) (refusals : List (Option Refusal)) (old new : FleetStores D G) (answers : Result (Vec Answer Global) E) : Type 0 where
   pub came : List (Came G)
   pub come : HaveCome G H before now folders came
   pub slots : (slot : ℕ) → slot < length refusals → is_some (store_at new slot) ≡ is_some (store_at old slot)
   pub told : IfOk answers (λ told. AreTold G 0 (stands 0 refusals new ++ map standing came) told.items)
+  pub up : IfOk answers (λ told. AreUp old.master new.master (length refusals) told.items came)
+  pub earlier : IfOk answers (λ told. AreUpBefore old new (length refusals) told.items)
 
--- a master was opened and then its mirrors; all are back, and of how the mirrors stand then P is so
-pub record OfFleet {F D : Type 0} (G : Ghosts D) (H : FolderGhosts F D) (folders later : F) (master : List ℕ) (mirrors : List (List ℕ)) (P : List (Result ℕ Refusal) → Type 0) : Type 0 where
+-- a master was opened and then its mirrors; all are back, and P is so of the master as it was and is, and of what came of the mirrors
+pub record OfFleet {F D : Type 0} (G : Ghosts D) (H : FolderGhosts F D) (folders later : F) (master : List ℕ) (mirrors : List (List ℕ)) (P : RepoStore D G → RepoStore D G → List (Came G) → Type 0) : Type 0 where
   pub given : D
   pub old : RepoStore D G
   pub new : RepoStore D G
   pub came : List (Came G)
   pub come : HaveCome G H folders later (master ∷ mirrors) (Stood given old new ∷ came)
-  pub done : P (map standing came)
+  pub done : P old new came
 
 -- what is told of each mirror is written in its line, and whether none is a refusal
-abbrev pub IsTelling : {D : Type 0} → Ghosts D → List (List ℕ) → Bool → Option (List ℕ) → Option (List ℕ) → List (Result ℕ Refusal) → Type 0
-IsTelling G mirrors done before now standings = (answers : List Answer) × AreTold G 0 standings answers × (list_all is_ok answers ≡ done) × Appends before now (lines_of mirrors answers)
+abbrev pub IsTelling : {D : Type 0} (G : Ghosts D) → List (List ℕ) → Bool → Option (List ℕ) → Option (List ℕ) → RepoStore D G → RepoStore D G → List (Came G) → Type 0
+IsTelling G mirrors done before now first master came = (answers : List Answer) × AreToldOf G answers first master came × (list_all is_ok answers ≡ done) × Appends before now (lines_of mirrors answers)
 
 -- the fleet is run, and whether no mirror was refused
 abbrev pub IsFleetRun : {F D : Type 0} → Ghosts D → FolderGhosts F D → F → F → Fleet → Option (List ℕ) → Bool → Option (List ℕ) → Type 0
@@ -85,10 +111,10 @@ IsSomeRun G H folders later fleet before now = (done : Bool) × IsFleetRun G H f
 -- it isn't run: the master isn't opened, and no mirror's folder; or memory runs out, before anything is opened or once all is; nothing is written then
 abbrev pub NotBrought : {F D : Type 0} → Ghosts D → FolderGhosts F D → F → F → List ℕ → List (List ℕ) → Refusal → Type 0
 NotBrought G H folders later master mirrors e =
-    NotOpenedIn G H folders later master e ⊎ ((e ≡ refusal.OutOfMemory) × (AreBack G H folders later [] ⊎ OfFleet G H folders later master mirrors (λ standings. Unit {0})))
+    NotOpenedIn G H folders later master e ⊎ ((e ≡ refusal.OutOfMemory) × (AreBack G H folders later [] ⊎ OfFleet G H folders later master mirrors (AreUntold G)))
 
 -- or what is told can't be written
 abbrev pub NotFleetRun : {F D : Type 0} → Ghosts D → FolderGhosts F D → F → F → Fleet → Option (List ℕ) → ℕ → Option (List ℕ) → ℕ → Refusal → Type 0
 NotFleetRun G H folders later fleet before start now count e =
     (NotBrought G H folders later (string_bytes fleet.master) (map string_bytes fleet.mirrors.items) e × (now ≡ before))
-    ⊎ (OfFleet G H folders later (string_bytes fleet.master) (map string_bytes fleet.mirrors.items) (λ standings. Unit {0}) × (e ≡ refusal.PeerFailed) × Rose start count)
+    ⊎ (OfFleet G H folders later (string_bytes fleet.master) (map string_bytes fleet.mirrors.items) (AreUntold G) × (e ≡ refusal.PeerFailed) × Rose start count)

@@ -9,8 +9,7 @@ ghost use Rattle.repo_store.specs.Journal.{Keeps};
 ghost use Rattle.repo_store.specs.Words.{disk_of, repository_of, HasFailed, IsKept as StoreIsKept};
 ghost use Rattle.node_base.specs.Refusals.{fault_line};
 ghost use Rattle.fleet_shares.specs.Stores.{store_at};
-ghost use Rattle.fleet_shares.specs.Told.{AreTold};
-ghost use Rattle.fleet_main.specs.Bringing.{AreBrought, IsFleetRun, IsSomeRun, NotBrought, NotFleetRun, OfFleet};
+ghost use Rattle.fleet_main.specs.Bringing.{AreBrought, AreToldOf, IsFleetRun, IsSomeRun, NotBrought, NotFleetRun, OfFleet};
 ghost use Rattle.fleet_main.specs.Doing.{EndsWith, HandsOn};
 ghost use Rattle.fleet_main.specs.Loans.{TakesBack};
 ghost use Rattle.command_words.specs.Twice.{first_twice};
@@ -54,6 +53,7 @@ fn slot_closed<F: Folders>(
     ensures back { IfSome (store_at stores slot) (λ s. TakesBack F.Place.Disk F.Folders folders.old folders.new
         folder.now (disk_of s) × StoreIsKept s) }
     ensures others { (other : ℕ) → other ≢ slot → store_at result other ≡ store_at stores other }
+    ensures master { result.master ≡ stores.master }
 {
     let mut stores = stores;
     match stores.take(slot) {
@@ -120,7 +120,7 @@ where
     requires few { length mirrors.now ≤ 4 }
     requires apart { first_twice (master.now ∷ map string_bytes mirrors.now) ≡ None }
     ensures done { IfOk result (λ told. OfFleet F.Place.Disk F.Folders folders.old folders.new master.now
-        (map string_bytes mirrors.now) (λ standings. AreTold F.Place.Disk 0 standings told.items)) }
+        (map string_bytes mirrors.now) (AreToldOf F.Place.Disk told.items)) }
     ensures refused { IfErr result (NotBrought F.Place.Disk F.Folders folders.old folders.new master.now
         (map string_bytes mirrors.now)) }
 {
@@ -224,7 +224,8 @@ where
 ///
 /// Of honest folders it says besides what repository each folder's disk kept, that a stop left it as the run began, and
 /// that each folder has a store's disk again in the end, if the disks still keep the rules, and every other folder what
-/// it had. What the runs changed of the mirrors no clause says.
+/// it had. Of a mirror that is told with a number it says that it has what it had, and besides revisions of the master's up
+/// to that number; where all that it had was the master's, all that it has is.
 pub fn fleet<
     R: Threads + Wait + Clone + Send + Drop + 'static,
     F: Folders,

@@ -9,10 +9,12 @@ use Rattle.mirror_share.specs.declared.share.MirrorShare.{MirrorShare}
 use Rattle.store_share.specs.declared.share.MasterShare.{MasterShare}
 use Rattle.fleet_shares.specs.Answers.{AnswersOn}
 use Rattle.fleet_shares.specs.Given.{IsAnswerAt, IsAnswered}
+use Rattle.fleet_shares.specs.Opening.{HasStores}
 use Rattle.fleet_shares.specs.Ran.{HasEndedAt, IsAnswerIn}
 use Rattle.fleet_shares.specs.Runners.{at_slot, has_at, shares_of, slots_of, MayAnswer}
 use Rattle.fleet_shares.specs.declared.runner.SharesRunner.{SharesRunner}
 use Rattle.fleet_shares.specs.declared.shares.FleetShares.{FleetShares}
+use Rattle.fleet_shares.specs.declared.stores.FleetStores.{FleetStores}
 use Rattle.fleet_shares.specs.declared.stores.OpenedFleet.{OpenedFleet}
 
 -- on a mirror that is there
@@ -77,6 +79,18 @@ module _ {M L0 L1 L2 L3 D : Type 0} {m : _} {r0 : _} {r1 : _} {r2 : _} {r3 : _} 
       (ap (λ (x : FleetShares M L0 L1 L2 L3 D m r0 r1 r2 r3 g). is_some x.fourth) e ∙ slots.3)
       os xs.items h
   shared_in t p e slots os (Err f) h = tt
+
+  -- and the stores of such shares are in the slots of those
+  pub closed_in : (t : FleetShares M L0 L1 L2 L3 D m r0 r1 r2 r3 g) (p : OpenedFleet D g) (stores : FleetStores D g) → s ≡ t
+      → (is_some t.first ≡ is_some p.first) × (is_some t.second ≡ is_some p.second) × (is_some t.third ≡ is_some p.third) × (is_some t.fourth ≡ is_some p.fourth)
+      → (is_some stores.first ≡ is_some s.first) × (is_some stores.second ≡ is_some s.second) × (is_some stores.third ≡ is_some s.third) × (is_some stores.fourth ≡ is_some s.fourth)
+      → HasStores (is_some p.first) (is_some p.second) (is_some p.third) (is_some p.fourth) stores
+  closed_in t p stores e slots back = (
+    back.0 ∙ (ap (λ (x : FleetShares M L0 L1 L2 L3 D m r0 r1 r2 r3 g). is_some x.first) e ∙ slots.0),
+    back.1 ∙ (ap (λ (x : FleetShares M L0 L1 L2 L3 D m r0 r1 r2 r3 g). is_some x.second) e ∙ slots.1),
+    back.2 ∙ (ap (λ (x : FleetShares M L0 L1 L2 L3 D m r0 r1 r2 r3 g). is_some x.third) e ∙ slots.2),
+    back.3 ∙ (ap (λ (x : FleetShares M L0 L1 L2 L3 D m r0 r1 r2 r3 g). is_some x.fourth) e ∙ slots.3),
+  )
 
   -- a fleet's answers are those of the shares that its runner has
   pub over_shares : (runner later : SharesRunner M L0 L1 L2 L3 D m r0 r1 r2 r3 g) (slots : List Bool) (os : List Order) (xs : List Answer) → later ≡ runner → shares_of runner ≡ s → slots ≡ slots_of (shares_of runner)

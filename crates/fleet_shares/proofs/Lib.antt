@@ -6,6 +6,8 @@ pub mod Ending
 pub mod Forgetting
 pub mod Giving
 pub mod Ordering
+pub mod Noting
+pub mod Settling
 pub mod Slots
 pub mod Telling
 pub mod Meeting

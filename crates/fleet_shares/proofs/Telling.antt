@@ -1,6 +1,7 @@
 -- What is told of each mirror is so of its answer and of its store.
-use Rattle.std.proofs.Common.{◌≡◌, inl, inr, ℕ, zero, suc, ◌+◌, Bool, true, false, List, [], ◌∷◌, ◌++◌, append_assoc, length, map, Option, Some, None, Result, Ok, Err, IfOk, IfSome, Vec, is_some, refl, sym, ap, subst, ◌∙◌}
+use Rattle.std.proofs.Common.{◌≡◌, inl, inr, ℕ, zero, suc, ◌+◌, Bool, true, false, List, [], ◌∷◌, ◌++◌, append_assoc, length, map, Option, Some, None, Result, Ok, Err, IfOk, IfSome, Vec, is_some, refl, sym, ap, subst, ◌∙◌, arith}
 use Rattle.std.specs.List.{AllZip, range_with_len}
+use Rattle.std.specs.Prelude.{slice_get}
 use Rattle.std.specs.Option.{option_map, option_to_list}
 use Rattle.std.specs.declared.alloc.Global.{Global}
 use Rattle.std.proofs.lemmas.Bool.{true≢false}
@@ -11,6 +12,7 @@ use Rattle.node_base.specs.declared.refusal.Refusal.{Refusal}
 use Rattle.repo_core.specs.Repository.{head_of}
 use Rattle.repo_store.specs.Words.{revisions_of}
 use Rattle.repo_store.specs.declared.store.RepoStore.{RepoStore}
+use Rattle.fleet_shares.specs.Closing.{AreBroughtUp, IsBroughtUp}
 use Rattle.fleet_shares.specs.Given.{IsAnswerAt}
 use Rattle.mirror_share.specs.Names.{IsNamed}
 use Rattle.mirror_share.specs.declared.opened.OpenedMirror.{OpenedMirror}
@@ -26,23 +28,24 @@ use Rattle.fleet_shares.proofs.Forgetting.{all_so}
 use Rattle.fleet_shares.proofs.Slots.{has_some}
 
 -- of a slot's store, with no refusal
-told_of : {D : Type 0} {g : _} (order : Order) (store : Option (RepoStore D g)) (has : Bool) (a : Answer) → is_some store ≡ has → IsAnswerAt has (HasEnded g order a) a
-    → IsTold g order (stand None (option_map (λ s. head_of (revisions_of s)) store)) (tell (stand None (option_map (λ s. head_of (revisions_of s)) store)) a)
-told_of order None has a e h = refl
-told_of order (Some s) false a e h = absurd (true≢false e)
-told_of order (Some s) true (Ok n) e (inl ended) = inl (ended, refl)
-told_of order (Some s) true (Ok n) e (inr (inl failed)) = cc
-told_of order (Some s) true (Ok n) e (inr (inr memory)) = cc
-told_of order (Some s) true (Err f) e (inl ended) = inl (ended, tt)
-told_of order (Some s) true (Err f) e (inr x) = inr x
+told_of : {D : Type 0} {g : _} (order : Order) (store : Option (RepoStore D g)) (has up : Bool) (a : Answer) → is_some store ≡ has → IsAnswerAt has (HasEnded g order a) a
+    → IsTold g order (stand None (option_map (λ s. head_of (revisions_of s)) store)) (tell (stand None (option_map (λ s. head_of (revisions_of s)) store)) up a)
+told_of order None has up a e h = refl
+told_of order (Some s) false up a e h = absurd (true≢false e)
+told_of order (Some s) true true (Ok n) e (inl ended) = inl (ended, refl)
+told_of order (Some s) true false (Ok n) e h = inr (inl refl)
+told_of order (Some s) true true (Ok n) e (inr (inl failed)) = cc
+told_of order (Some s) true true (Ok n) e (inr (inr memory)) = cc
+told_of order (Some s) true up (Err f) e (inl ended) = inl (ended, tt)
+told_of order (Some s) true up (Err f) e (inr x) = inr x
 
-module _ {D : Type 0} {g : _} (old new : FleetStores D g) (same : SameSlots old new) where
-  told_one : (slot : ℕ) (r : Option Refusal) (a : Answer) → IsAnswerOver old (sync_order slot) a → IsTold g (sync_order slot) (stand r (head_at new slot)) (tell (stand r (head_at new slot)) a)
+module _ {D : Type 0} {g : _} (old new : FleetStores D g) (same : SameSlots old new) (up : ℕ → Bool) where
+  told_one : (slot : ℕ) (r : Option Refusal) (a : Answer) → IsAnswerOver old (sync_order slot) a → IsTold g (sync_order slot) (stand r (head_at new slot)) (tell (stand r (head_at new slot)) (up slot) a)
   told_one slot (Some e) a h = refl
-  told_one slot None a h = told_of (sync_order slot) (store_at new slot) (is_some (store_at old slot)) a (same slot) h
+  told_one slot None a h = told_of (sync_order slot) (store_at new slot) (is_some (store_at old slot)) (up slot) a (same slot) h
 
   told_all : (slot : ℕ) (rs : List (Option Refusal)) (answers : List Answer) → AllZip (IsAnswerOver old) (map sync_order (range_with_len slot (length rs))) answers
-      → AreTold g slot (stands slot rs new) (tells (stands slot rs new) answers)
+      → AreTold g slot (stands slot rs new) (tells up slot (stands slot rs new) answers)
   told_all slot [] [] h = tt
   told_all slot [] (a ∷ more) h = absurd h
   told_all slot (r ∷ rs) [] h = absurd h
@@ -50,10 +53,43 @@ module _ {D : Type 0} {g : _} (old new : FleetStores D g) (same : SameSlots old 
 
   -- of the orders of all slots
   pub all_told : (rs : List (Option Refusal)) (count : ℕ) (orders : List Order) (answers told : List Answer) → count ≡ length rs → orders ≡ map sync_order (range_with_len 0 count)
-      → AllZip (IsAnswerOver old) orders answers → told ≡ tells (stands 0 rs new) answers → AreTold g 0 (stands 0 rs new) told
+      → AllZip (IsAnswerOver old) orders answers → told ≡ tells up 0 (stands 0 rs new) answers → AreTold g 0 (stands 0 rs new) told
   all_told rs count orders answers told counted ordered h e =
       subst (AreTold g 0 (stands 0 rs new)) (sym e)
       (told_all 0 rs answers (subst (λ os. AllZip (IsAnswerOver old) os answers) (ordered ∙ ap (λ n. map sync_order (range_with_len 0 n)) counted) h))
+
+-- a newest revision is told only of a mirror that was brought up
+told_up : (s : Result ℕ Refusal) (b : Bool) (a : Answer) (n : ℕ) → tell s b a ≡ Ok n → b ≡ true
+told_up (Err e) b a n is = absurd (cc)
+told_up (Ok head) true (Ok k) n is = refl
+told_up (Ok head) false (Ok k) n is = absurd (cc)
+told_up (Ok head) b (Err f) n is = absurd (cc)
+
+next_up : (s : Result ℕ Refusal) (b : Bool) (o : Option Answer) (n : ℕ) → tell_next s b o ≡ Ok n → b ≡ true
+next_up s b None n is = absurd (cc)
+next_up s b (Some a) n is = told_up s b a n is
+
+same_answer : (a b : Answer) → Some a ≡ Some b → a ≡ b
+same_answer a b e = ap (λ o. get_or_this a o) e
+  where
+    get_or_this : Answer → Option Answer → Answer
+    get_or_this d (Some x) = x
+    get_or_this d None = d
+
+up_at : (up : ℕ → Bool) (k i n : ℕ) (ss : List (Result ℕ Refusal)) (answers : List Answer) → slice_get (tells up k ss answers) i ≡ Some (Ok n) → up (k + i) ≡ true
+up_at up k i n [] answers is = absurd (cc)
+up_at up k zero n (s ∷ ss) [] is = subst (λ j. up j ≡ true) (omega arith) (next_up s (up k) None n (same_answer _ _ is))
+up_at up k zero n (s ∷ ss) (a ∷ more) is = subst (λ j. up j ≡ true) (omega arith) (next_up s (up k) (Some a) n (same_answer _ _ is))
+up_at up k (suc i) n (s ∷ ss) [] is = subst (λ j. up j ≡ true) (omega arith) (up_at up (k + 1) i n ss [] is)
+up_at up k (suc i) n (s ∷ ss) (a ∷ more) is = subst (λ j. up j ≡ true) (omega arith) (up_at up (k + 1) i n ss more is)
+
+from_none : (n : ℕ) → 0 + n ≡ n
+from_none n = omega arith
+
+-- so of all that is told
+pub all_up : {D : Type 0} {g : _} (old new : FleetStores D g) (up : ℕ → Bool) (ss : List (Result ℕ Refusal)) (answers told : List Answer) → told ≡ tells up 0 ss answers
+    → ((slot : ℕ) → up slot ≡ true → IsBroughtUp old new slot) → AreBroughtUp old new told
+all_up old new up ss answers told is h slot n at = h slot (subst (λ j. up j ≡ true) (from_none slot) (up_at up 0 slot n ss answers (ap (λ l. slice_get l slot) (sym is) ∙ at)))
 
 -- the answers over opened stores are those over the stores
 named : {D : Type 0} (g : Ghosts D) (m r0 r1 r2 r3 : List ℕ) (k : ℕ) (o : Order) (a : Answer)
@@ -74,10 +110,10 @@ over_stores : {D : Type 0} {g : _} (m r0 r1 r2 r3 : List ℕ) (stores : FleetSto
 over_stores {g = g} m r0 r1 r2 r3 stores opened same o a h =
     subst (λ b. IsAnswerAt b (HasEnded g o a) a) (sym (has_some stores _ _ _ _ (sym same.0, sym same.1, sym same.2, sym same.3) o.mirror)) (answer_so _ _ _ a (named g m r0 r1 r2 r3 o.mirror o a) h)
 
-pub answered_over : {D : Type 0} {g : _} {E : Type 0} (m r0 r1 r2 r3 : List ℕ) (stores : FleetStores D g) (opened : OpenedFleet D g) (os : List Order) (r : Result (Vec Answer Global) E)
+pub answered_over : {D : Type 0} {g : _} {T E : Type 0} (m r0 r1 r2 r3 : List ℕ) (stores : FleetStores D g) (opened : OpenedFleet D g) (os : List Order) (r : Result (Vec Answer Global × T) E)
     → HasOpened (is_some stores.first) (is_some stores.second) (is_some stores.third) (is_some stores.fourth) opened
-    → IfOk r (λ xs. AllZip (IsAnswerIn (named_by m) (named_by r0) (named_by r1) (named_by r2) (named_by r3) opened) os xs.items) → IfOk r (λ xs. AllZip (IsAnswerOver stores) os xs.items)
-answered_over m r0 r1 r2 r3 stores opened os (Ok xs) same h = all_so _ _ (over_stores m r0 r1 r2 r3 stores opened same) os xs.items h
+    → IfOk r (λ xs. AllZip (IsAnswerIn (named_by m) (named_by r0) (named_by r1) (named_by r2) (named_by r3) opened) os xs.0.items) → IfOk r (λ xs. AllZip (IsAnswerOver stores) os xs.0.items)
+answered_over m r0 r1 r2 r3 stores opened os (Ok xs) same h = all_so _ _ (over_stores m r0 r1 r2 r3 stores opened same) os xs.0.items h
 answered_over m r0 r1 r2 r3 stores opened os (Err e) same h = tt
 
 pub of_ok : {T E : Type 0} (r : Result T E) (x : T) (P : T → Type 0) → r ≡ Ok x → IfOk r P → P x
@@ -90,20 +126,20 @@ own_names L None = tt
 own_names L (Some mirror) = (refl, (refl, refl, refl, refl))
 
 -- one more is told
-told_next : (ss : List (Result ℕ Refusal)) (s : Result ℕ Refusal) (before after : List Answer) (o : Option Answer) → (o ≡ None → (before ≡ []) × (after ≡ [])) → before ≡ option_to_list o ++ after
-    → tells (s ∷ ss) before ≡ tell_next s o ∷ tells ss after
-told_next ss s before after None none is = ap (tells (s ∷ ss)) (none refl).0 ∙ ap (λ xs. tell_next s None ∷ tells ss xs) (sym (none refl).1)
-told_next ss s before after (Some a) none is = ap (tells (s ∷ ss)) is
+told_next : (up : ℕ → Bool) (k : ℕ) (ss : List (Result ℕ Refusal)) (s : Result ℕ Refusal) (before after : List Answer) (o : Option Answer) → (o ≡ None → (before ≡ []) × (after ≡ [])) → before ≡ option_to_list o ++ after
+    → tells up k (s ∷ ss) before ≡ tell_next s (up k) o ∷ tells up (k + 1) ss after
+told_next up k ss s before after None none is = ap (tells up k (s ∷ ss)) (none refl).0 ∙ ap (λ xs. tell_next s (up k) None ∷ tells up (k + 1) ss xs) (sym (none refl).1)
+told_next up k ss s before after (Some a) none is = ap (tells up k (s ∷ ss)) is
 
-pub told_step : {D : Type 0} {g : _} (stores : FleetStores D g) (told pushed : List Answer) (n len m : ℕ) (head : Option ℕ) (s : Result ℕ Refusal) (r : Option Refusal) (items rs : List (Option Refusal))
-    (before after : List Answer) (o : Option Answer) (answer : Answer) (all : List Answer) → told ++ tells (stands n items stores) before ≡ all → items ≡ r ∷ rs → (o ≡ None → (before ≡ []) × (after ≡ []))
-    → before ≡ option_to_list o ++ after → len ≡ n → head ≡ head_at stores len → s ≡ stand r head → answer ≡ tell_next s o → pushed ≡ told ++ answer ∷ [] → m ≡ n + 1
-    → pushed ++ tells (stands m rs stores) after ≡ all
-told_step stores told pushed n len m head s r items rs before after o answer all was left none next counted heads standing told_one more count =
-    let is = told_one ∙ ap (λ x. tell_next x o) (standing ∙ ap (stand r) (heads ∙ ap (head_at stores) counted)) in
-    ap (λ x. x ++ tells (stands m rs stores) after) more
-    ∙ (append_assoc told (answer ∷ []) (tells (stands m rs stores) after)
-    ∙ (ap (λ x. told ++ x ∷ tells (stands m rs stores) after) is
-    ∙ (ap (λ k. told ++ tell_next (stand r (head_at stores n)) o ∷ tells (stands k rs stores) after) count
-    ∙ (ap (λ l. told ++ l) (sym (told_next (stands (n + 1) rs stores) (stand r (head_at stores n)) before after o none next))
-    ∙ (ap (λ l. told ++ tells (stands n l stores) before) (sym left) ∙ was)))))
+pub told_step : {D : Type 0} {g : _} (stores : FleetStores D g) (up : ℕ → Bool) (told pushed : List Answer) (n len m : ℕ) (head : Option ℕ) (s : Result ℕ Refusal) (b : Bool) (r : Option Refusal) (items rs : List (Option Refusal))
+    (before after : List Answer) (o : Option Answer) (answer : Answer) (all : List Answer) → told ++ tells up n (stands n items stores) before ≡ all → items ≡ r ∷ rs → (o ≡ None → (before ≡ []) × (after ≡ []))
+    → before ≡ option_to_list o ++ after → len ≡ n → head ≡ head_at stores len → s ≡ stand r head → b ≡ up len → answer ≡ tell_next s b o → pushed ≡ told ++ answer ∷ [] → m ≡ n + 1
+    → pushed ++ tells up m (stands m rs stores) after ≡ all
+told_step stores up told pushed n len m head s b r items rs before after o answer all was left none next counted heads standing brought told_one more count =
+    let is = told_one ∙ (ap (λ x. tell_next x b o) (standing ∙ ap (stand r) (heads ∙ ap (head_at stores) counted)) ∙ ap (λ x. tell_next (stand r (head_at stores n)) x o) (brought ∙ ap up counted)) in
+    ap (λ x. x ++ tells up m (stands m rs stores) after) more
+    ∙ (append_assoc told (answer ∷ []) (tells up m (stands m rs stores) after)
+    ∙ (ap (λ x. told ++ x ∷ tells up m (stands m rs stores) after) is
+    ∙ (ap (λ k. told ++ tell_next (stand r (head_at stores n)) (up n) o ∷ tells up k (stands k rs stores) after) count
+    ∙ (ap (λ l. told ++ l) (sym (told_next up n (stands (n + 1) rs stores) (stand r (head_at stores n)) before after o none next))
+    ∙ (ap (λ l. told ++ tells up n (stands n l stores) before) (sym left) ∙ was)))))

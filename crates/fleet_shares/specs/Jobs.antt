@@ -37,7 +37,7 @@ job_order (Copy low high) token = jobs.CopyProps token
 
 -- how the order's job ends, by what was said: as its run, or for want of memory before it
 abbrev pub EndsBy : Order → List Spoken → Result (Unit {0}) SyncFault → Type 0
-EndsBy order said ended = IsRunOf order.work order.token said ended ⊎ (ended ≡ Err OutOfMemory)
+EndsBy order said ended = IsRunOf order.work order.token said ended ⊎ ((ended ≡ Err OutOfMemory) × (said ≡ []))
 
 -- what was said tells each call that was made of a share from one seat, once and in order, and no other; each was a step of the share's
 -- book; and what was done in them a reader of its row has seen, each committed revision with its set

@@ -1,7 +1,10 @@
+pub mod Agreed
 pub mod Answers
 pub mod Brought
+pub mod Closing
 pub mod Faults
 pub mod Given
+pub mod Heard
 pub mod Jobs
 pub mod Lines
 pub mod Opening

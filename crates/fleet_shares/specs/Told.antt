@@ -1,5 +1,5 @@
 -- What is told of each mirror of a fleet.
-use Rattle.std.specs.Prelude.{◌≡◌, ℕ, ◌+◌, true, List, [], ◌∷◌, Option, Some, None, Result, Ok, Err, IfOk, is_some}
+use Rattle.std.specs.Prelude.{◌≡◌, ℕ, ◌+◌, Bool, true, false, List, [], ◌∷◌, Option, Some, None, Result, Ok, Err, IfOk, is_some}
 use Rattle.std.specs.Option.{option_map}
 use Rattle.fleet_disk.specs.declared.disk.Disk.{Ghosts}
 use Rattle.fleet_jobs.specs.Answers.{Answer}
@@ -30,22 +30,24 @@ abbrev pub stands : {D : Type 0} {g : _} → ℕ → List (Option Refusal) → F
 stands slot [] stores = []
 stands slot (r ∷ rs) stores = stand r (head_at stores slot) ∷ stands (slot + 1) rs stores
 
--- what is told of it: the refusal; else, of a job that ran well, the revision at which it stands, and of another why it was refused
-abbrev pub tell : Result ℕ Refusal → Answer → Answer
-tell (Err e) answer = Err (Other e)
-tell (Ok head) (Ok n) = Ok head
-tell (Ok head) (Err f) = Err f
+-- what is told of it: the refusal; else, of a job that ran well, the revision at which it stands, where it was brought up, or that it
+-- failed (32); and of another job why it was refused
+abbrev pub tell : Result ℕ Refusal → Bool → Answer → Answer
+tell (Err e) brought answer = Err (Other e)
+tell (Ok head) true (Ok n) = Ok head
+tell (Ok head) false (Ok n) = Err (Other Failed)
+tell (Ok head) brought (Err f) = Err f
 
 -- one that has no answer has failed (32)
-abbrev pub tell_next : Result ℕ Refusal → Option Answer → Answer
-tell_next standing None = Err (Other Failed)
-tell_next standing (Some answer) = tell standing answer
+abbrev pub tell_next : Result ℕ Refusal → Bool → Option Answer → Answer
+tell_next standing brought None = Err (Other Failed)
+tell_next standing brought (Some answer) = tell standing brought answer
 
--- each in turn
-abbrev pub tells : List (Result ℕ Refusal) → List Answer → List Answer
-tells [] answers = []
-tells (s ∷ ss) [] = tell_next s None ∷ tells ss []
-tells (s ∷ ss) (a ∷ more) = tell_next s (Some a) ∷ tells ss more
+-- each in turn, from that slot on
+abbrev pub tells : (ℕ → Bool) → ℕ → List (Result ℕ Refusal) → List Answer → List Answer
+tells brought slot [] answers = []
+tells brought slot (s ∷ ss) [] = tell_next s (brought slot) None ∷ tells brought (slot + 1) ss []
+tells brought slot (s ∷ ss) (a ∷ more) = tell_next s (brought slot) (Some a) ∷ tells brought (slot + 1) ss more
 
 -- what may be told of a mirror by how it stands in the end: its refusal; or that revision once its order's job has run well, or why that was refused, or that no worker was left for it (32), or that memory ran out (70)
 abbrev pub IsTold : {D : Type 0} → Ghosts D → Order → Result ℕ Refusal → Answer → Type 0

@@ -1,16 +1,18 @@
 //! Mirrors that are brought up to a master at once.
-ghost use Rattle.std.specs.Prelude.{◌≡◌, IfOk, IfSome, is_some};
+ghost use Rattle.std.specs.Prelude.{◌≡◌, ℕ, IfOk, IfSome, is_some, true};
 ghost use Rattle.std.specs.List.{AllZip};
 ghost use Rattle.mirror_share.specs.Names.{IsNamed};
 ghost use Rattle.store_share.specs.Opened.{cells_of};
+ghost use Rattle.fleet_shares.specs.Closing.{brings_at, AreBroughtUp, IsBroughtIn, IsBroughtUp};
 ghost use Rattle.fleet_shares.specs.Opening.{HasStores};
 ghost use Rattle.fleet_shares.specs.Ran.{IsAnswerIn};
 ghost use Rattle.fleet_shares.specs.Told.{stands, AreTold, IsAnswerOver, SameSlots};
 
 use crate::answers::Answered;
+use crate::brings::Brings;
 use crate::opening::opened_fleet;
 use crate::orders::sync_orders;
-use crate::run::{run_shared, stores_of};
+use crate::run::{run_shared, unshared};
 use crate::shares::FleetShares;
 use crate::stores::{FleetStores, OpenedFleet};
 use crate::told::tell_all;
@@ -27,8 +29,11 @@ use store_share::RowName;
 /// Brings each mirror up to the master by an order of its own, by that many workers, each a thread, and answers each in
 /// its place: the newest revision of its store as it comes back, or why its job was refused. The mirror of a place is the
 /// store of the slot with its number; where `refusals` has a refusal in a place, that is its answer. Failed (32) where no
-/// worker was left for it, OutOfMemory (70). The stores come back. Only want of memory (70), that of a thread among it,
-/// refuses the whole, before any order is run.
+/// worker was left for it, or its store has more than its job brought, OutOfMemory (70). The stores come back. Only want of
+/// memory (70), that of a thread among it, refuses the whole, before any order is run.
+///
+/// Each mirror that is answered with a number has what it had, and besides revisions of the master's as it comes back, up
+/// to that number; where all that it had was the master's, all that it has is.
 pub fn run_fleet<
     R: Threads + Wait + Clone + Send + Drop + 'static,
     D: Disk + Drop + Send + 'static,
@@ -44,6 +49,7 @@ pub fn run_fleet<
     ensures slots { SameSlots stores result.0 }
     ensures answers { IfOk result.1 (λ answers. AreTold D.Disk 0 (stands 0 refusals.items result.0)
         answers.items) }
+    ensures brought { IfOk result.1 (λ answers. AreBroughtUp stores result.0 answers.items) }
 {
     let count = refusals.len();
     let orders = match sync_orders(alloc, count) {
@@ -56,13 +62,16 @@ pub fn run_fleet<
     };
     let (stores, answers) = run_orders(rt, alloc, stores, orders, workers, gate);
     match answers {
-        Ok(answers) => {
-            let told = tell_all(&stores, refusals, answers, told);
+        Ok((answers, brings)) => {
+            let told = tell_all(&stores, &brings, refusals, answers, told);
             (stores, Ok(told))
         }
         Err(refused) => (stores, Err(refused)),
     }
 }
+
+// What comes of orders, and which mirrors were brought up.
+type Ran = Result<(Vec<Answered>, Brings), AllocError>;
 
 // Runs orders over stores, which come back.
 fn run_orders<
@@ -76,9 +85,10 @@ fn run_orders<
     orders: Vec<Order>,
     workers: usize,
     gate: G,
-) -> (FleetStores<D>, Result<Vec<Answered>, AllocError>)
+) -> (FleetStores<D>, Ran)
     ensures slots { SameSlots stores result.0 }
-    ensures answers { IfOk result.1 (λ answers. AllZip (IsAnswerOver stores) orders.items answers.items) }
+    ensures answers { IfOk result.1 (λ ran. AllZip (IsAnswerOver stores) orders.items ran.0.items) }
+    ensures brought { IfOk result.1 (λ ran. (slot : ℕ) → brings_at ran.1 slot ≡ true → IsBroughtUp stores result.0 slot) }
 {
     match opened_fleet(alloc, stores) {
         Ok(opened) => run_opened::<R, Brand, Brand, Brand, Brand, Brand, D, G>(
@@ -105,7 +115,7 @@ fn run_opened<
     orders: Vec<Order>,
     workers: usize,
     gate: G,
-) -> (FleetStores<D>, Result<Vec<Answered>, AllocError>)
+) -> (FleetStores<D>, Ran)
     requires master { cells_of opened.master ≡ M.cells }
     requires first { IfSome opened.first (λ o. IsNamed o L0.cells L0.merged L0.copying L0.head L0.holder) }
     requires second { IfSome opened.second (λ o. IsNamed o L1.cells L1.merged L1.copying L1.head L1.holder) }
@@ -113,14 +123,26 @@ fn run_opened<
     requires fourth { IfSome opened.fourth (λ o. IsNamed o L3.cells L3.merged L3.copying L3.head L3.holder) }
     ensures slots { HasStores (is_some opened.first) (is_some opened.second) (is_some opened.third)
         (is_some opened.fourth) result.0 }
-    ensures answers { IfOk result.1 (λ answers.
-        AllZip (IsAnswerIn M.RowName L0.RowName L1.RowName L2.RowName L3.RowName opened) orders.items answers.items) }
+    ensures answers { IfOk result.1 (λ ran.
+        AllZip (IsAnswerIn M.RowName L0.RowName L1.RowName L2.RowName L3.RowName opened) orders.items ran.0.items) }
+    ensures first { IfOk result.1 (λ ran. IsBroughtIn ran.1.first opened.master opened.first result.0.master
+        result.0.first) }
+    ensures second { IfOk result.1 (λ ran. IsBroughtIn ran.1.second opened.master opened.second result.0.master
+        result.0.second) }
+    ensures third { IfOk result.1 (λ ran. IsBroughtIn ran.1.third opened.master opened.third result.0.master
+        result.0.third) }
+    ensures fourth { IfOk result.1 (λ ran. IsBroughtIn ran.1.fourth opened.master opened.fourth result.0.master
+        result.0.fourth) }
 {
-    let shares = FleetShares::<M, L0, L1, L2, L3, D>::of(alloc, opened);
+    let (shares, readers) = FleetShares::<M, L0, L1, L2, L3, D>::with_readers(alloc, opened);
     match Arc::new(alloc, shares) {
         Ok(shares) => {
             let answers = run_shared(rt, alloc, &shares, orders, workers, gate);
-            (stores_of(rt, shares), answers)
+            let (stores, brings) = unshared(rt, shares).settle(readers);
+            match answers {
+                Ok(answers) => (stores, Ok((answers, brings))),
+                Err(refused) => (stores, Err(refused)),
+            }
         }
         Err(failed) => (failed.value.close(), Err(AllocError)),
     }

@@ -1,15 +1,17 @@
 //! The job of an order on one mirror.
 ghost use Rattle.std.specs.Prelude.{[], ◌≡◌, None, Ok, Err, IfOk, IfErr, OnErr};
 ghost use Rattle.fleet_shares.specs.Answers.{Answers, AnswersOn, EndsAs, IsSeen};
+ghost use Rattle.fleet_shares.specs.Heard.{NotesOf};
 ghost use Rattle.fleet_shares.specs.Jobs.{EndsBy, IsRunOf};
 ghost use Rattle.mirror_share.specs.Seats.{hand_of};
 ghost use Rattle.sync_core.specs.declared.fault.SyncFault.TheVariants as fault;
 ghost use Rattle.sync_job.specs.Questions.{KeepsAnswers};
 ghost use Rattle.sync_job.specs.Telling.{KeepsTelling};
-ghost use Rattle.sync_job.specs.Words.{calls_of, master_of, mirror_of};
+ghost use Rattle.sync_job.specs.Words.{calls_of, master_of, mirror_of, report_of};
 
+use crate::heard::Heard;
 use crate::master::SharedMaster;
-use crate::unheard::Unheard;
+use crate::trail::{Trail, TrailSlot, leave_trail};
 use fleet_disk::Disk;
 use fleet_jobs::{Order, Work};
 use mirror_share::{JobSeat, MirrorName, MirrorShare, SeatMirror};
@@ -26,32 +28,35 @@ pub(crate) fn run_in<R: Wait, M: RowName, L: MirrorName, D: Disk>(
     alloc: Global,
     master: &MasterShare<M, D>,
     mirror: &Option<MirrorShare<L, D>>,
+    slot: &TrailSlot<M, L>,
     order: &Order,
 ) -> Result<RevNo, SyncFault>
     ensures { AnswersOn master.now mirror.now order.now result }
 {
     match mirror {
-        Some(mirror) => run_on(rt, alloc, master, mirror, order),
+        Some(mirror) => run_on(rt, alloc, master, mirror, slot, order),
         None => Err(SyncFault::Other(Refusal::NoRepository)),
     }
 }
 
 // Runs the job of an order on a mirror, and answers the mirror's newest revision after it. The job enters, and leaves
-// whatever it answers. HolderRunning (55) where a job of its token runs there, OutOfMemory (70), or the refusal at which
+// whatever it answers, and with it its trail. HolderRunning (55) where a job of its token runs there, OutOfMemory (70), or the refusal at which
 // the job ended.
 fn run_on<R: Wait, M: RowName, L: MirrorName, D: Disk>(
     rt: &R,
     alloc: Global,
     master: &MasterShare<M, D>,
     mirror: &MirrorShare<L, D>,
+    slot: &TrailSlot<M, L>,
     order: &Order,
 ) -> Result<RevNo, SyncFault>
     ensures { Answers master.now mirror.now order.now result }
 {
     let mut reader = mirror.enter_reader(rt, alloc)?;
     let seat = mirror.enter_job(rt, alloc, &order.token)?;
-    let (seat, ended) = run_seated(rt, alloc, master, mirror, seat, order);
+    let (seat, ended, trail) = run_seated(rt, alloc, master, mirror, seat, order);
     mirror.leave(rt, seat);
+    leave_trail(rt, slot, trail);
     match ended {
         Ok(()) => Ok(mirror.latest(rt, &mut reader)),
         Err(fault) => Err(fault),
@@ -66,28 +71,30 @@ fn run_seated<R: Wait, M: RowName, L: MirrorName, D: Disk>(
     mirror: &MirrorShare<L, D>,
     seat: JobSeat<L>,
     order: &Order,
-) -> (JobSeat<L>, Result<(), SyncFault>)
+) -> (JobSeat<L>, Result<(), SyncFault>, Option<Trail<M, L>>)
     requires { hand_of seat ≡ None }
     ensures { EndsAs master.now mirror.now order.now result.1 }
 {
     let mirror = match SeatMirror::new(rt, alloc, mirror, seat) {
         Ok(mirror) => mirror,
-        Err(seat) => return (seat, Err(SyncFault::OutOfMemory)),
+        Err(seat) => return (seat, Err(SyncFault::OutOfMemory), None),
     };
     let Ok(master) = SharedMaster::new(rt, alloc, master) else {
-        return (mirror.into_seat(), Err(SyncFault::OutOfMemory));
+        return (mirror.into_seat(), Err(SyncFault::OutOfMemory), None);
     };
-    let mut ports = JobPorts::new(alloc, master, mirror, Unheard);
+    let mut ports = JobPorts::new(alloc, master, mirror, Heard::new());
     let ended = run_work(alloc, &mut ports, order);
-    let (_master, mirror, _report) = ports.into_parts();
-    (mirror.into_seat(), ended)
+    let (master, mirror, heard) = ports.into_parts();
+    let (seat, reader) = mirror.into_seats();
+    let trail = Trail::of(master.into_seat(), reader, heard);
+    (seat, ended, Some(trail))
 }
 
 // Runs the job of an order over ports through which nothing was said yet. What is said from then on tells each call that
 // the mirror is asked, and each question to the master.
 fn run_work<M: MasterPort + Drop, N: MirrorPort + Drop>(
     alloc: Global,
-    ports: &mut JobPorts<M, N, Unheard>,
+    ports: &mut JobPorts<M, N, Heard>,
     order: &Order,
 ) -> Result<(), SyncFault>
     requires { calls_of ports.old ≡ [] }
@@ -96,6 +103,7 @@ fn run_work<M: MasterPort + Drop, N: MirrorPort + Drop>(
         (calls_of ports.new) }
     ensures answered { KeepsAnswers M.answered (master_of ports.old) (master_of ports.new) (calls_of ports.old)
         (calls_of ports.new) }
+    ensures heard { NotesOf (report_of ports.new) (report_of ports.old) (calls_of ports.new) }
 {
     match order.token.copy(alloc) {
         Ok(token) => run_under(alloc, ports, order.work, token),
@@ -106,7 +114,7 @@ fn run_work<M: MasterPort + Drop, N: MirrorPort + Drop>(
 // The same under the order's token.
 fn run_under<M: MasterPort + Drop, N: MirrorPort + Drop>(
     alloc: Global,
-    ports: &mut JobPorts<M, N, Unheard>,
+    ports: &mut JobPorts<M, N, Heard>,
     work: Work,
     token: Token,
 ) -> Result<(), SyncFault>
@@ -116,6 +124,7 @@ fn run_under<M: MasterPort + Drop, N: MirrorPort + Drop>(
         (calls_of ports.new) }
     ensures answered { KeepsAnswers M.answered (master_of ports.old) (master_of ports.new) (calls_of ports.old)
         (calls_of ports.new) }
+    ensures heard { NotesOf (report_of ports.new) (report_of ports.old) (calls_of ports.new) }
 {
     match work {
         Work::Sync { steal } => run_sync(alloc, ports, token, steal),

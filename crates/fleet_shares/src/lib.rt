@@ -29,7 +29,10 @@ pub use stores::{FleetStores, OpenedFleet};
 pub use unheld::Unheld;
 
 mod answers;
+mod brings;
+mod closing;
 mod fleet;
+mod heard;
 mod job;
 mod lines;
 mod master;
@@ -40,5 +43,5 @@ mod runner;
 mod shares;
 mod stores;
 mod told;
-mod unheard;
+mod trail;
 mod unheld;

@@ -1,7 +1,8 @@
 //! Stores that are opened for a fleet, all of them or none.
 ghost use Rattle.std.specs.Prelude.{◌≡◌, IfErr, IfOk, is_some};
 ghost use Rattle.store_share.specs.Opened.{cells_of};
-ghost use Rattle.fleet_shares.specs.Opening.{has_store, HasOpened, HasStores};
+ghost use Rattle.store_share.specs.Opened.{store_in as store_of};
+ghost use Rattle.fleet_shares.specs.Opening.{has_store, stored_in, HasOpened, HasStores, IsOpenedFrom};
 
 use crate::stores::{FleetStores, OpenedFleet};
 use fleet_disk::Disk;
@@ -21,6 +22,7 @@ pub(crate) fn opened_fleet<D: Disk + Drop>(
 ) -> Result<OpenedFleet<D>, FleetStores<D>>
     ensures opened { IfOk result (HasOpened (is_some stores.first) (is_some stores.second) (is_some stores.third)
         (is_some stores.fourth)) }
+    ensures from { IfOk result (IsOpenedFrom stores.master stores.first stores.second stores.third stores.fourth) }
     ensures left { IfErr result (HasStores (is_some stores.first) (is_some stores.second) (is_some stores.third)
         (is_some stores.fourth)) }
 {
@@ -43,7 +45,8 @@ pub(crate) fn opened_fleet<D: Disk + Drop>(
 
 // The opened store of a slot.
 fn opened_in<D: Disk>(alloc: Global, store: Option<RepoStore<D>>) -> Slot<D>
-    ensures { has_store result ≡ is_some store }
+    ensures has { has_store result ≡ is_some store }
+    ensures from { stored_in result ≡ store }
 {
     match store {
         Some(store) => match OpenedMirror::of(alloc, store) {
@@ -64,6 +67,8 @@ fn whole<D: Disk + Drop>(
 ) -> Result<OpenedFleet<D>, FleetStores<D>>
     ensures opened { IfOk result (HasOpened (has_store first) (has_store second) (has_store third)
         (has_store fourth)) }
+    ensures from { IfOk result (IsOpenedFrom (store_of master) (stored_in first) (stored_in second) (stored_in third)
+        (stored_in fourth)) }
     ensures left { IfErr result (HasStores (has_store first) (has_store second) (has_store third)
         (has_store fourth)) }
 {

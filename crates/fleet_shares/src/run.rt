@@ -1,5 +1,5 @@
 //! Orders that are run over shares.
-ghost use Rattle.std.specs.Prelude.{IfOk, is_some};
+ghost use Rattle.std.specs.Prelude.{◌≡◌, IfOk, is_some};
 ghost use Rattle.std.specs.List.{AllZip};
 ghost use Rattle.std.specs.Arc.{arc_value};
 ghost use Rattle.fleet_shares.specs.Given.{IsAnswered};
@@ -63,10 +63,25 @@ pub fn stores_of<
     ensures slots { HasStores (is_some (arc_value shares).first) (is_some (arc_value shares).second)
         (is_some (arc_value shares).third) (is_some (arc_value shares).fourth) result }
 {
+    unshared(rt, shares).close()
+}
+
+/// Shares that nobody else keeps any more. Waits while somebody does.
+pub(crate) fn unshared<
+    R: Wait,
+    M: RowName,
+    L0: MirrorName,
+    L1: MirrorName,
+    L2: MirrorName,
+    L3: MirrorName,
+    D: Disk,
+>(rt: &R, shares: Arc<FleetShares<M, L0, L1, L2, L3, D>>) -> FleetShares<M, L0, L1, L2, L3, D>
+    ensures { result ≡ arc_value shares }
+{
     let mut kept = shares;
     for _ in rt.forever() {
         match Arc::try_unwrap(kept) {
-            Ok(shares) => return shares.close(),
+            Ok(shares) => return shares,
             Err(shares) => kept = shares,
         }
         thread::yield_now();

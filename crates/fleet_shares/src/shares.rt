@@ -1,14 +1,21 @@
 //! A master and the mirrors of four slots, each on a disk that threads share.
-ghost use Rattle.std.specs.Prelude.{◌≡◌, IfSome, is_some};
+ghost use Rattle.std.specs.Prelude.{◌≡◌, IfSome, is_some, if◌then◌else◌, false};
 ghost use Rattle.mirror_share.specs.Names.{IsNamed};
-ghost use Rattle.store_share.specs.Opened.{cells_of};
+ghost use Rattle.mirror_share.specs.Seen.{HasSeenAll};
+ghost use Rattle.repo_store.specs.Words.{repository_of};
+ghost use Rattle.store_share.specs.Opened.{cells_of, store_in};
+ghost use Rattle.store_share.specs.Book.{store_of as book_store};
+ghost use Rattle.fleet_shares.specs.Closing.{HasStayed, IsReadBy};
 
+use crate::brings::Brings;
+use crate::closing::{settled, stays};
 use crate::stores::{FleetStores, OpenedFleet};
+use crate::trail::Trails;
 use fleet_disk::Disk;
 use mirror_share::{MirrorName, MirrorShare, OpenedMirror};
 use repo_store::RepoStore;
 use std::alloc::Global;
-use store_share::{MasterShare, RowName};
+use store_share::{MasterBook, MasterShare, OpenedStore, ReaderSeat, RowName};
 
 /// A master's share and the mirrors' in four slots, each empty or a share. Each share has a name of its own, so that no
 /// seat of one is used at another.
@@ -26,6 +33,17 @@ pub struct FleetShares<
     pub second: Option<MirrorShare<L1, D>>,
     pub third: Option<MirrorShare<L2, D>>,
     pub fourth: Option<MirrorShare<L3, D>>,
+    pub(crate) trails: Trails<M, L0, L1, L2, L3>,
+}
+
+/// The seats of readers, who have seen all that was opened. None where there was no memory for one, or no mirror.
+#[derive(Drop)]
+pub(crate) struct FleetReaders<M: RowName, L0: RowName, L1: RowName, L2: RowName, L3: RowName> {
+    pub(crate) master: Option<ReaderSeat<M>>,
+    pub(crate) first: Option<ReaderSeat<L0>>,
+    pub(crate) second: Option<ReaderSeat<L1>>,
+    pub(crate) third: Option<ReaderSeat<L2>>,
+    pub(crate) fourth: Option<ReaderSeat<L3>>,
 }
 
 impl<
@@ -36,6 +54,8 @@ impl<
     L3: MirrorName,
     D: Disk,
 > FleetShares<M, L0, L1, L2, L3, D> {
+    ghost use Rattle.fleet_shares.specs.Closing.{IsBroughtSince};
+
     /// The shares of opened stores under the names of their rows and ledgers. Nobody runs at a mirror, and no seat holds its sync
     /// lock, whatever token that has.
     pub fn of(alloc: Global, opened: OpenedFleet<D>) -> FleetShares<M, L0, L1, L2, L3, D>
@@ -47,6 +67,32 @@ impl<
         ensures slots { (is_some result.first ≡ is_some opened.first) × (is_some result.second ≡ is_some opened.second)
             × (is_some result.third ≡ is_some opened.third) × (is_some result.fourth ≡ is_some opened.fourth) }
     {
+        let (shares, _readers) = FleetShares::with_readers(alloc, opened);
+        shares
+    }
+
+    /// The same with the seat of a reader for each, who has seen all that was opened.
+    pub(crate) fn with_readers(
+        alloc: Global,
+        opened: OpenedFleet<D>,
+    ) -> (
+        FleetShares<M, L0, L1, L2, L3, D>,
+        FleetReaders<M, L0, L1, L2, L3>,
+    )
+        requires master { cells_of opened.master ≡ M.cells }
+        requires first { IfSome opened.first (λ o. IsNamed o L0.cells L0.merged L0.copying L0.head L0.holder) }
+        requires second { IfSome opened.second (λ o. IsNamed o L1.cells L1.merged L1.copying L1.head L1.holder) }
+        requires third { IfSome opened.third (λ o. IsNamed o L2.cells L2.merged L2.copying L2.head L2.holder) }
+        requires fourth { IfSome opened.fourth (λ o. IsNamed o L3.cells L3.merged L3.copying L3.head L3.holder) }
+        ensures slots { (is_some result.0.first ≡ is_some opened.first)
+            × (is_some result.0.second ≡ is_some opened.second) × (is_some result.0.third ≡ is_some opened.third)
+            × (is_some result.0.fourth ≡ is_some opened.fourth) }
+        ensures master { IfSome result.1.master (λ t. HasSeenAll t (repository_of (store_in opened.master))) }
+        ensures first { IsReadBy opened.first result.1.first }
+        ensures second { IsReadBy opened.second result.1.second }
+        ensures third { IsReadBy opened.third result.1.third }
+        ensures fourth { IsReadBy opened.fourth result.1.fourth }
+    {
         let OpenedFleet {
             master,
             first,
@@ -54,13 +100,28 @@ impl<
             third,
             fourth,
         } = opened;
-        FleetShares {
-            master: master.named::<M>(),
-            first: mirror_of(alloc, first),
-            second: mirror_of(alloc, second),
-            third: mirror_of(alloc, third),
-            fourth: mirror_of(alloc, fourth),
-        }
+        let (master, theirs) = master_of(alloc, master);
+        let (first, first_reader) = mirror_of(alloc, first);
+        let (second, second_reader) = mirror_of(alloc, second);
+        let (third, third_reader) = mirror_of(alloc, third);
+        let (fourth, fourth_reader) = mirror_of(alloc, fourth);
+        (
+            FleetShares {
+                master,
+                first,
+                second,
+                third,
+                fourth,
+                trails: Trails::new(),
+            },
+            FleetReaders {
+                master: theirs,
+                first: first_reader,
+                second: second_reader,
+                third: third_reader,
+                fourth: fourth_reader,
+            },
+        )
     }
 
     /// The stores, each with all that was taken.
@@ -74,6 +135,7 @@ impl<
             second,
             third,
             fourth,
+            trails: _,
         } = self;
         FleetStores {
             master: master.close().into_store(),
@@ -83,19 +145,127 @@ impl<
             fourth: store_of(fourth),
         }
     }
+
+    /// The same, and which mirrors have been brought up to the master since these readers saw all that was opened.
+    pub(crate) fn settle(self, readers: FleetReaders<M, L0, L1, L2, L3>) -> (FleetStores<D>, Brings)
+        ensures slots { (is_some result.0.first ≡ is_some self.first) × (is_some result.0.second ≡ is_some self.second)
+            × (is_some result.0.third ≡ is_some self.third) × (is_some result.0.fourth ≡ is_some self.fourth) }
+        ensures first { IsBroughtSince result.1.first readers.master readers.first result.0.master result.0.first }
+        ensures second { IsBroughtSince result.1.second readers.master readers.second result.0.master result.0.second }
+        ensures third { IsBroughtSince result.1.third readers.master readers.third result.0.master result.0.third }
+        ensures fourth { IsBroughtSince result.1.fourth readers.master readers.fourth result.0.master
+            result.0.fourth }
+    {
+        let FleetShares {
+            master,
+            first,
+            second,
+            third,
+            fourth,
+            trails,
+        } = self;
+        let mut master = master.close();
+        let stays = master_stays(&mut master, readers.master);
+        let (first, first_up) = settled(
+            &mut master,
+            first,
+            readers.first,
+            trails.first.into_inner(),
+        );
+        let (second, second_up) = settled(
+            &mut master,
+            second,
+            readers.second,
+            trails.second.into_inner(),
+        );
+        let (third, third_up) = settled(
+            &mut master,
+            third,
+            readers.third,
+            trails.third.into_inner(),
+        );
+        let (fourth, fourth_up) = settled(
+            &mut master,
+            fourth,
+            readers.fourth,
+            trails.fourth.into_inner(),
+        );
+        (
+            FleetStores {
+                master: master.into_store(),
+                first,
+                second,
+                third,
+                fourth,
+            },
+            Brings {
+                first: both(stays, first_up),
+                second: both(stays, second_up),
+                third: both(stays, third_up),
+                fourth: both(stays, fourth_up),
+            },
+        )
+    }
 }
 
-// The share of a slot.
+// The share of a master, and the seat of a reader.
+fn master_of<M: RowName, D: Disk>(
+    alloc: Global,
+    opened: OpenedStore<D>,
+) -> (MasterShare<M, D>, Option<ReaderSeat<M>>)
+    requires { cells_of opened ≡ M.cells }
+    ensures { IfSome result.1 (λ t. HasSeenAll t (repository_of (store_in opened))) }
+{
+    let (mut book, row) = opened.into_book::<M>();
+    match row.notes(alloc) {
+        Ok(notes) => {
+            book.is_whole();
+            let reader = book.seat_reader(notes);
+            (MasterShare::new(book, row), Some(reader))
+        }
+        Err(_) => (MasterShare::new(book, row), None),
+    }
+}
+
+// The share of a slot, and the seat of a reader.
 fn mirror_of<L: MirrorName, D: Disk>(
     alloc: Global,
     opened: Option<OpenedMirror<D>>,
-) -> Option<MirrorShare<L, D>>
+) -> (Option<MirrorShare<L, D>>, Option<ReaderSeat<L>>)
     requires { IfSome opened (λ o. IsNamed o L.cells L.merged L.copying L.head L.holder) }
-    ensures { is_some result ≡ is_some opened }
+    ensures some { is_some result.0 ≡ is_some opened }
+    ensures read { IsReadBy opened result.1 }
 {
     match opened {
-        Some(opened) => Some(MirrorShare::<L, D>::of(alloc, opened)),
-        None => None,
+        Some(opened) => {
+            let (share, reader) = MirrorShare::<L, D>::with_reader(alloc, opened);
+            (Some(share), reader)
+        }
+        None => (None, None),
+    }
+}
+
+// Whether both are so.
+fn both(stays: bool, is_brought: bool) -> bool
+    ensures { result ≡ (if stays then is_brought else false) }
+{
+    if stays {
+        return is_brought;
+    }
+    false
+}
+
+// Whether the master has what a reader saw when it was opened.
+fn master_stays<M: RowName, D: Disk>(
+    master: &mut MasterBook<M, D>,
+    reader: Option<ReaderSeat<M>>,
+) -> bool
+    ensures master { book_store master.new ≡ book_store master.old }
+    ensures stays { HasStayed result reader (repository_of (book_store master.old)) }
+{
+    match reader {
+        Some(reader) => stays(master, reader),
+        None => false,
     }
 }
 

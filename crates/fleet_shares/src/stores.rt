@@ -86,6 +86,7 @@ impl<D: Disk + Drop> FleetStores<D> {
         requires { slot < 4 }
         ensures put { store_at result slot ≡ Some store }
         ensures others { (other : ℕ) → other ≢ slot → store_at result other ≡ store_at self other }
+        ensures master { result.master ≡ self.master }
     {
         let mut stores = self;
         drop(match slot {
@@ -101,6 +102,7 @@ impl<D: Disk + Drop> FleetStores<D> {
     pub fn take(&mut self, slot: usize) -> Option<RepoStore<D>>
         ensures taken { result ≡ store_at self.old slot }
         ensures others { (other : ℕ) → other ≢ slot → store_at self.new other ≡ store_at self.old other }
+        ensures master { self.new.master ≡ self.old.master }
     {
         match slot {
             0 => self.first.take(),

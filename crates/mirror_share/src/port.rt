@@ -70,6 +70,13 @@ impl<'a, R: Wait, L: MirrorName, D: Disk> SeatMirror<'a, R, L, D> {
     {
         self.seat
     }
+
+    /// The seat of the job, and the reader's, which has seen what was done at it.
+    pub fn into_seats(self) -> (JobSeat<L>, ReaderSeat<L>)
+        ensures { (result.0 ≡ seat_of self.entry) × (result.1 ≡ reader_of self.entry) }
+    {
+        (self.seat, self.reader)
+    }
 }
 
 impl<R: Wait, L: MirrorName, D: Disk> MirrorPort for SeatMirror<'_, R, L, D> {

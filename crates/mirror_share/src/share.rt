@@ -3,6 +3,8 @@ ghost use Rattle.std.specs.Prelude.{◌≡◌, ◌≤◌, ◌⊎◌, ℕ, Some, 
 ghost use Rattle.gate_log.specs.declared.fault.LogFault.TheVariants as log;
 ghost use Rattle.repo_core.specs.declared.fault.RepoFault.TheVariants as core;
 ghost use Rattle.repo_store.specs.declared.fault.StoreFault.TheVariants as fault;
+ghost use Rattle.repo_store.specs.Words.{repository_of};
+ghost use Rattle.store_share.specs.Opened.{store_in};
 ghost use Rattle.store_share.specs.declared.rev.Rev.{Rev as RevOf};
 ghost use Rattle.store_share.specs.Seats.{known_by, seen_by};
 ghost use Rattle.sync_core.specs.Calls.{call_of};
@@ -37,7 +39,8 @@ pub struct MirrorShare<L: MirrorName, D: Disk> {
 impl<L: MirrorName, D: Disk> MirrorShare<L, D> {
     ghost use Rattle.mirror_share.specs.Locked.{row_of, HasIdentity, HasProps, IsAbove, IsEntryOf, IsKeptOut, IsLeaveOf, IsNewest};
     ghost use Rattle.mirror_share.specs.Locked.{IsShownTo, IsStepOf};
-    ghost use Rattle.mirror_share.specs.Names.{IsNamed};
+    ghost use Rattle.mirror_share.specs.Names.{opened_in, IsNamed};
+    ghost use Rattle.mirror_share.specs.Seen.{HasSeenAll};
     ghost use Rattle.mirror_share.specs.Stepped.{IsWhole};
     ghost use Rattle.mirror_share.specs.Words.{mirror_of, KeepsCounts};
 
@@ -48,6 +51,33 @@ impl<L: MirrorName, D: Disk> MirrorShare<L, D> {
         ensures row { row_of result ≡ L.cells }
     {
         let (book, row) = opened.into_book::<L>(alloc);
+        MirrorShare::behind_lock(book, row)
+    }
+
+    /// The same with the seat of a reader, who has seen all that was opened. None where there is no memory for it.
+    pub fn with_reader(
+        alloc: Global,
+        opened: OpenedMirror<D>,
+    ) -> (MirrorShare<L, D>, Option<ReaderSeat<L>>)
+        requires { IsNamed opened L.cells L.merged L.copying L.head L.holder }
+        ensures { IfSome result.1 (λ seat. HasSeenAll seat (repository_of (store_in (opened_in opened)))) }
+    {
+        let (mut book, row) = opened.into_book::<L>(alloc);
+        match row.notes(alloc) {
+            Ok(notes) => {
+                book.is_whole();
+                let reader = book.seat_reader(notes);
+                (MirrorShare::behind_lock(book, row), Some(reader))
+            }
+            Err(_) => (MirrorShare::behind_lock(book, row), None),
+        }
+    }
+
+    // A book behind a lock, and its row.
+    fn behind_lock(book: MirrorBook<L, D>, row: RevRow) -> MirrorShare<L, D>
+        requires { row ≡ L.cells }
+        ensures { row_of result ≡ row }
+    {
         MirrorShare {
             book: Mutex::new(book),
             row,

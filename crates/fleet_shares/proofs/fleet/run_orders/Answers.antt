@@ -1,5 +1,6 @@
 use Rattle.store_share.specs.Opened.{cells_of}
 use Rattle.fleet_shares.specs.Opening.{cells_at}
+use Rattle.fleet_shares.proofs.Settling.{brought_over}
 use Rattle.fleet_shares.proofs.Telling.{answered_over, own_names}
 use Rattle.fleet_shares.proofs.fleet.run_orders.Goals as goal
 
@@ -14,6 +15,10 @@ run_opened-requires-clause-third g c κs within = own_names _ c.in-Ok.opened.thi
 
 pub run_opened-requires-clause-fourth : goal.run_opened-requires-clause-fourth
 run_opened-requires-clause-fourth g c κs within = own_names _ c.in-Ok.opened.fourth
+
+pub returns-in-Ok-clause-brought : goal.returns-in-Ok-clause-brought
+returns-in-Ok-clause-brought g c =
+    brought_over c.args.stores c.run_opened.result.0 c.in-Ok.opened c.in-Ok.ensures.from c.run_opened.result.1 c.run_opened.ensures.first c.run_opened.ensures.second c.run_opened.ensures.third c.run_opened.ensures.fourth
 
 pub returns-in-Ok-clause-answers : goal.returns-in-Ok-clause-answers
 returns-in-Ok-clause-answers g c =
