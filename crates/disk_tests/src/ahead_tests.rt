@@ -68,13 +68,20 @@ fn short_reads_in_a_row_ask_once_for_64_kibibytes(rt: HostRuntime) {
     assert!(rt; asks_so_often(&rt, rt.alloc(), text.as_slice(), 3, None));
 }
 
+// Whether reads that are shorter than a buffer of 64 KiB by one byte, and as long, ask the host, of whose calls one passes;
+// and what was read ahead stays.
+fn asks_for_long_reads(disk: &mut Host, buf: &mut [u8]) -> bool {
+    let front = buf.len().saturating_sub(1);
+    reads(disk, JOURNAL, 0, &mut buf[..front], b"abcdef")
+        && disk.read(JOURNAL, 0, buf).is_err()
+        && reads(disk, JOURNAL, 2, &mut [0u8; 4], b"cdef")
+}
+
 #[test]
 fn a_long_read_asks_the_host(rt: HostRuntime) {
     let mut disk = over(&rt, rt.alloc(), b"abcdef", 1, Fuse::ForGood);
-    let mut long = vec![in rt.alloc(); 0u8; 65_536].expect(&rt, "memory");
-    assert!(rt; reads(&mut disk, JOURNAL, 0, &mut long[..65_535], b"abcdef"));
-    assert!(rt; disk.read(JOURNAL, 0, &mut long).is_err());
-    assert!(rt; reads(&mut disk, JOURNAL, 2, &mut [0u8; 4], b"cdef"));
+    let mut buf = Vec::from_elem(rt.alloc(), 0u8, 65_536).expect(&rt, "memory");
+    assert!(rt; asks_for_long_reads(&mut disk, buf.as_mut_slice()));
 }
 
 // Changes of the file that was read.
@@ -100,20 +107,6 @@ const CHANGED_BESIDE: [Step<'static>; 8] = [
     Step::Read(GATE, 0, b""),
 ];
 
-#[test]
-fn a_short_read_sees_a_write_and_a_cut(rt: HostRuntime) {
-    none_wrong(
-        &rt,
-        "changed",
-        wrong(&rt, rt.alloc(), MANY, Fuse::ForGood, &CHANGED),
-    );
-    none_wrong(
-        &rt,
-        "changed beside",
-        wrong(&rt, rt.alloc(), MANY, Fuse::ForGood, &CHANGED_BESIDE),
-    );
-}
-
 const ENDS: [Step<'static>; 7] = [
     Step::Read(JOURNAL, 6, b""),
     Step::Read(JOURNAL, 4, b"ef"),
@@ -124,15 +117,6 @@ const ENDS: [Step<'static>; 7] = [
     Step::Read(JOURNAL, 5, b"f"),
 ];
 
-#[test]
-fn a_short_read_at_the_end_and_past_it(rt: HostRuntime) {
-    none_wrong(
-        &rt,
-        "ends",
-        wrong(&rt, rt.alloc(), MANY, Fuse::ForGood, &ENDS),
-    );
-}
-
 // Each file is asked for once.
 const BY_TURNS: [Step<'static>; 6] = [
     Step::Read(JOURNAL, 1, b"bcde"),
@@ -142,15 +126,6 @@ const BY_TURNS: [Step<'static>; 6] = [
     Step::Read(GATE, 2, b"ijkl"),
     Step::Read(SLOTS, 2, b"opqr"),
 ];
-
-#[test]
-fn another_file_has_its_own_bytes(rt: HostRuntime) {
-    none_wrong(
-        &rt,
-        "by turns",
-        wrong(&rt, rt.alloc(), 3, Fuse::ForGood, &BY_TURNS),
-    );
-}
 
 // The first read fails.
 const AT_FIRST: [Step<'static>; 2] = [Step::Unread(JOURNAL), Step::Read(JOURNAL, 0, b"abcd")];
@@ -171,21 +146,20 @@ const AT_A_WRITE: [Step<'static>; 3] = [
     Step::Read(JOURNAL, 0, b"abcd"),
 ];
 
+// What is tried, of how many calls of the host and how often it fails behind them, and the steps.
+const RUNS: [(&str, u64, Fuse, &[Step<'static>]); 7] = [
+    ("changed", MANY, Fuse::ForGood, &CHANGED),
+    ("changed beside", MANY, Fuse::ForGood, &CHANGED_BESIDE),
+    ("ends", MANY, Fuse::ForGood, &ENDS),
+    ("by turns", 3, Fuse::ForGood, &BY_TURNS),
+    ("at first", 0, Fuse::Once, &AT_FIRST),
+    ("behind another", 1, Fuse::Once, &BEHIND_ANOTHER),
+    ("at a write", 1, Fuse::Once, &AT_A_WRITE),
+];
+
 #[test]
-fn a_host_that_fails_is_told(rt: HostRuntime) {
-    none_wrong(
-        &rt,
-        "at first",
-        wrong(&rt, rt.alloc(), 0, Fuse::Once, &AT_FIRST),
-    );
-    none_wrong(
-        &rt,
-        "behind another",
-        wrong(&rt, rt.alloc(), 1, Fuse::Once, &BEHIND_ANOTHER),
-    );
-    none_wrong(
-        &rt,
-        "at a write",
-        wrong(&rt, rt.alloc(), 1, Fuse::Once, &AT_A_WRITE),
-    );
+fn what_short_reads_see(rt: HostRuntime) {
+    for (what, calls, fuse, steps) in &RUNS {
+        none_wrong(&rt, *what, wrong(&rt, rt.alloc(), *calls, *fuse, *steps));
+    }
 }

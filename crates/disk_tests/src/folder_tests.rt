@@ -12,15 +12,6 @@ const FOREIGN_JOURNAL: [Deed<'static>; 5] = [
     Deed::Gone,
 ];
 
-#[test]
-fn beside_a_foreign_journal(rt: HostRuntime) {
-    none_wrong(
-        &rt,
-        "foreign journal",
-        first_undone(&rt, "fleet_disk_foreign_journal", &FOREIGN_JOURNAL),
-    );
-}
-
 const FOREIGN_GATE: [Deed<'static>; 5] = [
     Deed::Empty,
     Deed::Put("fleet_disk_foreign_gate/gate", b"foreign"),
@@ -29,15 +20,6 @@ const FOREIGN_GATE: [Deed<'static>; 5] = [
     Deed::Gone,
 ];
 
-#[test]
-fn beside_a_foreign_gate(rt: HostRuntime) {
-    none_wrong(
-        &rt,
-        "foreign gate",
-        first_undone(&rt, "fleet_disk_foreign_gate", &FOREIGN_GATE),
-    );
-}
-
 const FOREIGN_SLOTS: [Deed<'static>; 5] = [
     Deed::Empty,
     Deed::Put("fleet_disk_foreign_slots/slots", b"foreign"),
@@ -45,15 +27,6 @@ const FOREIGN_SLOTS: [Deed<'static>; 5] = [
     Deed::Missing("fleet_disk_foreign_slots/journal"),
     Deed::Gone,
 ];
-
-#[test]
-fn beside_foreign_slots(rt: HostRuntime) {
-    none_wrong(
-        &rt,
-        "foreign slots",
-        first_undone(&rt, "fleet_disk_foreign_slots", &FOREIGN_SLOTS),
-    );
-}
 
 // What a stopped begin leaves, an empty journal, is completed.
 const EMPTY_JOURNAL: [Deed<'static>; 7] = [
@@ -70,15 +43,6 @@ const EMPTY_JOURNAL: [Deed<'static>; 7] = [
     Deed::Gone,
 ];
 
-#[test]
-fn beside_an_empty_journal(rt: HostRuntime) {
-    none_wrong(
-        &rt,
-        "empty journal",
-        first_undone(&rt, "fleet_disk_empty_journal", &EMPTY_JOURNAL),
-    );
-}
-
 // Beside a journal and a gate the slots are made, and those that are there stay.
 const COMPLETED: [Deed<'static>; 10] = [
     Deed::Empty,
@@ -92,15 +56,6 @@ const COMPLETED: [Deed<'static>; 10] = [
     Deed::Has("fleet_disk_completed/gate", 5),
     Deed::Gone,
 ];
-
-#[test]
-fn slots_beside_a_gate(rt: HostRuntime) {
-    none_wrong(
-        &rt,
-        "completed",
-        first_undone(&rt, "fleet_disk_completed", &COMPLETED),
-    );
-}
 
 // Beside a journal alone, or a gate alone, nothing is made.
 const UNCOMPLETED: [Deed<'static>; 11] = [
@@ -117,11 +72,23 @@ const UNCOMPLETED: [Deed<'static>; 11] = [
     Deed::Gone,
 ];
 
+// What is tried, in which folder, and what is done there.
+const FOLDERS: [(&str, &str, &[Deed<'static>]); 6] = [
+    (
+        "foreign journal",
+        "fleet_disk_foreign_journal",
+        &FOREIGN_JOURNAL,
+    ),
+    ("foreign gate", "fleet_disk_foreign_gate", &FOREIGN_GATE),
+    ("foreign slots", "fleet_disk_foreign_slots", &FOREIGN_SLOTS),
+    ("empty journal", "fleet_disk_empty_journal", &EMPTY_JOURNAL),
+    ("completed", "fleet_disk_completed", &COMPLETED),
+    ("uncompleted", "fleet_disk_uncompleted", &UNCOMPLETED),
+];
+
 #[test]
-fn no_slots_without_a_gate(rt: HostRuntime) {
-    none_wrong(
-        &rt,
-        "uncompleted",
-        first_undone(&rt, "fleet_disk_uncompleted", &UNCOMPLETED),
-    );
+fn folders_that_have_files(rt: HostRuntime) {
+    for (what, folder, deeds) in &FOLDERS {
+        none_wrong(&rt, *what, first_undone(&rt, *folder, *deeds));
+    }
 }
