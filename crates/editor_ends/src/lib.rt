@@ -19,7 +19,7 @@
 #![tactic(auto)]
 
 pub use build::{BuildEditor, Built, BuiltDir, BuiltFile};
-pub use show::drive;
+pub use show::{drive, show};
 
 mod build;
 mod building;

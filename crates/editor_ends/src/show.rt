@@ -266,6 +266,33 @@ fn show_edit<E: Editor>(revision: &Revision<'_>, editor: &mut E) -> Result<(), E
     }
 }
 
+/// Shows changes, of which there may be any number, as the revision after these trees: the calls of `drive` but for the
+/// end. Behind a refusal nothing of the edit is open, and the caller gives the editor up.
+pub fn show<E: Editor>(
+    alloc: Global,
+    trees: &[Tree],
+    changes: &[Change],
+    editor: &mut E,
+) -> Result<(), EditorFault>
+    requires few { length trees.now ≤ 65535 }
+    requires normal { IsNormal changes.now }
+    ensures faultless { OnOk result (fault trees.now changes.now ≡ None) }
+    ensures shown { OnOk result
+        (Adds E.shows editor.old editor.new
+        (call.Target (length trees.now) ∷ call.OpenRoot (base_number trees.now) ∷
+        (walk trees.now [] [] changes.now ++ call.CloseDir [] ∷ []))) }
+    ensures halts { IfErr result
+        (Halts E.shows E.began E.refuses trees.now changes.now editor.old (calls.drive trees.now changes.now)) }
+    ensures began { E.began editor.new ≡ E.began editor.old }
+{
+    let revision = Revision {
+        alloc,
+        trees,
+        set: changes,
+    };
+    show_edit(&revision, editor)
+}
+
 /// Shows a set of changes as the revision after these trees to an editor that was shown nothing yet, and gives what
 /// the edit comes to.
 ///

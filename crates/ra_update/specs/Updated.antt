@@ -1,0 +1,30 @@
+-- What an editor that writes an update was shown.
+use Rattle.std.specs.Prelude.{ℕ, List, Option}
+use Rattle.node_base.specs.Path.{Path}
+use Rattle.delta_editor.specs.declared.call.Call.{Call}
+use Rattle.ra_edit.specs.Wire.{Shows, held_before, inner_of}
+use Rattle.ra_edit.specs.declared.wire.WireDir.{WireDir}
+use Rattle.ra_edit.specs.declared.wire.WireFile.{WireFile}
+use Rattle.ra_update.specs.Entries.{all_updated}
+use Rattle.ra_update.specs.declared.editor.UpdateEditor.{UpdateEditor}
+use Rattle.ra_update.specs.declared.facts.Facts.{Facts}
+
+abbrev pub path_of_dir : WireDir → Path
+path_of_dir d = d.place.path.value
+
+abbrev pub path_of_file : WireFile → Path
+path_of_file f = f.place.path.value
+
+abbrev pub facts_of : {T : Type 0} → UpdateEditor T → Facts
+facts_of e = e.facts
+
+-- what its writer held when it was made
+abbrev pub held_of : {T : Type 0} → (T → Option (List ℕ)) → UpdateEditor T → Option (List ℕ)
+held_of contents e = held_before contents e.inner
+
+abbrev pub written_by : {T : Type 0} → UpdateEditor T → T
+written_by e = inner_of e.inner
+
+-- what it writes with was shown the calls with what is told beside them
+abbrev pub ShowsUpdated : {T : Type 0} → (T → Option (List ℕ)) → UpdateEditor T → List Call → Type 0
+ShowsUpdated contents e calls = Shows contents e.inner (all_updated e.facts calls)

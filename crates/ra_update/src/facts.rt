@@ -1,0 +1,19 @@
+//! What is told beside two trees.
+
+use node_base::{Props, RevNo};
+use path_tree::Tree;
+
+/// What an edit tells beside what differs.
+#[derive(Clone, Copy)]
+pub struct Facts<'a> {
+    /// The tree that the edit comes to. Its nodes have the numbers of the revisions that last changed them.
+    pub target: &'a Tree,
+    /// The revision of that tree.
+    pub number: RevNo,
+    /// The revision that what was reported is known at.
+    pub base: Option<RevNo>,
+    /// The repository's identity in text.
+    pub identity: &'a [u8],
+    /// The properties of the repository's revisions, from revision 0 on.
+    pub revisions: &'a [Props],
+}

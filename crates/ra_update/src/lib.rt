@@ -1,0 +1,14 @@
+//! What a working copy is told that is updated: the edit that makes the target's tree of the tree that it reported.
+//!
+//! [`send_update`] writes the edit as commands of the ra_svn protocol. What it changes is a list of changes, one for
+//! each path at which the two trees differ, and its calls are those that the list is driven as. Behind each call that
+//! opens or adds something stand the properties `svn:entry:*`, which a client keeps apart from a node's own.
+#![tactic(auto)]
+
+mod changes;
+mod editor;
+mod facts;
+mod send;
+
+pub use facts::Facts;
+pub use send::send_update;
