@@ -19,7 +19,7 @@
 #![tactic(auto)]
 
 pub use build::{BuildEditor, Built, BuiltDir, BuiltFile};
-pub use show::{drive, show};
+pub use show::{drive, show_changes};
 
 mod build;
 mod building;

@@ -268,7 +268,7 @@ fn show_edit<E: Editor>(revision: &Revision<'_>, editor: &mut E) -> Result<(), E
 
 /// Shows changes, of which there may be any number, as the revision after these trees: the calls of `drive` but for the
 /// end. Behind a refusal nothing of the edit is open, and the caller gives the editor up.
-pub fn show<E: Editor>(
+pub fn show_changes<E: Editor>(
     alloc: Global,
     trees: &[Tree],
     changes: &[Change],

@@ -1,3 +1,3 @@
-pub mod Changes
 pub mod Entries
 pub mod Sent
+pub mod Updated

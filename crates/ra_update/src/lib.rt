@@ -5,7 +5,6 @@
 //! opens or adds something stand the properties `svn:entry:*`, which a client keeps apart from a node's own.
 #![tactic(auto)]
 
-mod changes;
 mod editor;
 mod facts;
 mod send;

@@ -1,16 +1,15 @@
 //! An update as the bytes of its edit.
 
-use crate::changes::changes_of;
 use crate::editor::UpdateEditor;
 use crate::facts::Facts;
 use delta_editor::{Editor, EditorFault};
-use editor_ends::show;
+use editor_ends::show_changes;
 use path_tree::Tree;
 use ra_item::writer::{write_close, write_open, write_word};
 use std::alloc::{AllocError, Global};
 use std::io;
 use std::io::Write;
-use tree_reports::{Depth, differences};
+use tree_changes::changes_between;
 
 /// Writes behind what the writer has the edit that makes the facts' tree of the tree that was reported: a target, the
 /// calls that the changes are driven as, each with what a client wants to know beside it, and the end.
@@ -21,11 +20,10 @@ pub fn send_update<W: Write + Drop>(
     out: W,
 ) -> Result<W, EditorFault>
 {
-    let told = differences(alloc, reported, facts.target, Depth::Infinity)?;
-    let changes = changes_of(alloc, told.as_slice())?;
+    let changes = changes_between(alloc, reported, facts.target)?;
     let trees = base(alloc, reported)?;
     let mut editor = UpdateEditor::new(alloc, facts, out)?;
-    match show(alloc, trees.as_slice(), changes.as_slice(), &mut editor) {
+    match show_changes(alloc, trees.as_slice(), changes.as_slice(), &mut editor) {
         Ok(()) => ended(editor.into_writer()),
         Err(fault) => {
             editor.abort_edit();

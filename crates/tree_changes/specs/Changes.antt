@@ -1,14 +1,15 @@
 -- The changes that differences of two trees are.
+use Rattle.std.specs.FinMap as finite
 use Rattle.std.specs.Prelude.{◌≡◌, Bool, true, List, map, Option, Some, None, if◌then◌else◌}
 use Rattle.node_base.specs.Limits.{fits}
 use Rattle.node_base.specs.Path.{Path}
-use Rattle.node_base.specs.Tree.{kind_of}
+use Rattle.node_base.specs.Tree.{PathMap, kind_of}
 use Rattle.node_base.specs.declared.node.Action.{Action}
 use Rattle.node_base.specs.declared.node.Action.TheVariants.{Modify, Add, Delete, Replace}
 use Rattle.node_base.specs.declared.node.Node.{Node}
 use Rattle.dump_load.specs.declared.change.Change.{Change}
 use Rattle.tree_reports.specs.declared.difference.Parts.{Parts}
-use Rattle.tree_reports.specs.Differences.{Told, Removed, Added, Replaced, Changed}
+use Rattle.tree_reports.specs.Differences.{Told, Removed, Added, Replaced, Changed, AreDifferences}
 
 abbrev pub bare : Path → Action → Change
 bare p a = record { path = p; action = a; kind = None; source = None; props = None; text = None }
@@ -37,3 +38,11 @@ changes_of = map change_of
 -- its path is within the limits
 abbrev pub Fits : Path × Told → Type 0
 Fits e = fits e.0 ≡ true
+
+-- all that differs between two trees is told
+abbrev pub Between : PathMap → PathMap → List (Path × Told) → Type 0
+Between old new es = AreDifferences (finite.get old) (finite.get new) es
+
+-- the changes are those of what differs
+abbrev pub AreBetween : PathMap → PathMap → List Change → Type 0
+AreBetween old new cs = (es : List (Path × Told)) × Between old new es × (cs ≡ changes_of es)

@@ -4,7 +4,7 @@ ghost use Rattle.std.specs.List.{AllByRecursion};
 ghost use Rattle.node_base.specs.Limits.{fits};
 ghost use Rattle.path_tree.specs.Listed.{shown_names};
 ghost use Rattle.tree_reports.specs.Differences.{shown, told_of};
-ghost use Rattle.ra_update.specs.Changes.{bare, brought, changed, change_of, Fits};
+ghost use Rattle.tree_changes.specs.Changes.{bare, brought, changed, change_of, Fits};
 
 use dump_load::{Change, share_text};
 use node_base::{Action, Node, NodeName, NodePath, PathFault, Props, Text};

@@ -1,0 +1,195 @@
+-- What is told beside the calls of a drive keeps the nesting, and how calls are carried over.
+use Rattle.std.proofs.Common.{◌≡◌, ℕ, Bool, true, false, cond, ◌&&◌, ◌||◌, List, [], ◌∷◌, ◌++◌, Option, Some, None, refl, sym, ap, subst, ◌∙◌, append_assoc, append-nil}
+use Rattle.std.specs.Option.{option_map_or, option_and_then}
+use Rattle.std.specs.List.{list_any, list_all}
+use Rattle.std.specs.FinMap as finite
+use Rattle.node_base.specs.Path.{Name, Path, same_path}
+use Rattle.node_base.specs.declared.node.Node.{Node}
+use Rattle.node_base.proofs.PathLemmas.{same_path_itself}
+use Rattle.delta_editor.specs.Calls.{Adds}
+use Rattle.delta_editor.specs.declared.call.Call.{Call}
+use Rattle.delta_editor.specs.declared.call.Call.TheVariants as call
+use Rattle.delta_editor.specs.Nesting.{Opened, OpenDir, OpenFile, OpenText, TextDone, Stage, Before, Within, After, is_dir, is_fresh, is_in_text, is_told, innermost, next, run}
+use Rattle.ra_edit.specs.Wire.{Shows, is_deeper, AllDeeper}
+use Rattle.ra_edit.specs.declared.wire.WireEditor.{WireEditor}
+use Rattle.ra_update.specs.declared.facts.Facts.{Facts}
+use Rattle.ra_update.specs.Entries.{given, entry_props, entry_calls, updated, all_updated}
+
+all_joined : (k : Facts) (xs ys : List Call) → all_updated k (xs ++ ys) ≡ all_updated k xs ++ all_updated k ys
+all_joined k [] ys = refl
+all_joined k (x ∷ xs) ys = ap (λ l. updated k x ++ l) (all_joined k xs ys) ∙ sym (append_assoc (updated k x) (all_updated k xs) (all_updated k ys))
+
+-- an editor that was shown what one call is carried over as was shown the call
+pub carried : {T : Type 0} (contents : T → Option (List ℕ)) (old new : WireEditor T) (k : Facts) (c : Call) → Adds (Shows contents) old new (updated k c)
+    → (calls : List Call) → Shows contents old (all_updated k calls) → Shows contents new (all_updated k (calls ++ c ∷ []))
+carried contents old new k c h calls s =
+    subst (Shows contents new) (sym (all_joined k calls (c ∷ []) ∙ ap (λ l. all_updated k calls ++ l) (append-nil (updated k c)))) (h (all_updated k calls) s)
+
+-- two steps are one
+pub both_added : {T : Type 0} (shows : T → List Call → Type 0) (one two three : T) (xs ys : List Call) → Adds shows one two xs → Adds shows two three ys → Adds shows one three (xs ++ ys)
+both_added shows one two three xs ys h k calls s = subst (shows three) (append_assoc calls xs ys) (k (calls ++ xs) (h calls s))
+
+-- ---- the nesting
+
+run-through : (s t : Stage) (xs ys : List Call) → run s xs ≡ Some t → run s (xs ++ ys) ≡ run t ys
+run-through s t [] ys e = ap (option_and_then (λ t. run t ys)) e
+run-through s t (x ∷ xs) ys e = by (next s x) e (λ u h. run-through u t xs ys h)
+  where
+    by : (o : Option Stage) → option_and_then (λ u. run u xs) o ≡ Some t → ((u : Stage) → run u xs ≡ Some t → run u (xs ++ ys) ≡ run t ys) → option_and_then (λ u. run u (xs ++ ys)) o ≡ run t ys
+    by None e f = cc
+    by (Some u) e f = f u e
+
+run-one : (s t : Stage) (x : Call) (xs : List Call) → next s x ≡ Some t → run s (x ∷ xs) ≡ run t xs
+run-one s t x xs e = ap (option_and_then (λ t. run t xs)) e
+
+-- what comes before some calls that may come may come
+pub run-front : (s t : Stage) (xs ys : List Call) → run s (xs ++ ys) ≡ Some t → (to : Stage) × (run s xs ≡ Some to)
+run-front s t [] ys e = (s, refl)
+run-front s t (x ∷ xs) ys e = by (next s x) e (λ u h. run-front u t xs ys h)
+  where
+    by : (o : Option Stage) → option_and_then (λ u. run u (xs ++ ys)) o ≡ Some t → ((u : Stage) → run u (xs ++ ys) ≡ Some t → (to : Stage) × (run u xs ≡ Some to)) → (to : Stage) × (option_and_then (λ u. run u xs) o ≡ Some to)
+    by None e f = cc
+    by (Some u) e f = f u e
+
+-- properties of the innermost thing leave what is open as it is
+dir_stays : (p : Path) (os : List Opened) (es : List (Name × Option (List ℕ))) → run (Within (OpenDir p ∷ os)) (given (call.DirProp p) es) ≡ Some (Within (OpenDir p ∷ os))
+dir_stays p os [] = refl
+dir_stays p os (e ∷ es) =
+    run-one (Within (OpenDir p ∷ os)) (Within (OpenDir p ∷ os)) (call.DirProp p e.0 e.1) (given (call.DirProp p) es) (ap (λ b. cond {A = Option Stage} (b || list_any (is_dir p) os) (Some (Within (OpenDir p ∷ os))) None) (same_path_itself p))
+    ∙ dir_stays p os es
+
+file_stays : (p : Path) (os : List Opened) (es : List (Name × Option (List ℕ))) → run (Within (OpenFile p ∷ os)) (given (call.FileProp p) es) ≡ Some (Within (OpenFile p ∷ os))
+file_stays p os [] = refl
+file_stays p os (e ∷ es) =
+    run-one (Within (OpenFile p ∷ os)) (Within (OpenFile p ∷ os)) (call.FileProp p e.0 e.1) (given (call.FileProp p) es) (ap (λ b. cond {A = Option Stage} (b || false || false) (Some (Within (OpenFile p ∷ os))) None) (same_path_itself p))
+    ∙ file_stays p os es
+
+dir_entries_stay : (k : Facts) (p : Path) (os : List Opened) → run (Within (OpenDir p ∷ os)) (entry_calls k call.DirProp p) ≡ Some (Within (OpenDir p ∷ os))
+dir_entries_stay k p os = elim (finite.get k.target.now p) as (λ o. run (Within (OpenDir p ∷ os)) (option_map_or (λ x. given (call.DirProp p) (entry_props k x)) o []) ≡ Some (Within (OpenDir p ∷ os))) [
+  | None ↦ refl
+  | Some x ↦ dir_stays p os (entry_props k x)
+]
+
+file_entries_stay : (k : Facts) (p : Path) (os : List Opened) → run (Within (OpenFile p ∷ os)) (entry_calls k call.FileProp p) ≡ Some (Within (OpenFile p ∷ os))
+file_entries_stay k p os = elim (finite.get k.target.now p) as (λ o. run (Within (OpenFile p ∷ os)) (option_map_or (λ x. given (call.FileProp p) (entry_props k x)) o []) ≡ Some (Within (OpenFile p ∷ os))) [
+  | None ↦ refl
+  | Some x ↦ file_stays p os (entry_props k x)
+]
+
+-- a call that may come
+plain : (s u : Stage) (c : Call) → next s c ≡ Some u → run s (c ∷ []) ≡ Some u
+plain s u c e = ap (option_and_then (λ t. run t [])) e
+
+-- one that opens something, and properties of that behind it
+opens : (s u : Stage) (c : Call) (o : Opened) (es : List Call) → next s c ≡ Some u → ((os : List Opened) → run (Within (o ∷ os)) es ≡ Some (Within (o ∷ os))) → (os : List Opened) × (u ≡ Within (o ∷ os)) → run s (c ∷ es) ≡ Some u
+opens s u c o es e h is = run-one s u c es e ∙ ap (λ t. run t es) is.1 ∙ h is.0 ∙ ap (λ t. Some t) (sym is.1)
+
+-- what is opened is the innermost thing then
+innermost_is : (test : Opened → Bool) (new : Opened) (os : List Opened) (u : Stage) → innermost test (λ o out. new ∷ o ∷ out) os ≡ Some u → (rest : List Opened) × (u ≡ Within (new ∷ rest))
+innermost_is test new [] u e = cc
+innermost_is test new (o ∷ os) u = elim (test o) as (λ b. cond {A = Option Stage} b (Some (Within (new ∷ o ∷ os))) None ≡ Some u → (rest : List Opened) × (u ≡ Within (new ∷ rest))) [
+  | true ↦ λ e. (o ∷ os, some_is e)
+  | false ↦ λ e. cc
+]
+  where
+    some_is : {X : Type 0} {a b : X} → Some a ≡ Some b → b ≡ a
+    some_is e = cc
+
+next_updated : (k : Facts) (s u : Stage) (c : Call) → next s c ≡ Some u → run s (updated k c) ≡ Some u
+next_updated k Before u (call.Target n) e = plain Before u (call.Target k.number) e
+next_updated k (Within os) u (call.Target n) e = plain (Within os) u (call.Target k.number) e
+next_updated k After u (call.Target n) e = cc
+next_updated k Before u (call.OpenRoot base) e = opens Before u (call.OpenRoot k.base) (OpenDir []) (entry_calls k call.DirProp []) e (dir_entries_stay k []) ([], some_is e)
+  where
+    some_is : {X : Type 0} {a b : X} → Some a ≡ Some b → b ≡ a
+    some_is e = cc
+next_updated k (Within os) u (call.OpenRoot base) e = cc
+next_updated k After u (call.OpenRoot base) e = cc
+next_updated k Before u (call.AddDir up p from) e = cc
+next_updated k (Within os) u (call.AddDir up p from) e = opens (Within os) u (call.AddDir up p from) (OpenDir p) (entry_calls k call.DirProp p) e (dir_entries_stay k p) (innermost_is (is_dir up) (OpenDir p) os u e)
+next_updated k After u (call.AddDir up p from) e = cc
+next_updated k Before u (call.OpenDir up p base) e = cc
+next_updated k (Within os) u (call.OpenDir up p base) e = opens (Within os) u (call.OpenDir up p k.base) (OpenDir p) (entry_calls k call.DirProp p) e (dir_entries_stay k p) (innermost_is (is_dir up) (OpenDir p) os u e)
+next_updated k After u (call.OpenDir up p base) e = cc
+next_updated k Before u (call.DeleteEntry up p base) e = cc
+next_updated k (Within os) u (call.DeleteEntry up p base) e = plain (Within os) u (call.DeleteEntry up p k.base) e
+next_updated k After u (call.DeleteEntry up p base) e = cc
+next_updated k Before u (call.AddFile up p from) e = cc
+next_updated k (Within os) u (call.AddFile up p from) e = opens (Within os) u (call.AddFile up p from) (OpenFile p) (entry_calls k call.FileProp p) e (file_entries_stay k p) (innermost_is (is_dir up) (OpenFile p) os u e)
+next_updated k After u (call.AddFile up p from) e = cc
+next_updated k Before u (call.OpenFile up p base) e = cc
+next_updated k (Within os) u (call.OpenFile up p base) e = opens (Within os) u (call.OpenFile up p k.base) (OpenFile p) (entry_calls k call.FileProp p) e (file_entries_stay k p) (innermost_is (is_dir up) (OpenFile p) os u e)
+next_updated k After u (call.OpenFile up p base) e = cc
+next_updated k s u (call.DirProp p name value) e = plain s u (call.DirProp p name value) e
+next_updated k s u (call.FileProp p name value) e = plain s u (call.FileProp p name value) e
+next_updated k s u (call.TextStart p) e = plain s u (call.TextStart p) e
+next_updated k s u (call.TextPiece p piece) e = plain s u (call.TextPiece p piece) e
+next_updated k s u (call.TextEnd p) e = plain s u (call.TextEnd p) e
+next_updated k s u (call.CloseFile p sum) e = plain s u (call.CloseFile p sum) e
+next_updated k s u (call.CloseDir p) e = plain s u (call.CloseDir p) e
+next_updated k s u call.CloseEdit e = plain s u call.CloseEdit e
+
+pub run_updated : (k : Facts) (s t : Stage) (cs : List Call) → run s cs ≡ Some t → run s (all_updated k cs) ≡ Some t
+run_updated k s t [] e = e
+run_updated k s t (c ∷ cs) e = by (next s c) refl e
+  where
+    by : (o : Option Stage) → next s c ≡ o → option_and_then (λ u. run u cs) o ≡ Some t → run s (updated k c ++ all_updated k cs) ≡ Some t
+    by None is e = cc
+    by (Some u) is e = run-through s u (updated k c) (all_updated k cs) (next_updated k s u c is) ∙ run_updated k u t cs e
+
+-- ---- what is opened is deeper than what is around it
+
+given_deeper : (prop : Name → Option (List ℕ) → Call) → ((n : Name) (v : Option (List ℕ)) → is_deeper (prop n v) ≡ true) → (es : List (Name × Option (List ℕ))) → AllDeeper (given prop es)
+given_deeper prop h [] = refl
+given_deeper prop h (e ∷ es) = ap (λ b. b && list_all is_deeper (given prop es)) (h e.0 e.1) ∙ given_deeper prop h es
+
+entries_deeper : (k : Facts) (prop : Path → Name → Option (List ℕ) → Call) → ((p : Path) (n : Name) (v : Option (List ℕ)) → is_deeper (prop p n v) ≡ true) → (p : Path) → AllDeeper (entry_calls k prop p)
+entries_deeper k prop h p = elim (finite.get k.target.now p) as (λ o. AllDeeper (option_map_or (λ x. given (prop p) (entry_props k x)) o [])) [
+  | None ↦ refl
+  | Some x ↦ given_deeper (prop p) (h p) (entry_props k x)
+]
+
+both_deeper : (xs ys : List Call) → AllDeeper xs → AllDeeper ys → AllDeeper (xs ++ ys)
+both_deeper [] ys h k = k
+both_deeper (x ∷ xs) ys h k = by (is_deeper x) h (λ i. both_deeper xs ys i k)
+  where
+    by : (b : Bool) → (b && list_all is_deeper xs) ≡ true → (AllDeeper xs → AllDeeper (xs ++ ys)) → (b && list_all is_deeper (xs ++ ys)) ≡ true
+    by true h f = f h
+    by false h f = cc
+
+with_entries : (c : Call) (es : List Call) → is_deeper c ≡ true → AllDeeper es → AllDeeper (c ∷ es)
+with_entries c es h k = ap (λ b. b && list_all is_deeper es) h ∙ k
+
+one_deeper : (k : Facts) (c : Call) → is_deeper c ≡ true → AllDeeper (updated k c)
+one_deeper k (call.Target n) h = refl
+one_deeper k (call.OpenRoot base) h = entries_deeper k call.DirProp (λ p n v. refl) []
+one_deeper k (call.AddDir up p from) h = with_entries (call.AddDir up p from) (entry_calls k call.DirProp p) h (entries_deeper k call.DirProp (λ p n v. refl) p)
+one_deeper k (call.OpenDir up p base) h = with_entries (call.OpenDir up p k.base) (entry_calls k call.DirProp p) h (entries_deeper k call.DirProp (λ p n v. refl) p)
+one_deeper k (call.DeleteEntry up p base) h = refl
+one_deeper k (call.AddFile up p from) h = with_entries (call.AddFile up p from) (entry_calls k call.FileProp p) h (entries_deeper k call.FileProp (λ p n v. refl) p)
+one_deeper k (call.OpenFile up p base) h = with_entries (call.OpenFile up p k.base) (entry_calls k call.FileProp p) h (entries_deeper k call.FileProp (λ p n v. refl) p)
+one_deeper k (call.DirProp p name value) h = refl
+one_deeper k (call.FileProp p name value) h = refl
+one_deeper k (call.TextStart p) h = refl
+one_deeper k (call.TextPiece p piece) h = refl
+one_deeper k (call.TextEnd p) h = refl
+one_deeper k (call.CloseFile p sum) h = refl
+one_deeper k (call.CloseDir p) h = refl
+one_deeper k call.CloseEdit h = refl
+
+pub deeper_updated : (k : Facts) (cs : List Call) → AllDeeper cs → AllDeeper (all_updated k cs)
+deeper_updated k [] h = refl
+deeper_updated k (c ∷ cs) h = by (is_deeper c) refl h
+  where
+    by : (b : Bool) → is_deeper c ≡ b → (b && list_all is_deeper cs) ≡ true → AllDeeper (updated k c ++ all_updated k cs)
+    by true is h = both_deeper (updated k c) (all_updated k cs) (one_deeper k c is) (deeper_updated k cs h)
+    by false is h = cc
+
+-- the first of deeper calls
+pub deeper_front : (xs ys : List Call) → AllDeeper (xs ++ ys) → AllDeeper xs
+deeper_front [] ys h = refl
+deeper_front (x ∷ xs) ys h = by (is_deeper x) h (deeper_front xs ys)
+  where
+    by : (b : Bool) → (b && list_all is_deeper (xs ++ ys)) ≡ true → (AllDeeper (xs ++ ys) → AllDeeper xs) → (b && list_all is_deeper xs) ≡ true
+    by true h f = f h
+    by false h f = cc

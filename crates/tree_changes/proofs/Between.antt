@@ -1,0 +1,34 @@
+-- All of a tree is looked at, and what the changes between two trees are and make.
+use Rattle.std.proofs.Common.{◌≡◌, List, [], ◌∷◌, Option, Some, None, refl, subst, sym}
+use Rattle.std.specs.Option.{option_and_then, option_map}
+use Rattle.std.specs.FinMap as finite
+use Rattle.node_base.specs.Path.{Name, Path}
+use Rattle.node_base.specs.Tree.{PathMap, IsTree}
+use Rattle.node_base.specs.declared.node.Node.{Node}
+use Rattle.dump_load.specs.declared.change.Change.{Change}
+use Rattle.dump_load.specs.Effect.{effect}
+use Rattle.tree_reports.specs.declared.depth.Depth.TheVariants.{Infinity}
+use Rattle.tree_reports.specs.Applied.{content, Make}
+use Rattle.tree_reports.specs.Depths.{within, is_within}
+use Rattle.tree_reports.specs.Differences.{Told, AreDifferences}
+use Rattle.tree_reports.proofs.Applies.{differences_make}
+use Rattle.tree_changes.specs.Changes.{changes_of, Between, AreBetween}
+use Rattle.tree_changes.proofs.Effects.{effect_makes}
+
+all_there : (o : Option Node) → option_and_then (λ x. Some x) o ≡ o
+all_there None = refl
+all_there (Some x) = refl
+
+within_all : (f : Path → Option Node) (p : Path) → within Infinity f p ≡ f p
+within_all f [] = all_there (f [])
+within_all f (n ∷ []) = all_there (f (n ∷ []))
+within_all f (n ∷ m ∷ p) = all_there (f (n ∷ m ∷ p))
+
+pub all_within : (old new : PathMap) (es : List (Path × Told)) → AreDifferences (within Infinity (finite.get old)) (within Infinity (finite.get new)) es → Between old new es
+all_within old new es h =
+    let was : ◌≡◌ {A = Path → Option Node} (within Infinity (finite.get old)) (finite.get old) = λ i p. within_all (finite.get old) p i in
+    let is : ◌≡◌ {A = Path → Option Node} (within Infinity (finite.get new)) (finite.get new) = λ i p. within_all (finite.get new) p i in
+    subst (λ f. AreDifferences f (finite.get new) es) was (subst (λ g. AreDifferences (within Infinity (finite.get old)) g es) is h)
+
+pub effect_between : (old new : PathMap) (es : List (Path × Told)) → IsTree old → IsTree new → Between old new es → (q : Path) → option_map content (effect (old ∷ []) (changes_of es) q) ≡ option_map content (finite.get new q)
+effect_between old new es s t h q = effect_makes old (finite.get new) es s.fronts h (differences_make (finite.get old) (finite.get new) s.fronts t.fronts es h) q
