@@ -1,5 +1,5 @@
 -- What is told beside the calls of a drive keeps the nesting, and how calls are carried over.
-use Rattle.std.proofs.Common.{◌≡◌, ℕ, Bool, true, false, cond, ◌&&◌, ◌||◌, List, [], ◌∷◌, ◌++◌, Option, Some, None, refl, sym, ap, subst, ◌∙◌, append_assoc, append-nil}
+use Rattle.std.proofs.Common.{◌≡◌, ℕ, Bool, true, false, cond, ◌&&◌, ◌||◌, List, [], ◌∷◌, ◌++◌, length, Option, Some, None, Result, Ok, Err, OnOk, refl, sym, ap, subst, ◌∙◌, append_assoc, append-nil}
 use Rattle.std.specs.Option.{option_map_or, option_and_then}
 use Rattle.std.specs.List.{list_any, list_all}
 use Rattle.std.specs.FinMap as finite
@@ -9,7 +9,15 @@ use Rattle.node_base.proofs.PathLemmas.{same_path_itself}
 use Rattle.delta_editor.specs.Calls.{Adds}
 use Rattle.delta_editor.specs.declared.call.Call.{Call}
 use Rattle.delta_editor.specs.declared.call.Call.TheVariants as call
-use Rattle.delta_editor.specs.Nesting.{Opened, OpenDir, OpenFile, OpenText, TextDone, Stage, Before, Within, After, is_dir, is_fresh, is_in_text, is_told, innermost, next, run}
+use Rattle.std.specs.Io.KnownBytes.{Appends}
+use Rattle.node_base.specs.Tree.{PathMap}
+use Rattle.dump_load.specs.declared.change.Change.{Change}
+use Rattle.editor_ends.specs.Drive.{base_number, walk, drive}
+use Rattle.ra_edit.specs.Commands.{edit_bytes}
+use Rattle.ra_update.specs.Sent.{up_to_end, calls_bytes}
+use Rattle.ra_update.specs.Updated.{ShowsUpdated, begun_with, written_by}
+use Rattle.ra_update.specs.declared.editor.UpdateEditor.{UpdateEditor}
+use Rattle.delta_editor.specs.Nesting.{IsNested, Opened, OpenDir, OpenFile, OpenText, TextDone, Stage, Before, Within, After, is_dir, is_fresh, is_in_text, is_told, innermost, next, run}
 use Rattle.ra_edit.specs.Wire.{Shows, is_deeper, AllDeeper}
 use Rattle.ra_edit.specs.declared.wire.WireEditor.{WireEditor}
 use Rattle.ra_update.specs.declared.facts.Facts.{Facts}
@@ -193,3 +201,27 @@ deeper_front (x ∷ xs) ys h = by (is_deeper x) h (deeper_front xs ys)
     by : (b : Bool) → (b && list_all is_deeper (xs ++ ys)) ≡ true → (AllDeeper (xs ++ ys) → AllDeeper xs) → (b && list_all is_deeper xs) ≡ true
     by true h f = f h
     by false h f = cc
+
+-- ---- what methods show
+
+-- a call that opens something, and what is told of that
+pub opened_shown : {T D F : Type 0} (contents : T → Option (List ℕ)) (old mid new : WireEditor T) (k : Facts) (c head : Call) (es : List Call) (r : Result D F) → updated k c ≡ head ∷ es → Adds (Shows contents) old mid (head ∷ [])
+    → OnOk r (Adds (Shows contents) mid new es) → OnOk r ((calls : List Call) → Shows contents old (all_updated k calls) → Shows contents new (all_updated k (calls ++ c ∷ [])))
+opened_shown contents old mid new k c head es (Ok x) is one more = carried contents old new k c (subst (Adds (Shows contents) old new) (sym is) (both_added (Shows contents) old mid new (head ∷ []) es one more))
+opened_shown contents old mid new k c head es (Err e) is one more = tt
+
+-- ---- what is written
+
+drive_is : (trees : List PathMap) (s : List Change) → drive trees s ≡ up_to_end trees s ++ call.CloseEdit ∷ []
+drive_is trees s = ap (λ l. call.Target (length trees) ∷ call.OpenRoot (base_number trees) ∷ l) (sym (append_assoc (walk trees [] [] s) (call.CloseDir [] ∷ []) (call.CloseEdit ∷ [])))
+
+pub sent_bytes : {T : Type 0} (contents : T → Option (List ℕ)) (first last : UpdateEditor T) (k : Facts) (trees : List PathMap) (s : List Change) (out written : T) → ShowsUpdated contents first []
+    → begun_with contents first ≡ (contents out, k) → begun_with contents last ≡ begun_with contents first → Adds (ShowsUpdated contents) first last (up_to_end trees s)
+    → IsNested (drive trees s) × AllDeeper (drive trees s) → written ≡ written_by last → Appends (contents out) (contents written) (calls_bytes k trees s)
+sent_bytes contents first last k trees s out written new began same adds spelled is =
+    let calls = up_to_end trees s in
+    let ran = run-front Before After calls (call.CloseEdit ∷ []) (subst (λ l. run Before l ≡ Some After) (drive_is trees s) spelled.0) in
+    let deep = deeper_front calls (call.CloseEdit ∷ []) (subst AllDeeper (drive_is trees s) spelled.1) in
+    let stands = adds [] new ran.0 (run_updated last.facts Before ran.0 calls ran.1) (deeper_updated last.facts calls deep) in
+    subst (λ w. Appends (contents out) (contents w) (calls_bytes k trees s)) (sym is)
+    (subst (λ b. Appends b.0 (contents (written_by last)) (edit_bytes (all_updated b.1 calls))) (same ∙ began) stands.bytes)

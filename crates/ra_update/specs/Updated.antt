@@ -2,10 +2,11 @@
 use Rattle.std.specs.Prelude.{ℕ, List, Option}
 use Rattle.node_base.specs.Path.{Path}
 use Rattle.delta_editor.specs.declared.call.Call.{Call}
-use Rattle.ra_edit.specs.Wire.{Shows, held_before, inner_of}
+use Rattle.ra_edit.specs.Wire.{Shows, held_before, done_held_before, inner_of}
 use Rattle.ra_edit.specs.declared.wire.WireDir.{WireDir}
 use Rattle.ra_edit.specs.declared.wire.WireFile.{WireFile}
 use Rattle.ra_update.specs.Entries.{all_updated}
+use Rattle.ra_update.specs.declared.editor.Ended.{Ended}
 use Rattle.ra_update.specs.declared.editor.UpdateEditor.{UpdateEditor}
 use Rattle.ra_update.specs.declared.facts.Facts.{Facts}
 
@@ -15,12 +16,12 @@ path_of_dir d = d.place.path.value
 abbrev pub path_of_file : WireFile → Path
 path_of_file f = f.place.path.value
 
-abbrev pub facts_of : {T : Type 0} → UpdateEditor T → Facts
-facts_of e = e.facts
+-- what its writer held when it was made, and its facts
+abbrev pub begun_with : {T : Type 0} → (T → Option (List ℕ)) → UpdateEditor T → Option (List ℕ) × Facts
+begun_with contents e = (held_before contents e.inner, e.facts)
 
--- what its writer held when it was made
-abbrev pub held_of : {T : Type 0} → (T → Option (List ℕ)) → UpdateEditor T → Option (List ℕ)
-held_of contents e = held_before contents e.inner
+abbrev pub done_begun_with : {T : Type 0} → (T → Option (List ℕ)) → Ended T → Option (List ℕ) × Facts
+done_begun_with contents d = (done_held_before contents d.out, d.facts)
 
 abbrev pub written_by : {T : Type 0} → UpdateEditor T → T
 written_by e = inner_of e.inner

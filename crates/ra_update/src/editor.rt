@@ -7,9 +7,10 @@ ghost use Rattle.node_base.specs.Path.{Path};
 ghost use Rattle.delta_editor.specs.Calls.{Adds};
 ghost use Rattle.delta_editor.specs.declared.call.Call.TheVariants as call;
 ghost use Rattle.delta_editor.specs.declared.fault.EditorFault.TheVariants.{OutOfMemory, PeerFailed};
-ghost use Rattle.ra_edit.specs.Wire.{Shows, held_before, done_held_before};
+ghost use Rattle.ra_edit.specs.Wire.{Shows, held_before};
 ghost use Rattle.ra_update.specs.Entries.{entry_calls, entry_props, given, revision_prop};
-ghost use Rattle.ra_update.specs.Updated.{ShowsUpdated, facts_of, held_of, path_of_dir, path_of_file, written_by};
+ghost use Rattle.ra_update.specs.declared.facts.Facts.{Facts};
+ghost use Rattle.ra_update.specs.Updated.{ShowsUpdated, begun_with, done_begun_with, path_of_dir, path_of_file, written_by};
 
 use crate::facts::Facts;
 use delta_editor::{Editor, EditorFault, Source};
@@ -65,12 +66,18 @@ pub struct UpdateEditor<'a, W: Write + Drop> {
     facts: Facts<'a>,
 }
 
+/// The writer behind an edit that was ended as a replay.
+#[derive(Drop)]
+pub struct Ended<'a, W> {
+    out: Written<W>,
+    facts: Facts<'a>,
+}
+
 impl<'a, W: Write + Drop> UpdateEditor<'a, W> {
     /// An editor that writes behind what the writer has.
     pub fn new(alloc: Global, facts: Facts<'a>, out: W) -> Result<UpdateEditor<'a, W>, EditorFault>
         ensures begins { IfOk result (λ e. ShowsUpdated W.contents e []) }
-        ensures began { IfOk result (λ e. held_of W.contents e ≡ W.contents out) }
-        ensures facts { IfOk result (λ e. facts_of e ≡ facts) }
+        ensures began { IfOk result (λ e. begun_with W.contents e ≡ (W.contents out, facts)) }
         ensures memory { IfErr result (λ e. e ≡ OutOfMemory) }
     {
         let names = EntryNames::new(alloc)?;
@@ -210,7 +217,7 @@ impl<'a, W: Write + Drop> Editor for UpdateEditor<'a, W> {
 
     type File = WireFile;
 
-    type Done = Written<W>;
+    type Done = Ended<'a, W>;
 
     ghost shows = { ShowsUpdated W.contents };
 
@@ -220,11 +227,11 @@ impl<'a, W: Write + Drop> Editor for UpdateEditor<'a, W> {
 
     ghost file_path = { path_of_file };
 
-    ghost Began = { Option (List ℕ) };
+    ghost Began = { Option (List ℕ) × Facts };
 
-    ghost began = { held_of W.contents };
+    ghost began = { begun_with W.contents };
 
-    ghost done_began = { done_held_before W.contents };
+    ghost done_began = { done_begun_with W.contents };
 
     ghost refuses = { λ held calls c e. e ≡ PeerFailed };
 
@@ -334,14 +341,15 @@ impl<'a, W: Write + Drop> Editor for UpdateEditor<'a, W> {
     }
 
     /// Ends it as a replay. An update ends otherwise: `into_writer` gives what was written up to its end.
-    fn close_edit(self) -> Result<Written<W>, EditorFault> {
+    fn close_edit(self) -> Result<Ended<'a, W>, EditorFault> {
         let UpdateEditor {
             alloc: _,
             inner,
             names: _,
-            facts: _,
+            facts,
         } = self;
-        inner.close_edit()
+        let out = inner.close_edit()?;
+        Ok(Ended { out, facts })
     }
 
     fn abort_edit(self) {

@@ -1,10 +1,23 @@
 //! An update as the bytes of its edit.
 
+ghost use Rattle.std.specs.Prelude.{◌≡◌, ◌≤◌, ◌++◌, ◌∷◌, [], length, None, IfOk, IfErr, OnOk};
+ghost use Rattle.std.specs.Io.KnownBytes.{Appends};
+ghost use Rattle.dump_load.specs.Changes.{IsNormal};
+ghost use Rattle.dump_load.specs.Faults.{fault};
+ghost use Rattle.dump_load.specs.declared.change.Change.{Change as ChangeOf};
+ghost use Rattle.delta_editor.specs.declared.fault.EditorFault.TheVariants.{PeerFailed};
+ghost use Rattle.node_base.specs.Tree.{IsDirAt, base};
+ghost use Rattle.ra_item.specs.Items.{spell};
+ghost use Rattle.tree_changes.specs.Changes.{AreBetween};
+ghost use Rattle.ra_update.specs.Sent.{calls_bytes, end_item, IsUnsent, IsUpdate, MayStop};
+
 use crate::editor::UpdateEditor;
 use crate::facts::Facts;
 use delta_editor::{Editor, EditorFault};
+use dump_load::Change;
 use editor_ends::show_changes;
 use path_tree::Tree;
+use path_tree::limits::has_root;
 use ra_item::writer::{write_close, write_open, write_word};
 use std::alloc::{AllocError, Global};
 use std::io;
@@ -19,12 +32,46 @@ pub fn send_update<W: Write + Drop>(
     facts: Facts<'_>,
     out: W,
 ) -> Result<W, EditorFault>
+    ensures sent { IfOk result (IsUpdate W.contents reported.now facts out) }
+    ensures refused { IfErr result (MayStop reported.now facts.target.now) }
 {
     let changes = changes_between(alloc, reported, facts.target)?;
-    let trees = base(alloc, reported)?;
+    let trees = alone(alloc, reported)?;
+    has_root(trees.as_slice());
+    editor_ends::law::drive_has_the_effect();
+    let out = send_changes(alloc, trees.as_slice(), changes.as_slice(), facts, out)?;
+    ended(out)
+}
+
+// The tree alone.
+fn alone(alloc: Global, tree: &Tree) -> Result<Vec<Tree>, AllocError>
+    ensures { IfOk result (λ ts. ts.items ≡ tree.now ∷ []) }
+{
+    let mut trees = Vec::new(alloc);
+    trees.push(tree.share()?)?;
+    Ok(trees)
+}
+
+// Writes the edit but for its end.
+fn send_changes<W: Write + Drop>(
+    alloc: Global,
+    trees: &[Tree],
+    changes: &[Change],
+    facts: Facts<'_>,
+    out: W,
+) -> Result<W, EditorFault>
+    requires few { length trees.now ≤ 65535 }
+    requires root { IsDirAt (base trees.now) [] }
+    requires normal { IsNormal changes.now }
+    ensures written { IfOk result (λ w. Appends (W.contents out) (W.contents w)
+        (calls_bytes facts trees.now changes.now)) }
+    ensures faultless { OnOk result (fault trees.now changes.now ≡ None) }
+    ensures refused { IfErr result (IsUnsent trees.now changes.now) }
+{
+    edit_road::law::drive_is_spelled();
     let mut editor = UpdateEditor::new(alloc, facts, out)?;
-    match show_changes(alloc, trees.as_slice(), changes.as_slice(), &mut editor) {
-        Ok(()) => ended(editor.into_writer()),
+    match show_changes(alloc, trees, changes, &mut editor) {
+        Ok(()) => Ok(editor.into_writer()),
         Err(fault) => {
             editor.abort_edit();
             Err(fault)
@@ -32,16 +79,10 @@ pub fn send_update<W: Write + Drop>(
     }
 }
 
-// The tree alone.
-fn base(alloc: Global, tree: &Tree) -> Result<Vec<Tree>, AllocError>
-{
-    let mut trees = Vec::new(alloc);
-    trees.push(tree.share()?)?;
-    Ok(trees)
-}
-
 // Writes the end.
 fn ended<W: Write + Drop>(out: W) -> Result<W, EditorFault>
+    ensures written { IfOk result (λ w. Appends (W.contents out) (W.contents w) (spell end_item)) }
+    ensures refused { IfErr result (λ e. e ≡ PeerFailed) }
 {
     let mut out = out;
     match write_end(&mut out) {
@@ -52,6 +93,7 @@ fn ended<W: Write + Drop>(out: W) -> Result<W, EditorFault>
 
 // The command that ends an edit.
 fn write_end<W: Write>(out: &mut W) -> io::Result<()>
+    ensures { OnOk result (Appends (W.contents out.old) (W.contents out.new) (spell end_item)) }
 {
     write_open(out)?;
     write_word(out, b"close-edit")?;

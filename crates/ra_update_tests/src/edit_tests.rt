@@ -1,5 +1,6 @@
-//! Edits of an update, beside those of `svnserve`.
+//! Edits of an update, beside those of Subversion's `svnserve` of version 1.14.2.
 
+use crate::edits::{BACK, FORWARD, FRESH, ONE_FORWARD, SAME};
 use node_base::{NodePath, PropName, PropValue, Props, RevNo, Text};
 use path_tree::Tree;
 use ra_update::{Facts, send_update};
@@ -7,54 +8,127 @@ use std::alloc::Global;
 use std::process::Abort;
 use std::rt::HostRuntime;
 
-// Properties with one name, or with none where there are no bytes of it.
-fn props(rt: &impl Abort, alloc: Global, name: &[u8], value: &[u8]) -> Props {
-    let mut props = Props::empty();
+// What revisions did, path by path: the revision, a letter for what it did, the path, a text, and a property's name and
+// value. A directory comes by `d`, a file by `f`, properties by `p`, a text by `t`; what `r` names goes.
+const DONE: [(u16, u8, &[u8], &[u8], &[u8], &[u8]); 13] = [
+    (1, b'd', b"tags", b"", b"", b""),
+    (1, b'd', b"trunk", b"", b"", b""),
+    (1, b'f', b"trunk/README", b"hello\n", b"", b""),
+    (1, b'd', b"trunk/lib", b"", b"", b""),
+    (1, b'f', b"trunk/lib/a.c", b"int a;\n", b"svn:eol-style", b"native"),
+    (2, b'p', b"trunk", b"", b"custom:dir", b"deep"),
+    (2, b't', b"trunk/README", b"hello again\n", b"", b""),
+    (2, b'r', b"trunk/lib/a.c", b"", b"", b""),
+    (3, b'p', b"trunk", b"", b"", b""),
+    (3, b'r', b"trunk/lib", b"", b"", b""),
+    (3, b'f', b"trunk/lib", b"now a file\n", b"", b""),
+    (3, b'd', b"trunk/new", b"", b"custom:new", b"yes"),
+    (3, b'f', b"trunk/new/f", b"", b"", b""),
+];
+
+// Who made the revisions, and when.
+const MADE: [(&[u8], &[u8]); 4] = [
+    (b"", b"2020-01-01T00:00:00.000000Z"),
+    (b"alice", b"2020-01-01T00:16:40.007919Z"),
+    (b"bob", b"2020-01-01T00:33:20.015838Z"),
+    (b"carol", b"2020-01-01T00:50:00.023757Z"),
+];
+
+// Gives a property, where it has a name.
+fn set_prop(rt: &impl Abort, alloc: Global, props: &mut Props, name: &[u8], value: &[u8]) {
     if name.is_empty() {
-        return props;
+        return;
     }
     let name = PropName::parse(alloc, name).expect(rt, "a name");
     let value = Vec::from_slice(alloc, value).expect(rt, "memory");
     let value = PropValue::new(value).expect(rt, "a value");
     props.set(alloc, name, value).expect(rt, "a property");
-    props
 }
 
-fn put_dir(rt: &impl Abort, alloc: Global, tree: &mut Tree, path: &[u8], number: u16) {
-    let path = NodePath::parse(alloc, path).expect(rt, "a path");
-    tree.put_dir(alloc, &path, Props::empty(), RevNo::new(number))
-        .expect(rt, "a directory");
-}
-
-fn put_file(rt: &impl Abort, alloc: Global, tree: &mut Tree, path: &[u8], bytes: &[u8], number: u16) {
-    let path = NodePath::parse(alloc, path).expect(rt, "a path");
+fn text_of(rt: &impl Abort, alloc: Global, bytes: &[u8]) -> Text {
     let bytes = Vec::from_slice(alloc, bytes).expect(rt, "memory");
-    let text = Text::new(alloc, bytes).expect(rt, "a text");
-    tree.put_file(alloc, &path, text, Props::empty(), RevNo::new(number))
-        .expect(rt, "a file");
+    Text::new(alloc, bytes).expect(rt, "a text")
+}
+
+// Does to a tree what a revision did.
+fn done(
+    rt: &impl Abort,
+    alloc: Global,
+    tree: &mut Tree,
+    row: &(u16, u8, &[u8], &[u8], &[u8], &[u8]),
+) {
+    let number = RevNo::new(row.0);
+    let path = NodePath::parse(alloc, row.2).expect(rt, "a path");
+    let text = text_of(rt, alloc, row.3);
+    let mut props = Props::empty();
+    set_prop(rt, alloc, &mut props, row.4, row.5);
+    let answer = match row.1 {
+        b'd' => tree.put_dir(alloc, &path, props, number),
+        b'f' => tree.put_file(alloc, &path, text, props, number),
+        b'p' => tree.set_props(alloc, &path, props, number),
+        b't' => tree.set_text(alloc, &path, text, number),
+        _ => tree.remove(alloc, &path, number),
+    };
+    answer.expect(rt, "a change")
+}
+
+// The tree of a revision.
+fn tree_at(rt: &impl Abort, alloc: Global, number: u16) -> Tree {
+    let mut tree = Tree::empty(alloc).expect(rt, "memory");
+    for row in &DONE {
+        if row.0 <= number {
+            done(rt, alloc, &mut tree, row);
+        }
+    }
+    tree
+}
+
+// The properties of the revisions.
+fn revisions(rt: &impl Abort, alloc: Global) -> Vec<Props> {
+    let mut all = Vec::new(alloc);
+    for made in &MADE {
+        let mut props = Props::empty();
+        if made.0.len() > 0 {
+            set_prop(rt, alloc, &mut props, b"svn:author", made.0);
+        }
+        set_prop(rt, alloc, &mut props, b"svn:date", made.1);
+        all.push(props).expect(rt, "memory");
+    }
+    all
+}
+
+// Whether an update of what a revision has, or of an empty folder at 0, is this edit.
+fn is_edit(
+    rt: &impl Abort,
+    alloc: Global,
+    from: u16,
+    base: u16,
+    to: u16,
+    expected: &[u8],
+) -> bool {
+    let reported = tree_at(rt, alloc, from);
+    let target = tree_at(rt, alloc, to);
+    let revisions = revisions(rt, alloc);
+    let facts = Facts {
+        target: &target,
+        number: RevNo::new(to),
+        base: Some(RevNo::new(base)),
+        identity: b"6a1f0c3e-0000-4000-8000-0000000000a1",
+        revisions: revisions.as_slice(),
+    };
+    let out = send_update(alloc, &reported, facts, Vec::new(alloc)).expect(rt, "memory");
+    out.as_slice() == expected
 }
 
 #[test]
-fn a_fresh_checkout(rt: HostRuntime) {
-    let alloc = rt.alloc();
-    let old = Tree::empty(alloc).expect(&rt, "memory");
-    let mut new = Tree::empty(alloc).expect(&rt, "memory");
-    put_dir(&rt, alloc, &mut new, b"trunk", 1);
-    put_file(&rt, alloc, &mut new, b"trunk/README", b"hello\n", 1);
-    let facts = Facts {
-        target: &new,
-        number: RevNo::new(1),
-        base: Some(RevNo::new(1)),
-        identity: b"6a1f0c3e-0000-4000-8000-0000000000a1",
-        revisions: &[],
-    };
-    let out = send_update(alloc, &old, facts, Vec::new(alloc)).expect(&rt, "memory");
-    let mut out = out;
-    let mut i = 0;
-    while i < out.len() {
-        if out[i] >= 128 { out[i] = 63; }
-        i = i + 1;
-    }
-    let text = std::str::from_utf8(out.as_slice()).expect(&rt, "utf8");
-    assert_eq!(rt; text, "x");
+fn a_fresh_checkout_adds_all(rt: HostRuntime) {
+    assert!(rt; is_edit(&rt, rt.alloc(), 0, 3, 3, FRESH));
+    assert!(rt; is_edit(&rt, rt.alloc(), 3, 3, 3, SAME));
+}
+
+#[test]
+fn an_update_goes_forward_and_back(rt: HostRuntime) {
+    assert!(rt; is_edit(&rt, rt.alloc(), 1, 1, 3, FORWARD));
+    assert!(rt; is_edit(&rt, rt.alloc(), 3, 3, 1, BACK));
+    assert!(rt; is_edit(&rt, rt.alloc(), 1, 1, 2, ONE_FORWARD));
 }

@@ -3,3 +3,5 @@
 
 #[cfg(test)]
 mod edit_tests;
+#[cfg(test)]
+mod edits;

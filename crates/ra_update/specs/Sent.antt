@@ -1,0 +1,54 @@
+-- What is written of an update.
+use Rattle.std.specs.Prelude.{◌≡◌, ◌⊎◌, ℕ, List, [], ◌∷◌, ◌++◌, Option, Some, length}
+use Rattle.std.specs.Option.{option_map}
+use Rattle.std.specs.FinMap as finite
+use Rattle.std.specs.Io.KnownBytes.{Appends}
+use Rattle.node_base.specs.Path.{Path}
+use Rattle.node_base.specs.Tree.{PathMap}
+use Rattle.dump_load.specs.declared.change.Change.{Change}
+use Rattle.dump_load.specs.Faults.{fault}
+use Rattle.delta_editor.specs.CallEffect.{call_effect}
+use Rattle.delta_editor.specs.Faults.{refused}
+use Rattle.delta_editor.specs.declared.call.Call.{Call}
+use Rattle.delta_editor.specs.declared.call.Call.TheVariants as call
+use Rattle.delta_editor.specs.declared.fault.EditorFault.{EditorFault}
+use Rattle.delta_editor.specs.declared.fault.EditorFault.TheVariants.{OutOfMemory, PeerFailed}
+use Rattle.editor_ends.specs.Drive.{base_number, walk, drive}
+use Rattle.ra_item.specs.Items.{Item, spell}
+use Rattle.ra_edit.specs.Commands.{command, edit_bytes}
+use Rattle.ra_edit.specs.Names.{word_of}
+use Rattle.ra_edit.specs.declared.name.Name.TheVariants as word
+use Rattle.tree_reports.specs.Applied.{content}
+use Rattle.tree_changes.specs.Changes.{AreBetween}
+use Rattle.ra_update.specs.Entries.{all_updated}
+use Rattle.ra_update.specs.declared.facts.Facts.{Facts}
+
+-- the calls of a drive but for the end
+abbrev pub up_to_end : List PathMap → List Change → List Call
+up_to_end trees s = call.Target (length trees) ∷ call.OpenRoot (base_number trees) ∷ (walk trees [] [] s ++ call.CloseDir [] ∷ [])
+
+-- the end of an update
+abbrev pub end_item : Item
+end_item = command (word_of word.CloseEdit) []
+
+-- the bytes of those calls with what is told beside them
+abbrev pub calls_bytes : Facts → List PathMap → List Change → List ℕ
+calls_bytes k trees s = edit_bytes (all_updated k (up_to_end trees s))
+
+-- the calls that are driven make the target of what was reported, and behind what a writer had the other has their bytes and
+-- the end
+pub record IsUpdate {T : Type 0} (contents : T → Option (List ℕ)) (reported : PathMap) (k : Facts) (out written : T) : Type 0 where
+  pub changes : List Change
+  pub between : AreBetween reported k.target.now changes
+  pub effect : (q : Path) → option_map content (call_effect (reported ∷ []) (drive (reported ∷ []) changes) q) ≡ option_map content (finite.get k.target.now q)
+  pub bytes : Appends (contents out) (contents written) (calls_bytes k (reported ∷ []) changes ++ spell end_item)
+
+-- memory ran out, the writer failed, or it is the first fault of the changes
+pub data IsUnsent (trees : List PathMap) (s : List Change) (f : EditorFault) : Type 0 where
+  OfMemory : f ≡ OutOfMemory → IsUnsent trees s f
+  OfWriter : f ≡ PeerFailed → IsUnsent trees s f
+  OfChanges : option_map refused (fault trees s) ≡ Some f → IsUnsent trees s f
+
+-- the same of the changes between two trees
+abbrev pub MayStop : PathMap → PathMap → EditorFault → Type 0
+MayStop reported target f = (f ≡ OutOfMemory) ⊎ ((s : List Change) × AreBetween reported target s × IsUnsent (reported ∷ []) s f)
