@@ -1,7 +1,9 @@
 -- What is told beside the calls of a drive keeps the nesting, and how calls are carried over.
-use Rattle.std.proofs.Common.{◌≡◌, ℕ, Bool, true, false, cond, ◌&&◌, ◌||◌, List, [], ◌∷◌, ◌++◌, length, Option, Some, None, Result, Ok, Err, OnOk, refl, sym, ap, subst, ◌∙◌, append_assoc, append-nil}
+use Rattle.std.proofs.Common.{◌≡◌, ℕ, ◌+◌, nat_lt, arith, length-append, Bool, true, false, cond, ◌&&◌, ◌||◌, List, [], ◌∷◌, ◌++◌, length, Option, Some, None, Result, Ok, Err, OnOk, refl, sym, ap, subst, ◌∙◌, append_assoc, append-nil}
+use Rattle.std.proofs.lemmas.Bool.Decides.{nat_tests}
 use Rattle.std.specs.Option.{option_map_or, option_and_then}
-use Rattle.std.specs.List.{list_any, list_all}
+use Rattle.std.specs.List.{list_any, list_all, AllByRecursion}
+use Rattle.editor_ends.specs.Laws.{GoesDown}
 use Rattle.std.specs.FinMap as finite
 use Rattle.node_base.specs.Path.{Name, Path, same_path}
 use Rattle.node_base.specs.declared.node.Node.{Node}
@@ -212,16 +214,43 @@ opened_shown contents old mid new k c head es (Err e) is one more = tt
 
 -- ---- what is written
 
+longer : (up p : Path) (n : Name) → p ≡ up ++ n ∷ [] → nat_lt (length up) (length p) ≡ true
+longer up p n e = test (length up) (length p) (ap length e ∙ length-append up (n ∷ []))
+  where
+    test : (a b : ℕ) → b ≡ a + 1 → nat_lt a b ≡ true
+    test a b e = grind (arith, nat_tests)
+
+deeper : (c : Call) → GoesDown c → is_deeper c ≡ true
+deeper (call.AddDir up p from) h = longer up p h.name h.is
+deeper (call.OpenDir up p base) h = longer up p h.name h.is
+deeper (call.AddFile up p from) h = longer up p h.name h.is
+deeper (call.OpenFile up p base) h = longer up p h.name h.is
+deeper (call.Target n) h = refl
+deeper (call.OpenRoot base) h = refl
+deeper (call.DeleteEntry up p base) h = refl
+deeper (call.DirProp p name value) h = refl
+deeper (call.FileProp p name value) h = refl
+deeper (call.TextStart p) h = refl
+deeper (call.TextPiece p piece) h = refl
+deeper (call.TextEnd p) h = refl
+deeper (call.CloseFile p sum) h = refl
+deeper (call.CloseDir p) h = refl
+deeper call.CloseEdit h = refl
+
+all_deeper : (cs : List Call) → AllByRecursion GoesDown cs → AllDeeper cs
+all_deeper [] h = refl
+all_deeper (c ∷ cs) h = λ i. deeper c h.0 i && all_deeper cs h.1 i
+
 drive_is : (trees : List PathMap) (s : List Change) → drive trees s ≡ up_to_end trees s ++ call.CloseEdit ∷ []
 drive_is trees s = ap (λ l. call.Target (length trees) ∷ call.OpenRoot (base_number trees) ∷ l) (sym (append_assoc (walk trees [] [] s) (call.CloseDir [] ∷ []) (call.CloseEdit ∷ [])))
 
 pub sent_bytes : {T : Type 0} (contents : T → Option (List ℕ)) (first last : UpdateEditor T) (k : Facts) (trees : List PathMap) (s : List Change) (out written : T) → ShowsUpdated contents first []
     → begun_with contents first ≡ (contents out, k) → begun_with contents last ≡ begun_with contents first → Adds (ShowsUpdated contents) first last (up_to_end trees s)
-    → IsNested (drive trees s) × AllDeeper (drive trees s) → written ≡ written_by last → Appends (contents out) (contents written) (calls_bytes k trees s)
-sent_bytes contents first last k trees s out written new began same adds spelled is =
+    → IsNested (drive trees s) → AllByRecursion GoesDown (drive trees s) → written ≡ written_by last → Appends (contents out) (contents written) (calls_bytes k trees s)
+sent_bytes contents first last k trees s out written new began same adds nested down is =
     let calls = up_to_end trees s in
-    let ran = run-front Before After calls (call.CloseEdit ∷ []) (subst (λ l. run Before l ≡ Some After) (drive_is trees s) spelled.0) in
-    let deep = deeper_front calls (call.CloseEdit ∷ []) (subst AllDeeper (drive_is trees s) spelled.1) in
+    let ran = run-front Before After calls (call.CloseEdit ∷ []) (subst (λ l. run Before l ≡ Some After) (drive_is trees s) nested) in
+    let deep = deeper_front calls (call.CloseEdit ∷ []) (subst AllDeeper (drive_is trees s) (all_deeper (drive trees s) down)) in
     let stands = adds [] new ran.0 (run_updated last.facts Before ran.0 calls ran.1) (deeper_updated last.facts calls deep) in
     subst (λ w. Appends (contents out) (contents w) (calls_bytes k trees s)) (sym is)
     (subst (λ b. Appends b.0 (contents (written_by last)) (edit_bytes (all_updated b.1 calls))) (same ∙ began) stands.bytes)

@@ -35,12 +35,12 @@ end_item = command (word_of word.CloseEdit) []
 abbrev pub calls_bytes : Facts → List PathMap → List Change → List ℕ
 calls_bytes k trees s = edit_bytes (all_updated k (up_to_end trees s))
 
--- the calls that are driven make the target of what was reported, and behind what a writer had the other has their bytes and
+-- the calls that are driven make what is wanted of what was reported, and behind what a writer had the other has their bytes and
 -- the end
-pub record IsUpdate {T : Type 0} (contents : T → Option (List ℕ)) (reported : PathMap) (k : Facts) (out written : T) : Type 0 where
+pub record IsUpdate {T : Type 0} (contents : T → Option (List ℕ)) (reported wanted : PathMap) (k : Facts) (out written : T) : Type 0 where
   pub changes : List Change
-  pub between : AreBetween reported k.target.now changes
-  pub effect : (q : Path) → option_map content (call_effect (reported ∷ []) (drive (reported ∷ []) changes) q) ≡ option_map content (finite.get k.target.now q)
+  pub between : AreBetween reported wanted changes
+  pub effect : (q : Path) → option_map content (call_effect (reported ∷ []) (drive (reported ∷ []) changes) q) ≡ option_map content (finite.get wanted q)
   pub bytes : Appends (contents out) (contents written) (calls_bytes k (reported ∷ []) changes ++ spell end_item)
 
 -- memory ran out, the writer failed, or it is the first fault of the changes
@@ -51,4 +51,4 @@ pub data IsUnsent (trees : List PathMap) (s : List Change) (f : EditorFault) : T
 
 -- the same of the changes between two trees
 abbrev pub MayStop : PathMap → PathMap → EditorFault → Type 0
-MayStop reported target f = (f ≡ OutOfMemory) ⊎ ((s : List Change) × AreBetween reported target s × IsUnsent (reported ∷ []) s f)
+MayStop reported wanted f = (f ≡ OutOfMemory) ⊎ ((s : List Change) × AreBetween reported wanted s × IsUnsent (reported ∷ []) s f)

@@ -6,9 +6,9 @@ use path_tree::Tree;
 /// What an edit tells beside what differs.
 #[derive(Clone, Copy)]
 pub struct Facts<'a> {
-    /// The tree that the edit comes to. Its nodes have the numbers of the revisions that last changed them.
+    /// The tree of what is wanted, with the numbers of the revisions that last changed its nodes.
     pub target: &'a Tree,
-    /// The revision of that tree.
+    /// Its revision.
     pub number: RevNo,
     /// The revision that what was reported is known at.
     pub base: Option<RevNo>,

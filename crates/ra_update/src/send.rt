@@ -24,18 +24,23 @@ use std::io;
 use std::io::Write;
 use tree_changes::changes_between;
 
-/// Writes behind what the writer has the edit that makes the facts' tree of the tree that was reported: a target, the
-/// calls that the changes are driven as, each with what a client wants to know beside it, and the end.
+/// Writes behind what the writer has the edit that makes the tree that is wanted of the one that was reported: a target,
+/// the calls that the changes are driven as, each with what a client wants to know beside it, and the end. What differs
+/// in the nodes' numbers alone isn't told.
+///
+/// Refused: for want of memory (70), with `PeerFailed` (49) where the writer failed, and with the first fault of the
+/// changes over the tree that was reported. The writer is let go of then.
 pub fn send_update<W: Write + Drop>(
     alloc: Global,
     reported: &Tree,
+    wanted: &Tree,
     facts: Facts<'_>,
     out: W,
 ) -> Result<W, EditorFault>
-    ensures sent { IfOk result (IsUpdate W.contents reported.now facts out) }
-    ensures refused { IfErr result (MayStop reported.now facts.target.now) }
+    ensures sent { IfOk result (IsUpdate W.contents reported.now wanted.now facts out) }
+    ensures refused { IfErr result (MayStop reported.now wanted.now) }
 {
-    let changes = changes_between(alloc, reported, facts.target)?;
+    let changes = changes_between(alloc, reported, wanted)?;
     let trees = alone(alloc, reported)?;
     has_root(trees.as_slice());
     editor_ends::law::drive_has_the_effect();
@@ -68,7 +73,9 @@ fn send_changes<W: Write + Drop>(
     ensures faultless { OnOk result (fault trees.now changes.now ≡ None) }
     ensures refused { IfErr result (IsUnsent trees.now changes.now) }
 {
-    edit_road::law::drive_is_spelled();
+    // For the proof: the calls of a drive keep the nesting, and go down.
+    editor_ends::law::drive_is_nested();
+    editor_ends::law::drive_goes_down();
     let mut editor = UpdateEditor::new(alloc, facts, out)?;
     match show_changes(alloc, trees, changes, &mut editor) {
         Ok(()) => Ok(editor.into_writer()),

@@ -235,16 +235,16 @@ none_both true = refl
 none_both false = refl
 
 module _ (m : PathMap) (g : Path → Option Node) (es : List (Path × Told)) (fronts : HasFronts (finite.get m)) (h : AreDifferences (finite.get m) g es) where
-  f : Path → Option Node
+  abbrev f : Path → Option Node
   f = finite.get m
 
-  cs : List Change
+  abbrev cs : List Change
   cs = changes_of es
 
-  d : Path → Option Told
+  abbrev d : Path → Option Told
   d q = find path_cmp q es
 
-  s : Path → Option Change
+  abbrev s : Path → Option Change
   s = change_at (settling cs)
 
   s_is : (q : Path) → s q ≡ option_and_then (kept q) (d q)
@@ -293,7 +293,7 @@ module _ (m : PathMap) (g : Path → Option Node) (es : List (Path × Told)) (fr
       ∙ ap (λ z. option_and_then (brought (m ∷ []) (told_change q t)) (rest_after z q)) (path_of_change q t)
       ∙ ap (option_and_then (brought (m ∷ []) (told_change q t))) (rest_itself q)
 
-  number : Path → Bool
+  abbrev number : Path → Bool
   number q = is_numbered cs q
 
   -- the effect, by what is told of the path and what is laid there
@@ -315,7 +315,7 @@ module _ (m : PathMap) (g : Path → Option Node) (es : List (Path × Told)) (fr
       by (Some Removed) is = effect_is q (Some Removed) _ is (laid_settled q Removed refl is)
       by (Some (Added y)) is = effect_is q (Some (Added y)) _ is (laid_settled q (Added y) refl is) ∙ ap (λ c. Some c) (new_content q Add y)
       by (Some (Replaced y)) is = effect_is q (Some (Replaced y)) _ is (laid_settled q (Replaced y) refl is) ∙ ap (λ c. Some c) (new_content q Replace y)
-      by (Some (Changed y parts)) is = effect_is q (Some (Changed y parts)) _ is (laid_unsettled q (ap settled_by is)) ∙ each (goes_with d q) ∙ ap (λ u. option_map (make.with_parts y parts) (cond (goes_with d q) None u)) refl
+      by (Some (Changed y parts)) is = effect_is q (Some (Changed y parts)) _ is (laid_unsettled q (ap settled_by is)) ∙ each (goes_with d q)
         where
           same : (u : Option Node) → f q ≡ u → option_map (λ x. content (with_parts (told_change q (Changed y parts)) x)) u ≡ option_map (make.with_parts y parts) (option_map content u)
           same None e = refl

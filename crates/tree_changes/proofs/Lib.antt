@@ -1,3 +1,4 @@
-pub mod Between
+pub mod Makes
 pub mod Effects
 pub mod Normal
+pub mod Paths

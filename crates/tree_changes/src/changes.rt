@@ -20,8 +20,10 @@ pub fn changes_of(
     ensures { IfOk result (λ cs. cs.items ≡ map change_of (shown differences.now)) }
 {
     let mut changes = Vec::with_capacity(alloc, differences.len())?;
-    for difference in differences {
-        changes.push(change_of(alloc, difference)?)?;
+    let mut rest = differences;
+    while let Some((first, others)) = rest.split_first() {
+        changes.push(change_of(alloc, first)?)?;
+        rest = others;
     }
     Ok(changes)
 }
@@ -109,11 +111,20 @@ fn path_of(alloc: Global, names: &[&NodeName]) -> Result<NodePath, AllocError>
     requires { fits (shown_names names.now) ≡ true }
     ensures { IfOk result (λ p. p ≡ shown_names names.now) }
 {
-    let mut path = NodePath::root(alloc);
-    for name in names {
-        path = child(alloc, &path, name)?;
-    }
-    Ok(path)
+    joined(alloc, NodePath::root(alloc), names)
+}
+
+// A path with names behind it.
+#[tactic(auto, using(crate::proofs::Paths::child_fits, crate::proofs::Paths::rest_fits))]
+fn joined(alloc: Global, above: NodePath, names: &[&NodeName]) -> Result<NodePath, AllocError>
+    requires { fits (above ++ shown_names names.now) ≡ true }
+    ensures { IfOk result (λ p. p ≡ above ++ shown_names names.now) }
+{
+    let Some((first, others)) = names.split_first() else {
+        return Ok(above);
+    };
+    let path = child(alloc, &above, first)?;
+    joined(alloc, path, others)
 }
 
 // The path of a name right below one.
