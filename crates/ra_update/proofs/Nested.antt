@@ -16,8 +16,8 @@ use Rattle.node_base.specs.Tree.{PathMap}
 use Rattle.dump_load.specs.declared.change.Change.{Change}
 use Rattle.editor_ends.specs.Drive.{base_number, walk, drive}
 use Rattle.ra_edit.specs.Commands.{edit_bytes}
-use Rattle.ra_update.specs.Sent.{up_to_end, calls_bytes}
-use Rattle.ra_update.specs.Updated.{ShowsUpdated, begun_with, written_by}
+use Rattle.ra_update.specs.Sent.{up_to_end, calls_told}
+use Rattle.ra_update.specs.Updated.{ShowsUpdated, begun, begun_with, written_by}
 use Rattle.ra_update.specs.declared.editor.UpdateEditor.{UpdateEditor}
 use Rattle.delta_editor.specs.Nesting.{IsNested, Opened, OpenDir, OpenFile, OpenText, TextDone, Stage, Before, Within, After, is_dir, is_fresh, is_in_text, is_told, innermost, next, run}
 use Rattle.ra_edit.specs.Wire.{Shows, is_deeper, AllDeeper}
@@ -241,16 +241,16 @@ all_deeper : (cs : List Call) → AllByRecursion GoesDown cs → AllDeeper cs
 all_deeper [] h = refl
 all_deeper (c ∷ cs) h = λ i. deeper c h.0 i && all_deeper cs h.1 i
 
-drive_is : (trees : List PathMap) (s : List Change) → drive trees s ≡ up_to_end trees s ++ call.CloseEdit ∷ []
+pub drive_is : (trees : List PathMap) (s : List Change) → drive trees s ≡ up_to_end trees s ++ call.CloseEdit ∷ []
 drive_is trees s = ap (λ l. call.Target (length trees) ∷ call.OpenRoot (base_number trees) ∷ l) (sym (append_assoc (walk trees [] [] s) (call.CloseDir [] ∷ []) (call.CloseEdit ∷ [])))
 
 pub sent_bytes : {T : Type 0} (contents : T → Option (List ℕ)) (first last : UpdateEditor T) (k : Facts) (trees : List PathMap) (s : List Change) (out written : T) → ShowsUpdated contents first []
-    → begun_with contents first ≡ (contents out, k) → begun_with contents last ≡ begun_with contents first → Adds (ShowsUpdated contents) first last (up_to_end trees s)
-    → IsNested (drive trees s) → AllByRecursion GoesDown (drive trees s) → written ≡ written_by last → Appends (contents out) (contents written) (calls_bytes k trees s)
+    → begun_with contents first ≡ begun (contents out) k → begun_with contents last ≡ begun_with contents first → Adds (ShowsUpdated contents) first last (up_to_end trees s)
+    → IsNested (drive trees s) → AllByRecursion GoesDown (drive trees s) → written ≡ written_by last → Appends (contents out) (contents written) (edit_bytes (calls_told k trees s))
 sent_bytes contents first last k trees s out written new began same adds nested down is =
     let calls = up_to_end trees s in
     let ran = run-front Before After calls (call.CloseEdit ∷ []) (subst (λ l. run Before l ≡ Some After) (drive_is trees s) nested) in
     let deep = deeper_front calls (call.CloseEdit ∷ []) (subst AllDeeper (drive_is trees s) (all_deeper (drive trees s) down)) in
     let stands = adds [] new ran.0 (run_updated last.facts Before ran.0 calls ran.1) (deeper_updated last.facts calls deep) in
-    subst (λ w. Appends (contents out) (contents w) (calls_bytes k trees s)) (sym is)
-    (subst (λ b. Appends b.0 (contents (written_by last)) (edit_bytes (all_updated b.1 calls))) (same ∙ began) stands.bytes)
+    subst (λ w. Appends (contents out) (contents w) (edit_bytes (calls_told k trees s))) (sym is)
+    (subst (λ b. Appends b.held (contents (written_by last)) (edit_bytes (all_updated b.facts calls))) (same ∙ began) stands.bytes)

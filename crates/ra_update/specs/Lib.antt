@@ -1,3 +1,4 @@
+pub mod Alike
 pub mod Entries
 pub mod Sent
 pub mod Updated

@@ -7,19 +7,19 @@ use Rattle.node_base.specs.Path.{Path}
 use Rattle.node_base.specs.Tree.{PathMap}
 use Rattle.dump_load.specs.declared.change.Change.{Change}
 use Rattle.dump_load.specs.Faults.{fault}
-use Rattle.delta_editor.specs.CallEffect.{call_effect}
+use Rattle.delta_editor.specs.CallEffect.{all_called}
 use Rattle.delta_editor.specs.Faults.{refused}
 use Rattle.delta_editor.specs.declared.call.Call.{Call}
 use Rattle.delta_editor.specs.declared.call.Call.TheVariants as call
 use Rattle.delta_editor.specs.declared.fault.EditorFault.{EditorFault}
 use Rattle.delta_editor.specs.declared.fault.EditorFault.TheVariants.{OutOfMemory, PeerFailed}
-use Rattle.editor_ends.specs.Drive.{base_number, walk, drive}
+use Rattle.editor_ends.specs.Drive.{base_number, walk}
 use Rattle.ra_item.specs.Items.{Item, spell}
 use Rattle.ra_edit.specs.Commands.{command, edit_bytes}
 use Rattle.ra_edit.specs.Names.{word_of}
 use Rattle.ra_edit.specs.declared.name.Name.TheVariants as word
-use Rattle.tree_reports.specs.Applied.{content}
 use Rattle.tree_changes.specs.Changes.{AreBetween}
+use Rattle.ra_update.specs.Alike.{AreAlike}
 use Rattle.ra_update.specs.Entries.{all_updated}
 use Rattle.ra_update.specs.declared.facts.Facts.{Facts}
 
@@ -31,17 +31,20 @@ up_to_end trees s = call.Target (length trees) ∷ call.OpenRoot (base_number tr
 abbrev pub end_item : Item
 end_item = command (word_of word.CloseEdit) []
 
--- the bytes of those calls with what is told beside them
-abbrev pub calls_bytes : Facts → List PathMap → List Change → List ℕ
-calls_bytes k trees s = edit_bytes (all_updated k (up_to_end trees s))
+-- those calls with what is told beside them
+abbrev pub calls_told : Facts → List PathMap → List Change → List Call
+calls_told k trees s = all_updated k (up_to_end trees s)
 
--- the calls that are driven make what is wanted of what was reported, and behind what a writer had the other has their bytes and
--- the end
+-- applied to what was reported, the calls give what is wanted, but for the properties that are told beside a node's own
+abbrev pub Make : PathMap → PathMap → List Call → Type 0
+Make reported wanted calls = (q : Path) → AreAlike (all_called (reported ∷ []) (finite.get reported) calls q) (finite.get wanted q)
+
+-- the calls make what is wanted of what was reported, and behind what a writer had the other has their bytes and the end
 pub record IsUpdate {T : Type 0} (contents : T → Option (List ℕ)) (reported wanted : PathMap) (k : Facts) (out written : T) : Type 0 where
   pub changes : List Change
   pub between : AreBetween reported wanted changes
-  pub effect : (q : Path) → option_map content (call_effect (reported ∷ []) (drive (reported ∷ []) changes) q) ≡ option_map content (finite.get wanted q)
-  pub bytes : Appends (contents out) (contents written) (calls_bytes k (reported ∷ []) changes ++ spell end_item)
+  pub makes : Make reported wanted (calls_told k (reported ∷ []) changes)
+  pub bytes : Appends (contents out) (contents written) (edit_bytes (calls_told k (reported ∷ []) changes) ++ spell end_item)
 
 -- memory ran out, the writer failed, or it is the first fault of the changes
 pub data IsUnsent (trees : List PathMap) (s : List Change) (f : EditorFault) : Type 0 where

@@ -16,12 +16,19 @@ path_of_dir d = d.place.path.value
 abbrev pub path_of_file : WireFile → Path
 path_of_file f = f.place.path.value
 
--- what its writer held when it was made, and its facts
-abbrev pub begun_with : {T : Type 0} → (T → Option (List ℕ)) → UpdateEditor T → Option (List ℕ) × Facts
-begun_with contents e = (held_before contents e.inner, e.facts)
+-- what an editor begins with: what its writer held when it was made, and its facts
+pub record Begun : Type 0 where
+  pub held : Option (List ℕ)
+  pub facts : Facts
 
-abbrev pub done_begun_with : {T : Type 0} → (T → Option (List ℕ)) → Ended T → Option (List ℕ) × Facts
-done_begun_with contents d = (done_held_before contents d.out, d.facts)
+abbrev pub begun : Option (List ℕ) → Facts → Begun
+begun held k = record { held = held; facts = k }
+
+abbrev pub begun_with : {T : Type 0} → (T → Option (List ℕ)) → UpdateEditor T → Begun
+begun_with contents e = begun (held_before contents e.inner) e.facts
+
+abbrev pub done_begun_with : {T : Type 0} → (T → Option (List ℕ)) → Ended T → Begun
+done_begun_with contents d = begun (done_held_before contents d.out) d.facts
 
 abbrev pub written_by : {T : Type 0} → UpdateEditor T → T
 written_by e = inner_of e.inner

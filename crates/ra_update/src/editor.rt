@@ -9,8 +9,7 @@ ghost use Rattle.delta_editor.specs.declared.call.Call.TheVariants as call;
 ghost use Rattle.delta_editor.specs.declared.fault.EditorFault.TheVariants.{OutOfMemory, PeerFailed};
 ghost use Rattle.ra_edit.specs.Wire.{Shows, held_before};
 ghost use Rattle.ra_update.specs.Entries.{entry_calls, entry_props, given, revision_prop};
-ghost use Rattle.ra_update.specs.declared.facts.Facts.{Facts};
-ghost use Rattle.ra_update.specs.Updated.{ShowsUpdated, begun_with, done_begun_with, path_of_dir, path_of_file, written_by};
+ghost use Rattle.ra_update.specs.Updated.{Begun, ShowsUpdated, begun, begun_with, done_begun_with, path_of_dir, path_of_file, written_by};
 
 use crate::facts::Facts;
 use delta_editor::{Editor, EditorFault, Source};
@@ -77,7 +76,7 @@ impl<'a, W: Write + Drop> UpdateEditor<'a, W> {
     /// An editor that writes behind what the writer has.
     pub fn new(alloc: Global, facts: Facts<'a>, out: W) -> Result<UpdateEditor<'a, W>, EditorFault>
         ensures begins { IfOk result (λ e. ShowsUpdated W.contents e []) }
-        ensures began { IfOk result (λ e. begun_with W.contents e ≡ (W.contents out, facts)) }
+        ensures began { IfOk result (λ e. begun_with W.contents e ≡ begun (W.contents out) facts) }
         ensures memory { IfErr result (λ e. e ≡ OutOfMemory) }
     {
         let names = EntryNames::new(alloc)?;
@@ -185,7 +184,7 @@ fn entered<W: Write + Drop>(
 }
 
 // A file that was opened, with what is told of it.
-fn begun<W: Write + Drop>(
+fn started<W: Write + Drop>(
     editor: &mut WireEditor<W>,
     names: &EntryNames,
     facts: &Facts<'_>,
@@ -227,7 +226,7 @@ impl<'a, W: Write + Drop> Editor for UpdateEditor<'a, W> {
 
     ghost file_path = { path_of_file };
 
-    ghost Began = { Option (List ℕ) × Facts };
+    ghost Began = { Begun };
 
     ghost began = { begun_with W.contents };
 
@@ -281,7 +280,7 @@ impl<'a, W: Write + Drop> Editor for UpdateEditor<'a, W> {
         from: Option<&Source>,
     ) -> Result<WireFile, EditorFault> {
         let file = self.inner.add_file(up, path, from)?;
-        begun(&mut self.inner, &self.names, &self.facts, file, path)
+        started(&mut self.inner, &self.names, &self.facts, file, path)
     }
 
     fn open_file(
@@ -291,7 +290,7 @@ impl<'a, W: Write + Drop> Editor for UpdateEditor<'a, W> {
         _base: Option<RevNo>,
     ) -> Result<WireFile, EditorFault> {
         let file = self.inner.open_file(up, path, self.facts.base)?;
-        begun(&mut self.inner, &self.names, &self.facts, file, path)
+        started(&mut self.inner, &self.names, &self.facts, file, path)
     }
 
     fn dir_prop(

@@ -4,12 +4,11 @@ ghost use Rattle.std.specs.Prelude.{◌≡◌, ◌≤◌, ◌++◌, ◌∷◌, [
 ghost use Rattle.std.specs.Io.KnownBytes.{Appends};
 ghost use Rattle.dump_load.specs.Changes.{IsNormal};
 ghost use Rattle.dump_load.specs.Faults.{fault};
-ghost use Rattle.dump_load.specs.declared.change.Change.{Change as ChangeOf};
 ghost use Rattle.delta_editor.specs.declared.fault.EditorFault.TheVariants.{PeerFailed};
 ghost use Rattle.node_base.specs.Tree.{IsDirAt, base};
+ghost use Rattle.ra_edit.specs.Commands.{edit_bytes};
 ghost use Rattle.ra_item.specs.Items.{spell};
-ghost use Rattle.tree_changes.specs.Changes.{AreBetween};
-ghost use Rattle.ra_update.specs.Sent.{calls_bytes, end_item, IsUnsent, IsUpdate, MayStop};
+ghost use Rattle.ra_update.specs.Sent.{calls_told, end_item, IsUnsent, IsUpdate, MayStop};
 
 use crate::editor::UpdateEditor;
 use crate::facts::Facts;
@@ -69,7 +68,7 @@ fn send_changes<W: Write + Drop>(
     requires root { IsDirAt (base trees.now) [] }
     requires normal { IsNormal changes.now }
     ensures written { IfOk result (λ w. Appends (W.contents out) (W.contents w)
-        (calls_bytes facts trees.now changes.now)) }
+        (edit_bytes (calls_told facts trees.now changes.now))) }
     ensures faultless { OnOk result (fault trees.now changes.now ≡ None) }
     ensures refused { IfErr result (IsUnsent trees.now changes.now) }
 {

@@ -1,0 +1,42 @@
+-- The calls of an update make what is wanted.
+use Rattle.std.proofs.Common.{◌≡◌, List, [], ◌∷◌, ◌++◌, Option, Some, None, refl, sym, ap, ◌∙◌}
+use Rattle.std.specs.Option.{option_map, option_map_or}
+use Rattle.std.specs.FinMap as finite
+use Rattle.node_base.specs.Path.{Path}
+use Rattle.node_base.specs.Tree.{PathMap}
+use Rattle.node_base.specs.declared.node.Node.{Node}
+use Rattle.dump_load.specs.declared.change.Change.{Change}
+use Rattle.delta_editor.specs.CallEffect.{all_called, call_effect}
+use Rattle.delta_editor.specs.declared.call.Call.TheVariants as call
+use Rattle.delta_editor.proofs.CallLemmas.{all_called-append}
+use Rattle.editor_ends.specs.Drive.{drive}
+use Rattle.tree_reports.specs.Applied.{Content, content}
+use Rattle.ra_update.specs.Alike.{AreAlike}
+use Rattle.ra_update.specs.Sent.{up_to_end, calls_told, Make}
+use Rattle.ra_update.specs.declared.facts.Facts.{Facts}
+use Rattle.ra_update.proofs.Alike.{alike_itself, all_alike}
+use Rattle.ra_update.proofs.Nested.{drive_is}
+
+-- what is like a node of that content
+like_content : (o u w : Option Node) → AreAlike o u → option_map content o ≡ option_map content w → AreAlike u w
+like_content None None None a e = tt
+like_content None None (Some z) a e = cc
+like_content None (Some y) w a e = absurd a
+like_content (Some x) None w a e = absurd a
+like_content (Some x) (Some y) None a e = cc
+like_content (Some x) (Some y) (Some z) a e = record {
+  text = sym a.text ∙ ap (λ (o : Option Content). option_map_or (λ c. c.text) o None) e;
+  props = λ n h. sym (a.props n h) ∙ ap (λ (o : Option Content). option_map_or (λ c. finite.get c.props n) o None) e;
+}
+
+-- the end changes nothing
+drive_but_end : (m : PathMap) (s : List Change) (q : Path) → call_effect (m ∷ []) (drive (m ∷ []) s) q ≡ all_called (m ∷ []) (finite.get m) (up_to_end (m ∷ []) s) q
+drive_but_end m s q =
+    ap (λ cs. all_called (m ∷ []) (finite.get m) cs q) (drive_is (m ∷ []) s)
+    ∙ ap (λ (f : Path → Option Node). f q) (all_called-append (m ∷ []) (finite.get m) (up_to_end (m ∷ []) s) (call.CloseEdit ∷ []))
+
+pub makes : (m wanted : PathMap) (k : Facts) (s : List Change) → ((q : Path) → option_map content (call_effect (m ∷ []) (drive (m ∷ []) s) q) ≡ option_map content (finite.get wanted q)) → Make m wanted (calls_told k (m ∷ []) s)
+makes m wanted k s h q =
+    like_content (all_called (m ∷ []) (finite.get m) (up_to_end (m ∷ []) s) q) (all_called (m ∷ []) (finite.get m) (calls_told k (m ∷ []) s) q) (finite.get wanted q)
+    (all_alike (m ∷ []) k (finite.get m) (finite.get m) (up_to_end (m ∷ []) s) (λ p. alike_itself (finite.get m p)) q)
+    (sym (ap (option_map content) (drive_but_end m s q)) ∙ h q)
