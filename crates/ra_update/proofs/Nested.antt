@@ -251,6 +251,6 @@ sent_bytes contents first last k trees s out written new began same adds nested 
     let calls = up_to_end trees s in
     let ran = run-front Before After calls (call.CloseEdit ∷ []) (subst (λ l. run Before l ≡ Some After) (drive_is trees s) nested) in
     let deep = deeper_front calls (call.CloseEdit ∷ []) (subst AllDeeper (drive_is trees s) (all_deeper (drive trees s) down)) in
-    let stands = adds [] new ran.0 (run_updated last.facts Before ran.0 calls ran.1) (deeper_updated last.facts calls deep) in
+    let stands = adds [] new ran.0 (run_updated last.facts.now Before ran.0 calls ran.1) (deeper_updated last.facts.now calls deep) in
     subst (λ w. Appends (contents out) (contents w) (edit_bytes (calls_told k trees s))) (sym is)
     (subst (λ b. Appends b.held (contents (written_by last)) (edit_bytes (all_updated b.facts calls))) (same ∙ began) stands.bytes)

@@ -1,8 +1,7 @@
 -- What is written of an update.
-use Rattle.std.specs.Prelude.{◌≡◌, ◌⊎◌, ℕ, List, [], ◌∷◌, ◌++◌, Option, Some, length}
+use Rattle.std.specs.Prelude.{◌≡◌, ℕ, List, [], ◌∷◌, ◌++◌, Some, length}
 use Rattle.std.specs.Option.{option_map}
 use Rattle.std.specs.FinMap as finite
-use Rattle.std.specs.Io.KnownBytes.{Appends}
 use Rattle.node_base.specs.Path.{Path}
 use Rattle.node_base.specs.Tree.{PathMap}
 use Rattle.dump_load.specs.declared.change.Change.{Change}
@@ -14,11 +13,10 @@ use Rattle.delta_editor.specs.declared.call.Call.TheVariants as call
 use Rattle.delta_editor.specs.declared.fault.EditorFault.{EditorFault}
 use Rattle.delta_editor.specs.declared.fault.EditorFault.TheVariants.{OutOfMemory, PeerFailed}
 use Rattle.editor_ends.specs.Drive.{base_number, walk}
-use Rattle.ra_item.specs.Items.{Item, spell}
-use Rattle.ra_edit.specs.Commands.{command, edit_bytes}
+use Rattle.ra_item.specs.Items.{Item}
+use Rattle.ra_edit.specs.Commands.{command}
 use Rattle.ra_edit.specs.Names.{word_of}
 use Rattle.ra_edit.specs.declared.name.Name.TheVariants as word
-use Rattle.tree_changes.specs.Changes.{AreBetween}
 use Rattle.ra_update.specs.Alike.{AreAlike}
 use Rattle.ra_update.specs.Entries.{all_updated}
 use Rattle.ra_update.specs.declared.facts.Facts.{Facts}
@@ -39,19 +37,8 @@ calls_told k trees s = all_updated k (up_to_end trees s)
 abbrev pub Make : PathMap → PathMap → List Call → Type 0
 Make reported wanted calls = (q : Path) → AreAlike (all_called (reported ∷ []) (finite.get reported) calls q) (finite.get wanted q)
 
--- the calls make what is wanted of what was reported, and behind what a writer had the other has their bytes and the end
-pub record IsUpdate {T : Type 0} (contents : T → Option (List ℕ)) (reported wanted : PathMap) (k : Facts) (out written : T) : Type 0 where
-  pub changes : List Change
-  pub between : AreBetween reported wanted changes
-  pub makes : Make reported wanted (calls_told k (reported ∷ []) changes)
-  pub bytes : Appends (contents out) (contents written) (edit_bytes (calls_told k (reported ∷ []) changes) ++ spell end_item)
-
 -- memory ran out, the writer failed, or it is the first fault of the changes
 pub data IsUnsent (trees : List PathMap) (s : List Change) (f : EditorFault) : Type 0 where
   OfMemory : f ≡ OutOfMemory → IsUnsent trees s f
   OfWriter : f ≡ PeerFailed → IsUnsent trees s f
   OfChanges : option_map refused (fault trees s) ≡ Some f → IsUnsent trees s f
-
--- the same of the changes between two trees
-abbrev pub MayStop : PathMap → PathMap → EditorFault → Type 0
-MayStop reported wanted f = (f ≡ OutOfMemory) ⊎ ((s : List Change) × AreBetween reported wanted s × IsUnsent (reported ∷ []) s f)

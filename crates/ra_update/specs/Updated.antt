@@ -25,14 +25,14 @@ abbrev pub begun : Option (List ℕ) → Facts → Begun
 begun held k = record { held = held; facts = k }
 
 abbrev pub begun_with : {T : Type 0} → (T → Option (List ℕ)) → UpdateEditor T → Begun
-begun_with contents e = begun (held_before contents e.inner) e.facts
+begun_with contents e = begun (held_before contents e.inner) e.facts.now
 
 abbrev pub done_begun_with : {T : Type 0} → (T → Option (List ℕ)) → Ended T → Begun
-done_begun_with contents d = begun (done_held_before contents d.out) d.facts
+done_begun_with contents d = begun (done_held_before contents d.out) d.facts.now
 
 abbrev pub written_by : {T : Type 0} → UpdateEditor T → T
 written_by e = inner_of e.inner
 
 -- what it writes with was shown the calls with what is told beside them
 abbrev pub ShowsUpdated : {T : Type 0} → (T → Option (List ℕ)) → UpdateEditor T → List Call → Type 0
-ShowsUpdated contents e calls = Shows contents e.inner (all_updated e.facts calls)
+ShowsUpdated contents e calls = Shows contents e.inner (all_updated e.facts.now calls)

@@ -1,6 +1,6 @@
 //! An editor that writes an update: what a drive shows it, with what a client wants to know beside that.
 
-ghost use Rattle.std.specs.Prelude.{◌≡◌, ◌++◌, [], ◌∷◌, ℕ, List, Option, Some, None, IfOk, IfErr, OnOk, codes};
+ghost use Rattle.std.specs.Prelude.{◌≡◌, ◌++◌, [], ◌∷◌, ℕ, List, Option, Some, None, IfOk, IfErr, OnOk};
 ghost use Rattle.std.specs.Option.{option_map};
 ghost use Rattle.std.specs.FinMap as finite;
 ghost use Rattle.node_base.specs.Path.{Path};
@@ -12,6 +12,7 @@ ghost use Rattle.ra_update.specs.Entries.{entry_calls, entry_props, given, revis
 ghost use Rattle.ra_update.specs.Updated.{Begun, ShowsUpdated, begun, begun_with, done_begun_with, path_of_dir, path_of_file, written_by};
 
 use crate::facts::Facts;
+use crate::names::EntryNames;
 use delta_editor::{Editor, EditorFault, Source};
 use itoa::Buffer;
 use node_base::{Node, NodePath, PropName, RevNo};
@@ -19,64 +20,31 @@ use ra_edit::wire::{WireDir, WireEditor, WireFile, Written};
 use std::alloc::Global;
 use std::io::Write;
 
-/// The names of what is told of a node beside its own properties.
-#[derive(Drop)]
-pub struct EntryNames {
-    number: PropName,
-    date: PropName,
-    author: PropName,
-    identity: PropName,
-    ghost of_number: { number ≡ codes "svn:entry:committed-rev" },
-    ghost of_date: { date ≡ codes "svn:entry:committed-date" },
-    ghost of_author: { author ≡ codes "svn:entry:last-author" },
-    ghost of_identity: { identity ≡ codes "svn:entry:uuid" },
-}
-
-// The name that some bytes are.
-fn name(alloc: Global, bytes: &[u8]) -> Result<PropName, EditorFault>
-    ensures name { IfOk result (λ n. n ≡ bytes.now) }
-    ensures memory { IfErr result (λ e. e ≡ OutOfMemory) }
-{
-    match PropName::parse(alloc, bytes) {
-        Ok(name) => Ok(name),
-        Err(_) => Err(EditorFault::OutOfMemory),
-    }
-}
-
-impl EntryNames {
-    fn new(alloc: Global) -> Result<EntryNames, EditorFault>
-        ensures { IfErr result (λ e. e ≡ OutOfMemory) }
-    {
-        Ok(EntryNames {
-            number: name(alloc, b"svn:entry:committed-rev")?,
-            date: name(alloc, b"svn:entry:committed-date")?,
-            author: name(alloc, b"svn:entry:last-author")?,
-            identity: name(alloc, b"svn:entry:uuid")?,
-        })
-    }
-}
-
 /// Writes what a drive shows it, each call with the edit's revisions in place of the drive's, and behind each call that
 /// opens or adds something what a client wants to know of the target's node there.
 pub struct UpdateEditor<'a, W: Write + Drop> {
     alloc: Global,
     inner: WireEditor<W>,
     names: EntryNames,
-    facts: Facts<'a>,
+    facts: &'a Facts<'a>,
 }
 
 /// The writer behind an edit that was ended as a replay.
 #[derive(Drop)]
 pub struct Ended<'a, W> {
     out: Written<W>,
-    facts: Facts<'a>,
+    facts: &'a Facts<'a>,
 }
 
 impl<'a, W: Write + Drop> UpdateEditor<'a, W> {
     /// An editor that writes behind what the writer has.
-    pub fn new(alloc: Global, facts: Facts<'a>, out: W) -> Result<UpdateEditor<'a, W>, EditorFault>
+    pub fn new(
+        alloc: Global,
+        facts: &'a Facts<'a>,
+        out: W,
+    ) -> Result<UpdateEditor<'a, W>, EditorFault>
         ensures begins { IfOk result (λ e. ShowsUpdated W.contents e []) }
-        ensures began { IfOk result (λ e. begun_with W.contents e ≡ begun (W.contents out) facts) }
+        ensures began { IfOk result (λ e. begun_with W.contents e ≡ begun (W.contents out) facts.now) }
         ensures memory { IfErr result (λ e. e ≡ OutOfMemory) }
     {
         let names = EntryNames::new(alloc)?;
@@ -241,7 +209,7 @@ impl<'a, W: Write + Drop> Editor for UpdateEditor<'a, W> {
     fn open_root(&mut self, _base: Option<RevNo>) -> Result<WireDir, EditorFault> {
         let root = NodePath::root(self.alloc);
         let dir = self.inner.open_root(self.facts.base)?;
-        entered(&mut self.inner, &self.names, &self.facts, dir, &root)
+        entered(&mut self.inner, &self.names, self.facts, dir, &root)
     }
 
     fn add_dir(
@@ -251,7 +219,7 @@ impl<'a, W: Write + Drop> Editor for UpdateEditor<'a, W> {
         from: Option<&Source>,
     ) -> Result<WireDir, EditorFault> {
         let dir = self.inner.add_dir(up, path, from)?;
-        entered(&mut self.inner, &self.names, &self.facts, dir, path)
+        entered(&mut self.inner, &self.names, self.facts, dir, path)
     }
 
     fn open_dir(
@@ -261,7 +229,7 @@ impl<'a, W: Write + Drop> Editor for UpdateEditor<'a, W> {
         _base: Option<RevNo>,
     ) -> Result<WireDir, EditorFault> {
         let dir = self.inner.open_dir(up, path, self.facts.base)?;
-        entered(&mut self.inner, &self.names, &self.facts, dir, path)
+        entered(&mut self.inner, &self.names, self.facts, dir, path)
     }
 
     fn delete_entry(
@@ -280,7 +248,7 @@ impl<'a, W: Write + Drop> Editor for UpdateEditor<'a, W> {
         from: Option<&Source>,
     ) -> Result<WireFile, EditorFault> {
         let file = self.inner.add_file(up, path, from)?;
-        started(&mut self.inner, &self.names, &self.facts, file, path)
+        started(&mut self.inner, &self.names, self.facts, file, path)
     }
 
     fn open_file(
@@ -290,7 +258,7 @@ impl<'a, W: Write + Drop> Editor for UpdateEditor<'a, W> {
         _base: Option<RevNo>,
     ) -> Result<WireFile, EditorFault> {
         let file = self.inner.open_file(up, path, self.facts.base)?;
-        started(&mut self.inner, &self.names, &self.facts, file, path)
+        started(&mut self.inner, &self.names, self.facts, file, path)
     }
 
     fn dir_prop(

@@ -7,7 +7,8 @@
 
 mod editor;
 mod facts;
+mod names;
 mod send;
 
 pub use facts::Facts;
-pub use send::send_update;
+pub use send::{ended, send_changes};

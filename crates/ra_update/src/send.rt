@@ -1,4 +1,4 @@
-//! An update as the bytes of its edit.
+//! Changes as the bytes of an update.
 
 ghost use Rattle.std.specs.Prelude.{◌≡◌, ◌≤◌, ◌++◌, ◌∷◌, [], length, None, IfOk, IfErr, OnOk};
 ghost use Rattle.std.specs.Io.KnownBytes.{Appends};
@@ -8,7 +8,7 @@ ghost use Rattle.delta_editor.specs.declared.fault.EditorFault.TheVariants.{Peer
 ghost use Rattle.node_base.specs.Tree.{IsDirAt, base};
 ghost use Rattle.ra_edit.specs.Commands.{edit_bytes};
 ghost use Rattle.ra_item.specs.Items.{spell};
-ghost use Rattle.ra_update.specs.Sent.{calls_told, end_item, IsUnsent, IsUpdate, MayStop};
+ghost use Rattle.ra_update.specs.Sent.{calls_told, end_item, IsUnsent};
 
 use crate::editor::UpdateEditor;
 use crate::facts::Facts;
@@ -16,59 +16,24 @@ use delta_editor::{Editor, EditorFault};
 use dump_load::Change;
 use editor_ends::show_changes;
 use path_tree::Tree;
-use path_tree::limits::has_root;
 use ra_item::writer::{write_close, write_open, write_word};
-use std::alloc::{AllocError, Global};
+use std::alloc::Global;
 use std::io;
 use std::io::Write;
-use tree_changes::changes_between;
 
-/// Writes behind what the writer has the edit that makes the tree that is wanted of the one that was reported: a target,
-/// the calls that the changes are driven as, each with what a client wants to know beside it, and the end. What differs
-/// in the nodes' numbers alone isn't told.
-///
-/// Refused: for want of memory (70), with `PeerFailed` (49) where the writer failed, and with the first fault of the
-/// changes over the tree that was reported. The writer is let go of then.
-pub fn send_update<W: Write + Drop>(
-    alloc: Global,
-    reported: &Tree,
-    wanted: &Tree,
-    facts: Facts<'_>,
-    out: W,
-) -> Result<W, EditorFault>
-    ensures sent { IfOk result (IsUpdate W.contents reported.now wanted.now facts out) }
-    ensures refused { IfErr result (MayStop reported.now wanted.now) }
-{
-    let changes = changes_between(alloc, reported, wanted)?;
-    let trees = alone(alloc, reported)?;
-    has_root(trees.as_slice());
-    editor_ends::law::drive_has_the_effect();
-    let out = send_changes(alloc, trees.as_slice(), changes.as_slice(), facts, out)?;
-    ended(out)
-}
-
-// The tree alone.
-fn alone(alloc: Global, tree: &Tree) -> Result<Vec<Tree>, AllocError>
-    ensures { IfOk result (λ ts. ts.items ≡ tree.now ∷ []) }
-{
-    let mut trees = Vec::new(alloc);
-    trees.push(tree.share()?)?;
-    Ok(trees)
-}
-
-// Writes the edit but for its end.
-fn send_changes<W: Write + Drop>(
+/// Writes the edit but for its end.
+pub fn send_changes<W: Write + Drop>(
     alloc: Global,
     trees: &[Tree],
     changes: &[Change],
-    facts: Facts<'_>,
+    facts: &Facts<'_>,
     out: W,
 ) -> Result<W, EditorFault>
     requires few { length trees.now ≤ 65535 }
     requires root { IsDirAt (base trees.now) [] }
     requires normal { IsNormal changes.now }
     ensures written { IfOk result (λ w. Appends (W.contents out) (W.contents w)
-        (edit_bytes (calls_told facts trees.now changes.now))) }
+        (edit_bytes (calls_told facts.now trees.now changes.now))) }
     ensures faultless { OnOk result (fault trees.now changes.now ≡ None) }
     ensures refused { IfErr result (IsUnsent trees.now changes.now) }
 {
@@ -85,8 +50,8 @@ fn send_changes<W: Write + Drop>(
     }
 }
 
-// Writes the end.
-fn ended<W: Write + Drop>(out: W) -> Result<W, EditorFault>
+/// Writes the end.
+pub fn ended<W: Write + Drop>(out: W) -> Result<W, EditorFault>
     ensures written { IfOk result (λ w. Appends (W.contents out) (W.contents w) (spell end_item)) }
     ensures refused { IfErr result (λ e. e ≡ PeerFailed) }
 {

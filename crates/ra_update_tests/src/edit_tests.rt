@@ -116,7 +116,7 @@ fn is_edit(
         identity: b"6a1f0c3e-0000-4000-8000-0000000000a1",
         revisions: revisions.as_slice(),
     };
-    let out = send_update(alloc, &reported, &target, facts, Vec::new(alloc)).expect(rt, "memory");
+    let out = send_update(alloc, &reported, &target, &facts, Vec::new(alloc)).expect(rt, "memory");
     out.as_slice() == expected
 }
 

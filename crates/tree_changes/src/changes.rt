@@ -21,7 +21,10 @@ pub fn changes_of(
 {
     let mut changes = Vec::with_capacity(alloc, differences.len())?;
     let mut rest = differences;
-    while let Some((first, others)) = rest.split_first() {
+    while rest.len() > 0 {
+        let Some((first, others)) = rest.split_first() else {
+            unreachable!()
+        };
         changes.push(change_of(alloc, first)?)?;
         rest = others;
     }

@@ -1,0 +1,39 @@
+use Rattle.std.proofs.Common.{◌≡◌, List, [], ◌∷◌, map, Ok, Err, IfOk, sym, subst}
+use Rattle.std.specs.Option.{option_map}
+use Rattle.std.specs.FinMap as finite
+use Rattle.node_base.specs.Path.{Path}
+use Rattle.node_base.specs.Tree.{PathMap}
+use Rattle.dump_load.specs.Changes.{IsNormal}
+use Rattle.dump_load.specs.Effect.{effect}
+use Rattle.tree_reports.specs.Applied.{content}
+use Rattle.tree_reports.specs.Differences.{Told, shown}
+use Rattle.tree_changes.specs.Changes.{change_of, AreBetween}
+use Rattle.tree_changes.proofs.Makes.{effect_between}
+use Rattle.tree_changes.proofs.Normal.{normal, paths_fit}
+use Rattle.tree_changes.proofs.between.changes_told.Goals as goal
+
+pub changes_of-requires : goal.changes_of-requires
+changes_of-requires c = paths_fit c.args.old.now c.args.new.now c.is_tree.ensures c.is_tree-2.ensures (shown c.args.told.now) c.requires.told
+
+pub returns-clause-between : goal.returns-clause-between
+returns-clause-between c =
+    elim c.changes_of.result as (λ r. IfOk r (λ cs. cs.items ≡ map change_of (shown c.args.told.now)) → IfOk r (λ cs. AreBetween c.args.old.now c.args.new.now cs.items)) [
+      | Ok cs ↦ λ e. (shown c.args.told.now, c.requires.told, e)
+      | Err e ↦ λ h. h
+    ] c.changes_of.ensures
+
+pub returns-clause-normal : goal.returns-clause-normal
+returns-clause-normal c =
+    elim c.changes_of.result as (λ r. IfOk r (λ cs. cs.items ≡ map change_of (shown c.args.told.now)) → IfOk r (λ cs. IsNormal cs.items)) [
+      | Ok cs ↦ λ e. subst IsNormal (sym e) (normal (finite.get c.args.old.now) (finite.get c.args.new.now) c.is_tree-2.ensures.fronts (shown c.args.told.now) c.requires.told)
+      | Err e ↦ λ h. h
+    ] c.changes_of.ensures
+
+pub returns-clause-effect : goal.returns-clause-effect
+returns-clause-effect c =
+    let old = c.args.old.now in
+    let new = c.args.new.now in
+    elim c.changes_of.result as (λ r. IfOk r (λ cs. cs.items ≡ map change_of (shown c.args.told.now)) → IfOk r (λ cs. (q : Path) → option_map content (effect (old ∷ []) cs.items q) ≡ option_map content (finite.get new q))) [
+      | Ok cs ↦ λ e. λ q. subst (λ l. option_map content (effect (old ∷ []) l q) ≡ option_map content (finite.get new q)) (sym e) (effect_between old new (shown c.args.told.now) c.is_tree.ensures c.is_tree-2.ensures c.requires.told q)
+      | Err e ↦ λ h. h
+    ] c.changes_of.ensures
