@@ -8,8 +8,8 @@ ghost use Rattle.ra_serve.specs.Outputs.{items_of};
 ghost use Rattle.ra_serve.specs.Serving.{OnlyGreets, ServesSession};
 ghost use Rattle.ra_serve.specs.declared.fault.ServeFault.TheVariants.{OutOfMemory, WriteFailed};
 
+use crate::client::{ClientItems, SessionOut};
 use crate::fault::{End, ServeFault};
-use crate::handed::{ClientItems, SessionOut};
 use crate::port::RepoPort;
 use crate::session::converse;
 use byte_streams::{Input, Output, has_failed_since};

@@ -8,9 +8,9 @@
 //! `served` of [`serve`] is on these.
 #![tactic(auto)]
 
+pub use client::ClientItems;
 pub use counted::{Unserved, serve};
 pub use fault::{End, PortFault, ServeFault};
-pub use handed::ClientItems;
 pub use held_repo::HeldRepo;
 pub use held_store::{HeldStore, port_fault};
 pub use port::{Replay, RepoPort};
@@ -18,10 +18,10 @@ pub use port::{Replay, RepoPort};
 mod answer;
 mod ask;
 mod browse;
+mod client;
 mod counted;
 mod directory;
 mod fault;
-mod handed;
 mod held_repo;
 mod held_store;
 mod port;

@@ -21,8 +21,8 @@ ghost use Rattle.ra_item.specs.declared.fault.NextFault.TheVariants as next;
 ghost use Rattle.ra_serve.specs.Serving.{EndsBy};
 
 use crate::answer::answer;
+use crate::client::{ClientItems, HandsOn};
 use crate::fault::{End, ServeFault};
-use crate::handed::{ClientItems, HandsOn};
 use crate::port::RepoPort;
 use byte_streams::Input;
 use ra_item::fault::{ItemFault, NextFault};

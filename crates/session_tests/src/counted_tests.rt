@@ -5,7 +5,9 @@ use crate::serve_failure_tests::{ASKED, TOLD, begin};
 use crate::serve_sessions::{Ended, are, asking, run};
 use crate::serve_streams::{Passing, items_from};
 use crate::served_repos::{copy_port, file_port};
-use byte_streams::{CountedWriter, Output};
+use byte_streams::{CountedWriter, MemOutput, Output};
+use ra_item::fault::NextFault;
+use ra_item::item::Item;
 use ra_serve::{End, RepoPort, ServeFault, serve};
 use std::alloc::Global;
 use std::process::Abort;
@@ -158,4 +160,24 @@ fn is_same(rt: &impl Abort, alloc: Global) -> bool {
 #[test]
 fn an_output_gets_what_a_writer_gets(rt: HostRuntime) {
     assert!(rt; is_same(&rt, rt.alloc()));
+}
+
+// Whether both items of a client come that has all that it was told, and then the end.
+fn both_come(alloc: Global) -> bool {
+    let out = MemOutput::new(alloc, 0);
+    let mut items = items_from(alloc, b"( a ) ( b ) ", 5, u64::MAX);
+    has_come(items.next(&out)) && has_come(items.next(&out)) && has_ended(items.next(&out))
+}
+
+fn has_come(answer: Result<Option<Item>, NextFault>) -> bool {
+    matches!(answer, Ok(Some(_)))
+}
+
+fn has_ended(answer: Result<Option<Item>, NextFault>) -> bool {
+    matches!(answer, Ok(None))
+}
+
+#[test]
+fn items_come_behind_what_is_handed_on(rt: HostRuntime) {
+    assert!(rt; both_come(rt.alloc()));
 }

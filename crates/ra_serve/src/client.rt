@@ -67,7 +67,7 @@ pub(crate) trait HandsOn: Write {
 
     /// Hands on what is held back.
     fn hand_on(&mut self) -> io::Result<()>
-        ensures kept { Keeps (contents self.old) (contents self.new) }
+        ensures kept { Keeps (Self.contents self.old) (Self.contents self.new) }
         ensures handed { OnOk result (is_handed_on self.new) };
 
     /// The output.
