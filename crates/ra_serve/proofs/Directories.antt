@@ -1,7 +1,5 @@
 -- The entries of a directory, of its children.
-use Rattle.std.proofs.Common.{◌≡◌, ℕ, ◌+◌, ◌<◌, Bool, true, false, not, nat_lt, List, [], ◌∷◌, ◌++◌, length, map, Option, Some, None, Result, Ok, Err, IfOk, OnOk, refl, sym, ap, subst, ◌∙◌, append_assoc, append-nil, length-append, arith}
-use Rattle.std.proofs.KnownBytes.{Appends-trans}
-use Rattle.std.specs.Io.KnownBytes.{Appends}
+use Rattle.std.proofs.Common.{◌≡◌, Bool, true, List, [], ◌∷◌, ◌++◌, Some, None, Result, Ok, Err, IfOk, refl, sym, ap, ◌∙◌}
 use Rattle.std.specs.Option.{option_map_or}
 use Rattle.std.specs.List.{flat_map}
 use Rattle.std.specs.FinMap as finite
@@ -9,10 +7,8 @@ use Rattle.node_base.specs.Path.{Name, Path}
 use Rattle.node_base.specs.Tree.{PathMap}
 use Rattle.node_base.specs.declared.node.Node.{Node}
 use Rattle.path_tree.specs.Children.{name_in, named_in, children_of}
-use Rattle.ra_item.specs.Items.{spell, spell_all, row}
-use Rattle.ra_wire.specs.Replies.{dirent, dir_found}
-use Rattle.ra_serve.specs.Answers.{entry_of, entry_at, entries_in, entries_wanted}
-use Rattle.ra_serve.specs.Directories.{told_of, spelt, front_of, whole}
+use Rattle.ra_serve.specs.Answers.{entry_of, entries_in, entries_wanted}
+use Rattle.ra_serve.specs.Directories.{told_of}
 
 told_entries : (p : Path) (es : List (Path × Node)) → told_of (flat_map (named_in p) es) ≡ entries_in p es
 told_entries p [] = refl

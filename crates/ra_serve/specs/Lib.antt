@@ -6,3 +6,4 @@ pub mod Tellings
 pub mod Sessions
 pub mod Serving
 pub mod Counted
+pub mod Outputs

@@ -12,7 +12,7 @@ use Rattle.ra_item.specs.declared.stream.ItemStream.{ItemStream}
 use Rattle.byte_streams.specs.Causes.{Counts, RoseBy}
 use Rattle.repo_core.specs.Repository.{Repository}
 use Rattle.ra_wire.specs.Openings.{login_in}
-use Rattle.ra_wire.specs.Replies.{mechanisms}
+use Rattle.ra_wire.specs.Replies.{greeting, mechanisms}
 use Rattle.ra_serve.specs.Sessions.{Turn, AllMayHalt, halts, answers, left, identity_text, asked_who, session, commands_of, logs_in, goes_on, ends_opening}
 use Rattle.ra_serve.specs.declared.fault.End as declared
 use Rattle.ra_serve.specs.declared.fault.End.TheVariants as end
@@ -55,6 +55,10 @@ ServesBy spelled asked stands over repository refusals is_mirror remaining conte
 
 abbrev pub ServesSession : {P R W : Type 0} {g : _} → (P → Option Repository) → (P → ℕ) → (P → Bool) → (R → Option (List ℕ)) → (W → Option (List ℕ)) → List ℕ → P → P → ItemStream R g → ItemStream R g → W → W → declared.End → Type 0
 ServesSession repository refusals is_mirror remaining contents url = ServesBy (session url) commands_of goes_on ends_opening repository refusals is_mirror remaining contents
+
+-- over a stream that was refused before a client is greeted, and told no more
+abbrev pub OnlyGreets : {P W : Type 0} → (P → Option Repository) → (W → Option (List ℕ)) → P → P → W → W → declared.End → Type 0
+OnlyGreets repository contents old new out now e = (repository new ≡ repository old) × Appends (contents out) (contents now) (spell greeting) × (e ≡ end.Items item.Failed)
 
 -- ---- its parts
 

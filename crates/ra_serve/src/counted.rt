@@ -1,17 +1,18 @@
-//! A session over an output whose failures are counted.
+//! A session over an output, whose failures are counted.
 
-ghost use Rattle.std.specs.Prelude.{◌≡◌, ◌≤◌, IfOk, IfErr, if◌then◌else◌};
+ghost use Rattle.std.specs.Prelude.{◌≡◌, ◌≤◌, true, IfOk, IfErr, if◌then◌else◌};
 ghost use Rattle.byte_streams.specs.Causes.{Fails};
-ghost use Rattle.ra_item.specs.ItemStreams.{meanwhile, reader_of};
+ghost use Rattle.ra_item.specs.ItemStreams.{is_spent, meanwhile, reader_of};
 ghost use Rattle.ra_serve.specs.Counted.{IsToldOnlyBy};
-ghost use Rattle.ra_serve.specs.Serving.{ServesSession};
+ghost use Rattle.ra_serve.specs.Outputs.{items_of};
+ghost use Rattle.ra_serve.specs.Serving.{OnlyGreets, ServesSession};
 ghost use Rattle.ra_serve.specs.declared.fault.ServeFault.TheVariants.{OutOfMemory, WriteFailed};
 
+use crate::client::{ClientItems, SessionOut};
 use crate::fault::{End, ServeFault};
 use crate::port::RepoPort;
-use crate::session::serve;
-use byte_streams::{Input, Lent, Output, has_failed_since};
-use ra_item::stream::ItemStream;
+use crate::session::converse;
+use byte_streams::{Input, Output, has_failed_since};
 use std::alloc::Global;
 
 /// A session that was given up: why, and the output as the answers so far left it.
@@ -23,26 +24,36 @@ pub struct Unserved<O> {
     pub out: Option<O>,
 }
 
-/// Serves one session as `serve` does, to an output whose failures are counted, which comes back behind a refusal
-/// too. `WriteFailed` (49) comes only where the output failed meanwhile.
-pub fn serve_to<P: RepoPort, I: Input + Drop, O: Output + Drop>(
+/// Serves one session: the opening, then the answer to each command that the client sends. It ends where the input ends
+/// between items, where the opening ends it, and at a fault of items, and gives the output back, behind a refusal too.
+///
+/// What it wrote is the answers to the items that it took, whatever the pieces in which they came, and the greeting alone
+/// over a stream that was refused before. All of it is handed on before the next item is awaited (`ClientItems`), and
+/// where the session has ended. `ReadFailed` (49) comes only where the input's
+/// count of failures rose, or it was read 2^40 - 1 times, `WriteFailed` (49) only where the output failed meanwhile, and
+/// `OutOfMemory` (70) for a growth of its own.
+pub fn serve<P: RepoPort, I: Input + Drop, O: Output + Drop>(
     alloc: Global,
     port: &mut P,
     root_url: &[u8],
-    items: &mut ItemStream<I>,
+    items: &mut ClientItems<I, O>,
     out: O,
 ) -> Result<(O, End), Unserved<O>>
     ensures served { IfOk result (λ r. ServesSession P.repository P.refusals P.is_mirror I.remaining O.contents
-        root_url.now port.old port.new items.old items.new out r.0 r.1) }
+        root_url.now port.old port.new (items_of items.old) (items_of items.new) out r.0 r.1) }
+    ensures spent { is_spent (items_of items.old) ≡ true
+        → IfOk result (λ r. OnlyGreets P.repository O.contents port.old port.new out r.0 r.1) }
+    ensures handed { IfOk result (λ r. O.is_handed_on r.0) }
     ensures reader { IfErr result (λ u. u.fault ≡ ServeFault.ReadFailed
-        → Fails (meanwhile I.failures I.reads items.old items.new)) }
+        → Fails (meanwhile I.failures I.reads (items_of items.old) (items_of items.new))) }
     ensures writer { IfErr result (λ u. IsToldOnlyBy O.failures (O.failures out) u.fault u.out) }
-    ensures failures { I.failures (reader_of items.old) ≤ I.failures (reader_of items.new) }
+    ensures failures { I.failures (reader_of (items_of items.old)) ≤ I.failures (reader_of (items_of items.new)) }
 {
     let before = out.count_failures();
     let mut back = None;
-    let fault = match serve(alloc, port, root_url, items, Lent::new(out, &mut back)) {
-        Ok((lent, end)) => return Ok((lent.into_inner(), end)),
+    let out = SessionOut::new(out, &mut back);
+    let fault = match converse(alloc, port, root_url, items, out) {
+        Ok((done, end)) => return Ok((done.into_inner(), end)),
         Err(fault) => fault,
     };
     Err(judged(fault, before, back))

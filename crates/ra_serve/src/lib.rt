@@ -4,22 +4,21 @@
 //! in memory and one on a disk. What is written goes out command by command, and a replay revision by revision: no
 //! answer is composed whole. That of `get-dir`, which may be refused by its length, is measured before it is written.
 //!
-//! [`serve_to`] is the same over an output that counts its failures.
-//!
 //! `specs/Answers` has what each command is refused and told, and `specs/Sessions` what a whole session is; the clause
 //! `served` of [`serve`] is on these.
 #![tactic(auto)]
 
-pub use counted::{Unserved, serve_to};
+pub use client::ClientItems;
+pub use counted::{Unserved, serve};
 pub use fault::{End, PortFault, ServeFault};
 pub use held_repo::HeldRepo;
 pub use held_store::{HeldStore, port_fault};
 pub use port::{Replay, RepoPort};
-pub use session::serve;
 
 mod answer;
 mod ask;
 mod browse;
+mod client;
 mod counted;
 mod directory;
 mod fault;

@@ -1,30 +1,32 @@
 //! A session from its greeting to its end.
 
-ghost use Rattle.std.specs.Prelude.{◌≡◌, ◌≤◌, ◌++◌, is_some, IfOk, IfErr, OnOk};
+ghost use Rattle.std.specs.Prelude.{◌≡◌, ◌≤◌, ◌++◌, true, false, is_some, Err, IfOk, IfErr, OnOk};
 ghost use Rattle.std.specs.Option.{option_map};
 ghost use Rattle.ra_wire.specs.Openings.{hello_in, login_in, login_as};
 ghost use Rattle.ra_serve.specs.Sessions.{is_anonymous};
 ghost use Rattle.std.specs.Io.KnownBytes.{Appends, Keeps};
 ghost use Rattle.byte_streams.specs.Causes.{Fails};
-ghost use Rattle.ra_item.specs.ItemStreams.{meanwhile, reader_of};
+ghost use Rattle.ra_item.specs.ItemStreams.{Answers, is_spent, meanwhile, reader_of};
 ghost use Rattle.ra_item.specs.Items.{spell};
+ghost use Rattle.ra_item.specs.declared.fault.ItemFault.TheVariants as item;
 ghost use Rattle.ra_wire.specs.Reading.{command_in};
 ghost use Rattle.ra_wire.specs.Replies.{done, greeting, mechanisms, only_anonymous, welcome};
 ghost use Rattle.uuid.specs.Text.{hyphenated_text, lower};
 ghost use Rattle.node_base.specs.declared.refusal.Refusal.TheVariants as refusal;
 ghost use Rattle.ra_serve.specs.Answers.{refused};
-ghost use Rattle.ra_serve.specs.Serving.{ServesSession, ServesLogin, ServesCommands};
+ghost use Rattle.ra_serve.specs.Outputs.{items_of};
+ghost use Rattle.ra_serve.specs.Serving.{OnlyGreets, ServesSession, ServesLogin, ServesCommands};
 ghost use Rattle.ra_serve.specs.Tellings.{Replies, GoesOn};
 ghost use Rattle.ra_item.specs.declared.fault.NextFault.TheVariants as next;
 ghost use Rattle.ra_serve.specs.Serving.{EndsBy};
 
 use crate::answer::answer;
+use crate::client::{ClientItems, HandsOn};
 use crate::fault::{End, ServeFault};
 use crate::port::RepoPort;
 use byte_streams::Input;
 use ra_item::fault::{ItemFault, NextFault};
 use ra_item::item::Item;
-use ra_item::stream::ItemStream;
 use ra_wire::fault::WireFault;
 use ra_wire::opening::{Hello, Login};
 use ra_wire::reply_writer::{
@@ -36,28 +38,25 @@ use std::io;
 use std::io::Write;
 use uuid::Uuid;
 
-/// Serves one session: the opening, then the answer to each command that the client sends. It ends where the input ends
-/// between items, where the opening ends it, and at a fault of items, and hands the writer back.
-///
-/// What it wrote is the answers to the items that it took, whatever the pieces in which they came: `ReadFailed` (49)
-/// only where the input's count of failures rose, or it was read 2^40 - 1 times, `WriteFailed` (49), or `OutOfMemory`
-/// (70) for a growth of its own. A writer of std counts nothing: that `WriteFailed` comes only where the output's count
-/// of failures rose is said of `serve_to`, which hands it back behind a refusal too.
-pub fn serve<P: RepoPort, I: Input + Drop, W: Write + Drop>(
+/// The session that `serve` serves, to a writer that can hand on what it holds back.
+pub(crate) fn converse<P: RepoPort, I: Input + Drop, W: HandsOn + Drop>(
     alloc: Global,
     port: &mut P,
     root_url: &[u8],
-    items: &mut ItemStream<I>,
+    items: &mut ClientItems<I, W::Out>,
     out: W,
 ) -> Result<(W, End), ServeFault>
     ensures served { IfOk result (λ r. ServesSession P.repository P.refusals P.is_mirror I.remaining W.contents
-        root_url.now port.old port.new items.old items.new out r.0 r.1) }
+        root_url.now port.old port.new (items_of items.old) (items_of items.new) out r.0 r.1) }
+    ensures spent { is_spent (items_of items.old) ≡ true
+        → IfOk result (λ r. OnlyGreets P.repository W.contents port.old port.new out r.0 r.1) }
+    ensures handed { IfOk result (λ r. W.is_handed_on r.0) }
     ensures reader { IfErr result (λ f. f ≡ ServeFault.ReadFailed
-        → Fails (meanwhile I.failures I.reads items.old items.new)) }
-    ensures failures { I.failures (reader_of items.old) ≤ I.failures (reader_of items.new) }
+        → Fails (meanwhile I.failures I.reads (items_of items.old) (items_of items.new))) }
+    ensures failures { I.failures (reader_of (items_of items.old)) ≤ I.failures (reader_of (items_of items.new)) }
 {
     let out = greet(out)?;
-    let item = match items.next() {
+    let item = match awaited(items, &out) {
         Ok(Some(item)) => item,
         Ok(None) => return Ok((out, End::Input)),
         Err(fault) => return ended(fault, out),
@@ -67,6 +66,20 @@ pub fn serve<P: RepoPort, I: Input + Drop, W: Write + Drop>(
     }
     let refused = bad_opening(out)?;
     Ok((refused, End::Opening))
+}
+
+// The client's next item.
+fn awaited<I: Input + Drop, W: HandsOn>(
+    items: &mut ClientItems<I, W::Out>,
+    out: &W,
+) -> Result<Option<Item>, NextFault>
+    requires handed { W.is_handed_on out.now }
+    ensures answer { Answers I.remaining I.failures I.reads (items_of items.old) (items_of items.new) result }
+    ensures spent { is_spent (items_of items.old) ≡ true → result ≡ Err (next.Items item.Failed) }
+    ensures goes_on { OnOk result (is_spent (items_of items.new) ≡ false) }
+    ensures failures { I.failures (reader_of (items_of items.old)) ≤ I.failures (reader_of (items_of items.new)) }
+{
+    items.next(out.output())
 }
 
 // Whether an item is the greeting of a client of version 2.
@@ -82,8 +95,9 @@ fn says_hello(alloc: Global, item: Item) -> Result<bool, ServeFault>
 }
 
 // The greeting, which the client awaits.
-fn greet<W: Write + Drop>(out: W) -> Result<W, ServeFault>
+fn greet<W: HandsOn + Drop>(out: W) -> Result<W, ServeFault>
     ensures sent { IfOk result (λ w. Appends (W.contents out) (W.contents w) (spell greeting)) }
+    ensures handed { IfOk result (λ w. W.is_handed_on w) }
     ensures writer { IfErr result (λ f. f ≡ ServeFault.ReadFailed → ⊥) }
 {
     let mut out = out;
@@ -92,18 +106,21 @@ fn greet<W: Write + Drop>(out: W) -> Result<W, ServeFault>
 }
 
 // What is kept back goes out.
-fn flushed<W: Write + Drop>(out: W) -> Result<W, ServeFault>
+fn flushed<W: HandsOn + Drop>(out: W) -> Result<W, ServeFault>
     ensures kept { IfOk result (λ w. Keeps (W.contents out) (W.contents w)) }
+    ensures handed { IfOk result (λ w. W.is_handed_on w) }
     ensures writer { IfErr result (λ f. f ≡ ServeFault.ReadFailed → ⊥) }
 {
     let mut out = out;
-    out.flush()?;
+    out.hand_on()?;
     Ok(out)
 }
 
 // A refusal of the stream.
-fn ended<W: Write + Drop>(fault: NextFault, out: W) -> Result<(W, End), ServeFault>
+fn ended<W: HandsOn + Drop>(fault: NextFault, out: W) -> Result<(W, End), ServeFault>
+    requires handed { W.is_handed_on out }
     ensures told { IfOk result (λ r. (r.0 ≡ out) × EndsBy fault r.1) }
+    ensures handed { IfOk result (λ r. W.is_handed_on r.0) }
     ensures reader { IfErr result (λ f. f ≡ ServeFault.ReadFailed → fault ≡ next.PeerFailed) }
 {
     match fault {
@@ -114,22 +131,23 @@ fn ended<W: Write + Drop>(fault: NextFault, out: W) -> Result<(W, End), ServeFau
 }
 
 // Who the client is, and then its commands.
-fn log_in<P: RepoPort, I: Input + Drop, W: Write + Drop>(
+fn log_in<P: RepoPort, I: Input + Drop, W: HandsOn + Drop>(
     alloc: Global,
     port: &mut P,
     root_url: &[u8],
-    items: &mut ItemStream<I>,
+    items: &mut ClientItems<I, W::Out>,
     out: W,
 ) -> Result<(W, End), ServeFault>
     ensures served { IfOk result (λ r. ServesLogin P.repository P.refusals P.is_mirror I.remaining W.contents
-        root_url.now port.old port.new items.old items.new out r.0 r.1) }
+        root_url.now port.old port.new (items_of items.old) (items_of items.new) out r.0 r.1) }
+    ensures handed { IfOk result (λ r. W.is_handed_on r.0) }
     ensures reader { IfErr result (λ f. f ≡ ServeFault.ReadFailed
-        → Fails (meanwhile I.failures I.reads items.old items.new)) }
-    ensures failures { I.failures (reader_of items.old) ≤ I.failures (reader_of items.new) }
+        → Fails (meanwhile I.failures I.reads (items_of items.old) (items_of items.new))) }
+    ensures failures { I.failures (reader_of (items_of items.old)) ≤ I.failures (reader_of (items_of items.new)) }
 {
     let identity = port.identity();
     let out = ask_who(&identity, out)?;
-    let item = match items.next() {
+    let item = match awaited(items, &out) {
         Ok(Some(item)) => item,
         Ok(None) => return Ok((out, End::Input)),
         Err(fault) => return ended(fault, out),
@@ -169,9 +187,10 @@ fn is_anonymous(login: &Login) -> bool
 }
 
 // Asks the client who it is.
-fn ask_who<W: Write + Drop>(identity: &Uuid, out: W) -> Result<W, ServeFault>
+fn ask_who<W: HandsOn + Drop>(identity: &Uuid, out: W) -> Result<W, ServeFault>
     ensures sent { IfOk result (λ w. Appends (W.contents out) (W.contents w)
         (spell (mechanisms (hyphenated_text lower identity.now)))) }
+    ensures handed { IfOk result (λ w. W.is_handed_on w) }
     ensures writer { IfErr result (λ f. f ≡ ServeFault.ReadFailed → ⊥) }
 {
     let mut out = out;
@@ -189,9 +208,10 @@ fn write_realm<W: Write>(out: &mut W, identity: &Uuid) -> io::Result<()>
 }
 
 // The end of an opening.
-fn welcome<W: Write + Drop>(identity: &Uuid, root_url: &[u8], out: W) -> Result<W, ServeFault>
+fn welcome<W: HandsOn + Drop>(identity: &Uuid, root_url: &[u8], out: W) -> Result<W, ServeFault>
     ensures sent { IfOk result (λ w. Appends (W.contents out) (W.contents w)
         (spell done ++ spell (welcome (hyphenated_text lower identity.now) root_url.now))) }
+    ensures handed { IfOk result (λ w. W.is_handed_on w) }
     ensures writer { IfErr result (λ f. f ≡ ServeFault.ReadFailed → ⊥) }
 {
     let mut out = out;
@@ -210,8 +230,9 @@ fn write_identity<W: Write>(out: &mut W, identity: &Uuid, root_url: &[u8]) -> io
 }
 
 // The client says in another way who it is.
-fn only_anonymous<W: Write + Drop>(out: W) -> Result<W, ServeFault>
+fn only_anonymous<W: HandsOn + Drop>(out: W) -> Result<W, ServeFault>
     ensures sent { IfOk result (λ w. Appends (W.contents out) (W.contents w) (spell only_anonymous)) }
+    ensures handed { IfOk result (λ w. W.is_handed_on w) }
     ensures writer { IfErr result (λ f. f ≡ ServeFault.ReadFailed → ⊥) }
 {
     let mut out = out;
@@ -220,8 +241,9 @@ fn only_anonymous<W: Write + Drop>(out: W) -> Result<W, ServeFault>
 }
 
 // The client's item is another one.
-fn bad_opening<W: Write + Drop>(out: W) -> Result<W, ServeFault>
+fn bad_opening<W: HandsOn + Drop>(out: W) -> Result<W, ServeFault>
     ensures sent { IfOk result (λ w. Appends (W.contents out) (W.contents w) (refused refusal.BadShape)) }
+    ensures handed { IfOk result (λ w. W.is_handed_on w) }
     ensures writer { IfErr result (λ f. f ≡ ServeFault.ReadFailed → ⊥) }
 {
     let mut out = out;
@@ -230,21 +252,23 @@ fn bad_opening<W: Write + Drop>(out: W) -> Result<W, ServeFault>
 }
 
 // The commands of a session up to its end.
-fn commands<P: RepoPort, I: Input + Drop, W: Write + Drop>(
+fn commands<P: RepoPort, I: Input + Drop, W: HandsOn + Drop>(
     alloc: Global,
     port: &mut P,
-    items: &mut ItemStream<I>,
+    items: &mut ClientItems<I, W::Out>,
     out: W,
 ) -> Result<(W, End), ServeFault>
+    requires handed { W.is_handed_on out }
     ensures served { IfOk result (λ r. ServesCommands P.repository P.refusals P.is_mirror I.remaining W.contents
-        port.old port.new items.old items.new out r.0 r.1) }
+        port.old port.new (items_of items.old) (items_of items.new) out r.0 r.1) }
+    ensures handed { IfOk result (λ r. W.is_handed_on r.0) }
     ensures reader { IfErr result (λ f. f ≡ ServeFault.ReadFailed
-        → Fails (meanwhile I.failures I.reads items.old items.new)) }
-    ensures failures { I.failures (reader_of items.old) ≤ I.failures (reader_of items.new) }
+        → Fails (meanwhile I.failures I.reads (items_of items.old) (items_of items.new))) }
+    ensures failures { I.failures (reader_of (items_of items.old)) ≤ I.failures (reader_of (items_of items.new)) }
 {
     let mut sent = out;
     for _ in 0..u64::MAX {
-        match items.next() {
+        match awaited(items, &sent) {
             Ok(Some(item)) => sent = turn(alloc, port, item, sent)?,
             Ok(None) => return Ok((sent, End::Input)),
             Err(fault) => return ended(fault, sent),
@@ -254,7 +278,7 @@ fn commands<P: RepoPort, I: Input + Drop, W: Write + Drop>(
 }
 
 // Answers an item, and lets the answer go out.
-fn turn<P: RepoPort, W: Write + Drop>(
+fn turn<P: RepoPort, W: HandsOn + Drop>(
     alloc: Global,
     port: &mut P,
     item: Item,
@@ -262,6 +286,7 @@ fn turn<P: RepoPort, W: Write + Drop>(
 ) -> Result<W, ServeFault>
     ensures told { IfOk result
         (Replies P.repository P.refusals P.is_mirror W.contents (command_in item) port.old port.new out) }
+    ensures handed { IfOk result (λ w. W.is_handed_on w) }
     ensures goes { GoesOn P.refusals P.is_mirror port.old port.new }
     ensures writer { IfErr result (λ f. f ≡ ServeFault.ReadFailed → ⊥) }
 {

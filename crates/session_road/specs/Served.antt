@@ -1,5 +1,5 @@
 -- A repository that is asked over sessions in memory.
-use Rattle.std.specs.Prelude.{◌≡◌, ℕ, true, List, [], ◌∷◌, ◌++◌, Option, None, Ok, codes, Result, OnOk}
+use Rattle.std.specs.Prelude.{◌≡◌, ℕ, true, List, [], ◌∷◌, ◌++◌, Option, None, codes, Result, OnOk}
 use Rattle.std.specs.List.{AllByRecursion}
 use Rattle.byte_streams.specs.declared.input.Input.{Ghosts as InputGhosts}
 use Rattle.byte_streams.specs.declared.output.Output.{Ghosts as OutputGhosts}

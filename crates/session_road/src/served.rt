@@ -1,6 +1,7 @@
 //! A repository as the master of a mirror, which is asked over sessions in memory.
 
 ghost use Rattle.std.specs.Prelude.{◌≡◌, ◌<◌, ◌++◌, ℕ, List, None, Some, length, IfOk};
+ghost use Rattle.byte_streams.specs.Memory.{held_of};
 ghost use Rattle.uuid.specs.Text.{hyphenated_text, lower, parsed};
 ghost use Rattle.node_base.specs.Tree.{PathMap};
 ghost use Rattle.repo_core.specs.Repository.{head_of};
@@ -20,8 +21,7 @@ use path_tree::Tree;
 use ra_client::{ClientFault, ClientPort};
 use ra_edit::law::{written_comes, written_is_taken};
 use ra_item::law::written_is_read;
-use ra_item::stream::ItemStream;
-use ra_serve::{End, ServeFault, serve};
+use ra_serve::{ClientItems, End, ServeFault, serve};
 use ra_wire::command::Command;
 use ra_wire::command_writer::{write_anonymous, write_command, write_hello};
 use repo_core::Repo;
@@ -94,7 +94,7 @@ fn identity_heard(alloc: Global, repo: &Repo) -> Result<PropValue, MasterFault>
     ensures { IsHeardOf repo.now (Identity result) }
 {
     let said = latest_asked(alloc, repo)?;
-    match open(alloc, repo, said.as_slice()) {
+    match open(alloc, repo, said.bytes()) {
         Ok(client) => told_identity(alloc, client.identity()),
         Err(fault) => Err(MasterFault::from(fault)),
     }
@@ -105,7 +105,7 @@ fn latest_heard(alloc: Global, repo: &Repo) -> Result<RevNo, MasterFault>
     ensures { IsHeardOf repo.now (Latest result) }
 {
     let said = latest_asked(alloc, repo)?;
-    match open(alloc, repo, said.as_slice()) {
+    match open(alloc, repo, said.bytes()) {
         Ok(client) => newest(client, repo),
         Err(fault) => Err(MasterFault::from(fault)),
     }
@@ -119,7 +119,7 @@ fn props_heard(alloc: Global, repo: &Repo, number: RevNo) -> Result<Props, Maste
         return Err(MasterFault::Refused(Refusal::NoSuchRevision));
     }
     let said = props_asked(alloc, repo, number)?;
-    match open(alloc, repo, said.as_slice()) {
+    match open(alloc, repo, said.bytes()) {
         Ok(client) => props_of(client, repo, number),
         Err(fault) => Err(MasterFault::from(fault)),
     }
@@ -134,52 +134,65 @@ fn revision_heard(alloc: Global, repo: &Repo, number: RevNo) -> Result<Fetched, 
         return Err(MasterFault::Refused(Refusal::NoSuchRevision));
     }
     let said = revision_asked(alloc, repo, number)?;
-    match open(alloc, repo, said.as_slice()) {
+    match open(alloc, repo, said.bytes()) {
         Ok(client) => revision_of(client, repo, number),
         Err(fault) => Err(MasterFault::from(fault)),
     }
 }
 
 // What a server writes in a session in which the newest revision is asked for.
-fn latest_asked(alloc: Global, repo: &Repo) -> Result<Vec<u8>, MasterFault>
-    ensures { IfOk result (λ v. IsSession repo.now LatestRev v.items) }
+fn latest_asked(alloc: Global, repo: &Repo) -> Result<MemOutput, MasterFault>
+    ensures { IfOk result (λ out. IsSession repo.now LatestRev (held_of out)) }
 {
     session(alloc, repo, &Command::LatestRev)
 }
 
 // The same of the properties of a revision.
-fn props_asked(alloc: Global, repo: &Repo, number: RevNo) -> Result<Vec<u8>, MasterFault>
-    ensures { IfOk result (λ v. IsSession repo.now (RevProplist number) v.items) }
+fn props_asked(alloc: Global, repo: &Repo, number: RevNo) -> Result<MemOutput, MasterFault>
+    ensures { IfOk result (λ out. IsSession repo.now (RevProplist number) (held_of out)) }
 {
     session(alloc, repo, &Command::RevProplist(u64::from(number.get())))
 }
 
 // The same of a revision.
-fn revision_asked(alloc: Global, repo: &Repo, number: RevNo) -> Result<Vec<u8>, MasterFault>
-    ensures { IfOk result (λ v. IsSession repo.now (ReplayRange number number) v.items) }
+fn revision_asked(alloc: Global, repo: &Repo, number: RevNo) -> Result<MemOutput, MasterFault>
+    ensures { IfOk result (λ out. IsSession repo.now (ReplayRange number number) (held_of out)) }
 {
     let n = u64::from(number.get());
     session(alloc, repo, &Command::ReplayRange(n, n))
 }
 
 // What a server writes in a session in which this is asked.
-fn session(alloc: Global, repo: &Repo, command: &Command) -> Result<Vec<u8>, MasterFault>
+fn session(alloc: Global, repo: &Repo, command: &Command) -> Result<MemOutput, MasterFault>
     requires fits { Within (command_item (command_as command.now)) }
-    ensures { IfOk result (λ v. IsSession repo.now (command_as command.now) v.items) }
+    ensures { IfOk result (λ out. IsSession repo.now (command_as command.now) (held_of out)) }
 {
     written_is_read();
     let Ok(said) = words(alloc, command) else {
         return Err(MasterFault::Refused(Refusal::OutOfMemory));
     };
     let mut port = LentRepo::new(alloc, repo);
-    let mut items = ItemStream::new(alloc, CountedReader::new(said.as_slice()));
-    match serve(alloc, &mut port, URL, &mut items, Vec::new(alloc)) {
+    let mut items = ClientItems::new(alloc, CountedReader::new(said.as_slice()));
+    match serve(
+        alloc,
+        &mut port,
+        URL,
+        &mut items,
+        MemOutput::new(alloc, u64::MAX),
+    ) {
         Ok((out, End::Input)) => Ok(out),
         Ok(_) => Err(MasterFault::Other),
-        Err(ServeFault::ReadFailed) | Err(ServeFault::WriteFailed) => {
-            Err(MasterFault::Refused(Refusal::PeerFailed))
+        Err(unserved) => Err(given_up(unserved.fault)),
+    }
+}
+
+// What a session that was given up is to the mirror.
+fn given_up(fault: ServeFault) -> MasterFault {
+    match fault {
+        ServeFault::ReadFailed | ServeFault::WriteFailed => {
+            MasterFault::Refused(Refusal::PeerFailed)
         }
-        Err(ServeFault::OutOfMemory) => Err(MasterFault::Refused(Refusal::OutOfMemory)),
+        ServeFault::OutOfMemory => MasterFault::Refused(Refusal::OutOfMemory),
     }
 }
 

@@ -2,9 +2,8 @@
 
 use crate::serve_sessions::asking;
 use crate::stores::long_store;
-use byte_streams::CountedReader;
-use ra_item::stream::ItemStream;
-use ra_serve::{End, HeldStore, RepoPort, serve};
+use byte_streams::{CountedReader, MemOutput};
+use ra_serve::{ClientItems, End, HeldStore, RepoPort, serve};
 use std::alloc::Global;
 use std::process::Abort;
 
@@ -23,9 +22,10 @@ pub(crate) fn told<P: RepoPort>(
     asked: &[u8],
 ) -> Option<Vec<u8>> {
     let sent = asking(rt, alloc, asked);
-    let mut items = ItemStream::new(alloc, CountedReader::new(sent.as_slice()));
-    match serve(alloc, port, url, &mut items, Vec::new(alloc)) {
-        Ok((told, End::Input)) => Some(told),
+    let mut items = ClientItems::new(alloc, CountedReader::new(sent.as_slice()));
+    let out = MemOutput::new(alloc, u64::MAX);
+    match serve(alloc, port, url, &mut items, out) {
+        Ok((out, End::Input)) => Some(Vec::from_slice(alloc, out.bytes()).expect(rt, "memory")),
         _ => None,
     }
 }

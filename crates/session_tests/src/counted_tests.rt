@@ -6,7 +6,9 @@ use crate::serve_sessions::{Ended, are, asking, run};
 use crate::serve_streams::{Passing, items_from};
 use crate::served_repos::{copy_port, file_port};
 use byte_streams::{CountedWriter, MemOutput, Output};
-use ra_serve::{End, RepoPort, ServeFault, serve_to};
+use ra_item::fault::NextFault;
+use ra_item::item::Item;
+use ra_serve::{End, RepoPort, ServeFault, serve};
 use std::alloc::Global;
 use std::process::Abort;
 use std::rt::HostRuntime;
@@ -25,7 +27,7 @@ fn served_to<P: RepoPort>(
 ) -> Came {
     let mut items = items_from(alloc, sent, 1, reads);
     let out = CountedWriter::new(Passing { bytes, left: calls });
-    match serve_to(alloc, port, URL, &mut items, out) {
+    match serve(alloc, port, URL, &mut items, out) {
         Ok((out, end)) => (Ok(end), Some(out.count_failures() > 0)),
         Err(unserved) => (Err(unserved.fault), has_failed(&unserved.out)),
     }
@@ -129,28 +131,22 @@ const SEVERAL: &[u8] = b"( get-latest-rev ( ) ) ( get-dir ( 0: ( ) true true ) )
     ( get-file ( 1:a ( 1 ) true true ) ) ( frob ( ) ) ( replay-range ( 0 1 0 true ) ) \
     ( change-rev-prop ( 1 7:svn:log 2:ho ) ) ( rev-proplist ( 1 ) ) ( rev-prop ( 1";
 
-// Whether an output has the same bytes as one of a writer's session, all handed on.
-fn has_same(out: &MemOutput, whole: &Ended) -> bool {
+// Whether an output in memory has these bytes, all handed on.
+fn has(whole: &Ended, bytes: &[u8]) -> bool {
     match &whole.out {
-        Some(there) => {
-            let bytes = there.bytes();
-            out.bytes() == bytes && out.handed_on() == bytes.len()
-        }
+        Some(out) => out.bytes() == bytes && out.handed_on() == bytes.len(),
         None => false,
     }
 }
 
-// Whether a session over an output ends as one over a writer did, with the same bytes.
+// Whether a session over a writer ends as one over an output in memory did, with the same bytes.
 fn ends_as<P: RepoPort>(alloc: Global, port: &mut P, sent: &[u8], whole: &Ended) -> bool {
-    let mut items = items_from(alloc, sent, 7, u64::MAX);
-    let out = MemOutput::new(alloc, u64::MAX);
-    match serve_to(alloc, port, URL, &mut items, out) {
-        Ok((out, end)) => whole.end == Ok(end) && has_same(&out, whole),
-        Err(_) => false,
-    }
+    let mut bytes = Vec::new(alloc);
+    let (end, _failed) = served_to(alloc, port, sent, u64::MAX, u64::MAX, &mut bytes);
+    whole.end == end && has(whole, bytes.as_slice())
 }
 
-// Whether a session over an output ends as one over a writer does, with the same bytes, all handed on.
+// Whether a session over a writer ends as one over an output in memory does, with the same bytes, all handed on.
 fn is_same(rt: &impl Abort, alloc: Global) -> bool {
     let sent = asking(rt, alloc, SEVERAL);
     let mut port = file_port(rt, alloc);
@@ -164,4 +160,24 @@ fn is_same(rt: &impl Abort, alloc: Global) -> bool {
 #[test]
 fn an_output_gets_what_a_writer_gets(rt: HostRuntime) {
     assert!(rt; is_same(&rt, rt.alloc()));
+}
+
+// Whether both items of a client come that has all that it was told, and then the end.
+fn both_come(alloc: Global) -> bool {
+    let out = MemOutput::new(alloc, 0);
+    let mut items = items_from(alloc, b"( a ) ( b ) ", 5, u64::MAX);
+    has_come(items.next(&out)) && has_come(items.next(&out)) && has_ended(items.next(&out))
+}
+
+fn has_come(answer: Result<Option<Item>, NextFault>) -> bool {
+    matches!(answer, Ok(Some(_)))
+}
+
+fn has_ended(answer: Result<Option<Item>, NextFault>) -> bool {
+    matches!(answer, Ok(None))
+}
+
+#[test]
+fn items_come_behind_what_is_handed_on(rt: HostRuntime) {
+    assert!(rt; both_come(rt.alloc()));
 }

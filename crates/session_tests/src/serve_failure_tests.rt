@@ -7,6 +7,7 @@ use crate::serve_sessions::{
 };
 use crate::serve_streams::{Held, items_from};
 use crate::served_repos::{copy_port, file_port};
+use byte_streams::CountedWriter;
 use ra_item::fault::{ItemFault, NextFault};
 use ra_serve::{RepoPort, ServeFault, serve};
 use std::alloc::Global;
@@ -116,8 +117,12 @@ fn held(
 ) -> (Option<ServeFault>, Option<NextFault>) {
     let mut port = file_port(rt, alloc);
     let mut items = items_from(alloc, SAID, size, reads);
-    let fault = serve(alloc, &mut port, URL, &mut items, Held { bytes, closed }).err();
-    (fault, items.next().err())
+    let out = CountedWriter::new(Held { bytes, closed });
+    let fault = match serve(alloc, &mut port, URL, &mut items, out) {
+        Ok(_) => None,
+        Err(unserved) => Some(unserved.fault),
+    };
+    (fault, items.into_items().next().err())
 }
 
 // Whether one whose writer doesn't hand on ends by that, behind the greeting.

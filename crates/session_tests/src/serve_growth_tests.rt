@@ -7,10 +7,10 @@ use crate::serve_sessions::{
     AUTHORISED, DONE, GREETING, MECHANISMS, NO_MEMORY, WELCOME, rest_behind,
 };
 use crate::serve_streams::{Held, items_from};
-use byte_streams::{MemOutput, Output};
+use byte_streams::{CountedWriter, MemOutput, Output};
 use dump_load::{Change, ChangeSet};
 use node_base::{Action, NodeKind, NodePath, Props, RevNo, Text};
-use ra_serve::{End, HeldRepo, ServeFault, serve, serve_to};
+use ra_serve::{End, HeldRepo, ServeFault, serve};
 use repo_core::Repo;
 use std::alloc::Global;
 use std::rt::HostRuntime;
@@ -124,13 +124,13 @@ fn is_served(alloc: Global, port: &mut HeldRepo, size: usize) -> bool {
         return true;
     };
     let mut items = items_from(alloc, SENT, size, u64::MAX);
-    let out = Held {
+    let out = CountedWriter::new(Held {
         bytes: &mut bytes,
         closed: false,
-    };
+    });
     let ended = match serve(alloc, port, URL, &mut items, out) {
         Ok((_out, end)) => Ok(end),
-        Err(fault) => Err(fault),
+        Err(unserved) => Err(unserved.fault),
     };
     match ended {
         Ok(end) => end == End::Input && is_session(bytes.as_slice(), true),
@@ -165,7 +165,7 @@ fn a_repository_is_served(rt: HostRuntime) {
 fn is_served_to(alloc: Global, port: &mut HeldRepo) -> bool {
     let mut items = items_from(alloc, SENT, SENT.len(), u64::MAX);
     let out = MemOutput::new(alloc, u64::MAX);
-    match serve_to(alloc, port, URL, &mut items, out) {
+    match serve(alloc, port, URL, &mut items, out) {
         Ok((out, end)) => end == End::Input && is_session(out.bytes(), true),
         Err(unserved) => is_given_up(unserved.fault, &unserved.out),
     }

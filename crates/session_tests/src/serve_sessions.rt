@@ -2,8 +2,8 @@
 
 use crate::client_sessions::{SAID, URL};
 use crate::serve_streams::items_from;
-use byte_streams::{Lent, MemOutput, Output};
-use ra_serve::{End, RepoPort, ServeFault, serve};
+use byte_streams::MemOutput;
+use ra_serve::{End, RepoPort, ServeFault, Unserved, serve};
 use std::alloc::Global;
 use std::process::Abort;
 
@@ -42,13 +42,17 @@ pub(crate) fn run<P: RepoPort>(
     writes: u64,
 ) -> Ended {
     let mut items = items_from(alloc, sent, size, reads);
-    let mut out = None;
-    let lent = Lent::new(MemOutput::new(alloc, writes), &mut out);
-    let end = match serve(alloc, port, URL, &mut items, lent) {
-        Ok((_lent, end)) => Ok(end),
-        Err(fault) => Err(fault),
-    };
-    Ended { end, out }
+    let out = MemOutput::new(alloc, writes);
+    match serve(alloc, port, URL, &mut items, out) {
+        Ok((out, end)) => Ended {
+            end: Ok(end),
+            out: Some(out),
+        },
+        Err(Unserved { fault, out }) => Ended {
+            end: Err(fault),
+            out,
+        },
+    }
 }
 
 /// Whether bytes are these parts, one behind another.

@@ -1,7 +1,7 @@
 //! Readers and writers for the tests, cut anyhow and failing.
 
-use byte_streams::{CountedReader, FuseInput};
-use ra_item::stream::ItemStream;
+use byte_streams::{CountedReader, FuseInput, Output};
+use ra_serve::ClientItems;
 use std::alloc::Global;
 use std::io;
 use std::io::{ErrorKind, Read, Write};
@@ -25,16 +25,16 @@ impl Read for Cut<'_> {
 /// A reader that gives so many bytes at a time, of whose reads so many pass.
 pub(crate) type Fused<'a> = FuseInput<CountedReader<Cut<'a>>>;
 
-/// The items of such a reader.
-pub(crate) fn items_from(
+/// The items of such a reader, of a client that is told by an output.
+pub(crate) fn items_from<O: Output>(
     alloc: Global,
     bytes: &[u8],
     size: usize,
     passing: u64,
-) -> ItemStream<Fused<'_>> {
+) -> ClientItems<Fused<'_>, O> {
     let size = size.max(1);
     let reader = CountedReader::new(Cut { bytes, size });
-    ItemStream::new(alloc, FuseInput::new(reader, passing))
+    ClientItems::new(alloc, FuseInput::new(reader, passing))
 }
 
 /// A writer that takes what there is room for, and doesn't hand it on where it is closed.

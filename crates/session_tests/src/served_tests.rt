@@ -5,13 +5,12 @@ use crate::client_sessions::{Line, Port, SINGLE, URL, WHOLE, is_said, number_of,
 use crate::serve_sessions::asking;
 use crate::sets::{first, is_next, makes_next, second};
 use crate::stores::log;
-use byte_streams::CountedReader;
+use byte_streams::{CountedReader, MemOutput};
 use dump_load::ChangeSet;
 use node_base::RevNo;
 use path_tree::Tree;
 use ra_client::ClientFault;
-use ra_item::stream::ItemStream;
-use ra_serve::{HeldRepo, serve};
+use ra_serve::{ClientItems, HeldRepo, serve};
 use repo_core::Repo;
 use std::alloc::Global;
 use std::process::Abort;
@@ -45,9 +44,10 @@ pub(crate) fn repo(rt: &impl Abort, alloc: Global) -> Repo {
 pub(crate) fn served(rt: &impl Abort, alloc: Global, asked: &[u8]) -> Vec<u8> {
     let mut port = HeldRepo::new(alloc, repo(rt, alloc), false);
     let all = asking(rt, alloc, asked);
-    let mut items = ItemStream::new(alloc, CountedReader::new(all.as_slice()));
-    match serve(alloc, &mut port, URL, &mut items, Vec::new(alloc)) {
-        Ok((out, _)) => out,
+    let mut items = ClientItems::new(alloc, CountedReader::new(all.as_slice()));
+    let out = MemOutput::new(alloc, u64::MAX);
+    match serve(alloc, &mut port, URL, &mut items, out) {
+        Ok((out, _)) => Vec::from_slice(alloc, out.bytes()).expect(rt, "memory"),
         Err(_) => rt.abort(),
     }
 }

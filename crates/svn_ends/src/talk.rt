@@ -7,10 +7,10 @@ ghost use Rattle.svn_ends.specs.Ends.{heard, root_of, trouble_of, url};
 use crate::port::SharePort;
 use crate::server::Address;
 use crate::shares::ServedShare;
-use byte_streams::CountedReader;
-use ra_browse::browse;
+use byte_streams::{CountedReader, CountedWriter};
+use ra_browse::browse_to;
 use ra_item::stream::ItemStream;
-use ra_serve::{End, PortFault, ServeFault, serve};
+use ra_serve::{ClientItems, End, PortFault, ServeFault, serve};
 use sockets::{Session, SocketFault, Teller, Trouble, Troubles};
 use std::alloc::{AllocError, Global};
 use std::io::{Read, Write};
@@ -68,22 +68,19 @@ impl<R: Wait + Clock, L: RowName, S: ServedShare<L>, T: Teller> Session
         let Ok(mut port) = self.port() else {
             return Err(SocketFault::OutOfMemory);
         };
-        let mut items = ItemStream::new(self.alloc, CountedReader::new(input));
+        let input = CountedReader::new(input);
+        let out = CountedWriter::new(output);
         let served = if self.address.browse {
-            browse(self.alloc, &mut port, &mut items, output)
+            let mut items = ItemStream::new(self.alloc, input);
+            browse_to(self.alloc, &mut port, &mut items, out)
         } else {
-            serve(self.alloc, &mut port, self.root_url, &mut items, output)
+            let mut items = ClientItems::new(self.alloc, input);
+            serve(self.alloc, &mut port, self.root_url, &mut items, out)
         };
         self.tell_refusal(port.first_refusal());
         match served {
-            Ok((output, end)) => {
-                let mut output = output;
-                if output.flush().is_err() {
-                    return Err(SocketFault::PeerFailed);
-                }
-                heard(Ok(end))
-            }
-            Err(fault) => heard(Err(fault)),
+            Ok((_out, end)) => heard(Ok(end)),
+            Err(unserved) => heard(Err(unserved.fault)),
         }
     }
 

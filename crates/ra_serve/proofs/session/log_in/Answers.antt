@@ -1,3 +1,4 @@
+use Rattle.ra_serve.specs.Outputs.{items_of}
 use Rattle.std.specs.Option.{option_map}
 use Rattle.ra_wire.specs.Openings.{login_in}
 use Rattle.std.proofs.Common.{◌≡◌, true, false, true≢false, Ok, Some, None, [], ◌∷◌, ◌++◌, refl, sym, subst}
@@ -12,13 +13,13 @@ use Rattle.ra_serve.proofs.Opening.{by_before, by_end, by_fault, reader_told, lo
 use Rattle.ra_serve.proofs.session.log_in.Goals as goal
 
 pub returns-in-Ok-None-clause-served : goal.returns-in-Ok-None-clause-served
-returns-in-Ok-None-clause-served g c = by_end (spelled_login c.args.root_url.now) behind_one goes_on_login ends_at_login g.P.RepoPort.repository g.P.RepoPort.refusals g.P.RepoPort.is_mirror g.I.Input.remaining g.W.Write.contents c.args.port.now c.args.items.now c.next.new.self c.args.out c.in_ok-out.out end.Input [] refl (λ x e. asked_only c.args.root_url.now (g.P.RepoPort.is_mirror c.args.port.now) x c.identity-identity.result (g.W.Write.contents c.args.out) (g.W.Write.contents c.in_ok-out.out) (c.identity-identity.ensures x e) c.in_ok-out.ensures.sent) (refl, (subst (λ o. Answers g.I.Input.remaining g.I.Input.failures g.I.Input.reads c.args.items.now c.next.new.self (Ok o)) c.in-Ok-None.field-0-is c.in-Ok-None.ensures.answer))
+returns-in-Ok-None-clause-served g c = by_end (spelled_login c.args.root_url.now) behind_one goes_on_login ends_at_login g.P.RepoPort.repository g.P.RepoPort.refusals g.P.RepoPort.is_mirror g.I.Input.remaining g.W.Write.contents c.args.port.now (items_of c.args.items.now) (items_of c.awaited.new.items) c.args.out c.in_ok-out.out end.Input [] refl (λ x e. asked_only c.args.root_url.now (g.P.RepoPort.is_mirror c.args.port.now) x c.identity-identity.result (g.W.Write.contents c.args.out) (g.W.Write.contents c.in_ok-out.out) (c.identity-identity.ensures x e) c.in_ok-out.ensures.sent) (refl, (subst (λ o. Answers g.I.Input.remaining g.I.Input.failures g.I.Input.reads (items_of c.args.items.now) (items_of c.awaited.new.items) (Ok o)) c.in-Ok-None.field-0-is c.in-Ok-None.ensures.answer))
 
 pub returns-in-Err-clause-served : goal.returns-in-Err-clause-served
-returns-in-Err-clause-served g c = by_fault (spelled_login c.args.root_url.now) behind_one goes_on_login ends_at_login g.P.RepoPort.repository g.P.RepoPort.refusals g.P.RepoPort.is_mirror g.I.Input.remaining g.W.Write.contents c.args.port.now c.args.items.now c.next.new.self c.args.out c.in_ok-out.out c.ended.result (meanwhile g.I.Input.failures g.I.Input.reads c.args.items.now c.next.new.self) c.in-Err.fault c.ended.ensures.told refl refl (λ x e. asked_only c.args.root_url.now (g.P.RepoPort.is_mirror c.args.port.now) x c.identity-identity.result (g.W.Write.contents c.args.out) (g.W.Write.contents c.in_ok-out.out) (c.identity-identity.ensures x e) c.in_ok-out.ensures.sent) c.in-Err.ensures.answer
+returns-in-Err-clause-served g c = by_fault (spelled_login c.args.root_url.now) behind_one goes_on_login ends_at_login g.P.RepoPort.repository g.P.RepoPort.refusals g.P.RepoPort.is_mirror g.I.Input.remaining g.W.Write.contents c.args.port.now (items_of c.args.items.now) (items_of c.awaited.new.items) c.args.out c.in_ok-out.out c.ended.result (meanwhile g.I.Input.failures g.I.Input.reads (items_of c.args.items.now) (items_of c.awaited.new.items)) c.in-Err.fault c.ended.ensures.told refl refl (λ x e. asked_only c.args.root_url.now (g.P.RepoPort.is_mirror c.args.port.now) x c.identity-identity.result (g.W.Write.contents c.args.out) (g.W.Write.contents c.in_ok-out.out) (c.identity-identity.ensures x e) c.in_ok-out.ensures.sent) c.in-Err.ensures.answer
 
 pub returns-in-Err-clause-reader : goal.returns-in-Err-clause-reader
-returns-in-Err-clause-reader g c = reader_told c.ended.result c.in-Err.fault _ _ _ _ (meanwhile g.I.Input.failures g.I.Input.reads c.args.items.now c.next.new.self) c.in-Err.ensures.answer c.ended.ensures.reader
+returns-in-Err-clause-reader g c = reader_told c.ended.result c.in-Err.fault _ _ _ _ (meanwhile g.I.Input.failures g.I.Input.reads (items_of c.args.items.now) (items_of c.awaited.new.items)) c.in-Err.ensures.answer c.ended.ensures.reader
 
 pub returns-in_ok-out-in-Some-true-clause-served : goal.returns-in_ok-out-in-Some-true-clause-served
 returns-in_ok-out-in-Some-true-clause-served g c =
@@ -26,8 +27,8 @@ returns-in_ok-out-in-Some-true-clause-served g c =
     let b = c.in-Some-true.field-0-test in
     let d = c.in_ok-logs_in.ensures.told in
     let e : Some true ≡ option_map is_anonymous (login_in c.in-Ok-Some.item) = cc in
-    by_before (spelled_login c.args.root_url.now) answers behind_one all goes_on_login ends_at_login any none g.P.RepoPort.repository g.P.RepoPort.refusals g.P.RepoPort.is_mirror g.I.Input.remaining g.W.Write.contents c.args.port.now c.commands.new.port c.args.items.now c.next.new.self c.commands.new.items c.args.out c.in_ok-out-in-Some-true.out c.commands.result c.in-Ok-Some.item (λ x. spell (mechanisms (identity_text x)) ++ (spell done ++ spell (welcome (identity_text x) c.args.root_url.now))) (λ m x ts. login_said c.args.root_url.now c.in-Ok-Some.item e m x ts) (λ ts. refl) (λ xs h. login_goes c.in-Ok-Some.item e xs) (λ xs h. absurd (true≢false (sym h)))
-    (λ x h. login_bytes c.args.root_url.now x c.identity-identity.result (g.W.Write.contents c.args.out) (g.W.Write.contents c.in_ok-out.out) (g.W.Write.contents c.in_ok-out-in-Some-true.out) (c.identity-identity.ensures x h) c.in_ok-out.ensures.sent c.in_ok-out-in-Some-true.ensures.sent) (subst (λ o. Answers g.I.Input.remaining g.I.Input.failures g.I.Input.reads c.args.items.now c.next.new.self (Ok o)) c.in-Ok-Some.field-0-is c.in-Ok-Some.ensures.answer) c.in-Ok-Some.ensures.goes_on c.commands.ensures.served
+    by_before (spelled_login c.args.root_url.now) answers behind_one all goes_on_login ends_at_login any none g.P.RepoPort.repository g.P.RepoPort.refusals g.P.RepoPort.is_mirror g.I.Input.remaining g.W.Write.contents c.args.port.now c.commands.new.port (items_of c.args.items.now) (items_of c.awaited.new.items) (items_of c.commands.new.items) c.args.out c.in_ok-out-in-Some-true.out c.commands.result c.in-Ok-Some.item (λ x. spell (mechanisms (identity_text x)) ++ (spell done ++ spell (welcome (identity_text x) c.args.root_url.now))) (λ m x ts. login_said c.args.root_url.now c.in-Ok-Some.item e m x ts) (λ ts. refl) (λ xs h. login_goes c.in-Ok-Some.item e xs) (λ xs h. absurd (true≢false (sym h)))
+    (λ x h. login_bytes c.args.root_url.now x c.identity-identity.result (g.W.Write.contents c.args.out) (g.W.Write.contents c.in_ok-out.out) (g.W.Write.contents c.in_ok-out-in-Some-true.out) (c.identity-identity.ensures x h) c.in_ok-out.ensures.sent c.in_ok-out-in-Some-true.ensures.sent) (subst (λ o. Answers g.I.Input.remaining g.I.Input.failures g.I.Input.reads (items_of c.args.items.now) (items_of c.awaited.new.items) (Ok o)) c.in-Ok-Some.field-0-is c.in-Ok-Some.ensures.answer) c.in-Ok-Some.ensures.goes_on c.commands.ensures.served
 
 pub returns-in_ok-out-in-Some-false-clause-served : goal.returns-in_ok-out-in-Some-false-clause-served
 returns-in_ok-out-in-Some-false-clause-served g c =
@@ -35,13 +36,13 @@ returns-in_ok-out-in-Some-false-clause-served g c =
     let b = c.in-Some-false.field-0-test in
     let d = c.in_ok-logs_in.ensures.told in
     let e : Some false ≡ option_map is_anonymous (login_in c.in-Ok-Some.item) = cc in
-    by_end (spelled_login c.args.root_url.now) behind_one goes_on_login ends_at_login g.P.RepoPort.repository g.P.RepoPort.refusals g.P.RepoPort.is_mirror g.I.Input.remaining g.W.Write.contents c.args.port.now c.args.items.now c.next.new.self c.args.out c.in_ok-out-in-Some-false.out end.Opening (as_turn c.in-Ok-Some.item ∷ []) refl
-    (λ x h. other_bytes c.args.root_url.now c.in-Ok-Some.item (g.P.RepoPort.is_mirror c.args.port.now) x c.identity-identity.result (g.W.Write.contents c.args.out) (g.W.Write.contents c.in_ok-out.out) (g.W.Write.contents c.in_ok-out-in-Some-false.out) e (c.identity-identity.ensures x h) c.in_ok-out.ensures.sent c.in_ok-out-in-Some-false.ensures.sent) (other_over c.in-Ok-Some.item e, (subst (λ o. Answers g.I.Input.remaining g.I.Input.failures g.I.Input.reads c.args.items.now c.next.new.self (Ok o)) c.in-Ok-Some.field-0-is c.in-Ok-Some.ensures.answer))
+    by_end (spelled_login c.args.root_url.now) behind_one goes_on_login ends_at_login g.P.RepoPort.repository g.P.RepoPort.refusals g.P.RepoPort.is_mirror g.I.Input.remaining g.W.Write.contents c.args.port.now (items_of c.args.items.now) (items_of c.awaited.new.items) c.args.out c.in_ok-out-in-Some-false.out end.Opening (as_turn c.in-Ok-Some.item ∷ []) refl
+    (λ x h. other_bytes c.args.root_url.now c.in-Ok-Some.item (g.P.RepoPort.is_mirror c.args.port.now) x c.identity-identity.result (g.W.Write.contents c.args.out) (g.W.Write.contents c.in_ok-out.out) (g.W.Write.contents c.in_ok-out-in-Some-false.out) e (c.identity-identity.ensures x h) c.in_ok-out.ensures.sent c.in_ok-out-in-Some-false.ensures.sent) (other_over c.in-Ok-Some.item e, (subst (λ o. Answers g.I.Input.remaining g.I.Input.failures g.I.Input.reads (items_of c.args.items.now) (items_of c.awaited.new.items) (Ok o)) c.in-Ok-Some.field-0-is c.in-Ok-Some.ensures.answer))
 
 pub returns-in_ok-out-in-None-clause-served : goal.returns-in_ok-out-in-None-clause-served
 returns-in_ok-out-in-None-clause-served g c =
     let a = c.in-None.is in
     let d = c.in_ok-logs_in.ensures.told in
     let e : None ≡ option_map is_anonymous (login_in c.in-Ok-Some.item) = cc in
-    by_end (spelled_login c.args.root_url.now) behind_one goes_on_login ends_at_login g.P.RepoPort.repository g.P.RepoPort.refusals g.P.RepoPort.is_mirror g.I.Input.remaining g.W.Write.contents c.args.port.now c.args.items.now c.next.new.self c.args.out c.in_ok-out-in-None.out end.Opening (as_turn c.in-Ok-Some.item ∷ []) refl
-    (λ x h. none_bytes c.args.root_url.now c.in-Ok-Some.item (g.P.RepoPort.is_mirror c.args.port.now) x c.identity-identity.result (g.W.Write.contents c.args.out) (g.W.Write.contents c.in_ok-out.out) (g.W.Write.contents c.in_ok-out-in-None.out) e (c.identity-identity.ensures x h) c.in_ok-out.ensures.sent c.in_ok-out-in-None.ensures.sent) (none_over c.in-Ok-Some.item e, (subst (λ o. Answers g.I.Input.remaining g.I.Input.failures g.I.Input.reads c.args.items.now c.next.new.self (Ok o)) c.in-Ok-Some.field-0-is c.in-Ok-Some.ensures.answer))
+    by_end (spelled_login c.args.root_url.now) behind_one goes_on_login ends_at_login g.P.RepoPort.repository g.P.RepoPort.refusals g.P.RepoPort.is_mirror g.I.Input.remaining g.W.Write.contents c.args.port.now (items_of c.args.items.now) (items_of c.awaited.new.items) c.args.out c.in_ok-out-in-None.out end.Opening (as_turn c.in-Ok-Some.item ∷ []) refl
+    (λ x h. none_bytes c.args.root_url.now c.in-Ok-Some.item (g.P.RepoPort.is_mirror c.args.port.now) x c.identity-identity.result (g.W.Write.contents c.args.out) (g.W.Write.contents c.in_ok-out.out) (g.W.Write.contents c.in_ok-out-in-None.out) e (c.identity-identity.ensures x h) c.in_ok-out.ensures.sent c.in_ok-out-in-None.ensures.sent) (none_over c.in-Ok-Some.item e, (subst (λ o. Answers g.I.Input.remaining g.I.Input.failures g.I.Input.reads (items_of c.args.items.now) (items_of c.awaited.new.items) (Ok o)) c.in-Ok-Some.field-0-is c.in-Ok-Some.ensures.answer))
