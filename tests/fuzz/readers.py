@@ -10,7 +10,7 @@ ROOTS = [b'svn://127.0.0.1:3690', b'svn://h', b'svn://H.example:1', b'svn://u@h'
 BAD_URLS = [b'', b'svn:', b'svn://', b'svn:///', b'svn:///a', b'SVN://h/a', b'svn+ssh://h/a', b'http://h/a', b'file:///a', b'/a', b'a', b'svn://h//', b'svn://h/.']
 # Each as often as it is asked for; those behind them seldom.
 COMMANDS = [b'get-latest-rev', b'rev-proplist', b'rev-prop', b'get-lock', b'get-locks']
-COMMANDS += 2 * [b'check-path'] + 4 * [b'stat', b'get-file', b'get-dir', b'reparent']
+COMMANDS += 2 * [b'check-path'] + 4 * [b'stat', b'get-file', b'get-dir'] + 2 * [b'reparent']
 DENIED = [b'log', b'get-locations', b'get-location-segments', b'get-file-revs', b'update', b'switch', b'status', b'diff',
           b'change-rev-prop', b'change-rev-prop2', b'replay', b'replay-range']
 UNKNOWN = [b'commit', b'list', b'get-mergeinfo', b'get-iprops', b'lock', b'unlock', b'lock-many', b'get-deleted-rev', b'set-path', b'x']
@@ -29,24 +29,42 @@ class Reader(Asker):
         super().__init__(random, server)
         self.root, self.place = random.choice(ROOTS), ()
 
+    def there(self, number, kind=None):
+        """The paths of a revision below the session's place, as they are from there; of one kind, where there are some."""
+        tree, front = self.server.trees[number], len(self.place)
+        found = [it for it in tree if it[:front] == self.place]
+        return [it[front:] for it in found if tree[it]['kind'] == kind] or [it[front:] for it in found] or [()]
+
+    def name_near(self):
+        return self.random.choice(ODD_NAMES if self.random.random() < 0.3 else NAMES)
+
     def absolute(self):
         """A path of some revision, or one near it."""
         random = self.random
         path = random.choice([*random.choice(self.server.trees)])
-        if random.random() < 0.15:
-            path += (random.choice(ODD_NAMES if random.random() < 0.3 else NAMES),)
-        return path
+        return path + (self.name_near(),) if random.random() < 0.1 else path
+
+    def placed(self, kind=None):
+        """A path and a revision, where something stands mostly: of this kind where there is one and it is wanted."""
+        random, trees = self.random, self.server.trees
+        number = len(trees) - 1 if random.random() < 0.4 else random.randrange(len(trees))
+        path = random.choice(self.there(number, kind if random.random() < 0.9 else None))
+        if random.random() < 0.1:
+            path += (self.name_near(),)
+        at = [] if number == len(trees) - 1 and random.random() < 0.5 else [number]
+        return [self.slashed(path), self.maybe(self.number()) if random.random() < 0.1 else at]
+
+    def slashed(self, path):
+        slashes = b'//' if self.random.random() < 0.1 else b'/'
+        return self.random.choice([b'', b'', slashes]) + b'/'.join(path) + (b'/' if self.random.random() < 0.01 else b'')
 
     def path(self):
-        """Mostly what stands below the session's place, as it is from there."""
-        random, path = self.random, self.absolute()
-        for _ in range(4):
-            if path[:len(self.place)] == self.place:
-                path = path[len(self.place):]
-                break
-            path = self.absolute()
-        slashes = b'//' if random.random() < 0.1 else b'/'
-        return random.choice([b'', b'', slashes]) + b'/'.join(path) + (b'/' if random.random() < 0.01 else b'')
+        return self.placed()[0]
+
+    def folder(self):
+        """A path of a folder of the newest revision."""
+        tree = self.server.trees[-1]
+        return self.random.choice([it for it in tree if tree[it]['kind'] == b'dir'])
 
     def spelled_url(self, path):
         """A path below the root, some of whose bytes are spelled by their numbers that needn't be."""
@@ -65,7 +83,7 @@ class Reader(Asker):
             return random.choice(BAD_URLS)
         if random.random() < 0.1:
             return random.choice(ROOTS) + b'/' + b'/'.join(self.absolute())
-        path = random.choice([self.absolute, tuple])()
+        path = random.choice([self.folder] * 4 + [self.absolute] + [tuple] * 3)()
         if random.random() < 0.1:
             path += (random.choice([b'%', b'%4', b'%zz', b'%00', b'?', b'#', b'%2e%2e', b'%2F', b'%ff']),)
             return self.root + b'/' + b'/'.join(path)
@@ -83,8 +101,8 @@ class Reader(Asker):
 
     def params(self, name):
         random = self.random
-        if name == b'stat':
-            return [self.path(), self.maybe(self.number())]
+        if name in (b'stat', b'check-path'):
+            return self.placed()
         if name == b'reparent':
             return [self.moved()]
         if name == b'get-lock':
@@ -93,9 +111,9 @@ class Reader(Asker):
             return self.cut([self.path(), self.maybe(self.depth())], 1)
         if name == b'get-dir':
             fields = [random.sample(FIELDS, random.randrange(len(FIELDS)))] if random.random() < 0.5 else []
-            return [self.path(), self.maybe(self.number()), self.flag(), self.flag(), *fields]
+            return [*self.placed(b'dir'), self.flag(), self.flag(), *fields]
         if name == b'get-file':
-            return [self.path(), self.maybe(self.number()), self.flag(), self.flag(), *self.maybe(self.flag())]
+            return [*self.placed(b'file'), self.flag(), self.flag(), *self.maybe(self.flag())]
         return self.more_params(name)
 
     def more_params(self, name):
@@ -137,7 +155,7 @@ class Reader(Asker):
     def session(self):
         random = self.random
         caps = [Word(it) for it in random.sample([b'edit-pipeline', b'svndiff1', b'absent-entries', b'depth', b'mergeinfo', b'log-revprops'], random.randrange(6))]
-        url = self.moved() if random.random() < 0.05 else self.spelled_url(random.choice([self.absolute, tuple, tuple])())
+        url = self.moved() if random.random() < 0.05 else self.spelled_url(random.choice([self.folder] * 3 + [self.absolute] + [tuple] * 3)())
         hello = [2, caps, url, *random.choice([[], [], [b'agent', []]])]
         self.place = self.server.place_behind([Word(b'reparent'), [url]], self.root, ())
         login = random.choice([ANONYMOUS, ANONYMOUS, ANONYMOUS, [Word(b'ANONYMOUS'), []]])
@@ -153,3 +171,63 @@ class Reader(Asker):
             parts.insert(self.random.randrange(len(parts) + 1), self.random.choice(HOSTILE))
             return b''.join(parts)
         return super().spelled()
+
+
+class WellBehaved(Reader):
+    """A reading client that asks as Subversion's own do, and no more than what both svnserve and reads.py answer."""
+
+    COMMANDS = COMMANDS + 3 * [b'log', b'get-locations']
+
+    def __init__(self, random, server):
+        super().__init__(random, server)
+        self.root = b'svn://h'
+
+    def number(self):
+        return self.random.choice([*range(len(self.server.trees))] * 4 + [len(self.server.trees), 65535])
+
+    def moved(self):
+        path = self.random.choice([self.folder, self.absolute])()
+        return self.root + (b'/' + quote_from_bytes(b'/'.join(path)).encode() if path else b'')
+
+    def name_near(self):
+        return self.random.choice(NAMES)
+
+    def slashed(self, path):
+        return b'/'.join(path)
+
+    def depth(self):
+        return self.random.choice(DEPTHS[:4])
+
+    def params(self, name):
+        params = super().params(name)
+        if name == b'log':
+            paths, numbers = [self.path() for _ in range(self.random.choice([1, 1, 1, 2, 3]))], self.ranged()
+            named = self.random.choice([[Word(b'all-revprops'), []], [Word(b'revprops'), [b'svn:log', b'svn:date', b'p']]])
+            return [paths, *numbers, self.flag(), self.flag(), self.random.choice([0, 0, 1, 3]), False, *named]
+        if name == b'get-locations':
+            return self.located()
+        # (svnserve tells a file's properties as a folder's where no entries are wanted, and of nothing that it is there)
+        count = {b'get-dir': 3, b'get-file': 4}.get(name, len(params))
+        return params[:count] + ([True] if name == b'get-dir' else [])
+
+    def located(self):
+        """A place, and revisions: of later ones those that have something there, since svnserve denies the command else."""
+        trees = self.server.trees
+        peg = self.random.randrange(len(trees))
+        path = self.random.choice(self.there(peg))
+        numbers = [it for it in range(len(trees)) if it <= peg or self.place + path in trees[it]]
+        return [self.slashed(path), peg, [self.random.choice(numbers) for _ in range(self.random.randrange(1, 6))]]
+
+    def command(self):
+        name = self.random.choice(self.COMMANDS)
+        item = [Word(name), self.params(name)]
+        if name == b'get-locations' and self.place not in self.server.trees[item[1][1]]:
+            return [Word(b'get-latest-rev'), []]
+        if name == b'reparent':
+            self.place = self.server.place_behind(item, self.root, self.place)
+        return item
+
+    def session(self):
+        url = self.moved()
+        self.place = self.server.place_behind([Word(b'reparent'), [url]], self.root, ())
+        return [[2, [Word(b'edit-pipeline'), Word(b'log-revprops')], url], ANONYMOUS, *(self.command() for _ in range(12))]

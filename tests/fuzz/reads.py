@@ -334,7 +334,7 @@ class Reads(Server):
         while number >= 0:
             brought = [it for it in self.changes[number] if it.action in (b'add', b'replace') and path[:len(it.path)] == it.path]
             source = brought[-1].source if brought else None
-            if brought and source:
+            if source:
                 source = source[0] + path[len(brought[-1].path):], source[1]
             if brought or not path or any(it.path[:len(path)] == path for it in self.changes[number]):
                 yield path, number, source
@@ -349,16 +349,26 @@ class Reads(Server):
         names = params.perhaps(params.revprops, USUAL)
 
         def answered():
-            first, last = self.number(start), self.number(end)
-            if is_merged:
-                raise Denied(200007)
-            top = max(first, last)
-            for it in paths:
-                self.node(it, top)
-            found = {it for path in paths for _, it, _ in self.moments(self.place + path, top, is_strict) if it >= min(first, last)}
-            found = sorted(found, reverse=first > last)[:limit or None]
-            return b''.join([self.entry(it, has_changes, names) for it in found]) + b'done ' + DONE
-        return answered
+            found = self.logged(paths, self.number(start), self.number(end), is_strict)
+            return b''.join([self.entry(it, has_changes, names) for it in found[:limit or None]])
+        return self.listed_first(answered)
+
+    def listed_first(self, answered):
+        """An answer whose success or denial stands behind what is listed, and the word `done`."""
+        def whole():
+            try:
+                return answered() + b'done ' + DONE
+            except Denied as denied:
+                return b'done ' + self.denial(denied)
+        return whole
+
+    def logged(self, paths, start, end, is_strict):
+        """The revisions of a range in which one of the paths changed, as it stands in the range's newest revision."""
+        top, found = max(start, end), set()
+        for it in paths:
+            self.node(it, top)
+            found |= {number for _, number, _ in self.moments(self.place + it, top, is_strict) if number >= min(start, end)}
+        return sorted(found, reverse=start > end)
 
     def entry(self, number, has_changes, names):
         """What a log says of a revision."""
@@ -397,6 +407,20 @@ class Reads(Server):
         path, peg, numbers = params.path(), params.next(int), params.list_of(lambda it: it.next(int))
 
         def answered():
-            self.number(peg)
-            raise NotImplementedError
-        return answered
+            self.node(path, peg)
+            found = [(it, self.location(self.place + path, peg, it)) for it in dict.fromkeys(numbers)]
+            return b''.join([spelled([number, b'/' + b'/'.join(it)]) for number, it in found if it is not None])
+        return self.listed_first(answered)
+
+    def location(self, path, peg, wanted):
+        """Where what stands at a path in a revision stood in another one, or None. In a later one it stands at the same path,
+        where what is there came from it."""
+        if wanted > peg:
+            is_there = path in self.trees[self.number(wanted)] and self.location(path, wanted, peg) == path
+            return path if is_there else None
+        for was, number, source in self.moments(path, peg):
+            if wanted >= number:
+                return was
+            if source and wanted > source[1]:
+                return None
+        return None
