@@ -3,7 +3,7 @@ server takes, and some with something wrong."""
 from urllib.parse import quote_from_bytes
 
 from asked import ANONYMOUS, Asker, sent
-from made import NAMES, ODD_NAMES
+from made import NAMES, ODD_NAMES, PROPS
 from sessions import Word
 
 ROOTS = [b'svn://127.0.0.1:3690', b'svn://h', b'svn://H.example:1', b'svn://u@h', b'svn://[::1]:2', b'svn://h?x']
@@ -174,16 +174,17 @@ class Reader(Asker):
 
 
 class WellBehaved(Reader):
-    """A reading client that asks as Subversion's own do, and no more than what both svnserve and reads.py answer."""
+    """A reading client that asks as Subversion's own do, and nothing that svnserve answers by other rules than reads.py."""
 
-    COMMANDS = COMMANDS + 3 * [b'log', b'get-locations']
+    LOCATED = [b'get-locations', b'get-location-segments']
 
     def __init__(self, random, server):
         super().__init__(random, server)
         self.root = b'svn://h'
 
     def number(self):
-        return self.random.choice([*range(len(self.server.trees))] * 4 + [len(self.server.trees), 65535])
+        head = len(self.server.trees) - 1
+        return self.random.choice([*range(head + 1)] * 4 + [head + 1, 65535])
 
     def moved(self):
         path = self.random.choice([self.folder, self.absolute])()
@@ -192,6 +193,9 @@ class WellBehaved(Reader):
     def name_near(self):
         return self.random.choice(NAMES)
 
+    def name(self):
+        return self.random.choice(PROPS)
+
     def slashed(self, path):
         return b'/'.join(path)
 
@@ -199,30 +203,33 @@ class WellBehaved(Reader):
         return self.random.choice(DEPTHS[:4])
 
     def params(self, name):
-        params = super().params(name)
+        random = self.random
         if name == b'log':
-            paths, numbers = [self.path() for _ in range(self.random.choice([1, 1, 1, 2, 3]))], self.ranged()
-            named = self.random.choice([[Word(b'all-revprops'), []], [Word(b'revprops'), [b'svn:log', b'svn:date', b'p']]])
-            return [paths, *numbers, self.flag(), self.flag(), self.random.choice([0, 0, 1, 3]), False, *named]
-        if name == b'get-locations':
-            return self.located()
+            named = random.choice([[Word(b'all-revprops'), []], [Word(b'revprops'), [b'svn:log', b'svn:date', b'p']]])
+            paths = [self.path() for _ in range(random.choice([1, 1, 1, 2, 3]))]
+            return [paths, *self.ranged(), self.flag(), self.flag(), random.choice([0, 0, 1, 3]), False, *named]
         # (svnserve tells a file's properties as a folder's where no entries are wanted, and of nothing that it is there)
-        count = {b'get-dir': 3, b'get-file': 4}.get(name, len(params))
+        params, count = super().params(name), {b'get-dir': 3, b'get-file': 4}.get(name)
         return params[:count] + ([True] if name == b'get-dir' else [])
 
-    def located(self):
-        """A place, and revisions: of later ones those that have something there, since svnserve denies the command else."""
-        trees = self.server.trees
-        peg = self.random.randrange(len(trees))
-        path = self.random.choice(self.there(peg))
+    def located(self, name):
+        """A question for places of what stands somewhere, if anything does: svnserve denies others, but not all of them."""
+        random, trees = self.random, self.server.trees
+        peg = random.randrange(len(trees))
+        if self.place not in trees[peg]:
+            return [Word(b'get-latest-rev'), []]
+        path = random.choice(self.there(peg))
         numbers = [it for it in range(len(trees)) if it <= peg or self.place + path in trees[it]]
-        return [self.slashed(path), peg, [self.random.choice(numbers) for _ in range(self.random.randrange(1, 6))]]
+        if name == b'get-locations':
+            return [Word(name), [self.slashed(path), peg, [random.choice(numbers) for _ in range(random.randrange(1, 6))]]]
+        ends = sorted([random.randrange(peg + 2), random.randrange(peg + 1)], reverse=random.random() < 0.9)
+        return [Word(name), [self.slashed(path), [peg], *([it] for it in ends)]]
 
     def command(self):
-        name = self.random.choice(self.COMMANDS)
+        name = self.random.choice(COMMANDS + 3 * [b'log', *self.LOCATED])
+        if name in self.LOCATED:
+            return self.located(name)
         item = [Word(name), self.params(name)]
-        if name == b'get-locations' and self.place not in self.server.trees[item[1][1]]:
-            return [Word(b'get-latest-rev'), []]
         if name == b'reparent':
             self.place = self.server.place_behind(item, self.root, self.place)
         return item

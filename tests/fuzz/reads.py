@@ -4,7 +4,8 @@ answered.
 What the protocol leaves open is as svnserve has it (`tests/fuzz/browse --svnserve` compares this server with that one), but
 for these things. The program's own rules stand for them:
   - properties stand in the order of their names, those of the entry behind a node's own, and not in the order of a hash;
-  - `get-dir` gives all fields, where svnserve leaves out what wasn't asked for;
+  - `get-dir` gives all fields, where svnserve leaves out what wasn't asked for, and it is denied of a file and where nothing
+    is, where svnserve looks only if the entries are wanted;
   - a denial has one line and a text of its own, where svnserve tells a chain with the paths;
   - what lies below a file isn't there (160013), as for `stat`, where svnserve tells `get-file` and `get-dir` that the file
     is no directory;
@@ -29,11 +30,12 @@ NO_URL, OTHER = (170000, 'not a URL of a session'), (170000, 'not the same repos
 NOWHEN = b'1970-01-01T00:00:00.000000Z'
 DEPTHS = [b'empty', b'files', b'immediates', b'infinity', b'unknown']
 
-# What is read of the commands that take parameters of their own, and whether they are answered. Those that aren't are
-# denied (200007) where they have their form. `log` and the two behind it are answered below, once the program does so.
+# The commands that are answered, and those that are denied (200007) where they have their form.
 ANSWERED = {'get-latest-rev', 'check-path', 'get-file', 'get-dir', 'rev-proplist', 'rev-prop', 'stat', 'reparent', 'get-lock', 'get-locks'}
 DENIED = {'change-rev-prop', 'change-rev-prop2', 'replay', 'replay-range', 'log', 'get-locations', 'get-location-segments',
           'get-file-revs', 'update', 'switch', 'status', 'diff'}
+# Those of the latter that are answered here as svnserve does: their names go above once the program answers them.
+READY = {'log', 'get-locations', 'get-location-segments'}
 
 
 class Denied(Exception):
@@ -303,9 +305,6 @@ class Reads(Server):
 
     # ---- what is denied but for its form
 
-    def at_get_location_segments(self, params):
-        params.path(), params.maybe(int), params.maybe(int), params.maybe(int)
-
     def at_get_file_revs(self, params):
         params.path(), params.maybe(int), params.maybe(int), params.perhaps(params.bool, False)
 
@@ -408,19 +407,54 @@ class Reads(Server):
 
         def answered():
             self.node(path, peg)
-            found = [(it, self.location(self.place + path, peg, it)) for it in dict.fromkeys(numbers)]
-            return b''.join([spelled([number, b'/' + b'/'.join(it)]) for number, it in found if it is not None])
+            found = self.locations(self.place + path, peg, numbers)
+            return b''.join([spelled([number, b'/' + b'/'.join(it)]) for number, it in found.items() if it is not None])
         return self.listed_first(answered)
 
-    def location(self, path, peg, wanted):
-        """Where what stands at a path in a revision stood in another one, or None. In a later one it stands at the same path,
-        where what is there came from it."""
-        if wanted > peg:
-            is_there = path in self.trees[self.number(wanted)] and self.location(path, wanted, peg) == path
-            return path if is_there else None
-        for was, number, source in self.moments(path, peg):
+    def locations(self, path, peg, numbers):
+        """Where what stands at a path in a revision stood in others. A later one has it at the same path, if at all; all are
+        told from the newest later one that has it."""
+        later = [it for it in numbers if it > peg and path in self.trees[self.number(it)]]
+        newest = max([it for it in later if self.is_older(path, it, peg)], default=peg)
+        return {it: self.location(path, newest, it) for it in numbers if it <= newest}
+
+    def is_older(self, path, number, peg):
+        """Whether what stands at a path in a revision stood there too when it was last changed by a peg's revision. (So what
+        was brought back since from a revision before the peg is taken for the same, as by svnserve.)"""
+        return next((was for was, at, _ in self.moments(path, number) if at <= peg), None) == path
+
+    def location(self, path, newest, wanted):
+        for was, number, source in self.moments(path, newest):
             if wanted >= number:
                 return was
             if source and wanted > source[1]:
                 return None
         return None
+
+    def at_get_location_segments(self, params):
+        path, peg, start, end = params.path(), params.maybe(int), params.maybe(int), params.maybe(int)
+
+        def answered():
+            newest = self.number(peg)
+            self.node(path, newest)
+            first, last = newest if start is None else start, end or 0
+            if not last <= first <= newest:
+                raise Denied(160006)
+            found = [(max(begin, last), min(over, first), it) for begin, over, it in self.segments(self.place + path, newest)]
+            return b''.join([spelled([begin, over, [b'/'.join(it)] if it is not None else []]) for begin, over, it in found if begin <= over])
+        return self.listed_first(answered)
+
+    def segments(self, path, peg):
+        """The ranges of revisions in which what stands at a path in one stood at one path, newest first, and those between
+        them in which it stood nowhere."""
+        over = peg
+        for was, number, source in self.moments(path, peg):
+            begin = number
+            if source:
+                yield number, over, was
+                if source[1] < number - 1:
+                    yield source[1] + 1, number - 1, None
+                over = source[1]
+                begin = None
+        if begin is not None:
+            yield begin, over, was
