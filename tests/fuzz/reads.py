@@ -19,8 +19,8 @@ import re
 from urllib.parse import unquote_to_bytes
 
 from dumps import Refused, path_of
-from trials import TEXTS as REFUSALS
 from sessions import AUTHORISED, DONE, PIECE, Ends, Input, Params, Server, Word, is_a, spelled, success, wanted
+from trials import TEXTS as REFUSALS
 
 GREETING = b'( success ( 2 2 ( ) ( edit-pipeline ) ) ) '
 # The numbers of Subversion by which a client decides, and what the program says with each.
@@ -171,7 +171,7 @@ class Reads(Server):
             return AUTHORISED + self.denial(denied)
 
     def asked(self, item):
-        """What answers a command."""
+        """What answers a command that is answered."""
         if not (is_a(item, list) and len(item) > 1 and is_a(item[0], Word) and is_a(item[1], list)):
             raise Denied(210004)
         name = item[0].decode()
@@ -306,23 +306,23 @@ class Reads(Server):
     # ---- what is denied but for its form
 
     def at_get_file_revs(self, params):
-        params.path(), params.maybe(int), params.maybe(int), params.perhaps(params.bool, False)
+        return [params.path(), params.maybe(int), params.maybe(int), params.perhaps(params.bool, False)]
 
     def at_update(self, params):
-        params.maybe(int), params.path(), params.bool()
-        params.perhaps(params.depth, b''), params.perhaps(params.bool, False), params.perhaps(params.bool, False)
+        return [params.maybe(int), params.path(), params.bool(), params.perhaps(params.depth, b''), *self.flags(params)]
 
     def at_switch(self, params):
-        params.maybe(int), params.path(), params.bool(), params.next(bytes)
-        params.perhaps(params.depth, b''), params.perhaps(params.bool, False), params.perhaps(params.bool, False)
+        return [params.maybe(int), params.path(), params.bool(), params.next(bytes), params.perhaps(params.depth, b''), *self.flags(params)]
+
+    def flags(self, params):
+        return [params.perhaps(params.bool, False) for _ in range(2)]
 
     def at_status(self, params):
-        params.path(), params.bool()
-        params.perhaps(lambda: params.maybe(int), None), params.perhaps(params.depth, b'')
+        return [params.path(), params.bool(), params.perhaps(lambda: params.maybe(int), None), params.perhaps(params.depth, b'')]
 
     def at_diff(self, params):
-        params.maybe(int), params.path(), params.bool(), params.bool(), params.next(bytes)
-        params.perhaps(params.bool, True), params.perhaps(params.depth, b'')
+        front = [params.maybe(int), params.path(), params.bool(), params.bool(), params.next(bytes)]
+        return front + [params.perhaps(params.bool, True), params.perhaps(params.depth, b'')]
 
     # ---- histories
 
