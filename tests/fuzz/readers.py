@@ -206,7 +206,7 @@ class WellBehaved(Reader):
         random = self.random
         if name == b'log':
             named = random.choice([[Word(b'all-revprops'), []], [Word(b'revprops'), [b'svn:log', b'svn:date', b'p']]])
-            paths = [self.path() for _ in range(random.choice([1, 1, 1, 2, 3]))]
+            paths = [self.path() for _ in range(random.choice([0, 1, 1, 1, 2, 3]))]
             return [paths, *self.ranged(), self.flag(), self.flag(), random.choice([0, 0, 1, 3]), False, *named]
         # (svnserve tells a file's properties as a folder's where no entries are wanted, and of nothing that it is there)
         params, count = super().params(name), {b'get-dir': 3, b'get-file': 4}.get(name)

@@ -366,7 +366,9 @@ class Reads(Server):
         top, found = max(start, end), set()
         for it in paths:
             self.node(it, top)
-            found |= {number for _, number, _ in self.moments(self.place + it, top, is_strict) if number >= min(start, end)}
+        # (where no path is named, the root)
+        for it in [self.place + it for it in paths] or [()]:
+            found |= {number for _, number, _ in self.moments(it, top, is_strict) if number >= min(start, end)}
         return sorted(found, reverse=start > end)
 
     def entry(self, number, has_changes, names):
