@@ -1,7 +1,7 @@
 """Sessions of reading clients, answered once more in plain Python: docs/FORMATS.md has the commands, the protocol what is
 answered.
 
-What the protocol leaves open is as svnserve has it (`tests/fuzz/browse --svnserve` compares this server with that one), but
+What the protocol leaves open is as svnserve has it (`tests/fuzz/browse` of svnserve compares this server with that one), but
 for these things. The program's own rules stand for them:
   - properties stand in the order of their names, those of the entry behind a node's own, and not in the order of a hash;
   - `get-dir` gives all fields, where svnserve leaves out what wasn't asked for, and it is denied of a file and where nothing
