@@ -54,11 +54,34 @@ def got(port, data, pieces):
     return found, False
 
 
-def listening(program, folder, connections):
+def got_in_steps(port, data, steps):
+    """What comes back where no byte is sent before the answers to those in front of it have come, of these lengths, and
+    whether it was cut off."""
+    found, begin, length = b'', 0, 0
+    with socket.socket() as line:
+        line.settimeout(60)
+        line.connect(('127.0.0.1', port))
+        line.setsockopt(socket.IPPROTO_TCP, socket.TCP_NODELAY, 1)
+        try:
+            for end, more in [*steps, (len(data), 1 << 30)]:
+                line.sendall(data[begin:end])
+                begin, length = end, length + more
+                if more == 1 << 30:
+                    line.shutdown(socket.SHUT_WR)
+                while len(found) < length and (piece := line.recv(1 << 16)):
+                    found += piece
+        except OSError as error:
+            if isinstance(error, TimeoutError):
+                raise
+            return found, True
+    return found, False
+
+
+def listening(program, folder, connections, *options):
     """A port and the server that listens on it; where somebody else was given the port meanwhile, another one."""
     for _ in range(5):
         port = free_port()
-        run = program.began(['serve', folder, '--port', str(port), '--connections', str(connections)], is_piped=True)
+        run = program.began(['serve', folder, '--port', str(port), '--connections', str(connections), *options], is_piped=True)
         said = program.says(run)
         if said == b'listening on 127.0.0.1:%d\n' % port:
             return port, run

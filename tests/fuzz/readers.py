@@ -1,0 +1,240 @@
+"""Sessions of reading clients made from a seed: what a client might ask at the place of its URL, in any spelling that a
+server takes, and some with something wrong."""
+from urllib.parse import quote_from_bytes
+
+from asked import ANONYMOUS, Asker, sent
+from made import NAMES, ODD_NAMES, PROPS
+from sessions import Word
+
+ROOTS = [b'svn://127.0.0.1:3690', b'svn://h', b'svn://H.example:1', b'svn://u@h', b'svn://[::1]:2', b'svn://h?x']
+BAD_URLS = [b'', b'svn:', b'svn://', b'svn:///', b'svn:///a', b'SVN://h/a', b'svn+ssh://h/a', b'http://h/a', b'file:///a', b'/a', b'a', b'svn://h//', b'svn://h/.']
+# Each as often as it is asked for; those behind them seldom.
+COMMANDS = [b'get-latest-rev', b'rev-proplist', b'rev-prop', b'get-lock', b'get-locks']
+COMMANDS += 2 * [b'check-path'] + 4 * [b'stat', b'get-file', b'get-dir'] + 2 * [b'reparent']
+DENIED = [b'log', b'get-locations', b'get-location-segments', b'get-file-revs', b'update', b'switch', b'status', b'diff',
+          b'change-rev-prop', b'change-rev-prop2', b'replay', b'replay-range']
+UNKNOWN = [b'commit', b'list', b'get-mergeinfo', b'get-iprops', b'lock', b'unlock', b'lock-many', b'get-deleted-rev', b'set-path', b'x']
+DEPTHS = [Word(it) for it in (b'empty', b'files', b'immediates', b'infinity', b'unknown', b'exclude')]
+FIELDS = [Word(it) for it in (b'kind', b'size', b'has-props', b'created-rev', b'time', b'last-author', b'word')]
+HOSTILE = [b'18446744073709551616 ', b'-1 ', b'( ) ', b'( ' * 16 + b') ' * 16, b'( ' * 17 + b') ' * 17, b'1048577:', b'99999999999999999999:a ', b'w' * 65 + b' ',
+           b'4:abc', b'3:abcd ', b'()', b'\xff ', b'( stat ( 0: ( ', b'( stat ( 1048577:', b') ', b'( stat ( 2:\xff\xfe ( ) ) ) ', b'( stat ( 2:.. ( ) ) ) ',
+           b'( stat ( 3:a//b ( ) ) ) ', b'( stat ( 2:a/ ( ) ) ) ', b'( get-dir ( 1:. ( ) true true ) ) ', b'( stat ( 0: ( 18446744073709551615 ) ) ) ',
+           b'( get-dir ( 0: ( ) true true ' + b'( ' * 13 + b') ' * 13 + b') ) ', b'( get-dir ( 0: ( ) true true ' + b'( ' * 14 + b') ' * 14 + b') ) ']
+
+
+class Reader(Asker):
+    """A reading client that knows what is there, mostly, and where its session stands."""
+
+    def __init__(self, random, server):
+        super().__init__(random, server)
+        self.root, self.place = random.choice(ROOTS), ()
+
+    def there(self, number, kind=None):
+        """The paths of a revision below the session's place, as they are from there; of one kind, where there are some."""
+        tree, front = self.server.trees[number], len(self.place)
+        found = [it for it in tree if it[:front] == self.place]
+        return [it[front:] for it in found if tree[it]['kind'] == kind] or [it[front:] for it in found] or [()]
+
+    def name_near(self):
+        return self.random.choice(ODD_NAMES if self.random.random() < 0.3 else NAMES)
+
+    def absolute(self):
+        """A path of some revision, or one near it."""
+        random = self.random
+        path = random.choice([*random.choice(self.server.trees)])
+        return path + (self.name_near(),) if random.random() < 0.1 else path
+
+    def placed(self, kind=None):
+        """A path and a revision, where something stands mostly: of this kind where there is one and it is wanted."""
+        random, trees = self.random, self.server.trees
+        number = len(trees) - 1 if random.random() < 0.4 else random.randrange(len(trees))
+        path = random.choice(self.there(number, kind if random.random() < 0.9 else None))
+        if random.random() < 0.1:
+            path += (self.name_near(),)
+        at = [] if number == len(trees) - 1 and random.random() < 0.5 else [number]
+        return [self.slashed(path), self.maybe(self.number()) if random.random() < 0.1 else at]
+
+    def slashed(self, path):
+        slashes = b'//' if self.random.random() < 0.1 else b'/'
+        return self.random.choice([b'', b'', slashes]) + b'/'.join(path) + (b'/' if self.random.random() < 0.01 else b'')
+
+    def path(self):
+        return self.placed()[0]
+
+    def folder(self):
+        """A path of a folder of the newest revision."""
+        tree = self.server.trees[-1]
+        return self.random.choice([it for it in tree if tree[it]['kind'] == b'dir'])
+
+    def spelled_url(self, path):
+        """A path below the root, some of whose bytes are spelled by their numbers that needn't be."""
+        random = self.random
+        safe = random.choice(['/', '/ ', ''.join(map(chr, range(33, 127))), 'bcd'])
+        text = quote_from_bytes(b'/'.join(path), safe=safe).encode().replace(b'%25', b'%' if random.random() < 0.02 else b'%25')
+        if 'b' == safe[:1]:
+            text = text.lower()
+        end = random.choice([b'', b'', b'', b'/', b'//' if random.random() < 0.05 else b'/'])
+        return self.root + (b'/' + text if text or random.random() < 0.3 else b'') + end
+
+    def moved(self):
+        """A URL to which the session goes, mostly."""
+        random = self.random
+        if random.random() < 0.1:
+            return random.choice(BAD_URLS)
+        if random.random() < 0.1:
+            return random.choice(ROOTS) + b'/' + b'/'.join(self.absolute())
+        path = random.choice([self.folder] * 4 + [self.absolute] + [tuple] * 3)()
+        if random.random() < 0.1:
+            path += (random.choice([b'%', b'%4', b'%zz', b'%00', b'?', b'#', b'%2e%2e', b'%2F', b'%ff']),)
+            return self.root + b'/' + b'/'.join(path)
+        return self.spelled_url(path)
+
+    def depth(self):
+        return self.random.choice(DEPTHS)
+
+    def cut(self, params, count):
+        """Parameters as an older client sends them, which knows so many of the last ones not."""
+        return params[:len(params) - self.random.randrange(count + 1)]
+
+    def ranged(self, count=2):
+        return [self.maybe(self.number()) for _ in range(count)]
+
+    def params(self, name):
+        random = self.random
+        if name in (b'stat', b'check-path'):
+            return self.placed()
+        if name == b'reparent':
+            return [self.moved()]
+        if name == b'get-lock':
+            return [self.path()]
+        if name == b'get-locks':
+            return self.cut([self.path(), self.maybe(self.depth())], 1)
+        if name == b'get-dir':
+            fields = [random.sample(FIELDS, random.randrange(len(FIELDS)))] if random.random() < 0.5 else []
+            return [*self.placed(b'dir'), self.flag(), self.flag(), *fields]
+        if name == b'get-file':
+            return [*self.placed(b'file'), self.flag(), self.flag(), *self.maybe(self.flag())]
+        return self.more_params(name)
+
+    def more_params(self, name):
+        random = self.random
+        if name == b'log':
+            named = random.choice([[Word(b'all-revprops')], [Word(b'revprops'), [self.name() for _ in range(random.randrange(4))]]])
+            paths = [self.path() for _ in range(random.choice([0, 1, 1, 1, 2, 3]))]
+            return self.cut([paths, *self.ranged(), self.flag(), self.flag(), random.choice([0, 0, 1, 3]), random.random() < 0.1, *named], 2 + len(named))
+        if name == b'get-locations':
+            return [self.path(), self.number(), [self.number() for _ in range(random.randrange(4))]]
+        if name == b'get-location-segments':
+            return [self.path(), *self.ranged(3)]
+        if name == b'get-file-revs':
+            return self.cut([self.path(), *self.ranged(), self.flag()], 1)
+        if name == b'update':
+            return self.cut([self.maybe(self.number()), self.path(), self.flag(), self.depth(), self.flag(), self.flag()], 3)
+        if name == b'switch':
+            return self.cut([self.maybe(self.number()), self.path(), self.flag(), self.moved(), self.depth(), self.flag(), self.flag()], 3)
+        if name == b'status':
+            return self.cut([self.path(), self.flag(), self.maybe(self.number()), self.depth()], 2)
+        if name == b'diff':
+            return self.cut([self.maybe(self.number()), self.path(), self.flag(), self.flag(), self.moved(), self.flag(), self.depth()], 2)
+        return super().params(name)
+
+    def command(self):
+        random = self.random
+        if random.random() < 0.02:
+            return [Word(random.choice(UNKNOWN)), [self.path()]]
+        name = random.choice(DENIED if random.random() < 0.08 else COMMANDS)
+        item = [Word(name), self.params(name)]
+        if random.random() < 0.05:
+            return self.bent(item)
+        if random.random() < 0.03:
+            random.choice([item, item[1]]).append(b'more')
+        if name == b'reparent':
+            self.place = self.server.place_behind(item, self.root, self.place)
+        return item
+
+    def session(self):
+        random = self.random
+        caps = [Word(it) for it in random.sample([b'edit-pipeline', b'svndiff1', b'absent-entries', b'depth', b'mergeinfo', b'log-revprops'], random.randrange(6))]
+        url = self.moved() if random.random() < 0.05 else self.spelled_url(random.choice([self.folder] * 3 + [self.absolute] + [tuple] * 3)())
+        hello = [2, caps, url, *random.choice([[], [], [b'agent', []]])]
+        self.place = self.server.place_behind([Word(b'reparent'), [url]], self.root, ())
+        login = random.choice([ANONYMOUS, ANONYMOUS, ANONYMOUS, [Word(b'ANONYMOUS'), []]])
+        opening = [hello, login]
+        if random.random() < 0.05:
+            opening[random.randrange(2)] = random.choice([[1, caps, url], [Word(b'CRAM-MD5'), []], 7, [], [2, [b'x'], url], [2, caps]])
+        return opening + [self.command() for _ in range(random.choice([0, 3, 6, 12, 24]))]
+
+    def spelled(self):
+        """The bytes of a session; in some stands what no client would send."""
+        if self.random.random() < 0.1:
+            parts = [sent(self.random, it) for it in self.session()]
+            parts.insert(self.random.randrange(len(parts) + 1), self.random.choice(HOSTILE))
+            return b''.join(parts)
+        return super().spelled()
+
+
+class WellBehaved(Reader):
+    """A reading client that asks as Subversion's own do, and nothing that svnserve answers by other rules than reads.py."""
+
+    LOCATED = [b'get-locations', b'get-location-segments']
+
+    def __init__(self, random, server):
+        super().__init__(random, server)
+        self.root = b'svn://h'
+
+    def number(self):
+        head = len(self.server.trees) - 1
+        return self.random.choice([*range(head + 1)] * 4 + [head + 1, 65535])
+
+    def moved(self):
+        path = self.random.choice([self.folder, self.absolute])()
+        return self.root + (b'/' + quote_from_bytes(b'/'.join(path)).encode() if path else b'')
+
+    def name_near(self):
+        return self.random.choice(NAMES)
+
+    def name(self):
+        return self.random.choice(PROPS)
+
+    def slashed(self, path):
+        return b'/'.join(path)
+
+    def depth(self):
+        return self.random.choice(DEPTHS[:4])
+
+    def params(self, name):
+        random = self.random
+        if name == b'log':
+            named = random.choice([[Word(b'all-revprops'), []], [Word(b'revprops'), [b'svn:log', b'svn:date', b'p']]])
+            paths = [self.path() for _ in range(random.choice([0, 1, 1, 1, 2, 3]))]
+            return [paths, *self.ranged(), self.flag(), self.flag(), random.choice([0, 0, 1, 3]), False, *named]
+        # (svnserve tells a file's properties as a folder's where no entries are wanted, and of nothing that it is there)
+        params, count = super().params(name), {b'get-dir': 3, b'get-file': 4}.get(name)
+        return params[:count] + ([True] if name == b'get-dir' else [])
+
+    def located(self, name):
+        """A question for places of what stands somewhere, if anything does: svnserve denies others, but not all of them."""
+        random, trees = self.random, self.server.trees
+        peg = random.randrange(len(trees))
+        if self.place not in trees[peg]:
+            return [Word(b'get-latest-rev'), []]
+        path = random.choice(self.there(peg))
+        numbers = [it for it in range(len(trees)) if it <= peg or self.place + path in trees[it]]
+        if name == b'get-locations':
+            return [Word(name), [self.slashed(path), peg, [random.choice(numbers) for _ in range(random.randrange(1, 6))]]]
+        ends = sorted([random.randrange(peg + 2), random.randrange(peg + 1)], reverse=random.random() < 0.9)
+        return [Word(name), [self.slashed(path), [peg], *([it] for it in ends)]]
+
+    def command(self):
+        name = self.random.choice(COMMANDS + 3 * [b'log', *self.LOCATED])
+        if name in self.LOCATED:
+            return self.located(name)
+        item = [Word(name), self.params(name)]
+        if name == b'reparent':
+            self.place = self.server.place_behind(item, self.root, self.place)
+        return item
+
+    def session(self):
+        url = self.moved()
+        self.place = self.server.place_behind([Word(b'reparent'), [url]], self.root, ())
+        return [[2, [Word(b'edit-pipeline'), Word(b'log-revprops')], url], ANONYMOUS, *(self.command() for _ in range(12))]
