@@ -55,6 +55,24 @@ for it in svnfleet-serve@ svnfleet-serve-and-follow@; do
 done
 check 'a mirror that is served and kept up has no other unit' grep -qx 'Conflicts=svnfleet-serve@%i.service svnfleet-synchronize@%i.timer svnfleet-synchronize@%i.service' "$units/svnfleet-serve-and-follow@.service"
 
+# Where the file of variables has options, as for readers, a server is given these besides.
+printf '#!/bin/sh\n[ "$1" = serve ] || exec "%s" "$@"\necho "$@" >called\nexec sleep 100\n' "$program" >stub
+chmod +x stub
+OPTIONS=--browse PORT=5 sh -c "$(started $server | sed 's|^exec [^ ]*|echo|')" >lines </dev/null
+check 'unit of a server: it is given the options' grep -qx 'serve mirror --port 5 --connections 1024 --browse' lines
+OPTIONS= PORT=5 sh -c "$(started $server | sed 's|^exec [^ ]*|echo|')" >lines </dev/null
+check 'unit of a server: without options it has none' grep -qx 'serve mirror --port 5 --connections 1024' lines
+check 'unit of a server: none are the default' grep -qx 'Environment=OPTIONS=' "$units/$server"
+SVNFLEET=$work/units/stub OPTIONS='--browse --timeout 5' SOURCE=master PORT=5 timeout 100 sh -c "$(started svnfleet-serve-and-follow@.service)" </dev/null >lines 2>errors &
+serving=$!
+for _ in 1 2 3 4 5 6 7 8 9 10; do
+    [ ! -s called ] || break
+    sleep 0.5
+done
+kill $serving
+wait $serving
+check 'unit of a mirror that is served and kept up: it is given the options' grep -qx 'serve --port 5 --connections 1024 --browse --timeout 5 -- mirror' called
+
 # systemd reads the units, of which it says nothing, and tells an option that it doesn't know.
 # reads FOLDER: whether systemd says nothing of the units of a folder
 reads() {
