@@ -36,9 +36,3 @@ calls_told k trees s = all_updated k (up_to_end trees s)
 -- applied to what was reported, the calls give what is wanted, but for the properties that are told beside a node's own
 abbrev pub Make : PathMap → PathMap → List Call → Type 0
 Make reported wanted calls = (q : Path) → AreAlike (all_called (reported ∷ []) (finite.get reported) calls q) (finite.get wanted q)
-
--- memory ran out, the writer failed, or it is the first fault of the changes
-pub data IsUnsent (trees : List PathMap) (s : List Change) (f : EditorFault) : Type 0 where
-  OfMemory : f ≡ OutOfMemory → IsUnsent trees s f
-  OfWriter : f ≡ PeerFailed → IsUnsent trees s f
-  OfChanges : option_map refused (fault trees s) ≡ Some f → IsUnsent trees s f
