@@ -1,12 +1,12 @@
 -- What is told beside the calls of a drive changes nothing but the properties of its names.
-use Rattle.std.proofs.Common.{◌≡◌, ℕ, Bool, true, false, true≢false, cond, ◌||◌, List, [], ◌∷◌, ◌++◌, length, Option, Some, None, refl, sym, ap, subst, ◌∙◌}
+use Rattle.std.proofs.Common.{◌≡◌, ℕ, Bool, true, false, true≢false, cond, List, [], ◌∷◌, ◌++◌, length, Option, Some, None, refl, sym, ap, subst, ◌∙◌}
 use Rattle.std.specs.Option.{option_map, option_map_or}
 use Rattle.std.specs.List.{AllByRecursion}
 use Rattle.std.specs.FinMap as finite
 use Rattle.node_base.specs.Path.{Name, Path, same_name, same_path, is_front, rest_after}
 use Rattle.node_base.proofs.PathLemmas.{name_of_same}
 use Rattle.node_base.specs.Props.{PropMap}
-use Rattle.node_base.specs.Tree.{PathMap, edited, marked, changed_at, grafted, with_number}
+use Rattle.node_base.specs.Tree.{PathMap, edited, marked, grafted, with_number}
 use Rattle.node_base.specs.declared.node.Node.{Node}
 use Rattle.node_base.specs.declared.node.NodeKind.TheVariants.{File, Dir}
 use Rattle.delta_editor.specs.CallEffect.{added, called, all_called, prop_put, with_prop, with_text, with_piece}

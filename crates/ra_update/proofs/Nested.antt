@@ -5,7 +5,7 @@ use Rattle.std.specs.Option.{option_map_or, option_and_then}
 use Rattle.std.specs.List.{list_any, list_all, AllByRecursion}
 use Rattle.editor_ends.specs.Laws.{GoesDown}
 use Rattle.std.specs.FinMap as finite
-use Rattle.node_base.specs.Path.{Name, Path, same_path}
+use Rattle.node_base.specs.Path.{Name, Path}
 use Rattle.node_base.specs.declared.node.Node.{Node}
 use Rattle.node_base.proofs.PathLemmas.{same_path_itself}
 use Rattle.delta_editor.specs.Calls.{Adds}
@@ -19,7 +19,7 @@ use Rattle.ra_edit.specs.Commands.{edit_bytes}
 use Rattle.ra_update.specs.Sent.{up_to_end, calls_told}
 use Rattle.ra_update.specs.Updated.{ShowsUpdated, begun, begun_with, written_by}
 use Rattle.ra_update.specs.declared.editor.UpdateEditor.{UpdateEditor}
-use Rattle.delta_editor.specs.Nesting.{IsNested, Opened, OpenDir, OpenFile, OpenText, TextDone, Stage, Before, Within, After, is_dir, is_fresh, is_in_text, is_told, innermost, next, run}
+use Rattle.delta_editor.specs.Nesting.{IsNested, Opened, OpenDir, OpenFile, Stage, Before, Within, After, is_dir, innermost, next, run}
 use Rattle.ra_edit.specs.Wire.{Shows, is_deeper, AllDeeper}
 use Rattle.ra_edit.specs.declared.wire.WireEditor.{WireEditor}
 use Rattle.ra_update.specs.declared.facts.Facts.{Facts}

@@ -1,17 +1,12 @@
 -- What is written of an update.
-use Rattle.std.specs.Prelude.{◌≡◌, ℕ, List, [], ◌∷◌, ◌++◌, Some, length}
-use Rattle.std.specs.Option.{option_map}
+use Rattle.std.specs.Prelude.{List, [], ◌∷◌, ◌++◌, length}
 use Rattle.std.specs.FinMap as finite
 use Rattle.node_base.specs.Path.{Path}
 use Rattle.node_base.specs.Tree.{PathMap}
 use Rattle.dump_load.specs.declared.change.Change.{Change}
-use Rattle.dump_load.specs.Faults.{fault}
 use Rattle.delta_editor.specs.CallEffect.{all_called}
-use Rattle.delta_editor.specs.Faults.{refused}
 use Rattle.delta_editor.specs.declared.call.Call.{Call}
 use Rattle.delta_editor.specs.declared.call.Call.TheVariants as call
-use Rattle.delta_editor.specs.declared.fault.EditorFault.{EditorFault}
-use Rattle.delta_editor.specs.declared.fault.EditorFault.TheVariants.{OutOfMemory, PeerFailed}
 use Rattle.editor_ends.specs.Drive.{base_number, walk}
 use Rattle.ra_item.specs.Items.{Item}
 use Rattle.ra_edit.specs.Commands.{command}

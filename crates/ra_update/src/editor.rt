@@ -96,7 +96,11 @@ fn tell_dir<W: Write + Drop>(
     let number = digits.format(node.changed.get()).as_bytes();
     editor.dir_prop(dir, &names.number, Some(number))?;
     editor.dir_prop(dir, &names.date, revision_prop(facts, node, b"svn:date"))?;
-    editor.dir_prop(dir, &names.author, revision_prop(facts, node, b"svn:author"))?;
+    editor.dir_prop(
+        dir,
+        &names.author,
+        revision_prop(facts, node, b"svn:author"),
+    )?;
     editor.dir_prop(dir, &names.identity, Some(facts.identity))
 }
 
@@ -117,7 +121,11 @@ fn tell_file<W: Write + Drop>(
     let number = digits.format(node.changed.get()).as_bytes();
     editor.file_prop(file, &names.number, Some(number))?;
     editor.file_prop(file, &names.date, revision_prop(facts, node, b"svn:date"))?;
-    editor.file_prop(file, &names.author, revision_prop(facts, node, b"svn:author"))?;
+    editor.file_prop(
+        file,
+        &names.author,
+        revision_prop(facts, node, b"svn:author"),
+    )?;
     editor.file_prop(file, &names.identity, Some(facts.identity))
 }
 

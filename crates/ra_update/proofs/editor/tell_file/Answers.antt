@@ -1,4 +1,4 @@
-use Rattle.std.proofs.Common.{◌≡◌, ◌∙◌, [], ◌∷◌, ℕ, List, Option, Some, refl, ap}
+use Rattle.std.proofs.Common.{◌∙◌, ℕ, List, Some, refl, ap}
 use Rattle.std.specs.Option.{option_map}
 use Rattle.std.specs.Fmt.{decimal}
 use Rattle.delta_editor.specs.declared.call.Call.TheVariants as call

@@ -1,11 +1,6 @@
-use Rattle.std.proofs.Common.{◌≡◌, [], ◌∷◌, OnOk, refl, subst}
-use Rattle.std.specs.Option.{option_map, option_copied}
-use Rattle.delta_editor.specs.Calls.{Adds}
 use Rattle.delta_editor.specs.declared.call.Call.TheVariants as call
-use Rattle.ra_edit.specs.Wire.{Shows}
-use Rattle.ra_update.specs.Entries.{entry_calls}
-use Rattle.ra_update.specs.Updated.{path_of_dir, path_of_file}
-use Rattle.ra_update.proofs.Nested.{carried_ok, opened_shown}
+use Rattle.ra_update.specs.Updated.{path_of_file}
+use Rattle.ra_update.proofs.Nested.{carried_ok}
 use Rattle.ra_update.proofs.editor.UpdateEditorEditor.text_start.Goals as goal
 
 pub returns-clause-shown : goal.returns-clause-shown
